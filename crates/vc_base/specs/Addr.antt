@@ -1,0 +1,6 @@
+-- An address in a region: a segment's number and an offset in it, in one number.
+use Rattle.std.specs.Prelude.{ℕ, ◌+◌, ◌*◌, ◌/◌}
+
+-- the address of an offset, a multiple of 32, in the segment of that number
+abbrev pub address : ℕ × ℕ → ℕ
+address at = at.0 * 1048576 + at.1 / 32

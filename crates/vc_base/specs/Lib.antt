@@ -1,0 +1,3 @@
+pub use Rattle.vc_model.specs.Count
+pub use Rattle.vc_model.specs.Stream
+pub mod Addr

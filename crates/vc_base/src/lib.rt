@@ -1,0 +1,8 @@
+//! Addresses, counters of steps, names, and streams of bytes with counts of faults.
+#![tactic(auto)]
+
+mod addr;
+mod fault;
+
+pub use addr::Addr;
+pub use fault::{OutOfMemory, ReadFailed, WriteFailed};

@@ -1,0 +1,38 @@
+use thiserror::Error;
+
+/// Why a segment was not lent.
+#[derive(Clone, Copy, Debug, PartialEq, Eq, Error)]
+pub enum LendFault {
+    /// The discipline refused.
+    #[error("Refused")]
+    Refused,
+    /// Want of memory.
+    #[error("OutOfMemory")]
+    OutOfMemory,
+}
+
+/// Why a call of a region was refused. Each call tells which of these it can answer.
+#[derive(Clone, Copy, Debug, PartialEq, Eq, Error)]
+pub enum RegionFault {
+    /// A segment is needed and the region has 1,023.
+    #[error("TooManySegments")]
+    TooManySegments,
+    /// A segment is needed and the discipline refused it.
+    #[error("NoSegment")]
+    NoSegment,
+    /// Want of memory.
+    #[error("OutOfMemory")]
+    OutOfMemory,
+    /// The block can't stay where it is, and moving isn't allowed.
+    #[error("Fixed")]
+    Fixed,
+    /// The size is above the pool's element size.
+    #[error("PoolSize")]
+    PoolSize,
+    /// The block isn't the last of its region.
+    #[error("NotLast")]
+    NotLast,
+    /// The method doesn't serve this call.
+    #[error("WrongMethod")]
+    WrongMethod,
+}

@@ -1,0 +1,10 @@
+//! Segments of bytes, the disciplines that lend them, and the shelf that keeps disciplines.
+#![tactic(auto)]
+
+mod disc;
+mod fault;
+mod segment;
+
+pub use disc::SegDisc;
+pub use fault::{LendFault, RegionFault};
+pub use segment::Segment;
