@@ -1,3 +1,4 @@
 pub use Rattle.vc_model.specs.Count
 pub use Rattle.vc_model.specs.Stream
 pub mod Addr
+pub mod Name

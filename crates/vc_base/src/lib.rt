@@ -3,6 +3,8 @@
 
 mod addr;
 mod fault;
+mod name;
 
 pub use addr::Addr;
 pub use fault::{OutOfMemory, ReadFailed, WriteFailed};
+pub use name::Name;
