@@ -4,7 +4,11 @@
 mod addr;
 mod fault;
 mod name;
+mod sink;
+mod source;
 
 pub use addr::Addr;
 pub use fault::{OutOfMemory, ReadFailed, WriteFailed};
 pub use name::Name;
+pub use sink::Sink;
+pub use source::Source;
