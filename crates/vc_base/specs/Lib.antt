@@ -1,4 +1,5 @@
 pub use Rattle.vc_model.specs.Count
 pub use Rattle.vc_model.specs.Stream
 pub mod Addr
+pub mod Memory
 pub mod Name

@@ -2,13 +2,17 @@
 #![tactic(auto)]
 
 mod addr;
+mod count;
 mod fault;
+mod mem_source;
 mod name;
 mod sink;
 mod source;
 
 pub use addr::Addr;
+pub use count::one_more;
 pub use fault::{OutOfMemory, ReadFailed, WriteFailed};
+pub use mem_source::MemSource;
 pub use name::Name;
 pub use sink::Sink;
 pub use source::Source;

@@ -1,0 +1,36 @@
+-- A source and a sink over memory, which serve pieces of one greatest size and fail at the calls of given numbers.
+use Rattle.std.specs.Prelude.{ℕ, List, length, drop, min, Bool, ◌==◌, if◌then◌else◌}
+use Rattle.std.specs.List.{list_any}
+use Rattle.vc_model.specs.Count.{next_count}
+
+-- the bytes that are left, and the numbers of the calls that fail, from 1
+pub record MemorySource : Type 0 where
+  pub left : List ℕ
+  pub piece : ℕ
+  pub fails : List ℕ
+  pub calls : ℕ
+  pub faults : ℕ
+
+-- the bytes that were written, and how many still fit
+pub record MemorySink : Type 0 where
+  pub written : List ℕ
+  pub room : ℕ
+  pub piece : ℕ
+  pub fails : List ℕ
+  pub calls : ℕ
+  pub faults : ℕ
+
+-- whether the call after that many is one of those that fail
+abbrev pub fails_after : List ℕ → ℕ → Bool
+fails_after fails calls = list_any (λ number. number == next_count calls) fails
+
+-- how many bytes a read that doesn't fail gives into a buffer of that length
+abbrev pub given : MemorySource → ℕ → ℕ
+given s buffer = min (min s.piece buffer) (length s.left)
+
+-- the source after a read into a buffer of that length
+abbrev pub after_read : MemorySource → ℕ → MemorySource
+after_read s buffer =
+    if fails_after s.fails s.calls
+    then record s { calls = next_count s.calls; faults = next_count s.faults }
+    else record s { left = drop (given s buffer) s.left; calls = next_count s.calls }
