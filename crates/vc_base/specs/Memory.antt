@@ -1,5 +1,5 @@
 -- A source and a sink over memory, which serve pieces of one greatest size and fail at the calls of given numbers.
-use Rattle.std.specs.Prelude.{ℕ, List, length, drop, min, Bool, ◌==◌, if◌then◌else◌}
+use Rattle.std.specs.Prelude.{ℕ, ◌-◌, List, ◌++◌, length, take, drop, min, Bool, ◌==◌, ◌||◌, if◌then◌else◌}
 use Rattle.std.specs.List.{list_any}
 use Rattle.vc_model.specs.Count.{next_count}
 
@@ -34,3 +34,22 @@ after_read s buffer =
     if fails_after s.fails s.calls
     then record s { calls = next_count s.calls; faults = next_count s.faults }
     else record s { left = drop (given s buffer) s.left; calls = next_count s.calls }
+
+-- whether the next write fails: at a number that is listed, or for want of room
+abbrev pub refuses : MemorySink → Bool
+refuses s = fails_after s.fails s.calls || (s.room == 0)
+
+-- how many bytes a write that doesn't fail takes of a piece of that length
+abbrev pub accepted : MemorySink → ℕ → ℕ
+accepted s offered = min (min s.piece offered) s.room
+
+-- the sink after a write of that piece
+abbrev pub after_write : MemorySink → List ℕ → MemorySink
+after_write s piece =
+    if refuses s
+    then record s { calls = next_count s.calls; faults = next_count s.faults }
+    else record s {
+      written = s.written ++ take (accepted s (length piece)) piece;
+      room = s.room - accepted s (length piece);
+      calls = next_count s.calls;
+    }

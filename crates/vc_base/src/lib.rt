@@ -4,6 +4,7 @@
 mod addr;
 mod count;
 mod fault;
+mod mem_sink;
 mod mem_source;
 mod name;
 mod sink;
@@ -12,6 +13,7 @@ mod source;
 pub use addr::Addr;
 pub use count::one_more;
 pub use fault::{OutOfMemory, ReadFailed, WriteFailed};
+pub use mem_sink::MemSink;
 pub use mem_source::MemSource;
 pub use name::Name;
 pub use sink::Sink;
