@@ -9,6 +9,7 @@ mod mem_source;
 mod name;
 mod sink;
 mod source;
+mod standard;
 
 pub use addr::Addr;
 pub use count::one_more;
@@ -18,3 +19,4 @@ pub use mem_source::MemSource;
 pub use name::Name;
 pub use sink::Sink;
 pub use source::Source;
+pub use standard::{StdSink, StdSource};
