@@ -3,3 +3,4 @@ pub use Rattle.vc_model.specs.Stream
 pub mod Addr
 pub mod Memory
 pub mod Name
+pub mod Steps

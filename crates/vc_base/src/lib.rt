@@ -10,6 +10,7 @@ mod name;
 mod sink;
 mod source;
 mod standard;
+mod steps;
 
 pub use addr::Addr;
 pub use count::one_more;
@@ -20,3 +21,4 @@ pub use name::Name;
 pub use sink::Sink;
 pub use source::Source;
 pub use standard::{StdSink, StdSource};
+pub use steps::Steps;

@@ -33,7 +33,12 @@ impl Model for MemSink {
 impl MemSink {
     /// A sink with room for that many bytes, which it reserves at once, in pieces of at most that size, which is at
     /// least 1. The writes of the numbers in `fails` fail; the first is number 1.
-    pub fn new(alloc: Global, room: usize, piece: usize, fails: Vec<u64>) -> Result<MemSink, OutOfMemory>
+    pub fn new(
+        alloc: Global,
+        room: usize,
+        piece: usize,
+        fails: Vec<u64>,
+    ) -> Result<MemSink, OutOfMemory>
         requires { 1 ≤ piece }
         ensures { IfOk result (λ s. s ≡ record { written = []; room = room; piece = piece; fails = fails.items; calls = 0; faults = 0 }) }
     {
