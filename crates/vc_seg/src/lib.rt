@@ -1,13 +1,16 @@
 //! Segments of bytes, the disciplines that lend them, and the shelf that keeps disciplines.
 #![tactic(auto)]
 
+mod count;
 mod disc;
 mod fault;
+mod fuse;
 mod heap;
 mod out_list;
 mod segment;
 
 pub use disc::SegDisc;
 pub use fault::{LendFault, RegionFault};
+pub use fuse::FuseDisc;
 pub use heap::HeapDisc;
 pub use segment::Segment;
