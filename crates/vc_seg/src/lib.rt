@@ -8,9 +8,11 @@ mod fuse;
 mod heap;
 mod out_list;
 mod segment;
+mod shelf;
 
 pub use disc::SegDisc;
 pub use fault::{LendFault, RegionFault};
 pub use fuse::FuseDisc;
 pub use heap::HeapDisc;
 pub use segment::Segment;
+pub use shelf::{Shelf, ShelfPlace};

@@ -1,0 +1,71 @@
+ghost use Rattle.std.specs.Prelude.{◌≡◌, ℕ, ◌-◌, ◌<◌, ◌≤◌, ◌↔◌, [], ◌∷◌, ◌++◌, Some, None, vec_len, slice_set, IfSome, IfNone, OnSome, IsSome, IfOk, IfErr, OnOk, OnErr};
+ghost use Rattle.vc_seg.specs.Shelf.{slots_of, slot_at, place_at};
+
+use crate::SegDisc;
+use std::alloc::Global;
+use vc_base::OutOfMemory;
+
+/// Keeps disciplines by number, from 1: a number stays that of its discipline, also while it is taken.
+#[derive(Drop)]
+pub struct Shelf {
+    pub slots: Vec<Option<Box<dyn SegDisc>>>,
+    pub ghost few: { vec_len slots ≤ 4294967295 },
+}
+
+/// What stands at a number of a shelf.
+#[derive(Clone, Copy, Debug, PartialEq, Eq)]
+pub enum ShelfPlace {
+    /// No discipline was put there.
+    Missing,
+    /// Its discipline was taken.
+    Taken,
+    /// Its discipline stands there.
+    Here,
+}
+
+impl Shelf {
+    pub fn new(alloc: Global) -> Shelf
+        ensures { result.slots.items ≡ [] }
+    {
+        Shelf {
+            slots: Vec::new(alloc),
+        }
+    }
+
+    /// How many disciplines were put: at most 4,294,967,295.
+    pub fn len(&self) -> u32
+        ensures { result ≡ vec_len self.now.slots }
+    {
+        self.slots.len() as u32
+    }
+
+    /// Puts a discipline behind the others and answers its number. With no memory it comes back.
+    pub fn put(&mut self, disc: Box<dyn SegDisc>) -> Result<u32, (OutOfMemory, Box<dyn SegDisc>)>
+        requires { vec_len self.old.slots < 4294967295 }
+        ensures number { IfOk result (λ n. n ≡ vec_len self.new.slots) }
+        ensures ok { OnOk result (slots_of (λ d. state d) self.new.slots.items ≡ slots_of (λ d. state d) self.old.slots.items ++ Some (state disc) ∷ []) }
+        ensures err { OnErr result (self.new.slots.items ≡ self.old.slots.items) }
+        ensures returned { IfErr result (λ e. state e.1 ≡ state disc) }
+    {
+        match self.slots.push(Some(disc)) {
+            Ok(()) => Ok(self.slots.len() as u32),
+            Err(failed) => match failed.value {
+                Some(disc) => Err((OutOfMemory, disc)),
+                None => unreachable!(),
+            },
+        }
+    }
+
+    /// What stands at this number.
+    pub fn place(&self, n: u32) -> ShelfPlace
+        ensures { result ≡ place_at (slots_of (λ d. state d) self.now.slots.items) n }
+    {
+        if n == 0 || n > self.len() {
+            return ShelfPlace::Missing;
+        }
+        match &self.slots[n as usize - 1] {
+            Some(_) => ShelfPlace::Here,
+            None => ShelfPlace::Taken,
+        }
+    }
+}
