@@ -8,6 +8,7 @@ use vc_base::OutOfMemory;
 /// Keeps disciplines by number, from 1: a number stays that of its discipline, also while it is taken.
 #[derive(Drop)]
 pub struct Shelf {
+    /// The discipline of each number, or None while it is taken.
     pub slots: Vec<Option<Box<dyn SegDisc>>>,
     pub ghost few: { vec_len slots ≤ 4294967295 },
 }
@@ -24,6 +25,7 @@ pub enum ShelfPlace {
 }
 
 impl Shelf {
+    /// An empty shelf.
     pub fn new(alloc: Global) -> Shelf
         ensures { result.slots.items ≡ [] }
     {
@@ -43,7 +45,7 @@ impl Shelf {
     pub fn put(&mut self, disc: Box<dyn SegDisc>) -> Result<u32, (OutOfMemory, Box<dyn SegDisc>)>
         requires { vec_len self.old.slots < 4294967295 }
         ensures number { IfOk result (λ n. n ≡ vec_len self.new.slots) }
-        ensures ok { OnOk result (slots_of (λ d. state d) self.new.slots.items ≡ slots_of (λ d. state d) self.old.slots.items ++ Some (state disc) ∷ []) }
+        ensures ok { OnOk result (slots_of state self.new.slots.items ≡ slots_of state self.old.slots.items ++ Some (state disc) ∷ []) }
         ensures err { OnErr result (self.new.slots.items ≡ self.old.slots.items) }
         ensures returned { IfErr result (λ e. state e.1 ≡ state disc) }
     {
@@ -58,7 +60,7 @@ impl Shelf {
 
     /// What stands at this number.
     pub fn place(&self, n: u32) -> ShelfPlace
-        ensures { result ≡ place_at (slots_of (λ d. state d) self.now.slots.items) n }
+        ensures { result ≡ place_at (slots_of state self.now.slots.items) n }
     {
         if n == 0 || n > self.len() {
             return ShelfPlace::Missing;
@@ -67,5 +69,26 @@ impl Shelf {
             Some(_) => ShelfPlace::Here,
             None => ShelfPlace::Taken,
         }
+    }
+
+    /// Takes the discipline that stands at this number. Its number stays free for it.
+    pub fn take(&mut self, n: u32) -> Option<Box<dyn SegDisc>>
+        ensures here { IsSome result ↔ (place_at (slots_of state self.old.slots.items) n ≡ ShelfPlace.Here) }
+        ensures taken { IfSome result (λ disc. slot_at (slots_of state self.old.slots.items) n ≡ Some (Some (state disc))) }
+        ensures emptied { OnSome result (slots_of state self.new.slots.items ≡ slice_set (slots_of state self.old.slots.items) (n - 1) None) }
+        ensures none { IfNone result (self.new.slots.items ≡ self.old.slots.items) }
+    {
+        if n == 0 || n > self.len() {
+            return None;
+        }
+        self.slots[n as usize - 1].take()
+    }
+
+    /// Puts a discipline back at a number whose discipline was taken.
+    pub fn give_back(&mut self, n: u32, disc: Box<dyn SegDisc>)
+        requires { place_at (slots_of state self.old.slots.items) n ≡ ShelfPlace.Taken }
+        ensures { slots_of state self.new.slots.items ≡ slice_set (slots_of state self.old.slots.items) (n - 1) (Some (state disc)) }
+    {
+        self.slots[n as usize - 1] = Some(disc);
     }
 }
