@@ -45,6 +45,7 @@ impl Shelf {
     pub fn put(&mut self, disc: Box<dyn SegDisc>) -> Result<u32, (OutOfMemory, Box<dyn SegDisc>)>
         requires { vec_len self.old.slots < 4294967295 }
         ensures number { IfOk result (λ n. n ≡ vec_len self.new.slots) }
+        ensures place { IfOk result (λ n. place_at (slots_of state self.new.slots.items) n ≡ ShelfPlace.Here) }
         ensures ok { OnOk result (slots_of state self.new.slots.items ≡ slots_of state self.old.slots.items ++ Some (state disc) ∷ []) }
         ensures err { OnErr result (self.new.slots.items ≡ self.old.slots.items) }
         ensures returned { IfErr result (λ e. state e.1 ≡ state disc) }
@@ -76,6 +77,7 @@ impl Shelf {
         ensures here { IsSome result ↔ (place_at (slots_of state self.old.slots.items) n ≡ ShelfPlace.Here) }
         ensures taken { IfSome result (λ disc. slot_at (slots_of state self.old.slots.items) n ≡ Some (Some (state disc))) }
         ensures emptied { OnSome result (slots_of state self.new.slots.items ≡ slice_set (slots_of state self.old.slots.items) (n - 1) None) }
+        ensures place { OnSome result (place_at (slots_of state self.new.slots.items) n ≡ ShelfPlace.Taken) }
         ensures none { IfNone result (self.new.slots.items ≡ self.old.slots.items) }
     {
         if n == 0 || n > self.len() {
@@ -87,7 +89,8 @@ impl Shelf {
     /// Puts a discipline back at a number whose discipline was taken.
     pub fn give_back(&mut self, n: u32, disc: Box<dyn SegDisc>)
         requires { place_at (slots_of state self.old.slots.items) n ≡ ShelfPlace.Taken }
-        ensures { slots_of state self.new.slots.items ≡ slice_set (slots_of state self.old.slots.items) (n - 1) (Some (state disc)) }
+        ensures filled { slots_of state self.new.slots.items ≡ slice_set (slots_of state self.old.slots.items) (n - 1) (Some (state disc)) }
+        ensures place { place_at (slots_of state self.new.slots.items) n ≡ ShelfPlace.Here }
     {
         self.slots[n as usize - 1] = Some(disc);
     }
