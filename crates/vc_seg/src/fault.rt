@@ -1,4 +1,7 @@
+ghost use Rattle.std.specs.Prelude.{◌≡◌};
+
 use thiserror::Error;
+use vc_base::OutOfMemory;
 
 /// Why a segment was not lent.
 #[derive(Clone, Copy, Debug, PartialEq, Eq, Error)]
@@ -9,6 +12,16 @@ pub enum LendFault {
     /// Want of memory.
     #[error("OutOfMemory")]
     OutOfMemory,
+}
+
+impl From<OutOfMemory> for LendFault {
+    ghost use Rattle.vc_seg.specs.declared.fault.LendFault.TheVariants.{OutOfMemory};
+
+    ghost from_gives = { λ _ fault. fault ≡ OutOfMemory };
+
+    fn from(_: OutOfMemory) -> LendFault {
+        LendFault::OutOfMemory
+    }
 }
 
 /// Why a call of a region was refused. Each call tells which of these it can answer.

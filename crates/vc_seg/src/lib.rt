@@ -1,10 +1,18 @@
 //! Segments of bytes, the disciplines that lend them, and the shelf that keeps disciplines.
 #![tactic(auto)]
 
+mod count;
 mod disc;
 mod fault;
+mod fuse;
+mod heap;
+mod out_list;
 mod segment;
+mod shelf;
 
 pub use disc::SegDisc;
 pub use fault::{LendFault, RegionFault};
+pub use fuse::FuseDisc;
+pub use heap::HeapDisc;
 pub use segment::Segment;
+pub use shelf::{Shelf, ShelfPlace};

@@ -1,0 +1,22 @@
+-- The last pair of a list that is equal to a given one.
+use Rattle.std.proofs.Common.{◌≡◌, ℕ, zero, suc, ◌<◌, Bool, true, false, List, [], ◌∷◌, length, get_or, drop, refl, ap, arith, ◌||◌}
+use Rattle.std.specs.List.{list_any, remove}
+use Rattle.vc_model.specs.Discipline.{same_pair, without_last}
+
+-- an element that passes is found
+pub list_any-at : {X : Type 0} (test : X → Bool) (xs : List X) (i : ℕ) (d : X) → i < length xs → test (get_or xs i d) ≡ true → list_any test xs ≡ true
+list_any-at test [] i d within passes = absurd (omega arith)
+list_any-at test (y ∷ ys) zero d within passes = let passes_here : test y ≡ true = passes in rw passes_here refl
+list_any-at test (y ∷ ys) (suc i) d within passes =
+    elim (test y) as (λ b. (b || list_any test ys) ≡ true) [ true ↦ refl | false ↦ list_any-at test ys i d (omega arith) passes ]
+
+-- the last equal pair is removed by its place
+pub remove-last_pair : (p : ℕ × ℕ) (xs : List (ℕ × ℕ)) (i : ℕ) (d : ℕ × ℕ) → i < length xs → same_pair p (get_or xs i d) ≡ true → list_any (same_pair p) (drop (suc i) xs) ≡ false → remove xs i ≡ without_last p xs
+remove-last_pair p [] i d within here after = absurd (omega arith)
+remove-last_pair p (q ∷ qs) zero d within here after =
+    let none : list_any (same_pair p) qs ≡ false = after in
+    let same : same_pair p q ≡ true = here in
+    rw (none, same) refl
+remove-last_pair p (q ∷ qs) (suc i) d within here after =
+    let found = list_any-at (same_pair p) qs i d (omega arith) here in
+    rw found (ap (λ rest. q ∷ rest) (remove-last_pair p qs i d (omega arith) here after))

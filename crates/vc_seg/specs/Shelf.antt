@@ -1,0 +1,23 @@
+-- A shelf of disciplines as its slots, in order of putting and numbered from 1. A slot whose discipline was taken is None.
+use Rattle.std.specs.Prelude.{ℕ, ◌-◌, List, Option, Some, None, map, option_map, slice_get, ◌==◌, if◌then◌else◌}
+use Rattle.vc_model.specs.Discipline.{Discipline}
+use Rattle.vc_seg.specs.declared.shelf.ShelfPlace.{ShelfPlace}
+use Rattle.vc_seg.specs.declared.shelf.ShelfPlace.TheVariants.{Missing, Taken, Here}
+
+-- the slots, with what each discipline means
+abbrev pub slots_of : {D : Type 0} → (D → Discipline) → List (Option D) → List (Option Discipline)
+slots_of state slots = map (option_map state) slots
+
+-- what a slot is, where there is one
+abbrev pub place_of : Option (Option Discipline) → ShelfPlace
+place_of None = Missing
+place_of (Some None) = Taken
+place_of (Some (Some d)) = Here
+
+-- the slot of a number
+abbrev pub slot_at : List (Option Discipline) → ℕ → Option (Option Discipline)
+slot_at slots n = if n == 0 then None else slice_get slots (n - 1)
+
+-- what stands at a number
+abbrev pub place_at : List (Option Discipline) → ℕ → ShelfPlace
+place_at slots n = place_of (slot_at slots n)

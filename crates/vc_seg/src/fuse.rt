@@ -1,0 +1,120 @@
+ghost use Rattle.std.specs.Prelude.{◌≡◌, ℕ, ◌%◌, ◌<◌, ◌≤◌, ◌↔◌, List, [], ◌∷◌, ◌++◌, None, length, Contains, IfSome, IfOk, OnOk, OnErr, IsErrOf};
+ghost use Rattle.vc_model.specs.Count.{Rose, next_count};
+ghost use Rattle.vc_model.specs.Discipline.{Discipline, IsRound, IsSegmentSize, Kept, without_last};
+ghost use Rattle.vc_seg.specs.Segment.{zeroed, pair_of};
+
+use crate::count::counted;
+use crate::out_list::OutList;
+use crate::{LendFault, SegDisc, Segment};
+use std::alloc::Global;
+use std::marker::Model;
+
+/// A discipline that refuses the calls of `lend` whose numbers it was given, and no other; it tells no room. Calls are
+/// counted from 1, also those that are refused or find no memory, and the count stays at the greatest u64 once there.
+#[derive(Drop)]
+pub struct FuseDisc {
+    lent: OutList,
+    unit: u32,
+    fails: Vec<u64>,
+    calls: u64,
+    refusals: u64,
+}
+
+impl Model for FuseDisc {
+    ghost use Rattle.std.specs.Prelude.{None};
+    ghost use Rattle.vc_model.specs.Discipline.{IsRound};
+    ghost use Rattle.vc_seg.specs.Fuse.{Fuse};
+
+    ghost Value = { Fuse };
+
+    ghost view = { λ d. record {
+      discipline = record { out = d.lent; faults = d.refusals; round = d.unit; room = None };
+      fails = d.fails.items;
+      calls = d.calls;
+    } };
+
+    ghost invariant = { λ d. IsRound d.unit };
+}
+
+impl FuseDisc {
+    /// A discipline that refuses these calls, and rounds sizes up to a multiple of `round` bytes, a multiple of 32 from
+    /// 32 to 65,536.
+    pub fn new(round: u32, fails: Vec<u64>) -> FuseDisc
+        requires { IsRound round }
+        ensures meaning { result.discipline ≡ record { out = []; faults = 0; round = round; room = None } }
+        ensures fails { result.fails ≡ fails.items }
+        ensures calls { result.calls ≡ 0 }
+    {
+        FuseDisc {
+            lent: OutList::new(),
+            unit: round,
+            fails,
+            calls: 0,
+            refusals: 0,
+        }
+    }
+}
+
+impl SegDisc for FuseDisc {
+    ghost state = { λ d. d.discipline };
+
+    fn round(&self) -> u32 {
+        self.unit
+    }
+
+    fn faults(&self) -> u64 {
+        self.refusals
+    }
+
+    fn room(&self) -> Option<u64>
+        ensures value { result ≡ self.now.discipline.room }
+        ensures untold { result ≡ None }
+    {
+        // A look at a field shows what every value has.
+        let _ = &self.unit;
+        None
+    }
+
+    fn lend(&mut self, alloc: Global, number: u32, size: u32) -> Result<Segment, LendFault>
+        requires size { IsSegmentSize size }
+        requires multiple { size % self.old.discipline.round ≡ 0 }
+
+        ensures refuses { IsErrOf result LendFault.Refused ↔ Contains self.old.fails (next_count self.old.calls) }
+        ensures counts { self.new.calls ≡ next_count self.old.calls }
+        ensures fails { self.new.fails ≡ self.old.fails }
+        ensures fault { IsErrOf result LendFault.Refused → self.new.discipline.faults ≡ next_count self.old.discipline.faults }
+
+        // The trait's clauses.
+        ensures segment { IfOk result (λ segment. segment ≡ zeroed number size) }
+        ensures lent { OnOk result (self.new.discipline.out ≡ self.old.discipline.out ++ (number, size) ∷ []) }
+        ensures out { OnErr result (self.new.discipline.out ≡ self.old.discipline.out) }
+        ensures room { OnErr result (self.new.discipline.room ≡ self.old.discipline.room) }
+        ensures refused { IsErrOf result LendFault.Refused → Rose self.old.discipline.faults self.new.discipline.faults }
+        ensures above_room { IfSome self.old.discipline.room (λ room. IsErrOf result LendFault.Refused → room < size) }
+        ensures within_room { IfSome self.old.discipline.room (λ room. OnOk result (size ≤ room)) }
+        ensures no_fault { OnOk result (self.new.discipline.faults ≡ self.old.discipline.faults) }
+        ensures no_memory { IsErrOf result LendFault.OutOfMemory → self.new.discipline.faults ≡ self.old.discipline.faults }
+        ensures kept { Kept self.old.discipline self.new.discipline }
+    {
+        self.calls = counted(self.calls);
+        if self.fails.contains(&self.calls) {
+            self.refusals = counted(self.refusals);
+            return Err(LendFault::Refused);
+        }
+        let segment = Segment::take(alloc, number, size)?;
+        self.lent.push(alloc, number, size)?;
+        Ok(segment)
+    }
+
+    fn take_back(&mut self, seg: Segment)
+        requires { Contains self.old.discipline.out (pair_of seg) }
+        ensures out { self.new.discipline.out ≡ without_last (pair_of seg) self.old.discipline.out }
+        ensures round { self.new.discipline.round ≡ self.old.discipline.round }
+        ensures faults { self.new.discipline.faults ≡ self.old.discipline.faults }
+        ensures room { self.new.discipline.room ≡ self.old.discipline.room }
+        ensures fails { self.new.fails ≡ self.old.fails }
+        ensures calls { self.new.calls ≡ self.old.calls }
+    {
+        self.lent.remove_last(seg.number(), seg.size());
+    }
+}
