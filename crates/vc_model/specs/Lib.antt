@@ -1,5 +1,6 @@
 pub mod Count
 pub mod Stream
+pub mod Numbered
 pub mod Discipline
 pub mod Segments
 pub mod Gap
