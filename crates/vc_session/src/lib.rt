@@ -1,0 +1,5 @@
+//! Runs scripts over regions.
+#![tactic(auto)]
+
+mod line;
+mod word;
