@@ -1,5 +1,7 @@
 //! Runs scripts over regions.
 #![tactic(auto)]
 
+mod command;
 mod line;
+mod parse;
 mod word;
