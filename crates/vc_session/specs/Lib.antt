@@ -5,3 +5,5 @@ pub use Rattle.vc_base.specs.Name
 pub mod Lines
 pub mod Words
 pub mod Answer
+pub mod Needs
+pub mod Print

@@ -4,4 +4,6 @@
 mod command;
 mod line;
 mod parse;
+mod print;
+mod reply;
 mod word;
