@@ -6,4 +6,5 @@ mod line;
 mod parse;
 mod print;
 mod reply;
+pub mod rows;
 mod word;
