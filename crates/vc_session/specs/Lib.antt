@@ -1,0 +1,9 @@
+pub use Rattle.vc_model.specs.Count
+pub use Rattle.vc_model.specs.Stream
+pub use Rattle.vc_model.specs.Discipline
+pub use Rattle.vc_base.specs.Name
+pub mod Lines
+pub mod Words
+pub mod Answer
+pub mod Needs
+pub mod Print
