@@ -1,3 +1,12 @@
 pub mod Cuts
 pub mod Answers
 pub mod Texts
+pub mod Cells
+pub mod Reading
+pub mod Written
+pub mod Settle
+pub mod Ends
+pub mod Named
+pub mod Names
+pub mod Runs
+pub mod Settling

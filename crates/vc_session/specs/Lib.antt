@@ -7,3 +7,7 @@ pub mod Words
 pub mod Answer
 pub mod Needs
 pub mod Print
+pub mod State
+pub mod Run
+pub mod Input
+pub mod Account

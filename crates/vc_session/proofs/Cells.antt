@@ -1,0 +1,36 @@
+-- One place of a list that is written.
+use Rattle.std.proofs.Common.{◌≡◌, ◌≢◌, ℕ, zero, suc, List, [], ◌∷◌, Option, Some, None, map, refl, sym, ap, ◌∙◌, set, ◌-◌, ◌≤◌, arith}
+use Rattle.std.specs.Prelude.{slice_get}
+use Rattle.std.proofs.lemmas.Bool.Decides.{nat_tests}
+use Rattle.vc_model.specs.Numbered.{at_number}
+use Rattle.std.proofs.lemmas.Option.{same_Some, none-some}
+
+-- a value in a list's place that looks the same
+pub map-set_alike : {A B : Type 0} (f : A → B) (xs : List A) (k : ℕ) (x y : A) → slice_get xs k ≡ Some x → f y ≡ f x → map f (set xs k y) ≡ map f xs
+map-set_alike f [] k x y at same = refl
+map-set_alike f (z ∷ zs) zero x y at same = ap (λ b. b ∷ map f zs) (same ∙ ap f (sym (same_Some z x at)))
+map-set_alike f (z ∷ zs) (suc k) x y at same = ap (λ bs. f z ∷ bs) (map-set_alike f zs k x y at same)
+
+pub slice_get-set_same : {A : Type 0} (xs : List A) (k : ℕ) (x y : A) → slice_get xs k ≡ Some x → slice_get (set xs k y) k ≡ Some y
+slice_get-set_same [] k x y at = absurd (none-some x at)
+slice_get-set_same (z ∷ zs) zero x y at = refl
+slice_get-set_same (z ∷ zs) (suc k) x y at = slice_get-set_same zs k x y at
+
+pub slice_get-set_other : {A : Type 0} (xs : List A) (k j : ℕ) (y : A) → j ≢ k → slice_get (set xs k y) j ≡ slice_get xs j
+slice_get-set_other [] k j y other = refl
+slice_get-set_other (z ∷ zs) zero zero y other = absurd (other refl)
+slice_get-set_other (z ∷ zs) zero (suc j) y other = refl
+slice_get-set_other (z ∷ zs) (suc k) zero y other = refl
+slice_get-set_other (z ∷ zs) (suc k) (suc j) y other = slice_get-set_other zs k j y (λ e. other (ap suc e))
+
+
+pub at_number-from_one : {A : Type 0} (xs : List A) (n : ℕ) → 1 ≤ n → at_number xs n ≡ slice_get xs (n - 1)
+at_number-from_one xs n low = grind (arith, nat_tests)
+
+pub at_number-zero : {A : Type 0} (xs : List A) (n : ℕ) → n ≡ 0 → at_number xs n ≡ None
+at_number-zero xs n zero_is = grind (arith, nat_tests)
+
+-- what stands at a number stands at an index
+pub at_number_some : {A : Type 0} (xs : List A) (n : ℕ) (x : A) → at_number xs n ≡ Some x → (1 ≤ n) × (slice_get xs (n - 1) ≡ Some x)
+at_number_some xs zero x at = absurd (none-some x (sym (at_number-zero xs 0 refl) ∙ at))
+at_number_some xs (suc k) x at = let low : 1 ≤ suc k = omega arith in (low, sym (at_number-from_one xs (suc k) low) ∙ at)

@@ -1,0 +1,74 @@
+-- From one settled shelf to the next, and over a run.
+use Rattle.std.proofs.Common.{◌≡◌, ◌≢◌, ℕ, ◌+◌, ◌-◌, ◌<◌, ◌≤◌, ◌⊎◌, zero, suc, Bool, true, false, cond, List, [], ◌∷◌, ◌++◌, Option, Some, None, length, map, option_map, get_or, refl, sym, ap, ◌∙◌, subst, arith, inl, inr, ⊎_elim, set, eqb}
+use Rattle.std.proofs.lemmas.Bool.{cases_eq}
+use Rattle.std.specs.Prelude.{slice_get, count_by, ◌==◌}
+use Rattle.std.proofs.lemmas.Option.{same_Some, none-some}
+use Rattle.std.proofs.lemmas.List.Sums.{sum_by-append}
+use Rattle.vc_model.specs.Count.{last_count}
+use Rattle.vc_model.specs.Numbered.{at_number}
+use Rattle.vc_session.proofs.Cells.{map-set_alike, slice_get-set_same, slice_get-set_other, at_number-from_one, at_number-zero, at_number_some}
+use Rattle.vc_session.specs.Account.{Account, faults_of, RoseBy, Settles, without_faults}
+
+rose_by-trans : (m n a b c : ℕ) → RoseBy m a b → RoseBy n b c → RoseBy (m + n) a c
+rose_by-trans m n a b c (inl p) (inl q) = inl (omega (arith, p, q))
+rose_by-trans m n a b c (inl p) (inr q) = inr q
+rose_by-trans m n a b c (inr p) (inl q) = inr (omega (arith, p, q))
+rose_by-trans m n a b c (inr p) (inr q) = inr q
+
+-- nothing has changed
+pub settles-same : (shelf : List (Option Account)) → Settles shelf shelf []
+settles-same shelf = record { same = refl; faults = λ place. inl (omega arith) }
+
+pub settles-trans : (a b c : List (Option Account)) (ps qs : List ℕ) → Settles a b ps → Settles b c qs → Settles a c (ps ++ qs)
+settles-trans a b c ps qs f g = record {
+  same = g.same ∙ f.same;
+  faults = λ place.
+      subst (λ n. RoseBy n (faults_of (at_number a place)) (faults_of (at_number c place))) (sym (sum_by-append (λ p. cond (eqb p place) 1 0) ps qs))
+      (rose_by-trans _ _ _ _ _ (f.faults place) (g.faults place))
+}
+
+-- the refusals at one place, which has n of them
+pub record OnlyAt (place n : ℕ) (refusals : List ℕ) : Type 0 where
+  pub here : count_by (λ p. p == place) refusals ≡ n
+  pub elsewhere : (q : ℕ) → q ≢ place → count_by (λ p. p == q) refusals ≡ 0
+
+module _ (shelf : List (Option Account)) (place n : ℕ) (a b : Account) (refusals : List ℕ) (at : at_number shelf place ≡ Some (Some a)) (same : without_faults b ≡ without_faults a) (rose : RoseBy n a.faults b.faults) (only : OnlyAt place n refusals) where
+  after : List (Option Account)
+  after = set shelf (place - 1) (Some b)
+
+  at_place : at_number after place ≡ Some (Some b)
+  unfolding after
+  at_place =
+      let found = at_number_some shelf place (Some a) at in
+      at_number-from_one (set shelf (place - 1) (Some b)) place found.0
+      ∙ slice_get-set_same shelf (place - 1) (Some a) (Some b) found.1
+
+  rose_here : (q : ℕ) → q ≡ place → RoseBy (count_by (λ p. p == q) refusals) (faults_of (at_number shelf q)) (faults_of (at_number after q))
+  rose_here q e =
+      subst (λ r. RoseBy (count_by (λ p. p == r) refusals) (faults_of (at_number shelf r)) (faults_of (at_number after r))) (sym e)
+      (subst (λ m. RoseBy m (faults_of (at_number shelf place)) (faults_of (at_number after place))) (sym only.here)
+      (subst (λ o. RoseBy n (faults_of o) (faults_of (at_number after place))) (sym at)
+      (subst (λ o. RoseBy n a.faults (faults_of o)) (sym at_place) rose)))
+
+  same_elsewhere : (q : ℕ) → q ≢ place → at_number after q ≡ at_number shelf q
+  unfolding after
+  same_elsewhere zero other = at_number-zero (set shelf (place - 1) (Some b)) 0 refl ∙ sym (at_number-zero shelf 0 refl)
+  same_elsewhere (suc j) other =
+      let low : 1 ≤ suc j = omega arith in
+      let first : 1 ≤ place = (at_number_some shelf place (Some a) at).0 in
+      at_number-from_one (set shelf (place - 1) (Some b)) (suc j) low
+      ∙ (slice_get-set_other shelf (place - 1) (suc j - 1) (Some b) (λ e. other (omega (arith, e, low, first)))
+      ∙ sym (at_number-from_one shelf (suc j) low))
+
+  rose_elsewhere : (q : ℕ) → q ≢ place → RoseBy (count_by (λ p. p == q) refusals) (faults_of (at_number shelf q)) (faults_of (at_number after q))
+  rose_elsewhere q other =
+      subst (λ m. RoseBy m (faults_of (at_number shelf q)) (faults_of (at_number after q))) (sym (only.elsewhere q other))
+      (subst (λ o. RoseBy 0 (faults_of (at_number shelf q)) (faults_of o)) (sym (same_elsewhere q other)) (inl (omega arith)))
+
+  -- one place's discipline has changed, but for its faults it is the same
+  pub settles-set : Settles shelf (set shelf (place - 1) (Some b)) refusals
+  unfolding after
+  settles-set = record {
+    same = map-set_alike (option_map without_faults) shelf (place - 1) (Some a) (Some b) (at_number_some shelf place (Some a) at).1 (ap Some same);
+    faults = λ q. ⊎_elim (rose_here q) (rose_elsewhere q) (cases_eq q place)
+  }

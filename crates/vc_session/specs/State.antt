@@ -1,0 +1,102 @@
+-- The state of a session, and one step of it.
+use Rattle.std.specs.Prelude.{ℕ, ◌+◌, ◌-◌, List, [], ◌∷◌, ◌++◌, Option, Some, None, Bool, true, false, length, map, find, slice_set, nat_lt, nat_le, ◌&&◌, if◌then◌else◌}
+use Rattle.std.specs.List.{list_any}
+use Rattle.std.specs.Str.{bytes_eq}
+use Rattle.vc_model.specs.Numbered.{at_number}
+use Rattle.vc_model.specs.Region.{Block, Region}
+use Rattle.vc_model.specs.Best.{Allocated, Placed, TooManySegments, NoSegment, best_alloc}
+use Rattle.vc_session.specs.declared.command.Command.{Command}
+use Rattle.vc_session.specs.declared.command.Command.TheVariants.{Open, Alloc}
+use Rattle.vc_session.specs.declared.reply.Reply.{Reply}
+use Rattle.vc_session.specs.declared.reply.Reply.TheVariants.{Opened, At, Refused}
+use Rattle.vc_session.specs.declared.reply.Refusal.{Refusal}
+use Rattle.vc_session.specs.declared.reply.Refusal.TheVariants as why
+use Rattle.vc_session.specs.Needs.{Need, NoNeed, ForBlock}
+
+-- a region of the session: its name, the place of its discipline on the shelf, from 1 on, that discipline's round, and its lists
+pub record Home : Type 0 where
+  pub name : List ℕ
+  pub place : ℕ
+  pub round : ℕ
+  pub region : Region (List ℕ)
+
+-- for each place of the shelf the round of the discipline that is here, None where it is taken; and the regions in order of opening
+pub record State : Type 0 where
+  pub shelf : List (Option ℕ)
+  pub homes : List Home
+
+-- what a step gives: the state after it, and the reply
+pub record Stepped : Type 0 where
+  pub state : State
+  pub reply : Reply
+
+-- a refusal changes nothing
+abbrev pub refused : State → Refusal → Stepped
+refused s why = record { state = s; reply = Refused why }
+
+abbrev pub is_home : List ℕ → Home → Bool
+is_home r h = bytes_eq h.name r
+
+abbrev pub home_named : List ℕ → List Home → Option Home
+home_named r homes = find (is_home r) homes
+
+-- a region is opened with a discipline of that round
+abbrev pub opened : State → List ℕ → ℕ → ℕ → Stepped
+opened s r n round =
+    record {
+      state = record {
+        shelf = slice_set s.shelf (n - 1) None;
+        homes = s.homes ++ record { name = r; place = n; round = round; region = record { segments = []; blocks = [] } } ∷ []
+      };
+      reply = Opened r
+    }
+
+abbrev pub opened_over : State → List ℕ → ℕ → Option (Option ℕ) → Stepped
+opened_over s r n None = refused s why.NotYet
+opened_over s r n (Some None) = refused s why.NotYet
+opened_over s r n (Some (Some round)) = opened s r n round
+
+abbrev pub open_step : State → List ℕ → ℕ → Stepped
+open_step s r n = if list_any (is_home r) s.homes then refused s why.NotYet else opened_over s r n (at_number s.shelf n)
+
+abbrev pub has_label : List ℕ → List (Block (List ℕ)) → Bool
+has_label x blocks = list_any (λ b. bytes_eq b.label x) blocks
+
+-- the regions, with other lists in the one of that name
+abbrev pub with_region : List ℕ → Region (List ℕ) → List Home → List Home
+with_region r region homes = map (λ h. if is_home r h then record h { region = region } else h) homes
+
+-- a script's sizes are from 1 to 16,777,216 bytes
+abbrev pub is_size : ℕ → Bool
+is_size size = nat_le 1 size && nat_le size 16777216
+
+-- a region has at most so many labels
+abbrev pub label_limit : ℕ
+label_limit = 1000000
+
+abbrev pub allocated : State → List ℕ → List ℕ → Allocated (List ℕ) → Stepped
+allocated s r x (Placed at region) =
+    record {
+      state = record { shelf = s.shelf; homes = with_region r region s.homes };
+      reply = At x (record { seg = at.0; off = at.1 })
+    }
+allocated s r x TooManySegments = refused s why.NotYet
+allocated s r x NoSegment = refused s why.NoSegment
+
+abbrev pub alloc_in : State → List ℕ → List ℕ → ℕ → Bool → Option Home → Stepped
+alloc_in s r x size not_lent None = refused s why.NoRegion
+alloc_in s r x size not_lent (Some h) =
+    if has_label x h.region.blocks
+    then refused s why.NotYet
+    else (if is_size size && nat_lt (length h.region.blocks) label_limit
+    then allocated s r x (best_alloc h.round h.region x size 32 not_lent)
+    else refused s why.NotYet)
+
+abbrev pub is_for_block : Need → Bool
+is_for_block NoNeed = false
+is_for_block ForBlock = true
+
+-- one step: the first refusal that applies, else the state changed; the need is the one free choice
+abbrev pub step : State → Command → Need → Stepped
+step s (Open r n) need = open_step s r n
+step s (Alloc r x size) need = alloc_in s r x size (is_for_block need) (home_named r s.homes)

@@ -1,0 +1,26 @@
+ghost use Rattle.std.specs.Prelude.{◌≡◌, ℕ, [], ◌∷◌, Some, None, codes, List};
+ghost use Rattle.vc_session.specs.Print.{text};
+ghost use Rattle.vc_session.specs.Needs.{Need, NoNeed, ForBlock};
+ghost use Rattle.vc_session.specs.State.{State};
+ghost use Rattle.vc_session.specs.Run.{run, script, first_bad};
+ghost use Rattle.vc_session.specs.declared.command.LineFault.TheVariants.{UnknownCommand};
+
+/// Row.
+pub fn row_one()
+    ensures { text (run (record { shelf = Some 4096 ∷ []; homes = [] }) (script (codes "open r best 1\nalloc r a 100")) []).replies ≡ codes "r open\na 1:32\n" }
+{
+}
+
+/// Row.
+pub fn refused_segment()
+    ensures { text (run (record { shelf = Some 4096 ∷ []; homes = [] }) (script (codes "open r best 1\nalloc r a 4000\nalloc r b 4000\nalloc r b 4000\nalloc q a 1\nalloc r c 0\n")) (NoNeed ∷ NoNeed ∷ ForBlock ∷ [])).replies
+        ≡ codes "r open\na 1:32\nrefused: no segment\nb 2:32\nrefused: no region\nrefused: not built\n" }
+{
+}
+
+/// Row.
+pub fn bad_line()
+    ensures out { text (run (record { shelf = Some 4096 ∷ []; homes = [] }) (script (codes "open r best 1\nalloc r a 1\nfrobnicate\nalloc r b 1")) []).replies ≡ codes "r open\na 1:32\n" }
+    ensures fault { first_bad (codes "open r best 1\nalloc r a 1\nfrobnicate\nalloc r b 1") ≡ Some (3, UnknownCommand) }
+{
+}

@@ -1,0 +1,21 @@
+// Reading all there is, and writing all of a piece.
+ghost use Rattle.std.specs.Prelude.{◌≡◌, ℕ, ◌+◌, ◌<◌, ◌≤◌, List, [], ◌++◌, Some, IfSome, IfOk, IfErr, OnOk, OnErr, IsErrOf, length, take};
+ghost use Rattle.vc_model.specs.Count.{Rose};
+
+use std::alloc::{AllocError, Global};
+use vc_base::{OutOfMemory, ReadFailed, Sink, Source, WriteFailed};
+
+// Writes all of a piece, in as many writes as the sink wants.
+pub(crate) fn write_all<O: Sink>(out: &mut O, piece: &[u8]) -> Result<(), WriteFailed>
+    ensures ok { OnOk result (IfSome (O.written out.old) (λ w. O.written out.new ≡ Some (w ++ piece.now))) }
+    ensures front { IfSome (O.written out.old) (λ w. (k : ℕ) × (O.written out.new ≡ Some (w ++ take k piece.now))) }
+    ensures cause { OnErr result (Rose (O.failures out.old) (O.failures out.new)) }
+    ensures never_falls { O.failures out.old ≤ O.failures out.new }
+{
+    let mut done = 0;
+    while done < piece.len() {
+        let n = out.write(&piece[done..])?;
+        done += n;
+    }
+    Ok(())
+}
