@@ -10,6 +10,7 @@ use vc_base::OutOfMemory;
 pub struct Shelf {
     /// The discipline of each number, or None while it is taken.
     pub slots: Vec<Option<Box<dyn SegDisc>>>,
+    // A number fits a u32.
     pub ghost few: { vec_len slots ≤ 4294967295 },
 }
 
