@@ -1,5 +1,6 @@
 -- A shelf of disciplines as its slots, in order of putting and numbered from 1. A slot whose discipline was taken is None.
 use Rattle.std.specs.Prelude.{ℕ, ◌-◌, List, Option, Some, None, map, option_map, slice_get, ◌==◌, if◌then◌else◌}
+use Rattle.vc_model.specs.Numbered.{at_number}
 use Rattle.vc_model.specs.Discipline.{Discipline}
 use Rattle.vc_seg.specs.declared.shelf.ShelfPlace.{ShelfPlace}
 use Rattle.vc_seg.specs.declared.shelf.ShelfPlace.TheVariants.{Missing, Taken, Here}
@@ -16,7 +17,7 @@ place_of (Some (Some d)) = Here
 
 -- the slot of a number
 abbrev pub slot_at : List (Option Discipline) → ℕ → Option (Option Discipline)
-slot_at slots n = if n == 0 then None else slice_get slots (n - 1)
+slot_at slots n = at_number slots n
 
 -- what stands at a number
 abbrev pub place_at : List (Option Discipline) → ℕ → ShelfPlace

@@ -2,6 +2,7 @@
 #![tactic(auto)]
 
 mod count;
+mod boxed;
 mod disc;
 mod fault;
 mod fuse;
@@ -10,6 +11,7 @@ mod out_list;
 mod segment;
 mod shelf;
 
+pub use boxed::BoxedDisc;
 pub use disc::SegDisc;
 pub use fault::{LendFault, RegionFault};
 pub use fuse::FuseDisc;

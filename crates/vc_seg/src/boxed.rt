@@ -1,0 +1,30 @@
+use crate::{LendFault, SegDisc, Segment};
+use std::alloc::Global;
+
+/// A discipline as regions and shelves keep it.
+pub type BoxedDisc = Box<dyn SegDisc>;
+
+// A boxed discipline means what the one in the box means, and each call goes to that one.
+impl SegDisc for Box<dyn SegDisc> {
+    ghost state = { λ b. (SegDisc-box b).state b.value };
+
+    fn round(&self) -> u32 {
+        (**self).round()
+    }
+
+    fn faults(&self) -> u64 {
+        (**self).faults()
+    }
+
+    fn room(&self) -> Option<u64> {
+        (**self).room()
+    }
+
+    fn lend(&mut self, alloc: Global, number: u32, size: u32) -> Result<Segment, LendFault> {
+        (**self).lend(alloc, number, size)
+    }
+
+    fn take_back(&mut self, seg: Segment) {
+        (**self).take_back(seg)
+    }
+}
