@@ -26,8 +26,13 @@ impl Model for MemSink {
     ghost Value = { MemorySink };
 
     ghost view = { λ s. record {
-        written = s.bytes.items; room = s.room; piece = s.piece;
-        fails = s.fails.items; calls = s.calls; faults = s.faults } };
+      written = s.bytes.items;
+      room = s.room;
+      piece = s.piece;
+      fails = s.fails.items;
+      calls = s.calls;
+      faults = s.faults;
+    } };
 
     ghost invariant = { λ s. (1 ≤ s.piece) × (vec_len s.bytes + s.room ≤ vec_capacity s.bytes) };
 }
@@ -43,7 +48,13 @@ impl MemSink {
     ) -> Result<MemSink, OutOfMemory>
         requires { 1 ≤ piece }
         ensures value { IfOk result (λ s. s ≡ record {
-            written = []; room = room; piece = piece; fails = fails.items; calls = 0; faults = 0 }) }
+          written = [];
+          room = room;
+          piece = piece;
+          fails = fails.items;
+          calls = 0;
+          faults = 0;
+        }) }
         ensures no_room { room ≡ 0 → IsOk result }
     {
         let bytes = Vec::with_capacity(alloc, room)?;
