@@ -1,4 +1,4 @@
-ghost use Rattle.std.specs.Prelude.{◌≡◌, ℕ, ◌+◌, ◌≤◌, ◌↔◌, Some, [], length, take, ◌++◌, IsTrue, IsErr, IfOk, OnErr, vec_len, vec_capacity};
+ghost use Rattle.std.specs.Prelude.{◌≡◌, ℕ, ◌+◌, ◌≤◌, ◌↔◌, Some, [], length, take, ◌++◌, IsTrue, IsErr, IsOk, IfOk, OnErr, vec_len, vec_capacity};
 ghost use Rattle.vc_model.specs.Count.{Rose};
 ghost use Rattle.vc_model.specs.Stream.{Writes};
 ghost use Rattle.vc_base.specs.Memory.{MemorySink, after_write, refuses, accepted};
@@ -25,7 +25,14 @@ impl Model for MemSink {
 
     ghost Value = { MemorySink };
 
-    ghost view = { λ s. record { written = s.bytes.items; room = s.room; piece = s.piece; fails = s.fails.items; calls = s.calls; faults = s.faults } };
+    ghost view = { λ s. record {
+      written = s.bytes.items;
+      room = s.room;
+      piece = s.piece;
+      fails = s.fails.items;
+      calls = s.calls;
+      faults = s.faults;
+    } };
 
     ghost invariant = { λ s. (1 ≤ s.piece) × (vec_len s.bytes + s.room ≤ vec_capacity s.bytes) };
 }
@@ -40,7 +47,15 @@ impl MemSink {
         fails: Vec<u64>,
     ) -> Result<MemSink, OutOfMemory>
         requires { 1 ≤ piece }
-        ensures { IfOk result (λ s. s ≡ record { written = []; room = room; piece = piece; fails = fails.items; calls = 0; faults = 0 }) }
+        ensures value { IfOk result (λ s. s ≡ record {
+          written = [];
+          room = room;
+          piece = piece;
+          fails = fails.items;
+          calls = 0;
+          faults = 0;
+        }) }
+        ensures no_room { room ≡ 0 → IsOk result }
     {
         let bytes = Vec::with_capacity(alloc, room)?;
         Ok(MemSink {
