@@ -3,11 +3,11 @@ ghost use Rattle.vc_model.specs.Count.{Rose, next_count};
 ghost use Rattle.vc_model.specs.Discipline.{Discipline, IsRound, IsSegmentSize, Kept, without_last};
 ghost use Rattle.vc_seg.specs.Segment.{zeroed, pair_of};
 
-use crate::count::counted;
 use crate::out_list::OutList;
 use crate::{LendFault, SegDisc, Segment};
 use std::alloc::Global;
 use std::marker::Model;
+use vc_base::one_more;
 
 /// A discipline that refuses the calls of `lend` whose numbers it was given, and no other; it tells no room. Calls are
 /// counted from 1, also those that are refused or find no memory, and the count stays at the greatest u64 once there.
@@ -96,9 +96,9 @@ impl SegDisc for FuseDisc {
         ensures no_memory { IsErrOf result LendFault.OutOfMemory → self.new.discipline.faults ≡ self.old.discipline.faults }
         ensures kept { Kept self.old.discipline self.new.discipline }
     {
-        self.calls = counted(self.calls);
+        self.calls = one_more(self.calls);
         if self.fails.contains(&self.calls) {
-            self.refusals = counted(self.refusals);
+            self.refusals = one_more(self.refusals);
             return Err(LendFault::Refused);
         }
         let segment = Segment::take(alloc, number, size)?;

@@ -1,7 +1,6 @@
 //! Segments of bytes, the disciplines that lend them, and the shelf that keeps disciplines.
 #![tactic(auto)]
 
-mod count;
 mod boxed;
 mod disc;
 mod fault;
