@@ -1,9 +1,9 @@
 -- One place of a list that is written.
-use Rattle.std.proofs.Common.{◌≡◌, ◌≢◌, ℕ, zero, suc, List, [], ◌∷◌, Option, Some, None, map, refl, sym, ap, ◌∙◌, set, ◌-◌, ◌≤◌, arith}
+use Rattle.std.proofs.Common.{◌≡◌, ◌≢◌, ℕ, zero, suc, List, [], ◌∷◌, Option, Some, None, map, option_map, refl, sym, ap, ◌∙◌, set, ◌-◌, ◌≤◌, arith}
 use Rattle.std.specs.Prelude.{slice_get}
 use Rattle.std.proofs.lemmas.Bool.Decides.{nat_tests}
 use Rattle.vc_model.specs.Numbered.{at_number}
-use Rattle.std.proofs.lemmas.Option.{same_Some, none-some}
+use Rattle.std.proofs.lemmas.Option.{same_Some, none-some, slice_get-map}
 
 -- a value in a list's place that looks the same
 pub map-set_alike : {A B : Type 0} (f : A → B) (xs : List A) (k : ℕ) (x y : A) → slice_get xs k ≡ Some x → f y ≡ f x → map f (set xs k y) ≡ map f xs
@@ -34,3 +34,15 @@ at_number-zero xs n zero_is = grind (arith, nat_tests)
 pub at_number_some : {A : Type 0} (xs : List A) (n : ℕ) (x : A) → at_number xs n ≡ Some x → (1 ≤ n) × (slice_get xs (n - 1) ≡ Some x)
 at_number_some xs zero x at = absurd (none-some x (sym (at_number-zero xs 0 refl) ∙ at))
 at_number_some xs (suc k) x at = let low : 1 ≤ suc k = omega arith in (low, sym (at_number-from_one xs (suc k) low) ∙ at)
+
+pub at_number-map : {A B : Type 0} (f : A → B) (xs : List A) (n : ℕ) → at_number (map f xs) n ≡ option_map f (at_number xs n)
+at_number-map f xs zero = at_number-zero (map f xs) 0 refl ∙ ap (option_map f) (sym (at_number-zero xs 0 refl))
+at_number-map f xs (suc k) =
+    let low : 1 ≤ suc k = omega arith in
+    at_number-from_one (map f xs) (suc k) low ∙ (slice_get-map f xs (suc k - 1) ∙ ap (option_map f) (sym (at_number-from_one xs (suc k) low)))
+
+-- what is written is what stands there
+pub set_same : {A : Type 0} (xs : List A) (k : ℕ) (x : A) → slice_get xs k ≡ Some x → set xs k x ≡ xs
+set_same [] k x at = refl
+set_same (y ∷ ys) zero x at = ap (λ z. z ∷ ys) (sym (same_Some y x at))
+set_same (y ∷ ys) (suc k) x at = ap (λ zs. y ∷ zs) (set_same ys k x at)

@@ -10,3 +10,6 @@ pub mod Named
 pub mod Names
 pub mod Runs
 pub mod Settling
+pub mod Firsts
+pub mod Sessions
+pub mod Opening

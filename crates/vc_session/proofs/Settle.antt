@@ -30,11 +30,11 @@ IsApart (h ∷ hs) = (1 ≤ h.place) × AllByRecursion (λ g. g.place ≢ h.plac
 abbrev pub Off : ℕ → List Held → Type 0
 Off k hs = AllByRecursion (λ g. g.place - 1 ≢ k) hs
 
-off-apart : (p : ℕ) (hs : List Held) → 1 ≤ p → AllByRecursion (λ g. g.place ≢ p) hs → IsApart hs → Off (p - 1) hs
+pub off-apart : (p : ℕ) (hs : List Held) → 1 ≤ p → AllByRecursion (λ g. g.place ≢ p) hs → IsApart hs → Off (p - 1) hs
 off-apart p [] low away apart = tt
 off-apart p (g ∷ hs) low away apart = ((λ e. away.0 (omega (arith, e, low, apart.0))), off-apart p hs low away.1 apart.2)
 
-settled-keeps : (shelf : List (Option Account)) (k : ℕ) (hs : List Held) → Off k hs → slice_get (settled shelf hs) k ≡ slice_get shelf k
+pub settled-keeps : (shelf : List (Option Account)) (k : ℕ) (hs : List Held) → Off k hs → slice_get (settled shelf hs) k ≡ slice_get shelf k
 settled-keeps shelf k [] off = refl
 settled-keeps shelf k (h ∷ hs) off =
     settled-keeps (set shelf (h.place - 1) (Some (account_after h))) k hs off.1

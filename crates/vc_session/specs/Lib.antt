@@ -11,3 +11,4 @@ pub mod State
 pub mod Run
 pub mod Input
 pub mod Account
+pub mod Homes

@@ -64,7 +64,8 @@ has_label x blocks = list_any (λ b. bytes_eq b.label x) blocks
 
 -- the regions, with other lists in the one of that name
 abbrev pub with_region : List ℕ → Region (List ℕ) → List Home → List Home
-with_region r region homes = map (λ h. if is_home r h then record h { region = region } else h) homes
+with_region r region [] = []
+with_region r region (h ∷ hs) = if is_home r h then (record h { region = region }) ∷ hs else h ∷ with_region r region hs
 
 -- a script's sizes are from 1 to 16,777,216 bytes
 abbrev pub is_size : ℕ → Bool
@@ -74,23 +75,35 @@ is_size size = nat_le 1 size && nat_le size 16777216
 abbrev pub label_limit : ℕ
 label_limit = 1000000
 
-abbrev pub allocated : State → List ℕ → List ℕ → Allocated (List ℕ) → Stepped
-allocated s r x (Placed at region) =
-    record {
-      state = record { shelf = s.shelf; homes = with_region r region s.homes };
-      reply = At x (record { seg = at.0; off = at.1 })
-    }
-allocated s r x TooManySegments = refused s why.NotYet
-allocated s r x NoSegment = refused s why.NoSegment
+-- what a command on one region gives: its lists after it, and the reply
+pub record Changed : Type 0 where
+  pub region : Region (List ℕ)
+  pub reply : Reply
 
-abbrev pub alloc_in : State → List ℕ → List ℕ → ℕ → Bool → Option Home → Stepped
-alloc_in s r x size not_lent None = refused s why.NoRegion
-alloc_in s r x size not_lent (Some h) =
+abbrev pub unchanged : Home → Refusal → Changed
+unchanged h why = record { region = h.region; reply = Refused why }
+
+abbrev pub allocated : Home → List ℕ → Allocated (List ℕ) → Changed
+allocated h x (Placed at region) = record { region = region; reply = At x (record { seg = at.0; off = at.1 }) }
+allocated h x TooManySegments = unchanged h why.NotYet
+allocated h x NoSegment = unchanged h why.NoSegment
+
+-- a block is allocated in a region; whether a segment is refused is the one free choice
+abbrev pub alloc_in : Home → List ℕ → ℕ → Bool → Changed
+alloc_in h x size not_lent =
     if has_label x h.region.blocks
-    then refused s why.NotYet
+    then unchanged h why.NotYet
     else (if is_size size && nat_lt (length h.region.blocks) label_limit
-    then allocated s r x (best_alloc h.round h.region x size 32 not_lent)
-    else refused s why.NotYet)
+    then allocated h x (best_alloc h.round h.region x size 32 not_lent)
+    else unchanged h why.NotYet)
+
+-- the state with the change of the region of that name
+abbrev pub changed : State → List ℕ → Changed → Stepped
+changed s r c = record { state = record { shelf = s.shelf; homes = with_region r c.region s.homes }; reply = c.reply }
+
+abbrev pub alloc_step : State → List ℕ → List ℕ → ℕ → Bool → Option Home → Stepped
+alloc_step s r x size not_lent None = refused s why.NoRegion
+alloc_step s r x size not_lent (Some h) = changed s r (alloc_in h x size not_lent)
 
 abbrev pub is_for_block : Need → Bool
 is_for_block NoNeed = false
@@ -99,4 +112,4 @@ is_for_block ForBlock = true
 -- one step: the first refusal that applies, else the state changed; the need is the one free choice
 abbrev pub step : State → Command → Need → Stepped
 step s (Open r n) need = open_step s r n
-step s (Alloc r x size) need = alloc_in s r x size (is_for_block need) (home_named r s.homes)
+step s (Alloc r x size) need = alloc_step s r x size (is_for_block need) (home_named r s.homes)

@@ -2,6 +2,7 @@
 #![tactic(auto)]
 
 mod command;
+mod home;
 mod input;
 mod line;
 mod parse;
@@ -9,5 +10,6 @@ mod print;
 mod reply;
 pub mod rows;
 pub mod run_rows;
+mod session;
 mod stream;
 mod word;

@@ -1,0 +1,63 @@
+-- What opening a region does to the state, and to the settled shelf.
+use Rattle.std.proofs.Common.{◌≡◌, ◌≢◌, ℕ, ◌-◌, ◌≤◌, Bool, true, false, cond, List, [], ◌∷◌, ◌++◌, Option, Some, None, length, map, option_map, set, take, refl, sym, ap, ◌∙◌, subst, arith}
+use Rattle.std.specs.Prelude.{slice_get}
+use Rattle.std.specs.List.{list_any, AllByRecursion}
+use Rattle.std.proofs.lemmas.List.{append-nil, map-append, map-set, set-set, take_all}
+use Rattle.std.proofs.lemmas.Option.{same_Some, none-some, slice_get-map}
+use Rattle.vc_model.specs.Numbered.{at_number}
+use Rattle.vc_model.specs.Discipline.{Discipline}
+use Rattle.vc_session.specs.declared.reply.Reply.TheVariants.{Opened}
+use Rattle.vc_session.specs.declared.reply.Refusal.TheVariants.{NotYet}
+use Rattle.vc_session.specs.State.{State, Stepped, is_home, open_step, opened_over, refused}
+use Rattle.vc_session.specs.Account.{Account, Held, IsHeld, IsNamed, IsSession, account, accounts, account_after, home_of, settled, state_of}
+use Rattle.vc_session.proofs.Cells.{at_number-from_one, at_number_some, slice_get-set_same, at_number-map, set_same}
+use Rattle.vc_session.proofs.Settle.{settled-push, settled-set, settled-keeps, off-apart, Off}
+use Rattle.vc_session.proofs.Sessions.{Slots, apart-session, away-session, session-push}
+
+-- a region that was just opened
+abbrev pub fresh : List ℕ → ℕ → Discipline → Held
+fresh name n d = record { name = name; place = n; disc = d; layout = record { segments = []; blocks = [] }; labels = [] }
+
+-- all of a list stands before nothing
+ends_with_none : (xs : List (ℕ × ℕ)) → take (length xs - 0) xs ≡ xs
+ends_with_none xs = take_all (length xs - 0) xs (omega arith)
+
+fresh_names : (name : List ℕ) (n : ℕ) (d : Discipline) → IsNamed (fresh name n d).layout (fresh name n d).labels
+fresh_names name n d = record { count = refl; few = omega arith; tags = tt; known = λ x. refl }
+
+module _ (slots : Slots) (hs : List Held) (name : List ℕ) (n : ℕ) (d : Discipline) (at : at_number slots n ≡ Some (Some d)) (session : IsSession slots hs) where
+  there : slice_get slots (n - 1) ≡ Some (Some d)
+  there = (at_number_some slots n (Some d) at).1
+
+  pub open_step-ok : list_any (is_home name) (map home_of hs) ≡ false → open_step (state_of slots hs) name n ≡ record { state = state_of (set slots (n - 1) None) (hs ++ fresh name n d ∷ []); reply = Opened name }
+  open_step-ok new =
+      ap (λ b. cond b (refused (state_of slots hs) NotYet) (opened_over (state_of slots hs) name n (at_number (state_of slots hs).shelf n))) new
+      ∙ (ap (opened_over (state_of slots hs) name n) (at_number-map (option_map (λ e. e.round)) slots n ∙ ap (option_map (option_map (λ e. e.round))) at)
+      ∙ (ap (λ shelf. stepped (let s : State = record { shelf = shelf; homes = map home_of hs ++ home_of (fresh name n d) ∷ [] } in s)) (sym (map-set (option_map (λ (e : Discipline). e.round)) slots (n - 1) None))
+      ∙ ap (λ homes. stepped (let s : State = record { shelf = map (option_map (λ e. e.round)) (set slots (n - 1) None); homes = homes } in s)) (sym (map-append home_of hs (fresh name n d ∷ [])))))
+    where
+      stepped : State → Stepped
+      stepped s = record { state = s; reply = Opened name }
+
+  pub session-open : IsSession (set slots (n - 1) None) (hs ++ fresh name n d ∷ [])
+  session-open =
+      let low = (at_number_some slots n (Some d) at).0 in
+      session-push slots (n - 1) (Some d) hs (fresh name n d) there session (away-session slots n d hs at session)
+      (record {
+        place = at_number-from_one (set slots (n - 1) None) n low ∙ slice_get-set_same slots (n - 1) (Some d) None there;
+        lent = ap (λ front. front ++ []) (ends_with_none d.out) ∙ append-nil d.out;
+        names = fresh_names name n d
+      })
+
+  pub settled-open : settled (accounts (set slots (n - 1) None)) (hs ++ fresh name n d ∷ []) ≡ settled (accounts slots) hs
+  settled-open =
+      let low = (at_number_some slots n (Some d) at).0 in
+      let off : Off (n - 1) hs = off-apart n hs low (away-session slots n d hs at session) (apart-session slots hs session) in
+      let account_is : account_after (fresh name n d) ≡ account d = ap (λ out. let a : Account = record { out = out; round = d.round; faults = d.faults } in a) (ends_with_none d.out) in
+      let kept : slice_get (settled (accounts slots) hs) (n - 1) ≡ Some (Some (account_after (fresh name n d))) =
+          settled-keeps (accounts slots) (n - 1) hs off ∙ (slice_get-map (option_map account) slots (n - 1) ∙ (ap (option_map (option_map account)) there ∙ ap (λ a. Some (Some a)) (sym account_is))) in
+      settled-push (accounts (set slots (n - 1) None)) hs (fresh name n d)
+      ∙ (ap (λ shelf. set (settled shelf hs) (n - 1) (Some (account_after (fresh name n d)))) (map-set (option_map account) slots (n - 1) None)
+      ∙ (ap (λ shelf. set shelf (n - 1) (Some (account_after (fresh name n d)))) (settled-set (accounts slots) (n - 1) None hs off)
+      ∙ (set-set (settled (accounts slots) hs) (n - 1) None (Some (account_after (fresh name n d)))
+      ∙ set_same (settled (accounts slots) hs) (n - 1) (Some (account_after (fresh name n d))) kept)))

@@ -1,0 +1,22 @@
+-- What the regions of a session stand for.
+use Rattle.std.specs.Prelude.{◌≡◌, ℕ, List, Option, Some, Bool, true, false, take, map, slice_get}
+use Rattle.std.specs.List.{list_any}
+use Rattle.std.specs.declared.dyn_box.DynBox.{DynBox}
+use Rattle.std.specs.declared.alloc.Global.{Global}
+use Rattle.vc_model.specs.Discipline.{Discipline}
+use Rattle.vc_session.specs.Account.{Held}
+use Rattle.vc_session.specs.declared.home.Home.{Home}
+
+-- a region, with what its boxed discipline means
+abbrev pub held_of : {I : Type 0} {V : I → Type 0} → (DynBox I Global V → Discipline) → Home I V → Held
+held_of meaning h = record { name = h.name; place = h.place; disc = meaning h.best.disc; layout = h.best.layout; labels = h.labels.items }
+
+abbrev pub held_all : {I : Type 0} {V : I → Type 0} → (DynBox I Global V → Discipline) → List (Home I V) → List Held
+held_all meaning homes = map (held_of meaning) homes
+
+-- the first place of a list that passes a test
+pub record IsFirst {A : Type 0} (test : A → Bool) (xs : List A) (i : ℕ) : Type 0 where
+  pub item : A
+  pub at : slice_get xs i ≡ Some item
+  pub passes : test item ≡ true
+  pub before : list_any test (take i xs) ≡ false
