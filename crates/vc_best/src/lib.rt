@@ -1,0 +1,6 @@
+//! A memory region by exact best fit over the segments of a discipline.
+#![tactic(auto)]
+
+mod fit;
+mod gap;
+mod slot;
