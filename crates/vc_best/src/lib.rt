@@ -3,4 +3,5 @@
 
 mod fit;
 mod gap;
+mod number;
 mod slot;
