@@ -3,6 +3,8 @@
 
 mod addr;
 mod fault;
+mod steps;
 
 pub use addr::Addr;
 pub use fault::{OutOfMemory, ReadFailed, WriteFailed};
+pub use steps::Steps;

@@ -3,5 +3,9 @@
 
 mod fit;
 mod gap;
+mod layout;
+mod lend;
 mod number;
 mod slot;
+
+pub use layout::Layout;
