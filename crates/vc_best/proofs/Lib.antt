@@ -1,2 +1,4 @@
 pub mod Scan
 pub mod Unused
+pub mod Bytes
+pub mod Gaps

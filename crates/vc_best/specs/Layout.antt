@@ -1,5 +1,5 @@
 -- A layout as a region: its segments, and its slots as blocks.
-use Rattle.std.specs.Prelude.{◌≡◌, ◌≢◌, ℕ, ◌+◌, ◌≤◌, List, [], ◌∷◌, All, AllPairs, Contains, length, map, replicate, take, drop, ◌==◌, if◌then◌else◌}
+use Rattle.std.specs.Prelude.{◌≡◌, ◌≢◌, ℕ, ◌+◌, ◌≤◌, List, [], ◌∷◌, All, AllPairs, length, map, replicate, take, drop, ◌==◌, if◌then◌else◌}
 use Rattle.vc_model.specs.Discipline.{IsSegmentSize}
 use Rattle.vc_model.specs.Region.{Block, Region}
 use Rattle.vc_seg.specs.Segment.{Bytes, pair_of}
@@ -25,11 +25,10 @@ pub record IsRegionSegment (s : Bytes) : Type 0 where
   pub size : IsSegmentSize (length s.bytes)
   pub zeros : s.bytes ≡ replicate (length s.bytes) 0
 
--- a slot in one of these segments, and within it
+-- a slot within a segment of these
 pub record IsSlotIn (segs : List Bytes) (s : Slot) : Type 0 where
   pub slot : IsSlot s
-  pub seg : Contains (map (λ b. b.number) segs) s.seg
-  pub within : All (λ b. b.number ≡ s.seg → s.off + s.size ≤ length b.bytes) segs
+  pub within : s.off + s.size ≤ length (bytes_of_number s.seg segs)
 
 -- at most 1,023 segments, each of another number, and slots in them
 pub record IsLayout (segs : List Bytes) (slots : List Slot) : Type 0 where
