@@ -2,3 +2,5 @@ pub mod Scan
 pub mod Unused
 pub mod Bytes
 pub mod Gaps
+pub mod Rounding
+pub mod Regions
