@@ -4,3 +4,4 @@ pub mod Bytes
 pub mod Gaps
 pub mod Rounding
 pub mod Regions
+pub mod Allocs
