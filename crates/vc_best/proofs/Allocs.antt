@@ -8,7 +8,7 @@ use Rattle.std.proofs.lemmas.List.Elements.{All-head, All-tail, filter-append}
 use Rattle.vc_model.specs.Discipline.{IsRound, IsSegmentSize}
 use Rattle.vc_model.specs.Segments.{ask, lowest_unused, numbers, round_up, span, Asked, Granted, TooMany, NotLent}
 use Rattle.vc_model.specs.Gap.{Run, gaps, gaps_in, run_of}
-use Rattle.vc_model.specs.Place.{best_gap, holds, least, lowest_offset, place}
+use Rattle.vc_model.specs.Place.{IsAlign, best_gap, holds, least, lowest_offset, place}
 use Rattle.vc_model.specs.Region.{Region, footprints}
 use Rattle.vc_model.specs.Best.{Allocated, Placed, TooManySegments, NoSegment, best_alloc, place_in, put, put_at, put_in_new, put_or_ask, with_segment, zeros}
 use Rattle.vc_seg.specs.Segment.{Bytes, pair_of, zeroed}
@@ -18,10 +18,10 @@ use Rattle.vc_best.specs.Layout.{bytes_of_number, block_in, region_of, IsRegionS
 use Rattle.vc_best.proofs.Unused.{is_among, lowest_unused-unused}
 use Rattle.vc_best.proofs.Bytes.{bytes_of_number-unused, bytes_of_number-push}
 use Rattle.vc_best.proofs.Gaps.{IsBestGap, best_gap-IsBestGap, least-None}
-use Rattle.vc_best.proofs.Rounding.{IsAligned, IsSegmentSize-asked, round_up-least}
-use Rattle.vc_best.proofs.Regions.{footprints-blocks, region_of-with_slot, region_of-push, IsLayout-push, IsLayout-with_slot}
+use Rattle.vc_best.proofs.Rounding.{IsAligned-from_IsAlign, IsAligned, IsSegmentSize-asked, round_up-least}
+use Rattle.vc_best.proofs.Regions.{IsSlotAt, IsSlotAt-gap, footprints-blocks, region_of-with_slot, region_of-push, IsLayout-push, IsLayout-with_slot}
 
-abbrev place_of : ℕ → Run → ℕ × ℕ
+abbrev pub place_of : ℕ → Run → ℕ × ℕ
 place_of align g = (g.seg, lowest_offset align g)
 
 pub place_in-gap : (segs : List Bytes) (slots : List Slot) (size align : ℕ) (o : Option Run) → best_gap (map pair_of segs) (runs_of slots) size align ≡ o → place_in (region_of segs slots) size align ≡ option_map (place_of align) o
@@ -30,12 +30,6 @@ place_in-gap segs slots size align o e = ap (λ fs. place (map pair_of segs) fs 
 -- the slot for a block at a place
 abbrev pub slot_at : ℕ → ℕ → ℕ × ℕ → Slot
 slot_at tag size at = record { seg = at.0; off = at.1; size = size; tag = tag }
-
-pub best_alloc-placed : (segs : List Bytes) (slots : List Slot) (round size align tag : ℕ) (refused : Bool) (g : Run) → best_gap (map pair_of segs) (runs_of slots) size align ≡ Some g → IsLayout segs slots → IsSlotIn segs (slot_at tag size (place_of align g)) →
-    best_alloc round (region_of segs slots) tag size align refused ≡ Placed (place_of align g) (region_of segs (with_slot (slot_at tag size (place_of align g)) slots))
-best_alloc-placed segs slots round size align tag refused g e l here =
-    ap (put_or_ask round (region_of segs slots) tag size align refused) (place_in-gap segs slots size align (Some g) e)
-    ∙ ap (Placed (place_of align g)) (sym (region_of-with_slot segs (slot_at tag size (place_of align g)) slots l.segments here))
 
 module _ (segs : List Bytes) (slots : List Slot) (round size align tag : ℕ) (none : best_gap (map pair_of segs) (runs_of slots) size align ≡ None) where
   best_alloc-asked : (refused : Bool) → best_alloc round (region_of segs slots) tag size align refused ≡ put_in_new (region_of segs slots) tag size align (ask round (map pair_of segs) (span size + align) refused)
@@ -159,3 +153,23 @@ module _ (segs : List Bytes) (slots : List Slot) (round size align n bytes : ℕ
       ∙ (ap (λ m. give m (round_up (span size + align) round)) (sym asked.number)
       ∙ (ap (give n) (sym asked.bytes_are)
       ∙ (ap (put (with_segment (region_of segs slots) (n, bytes)) tag size) (place_in-lent none) ∙ put_at-lent tag)))
+
+option_map-None : {A B : Type 0} (f : A → B) (o : Option A) → option_map f o ≡ None → o ≡ None
+option_map-None f None e = refl
+option_map-None f (Some x) e = cc
+
+option_map-Some : {A B : Type 0} (f : A → B) (o : Option A) (y : B) → option_map f o ≡ Some y → (x : A) × (o ≡ Some x) × (f x ≡ y)
+option_map-Some f None y e = absurd (cc)
+option_map-Some f (Some x) y e = (x, refl, cc)
+
+module _ (segs : List Bytes) (slots : List Slot) (size align : ℕ) where
+  pub best_gap-none : place_in (region_of segs slots) size align ≡ None → best_gap (map pair_of segs) (runs_of slots) size align ≡ None
+  best_gap-none e = option_map-None (place_of align) (best_gap (map pair_of segs) (runs_of slots) size align) (sym (place_in-gap segs slots size align (best_gap (map pair_of segs) (runs_of slots) size align) refl) ∙ e)
+
+  -- a block at its place is a slot of the layout
+  pub IsSlotAt-place : (seg off tag : ℕ) → IsLayout segs slots → IsAlign align → 1 ≤ size → size ≤ 16777264 → place_in (region_of segs slots) size align ≡ Some (seg, off) →
+      IsSlotAt segs (record { seg = seg; off = off; size = size; tag = tag })
+  IsSlotAt-place seg off tag l a some most e =
+      let gap = best_gap (map pair_of segs) (runs_of slots) size align in
+      let f = option_map-Some (place_of align) gap (seg, off) (sym (place_in-gap segs slots size align gap refl) ∙ e) in
+      subst (λ (at : ℕ × ℕ). IsSlotAt segs (slot_at tag size at)) f.2 (IsSlotAt-gap segs size align tag f.0 l.segments (IsAligned-from_IsAlign align a) some most (best_gap-IsBestGap segs slots size align f.0 l f.1))

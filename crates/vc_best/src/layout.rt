@@ -1,20 +1,20 @@
-ghost use Rattle.std.specs.Prelude.{◌≡◌, ℕ, ◌+◌, ◌≤◌, ◌<◌, ◌++◌, [], None, drop, length, IfOk, IfSome, OnErr, OnOk, IsErrOf, Bool, true, false};
-ghost use Rattle.vc_model.specs.Best.{best_alloc, place_in, Allocated, TooManySegments, NoSegment};
+ghost use Rattle.std.specs.Prelude.{◌≡◌, ℕ, ◌+◌, ◌≤◌, ◌<◌, ◌⊎◌, ◌++◌, [], None, Some, drop, length, vec_len, vec_capacity, IfOk, IfErr, IfSome, OnErr, OnOk, IsErrOf, Err, ◌↔◌, ◌≢◌, true, false};
+ghost use Rattle.vc_model.specs.Best.{best_alloc, place_in, put_at, TooManySegments, NoSegment};
 ghost use Rattle.vc_model.specs.Count.{Rose};
-ghost use Rattle.vc_model.specs.Discipline.{Discipline, Kept};
+ghost use Rattle.vc_model.specs.Discipline.{Kept};
 ghost use Rattle.vc_model.specs.Place.{IsAlign};
-ghost use Rattle.vc_model.specs.Region.{Region};
 ghost use Rattle.vc_model.specs.Segments.{round_up, span};
 ghost use Rattle.vc_best.specs.Alloc.{IsPlaced};
 
 use crate::fit::best_gap;
 use crate::gap::{rounded_up, span_of};
+use crate::lend::{lend_segment, round_of};
 use crate::number::lowest_unused;
 use crate::slot::Slot;
 use std::alloc::Global;
 use std::marker::Model;
 use vc_base::Addr;
-use vc_seg::{LendFault, RegionFault, SegDisc, Segment};
+use vc_seg::{RegionFault, SegDisc, Segment};
 
 /// The segments in order of lending and the blocks by address.
 #[derive(Drop)]
@@ -36,6 +36,15 @@ impl Model for Layout {
     ghost invariant = { λ l. IsLayout l.segs.items l.blocks.items };
 }
 
+/// Room for one more.
+fn reserve_one<T>(list: &mut Vec<T>) -> Result<(), RegionFault>
+    ensures items { list.new.items ≡ list.old.items }
+    ensures ok { OnOk result (vec_len list.new < vec_capacity list.new) }
+    ensures only { IfErr result (λ e. e ≡ RegionFault.OutOfMemory) }
+{
+    list.reserve(1).map_err(|_| RegionFault::OutOfMemory)
+}
+
 impl Layout {
     /// With no segment and no block.
     pub(crate) fn new(alloc: Global) -> Layout
@@ -47,5 +56,123 @@ impl Layout {
             blocks: Vec::new(alloc),
         }
     }
-}
 
+    /// The place for a block, as segment and offset.
+    fn place(&self, size: u32, align: u32) -> Option<(u32, u32)>
+        requires most { size ≤ 16777264 }
+        requires align { IsAlign align }
+        ensures { result ≡ place_in self.now size align }
+    {
+        let gap = best_gap(&self.segs, &self.blocks, size, align)?;
+        Some((gap.seg, gap.lowest_offset(align)))
+    }
+
+    /// A block of zeros at its place.
+    fn put(&mut self, seg: u32, off: u32, size: u32, align: u32, tag: u32) -> Result<Addr, RegionFault>
+        requires some { 1 ≤ size }
+        requires most { size ≤ 16777264 }
+        requires align { IsAlign align }
+        requires place { place_in self.old size align ≡ Some (seg, off) }
+        ensures ok { IfOk result (λ a. IsPlaced (put_at self.old tag size (seg, off)) a.0 self.new) }
+        ensures err { OnErr result (self.new ≡ self.old) }
+        ensures only { IfErr result (λ e. e ≡ RegionFault.OutOfMemory) }
+    {
+        reserve_one(&mut self.blocks)?;
+        Slot {
+            seg,
+            off,
+            size,
+            tag,
+        }
+        .put_among(&mut self.blocks);
+        Ok(Addr::new(seg, off))
+    }
+
+    /// A block of zeros at its place, in a segment that the discipline lends for it where there is no place.
+    pub(crate) fn alloc(
+        &mut self,
+        disc: &mut Box<dyn SegDisc>,
+        alloc: Global,
+        size: u32,
+        align: u32,
+        tag: u32,
+    ) -> Result<Addr, RegionFault>
+        requires some { 1 ≤ size }
+        requires most { size ≤ 16777264 }
+        requires align { IsAlign align }
+
+        ensures ok { IfOk result (λ a. IsPlaced (best_alloc (state disc.old).round self.old tag size align false) a.0 self.new) }
+        ensures err { OnErr result (self.new ≡ self.old) }
+
+        // Which error comes, and when.
+        ensures only { IfErr result (λ e. (e ≡ RegionFault.TooManySegments) ⊎ ((e ≡ RegionFault.NoSegment) ⊎ (e ≡ RegionFault.OutOfMemory))) }
+        ensures too_many { (result ≡ Err RegionFault.TooManySegments) ↔ (best_alloc (state disc.old).round self.old tag size align false ≡ TooManySegments) }
+        ensures no_segment { IsErrOf result RegionFault.NoSegment → best_alloc (state disc.old).round self.old tag size align true ≡ NoSegment }
+        ensures refused { IsErrOf result RegionFault.NoSegment → Rose (state disc.old).faults (state disc.new).faults }
+        ensures above_room { IfSome (state disc.old).room (λ room. IsErrOf result RegionFault.NoSegment → room < round_up (span size + align) (state disc.old).round) }
+
+        // What becomes of the discipline.
+        ensures out { (state disc.new).out ≡ (state disc.old).out ++ drop (length self.old.segments) self.new.segments }
+        ensures within_room { IfSome (state disc.old).room (λ room. OnOk result (length self.old.segments < length self.new.segments → round_up (span size + align) (state disc.old).round ≤ room)) }
+        ensures untouched { OnOk result (self.new.segments ≡ self.old.segments → state disc.new ≡ state disc.old) }
+        ensures room { OnErr result ((state disc.new).room ≡ (state disc.old).room) }
+        ensures faults { result ≢ Err RegionFault.NoSegment → (state disc.new).faults ≡ (state disc.old).faults }
+        ensures kept { Kept (state disc.old) (state disc.new) }
+    {
+        match self.place(size, align) {
+            Some((seg, off)) => self.put(seg, off, size, align, tag),
+            None => self.alloc_in_new(disc, alloc, size, align, tag),
+        }
+    }
+
+    /// A block of zeros in a segment that the discipline lends for it.
+    fn alloc_in_new(
+        &mut self,
+        disc: &mut Box<dyn SegDisc>,
+        alloc: Global,
+        size: u32,
+        align: u32,
+        tag: u32,
+    ) -> Result<Addr, RegionFault>
+        requires some { 1 ≤ size }
+        requires most { size ≤ 16777264 }
+        requires align { IsAlign align }
+        requires none { place_in self.old size align ≡ None }
+
+        ensures ok { IfOk result (λ a. IsPlaced (best_alloc (state disc.old).round self.old tag size align false) a.0 self.new) }
+        ensures err { OnErr result (self.new ≡ self.old) }
+
+        // Which error comes, and when.
+        ensures only { IfErr result (λ e. (e ≡ RegionFault.TooManySegments) ⊎ ((e ≡ RegionFault.NoSegment) ⊎ (e ≡ RegionFault.OutOfMemory))) }
+        ensures too_many { (result ≡ Err RegionFault.TooManySegments) ↔ (best_alloc (state disc.old).round self.old tag size align false ≡ TooManySegments) }
+        ensures no_segment { IsErrOf result RegionFault.NoSegment → best_alloc (state disc.old).round self.old tag size align true ≡ NoSegment }
+        ensures refused { IsErrOf result RegionFault.NoSegment → Rose (state disc.old).faults (state disc.new).faults }
+        ensures above_room { IfSome (state disc.old).room (λ room. IsErrOf result RegionFault.NoSegment → room < round_up (span size + align) (state disc.old).round) }
+
+        // What becomes of the discipline.
+        ensures out { (state disc.new).out ≡ (state disc.old).out ++ drop (length self.old.segments) self.new.segments }
+        ensures within_room { IfSome (state disc.old).room (λ room. OnOk result (length self.old.segments < length self.new.segments → round_up (span size + align) (state disc.old).round ≤ room)) }
+        ensures untouched { OnOk result (self.new.segments ≡ self.old.segments → state disc.new ≡ state disc.old) }
+        ensures room { OnErr result ((state disc.new).room ≡ (state disc.old).room) }
+        ensures faults { result ≢ Err RegionFault.NoSegment → (state disc.new).faults ≡ (state disc.old).faults }
+        ensures kept { Kept (state disc.old) (state disc.new) }
+    {
+        if self.segs.len() >= 1023 {
+            return Err(RegionFault::TooManySegments);
+        }
+        reserve_one(&mut self.segs)?;
+        reserve_one(&mut self.blocks)?;
+        let number = lowest_unused(&self.segs);
+        let bytes = rounded_up(span_of(size) + align, round_of(disc));
+        let segment = lend_segment(disc, alloc, number, bytes)?;
+        self.segs.push_reserved(segment);
+        Slot {
+            seg: number,
+            off: align,
+            size,
+            tag,
+        }
+        .put_among(&mut self.blocks);
+        Ok(Addr::new(number, align))
+    }
+}

@@ -1,10 +1,18 @@
 ghost use Rattle.std.specs.Prelude.{◌≡◌, ℕ, ◌%◌, ◌<◌, ◌≤◌, ◌⊎◌, [], ◌∷◌, ◌++◌, IfOk, IfErr, IfSome, IsErrOf, OnErr, OnOk};
 ghost use Rattle.vc_model.specs.Count.{Rose};
-ghost use Rattle.vc_model.specs.Discipline.{IsSegmentSize, Kept};
+ghost use Rattle.vc_model.specs.Discipline.{IsRound, IsSegmentSize, Kept};
 ghost use Rattle.vc_seg.specs.Segment.{zeroed};
 
 use std::alloc::Global;
 use vc_seg::{LendFault, RegionFault, SegDisc, Segment};
+
+/// The discipline's round.
+pub(crate) fn round_of(disc: &Box<dyn SegDisc>) -> u32
+    ensures value { result ≡ (state disc.now).round }
+    ensures legal { IsRound result }
+{
+    disc.round()
+}
 
 /// A segment that the discipline lends to a region.
 pub(crate) fn lend_segment(

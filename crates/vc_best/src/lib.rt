@@ -1,6 +1,7 @@
 //! A memory region by exact best fit over the segments of a discipline.
 #![tactic(auto)]
 
+mod best;
 mod fit;
 mod gap;
 mod layout;
@@ -8,4 +9,5 @@ mod lend;
 mod number;
 mod slot;
 
+pub use best::Best;
 pub use layout::Layout;
