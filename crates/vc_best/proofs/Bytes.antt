@@ -50,7 +50,7 @@ bytes_of_number-append n (s ∷ ss) more h =
 abbrev pub Apart : Bytes → Bytes → Type 0
 Apart a b = a.number ≢ b.number
 
-Apart-tail : (s : Bytes) (ss : List Bytes) → AllPairs Apart (s ∷ ss) → AllPairs Apart ss
+pub Apart-tail : (s : Bytes) (ss : List Bytes) → AllPairs Apart (s ∷ ss) → AllPairs Apart ss
 Apart-tail s ss h = λ i j d lt within. h (suc i) (suc j) d (omega arith) (omega arith)
 
 -- each segment is the one of its number

@@ -5,3 +5,4 @@ pub mod Gaps
 pub mod Rounding
 pub mod Regions
 pub mod Allocs
+pub mod Backs

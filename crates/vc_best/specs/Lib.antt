@@ -7,3 +7,4 @@ pub use Rattle.vc_base.specs.Addr
 pub mod Slot
 pub mod Layout
 pub mod Alloc
+pub mod Close

@@ -1,7 +1,7 @@
-ghost use Rattle.std.specs.Prelude.{◌≡◌, ℕ, ◌%◌, ◌<◌, ◌≤◌, ◌⊎◌, [], ◌∷◌, ◌++◌, IfOk, IfErr, IfSome, IsErrOf, OnErr, OnOk};
+ghost use Rattle.std.specs.Prelude.{◌≡◌, ℕ, Contains, ◌%◌, ◌<◌, ◌≤◌, ◌⊎◌, [], ◌∷◌, ◌++◌, IfOk, IfErr, IfSome, IsErrOf, OnErr, OnOk};
 ghost use Rattle.vc_model.specs.Count.{Rose};
-ghost use Rattle.vc_model.specs.Discipline.{IsRound, IsSegmentSize, Kept};
-ghost use Rattle.vc_seg.specs.Segment.{zeroed};
+ghost use Rattle.vc_model.specs.Discipline.{IsRound, IsSegmentSize, Kept, without_last};
+ghost use Rattle.vc_seg.specs.Segment.{pair_of, zeroed};
 
 use std::alloc::Global;
 use vc_seg::{LendFault, RegionFault, SegDisc, Segment};
@@ -43,4 +43,14 @@ pub(crate) fn lend_segment(
         Err(LendFault::Refused) => Err(RegionFault::NoSegment),
         Err(LendFault::OutOfMemory) => Err(RegionFault::OutOfMemory),
     }
+}
+
+/// The discipline takes a segment back that is out.
+pub(crate) fn take_back_segment(disc: &mut Box<dyn SegDisc>, segment: Segment)
+    requires { Contains (state disc.old).out (pair_of segment) }
+    ensures out { (state disc.new).out ≡ without_last (pair_of segment) (state disc.old).out }
+    ensures round { (state disc.new).round ≡ (state disc.old).round }
+    ensures faults { (state disc.new).faults ≡ (state disc.old).faults }
+{
+    disc.take_back(segment);
 }

@@ -2,6 +2,7 @@
 #![tactic(auto)]
 
 mod best;
+mod close;
 mod fit;
 mod gap;
 mod layout;
