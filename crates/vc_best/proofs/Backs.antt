@@ -6,9 +6,9 @@ use Rattle.std.proofs.lemmas.List.{length-append, length-map, take_at, get_or-ma
 use Rattle.std.proofs.lemmas.List.Elements.{All-head, All-tail, All-cons, All-append, All-take, All-drop, Contains-append_right, Contains-get_or}
 use Rattle.std.proofs.lemmas.List.Folds.{list_any-append, list_any_at, list_any_none}
 use Rattle.std.proofs.lemmas.List.Quantifiers.{all_pairs_remove}
-use Rattle.vc_model.specs.Discipline.{EndsWith, same_pair, without_last}
+use Rattle.vc_model.specs.Discipline.{Discipline, EndsWith, same_pair, without_last}
 use Rattle.vc_seg.specs.Segment.{Bytes, pair_of}
-use Rattle.vc_best.specs.Close.{AreNumberedFrom}
+use Rattle.vc_best.specs.Close.{TakesBack, AreNumberedFrom}
 use Rattle.vc_best.proofs.Bytes.{Apart, Apart-tail}
 
 same_pair-self : (p : ℕ × ℕ) → same_pair p p ≡ true
@@ -81,3 +81,29 @@ AreNumberedFrom-remove n ss i d h lt at =
 
 pub Contains-ends : (out ys : List (ℕ × ℕ)) (p : ℕ × ℕ) → EndsWith out ys → Contains ys p → Contains out p
 Contains-ends out ys p e h = subst (λ (o : List (ℕ × ℕ)). Contains o p) e (Contains-append_right (take (length out - length ys) out) ys p h)
+
+pub TakesBack-none : (d : Discipline) (held : List (ℕ × ℕ)) → TakesBack d d held held
+TakesBack-none d held = record { out = λ rest e. e; round = refl; faults = refl }
+
+pub TakesBack-more : (a b c : Discipline) (held some left : List (ℕ × ℕ)) → TakesBack a b held some → TakesBack b c some left → TakesBack a c held left
+TakesBack-more a b c held some left h k = record { out = λ rest e. k.out rest (h.out rest e); round = k.round ∙ h.round; faults = k.faults ∙ h.faults }
+
+-- what is left is still the end of what is out
+pub EndsWith-left : (a b : Discipline) (held left : List (ℕ × ℕ)) → TakesBack a b held left → EndsWith a.out held → EndsWith b.out left
+EndsWith-left a b held left h e =
+    let rest = take (length a.out - length held) a.out in
+    let o : b.out ≡ rest ++ left = h.out rest (sym e) in
+    let n : length b.out ≡ length rest + length left = ap length o ∙ length-append rest left in
+    let t : take (length b.out - length left) b.out ≡ rest = ap (take (length b.out - length left)) o ∙ take_at rest left (length b.out - length left) (omega arith) in
+    ap (λ (xs : List (ℕ × ℕ)). xs ++ left) t ∙ sym o
+
+-- none is numbered above the last number
+pub AreNumberedFrom-none : (n : ℕ) (ss : List Bytes) → AreNumberedFrom n ss → 1024 ≤ n → ss ≡ []
+AreNumberedFrom-none n [] h le = refl
+AreNumberedFrom-none n (s ∷ ss) h le =
+    let first = All-head (λ b. n ≤ b.number) s ss h.first in
+    let last = All-head (λ b. b.number ≤ 1023) s ss h.last in
+    absurd (omega arith)
+
+pub TakesBack-all : (a b : Discipline) (held : List (ℕ × ℕ)) (ss : List Bytes) → TakesBack a b held (map pair_of ss) → ss ≡ [] → TakesBack a b held []
+TakesBack-all a b held ss h none = subst (TakesBack a b held) (ap (map pair_of) none) h

@@ -72,4 +72,22 @@ impl Best {
         let _ = steps;
         self.layout.alloc(&mut self.disc, self.alloc, size, align, tag)
     }
+
+    /// Gives all its segments back, in ascending order of number, and answers with the discipline and how many there
+    /// were.
+    pub fn close(self) -> (Box<dyn SegDisc>, u32)
+        requires { EndsWith (state self.disc).out self.layout.segments }
+        ensures out { (state self.disc).out ≡ (state result.0).out ++ self.layout.segments }
+        ensures count { result.1 ≡ length self.layout.segments }
+        ensures round { (state result.0).round ≡ (state self.disc).round }
+        ensures faults { (state result.0).faults ≡ (state self.disc).faults }
+    {
+        let Best {
+            layout,
+            mut disc,
+            alloc: _,
+        } = self;
+        let count = layout.close(&mut disc);
+        (disc, count)
+    }
 }

@@ -1,4 +1,4 @@
-ghost use Rattle.std.specs.Prelude.{◌≡◌, ◌≢◌, ℕ, ◌+◌, ◌<◌, ◌≤◌, All, IfSome, IfNone, length, map};
+ghost use Rattle.std.specs.Prelude.{◌≡◌, ◌≢◌, ℕ, ◌+◌, ◌<◌, ◌≤◌, [], All, IfSome, IfNone, length, map};
 ghost use Rattle.std.specs.List.{HoldsAt};
 ghost use Rattle.vc_model.specs.Discipline.{EndsWith};
 ghost use Rattle.vc_seg.specs.Segment.{pair_of};
@@ -30,5 +30,17 @@ fn give_back_one(segs: &mut Vec<Segment>, disc: &mut Box<dyn SegDisc>, number: u
     if let Some(place) = find_number(segs, number) {
         let segment = segs.remove(place);
         take_back_segment(disc, segment);
+    }
+}
+
+/// The discipline takes all segments back, in ascending order of number.
+pub(crate) fn give_back_all(segs: &mut Vec<Segment>, disc: &mut Box<dyn SegDisc>)
+    requires segments { AreNumberedFrom 1 segs.old.items }
+    requires out { EndsWith (state disc.old).out (map pair_of segs.old.items) }
+    ensures segments { segs.new.items ≡ [] }
+    ensures out { TakesBack (state disc.old) (state disc.new) (map pair_of segs.old.items) [] }
+{
+    for number in 1..1024 {
+        give_back_one(segs, disc, number);
     }
 }

@@ -1,11 +1,13 @@
 ghost use Rattle.std.specs.Prelude.{◌≡◌, ℕ, ◌+◌, ◌≤◌, ◌<◌, ◌⊎◌, ◌++◌, [], None, Some, drop, length, vec_len, vec_capacity, IfOk, IfErr, IfSome, OnErr, OnOk, IsErrOf, Err, ◌↔◌, ◌≢◌, true, false};
 ghost use Rattle.vc_model.specs.Best.{best_alloc, place_in, put_at, TooManySegments, NoSegment};
 ghost use Rattle.vc_model.specs.Count.{Rose};
-ghost use Rattle.vc_model.specs.Discipline.{Kept};
+ghost use Rattle.vc_model.specs.Discipline.{EndsWith, Kept};
 ghost use Rattle.vc_model.specs.Place.{IsAlign};
 ghost use Rattle.vc_model.specs.Segments.{round_up, span};
 ghost use Rattle.vc_best.specs.Alloc.{IsPlaced};
+ghost use Rattle.vc_best.specs.Close.{TakesBack};
 
+use crate::close::give_back_all;
 use crate::fit::best_gap;
 use crate::gap::{rounded_up, span_of};
 use crate::lend::{lend_segment, round_of};
@@ -174,5 +176,20 @@ impl Layout {
         }
         .put_among(&mut self.blocks);
         Ok(Addr::new(number, align))
+    }
+
+    /// The discipline takes all its segments back, in ascending order of number, and they are counted.
+    pub(crate) fn close(self, disc: &mut Box<dyn SegDisc>) -> u32
+        requires { EndsWith (state disc.old).out self.segments }
+        ensures count { result ≡ length self.segments }
+        ensures out { TakesBack (state disc.old) (state disc.new) self.segments [] }
+    {
+        let Layout {
+            mut segs,
+            blocks: _,
+        } = self;
+        let count = segs.len() as u32;
+        give_back_all(&mut segs, disc);
+        count
     }
 }
