@@ -1,23 +1,22 @@
 -- What allocation in a layout's region answers.
-use Rattle.std.proofs.Common.{◌≡◌, ℕ, ◌+◌, ◌-◌, ◌%◌, ◌<◌, ◌≤◌, ◌≢◌, List, [], ◌∷◌, ◌++◌, Bool, true, false, Option, None, Some, All, length, map, filter, fold, replicate, refl, ap, sym, ◌∙◌, subst, ⊎_elim, eqb, ltb, leb, arith}
+use Rattle.std.proofs.Common.{◌≡◌, ℕ, ◌+◌, ◌-◌, ◌<◌, ◌≤◌, ◌≢◌, List, [], ◌∷◌, ◌++◌, Bool, true, false, Option, None, Some, All, length, map, filter, replicate, refl, ap, sym, ◌∙◌, subst, eqb, ltb, arith}
 use Rattle.std.specs.Prelude.{option_map}
-use Rattle.std.proofs.lemmas.Bool.{cases_Bool, eqb-true, both_ways, ne_eqb, lt-ltb, le-ltb, le-leb}
+use Rattle.std.proofs.lemmas.Bool.{ne_eqb, lt-ltb, le-ltb, le-leb}
 use Rattle.std.proofs.lemmas.List.{length-map, length-replicate, append-nil}
 use Rattle.std.proofs.lemmas.List.Concat.{flat_map-append}
 use Rattle.std.proofs.lemmas.List.Elements.{All-head, All-tail, filter-append}
 use Rattle.vc_model.specs.Discipline.{IsRound, IsSegmentSize}
-use Rattle.vc_model.specs.Segments.{ask, lowest_unused, numbers, round_up, span, Asked, Granted, TooMany, NotLent}
-use Rattle.vc_model.specs.Gap.{Run, gaps, gaps_in, run_of}
+use Rattle.vc_model.specs.Segments.{ask, lowest_unused, numbers, round_up, span, Granted}
+use Rattle.vc_model.specs.Gap.{Run, gaps, gaps_in}
 use Rattle.vc_model.specs.Place.{IsAlign, best_gap, holds, least, lowest_offset, place}
-use Rattle.vc_model.specs.Region.{Region, footprints}
-use Rattle.vc_model.specs.Best.{Allocated, Placed, TooManySegments, NoSegment, best_alloc, place_in, put, put_at, put_in_new, put_or_ask, with_segment, zeros}
+use Rattle.vc_model.specs.Best.{Allocated, Placed, TooManySegments, NoSegment, best_alloc, place_in, put, put_at, put_in_new, put_or_ask, with_segment}
 use Rattle.vc_seg.specs.Segment.{Bytes, pair_of, zeroed}
 use Rattle.vc_best.specs.declared.slot.Slot.{Slot}
-use Rattle.vc_best.specs.Slot.{run_of_slot, runs_of, IsSlot, with_slot}
-use Rattle.vc_best.specs.Layout.{bytes_of_number, block_in, region_of, IsRegionSegment, IsSlotIn, IsLayout}
+use Rattle.vc_best.specs.Slot.{runs_of, with_slot}
+use Rattle.vc_best.specs.Layout.{bytes_of_number, region_of, IsRegionSegment, IsSlotIn, IsLayout}
 use Rattle.vc_best.proofs.Unused.{is_among, lowest_unused-unused}
 use Rattle.vc_best.proofs.Bytes.{bytes_of_number-unused, bytes_of_number-push}
-use Rattle.vc_best.proofs.Gaps.{IsBestGap, best_gap-IsBestGap, least-None}
+use Rattle.vc_best.proofs.Gaps.{best_gap-IsBestGap, least-None}
 use Rattle.vc_best.proofs.Rounding.{IsAligned-from_IsAlign, IsAligned, IsSegmentSize-asked, round_up-least}
 use Rattle.vc_best.proofs.Regions.{IsSlotAt, IsSlotAt-gap, footprints-blocks, region_of-with_slot, region_of-push, IsLayout-push, IsLayout-with_slot}
 
@@ -61,9 +60,9 @@ filter-unused n segs (s ∷ ss) h unused =
     let here = All-head (IsSlotIn segs) s ss h in
     let some : 1 ≤ s.size = here.slot.some in
     let other : s.seg ≢ n = λ e.
-      let none : length (bytes_of_number s.seg segs) ≡ 0 = ap (λ m. length (bytes_of_number m segs)) e ∙ ap length (bytes_of_number-unused n segs unused) in
-      let within : s.off + s.size ≤ length (bytes_of_number s.seg segs) = here.within in
-      omega arith in
+    let none : length (bytes_of_number s.seg segs) ≡ 0 = ap (λ m. length (bytes_of_number m segs)) e ∙ ap length (bytes_of_number-unused n segs unused) in
+    let within : s.off + s.size ≤ length (bytes_of_number s.seg segs) = here.within in
+    omega arith in
     rw (ne_eqb s.seg n other) (filter-unused n segs ss (All-tail (IsSlotIn segs) s ss h) unused)
 
 -- the one gap of a new segment
@@ -140,7 +139,7 @@ module _ (segs : List Bytes) (slots : List Slot) (round size align n bytes : ℕ
   put_at-lent : (tag : ℕ) → put_at (with_segment (region_of segs slots) (n, bytes)) tag size (n, align) ≡ Placed (n, align) (region_of (with_lent segs n bytes) (with_slot (slot_at tag size (n, align)) slots))
   put_at-lent tag =
       let same : with_segment (region_of segs slots) (n, bytes) ≡ region_of (with_lent segs n bytes) slots =
-        ap (λ k. with_segment (region_of segs slots) (n, k)) (sym long) ∙ sym (region_of-push segs (zeroed n bytes) slots l.blocks) in
+      ap (λ k. with_segment (region_of segs slots) (n, k)) (sym long) ∙ sym (region_of-push segs (zeroed n bytes) slots l.blocks) in
       let all = (IsLayout-push segs (zeroed n bytes) slots l few IsRegionSegment-lent unused).segments in
       ap (λ region. put_at region tag size (n, align)) same
       ∙ ap (Placed (n, align)) (sym (region_of-with_slot (with_lent segs n bytes) (slot_at tag size (n, align)) slots all (IsSlotIn-lent tag)))

@@ -1,10 +1,10 @@
 -- A segment that is taken back.
-use Rattle.std.proofs.Common.{◌≡◌, ℕ, zero, suc, ◌+◌, ◌-◌, ◌<◌, ◌≤◌, ◌≢◌, List, [], ◌∷◌, ◌++◌, Bool, true, false, All, AllPairs, Contains, length, get_or, map, take, drop, refl, ap, sym, subst, ◌∙◌, eqb, ◌&&◌, arith}
+use Rattle.std.proofs.Common.{◌≡◌, ℕ, zero, suc, ◌+◌, ◌-◌, ◌<◌, ◌≤◌, ◌≢◌, List, [], ◌∷◌, ◌++◌, true, false, All, AllPairs, Contains, length, get_or, map, take, drop, refl, ap, sym, subst, ◌∙◌, eqb, arith}
 use Rattle.std.specs.List.{list_any, remove}
 use Rattle.std.proofs.lemmas.Bool.{eq-eqb, ne_eqb, and_from, and_left, or_from, or_left, or_right}
 use Rattle.std.proofs.lemmas.List.{length-append, length-map, take_at, get_or-map}
-use Rattle.std.proofs.lemmas.List.Elements.{All-head, All-tail, All-cons, All-append, All-take, All-drop, Contains-append_right, Contains-get_or}
-use Rattle.std.proofs.lemmas.List.Folds.{list_any-append, list_any_at, list_any_none}
+use Rattle.std.proofs.lemmas.List.Elements.{All-head, All-tail, All-cons, All-append, All-take, All-drop, Contains-append_right}
+use Rattle.std.proofs.lemmas.List.Folds.{list_any-append}
 use Rattle.std.proofs.lemmas.List.Quantifiers.{all_pairs_remove}
 use Rattle.vc_model.specs.Discipline.{Discipline, EndsWith, same_pair, without_last}
 use Rattle.vc_seg.specs.Segment.{Bytes, pair_of}

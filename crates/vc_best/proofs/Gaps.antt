@@ -1,11 +1,10 @@
 -- What is true of each gap of a layout, and so of the least that holds a block.
-use Rattle.std.proofs.Common.{◌≡◌, ℕ, ◌+◌, ◌-◌, ◌<◌, ◌≤◌, List, [], ◌∷◌, ◌++◌, Bool, true, false, Option, None, Some, All, AllPairs, length, get_or, map, filter, fold, refl, ap, sym, ◌∙◌, subst, ⊎_elim, eqb, ltb, arith}
-use Rattle.std.proofs.lemmas.Bool.{cases_Bool, eqb-true, ltb-true}
-use Rattle.std.proofs.lemmas.List.Elements.{All-head, All-tail, All-nil, All-cons, All-append, All-filter, All-from_get_or, filter_passes}
-use Rattle.std.specs.List.{flat_map}
+use Rattle.std.proofs.Common.{◌≡◌, ℕ, ◌+◌, ◌-◌, ◌≤◌, List, [], ◌∷◌, true, Option, None, Some, All, AllPairs, length, map, filter, fold, refl, ap, subst, ⊎_elim, eqb, ltb, arith}
+use Rattle.std.proofs.lemmas.Bool.{cases_Bool, eqb-true}
+use Rattle.std.proofs.lemmas.List.Elements.{All-head, All-tail, All-nil, All-cons, All-append, All-filter, filter_passes}
 use Rattle.vc_model.specs.Segments.{span}
 use Rattle.vc_model.specs.Gap.{Run, run_of, gaps_between, gaps_in, gaps, comes_before}
-use Rattle.vc_model.specs.Place.{best_gap, holds, least, lesser, lowest_offset}
+use Rattle.vc_model.specs.Place.{best_gap, holds, least, lesser}
 use Rattle.vc_seg.specs.Segment.{Bytes, pair_of}
 use Rattle.vc_best.specs.declared.slot.Slot.{Slot}
 use Rattle.vc_best.specs.Slot.{run_of_slot, runs_of}
@@ -47,10 +46,10 @@ IsTaken-runs_of segs n (s ∷ ss) h =
     let rest = IsTaken-runs_of segs n ss (All-tail (IsSlotIn segs) s ss h) in
     ⊎_elim
     (λ e.
-      let here = All-head (IsSlotIn segs) s ss h in
-      let within : s.off + s.size ≤ length (bytes_of_number n segs) = subst (λ m. s.off + s.size ≤ length (bytes_of_number m segs)) (eqb-true s.seg n e) here.within in
-      let first : 32 ≤ s.off = here.slot.first in
-      rw e (All-cons (IsTaken (length (bytes_of_number n segs))) (run_of_slot s) _ (record { before = omega arith; behind = omega arith }) rest))
+    let here = All-head (IsSlotIn segs) s ss h in
+    let within : s.off + s.size ≤ length (bytes_of_number n segs) = subst (λ m. s.off + s.size ≤ length (bytes_of_number m segs)) (eqb-true s.seg n e) here.within in
+    let first : 32 ≤ s.off = here.slot.first in
+    rw e (All-cons (IsTaken (length (bytes_of_number n segs))) (run_of_slot s) _ (record { before = omega arith; behind = omega arith }) rest))
     (λ e. rw e rest)
     (cases_Bool (eqb s.seg n))
 

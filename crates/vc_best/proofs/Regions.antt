@@ -1,18 +1,17 @@
 -- What a slot and a segment more make of a layout and of its region.
-use Rattle.std.proofs.Common.{◌≡◌, ℕ, zero, suc, ◌+◌, ◌-◌, ◌%◌, ◌<◌, ◌≤◌, ◌≢◌, List, [], ◌∷◌, ◌++◌, Bool, true, false, All, AllPairs, length, get_or, map, replicate, take, drop, refl, ap, sym, ◌∙◌, subst, ⊎_elim, eqb, arith}
-use Rattle.std.proofs.lemmas.Bool.{cases_Bool, or_parts, eqb-false, eqb-true, leb-true, eq-eqb, both_ways}
+use Rattle.std.proofs.Common.{◌≡◌, ℕ, zero, suc, ◌+◌, ◌-◌, ◌%◌, ◌<◌, ◌≤◌, ◌≢◌, List, [], ◌∷◌, ◌++◌, false, All, length, get_or, map, replicate, take, drop, refl, ap, sym, ◌∙◌, subst, ⊎_elim, eqb, arith}
+use Rattle.std.proofs.lemmas.Bool.{cases_Bool, or_parts, eqb-false, leb-true}
 use Rattle.std.proofs.lemmas.List.{take-replicate, drop-replicate, map_push, length_push}
-use Rattle.std.proofs.lemmas.List.Elements.{All-head, All-tail, All-nil, All-cons, All-push, All-weaker}
+use Rattle.std.proofs.lemmas.List.Elements.{All-head, All-tail, All-cons, All-push, All-weaker}
 use Rattle.std.proofs.lemmas.List.Quantifiers.{all_pairs_push}
-use Rattle.vc_model.specs.Discipline.{IsSegmentSize}
-use Rattle.vc_model.specs.Segments.{numbers, round_up, span}
+use Rattle.vc_model.specs.Segments.{numbers, span}
 use Rattle.vc_model.specs.Gap.{Run}
 use Rattle.vc_model.specs.Place.{lowest_offset}
 use Rattle.vc_model.specs.Region.{Block, Region, footprints, with_block}
 use Rattle.vc_model.specs.Best.{zeros, with_segment}
 use Rattle.vc_seg.specs.Segment.{Bytes, pair_of}
 use Rattle.vc_best.specs.declared.slot.Slot.{Slot}
-use Rattle.vc_best.specs.Slot.{run_of_slot, runs_of, IsSlot, lies_before_slot, with_slot}
+use Rattle.vc_best.specs.Slot.{run_of_slot, runs_of, lies_before_slot, with_slot}
 use Rattle.vc_best.specs.Layout.{bytes_of_number, block_in, region_of, IsRegionSegment, IsSlotIn, IsLayout}
 use Rattle.vc_best.proofs.Unused.{is_among}
 use Rattle.vc_best.proofs.Bytes.{Apart, bytes_of_number-zeros, bytes_of_number-most, bytes_of_number-append}
@@ -28,8 +27,8 @@ block_in-zeros segs s h here =
     let bytes = bytes_of_number s.seg segs in
     let within : s.off + s.size ≤ length bytes = here.within in
     let all : take s.size (drop s.off bytes) ≡ replicate s.size 0 =
-      ap (λ b. take s.size (drop s.off b)) (bytes_of_number-zeros s.seg segs h)
-      ∙ (ap (take s.size) (drop-replicate s.off (length bytes) 0) ∙ take-replicate s.size (length bytes - s.off) 0 (omega arith)) in
+    ap (λ b. take s.size (drop s.off b)) (bytes_of_number-zeros s.seg segs h)
+    ∙ (ap (take s.size) (drop-replicate s.off (length bytes) 0) ∙ take-replicate s.size (length bytes - s.off) 0 (omega arith)) in
     let block : List ℕ → Block ℕ = λ b. record { label = s.tag; seg = s.seg; off = s.off; size = s.size; bytes = b } in
     ap block all
 

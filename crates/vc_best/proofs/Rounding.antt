@@ -1,5 +1,5 @@
 -- Numbers that are rounded up, and the legal alignments and sizes.
-use Rattle.std.proofs.Common.{◌≡◌, ℕ, zero, ◌+◌, ◌-◌, ◌*◌, ◌/◌, ◌%◌, ◌<◌, ◌≤◌, List, [], ◌∷◌, All, Contains, refl, ap, sym, ◌∙◌, arith}
+use Rattle.std.proofs.Common.{◌≡◌, ℕ, ◌+◌, ◌-◌, ◌*◌, ◌/◌, ◌%◌, ◌<◌, ◌≤◌, List, [], ◌∷◌, refl, ap, sym, ◌∙◌, arith}
 use Rattle.std.proofs.Math.Nat.{mul-mod_right}
 use Rattle.std.proofs.lemmas.Nat.{mul-mod_first}
 use Rattle.std.proofs.lemmas.List.Elements.{All-from_recursion, All-contains}
@@ -35,16 +35,31 @@ IsAligned-from_IsAlign align h =
     let one : (a : ℕ) → 32 ≤ a → a ≤ 4096 → a % 32 ≡ 0 → round_up 32 a ≡ a → IsAligned a = λ a p q r s. record { least = p; most = q; multiple = r; first = s } in
     let aligns : List ℕ = 32 ∷ 64 ∷ 128 ∷ 256 ∷ 512 ∷ 1024 ∷ 2048 ∷ 4096 ∷ [] in
     All-contains IsAligned aligns align
-    (All-from_recursion IsAligned aligns
-      (one 32 (omega arith) (omega arith) refl refl
-      , (one 64 (omega arith) (omega arith) refl refl
-      , (one 128 (omega arith) (omega arith) refl refl
-      , (one 256 (omega arith) (omega arith) refl refl
-      , (one 512 (omega arith) (omega arith) refl refl
-      , (one 1024 (omega arith) (omega arith) refl refl
-      , (one 2048 (omega arith) (omega arith) refl refl
-      , (one 4096 (omega arith) (omega arith) refl refl
-      , tt)))))))))
+    (All-from_recursion IsAligned aligns (
+      one 32 (omega arith) (omega arith) refl refl,
+      (
+        one 64 (omega arith) (omega arith) refl refl,
+        (
+          one 128 (omega arith) (omega arith) refl refl,
+          (
+            one 256 (omega arith) (omega arith) refl refl,
+            (
+              one 512 (omega arith) (omega arith) refl refl,
+              (
+                one 1024 (omega arith) (omega arith) refl refl,
+                (
+                  one 2048 (omega arith) (omega arith) refl refl,
+                  (
+                    one 4096 (omega arith) (omega arith) refl refl,
+                    tt,
+                  ),
+                ),
+              ),
+            ),
+          ),
+        ),
+      ),
+    ))
     h
 
 -- the size of the segment that is asked for

@@ -1,4 +1,5 @@
 pub use Rattle.vc_model.specs.Best
+pub use Rattle.vc_model.specs.Count
 pub use Rattle.vc_model.specs.Discipline
 pub use Rattle.vc_model.specs.Place
 pub use Rattle.vc_model.specs.Region

@@ -25,7 +25,10 @@ pub struct Best {
 
 impl Best {
     /// A region with no segment. It takes none before the first block.
-    pub fn open(alloc: Global, disc: Box<dyn SegDisc>) -> Result<Best, (OutOfMemory, Box<dyn SegDisc>)>
+    pub fn open(
+        alloc: Global,
+        disc: Box<dyn SegDisc>,
+    ) -> Result<Best, (OutOfMemory, Box<dyn SegDisc>)>
         ensures segments { IfOk result (λ b. b.layout.segments ≡ []) }
         ensures blocks { IfOk result (λ b. b.layout.blocks ≡ []) }
         ensures ok { IfOk result (λ b. state b.disc ≡ state disc) }
@@ -70,7 +73,12 @@ impl Best {
         ensures kept { Kept (state self.old.disc) (state self.new.disc) }
     {
         let _ = steps;
-        self.layout.alloc(&mut self.disc, self.alloc, size, align, tag)
+        match self.layout.place(size, align) {
+            Some((seg, off)) => self.layout.put(seg, off, size, align, tag),
+            None => self
+                .layout
+                .alloc_in_new(&mut self.disc, self.alloc, size, align, tag),
+        }
     }
 
     /// Gives all its segments back, in ascending order of number, and answers with the discipline and how many there

@@ -60,7 +60,7 @@ impl Layout {
     }
 
     /// The place for a block, as segment and offset.
-    fn place(&self, size: u32, align: u32) -> Option<(u32, u32)>
+    pub(crate) fn place(&self, size: u32, align: u32) -> Option<(u32, u32)>
         requires most { size ≤ 16777264 }
         requires align { IsAlign align }
         ensures { result ≡ place_in self.now size align }
@@ -70,7 +70,14 @@ impl Layout {
     }
 
     /// A block of zeros at its place.
-    fn put(&mut self, seg: u32, off: u32, size: u32, align: u32, tag: u32) -> Result<Addr, RegionFault>
+    pub(crate) fn put(
+        &mut self,
+        seg: u32,
+        off: u32,
+        size: u32,
+        align: u32,
+        tag: u32,
+    ) -> Result<Addr, RegionFault>
         requires some { 1 ≤ size }
         requires most { size ≤ 16777264 }
         requires align { IsAlign align }
@@ -90,45 +97,8 @@ impl Layout {
         Ok(Addr::new(seg, off))
     }
 
-    /// A block of zeros at its place, in a segment that the discipline lends for it where there is no place.
-    pub(crate) fn alloc(
-        &mut self,
-        disc: &mut Box<dyn SegDisc>,
-        alloc: Global,
-        size: u32,
-        align: u32,
-        tag: u32,
-    ) -> Result<Addr, RegionFault>
-        requires some { 1 ≤ size }
-        requires most { size ≤ 16777264 }
-        requires align { IsAlign align }
-
-        ensures ok { IfOk result (λ a. IsPlaced (best_alloc (state disc.old).round self.old tag size align false) a.0 self.new) }
-        ensures err { OnErr result (self.new ≡ self.old) }
-
-        // Which error comes, and when.
-        ensures only { IfErr result (λ e. (e ≡ RegionFault.TooManySegments) ⊎ ((e ≡ RegionFault.NoSegment) ⊎ (e ≡ RegionFault.OutOfMemory))) }
-        ensures too_many { (result ≡ Err RegionFault.TooManySegments) ↔ (best_alloc (state disc.old).round self.old tag size align false ≡ TooManySegments) }
-        ensures no_segment { IsErrOf result RegionFault.NoSegment → best_alloc (state disc.old).round self.old tag size align true ≡ NoSegment }
-        ensures refused { IsErrOf result RegionFault.NoSegment → Rose (state disc.old).faults (state disc.new).faults }
-        ensures above_room { IfSome (state disc.old).room (λ room. IsErrOf result RegionFault.NoSegment → room < round_up (span size + align) (state disc.old).round) }
-
-        // What becomes of the discipline.
-        ensures out { (state disc.new).out ≡ (state disc.old).out ++ drop (length self.old.segments) self.new.segments }
-        ensures within_room { IfSome (state disc.old).room (λ room. OnOk result (length self.old.segments < length self.new.segments → round_up (span size + align) (state disc.old).round ≤ room)) }
-        ensures untouched { OnOk result (self.new.segments ≡ self.old.segments → state disc.new ≡ state disc.old) }
-        ensures room { OnErr result ((state disc.new).room ≡ (state disc.old).room) }
-        ensures faults { result ≢ Err RegionFault.NoSegment → (state disc.new).faults ≡ (state disc.old).faults }
-        ensures kept { Kept (state disc.old) (state disc.new) }
-    {
-        match self.place(size, align) {
-            Some((seg, off)) => self.put(seg, off, size, align, tag),
-            None => self.alloc_in_new(disc, alloc, size, align, tag),
-        }
-    }
-
-    /// A block of zeros in a segment that the discipline lends for it.
-    fn alloc_in_new(
+    /// A block of zeros, which has no place, in a segment that the discipline lends for it.
+    pub(crate) fn alloc_in_new(
         &mut self,
         disc: &mut Box<dyn SegDisc>,
         alloc: Global,

@@ -9,8 +9,8 @@ invariant-loop-number g l =
     record {
       segments : AreNumberedFrom l.number l.segs.items;
       back : TakesBack
-        ((goal.SegDisc-dyn g (l.initial.disc.vtable, l.initial.disc.value)).state l.initial.disc.value)
-        ((goal.SegDisc-dyn g (l.disc.vtable, l.disc.value)).state l.disc.value)
-        (map pair_of l.initial.segs.items)
-        (map pair_of l.segs.items);
+          ((goal.SegDisc-dyn g (l.initial.disc.vtable, l.initial.disc.value)).state l.initial.disc.value)
+          ((goal.SegDisc-dyn g (l.disc.vtable, l.disc.value)).state l.disc.value)
+          (map pair_of l.initial.segs.items)
+          (map pair_of l.segs.items);
     }

@@ -1,5 +1,5 @@
-use Rattle.std.proofs.Common.{◌≡◌, ◌<◌, ◌++◌, length, get_or, map, ap, sym, ◌∙◌}
-use Rattle.vc_seg.specs.Segment.{Bytes, pair_of}
+use Rattle.std.proofs.Common.{map}
+use Rattle.vc_seg.specs.Segment.{pair_of}
 use Rattle.vc_best.proofs.Backs.{AreNumberedFrom-remove, Contains-ends, Contains-pair, without_last-segment}
 use Rattle.vc_best.proofs.close.give_back_one.Goals as goal
 
@@ -20,8 +20,8 @@ returns-in-Some-clause-out g c =
     let found = rw c.deref.ensures.value at c.in-Some.ensures.found in
     record {
       out = λ rest e.
-        rw (c.remove-segment.ensures.items, c.take_back_segment.ensures.out, e)
-        (without_last-segment c.args.segs.now.items c.in-Some.place c.remove-segment.result found.0 c.remove-segment.ensures.value c.requires.segments.distinct rest);
+          rw (c.remove-segment.ensures.items, c.take_back_segment.ensures.out, e)
+          (without_last-segment c.args.segs.now.items c.in-Some.place c.remove-segment.result found.0 c.remove-segment.ensures.value c.requires.segments.distinct rest);
       round = c.take_back_segment.ensures.round;
       faults = c.take_back_segment.ensures.faults;
     }

@@ -1,10 +1,5 @@
-use Rattle.std.proofs.Common.{◌≡◌, ℕ, ◌+◌, ◌<◌, ◌≤◌, length, map, sym, ap, ◌∙◌, false, None, refl, arith}
-use Rattle.vc_model.specs.Segments.{lowest_unused, numbers}
-use Rattle.vc_model.specs.Best.{Allocated, Placed, best_alloc, place_in}
-use Rattle.vc_seg.specs.Segment.{pair_of}
-use Rattle.vc_best.specs.Layout.{region_of}
-use Rattle.vc_best.specs.Slot.{with_slot}
-use Rattle.vc_best.proofs.Allocs.{IsAskedFor, IsLayout-lent, best_alloc-lent, best_gap-none, slot_at, with_lent}
+use Rattle.std.proofs.Common.{◌<◌, length, ap, ◌∙◌, refl, arith}
+use Rattle.vc_best.proofs.Allocs.{IsAskedFor, IsLayout-lent, best_alloc-lent, best_gap-none}
 use Rattle.vc_best.proofs.Rounding.{IsAligned-from_IsAlign, IsSegmentSize-asked}
 use Rattle.vc_best.proofs.layout.Layout.alloc_in_new.Goals as goal
 use Rattle.vc_best.proofs.layout.Layout.alloc_in_new.Goals.{After-put_among}

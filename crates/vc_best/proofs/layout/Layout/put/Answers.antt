@@ -1,7 +1,3 @@
-use Rattle.std.proofs.Common.{sym, ap, ◌∙◌, map, arith}
-use Rattle.vc_model.specs.Region.{Region, Block, with_block}
-use Rattle.vc_model.specs.Best.{zeros}
-use Rattle.vc_seg.specs.Segment.{pair_of}
 use Rattle.vc_best.proofs.Allocs.{IsSlotAt-place}
 use Rattle.vc_best.proofs.Regions.{IsSlotAt, IsLayout-with_slot, region_of-with_slot}
 use Rattle.vc_best.proofs.layout.Layout.put.Goals as goal
@@ -28,7 +24,8 @@ invariant_of-self-2 c =
     (IsLayout-with_slot c.self.inside.segs.items _ c.self.inside.blocks.items c.self.invariant (here (goal.at.invariant_of-self-2 c).After-put_among).slot)
 
 pub returns-clause-ok : goal.returns-clause-ok
-returns-clause-ok c =
-    (c.new.ensures,
-    rw (c.put_among.ensures, c.in_ok-reserve_one.ensures.items, ← c.self.view_is)
-    (region_of-with_slot c.self.inside.segs.items _ c.self.inside.blocks.items c.self.invariant.segments (here (goal.at.returns-clause-ok c).After-put_among).slot))
+returns-clause-ok c = (
+  c.new.ensures,
+  rw (c.put_among.ensures, c.in_ok-reserve_one.ensures.items, ← c.self.view_is)
+      (region_of-with_slot c.self.inside.segs.items _ c.self.inside.blocks.items c.self.invariant.segments (here (goal.at.returns-clause-ok c).After-put_among).slot),
+)
