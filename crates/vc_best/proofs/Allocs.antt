@@ -1,0 +1,174 @@
+-- What allocation in a layout's region answers.
+use Rattle.std.proofs.Common.{◌≡◌, ℕ, ◌+◌, ◌-◌, ◌<◌, ◌≤◌, ◌≢◌, List, [], ◌∷◌, ◌++◌, Bool, true, false, Option, None, Some, All, length, map, filter, replicate, refl, ap, sym, ◌∙◌, subst, eqb, ltb, arith}
+use Rattle.std.specs.Prelude.{option_map}
+use Rattle.std.proofs.lemmas.Bool.{ne_eqb, lt-ltb, le-ltb, le-leb}
+use Rattle.std.proofs.lemmas.List.{length-map, length-replicate, append-nil}
+use Rattle.std.proofs.lemmas.List.Concat.{flat_map-append}
+use Rattle.std.proofs.lemmas.List.Elements.{All-head, All-tail, filter-append}
+use Rattle.vc_model.specs.Discipline.{IsRound, IsSegmentSize}
+use Rattle.vc_model.specs.Segments.{ask, lowest_unused, numbers, round_up, span, Granted}
+use Rattle.vc_model.specs.Gap.{Run, gaps, gaps_in}
+use Rattle.vc_model.specs.Place.{IsAlign, best_gap, holds, least, lowest_offset, place}
+use Rattle.vc_model.specs.Best.{Allocated, Placed, TooManySegments, NoSegment, best_alloc, place_in, put, put_at, put_in_new, put_or_ask, with_segment}
+use Rattle.vc_seg.specs.Segment.{Bytes, pair_of, zeroed}
+use Rattle.vc_best.specs.declared.slot.Slot.{Slot}
+use Rattle.vc_best.specs.Slot.{runs_of, with_slot}
+use Rattle.vc_best.specs.Layout.{bytes_of_number, region_of, IsRegionSegment, IsSlotIn, IsLayout}
+use Rattle.vc_best.proofs.Unused.{is_among, lowest_unused-unused}
+use Rattle.vc_best.proofs.Bytes.{bytes_of_number-unused, bytes_of_number-push}
+use Rattle.vc_best.proofs.Gaps.{best_gap-IsBestGap, least-None}
+use Rattle.vc_best.proofs.Rounding.{IsAligned-from_IsAlign, IsAligned, IsSegmentSize-asked, round_up-least}
+use Rattle.vc_best.proofs.Regions.{IsSlotAt, IsSlotAt-gap, footprints-blocks, region_of-with_slot, region_of-push, IsLayout-push, IsLayout-with_slot}
+
+abbrev pub place_of : ℕ → Run → ℕ × ℕ
+place_of align g = (g.seg, lowest_offset align g)
+
+pub place_in-gap : (segs : List Bytes) (slots : List Slot) (size align : ℕ) (o : Option Run) → best_gap (map pair_of segs) (runs_of slots) size align ≡ o → place_in (region_of segs slots) size align ≡ option_map (place_of align) o
+place_in-gap segs slots size align o e = ap (λ fs. place (map pair_of segs) fs size align) (footprints-blocks segs slots) ∙ ap (option_map (place_of align)) e
+
+-- the slot for a block at a place
+abbrev pub slot_at : ℕ → ℕ → ℕ × ℕ → Slot
+slot_at tag size at = record { seg = at.0; off = at.1; size = size; tag = tag }
+
+module _ (segs : List Bytes) (slots : List Slot) (round size align tag : ℕ) (none : best_gap (map pair_of segs) (runs_of slots) size align ≡ None) where
+  best_alloc-asked : (refused : Bool) → best_alloc round (region_of segs slots) tag size align refused ≡ put_in_new (region_of segs slots) tag size align (ask round (map pair_of segs) (span size + align) refused)
+  best_alloc-asked refused = ap (put_or_ask round (region_of segs slots) tag size align refused) (place_in-gap segs slots size align None none)
+
+  pub best_alloc-too_many : 1023 ≤ length segs → (refused : Bool) → best_alloc round (region_of segs slots) tag size align refused ≡ TooManySegments
+  best_alloc-too_many full refused =
+      let long : length (map pair_of segs) ≡ length segs = length-map segs pair_of in
+      let test : ltb (length (map pair_of segs)) 1023 ≡ false = le-ltb (length (map pair_of segs)) 1023 (omega arith) in
+      best_alloc-asked refused ∙ rw test refl
+
+  pub best_alloc-refused : length segs < 1023 → best_alloc round (region_of segs slots) tag size align true ≡ NoSegment
+  best_alloc-refused few =
+      let long : length (map pair_of segs) ≡ length segs = length-map segs pair_of in
+      let test : ltb (length (map pair_of segs)) 1023 ≡ true = lt-ltb (length (map pair_of segs)) 1023 (omega arith) in
+      best_alloc-asked true ∙ rw test refl
+
+  best_alloc-granted : length segs < 1023 → best_alloc round (region_of segs slots) tag size align false
+      ≡ put_in_new (region_of segs slots) tag size align (Granted (lowest_unused (numbers (map pair_of segs))) (round_up (span size + align) round))
+  best_alloc-granted few =
+      let long : length (map pair_of segs) ≡ length segs = length-map segs pair_of in
+      let test : ltb (length (map pair_of segs)) 1023 ≡ true = lt-ltb (length (map pair_of segs)) 1023 (omega arith) in
+      best_alloc-asked false ∙ rw test refl
+
+-- no slot takes of a segment under an unused number
+filter-unused : (n : ℕ) (segs : List Bytes) (slots : List Slot) → All (IsSlotIn segs) slots → is_among n (numbers (map pair_of segs)) ≡ false → filter (λ f. eqb f.seg n) (runs_of slots) ≡ []
+filter-unused n segs [] h unused = refl
+filter-unused n segs (s ∷ ss) h unused =
+    let here = All-head (IsSlotIn segs) s ss h in
+    let some : 1 ≤ s.size = here.slot.some in
+    let other : s.seg ≢ n = λ e.
+    let none : length (bytes_of_number s.seg segs) ≡ 0 = ap (λ m. length (bytes_of_number m segs)) e ∙ ap length (bytes_of_number-unused n segs unused) in
+    let within : s.off + s.size ≤ length (bytes_of_number s.seg segs) = here.within in
+    omega arith in
+    rw (ne_eqb s.seg n other) (filter-unused n segs ss (All-tail (IsSlotIn segs) s ss h) unused)
+
+-- the one gap of a new segment
+abbrev new_gap : ℕ → ℕ → Run
+new_gap n bytes = record { seg = n; from = 16; to = bytes - 16 }
+
+gaps-new : (n bytes : ℕ) (segs : List Bytes) (slots : List Slot) → All (IsSlotIn segs) slots → is_among n (numbers (map pair_of segs)) ≡ false → 64 ≤ bytes →
+    gaps (map pair_of segs ++ (n, bytes) ∷ []) (runs_of slots) ≡ gaps (map pair_of segs) (runs_of slots) ++ new_gap n bytes ∷ []
+gaps-new n bytes segs slots h unused long =
+    let one : gaps_in (runs_of slots) (n, bytes) ≡ new_gap n bytes ∷ [] = rw (filter-unused n segs slots h unused) (rw (lt-ltb 16 (bytes - 16) (omega arith)) refl) in
+    flat_map-append (gaps_in (runs_of slots)) (map pair_of segs) ((n, bytes) ∷ [])
+    ∙ ap (λ gs. gaps (map pair_of segs) (runs_of slots) ++ gs) (append-nil (gaps_in (runs_of slots) (n, bytes)) ∙ one)
+
+-- it is the least that holds the block, where there was none
+best_gap-new : (n bytes : ℕ) (segs : List Bytes) (slots : List Slot) (size align : ℕ) → All (IsSlotIn segs) slots → is_among n (numbers (map pair_of segs)) ≡ false → 64 ≤ bytes → span size + align ≤ bytes → IsAligned align →
+    best_gap (map pair_of segs) (runs_of slots) size align ≡ None → best_gap (map pair_of segs ++ (n, bytes) ∷ []) (runs_of slots) size align ≡ Some (new_gap n bytes)
+best_gap-new n bytes segs slots size align h unused long fits a none =
+    let test = holds (span size) align in
+    let old = gaps (map pair_of segs) (runs_of slots) in
+    let first : lowest_offset align (new_gap n bytes) ≡ align = a.first in
+    let passes : test (new_gap n bytes) ≡ true = le-leb (lowest_offset align (new_gap n bytes) + span size) (bytes - 16 + 16) (omega arith) in
+    let empty : filter test old ≡ [] = least-None (filter test old) none in
+    let one : filter test (new_gap n bytes ∷ []) ≡ new_gap n bytes ∷ [] = rw passes refl in
+    ap (λ gs. least (filter test gs)) (gaps-new n bytes segs slots h unused long)
+    ∙ (ap least (filter-append test old (new_gap n bytes ∷ []))
+    ∙ (ap (λ gs. least (gs ++ filter test (new_gap n bytes ∷ []))) empty ∙ ap least one))
+
+-- what is lent for a block
+pub record IsAskedFor (segs : List Bytes) (round size align n bytes : ℕ) : Type 0 where
+  pub number : n ≡ lowest_unused (numbers (map pair_of segs))
+  pub first : 1 ≤ n
+  pub last : n ≤ 1023
+  pub bytes_are : bytes ≡ round_up (span size + align) round
+
+-- the layout with the block in the segment that is lent for it
+abbrev pub with_lent : List Bytes → ℕ → ℕ → List Bytes
+with_lent segs n bytes = segs ++ zeroed n bytes ∷ []
+
+module _ (segs : List Bytes) (slots : List Slot) (round size align n bytes : ℕ) (l : IsLayout segs slots) (few : length segs < 1023) (asked : IsAskedFor segs round size align n bytes) (r : IsRound round) (a : IsAligned align) (some : 1 ≤ size) (most : size ≤ 16777264) where
+  unused : is_among n (numbers (map pair_of segs)) ≡ false
+  unused = subst (λ m. is_among m (numbers (map pair_of segs)) ≡ false) (sym asked.number) (lowest_unused-unused (numbers (map pair_of segs)))
+
+  legal : IsSegmentSize bytes
+  legal = subst IsSegmentSize (sym asked.bytes_are) (IsSegmentSize-asked round size align r most a)
+
+  long : length {A = ℕ} (replicate bytes 0) ≡ bytes
+  long = length-replicate {A = ℕ} bytes 0
+
+  IsRegionSegment-lent : IsRegionSegment (zeroed n bytes)
+  IsRegionSegment-lent = record { first = asked.first; last = asked.last; size = subst IsSegmentSize (sym long) legal; zeros = ap (λ k. replicate k 0) (sym long) }
+
+  fits : span size + align ≤ bytes
+  fits =
+      let one : 1 ≤ round = omega arith in
+      let low = round_up-least (span size + align) round one in
+      omega (arith, asked.bytes_are)
+
+  IsSlotIn-lent : (tag : ℕ) → IsSlotIn (with_lent segs n bytes) (slot_at tag size (n, align))
+  IsSlotIn-lent tag =
+      let room = fits in
+      let low : size + 16 ≤ span size = round_up-least (size + 16) 32 (omega arith) in
+      let all : length (bytes_of_number n (with_lent segs n bytes)) ≡ bytes = ap length (bytes_of_number-push (zeroed n bytes) segs unused) ∙ long in
+      record { slot = record { first = a.least; last = omega arith; some = some; most = most }; within = omega arith }
+
+  pub IsLayout-lent : (tag : ℕ) → IsLayout (with_lent segs n bytes) (with_slot (slot_at tag size (n, align)) slots)
+  IsLayout-lent tag = IsLayout-with_slot (with_lent segs n bytes) (slot_at tag size (n, align)) slots (IsLayout-push segs (zeroed n bytes) slots l few IsRegionSegment-lent unused) (IsSlotIn-lent tag)
+
+  place_in-lent : best_gap (map pair_of segs) (runs_of slots) size align ≡ None → place_in (with_segment (region_of segs slots) (n, bytes)) size align ≡ Some (n, align)
+  place_in-lent none =
+      ap (λ fs. place (map pair_of segs ++ (n, bytes) ∷ []) fs size align) (footprints-blocks segs slots)
+      ∙ (ap (option_map (place_of align)) (best_gap-new n bytes segs slots size align l.blocks unused legal.least fits a none)
+      ∙ ap (λ off. Some (n, off)) a.first)
+
+  put_at-lent : (tag : ℕ) → put_at (with_segment (region_of segs slots) (n, bytes)) tag size (n, align) ≡ Placed (n, align) (region_of (with_lent segs n bytes) (with_slot (slot_at tag size (n, align)) slots))
+  put_at-lent tag =
+      let same : with_segment (region_of segs slots) (n, bytes) ≡ region_of (with_lent segs n bytes) slots =
+      ap (λ k. with_segment (region_of segs slots) (n, k)) (sym long) ∙ sym (region_of-push segs (zeroed n bytes) slots l.blocks) in
+      let all = (IsLayout-push segs (zeroed n bytes) slots l few IsRegionSegment-lent unused).segments in
+      ap (λ region. put_at region tag size (n, align)) same
+      ∙ ap (Placed (n, align)) (sym (region_of-with_slot (with_lent segs n bytes) (slot_at tag size (n, align)) slots all (IsSlotIn-lent tag)))
+
+  pub best_alloc-lent : (tag : ℕ) → best_gap (map pair_of segs) (runs_of slots) size align ≡ None →
+      best_alloc round (region_of segs slots) tag size align false ≡ Placed (n, align) (region_of (with_lent segs n bytes) (with_slot (slot_at tag size (n, align)) slots))
+  best_alloc-lent tag none =
+      let give : ℕ → ℕ → Allocated ℕ = λ m b. put_in_new (region_of segs slots) tag size align (Granted m b) in
+      best_alloc-granted segs slots round size align tag none few
+      ∙ (ap (λ m. give m (round_up (span size + align) round)) (sym asked.number)
+      ∙ (ap (give n) (sym asked.bytes_are)
+      ∙ (ap (put (with_segment (region_of segs slots) (n, bytes)) tag size) (place_in-lent none) ∙ put_at-lent tag)))
+
+option_map-None : {A B : Type 0} (f : A → B) (o : Option A) → option_map f o ≡ None → o ≡ None
+option_map-None f None e = refl
+option_map-None f (Some x) e = cc
+
+option_map-Some : {A B : Type 0} (f : A → B) (o : Option A) (y : B) → option_map f o ≡ Some y → (x : A) × (o ≡ Some x) × (f x ≡ y)
+option_map-Some f None y e = absurd (cc)
+option_map-Some f (Some x) y e = (x, refl, cc)
+
+module _ (segs : List Bytes) (slots : List Slot) (size align : ℕ) where
+  pub best_gap-none : place_in (region_of segs slots) size align ≡ None → best_gap (map pair_of segs) (runs_of slots) size align ≡ None
+  best_gap-none e = option_map-None (place_of align) (best_gap (map pair_of segs) (runs_of slots) size align) (sym (place_in-gap segs slots size align (best_gap (map pair_of segs) (runs_of slots) size align) refl) ∙ e)
+
+  -- a block at its place is a slot of the layout
+  pub IsSlotAt-place : (seg off tag : ℕ) → IsLayout segs slots → IsAlign align → 1 ≤ size → size ≤ 16777264 → place_in (region_of segs slots) size align ≡ Some (seg, off) →
+      IsSlotAt segs (record { seg = seg; off = off; size = size; tag = tag })
+  IsSlotAt-place seg off tag l a some most e =
+      let gap = best_gap (map pair_of segs) (runs_of slots) size align in
+      let f = option_map-Some (place_of align) gap (seg, off) (sym (place_in-gap segs slots size align gap refl) ∙ e) in
+      subst (λ (at : ℕ × ℕ). IsSlotAt segs (slot_at tag size at)) f.2 (IsSlotAt-gap segs size align tag f.0 l.segments (IsAligned-from_IsAlign align a) some most (best_gap-IsBestGap segs slots size align f.0 l f.1))

@@ -1,0 +1,109 @@
+-- A segment that is taken back.
+use Rattle.std.proofs.Common.{◌≡◌, ℕ, zero, suc, ◌+◌, ◌-◌, ◌<◌, ◌≤◌, ◌≢◌, List, [], ◌∷◌, ◌++◌, true, false, All, AllPairs, Contains, length, get_or, map, take, drop, refl, ap, sym, subst, ◌∙◌, eqb, arith}
+use Rattle.std.specs.List.{list_any, remove}
+use Rattle.std.proofs.lemmas.Bool.{eq-eqb, ne_eqb, and_from, and_left, or_from, or_left, or_right}
+use Rattle.std.proofs.lemmas.List.{length-append, length-map, take_at, get_or-map}
+use Rattle.std.proofs.lemmas.List.Elements.{All-head, All-tail, All-cons, All-append, All-take, All-drop, Contains-append_right}
+use Rattle.std.proofs.lemmas.List.Folds.{list_any-append}
+use Rattle.std.proofs.lemmas.List.Quantifiers.{all_pairs_remove}
+use Rattle.vc_model.specs.Discipline.{Discipline, EndsWith, same_pair, without_last}
+use Rattle.vc_seg.specs.Segment.{Bytes, pair_of}
+use Rattle.vc_best.specs.Close.{TakesBack, AreNumberedFrom}
+use Rattle.vc_best.proofs.Bytes.{Apart, Apart-tail}
+
+same_pair-self : (p : ℕ × ℕ) → same_pair p p ≡ true
+same_pair-self p = and_from (eqb p.0 p.0) (eqb p.1 p.1) (eq-eqb p.0 p.0 refl) (eq-eqb p.1 p.1 refl)
+
+-- what stands before the last such pair stays
+without_last-append : (p : ℕ × ℕ) (xs ys : List (ℕ × ℕ)) → list_any (same_pair p) ys ≡ true → without_last p (xs ++ ys) ≡ xs ++ without_last p ys
+without_last-append p [] ys h = refl
+without_last-append p (x ∷ xs) ys h =
+    let later : list_any (same_pair p) (xs ++ ys) ≡ true = list_any-append (same_pair p) xs ys ∙ or_right (list_any (same_pair p) xs) (list_any (same_pair p) ys) h in
+    rw later (ap (λ (zs : List (ℕ × ℕ)). x ∷ zs) (without_last-append p xs ys h))
+
+Apart-head : (s : Bytes) (ss : List Bytes) → AllPairs Apart (s ∷ ss) → All (Apart s) ss
+Apart-head s ss h = λ k d lt. h 0 (suc k) d (omega arith) (omega arith)
+
+-- the pair of a segment is no other's
+alone : (s : Bytes) (ss : List Bytes) → All (Apart s) ss → list_any (same_pair (pair_of s)) (map pair_of ss) ≡ false
+alone s [] h = refl
+alone s (t ∷ ts) h =
+    let other : same_pair (pair_of s) (pair_of t) ≡ false = and_left (eqb s.number t.number) _ (ne_eqb s.number t.number (All-head (Apart s) t ts h)) in
+    or_from (same_pair (pair_of s) (pair_of t)) (list_any (same_pair (pair_of s)) (map pair_of ts)) other (alone s ts (All-tail (Apart s) t ts h))
+
+found : (ss : List Bytes) (i : ℕ) (d : Bytes) → i < length ss → list_any (same_pair (pair_of (get_or ss i d))) (map pair_of ss) ≡ true
+found [] i d lt = absurd (omega arith)
+found (s ∷ ss) zero d lt = or_left (same_pair (pair_of s) (pair_of s)) (list_any (same_pair (pair_of s)) (map pair_of ss)) (same_pair-self (pair_of s))
+found (s ∷ ss) (suc i) d lt =
+    or_right (same_pair (pair_of (get_or ss i d)) (pair_of s)) (list_any (same_pair (pair_of (get_or ss i d))) (map pair_of ss)) (found ss i d (omega arith))
+
+without_last-at : (ss : List Bytes) (i : ℕ) (d : Bytes) → AllPairs Apart ss → i < length ss → without_last (pair_of (get_or ss i d)) (map pair_of ss) ≡ map pair_of (remove ss i)
+without_last-at [] i d h lt = absurd (omega arith)
+without_last-at (s ∷ ss) zero d h lt = rw (alone s ss (Apart-head s ss h), same_pair-self (pair_of s)) refl
+without_last-at (s ∷ ss) (suc i) d h lt =
+    rw (found ss i d (omega arith)) (ap (λ (zs : List (ℕ × ℕ)). pair_of s ∷ zs) (without_last-at ss i d (Apart-tail s ss h) (omega arith)))
+
+module _ (ss : List Bytes) (i : ℕ) (s : Bytes) (lt : i < length ss) (at : s ≡ get_or ss i s) where
+  pub Contains-pair : Contains (map pair_of ss) (pair_of s)
+  Contains-pair = (i, omega (arith, length-map ss pair_of), get_or-map pair_of ss i s (pair_of s) lt ∙ ap pair_of (sym at))
+
+  -- what is out without the segment
+  pub without_last-segment : AllPairs Apart ss → (rest : List (ℕ × ℕ)) → without_last (pair_of s) (rest ++ map pair_of ss) ≡ rest ++ map pair_of (remove ss i)
+  without_last-segment h rest =
+      let among : list_any (same_pair (pair_of s)) (map pair_of ss) ≡ true = subst (λ (t : Bytes). list_any (same_pair (pair_of t)) (map pair_of ss) ≡ true) (sym at) (found ss i s lt) in
+      let last : without_last (pair_of s) (map pair_of ss) ≡ map pair_of (remove ss i) = subst (λ (t : Bytes). without_last (pair_of t) (map pair_of ss) ≡ map pair_of (remove ss i)) (sym at) (without_last-at ss i s h lt) in
+      without_last-append (pair_of s) rest (map pair_of ss) among ∙ ap (λ (zs : List (ℕ × ℕ)). rest ++ zs) last
+
+All-remove : (P : Bytes → Type 0) (ss : List Bytes) (i : ℕ) → All P ss → All P (remove ss i)
+All-remove P ss i h = All-append P (take i ss) (drop (suc i) ss) (All-take P i ss h) (All-drop P (suc i) ss h)
+
+above : (n : ℕ) (ss : List Bytes) (i : ℕ) (d : Bytes) → AllPairs Apart ss → i < length ss → (get_or ss i d).number ≡ n → All (λ b. n ≤ b.number) ss → All (λ b. n + 1 ≤ b.number) (remove ss i)
+above n [] i d h lt at low = absurd (omega arith)
+above n (s ∷ ss) zero d h lt at low =
+    λ k e within.
+    let apart : s.number ≢ (get_or ss k e).number = Apart-head s ss h k e within in
+    let least : n ≤ (get_or ss k e).number = All-tail (λ b. n ≤ b.number) s ss low k e within in
+    let other : n ≢ (get_or ss k e).number = λ q. apart (at ∙ q) in
+    omega arith
+above n (s ∷ ss) (suc i) d h lt at low =
+    let apart : s.number ≢ (get_or ss i d).number = Apart-head s ss h i d (omega arith) in
+    let least : n ≤ s.number = All-head (λ b. n ≤ b.number) s ss low in
+    let other : s.number ≢ n = λ q. apart (q ∙ sym at) in
+    All-cons (λ b. n + 1 ≤ b.number) s (remove ss i) (omega arith) (above n ss i d (Apart-tail s ss h) (omega arith) at (All-tail (λ b. n ≤ b.number) s ss low))
+
+pub AreNumberedFrom-remove : (n : ℕ) (ss : List Bytes) (i : ℕ) (d : Bytes) → AreNumberedFrom n ss → i < length ss → (get_or ss i d).number ≡ n → AreNumberedFrom (n + 1) (remove ss i)
+AreNumberedFrom-remove n ss i d h lt at =
+    record {
+      distinct = all_pairs_remove Apart ss i lt h.distinct;
+      first = above n ss i d h.distinct lt at h.first;
+      last = All-remove (λ b. b.number ≤ 1023) ss i h.last;
+    }
+
+pub Contains-ends : (out ys : List (ℕ × ℕ)) (p : ℕ × ℕ) → EndsWith out ys → Contains ys p → Contains out p
+Contains-ends out ys p e h = subst (λ (o : List (ℕ × ℕ)). Contains o p) e (Contains-append_right (take (length out - length ys) out) ys p h)
+
+pub TakesBack-none : (d : Discipline) (held : List (ℕ × ℕ)) → TakesBack d d held held
+TakesBack-none d held = record { out = λ rest e. e; round = refl; faults = refl }
+
+pub TakesBack-more : (a b c : Discipline) (held some left : List (ℕ × ℕ)) → TakesBack a b held some → TakesBack b c some left → TakesBack a c held left
+TakesBack-more a b c held some left h k = record { out = λ rest e. k.out rest (h.out rest e); round = k.round ∙ h.round; faults = k.faults ∙ h.faults }
+
+-- what is left is still the end of what is out
+pub EndsWith-left : (a b : Discipline) (held left : List (ℕ × ℕ)) → TakesBack a b held left → EndsWith a.out held → EndsWith b.out left
+EndsWith-left a b held left h e =
+    let rest = take (length a.out - length held) a.out in
+    let o : b.out ≡ rest ++ left = h.out rest (sym e) in
+    let n : length b.out ≡ length rest + length left = ap length o ∙ length-append rest left in
+    let t : take (length b.out - length left) b.out ≡ rest = ap (take (length b.out - length left)) o ∙ take_at rest left (length b.out - length left) (omega arith) in
+    ap (λ (xs : List (ℕ × ℕ)). xs ++ left) t ∙ sym o
+
+-- none is numbered above the last number
+pub AreNumberedFrom-none : (n : ℕ) (ss : List Bytes) → AreNumberedFrom n ss → 1024 ≤ n → ss ≡ []
+AreNumberedFrom-none n [] h le = refl
+AreNumberedFrom-none n (s ∷ ss) h le =
+    let first = All-head (λ b. n ≤ b.number) s ss h.first in
+    let last = All-head (λ b. b.number ≤ 1023) s ss h.last in
+    absurd (omega arith)
+
+pub TakesBack-all : (a b : Discipline) (held : List (ℕ × ℕ)) (ss : List Bytes) → TakesBack a b held (map pair_of ss) → ss ≡ [] → TakesBack a b held []
+TakesBack-all a b held ss h none = subst (TakesBack a b held) (ap (map pair_of) none) h

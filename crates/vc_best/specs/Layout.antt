@@ -1,0 +1,38 @@
+-- A layout as a region: its segments, and its slots as blocks.
+use Rattle.std.specs.Prelude.{◌≡◌, ◌≢◌, ℕ, ◌+◌, ◌≤◌, List, [], ◌∷◌, All, AllPairs, length, map, replicate, take, drop, ◌==◌, if◌then◌else◌}
+use Rattle.vc_model.specs.Discipline.{IsSegmentSize}
+use Rattle.vc_model.specs.Region.{Block, Region}
+use Rattle.vc_seg.specs.Segment.{Bytes, pair_of}
+use Rattle.vc_best.specs.declared.slot.Slot.{Slot}
+use Rattle.vc_best.specs.Slot.{IsSlot}
+
+-- the bytes of the segment of that number, or none
+abbrev pub bytes_of_number : ℕ → List Bytes → List ℕ
+bytes_of_number number [] = []
+bytes_of_number number (s ∷ ss) = if s.number == number then s.bytes else bytes_of_number number ss
+
+-- the block in a slot, whose bytes lie in its segment
+abbrev pub block_in : List Bytes → Slot → Block ℕ
+block_in segs s = record { label = s.tag; seg = s.seg; off = s.off; size = s.size; bytes = take s.size (drop s.off (bytes_of_number s.seg segs)) }
+
+abbrev pub region_of : List Bytes → List Slot → Region ℕ
+region_of segs slots = record { segments = map pair_of segs; blocks = map (block_in segs) slots }
+
+-- a segment of zeros, with a number and a size that a region's segment can have
+pub record IsRegionSegment (s : Bytes) : Type 0 where
+  pub first : 1 ≤ s.number
+  pub last : s.number ≤ 1023
+  pub size : IsSegmentSize (length s.bytes)
+  pub zeros : s.bytes ≡ replicate (length s.bytes) 0
+
+-- a slot within a segment of these
+pub record IsSlotIn (segs : List Bytes) (s : Slot) : Type 0 where
+  pub slot : IsSlot s
+  pub within : s.off + s.size ≤ length (bytes_of_number s.seg segs)
+
+-- at most 1,023 segments, each of another number, and slots in them
+pub record IsLayout (segs : List Bytes) (slots : List Slot) : Type 0 where
+  pub few : length segs ≤ 1023
+  pub segments : All IsRegionSegment segs
+  pub distinct : AllPairs (λ a b. a.number ≢ b.number) segs
+  pub blocks : All (IsSlotIn segs) slots

@@ -1,0 +1,11 @@
+pub use Rattle.vc_model.specs.Best
+pub use Rattle.vc_model.specs.Count
+pub use Rattle.vc_model.specs.Discipline
+pub use Rattle.vc_model.specs.Place
+pub use Rattle.vc_model.specs.Region
+pub use Rattle.vc_model.specs.Segments
+pub use Rattle.vc_base.specs.Addr
+pub mod Slot
+pub mod Layout
+pub mod Alloc
+pub mod Close

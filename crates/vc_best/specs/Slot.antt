@@ -1,0 +1,28 @@
+-- A slot: a block's place, size and tag.
+use Rattle.std.specs.Prelude.{ℕ, ◌+◌, ◌-◌, ◌<◌, ◌≤◌, List, [], ◌∷◌, Bool, map, nat_lt, ◌==◌, ◌&&◌, ◌||◌, if◌then◌else◌}
+use Rattle.vc_model.specs.Segments.{span}
+use Rattle.vc_model.specs.Gap.{Run}
+use Rattle.vc_best.specs.declared.slot.Slot.{Slot}
+
+-- what it takes of its segment
+abbrev pub run_of_slot : Slot → Run
+run_of_slot s = record { seg = s.seg; from = s.off - 16; to = s.off - 16 + span s.size }
+
+abbrev pub runs_of : List Slot → List Run
+runs_of slots = map run_of_slot slots
+
+-- the offsets and sizes that a block can have
+pub record IsSlot (s : Slot) : Type 0 where
+  pub first : 32 ≤ s.off
+  pub last : s.off < 33554432
+  pub some : 1 ≤ s.size
+  pub most : s.size ≤ 16777264
+
+-- whether an offset in a segment lies before a slot
+abbrev pub lies_before_slot : ℕ → ℕ → Slot → Bool
+lies_before_slot seg off s = nat_lt seg s.seg || ((seg == s.seg) && nat_lt off s.off)
+
+-- a slot among the others, by address
+abbrev pub with_slot : Slot → List Slot → List Slot
+with_slot s [] = s ∷ []
+with_slot s (t ∷ ts) = if lies_before_slot s.seg s.off t then s ∷ t ∷ ts else t ∷ with_slot s ts
