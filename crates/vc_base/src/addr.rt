@@ -1,5 +1,5 @@
 ghost use Rattle.std.specs.Prelude.{◌≡◌, ℕ, ◌+◌, ◌*◌, ◌/◌, ◌%◌, ◌<◌, ◌≤◌};
-ghost use Rattle.vc_base.specs.Addr.{address};
+ghost use Rattle.vc_base.specs.Addr.{address, place_of};
 
 /// An address in a region: `number × 2^20 + offset / 32`, with the number of a segment, from 1 to 1,023, and an offset
 /// in bytes, a multiple of 32 below 33,554,432. This project's own.
@@ -16,7 +16,8 @@ impl Addr {
         requires last { seg ≤ 1023 }
         requires below { off < 33554432 }
         requires multiple { off % 32 ≡ 0 }
-        ensures { result.0 ≡ address (seg, off) }
+        ensures value { result.0 ≡ address (seg, off) }
+        ensures place { place_of result.0 ≡ (seg, off) }
     {
         Addr(seg * 1_048_576 + off / 32)
     }

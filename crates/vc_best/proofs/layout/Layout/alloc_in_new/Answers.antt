@@ -1,4 +1,4 @@
-use Rattle.std.proofs.Common.{◌<◌, length, ap, ◌∙◌, refl, arith}
+use Rattle.std.proofs.Common.{◌<◌, length, ap, sym, ◌∙◌, refl, arith}
 use Rattle.vc_best.proofs.Allocs.{IsAskedFor, IsLayout-lent, best_alloc-lent, best_gap-none}
 use Rattle.vc_best.proofs.Rounding.{IsAligned-from_IsAlign, IsSegmentSize-asked}
 use Rattle.vc_best.proofs.layout.Layout.alloc_in_new.Goals as goal
@@ -39,4 +39,4 @@ returns-clause-ok g c =
     let none = best_gap-none segs blocks c.args.size c.args.align (rw (← c.self.view_is) at c.requires.none) in
     let placed = best_alloc-lent segs blocks c.round_of.result c.args.size c.args.align c.lowest_unused-number.result c.rounded_up-bytes.result c.self.invariant (few g at) (asked g at) c.round_of.ensures.legal (IsAligned-from_IsAlign c.args.align c.requires.align) c.requires.some c.requires.most c.args.tag none in
     rw (← c.self.view_is, ← c.round_of.ensures.value, placed)
-    (c.new.ensures, rw (c.put_among.ensures, c.push_reserved.ensures.items, c.in_ok-segment.ensures.segment, c.in_ok-reserve_one.ensures.items, c.in_ok-reserve_one-2.ensures.items) refl)
+    (c.new.ensures.value, sym c.new.ensures.place, rw (c.put_among.ensures, c.push_reserved.ensures.items, c.in_ok-segment.ensures.segment, c.in_ok-reserve_one.ensures.items, c.in_ok-reserve_one-2.ensures.items) refl)

@@ -1,3 +1,4 @@
+use Rattle.std.proofs.Common.{sym}
 use Rattle.vc_best.proofs.Allocs.{IsSlotAt-place}
 use Rattle.vc_best.proofs.Regions.{IsSlotAt, IsLayout-with_slot, region_of-with_slot}
 use Rattle.vc_best.proofs.layout.Layout.put.Goals as goal
@@ -25,7 +26,8 @@ invariant_of-self-2 c =
 
 pub returns-clause-ok : goal.returns-clause-ok
 returns-clause-ok c = (
-  c.new.ensures,
+  c.new.ensures.value,
+  sym c.new.ensures.place,
   rw (c.put_among.ensures, c.in_ok-reserve_one.ensures.items, ← c.self.view_is)
       (region_of-with_slot c.self.inside.segs.items _ c.self.inside.blocks.items c.self.invariant.segments (here (goal.at.returns-clause-ok c).After-put_among).slot),
 )
