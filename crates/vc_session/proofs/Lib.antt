@@ -13,3 +13,4 @@ pub mod Settling
 pub mod Firsts
 pub mod Sessions
 pub mod Opening
+pub mod Allocating

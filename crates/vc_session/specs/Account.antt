@@ -4,7 +4,7 @@ use Rattle.std.specs.List.{AllByRecursion}
 use Rattle.std.specs.Str.{bytes_eq}
 use Rattle.std.specs.List.{list_any}
 use Rattle.vc_model.specs.Count.{last_count}
-use Rattle.vc_model.specs.Discipline.{Discipline, EndsWith}
+use Rattle.vc_model.specs.Discipline.{Discipline, EndsWith, Kept}
 use Rattle.vc_model.specs.Numbered.{at_number}
 use Rattle.vc_model.specs.Region.{Block, Region}
 use Rattle.vc_session.specs.State.{Home, State, has_label, label_limit}
@@ -70,6 +70,15 @@ pub record IsHeld (shelf : List (Option Discipline)) (h : Held) : Type 0 where
   pub lent : EndsWith h.disc.out h.layout.segments
   pub names : IsNamed h.layout h.labels
 
+-- a region after a change of its lists: its discipline keeps what was out before it
+pub record IsChange (before after : Held) : Type 0 where
+  pub name : after.name ≡ before.name
+  pub place : after.place ≡ before.place
+  pub kept : Kept before.disc after.disc
+  pub lent : EndsWith after.disc.out after.layout.segments
+  pub out : (account_after after).out ≡ (account_after before).out
+  pub names : IsNamed after.layout after.labels
+
 -- open regions over a shelf, each with a place of its own
 abbrev pub IsSession : List (Option Discipline) → List Held → Type 0
 IsSession shelf [] = ⊤
@@ -84,9 +93,6 @@ faults_of (Some (Some a)) = a.faults
 -- a count rose by at least n, or stands at its last value
 abbrev pub RoseBy : ℕ → ℕ → ℕ → Type 0
 RoseBy n before after = (before + n ≤ after) ⊎ (last_count ≤ after)
-
-abbrev pub out_of : Account → List (ℕ × ℕ)
-out_of a = a.out
 
 abbrev pub without_faults : Account → List (ℕ × ℕ) × ℕ
 without_faults a = (a.out, a.round)
