@@ -81,3 +81,16 @@ with_region-at r region (g ∷ hs) (suc i) h at passes none =
 -- the region of a name is the first of that name
 pub with_region-first : (r : List ℕ) (region : Region (List ℕ)) (hs : List Home) (i : ℕ) (f : IsFirst (is_home r) hs i) → with_region r region hs ≡ set hs i (record f.item { region = region })
 with_region-first r region hs i f = with_region-at r region hs i f.item f.at f.passes f.before
+
+or-true : (b : Bool) → (b || true) ≡ true
+or-true true = refl
+or-true false = refl
+
+any-at : {A : Type 0} (test : A → Bool) (xs : List A) (i : ℕ) (x : A) → slice_get xs i ≡ Some x → test x ≡ true → list_any test xs ≡ true
+any-at test [] i x at passes = absurd (none-some x at)
+any-at test (y ∷ ys) zero x at passes = ap (λ b. b || list_any test ys) (ap test (same_Some y x at) ∙ passes)
+any-at test (y ∷ ys) (suc i) x at passes = ap (λ b. test y || b) (any-at test ys i x at passes) ∙ or-true (test y)
+
+-- where a first item is, some item passes
+pub any-first : {A : Type 0} (test : A → Bool) (xs : List A) (i : ℕ) → IsFirst test xs i → list_any test xs ≡ true
+any-first test xs i f = any-at test xs i f.item f.at f.passes

@@ -14,3 +14,4 @@ pub mod Firsts
 pub mod Sessions
 pub mod Opening
 pub mod Allocating
+pub mod Helds

@@ -6,6 +6,9 @@ use Rattle.std.proofs.lemmas.List.{append-nil, map-append, map-set, set-set, tak
 use Rattle.std.proofs.lemmas.Option.{same_Some, none-some, slice_get-map}
 use Rattle.vc_model.specs.Numbered.{at_number}
 use Rattle.vc_model.specs.Discipline.{Discipline}
+use Rattle.vc_model.specs.Region.{Region}
+use Rattle.vc_seg.specs.Shelf.{place_at, place_of}
+use Rattle.vc_seg.specs.declared.shelf.ShelfPlace.TheVariants.{Here}
 use Rattle.vc_session.specs.declared.reply.Reply.TheVariants.{Opened}
 use Rattle.vc_session.specs.declared.reply.Refusal.TheVariants.{NotYet}
 use Rattle.vc_session.specs.State.{State, Stepped, is_home, open_step, opened_over, refused}
@@ -61,3 +64,29 @@ module _ (slots : Slots) (hs : List Held) (name : List ℕ) (n : ℕ) (d : Disci
       ∙ (ap (λ shelf. set shelf (n - 1) (Some (account_after (fresh name n d)))) (settled-set (accounts slots) (n - 1) None hs off)
       ∙ (set-set (settled (accounts slots) hs) (n - 1) None (Some (account_after (fresh name n d)))
       ∙ set_same (settled (accounts slots) hs) (n - 1) (Some (account_after (fresh name n d))) kept)))
+
+-- a region that has just been opened, by its parts
+pub fresh_like : (name : List ℕ) (n : ℕ) (d e : Discipline) (layout : Region ℕ) (labels : List (List ℕ)) → e ≡ d → layout.segments ≡ [] → layout.blocks ≡ [] → labels ≡ [] → fresh name n d ≡ record { name = name; place = n; disc = e; layout = layout; labels = labels }
+fresh_like name n d e layout labels disc segments blocks named = sym
+    (ap (λ x. let h : Held = record { name = name; place = n; disc = x; layout = layout; labels = labels } in h) disc
+    ∙ (ap (λ x. let h : Held = record { name = name; place = n; disc = d; layout = record { segments = x; blocks = layout.blocks }; labels = labels } in h) segments
+    ∙ (ap (λ x. let h : Held = record { name = name; place = n; disc = d; layout = record { segments = []; blocks = x }; labels = labels } in h) blocks
+    ∙ ap (λ x. let h : Held = record { name = name; place = n; disc = d; layout = record { segments = []; blocks = [] }; labels = x } in h) named)))
+
+pub open_step-named : (s : State) (name : List ℕ) (n : ℕ) → list_any (is_home name) s.homes ≡ true → open_step s name n ≡ refused s NotYet
+open_step-named s name n named = ap (λ b. cond b (refused s NotYet) (opened_over s name n (at_number s.shelf n))) named
+
+opened_over-not_here : (s : State) (name : List ℕ) (n : ℕ) (o : Option (Option Discipline)) → (place_of o ≡ Here → ⊥) → opened_over s name n (option_map (option_map (λ d. d.round)) o) ≡ refused s NotYet
+opened_over-not_here s name n None not_here = refl
+opened_over-not_here s name n (Some None) not_here = refl
+opened_over-not_here s name n (Some (Some d)) not_here = absurd (not_here refl)
+
+same_branches : {A : Type 0} (b : Bool) (x y : A) → y ≡ x → cond b x y ≡ x
+same_branches true x y same = refl
+same_branches false x y same = same
+
+-- no discipline is here at the number
+pub open_step-not_here : (slots : Slots) (hs : List Held) (name : List ℕ) (n : ℕ) → (place_at slots n ≡ Here → ⊥) → open_step (state_of slots hs) name n ≡ refused (state_of slots hs) NotYet
+open_step-not_here slots hs name n not_here =
+    same_branches (list_any (is_home name) (state_of slots hs).homes) (refused (state_of slots hs) NotYet) (opened_over (state_of slots hs) name n (at_number (state_of slots hs).shelf n))
+    (ap (opened_over (state_of slots hs) name n) (at_number-map (option_map (λ e. e.round)) slots n) ∙ opened_over-not_here (state_of slots hs) name n (at_number slots n) not_here)

@@ -4,7 +4,9 @@ use Rattle.std.specs.List.{list_any}
 use Rattle.std.specs.declared.dyn_box.DynBox.{DynBox}
 use Rattle.std.specs.declared.alloc.Global.{Global}
 use Rattle.vc_model.specs.Discipline.{Discipline}
-use Rattle.vc_session.specs.Account.{Held}
+use Rattle.vc_seg.specs.Shelf.{slots_of}
+use Rattle.vc_session.specs.State.{State}
+use Rattle.vc_session.specs.Account.{Account, Held, IsSession, accounts, settled, state_of}
 use Rattle.vc_session.specs.declared.home.Home.{Home}
 
 -- a region, with what its boxed discipline means
@@ -13,6 +15,18 @@ held_of meaning h = record { name = h.name; place = h.place; disc = meaning h.be
 
 abbrev pub held_all : {I : Type 0} {V : I → Type 0} → (DynBox I Global V → Discipline) → List (Home I V) → List Held
 held_all meaning homes = map (held_of meaning) homes
+
+-- the state that a shelf and open regions stand for
+abbrev pub state_over : {I : Type 0} {V : I → Type 0} → (DynBox I Global V → Discipline) → List (Option (DynBox I Global V)) → List (Home I V) → State
+state_over meaning slots homes = state_of (slots_of meaning slots) (held_all meaning homes)
+
+-- each open region has a place of its own, whose discipline it holds
+abbrev pub IsSessionOver : {I : Type 0} {V : I → Type 0} → (DynBox I Global V → Discipline) → List (Option (DynBox I Global V)) → List (Home I V) → Type 0
+IsSessionOver meaning slots homes = IsSession (slots_of meaning slots) (held_all meaning homes)
+
+-- the accounts on the shelf when every open region is closed
+abbrev pub settled_over : {I : Type 0} {V : I → Type 0} → (DynBox I Global V → Discipline) → List (Option (DynBox I Global V)) → List (Home I V) → List (Option Account)
+settled_over meaning slots homes = settled (accounts (slots_of meaning slots)) (held_all meaning homes)
 
 -- the first place of a list that passes a test
 pub record IsFirst {A : Type 0} (test : A → Bool) (xs : List A) (i : ℕ) : Type 0 where

@@ -1,12 +1,17 @@
-// The regions of a session, and its steps.
-ghost use Rattle.std.specs.Prelude.{◌≡◌, ℕ, ◌+◌, ◌<◌, ◌≤◌, List, [], ◌∷◌, ◌++◌, Option, Some, None, false, length, map, option_map, IfSome, IfNone, MatchOption, IfOk, OnErr, OnOk};
+// The steps of a session: its open regions, over a shelf.
+ghost use Rattle.std.specs.Prelude.{◌≡◌, ℕ, ◌+◌, ◌<◌, ◌≤◌, [], false, length, map, IfSome, IfNone, IfOk, OnErr, OnOk};
 ghost use Rattle.std.specs.List.{list_any};
-ghost use Rattle.vc_session.specs.Homes.{held_all, IsFirst};
 ghost use Rattle.std.specs.Str.{bytes_eq};
+ghost use Rattle.vc_session.specs.Account.{Settles};
+ghost use Rattle.vc_session.specs.Homes.{IsFirst, IsSessionOver, settled_over, state_over};
+ghost use Rattle.vc_session.specs.State.{open_step};
 
 use crate::home::Home;
-use vc_base::Name;
-use vc_seg::{BoxedDisc, SegDisc};
+use crate::reply::{Refusal, Reply};
+use std::alloc::Global;
+use vc_base::{Name, OutOfMemory};
+use vc_best::Best;
+use vc_seg::{BoxedDisc, SegDisc, Shelf};
 
 // Where the region of that name stands.
 fn find_home(homes: &[Home], name: &Name) -> Option<usize>
@@ -20,4 +25,43 @@ fn find_home(homes: &[Home], name: &Name) -> Option<usize>
         }
     }
     None
+}
+
+// Opens a region over the discipline of that number.
+pub(crate) fn open_region(
+    alloc: Global,
+    homes: &mut Vec<Home>,
+    shelf: &mut Shelf,
+    name: Name,
+    n: u32,
+) -> Result<Reply, OutOfMemory>
+    requires { IsSessionOver ⟦<BoxedDisc as SegDisc>⟧.state shelf.old.slots.items homes.old.items }
+    ensures step { IfOk result (λ reply. open_step (state_over ⟦<BoxedDisc as SegDisc>⟧.state shelf.old.slots.items homes.old.items) name n
+        ≡ record { state = state_over ⟦<BoxedDisc as SegDisc>⟧.state shelf.new.slots.items homes.new.items; reply = reply }) }
+    ensures session { IsSessionOver ⟦<BoxedDisc as SegDisc>⟧.state shelf.new.slots.items homes.new.items }
+    ensures settled { settled_over ⟦<BoxedDisc as SegDisc>⟧.state shelf.new.slots.items homes.new.items
+        ≡ settled_over ⟦<BoxedDisc as SegDisc>⟧.state shelf.old.slots.items homes.old.items }
+{
+    if let Some(_) = find_home(homes, &name) {
+        return Ok(Reply::Refused(Refusal::NotYet));
+    }
+    homes.reserve(1)?;
+    let Some(disc) = shelf.take(n) else {
+        return Ok(Reply::Refused(Refusal::NotYet));
+    };
+    match Best::open(alloc, disc) {
+        Ok(best) => {
+            homes.push_reserved(Home {
+                name,
+                place: n,
+                best,
+                labels: Vec::new(alloc),
+            });
+            Ok(Reply::Opened(name))
+        }
+        Err((_, disc)) => {
+            shelf.give_back(n, disc);
+            Err(OutOfMemory)
+        }
+    }
 }
