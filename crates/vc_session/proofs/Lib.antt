@@ -15,3 +15,4 @@ pub mod Sessions
 pub mod Opening
 pub mod Allocating
 pub mod Helds
+pub mod Changing

@@ -4,8 +4,11 @@ ghost use Rattle.std.specs.List.{list_any};
 ghost use Rattle.std.specs.Str.{bytes_eq};
 ghost use Rattle.vc_session.specs.Account.{Settles};
 ghost use Rattle.vc_session.specs.Homes.{IsFirst, IsSessionOver, settled_over, state_over};
-ghost use Rattle.vc_session.specs.State.{open_step};
+ghost use Rattle.vc_session.specs.State.{open_step, step, alloc_in, is_for_block};
+ghost use Rattle.vc_session.specs.Print.{need_shown};
+ghost use Rattle.vc_session.specs.Run.{refusal_at};
 
+use crate::command::Command;
 use crate::home::Home;
 use crate::reply::{Refusal, Reply};
 use std::alloc::Global;
@@ -63,5 +66,35 @@ pub(crate) fn open_region(
             shelf.give_back(n, disc);
             Err(OutOfMemory)
         }
+    }
+}
+
+// Runs one command. With no memory the regions stay.
+pub(crate) fn run_command(
+    alloc: Global,
+    homes: &mut Vec<Home>,
+    shelf: &mut Shelf,
+    command: &Command,
+) -> Result<Reply, OutOfMemory>
+    requires { IsSessionOver ⟦<BoxedDisc as SegDisc>⟧.state shelf.old.slots.items homes.old.items }
+    ensures step { IfOk result (λ reply. step (state_over ⟦<BoxedDisc as SegDisc>⟧.state shelf.old.slots.items homes.old.items) command.now (need_shown reply)
+        ≡ record { state = state_over ⟦<BoxedDisc as SegDisc>⟧.state shelf.new.slots.items homes.new.items; reply = reply }) }
+    ensures session { IsSessionOver ⟦<BoxedDisc as SegDisc>⟧.state shelf.new.slots.items homes.new.items }
+
+    // The disciplines are the same, but for the faults of the one that refused.
+    ensures settles { IfOk result (λ reply. Settles
+        (settled_over ⟦<BoxedDisc as SegDisc>⟧.state shelf.old.slots.items homes.old.items)
+        (settled_over ⟦<BoxedDisc as SegDisc>⟧.state shelf.new.slots.items homes.new.items)
+        (refusal_at (state_over ⟦<BoxedDisc as SegDisc>⟧.state shelf.old.slots.items homes.old.items) command.now reply)) }
+    ensures settles_err { OnErr result (Settles
+        (settled_over ⟦<BoxedDisc as SegDisc>⟧.state shelf.old.slots.items homes.old.items)
+        (settled_over ⟦<BoxedDisc as SegDisc>⟧.state shelf.new.slots.items homes.new.items) []) }
+{
+    match command {
+        Command::Open(name, n) => open_region(alloc, homes, shelf, *name, *n),
+        Command::Alloc(name, block, size) => match find_home(homes, name) {
+            None => Ok(Reply::Refused(Refusal::NoRegion)),
+            Some(i) => Ok(homes[i].allocate(*block, *size)?),
+        },
     }
 }

@@ -1,0 +1,101 @@
+-- What a change of one region's lists does to the state, and to the settled shelf.
+use Rattle.std.proofs.Common.{◌≡◌, ◌≢◌, ℕ, ◌+◌, ◌-◌, ◌<◌, ◌≤◌, Bool, true, false, cond, List, [], ◌∷◌, Option, Some, None, length, map, option_map, set, refl, sym, ap, ◌∙◌, subst, arith, inl, inr, eqb}
+use Rattle.std.specs.Prelude.{slice_get, count_by, ◌==◌}
+use Rattle.std.proofs.lemmas.List.{map-set}
+use Rattle.std.proofs.lemmas.Option.{same_Some, none-some, slice_get-map}
+use Rattle.std.proofs.lemmas.Bool.Decides.{nat_tests}
+use Rattle.vc_model.specs.Count.{Rose, last_count}
+use Rattle.vc_model.specs.Numbered.{at_number}
+use Rattle.vc_session.specs.declared.command.Command.TheVariants.{Alloc}
+use Rattle.vc_session.specs.declared.reply.Reply.{Reply}
+use Rattle.vc_session.specs.declared.reply.Reply.TheVariants.{Opened, At, Refused}
+use Rattle.vc_session.specs.declared.reply.Refusal.TheVariants.{NoRegion, NoSegment, NotYet}
+use Rattle.vc_session.specs.State.{State, Stepped, Changed, Home, alloc_in, alloc_step, changed, home_named, is_home, with_region}
+use Rattle.vc_session.specs.Run.{refusal_at, place_of}
+use Rattle.vc_session.specs.Homes.{IsFirst}
+use Rattle.vc_session.specs.Account.{Account, Held, IsChange, IsHeld, IsSession, RoseBy, Settles, account, accounts, account_after, home_of, settled, state_of, without_faults}
+use Rattle.vc_session.proofs.Cells.{at_number-from_one, at_number_some}
+use Rattle.vc_session.proofs.Firsts.{find-first, with_region-first}
+use Rattle.vc_session.proofs.Settle.{settled-change, settled-at}
+use Rattle.vc_session.proofs.Settling.{OnlyAt, settles-set}
+use Rattle.vc_session.proofs.Sessions.{Slots, apart-session, held-at, session-set}
+
+one_here : (p : ℕ) → count_by (λ q. q == p) (p ∷ []) ≡ 1
+one_here p = grind (arith, nat_tests)
+
+none_elsewhere : (p q : ℕ) → q ≢ p → count_by (λ r. r == q) (p ∷ []) ≡ 0
+none_elsewhere p q other = grind (arith, nat_tests)
+
+-- one refusal, at its place
+one_refusal : (p : ℕ) → OnlyAt p 1 (p ∷ [])
+one_refusal p = record { here = one_here p; elsewhere = λ q other. none_elsewhere p q other }
+
+no_refusal : (p : ℕ) → OnlyAt p 0 []
+no_refusal p = record { here = refl; elsewhere = λ q other. refl }
+
+rose-by_one : (a b : ℕ) → Rose a b → RoseBy 1 a b
+rose-by_one a b (inl more) = inl (omega (arith, more))
+rose-by_one a b (inr last) = inr (omega (arith, last))
+
+module _ (slots : Slots) (hs : List Held) (i : ℕ) (h g : Held) (at : slice_get hs i ≡ Some h) (session : IsSession slots hs) (change : IsChange h g) where
+  held : IsHeld slots h
+  held = held-at slots hs i h at session
+
+  pub session-change : IsSession slots (set hs i g)
+  session-change =
+      session-set slots hs i h g at change.place
+      (record { place = ap (at_number slots) change.place ∙ held.place; lent = change.lent; names = change.names }) session
+
+  settles-change : (n : ℕ) (refusals : List ℕ) → RoseBy n h.disc.faults g.disc.faults → OnlyAt h.place n refusals → Settles (settled (accounts slots) hs) (settled (accounts slots) (set hs i g)) refusals
+  settles-change n refusals rose only =
+      let found = at_number_some slots h.place None held.place in
+      let there : slice_get (accounts slots) (h.place - 1) ≡ Some None = slice_get-map (option_map account) slots (h.place - 1) ∙ ap (option_map (option_map account)) found.1 in
+      let has : at_number (settled (accounts slots) hs) h.place ≡ Some (Some (account_after h)) =
+          at_number-from_one (settled (accounts slots) hs) h.place found.0 ∙ settled-at (accounts slots) hs i h None at there (apart-session slots hs session) in
+      let same : without_faults (account_after g) ≡ without_faults (account_after h) =
+          ap (λ o. let p : List (ℕ × ℕ) × ℕ = (o, g.disc.round) in p) change.out ∙ ap (λ r. let p : List (ℕ × ℕ) × ℕ = ((account_after h).out, r) in p) change.kept.round in
+      let after : settled (accounts slots) (set hs i g) ≡ set (settled (accounts slots) hs) (h.place - 1) (Some (account_after g)) =
+          settled-change (accounts slots) hs i h g at change.place (apart-session slots hs session)
+          ∙ ap (λ p. set (settled (accounts slots) hs) (p - 1) (Some (account_after g))) change.place in
+      subst (λ s. Settles (settled (accounts slots) hs) s refusals) (sym after)
+      (settles-set (settled (accounts slots) hs) h.place n (account_after h) (account_after g) refusals has same rose only)
+
+  quiet : Settles (settled (accounts slots) hs) (settled (accounts slots) (set hs i g)) []
+  quiet = settles-change 0 [] (inl (omega (arith, change.kept.faults))) (no_refusal h.place)
+
+  -- with no reply no refusal counts
+  pub settles-none : Settles (settled (accounts slots) hs) (settled (accounts slots) (set hs i g)) []
+  settles-none = quiet
+
+  pub settles-reply : (r x : List ℕ) (size : ℕ) (reply : Reply) → home_named r (state_of slots hs).homes ≡ Some (home_of h) → (reply ≡ Refused NoSegment → Rose h.disc.faults g.disc.faults) → Settles (settled (accounts slots) hs) (settled (accounts slots) (set hs i g)) (refusal_at (state_of slots hs) (Alloc r x size) reply)
+  settles-reply r x size (Opened name) found rose = quiet
+  settles-reply r x size (At name place) found rose = quiet
+  settles-reply r x size (Refused NoRegion) found rose = quiet
+  settles-reply r x size (Refused NotYet) found rose = quiet
+  settles-reply r x size (Refused NoSegment) found rose =
+      subst (λ o. Settles (settled (accounts slots) hs) (settled (accounts slots) (set hs i g)) (place_of o)) (sym found)
+      (settles-change 1 (h.place ∷ []) (rose-by_one h.disc.faults g.disc.faults (rose refl)) (one_refusal h.place))
+
+  same_home : (let k : Home = record (home_of h) { region = (home_of g).region } in k) ≡ home_of g
+  same_home =
+      ap (λ n. let k : Home = record { name = n; place = h.place; round = h.disc.round; region = (home_of g).region } in k) (sym change.name)
+      ∙ (ap (λ p. let k : Home = record { name = g.name; place = p; round = h.disc.round; region = (home_of g).region } in k) (sym change.place)
+      ∙ ap (λ r. let k : Home = record { name = g.name; place = g.place; round = r; region = (home_of g).region } in k) (sym change.kept.round))
+
+  homes-change : (r : List ℕ) → IsFirst (is_home r) (map home_of hs) i → with_region r (home_of g).region (map home_of hs) ≡ map home_of (set hs i g)
+  homes-change r first =
+      let item : first.item ≡ home_of h = same_Some first.item (home_of h) (sym first.at ∙ (slice_get-map home_of hs i ∙ ap (option_map home_of) at)) in
+      with_region-first r (home_of g).region (map home_of hs) i first
+      ∙ (ap (λ (k : Home). set (map home_of hs) i (record k { region = (home_of g).region })) item
+      ∙ (ap (set (map home_of hs) i) same_home ∙ sym (map-set home_of hs i g)))
+
+  pub found-change : (r : List ℕ) → IsFirst (is_home r) (map home_of hs) i → home_named r (map home_of hs) ≡ Some (home_of h)
+  found-change r first =
+      let item : first.item ≡ home_of h = same_Some first.item (home_of h) (sym first.at ∙ (slice_get-map home_of hs i ∙ ap (option_map home_of) at)) in
+      find-first (is_home r) (map home_of hs) i first ∙ ap (λ k. Some k) item
+
+  pub step-change : (r x : List ℕ) (size : ℕ) (not_lent : Bool) (reply : Reply) → IsFirst (is_home r) (map home_of hs) i → alloc_in (home_of h) x size not_lent ≡ record { region = (home_of g).region; reply = reply } → alloc_step (state_of slots hs) r x size not_lent (home_named r (state_of slots hs).homes) ≡ record { state = state_of slots (set hs i g); reply = reply }
+  step-change r x size not_lent reply first answer =
+      ap (alloc_step (state_of slots hs) r x size not_lent) (found-change r first)
+      ∙ (ap (changed (state_of slots hs) r) answer
+      ∙ ap (λ homes. let s : Stepped = record { state = record { shelf = (state_of slots hs).shelf; homes = homes }; reply = reply } in s) (homes-change r first))
