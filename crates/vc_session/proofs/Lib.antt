@@ -16,3 +16,4 @@ pub mod Opening
 pub mod Allocating
 pub mod Helds
 pub mod Changing
+pub mod Closing

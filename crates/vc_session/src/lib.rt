@@ -1,6 +1,7 @@
 //! Runs scripts over regions.
 #![tactic(auto)]
 
+mod close;
 mod command;
 mod home;
 mod input;

@@ -1,0 +1,41 @@
+// The end of a session: every region is closed, and each discipline is given back.
+ghost use Rattle.std.specs.Prelude.{◌≡◌, ◌≢◌, ℕ, ◌-◌, [], Some, slice_set};
+ghost use Rattle.vc_model.specs.Discipline.{EndsWith};
+ghost use Rattle.vc_model.specs.Numbered.{at_number};
+ghost use Rattle.vc_seg.specs.Shelf.{slots_of, place_at};
+ghost use Rattle.vc_session.specs.Account.{account_after, accounts};
+ghost use Rattle.vc_session.specs.Homes.{IsSessionOver, held_of, settled_over};
+
+use crate::home::Home;
+use vc_seg::{BoxedDisc, SegDisc, Shelf, ShelfPlace};
+
+// Closes one region, and gives its discipline back to its place.
+fn close_region(home: Home, shelf: &mut Shelf)
+    requires taken { place_at (slots_of ⟦<BoxedDisc as SegDisc>⟧.state shelf.old.slots.items) home.place ≡ ShelfPlace.Taken }
+    requires lent { EndsWith (⟦<BoxedDisc as SegDisc>⟧.state home.best.disc).out home.best.layout.segments }
+    ensures here { accounts (slots_of ⟦<BoxedDisc as SegDisc>⟧.state shelf.new.slots.items)
+        ≡ slice_set (accounts (slots_of ⟦<BoxedDisc as SegDisc>⟧.state shelf.old.slots.items)) (home.place - 1) (Some (account_after (held_of ⟦<BoxedDisc as SegDisc>⟧.state home))) }
+    ensures elsewhere { (p : ℕ) → p ≢ home.place
+        → at_number (slots_of ⟦<BoxedDisc as SegDisc>⟧.state shelf.new.slots.items) p ≡ at_number (slots_of ⟦<BoxedDisc as SegDisc>⟧.state shelf.old.slots.items) p }
+{
+    let Home {
+        name: _,
+        place,
+        best,
+        labels: _,
+    } = home;
+    let (disc, _) = best.close();
+    shelf.give_back(place, disc);
+}
+
+// Closes every region, in order of opening.
+pub(crate) fn close_all(homes: Vec<Home>, shelf: &mut Shelf)
+    requires { IsSessionOver ⟦<BoxedDisc as SegDisc>⟧.state shelf.old.slots.items homes.items }
+    ensures { accounts (slots_of ⟦<BoxedDisc as SegDisc>⟧.state shelf.new.slots.items)
+        ≡ settled_over ⟦<BoxedDisc as SegDisc>⟧.state shelf.old.slots.items homes.items }
+{
+    let mut rest = homes;
+    while !rest.is_empty() {
+        close_region(rest.remove(0), shelf);
+    }
+}
