@@ -17,3 +17,4 @@ pub mod Allocating
 pub mod Helds
 pub mod Changing
 pub mod Closing
+pub mod Running

@@ -12,3 +12,4 @@ pub mod Run
 pub mod Input
 pub mod Account
 pub mod Homes
+pub mod Replay

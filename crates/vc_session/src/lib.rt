@@ -3,12 +3,14 @@
 
 mod close;
 mod command;
+mod engine;
 mod home;
 mod input;
 mod line;
 mod parse;
 mod print;
 mod reply;
+mod replay;
 pub mod rows;
 pub mod run_rows;
 mod session;

@@ -1,0 +1,55 @@
+-- What the end of a run promises.
+use Rattle.std.specs.Prelude.{◌≡◌, ℕ, ◌⊎◌, List, [], ◌++◌, ◌∷◌, Option, Some, None, Bool, true, false, IfSome, codes, decimal, take, if◌then◌else◌}
+use Rattle.vc_model.specs.Count.{Rose}
+use Rattle.vc_session.specs.declared.command.Command.{Command}
+use Rattle.vc_session.specs.declared.command.LineFault.{LineFault}
+use Rattle.vc_session.specs.declared.command.LineFault.TheVariants.{UnknownCommand}
+use Rattle.vc_session.specs.declared.replay.ScriptFault.{ScriptFault}
+use Rattle.vc_session.specs.declared.replay.ScriptFault.TheVariants.{TooLong, Line}
+use Rattle.vc_session.specs.Account.{Account, Settles}
+use Rattle.vc_session.specs.Needs.{Need}
+use Rattle.vc_session.specs.Print.{needs_of, text}
+use Rattle.vc_session.specs.Run.{first_bad, is_too_long, run, script}
+use Rattle.vc_session.specs.State.{State}
+
+-- what a sink told, followed by a piece
+abbrev pub Told : Option (List ℕ) → Option (List ℕ) → List ℕ → Type 0
+Told before after piece = IfSome before (λ w. after ≡ Some (w ++ piece))
+
+-- a piece was written once: all of it, or a front of it and a write failed
+abbrev pub Tried : ℕ → ℕ → Option (List ℕ) → Option (List ℕ) → List ℕ → Type 0
+Tried failures failures' before after piece =
+    Told before after piece ⊎ (Rose failures failures' × IfSome before (λ w. (k : ℕ) × (after ≡ Some (w ++ take k piece))))
+
+-- a run of commands: what was written is the text of the run for the needs that it shows, and from entry on the shelf settles with the run's refusals
+pub record IsRun (start : State) (commands : List (ℕ × Command)) (before after : Option (List ℕ)) (entry now : List (Option Account)) : Type 0 where
+  pub written : List ℕ
+  pub text : written ≡ text (run start commands (needs_of written)).replies
+  pub told : Told before after written
+  pub settles : Settles entry now (run start commands (needs_of written)).refusals
+
+-- of too long an input no line is run
+abbrev pub commands_of : List ℕ → List (ℕ × Command)
+commands_of input = if is_too_long input then [] else script input
+
+-- what is wrong with an input: it is too long, or its first bad line
+abbrev pub line_fault : Option (ℕ × LineFault) → Option ScriptFault
+line_fault None = None
+line_fault (Some (n, fault)) = Some (Line n fault)
+
+abbrev pub fault_of : List ℕ → Option ScriptFault
+fault_of input = if is_too_long input then Some TooLong else line_fault (first_bad input)
+
+abbrev pub fault_text : LineFault → List ℕ
+fault_text UnknownCommand = codes "unknown command"
+
+-- the line that err gets
+abbrev pub err_line : ScriptFault → List ℕ
+err_line TooLong = codes "vmreplay: input too long\n"
+err_line (Line n fault) = codes "vmreplay: line " ++ decimal n ++ codes ": " ++ fault_text fault ++ codes "\n"
+
+-- a run of an input to its end, or to its first bad line: its commands were run, and where nothing is wrong the source was read to its end
+pub record IsReplay (start : State) (input : List ℕ) (fault : Option ScriptFault) (left before after : Option (List ℕ)) (entry now : List (Option Account)) : Type 0 where
+  pub fault : fault ≡ fault_of input
+  pub read : fault ≡ None → left ≡ Some []
+  pub run : IsRun start (commands_of input) before after entry now
