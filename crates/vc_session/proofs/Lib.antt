@@ -18,3 +18,4 @@ pub mod Helds
 pub mod Changing
 pub mod Closing
 pub mod Running
+pub mod Telling

@@ -44,7 +44,7 @@ told-none : (before : Option (List ℕ)) → Told before before []
 told-none None = tt
 told-none (Some w) = ap Some (sym (append-nil w))
 
-told-more : (before now after : Option (List ℕ)) (front piece : List ℕ) → Told before now front → Told now after piece → Told before after (front ++ piece)
+pub told-more : (before now after : Option (List ℕ)) (front piece : List ℕ) → Told before now front → Told now after piece → Told before after (front ++ piece)
 told-more None now after front piece p q = tt
 told-more (Some w) now after front piece p q =
     subst (λ (o : Option (List ℕ)). Told o after piece) p q ∙ ap Some (append_assoc w front piece)

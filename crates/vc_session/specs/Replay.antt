@@ -4,8 +4,8 @@ use Rattle.vc_model.specs.Count.{Rose}
 use Rattle.vc_session.specs.declared.command.Command.{Command}
 use Rattle.vc_session.specs.declared.command.LineFault.{LineFault}
 use Rattle.vc_session.specs.declared.command.LineFault.TheVariants.{UnknownCommand}
-use Rattle.vc_session.specs.declared.replay.ScriptFault.{ScriptFault}
-use Rattle.vc_session.specs.declared.replay.ScriptFault.TheVariants.{TooLong, Line}
+use Rattle.vc_session.specs.declared.tool.ScriptFault.{ScriptFault}
+use Rattle.vc_session.specs.declared.tool.ScriptFault.TheVariants.{TooLong, Line}
 use Rattle.vc_session.specs.Account.{Account, Settles}
 use Rattle.vc_session.specs.Needs.{Need}
 use Rattle.vc_session.specs.Print.{needs_of, text}
@@ -50,6 +50,6 @@ err_line (Line n fault) = codes "vmreplay: line " ++ decimal n ++ codes ": " ++ 
 
 -- a run of an input to its end, or to its first bad line: its commands were run, and where nothing is wrong the source was read to its end
 pub record IsReplay (start : State) (input : List ℕ) (fault : Option ScriptFault) (left before after : Option (List ℕ)) (entry now : List (Option Account)) : Type 0 where
-  pub fault : fault ≡ fault_of input
+  pub wrong : fault ≡ fault_of input
   pub read : fault ≡ None → left ≡ Some []
   pub run : IsRun start (commands_of input) before after entry now

@@ -10,9 +10,12 @@ mod line;
 mod parse;
 mod print;
 mod reply;
-mod replay;
+
 pub mod rows;
 pub mod run_rows;
 mod session;
 mod stream;
+mod tool;
 mod word;
+
+pub use tool::{replay, Status};

@@ -1,0 +1,188 @@
+// The top call: a script from a source, its replies to one sink, a fault to another.
+ghost use Rattle.std.specs.Prelude.{◌≡◌, ◌≢◌, ◌<◌, ℕ, ◌≤◌, ◌⊎◌, List, [], ◌++◌, Some, None, IfSome, IfOk, IfErr, OnErr, OnOk, codes, length, true, false};
+ghost use Rattle.vc_model.specs.Count.{Rose};
+ghost use Rattle.vc_seg.specs.Shelf.{slots_of};
+ghost use Rattle.vc_session.specs.Account.{Settles, accounts};
+ghost use Rattle.vc_session.specs.Homes.{state_over};
+ghost use Rattle.vc_session.specs.Replay.{IsReplay, Told, Tried, err_line, fault_text};
+
+use crate::close::close_all;
+use crate::command::LineFault;
+use crate::engine::{run_lines, Stop};
+use crate::input::{read_all, Input, InputFault};
+use crate::stream::write_all;
+use itoa::Buffer;
+use std::alloc::Global;
+use vc_base::{Sink, Source, WriteFailed};
+use vc_seg::{BoxedDisc, SegDisc, Shelf};
+
+/// How a tool ends, by the number of its exit status: Ok is 0, Script 1, and so on up to Memory, 5.
+#[derive(Clone, Copy, Debug, PartialEq, Eq)]
+pub enum Status {
+    /// The script was read to its end and had no bad line.
+    Ok,
+
+    /// The script has a bad line, or is too long.
+    Script,
+
+    /// The words behind the program's name were refused.
+    Usage,
+
+    /// A read failed.
+    Read,
+
+    /// A write failed.
+    Write,
+
+    /// Want of memory.
+    Memory,
+}
+
+// What is wrong with a script.
+#[derive(Clone, Copy)]
+enum ScriptFault {
+    TooLong,
+    Line(usize, LineFault),
+}
+
+// Runs the script of a source.
+fn run_source<S: Source, O: Sink>(
+    alloc: Global,
+    shelf: &mut Shelf,
+    source: &mut S,
+    out: &mut O,
+) -> Result<Option<ScriptFault>, Stop>
+    ensures replay { IfOk result (λ fault. IfSome (S.left source.old) (λ input. IsReplay
+        (state_over ⟦<BoxedDisc as SegDisc>⟧.state shelf.old.slots.items []) input fault
+        (S.left source.new) (O.written out.old) (O.written out.new)
+        (accounts (slots_of ⟦<BoxedDisc as SegDisc>⟧.state shelf.old.slots.items))
+        (accounts (slots_of ⟦<BoxedDisc as SegDisc>⟧.state shelf.new.slots.items)))) }
+    ensures read { IfErr result (λ stop. stop ≡ Stop.Read → Rose (S.failures source.old) (S.failures source.new)) }
+    ensures unwritten { IfErr result (λ stop. stop ≡ Stop.Read → out.new ≡ out.old) }
+    ensures write { IfErr result (λ stop. stop ≡ Stop.Write → Rose (O.failures out.old) (O.failures out.new)) }
+    ensures settles { Settles
+        (accounts (slots_of ⟦<BoxedDisc as SegDisc>⟧.state shelf.old.slots.items))
+        (accounts (slots_of ⟦<BoxedDisc as SegDisc>⟧.state shelf.new.slots.items)) [] }
+{
+    let input = match read_all(alloc, source) {
+        Ok(Input::Whole(bytes)) => bytes,
+        Ok(Input::TooLong) => return Ok(Some(ScriptFault::TooLong)),
+        Err(InputFault::Failed) => return Err(Stop::Read),
+        Err(InputFault::NoMemory) => return Err(Stop::Memory),
+    };
+    let mut homes = Vec::new(alloc);
+    let bad = run_lines(alloc, &mut homes, shelf, input.as_slice(), out);
+    close_all(homes, shelf);
+    match bad? {
+        None => Ok(None),
+        Some((n, fault)) => Ok(Some(ScriptFault::Line(n, fault))),
+    }
+}
+
+// Writes a fault's one line.
+fn tell<E: Sink>(err: &mut E, line: &[u8])
+    ensures { Tried (E.failures err.old) (E.failures err.new) (E.written err.old) (E.written err.new) line.now }
+{
+    let _ = write_all(err, line);
+}
+
+// Writes what is wrong with a script.
+fn tell_fault<E: Sink>(err: &mut E, fault: ScriptFault) -> Result<(), WriteFailed>
+    ensures told { OnOk result (Told (E.written err.old) (E.written err.new) (err_line fault)) }
+    ensures cause { OnErr result (Rose (E.failures err.old) (E.failures err.new)) }
+{
+    match fault {
+        ScriptFault::TooLong => write_all(err, b"vmreplay: input too long\n"),
+        ScriptFault::Line(n, fault) => {
+            let mut buffer = Buffer::new();
+            write_all(err, b"vmreplay: line ")?;
+            write_all(err, buffer.format(n).as_bytes())?;
+            write_all(err, b": ")?;
+            write_all(err, fault_text(fault))?;
+            write_all(err, b"\n")
+        }
+    }
+}
+
+fn fault_text(fault: LineFault) -> &'static [u8]
+    ensures { result.now ≡ fault_text fault }
+{
+    match fault {
+        LineFault::UnknownCommand => b"unknown command",
+    }
+}
+
+/// Runs the script that the source gives over the disciplines of a shelf, and ends with a status. The replies go to
+/// `out`, a fault's line to `err`.
+pub fn replay<S: Source, O: Sink, E: Sink>(
+    alloc: Global,
+    words: &[String],
+    shelf: &mut Shelf,
+    source: &mut S,
+    out: &mut O,
+    err: &mut E,
+) -> Status
+    // Nothing was wrong, and the replies of the whole script were written.
+    ensures ok { result ≡ Status.Ok → (length words.now ≡ 0) × (err.new ≡ err.old)
+        × IfSome (S.left source.old) (λ input. IsReplay
+            (state_over ⟦<BoxedDisc as SegDisc>⟧.state shelf.old.slots.items []) input None
+            (S.left source.new) (O.written out.old) (O.written out.new)
+            (accounts (slots_of ⟦<BoxedDisc as SegDisc>⟧.state shelf.old.slots.items))
+            (accounts (slots_of ⟦<BoxedDisc as SegDisc>⟧.state shelf.new.slots.items))) }
+
+    // The replies of the lines before the fault were written, and the fault's line.
+    ensures script { result ≡ Status.Script → (length words.now ≡ 0)
+        × IfSome (S.left source.old) (λ input. (fault : ScriptFault)
+            × IsReplay
+                (state_over ⟦<BoxedDisc as SegDisc>⟧.state shelf.old.slots.items []) input (Some fault)
+                (S.left source.new) (O.written out.old) (O.written out.new)
+                (accounts (slots_of ⟦<BoxedDisc as SegDisc>⟧.state shelf.old.slots.items))
+                (accounts (slots_of ⟦<BoxedDisc as SegDisc>⟧.state shelf.new.slots.items))
+            × Told (E.written err.old) (E.written err.new) (err_line fault)) }
+
+    // The tool takes no words.
+    ensures words { 0 < length words.now → (source.new ≡ source.old) × (out.new ≡ out.old)
+        × ((result ≡ Status.Usage) ⊎ ((result ≡ Status.Write) × Rose (E.failures err.old) (E.failures err.new))) }
+    ensures usage { result ≡ Status.Usage → (0 < length words.now)
+        × Told (E.written err.old) (E.written err.new) (codes "vmreplay: bad arguments\n") }
+
+    // A fault comes from its stream, and its line is tried once.
+    ensures read { result ≡ Status.Read → Rose (S.failures source.old) (S.failures source.new) × (out.new ≡ out.old)
+        × Tried (E.failures err.old) (E.failures err.new) (E.written err.old) (E.written err.new) (codes "vmreplay: read failed\n") }
+    ensures write { result ≡ Status.Write → Rose (E.failures err.old) (E.failures err.new)
+        ⊎ (Rose (O.failures out.old) (O.failures out.new)
+            × Tried (E.failures err.old) (E.failures err.new) (E.written err.old) (E.written err.new) (codes "vmreplay: write failed\n")) }
+    ensures memory { result ≡ Status.Memory
+        → Tried (E.failures err.old) (E.failures err.new) (E.written err.old) (E.written err.new) (codes "vmreplay: out of memory\n") }
+
+    // On every exit each place has its discipline, with the segments out and the round that it had, and no fault less.
+    ensures settles { Settles
+        (accounts (slots_of ⟦<BoxedDisc as SegDisc>⟧.state shelf.old.slots.items))
+        (accounts (slots_of ⟦<BoxedDisc as SegDisc>⟧.state shelf.new.slots.items)) [] }
+{
+    if !words.is_empty() {
+        return match write_all(err, b"vmreplay: bad arguments\n") {
+            Ok(()) => Status::Usage,
+            Err(_) => Status::Write,
+        };
+    }
+    match run_source(alloc, shelf, source, out) {
+        Ok(None) => Status::Ok,
+        Ok(Some(fault)) => match tell_fault(err, fault) {
+            Ok(()) => Status::Script,
+            Err(_) => Status::Write,
+        },
+        Err(Stop::Read) => {
+            tell(err, b"vmreplay: read failed\n");
+            Status::Read
+        }
+        Err(Stop::Write) => {
+            tell(err, b"vmreplay: write failed\n");
+            Status::Write
+        }
+        Err(Stop::Memory) => {
+            tell(err, b"vmreplay: out of memory\n");
+            Status::Memory
+        }
+    }
+}
