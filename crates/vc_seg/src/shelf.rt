@@ -1,4 +1,4 @@
-ghost use Rattle.std.specs.Prelude.{◌≡◌, ℕ, ◌-◌, ◌<◌, ◌≤◌, ◌↔◌, [], ◌∷◌, ◌++◌, Some, None, vec_len, slice_set, IfSome, IfNone, OnSome, IsSome, IfOk, IfErr, OnOk, OnErr};
+ghost use Rattle.std.specs.Prelude.{◌≡◌, ℕ, ◌+◌, ◌-◌, ◌<◌, ◌≤◌, ◌↔◌, [], ◌∷◌, ◌++◌, Some, None, vec_len, slice_set, IfSome, IfNone, OnSome, IsSome, IfOk, IfErr, OnOk, OnErr};
 ghost use Rattle.vc_seg.specs.Shelf.{slots_of, slot_at, place_at};
 
 use crate::SegDisc;
@@ -46,6 +46,7 @@ impl Shelf {
     pub fn put(&mut self, disc: Box<dyn SegDisc>) -> Result<u32, (OutOfMemory, Box<dyn SegDisc>)>
         requires { vec_len self.old.slots < 4294967295 }
         ensures number { IfOk result (λ n. n ≡ vec_len self.new.slots) }
+        ensures len { OnOk result (vec_len self.new.slots ≡ vec_len self.old.slots + 1) }
         ensures place { IfOk result (λ n. place_at (slots_of state self.new.slots.items) n ≡ ShelfPlace.Here) }
         ensures ok { OnOk result (slots_of state self.new.slots.items ≡ slots_of state self.old.slots.items ++ Some (state disc) ∷ []) }
         ensures err { OnErr result (self.new.slots.items ≡ self.old.slots.items) }

@@ -5,12 +5,23 @@ use Rattle.vc_session.specs.declared.command.Command.{Command}
 use Rattle.vc_session.specs.declared.command.LineFault.{LineFault}
 use Rattle.vc_session.specs.declared.command.LineFault.TheVariants.{UnknownCommand}
 use Rattle.vc_session.specs.declared.tool.ScriptFault.{ScriptFault}
+use Rattle.vc_session.specs.declared.tool.Status.{Status}
+use Rattle.vc_session.specs.declared.tool.Status.TheVariants.{Ok, Script, Usage, Read, Write, Memory}
 use Rattle.vc_session.specs.declared.tool.ScriptFault.TheVariants.{TooLong, Line}
 use Rattle.vc_session.specs.Account.{Account, Settles}
 use Rattle.vc_session.specs.Needs.{Need}
 use Rattle.vc_session.specs.Print.{needs_of, text}
 use Rattle.vc_session.specs.Run.{first_bad, is_too_long, run, script}
 use Rattle.vc_session.specs.State.{State}
+
+-- the number that a program ends with
+abbrev pub number : Status → ℕ
+number Ok = 0
+number Script = 1
+number Usage = 2
+number Read = 3
+number Write = 4
+number Memory = 5
 
 -- what a sink told, followed by a piece
 abbrev pub Told : Option (List ℕ) → Option (List ℕ) → List ℕ → Type 0

@@ -16,7 +16,7 @@ use std::alloc::Global;
 use vc_base::{Sink, Source, WriteFailed};
 use vc_seg::{BoxedDisc, SegDisc, Shelf};
 
-/// How a tool ends, by the number of its exit status: Ok is 0, Script 1, and so on up to Memory, 5.
+/// How a tool ends.
 #[derive(Clone, Copy, Debug, PartialEq, Eq)]
 pub enum Status {
     /// The script was read to its end and had no bad line.
@@ -36,6 +36,24 @@ pub enum Status {
 
     /// Want of memory.
     Memory,
+}
+
+impl Status {
+    ghost use Rattle.vc_session.specs.Replay.{number};
+
+    /// The number that a program ends with, from 0 to 5.
+    pub fn number(self) -> u8
+        ensures { result ≡ number self }
+    {
+        match self {
+            Status::Ok => 0,
+            Status::Script => 1,
+            Status::Usage => 2,
+            Status::Read => 3,
+            Status::Write => 4,
+            Status::Memory => 5,
+        }
+    }
 }
 
 // What is wrong with a script.

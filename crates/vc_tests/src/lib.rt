@@ -1,0 +1,7 @@
+//! Runs of the top calls over memory, and each public call once.
+#![tactic(auto)]
+
+#[cfg(test)]
+mod calls;
+#[cfg(test)]
+mod runs;

@@ -1,0 +1,51 @@
+//! Runs a script over regions, from standard input to standard output.
+#![tactic(auto)]
+
+use std::alloc::{AllocError, Global};
+use std::env::{self, Env};
+use std::io::ErrorKind;
+use std::process::ExitCode;
+use vc_base::{StdSink, StdSource};
+use vc_seg::{HeapDisc, Shelf};
+use vc_session::{replay, Status};
+
+// The words behind the program's name. Where one isn't UTF-8 there's no list, and an empty word is refused in its place.
+fn words_of<R: Env + Alloc<A = Global>>(rt: &R) -> Result<Vec<String>, AllocError> {
+    let alloc = rt.alloc();
+    let mut words = Vec::new(alloc);
+    match env::args(rt) {
+        Ok(mut all) => {
+            let _ = all.next();
+            words = all.collect(alloc)?;
+        }
+        Err(e) if e.kind() == ErrorKind::OutOfMemory => return Err(AllocError),
+        Err(_) => words.push(String::new(alloc))?,
+    }
+    Ok(words)
+}
+
+fn exit(status: Status) -> ExitCode {
+    ExitCode::from(status.number())
+}
+
+// Disciplines 1 to 8 round to 4,096 bytes, 9 to 12 to 65,536. With no memory for them, nothing is read or written.
+fn main(rt: HostRuntime) -> ExitCode {
+    let alloc = rt.alloc();
+    let Ok(words) = words_of(&rt) else {
+        return exit(Status::Memory);
+    };
+    let mut shelf = Shelf::new(alloc);
+    for i in 0..12u32 {
+        let round = if i < 8 { 4096 } else { 65536 };
+        let Ok(disc) = Box::new(alloc, HeapDisc::new(round)) else {
+            return exit(Status::Memory);
+        };
+        if shelf.put(disc).is_err() {
+            return exit(Status::Memory);
+        }
+    }
+    let mut source = StdSource::new(rt.stdin());
+    let mut out = StdSink::new(rt.stdout());
+    let mut err = StdSink::new(rt.stderr());
+    exit(replay(alloc, words.as_slice(), &mut shelf, &mut source, &mut out, &mut err))
+}
