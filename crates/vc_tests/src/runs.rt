@@ -1,14 +1,16 @@
 // Scripts through the top call: what comes out, and that every segment comes back.
 ghost use Rattle.std.specs.Prelude.{◌≤◌};
 
-use std::alloc::Global;
+use std::alloc::{AllocError, Global};
 use std::process::Abort;
 use std::test::Fail;
-use vc_base::{MemSink, MemSource};
+use vc_base::{MemSink, MemSource, Sink, Source};
+use vc_best::Best;
 use vc_seg::{FuseDisc, HeapDisc, Shelf};
-use vc_session::{replay, Status};
+use vc_session::{Status, replay};
 
 const ROW: &[u8] = b"open r best 1\nalloc r a 100\n";
+
 const REPLIES: &[u8] = b"r open\na 1:32\n";
 
 #[derive(Drop)]
@@ -18,22 +20,40 @@ struct Ran {
     err: Vec<u8>,
 }
 
-// Runs a script that comes in pieces, with failing reads, and with room for that many bytes of replies.
-fn run(
-    alloc: Global,
-    shelf: &mut Shelf,
-    script: &[u8],
+// What a script is given: it comes in pieces, some of its reads fail, and there's room for so many bytes of replies.
+#[derive(Clone, Copy)]
+struct Given<'a> {
+    script: &'a [u8],
     piece: usize,
-    fails: &[u64],
+    fails: &'a [u64],
     room: usize,
-) -> Result<Ran, Fail>
-    requires { 1 ≤ piece }
+}
+
+fn run(alloc: Global, shelf: &mut Shelf, given: Given) -> Result<Ran, AllocError>
+    requires { 1 ≤ given.piece }
 {
-    let mut source = MemSource::new(script.to_vec(alloc)?, piece, fails.to_vec(alloc)?);
-    let mut out = MemSink::new(alloc, room, piece, Vec::new(alloc))?;
-    let mut err = MemSink::new(alloc, 100, piece, Vec::new(alloc))?;
+    let mut source = MemSource::new(
+        given.script.to_vec(alloc)?,
+        given.piece,
+        given.fails.to_vec(alloc)?,
+    );
+    let mut out = match MemSink::new(alloc, given.room, given.piece, Vec::new(alloc)) {
+        Ok(sink) => sink,
+        Err(_) => return Err(AllocError),
+    };
+    let mut err = match MemSink::new(alloc, 100, given.piece, Vec::new(alloc)) {
+        Ok(sink) => sink,
+        Err(_) => return Err(AllocError),
+    };
     let words = Vec::new(alloc);
-    let status = replay(alloc, words.as_slice(), shelf, &mut source, &mut out, &mut err);
+    let status = replay(
+        alloc,
+        words.as_slice(),
+        shelf,
+        &mut source,
+        &mut out,
+        &mut err,
+    );
     Ok(Ran {
         status,
         out: out.bytes().to_vec(alloc)?,
@@ -50,16 +70,173 @@ fn is_run(rt: &impl Abort, ran: &Ran, status: Status, out: &[u8], err: &[u8]) {
 #[test]
 fn scripts(rt: HostRuntime) -> Result<(), Fail> {
     let alloc = rt.alloc();
-    let bad = b"open r best 1\nalloc r a 1\nfrobnicate\nalloc r b 1";
     for piece in [1, 4096] {
         let mut shelf = Shelf::new(alloc);
-        shelf.put(Box::new(alloc, HeapDisc::new(4096))?).is_ok();
-        let ran = run(alloc, &mut shelf, ROW, piece, &[], 100)?;
+        assert!(rt; shelf.put(Box::new(alloc, HeapDisc::new(4096))?).is_ok());
+        let given = Given {
+            script: ROW,
+            piece,
+            fails: &[],
+            room: 100,
+        };
+        let ran = run(alloc, &mut shelf, given)?;
         is_run(&rt, &ran, Status::Ok, REPLIES, b"");
-        let ran = run(alloc, &mut shelf, bad, piece, &[], 100)?;
-        is_run(&rt, &ran, Status::Script, REPLIES, b"vmreplay: line 3: unknown command\n");
-        let ran = run(alloc, &mut shelf, b"", piece, &[], 100)?;
+        let script = b"open r best 1\nalloc r a 1\nfrobnicate\nalloc r b 1";
+        let ran = run(alloc, &mut shelf, Given { script, ..given })?;
+        is_run(
+            &rt,
+            &ran,
+            Status::Script,
+            REPLIES,
+            b"vmreplay: line 3: unknown command\n",
+        );
+        let ran = run(
+            alloc,
+            &mut shelf,
+            Given {
+                script: b"",
+                ..given
+            },
+        )?;
         is_run(&rt, &ran, Status::Ok, b"", b"");
+    }
+    Ok(())
+}
+
+#[test]
+fn refused_segment(rt: HostRuntime) -> Result<(), Fail> {
+    let alloc = rt.alloc();
+    let script =
+        b"open r best 1\nalloc r a 4000\nalloc r b 4000\nalloc r b 4000\nalloc q a 1\nalloc r c 0\n";
+    let replies =
+        b"r open\na 1:32\nrefused: no segment\nb 2:32\nrefused: no region\nrefused: not built\n";
+    for piece in [1, 4096] {
+        let mut shelf = Shelf::new(alloc);
+        let mut fails = Vec::new(alloc);
+        fails.push(2)?;
+        assert!(rt;
+            shelf
+                .put(Box::new(alloc, FuseDisc::new(4096, fails))?)
+                .is_ok()
+        );
+        let ran = run(
+            alloc,
+            &mut shelf,
+            Given {
+                script,
+                piece,
+                fails: &[],
+                room: 1000,
+            },
+        )?;
+        is_run(&rt, &ran, Status::Ok, replies, b"");
+    }
+    Ok(())
+}
+
+#[test]
+fn words(rt: HostRuntime) -> Result<(), Fail> {
+    let alloc = rt.alloc();
+    let mut shelf = Shelf::new(alloc);
+    let mut source = MemSource::new(ROW.to_vec(alloc)?, 1, Vec::new(alloc));
+    let mut out = MemSink::new(alloc, 100, 1, Vec::new(alloc))?;
+    let mut err = MemSink::new(alloc, 100, 1, Vec::new(alloc))?;
+    let mut words = Vec::new(alloc);
+    words.push(String::from_str(alloc, "--frob")?)?;
+    let status = replay(
+        alloc,
+        words.as_slice(),
+        &mut shelf,
+        &mut source,
+        &mut out,
+        &mut err,
+    );
+    assert_eq!(rt; status.number(), 2);
+    assert_eq!(rt; out.bytes(), b"".as_slice());
+    assert_eq!(rt; err.bytes(), b"vmreplay: bad arguments\n".as_slice());
+    Ok(())
+}
+
+#[test]
+fn too_long(rt: HostRuntime) -> Result<(), Fail> {
+    let alloc = rt.alloc();
+    let mut shelf = Shelf::new(alloc);
+    for (len, status, line) in [
+        (1_048_576, Status::Ok, b"".as_slice()),
+        (
+            1_048_577,
+            Status::Script,
+            b"vmreplay: input too long\n".as_slice(),
+        ),
+    ] {
+        let script = Vec::from_elem(alloc, b'\n', len)?;
+        let ran = run(
+            alloc,
+            &mut shelf,
+            Given {
+                script: &script,
+                piece: 4096,
+                fails: &[],
+                room: 0,
+            },
+        )?;
+        is_run(&rt, &ran, status, b"", line);
+    }
+    Ok(())
+}
+
+// Row one's script comes in 28 pieces of one byte, and its end is the read behind them.
+#[test]
+fn failing_reads(rt: HostRuntime) -> Result<(), Fail> {
+    let alloc = rt.alloc();
+    let mut shelf = Shelf::new(alloc);
+    assert!(rt; shelf.put(Box::new(alloc, HeapDisc::new(4096))?).is_ok());
+    for call in 1..30 {
+        let given = Given {
+            script: ROW,
+            piece: 1,
+            fails: &[call],
+            room: 100,
+        };
+        let ran = run(alloc, &mut shelf, given)?;
+        is_run(&rt, &ran, Status::Read, b"", b"vmreplay: read failed\n");
+    }
+    let given = Given {
+        script: ROW,
+        piece: 1,
+        fails: &[30],
+        room: 100,
+    };
+    let ran = run(alloc, &mut shelf, given)?;
+    is_run(&rt, &ran, Status::Ok, REPLIES, b"");
+    Ok(())
+}
+
+#[test]
+fn small_rooms(rt: HostRuntime) -> Result<(), Fail> {
+    let alloc = rt.alloc();
+    let mut shelf = Shelf::new(alloc);
+    assert!(rt; shelf.put(Box::new(alloc, HeapDisc::new(4096))?).is_ok());
+    for room in 0..14 {
+        for piece in [1, 4096] {
+            let ran = run(
+                alloc,
+                &mut shelf,
+                Given {
+                    script: ROW,
+                    piece,
+                    fails: &[],
+                    room,
+                },
+            )?;
+            is_run(
+                &rt,
+                &ran,
+                Status::Write,
+                &REPLIES[..room],
+                b"vmreplay: write failed\n",
+            );
+        }
     }
     Ok(())
 }

@@ -1,0 +1,89 @@
+// Each public call once, with ample memory.
+use std::test::Fail;
+use vc_base::{Addr, MemSink, MemSource, Name, Sink, Source, Steps, one_more};
+use vc_best::Best;
+use vc_seg::{FuseDisc, HeapDisc, LendFault, SegDisc, Segment, Shelf, ShelfPlace};
+
+struct Mark;
+
+#[test]
+fn base(rt: HostRuntime) -> Result<(), Fail> {
+    let alloc = rt.alloc();
+    let at = Addr::new(2, 64);
+    assert_eq!(rt; (at.seg(), at.off()), (2, 64));
+    assert_eq!(rt; Name::new(b"a.1").bytes(), b"a.1".as_slice());
+    assert_eq!(rt; one_more(u64::MAX), u64::MAX);
+    let mut steps = Steps::<Mark>::new(alloc);
+    steps.tick();
+    let mut source = MemSource::new(b"abc".to_vec(alloc)?, 2, Vec::new(alloc));
+    let mut buf = [0; 4];
+    assert_eq!(rt; source.read(&mut buf), Ok(2));
+    assert_eq!(rt; buf.as_slice(), b"ab\0\0".as_slice());
+    assert_eq!(rt; source.faults(), 0);
+    let mut sink = MemSink::new(alloc, 3, 2, Vec::new(alloc))?;
+    assert_eq!(rt; sink.write(b"abc"), Ok(2));
+    assert_eq!(rt; sink.write(b"cd"), Ok(1));
+    assert!(rt; sink.write(b"d").is_err());
+    assert_eq!(rt; sink.faults(), 1);
+    assert_eq!(rt; sink.bytes(), b"abc".as_slice());
+    Ok(())
+}
+
+#[test]
+fn segments(rt: HostRuntime) -> Result<(), Fail> {
+    let alloc = rt.alloc();
+    let segment = Segment::take(alloc, 7, 96)?;
+    assert_eq!(rt; (segment.number(), segment.size()), (7, 96));
+    let mut heap = HeapDisc::new(64);
+    assert_eq!(rt; (heap.round(), heap.faults(), heap.room()), (64, 0, None));
+    match heap.lend(alloc, 1, 128) {
+        Ok(segment) => {
+            assert_eq!(rt; (segment.number(), segment.size()), (1, 128));
+            heap.take_back(segment);
+        }
+        Err(_) => assert!(rt; false),
+    }
+    let mut fails = Vec::new(alloc);
+    fails.push(1)?;
+    let mut fuse = FuseDisc::new(32, fails);
+    assert!(rt; fuse.lend(alloc, 1, 64).is_err());
+    assert_eq!(rt; (fuse.round(), fuse.faults(), fuse.room()), (32, 1, None));
+    Ok(())
+}
+
+#[test]
+fn shelf(rt: HostRuntime) -> Result<(), Fail> {
+    let alloc = rt.alloc();
+    let mut shelf = Shelf::new(alloc);
+    assert!(rt; shelf.put(Box::new(alloc, HeapDisc::new(32))?).is_ok());
+    assert_eq!(rt; shelf.len(), 1);
+    assert_eq!(rt;
+        (shelf.place(0), shelf.place(1), shelf.place(2)),
+        (ShelfPlace::Missing, ShelfPlace::Here, ShelfPlace::Missing)
+    );
+    match shelf.take(1) {
+        Some(disc) => {
+            assert_eq!(rt; shelf.place(1), ShelfPlace::Taken);
+            shelf.give_back(1, disc);
+        }
+        None => assert!(rt; false),
+    }
+    assert_eq!(rt; shelf.place(1), ShelfPlace::Here);
+    Ok(())
+}
+
+#[test]
+fn best(rt: HostRuntime) -> Result<(), Fail> {
+    let alloc = rt.alloc();
+    match Best::open(alloc, Box::new(alloc, HeapDisc::new(4096))?) {
+        Ok(mut region) => {
+            let mut steps = Steps::<Mark>::new(alloc);
+            let at = region.alloc(100, 32, 1, &mut steps);
+            assert_eq!(rt; at, Ok(Addr::new(1, 32)));
+            let (disc, count) = region.close();
+            assert_eq!(rt; (disc.round(), count), (4096, 1));
+        }
+        Err(_) => assert!(rt; false),
+    }
+    Ok(())
+}
