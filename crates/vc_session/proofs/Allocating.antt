@@ -1,6 +1,6 @@
 -- What allocation in an open region answers, and how it changes the region.
-use Rattle.std.proofs.Common.{◌≡◌, ℕ, ◌+◌, ◌-◌, ◌<◌, ◌≤◌, Bool, true, false, ◌&&◌, cond, List, [], ◌∷◌, ◌++◌, Option, Some, None, length, map, take, drop, refl, sym, ap, ◌∙◌, subst, arith}
-use Rattle.std.specs.Prelude.{nat_lt, replicate}
+use Rattle.std.proofs.Common.{◌≡◌, ℕ, ◌+◌, ◌-◌, ◌<◌, Bool, true, false, ◌&&◌, cond, List, [], ◌∷◌, ◌++◌, Option, Some, None, length, take, drop, refl, sym, ap, ◌∙◌, subst, arith}
+use Rattle.std.specs.Prelude.{nat_lt}
 use Rattle.std.specs.List.{list_any}
 use Rattle.std.specs.Str.{bytes_eq}
 use Rattle.std.proofs.lemmas.List.{length-map, drop_all, drop_at, append-nil}
@@ -10,13 +10,13 @@ use Rattle.vc_best.specs.Alloc.{IsPlaced}
 use Rattle.vc_model.specs.Discipline.{EndsWith, Kept}
 use Rattle.vc_model.specs.Discipline.{Discipline}
 use Rattle.vc_model.specs.Segments.{Asked, Granted, TooMany, NotLent, ask, span}
-use Rattle.vc_model.specs.Region.{Block, Region, with_block}
+use Rattle.vc_model.specs.Region.{Region, with_block}
 use Rattle.vc_model.specs.Best.{Allocated, Placed, TooManySegments, NoSegment, best_alloc, put, put_at, put_in_new, put_or_ask, place_in, with_segment, zeros}
-use Rattle.vc_session.specs.declared.reply.Reply.TheVariants.{At, Refused}
+use Rattle.vc_session.specs.declared.reply.Reply.TheVariants.{At}
 use Rattle.vc_session.specs.declared.reply.Place.{Place}
 use Rattle.vc_session.specs.declared.reply.Refusal.TheVariants as why
-use Rattle.vc_session.specs.State.{Home, Changed, alloc_in, allocated, unchanged, has_label, is_size, label_limit}
-use Rattle.vc_session.specs.Account.{Held, IsChange, IsNamed, account_after, home_of, name_of, named, named_block}
+use Rattle.vc_session.specs.State.{Changed, alloc_in, allocated, unchanged, is_size, label_limit}
+use Rattle.vc_session.specs.Account.{Held, IsChange, IsNamed, home_of, name_of, named, named_block}
 use Rattle.vc_session.proofs.Ends.{ends_more, front_same}
 use Rattle.vc_session.proofs.Named.{named_answer, best_alloc-named, named-more, name_of-new}
 use Rattle.vc_session.proofs.Names.{named-put}
@@ -40,14 +40,14 @@ PutsIn r label size NoSegment = Unit {0}
 puts-at : {L : Type 0} (r : Region L) (label : L) (size : ℕ) (at : ℕ × ℕ) → PutsIn r label size (put_at r label size at)
 puts-at r label size at = record {
   segments = sym (ap (λ s. r.segments ++ s) (drop_all (length r.segments) r.segments (omega arith)) ∙ append-nil r.segments);
-  blocks = refl
+  blocks = refl;
 }
 
 puts-new : {L : Type 0} (r : Region L) (label : L) (size : ℕ) (s : ℕ × ℕ) (at : Option (ℕ × ℕ)) → PutsIn r label size (put (with_segment r s) label size at)
 puts-new r label size s None = tt
 puts-new r label size s (Some at) = record {
   segments = ap (λ t. r.segments ++ t) (sym (drop_at r.segments (s ∷ []) (length r.segments) refl));
-  blocks = refl
+  blocks = refl;
 }
 
 puts-asked : {L : Type 0} (r : Region L) (label : L) (size align : ℕ) (asked : Asked) → PutsIn r label size (put_in_new r label size align asked)
@@ -70,12 +70,10 @@ module _ (h : Held) (x : List ℕ) (size : ℕ) (names : IsNamed h.layout h.labe
   more = name_of (h.labels ++ x ∷ [])
 
   named_more : named more h.layout ≡ (home_of h).region
-
   named_more = ap (λ bs. let r : Region (List ℕ) = record { segments = h.layout.segments; blocks = bs } in r) (named-more h.labels x h.layout.blocks names.tags)
 
   -- the allocation is that of the tags
   asks : (not_lent : Bool) → best_alloc h.disc.round (home_of h).region x size 32 not_lent ≡ named_answer more (best_alloc h.disc.round h.layout (length h.labels + 1) size 32 not_lent)
-
   asks not_lent =
       ap (λ r. best_alloc h.disc.round r x size 32 not_lent) (sym named_more)
       ∙ (ap (λ l. best_alloc h.disc.round (named (name_of (h.labels ++ x ∷ [])) h.layout) l size 32 not_lent) (sym (name_of-new h.labels x))
@@ -97,7 +95,6 @@ module _ (h : Held) (x : List ℕ) (size : ℕ) (names : IsNamed h.layout h.labe
   alloc_in-asks not_lent = tests not_lent ∙ ap (allocated (home_of h) x) (asks not_lent)
 
   pub alloc_in-placed : (a : ℕ) (layout : Region ℕ) (place : Place) (not_lent : Bool) → IsPlaced (best_alloc h.disc.round h.layout (length h.labels + 1) size 32 not_lent) a layout → place.seg ≡ (place_of a).0 → place.off ≡ (place_of a).1 → alloc_in (home_of h) x size not_lent ≡ record { region = named (name_of (h.labels ++ x ∷ [])) layout; reply = At x place }
-
   alloc_in-placed a layout place not_lent p seg off =
       alloc_in-asks not_lent
       ∙ (ap (λ answer. allocated (home_of h) x (named_answer (name_of (h.labels ++ x ∷ [])) answer)) (placed_at _ a layout p)
@@ -121,5 +118,5 @@ module _ (h : Held) (x : List ℕ) (size : ℕ) (names : IsNamed h.layout h.labe
         kept = kept;
         lent = subst (λ o. EndsWith o layout.segments) (sym out) (subst (EndsWith (h.disc.out ++ added)) (sym puts.segments) (ends_more h.disc.out h.layout.segments added lent));
         out = ap (λ o. take (length o - length layout.segments) o) out ∙ (ap (λ s. take (length (h.disc.out ++ added) - length s) (h.disc.out ++ added)) puts.segments ∙ front_same h.disc.out h.layout.segments added lent);
-        names = subst (λ bs. IsNamed (record { segments = layout.segments; blocks = bs }) (h.labels ++ x ∷ [])) (sym puts.blocks) (named-put h.layout h.labels x (zeros (length h.labels + 1) size (place_of a)) layout.segments refl few names)
+        names = subst (λ bs. IsNamed (record { segments = layout.segments; blocks = bs }) (h.labels ++ x ∷ [])) (sym puts.blocks) (named-put h.layout h.labels x (zeros (length h.labels + 1) size (place_of a)) layout.segments refl few names);
       }

@@ -1,5 +1,5 @@
 -- One place of a list that is written.
-use Rattle.std.proofs.Common.{◌≡◌, ◌≢◌, ℕ, zero, suc, List, [], ◌∷◌, Option, Some, None, map, option_map, refl, sym, ap, ◌∙◌, set, ◌-◌, ◌≤◌, arith}
+use Rattle.std.proofs.Common.{◌≡◌, ◌≢◌, ℕ, zero, suc, List, [], ◌∷◌, Some, None, map, option_map, refl, sym, ap, ◌∙◌, set, ◌-◌, ◌≤◌, arith}
 use Rattle.std.specs.Prelude.{slice_get}
 use Rattle.std.proofs.lemmas.Bool.Decides.{nat_tests}
 use Rattle.vc_model.specs.Numbered.{at_number}
@@ -22,7 +22,6 @@ slice_get-set_other (z ∷ zs) zero zero y other = absurd (other refl)
 slice_get-set_other (z ∷ zs) zero (suc j) y other = refl
 slice_get-set_other (z ∷ zs) (suc k) zero y other = refl
 slice_get-set_other (z ∷ zs) (suc k) (suc j) y other = slice_get-set_other zs k j y (λ e. other (ap suc e))
-
 
 pub at_number-from_one : {A : Type 0} (xs : List A) (n : ℕ) → 1 ≤ n → at_number xs n ≡ slice_get xs (n - 1)
 at_number-from_one xs n low = grind (arith, nat_tests)

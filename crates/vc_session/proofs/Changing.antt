@@ -1,19 +1,19 @@
 -- What a change of one region's lists does to the state, and to the settled shelf.
-use Rattle.std.proofs.Common.{◌≡◌, ◌≢◌, ℕ, ◌+◌, ◌-◌, ◌<◌, ◌≤◌, Bool, true, false, cond, List, [], ◌∷◌, Option, Some, None, length, map, option_map, set, refl, sym, ap, ◌∙◌, subst, arith, inl, inr, eqb}
+use Rattle.std.proofs.Common.{◌≡◌, ◌≢◌, ℕ, ◌-◌, Bool, List, [], ◌∷◌, Some, None, map, option_map, set, refl, sym, ap, ◌∙◌, subst, arith, inl, inr}
 use Rattle.std.specs.Prelude.{slice_get, count_by, ◌==◌}
 use Rattle.std.proofs.lemmas.List.{map-set}
-use Rattle.std.proofs.lemmas.Option.{same_Some, none-some, slice_get-map}
+use Rattle.std.proofs.lemmas.Option.{same_Some, slice_get-map}
 use Rattle.std.proofs.lemmas.Bool.Decides.{nat_tests}
-use Rattle.vc_model.specs.Count.{Rose, last_count}
+use Rattle.vc_model.specs.Count.{Rose}
 use Rattle.vc_model.specs.Numbered.{at_number}
 use Rattle.vc_session.specs.declared.command.Command.TheVariants.{Alloc}
 use Rattle.vc_session.specs.declared.reply.Reply.{Reply}
 use Rattle.vc_session.specs.declared.reply.Reply.TheVariants.{Opened, At, Refused}
 use Rattle.vc_session.specs.declared.reply.Refusal.TheVariants.{NoRegion, NoSegment, NotYet}
-use Rattle.vc_session.specs.State.{State, Stepped, Changed, Home, alloc_in, alloc_step, changed, home_named, is_home, with_region}
+use Rattle.vc_session.specs.State.{Stepped, Home, alloc_in, alloc_step, changed, home_named, is_home, with_region}
 use Rattle.vc_session.specs.Run.{refusal_at, place_of}
 use Rattle.vc_session.specs.Homes.{IsFirst}
-use Rattle.vc_session.specs.Account.{Account, Held, IsChange, IsHeld, IsSession, RoseBy, Settles, account, accounts, account_after, home_of, settled, state_of, without_faults}
+use Rattle.vc_session.specs.Account.{Held, IsChange, IsHeld, IsSession, RoseBy, Settles, account, accounts, account_after, home_of, settled, state_of, without_faults}
 use Rattle.vc_session.proofs.Cells.{at_number-from_one, at_number_some}
 use Rattle.vc_session.proofs.Firsts.{find-first, with_region-first}
 use Rattle.vc_session.proofs.Settle.{settled-change, settled-at}
@@ -51,12 +51,12 @@ module _ (slots : Slots) (hs : List Held) (i : ℕ) (h g : Held) (at : slice_get
       let found = at_number_some slots h.place None held.place in
       let there : slice_get (accounts slots) (h.place - 1) ≡ Some None = slice_get-map (option_map account) slots (h.place - 1) ∙ ap (option_map (option_map account)) found.1 in
       let has : at_number (settled (accounts slots) hs) h.place ≡ Some (Some (account_after h)) =
-          at_number-from_one (settled (accounts slots) hs) h.place found.0 ∙ settled-at (accounts slots) hs i h None at there (apart-session slots hs session) in
+      at_number-from_one (settled (accounts slots) hs) h.place found.0 ∙ settled-at (accounts slots) hs i h None at there (apart-session slots hs session) in
       let same : without_faults (account_after g) ≡ without_faults (account_after h) =
-          ap (λ o. let p : List (ℕ × ℕ) × ℕ = (o, g.disc.round) in p) change.out ∙ ap (λ r. let p : List (ℕ × ℕ) × ℕ = ((account_after h).out, r) in p) change.kept.round in
+      ap (λ o. let p : List (ℕ × ℕ) × ℕ = (o, g.disc.round) in p) change.out ∙ ap (λ r. let p : List (ℕ × ℕ) × ℕ = ((account_after h).out, r) in p) change.kept.round in
       let after : settled (accounts slots) (set hs i g) ≡ set (settled (accounts slots) hs) (h.place - 1) (Some (account_after g)) =
-          settled-change (accounts slots) hs i h g at change.place (apart-session slots hs session)
-          ∙ ap (λ p. set (settled (accounts slots) hs) (p - 1) (Some (account_after g))) change.place in
+      settled-change (accounts slots) hs i h g at change.place (apart-session slots hs session)
+      ∙ ap (λ p. set (settled (accounts slots) hs) (p - 1) (Some (account_after g))) change.place in
       subst (λ s. Settles (settled (accounts slots) hs) s refusals) (sym after)
       (settles-set (settled (accounts slots) hs) h.place n (account_after h) (account_after g) refusals has same rose only)
 

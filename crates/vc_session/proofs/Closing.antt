@@ -1,11 +1,11 @@
 -- What closing a region leaves.
-use Rattle.std.proofs.Common.{◌≡◌, ◌≢◌, ℕ, ◌-◌, ◌≤◌, ◌<◌, List, [], ◌∷◌, ◌++◌, Option, Some, None, length, map, option_map, set, take, get_or, zero, suc, refl, sym, ap, ◌∙◌, subst, arith}
-use Rattle.std.specs.Prelude.{slice_get, remove}
+use Rattle.std.proofs.Common.{◌≡◌, ◌≢◌, ℕ, ◌-◌, ◌≤◌, ◌<◌, List, [], ◌∷◌, ◌++◌, Option, Some, None, length, set, take, get_or, zero, suc, refl, sym, ap, ◌∙◌, arith}
+use Rattle.std.specs.Prelude.{remove}
 use Rattle.std.specs.List.{AllByRecursion}
-use Rattle.std.proofs.lemmas.List.{length-append, map-set, take_at}
+use Rattle.std.proofs.lemmas.List.{length-append, take_at}
 use Rattle.vc_model.specs.Discipline.{Discipline}
 use Rattle.vc_model.specs.Numbered.{at_number}
-use Rattle.vc_session.specs.Account.{Account, Held, IsHeld, IsSession, account, account_after, accounts, settled}
+use Rattle.vc_session.specs.Account.{Account, Held, IsSession, account, account_after}
 use Rattle.vc_session.proofs.Cells.{at_number-from_one, at_number-zero, at_number_some, slice_get-set_other}
 use Rattle.vc_seg.specs.Shelf.{place_at, place_of}
 use Rattle.vc_seg.specs.declared.shelf.ShelfPlace.TheVariants.{Taken}
@@ -15,8 +15,8 @@ use Rattle.vc_session.proofs.Sessions.{Slots}
 pub account-closed : (h : Held) (d : Discipline) → h.disc.out ≡ d.out ++ h.layout.segments → d.round ≡ h.disc.round → d.faults ≡ h.disc.faults → account d ≡ account_after h
 account-closed h d out round faults =
     let front : take (length h.disc.out - length h.layout.segments) h.disc.out ≡ d.out =
-        ap (λ o. take (length o - length h.layout.segments) o) out
-        ∙ take_at d.out h.layout.segments (length (d.out ++ h.layout.segments) - length h.layout.segments) (omega (arith, length-append d.out h.layout.segments)) in
+    ap (λ o. take (length o - length h.layout.segments) o) out
+    ∙ take_at d.out h.layout.segments (length (d.out ++ h.layout.segments) - length h.layout.segments) (omega (arith, length-append d.out h.layout.segments)) in
     ap (λ o. let a : Account = record { out = o; round = d.round; faults = d.faults } in a) (sym front)
     ∙ (ap (λ r. let a : Account = record { out = (account_after h).out; round = r; faults = d.faults } in a) round
     ∙ ap (λ f. let a : Account = record { out = (account_after h).out; round = h.disc.round; faults = f } in a) faults)
@@ -34,10 +34,11 @@ elsewhere slots n d at (suc k) other =
 -- the other regions still hold their disciplines
 pub session-closed : (slots slots' : Slots) (n : ℕ) (hs : List Held) → ((p : ℕ) → p ≢ n → at_number slots' p ≡ at_number slots p) → AllByRecursion (λ g. g.place ≢ n) hs → IsSession slots hs → IsSession slots' hs
 session-closed slots slots' n [] same away s = tt
-session-closed slots slots' n (h ∷ hs) same away s =
-    ( record { place = same h.place away.0 ∙ s.0.place; lent = s.0.lent; names = s.0.names }
-    , s.1
-    , session-closed slots slots' n hs same away.1 s.2 )
+session-closed slots slots' n (h ∷ hs) same away s = (
+  record { place = same h.place away.0 ∙ s.0.place; lent = s.0.lent; names = s.0.names },
+  s.1,
+  session-closed slots slots' n hs same away.1 s.2,
+)
 
 -- a list that isn't empty, by its first item and the rest
 pub first-rest : {A : Type 0} (xs : List A) (x : A) → 0 < length xs → x ≡ get_or xs 0 x → xs ≡ x ∷ remove xs 0

@@ -1,6 +1,6 @@
 -- A list that ends with another, as both grow.
-use Rattle.std.proofs.Common.{◌≡◌, ℕ, ◌+◌, ◌-◌, ◌≤◌, List, ◌++◌, length, take, refl, sym, ap, ◌∙◌, arith}
-use Rattle.std.proofs.lemmas.List.{length-append, length-take, take-append-le, append_assoc}
+use Rattle.std.proofs.Common.{◌≡◌, ℕ, ◌-◌, ◌≤◌, List, ◌++◌, length, take, sym, ap, ◌∙◌, arith}
+use Rattle.std.proofs.lemmas.List.{length-append, take-append-le, append_assoc}
 use Rattle.vc_model.specs.Discipline.{EndsWith}
 
 pub ends_within : (xs ys : List (ℕ × ℕ)) → EndsWith xs ys → length ys ≤ length xs

@@ -1,5 +1,5 @@
 -- The first item that passes a test.
-use Rattle.std.proofs.Common.{◌≡◌, ℕ, ◌+◌, ◌<◌, zero, suc, Bool, true, false, ◌||◌, cond, List, [], ◌∷◌, Option, Some, None, length, map, take, get_or, set, refl, sym, ap, ◌∙◌, subst, arith, add-one}
+use Rattle.std.proofs.Common.{◌≡◌, ℕ, ◌+◌, ◌<◌, zero, suc, Bool, true, false, ◌||◌, cond, List, [], ◌∷◌, Some, None, length, map, take, get_or, set, refl, sym, ap, ◌∙◌, arith, add-one}
 use Rattle.std.specs.Prelude.{find, slice_get}
 use Rattle.std.specs.List.{list_any}
 use Rattle.std.proofs.lemmas.List.{take-map}
@@ -60,7 +60,7 @@ first-unmap test f xs i first =
       item = p.0;
       at = p.1;
       passes = ap test p.2 ∙ first.passes;
-      before = sym (any-unmap test f (take i xs)) ∙ (ap (list_any test) (sym (take-map f i xs)) ∙ first.before)
+      before = sym (any-unmap test f (take i xs)) ∙ (ap (list_any test) (sym (take-map f i xs)) ∙ first.before);
     }
 
 pub none-unmap : {A B : Type 0} (test : B → Bool) (f : A → B) (xs : List A) → list_any test (map f xs) ≡ false → list_any (λ x. test (f x)) xs ≡ false

@@ -1,5 +1,5 @@
 -- Open regions, by their names and as they stand for lists.
-use Rattle.std.proofs.Common.{◌≡◌, ℕ, Bool, ◌||◌, List, [], ◌∷◌, ◌++◌, ◌<◌, Option, Some, option_map, length, get_or, map, refl, ap, ◌∙◌, subst}
+use Rattle.std.proofs.Common.{◌≡◌, ℕ, ◌||◌, List, [], ◌∷◌, ◌<◌, Some, option_map, length, get_or, map, refl, ap, ◌∙◌, subst}
 use Rattle.std.specs.Prelude.{slice_get}
 use Rattle.std.proofs.lemmas.Option.{slice_get-map, slice_get_read}
 use Rattle.std.specs.List.{list_any}
@@ -9,7 +9,7 @@ use Rattle.std.specs.declared.alloc.Global.{Global}
 use Rattle.vc_model.specs.Discipline.{Discipline}
 use Rattle.vc_session.specs.declared.home.Home.{Home as OpenRegion}
 use Rattle.vc_session.specs.State.{Home, is_home}
-use Rattle.vc_session.specs.Account.{Held, home_of}
+use Rattle.vc_session.specs.Account.{home_of}
 use Rattle.vc_session.specs.Homes.{held_of, held_all, IsFirst}
 use Rattle.vc_session.proofs.Firsts.{first-unmap}
 

@@ -1,15 +1,12 @@
 -- Allocation commutes with the naming of tags.
-use Rattle.std.proofs.Common.{◌≡◌, ℕ, ◌+◌, ◌-◌, ◌<◌, ◌≤◌, Bool, true, false, ◌||◌, cond, List, [], ◌∷◌, ◌++◌, Option, Some, None, length, map, get_or, replicate, refl, sym, ap, ◌∙◌, arith}
-use Rattle.std.specs.List.{AllByRecursion, list_any}
-use Rattle.std.specs.Str.{bytes_eq}
-use Rattle.std.proofs.lemmas.List.{get_or_append_left, get_or_push, length_push}
-use Rattle.vc_model.specs.Gap.{Run}
+use Rattle.std.proofs.Common.{◌≡◌, ℕ, ◌+◌, ◌-◌, ◌<◌, ◌≤◌, Bool, true, false, cond, List, [], ◌∷◌, ◌++◌, Option, Some, None, length, map, refl, sym, ap, ◌∙◌, arith}
+use Rattle.std.specs.List.{AllByRecursion}
+use Rattle.std.proofs.lemmas.List.{get_or_append_left, get_or_push}
 use Rattle.vc_model.specs.Segments.{Asked, Granted, TooMany, NotLent, ask, span}
 use Rattle.vc_model.specs.Place.{place}
 use Rattle.vc_model.specs.Region.{Block, Region, footprint, footprints, lies_before, with_block}
 use Rattle.vc_model.specs.Best.{Allocated, Placed, TooManySegments, NoSegment, best_alloc, put, put_at, put_in_new, put_or_ask, place_in, with_segment, zeros}
-use Rattle.vc_session.specs.State.{has_label}
-use Rattle.vc_session.specs.Account.{name_of, named_block, named, IsNamed}
+use Rattle.vc_session.specs.Account.{name_of, named_block, named}
 
 abbrev pub named_answer : (ℕ → List ℕ) → Allocated ℕ → Allocated (List ℕ)
 named_answer f (Placed at region) = Placed at (named f region)

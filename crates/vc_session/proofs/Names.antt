@@ -1,11 +1,11 @@
 -- Names and tags stay in step as a block is put.
-use Rattle.std.proofs.Common.{◌≡◌, ℕ, ◌+◌, ◌-◌, ◌<◌, ◌≤◌, Bool, true, false, ◌||◌, cond, List, [], ◌∷◌, ◌++◌, length, map, refl, sym, ap, ◌∙◌, subst, arith}
+use Rattle.std.proofs.Common.{◌≡◌, ℕ, ◌+◌, ◌<◌, ◌≤◌, Bool, true, false, ◌||◌, cond, List, [], ◌∷◌, ◌++◌, length, map, refl, sym, ap, ◌∙◌, subst, arith}
 use Rattle.std.specs.List.{AllByRecursion, list_any}
 use Rattle.std.specs.Str.{bytes_eq}
 use Rattle.std.proofs.lemmas.List.{length_push}
 use Rattle.vc_model.specs.Region.{Block, Region, lies_before, with_block}
 use Rattle.vc_session.specs.State.{has_label, label_limit}
-use Rattle.vc_session.specs.Account.{name_of, named_block, named, IsNamed}
+use Rattle.vc_session.specs.Account.{name_of, named_block, IsNamed}
 use Rattle.vc_session.proofs.Named.{with_block-named, named-more, name_of-new, TagsUpTo}
 
 length-with_block : (b : Block ℕ) (cs : List (Block ℕ)) → length (with_block b cs) ≡ length cs + 1
@@ -39,9 +39,10 @@ or-end false false = refl
 has_label-with_block : (x : List ℕ) (b : Block (List ℕ)) (cs : List (Block (List ℕ))) → has_label x (with_block b cs) ≡ (bytes_eq b.label x || has_label x cs)
 has_label-with_block x b [] = refl
 has_label-with_block x b (c ∷ cs) =
-    elim (lies_before b c) as (λ v. has_label x (cond v (b ∷ c ∷ cs) (c ∷ with_block b cs)) ≡ (bytes_eq b.label x || has_label x (c ∷ cs)))
-    [ true ↦ refl
-    | false ↦ ap (λ r. bytes_eq c.label x || r) (has_label-with_block x b cs) ∙ or-swap (bytes_eq c.label x) (bytes_eq b.label x) (has_label x cs) ]
+    elim (lies_before b c) as (λ v. has_label x (cond v (b ∷ c ∷ cs) (c ∷ with_block b cs)) ≡ (bytes_eq b.label x || has_label x (c ∷ cs))) [
+      | true ↦ refl
+      | false ↦ ap (λ r. bytes_eq c.label x || r) (has_label-with_block x b cs) ∙ or-swap (bytes_eq c.label x) (bytes_eq b.label x) (has_label x cs)
+    ]
 
 any-push : (x : List ℕ) (labels : List (List ℕ)) (l : List ℕ) → list_any (λ n. bytes_eq n x) (labels ++ l ∷ []) ≡ (bytes_eq l x || list_any (λ n. bytes_eq n x) labels)
 any-push x [] l = refl
@@ -65,5 +66,5 @@ named-put layout labels x b segments tag few n =
           ∙ sym (ap (has_label y) (with_block-named (name_of (labels ++ x ∷ [])) b layout.blocks)
           ∙ (has_label-with_block y (named_block (name_of (labels ++ x ∷ [])) b) (map (named_block (name_of (labels ++ x ∷ []))) layout.blocks)
           ∙ (ap (λ m. bytes_eq m y || has_label y (map (named_block (name_of (labels ++ x ∷ []))) layout.blocks)) new
-          ∙ ap (λ bs. bytes_eq x y || has_label y bs) more))))
+          ∙ ap (λ bs. bytes_eq x y || has_label y bs) more))));
     }

@@ -1,9 +1,9 @@
 -- What opening a region does to the state, and to the settled shelf.
-use Rattle.std.proofs.Common.{◌≡◌, ◌≢◌, ℕ, ◌-◌, ◌≤◌, Bool, true, false, cond, List, [], ◌∷◌, ◌++◌, Option, Some, None, length, map, option_map, set, take, refl, sym, ap, ◌∙◌, subst, arith}
+use Rattle.std.proofs.Common.{◌≡◌, ℕ, ◌-◌, Bool, true, false, cond, List, [], ◌∷◌, ◌++◌, Option, Some, None, length, map, option_map, set, take, refl, sym, ap, ◌∙◌, arith}
 use Rattle.std.specs.Prelude.{slice_get}
-use Rattle.std.specs.List.{list_any, AllByRecursion}
+use Rattle.std.specs.List.{list_any}
 use Rattle.std.proofs.lemmas.List.{append-nil, map-append, map-set, set-set, take_all}
-use Rattle.std.proofs.lemmas.Option.{same_Some, none-some, slice_get-map}
+use Rattle.std.proofs.lemmas.Option.{slice_get-map}
 use Rattle.vc_model.specs.Numbered.{at_number}
 use Rattle.vc_model.specs.Discipline.{Discipline}
 use Rattle.vc_model.specs.Region.{Region}
@@ -12,7 +12,7 @@ use Rattle.vc_seg.specs.declared.shelf.ShelfPlace.TheVariants.{Here}
 use Rattle.vc_session.specs.declared.reply.Reply.TheVariants.{Opened}
 use Rattle.vc_session.specs.declared.reply.Refusal.TheVariants.{NotYet}
 use Rattle.vc_session.specs.State.{State, Stepped, is_home, open_step, opened_over, refused}
-use Rattle.vc_session.specs.Account.{Account, Held, IsHeld, IsNamed, IsSession, account, accounts, account_after, home_of, settled, state_of}
+use Rattle.vc_session.specs.Account.{Account, Held, IsNamed, IsSession, account, accounts, account_after, home_of, settled, state_of}
 use Rattle.vc_session.proofs.Cells.{at_number-from_one, at_number_some, slice_get-set_same, at_number-map, set_same}
 use Rattle.vc_session.proofs.Settle.{settled-push, settled-set, settled-keeps, off-apart, Off}
 use Rattle.vc_session.proofs.Sessions.{Slots, apart-session, away-session, session-push}
@@ -49,7 +49,7 @@ module _ (slots : Slots) (hs : List Held) (name : List ℕ) (n : ℕ) (d : Disci
       (record {
         place = at_number-from_one (set slots (n - 1) None) n low ∙ slice_get-set_same slots (n - 1) (Some d) None there;
         lent = ap (λ front. front ++ []) (ends_with_none d.out) ∙ append-nil d.out;
-        names = fresh_names name n d
+        names = fresh_names name n d;
       })
 
   pub settled-open : settled (accounts (set slots (n - 1) None)) (hs ++ fresh name n d ∷ []) ≡ settled (accounts slots) hs
@@ -58,7 +58,7 @@ module _ (slots : Slots) (hs : List Held) (name : List ℕ) (n : ℕ) (d : Disci
       let off : Off (n - 1) hs = off-apart n hs low (away-session slots n d hs at session) (apart-session slots hs session) in
       let account_is : account_after (fresh name n d) ≡ account d = ap (λ out. let a : Account = record { out = out; round = d.round; faults = d.faults } in a) (ends_with_none d.out) in
       let kept : slice_get (settled (accounts slots) hs) (n - 1) ≡ Some (Some (account_after (fresh name n d))) =
-          settled-keeps (accounts slots) (n - 1) hs off ∙ (slice_get-map (option_map account) slots (n - 1) ∙ (ap (option_map (option_map account)) there ∙ ap (λ a. Some (Some a)) (sym account_is))) in
+      settled-keeps (accounts slots) (n - 1) hs off ∙ (slice_get-map (option_map account) slots (n - 1) ∙ (ap (option_map (option_map account)) there ∙ ap (λ a. Some (Some a)) (sym account_is))) in
       settled-push (accounts (set slots (n - 1) None)) hs (fresh name n d)
       ∙ (ap (λ shelf. set (settled shelf hs) (n - 1) (Some (account_after (fresh name n d)))) (map-set (option_map account) slots (n - 1) None)
       ∙ (ap (λ shelf. set shelf (n - 1) (Some (account_after (fresh name n d)))) (settled-set (accounts slots) (n - 1) None hs off)

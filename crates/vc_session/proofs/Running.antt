@@ -1,6 +1,6 @@
 -- A run in its middle, and what each line adds to it.
-use Rattle.std.proofs.Common.{◌≡◌, ℕ, ◌+◌, suc, zero, List, [], ◌∷◌, ◌++◌, Option, Some, None, Bool, true, false, cond, length, map, refl, sym, ap, ◌∙◌, subst, arith, inl, inr, ◌&&◌, ◌⊎◌}
-use Rattle.std.specs.Prelude.{IfSome, count_by, nat_lt, ◌==◌}
+use Rattle.std.proofs.Common.{◌≡◌, ℕ, ◌+◌, List, [], ◌∷◌, ◌++◌, Option, Some, None, Bool, true, false, cond, length, map, refl, sym, ap, ◌∙◌, subst, arith, inl, inr, ◌&&◌}
+use Rattle.std.specs.Prelude.{count_by, nat_lt, ◌==◌}
 use Rattle.std.specs.Bool.{IsTrue}
 use Rattle.std.specs.List.{AllByRecursion, list_any}
 use Rattle.std.proofs.lemmas.List.{append_assoc, append-nil, length-append, length-map, map-append}
@@ -21,7 +21,7 @@ use Rattle.vc_session.specs.Replay.{IsRun, Told}
 use Rattle.vc_session.specs.Run.{Ran, command_then, commands_from, fault_from, fault_or, first_bad, refusal_at, run, script}
 use Rattle.vc_session.specs.Words.{is_name}
 use Rattle.vc_session.specs.declared.reply.Refusal.TheVariants.{NotYet}
-use Rattle.vc_session.specs.State.{Changed, refused, unchanged, Home, State, Stepped, alloc_in, alloc_step, allocated, has_label, home_named, is_for_block, is_home, is_size, label_limit, open_step, opened_over, step}
+use Rattle.vc_session.specs.State.{Changed, refused, unchanged, Home, State, alloc_in, alloc_step, allocated, has_label, home_named, is_for_block, is_home, is_size, label_limit, opened_over, step}
 use Rattle.vc_session.proofs.Answers.{IsProperCommand-answer}
 use Rattle.vc_session.proofs.Runs.{one_more, run-push}
 use Rattle.vc_session.proofs.Settling.{settles-same, settles-trans}
@@ -60,7 +60,7 @@ running-start input start before entry = record {
   bad = refl;
   run = refl;
   settles = settles-same entry;
-  told = told-none before
+  told = told-none before;
 }
 
 -- a run whose lines are done
@@ -73,7 +73,7 @@ running-end {input} {start} {now} {before} {after} {entry} {accounts} {n} {rest}
       written = text r.replies;
       text = ap (λ e. text e.replies) (sym ran);
       told = r.told;
-      settles = subst (λ e. Settles entry accounts e.refusals) (sym ran) r.settles
+      settles = subst (λ e. Settles entry accounts e.refusals) (sym ran) r.settles;
     }
 
 pub running-blank : {input : List ℕ} {start now : State} {before after : Option (List ℕ)} {entry accounts : List (Option Account)} {n : ℕ} {rest : List ℕ} (line behind : List ℕ) → Running input start now before after entry accounts n rest → lines rest ≡ line ∷ lines behind → answer (without_cr line) ≡ Blank → Running input start now before after entry accounts (n + 1) behind
@@ -87,7 +87,7 @@ running-blank {n = n} {rest = rest} line behind r split blank = record {
   bad = r.bad ∙ (ap (fault_from (n + 1)) split ∙ ap (λ a. fault_or (n + 1) a (fault_from (n + 1 + 1) (lines behind))) blank);
   run = r.run;
   settles = r.settles;
-  told = r.told
+  told = r.told;
 }
 
 proper-allocated : (h : Home) (x : List ℕ) (a : Allocated (List ℕ)) → IsTrue (is_name x) → IsProperReply (allocated h x a).reply
@@ -157,7 +157,7 @@ running-is {start = start} {now = now} {before = before} {after = after} {entry 
   bad = r.bad ∙ (ap (fault_from (n + 1)) split ∙ ap (λ a. fault_or (n + 1) a (fault_from (n + 1 + 1) (lines behind))) is);
   run = run-stepped start now next r.done r.replies r.refusals (n + 1) c reply r.same r.run stepped;
   settles = settles-trans entry accounts accounts' r.refusals (refusal_at now c reply) r.settles settles;
-  told = subst (Told before told) (sym (text-push r.replies reply)) (told-more before after told (text r.replies) (line_of reply) r.told written)
+  told = subst (Told before told) (sym (text-push r.replies reply)) (told-more before after told (text r.replies) (line_of reply) r.told written);
 }
 
 -- at a bad line, and behind the last, no command is left
@@ -175,7 +175,7 @@ any-rise k a b (inr p) = inr p
 pub settles-any : {entry accounts : List (Option Account)} {refusals : List ℕ} → Settles entry accounts refusals → Settles entry accounts []
 settles-any {entry} {accounts} {refusals} s = record {
   same = s.same;
-  faults = λ place. any-rise (count_by (λ p. p == place) refusals) (faults_of (at_number entry place)) (faults_of (at_number accounts place)) (s.faults place)
+  faults = λ place. any-rise (count_by (λ p. p == place) refusals) (faults_of (at_number entry place)) (faults_of (at_number accounts place)) (s.faults place);
 }
 
 -- behind the last line no command is left

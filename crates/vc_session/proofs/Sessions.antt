@@ -1,7 +1,7 @@
 -- Open regions over a shelf, as one is opened or changes.
-use Rattle.std.proofs.Common.{◌≡◌, ◌≢◌, ℕ, ◌-◌, ◌≤◌, zero, suc, List, [], ◌∷◌, ◌++◌, Option, Some, None, length, map, option_map, set, refl, sym, ap, ◌∙◌, subst, ⊎_elim, arith}
+use Rattle.std.proofs.Common.{◌≡◌, ◌≢◌, ℕ, ◌-◌, zero, suc, List, [], ◌∷◌, ◌++◌, Option, Some, None, set, sym, ap, ◌∙◌, subst, ⊎_elim}
 use Rattle.std.proofs.lemmas.Bool.{cases_eq}
-use Rattle.std.specs.Prelude.{slice_get, ⊤}
+use Rattle.std.specs.Prelude.{slice_get}
 use Rattle.std.specs.List.{AllByRecursion}
 use Rattle.std.proofs.lemmas.Option.{same_Some, none-some}
 use Rattle.vc_model.specs.Numbered.{at_number}
@@ -42,10 +42,11 @@ away-push p (g ∷ hs) h all other = (all.0, away-push p hs h all.1 other)
 -- one more region, whose discipline is taken from the shelf
 pub session-push : (slots : Slots) (k : ℕ) (o : Option Discipline) (hs : List Held) (h : Held) → slice_get slots k ≡ Some o → IsSession slots hs → AllByRecursion (λ g. g.place ≢ h.place) hs → IsHeld (set slots k None) h → IsSession (set slots k None) (hs ++ h ∷ [])
 session-push slots k o [] h there s away held = (held, tt, tt)
-session-push slots k o (g ∷ hs) h there s away held =
-    ( held_stays slots k o g there s.0
-    , away-push g.place hs h s.1 (λ e. away.0 (sym e))
-    , session-push slots k o hs h there s.2 away.1 held )
+session-push slots k o (g ∷ hs) h there s away held = (
+  held_stays slots k o g there s.0,
+  away-push g.place hs h s.1 (λ e. away.0 (sym e)),
+  session-push slots k o hs h there s.2 away.1 held,
+)
 
 -- what holds of a region at a place
 pub held-at : (slots : Slots) (hs : List Held) (i : ℕ) (h : Held) → slice_get hs i ≡ Some h → IsSession slots hs → IsHeld slots h

@@ -1,13 +1,11 @@
 -- How the settled shelf changes as regions are opened and change.
-use Rattle.std.proofs.Common.{◌≡◌, ◌≢◌, ℕ, ◌+◌, ◌-◌, ◌<◌, ◌≤◌, zero, suc, List, [], ◌∷◌, ◌++◌, Option, Some, None, length, map, option_map, get_or, refl, sym, ap, ◌∙◌, subst, arith, set}
+use Rattle.std.proofs.Common.{◌≡◌, ◌≢◌, ℕ, ◌-◌, ◌≤◌, zero, suc, List, [], ◌∷◌, ◌++◌, Option, Some, refl, sym, ap, ◌∙◌, subst, arith, set}
 use Rattle.std.specs.Prelude.{slice_get, ⊤}
 use Rattle.std.specs.List.{AllByRecursion}
 use Rattle.std.proofs.lemmas.List.{set_comm, set-set}
 use Rattle.std.proofs.lemmas.Option.{same_Some, none-some}
-use Rattle.vc_model.specs.Discipline.{Discipline}
-use Rattle.vc_model.specs.Numbered.{at_number}
-use Rattle.vc_session.proofs.Cells.{map-set_alike, slice_get-set_same, slice_get-set_other}
-use Rattle.vc_session.specs.Account.{Account, Held, account, accounts, account_after, settled, IsHeld, IsSession}
+use Rattle.vc_session.proofs.Cells.{slice_get-set_same, slice_get-set_other}
+use Rattle.vc_session.specs.Account.{Account, Held, account_after, settled}
 
 -- a place that is not an open region's keeps what is put there
 pub settled-set : (shelf : List (Option Account)) (k : ℕ) (a : Option Account) (hs : List Held) → AllByRecursion (λ g. g.place - 1 ≢ k) hs → settled (set shelf k a) hs ≡ set (settled shelf hs) k a

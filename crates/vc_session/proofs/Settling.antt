@@ -1,10 +1,8 @@
 -- From one settled shelf to the next, and over a run.
-use Rattle.std.proofs.Common.{◌≡◌, ◌≢◌, ℕ, ◌+◌, ◌-◌, ◌<◌, ◌≤◌, ◌⊎◌, zero, suc, Bool, true, false, cond, List, [], ◌∷◌, ◌++◌, Option, Some, None, length, map, option_map, get_or, refl, sym, ap, ◌∙◌, subst, arith, inl, inr, ⊎_elim, set, eqb}
+use Rattle.std.proofs.Common.{◌≡◌, ◌≢◌, ℕ, ◌+◌, ◌-◌, ◌≤◌, zero, suc, cond, List, [], ◌++◌, Option, Some, option_map, refl, sym, ap, ◌∙◌, subst, arith, inl, inr, ⊎_elim, set, eqb}
 use Rattle.std.proofs.lemmas.Bool.{cases_eq}
-use Rattle.std.specs.Prelude.{slice_get, count_by, ◌==◌}
-use Rattle.std.proofs.lemmas.Option.{same_Some, none-some}
+use Rattle.std.specs.Prelude.{count_by, ◌==◌}
 use Rattle.std.proofs.lemmas.List.Sums.{sum_by-append}
-use Rattle.vc_model.specs.Count.{last_count}
 use Rattle.vc_model.specs.Numbered.{at_number}
 use Rattle.vc_session.proofs.Cells.{map-set_alike, slice_get-set_same, slice_get-set_other, at_number-from_one, at_number-zero, at_number_some}
 use Rattle.vc_session.specs.Account.{Account, faults_of, RoseBy, Settles, without_faults}
@@ -24,7 +22,7 @@ settles-trans a b c ps qs f g = record {
   same = g.same ∙ f.same;
   faults = λ place.
       subst (λ n. RoseBy n (faults_of (at_number a place)) (faults_of (at_number c place))) (sym (sum_by-append (λ p. cond (eqb p place) 1 0) ps qs))
-      (rose_by-trans _ _ _ _ _ (f.faults place) (g.faults place))
+      (rose_by-trans _ _ _ _ _ (f.faults place) (g.faults place));
 }
 
 -- the refusals at one place, which has n of them
@@ -70,5 +68,5 @@ module _ (shelf : List (Option Account)) (place n : ℕ) (a b : Account) (refusa
   unfolding after
   settles-set = record {
     same = map-set_alike (option_map without_faults) shelf (place - 1) (Some a) (Some b) (at_number_some shelf place (Some a) at).1 (ap Some same);
-    faults = λ q. ⊎_elim (rose_here q) (rose_elsewhere q) (cases_eq q place)
+    faults = λ q. ⊎_elim (rose_here q) (rose_elsewhere q) (cases_eq q place);
   }

@@ -1,5 +1,5 @@
 -- What the end of a run promises.
-use Rattle.std.specs.Prelude.{◌≡◌, ℕ, ◌⊎◌, List, [], ◌++◌, ◌∷◌, Option, Some, None, Bool, true, false, IfSome, codes, decimal, take, if◌then◌else◌}
+use Rattle.std.specs.Prelude.{◌≡◌, ℕ, ◌⊎◌, List, [], ◌++◌, Option, Some, None, IfSome, codes, decimal, take, if◌then◌else◌}
 use Rattle.vc_model.specs.Count.{Rose}
 use Rattle.vc_session.specs.declared.command.Command.{Command}
 use Rattle.vc_session.specs.declared.command.LineFault.{LineFault}
@@ -9,7 +9,6 @@ use Rattle.vc_session.specs.declared.tool.Status.{Status}
 use Rattle.vc_session.specs.declared.tool.Status.TheVariants.{Ok, Script, Usage, Read, Write, Memory}
 use Rattle.vc_session.specs.declared.tool.ScriptFault.TheVariants.{TooLong, Line}
 use Rattle.vc_session.specs.Account.{Account, Settles}
-use Rattle.vc_session.specs.Needs.{Need}
 use Rattle.vc_session.specs.Print.{needs_of, text}
 use Rattle.vc_session.specs.Run.{first_bad, is_too_long, run, script}
 use Rattle.vc_session.specs.State.{State}

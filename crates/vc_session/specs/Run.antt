@@ -1,13 +1,13 @@
 -- The commands of an input, a run of them, and its text.
-use Rattle.std.specs.Prelude.{◌≡◌, ℕ, ◌+◌, List, [], ◌∷◌, ◌++◌, Option, Some, None, Bool, length, nat_lt, if◌then◌else◌}
+use Rattle.std.specs.Prelude.{ℕ, ◌+◌, List, [], ◌∷◌, ◌++◌, Option, Some, None, Bool, length, nat_lt}
 use Rattle.vc_session.specs.declared.command.Command.{Command}
-use Rattle.vc_session.specs.declared.command.Command.TheVariants.{Open, Alloc}
+use Rattle.vc_session.specs.declared.command.Command.TheVariants.{Alloc}
 use Rattle.vc_session.specs.declared.command.LineAnswer.{LineAnswer}
 use Rattle.vc_session.specs.declared.command.LineAnswer.TheVariants.{Blank, Is, Bad}
 use Rattle.vc_session.specs.declared.command.LineFault.{LineFault}
 use Rattle.vc_session.specs.declared.reply.Reply.{Reply}
-use Rattle.vc_session.specs.declared.reply.Reply.TheVariants.{Opened, At, Refused}
-use Rattle.vc_session.specs.declared.reply.Refusal.TheVariants.{NoRegion, NoSegment, NotYet}
+use Rattle.vc_session.specs.declared.reply.Reply.TheVariants.{Refused}
+use Rattle.vc_session.specs.declared.reply.Refusal.TheVariants.{NoSegment}
 use Rattle.vc_session.specs.Lines.{lines, without_cr}
 use Rattle.vc_session.specs.Answer.{answer}
 use Rattle.vc_session.specs.Needs.{Need, NoNeed}

@@ -1,5 +1,5 @@
 -- The state of a session, and one step of it.
-use Rattle.std.specs.Prelude.{ℕ, ◌+◌, ◌-◌, List, [], ◌∷◌, ◌++◌, Option, Some, None, Bool, true, false, length, map, find, slice_set, nat_lt, nat_le, ◌&&◌, if◌then◌else◌}
+use Rattle.std.specs.Prelude.{ℕ, ◌-◌, List, [], ◌∷◌, ◌++◌, Option, Some, None, Bool, true, false, length, find, slice_set, nat_lt, nat_le, ◌&&◌, if◌then◌else◌}
 use Rattle.std.specs.List.{list_any}
 use Rattle.std.specs.Str.{bytes_eq}
 use Rattle.vc_model.specs.Numbered.{at_number}
@@ -46,9 +46,9 @@ opened s r n round =
     record {
       state = record {
         shelf = slice_set s.shelf (n - 1) None;
-        homes = s.homes ++ record { name = r; place = n; round = round; region = record { segments = []; blocks = [] } } ∷ []
+        homes = s.homes ++ record { name = r; place = n; round = round; region = record { segments = []; blocks = [] } } ∷ [];
       };
-      reply = Opened r
+      reply = Opened r;
     }
 
 abbrev pub opened_over : State → List ℕ → ℕ → Option (Option ℕ) → Stepped

@@ -10,7 +10,6 @@ mod line;
 mod parse;
 mod print;
 mod reply;
-
 pub mod rows;
 pub mod run_rows;
 mod session;
@@ -18,4 +17,4 @@ mod stream;
 mod tool;
 mod word;
 
-pub use tool::{replay, Status};
+pub use tool::{Status, replay};

@@ -1,9 +1,8 @@
-// Reading all there is, and writing all of a piece.
+// Writing all of a piece.
 ghost use Rattle.std.specs.Prelude.{◌≡◌, ℕ, ◌+◌, ◌<◌, ◌≤◌, List, [], ◌++◌, Some, IfSome, IfOk, IfErr, OnOk, OnErr, IsErrOf, length, take};
 ghost use Rattle.vc_model.specs.Count.{Rose};
 
-use std::alloc::{AllocError, Global};
-use vc_base::{OutOfMemory, ReadFailed, Sink, Source, WriteFailed};
+use vc_base::{Sink, WriteFailed};
 
 // Writes all of a piece, in as many writes as the sink wants.
 pub(crate) fn write_all<O: Sink>(out: &mut O, piece: &[u8]) -> Result<(), WriteFailed>

@@ -8,8 +8,8 @@ ghost use Rattle.vc_session.specs.Replay.{IsReplay, Told, Tried, err_line, fault
 
 use crate::close::close_all;
 use crate::command::LineFault;
-use crate::engine::{run_lines, Stop};
-use crate::input::{read_all, Input, InputFault};
+use crate::engine::{Stop, run_lines};
+use crate::input::{Input, InputFault, read_all};
 use crate::stream::write_all;
 use itoa::Buffer;
 use std::alloc::Global;
@@ -81,6 +81,8 @@ fn run_source<S: Source, O: Sink>(
     ensures settles { Settles
         (accounts (slots_of ⟦<BoxedDisc as SegDisc>⟧.state shelf.old.slots.items))
         (accounts (slots_of ⟦<BoxedDisc as SegDisc>⟧.state shelf.new.slots.items)) [] }
+    ensures reads { S.failures source.old ≤ S.failures source.new }
+    ensures writes { O.failures out.old ≤ O.failures out.new }
 {
     let input = match read_all(alloc, source) {
         Ok(Input::Whole(bytes)) => bytes,
@@ -99,7 +101,8 @@ fn run_source<S: Source, O: Sink>(
 
 // Writes a fault's one line.
 fn tell<E: Sink>(err: &mut E, line: &[u8])
-    ensures { Tried (E.failures err.old) (E.failures err.new) (E.written err.old) (E.written err.new) line.now }
+    ensures tried { Tried (E.failures err.old) (E.failures err.new) (E.written err.old) (E.written err.new) line.now }
+    ensures never_falls { E.failures err.old ≤ E.failures err.new }
 {
     let _ = write_all(err, line);
 }
@@ -108,6 +111,7 @@ fn tell<E: Sink>(err: &mut E, line: &[u8])
 fn tell_fault<E: Sink>(err: &mut E, fault: ScriptFault) -> Result<(), WriteFailed>
     ensures told { OnOk result (Told (E.written err.old) (E.written err.new) (err_line fault)) }
     ensures cause { OnErr result (Rose (E.failures err.old) (E.failures err.new)) }
+    ensures never_falls { E.failures err.old ≤ E.failures err.new }
 {
     match fault {
         ScriptFault::TooLong => write_all(err, b"vmreplay: input too long\n"),
@@ -143,20 +147,20 @@ pub fn replay<S: Source, O: Sink, E: Sink>(
     // Nothing was wrong, and the replies of the whole script were written.
     ensures ok { result ≡ Status.Ok → (length words.now ≡ 0) × (err.new ≡ err.old)
         × IfSome (S.left source.old) (λ input. IsReplay
-            (state_over ⟦<BoxedDisc as SegDisc>⟧.state shelf.old.slots.items []) input None
-            (S.left source.new) (O.written out.old) (O.written out.new)
-            (accounts (slots_of ⟦<BoxedDisc as SegDisc>⟧.state shelf.old.slots.items))
-            (accounts (slots_of ⟦<BoxedDisc as SegDisc>⟧.state shelf.new.slots.items))) }
+        (state_over ⟦<BoxedDisc as SegDisc>⟧.state shelf.old.slots.items []) input None
+        (S.left source.new) (O.written out.old) (O.written out.new)
+        (accounts (slots_of ⟦<BoxedDisc as SegDisc>⟧.state shelf.old.slots.items))
+        (accounts (slots_of ⟦<BoxedDisc as SegDisc>⟧.state shelf.new.slots.items))) }
 
     // The replies of the lines before the fault were written, and the fault's line.
     ensures script { result ≡ Status.Script → (length words.now ≡ 0)
         × IfSome (S.left source.old) (λ input. (fault : ScriptFault)
-            × IsReplay
-                (state_over ⟦<BoxedDisc as SegDisc>⟧.state shelf.old.slots.items []) input (Some fault)
-                (S.left source.new) (O.written out.old) (O.written out.new)
-                (accounts (slots_of ⟦<BoxedDisc as SegDisc>⟧.state shelf.old.slots.items))
-                (accounts (slots_of ⟦<BoxedDisc as SegDisc>⟧.state shelf.new.slots.items))
-            × Told (E.written err.old) (E.written err.new) (err_line fault)) }
+        × IsReplay
+        (state_over ⟦<BoxedDisc as SegDisc>⟧.state shelf.old.slots.items []) input (Some fault)
+        (S.left source.new) (O.written out.old) (O.written out.new)
+        (accounts (slots_of ⟦<BoxedDisc as SegDisc>⟧.state shelf.old.slots.items))
+        (accounts (slots_of ⟦<BoxedDisc as SegDisc>⟧.state shelf.new.slots.items))
+        × Told (E.written err.old) (E.written err.new) (err_line fault)) }
 
     // The tool takes no words.
     ensures words { 0 < length words.now → (source.new ≡ source.old) × (out.new ≡ out.old)
@@ -169,9 +173,12 @@ pub fn replay<S: Source, O: Sink, E: Sink>(
         × Tried (E.failures err.old) (E.failures err.new) (E.written err.old) (E.written err.new) (codes "vmreplay: read failed\n") }
     ensures write { result ≡ Status.Write → Rose (E.failures err.old) (E.failures err.new)
         ⊎ (Rose (O.failures out.old) (O.failures out.new)
-            × Tried (E.failures err.old) (E.failures err.new) (E.written err.old) (E.written err.new) (codes "vmreplay: write failed\n")) }
+        × Tried (E.failures err.old) (E.failures err.new) (E.written err.old) (E.written err.new) (codes "vmreplay: write failed\n")) }
     ensures memory { result ≡ Status.Memory
         → Tried (E.failures err.old) (E.failures err.new) (E.written err.old) (E.written err.new) (codes "vmreplay: out of memory\n") }
+
+    ensures reads { S.failures source.old ≤ S.failures source.new }
+    ensures writes { (O.failures out.old ≤ O.failures out.new) × (E.failures err.old ≤ E.failures err.new) }
 
     // On every exit each place has its discipline, with the segments out and the round that it had, and no fault less.
     ensures settles { Settles

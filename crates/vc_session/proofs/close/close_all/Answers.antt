@@ -1,10 +1,10 @@
-use Rattle.std.proofs.Common.{◌≡◌, ◌<◌, ◌∷◌, length, Some, ap, ◌∙◌, subst, sym, arith}
+use Rattle.std.proofs.Common.{◌<◌, length, ap, ◌∙◌, subst, sym, arith}
 use Rattle.std.specs.Prelude.{remove}
 use Rattle.std.proofs.lemmas.Bool.Decides.{nat_tests}
 use Rattle.vc_seg.specs.contracts.boxed.BoxDynSegDiscSegDisc.TheImpl as boxed
 use Rattle.vc_seg.specs.Shelf.{slots_of}
 use Rattle.vc_session.specs.Account.{IsSession, accounts, settled}
-use Rattle.vc_session.specs.Homes.{held_all, held_of}
+use Rattle.vc_session.specs.Homes.{held_all}
 use Rattle.vc_session.proofs.Closing.{first-rest, session-closed}
 use Rattle.vc_session.proofs.close.close_all.Goals as goal
 
@@ -23,5 +23,5 @@ loop-rest-preserved g c =
       session = session-closed slots slots' c.remove.result.place (held_all meaning (remove c.loop-rest.rest.items 0)) c.close_region.ensures.elsewhere whole.1 whole.2;
       settled =
           ap (λ a. settled a (held_all meaning (remove c.loop-rest.rest.items 0))) c.close_region.ensures.here
-          ∙ (ap (λ hs. settled (accounts slots) (held_all meaning hs)) (sym split) ∙ c.loop-rest.invariant.settled)
+          ∙ (ap (λ hs. settled (accounts slots) (held_all meaning hs)) (sym split) ∙ c.loop-rest.invariant.settled);
     })

@@ -1,4 +1,4 @@
-use Rattle.std.proofs.Common.{◌≡◌, ◌-◌, Some, option_map, set, ap, ◌∙◌, subst, sym}
+use Rattle.std.proofs.Common.{◌-◌, Some, option_map, set, ap, ◌∙◌}
 use Rattle.std.proofs.lemmas.List.{map-set}
 use Rattle.vc_model.specs.Numbered.{at_number}
 use Rattle.vc_seg.specs.contracts.boxed.BoxDynSegDiscSegDisc.TheImpl as boxed

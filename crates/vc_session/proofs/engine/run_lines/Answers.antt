@@ -1,9 +1,9 @@
-use Rattle.std.proofs.Common.{◌≡◌, ℕ, ◌+◌, ◌≤◌, ◌<◌, length, refl, sym, ap, ◌∙◌, subst, [], arith}
+use Rattle.std.proofs.Common.{◌+◌, sym, ap, ◌∙◌, arith}
 use Rattle.std.proofs.lemmas.Bool.Decides.{nat_tests}
 use Rattle.vc_seg.specs.contracts.boxed.BoxDynSegDiscSegDisc.TheImpl as boxed
 use Rattle.vc_session.specs.Answer.{answer}
 use Rattle.vc_session.specs.Homes.{settled_over, state_over}
-use Rattle.vc_session.proofs.Running.{fault-bad, no-fault, none-left, none-left-bad, running-blank, running-end, running-is, running-start, settles-any}
+use Rattle.vc_session.proofs.Running.{none-left, none-left-bad, running-end, running-is, running-start}
 use Rattle.vc_session.proofs.engine.run_lines.Goals as goal
 
 pub loop-rest-init : goal.loop-rest-init
@@ -13,7 +13,7 @@ loop-rest-init g c =
       count = omega arith;
       session = c.requires;
       running = running-start _ _ _ _;
-      never_falls = omega arith
+      never_falls = omega arith;
     }
 
 pub returns-in-Bad-clause-ran : goal.returns-in-Bad-clause-ran
@@ -31,7 +31,7 @@ loop-rest-preserved g c =
       count = omega (arith, c.loop-rest.invariant.count, c.first_line.ensures.shorter);
       session = c.run_command.ensures.session;
       running = running-is (state_over meaning c.run_command.new.shelf.slots.items c.run_command.new.homes.items) (g.O.Sink.written c.write_all.new.out) (settled_over meaning c.run_command.new.shelf.slots.items c.run_command.new.homes.items) c.first_line.result.0.now c.first_line.result.1.now c.in-Is.command c.in_ok-reply-in-Is.reply c.loop-rest.invariant.running c.first_line.ensures.lines is c.in_ok-reply-in-Is.ensures.step c.in_ok-reply-in-Is.ensures.settles line;
-      never_falls = omega (arith, c.loop-rest.invariant.never_falls, c.write_all.ensures.never_falls)
+      never_falls = omega (arith, c.loop-rest.invariant.never_falls, c.write_all.ensures.never_falls);
     }
 
 pub returns-clause-ran : goal.returns-clause-ran

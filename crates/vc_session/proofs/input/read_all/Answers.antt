@@ -1,4 +1,4 @@
-use Rattle.std.proofs.Common.{◌≡◌, ℕ, ◌<◌, ◌≤◌, length, arith, rules}
+use Rattle.std.proofs.Common.{arith, rules}
 use Rattle.std.proofs.lemmas.Grind.{common_steps}
 use Rattle.vc_session.proofs.Reading.{read_at_end, read_more}
 use Rattle.vc_session.proofs.input.read_all.Goals as goal

@@ -2,6 +2,9 @@ use Rattle.std.proofs.Common.{refl}
 use Rattle.std.specs.Fmt.{digits}
 use Rattle.vc_session.proofs.run_rows.row_one.Goals as goal
 
-pub returns : goal.returns
+pub returns-clause-empty : goal.returns-clause-empty
+returns-clause-empty c = refl
+
+pub returns-clause-row : goal.returns-clause-row
 unfolding digits
-returns c = refl
+returns-clause-row c = refl

@@ -1,17 +1,14 @@
-use Rattle.std.proofs.Common.{◌≡◌, ℕ, ◌-◌, ◌++◌, [], ◌∷◌, map, set, Some, None, sym, ap, ◌∙◌, refl, subst}
+use Rattle.std.proofs.Common.{◌-◌, set, Some, None, sym, ap, ◌∙◌, subst}
 use Rattle.std.proofs.lemmas.Bool.{false≢true}
 use Rattle.std.proofs.lemmas.List.{map-append, set-set}
-use Rattle.vc_model.specs.Numbered.{at_number}
 use Rattle.vc_seg.specs.contracts.boxed.BoxDynSegDiscSegDisc.TheImpl as boxed
 use Rattle.vc_seg.specs.Shelf.{slots_of}
-use Rattle.vc_session.specs.declared.reply.Reply.TheVariants.{Opened}
-use Rattle.vc_session.specs.State.{open_step}
-use Rattle.vc_session.specs.Account.{Held, accounts, settled, state_of, IsSession}
-use Rattle.vc_session.specs.Homes.{held_all, held_of}
+use Rattle.vc_session.specs.Account.{accounts, settled, IsSession}
+use Rattle.vc_session.specs.Homes.{held_all}
 use Rattle.vc_session.proofs.Cells.{at_number_some, set_same}
 use Rattle.vc_session.proofs.Firsts.{any-first}
 use Rattle.vc_session.proofs.Helds.{any-named}
-use Rattle.vc_session.proofs.Opening.{fresh, fresh_like, open_step-ok, open_step-named, open_step-not_here, session-open, settled-open}
+use Rattle.vc_session.proofs.Opening.{fresh_like, open_step-ok, open_step-named, open_step-not_here, session-open, settled-open}
 use Rattle.vc_session.proofs.session.open_region.Goals as goal
 
 pub returns-in-Some-clause-step : goal.returns-in-Some-clause-step
@@ -59,11 +56,11 @@ returns-in-Err-clause-session g c =
     let meaning = (boxed.state-value g.dyn-1).it in
     let slots = slots_of meaning c.args.shelf.now.slots.items in
     let back =
-        c.give_back.ensures.filled
-        ∙ (ap (λ s. set s (c.args.n - 1) (Some (meaning c.in-Err.disc))) c.in-Some-take.ensures.emptied
-        ∙ (set-set slots (c.args.n - 1) None (Some (meaning c.in-Err.disc))
-        ∙ (ap (λ d. set slots (c.args.n - 1) (Some d)) c.in-Err.ensures.err
-        ∙ set_same slots (c.args.n - 1) (Some (meaning c.in-Some-take.disc)) (at_number_some slots c.args.n (Some (meaning c.in-Some-take.disc)) c.in-Some-take.ensures.taken).1))) in
+    c.give_back.ensures.filled
+    ∙ (ap (λ s. set s (c.args.n - 1) (Some (meaning c.in-Err.disc))) c.in-Some-take.ensures.emptied
+    ∙ (set-set slots (c.args.n - 1) None (Some (meaning c.in-Err.disc))
+    ∙ (ap (λ d. set slots (c.args.n - 1) (Some d)) c.in-Err.ensures.err
+    ∙ set_same slots (c.args.n - 1) (Some (meaning c.in-Some-take.disc)) (at_number_some slots c.args.n (Some (meaning c.in-Some-take.disc)) c.in-Some-take.ensures.taken).1))) in
     rw c.in_ok-reserve.ensures.items (subst (λ s. IsSession s (held_all meaning c.args.homes.now.items)) (sym back) c.requires)
 
 pub returns-in-Err-clause-settled : goal.returns-in-Err-clause-settled
@@ -71,9 +68,9 @@ returns-in-Err-clause-settled g c =
     let meaning = (boxed.state-value g.dyn-1).it in
     let slots = slots_of meaning c.args.shelf.now.slots.items in
     let back =
-        c.give_back.ensures.filled
-        ∙ (ap (λ s. set s (c.args.n - 1) (Some (meaning c.in-Err.disc))) c.in-Some-take.ensures.emptied
-        ∙ (set-set slots (c.args.n - 1) None (Some (meaning c.in-Err.disc))
-        ∙ (ap (λ d. set slots (c.args.n - 1) (Some d)) c.in-Err.ensures.err
-        ∙ set_same slots (c.args.n - 1) (Some (meaning c.in-Some-take.disc)) (at_number_some slots c.args.n (Some (meaning c.in-Some-take.disc)) c.in-Some-take.ensures.taken).1))) in
+    c.give_back.ensures.filled
+    ∙ (ap (λ s. set s (c.args.n - 1) (Some (meaning c.in-Err.disc))) c.in-Some-take.ensures.emptied
+    ∙ (set-set slots (c.args.n - 1) None (Some (meaning c.in-Err.disc))
+    ∙ (ap (λ d. set slots (c.args.n - 1) (Some d)) c.in-Err.ensures.err
+    ∙ set_same slots (c.args.n - 1) (Some (meaning c.in-Some-take.disc)) (at_number_some slots c.args.n (Some (meaning c.in-Some-take.disc)) c.in-Some-take.ensures.taken).1))) in
     rw c.in_ok-reserve.ensures.items (ap (λ s. settled (accounts s) (held_all meaning c.args.homes.now.items)) back)

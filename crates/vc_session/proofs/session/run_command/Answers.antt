@@ -1,11 +1,11 @@
-use Rattle.std.proofs.Common.{◌≡◌, ℕ, sym, ap, ◌∙◌, refl, subst, false, Result, Ok, Err, OnErr, []}
+use Rattle.std.proofs.Common.{sym, ap, ◌∙◌, subst, false, Result, Ok, Err, OnErr, []}
 use Rattle.std.proofs.lemmas.List.{map-set}
 use Rattle.vc_seg.specs.contracts.boxed.BoxDynSegDiscSegDisc.TheImpl as boxed
 use Rattle.vc_seg.specs.Shelf.{slots_of}
 use Rattle.vc_session.specs.declared.command.Command.TheVariants.{Alloc}
 use Rattle.vc_session.specs.Run.{refusal_at}
-use Rattle.vc_session.specs.State.{alloc_step, home_named, is_home}
-use Rattle.vc_session.specs.Account.{IsSession, Settles, accounts, home_of, settled, state_of}
+use Rattle.vc_session.specs.State.{alloc_step, is_home}
+use Rattle.vc_session.specs.Account.{IsSession, Settles, accounts, settled, state_of}
 use Rattle.vc_session.specs.Homes.{held_all, held_of}
 use Rattle.vc_session.proofs.Firsts.{find-none}
 use Rattle.vc_session.proofs.Helds.{any-named, first-named, held-read}
@@ -76,8 +76,8 @@ returns-in_ok-allocate-in-Some-clause-settles g c =
     rw c.in-Alloc.is
     (subst (λ hs. Settles (settled (accounts slots) helds) (settled (accounts slots) hs) (refusal_at (state_of slots helds) (Alloc c.in-Alloc.name c.in-Alloc.block c.in-Alloc.size) c.in_ok-allocate-in-Some.field-0)) (sym after)
     (settles-reply slots helds c.in-Some.i h k at c.requires c.allocate.ensures.change c.in-Alloc.name c.in-Alloc.block c.in-Alloc.size c.in_ok-allocate-in-Some.field-0
-        (found-change slots helds c.in-Some.i h k at c.requires c.allocate.ensures.change c.in-Alloc.name first)
-        (λ e. c.allocate.ensures.refused (c.in_ok-allocate-in-Some.was ∙ ap (λ r. Ok r) e))))
+    (found-change slots helds c.in-Some.i h k at c.requires c.allocate.ensures.change c.in-Alloc.name first)
+    (λ e. c.allocate.ensures.refused (c.in_ok-allocate-in-Some.was ∙ ap (λ r. Ok r) e))))
 
 pub returns-in_err-allocate-in-Some-clause-session : goal.returns-in_err-allocate-in-Some-clause-session
 returns-in_err-allocate-in-Some-clause-session g c =

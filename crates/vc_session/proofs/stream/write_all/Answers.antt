@@ -1,6 +1,5 @@
-use Rattle.std.proofs.Common.{◌≡◌, ℕ, ◌+◌, ◌≤◌, length, drop, arith}
+use Rattle.std.proofs.Common.{arith}
 use Rattle.std.proofs.lemmas.List.{length-drop, take_rest}
-use Rattle.vc_model.specs.Stream.{Writes}
 use Rattle.vc_session.proofs.Written.{written-more}
 use Rattle.vc_session.proofs.stream.write_all.Goals as goal
 

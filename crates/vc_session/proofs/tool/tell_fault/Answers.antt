@@ -1,4 +1,3 @@
-use Rattle.std.proofs.Common.{◌≡◌, ap}
 use Rattle.vc_session.proofs.Telling.{told-five}
 use Rattle.vc_session.proofs.tool.tell_fault.Goals as goal
 
