@@ -7,7 +7,7 @@ use std::io::ErrorKind;
 use std::process::ExitCode;
 use vc_base::{StdSink, StdSource};
 use vc_seg::{HeapDisc, Shelf};
-use vc_session::{replay, Status};
+use vc_session::{Status, replay};
 
 // The words behind the program's name. Where one isn't UTF-8 there's no list, and an empty word is refused in its place.
 fn words_of<R: Env + Alloc<A = Global>>(rt: &R) -> Result<Vec<String>, AllocError> {
@@ -47,5 +47,12 @@ fn main(rt: HostRuntime) -> ExitCode {
     let mut source = StdSource::new(rt.stdin());
     let mut out = StdSink::new(rt.stdout());
     let mut err = StdSink::new(rt.stderr());
-    exit(replay(alloc, words.as_slice(), &mut shelf, &mut source, &mut out, &mut err))
+    exit(replay(
+        alloc,
+        words.as_slice(),
+        &mut shelf,
+        &mut source,
+        &mut out,
+        &mut err,
+    ))
 }
