@@ -1,10 +1,10 @@
--- What feed and end find in pieces is what stands in the pieces joined.
+-- What feed and end find in pieces is what stands in the pieces concat.
 use Rattle.std.proofs.Common.{◌≡◌, ◌≢◌, ℕ, zero, suc, ◌+◌, ◌<◌, ◌≤◌, Bool, true, false, cond, eqb, ltb, add-one, List, [], ◌∷◌, ◌++◌, length, drop, refl, sym, ap, ◌∙◌, arith, inl, inr}
 use Rattle.std.specs.Prelude.{Result, Ok, Err}
-use Rattle.std.specs.List.{flat_map}
 use Rattle.std.proofs.lemmas.Bool.{cases_Bool}
 use Rattle.std.proofs.lemmas.Bool.Decides.{eqb_tells, nat_tests}
 use Rattle.std.proofs.lemmas.List.{append_assoc, length_push, length-append, length-drop}
+use Rattle.std.specs.List.{concat}
 use Rattle.vc_script.specs.declared.fault.LineFault.{LineFault}
 use Rattle.vc_script.specs.declared.fault.LineFault.TheVariants.{LineTooLong, TooManyLines}
 use Rattle.vc_script.specs.declared.cutter.Cut.{Cut}
@@ -81,9 +81,10 @@ module _ (s : Cutting) (b : ℕ) (bs behind : List ℕ) (is : IsCutting s) where
   tells-late number = judged-late (s.count + 1) s.kept (b ∷ bs ++ behind) (omega arith) (omega arith)
 
   tells-line : s.count ≢ last_number → eqb b 10 ≡ true → Tells Whole (with_line s) 1 s (b ∷ bs) behind
-  tells-line number newline =
-      (ap rest_or newline ∙ ap (λ j. judged_then (s.count + 1) j (judged_from (s.count + 1 + 1) (lines (bs ++ behind)))) (judge-ok (s.count + 1) s.kept (omega (arith, number, is.few)) is.short),
-      (record { short = omega arith; few = omega (arith, number, is.few); no_more = λ e. refl }, (omega arith, omega arith)))
+  tells-line number newline = (
+    ap rest_or newline ∙ ap (λ j. judged_then (s.count + 1) j (judged_from (s.count + 1 + 1) (lines (bs ++ behind)))) (judge-ok (s.count + 1) s.kept (omega (arith, number, is.few)) is.short),
+    (record { short = omega arith; few = omega (arith, number, is.few); no_more = λ e. refl }, (omega arith, omega arith)),
+  )
 
   tells-long : s.count ≢ last_number → eqb b 10 ≡ false → length s.kept ≡ line_limit → judged_rest s (b ∷ bs ++ behind) ≡ (s.count + 1, Err LineTooLong) ∷ []
   tells-long number other full =
@@ -112,4 +113,28 @@ pub end-tells : (s : Cutting) → IsCutting s → found_then (end_cut s.kept) (a
 end-tells s is = end_of s.kept is.short (λ e some. omega (arith, ap length (is.no_more e), some)) where
   end_of : (kept : List ℕ) → length kept ≤ line_limit → (s.count ≡ last_number → 0 < length kept → ⊥) → found_then (end_cut kept) (after_end (record { kept = kept; count = s.count; line = s.line; is_open = s.is_open }) kept) [] [] ≡ judged_from (s.count + 1) (lines_after kept [])
   end_of [] short no_more = refl
-  end_of (b ∷ bs) short no_more = ?
+  end_of (b ∷ bs) short no_more =
+      let number : s.count ≢ last_number = λ e. no_more e (omega arith) in
+      ap (λ j. judged_then (s.count + 1) j []) (sym (judge-ok (s.count + 1) (b ∷ bs) (omega (arith, number, is.few)) short))
+
+-- one call, and the calls behind it
+calls-tell : (calls : ℕ) (cut : Cut) (after : Cutting) (used : ℕ) (s : Cutting) (p : List ℕ) (ps : List (List ℕ)) → Tells cut after used s p (concat ps) → length (p ++ concat ps) + length ps < calls → ((t : Cutting) (qs : List (List ℕ)) → IsCutting t → length (concat qs) + length qs < calls → found_in calls t qs ≡ judged_rest t (concat qs)) → found_then cut after (found_in calls after (drop used p ∷ ps)) (found_in calls after ps) ≡ judged_rest s (p ++ concat ps)
+calls-tell calls Whole after used s p ps tells few others =
+    let fewer : length (drop used p ++ concat ps) + length (drop used p ∷ ps) < calls = omega (arith, few, tells.1.1.0, tells.1.1.1, length-append p (concat ps), length-append (drop used p) (concat ps), length-drop used p) in
+    ap (λ found. (after.count, Ok after.line) ∷ found) (others after (drop used p ∷ ps) tells.1.0 fewer) ∙ sym tells.0
+calls-tell calls More after used s p ps tells few others =
+    others after ps tells.1 (omega (arith, few, length-append p (concat ps))) ∙ sym tells.0
+calls-tell calls (Bad fault) after used s p ps tells few others = sym tells
+
+-- with enough calls
+found_in-rest : (calls : ℕ) (s : Cutting) (ps : List (List ℕ)) → IsCutting s → length (concat ps) + length ps < calls → found_in calls s ps ≡ judged_rest s (concat ps)
+found_in-rest zero s ps is few = absurd (omega arith)
+found_in-rest (suc calls) s [] is few = end-tells s is
+found_in-rest (suc calls) s (p ∷ ps) is few =
+    let f = fed s p in
+    calls-tell calls f.cut f.after f.used s p ps (fed-tells s p (concat ps) is) (omega arith) (found_in-rest calls)
+
+-- from the first piece on
+pub found_in-judged : (pieces : List (List ℕ)) (calls : ℕ) → length (concat pieces) + length pieces < calls → found_in calls new_cutting pieces ≡ judged (concat pieces)
+found_in-judged pieces calls few =
+    found_in-rest calls new_cutting pieces (record { short = omega arith; few = omega arith; no_more = λ e. refl }) few

@@ -1,5 +1,5 @@
 ghost use Rattle.std.specs.Prelude.{◌≡◌, ◌≢◌, ℕ, ◌+◌, ◌<◌, ◌≤◌, ◌++◌, [], length, slice_index, IsTrue, IfOk, vec_len, vec_capacity};
-ghost use Rattle.vc_script.specs.Lines.{without_cr};
+ghost use Rattle.vc_script.specs.Lines.{last_number, without_cr};
 ghost use Rattle.vc_script.specs.Cutting.{new_cutting};
 ghost use Rattle.vc_script.specs.Cutter.{after_end, end_cut, fed};
 
@@ -73,7 +73,9 @@ impl LineCutter {
     /// no call of `feed` or `end` may follow.
     pub fn feed(&mut self, piece: &[u8]) -> (Cut, usize)
         requires { IsTrue self.old.is_open }
-        ensures { fed self.old piece.now ≡ record { after = self.new; cut = result.0; used = result.1 } }
+        ensures fed { fed self.old piece.now ≡ record { after = self.new; cut = result.0; used = result.1 } }
+        ensures within { result.1 ≤ length piece.now }
+        ensures progress { 0 < length piece.now → 0 < result.1 }
     {
         if piece.is_empty() {
             return (Cut::More, 0);
@@ -120,7 +122,8 @@ impl LineCutter {
 
     /// The number of the last whole line; 0 where there is none.
     pub fn number(&self) -> u32
-        ensures { result ≡ self.now.count }
+        ensures value { result ≡ self.now.count }
+        ensures few { result ≤ last_number }
     {
         self.count
     }

@@ -3,6 +3,7 @@
 
 mod cutter;
 mod fault;
+pub mod line_rows;
 
 pub use cutter::{Cut, LineCutter};
 pub use fault::LineFault;

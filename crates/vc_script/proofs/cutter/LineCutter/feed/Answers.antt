@@ -8,13 +8,13 @@ use Rattle.vc_script.specs.Cutter.{Fed, fed}
 use Rattle.vc_script.proofs.Feeding.{fed-late, fed-more, fed-whole, fed-long}
 use Rattle.vc_script.proofs.cutter.LineCutter.feed.Goals as goal
 
-pub returns-then-self-eq-LAST_NUMBER : goal.returns-then-self-eq-LAST_NUMBER
-returns-then-self-eq-LAST_NUMBER c =
+pub returns-then-self-eq-LAST_NUMBER-clause-fed : goal.returns-then-self-eq-LAST_NUMBER-clause-fed
+returns-then-self-eq-LAST_NUMBER-clause-fed c =
     ap (λ s. fed s c.args.piece.now) (sym c.self.view_is)
     ∙ fed-late (the_view c.self.inside) c.args.piece.now (search rules) (search rules)
 
-pub returns-then-n-piece : goal.returns-then-n-piece
-returns-then-n-piece c =
+pub returns-then-n-piece-clause-fed : goal.returns-then-n-piece-clause-fed
+returns-then-n-piece-clause-fed c =
     let s : Cutting = the_view c.self.inside in
     let piece = c.args.piece.now in
     let n = c.plain_count-n.result in
@@ -23,8 +23,8 @@ returns-then-n-piece c =
     ∙ (fed-more s piece n c.plain_count-n.ensures.within (search rules) (omega arith) c.plain_count-n.ensures.plain (sym c.if-n-piece.true)
     ∙ ap made (sym c.append.ensures.items))
 
-pub returns : goal.returns
-returns c =
+pub returns-clause-fed : goal.returns-clause-fed
+returns-clause-fed c =
     let s : Cutting = the_view c.self.inside in
     let piece = c.args.piece.now in
     let n = c.plain_count-n.result in
@@ -36,8 +36,8 @@ returns c =
     ∙ (ap (λ bytes. made bytes (without_cr c.append.new.bytes.items)) (sym c.end_line.ensures.kept)
     ∙ ap (made c.end_line.new.kept.items) (sym c.end_line.ensures.line))))
 
-pub returns-then-piece-n-ne10 : goal.returns-then-piece-n-ne10
-returns-then-piece-n-ne10 c =
+pub returns-then-piece-n-ne10-clause-fed : goal.returns-then-piece-n-ne10-clause-fed
+returns-then-piece-n-ne10-clause-fed c =
     let s : Cutting = the_view c.self.inside in
     let piece = c.args.piece.now in
     let n = c.plain_count-n.result in
