@@ -1,0 +1,1 @@
+pub use Rattle.vc_base.specs.Name
