@@ -1,1 +1,9 @@
 pub use Rattle.vc_base.specs.Name
+pub use Rattle.percent_encoding.specs.Percent
+pub mod Lines
+pub mod Words
+pub mod Forms
+pub mod Counts
+pub mod Commands
+pub mod Answer
+pub mod Proper

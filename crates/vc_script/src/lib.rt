@@ -4,7 +4,9 @@
 mod block_items;
 mod bytes;
 mod command;
+mod count;
 mod damage_items;
+mod form;
 mod line_answer;
 mod line_fault;
 mod object_items;
@@ -14,6 +16,7 @@ mod reply;
 mod row_items;
 mod segment_items;
 mod tool;
+mod word;
 
 pub use block_items::BlockItems;
 pub use bytes::Bytes;
