@@ -3,9 +3,9 @@ use Rattle.std.proofs.Common.{◌≡◌, ◌≢◌, ℕ, zero, suc, ◌+◌, ◌
 use Rattle.std.proofs.lemmas.Bool.{eq-eqb}
 use Rattle.std.proofs.lemmas.Bool.Decides.{eqb_tells, nat_tests}
 use Rattle.std.proofs.lemmas.List.{append-nil, append_assoc, length_push, length-append, length-take, drop_all, at_drop_more}
-use Rattle.vc_script.specs.declared.fault.LineFault.TheVariants.{LineTooLong, TooManyLines}
+use Rattle.vc_script.specs.declared.line_fault.LineFault.TheVariants.{LineTooLong, TooManyLines}
 use Rattle.vc_script.specs.declared.cutter.Cut.TheVariants.{Whole, More, Bad}
-use Rattle.vc_script.specs.Lines.{line_limit, last_number, without_cr}
+use Rattle.vc_script.specs.Judged.{line_limit, last_number}
 use Rattle.vc_script.specs.Cutting.{Cutting}
 use Rattle.vc_script.specs.Cutter.{Fed, fed, one_more, with_byte, with_line, closed}
 

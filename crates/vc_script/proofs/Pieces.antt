@@ -5,11 +5,12 @@ use Rattle.std.proofs.lemmas.Bool.{cases_Bool}
 use Rattle.std.proofs.lemmas.Bool.Decides.{eqb_tells, nat_tests}
 use Rattle.std.proofs.lemmas.List.{append_assoc, length_push, length-append, length-drop}
 use Rattle.std.specs.List.{concat}
-use Rattle.vc_script.specs.declared.fault.LineFault.{LineFault}
-use Rattle.vc_script.specs.declared.fault.LineFault.TheVariants.{LineTooLong, TooManyLines}
+use Rattle.vc_script.specs.declared.line_fault.LineFault.{LineFault}
+use Rattle.vc_script.specs.declared.line_fault.LineFault.TheVariants.{LineTooLong, TooManyLines}
 use Rattle.vc_script.specs.declared.cutter.Cut.{Cut}
 use Rattle.vc_script.specs.declared.cutter.Cut.TheVariants.{Whole, More, Bad}
-use Rattle.vc_script.specs.Lines.{line_limit, last_number, without_cr, lines_after, lines, judge, judged_from, judged_then, judged}
+use Rattle.vc_script.specs.Lines.{without_cr, lines_after, lines}
+use Rattle.vc_script.specs.Judged.{line_limit, last_number, judge, judged_from, judged_then, judged}
 use Rattle.vc_script.specs.Cutting.{Cutting, IsCutting, new_cutting}
 use Rattle.vc_script.specs.Cutter.{Fed, fed, one_more, with_byte, with_line, closed, end_cut, after_end}
 use Rattle.vc_script.specs.Pieces.{Found, found_then, found_in}

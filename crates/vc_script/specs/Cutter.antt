@@ -1,10 +1,11 @@
 -- The cutting of an input into lines, a piece at a time.
 use Rattle.std.specs.Prelude.{ℕ, ◌+◌, List, [], ◌∷◌, ◌++◌, Bool, true, false, ◌==◌, length, if◌then◌else◌}
-use Rattle.vc_script.specs.declared.fault.LineFault.{LineFault}
-use Rattle.vc_script.specs.declared.fault.LineFault.TheVariants.{LineTooLong, TooManyLines}
+use Rattle.vc_script.specs.declared.line_fault.LineFault.{LineFault}
+use Rattle.vc_script.specs.declared.line_fault.LineFault.TheVariants.{LineTooLong, TooManyLines}
 use Rattle.vc_script.specs.declared.cutter.Cut.{Cut}
 use Rattle.vc_script.specs.declared.cutter.Cut.TheVariants.{Whole, More, Bad}
-use Rattle.vc_script.specs.Lines.{line_limit, last_number, without_cr}
+use Rattle.vc_script.specs.Lines.{without_cr}
+use Rattle.vc_script.specs.Judged.{line_limit, last_number}
 use Rattle.vc_script.specs.Cutting.{Cutting}
 
 -- the state after a call of feed, its answer, and how many bytes it took

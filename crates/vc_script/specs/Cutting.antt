@@ -1,6 +1,6 @@
 -- How far the cutting of an input into lines has come.
 use Rattle.std.specs.Prelude.{◌≡◌, ℕ, ◌≤◌, List, [], Bool, true, length}
-use Rattle.vc_script.specs.Lines.{line_limit, last_number}
+use Rattle.vc_script.specs.Judged.{line_limit, last_number}
 
 -- the bytes of the line that has begun, how many lines were whole, the last whole line without its final CR (at
 -- first an empty one), and whether more may be fed

@@ -1,6 +1,13 @@
-pub use Rattle.vc_model.specs.Count
 pub use Rattle.vc_base.specs.Name
+pub use Rattle.percent_encoding.specs.Percent
 pub mod Lines
+pub mod Judged
 pub mod Cutting
 pub mod Cutter
 pub mod Pieces
+pub mod Words
+pub mod Forms
+pub mod Counts
+pub mod Commands
+pub mod Answer
+pub mod Proper

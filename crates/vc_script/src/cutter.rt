@@ -1,5 +1,6 @@
 ghost use Rattle.std.specs.Prelude.{◌≡◌, ◌≢◌, ℕ, ◌+◌, ◌<◌, ◌≤◌, ◌++◌, [], length, slice_index, IsTrue, IfOk, vec_len, vec_capacity};
-ghost use Rattle.vc_script.specs.Lines.{last_number, without_cr};
+ghost use Rattle.vc_script.specs.Judged.{last_number};
+ghost use Rattle.vc_script.specs.Lines.{without_cr};
 ghost use Rattle.vc_script.specs.Cutting.{new_cutting};
 ghost use Rattle.vc_script.specs.Cutter.{after_end, end_cut, fed};
 
@@ -40,7 +41,7 @@ pub struct LineCutter {
 
 impl Model for LineCutter {
     ghost use Rattle.std.specs.Prelude.{◌≤◌, vec_capacity};
-    ghost use Rattle.vc_script.specs.Lines.{line_limit};
+    ghost use Rattle.vc_script.specs.Judged.{line_limit};
     ghost use Rattle.vc_script.specs.Cutting.{Cutting, IsCutting};
 
     ghost Value = { Cutting };
@@ -158,7 +159,7 @@ fn append(bytes: &mut Vec<u8>, piece: &[u8])
 }
 
 // Makes the bytes that are kept the last whole line. The two buffers change places.
-#[tactic(auto, using(crate::proofs::Cuts::line_steps))]
+#[tactic(auto, using(crate::proofs::LineSteps::line_steps))]
 fn end_line(kept: &mut Vec<u8>, line: &mut Vec<u8>)
     ensures line { line.new.items ≡ without_cr kept.old.items }
     ensures kept { kept.new.items ≡ [] }

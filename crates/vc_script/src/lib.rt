@@ -1,9 +1,37 @@
-//! The script language of the tools: the lines of an input, and the printed replies.
+//! The script language: its commands and replies, the cutting of an input into lines, the grammar of lines, and the
+//! printing of replies.
 #![tactic(auto)]
 
+mod block_items;
+mod bytes;
+mod command;
+mod count;
 mod cutter;
-mod fault;
+mod damage_items;
+mod form;
+mod line_answer;
+mod line_fault;
 pub mod line_rows;
+mod object_items;
+mod place;
+mod refusal;
+mod reply;
+mod row_items;
+mod segment_items;
+mod tool;
+mod word;
 
+pub use block_items::BlockItems;
+pub use bytes::Bytes;
+pub use command::Command;
 pub use cutter::{Cut, LineCutter};
-pub use fault::LineFault;
+pub use damage_items::DamageItems;
+pub use line_answer::LineAnswer;
+pub use line_fault::LineFault;
+pub use object_items::ObjectItems;
+pub use place::Place;
+pub use refusal::Refusal;
+pub use reply::Reply;
+pub use row_items::RowItems;
+pub use segment_items::SegmentItems;
+pub use tool::Tool;

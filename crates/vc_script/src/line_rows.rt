@@ -3,10 +3,11 @@ ghost use Rattle.std.specs.Prelude.{◌≡◌, ℕ, ◌+◌, ◌<◌, List, ◌+
 ghost use Rattle.std.specs.List.{concat};
 ghost use Rattle.vc_script.specs.Cutting.{new_cutting};
 ghost use Rattle.vc_script.specs.Cutter.{fed};
-ghost use Rattle.vc_script.specs.Lines.{judge, judged, judged_from, lines, without_cr};
+ghost use Rattle.vc_script.specs.Judged.{judge, judged, judged_from};
+ghost use Rattle.vc_script.specs.Lines.{lines, without_cr};
 ghost use Rattle.vc_script.specs.Pieces.{found_in};
 ghost use Rattle.vc_script.specs.declared.cutter.Cut.TheVariants as cut;
-ghost use Rattle.vc_script.specs.declared.fault.LineFault.TheVariants.{LineTooLong, TooManyLines};
+ghost use Rattle.vc_script.specs.declared.line_fault.LineFault.TheVariants.{LineTooLong, TooManyLines};
 
 /// However an input is cut into pieces, empty ones among them, the whole lines that `feed` and `end` find, their numbers
 /// and the fault are those of the input. Each line takes one call, each piece one more, and the end one.
