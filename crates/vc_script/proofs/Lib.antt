@@ -4,3 +4,4 @@ pub mod Feeding
 pub mod Pieces
 pub mod NameBounds
 pub mod WordSteps
+pub mod PrintSteps

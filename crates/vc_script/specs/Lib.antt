@@ -1,5 +1,7 @@
 pub use Rattle.vc_base.specs.Name
 pub use Rattle.percent_encoding.specs.Percent
+pub use Rattle.percent_encoding.specs.AsciiSet
+pub use Rattle.hex.specs.Hex
 pub mod Lines
 pub mod Judged
 pub mod Cutting
@@ -11,3 +13,6 @@ pub mod Counts
 pub mod Commands
 pub mod Answer
 pub mod Proper
+pub mod Needs
+pub mod Shown
+pub mod Print
