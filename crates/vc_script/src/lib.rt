@@ -15,6 +15,7 @@ mod place;
 mod refusal;
 mod reply;
 mod row_items;
+pub mod rows;
 mod segment_items;
 mod shape;
 mod table;

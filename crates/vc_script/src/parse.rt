@@ -1,6 +1,7 @@
 // The answer to a line, by the grammar.
-ghost use Rattle.std.specs.Prelude.{◌≡◌, ◌∷◌, map, IfOk};
+ghost use Rattle.std.specs.Prelude.{◌≡◌, ◌≢◌, ◌∷◌, map, IfOk};
 ghost use Rattle.vc_script.specs.Answer.{answer, answer_of, answer_to, is_comment};
+ghost use Rattle.vc_script.specs.Proper.{IsProperAnswer};
 
 use crate::table::command_over_regions;
 use crate::word::words_of;
@@ -11,7 +12,10 @@ use vc_base::OutOfMemory;
 /// What a line of a script asks for. The line stands without its newline and without a final CR; any other CR is a byte
 /// of a word. Needs memory in proportion to the line, and fails for want of it alone.
 pub fn read_line(alloc: Global, tool: Tool, line: &[u8]) -> Result<LineAnswer, OutOfMemory>
-    ensures { IfOk result (λ a. a ≡ answer tool line.now) }
+    ensures value { IfOk result (λ a. a ≡ answer tool line.now) }
+    ensures proper { IfOk result IsProperAnswer }
+    ensures not_too_long { result ≢ Ok (LineAnswer.Bad LineFault.LineTooLong) }
+    ensures not_too_many { result ≢ Ok (LineAnswer.Bad LineFault.TooManyLines) }
 {
     let words = words_of(alloc, line)?;
     match words.as_slice().split_first() {
