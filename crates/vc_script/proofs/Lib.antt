@@ -5,3 +5,6 @@ pub mod Pieces
 pub mod NameBounds
 pub mod WordSteps
 pub mod PrintSteps
+pub mod ProperWords
+pub mod ProperCounts
+pub mod ProperCommands

@@ -7,7 +7,7 @@ use Rattle.vc_script.specs.declared.line_answer.LineAnswer.TheVariants.{Blank, I
 use Rattle.vc_script.specs.declared.tool.Tool.{Tool}
 use Rattle.vc_script.specs.declared.tool.Tool.TheVariants.{Vmreplay}
 use Rattle.vc_script.specs.Words.{words}
-use Rattle.vc_script.specs.Commands.{region_command}
+use Rattle.vc_script.specs.Commands.{command_over_regions}
 
 -- a line whose first byte that isn't a blank is `#` is a comment
 abbrev pub is_comment : List ℕ → Bool
@@ -16,7 +16,7 @@ is_comment (b ∷ bs) = b == 35
 
 -- by the first word, then the number of words, then each word's form from the left; the first that fails gives the fault
 abbrev pub command_of : Tool → List ℕ → List (List ℕ) → Result Command LineFault
-command_of Vmreplay first others = region_command first others
+command_of Vmreplay first others = command_over_regions first others
 
 abbrev pub answer_of : Result Command LineFault → LineAnswer
 answer_of (Ok command) = Is command

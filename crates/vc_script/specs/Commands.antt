@@ -89,15 +89,14 @@ poke_in others = do
   byte ← number_of ws.3
   Ok (Poke region block off byte)
 
--- the commands that have a shape of their own
+-- four commands with a shape of their own
 abbrev pub block_command : List ℕ → List (List ℕ) → Result Command LineFault
 block_command first others =
     if bytes_eq first (codes "open") then open_in others
     else (if bytes_eq first (codes "alloc") then alloc_in others
     else (if bytes_eq first (codes "resize") then resize_in others
-    else (if bytes_eq first (codes "write") then write_in others
     else (if bytes_eq first (codes "poke") then poke_in others
-    else Err UnknownCommand))))
+    else Err UnknownCommand)))
 
 -- those with a block, with a block and two numbers, or with an address
 abbrev pub place_command : List ℕ → List (List ℕ) → Result Command LineFault
@@ -123,3 +122,8 @@ region_command first others =
     else (if bytes_eq first (codes "check") then (region_in others >>= λ r. Ok (Check r))
     else (if bytes_eq first (codes "profile") then (region_in others >>= λ r. Ok (ProfileOf r))
     else place_command first others)))))))
+
+-- every command over regions
+abbrev pub command_over_regions : List ℕ → List (List ℕ) → Result Command LineFault
+command_over_regions first others =
+    if bytes_eq first (codes "write") then write_in others else region_command first others

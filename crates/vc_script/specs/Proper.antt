@@ -1,8 +1,11 @@
 -- What holds of each command that a line gives.
-use Rattle.std.specs.Prelude.{ℕ, ℤ, ◌^◌, ◌<◌, ◌≤◌, List, Option, Some, None, IsTrue, nat_abs}
+use Rattle.std.specs.Prelude.{ℕ, ◌^◌, ◌<◌, ◌≤◌, List, Option, Some, None, IsTrue, nat_abs}
 use Rattle.vc_script.specs.declared.command.Command.{Command}
 use Rattle.vc_script.specs.declared.command.Command.TheVariants.{OpenRegion, CloseRegion, ClearRegion, Compact, Alloc, Align, Resize, Free, WriteBlock, ReadBlock, SizeOf, AddrOf, SegmentOf, StatOf, Segments, Blocks, Poke, Check, Watch, ProfileOf}
+use Rattle.vc_script.specs.declared.line_answer.LineAnswer.{LineAnswer}
+use Rattle.vc_script.specs.declared.line_answer.LineAnswer.TheVariants.{Blank, Is, Bad}
 use Rattle.vc_script.specs.declared.line_fault.LineFault.{LineFault}
+use Rattle.vc_script.specs.declared.line_fault.LineFault.TheVariants.{LineTooLong, TooManyLines}
 use Rattle.vc_script.specs.declared.place.Place.{Place}
 use Rattle.vc_script.specs.Words.{is_name}
 
@@ -47,3 +50,14 @@ IsProperCommand (Check region) = IsName region
 IsProperCommand (Watch region block) = IsName region × IsName block
 IsProperCommand (ProfileOf region) = IsName region
 IsProperCommand command = ⊥
+
+-- faults of the words of a line; the other two are found where the input is cut into lines
+abbrev pub IsFaultOfWords : LineFault → Type 0
+IsFaultOfWords LineTooLong = ⊥
+IsFaultOfWords TooManyLines = ⊥
+IsFaultOfWords fault = Unit {0}
+
+abbrev pub IsProperAnswer : LineAnswer → Type 0
+IsProperAnswer Blank = Unit {0}
+IsProperAnswer (Is command) = IsProperCommand command
+IsProperAnswer (Bad fault) = IsFaultOfWords fault

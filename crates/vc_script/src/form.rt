@@ -1,10 +1,9 @@
 // The forms of words.
-ghost use Rattle.std.specs.Prelude.{◌≡◌, IfOk, if◌then◌else◌};
+ghost use Rattle.std.specs.Prelude.{◌≡◌, IfOk};
 ghost use Rattle.std.specs.Result.{result_map_both};
 ghost use Rattle.std.specs.Option.{option_copied};
 ghost use Rattle.percent_encoding.specs.Percent.{percent_decode};
-ghost use Rattle.vc_script.specs.Forms.{address_of, address_of_parts, method_of, mode_of, name_of, number_of, optional_site_of, signed_of, site_of};
-ghost use Rattle.vc_script.specs.Words.{is_escaped};
+ghost use Rattle.vc_script.specs.Forms.{address_of, address_of_parts, bytes_of, method_of, mode_of, name_of, number_of, optional_site_of, signed_of, site_of};
 
 use crate::word::{is_escaped, is_name, is_number, value_of};
 use crate::{Bytes, LineFault, Place};
@@ -90,7 +89,7 @@ fn address_of_parts(seg: &[u8], off: &[u8]) -> Result<Place, LineFault>
 
 // The word itself, where it spells bytes.
 pub(crate) fn escaped_of(word: &[u8]) -> Result<&[u8], LineFault>
-    ensures { (if is_escaped word.now then Ok word.now else Err LineFault.BadBytes) ≡ result_map_both (λ w. w.now) (λ e. e) result }
+    ensures { result_map_both (λ w. percent_decode w.now) (λ e. e) result ≡ bytes_of word.now }
 {
     if is_escaped(word) {
         Ok(word)
