@@ -8,3 +8,4 @@ pub mod PrintSteps
 pub mod ProperWords
 pub mod ProperCounts
 pub mod ProperCommands
+pub mod Newlines

@@ -14,5 +14,6 @@ pub mod Commands
 pub mod Answer
 pub mod Proper
 pub mod Needs
+pub mod ProperReply
 pub mod Shown
 pub mod Print
