@@ -9,3 +9,6 @@ pub mod ProperWords
 pub mod ProperCounts
 pub mod ProperCommands
 pub mod Newlines
+pub mod Heads
+pub mod Texts
+pub mod OnLiterals

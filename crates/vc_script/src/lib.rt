@@ -19,6 +19,7 @@ mod print;
 mod print_lines;
 mod print_lists;
 mod print_parts;
+pub mod print_rows;
 mod print_texts;
 mod refusal;
 mod reply;
