@@ -1,22 +1,21 @@
 -- Only refusals begin with `refused: `.
-use Rattle.std.proofs.Common.{◌≡◌, ◌≢◌, ℕ, Bool, true, false, cond, eqb, ◌||◌, ◌⊎◌, List, [], ◌∷◌, ◌++◌, Option, Some, None, length, take, drop, refl, sym, ap, ◌∙◌, subst, arith, inl, inr, codes}
+use Rattle.std.proofs.Common.{◌≡◌, ◌≢◌, ℕ, Bool, true, false, cond, eqb, ◌||◌, ◌⊎◌, List, [], ◌∷◌, ◌++◌, length, take, drop, refl, sym, ap, ◌∙◌, subst, arith, inl, inr, codes}
 use Rattle.std.specs.List.{list_all, flat_map}
 use Rattle.std.specs.Str.{bytes_eq}
 use Rattle.std.specs.Fmt.{decimal}
 use Rattle.std.proofs.lemmas.Bool.{and_parts, and_from, false≢true, cases_Bool}
-use Rattle.std.proofs.lemmas.List.{append-nil, append_assoc, take-append-drop}
+use Rattle.std.proofs.lemmas.List.{append-nil, take-append-drop}
 use Rattle.std.proofs.lemmas.Slice.Eq.{bytes_eq-Decides}
 use Rattle.hex.specs.Hex.{encode_lower}
 use Rattle.vc_script.specs.declared.refusal.Refusal.{Refusal}
 use Rattle.vc_script.specs.declared.refusal.Refusal.TheVariants.{NoRegion, NoBlock, NoSegment, NotYet}
 use Rattle.vc_script.specs.declared.reply.Reply.{Reply}
 use Rattle.vc_script.specs.declared.reply.Reply.TheVariants.{Opened, Closed, Cleared, Compacted, At, Freed, Written, Hex, Size, AddrIn, AddrNone, SegmentIs, SegmentNone, Stats, SegmentList, BlockList, Poked, Damaged, Watched, Rows, New, Old, Gone, Out, Found, Nothing, Objects, Number, Views, MethodIs, Emptied, ShutDown, Refused}
-use Rattle.vc_script.specs.Words.{is_digit, is_letter, is_name, is_name_byte}
+use Rattle.vc_script.specs.Words.{is_digit, is_letter, is_name_byte}
 use Rattle.vc_script.specs.Proper.{IsName}
 use Rattle.vc_script.specs.ProperReply.{IsProperReply}
-use Rattle.vc_script.specs.Shown.{shown}
-use Rattle.vc_script.specs.Needs.{Need, NoNeed, ForBlock, begins_refused, is_refusal, need_of, need_for, need_shown}
-use Rattle.vc_script.specs.Print.{printed, watch_text, label_text, viewed_text, method_word, segment_text, block_text, damage_text, row_text, object_text, stat_text, refusal_text}
+use Rattle.vc_script.specs.Needs.{NoNeed, ForBlock, begins_refused, is_refusal, need_of, need_for, need_shown}
+use Rattle.vc_script.specs.Print.{printed, watch_text, viewed_text, method_word, object_text}
 use Rattle.vc_script.proofs.Newlines.{list_all-decimal, list_all-name}
 
 -- the first byte that can't stand in a name
@@ -54,10 +53,10 @@ digit-name [] each = refl
 digit-name (x ∷ xs) each =
     let parts = and_parts (is_digit x) (list_all is_digit xs) each in
     and_from (is_name_byte x) (list_all is_name_byte xs) (digit-or (is_letter x) (is_digit x) (eqb x 95 || eqb x 46) parts.0) (digit-name xs parts.1) where
-  digit-or : (a b c : Bool) → b ≡ true → (a || (b || c)) ≡ true
-  digit-or true b c is = refl
-  digit-or false true c is = refl
-  digit-or false false c is = absurd (false≢true is)
+      digit-or : (a b c : Bool) → b ≡ true → (a || (b || c)) ≡ true
+      digit-or true b c is = refl
+      digit-or false true c is = refl
+      digit-or false false c is = absurd (false≢true is)
 
 name-decimal : (n : ℕ) → list_all is_name_byte (decimal n) ≡ true
 name-decimal n = digit-name (decimal n) (list_all-decimal n)

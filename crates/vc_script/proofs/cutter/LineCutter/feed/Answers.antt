@@ -1,8 +1,8 @@
-use Rattle.std.proofs.Common.{rules, ◌≡◌, ◌≢◌, ℕ, ◌+◌, ◌<◌, ◌≤◌, ◌++◌, [], length, take, get_or, sym, ap, ◌∙◌, arith, List, false}
-use Rattle.vc_script.specs.declared.line_fault.LineFault.TheVariants.{LineTooLong, TooManyLines}
+use Rattle.std.proofs.Common.{rules, ℕ, ◌+◌, ◌<◌, ◌≤◌, [], length, sym, ap, ◌∙◌, arith, List, false}
+use Rattle.vc_script.specs.declared.line_fault.LineFault.TheVariants.{LineTooLong}
 use Rattle.vc_script.specs.declared.cutter.Cut.TheVariants.{Whole, More, Bad}
 use Rattle.vc_script.specs.contracts.cutter.LineCutter.{the_view}
-use Rattle.vc_script.specs.Judged.{line_limit, last_number}
+use Rattle.vc_script.specs.Judged.{line_limit}
 use Rattle.vc_script.specs.Lines.{without_cr}
 use Rattle.vc_script.specs.Cutting.{Cutting}
 use Rattle.vc_script.specs.Cutter.{Fed, fed}
