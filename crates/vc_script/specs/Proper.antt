@@ -17,7 +17,7 @@ abbrev pub IsSite : Option (List ℕ) → Type 0
 IsSite None = Unit {0}
 IsSite (Some site) = IsName site
 
--- a number of the language
+-- a number of the language, or the size of a signed one
 abbrev pub IsNumber : ℕ → Type 0
 IsNumber n = n < 2 ^ 32
 
@@ -27,7 +27,7 @@ pub record IsAddress (place : Place) : Type 0 where
   pub last : place.seg ≤ 1023
   pub below : place.off < 33554432
 
--- the names in a command are names, and its numbers are numbers of the language
+-- the names in a command are names, and its numbers are numbers of the language; no line gives a command over dictionaries
 abbrev pub IsProperCommand : Command → Type 0
 IsProperCommand (OpenRegion region method n) = IsName region × IsNumber n
 IsProperCommand (CloseRegion region) = IsName region
