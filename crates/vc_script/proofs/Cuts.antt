@@ -1,22 +1,10 @@
--- Steps of the cutters of lines and of words.
+-- A final CR, and the steps of the cutter of words.
 use Rattle.std.proofs.Common.{◌≡◌, ℕ, ◌+◌, ◌<◌, ◌≤◌, true, false, cond, List, [], ◌∷◌, ◌++◌, length, get_or, drop, refl, ap, sym, ◌∙◌, eqb, arith}
 use Rattle.std.specs.List.{slice_range}
 use Rattle.std.proofs.lemmas.List.{at_drop_more, at_drop_all, append-nil, append_assoc, map_push}
 use Rattle.std.proofs.lemmas.List.Edits.{between_none, between_more, length-between}
-use Rattle.vc_script.specs.Lines.{piece, lines_after, lines, without_cr}
+use Rattle.vc_script.specs.Lines.{piece, without_cr}
 use Rattle.vc_script.specs.Words.{is_blank, words_after, words}
-
--- a line ends at a newline
-pub lines_after-newline : (begun xs : List ℕ) (i : ℕ) → i < length xs → eqb (get_or xs i 0) 10 ≡ true → lines_after begun (drop i xs) ≡ begun ∷ lines (drop (i + 1) xs)
-lines_after-newline begun xs i within newline =
-    at_drop_more (lines_after begun) xs i 0 within
-    ∙ ap (λ test. cond test (begun ∷ lines (drop (i + 1) xs)) (lines_after (begun ++ get_or xs i 0 ∷ []) (drop (i + 1) xs))) newline
-
--- and goes on at any other byte
-pub lines_after-more : (begun xs : List ℕ) (i : ℕ) → i < length xs → eqb (get_or xs i 0) 10 ≡ false → lines_after begun (drop i xs) ≡ lines_after (begun ++ get_or xs i 0 ∷ []) (drop (i + 1) xs)
-lines_after-more begun xs i within other =
-    at_drop_more (lines_after begun) xs i 0 within
-    ∙ ap (λ test. cond test (begun ∷ lines (drop (i + 1) xs)) (lines_after (begun ++ get_or xs i 0 ∷ []) (drop (i + 1) xs))) other
 
 -- a piece with a byte is one
 pub piece-longer : (xs : List ℕ) → 0 < length xs → piece xs ≡ xs ∷ []

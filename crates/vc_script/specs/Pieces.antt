@@ -1,6 +1,5 @@
 -- The cutting of an input that comes in pieces: what the calls of feed and of end find.
-use Rattle.std.specs.Prelude.{ℕ, ◌+◌, List, [], ◌∷◌, Result, Ok, Err, drop}
-use Rattle.std.proofs.Common.{suc, zero}
+use Rattle.std.specs.Prelude.{ℕ, zero, suc, ◌+◌, List, [], ◌∷◌, Result, Ok, Err, drop}
 use Rattle.vc_script.specs.declared.line_fault.LineFault.{LineFault}
 use Rattle.vc_script.specs.declared.cutter.Cut.{Cut}
 use Rattle.vc_script.specs.declared.cutter.Cut.TheVariants.{Whole, More, Bad}
