@@ -3,6 +3,7 @@
 
 mod addr;
 mod count;
+mod dict_method;
 mod fault;
 mod mem_sink;
 mod mem_source;
@@ -14,6 +15,7 @@ mod steps;
 
 pub use addr::Addr;
 pub use count::one_more;
+pub use dict_method::DictMethod;
 pub use fault::{OutOfMemory, ReadFailed, WriteFailed};
 pub use mem_sink::MemSink;
 pub use mem_source::MemSource;
