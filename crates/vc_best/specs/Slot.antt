@@ -26,3 +26,8 @@ lies_before_slot seg off s = nat_lt seg s.seg || ((seg == s.seg) && nat_lt off s
 abbrev pub with_slot : Slot → List Slot → List Slot
 with_slot s [] = s ∷ []
 with_slot s (t ∷ ts) = if lies_before_slot s.seg s.off t then s ∷ t ∷ ts else t ∷ with_slot s ts
+
+-- the slots without the one at a place, as segment and offset
+abbrev pub without_slot : ℕ × ℕ → List Slot → List Slot
+without_slot at [] = []
+without_slot at (s ∷ ss) = if (s.seg == at.0) && (s.off == at.1) then ss else s ∷ without_slot at ss
