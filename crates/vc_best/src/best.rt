@@ -86,6 +86,7 @@ impl Best {
     pub fn free<L>(&mut self, a: Addr, steps: &mut Steps<L>)
         requires block { Contains (map (λ b. address (b.seg, b.off)) self.old.layout.blocks) a.0 }
         ensures layout { self.new.layout ≡ best_free self.old.layout (place_of a.0) }
+        ensures one_less { length self.new.layout.blocks + 1 ≡ length self.old.layout.blocks }
         ensures disc { state self.new.disc ≡ state self.old.disc }
     {
         let _ = steps;

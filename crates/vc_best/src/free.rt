@@ -1,28 +1,28 @@
-ghost use Rattle.std.specs.Prelude.{◌≡◌, ◌<◌, IfSome, IfNone, length};
+ghost use Rattle.std.specs.Prelude.{◌≡◌, ℕ, ◌<◌, ◌+◌, Contains, length, map};
 ghost use Rattle.std.specs.List.{remove};
-ghost use Rattle.vc_best.specs.Slot.{without_slot};
+ghost use Rattle.vc_best.specs.Slot.{place_of_slot, without_slot};
 
 use crate::slot::Slot;
 
-/// Where the slot of that place is among these.
-fn find_place(slots: &[Slot], seg: u32, off: u32) -> Option<usize>
-    ensures within { IfSome result (λ i. i < length slots.now) }
-    ensures found { IfSome result (λ i. remove slots.now i ≡ without_slot (seg, off) slots.now) }
-    ensures none { IfNone result (without_slot (seg, off) slots.now ≡ slots.now) }
+/// Where the slot of that place is among these. There is one.
+fn find_place(slots: &[Slot], seg: u32, off: u32) -> usize
+    requires { Contains (map place_of_slot slots.now) (seg, off) }
+    ensures within { result < length slots.now }
+    ensures place { remove slots.now result ≡ without_slot (seg, off) slots.now }
 {
-    for (i, slot) in slots.iter().enumerate() {
-        if slot.seg == seg && slot.off == off {
-            return Some(i);
-        }
+    let mut place = 0;
+    while slots[place].seg != seg || slots[place].off != off {
+        place += 1;
     }
-    None
+    place
 }
 
-/// Takes the slot of that place out of these.
+/// Takes the slot of that place out of these. There is one.
 pub(crate) fn take_out(slots: &mut Vec<Slot>, seg: u32, off: u32)
-    ensures { slots.new.items ≡ without_slot (seg, off) slots.old.items }
+    requires { Contains (map place_of_slot slots.old.items) (seg, off) }
+    ensures slots { slots.new.items ≡ without_slot (seg, off) slots.old.items }
+    ensures one_less { length slots.new.items + 1 ≡ length slots.old.items }
 {
-    if let Some(place) = find_place(slots, seg, off) {
-        slots.remove(place);
-    }
+    let place = find_place(slots, seg, off);
+    slots.remove(place);
 }

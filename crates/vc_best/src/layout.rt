@@ -153,7 +153,8 @@ impl Layout {
     /// Frees the block at that address.
     pub(crate) fn free(&mut self, a: Addr)
         requires { Contains (map (λ b. address (b.seg, b.off)) self.old.blocks) a.0 }
-        ensures { self.new ≡ best_free self.old (place_of a.0) }
+        ensures value { self.new ≡ best_free self.old (place_of a.0) }
+        ensures one_less { length self.new.blocks + 1 ≡ length self.old.blocks }
     {
         take_out(&mut self.blocks, a.seg(), a.off());
     }
