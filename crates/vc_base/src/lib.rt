@@ -3,10 +3,13 @@
 
 mod addr;
 mod count;
+mod dict_method;
 mod fault;
 mod mem_sink;
 mod mem_source;
 mod name;
+mod never_sink;
+mod never_source;
 mod sink;
 mod source;
 mod standard;
@@ -14,10 +17,13 @@ mod steps;
 
 pub use addr::Addr;
 pub use count::one_more;
+pub use dict_method::DictMethod;
 pub use fault::{OutOfMemory, ReadFailed, WriteFailed};
 pub use mem_sink::MemSink;
 pub use mem_source::MemSource;
 pub use name::Name;
+pub use never_sink::NeverSink;
+pub use never_source::NeverSource;
 pub use sink::Sink;
 pub use source::Source;
 pub use standard::{StdSink, StdSource};

@@ -125,7 +125,7 @@ module _ (segs : List Bytes) (slots : List Slot) (round size align n bytes : ℕ
       let room = fits in
       let low : size + 16 ≤ span size = round_up-least (size + 16) 32 (omega arith) in
       let all : length (bytes_of_number n (with_lent segs n bytes)) ≡ bytes = ap length (bytes_of_number-push (zeroed n bytes) segs unused) ∙ long in
-      record { slot = record { first = a.least; last = omega arith; some = some; most = most }; within = omega arith }
+      record { slot = record { first = a.least; last = omega arith; multiple = a.multiple; some = some; most = most }; within = omega arith }
 
   pub IsLayout-lent : (tag : ℕ) → IsLayout (with_lent segs n bytes) (with_slot (slot_at tag size (n, align)) slots)
   IsLayout-lent tag = IsLayout-with_slot (with_lent segs n bytes) (slot_at tag size (n, align)) slots (IsLayout-push segs (zeroed n bytes) slots l few IsRegionSegment-lent unused) (IsSlotIn-lent tag)

@@ -6,3 +6,4 @@ pub mod Rounding
 pub mod Regions
 pub mod Allocs
 pub mod Backs
+pub mod Frees

@@ -1,5 +1,5 @@
 -- What a slot and a segment more make of a layout and of its region.
-use Rattle.std.proofs.Common.{◌≡◌, ℕ, zero, suc, ◌+◌, ◌-◌, ◌%◌, ◌<◌, ◌≤◌, ◌≢◌, List, [], ◌∷◌, ◌++◌, false, All, length, get_or, map, replicate, take, drop, refl, ap, sym, ◌∙◌, subst, ⊎_elim, eqb, arith}
+use Rattle.std.proofs.Common.{◌≡◌, ℕ, zero, suc, ◌+◌, ◌-◌, ◌<◌, ◌≤◌, ◌≢◌, List, [], ◌∷◌, ◌++◌, false, All, length, get_or, map, replicate, take, drop, refl, ap, sym, ◌∙◌, subst, ⊎_elim, eqb, arith}
 use Rattle.std.proofs.lemmas.Bool.{cases_Bool, or_parts, eqb-false, leb-true}
 use Rattle.std.proofs.lemmas.List.{take-replicate, drop-replicate, map_push, length_push}
 use Rattle.std.proofs.lemmas.List.Elements.{All-head, All-tail, All-cons, All-push, All-weaker}
@@ -104,7 +104,6 @@ pub record IsSlotAt (segs : List Bytes) (s : Slot) : Type 0 where
   pub slot : IsSlotIn segs s
   pub first : 1 ≤ s.seg
   pub last : s.seg ≤ 1023
-  pub multiple : s.off % 32 ≡ 0
 
 pub IsSlotAt-gap : (segs : List Bytes) (size align tag : ℕ) (g : Run) → All IsRegionSegment segs → IsAligned align → 1 ≤ size → size ≤ 16777264 → IsBestGap segs size align g →
     IsSlotAt segs (record { seg = g.seg; off = lowest_offset align g; size = size; tag = tag })
@@ -119,10 +118,9 @@ IsSlotAt-gap segs size align tag g h a some most b =
     let end : g.to + 16 ≤ length (bytes_of_number g.seg segs) = b.gap.before in
     record {
       slot = record {
-        slot = record { first = omega arith; last = omega arith; some = some; most = most };
+        slot = record { first = omega arith; last = omega arith; multiple = round_up-mod_32 (g.from + 16) align a.multiple; some = some; most = most };
         within = omega arith;
       };
       first = b.gap.first;
       last = b.gap.last;
-      multiple = round_up-mod_32 (g.from + 16) align a.multiple;
     }

@@ -1,5 +1,5 @@
 -- A slot: a block's place, size and tag.
-use Rattle.std.specs.Prelude.{ℕ, ◌+◌, ◌-◌, ◌<◌, ◌≤◌, List, [], ◌∷◌, Bool, map, nat_lt, ◌==◌, ◌&&◌, ◌||◌, if◌then◌else◌}
+use Rattle.std.specs.Prelude.{◌≡◌, ℕ, ◌+◌, ◌-◌, ◌%◌, ◌<◌, ◌≤◌, List, [], ◌∷◌, Bool, map, nat_lt, ◌==◌, ◌&&◌, ◌||◌, if◌then◌else◌}
 use Rattle.vc_model.specs.Segments.{span}
 use Rattle.vc_model.specs.Gap.{Run}
 use Rattle.vc_best.specs.declared.slot.Slot.{Slot}
@@ -15,6 +15,7 @@ runs_of slots = map run_of_slot slots
 pub record IsSlot (s : Slot) : Type 0 where
   pub first : 32 ≤ s.off
   pub last : s.off < 33554432
+  pub multiple : s.off % 32 ≡ 0
   pub some : 1 ≤ s.size
   pub most : s.size ≤ 16777264
 
@@ -26,3 +27,12 @@ lies_before_slot seg off s = nat_lt seg s.seg || ((seg == s.seg) && nat_lt off s
 abbrev pub with_slot : Slot → List Slot → List Slot
 with_slot s [] = s ∷ []
 with_slot s (t ∷ ts) = if lies_before_slot s.seg s.off t then s ∷ t ∷ ts else t ∷ with_slot s ts
+
+-- its place, as segment and offset
+abbrev pub place_of_slot : Slot → ℕ × ℕ
+place_of_slot s = (s.seg, s.off)
+
+-- the slots without the one at a place
+abbrev pub without_slot : ℕ × ℕ → List Slot → List Slot
+without_slot at [] = []
+without_slot at (s ∷ ss) = if (s.seg == at.0) && (s.off == at.1) then ss else s ∷ without_slot at ss

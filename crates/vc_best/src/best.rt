@@ -1,9 +1,10 @@
-ghost use Rattle.std.specs.Prelude.{◌≡◌, ◌≢◌, ℕ, ◌+◌, ◌≤◌, ◌<◌, ◌⊎◌, ◌++◌, ◌↔◌, [], drop, length, IfOk, IfErr, IfSome, OnErr, OnOk, IsErrOf, Err, true, false};
-ghost use Rattle.vc_model.specs.Best.{best_alloc, TooManySegments, NoSegment};
+ghost use Rattle.std.specs.Prelude.{◌≡◌, ◌≢◌, ℕ, Contains, map, ◌+◌, ◌≤◌, ◌<◌, ◌⊎◌, ◌++◌, ◌↔◌, [], drop, length, IfOk, IfErr, IfSome, OnErr, OnOk, IsErrOf, Err, true, false};
+ghost use Rattle.vc_model.specs.Best.{best_alloc, best_free, TooManySegments, NoSegment};
 ghost use Rattle.vc_model.specs.Count.{Rose};
 ghost use Rattle.vc_model.specs.Discipline.{EndsWith, Kept};
 ghost use Rattle.vc_model.specs.Place.{IsAlign};
 ghost use Rattle.vc_model.specs.Segments.{round_up, span};
+ghost use Rattle.vc_base.specs.Addr.{address, place_of};
 ghost use Rattle.vc_best.specs.Alloc.{IsPlaced};
 
 use crate::layout::Layout;
@@ -79,6 +80,17 @@ impl Best {
                 .layout
                 .alloc_in_new(&mut self.disc, self.alloc, size, align, tag),
         }
+    }
+
+    /// Frees the block at that address.
+    pub fn free<L>(&mut self, a: Addr, steps: &mut Steps<L>)
+        requires block { Contains (map (λ b. address (b.seg, b.off)) self.old.layout.blocks) a.0 }
+        ensures layout { self.new.layout ≡ best_free self.old.layout (place_of a.0) }
+        ensures one_less { length self.new.layout.blocks + 1 ≡ length self.old.layout.blocks }
+        ensures disc { state self.new.disc ≡ state self.old.disc }
+    {
+        let _ = steps;
+        self.layout.free(a);
     }
 
     /// Gives all its segments back, in ascending order of number, and answers with the discipline and how many there

@@ -1,14 +1,16 @@
-ghost use Rattle.std.specs.Prelude.{◌≡◌, ℕ, ◌+◌, ◌≤◌, ◌<◌, ◌⊎◌, ◌++◌, [], None, Some, drop, length, vec_len, vec_capacity, IfOk, IfErr, IfSome, OnErr, OnOk, IsErrOf, Err, ◌↔◌, ◌≢◌, true, false};
-ghost use Rattle.vc_model.specs.Best.{best_alloc, place_in, put_at, TooManySegments, NoSegment};
+ghost use Rattle.std.specs.Prelude.{◌≡◌, ℕ, Contains, map, ◌+◌, ◌≤◌, ◌<◌, ◌⊎◌, ◌++◌, [], None, Some, drop, length, vec_len, vec_capacity, IfOk, IfErr, IfSome, OnErr, OnOk, IsErrOf, Err, ◌↔◌, ◌≢◌, true, false};
+ghost use Rattle.vc_model.specs.Best.{best_alloc, best_free, place_in, put_at, TooManySegments, NoSegment};
 ghost use Rattle.vc_model.specs.Count.{Rose};
 ghost use Rattle.vc_model.specs.Discipline.{EndsWith, Kept};
 ghost use Rattle.vc_model.specs.Place.{IsAlign};
 ghost use Rattle.vc_model.specs.Segments.{round_up, span};
+ghost use Rattle.vc_base.specs.Addr.{address, place_of};
 ghost use Rattle.vc_best.specs.Alloc.{IsPlaced};
 ghost use Rattle.vc_best.specs.Close.{TakesBack};
 
 use crate::close::give_back_all;
 use crate::fit::best_gap;
+use crate::free::take_out;
 use crate::gap::{rounded_up, span_of};
 use crate::lend::{lend_segment, round_of};
 use crate::number::lowest_unused;
@@ -146,6 +148,15 @@ impl Layout {
         }
         .put_among(&mut self.blocks);
         Ok(Addr::new(number, align))
+    }
+
+    /// Frees the block at that address.
+    pub(crate) fn free(&mut self, a: Addr)
+        requires { Contains (map (λ b. address (b.seg, b.off)) self.old.blocks) a.0 }
+        ensures value { self.new ≡ best_free self.old (place_of a.0) }
+        ensures one_less { length self.new.blocks + 1 ≡ length self.old.blocks }
+    {
+        take_out(&mut self.blocks, a.seg(), a.off());
     }
 
     /// The discipline takes all its segments back, in ascending order of number, and they are counted.

@@ -4,6 +4,7 @@
 mod best;
 mod close;
 mod fit;
+mod free;
 mod gap;
 mod layout;
 mod lend;

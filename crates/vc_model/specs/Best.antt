@@ -1,8 +1,8 @@
--- Allocation in a best region.
-use Rattle.std.specs.Prelude.{ℕ, ◌+◌, List, [], ◌∷◌, ◌++◌, Option, Some, None, Bool, replicate}
+-- Allocation and freeing in a best region.
+use Rattle.std.specs.Prelude.{ℕ, ◌+◌, [], ◌∷◌, ◌++◌, Option, Some, None, Bool, replicate}
 use Rattle.vc_model.specs.Segments.{Asked, Granted, TooMany, NotLent, ask, span}
 use Rattle.vc_model.specs.Place.{place}
-use Rattle.vc_model.specs.Region.{Block, Region, footprints, with_block}
+use Rattle.vc_model.specs.Region.{Block, Region, footprints, with_block, without_block}
 
 -- what an allocation gives: where the block is, as segment and offset, and the region with it
 pub data Allocated (L : Type 0) : Type 0 where
@@ -42,3 +42,7 @@ put_or_ask round r label size align refused None = put_in_new r label size align
 -- a block goes to its place; with no place a segment is asked for first
 abbrev pub best_alloc : {L : Type 0} → ℕ → Region L → L → ℕ → ℕ → Bool → Allocated L
 best_alloc round r label size align refused = put_or_ask round r label size align refused (place_in r size align)
+
+-- the region without the block at a place, as segment and offset
+abbrev pub best_free : {L : Type 0} → Region L → ℕ × ℕ → Region L
+best_free r at = record { segments = r.segments; blocks = without_block at r.blocks }

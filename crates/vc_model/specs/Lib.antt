@@ -7,3 +7,4 @@ pub mod Gap
 pub mod Place
 pub mod Region
 pub mod Best
+pub mod Rows

@@ -1,5 +1,5 @@
 -- The place for a block: exact best fit.
-use Rattle.std.specs.Prelude.{◌≡◌, ℕ, ◌+◌, List, ◌∷◌, [], Option, Some, None, Bool, Contains, filter, fold, option_map, nat_le, if◌then◌else◌}
+use Rattle.std.specs.Prelude.{ℕ, ◌+◌, List, ◌∷◌, [], Option, Some, None, Bool, Contains, filter, fold, option_map, nat_le, if◌then◌else◌}
 use Rattle.vc_model.specs.Segments.{span, round_up}
 use Rattle.vc_model.specs.Gap.{Run, gaps, comes_before}
 

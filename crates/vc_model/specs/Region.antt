@@ -31,3 +31,12 @@ lies_before a b = nat_lt a.seg b.seg || ((a.seg == b.seg) && nat_lt a.off b.off)
 abbrev pub with_block : {L : Type 0} → Block L → List (Block L) → List (Block L)
 with_block b [] = b ∷ []
 with_block b (c ∷ cs) = if lies_before b c then b ∷ c ∷ cs else c ∷ with_block b cs
+
+-- whether a block begins at a place, as segment and offset
+abbrev pub is_at : {L : Type 0} → ℕ × ℕ → Block L → Bool
+is_at at b = (b.seg == at.0) && (b.off == at.1)
+
+-- the blocks without the one at a place
+abbrev pub without_block : {L : Type 0} → ℕ × ℕ → List (Block L) → List (Block L)
+without_block at [] = []
+without_block at (b ∷ bs) = if is_at at b then bs else b ∷ without_block at bs

@@ -4,4 +4,4 @@
 
 mod rows;
 
-pub use rows::{aligned_places, merging, tie};
+pub use rows::{aligned_places, merging, merging_by_free, tie, tie_by_free};

@@ -1,6 +1,9 @@
-ghost use Rattle.std.specs.Prelude.{◌≡◌, ℕ, [], ◌∷◌, Some, None};
-ghost use Rattle.vc_model.specs.Gap.{Run, gaps};
+ghost use Rattle.std.specs.Prelude.{◌≡◌, ℕ, [], ◌∷◌, Some, None, false, map};
+ghost use Rattle.vc_model.specs.Gap.{Run, bytes_of, gaps};
 ghost use Rattle.vc_model.specs.Place.{place};
+ghost use Rattle.vc_model.specs.Region.{footprints};
+ghost use Rattle.vc_model.specs.Best.{Placed, best_alloc, place_in};
+ghost use Rattle.vc_model.specs.Rows.{one_put, three_freed, two_freed};
 
 /// Two gaps of 128 bytes tie, and the one at the lower offset is taken; then the other.
 pub fn tie()
@@ -20,4 +23,19 @@ pub fn aligned_places()
     ensures too_small { place ((2, 4096) ∷ []) (record { seg = 2; from = 16; to = 2096 } ∷ []) 1024 1024 ≡ None }
     ensures by_64 { place ((1, 4096) ∷ []) (record { seg = 1; from = 16; to = 80 } ∷ []) 10 64 ≡ Some (1, 128) }
     ensures by_256 { place ((1, 4096) ∷ (2, 8192) ∷ []) (record { seg = 1; from = 16; to = 304 } ∷ []) 100 256 ≡ Some (1, 512) }
+{}
+
+/// Three blocks side by side are freed, the middle one last: their gaps are one of 96 bytes, beside the one of 3,936
+/// bytes behind the block that stays, and a block of 80 goes there.
+pub fn merging_by_free()
+    ensures gaps { gaps three_freed.segments (footprints three_freed.blocks) ≡ record { seg = 1; from = 16; to = 112 } ∷ record { seg = 1; from = 144; to = 4080 } ∷ [] }
+    ensures bytes { map bytes_of (gaps three_freed.segments (footprints three_freed.blocks)) ≡ 96 ∷ 3936 ∷ [] }
+    ensures place { place_in three_freed 80 32 ≡ Some (1, 32) }
+{}
+
+/// Two blocks of 100 bytes are freed, and their gaps tie: the next block of 100 goes to the lower offset, and the one
+/// after it to the other.
+pub fn tie_by_free()
+    ensures first { best_alloc 32 two_freed 5 100 32 false ≡ Placed (1, 32) one_put }
+    ensures second { place_in one_put 100 32 ≡ Some (1, 192) }
 {}

@@ -1,6 +1,8 @@
 // Each public call once, with ample memory.
 use std::test::Fail;
-use vc_base::{Addr, MemSink, MemSource, Name, Sink, Source, Steps, one_more};
+use vc_base::{
+    Addr, MemSink, MemSource, Name, NeverSink, NeverSource, Sink, Source, Steps, one_more,
+};
 use vc_best::Best;
 use vc_seg::{FuseDisc, HeapDisc, LendFault, SegDisc, Segment, Shelf, ShelfPlace};
 
@@ -26,6 +28,22 @@ fn base(rt: HostRuntime) -> Result<(), Fail> {
     assert!(rt; sink.write(b"d").is_err());
     assert_eq!(rt; sink.faults(), 1);
     assert_eq!(rt; sink.bytes(), b"abc".as_slice());
+    Ok(())
+}
+
+#[test]
+fn never_failing(rt: HostRuntime) -> Result<(), Fail> {
+    let alloc = rt.alloc();
+    let mut source = NeverSource::new(b"abc".to_vec(alloc)?);
+    let mut buf = [0; 2];
+    assert_eq!(rt; source.read(&mut buf), Ok(2));
+    assert_eq!(rt; source.read(&mut buf), Ok(1));
+    assert_eq!(rt; buf.as_slice(), b"cb".as_slice());
+    assert_eq!(rt; source.read(&mut buf), Ok(0));
+    assert_eq!(rt; source.faults(), 0);
+    let mut sink = NeverSink::new();
+    assert_eq!(rt; sink.write(b"abc"), Ok(3));
+    assert_eq!(rt; sink.faults(), 0);
     Ok(())
 }
 
@@ -82,6 +100,24 @@ fn best(rt: HostRuntime) -> Result<(), Fail> {
             assert_eq!(rt; at, Ok(Addr::new(1, 32)));
             let (disc, count) = region.close();
             assert_eq!(rt; (disc.round(), count), (4096, 1));
+        }
+        Err(_) => assert!(rt; false),
+    }
+    Ok(())
+}
+
+#[test]
+fn freed(rt: HostRuntime) -> Result<(), Fail> {
+    let alloc = rt.alloc();
+    match Best::open(alloc, Box::new(alloc, HeapDisc::new(4096))?) {
+        Ok(mut region) => {
+            let mut steps = Steps::<Mark>::new(alloc);
+            match region.alloc(100, 32, 1, &mut steps) {
+                Ok(at) => region.free(at, &mut steps),
+                Err(_) => assert!(rt; false),
+            }
+            let next = region.alloc(50, 32, 2, &mut steps);
+            assert_eq!(rt; next, Ok(Addr::new(1, 32)));
         }
         Err(_) => assert!(rt; false),
     }

@@ -17,7 +17,7 @@ pub new-requires-clause-below : goal.new-requires-clause-below
 new-requires-clause-below c = (here (goal.at.new-requires-clause-below c).After-put_among).slot.slot.last
 
 pub new-requires-clause-multiple : goal.new-requires-clause-multiple
-new-requires-clause-multiple c = (here (goal.at.new-requires-clause-multiple c).After-put_among).multiple
+new-requires-clause-multiple c = (here (goal.at.new-requires-clause-multiple c).After-put_among).slot.slot.multiple
 
 pub invariant_of-self-2 : goal.invariant_of-self-2
 invariant_of-self-2 c =

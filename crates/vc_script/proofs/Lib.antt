@@ -1,0 +1,14 @@
+pub mod Cuts
+pub mod LineSteps
+pub mod Feeding
+pub mod Pieces
+pub mod NameBounds
+pub mod WordSteps
+pub mod PrintSteps
+pub mod ProperWords
+pub mod ProperCounts
+pub mod ProperCommands
+pub mod Newlines
+pub mod Heads
+pub mod Texts
+pub mod OnLiterals

@@ -1,0 +1,43 @@
+-- Steps of the printers of replies.
+use Rattle.std.proofs.Common.{◌≡◌, ℕ, ◌<◌, ◌≤◌, Bool, true, false, not, cond, ◌||◌, List, [], ◌∷◌, ◌++◌, refl, sym, ap, ◌∙◌, arith, ⊎_elim}
+use Rattle.std.specs.Char.{is_ascii}
+use Rattle.std.proofs.lemmas.Bool.{agree_below, agree_below_at, cases_lt}
+use Rattle.std.proofs.lemmas.Bool.Decides.{nat_tests}
+use Rattle.percent_encoding.specs.AsciiSet.{contains, should_percent_encode}
+use Rattle.percent_encoding.specs.Percent.{encode_byte, percent_encode, percent_encode_byte}
+use Rattle.vc_script.specs.declared.print_parts.TheConstants.{ESCAPED}
+use Rattle.vc_script.specs.Shown.{is_plain, shown, shown_byte}
+
+-- the ASCII bytes that are escaped are those that aren't plain
+escaped-ascii : agree_below (contains ESCAPED) (λ b. not (is_plain b)) 128 ≡ true
+escaped-ascii = refl
+
+should-below : (b : ℕ) → b < 128 → should_percent_encode ESCAPED b ≡ not (is_plain b)
+unfolding should_percent_encode
+should-below b below =
+    let ascii : is_ascii b ≡ true = grind (arith, nat_tests) in
+    ap (λ t. not t || contains ESCAPED b) ascii ∙ agree_below_at (contains ESCAPED) (λ n. not (is_plain n)) 128 b escaped-ascii below
+
+should-above : (b : ℕ) → 128 ≤ b → should_percent_encode ESCAPED b ≡ not (is_plain b)
+unfolding should_percent_encode
+should-above b above =
+    let other : is_ascii b ≡ false = grind (arith, nat_tests) in
+    let plain : is_plain b ≡ false = grind (arith, nat_tests) in
+    ap (λ t. not t || contains ESCAPED b) other ∙ ap not (sym plain)
+
+should-plain : (b : ℕ) → should_percent_encode ESCAPED b ≡ not (is_plain b)
+should-plain b = ⊎_elim (should-below b) (should-above b) (cases_lt b 128)
+
+cond-not : {A : Type 0} (t : Bool) (x y : A) → cond (not t) x y ≡ cond t y x
+cond-not true x y = refl
+cond-not false x y = refl
+
+encode_byte-shown : (b : ℕ) → encode_byte ESCAPED b ≡ shown_byte b
+encode_byte-shown b = ap (λ t. cond t (percent_encode_byte b) (b ∷ [])) (should-plain b) ∙ cond-not (is_plain b) (percent_encode_byte b) (b ∷ [])
+
+pub percent_encode-shown : (bytes : List ℕ) → percent_encode ESCAPED bytes ≡ shown bytes
+unfolding percent_encode
+percent_encode-shown [] = refl
+percent_encode-shown (b ∷ bs) = ap (λ e. e ++ percent_encode ESCAPED bs) (encode_byte-shown b) ∙ ap (λ rest. shown_byte b ++ rest) (percent_encode-shown bs)
+
+pub ruleset shown_steps = (percent_encode-shown)

@@ -1,0 +1,103 @@
+-- What the forms of words give is proper, or a fault of words.
+use Rattle.std.proofs.Common.{◌≡◌, ℕ, zero, suc, Bool, true, false, cond, List, [], ◌∷◌, Option, Some, None, length, refl, subst, sym, arith, leb, ◌&&◌, codes, ℤ, pos, neg_ℤ, nat_abs}
+use Rattle.std.specs.Prelude.{Result, Ok, Err, ◌==◌}
+use Rattle.std.specs.List.{list_all, before_first, after_first}
+use Rattle.std.specs.Str.{bytes_eq}
+use Rattle.std.proofs.lemmas.Bool.{and_parts, leb-true}
+use Rattle.percent_encoding.specs.Percent.{percent_decode}
+use Rattle.vc_seg.specs.declared.method.Method.TheVariants.{VmBest, VmPool, VmLast, VmDebug, VmProfile}
+use Rattle.vc_script.specs.declared.line_fault.LineFault.{LineFault}
+use Rattle.vc_script.specs.declared.line_fault.LineFault.TheVariants.{BadName, BadNumber, BadAddress, BadBytes, UnknownMethod}
+use Rattle.vc_script.specs.Words.{digits_value, is_between, is_digit, is_escaped, is_name, is_number}
+use Rattle.vc_script.specs.Forms.{◌>>=◌, address_of, address_of_parts, bytes_of, is_address, is_colon, method_of, mode_of, name_of, number_of, optional_site_of, signed_of, site_of}
+use Rattle.vc_script.specs.Proper.{IsAddress, IsFaultOfWords, IsName, IsNumber, IsSite}
+
+-- the value is proper, or the fault is one of words
+abbrev pub Gives : {A : Type 0} → (A → Type 0) → Result A LineFault → Type 0
+Gives P (Ok a) = P a
+Gives P (Err fault) = IsFaultOfWords fault
+
+abbrev pub Anything : {A : Type 0} → A → Type 0
+Anything a = Unit {0}
+
+pub Gives-then : {A B : Type 0} (P : A → Type 0) (Q : B → Type 0) (r : Result A LineFault) (next : A → Result B LineFault) → Gives P r → ((a : A) → P a → Gives Q (next a)) → Gives Q (r >>= next)
+Gives-then P Q (Ok a) next given step = step a given
+Gives-then P Q (Err fault) next given step = given
+
+pub Gives-if : {A : Type 0} (P : A → Type 0) (test : Bool) (r s : Result A LineFault) → (test ≡ true → Gives P r) → Gives P s → Gives P (cond test r s)
+Gives-if P true r s first second = first refl
+Gives-if P false r s first second = second
+
+pub Gives-name_of : (word : List ℕ) → Gives IsName (name_of word)
+Gives-name_of word = Gives-if IsName (is_name word) (Ok word) (Err BadName) (λ name. name) tt
+
+pub Gives-site_of : (word : List ℕ) → Gives IsName (site_of word)
+Gives-site_of [] = tt
+Gives-site_of (b ∷ bs) = Gives-if IsName (b == 64) (name_of bs) (Err BadName) (λ _. Gives-name_of bs) tt
+
+pub Gives-optional_site_of : (word : Option (List ℕ)) → Gives IsSite (optional_site_of word)
+Gives-optional_site_of None = tt
+Gives-optional_site_of (Some word) =
+    Gives-then IsName IsSite (site_of word) (λ site. Ok (Some site)) (Gives-site_of word) (λ site name. name)
+
+-- what a number's digits spell is below 2^32
+small_number : (word : List ℕ) → is_number word ≡ true → IsNumber (digits_value word)
+small_number word number =
+    let rest = (and_parts (list_all is_digit word) (is_between 1 10 (length word) && leb (digits_value word) 4294967295) number).1 in
+    let last = leb-true (digits_value word) 4294967295 (and_parts (is_between 1 10 (length word)) (leb (digits_value word) 4294967295) rest).1 in
+    omega arith
+
+pub Gives-number_of : (word : List ℕ) → Gives IsNumber (number_of word)
+Gives-number_of word =
+    Gives-if IsNumber (is_number word) (Ok (digits_value word)) (Err BadNumber) (small_number word) tt
+
+-- a signed number has the size of a number
+abbrev pub IsSigned : ℤ → Type 0
+IsSigned off = IsNumber (nat_abs off)
+
+nat_abs-neg : (n : ℕ) → nat_abs (neg_ℤ (pos n)) ≡ n
+nat_abs-neg zero = refl
+nat_abs-neg (suc n) = refl
+
+pub Gives-signed_of : (word : List ℕ) → Gives IsSigned (signed_of word)
+Gives-signed_of [] = tt
+Gives-signed_of (b ∷ bs) =
+    Gives-if IsSigned (b == 45) (number_of bs >>= λ n. Ok (neg_ℤ (pos n))) (number_of (b ∷ bs) >>= λ n. Ok (pos n))
+    (λ _. Gives-then IsNumber IsSigned (number_of bs) (λ n. Ok (neg_ℤ (pos n))) (Gives-number_of bs) (λ n small. subst IsNumber (sym (nat_abs-neg n)) small))
+    (Gives-then IsNumber IsSigned (number_of (b ∷ bs)) (λ n. Ok (pos n)) (Gives-number_of (b ∷ bs)) (λ n small. small))
+
+-- the parts of an address are in their ranges
+proper_address : (seg off : List ℕ) → is_address seg off ≡ true → IsAddress (record { seg = digits_value seg; off = digits_value off })
+proper_address seg off address =
+    let parts = and_parts (is_number seg && is_between 1 1023 (digits_value seg)) (is_number off && leb (digits_value off) 33554431) address in
+    let between = and_parts (leb 1 (digits_value seg)) (leb (digits_value seg) 1023) (and_parts (is_number seg) (is_between 1 1023 (digits_value seg)) parts.0).1 in
+    let low = leb-true 1 (digits_value seg) between.0 in
+    let high = leb-true (digits_value seg) 1023 between.1 in
+    let last = leb-true (digits_value off) 33554431 (and_parts (is_number off) (leb (digits_value off) 33554431) parts.1).1 in
+    record { first = low; last = high; below = omega arith }
+
+address_parts : (seg off : List ℕ) → Gives IsAddress (address_of_parts seg off)
+address_parts seg off =
+    Gives-if IsAddress (is_address seg off) (Ok (record { seg = digits_value seg; off = digits_value off })) (Err BadAddress) (proper_address seg off) tt
+
+pub Gives-address_of : (word : List ℕ) → Gives IsAddress (address_of word)
+Gives-address_of word = address_parts (before_first is_colon word) (after_first is_colon word)
+
+pub Gives-bytes_of : (word : List ℕ) → Gives Anything (bytes_of word)
+Gives-bytes_of word = Gives-if Anything (is_escaped word) (Ok (percent_decode word)) (Err BadBytes) (λ _. tt) tt
+
+-- a word of a list, or the fault
+one_of : {A : Type 0} (test : Bool) (a : A) (r : Result A LineFault) → Gives Anything r → Gives Anything (cond test (Ok a) r)
+one_of test a r rest = Gives-if Anything test (Ok a) r (λ _. tt) rest
+
+pub Gives-method_of : (word : List ℕ) → Gives Anything (method_of word)
+Gives-method_of word =
+    one_of (bytes_eq word (codes "best")) VmBest _
+    (one_of (bytes_eq word (codes "pool")) VmPool _
+    (one_of (bytes_eq word (codes "last")) VmLast _
+    (one_of (bytes_eq word (codes "debug")) VmDebug _
+    (one_of (bytes_eq word (codes "profile")) VmProfile (Err UnknownMethod) tt))))
+
+pub Gives-mode_of : (word : List ℕ) → Gives Anything (mode_of word)
+Gives-mode_of word =
+    one_of (bytes_eq word (codes "move")) true _ (one_of (bytes_eq word (codes "fixed")) false (Err UnknownMethod) tt)

@@ -1,0 +1,7 @@
+use Rattle.std.proofs.Common.{◌≡◌, ◌++◌, take}
+use Rattle.std.specs.List.{flat_map}
+use Rattle.vc_script.specs.Print.{block_text}
+use Rattle.vc_script.proofs.print_lists.put_blocks.Given as goal
+
+abbrev pub invariant-loop-item : goal.invariant-loop-item
+invariant-loop-item l = l.line.items ≡ l.fn.line.items ++ flat_map block_text (take l.item-index l.items)

@@ -1,0 +1,7 @@
+use Rattle.std.proofs.Common.{◌≡◌, ◌++◌, take}
+use Rattle.std.specs.List.{flat_map}
+use Rattle.vc_script.specs.Print.{segment_text}
+use Rattle.vc_script.proofs.print_lists.put_segments.Given as goal
+
+abbrev pub invariant-loop-item : goal.invariant-loop-item
+invariant-loop-item l = l.line.items ≡ l.fn.line.items ++ flat_map segment_text (take l.item-index l.items)

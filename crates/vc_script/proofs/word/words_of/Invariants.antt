@@ -1,0 +1,10 @@
+use Rattle.std.proofs.Common.{◌≡◌, ◌≤◌, map}
+use Rattle.vc_script.specs.Words.{words}
+use Rattle.vc_script.proofs.Cuts.{words_from}
+use Rattle.vc_script.proofs.word.words_of.Given as goal
+
+abbrev pub invariant-loop-i : goal.invariant-loop-i
+invariant-loop-i l = record {
+  begun : l.start ≤ l.i;
+  words : words l.line ≡ words_from (map (λ w. w.now) l.words.items) l.line l.start l.i;
+}

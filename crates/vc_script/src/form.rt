@@ -1,0 +1,139 @@
+// The forms of words.
+ghost use Rattle.std.specs.Prelude.{◌≡◌, IfOk};
+ghost use Rattle.std.specs.Result.{result_map_both};
+ghost use Rattle.std.specs.Option.{option_copied};
+ghost use Rattle.percent_encoding.specs.Percent.{percent_decode};
+ghost use Rattle.vc_script.specs.Forms.{address_of, address_of_parts, bytes_of, method_of, mode_of, name_of, number_of, optional_site_of, signed_of, site_of};
+
+use crate::word::{is_escaped, is_name, is_number, value_of};
+use crate::{Bytes, LineFault, Place};
+use percent_encoding::percent_decode;
+use std::alloc::{AllocError, Global};
+use vc_base::Name;
+use vc_seg::Method;
+
+#[tactic(auto, using(crate::proofs::NameBounds::name_bounds))]
+pub(crate) fn name_of(word: &[u8]) -> Result<Name, LineFault>
+    ensures { result ≡ name_of word.now }
+{
+    if is_name(word) {
+        Ok(Name::new(word))
+    } else {
+        Err(LineFault::BadName)
+    }
+}
+
+fn site_of(word: &[u8]) -> Result<Name, LineFault>
+    ensures { result ≡ site_of word.now }
+{
+    match word.split_first() {
+        Some((b'@', rest)) => name_of(rest),
+        _ => Err(LineFault::BadName),
+    }
+}
+
+pub(crate) fn optional_site_of(word: Option<&[u8]>) -> Result<Option<Name>, LineFault>
+    ensures { result ≡ optional_site_of (option_copied word.entry) }
+{
+    match word {
+        None => Ok(None),
+        Some(word) => Ok(Some(site_of(word)?)),
+    }
+}
+
+pub(crate) fn number_of(word: &[u8]) -> Result<u32, LineFault>
+    ensures { result ≡ number_of word.now }
+{
+    if is_number(word) {
+        Ok(value_of(word))
+    } else {
+        Err(LineFault::BadNumber)
+    }
+}
+
+pub(crate) fn signed_of(word: &[u8]) -> Result<i64, LineFault>
+    ensures { result ≡ signed_of word.now }
+{
+    match word.split_first() {
+        Some((b'-', rest)) => Ok(-i64::from(number_of(rest)?)),
+        _ => Ok(i64::from(number_of(word)?)),
+    }
+}
+
+#[tactic(auto, using(crate::proofs::WordSteps::address_steps))]
+pub(crate) fn address_of(word: &[u8]) -> Result<Place, LineFault>
+    ensures { result ≡ address_of word.now }
+{
+    for (i, b) in word.iter().enumerate() {
+        if *b == b':' {
+            return address_of_parts(&word[..i], &word[i + 1..]);
+        }
+    }
+    Err(LineFault::BadAddress)
+}
+
+fn address_of_parts(seg: &[u8], off: &[u8]) -> Result<Place, LineFault>
+    ensures { result ≡ address_of_parts seg.now off.now }
+{
+    if !is_number(seg) || !is_number(off) {
+        return Err(LineFault::BadAddress);
+    }
+    let seg = value_of(seg);
+    let off = value_of(off);
+    if 1 <= seg && seg <= 1_023 && off <= 33_554_431 {
+        Ok(Place { seg, off })
+    } else {
+        Err(LineFault::BadAddress)
+    }
+}
+
+// The word itself, where it spells bytes.
+pub(crate) fn escaped_of(word: &[u8]) -> Result<&[u8], LineFault>
+    ensures { result_map_both (λ w. percent_decode w.now) (λ e. e) result ≡ bytes_of word.now }
+{
+    if is_escaped(word) {
+        Ok(word)
+    } else {
+        Err(LineFault::BadBytes)
+    }
+}
+
+// The bytes that a word spells.
+pub(crate) fn decoded(alloc: Global, word: &[u8]) -> Result<Bytes, AllocError>
+    ensures { IfOk result (λ bytes. bytes ≡ percent_decode word.now) }
+{
+    let mut bytes = Vec::new(alloc);
+    percent_decode(word).append_to(&mut bytes)?;
+    Ok(Bytes::from_vec(bytes))
+}
+
+pub(crate) fn method_of(word: &[u8]) -> Result<Method, LineFault>
+    ensures { result ≡ method_of word.now }
+{
+    if word == b"best".as_slice() {
+        Ok(Method::VmBest)
+    } else if word == b"pool".as_slice() {
+        Ok(Method::VmPool)
+    } else if word == b"last".as_slice() {
+        Ok(Method::VmLast)
+    } else if word == b"debug".as_slice() {
+        Ok(Method::VmDebug)
+    } else if word == b"profile".as_slice() {
+        Ok(Method::VmProfile)
+    } else {
+        Err(LineFault::UnknownMethod)
+    }
+}
+
+// Whether a block may move.
+pub(crate) fn mode_of(word: &[u8]) -> Result<bool, LineFault>
+    ensures { result ≡ mode_of word.now }
+{
+    if word == b"move".as_slice() {
+        Ok(true)
+    } else if word == b"fixed".as_slice() {
+        Ok(false)
+    } else {
+        Err(LineFault::UnknownMethod)
+    }
+}

@@ -1,0 +1,12 @@
+use crate::{Command, LineFault};
+
+/// What a line asks for.
+#[derive(Debug, Drop, PartialEq, Eq)]
+pub enum LineAnswer {
+    /// Nothing: the line has no word, or is a comment.
+    Blank,
+    /// A command.
+    Is(Command),
+    /// Nothing that can be done: what is wrong with the line.
+    Bad(LineFault),
+}

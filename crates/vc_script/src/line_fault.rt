@@ -1,0 +1,22 @@
+/// What is wrong with a line, in the order in which a line is judged.
+#[derive(Clone, Copy, Debug, PartialEq, Eq)]
+pub enum LineFault {
+    /// The first word is no command of the tool.
+    UnknownCommand,
+    /// The command doesn't take this number of words.
+    WordCount,
+    /// A word should be a name, or `@` and a name.
+    BadName,
+    /// A word should be a number.
+    BadNumber,
+    /// A word should be an address.
+    BadAddress,
+    /// A `%` in a word isn't followed by two hexadecimal digits.
+    BadBytes,
+    /// A word should be a method or a mode.
+    UnknownMethod,
+    /// The line has more than 4,096 bytes before its newline.
+    LineTooLong,
+    /// The line's number is above 2,147,483,647.
+    TooManyLines,
+}

@@ -1,0 +1,113 @@
+// Laws and rows of printed replies. The functions have no code.
+ghost use Rattle.std.specs.Prelude.{◌≡◌, ◌++◌, List, [], ◌∷◌, Some, None, codes, map, pos, negsuc};
+ghost use Rattle.std.specs.List.{AllByRecursion};
+ghost use Rattle.vc_base.specs.declared.dict_method.DictMethod.TheVariants as dict;
+ghost use Rattle.vc_script.specs.Lines.{lines};
+ghost use Rattle.vc_script.specs.Needs.{begins_refused, is_refusal, need_shown, needs_of};
+ghost use Rattle.vc_script.specs.Print.{line_of, method_word, printed, text};
+ghost use Rattle.vc_script.specs.ProperReply.{IsProperReply};
+ghost use Rattle.vc_script.specs.Shown.{shown};
+ghost use Rattle.vc_script.specs.declared.refusal.Refusal.TheVariants as why;
+ghost use Rattle.vc_script.specs.declared.reply.Reply.{Reply};
+ghost use Rattle.vc_script.specs.declared.reply.Reply.TheVariants as reply;
+
+/// Each reply is one line of the text, and the lines of a text tell its replies' needs: where the names in the replies
+/// are names, a line begins with `refused: ` exactly where its reply is a refusal.
+pub fn text_of_replies()
+    ensures lines { (replies : List Reply) → AllByRecursion IsProperReply replies → lines (text replies) ≡ map printed replies }
+    ensures needs { (replies : List Reply) → AllByRecursion IsProperReply replies → needs_of (text replies) ≡ map need_shown replies }
+    ensures refusals { (r : Reply) → IsProperReply r → begins_refused (printed r) ≡ is_refusal r }
+{}
+
+/// Replies on regions.
+#[tactic(auto, unfolding(crate::proofs::OnLiterals::printing_on_literals))]
+pub fn printed_regions()
+    ensures opened { line_of (reply.Opened (codes "r")) ≡ codes "r open\n" }
+    ensures closed { printed (reply.Closed (codes "r") 2) ≡ codes "r closed 2" }
+    ensures cleared { printed (reply.Cleared (codes "r")) ≡ codes "r cleared" }
+    ensures compacted { printed (reply.Compacted (codes "heap") 1) ≡ codes "heap compacted 1" }
+    ensures address { printed (reply.AddrIn (Some (codes "page")) 76) ≡ codes "addr page 76" }
+    ensures unlabelled { printed (reply.AddrIn None 0) ≡ codes "addr * 0" }
+    ensures no_address { printed reply.AddrNone ≡ codes "addr -1" }
+    ensures segment { printed (reply.SegmentIs 2 4096) ≡ codes "segment 2 4096" }
+    ensures no_segment { printed reply.SegmentNone ≡ codes "segment -1" }
+    ensures stats { printed (reply.Stats (record { busy = 9; free = 6; sbusy = 3076; sfree = 17024; mbusy = 1024; mfree = 8160; segs = 4; extent = 20480 }))
+        ≡ codes "busy 9 free 6 sbusy 3076 sfree 17024 mbusy 1024 mfree 8160 segs 4 extent 20480" }
+{}
+
+/// Replies on blocks, watched and not.
+#[tactic(auto, unfolding(crate::proofs::OnLiterals::printing_on_literals))]
+pub fn printed_blocks()
+    ensures at { printed (reply.At (codes "a") (record { seg = 1; off = 32 }) None) ≡ codes "a 1:32" }
+    ensures at_watched { printed (reply.At (codes "x") (record { seg = 1; off = 64 }) (Some 5)) ≡ codes "x 1:64 watched 5" }
+    ensures freed { printed (reply.Freed (codes "x") None) ≡ codes "x freed" }
+    ensures freed_watched { printed (reply.Freed (codes "x") (Some 5)) ≡ codes "x freed watched 5" }
+    ensures written { printed (reply.Written (codes "x") 2 None) ≡ codes "x written 2" }
+    ensures written_watched { printed (reply.Written (codes "x") 2 (Some 5)) ≡ codes "x written 2 watched 5" }
+    ensures poked { printed (reply.Poked (codes "x") None) ≡ codes "x poked" }
+    ensures poked_watched { printed (reply.Poked (codes "x") (Some 5)) ≡ codes "x poked watched 5" }
+    ensures hex { printed (reply.Hex (codes "row1") (codes "total=7")) ≡ codes "row1 746f74616c3d37" }
+    ensures low_byte { printed (reply.Hex (codes "a") (0 ∷ 10 ∷ 255 ∷ [])) ≡ codes "a 000aff" }
+    ensures size { printed (reply.Size (codes "page") 1024) ≡ codes "page 1024" }
+    ensures watched { printed (reply.Watched (codes "x")) ≡ codes "x watched" }
+{}
+
+/// Replies that list segments, blocks, damage and sites.
+#[tactic(auto, unfolding(crate::proofs::OnLiterals::printing_on_literals))]
+pub fn printed_lists()
+    ensures segments { printed (reply.SegmentList ((1, 4096) ∷ (2, 4096) ∷ (3, 4096) ∷ [])) ≡ codes "segments 3 1:4096 2:4096 3:4096" }
+    ensures no_segments { printed (reply.SegmentList []) ≡ codes "segments 0" }
+    ensures blocks { printed (reply.BlockList ((Some (codes "a"), record { seg = 1; off = 32 }, 100) ∷ (None, record { seg = 2; off = 160 }, 24) ∷ []))
+        ≡ codes "blocks 2 a@1:32+100 *@2:160+24" }
+    ensures undamaged { printed (reply.Damaged []) ≡ codes "check 0" }
+    ensures damaged { printed (reply.Damaged ((codes "x", negsuc 0) ∷ (codes "y", pos 100) ∷ [])) ≡ codes "check 2 x:-1 y:100" }
+    ensures rows { printed (reply.Rows (record { site = codes "main"; blocks = 1; bytes = 30; peak = 40 } ∷ record { site = codes "-"; blocks = 1; bytes = 5; peak = 5 } ∷ []))
+        ≡ codes "profile 2 main=1,30,40 -=1,5,5" }
+{}
+
+/// Replies on dictionaries and objects.
+#[tactic(auto, unfolding(crate::proofs::OnLiterals::printing_on_literals))]
+pub fn printed_dictionaries()
+    ensures new { printed (reply.New (codes "pear")) ≡ codes "new pear" }
+    ensures old { printed (reply.Old (codes "pear")) ≡ codes "old pear" }
+    ensures gone { printed (reply.Gone (codes "b")) ≡ codes "gone b" }
+    ensures out { printed (reply.Out (codes "b")) ≡ codes "out b" }
+    ensures found { printed (reply.Found (codes "key1-up")) ≡ codes "found key1-up" }
+    ensures nothing { printed reply.Nothing ≡ codes "none" }
+    ensures objects { printed (reply.Objects (codes "apple" ∷ codes "pear" ∷ [])) ≡ codes "2 apple pear" }
+    ensures no_objects { printed (reply.Objects []) ≡ codes "0" }
+    ensures number { printed (reply.Number 33) ≡ codes "33" }
+    ensures views { printed (reply.Views (codes "a") (Some (codes "b"))) ≡ codes "a views b" }
+    ensures views_none { printed (reply.Views (codes "d") None) ≡ codes "d views -" }
+    ensures method { printed (reply.MethodIs (codes "d") dict.DtOset) ≡ codes "d method oset" }
+    ensures emptied { printed (reply.Emptied (codes "d") 3) ≡ codes "d empty 3" }
+    ensures shut { printed (reply.ShutDown (codes "d")) ≡ codes "d shut" }
+{}
+
+/// Refusals.
+pub fn printed_refusals()
+    ensures no_region { printed (reply.Refused why.NoRegion) ≡ codes "refused: no region" }
+    ensures no_block { printed (reply.Refused why.NoBlock) ≡ codes "refused: no block" }
+    ensures no_segment { printed (reply.Refused why.NoSegment) ≡ codes "refused: no segment" }
+    ensures not_built { printed (reply.Refused why.NotYet) ≡ codes "refused: not built" }
+{}
+
+/// The words of the methods of dictionaries.
+pub fn method_words()
+    ensures set { method_word dict.DtSet ≡ codes "set" }
+    ensures bag { method_word dict.DtBag ≡ codes "bag" }
+    ensures oset { method_word dict.DtOset ≡ codes "oset" }
+    ensures obag { method_word dict.DtObag ≡ codes "obag" }
+    ensures list { method_word dict.DtList ≡ codes "list" }
+    ensures stack { method_word dict.DtStack ≡ codes "stack" }
+    ensures queue { method_word dict.DtQueue ≡ codes "queue" }
+{}
+
+/// Letters, digits, `-`, `.`, `_` and `~` stand for themselves in an object; every other byte is escaped.
+#[tactic(auto, unfolding(crate::proofs::OnLiterals::printing_on_literals))]
+pub fn shown_objects()
+    ensures plain { shown (codes "AZaz09-._~") ≡ codes "AZaz09-._~" }
+    ensures zero { shown (97 ∷ 0 ∷ 120 ∷ []) ≡ codes "a%00x" }
+    ensures blank { shown (codes " %/") ≡ codes "%20%25%2F" }
+    ensures high { shown (10 ∷ 127 ∷ 171 ∷ 255 ∷ []) ≡ codes "%0A%7F%AB%FF" }
+{}

@@ -1,0 +1,195 @@
+// Rows of the grammar, proved by computing.
+ghost use Rattle.std.specs.Prelude.{◌≡◌, ◌++◌, [], ◌∷◌, Some, None, Ok, Err, true, false, codes, replicate, pos, negsuc};
+ghost use Rattle.vc_seg.specs.declared.method.Method.TheVariants.{VmBest, VmPool, VmLast, VmDebug, VmProfile};
+ghost use Rattle.vc_script.specs.Answer.{answer};
+ghost use Rattle.vc_script.specs.Forms.{address_of, bytes_of, method_of, mode_of, name_of, number_of, signed_of, site_of};
+ghost use Rattle.vc_script.specs.Words.{words};
+ghost use Rattle.vc_script.specs.declared.command.Command.TheVariants.{OpenRegion, CloseRegion, ClearRegion, Compact, Alloc, Align, Resize, Free, WriteBlock, ReadBlock, SizeOf, AddrOf, SegmentOf, StatOf, Segments, Blocks, Poke, Check, Watch, ProfileOf};
+ghost use Rattle.vc_script.specs.declared.line_answer.LineAnswer.TheVariants.{Blank, Is, Bad};
+ghost use Rattle.vc_script.specs.declared.line_fault.LineFault.TheVariants.{UnknownCommand, WordCount, BadName, BadNumber, BadAddress, BadBytes, UnknownMethod};
+ghost use Rattle.vc_script.specs.declared.tool.Tool.TheVariants.{Vmreplay};
+
+/// Words stand between runs of spaces and tabs; any other byte stands in a word.
+pub fn cut_words()
+    ensures blanks { words (codes "  alloc\tr a 100  ")
+        ≡ codes "alloc" ∷ codes "r" ∷ codes "a" ∷ codes "100" ∷ [] }
+    ensures none { words (codes " \t ") ≡ [] }
+    ensures form_feed { words (97 ∷ 12 ∷ 98 ∷ 0 ∷ 255 ∷ []) ≡ (97 ∷ 12 ∷ 98 ∷ 0 ∷ 255 ∷ []) ∷ [] }
+{}
+
+/// Lines that ask for nothing.
+pub fn blank_lines()
+    ensures comment { answer Vmreplay (codes "# open r best 1") ≡ Blank }
+    ensures comment_word { answer Vmreplay (codes "  #open r best 1") ≡ Blank }
+    ensures empty { answer Vmreplay [] ≡ Blank }
+    ensures blanks { answer Vmreplay (codes " \t ") ≡ Blank }
+{}
+
+/// A line of each fault.
+pub fn faults()
+    ensures unknown_command { answer Vmreplay (codes "frob") ≡ Bad UnknownCommand }
+    ensures word_count { answer Vmreplay (codes "open r best") ≡ Bad WordCount }
+    ensures bad_name { answer Vmreplay (codes "open 9r best 1") ≡ Bad BadName }
+    ensures bad_number { answer Vmreplay (codes "alloc r a 99999999999") ≡ Bad BadNumber }
+    ensures bad_address { answer Vmreplay (codes "addr r 0:5") ≡ Bad BadAddress }
+    ensures bad_bytes { answer Vmreplay (codes "write r a 0 %zz") ≡ Bad BadBytes }
+    ensures unknown_method { answer Vmreplay (codes "open r bset 1") ≡ Bad UnknownMethod }
+{}
+
+/// The first word is judged first, then the number of words, then the words from the left.
+pub fn order()
+    ensures first_word { answer Vmreplay (codes "Open 9") ≡ Bad UnknownCommand }
+    ensures first_word_cr { answer Vmreplay (codes "stat\r r") ≡ Bad UnknownCommand }
+    ensures count { answer Vmreplay (codes "open 9 Best") ≡ Bad WordCount }
+    ensures count_none { answer Vmreplay (codes "stat") ≡ Bad WordCount }
+    ensures count_more { answer Vmreplay (codes "alloc r a 1 @s x") ≡ Bad WordCount }
+    ensures name_first { answer Vmreplay (codes "open 9 Best x") ≡ Bad BadName }
+    ensures method_second { answer Vmreplay (codes "open r Best x") ≡ Bad UnknownMethod }
+    ensures number_first { answer Vmreplay (codes "alloc r x y @9") ≡ Bad BadNumber }
+    ensures site_last { answer Vmreplay (codes "alloc r x 1 @9") ≡ Bad BadName }
+    ensures no_at { answer Vmreplay (codes "alloc r x 1 s") ≡ Bad BadName }
+    ensures cr_in_word { answer Vmreplay (codes "free r a\r") ≡ Bad BadName }
+{}
+
+/// Commands over dictionaries are no commands of this tool.
+pub fn other_commands()
+    ensures dict { answer Vmreplay (codes "dict d set r 1") ≡ Bad UnknownCommand }
+    ensures insert { answer Vmreplay (codes "insert d a") ≡ Bad UnknownCommand }
+    ensures method { answer Vmreplay (codes "method d list") ≡ Bad UnknownCommand }
+{}
+
+/// A line of each command with a region alone.
+pub fn region_commands()
+    ensures close { answer Vmreplay (codes "close r") ≡ Is (CloseRegion (codes "r")) }
+    ensures clear { answer Vmreplay (codes "clear r") ≡ Is (ClearRegion (codes "r")) }
+    ensures compact { answer Vmreplay (codes "compact r") ≡ Is (Compact (codes "r")) }
+    ensures stat { answer Vmreplay (codes "stat r") ≡ Is (StatOf (codes "r")) }
+    ensures segments { answer Vmreplay (codes "segments r") ≡ Is (Segments (codes "r")) }
+    ensures blocks { answer Vmreplay (codes "blocks r") ≡ Is (Blocks (codes "r")) }
+    ensures check { answer Vmreplay (codes "check r") ≡ Is (Check (codes "r")) }
+    ensures profile { answer Vmreplay (codes "profile r") ≡ Is (ProfileOf (codes "r")) }
+{}
+
+/// A line of each other command.
+#[tactic(auto, unfolding(percent_encoding::specs::Percent::percent_decode))]
+pub fn block_commands()
+    ensures open { answer Vmreplay (codes "open r best 1") ≡ Is (OpenRegion (codes "r") VmBest 1) }
+    ensures alloc { answer Vmreplay (codes "alloc r a 100")
+        ≡ Is (Alloc (codes "r") (codes "a") 100 None) }
+    ensures alloc_at { answer Vmreplay (codes "alloc r a 100 @s")
+        ≡ Is (Alloc (codes "r") (codes "a") 100 (Some (codes "s"))) }
+    ensures align { answer Vmreplay (codes "align r a 100 64")
+        ≡ Is (Align (codes "r") (codes "a") 100 64) }
+    ensures resize { answer Vmreplay (codes "resize r a 9 move")
+        ≡ Is (Resize (codes "r") (codes "a") 9 true) }
+    ensures resize_fixed { answer Vmreplay (codes "resize r a 9 fixed")
+        ≡ Is (Resize (codes "r") (codes "a") 9 false) }
+    ensures free { answer Vmreplay (codes "free r a") ≡ Is (Free (codes "r") (codes "a")) }
+    ensures write { answer Vmreplay (codes "write r a 7 x%3D")
+        ≡ Is (WriteBlock (codes "r") (codes "a") 7 (codes "x=")) }
+    ensures read { answer Vmreplay (codes "read r a 7 3")
+        ≡ Is (ReadBlock (codes "r") (codes "a") 7 3) }
+    ensures size { answer Vmreplay (codes "size r a") ≡ Is (SizeOf (codes "r") (codes "a")) }
+    ensures addr { answer Vmreplay (codes "addr r 2:32")
+        ≡ Is (AddrOf (codes "r") (record { seg = 2; off = 32 })) }
+    ensures segment { answer Vmreplay (codes "segment r 2:32")
+        ≡ Is (SegmentOf (codes "r") (record { seg = 2; off = 32 })) }
+    ensures poke { answer Vmreplay (codes "poke r a -3 165")
+        ≡ Is (Poke (codes "r") (codes "a") (negsuc 2) 165) }
+    ensures watch { answer Vmreplay (codes "watch r a") ≡ Is (Watch (codes "r") (codes "a")) }
+{}
+
+/// A name has 1 to 32 bytes: a letter, then letters, digits, `_` and `.`.
+pub fn names()
+    ensures mixed { name_of (codes "r.1_Z") ≡ Ok (codes "r.1_Z") }
+    ensures bytes_32 { name_of (replicate 32 97) ≡ Ok (replicate 32 97) }
+    ensures bytes_33 { name_of (replicate 33 97) ≡ Err BadName }
+    ensures underscore_first { name_of (codes "_a") ≡ Err BadName }
+    ensures dash { name_of (codes "a-b") ≡ Err BadName }
+    ensures high_byte { name_of (97 ∷ 228 ∷ []) ≡ Err BadName }
+    ensures empty { name_of [] ≡ Err BadName }
+{}
+
+/// A site is `@` and a name, and is kept without its `@`.
+pub fn sites()
+    ensures kept { site_of (codes "@main.c") ≡ Ok (codes "main.c") }
+    ensures bytes_33 { site_of (64 ∷ replicate 32 97) ≡ Ok (replicate 32 97) }
+    ensures bytes_34 { site_of (64 ∷ replicate 33 97) ≡ Err BadName }
+    ensures two { site_of (codes "@@a") ≡ Err BadName }
+    ensures alone { site_of (codes "@") ≡ Err BadName }
+    ensures empty { site_of [] ≡ Err BadName }
+{}
+
+/// A number has 1 to 10 digits and is at most 4,294,967,295; leading zeros count as digits.
+pub fn numbers()
+    ensures zero { number_of (codes "0") ≡ Ok 0 }
+    ensures ten_with_zeros { number_of (codes "0000000001") ≡ Ok 1 }
+    ensures eleven_with_zeros { number_of (codes "00000000001") ≡ Err BadNumber }
+    ensures greatest { number_of (codes "4294967295") ≡ Ok 4294967295 }
+    ensures too_great { number_of (codes "4294967296") ≡ Err BadNumber }
+    ensures sign { number_of (codes "+1") ≡ Err BadNumber }
+    ensures minus { number_of (codes "-1") ≡ Err BadNumber }
+    ensures hexadecimal { number_of (codes "1f") ≡ Err BadNumber }
+    ensures empty { number_of [] ≡ Err BadNumber }
+{}
+
+/// A signed number is a number, or `-` and a number.
+pub fn signed_numbers()
+    ensures plain { signed_of (codes "7") ≡ Ok (pos 7) }
+    ensures negative { signed_of (codes "-7") ≡ Ok (negsuc 6) }
+    ensures minus_zero { signed_of (codes "-0") ≡ Ok (pos 0) }
+    ensures least { signed_of (codes "-4294967295") ≡ Ok (negsuc 4294967294) }
+    ensures too_small { signed_of (codes "-4294967296") ≡ Err BadNumber }
+    ensures plus { signed_of (codes "+1") ≡ Err BadNumber }
+    ensures twice { signed_of (codes "--1") ≡ Err BadNumber }
+    ensures alone { signed_of (codes "-") ≡ Err BadNumber }
+    ensures empty { signed_of [] ≡ Err BadNumber }
+{}
+
+/// An address is a segment from 1 to 1,023, `:` and an offset of at most 33,554,431.
+pub fn addresses()
+    ensures least { address_of (codes "1:0") ≡ Ok (record { seg = 1; off = 0 }) }
+    ensures greatest { address_of (codes "1023:33554431")
+        ≡ Ok (record { seg = 1023; off = 33554431 }) }
+    ensures zeros { address_of (codes "0000000001:05") ≡ Ok (record { seg = 1; off = 5 }) }
+    ensures segment_0 { address_of (codes "0:5") ≡ Err BadAddress }
+    ensures segment_1024 { address_of (codes "1024:5") ≡ Err BadAddress }
+    ensures offset_too_great { address_of (codes "1:33554432") ≡ Err BadAddress }
+    ensures no_number { address_of (codes "1:99999999999") ≡ Err BadAddress }
+    ensures no_colon { address_of (codes "1") ≡ Err BadAddress }
+    ensures no_segment { address_of (codes ":1") ≡ Err BadAddress }
+    ensures no_offset { address_of (codes "1:") ≡ Err BadAddress }
+    ensures two_colons { address_of (codes "1:2:3") ≡ Err BadAddress }
+    ensures sign { address_of (codes "1:-0") ≡ Err BadAddress }
+    ensures empty { address_of [] ≡ Err BadAddress }
+{}
+
+/// `%` and two hexadecimal digits of either case stand for that byte, every other byte for itself.
+#[tactic(auto, unfolding(percent_encoding::specs::Percent::percent_decode))]
+pub fn bytes()
+    ensures plain { bytes_of (codes "a+b") ≡ Ok (codes "a+b") }
+    ensures either_case { bytes_of (codes "%2f%2F%0a") ≡ Ok (47 ∷ 47 ∷ 10 ∷ []) }
+    ensures once { bytes_of (codes "%2541") ≡ Ok (codes "%41") }
+    ensures zero { bytes_of (codes "%00") ≡ Ok (0 ∷ []) }
+    ensures high_byte { bytes_of (200 ∷ []) ≡ Ok (200 ∷ []) }
+    ensures other_digits { bytes_of (codes "%zz") ≡ Err BadBytes }
+    ensures percent_twice { bytes_of (codes "%%41") ≡ Err BadBytes }
+    ensures one_digit { bytes_of (codes "a%4") ≡ Err BadBytes }
+    ensures no_digit { bytes_of (codes "a%") ≡ Err BadBytes }
+    ensures later { bytes_of (codes "%41%4g") ≡ Err BadBytes }
+{}
+
+/// The methods of regions and the modes of `resize`, in lower case.
+pub fn methods()
+    ensures best { method_of (codes "best") ≡ Ok VmBest }
+    ensures pool { method_of (codes "pool") ≡ Ok VmPool }
+    ensures last { method_of (codes "last") ≡ Ok VmLast }
+    ensures debug { method_of (codes "debug") ≡ Ok VmDebug }
+    ensures profile { method_of (codes "profile") ≡ Ok VmProfile }
+    ensures upper_case { method_of (codes "Best") ≡ Err UnknownMethod }
+    ensures longer { method_of (codes "bests") ≡ Err UnknownMethod }
+    ensures of_dictionaries { method_of (codes "set") ≡ Err UnknownMethod }
+    ensures moves { mode_of (codes "move") ≡ Ok true }
+    ensures stays { mode_of (codes "fixed") ≡ Ok false }
+    ensures other_mode { mode_of (codes "best") ≡ Err UnknownMethod }
+{}

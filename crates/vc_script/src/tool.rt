@@ -1,0 +1,6 @@
+/// The tool that reads a script.
+#[derive(Clone, Copy, Debug, PartialEq, Eq)]
+pub enum Tool {
+    /// Replays a script over regions.
+    Vmreplay,
+}
