@@ -24,7 +24,7 @@ judge-late number line late = grind (arith, nat_tests)
 judge-long : (number : ℕ) (line : List ℕ) → number ≤ last_number → line_limit < length line → judge number line ≡ Err LineTooLong
 judge-long number line early long = grind (arith, nat_tests)
 
-judge-ok : (number : ℕ) (line : List ℕ) → number ≤ last_number → length line ≤ line_limit → judge number line ≡ Ok (without_cr line)
+pub judge-ok : (number : ℕ) (line : List ℕ) → number ≤ last_number → length line ≤ line_limit → judge number line ≡ Ok (without_cr line)
 judge-ok number line early short = grind (arith, nat_tests)
 
 judged-late : (number : ℕ) (kept bytes : List ℕ) → last_number < number → 0 < length kept + length bytes → judged_from number (lines_after kept bytes) ≡ (number, Err TooManyLines) ∷ []

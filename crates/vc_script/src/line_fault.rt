@@ -1,4 +1,4 @@
-/// What is wrong with a line, in the order in which a line is judged.
+/// What is wrong with a line.
 #[derive(Clone, Copy, Debug, PartialEq, Eq)]
 pub enum LineFault {
     /// The first word is no command of the tool.

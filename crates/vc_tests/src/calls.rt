@@ -4,6 +4,7 @@ use vc_base::{
     Addr, MemSink, MemSource, Name, NeverSink, NeverSource, Sink, Source, Steps, one_more,
 };
 use vc_best::Best;
+use vc_script::{Bytes, Command, Cut, LineAnswer, LineCutter, Reply, Tool, print_reply, read_line};
 use vc_seg::{FuseDisc, HeapDisc, LendFault, SegDisc, Segment, Shelf, ShelfPlace};
 
 struct Mark;
@@ -121,5 +122,24 @@ fn freed(rt: HostRuntime) -> Result<(), Fail> {
         }
         Err(_) => assert!(rt; false),
     }
+    Ok(())
+}
+
+#[test]
+fn script(rt: HostRuntime) -> Result<(), Fail> {
+    let alloc = rt.alloc();
+    let mut cutter = LineCutter::new(alloc)?;
+    assert_eq!(rt; cutter.feed(b"open r best 1\r\nalloc"), (Cut::Whole, 15));
+    assert_eq!(rt; cutter.line(), b"open r best 1".as_slice());
+    assert_eq!(rt; cutter.number(), 1);
+    assert_eq!(rt; cutter.feed(b"alloc"), (Cut::More, 5));
+    assert_eq!(rt; cutter.end(), Cut::Whole);
+    assert_eq!(rt; (cutter.line(), cutter.number()), (b"alloc".as_slice(), 2));
+    let answer = read_line(alloc, Tool::Vmreplay, b"write r a 7 %41b")?;
+    let bytes = Bytes::from_vec(b"Ab".to_vec(alloc)?);
+    let command = Command::WriteBlock(Name::new(b"r"), Name::new(b"a"), 7, bytes);
+    assert_eq!(rt; answer, LineAnswer::Is(command));
+    let line = print_reply(alloc, &Reply::Closed(Name::new(b"r"), 3))?;
+    assert_eq!(rt; line.as_slice(), b"r closed 3\n".as_slice());
     Ok(())
 }
