@@ -12,9 +12,9 @@ use Rattle.vc_model.specs.Discipline.{Discipline}
 use Rattle.vc_model.specs.Segments.{Asked, Granted, TooMany, NotLent, ask, span}
 use Rattle.vc_model.specs.Region.{Region, with_block}
 use Rattle.vc_model.specs.Best.{Allocated, Placed, TooManySegments, NoSegment, best_alloc, put, put_at, put_in_new, put_or_ask, place_in, with_segment, zeros}
-use Rattle.vc_session.specs.declared.reply.Reply.TheVariants.{At}
-use Rattle.vc_session.specs.declared.reply.Place.{Place}
-use Rattle.vc_session.specs.declared.reply.Refusal.TheVariants as why
+use Rattle.vc_script.specs.declared.reply.Reply.TheVariants.{At}
+use Rattle.vc_script.specs.declared.place.Place.{Place}
+use Rattle.vc_script.specs.declared.refusal.Refusal.TheVariants as why
 use Rattle.vc_session.specs.State.{Changed, alloc_in, allocated, unchanged, is_size, label_limit}
 use Rattle.vc_session.specs.Account.{Held, IsChange, IsNamed, home_of, name_of, named, named_block}
 use Rattle.vc_session.proofs.Ends.{ends_more, front_same}
@@ -94,12 +94,12 @@ module _ (h : Held) (x : List ℕ) (size : ℕ) (names : IsNamed h.layout h.labe
   pub alloc_in-asks : (not_lent : Bool) → alloc_in (home_of h) x size not_lent ≡ allocated (home_of h) x (named_answer more (best_alloc h.disc.round h.layout (length h.labels + 1) size 32 not_lent))
   alloc_in-asks not_lent = tests not_lent ∙ ap (allocated (home_of h) x) (asks not_lent)
 
-  pub alloc_in-placed : (a : ℕ) (layout : Region ℕ) (place : Place) (not_lent : Bool) → IsPlaced (best_alloc h.disc.round h.layout (length h.labels + 1) size 32 not_lent) a layout → place.seg ≡ (place_of a).0 → place.off ≡ (place_of a).1 → alloc_in (home_of h) x size not_lent ≡ record { region = named (name_of (h.labels ++ x ∷ [])) layout; reply = At x place }
+  pub alloc_in-placed : (a : ℕ) (layout : Region ℕ) (place : Place) (not_lent : Bool) → IsPlaced (best_alloc h.disc.round h.layout (length h.labels + 1) size 32 not_lent) a layout → place.seg ≡ (place_of a).0 → place.off ≡ (place_of a).1 → alloc_in (home_of h) x size not_lent ≡ record { region = named (name_of (h.labels ++ x ∷ [])) layout; reply = At x place None }
   alloc_in-placed a layout place not_lent p seg off =
       alloc_in-asks not_lent
       ∙ (ap (λ answer. allocated (home_of h) x (named_answer (name_of (h.labels ++ x ∷ [])) answer)) (placed_at _ a layout p)
-      ∙ (ap (λ s. let c : Changed = record { region = named (name_of (h.labels ++ x ∷ [])) layout; reply = At x (record { seg = s; off = (place_of a).1 }) } in c) (sym seg)
-      ∙ ap (λ o. let c : Changed = record { region = named (name_of (h.labels ++ x ∷ [])) layout; reply = At x (record { seg = place.seg; off = o }) } in c) (sym off)))
+      ∙ (ap (λ s. let c : Changed = record { region = named (name_of (h.labels ++ x ∷ [])) layout; reply = At x (record { seg = s; off = (place_of a).1 }) None } in c) (sym seg)
+      ∙ ap (λ o. let c : Changed = record { region = named (name_of (h.labels ++ x ∷ [])) layout; reply = At x (record { seg = place.seg; off = o }) None } in c) (sym off)))
 
   pub alloc_in-too_many : (not_lent : Bool) → best_alloc h.disc.round h.layout (length h.labels + 1) size 32 not_lent ≡ TooManySegments → alloc_in (home_of h) x size not_lent ≡ unchanged (home_of h) why.NotYet
   alloc_in-too_many not_lent e = alloc_in-asks not_lent ∙ ap (λ answer. allocated (home_of h) x (named_answer more answer)) e

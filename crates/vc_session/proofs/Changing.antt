@@ -1,15 +1,15 @@
 -- What a change of one region's lists does to the state, and to the settled shelf.
-use Rattle.std.proofs.Common.{◌≡◌, ◌≢◌, ℕ, ◌-◌, Bool, List, [], ◌∷◌, Some, None, map, option_map, set, refl, sym, ap, ◌∙◌, subst, arith, inl, inr}
+use Rattle.std.proofs.Common.{◌≡◌, ◌≢◌, ℕ, ◌-◌, Bool, List, [], ◌∷◌, Some, None, map, option_map, set, refl, sym, ap, ◌∙◌, subst, arith, inl, inr, Option}
 use Rattle.std.specs.Prelude.{slice_get, count_by, ◌==◌}
 use Rattle.std.proofs.lemmas.List.{map-set}
 use Rattle.std.proofs.lemmas.Option.{same_Some, slice_get-map}
 use Rattle.std.proofs.lemmas.Bool.Decides.{nat_tests}
 use Rattle.vc_model.specs.Count.{Rose}
 use Rattle.vc_model.specs.Numbered.{at_number}
-use Rattle.vc_session.specs.declared.command.Command.TheVariants.{Alloc}
-use Rattle.vc_session.specs.declared.reply.Reply.{Reply}
-use Rattle.vc_session.specs.declared.reply.Reply.TheVariants.{Opened, At, Refused}
-use Rattle.vc_session.specs.declared.reply.Refusal.TheVariants.{NoRegion, NoSegment, NotYet}
+use Rattle.vc_script.specs.declared.command.Command.TheVariants.{Alloc}
+use Rattle.vc_script.specs.declared.reply.Reply.{Reply}
+use Rattle.vc_script.specs.declared.reply.Reply.TheVariants.{Refused}
+use Rattle.vc_script.specs.declared.refusal.Refusal.TheVariants.{NoSegment}
 use Rattle.vc_session.specs.State.{Stepped, Home, alloc_in, alloc_step, changed, home_named, is_home, with_region}
 use Rattle.vc_session.specs.Run.{refusal_at, place_of}
 use Rattle.vc_session.specs.Homes.{IsFirst}
@@ -67,14 +67,11 @@ module _ (slots : Slots) (hs : List Held) (i : ℕ) (h g : Held) (at : slice_get
   pub settles-none : Settles (settled (accounts slots) hs) (settled (accounts slots) (set hs i g)) []
   settles-none = quiet
 
-  pub settles-reply : (r x : List ℕ) (size : ℕ) (reply : Reply) → home_named r (state_of slots hs).homes ≡ Some (home_of h) → (reply ≡ Refused NoSegment → Rose h.disc.faults g.disc.faults) → Settles (settled (accounts slots) hs) (settled (accounts slots) (set hs i g)) (refusal_at (state_of slots hs) (Alloc r x size) reply)
-  settles-reply r x size (Opened name) found rose = quiet
-  settles-reply r x size (At name place) found rose = quiet
-  settles-reply r x size (Refused NoRegion) found rose = quiet
-  settles-reply r x size (Refused NotYet) found rose = quiet
-  settles-reply r x size (Refused NoSegment) found rose =
+  pub settles-reply : (r x : List ℕ) (size : ℕ) (site : Option (List ℕ)) (reply : Reply) → home_named r (state_of slots hs).homes ≡ Some (home_of h) → (reply ≡ Refused NoSegment → Rose h.disc.faults g.disc.faults) → Settles (settled (accounts slots) hs) (settled (accounts slots) (set hs i g)) (refusal_at (state_of slots hs) (Alloc r x size site) reply)
+  settles-reply r x size site (Refused NoSegment) found rose =
       subst (λ o. Settles (settled (accounts slots) hs) (settled (accounts slots) (set hs i g)) (place_of o)) (sym found)
       (settles-change 1 (h.place ∷ []) (rose-by_one h.disc.faults g.disc.faults (rose refl)) (one_refusal h.place))
+  settles-reply r x size site reply found rose = quiet
 
   same_home : (let k : Home = record (home_of h) { region = (home_of g).region } in k) ≡ home_of g
   same_home =

@@ -1,6 +1,4 @@
 pub mod Cuts
-pub mod Answers
-pub mod Texts
 pub mod Cells
 pub mod Reading
 pub mod Written

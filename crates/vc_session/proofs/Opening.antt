@@ -9,8 +9,8 @@ use Rattle.vc_model.specs.Discipline.{Discipline}
 use Rattle.vc_model.specs.Region.{Region}
 use Rattle.vc_seg.specs.Shelf.{place_at, place_of}
 use Rattle.vc_seg.specs.declared.shelf.ShelfPlace.TheVariants.{Here}
-use Rattle.vc_session.specs.declared.reply.Reply.TheVariants.{Opened}
-use Rattle.vc_session.specs.declared.reply.Refusal.TheVariants.{NotYet}
+use Rattle.vc_script.specs.declared.reply.Reply.TheVariants.{Opened}
+use Rattle.vc_script.specs.declared.refusal.Refusal.TheVariants.{NotYet}
 use Rattle.vc_session.specs.State.{State, Stepped, is_home, open_step, opened_over, refused}
 use Rattle.vc_session.specs.Account.{Account, Held, IsNamed, IsSession, account, accounts, account_after, home_of, settled, state_of}
 use Rattle.vc_session.proofs.Cells.{at_number-from_one, at_number_some, slice_get-set_same, at_number-map, set_same}

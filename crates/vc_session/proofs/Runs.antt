@@ -1,8 +1,8 @@
 -- A run with one more step.
 use Rattle.std.proofs.Common.{◌≡◌, ℕ, List, [], ◌∷◌, ◌++◌, length, sym, ap, ◌∙◌, arith}
 use Rattle.std.proofs.lemmas.List.{append_assoc, append-nil}
-use Rattle.vc_session.specs.declared.command.Command.{Command}
-use Rattle.vc_session.specs.Needs.{Need}
+use Rattle.vc_script.specs.declared.command.Command.{Command}
+use Rattle.vc_script.specs.Needs.{Need}
 use Rattle.vc_session.specs.State.{State, Stepped, step}
 use Rattle.vc_session.specs.Run.{Ran, ran, run, refusal_at}
 

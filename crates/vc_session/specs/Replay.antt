@@ -1,15 +1,16 @@
 -- What the end of a run promises.
 use Rattle.std.specs.Prelude.{◌≡◌, ℕ, ◌⊎◌, List, [], ◌++◌, Option, Some, None, IfSome, codes, decimal, take, if◌then◌else◌}
 use Rattle.vc_model.specs.Count.{Rose}
-use Rattle.vc_session.specs.declared.command.Command.{Command}
-use Rattle.vc_session.specs.declared.command.LineFault.{LineFault}
-use Rattle.vc_session.specs.declared.command.LineFault.TheVariants.{UnknownCommand}
+use Rattle.vc_script.specs.declared.command.Command.{Command}
+use Rattle.vc_script.specs.declared.line_fault.LineFault.{LineFault}
+use Rattle.vc_script.specs.declared.line_fault.LineFault.TheVariants.{UnknownCommand, WordCount, BadName, BadNumber, BadAddress, BadBytes, UnknownMethod, LineTooLong, TooManyLines}
 use Rattle.vc_session.specs.declared.tool.ScriptFault.{ScriptFault}
-use Rattle.vc_session.specs.declared.tool.Status.{Status}
-use Rattle.vc_session.specs.declared.tool.Status.TheVariants.{Ok, Script, Usage, Read, Write, Memory}
+use Rattle.vc_session.specs.declared.status.Status.{Status}
+use Rattle.vc_session.specs.declared.status.Status.TheVariants.{Ok, Script, Usage, Read, Write, Memory}
 use Rattle.vc_session.specs.declared.tool.ScriptFault.TheVariants.{TooLong, Line}
 use Rattle.vc_session.specs.Account.{Account, Settles}
-use Rattle.vc_session.specs.Print.{needs_of, text}
+use Rattle.vc_script.specs.Needs.{needs_of}
+use Rattle.vc_script.specs.Print.{text}
 use Rattle.vc_session.specs.Run.{first_bad, is_too_long, run, script}
 use Rattle.vc_session.specs.State.{State}
 
@@ -52,6 +53,14 @@ fault_of input = if is_too_long input then Some TooLong else line_fault (first_b
 
 abbrev pub fault_text : LineFault → List ℕ
 fault_text UnknownCommand = codes "unknown command"
+fault_text WordCount = codes "wrong number of words"
+fault_text BadName = codes "bad name"
+fault_text BadNumber = codes "bad number"
+fault_text BadAddress = codes "bad address"
+fault_text BadBytes = codes "bad bytes"
+fault_text UnknownMethod = codes "unknown method or mode"
+fault_text LineTooLong = codes "line too long"
+fault_text TooManyLines = codes "too many lines"
 
 -- the line that err gets
 abbrev pub err_line : ScriptFault → List ℕ

@@ -1,16 +1,16 @@
 -- The commands of an input, a run of them, and its text.
 use Rattle.std.specs.Prelude.{ℕ, ◌+◌, List, [], ◌∷◌, ◌++◌, Option, Some, None, Bool, length, nat_lt}
-use Rattle.vc_session.specs.declared.command.Command.{Command}
-use Rattle.vc_session.specs.declared.command.Command.TheVariants.{Alloc}
-use Rattle.vc_session.specs.declared.command.LineAnswer.{LineAnswer}
-use Rattle.vc_session.specs.declared.command.LineAnswer.TheVariants.{Blank, Is, Bad}
-use Rattle.vc_session.specs.declared.command.LineFault.{LineFault}
-use Rattle.vc_session.specs.declared.reply.Reply.{Reply}
-use Rattle.vc_session.specs.declared.reply.Reply.TheVariants.{Refused}
-use Rattle.vc_session.specs.declared.reply.Refusal.TheVariants.{NoSegment}
-use Rattle.vc_session.specs.Lines.{lines, without_cr}
-use Rattle.vc_session.specs.Answer.{answer}
-use Rattle.vc_session.specs.Needs.{Need, NoNeed}
+use Rattle.vc_script.specs.declared.command.Command.{Command}
+use Rattle.vc_script.specs.declared.command.Command.TheVariants.{Alloc}
+use Rattle.vc_script.specs.declared.line_answer.LineAnswer.{LineAnswer}
+use Rattle.vc_script.specs.declared.line_answer.LineAnswer.TheVariants.{Blank, Is, Bad}
+use Rattle.vc_script.specs.declared.line_fault.LineFault.{LineFault}
+use Rattle.vc_script.specs.declared.reply.Reply.{Reply}
+use Rattle.vc_script.specs.declared.reply.Reply.TheVariants.{Refused}
+use Rattle.vc_script.specs.declared.refusal.Refusal.TheVariants.{NoSegment}
+use Rattle.vc_script.specs.Lines.{lines, without_cr}
+use Rattle.vc_session.specs.Built.{built_answer}
+use Rattle.vc_script.specs.Needs.{Need, NoNeed}
 use Rattle.vc_session.specs.State.{State, Home, Stepped, step, home_named}
 
 -- what a line's answer leaves of the commands behind it: none behind a bad line
@@ -22,7 +22,7 @@ command_then n (Bad fault) behind = []
 -- lines are numbered, here from n on
 abbrev pub commands_from : ℕ → List (List ℕ) → List (ℕ × Command)
 commands_from n [] = []
-commands_from n (line ∷ rest) = command_then n (answer (without_cr line)) (commands_from (n + 1) rest)
+commands_from n (line ∷ rest) = command_then n (built_answer (without_cr line)) (commands_from (n + 1) rest)
 
 -- the commands of the lines before the first bad one, each with its line's number
 abbrev pub script : List ℕ → List (ℕ × Command)
@@ -35,7 +35,7 @@ fault_or n (Bad fault) behind = Some (n, fault)
 
 abbrev pub fault_from : ℕ → List (List ℕ) → Option (ℕ × LineFault)
 fault_from n [] = None
-fault_from n (line ∷ rest) = fault_or n (answer (without_cr line)) (fault_from (n + 1) rest)
+fault_from n (line ∷ rest) = fault_or n (built_answer (without_cr line)) (fault_from (n + 1) rest)
 
 -- the first bad line, by its number, and what is wrong with it
 abbrev pub first_bad : List ℕ → Option (ℕ × LineFault)
@@ -60,7 +60,7 @@ place_of (Some h) = h.place ∷ []
 
 -- the place of the discipline that refused a segment in a step, where one did
 abbrev pub refusal_at : State → Command → Reply → List ℕ
-refusal_at s (Alloc r x size) (Refused NoSegment) = place_of (home_named r s.homes)
+refusal_at s (Alloc r x size site) (Refused NoSegment) = place_of (home_named r s.homes)
 refusal_at s command reply = []
 
 -- a step, and then the run of the rest

@@ -5,13 +5,15 @@ use Rattle.std.specs.Str.{bytes_eq}
 use Rattle.vc_model.specs.Numbered.{at_number}
 use Rattle.vc_model.specs.Region.{Block, Region}
 use Rattle.vc_model.specs.Best.{Allocated, Placed, TooManySegments, NoSegment, best_alloc}
-use Rattle.vc_session.specs.declared.command.Command.{Command}
-use Rattle.vc_session.specs.declared.command.Command.TheVariants.{Open, Alloc}
-use Rattle.vc_session.specs.declared.reply.Reply.{Reply}
-use Rattle.vc_session.specs.declared.reply.Reply.TheVariants.{Opened, At, Refused}
-use Rattle.vc_session.specs.declared.reply.Refusal.{Refusal}
-use Rattle.vc_session.specs.declared.reply.Refusal.TheVariants as why
-use Rattle.vc_session.specs.Needs.{Need, NoNeed, ForBlock}
+use Rattle.vc_script.specs.declared.command.Command.{Command}
+use Rattle.vc_script.specs.declared.command.Command.TheVariants.{OpenRegion, Alloc}
+use Rattle.vc_seg.specs.declared.method.Method.{Method}
+use Rattle.vc_seg.specs.declared.method.Method.TheVariants.{VmBest}
+use Rattle.vc_script.specs.declared.reply.Reply.{Reply}
+use Rattle.vc_script.specs.declared.reply.Reply.TheVariants.{Opened, At, Refused}
+use Rattle.vc_script.specs.declared.refusal.Refusal.{Refusal}
+use Rattle.vc_script.specs.declared.refusal.Refusal.TheVariants as why
+use Rattle.vc_script.specs.Needs.{Need, NoNeed, ForBlock}
 
 -- a region of the session: its name, the place of its discipline on the shelf, from 1 on, that discipline's round, and its lists
 pub record Home : Type 0 where
@@ -84,7 +86,7 @@ abbrev pub unchanged : Home → Refusal → Changed
 unchanged h why = record { region = h.region; reply = Refused why }
 
 abbrev pub allocated : Home → List ℕ → Allocated (List ℕ) → Changed
-allocated h x (Placed at region) = record { region = region; reply = At x (record { seg = at.0; off = at.1 }) }
+allocated h x (Placed at region) = record { region = region; reply = At x (record { seg = at.0; off = at.1 }) None }
 allocated h x TooManySegments = unchanged h why.NotYet
 allocated h x NoSegment = unchanged h why.NoSegment
 
@@ -109,7 +111,12 @@ abbrev pub is_for_block : Need → Bool
 is_for_block NoNeed = false
 is_for_block ForBlock = true
 
+abbrev pub open_by : State → List ℕ → Method → ℕ → Stepped
+open_by s r VmBest n = open_step s r n
+open_by s r method n = refused s why.NotYet
+
 -- one step: the first refusal that applies, else the state changed; the need is the one free choice
 abbrev pub step : State → Command → Need → Stepped
-step s (Open r n) need = open_step s r n
-step s (Alloc r x size) need = alloc_step s r x size (is_for_block need) (home_named r s.homes)
+step s (OpenRegion r method n) need = open_by s r method n
+step s (Alloc r x size site) need = alloc_step s r x size (is_for_block need) (home_named r s.homes)
+step s command need = refused s why.NotYet

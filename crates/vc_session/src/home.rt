@@ -6,12 +6,12 @@ ghost use Rattle.vc_base.specs.Addr.{place_of};
 ghost use Rattle.vc_model.specs.Count.{Rose};
 ghost use Rattle.vc_model.specs.Discipline.{EndsWith};
 ghost use Rattle.vc_session.specs.State.{alloc_in, is_for_block, is_size};
-ghost use Rattle.vc_session.specs.Print.{need_shown};
+ghost use Rattle.vc_script.specs.Needs.{need_shown};
 ghost use Rattle.vc_session.specs.Account.{home_of, IsNamed, IsChange};
 
-use crate::reply::{Place, Refusal, Reply};
 use vc_base::{Addr, Name, OutOfMemory, Steps};
 use vc_best::Best;
+use vc_script::{Place, Refusal, Reply};
 use vc_seg::{BoxedDisc, RegionFault, SegDisc};
 
 // A region has at most so many labels.
@@ -79,7 +79,7 @@ impl Home {
         match self.best.alloc(size, 32, tag, &mut steps) {
             Ok(at) => {
                 self.labels.push_reserved(name);
-                Ok(Reply::At(name, place_of(at)))
+                Ok(Reply::At(name, place_of(at), None))
             }
             Err(RegionFault::TooManySegments) => Ok(Reply::Refused(Refusal::NotYet)),
             Err(RegionFault::NoSegment) => Ok(Reply::Refused(Refusal::NoSegment)),

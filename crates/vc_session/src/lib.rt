@@ -1,20 +1,17 @@
 //! Runs scripts over regions.
 #![tactic(auto)]
 
+mod built;
 mod close;
-mod command;
 mod engine;
 mod home;
 mod input;
 mod line;
-mod parse;
-mod print;
-mod reply;
-pub mod rows;
 pub mod run_rows;
 mod session;
+mod status;
 mod stream;
 mod tool;
-mod word;
 
-pub use tool::{Status, replay};
+pub use status::Status;
+pub use tool::replay;

@@ -1,6 +1,6 @@
 // The lines of an input.
 ghost use Rattle.std.specs.Prelude.{◌≡◌, ◌<◌, ◌∷◌, length};
-ghost use Rattle.vc_session.specs.Lines.{lines, without_cr};
+ghost use Rattle.vc_script.specs.Lines.{lines, without_cr};
 
 // The first line, without its newline, and what stands behind it.
 pub(crate) fn first_line(input: &[u8]) -> (&[u8], &[u8])
@@ -17,7 +17,7 @@ pub(crate) fn first_line(input: &[u8]) -> (&[u8], &[u8])
 }
 
 // A CR that is the line's last byte is dropped.
-#[tactic(auto, using(crate::proofs::Cuts::cr_steps))]
+#[tactic(auto, using(vc_script::proofs::Cuts::cr_steps))]
 pub(crate) fn drop_cr(line: &[u8]) -> &[u8]
     ensures { result.now ≡ without_cr line.now }
 {

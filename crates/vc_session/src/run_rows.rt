@@ -1,10 +1,10 @@
 // Whole scripts, whose texts are computed by the definitions.
 ghost use Rattle.std.specs.Prelude.{◌≡◌, ℕ, [], ◌∷◌, Some, None, codes, List};
-ghost use Rattle.vc_session.specs.Print.{text};
-ghost use Rattle.vc_session.specs.Needs.{Need, NoNeed, ForBlock};
+ghost use Rattle.vc_script.specs.Print.{text};
+ghost use Rattle.vc_script.specs.Needs.{Need, NoNeed, ForBlock};
 ghost use Rattle.vc_session.specs.State.{State};
 ghost use Rattle.vc_session.specs.Run.{run, script, first_bad};
-ghost use Rattle.vc_session.specs.declared.command.LineFault.TheVariants.{UnknownCommand};
+ghost use Rattle.vc_script.specs.declared.line_fault.LineFault.TheVariants.{UnknownCommand, LineTooLong};
 
 /// A region is opened and a block allocated; the empty input writes nothing.
 pub fn row_one()

@@ -5,16 +5,15 @@ ghost use Rattle.std.specs.Str.{bytes_eq};
 ghost use Rattle.vc_session.specs.Account.{Settles};
 ghost use Rattle.vc_session.specs.Homes.{IsFirst, IsSessionOver, settled_over, state_over};
 ghost use Rattle.vc_session.specs.State.{open_step, step, alloc_in, is_for_block};
-ghost use Rattle.vc_session.specs.Print.{need_shown};
+ghost use Rattle.vc_script.specs.Needs.{need_shown};
 ghost use Rattle.vc_session.specs.Run.{refusal_at};
 
-use crate::command::Command;
 use crate::home::Home;
-use crate::reply::{Refusal, Reply};
 use std::alloc::Global;
 use vc_base::{Name, OutOfMemory};
 use vc_best::Best;
-use vc_seg::{BoxedDisc, SegDisc, Shelf};
+use vc_script::{Command, Refusal, Reply};
+use vc_seg::{BoxedDisc, Method, SegDisc, Shelf};
 
 // Where the region of that name stands.
 fn find_home(homes: &[Home], name: &Name) -> Option<usize>
@@ -91,10 +90,11 @@ pub(crate) fn run_command(
         (settled_over ⟦<BoxedDisc as SegDisc>⟧.state shelf.new.slots.items homes.new.items) []) }
 {
     match command {
-        Command::Open(name, n) => open_region(alloc, homes, shelf, *name, *n),
-        Command::Alloc(name, block, size) => match find_home(homes, name) {
+        Command::OpenRegion(name, Method::VmBest, n) => open_region(alloc, homes, shelf, *name, *n),
+        Command::Alloc(name, block, size, _) => match find_home(homes, name) {
             None => Ok(Reply::Refused(Refusal::NoRegion)),
             Some(i) => Ok(homes[i].allocate(*block, *size)?),
         },
+        _ => Ok(Reply::Refused(Refusal::NotYet)),
     }
 }

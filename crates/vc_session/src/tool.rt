@@ -6,55 +6,16 @@ ghost use Rattle.vc_session.specs.Account.{Settles, accounts};
 ghost use Rattle.vc_session.specs.Homes.{state_over};
 ghost use Rattle.vc_session.specs.Replay.{IsReplay, Told, Tried, err_line, fault_text};
 
+use crate::Status;
 use crate::close::close_all;
-use crate::command::LineFault;
 use crate::engine::{Stop, run_lines};
 use crate::input::{Input, InputFault, read_all};
 use crate::stream::write_all;
 use itoa::Buffer;
 use std::alloc::Global;
 use vc_base::{Sink, Source, WriteFailed};
+use vc_script::LineFault;
 use vc_seg::{BoxedDisc, SegDisc, Shelf};
-
-/// How a tool ends.
-#[derive(Clone, Copy, Debug, PartialEq, Eq)]
-pub enum Status {
-    /// The script was read to its end and had no bad line.
-    Ok,
-
-    /// The script has a bad line, or is too long.
-    Script,
-
-    /// The words behind the program's name were refused.
-    Usage,
-
-    /// A read failed.
-    Read,
-
-    /// A write failed.
-    Write,
-
-    /// Want of memory.
-    Memory,
-}
-
-impl Status {
-    ghost use Rattle.vc_session.specs.Replay.{number};
-
-    /// The number that a program ends with, from 0 to 5.
-    pub fn number(self) -> u8
-        ensures { result ≡ number self }
-    {
-        match self {
-            Status::Ok => 0,
-            Status::Script => 1,
-            Status::Usage => 2,
-            Status::Read => 3,
-            Status::Write => 4,
-            Status::Memory => 5,
-        }
-    }
-}
 
 // What is wrong with a script.
 #[derive(Clone, Copy)]
@@ -131,6 +92,14 @@ fn fault_text(fault: LineFault) -> &'static [u8]
 {
     match fault {
         LineFault::UnknownCommand => b"unknown command",
+        LineFault::WordCount => b"wrong number of words",
+        LineFault::BadName => b"bad name",
+        LineFault::BadNumber => b"bad number",
+        LineFault::BadAddress => b"bad address",
+        LineFault::BadBytes => b"bad bytes",
+        LineFault::UnknownMethod => b"unknown method or mode",
+        LineFault::LineTooLong => b"line too long",
+        LineFault::TooManyLines => b"too many lines",
     }
 }
 

@@ -1,5 +1,5 @@
 use Rattle.std.proofs.Common.{◌≡◌, take, drop}
-use Rattle.vc_session.specs.Lines.{lines, lines_after}
+use Rattle.vc_script.specs.Lines.{lines, lines_after}
 use Rattle.vc_session.proofs.line.first_line.Given as goal
 
 abbrev pub invariant-loop-i : goal.invariant-loop-i

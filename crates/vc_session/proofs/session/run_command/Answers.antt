@@ -2,7 +2,7 @@ use Rattle.std.proofs.Common.{sym, ap, ◌∙◌, subst, false, Result, Ok, Err,
 use Rattle.std.proofs.lemmas.List.{map-set}
 use Rattle.vc_seg.specs.contracts.boxed.BoxDynSegDiscSegDisc.TheImpl as boxed
 use Rattle.vc_seg.specs.Shelf.{slots_of}
-use Rattle.vc_session.specs.declared.command.Command.TheVariants.{Alloc}
+use Rattle.vc_script.specs.declared.command.Command.TheVariants.{Alloc}
 use Rattle.vc_session.specs.Run.{refusal_at}
 use Rattle.vc_session.specs.State.{alloc_step, is_home}
 use Rattle.vc_session.specs.Account.{IsSession, Settles, accounts, settled, state_of}
@@ -74,8 +74,8 @@ returns-in_ok-allocate-in-Some-clause-settles g c =
     let first = first-named meaning c.args.homes.now.items c.in-Alloc.name c.in-Some.i (rw c.deref.ensures.value at c.in-Some.ensures.some) in
     let after = map-set (held_of meaning) c.args.homes.now.items c.in-Some.i c.allocate.new.self in
     rw c.in-Alloc.is
-    (subst (λ hs. Settles (settled (accounts slots) helds) (settled (accounts slots) hs) (refusal_at (state_of slots helds) (Alloc c.in-Alloc.name c.in-Alloc.block c.in-Alloc.size) c.in_ok-allocate-in-Some.field-0)) (sym after)
-    (settles-reply slots helds c.in-Some.i h k at c.requires c.allocate.ensures.change c.in-Alloc.name c.in-Alloc.block c.in-Alloc.size c.in_ok-allocate-in-Some.field-0
+    (subst (λ hs. Settles (settled (accounts slots) helds) (settled (accounts slots) hs) (refusal_at (state_of slots helds) (Alloc c.in-Alloc.name c.in-Alloc.block c.in-Alloc.size c.in-Alloc.field-3) c.in_ok-allocate-in-Some.field-0)) (sym after)
+    (settles-reply slots helds c.in-Some.i h k at c.requires c.allocate.ensures.change c.in-Alloc.name c.in-Alloc.block c.in-Alloc.size c.in-Alloc.field-3 c.in_ok-allocate-in-Some.field-0
     (found-change slots helds c.in-Some.i h k at c.requires c.allocate.ensures.change c.in-Alloc.name first)
     (λ e. c.allocate.ensures.refused (c.in_ok-allocate-in-Some.was ∙ ap (λ r. Ok r) e))))
 

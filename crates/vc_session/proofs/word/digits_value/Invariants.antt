@@ -1,9 +1,0 @@
-use Rattle.std.proofs.Common.{◌≡◌, ◌<◌, ◌^◌, take}
-use Rattle.vc_session.specs.Words.{digits_value}
-use Rattle.vc_session.proofs.word.digits_value.Given as goal
-
-abbrev pub invariant-loop-d : goal.invariant-loop-d
-invariant-loop-d l = record {
-  value : l.value ≡ digits_value (take l.d-index l.digits);
-  small : l.value < 10 ^ l.d-index;
-}
