@@ -1,5 +1,5 @@
 -- A slot that is taken out of a layout.
-use Rattle.std.proofs.Common.{◌≡◌, ℕ, zero, suc, ◌+◌, ◌*◌, ◌/◌, ◌%◌, ◌<◌, List, [], ◌∷◌, ◌++◌, false, All, Contains, length, get_or, map, take, drop, refl, ap, sym, ◌∙◌, ⊎_elim, eqb, arith}
+use Rattle.std.proofs.Common.{◌≡◌, ℕ, zero, suc, ◌+◌, ◌*◌, ◌/◌, ◌%◌, ◌<◌, List, [], ◌∷◌, ◌++◌, false, All, AllPairs, Contains, length, get_or, map, take, drop, refl, ap, sym, ◌∙◌, ⊎_elim, eqb, arith}
 use Rattle.std.specs.List.{remove}
 use Rattle.std.specs.Prelude.{◌==◌, ◌&&◌}
 use Rattle.std.proofs.lemmas.Bool.{cases_Bool, eq-eqb, eqb-true, and_from, and_parts}
@@ -13,6 +13,8 @@ use Rattle.vc_seg.specs.Segment.{Bytes, pair_of}
 use Rattle.vc_best.specs.declared.slot.Slot.{Slot}
 use Rattle.vc_best.specs.Slot.{place_of_slot, without_slot}
 use Rattle.vc_best.specs.Layout.{block_in, region_of, IsSlotIn, IsLayout}
+use Rattle.vc_best.proofs.Apart.{Before, AllPairs-head, AllPairs-tail, span-least}
+use Rattle.std.proofs.lemmas.List.Kept.{AllPairs-cons}
 
 module _ (at : ℕ × ℕ) where
   pub among-within : (ss : List Slot) (i : ℕ) → Contains (map place_of_slot (drop i ss)) at → i < length ss
@@ -67,9 +69,18 @@ All-without_slot P at (s ∷ ss) h =
     (λ e. rw e (All-cons P s (without_slot at ss) (All-head P s ss h) (All-without_slot P at ss rest)))
     (cases_Bool ((s.seg == at.0) && (s.off == at.1)))
 
+Before-without_slot : (at : ℕ × ℕ) (slots : List Slot) → AllPairs Before slots → AllPairs Before (without_slot at slots)
+Before-without_slot at [] h = h
+Before-without_slot at (s ∷ ss) h =
+    let rest = AllPairs-tail Before s ss h in
+    ⊎_elim
+    (λ e. rw e rest)
+    (λ e. rw e (AllPairs-cons Before s (without_slot at ss) (All-without_slot (Before s) at ss (AllPairs-head Before s ss h)) (Before-without_slot at ss rest)))
+    (cases_Bool ((s.seg == at.0) && (s.off == at.1)))
+
 pub IsLayout-without_slot : (segs : List Bytes) (at : ℕ × ℕ) (slots : List Slot) → IsLayout segs slots → IsLayout segs (without_slot at slots)
 IsLayout-without_slot segs at slots l =
-    record { few = l.few; segments = l.segments; distinct = l.distinct; blocks = All-without_slot (IsSlotIn segs) at slots l.blocks }
+    record { few = l.few; segments = l.segments; distinct = l.distinct; blocks = All-without_slot (IsSlotIn segs) at slots l.blocks; apart = Before-without_slot at slots l.apart }
 
 pub region_of-without_slot : (segs : List Bytes) (at : ℕ × ℕ) (slots : List Slot) → region_of segs (without_slot at slots) ≡ best_free (region_of segs slots) at
 region_of-without_slot segs at slots =

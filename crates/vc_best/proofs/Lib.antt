@@ -2,7 +2,9 @@ pub mod Scan
 pub mod Unused
 pub mod Bytes
 pub mod Gaps
+pub mod Clear
 pub mod Rounding
+pub mod Apart
 pub mod Regions
 pub mod Allocs
 pub mod Backs

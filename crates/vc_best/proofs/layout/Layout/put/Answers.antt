@@ -1,5 +1,5 @@
 use Rattle.std.proofs.Common.{sym}
-use Rattle.vc_best.proofs.Allocs.{IsSlotAt-place}
+use Rattle.vc_best.proofs.Allocs.{IsSlotAt-place, clear-place}
 use Rattle.vc_best.proofs.Regions.{IsSlotAt, IsLayout-with_slot, region_of-with_slot}
 use Rattle.vc_best.proofs.layout.Layout.put.Goals as goal
 use Rattle.vc_best.proofs.layout.Layout.put.Goals.{After-put_among}
@@ -22,7 +22,8 @@ new-requires-clause-multiple c = (here (goal.at.new-requires-clause-multiple c).
 pub invariant_of-self-2 : goal.invariant_of-self-2
 invariant_of-self-2 c =
     rw (c.put_among.ensures, c.in_ok-reserve_one.ensures.items)
-    (IsLayout-with_slot c.self.inside.segs.items _ c.self.inside.blocks.items c.self.invariant (here (goal.at.invariant_of-self-2 c).After-put_among).slot)
+    (IsLayout-with_slot c.self.inside.segs.items _ c.self.inside.blocks.items c.self.invariant (here (goal.at.invariant_of-self-2 c).After-put_among).slot
+      (clear-place c.self.inside.segs.items c.self.inside.blocks.items c.args.size c.args.align c.args.seg c.args.off c.self.invariant c.requires.align (rw (← c.self.view_is) at c.requires.place)))
 
 pub returns-clause-ok : goal.returns-clause-ok
 returns-clause-ok c = (
