@@ -1,5 +1,5 @@
 -- What allocation in a layout's region answers.
-use Rattle.std.proofs.Common.{◌≡◌, ℕ, ◌+◌, ◌-◌, ◌<◌, ◌≤◌, ◌≢◌, List, [], ◌∷◌, ◌++◌, Bool, true, false, Option, None, Some, All, length, map, filter, replicate, refl, ap, sym, ◌∙◌, subst, eqb, ltb, arith}
+use Rattle.std.proofs.Common.{◌≡◌, ℕ, ◌+◌, ◌-◌, ◌<◌, ◌≤◌, List, [], ◌∷◌, ◌++◌, Bool, true, false, Option, None, Some, All, length, map, filter, replicate, refl, ap, sym, ◌∙◌, subst, eqb, ltb, arith}
 use Rattle.std.specs.Prelude.{option_map}
 use Rattle.std.proofs.lemmas.Bool.{ne_eqb, lt-ltb, le-ltb, le-leb}
 use Rattle.std.proofs.lemmas.List.{length-map, length-replicate, append-nil}
@@ -15,7 +15,7 @@ use Rattle.vc_best.specs.declared.slot.Slot.{Slot}
 use Rattle.vc_best.specs.Slot.{run_of_slot, runs_of, with_slot}
 use Rattle.vc_best.specs.Layout.{bytes_of_number, region_of, IsRegionSegment, IsSlotIn, IsLayout}
 use Rattle.vc_best.proofs.Unused.{is_among, lowest_unused-unused}
-use Rattle.vc_best.proofs.Bytes.{bytes_of_number-unused, bytes_of_number-push}
+use Rattle.vc_best.proofs.Bytes.{bytes_of_number-push}
 use Rattle.vc_best.proofs.Gaps.{best_gap-IsBestGap, least-None}
 use Rattle.vc_best.specs.Apart.{IsApart, footprint_at}
 use Rattle.vc_best.proofs.Clear.{unused-no_slot, unused-clear, best_gap-clear}

@@ -1,11 +1,10 @@
 -- Slots that don't overlap.
-use Rattle.std.proofs.Common.{◌≡◌, ℕ, zero, suc, ◌+◌, ◌-◌, ◌<◌, ◌≤◌, ◌≢◌, ◌⊎◌, List, [], ◌∷◌, true, false, All, AllPairs, Contains, length, map, refl, ap, sym, ◌∙◌, inl, inr, ⊎_elim, eqb, ltb, arith}
+use Rattle.std.proofs.Common.{◌≡◌, ℕ, suc, ◌+◌, ◌<◌, ◌≤◌, ◌⊎◌, List, [], ◌∷◌, true, false, All, AllPairs, map, sym, ◌∙◌, inl, inr, ⊎_elim, eqb, ltb, arith}
 use Rattle.std.specs.Prelude.{◌==◌, ◌&&◌}
 use Rattle.std.proofs.lemmas.Bool.{cases_Bool, or_cases, or_parts, and_parts, and_from, eqb-true, eq-eqb, ltb-true, ltb-false, lt-ltb}
 use Rattle.std.proofs.lemmas.List.Elements.{All-head, All-tail, All-nil, All-cons, All-map, All-weaker}
 use Rattle.std.proofs.lemmas.List.Kept.{AllPairs-cons}
 use Rattle.vc_model.specs.Segments.{span}
-use Rattle.vc_model.specs.Gap.{Run}
 use Rattle.vc_best.specs.declared.slot.Slot.{Slot}
 use Rattle.vc_best.specs.Slot.{IsSlot, run_of_slot, lies_before_slot, with_slot}
 use Rattle.vc_best.specs.Apart.{EndsBefore, IsApart}
@@ -50,9 +49,9 @@ Before-lower s t p q apart e =
     ⊎_elim
     (λ u. u)
     (λ u. ⊎_elim
-      (λ v. ⊎_elim (λ w. absurd (omega (arith, v, w))) (λ w. absurd (omega (arith, v, w.0))) order)
-      (λ v. ⊎_elim (λ w. absurd (omega (arith, v.0, w))) (λ w. absurd (omega (arith, v.1, w.1, some, one, two))) order)
-      u)
+    (λ v. ⊎_elim (λ w. absurd (omega (arith, v, w))) (λ w. absurd (omega (arith, v, w.0))) order)
+    (λ v. ⊎_elim (λ w. absurd (omega (arith, v.0, w))) (λ w. absurd (omega (arith, v.1, w.1, some, one, two))) order)
+    u)
     apart
 
 Before-not_lower : (s t : Slot) → IsSlot s → IsSlot t → IsApart (run_of_slot s) (run_of_slot t) → lies_before_slot s.seg s.off t ≡ false → Before t s
@@ -65,9 +64,9 @@ Before-not_lower s t p q apart e =
     let offs : s.seg ≡ t.seg → s.off < t.off → ⊥ = λ same low. let both = and_from (eqb s.seg t.seg) (ltb s.off t.off) (eq-eqb s.seg t.seg same) (lt-ltb s.off t.off low) in let no : true ≡ false = sym both ∙ parts.1 in cc in
     ⊎_elim
     (λ u. ⊎_elim
-      (λ v. absurd (omega (arith, v, segs)))
-      (λ v. absurd (offs v.0 (omega (arith, v.1, some, one, two))))
-      u)
+    (λ v. absurd (omega (arith, v, segs)))
+    (λ v. absurd (offs v.0 (omega (arith, v.1, some, one, two))))
+    u)
     (λ u. u)
     apart
 

@@ -13,7 +13,7 @@ use Rattle.vc_seg.specs.Segment.{Bytes, pair_of}
 use Rattle.vc_best.specs.declared.slot.Slot.{Slot}
 use Rattle.vc_best.specs.Slot.{place_of_slot, without_slot}
 use Rattle.vc_best.specs.Layout.{block_in, region_of, IsSlotIn, IsLayout}
-use Rattle.vc_best.proofs.Apart.{Before, AllPairs-head, AllPairs-tail, span-least}
+use Rattle.vc_best.proofs.Apart.{Before, AllPairs-head, AllPairs-tail}
 use Rattle.std.proofs.lemmas.List.Kept.{AllPairs-cons}
 
 module _ (at : ℕ × ℕ) where
@@ -60,7 +60,7 @@ blocks-without_slot segs at (s ∷ ss) =
     (λ e. rw e (ap (λ bs. block_in segs s ∷ bs) (blocks-without_slot segs at ss)))
     (cases_Bool ((s.seg == at.0) && (s.off == at.1)))
 
-All-without_slot : (P : Slot → Type 0) (at : ℕ × ℕ) (slots : List Slot) → All P slots → All P (without_slot at slots)
+pub All-without_slot : (P : Slot → Type 0) (at : ℕ × ℕ) (slots : List Slot) → All P slots → All P (without_slot at slots)
 All-without_slot P at [] h = h
 All-without_slot P at (s ∷ ss) h =
     let rest = All-tail P s ss h in

@@ -9,3 +9,4 @@ pub mod Regions
 pub mod Allocs
 pub mod Backs
 pub mod Frees
+pub mod Blocks

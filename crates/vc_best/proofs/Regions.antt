@@ -2,7 +2,7 @@
 use Rattle.std.proofs.Common.{◌≡◌, ℕ, zero, suc, ◌+◌, ◌-◌, ◌<◌, ◌≤◌, ◌≢◌, List, [], ◌∷◌, ◌++◌, false, All, length, get_or, map, replicate, take, drop, refl, ap, sym, ◌∙◌, subst, ⊎_elim, eqb, arith}
 use Rattle.std.proofs.lemmas.Bool.{cases_Bool, or_parts, eqb-false, leb-true}
 use Rattle.std.proofs.lemmas.List.{take-replicate, drop-replicate, map_push, length_push}
-use Rattle.std.proofs.lemmas.List.Elements.{All-head, All-tail, All-cons, All-push, All-weaker}
+use Rattle.std.proofs.lemmas.List.Elements.{All-head, All-tail, All-push, All-weaker}
 use Rattle.std.proofs.lemmas.List.Quantifiers.{all_pairs_push}
 use Rattle.vc_model.specs.Segments.{numbers, span}
 use Rattle.vc_model.specs.Gap.{Run}
@@ -16,7 +16,7 @@ use Rattle.vc_best.specs.Layout.{bytes_of_number, block_in, region_of, IsRegionS
 use Rattle.vc_best.proofs.Unused.{is_among}
 use Rattle.vc_best.proofs.Bytes.{Apart, bytes_of_number-zeros, bytes_of_number-most, bytes_of_number-append}
 use Rattle.vc_best.proofs.Gaps.{IsBestGap}
-use Rattle.vc_best.proofs.Apart.{Before, Before-with_slot, All-with_slot, span-least}
+use Rattle.vc_best.proofs.Apart.{Before-with_slot, All-with_slot, span-least}
 use Rattle.vc_best.specs.Apart.{IsApart}
 use Rattle.vc_best.proofs.Rounding.{IsAligned, round_up-least, round_up-mod_32}
 

@@ -6,6 +6,7 @@ ghost use Rattle.vc_model.specs.Place.{IsAlign};
 ghost use Rattle.vc_model.specs.Segments.{round_up, span};
 ghost use Rattle.vc_base.specs.Addr.{address, place_of};
 ghost use Rattle.vc_best.specs.Alloc.{IsPlaced};
+ghost use Rattle.vc_best.specs.Apart.{AreApart, IsApartFrom};
 
 use crate::layout::Layout;
 use std::alloc::Global;
@@ -72,6 +73,11 @@ impl Best {
         ensures room { OnErr result ((state self.new.disc).room ≡ (state self.old.disc).room) }
         ensures faults { result ≢ Err RegionFault.NoSegment → (state self.new.disc).faults ≡ (state self.old.disc).faults }
         ensures kept { Kept (state self.old.disc) (state self.new.disc) }
+
+        // No two blocks overlap.
+        ensures apart { IfOk result (λ a. IsApartFrom self.old.layout.blocks size (place_of a.0)) }
+        ensures fresh { IfOk result (λ a. Contains (map (λ b. address (b.seg, b.off)) self.old.layout.blocks) a.0 → ⊥) }
+        ensures all_apart { AreApart self.new.layout.blocks }
     {
         let _ = steps;
         match self.layout.place(size, align) {
@@ -87,6 +93,8 @@ impl Best {
         requires block { Contains (map (λ b. address (b.seg, b.off)) self.old.layout.blocks) a.0 }
         ensures layout { self.new.layout ≡ best_free self.old.layout (place_of a.0) }
         ensures one_less { length self.new.layout.blocks + 1 ≡ length self.old.layout.blocks }
+        ensures none_left { Contains (map (λ b. address (b.seg, b.off)) self.new.layout.blocks) a.0 → ⊥ }
+        ensures all_apart { AreApart self.new.layout.blocks }
         ensures disc { state self.new.disc ≡ state self.old.disc }
     {
         let _ = steps;

@@ -6,6 +6,7 @@ ghost use Rattle.vc_model.specs.Place.{IsAlign};
 ghost use Rattle.vc_model.specs.Segments.{round_up, span};
 ghost use Rattle.vc_base.specs.Addr.{address, place_of};
 ghost use Rattle.vc_best.specs.Alloc.{IsPlaced};
+ghost use Rattle.vc_best.specs.Apart.{AreApart, IsApartFrom};
 ghost use Rattle.vc_best.specs.Close.{TakesBack};
 
 use crate::close::give_back_all;
@@ -87,6 +88,11 @@ impl Layout {
         ensures ok { IfOk result (λ a. IsPlaced (put_at self.old tag size (seg, off)) a.0 self.new) }
         ensures err { OnErr result (self.new ≡ self.old) }
         ensures only { IfErr result (λ e. e ≡ RegionFault.OutOfMemory) }
+
+        // No two blocks overlap.
+        ensures apart { IfOk result (λ a. IsApartFrom self.old.blocks size (place_of a.0)) }
+        ensures fresh { IfOk result (λ a. Contains (map (λ b. address (b.seg, b.off)) self.old.blocks) a.0 → ⊥) }
+        ensures all_apart { AreApart self.new.blocks }
     {
         reserve_one(&mut self.blocks)?;
         Slot {
@@ -130,6 +136,11 @@ impl Layout {
         ensures room { OnErr result ((state disc.new).room ≡ (state disc.old).room) }
         ensures faults { result ≢ Err RegionFault.NoSegment → (state disc.new).faults ≡ (state disc.old).faults }
         ensures kept { Kept (state disc.old) (state disc.new) }
+
+        // No two blocks overlap.
+        ensures apart { IfOk result (λ a. IsApartFrom self.old.blocks size (place_of a.0)) }
+        ensures fresh { IfOk result (λ a. Contains (map (λ b. address (b.seg, b.off)) self.old.blocks) a.0 → ⊥) }
+        ensures all_apart { AreApart self.new.blocks }
     {
         if self.segs.len() >= 1023 {
             return Err(RegionFault::TooManySegments);
@@ -155,6 +166,8 @@ impl Layout {
         requires { Contains (map (λ b. address (b.seg, b.off)) self.old.blocks) a.0 }
         ensures value { self.new ≡ best_free self.old (place_of a.0) }
         ensures one_less { length self.new.blocks + 1 ≡ length self.old.blocks }
+        ensures none_left { Contains (map (λ b. address (b.seg, b.off)) self.new.blocks) a.0 → ⊥ }
+        ensures all_apart { AreApart self.new.blocks }
     {
         take_out(&mut self.blocks, a.seg(), a.off());
     }

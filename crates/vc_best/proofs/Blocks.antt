@@ -1,0 +1,71 @@
+-- Blocks of a layout's region don't overlap, and each is the only one at its address.
+use Rattle.std.proofs.Common.{◌≡◌, ℕ, ◌<◌, List, [], ◌∷◌, true, false, All, AllPairs, Contains, length, get_or, map, ap, sym, ◌∙◌, subst, inl, ⊎_elim, eqb, arith}
+use Rattle.std.specs.Prelude.{◌==◌, ◌&&◌}
+use Rattle.std.proofs.lemmas.Bool.{cases_Bool, and_parts, and_from, eqb-true, eq-eqb}
+use Rattle.std.proofs.lemmas.List.{length-map, get_or-map}
+use Rattle.std.proofs.lemmas.List.Elements.{All-map}
+use Rattle.std.proofs.lemmas.Map.Made.{Contains-tail}
+use Rattle.vc_model.specs.Region.{Block, footprint}
+use Rattle.vc_base.specs.Addr.{address, place_of}
+use Rattle.vc_seg.specs.Segment.{Bytes}
+use Rattle.vc_best.specs.declared.slot.Slot.{Slot}
+use Rattle.vc_best.specs.Slot.{run_of_slot, place_of_slot, without_slot}
+use Rattle.vc_best.specs.Apart.{EndsBefore, IsApart, footprint_at, IsApartFrom, AreApart}
+use Rattle.vc_best.specs.Layout.{block_in, IsSlotIn, IsLayout}
+use Rattle.vc_best.proofs.Apart.{AllPairs-head, AllPairs-tail, AllPairs-map, Before, span-least}
+use Rattle.vc_best.proofs.Frees.{Contains-place, All-without_slot}
+
+pub AreApart-blocks : (segs : List Bytes) (slots : List Slot) → IsLayout segs slots → AreApart (map (block_in segs) slots)
+AreApart-blocks segs slots l = AllPairs-map (λ (a b : Block ℕ). EndsBefore (footprint a) (footprint b)) (block_in segs) slots l.apart
+
+abbrev ClearAt : ℕ → List Slot → ℕ × ℕ → Type 0
+ClearAt size slots at = All (λ t. IsApart (footprint_at size at) (run_of_slot t)) slots
+
+-- a block overlaps none where its slot overlaps none
+pub IsApartFrom-blocks : (segs : List Bytes) (slots : List Slot) (size a : ℕ) (at : ℕ × ℕ) → place_of a ≡ at → All (λ t. IsApart (footprint_at size at) (run_of_slot t)) slots → IsApartFrom (map (block_in segs) slots) size (place_of a)
+IsApartFrom-blocks segs slots size a at e h =
+    All-map (λ (b : Block ℕ). IsApart (footprint_at size (place_of a)) (footprint b)) (block_in segs) slots (subst (ClearAt size slots) (sym e) h)
+
+-- where a footprint is apart from these slots, none of them is at its place
+not_among : (size : ℕ) (at : ℕ × ℕ) (slots : List Slot) → All (λ t. IsApart (footprint_at size at) (run_of_slot t)) slots → Contains (map place_of_slot slots) at → ⊥
+not_among size at slots apart among =
+    let none : Slot = record { seg = 0; off = 0; size = 0; tag = 0 } in
+    let k : ℕ = among.0 in
+    let within : k < length slots = omega (arith, among.1, length-map slots place_of_slot) in
+    let t : Slot = get_or slots k none in
+    let place : place_of_slot t ≡ at = sym (get_or-map place_of_slot slots k none at within) ∙ among.2 in
+    let own : IsApart (footprint_at size (t.seg, t.off)) (run_of_slot t) = subst (λ p. IsApart (footprint_at size p) (run_of_slot t)) (sym place) (apart k none within) in
+    let mine = span-least size in
+    let its = span-least t.size in
+    ⊎_elim
+    (λ u. ⊎_elim (λ v. omega (arith, v)) (λ v. let le = v.1 in omega (arith, le, mine)) u)
+    (λ u. ⊎_elim (λ v. omega (arith, v)) (λ v. let le = v.1 in omega (arith, le, its)) u)
+    own
+
+-- nor is a block at its address
+pub no_block_at : (segs : List Bytes) (slots : List Slot) (size a : ℕ) (at : ℕ × ℕ) → place_of a ≡ at → All (IsSlotIn segs) slots → All (λ t. IsApart (footprint_at size at) (run_of_slot t)) slots →
+    Contains (map (λ (b : Block ℕ). address (b.seg, b.off)) (map (block_in segs) slots)) a → ⊥
+no_block_at segs slots size a at e h apart among = not_among size at slots apart (subst (λ p. Contains (map place_of_slot slots) p) e (Contains-place segs slots a h among))
+
+none_left : (at : ℕ × ℕ) (slots : List Slot) → AllPairs Before slots → Contains (map place_of_slot (without_slot at slots)) at → ⊥
+none_left at [] pairs among = let within : among.0 < 0 = among.1 in omega (arith, within)
+none_left at (s ∷ ss) pairs among =
+    ⊎_elim
+    (λ e.
+    let rest : Contains (map place_of_slot ss) at = rw e at among in
+    let both = and_parts (eqb s.seg at.0) (eqb s.off at.1) e in
+    let pair : ℕ → ℕ → ℕ × ℕ = λ m n. (m, n) in
+    let here : place_of_slot s ≡ at = ap (λ m. pair m s.off) (eqb-true s.seg at.0 both.0) ∙ ap (pair at.0) (eqb-true s.off at.1 both.1) in
+    not_among s.size (s.seg, s.off) ss (λ k d lt. inl (AllPairs-head Before s ss pairs k d lt)) (subst (λ p. Contains (map place_of_slot ss) p) (sym here) rest))
+    (λ e.
+    let all : Contains (place_of_slot s ∷ map place_of_slot (without_slot at ss)) at = rw e at among in
+    let other : place_of_slot s ≡ at → ⊥ = λ q.
+    let no : true ≡ false = sym (and_from (eqb s.seg at.0) (eqb s.off at.1) (eq-eqb s.seg at.0 (ap (λ (p : ℕ × ℕ). p.0) q)) (eq-eqb s.off at.1 (ap (λ (p : ℕ × ℕ). p.1) q))) ∙ e in cc in
+    none_left at ss (AllPairs-tail Before s ss pairs) (Contains-tail (place_of_slot s) (map place_of_slot (without_slot at ss)) at other all))
+    (cases_Bool ((s.seg == at.0) && (s.off == at.1)))
+
+-- where the slot of an address is taken out, no block is left at the address
+pub no_block_left : (segs : List Bytes) (slots : List Slot) (a : ℕ) → IsLayout segs slots →
+    Contains (map (λ (b : Block ℕ). address (b.seg, b.off)) (map (block_in segs) (without_slot (place_of a) slots))) a → ⊥
+no_block_left segs slots a l among =
+    none_left (place_of a) slots l.apart (Contains-place segs (without_slot (place_of a) slots) a (All-without_slot (IsSlotIn segs) (place_of a) slots l.blocks) among)
