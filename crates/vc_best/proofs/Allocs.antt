@@ -14,10 +14,10 @@ use Rattle.vc_seg.specs.Segment.{Bytes, pair_of, zeroed}
 use Rattle.vc_best.specs.declared.slot.Slot.{Slot}
 use Rattle.vc_best.specs.Slot.{run_of_slot, runs_of, with_slot}
 use Rattle.vc_best.specs.Layout.{bytes_of_number, region_of, IsRegionSegment, IsSlotIn, IsLayout}
+use Rattle.vc_best.specs.Apart.{IsApart, footprint_at}
 use Rattle.vc_best.proofs.Unused.{is_among, lowest_unused-unused}
 use Rattle.vc_best.proofs.Bytes.{bytes_of_number-push}
 use Rattle.vc_best.proofs.Gaps.{best_gap-IsBestGap, least-None}
-use Rattle.vc_best.specs.Apart.{IsApart, footprint_at}
 use Rattle.vc_best.proofs.Clear.{unused-no_slot, unused-clear, best_gap-clear}
 use Rattle.vc_best.proofs.Rounding.{IsAligned-from_IsAlign, IsAligned, IsSegmentSize-asked, round_up-least}
 use Rattle.vc_best.proofs.Regions.{IsSlotAt, IsSlotAt-gap, footprints-blocks, region_of-with_slot, region_of-push, IsLayout-push, IsLayout-with_slot}
@@ -117,7 +117,7 @@ module _ (segs : List Bytes) (slots : List Slot) (round size align n bytes : ℕ
       let low = round_up-least (span size + align) round one in
       omega (arith, asked.bytes_are)
 
-  IsSlotIn-lent : (tag : ℕ) → IsSlotIn (with_lent segs n bytes) (slot_at tag size (n, align))
+  pub IsSlotIn-lent : (tag : ℕ) → IsSlotIn (with_lent segs n bytes) (slot_at tag size (n, align))
   IsSlotIn-lent tag =
       let room = fits in
       let low : size + 16 ≤ span size = round_up-least (size + 16) 32 (omega arith) in

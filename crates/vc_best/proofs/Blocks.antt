@@ -1,25 +1,51 @@
--- Blocks of a layout's region don't overlap, and each is the only one at its address.
-use Rattle.std.proofs.Common.{◌≡◌, ℕ, ◌<◌, List, [], ◌∷◌, true, false, All, AllPairs, Contains, length, get_or, map, ap, sym, ◌∙◌, subst, inl, ⊎_elim, eqb, arith}
+-- Blocks of a layout's region lie in its segments, don't overlap, and each is the only one at its address.
+use Rattle.std.proofs.Common.{◌≡◌, ℕ, ◌+◌, ◌-◌, ◌<◌, ◌≤◌, List, [], ◌∷◌, true, false, All, AllPairs, Any, Contains, length, get_or, map, refl, suc, ap, sym, ◌∙◌, subst, inl, ⊎_elim, eqb, arith}
 use Rattle.std.specs.Prelude.{◌==◌, ◌&&◌}
 use Rattle.std.proofs.lemmas.Bool.{cases_Bool, and_parts, and_from, eqb-true, eq-eqb}
 use Rattle.std.proofs.lemmas.List.{length-map, get_or-map}
 use Rattle.std.proofs.lemmas.List.Elements.{All-map}
 use Rattle.std.proofs.lemmas.Map.Made.{Contains-tail}
+use Rattle.vc_model.specs.Segments.{span}
 use Rattle.vc_model.specs.Region.{Block, footprint}
 use Rattle.vc_base.specs.Addr.{address, place_of}
-use Rattle.vc_seg.specs.Segment.{Bytes}
+use Rattle.vc_seg.specs.Segment.{Bytes, pair_of}
 use Rattle.vc_best.specs.declared.slot.Slot.{Slot}
 use Rattle.vc_best.specs.Slot.{run_of_slot, place_of_slot, without_slot}
-use Rattle.vc_best.specs.Apart.{EndsBefore, IsApart, footprint_at, IsApartFrom, AreApart}
-use Rattle.vc_best.specs.Layout.{block_in, IsSlotIn, IsLayout}
+use Rattle.vc_best.specs.Apart.{EndsBefore, IsApart, footprint_at, IsApartFrom, AreApart, IsUsable}
+use Rattle.vc_best.specs.Layout.{bytes_of_number, block_in, IsSlotIn, IsLayout}
 use Rattle.vc_best.proofs.Apart.{AllPairs-head, AllPairs-tail, AllPairs-map, Before, span-least}
 use Rattle.vc_best.proofs.Frees.{Contains-place, All-without_slot}
 
 pub AreApart-blocks : (segs : List Bytes) (slots : List Slot) → IsLayout segs slots → AreApart (map (block_in segs) slots)
 AreApart-blocks segs slots l = AllPairs-map (λ (a b : Block ℕ). EndsBefore (footprint a) (footprint b)) (block_in segs) slots l.apart
 
+-- a block of that size at that place overlaps none of these slots
 abbrev ClearAt : ℕ → List Slot → ℕ × ℕ → Type 0
 ClearAt size slots at = All (λ t. IsApart (footprint_at size at) (run_of_slot t)) slots
+
+-- it is that segment, and the run lies in its usable part
+abbrev OfSegment : ℕ → ℕ → ℕ → ℕ × ℕ → Type 0
+OfSegment n from to s = (n ≡ s.0) × (16 ≤ from) × (to + 16 ≤ s.1)
+
+usable-number : (n from to : ℕ) (segs : List Bytes) → 16 ≤ from → to + 16 ≤ length (bytes_of_number n segs) → Any (OfSegment n from to) (map pair_of segs)
+usable-number n from to [] first last = absurd (omega (arith, last))
+usable-number n from to (s ∷ ss) first last =
+    ⊎_elim
+    (λ e.
+    let own : to + 16 ≤ length s.bytes = rw e at last in
+    (0, pair_of s, omega arith, refl, (sym (eqb-true s.number n e), first, own)))
+    (λ e.
+    let rest : Any (OfSegment n from to) (map pair_of ss) = let own : to + 16 ≤ length (bytes_of_number n ss) = rw e at last in usable-number n from to ss first own in
+    let within = rest.2 in
+    (suc rest.0, rest.1, omega (arith, within), rest.3, rest.4))
+    (cases_Bool (eqb s.number n))
+
+-- a block lies in a segment where its slot does
+pub IsUsable-slot : (segs : List Bytes) (s : Slot) (a : ℕ) → place_of a ≡ (s.seg, s.off) → IsSlotIn segs s → IsUsable (map pair_of segs) (footprint_at s.size (place_of a))
+IsUsable-slot segs s a e here =
+    let first : 32 ≤ s.off = here.slot.first in
+    let of : Any (OfSegment s.seg (s.off - 16) (s.off - 16 + span s.size)) (map pair_of segs) = usable-number s.seg (s.off - 16) (s.off - 16 + span s.size) segs (omega (arith, first)) here.within in
+    subst (λ p. IsUsable (map pair_of segs) (footprint_at s.size p)) (sym e) of
 
 -- a block overlaps none where its slot overlaps none
 pub IsApartFrom-blocks : (segs : List Bytes) (slots : List Slot) (size a : ℕ) (at : ℕ × ℕ) → place_of a ≡ at → All (λ t. IsApart (footprint_at size at) (run_of_slot t)) slots → IsApartFrom (map (block_in segs) slots) size (place_of a)

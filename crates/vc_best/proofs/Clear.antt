@@ -6,10 +6,10 @@ use Rattle.std.proofs.lemmas.List.Kept.{AllPairs-filter}
 use Rattle.vc_model.specs.Segments.{span, numbers}
 use Rattle.vc_model.specs.Gap.{Run, run_of, gaps_between, gaps_in, gaps}
 use Rattle.vc_model.specs.Place.{best_gap, holds, lowest_offset}
+use Rattle.vc_seg.specs.Segment.{Bytes, pair_of}
 use Rattle.vc_best.specs.declared.slot.Slot.{Slot}
 use Rattle.vc_best.specs.Slot.{IsSlot, run_of_slot, runs_of}
 use Rattle.vc_best.specs.Apart.{EndsBefore, IsApart, footprint_at}
-use Rattle.vc_seg.specs.Segment.{Bytes, pair_of}
 use Rattle.vc_best.specs.Layout.{bytes_of_number, IsSlotIn}
 use Rattle.vc_best.proofs.Unused.{is_among}
 use Rattle.vc_best.proofs.Bytes.{bytes_of_number-unused}

@@ -6,6 +6,7 @@ use Rattle.std.proofs.lemmas.Bool.{cases_Bool, eq-eqb, eqb-true, and_from, and_p
 use Rattle.std.proofs.lemmas.List.{length-map, length-drop, get_or-map}
 use Rattle.std.proofs.lemmas.Map.Made.{Contains-tail}
 use Rattle.std.proofs.lemmas.List.Elements.{All-head, All-tail, All-cons}
+use Rattle.std.proofs.lemmas.List.Kept.{AllPairs-cons}
 use Rattle.vc_model.specs.Region.{Block, Region, without_block}
 use Rattle.vc_model.specs.Best.{best_free}
 use Rattle.vc_base.specs.Addr.{address, place_of}
@@ -14,7 +15,6 @@ use Rattle.vc_best.specs.declared.slot.Slot.{Slot}
 use Rattle.vc_best.specs.Slot.{place_of_slot, without_slot}
 use Rattle.vc_best.specs.Layout.{block_in, region_of, IsSlotIn, IsLayout}
 use Rattle.vc_best.proofs.Apart.{Before, AllPairs-head, AllPairs-tail}
-use Rattle.std.proofs.lemmas.List.Kept.{AllPairs-cons}
 
 module _ (at : ℕ × ℕ) where
   pub among-within : (ss : List Slot) (i : ℕ) → Contains (map place_of_slot (drop i ss)) at → i < length ss

@@ -13,11 +13,11 @@ use Rattle.vc_seg.specs.Segment.{Bytes, pair_of}
 use Rattle.vc_best.specs.declared.slot.Slot.{Slot}
 use Rattle.vc_best.specs.Slot.{run_of_slot, runs_of, lies_before_slot, with_slot}
 use Rattle.vc_best.specs.Layout.{bytes_of_number, block_in, region_of, IsRegionSegment, IsSlotIn, IsLayout}
+use Rattle.vc_best.specs.Apart.{IsApart}
 use Rattle.vc_best.proofs.Unused.{is_among}
 use Rattle.vc_best.proofs.Bytes.{Apart, bytes_of_number-zeros, bytes_of_number-most, bytes_of_number-append}
 use Rattle.vc_best.proofs.Gaps.{IsBestGap}
 use Rattle.vc_best.proofs.Apart.{Before-with_slot, All-with_slot, span-least}
-use Rattle.vc_best.specs.Apart.{IsApart}
 use Rattle.vc_best.proofs.Rounding.{IsAligned, round_up-least, round_up-mod_32}
 
 pub footprints-blocks : (segs : List Bytes) (slots : List Slot) → footprints (map (block_in segs) slots) ≡ runs_of slots

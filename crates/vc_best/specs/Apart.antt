@@ -1,5 +1,5 @@
 -- Blocks that don't overlap.
-use Rattle.std.specs.Prelude.{◌≡◌, ℕ, ◌+◌, ◌-◌, ◌<◌, ◌≤◌, ◌⊎◌, List, All, AllPairs}
+use Rattle.std.specs.Prelude.{◌≡◌, ℕ, ◌+◌, ◌-◌, ◌<◌, ◌≤◌, ◌⊎◌, List, All, AllPairs, Any}
 use Rattle.vc_model.specs.Segments.{span}
 use Rattle.vc_model.specs.Gap.{Run}
 use Rattle.vc_model.specs.Region.{Block, footprint}
@@ -19,6 +19,10 @@ footprint_at size at = record { seg = at.0; from = at.1 - 16; to = at.1 - 16 + s
 -- a block of that size, at a place, overlaps none of these
 abbrev pub IsApartFrom : {L : Type 0} → List (Block L) → ℕ → ℕ × ℕ → Type 0
 IsApartFrom blocks size at = All (λ b. IsApart (footprint_at size at) (footprint b)) blocks
+
+-- a run lies in the usable part of one of these segments, all but its first and its last 16 bytes
+abbrev pub IsUsable : List (ℕ × ℕ) → Run → Type 0
+IsUsable segments f = Any (λ s. (f.seg ≡ s.0) × (16 ≤ f.from) × (f.to + 16 ≤ s.1)) segments
 
 -- blocks by address, of which no two overlap
 abbrev pub AreApart : {L : Type 0} → List (Block L) → Type 0

@@ -26,7 +26,7 @@ pub record IsRegionSegment (s : Bytes) : Type 0 where
   pub size : IsSegmentSize (length s.bytes)
   pub zeros : s.bytes ≡ replicate (length s.bytes) 0
 
--- a slot that takes of a segment of these, but not of its last 16 bytes
+-- a slot that lies in the usable part of a segment of these, all but its first and its last 16 bytes
 pub record IsSlotIn (segs : List Bytes) (s : Slot) : Type 0 where
   pub slot : IsSlot s
   pub within : (run_of_slot s).to + 16 ≤ length (bytes_of_number s.seg segs)

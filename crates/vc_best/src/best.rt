@@ -6,7 +6,7 @@ ghost use Rattle.vc_model.specs.Place.{IsAlign};
 ghost use Rattle.vc_model.specs.Segments.{round_up, span};
 ghost use Rattle.vc_base.specs.Addr.{address, place_of};
 ghost use Rattle.vc_best.specs.Alloc.{IsPlaced};
-ghost use Rattle.vc_best.specs.Apart.{AreApart, IsApartFrom};
+ghost use Rattle.vc_best.specs.Apart.{AreApart, IsApartFrom, IsUsable, footprint_at};
 
 use crate::layout::Layout;
 use std::alloc::Global;
@@ -74,7 +74,8 @@ impl Best {
         ensures faults { result ≢ Err RegionFault.NoSegment → (state self.new.disc).faults ≡ (state self.old.disc).faults }
         ensures kept { Kept (state self.old.disc) (state self.new.disc) }
 
-        // No two blocks overlap.
+        // The block lies in a segment, and no two blocks overlap.
+        ensures usable { IfOk result (λ a. IsUsable self.new.layout.segments (footprint_at size (place_of a.0))) }
         ensures apart { IfOk result (λ a. IsApartFrom self.old.layout.blocks size (place_of a.0)) }
         ensures fresh { IfOk result (λ a. Contains (map (λ b. address (b.seg, b.off)) self.old.layout.blocks) a.0 → ⊥) }
         ensures all_apart { AreApart self.new.layout.blocks }

@@ -6,7 +6,7 @@ ghost use Rattle.vc_model.specs.Place.{IsAlign};
 ghost use Rattle.vc_model.specs.Segments.{round_up, span};
 ghost use Rattle.vc_base.specs.Addr.{address, place_of};
 ghost use Rattle.vc_best.specs.Alloc.{IsPlaced};
-ghost use Rattle.vc_best.specs.Apart.{AreApart, IsApartFrom};
+ghost use Rattle.vc_best.specs.Apart.{AreApart, IsApartFrom, IsUsable, footprint_at};
 ghost use Rattle.vc_best.specs.Close.{TakesBack};
 
 use crate::close::give_back_all;
@@ -89,7 +89,8 @@ impl Layout {
         ensures err { OnErr result (self.new ≡ self.old) }
         ensures only { IfErr result (λ e. e ≡ RegionFault.OutOfMemory) }
 
-        // No two blocks overlap.
+        // The block lies in a segment, and no two blocks overlap.
+        ensures usable { IfOk result (λ a. IsUsable self.new.segments (footprint_at size (place_of a.0))) }
         ensures apart { IfOk result (λ a. IsApartFrom self.old.blocks size (place_of a.0)) }
         ensures fresh { IfOk result (λ a. Contains (map (λ b. address (b.seg, b.off)) self.old.blocks) a.0 → ⊥) }
         ensures all_apart { AreApart self.new.blocks }
@@ -137,7 +138,8 @@ impl Layout {
         ensures faults { result ≢ Err RegionFault.NoSegment → (state disc.new).faults ≡ (state disc.old).faults }
         ensures kept { Kept (state disc.old) (state disc.new) }
 
-        // No two blocks overlap.
+        // The block lies in a segment, and no two blocks overlap.
+        ensures usable { IfOk result (λ a. IsUsable self.new.segments (footprint_at size (place_of a.0))) }
         ensures apart { IfOk result (λ a. IsApartFrom self.old.blocks size (place_of a.0)) }
         ensures fresh { IfOk result (λ a. Contains (map (λ b. address (b.seg, b.off)) self.old.blocks) a.0 → ⊥) }
         ensures all_apart { AreApart self.new.blocks }

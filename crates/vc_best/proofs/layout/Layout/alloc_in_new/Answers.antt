@@ -1,10 +1,10 @@
 use Rattle.std.proofs.Common.{◌<◌, All, length, ap, sym, ◌∙◌, refl, arith}
-use Rattle.vc_best.proofs.Allocs.{IsAskedFor, IsLayout-lent, best_alloc-lent, clear-lent, best_gap-none}
-use Rattle.vc_best.proofs.Rounding.{IsAligned-from_IsAlign, IsSegmentSize-asked}
-use Rattle.vc_best.proofs.Blocks.{AreApart-blocks, IsApartFrom-blocks, no_block_at}
 use Rattle.vc_best.specs.Apart.{IsApart, footprint_at}
 use Rattle.vc_best.specs.Layout.{IsLayout}
 use Rattle.vc_best.specs.Slot.{run_of_slot}
+use Rattle.vc_best.proofs.Allocs.{IsAskedFor, IsSlotIn-lent, IsLayout-lent, best_alloc-lent, clear-lent, best_gap-none}
+use Rattle.vc_best.proofs.Rounding.{IsAligned-from_IsAlign, IsSegmentSize-asked}
+use Rattle.vc_best.proofs.Blocks.{AreApart-blocks, IsApartFrom-blocks, IsUsable-slot, no_block_at}
 use Rattle.vc_best.proofs.layout.Layout.alloc_in_new.Goals as goal
 use Rattle.vc_best.proofs.layout.Layout.alloc_in_new.Goals.{After-put_among}
 use Rattle.vc_best.proofs.layout.Layout.alloc_in_new.Given.{Over}
@@ -78,3 +78,10 @@ returns-clause-fresh g c =
 
 pub returns-clause-all_apart : goal.returns-clause-all_apart
 returns-clause-all_apart g c = AreApart-blocks c.push_reserved.new.self.items c.put_among.new.slots.items (whole g (goal.at.returns-clause-all_apart g c).After-put_among)
+
+pub returns-clause-usable : goal.returns-clause-usable
+returns-clause-usable g c =
+    let at = (goal.at.returns-clause-usable g c).After-put_among in
+    rw (c.push_reserved.ensures.items, c.in_ok-segment.ensures.segment, c.in_ok-reserve_one.ensures.items)
+    (IsUsable-slot _ _ c.new.result.0 c.new.ensures.place
+    (IsSlotIn-lent c.self.inside.segs.items c.self.inside.blocks.items c.round_of.result c.args.size c.args.align c.lowest_unused-number.result c.rounded_up-bytes.result c.self.invariant (few g at) (asked g at) c.round_of.ensures.legal (IsAligned-from_IsAlign c.args.align c.requires.align) c.requires.some c.requires.most c.args.tag))

@@ -1,10 +1,10 @@
 use Rattle.std.proofs.Common.{All, sym}
-use Rattle.vc_best.proofs.Allocs.{IsSlotAt-place, clear-place}
-use Rattle.vc_best.proofs.Regions.{IsSlotAt, IsLayout-with_slot, region_of-with_slot}
-use Rattle.vc_best.proofs.Blocks.{AreApart-blocks, IsApartFrom-blocks, no_block_at}
 use Rattle.vc_best.specs.Apart.{IsApart, footprint_at}
 use Rattle.vc_best.specs.Layout.{IsLayout}
 use Rattle.vc_best.specs.Slot.{run_of_slot}
+use Rattle.vc_best.proofs.Allocs.{IsSlotAt-place, clear-place}
+use Rattle.vc_best.proofs.Regions.{IsSlotAt, IsLayout-with_slot, region_of-with_slot}
+use Rattle.vc_best.proofs.Blocks.{AreApart-blocks, IsApartFrom-blocks, IsUsable-slot, no_block_at}
 use Rattle.vc_best.proofs.layout.Layout.put.Goals as goal
 use Rattle.vc_best.proofs.layout.Layout.put.Goals.{After-put_among}
 
@@ -59,3 +59,6 @@ returns-clause-fresh c =
 
 pub returns-clause-all_apart : goal.returns-clause-all_apart
 returns-clause-all_apart c = AreApart-blocks c.self.inside.segs.items c.put_among.new.slots.items (whole (goal.at.returns-clause-all_apart c).After-put_among)
+
+pub returns-clause-usable : goal.returns-clause-usable
+returns-clause-usable c = IsUsable-slot c.self.inside.segs.items _ c.new.result.0 c.new.ensures.place (here (goal.at.returns-clause-usable c).After-put_among).slot
