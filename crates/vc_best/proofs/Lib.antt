@@ -10,3 +10,4 @@ pub mod Allocs
 pub mod Backs
 pub mod Frees
 pub mod Blocks
+pub mod Places
