@@ -52,7 +52,7 @@ pub remove-without_slot : (at : ℕ × ℕ) (ss : List Slot) (i : ℕ) (d : Slot
     take i ss ++ without_slot at (drop i ss) ≡ without_slot at ss → remove ss i ≡ without_slot at ss
 remove-without_slot at ss i d lt seg off before = ap (λ (ts : List Slot). take i ss ++ ts) (sym (without_slot-drop at ss i d lt seg off)) ∙ before
 
-blocks-without_slot : (segs : List Bytes) (at : ℕ × ℕ) (slots : List Slot) → map (block_in segs) (without_slot at slots) ≡ without_block at (map (block_in segs) slots)
+pub blocks-without_slot : (segs : List Bytes) (at : ℕ × ℕ) (slots : List Slot) → map (block_in segs) (without_slot at slots) ≡ without_block at (map (block_in segs) slots)
 blocks-without_slot segs at [] = refl
 blocks-without_slot segs at (s ∷ ss) =
     ⊎_elim
@@ -87,7 +87,7 @@ region_of-without_slot segs at slots =
     let region : List (Block ℕ) → Region ℕ = λ bs. record { segments = map pair_of segs; blocks = bs } in
     ap region (blocks-without_slot segs at slots)
 
-place_of-address : (seg off : ℕ) → off < 33554432 → off % 32 ≡ 0 → place_of (address (seg, off)) ≡ (seg, off)
+pub place_of-address : (seg off : ℕ) → off < 33554432 → off % 32 ≡ 0 → place_of (address (seg, off)) ≡ (seg, off)
 place_of-address seg off last multiple =
     let pair : ℕ → ℕ → ℕ × ℕ = λ m n. (m, n) in
     let a = seg * 1048576 + off / 32 in

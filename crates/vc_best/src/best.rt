@@ -1,4 +1,5 @@
 ghost use Rattle.std.specs.Prelude.{◌≡◌, ◌≢◌, ℕ, Contains, map, ◌+◌, ◌≤◌, ◌<◌, ◌⊎◌, ◌++◌, ◌↔◌, [], drop, length, IfOk, IfErr, IfSome, OnErr, OnOk, IsErrOf, Err, true, false};
+ghost use Rattle.std.specs.List.{HoldsAt, remove};
 ghost use Rattle.vc_model.specs.Best.{best_alloc, best_free, TooManySegments, NoSegment};
 ghost use Rattle.vc_model.specs.Count.{Rose};
 ghost use Rattle.vc_model.specs.Discipline.{EndsWith, Kept};
@@ -94,6 +95,7 @@ impl Best {
         requires block { Contains (map (λ b. address (b.seg, b.off)) self.old.layout.blocks) a.0 }
         ensures layout { self.new.layout ≡ best_free self.old.layout (place_of a.0) }
         ensures one_less { length self.new.layout.blocks + 1 ≡ length self.old.layout.blocks }
+        ensures freed { (i : ℕ) → i < length self.old.layout.blocks → HoldsAt (λ b. address (b.seg, b.off) ≡ a.0) self.old.layout.blocks i → self.new.layout.blocks ≡ remove self.old.layout.blocks i }
         ensures none_left { Contains (map (λ b. address (b.seg, b.off)) self.new.layout.blocks) a.0 → ⊥ }
         ensures all_apart { AreApart self.new.layout.blocks }
         ensures disc { state self.new.disc ≡ state self.old.disc }

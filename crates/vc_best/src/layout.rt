@@ -1,4 +1,5 @@
 ghost use Rattle.std.specs.Prelude.{◌≡◌, ℕ, Contains, map, ◌+◌, ◌≤◌, ◌<◌, ◌⊎◌, ◌++◌, [], None, Some, drop, length, vec_len, vec_capacity, IfOk, IfErr, IfSome, OnErr, OnOk, IsErrOf, Err, ◌↔◌, ◌≢◌, true, false};
+ghost use Rattle.std.specs.List.{HoldsAt, remove};
 ghost use Rattle.vc_model.specs.Best.{best_alloc, best_free, place_in, put_at, TooManySegments, NoSegment};
 ghost use Rattle.vc_model.specs.Count.{Rose};
 ghost use Rattle.vc_model.specs.Discipline.{EndsWith, Kept};
@@ -168,6 +169,7 @@ impl Layout {
         requires { Contains (map (λ b. address (b.seg, b.off)) self.old.blocks) a.0 }
         ensures value { self.new ≡ best_free self.old (place_of a.0) }
         ensures one_less { length self.new.blocks + 1 ≡ length self.old.blocks }
+        ensures freed { (i : ℕ) → i < length self.old.blocks → HoldsAt (λ b. address (b.seg, b.off) ≡ a.0) self.old.blocks i → self.new.blocks ≡ remove self.old.blocks i }
         ensures none_left { Contains (map (λ b. address (b.seg, b.off)) self.new.blocks) a.0 → ⊥ }
         ensures all_apart { AreApart self.new.blocks }
     {
