@@ -2,16 +2,16 @@
 use Rattle.std.proofs.Common.{◌≡◌, ℕ, zero, suc, ◌%◌, ◌<◌, List, [], ◌∷◌, true, All, length, get_or, map, refl, ap, sym, ◌∙◌, ⊎_elim, eqb, arith}
 use Rattle.std.specs.List.{remove, HoldsAt}
 use Rattle.std.proofs.lemmas.Bool.{cases_Bool, and_parts, and_from, eqb-true, eq-eqb}
+use Rattle.std.proofs.lemmas.List.Elements.{All-map}
 use Rattle.vc_model.specs.Region.{Block, footprint, is_at, without_block}
-use Rattle.vc_best.specs.Apart.{EndsBefore, AreApart}
 use Rattle.vc_base.specs.Addr.{address, place_of}
 use Rattle.vc_seg.specs.Segment.{Bytes}
+use Rattle.vc_best.specs.Apart.{EndsBefore, AreApart}
 use Rattle.vc_best.specs.declared.slot.Slot.{Slot}
 use Rattle.vc_best.specs.Slot.{without_slot}
 use Rattle.vc_best.specs.Layout.{block_in, IsLayout}
 use Rattle.vc_best.proofs.Blocks.{AreApart-blocks}
 use Rattle.vc_best.proofs.Frees.{blocks-without_slot, place_of-address}
-use Rattle.std.proofs.lemmas.List.Elements.{All-map}
 use Rattle.vc_best.proofs.Apart.{AllPairs-head, AllPairs-tail, span-least}
 
 -- two blocks that don't overlap are at two places
