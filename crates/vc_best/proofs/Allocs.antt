@@ -1,5 +1,5 @@
 -- What allocation in a layout's region answers.
-use Rattle.std.proofs.Common.{◌≡◌, ℕ, ◌+◌, ◌-◌, ◌<◌, ◌≤◌, List, [], ◌∷◌, ◌++◌, Bool, true, false, Option, None, Some, All, length, map, filter, replicate, refl, ap, sym, ◌∙◌, subst, eqb, ltb, arith}
+use Rattle.std.proofs.Common.{◌≡◌, ℕ, ◌+◌, ◌-◌, ◌<◌, ◌≤◌, ◌≢◌, List, [], ◌∷◌, ◌++◌, Bool, true, false, Option, None, Some, All, length, map, filter, replicate, refl, ap, sym, ◌∙◌, subst, eqb, ltb, arith}
 use Rattle.std.specs.Prelude.{option_map}
 use Rattle.std.proofs.lemmas.Bool.{ne_eqb, lt-ltb, le-ltb, le-leb}
 use Rattle.std.proofs.lemmas.List.{length-map, length-replicate, append-nil}
@@ -12,13 +12,11 @@ use Rattle.vc_model.specs.Place.{IsAlign, best_gap, holds, least, lowest_offset,
 use Rattle.vc_model.specs.Best.{Allocated, Placed, TooManySegments, NoSegment, best_alloc, place_in, put, put_at, put_in_new, put_or_ask, with_segment}
 use Rattle.vc_seg.specs.Segment.{Bytes, pair_of, zeroed}
 use Rattle.vc_best.specs.declared.slot.Slot.{Slot}
-use Rattle.vc_best.specs.Slot.{run_of_slot, runs_of, with_slot}
+use Rattle.vc_best.specs.Slot.{runs_of, with_slot}
 use Rattle.vc_best.specs.Layout.{bytes_of_number, region_of, IsRegionSegment, IsSlotIn, IsLayout}
-use Rattle.vc_best.specs.Apart.{IsApart, footprint_at}
 use Rattle.vc_best.proofs.Unused.{is_among, lowest_unused-unused}
-use Rattle.vc_best.proofs.Bytes.{bytes_of_number-push}
+use Rattle.vc_best.proofs.Bytes.{bytes_of_number-unused, bytes_of_number-push}
 use Rattle.vc_best.proofs.Gaps.{best_gap-IsBestGap, least-None}
-use Rattle.vc_best.proofs.Clear.{unused-no_slot, unused-clear, best_gap-clear}
 use Rattle.vc_best.proofs.Rounding.{IsAligned-from_IsAlign, IsAligned, IsSegmentSize-asked, round_up-least}
 use Rattle.vc_best.proofs.Regions.{IsSlotAt, IsSlotAt-gap, footprints-blocks, region_of-with_slot, region_of-push, IsLayout-push, IsLayout-with_slot}
 
@@ -59,7 +57,12 @@ module _ (segs : List Bytes) (slots : List Slot) (round size align tag : ℕ) (n
 filter-unused : (n : ℕ) (segs : List Bytes) (slots : List Slot) → All (IsSlotIn segs) slots → is_among n (numbers (map pair_of segs)) ≡ false → filter (λ f. eqb f.seg n) (runs_of slots) ≡ []
 filter-unused n segs [] h unused = refl
 filter-unused n segs (s ∷ ss) h unused =
-    let other = unused-no_slot n segs s (All-head (IsSlotIn segs) s ss h) unused in
+    let here = All-head (IsSlotIn segs) s ss h in
+    let some : 1 ≤ s.size = here.slot.some in
+    let other : s.seg ≢ n = λ e.
+    let none : length (bytes_of_number s.seg segs) ≡ 0 = ap (λ m. length (bytes_of_number m segs)) e ∙ ap length (bytes_of_number-unused n segs unused) in
+    let within : s.off + s.size ≤ length (bytes_of_number s.seg segs) = here.within in
+    omega arith in
     rw (ne_eqb s.seg n other) (filter-unused n segs ss (All-tail (IsSlotIn segs) s ss h) unused)
 
 -- the one gap of a new segment
@@ -117,18 +120,15 @@ module _ (segs : List Bytes) (slots : List Slot) (round size align n bytes : ℕ
       let low = round_up-least (span size + align) round one in
       omega (arith, asked.bytes_are)
 
-  pub IsSlotIn-lent : (tag : ℕ) → IsSlotIn (with_lent segs n bytes) (slot_at tag size (n, align))
+  IsSlotIn-lent : (tag : ℕ) → IsSlotIn (with_lent segs n bytes) (slot_at tag size (n, align))
   IsSlotIn-lent tag =
       let room = fits in
       let low : size + 16 ≤ span size = round_up-least (size + 16) 32 (omega arith) in
       let all : length (bytes_of_number n (with_lent segs n bytes)) ≡ bytes = ap length (bytes_of_number-push (zeroed n bytes) segs unused) ∙ long in
       record { slot = record { first = a.least; last = omega arith; multiple = a.multiple; some = some; most = most }; within = omega arith }
 
-  pub clear-lent : All (λ t. IsApart (footprint_at size (n, align)) (run_of_slot t)) slots
-  clear-lent = unused-clear n segs slots l.blocks unused size align
-
   pub IsLayout-lent : (tag : ℕ) → IsLayout (with_lent segs n bytes) (with_slot (slot_at tag size (n, align)) slots)
-  IsLayout-lent tag = IsLayout-with_slot (with_lent segs n bytes) (slot_at tag size (n, align)) slots (IsLayout-push segs (zeroed n bytes) slots l few IsRegionSegment-lent unused) (IsSlotIn-lent tag) clear-lent
+  IsLayout-lent tag = IsLayout-with_slot (with_lent segs n bytes) (slot_at tag size (n, align)) slots (IsLayout-push segs (zeroed n bytes) slots l few IsRegionSegment-lent unused) (IsSlotIn-lent tag)
 
   place_in-lent : best_gap (map pair_of segs) (runs_of slots) size align ≡ None → place_in (with_segment (region_of segs slots) (n, bytes)) size align ≡ Some (n, align)
   place_in-lent none =
@@ -172,14 +172,3 @@ module _ (segs : List Bytes) (slots : List Slot) (size align : ℕ) where
       let gap = best_gap (map pair_of segs) (runs_of slots) size align in
       let f = option_map-Some (place_of align) gap (seg, off) (sym (place_in-gap segs slots size align gap refl) ∙ e) in
       subst (λ (at : ℕ × ℕ). IsSlotAt segs (slot_at tag size at)) f.2 (IsSlotAt-gap segs size align tag f.0 l.segments (IsAligned-from_IsAlign align a) some most (best_gap-IsBestGap segs slots size align f.0 l f.1))
-
-  -- and it overlaps no slot
-  pub clear-place : (seg off : ℕ) → IsLayout segs slots → IsAlign align → place_in (region_of segs slots) size align ≡ Some (seg, off) →
-      All (λ t. IsApart (footprint_at size (seg, off)) (run_of_slot t)) slots
-  clear-place seg off l a e =
-      let gap = best_gap (map pair_of segs) (runs_of slots) size align in
-      let f = option_map-Some (place_of align) gap (seg, off) (sym (place_in-gap segs slots size align gap refl) ∙ e) in
-      let least : 32 ≤ align = (IsAligned-from_IsAlign align a).least in
-      let one : 1 ≤ align = omega (arith, least) in
-      subst (λ (at : ℕ × ℕ). All (λ t. IsApart (footprint_at size at) (run_of_slot t)) slots) f.2
-      (best_gap-clear (map pair_of segs) slots size align f.0 (λ k d lt. (l.blocks k d lt).slot) l.apart one f.1)

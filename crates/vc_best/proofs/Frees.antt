@@ -1,12 +1,11 @@
 -- A slot that is taken out of a layout.
-use Rattle.std.proofs.Common.{◌≡◌, ℕ, zero, suc, ◌+◌, ◌*◌, ◌/◌, ◌%◌, ◌<◌, List, [], ◌∷◌, ◌++◌, false, All, AllPairs, Contains, length, get_or, map, take, drop, refl, ap, sym, ◌∙◌, ⊎_elim, eqb, arith}
+use Rattle.std.proofs.Common.{◌≡◌, ℕ, zero, suc, ◌+◌, ◌*◌, ◌/◌, ◌%◌, ◌<◌, List, [], ◌∷◌, ◌++◌, false, All, Contains, length, get_or, map, take, drop, refl, ap, sym, ◌∙◌, ⊎_elim, eqb, arith}
 use Rattle.std.specs.List.{remove}
 use Rattle.std.specs.Prelude.{◌==◌, ◌&&◌}
 use Rattle.std.proofs.lemmas.Bool.{cases_Bool, eq-eqb, eqb-true, and_from, and_parts}
 use Rattle.std.proofs.lemmas.List.{length-map, length-drop, get_or-map}
 use Rattle.std.proofs.lemmas.Map.Made.{Contains-tail}
 use Rattle.std.proofs.lemmas.List.Elements.{All-head, All-tail, All-cons}
-use Rattle.std.proofs.lemmas.List.Kept.{AllPairs-cons}
 use Rattle.vc_model.specs.Region.{Block, Region, without_block}
 use Rattle.vc_model.specs.Best.{best_free}
 use Rattle.vc_base.specs.Addr.{address, place_of}
@@ -14,7 +13,6 @@ use Rattle.vc_seg.specs.Segment.{Bytes, pair_of}
 use Rattle.vc_best.specs.declared.slot.Slot.{Slot}
 use Rattle.vc_best.specs.Slot.{place_of_slot, without_slot}
 use Rattle.vc_best.specs.Layout.{block_in, region_of, IsSlotIn, IsLayout}
-use Rattle.vc_best.proofs.Apart.{Before, AllPairs-head, AllPairs-tail}
 
 module _ (at : ℕ × ℕ) where
   pub among-within : (ss : List Slot) (i : ℕ) → Contains (map place_of_slot (drop i ss)) at → i < length ss
@@ -52,7 +50,7 @@ pub remove-without_slot : (at : ℕ × ℕ) (ss : List Slot) (i : ℕ) (d : Slot
     take i ss ++ without_slot at (drop i ss) ≡ without_slot at ss → remove ss i ≡ without_slot at ss
 remove-without_slot at ss i d lt seg off before = ap (λ (ts : List Slot). take i ss ++ ts) (sym (without_slot-drop at ss i d lt seg off)) ∙ before
 
-pub blocks-without_slot : (segs : List Bytes) (at : ℕ × ℕ) (slots : List Slot) → map (block_in segs) (without_slot at slots) ≡ without_block at (map (block_in segs) slots)
+blocks-without_slot : (segs : List Bytes) (at : ℕ × ℕ) (slots : List Slot) → map (block_in segs) (without_slot at slots) ≡ without_block at (map (block_in segs) slots)
 blocks-without_slot segs at [] = refl
 blocks-without_slot segs at (s ∷ ss) =
     ⊎_elim
@@ -60,7 +58,7 @@ blocks-without_slot segs at (s ∷ ss) =
     (λ e. rw e (ap (λ bs. block_in segs s ∷ bs) (blocks-without_slot segs at ss)))
     (cases_Bool ((s.seg == at.0) && (s.off == at.1)))
 
-pub All-without_slot : (P : Slot → Type 0) (at : ℕ × ℕ) (slots : List Slot) → All P slots → All P (without_slot at slots)
+All-without_slot : (P : Slot → Type 0) (at : ℕ × ℕ) (slots : List Slot) → All P slots → All P (without_slot at slots)
 All-without_slot P at [] h = h
 All-without_slot P at (s ∷ ss) h =
     let rest = All-tail P s ss h in
@@ -69,25 +67,16 @@ All-without_slot P at (s ∷ ss) h =
     (λ e. rw e (All-cons P s (without_slot at ss) (All-head P s ss h) (All-without_slot P at ss rest)))
     (cases_Bool ((s.seg == at.0) && (s.off == at.1)))
 
-Before-without_slot : (at : ℕ × ℕ) (slots : List Slot) → AllPairs Before slots → AllPairs Before (without_slot at slots)
-Before-without_slot at [] h = h
-Before-without_slot at (s ∷ ss) h =
-    let rest = AllPairs-tail Before s ss h in
-    ⊎_elim
-    (λ e. rw e rest)
-    (λ e. rw e (AllPairs-cons Before s (without_slot at ss) (All-without_slot (Before s) at ss (AllPairs-head Before s ss h)) (Before-without_slot at ss rest)))
-    (cases_Bool ((s.seg == at.0) && (s.off == at.1)))
-
 pub IsLayout-without_slot : (segs : List Bytes) (at : ℕ × ℕ) (slots : List Slot) → IsLayout segs slots → IsLayout segs (without_slot at slots)
 IsLayout-without_slot segs at slots l =
-    record { few = l.few; segments = l.segments; distinct = l.distinct; blocks = All-without_slot (IsSlotIn segs) at slots l.blocks; apart = Before-without_slot at slots l.apart }
+    record { few = l.few; segments = l.segments; distinct = l.distinct; blocks = All-without_slot (IsSlotIn segs) at slots l.blocks }
 
 pub region_of-without_slot : (segs : List Bytes) (at : ℕ × ℕ) (slots : List Slot) → region_of segs (without_slot at slots) ≡ best_free (region_of segs slots) at
 region_of-without_slot segs at slots =
     let region : List (Block ℕ) → Region ℕ = λ bs. record { segments = map pair_of segs; blocks = bs } in
     ap region (blocks-without_slot segs at slots)
 
-pub place_of-address : (seg off : ℕ) → off < 33554432 → off % 32 ≡ 0 → place_of (address (seg, off)) ≡ (seg, off)
+place_of-address : (seg off : ℕ) → off < 33554432 → off % 32 ≡ 0 → place_of (address (seg, off)) ≡ (seg, off)
 place_of-address seg off last multiple =
     let pair : ℕ → ℕ → ℕ × ℕ = λ m n. (m, n) in
     let a = seg * 1048576 + off / 32 in

@@ -47,7 +47,7 @@ IsTaken-runs_of segs n (s ∷ ss) h =
     ⊎_elim
     (λ e.
     let here = All-head (IsSlotIn segs) s ss h in
-    let within : (run_of_slot s).to + 16 ≤ length (bytes_of_number n segs) = subst (λ m. (run_of_slot s).to + 16 ≤ length (bytes_of_number m segs)) (eqb-true s.seg n e) here.within in
+    let within : s.off + s.size ≤ length (bytes_of_number n segs) = subst (λ m. s.off + s.size ≤ length (bytes_of_number m segs)) (eqb-true s.seg n e) here.within in
     let first : 32 ≤ s.off = here.slot.first in
     rw e (All-cons (IsTaken (length (bytes_of_number n segs))) (run_of_slot s) _ (record { before = omega arith; behind = omega arith }) rest))
     (λ e. rw e rest)
@@ -83,7 +83,7 @@ lesser-keeps P (Some l) x b h p e =
     (cases_Bool (comes_before x l))
 
 -- what is true of each gap is true of the least
-pub least-All : (P : Run → Type 0) (best : Option Run) (gs : List Run) (g : Run) → ((c : Run) → best ≡ Some c → P c) → All P gs → fold lesser best gs ≡ Some g → P g
+least-All : (P : Run → Type 0) (best : Option Run) (gs : List Run) (g : Run) → ((c : Run) → best ≡ Some c → P c) → All P gs → fold lesser best gs ≡ Some g → P g
 least-All P best [] g h all e = h g e
 least-All P best (x ∷ xs) g h all e =
     least-All P (lesser best x) xs g (λ b q. lesser-keeps P best x b h (All-head P x xs all) q) (All-tail P x xs all) e

@@ -2,12 +2,8 @@ pub mod Scan
 pub mod Unused
 pub mod Bytes
 pub mod Gaps
-pub mod Clear
 pub mod Rounding
-pub mod Apart
 pub mod Regions
 pub mod Allocs
 pub mod Backs
 pub mod Frees
-pub mod Blocks
-pub mod Places

@@ -2,7 +2,7 @@
 use Rattle.std.proofs.Common.{◌≡◌, ℕ, zero, suc, ◌+◌, ◌-◌, ◌<◌, ◌≤◌, ◌≢◌, List, [], ◌∷◌, ◌++◌, false, All, length, get_or, map, replicate, take, drop, refl, ap, sym, ◌∙◌, subst, ⊎_elim, eqb, arith}
 use Rattle.std.proofs.lemmas.Bool.{cases_Bool, or_parts, eqb-false, leb-true}
 use Rattle.std.proofs.lemmas.List.{take-replicate, drop-replicate, map_push, length_push}
-use Rattle.std.proofs.lemmas.List.Elements.{All-head, All-tail, All-push, All-weaker}
+use Rattle.std.proofs.lemmas.List.Elements.{All-head, All-tail, All-cons, All-push, All-weaker}
 use Rattle.std.proofs.lemmas.List.Quantifiers.{all_pairs_push}
 use Rattle.vc_model.specs.Segments.{numbers, span}
 use Rattle.vc_model.specs.Gap.{Run}
@@ -13,25 +13,19 @@ use Rattle.vc_seg.specs.Segment.{Bytes, pair_of}
 use Rattle.vc_best.specs.declared.slot.Slot.{Slot}
 use Rattle.vc_best.specs.Slot.{run_of_slot, runs_of, lies_before_slot, with_slot}
 use Rattle.vc_best.specs.Layout.{bytes_of_number, block_in, region_of, IsRegionSegment, IsSlotIn, IsLayout}
-use Rattle.vc_best.specs.Apart.{IsApart}
 use Rattle.vc_best.proofs.Unused.{is_among}
 use Rattle.vc_best.proofs.Bytes.{Apart, bytes_of_number-zeros, bytes_of_number-most, bytes_of_number-append}
 use Rattle.vc_best.proofs.Gaps.{IsBestGap}
-use Rattle.vc_best.proofs.Apart.{Before-with_slot, All-with_slot, span-least}
 use Rattle.vc_best.proofs.Rounding.{IsAligned, round_up-least, round_up-mod_32}
 
 pub footprints-blocks : (segs : List Bytes) (slots : List Slot) → footprints (map (block_in segs) slots) ≡ runs_of slots
 footprints-blocks segs [] = refl
 footprints-blocks segs (s ∷ ss) = ap (λ rs. run_of_slot s ∷ rs) (footprints-blocks segs ss)
 
--- its bytes lie in the segment too
-pub IsSlotIn-bytes : (segs : List Bytes) (s : Slot) → IsSlotIn segs s → s.off + s.size ≤ length (bytes_of_number s.seg segs)
-IsSlotIn-bytes segs s h = let first : 32 ≤ s.off = h.slot.first in let within = h.within in omega (arith, span-least s.size, first, within)
-
 block_in-zeros : (segs : List Bytes) (s : Slot) → All IsRegionSegment segs → IsSlotIn segs s → block_in segs s ≡ zeros s.tag s.size (s.seg, s.off)
 block_in-zeros segs s h here =
     let bytes = bytes_of_number s.seg segs in
-    let within : s.off + s.size ≤ length bytes = IsSlotIn-bytes segs s here in
+    let within : s.off + s.size ≤ length bytes = here.within in
     let all : take s.size (drop s.off bytes) ≡ replicate s.size 0 =
     ap (λ b. take s.size (drop s.off b)) (bytes_of_number-zeros s.seg segs h)
     ∙ (ap (take s.size) (drop-replicate s.off (length bytes) 0) ∙ take-replicate s.size (length bytes - s.off) 0 (omega arith)) in
@@ -46,6 +40,14 @@ blocks-with_slot segs s (t ∷ ts) =
     (λ e. rw e (ap (λ bs. block_in segs t ∷ bs) (blocks-with_slot segs s ts)))
     (cases_Bool (lies_before_slot s.seg s.off t))
 
+All-with_slot : (P : Slot → Type 0) (s : Slot) (slots : List Slot) → P s → All P slots → All P (with_slot s slots)
+All-with_slot P s [] here h = All-cons P s [] here h
+All-with_slot P s (t ∷ ts) here h =
+    ⊎_elim
+    (λ e. rw e (All-cons P s (t ∷ ts) here h))
+    (λ e. rw e (All-cons P t (with_slot s ts) (All-head P t ts h) (All-with_slot P s ts here (All-tail P t ts h))))
+    (cases_Bool (lies_before_slot s.seg s.off t))
+
 -- the block in the slot is put among the others
 pub region_of-with_slot : (segs : List Bytes) (s : Slot) (slots : List Slot) → All IsRegionSegment segs → IsSlotIn segs s →
     region_of segs (with_slot s slots) ≡ record { segments = map pair_of segs; blocks = with_block (zeros s.tag s.size (s.seg, s.off)) (map (block_in segs) slots) }
@@ -53,23 +55,17 @@ region_of-with_slot segs s slots h here =
     let region : List (Block ℕ) → Region ℕ = λ bs. record { segments = map pair_of segs; blocks = bs } in
     ap region (blocks-with_slot segs s slots ∙ ap (λ b. with_block b (map (block_in segs) slots)) (block_in-zeros segs s h here))
 
-pub IsLayout-with_slot : (segs : List Bytes) (s : Slot) (slots : List Slot) → IsLayout segs slots → IsSlotIn segs s → All (λ t. IsApart (run_of_slot s) (run_of_slot t)) slots → IsLayout segs (with_slot s slots)
-IsLayout-with_slot segs s slots l here clear =
-    record {
-      few = l.few;
-      segments = l.segments;
-      distinct = l.distinct;
-      blocks = All-with_slot (IsSlotIn segs) s slots here l.blocks;
-      apart = Before-with_slot s slots here.slot (λ k d lt. (l.blocks k d lt).slot) clear l.apart;
-    }
+pub IsLayout-with_slot : (segs : List Bytes) (s : Slot) (slots : List Slot) → IsLayout segs slots → IsSlotIn segs s → IsLayout segs (with_slot s slots)
+IsLayout-with_slot segs s slots l here =
+    record { few = l.few; segments = l.segments; distinct = l.distinct; blocks = All-with_slot (IsSlotIn segs) s slots here l.blocks }
 
 -- a slot has bytes
 stands : (segs : List Bytes) (s : Slot) → IsSlotIn segs s → 0 < length (bytes_of_number s.seg segs)
-stands segs s h = let some : 1 ≤ s.size = h.slot.some in let within = IsSlotIn-bytes segs s h in omega arith
+stands segs s h = let some : 1 ≤ s.size = h.slot.some in let within : s.off + s.size ≤ length (bytes_of_number s.seg segs) = h.within in omega arith
 
 IsSlotIn-push : (segs : List Bytes) (b : Bytes) (s : Slot) → IsSlotIn segs s → IsSlotIn (segs ++ b ∷ []) s
 IsSlotIn-push segs b s h =
-    record { slot = h.slot; within = subst (λ bytes. (run_of_slot s).to + 16 ≤ length bytes) (sym (bytes_of_number-append s.seg segs (b ∷ []) (stands segs s h))) h.within }
+    record { slot = h.slot; within = subst (λ bytes. s.off + s.size ≤ length bytes) (sym (bytes_of_number-append s.seg segs (b ∷ []) (stands segs s h))) h.within }
 
 blocks-push : (segs : List Bytes) (b : Bytes) (slots : List Slot) → All (IsSlotIn segs) slots → map (block_in (segs ++ b ∷ [])) slots ≡ map (block_in segs) slots
 blocks-push segs b [] h = refl
@@ -101,7 +97,6 @@ IsLayout-push segs b slots l few here unused =
       segments = All-push IsRegionSegment segs b l.segments here;
       distinct = all_pairs_push Apart segs b l.distinct (apart_from_among b.number segs unused);
       blocks = All-weaker (IsSlotIn segs) (IsSlotIn (segs ++ b ∷ [])) (IsSlotIn-push segs b) slots l.blocks;
-      apart = l.apart;
     }
 
 -- a block at the lowest offset in a gap that holds it is a slot of the layout

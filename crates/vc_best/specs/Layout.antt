@@ -4,8 +4,7 @@ use Rattle.vc_model.specs.Discipline.{IsSegmentSize}
 use Rattle.vc_model.specs.Region.{Block, Region}
 use Rattle.vc_seg.specs.Segment.{Bytes, pair_of}
 use Rattle.vc_best.specs.declared.slot.Slot.{Slot}
-use Rattle.vc_best.specs.Slot.{IsSlot, run_of_slot}
-use Rattle.vc_best.specs.Apart.{EndsBefore}
+use Rattle.vc_best.specs.Slot.{IsSlot}
 
 -- the bytes of the segment of that number, or none
 abbrev pub bytes_of_number : ℕ → List Bytes → List ℕ
@@ -26,15 +25,14 @@ pub record IsRegionSegment (s : Bytes) : Type 0 where
   pub size : IsSegmentSize (length s.bytes)
   pub zeros : s.bytes ≡ replicate (length s.bytes) 0
 
--- a slot that lies in the usable part of a segment of these, all but its first and its last 16 bytes
+-- a slot within a segment of these
 pub record IsSlotIn (segs : List Bytes) (s : Slot) : Type 0 where
   pub slot : IsSlot s
-  pub within : (run_of_slot s).to + 16 ≤ length (bytes_of_number s.seg segs)
+  pub within : s.off + s.size ≤ length (bytes_of_number s.seg segs)
 
--- at most 1,023 segments, each of another number, and slots in them, by address, of which no two overlap
+-- at most 1,023 segments, each of another number, and slots in them
 pub record IsLayout (segs : List Bytes) (slots : List Slot) : Type 0 where
   pub few : length segs ≤ 1023
   pub segments : All IsRegionSegment segs
   pub distinct : AllPairs (λ a b. a.number ≢ b.number) segs
   pub blocks : All (IsSlotIn segs) slots
-  pub apart : AllPairs (λ a b. EndsBefore (run_of_slot a) (run_of_slot b)) slots

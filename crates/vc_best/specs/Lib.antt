@@ -6,7 +6,6 @@ pub use Rattle.vc_model.specs.Region
 pub use Rattle.vc_model.specs.Segments
 pub use Rattle.vc_base.specs.Addr
 pub mod Slot
-pub mod Apart
 pub mod Layout
 pub mod Alloc
 pub mod Close

@@ -1,5 +1,4 @@
 ghost use Rattle.std.specs.Prelude.{◌≡◌, ◌≢◌, ℕ, Contains, map, ◌+◌, ◌≤◌, ◌<◌, ◌⊎◌, ◌++◌, ◌↔◌, [], drop, length, IfOk, IfErr, IfSome, OnErr, OnOk, IsErrOf, Err, true, false};
-ghost use Rattle.std.specs.List.{HoldsAt, remove};
 ghost use Rattle.vc_model.specs.Best.{best_alloc, best_free, TooManySegments, NoSegment};
 ghost use Rattle.vc_model.specs.Count.{Rose};
 ghost use Rattle.vc_model.specs.Discipline.{EndsWith, Kept};
@@ -7,7 +6,6 @@ ghost use Rattle.vc_model.specs.Place.{IsAlign};
 ghost use Rattle.vc_model.specs.Segments.{round_up, span};
 ghost use Rattle.vc_base.specs.Addr.{address, place_of};
 ghost use Rattle.vc_best.specs.Alloc.{IsPlaced};
-ghost use Rattle.vc_best.specs.Apart.{AreApart, IsApartFrom, IsUsable, footprint_at};
 
 use crate::layout::Layout;
 use std::alloc::Global;
@@ -74,12 +72,6 @@ impl Best {
         ensures room { OnErr result ((state self.new.disc).room ≡ (state self.old.disc).room) }
         ensures faults { result ≢ Err RegionFault.NoSegment → (state self.new.disc).faults ≡ (state self.old.disc).faults }
         ensures kept { Kept (state self.old.disc) (state self.new.disc) }
-
-        // The block lies in a segment, and no two blocks overlap.
-        ensures usable { IfOk result (λ a. IsUsable self.new.layout.segments (footprint_at size (place_of a.0))) }
-        ensures apart { IfOk result (λ a. IsApartFrom self.old.layout.blocks size (place_of a.0)) }
-        ensures fresh { IfOk result (λ a. Contains (map (λ b. address (b.seg, b.off)) self.old.layout.blocks) a.0 → ⊥) }
-        ensures all_apart { AreApart self.new.layout.blocks }
     {
         let _ = steps;
         match self.layout.place(size, align) {
@@ -95,9 +87,6 @@ impl Best {
         requires block { Contains (map (λ b. address (b.seg, b.off)) self.old.layout.blocks) a.0 }
         ensures layout { self.new.layout ≡ best_free self.old.layout (place_of a.0) }
         ensures one_less { length self.new.layout.blocks + 1 ≡ length self.old.layout.blocks }
-        ensures freed { (i : ℕ) → i < length self.old.layout.blocks → HoldsAt (λ b. address (b.seg, b.off) ≡ a.0) self.old.layout.blocks i → self.new.layout.blocks ≡ remove self.old.layout.blocks i }
-        ensures none_left { Contains (map (λ b. address (b.seg, b.off)) self.new.layout.blocks) a.0 → ⊥ }
-        ensures all_apart { AreApart self.new.layout.blocks }
         ensures disc { state self.new.disc ≡ state self.old.disc }
     {
         let _ = steps;

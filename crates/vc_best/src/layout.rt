@@ -1,5 +1,4 @@
 ghost use Rattle.std.specs.Prelude.{◌≡◌, ℕ, Contains, map, ◌+◌, ◌≤◌, ◌<◌, ◌⊎◌, ◌++◌, [], None, Some, drop, length, vec_len, vec_capacity, IfOk, IfErr, IfSome, OnErr, OnOk, IsErrOf, Err, ◌↔◌, ◌≢◌, true, false};
-ghost use Rattle.std.specs.List.{HoldsAt, remove};
 ghost use Rattle.vc_model.specs.Best.{best_alloc, best_free, place_in, put_at, TooManySegments, NoSegment};
 ghost use Rattle.vc_model.specs.Count.{Rose};
 ghost use Rattle.vc_model.specs.Discipline.{EndsWith, Kept};
@@ -7,7 +6,6 @@ ghost use Rattle.vc_model.specs.Place.{IsAlign};
 ghost use Rattle.vc_model.specs.Segments.{round_up, span};
 ghost use Rattle.vc_base.specs.Addr.{address, place_of};
 ghost use Rattle.vc_best.specs.Alloc.{IsPlaced};
-ghost use Rattle.vc_best.specs.Apart.{AreApart, IsApartFrom, IsUsable, footprint_at};
 ghost use Rattle.vc_best.specs.Close.{TakesBack};
 
 use crate::close::give_back_all;
@@ -89,12 +87,6 @@ impl Layout {
         ensures ok { IfOk result (λ a. IsPlaced (put_at self.old tag size (seg, off)) a.0 self.new) }
         ensures err { OnErr result (self.new ≡ self.old) }
         ensures only { IfErr result (λ e. e ≡ RegionFault.OutOfMemory) }
-
-        // The block lies in a segment, and no two blocks overlap.
-        ensures usable { IfOk result (λ a. IsUsable self.new.segments (footprint_at size (place_of a.0))) }
-        ensures apart { IfOk result (λ a. IsApartFrom self.old.blocks size (place_of a.0)) }
-        ensures fresh { IfOk result (λ a. Contains (map (λ b. address (b.seg, b.off)) self.old.blocks) a.0 → ⊥) }
-        ensures all_apart { AreApart self.new.blocks }
     {
         reserve_one(&mut self.blocks)?;
         Slot {
@@ -138,12 +130,6 @@ impl Layout {
         ensures room { OnErr result ((state disc.new).room ≡ (state disc.old).room) }
         ensures faults { result ≢ Err RegionFault.NoSegment → (state disc.new).faults ≡ (state disc.old).faults }
         ensures kept { Kept (state disc.old) (state disc.new) }
-
-        // The block lies in a segment, and no two blocks overlap.
-        ensures usable { IfOk result (λ a. IsUsable self.new.segments (footprint_at size (place_of a.0))) }
-        ensures apart { IfOk result (λ a. IsApartFrom self.old.blocks size (place_of a.0)) }
-        ensures fresh { IfOk result (λ a. Contains (map (λ b. address (b.seg, b.off)) self.old.blocks) a.0 → ⊥) }
-        ensures all_apart { AreApart self.new.blocks }
     {
         if self.segs.len() >= 1023 {
             return Err(RegionFault::TooManySegments);
@@ -169,9 +155,6 @@ impl Layout {
         requires { Contains (map (λ b. address (b.seg, b.off)) self.old.blocks) a.0 }
         ensures value { self.new ≡ best_free self.old (place_of a.0) }
         ensures one_less { length self.new.blocks + 1 ≡ length self.old.blocks }
-        ensures freed { (i : ℕ) → i < length self.old.blocks → HoldsAt (λ b. address (b.seg, b.off) ≡ a.0) self.old.blocks i → self.new.blocks ≡ remove self.old.blocks i }
-        ensures none_left { Contains (map (λ b. address (b.seg, b.off)) self.new.blocks) a.0 → ⊥ }
-        ensures all_apart { AreApart self.new.blocks }
     {
         take_out(&mut self.blocks, a.seg(), a.off());
     }
