@@ -1,6 +1,4 @@
-pub mod Cuts
 pub mod Cells
-pub mod Reading
 pub mod Written
 pub mod Settle
 pub mod Ends
@@ -16,4 +14,6 @@ pub mod Helds
 pub mod Changing
 pub mod Closing
 pub mod Running
+pub mod Feeds
+pub mod SoFar
 pub mod Telling

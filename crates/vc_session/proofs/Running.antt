@@ -1,55 +1,39 @@
 -- A run in its middle, and what each line adds to it.
-use Rattle.std.proofs.Common.{◌≡◌, ℕ, ◌+◌, List, [], ◌∷◌, ◌++◌, Option, Some, None, Bool, true, false, cond, length, map, refl, sym, ap, ◌∙◌, subst, arith, inl, inr, ◌&&◌}
-use Rattle.std.specs.Prelude.{Result, Ok, Err, OnErr, count_by, nat_lt, ◌==◌}
+use Rattle.std.proofs.Common.{Ok, ◌≡◌, ℕ, ◌+◌, List, [], ◌∷◌, ◌++◌, Option, Some, None, Bool, true, false, cond, length, map, refl, sym, ap, ◌∙◌, subst, arith, inl, inr, ◌&&◌}
+use Rattle.std.specs.Prelude.{count_by, nat_lt, ◌==◌}
 use Rattle.std.specs.Bool.{IsTrue}
 use Rattle.std.specs.List.{AllByRecursion, list_any}
 use Rattle.std.proofs.lemmas.List.{append_assoc, append-nil, length-append, length-map, map-append}
 use Rattle.std.proofs.lemmas.Grind.{flat_map-append}
+use Rattle.std.proofs.lemmas.Option.{none-some, same_Some}
 use Rattle.vc_model.specs.Numbered.{at_number}
 use Rattle.vc_model.specs.Best.{Allocated, Placed, TooManySegments, NoSegment, best_alloc}
 use Rattle.vc_script.specs.declared.command.Command.{Command}
 use Rattle.vc_script.specs.declared.command.Command.TheVariants.{OpenRegion, Alloc}
 use Rattle.vc_script.specs.declared.line_answer.LineAnswer.{LineAnswer}
-use Rattle.vc_script.specs.declared.line_fault.LineFault.TheVariants.{UnknownCommand}
 use Rattle.vc_script.specs.declared.line_answer.LineAnswer.TheVariants.{Blank, Is, Bad}
 use Rattle.vc_script.specs.declared.line_fault.LineFault.{LineFault}
 use Rattle.vc_script.specs.declared.reply.Reply.{Reply}
 use Rattle.vc_session.specs.Account.{Account, RoseBy, Settles, faults_of}
-use Rattle.vc_session.specs.Built.{built, built_answer, is_built}
 use Rattle.vc_script.specs.Answer.{answer}
 use Rattle.vc_script.specs.declared.tool.Tool.TheVariants.{Vmreplay}
 use Rattle.vc_script.specs.Proper.{IsProperCommand}
 use Rattle.vc_script.specs.ProperReply.{IsProperReply}
-use Rattle.vc_script.specs.Lines.{lines, without_cr}
 use Rattle.vc_script.specs.Needs.{Need, need_shown, needs_of}
 use Rattle.vc_script.specs.Print.{line_of, text}
-use Rattle.vc_session.specs.Engine.{IsIdle, LineRan}
-use Rattle.std.proofs.lemmas.Option.{none-some, same_Some}
 use Rattle.vc_session.specs.Replay.{IsRun, Told}
-use Rattle.vc_session.specs.Run.{Ran, command_then, commands_from, fault_from, fault_or, first_bad, refusal_at, run, script}
+use Rattle.vc_session.specs.SoFar.{Found, Running}
+use Rattle.vc_session.specs.Run.{Ran, command_then, commands, fault_in, fault_then, refusal_at, run}
 use Rattle.vc_script.specs.Words.{is_name}
 use Rattle.vc_script.specs.declared.refusal.Refusal.TheVariants.{NotYet}
 use Rattle.vc_session.specs.State.{Changed, refused, unchanged, Home, State, alloc_in, alloc_step, allocated, has_label, home_named, is_for_block, is_home, is_size, label_limit, open_by, opened_over, step}
-use Rattle.vc_script.proofs.ProperCommands.{IsProperAnswer-answer}
-use Rattle.vc_script.specs.Proper.{IsProperAnswer}
+use Rattle.vc_script.proofs.ProperCommands.{IsProperCommand-answer}
 use Rattle.vc_session.proofs.Runs.{one_more, run-push}
 use Rattle.vc_session.proofs.Settling.{settles-same, settles-trans}
 use Rattle.vc_script.proofs.Texts.{needs_of-text}
+use Rattle.vc_session.specs.Engine.{IsIdle, IsStep, LineRan}
 use Rattle.vc_seg.specs.declared.method.Method.{Method}
 use Rattle.vc_seg.specs.declared.method.Method.TheVariants.{VmBest}
-
--- after n lines, what is left of the input is `rest`
-pub record Running (input : List ℕ) (start now : State) (before after : Option (List ℕ)) (entry accounts : List (Option Account)) (n : ℕ) (rest : List ℕ) : Type 0 where
-  pub done : List (ℕ × Command)
-  pub replies : List Reply
-  pub refusals : List ℕ
-  pub proper : AllByRecursion IsProperReply replies
-  pub same : length done ≡ length replies
-  pub script : script input ≡ done ++ commands_from (n + 1) (lines rest)
-  pub bad : first_bad input ≡ fault_from (n + 1) (lines rest)
-  pub run : run start done (map need_shown replies) ≡ record { replies = replies; state = now; refusals = refusals }
-  pub settles : Settles entry accounts refusals
-  pub told : Told before after (text replies)
 
 told-none : (before : Option (List ℕ)) → Told before before []
 told-none None = tt
@@ -60,26 +44,26 @@ told-more None now after front piece p q = tt
 told-more (Some w) now after front piece p q =
     subst (λ (o : Option (List ℕ)). Told o after piece) p q ∙ ap Some (append_assoc w front piece)
 
-pub running-start : (input : List ℕ) (start : State) (before : Option (List ℕ)) (entry : List (Option Account)) → Running input start start before before entry entry 0 input
-running-start input start before entry = record {
+pub running-start : (start : State) (before : Option (List ℕ)) (entry : List (Option Account)) → Running start start before before entry entry []
+running-start start before entry = record {
   done = [];
   replies = [];
   refusals = [];
   proper = tt;
   same = refl;
-  script = refl;
-  bad = refl;
+  script = λ behind. refl;
+  bad = λ behind. refl;
   run = refl;
   settles = settles-same entry;
   told = told-none before;
 }
 
--- a run whose lines are done
-pub running-end : {input : List ℕ} {start now : State} {before after : Option (List ℕ)} {entry accounts : List (Option Account)} {n : ℕ} {rest : List ℕ} → Running input start now before after entry accounts n rest → commands_from (n + 1) (lines rest) ≡ [] → IsRun start (script input) before after entry accounts
-running-end {input} {start} {now} {before} {after} {entry} {accounts} {n} {rest} r end =
-    let commands : script input ≡ r.done = r.script ∙ (ap (λ cs. r.done ++ cs) end ∙ append-nil r.done) in
+-- a run of all the lines from which commands come
+pub running-end : {start now : State} {before after : Option (List ℕ)} {entry accounts : List (Option Account)} {whole : Found} (behind : Found) → Running start now before after entry accounts whole → commands behind ≡ [] → IsRun start (commands (whole ++ behind)) before after entry accounts
+running-end {start} {now} {before} {after} {entry} {accounts} {whole} behind r end =
+    let all : commands (whole ++ behind) ≡ r.done = r.script behind ∙ (ap (λ cs. r.done ++ cs) end ∙ append-nil r.done) in
     let needs = needs_of-text r.replies r.proper in
-    let ran = ap (λ cs. run start cs (needs_of (text r.replies))) commands ∙ (ap (run start r.done) needs ∙ r.run) in
+    let ran = ap (λ cs. run start cs (needs_of (text r.replies))) all ∙ (ap (run start r.done) needs ∙ r.run) in
     record {
       written = text r.replies;
       text = ap (λ e. text e.replies) (sym ran);
@@ -87,18 +71,22 @@ running-end {input} {start} {now} {before} {after} {entry} {accounts} {n} {rest}
       settles = subst (λ e. Settles entry accounts e.refusals) (sym ran) r.settles;
     }
 
-pub running-blank : {input : List ℕ} {start now : State} {before after : Option (List ℕ)} {entry accounts : List (Option Account)} {n : ℕ} {rest : List ℕ} (line behind : List ℕ) → Running input start now before after entry accounts n rest → lines rest ≡ line ∷ lines behind → built_answer (without_cr line) ≡ Blank → Running input start now before after entry accounts (n + 1) behind
-running-blank {n = n} {rest = rest} line behind r split blank = record {
+told-same : (before after told : Option (List ℕ)) (front : List ℕ) → told ≡ after → Told before after front → Told before told front
+told-same before after told front same p = subst (λ o. Told before o front) (sym same) p
+
+-- a line that asks for nothing
+running-idle : {start now : State} {before after : Option (List ℕ)} {entry accounts : List (Option Account)} {whole : Found} (next : State) (told : Option (List ℕ)) (accounts' : List (Option Account)) (n : ℕ) (line : List ℕ) → Running start now before after entry accounts whole → answer Vmreplay line ≡ Blank → IsIdle now next after told accounts accounts' → Running start next before told entry accounts' (whole ++ (n, Ok line) ∷ [])
+running-idle {before = before} {after = after} {entry = entry} {accounts = accounts} {whole = whole} next told accounts' n line r blank idle = record {
   done = r.done;
   replies = r.replies;
   refusals = r.refusals;
   proper = r.proper;
   same = r.same;
-  script = r.script ∙ (ap (λ ls. r.done ++ commands_from (n + 1) ls) split ∙ ap (λ a. r.done ++ command_then (n + 1) a (commands_from (n + 1 + 1) (lines behind))) blank);
-  bad = r.bad ∙ (ap (fault_from (n + 1)) split ∙ ap (λ a. fault_or (n + 1) a (fault_from (n + 1 + 1) (lines behind))) blank);
-  run = r.run;
-  settles = r.settles;
-  told = r.told;
+  script = λ behind. ap commands (append_assoc whole ((n, Ok line) ∷ []) behind) ∙ (r.script ((n, Ok line) ∷ behind) ∙ ap (λ a. r.done ++ command_then n a (commands behind)) blank);
+  bad = λ behind. ap fault_in (append_assoc whole ((n, Ok line) ∷ []) behind) ∙ (r.bad ((n, Ok line) ∷ behind) ∙ ap (λ a. fault_then n a (fault_in behind)) blank);
+  run = r.run ∙ ap (λ s. let e : Ran = record { replies = r.replies; state = s; refusals = r.refusals } in e) (sym idle.state);
+  settles = subst (Settles entry accounts') (append-nil r.refusals) (settles-trans entry accounts accounts' r.refusals [] r.settles idle.settles);
+  told = told-same before after told (text r.replies) idle.told r.told;
 }
 
 proper-allocated : (h : Home) (x : List ℕ) (a : Allocated (List ℕ)) → IsTrue (is_name x) → IsProperReply (allocated h x a).reply
@@ -146,18 +134,9 @@ all-push (x ∷ xs) r each last = (each.0, all-push xs r each.1 last)
 text-push : (rs : List Reply) (r : Reply) → text (rs ++ r ∷ []) ≡ text rs ++ line_of r
 text-push rs r = flat_map-append line_of rs (r ∷ []) ∙ ap (λ t. text rs ++ t) (append-nil (line_of r))
 
-proper-kept : (t : Bool) (command : Command) → IsProperCommand command → IsProperAnswer (cond t (Is command) (Bad UnknownCommand))
-proper-kept true command proper = proper
-proper-kept false command proper = tt
-
-proper-built : (a : LineAnswer) → IsProperAnswer a → IsProperAnswer (built a)
-proper-built Blank proper = tt
-proper-built (Is command) proper = proper-kept (is_built command) command proper
-proper-built (Bad fault) proper = tt
-
-proper-stepped : (now next : State) (line : List ℕ) (c : Command) (reply : Reply) → built_answer line ≡ Is c → step now c (need_shown reply) ≡ record { state = next; reply = reply } → IsProperReply reply
+proper-stepped : (now next : State) (line : List ℕ) (c : Command) (reply : Reply) → answer Vmreplay line ≡ Is c → step now c (need_shown reply) ≡ record { state = next; reply = reply } → IsProperReply reply
 proper-stepped now next line c reply is stepped =
-    subst (λ t. IsProperReply t.reply) stepped (proper-step now c (need_shown reply) (subst IsProperAnswer is (proper-built (answer Vmreplay line) (IsProperAnswer-answer Vmreplay line))))
+    subst (λ t. IsProperReply t.reply) stepped (proper-step now c (need_shown reply) (IsProperCommand-answer Vmreplay line c is))
 
 run-stepped : (start now next : State) (done : List (ℕ × Command)) (replies : List Reply) (refusals : List ℕ) (n : ℕ) (c : Command) (reply : Reply) → length done ≡ length replies → run start done (map need_shown replies) ≡ record { replies = replies; state = now; refusals = refusals } → step now c (need_shown reply) ≡ record { state = next; reply = reply } → run start (done ++ (n, c) ∷ []) (map need_shown (replies ++ reply ∷ [])) ≡ record { replies = replies ++ reply ∷ []; state = next; refusals = refusals ++ refusal_at now c reply }
 run-stepped start now next done replies refusals n c reply same ran stepped =
@@ -166,57 +145,54 @@ run-stepped start now next done replies refusals n c reply same ran stepped =
     ∙ (ap (λ e. one_more e c (need_shown reply)) ran
     ∙ ap (λ t. let e : Ran = record { replies = replies ++ t.reply ∷ []; state = t.state; refusals = refusals ++ refusal_at now c t.reply } in e) stepped))
 
--- one more command is done
-pub running-is : {input : List ℕ} {start now : State} {before after : Option (List ℕ)} {entry accounts : List (Option Account)} {n : ℕ} {rest : List ℕ} (next : State) (told : Option (List ℕ)) (accounts' : List (Option Account)) (line behind : List ℕ) (c : Command) (reply : Reply) → Running input start now before after entry accounts n rest → lines rest ≡ line ∷ lines behind → built_answer (without_cr line) ≡ Is c → step now c (need_shown reply) ≡ record { state = next; reply = reply } → Settles accounts accounts' (refusal_at now c reply) → Told after told (line_of reply) → Running input start next before told entry accounts' (n + 1) behind
-running-is {start = start} {now = now} {before = before} {after = after} {entry = entry} {accounts = accounts} {n = n} next told accounts' line behind c reply r split is stepped settles written = record {
-  done = r.done ++ (n + 1, c) ∷ [];
-  replies = r.replies ++ reply ∷ [];
-  refusals = r.refusals ++ refusal_at now c reply;
-  proper = all-push r.replies reply r.proper (proper-stepped now next (without_cr line) c reply is stepped);
-  same = length-append r.done ((n + 1, c) ∷ []) ∙ (ap (λ k. k + 1) r.same ∙ sym (length-append r.replies (reply ∷ [])));
-  script =
-      r.script
-      ∙ (ap (λ ls. r.done ++ commands_from (n + 1) ls) split
-      ∙ (ap (λ a. r.done ++ command_then (n + 1) a (commands_from (n + 1 + 1) (lines behind))) is
-      ∙ sym (append_assoc r.done ((n + 1, c) ∷ []) (commands_from (n + 1 + 1) (lines behind)))));
-  bad = r.bad ∙ (ap (fault_from (n + 1)) split ∙ ap (λ a. fault_or (n + 1) a (fault_from (n + 1 + 1) (lines behind))) is);
-  run = run-stepped start now next r.done r.replies r.refusals (n + 1) c reply r.same r.run stepped;
-  settles = settles-trans entry accounts accounts' r.refusals (refusal_at now c reply) r.settles settles;
-  told = subst (Told before told) (sym (text-push r.replies reply)) (told-more before after told (text r.replies) (line_of reply) r.told written);
+-- a line with a command
+running-step : {start now : State} {before after : Option (List ℕ)} {entry accounts : List (Option Account)} {whole : Found} (next : State) (told : Option (List ℕ)) (accounts' : List (Option Account)) (n : ℕ) (line : List ℕ) (c : Command) → Running start now before after entry accounts whole → answer Vmreplay line ≡ Is c → IsStep c now next after told accounts accounts' → Running start next before told entry accounts' (whole ++ (n, Ok line) ∷ [])
+running-step {start = start} {now = now} {before = before} {after = after} {entry = entry} {accounts = accounts} {whole = whole} next told accounts' n line c r is t = record {
+  done = r.done ++ (n, c) ∷ [];
+  replies = r.replies ++ t.reply ∷ [];
+  refusals = r.refusals ++ refusal_at now c t.reply;
+  proper = all-push r.replies t.reply r.proper (proper-stepped now next line c t.reply is t.step);
+  same = length-append r.done ((n, c) ∷ []) ∙ (ap (λ k. k + 1) r.same ∙ sym (length-append r.replies (t.reply ∷ [])));
+  script = λ behind.
+      ap commands (append_assoc whole ((n, Ok line) ∷ []) behind)
+      ∙ (r.script ((n, Ok line) ∷ behind)
+      ∙ (ap (λ a. r.done ++ command_then n a (commands behind)) is
+      ∙ sym (append_assoc r.done ((n, c) ∷ []) (commands behind))));
+  bad = λ behind. ap fault_in (append_assoc whole ((n, Ok line) ∷ []) behind) ∙ (r.bad ((n, Ok line) ∷ behind) ∙ ap (λ a. fault_then n a (fault_in behind)) is);
+  run = run-stepped start now next r.done r.replies r.refusals n c t.reply r.same r.run t.step;
+  settles = settles-trans entry accounts accounts' r.refusals (refusal_at now c t.reply) r.settles t.settles;
+  told = subst (Told before told) (sym (text-push r.replies t.reply)) (told-more before after told (text r.replies) (line_of t.reply) r.told t.told);
 }
 
--- at a bad line, and behind the last, no command is left
-pub none-left-bad : (n : ℕ) (rest line behind : List ℕ) (fault : LineFault) → lines rest ≡ line ∷ lines behind → built_answer (without_cr line) ≡ Bad fault → commands_from n (lines rest) ≡ []
-none-left-bad n rest line behind fault split bad = ap (commands_from n) split ∙ ap (λ a. command_then n a (commands_from (n + 1) (lines behind))) bad
+running-by : {start now : State} {before after : Option (List ℕ)} {entry accounts : List (Option Account)} {whole : Found} (next : State) (told : Option (List ℕ)) (accounts' : List (Option Account)) (n : ℕ) (line : List ℕ) (a : LineAnswer) → Running start now before after entry accounts whole → answer Vmreplay line ≡ a → LineRan a None now next after told accounts accounts' → Running start next before told entry accounts' (whole ++ (n, Ok line) ∷ [])
+running-by next told accounts' n line Blank r is ran = running-idle next told accounts' n line r is ran.1
+running-by next told accounts' n line (Is c) r is ran = running-step next told accounts' n line c r is ran.1
+running-by next told accounts' n line (Bad fault) r is ran = absurd (none-some fault ran.0)
 
-pub fault-bad : (n : ℕ) (rest line behind : List ℕ) (fault : LineFault) → lines rest ≡ line ∷ lines behind → built_answer (without_cr line) ≡ Bad fault → fault_from n (lines rest) ≡ Some (n, fault)
-fault-bad n rest line behind fault split bad = ap (fault_from n) split ∙ ap (λ a. fault_or n a (fault_from (n + 1) (lines behind))) bad
+-- one more line was run, and it was good
+pub running-line : {start now : State} {before after : Option (List ℕ)} {entry accounts : List (Option Account)} {whole : Found} (next : State) (told : Option (List ℕ)) (accounts' : List (Option Account)) (n : ℕ) (line : List ℕ) → Running start now before after entry accounts whole → LineRan (answer Vmreplay line) None now next after told accounts accounts' → Running start next before told entry accounts' (whole ++ (n, Ok line) ∷ [])
+running-line next told accounts' n line r ran = running-by next told accounts' n line (answer Vmreplay line) r refl ran
 
-any-rise : (k a b : ℕ) → RoseBy k a b → RoseBy 0 a b
-any-rise k a b (inl p) = inl (omega (arith, p))
-any-rise k a b (inr p) = inr p
+-- a bad line ends the commands, and changes nothing
+pub record BadLine (fault : LineFault) (n : ℕ) (line : List ℕ) (now next : State) (after told : Option (List ℕ)) (accounts accounts' : List (Option Account)) : Type 0 where
+  pub none : (behind : Found) → commands ((n, Ok line) ∷ behind) ≡ []
+  pub first : (behind : Found) → fault_in ((n, Ok line) ∷ behind) ≡ Some (n, fault)
+  pub idle : IsIdle now next after told accounts accounts'
 
--- a refusal that isn't told of
-pub settles-any : {entry accounts : List (Option Account)} {refusals : List ℕ} → Settles entry accounts refusals → Settles entry accounts []
-settles-any {entry} {accounts} {refusals} s = record {
-  same = s.same;
-  faults = λ place. any-rise (count_by (λ p. p == place) refusals) (faults_of (at_number entry place)) (faults_of (at_number accounts place)) (s.faults place);
+bad-by : {now next : State} {after told : Option (List ℕ)} {accounts accounts' : List (Option Account)} (fault : LineFault) (n : ℕ) (line : List ℕ) (a : LineAnswer) → answer Vmreplay line ≡ a → LineRan a (Some fault) now next after told accounts accounts' → BadLine fault n line now next after told accounts accounts'
+bad-by fault n line Blank is ran = absurd (none-some fault (sym ran.0))
+bad-by fault n line (Is c) is ran = absurd (none-some fault (sym ran.0))
+bad-by fault n line (Bad why) is ran = record {
+  none = λ behind. ap (λ a. command_then n a (commands behind)) is;
+  first = λ behind. ap (λ a. fault_then n a (fault_in behind)) is ∙ ap (λ f. Some (n, f)) (sym (same_Some fault why ran.0));
+  idle = ran.1;
 }
 
--- behind the last line no command is left
-pub none-left : (n : ℕ) (rest : List ℕ) → length rest ≡ 0 → commands_from n (lines rest) ≡ []
-none-left n [] empty = refl
-none-left n (b ∷ bs) empty = absurd (omega (arith, empty))
-
-pub no-fault : (n : ℕ) (rest : List ℕ) → length rest ≡ 0 → fault_from n (lines rest) ≡ None
-no-fault n [] empty = refl
-no-fault n (b ∷ bs) empty = absurd (omega (arith, empty))
-
-told-same : (before after told : Option (List ℕ)) (front : List ℕ) → told ≡ after → Told before after front → Told before told front
-told-same before after told front same p = subst (λ o. Told before o front) (sym same) p
+pub bad-line : {now next : State} {after told : Option (List ℕ)} {accounts accounts' : List (Option Account)} (fault : LineFault) (n : ℕ) (line : List ℕ) → LineRan (answer Vmreplay line) (Some fault) now next after told accounts accounts' → BadLine fault n line now next after told accounts accounts'
+bad-line fault n line ran = bad-by fault n line (answer Vmreplay line) refl ran
 
 -- a run stays what it is where nothing changed
-running-same : {input : List ℕ} {start now : State} {before after : Option (List ℕ)} {entry accounts : List (Option Account)} {n : ℕ} {rest : List ℕ} (next : State) (told : Option (List ℕ)) (accounts' : List (Option Account)) → Running input start now before after entry accounts n rest → IsIdle now next after told accounts accounts' → Running input start next before told entry accounts' n rest
+pub running-same : {start now : State} {before after : Option (List ℕ)} {entry accounts : List (Option Account)} {whole : Found} (next : State) (told : Option (List ℕ)) (accounts' : List (Option Account)) → Running start now before after entry accounts whole → IsIdle now next after told accounts accounts' → Running start next before told entry accounts' whole
 running-same {before = before} {after = after} {entry = entry} {accounts = accounts} next told accounts' r idle = record {
   done = r.done;
   replies = r.replies;
@@ -230,31 +206,13 @@ running-same {before = before} {after = after} {entry = entry} {accounts = accou
   told = told-same before after told (text r.replies) idle.told r.told;
 }
 
-running-by : {input : List ℕ} {start now : State} {before after : Option (List ℕ)} {entry accounts : List (Option Account)} {n : ℕ} {rest : List ℕ} (next : State) (told : Option (List ℕ)) (accounts' : List (Option Account)) (line behind : List ℕ) (a : LineAnswer) → Running input start now before after entry accounts n rest → lines rest ≡ line ∷ lines behind → built_answer (without_cr line) ≡ a → LineRan a None now next after told accounts accounts' → Running input start next before told entry accounts' (n + 1) behind
-running-by next told accounts' line behind Blank r split is ran = running-same next told accounts' (running-blank line behind r split is) ran.1
-running-by next told accounts' line behind (Is c) r split is ran = running-is next told accounts' line behind c ran.1.reply r split is ran.1.step ran.1.settles ran.1.told
-running-by next told accounts' line behind (Bad fault) r split is ran = absurd (none-some fault ran.0)
+any-rise : (k a b : ℕ) → RoseBy k a b → RoseBy 0 a b
+any-rise k a b (inl p) = inl (omega (arith, p))
+any-rise k a b (inr p) = inr p
 
--- one more line was run, and it was good
-pub running-line : {input : List ℕ} {start now : State} {before after : Option (List ℕ)} {entry accounts : List (Option Account)} {n : ℕ} {rest : List ℕ} (next : State) (told : Option (List ℕ)) (accounts' : List (Option Account)) (line behind : List ℕ) → Running input start now before after entry accounts n rest → lines rest ≡ line ∷ lines behind → LineRan (built_answer (without_cr line)) None now next after told accounts accounts' → Running input start next before told entry accounts' (n + 1) behind
-running-line next told accounts' line behind r split ran = running-by next told accounts' line behind (built_answer (without_cr line)) r split refl ran
-
-bad-by : {now next : State} {after told : Option (List ℕ)} {accounts accounts' : List (Option Account)} (fault : LineFault) (a b : LineAnswer) → b ≡ a → LineRan a (Some fault) now next after told accounts accounts' → (b ≡ Bad fault) × IsIdle now next after told accounts accounts'
-bad-by fault Blank b is ran = absurd (none-some fault (sym ran.0))
-bad-by fault (Is c) b is ran = absurd (none-some fault (sym ran.0))
-bad-by fault (Bad why) b is ran = (is ∙ ap (λ f. Bad f) (sym (same_Some fault why ran.0)), ran.1)
-
--- a bad line ends the run
-pub running-bad : {input : List ℕ} {start now : State} {before after : Option (List ℕ)} {entry accounts : List (Option Account)} {n : ℕ} {rest : List ℕ} (next : State) (told : Option (List ℕ)) (accounts' : List (Option Account)) (line behind : List ℕ) (fault : LineFault) → Running input start now before after entry accounts n rest → lines rest ≡ line ∷ lines behind → LineRan (built_answer (without_cr line)) (Some fault) now next after told accounts accounts' → IsRun start (script input) before told entry accounts'
-running-bad {n = n} {rest = rest} next told accounts' line behind fault r split ran =
-    let bad = bad-by fault (built_answer (without_cr line)) (built_answer (without_cr line)) refl ran in
-    running-end (running-same next told accounts' r bad.1) (none-left-bad (n + 1) rest line behind fault split bad.0)
-
-pub first-bad : (now next : State) (after told : Option (List ℕ)) (accounts accounts' : List (Option Account)) (n : ℕ) (rest line behind : List ℕ) (fault : LineFault) → lines rest ≡ line ∷ lines behind → LineRan (built_answer (without_cr line)) (Some fault) now next after told accounts accounts' → fault_from n (lines rest) ≡ Some (n, fault)
-first-bad now next after told accounts accounts' n rest line behind fault split ran =
-    fault-bad n rest line behind fault split (bad-by fault (built_answer (without_cr line)) (built_answer (without_cr line)) refl ran).0
-
--- a refusal that isn't told of, where a call ends without an answer
-pub on_err : {T E : Type 0} {entry accounts : List (Option Account)} {refusals : List ℕ} (r : Result T E) → Settles entry accounts refusals → OnErr r (Settles entry accounts [])
-on_err (Ok x) s = tt
-on_err (Err e) s = settles-any s
+-- a refusal that isn't told of
+pub settles-any : {entry accounts : List (Option Account)} {refusals : List ℕ} → Settles entry accounts refusals → Settles entry accounts []
+settles-any {entry} {accounts} {refusals} s = record {
+  same = s.same;
+  faults = λ place. any-rise (count_by (λ p. p == place) refusals) (faults_of (at_number entry place)) (faults_of (at_number accounts place)) (s.faults place);
+}

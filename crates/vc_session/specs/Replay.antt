@@ -1,17 +1,15 @@
 -- What the end of a run promises.
-use Rattle.std.specs.Prelude.{◌≡◌, ℕ, ◌⊎◌, List, [], ◌++◌, Option, Some, None, IfSome, codes, decimal, take, if◌then◌else◌}
+use Rattle.std.specs.Prelude.{◌≡◌, ℕ, ◌⊎◌, List, [], ◌++◌, Option, Some, None, IfSome, codes, decimal, take}
 use Rattle.vc_model.specs.Count.{Rose}
 use Rattle.vc_script.specs.declared.command.Command.{Command}
 use Rattle.vc_script.specs.declared.line_fault.LineFault.{LineFault}
 use Rattle.vc_script.specs.declared.line_fault.LineFault.TheVariants.{UnknownCommand, WordCount, BadName, BadNumber, BadAddress, BadBytes, UnknownMethod, LineTooLong, TooManyLines}
-use Rattle.vc_session.specs.declared.tool.ScriptFault.{ScriptFault}
 use Rattle.vc_session.specs.declared.status.Status.{Status}
 use Rattle.vc_session.specs.declared.status.Status.TheVariants.{Ok, Script, Usage, Read, Write, Memory}
-use Rattle.vc_session.specs.declared.tool.ScriptFault.TheVariants.{TooLong, Line}
 use Rattle.vc_session.specs.Account.{Account, Settles}
 use Rattle.vc_script.specs.Needs.{needs_of}
 use Rattle.vc_script.specs.Print.{text}
-use Rattle.vc_session.specs.Run.{first_bad, is_too_long, run, script}
+use Rattle.vc_session.specs.Run.{commands, fault_in, first_bad, run, script, wholly_read}
 use Rattle.vc_session.specs.State.{State}
 
 -- the number that a program ends with
@@ -39,18 +37,6 @@ pub record IsRun (start : State) (commands : List (ℕ × Command)) (before afte
   pub told : Told before after written
   pub settles : Settles entry now (run start commands (needs_of written)).refusals
 
--- of too long an input no line is run
-abbrev pub commands_of : List ℕ → List (ℕ × Command)
-commands_of input = if is_too_long input then [] else script input
-
--- what is wrong with an input: it is too long, or its first bad line
-abbrev pub line_fault : Option (ℕ × LineFault) → Option ScriptFault
-line_fault None = None
-line_fault (Some (n, fault)) = Some (Line n fault)
-
-abbrev pub fault_of : List ℕ → Option ScriptFault
-fault_of input = if is_too_long input then Some TooLong else line_fault (first_bad input)
-
 abbrev pub fault_text : LineFault → List ℕ
 fault_text UnknownCommand = codes "unknown command"
 fault_text WordCount = codes "wrong number of words"
@@ -62,13 +48,21 @@ fault_text UnknownMethod = codes "unknown method or mode"
 fault_text LineTooLong = codes "line too long"
 fault_text TooManyLines = codes "too many lines"
 
--- the line that err gets
-abbrev pub err_line : ScriptFault → List ℕ
-err_line TooLong = codes "vmreplay: input too long\n"
-err_line (Line n fault) = codes "vmreplay: line " ++ decimal n ++ codes ": " ++ fault_text fault ++ codes "\n"
+-- the line that err gets for a bad line
+abbrev pub err_line : ℕ × LineFault → List ℕ
+err_line bad = codes "vmreplay: line " ++ decimal bad.0 ++ codes ": " ++ fault_text bad.1 ++ codes "\n"
 
--- a run of an input to its end, or to its first bad line: its commands were run, and where nothing is wrong the source was read to its end
-pub record IsReplay (start : State) (input : List ℕ) (fault : Option ScriptFault) (left before after : Option (List ℕ)) (entry now : List (Option Account)) : Type 0 where
-  pub wrong : fault ≡ fault_of input
-  pub read : fault ≡ None → left ≡ Some []
-  pub run : IsRun start (commands_of input) before after entry now
+-- a run of an input to its end, or to its first bad line; where there is none, the source was read to its end
+pub record IsReplay (start : State) (input : List ℕ) (bad : Option (ℕ × LineFault)) (left before after : Option (List ℕ)) (entry now : List (Option Account)) : Type 0 where
+  pub first : bad ≡ first_bad input
+  pub read : bad ≡ None → left ≡ Some []
+  pub run : IsRun start (script input) before after entry now
+
+-- a run that a failed read ended: the lines that were wholly read were run, and none of them was bad
+pub record IsCutShort (start : State) (input : List ℕ) (left before after : Option (List ℕ)) (entry now : List (Option Account)) : Type 0 where
+  pub bytes : List ℕ
+  pub rest : List ℕ
+  pub split : input ≡ bytes ++ rest
+  pub unread : left ≡ Some rest
+  pub good : fault_in (wholly_read bytes) ≡ None
+  pub run : IsRun start (commands (wholly_read bytes)) before after entry now

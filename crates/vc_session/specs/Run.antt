@@ -1,5 +1,5 @@
 -- The commands of an input, a run of them, and its text.
-use Rattle.std.specs.Prelude.{ℕ, ◌+◌, List, [], ◌∷◌, ◌++◌, Option, Some, None, Bool, length, nat_lt}
+use Rattle.std.specs.Prelude.{ℕ, List, [], ◌∷◌, ◌++◌, Option, Some, None, Result, Ok, Err, ◌==◌, if◌then◌else◌}
 use Rattle.vc_script.specs.declared.command.Command.{Command}
 use Rattle.vc_script.specs.declared.command.Command.TheVariants.{Alloc}
 use Rattle.vc_script.specs.declared.line_answer.LineAnswer.{LineAnswer}
@@ -8,8 +8,9 @@ use Rattle.vc_script.specs.declared.line_fault.LineFault.{LineFault}
 use Rattle.vc_script.specs.declared.reply.Reply.{Reply}
 use Rattle.vc_script.specs.declared.reply.Reply.TheVariants.{Refused}
 use Rattle.vc_script.specs.declared.refusal.Refusal.TheVariants.{NoSegment}
-use Rattle.vc_script.specs.Lines.{lines, without_cr}
-use Rattle.vc_session.specs.Built.{built_answer}
+use Rattle.vc_script.specs.declared.tool.Tool.TheVariants.{Vmreplay}
+use Rattle.vc_script.specs.Judged.{judged, judged_from}
+use Rattle.vc_script.specs.Answer.{answer}
 use Rattle.vc_script.specs.Needs.{Need, NoNeed}
 use Rattle.vc_session.specs.State.{State, Home, Stepped, step, home_named}
 
@@ -19,34 +20,43 @@ command_then n Blank behind = behind
 command_then n (Is command) behind = (n, command) ∷ behind
 command_then n (Bad fault) behind = []
 
--- lines are numbered, here from n on
-abbrev pub commands_from : ℕ → List (List ℕ) → List (ℕ × Command)
-commands_from n [] = []
-commands_from n (line ∷ rest) = command_then n (built_answer (without_cr line)) (commands_from (n + 1) rest)
+abbrev pub command_of : ℕ → Result (List ℕ) LineFault → List (ℕ × Command) → List (ℕ × Command)
+command_of n (Ok line) behind = command_then n (answer Vmreplay line) behind
+command_of n (Err fault) behind = []
 
--- the commands of the lines before the first bad one, each with its line's number
+-- the commands of lines before the first bad one, each with its line's number
+abbrev pub commands : List (ℕ × Result (List ℕ) LineFault) → List (ℕ × Command)
+commands [] = []
+commands (line ∷ rest) = command_of line.0 line.1 (commands rest)
+
 abbrev pub script : List ℕ → List (ℕ × Command)
-script input = commands_from 1 (lines input)
+script input = commands (judged input)
 
-abbrev pub fault_or : ℕ → LineAnswer → Option (ℕ × LineFault) → Option (ℕ × LineFault)
-fault_or n Blank behind = behind
-fault_or n (Is command) behind = behind
-fault_or n (Bad fault) behind = Some (n, fault)
+abbrev pub fault_then : ℕ → LineAnswer → Option (ℕ × LineFault) → Option (ℕ × LineFault)
+fault_then n Blank behind = behind
+fault_then n (Is command) behind = behind
+fault_then n (Bad fault) behind = Some (n, fault)
 
-abbrev pub fault_from : ℕ → List (List ℕ) → Option (ℕ × LineFault)
-fault_from n [] = None
-fault_from n (line ∷ rest) = fault_or n (built_answer (without_cr line)) (fault_from (n + 1) rest)
+abbrev pub fault_of : ℕ → Result (List ℕ) LineFault → Option (ℕ × LineFault) → Option (ℕ × LineFault)
+fault_of n (Ok line) behind = fault_then n (answer Vmreplay line) behind
+fault_of n (Err fault) behind = Some (n, fault)
 
 -- the first bad line, by its number, and what is wrong with it
+abbrev pub fault_in : List (ℕ × Result (List ℕ) LineFault) → Option (ℕ × LineFault)
+fault_in [] = None
+fault_in (line ∷ rest) = fault_of line.0 line.1 (fault_in rest)
+
 abbrev pub first_bad : List ℕ → Option (ℕ × LineFault)
-first_bad input = fault_from 1 (lines input)
+first_bad input = fault_in (judged input)
 
--- an input has at most so many bytes; of a longer one no line is run
-abbrev pub input_limit : ℕ
-input_limit = 1048576
+-- the lines of some bytes that are ended by a newline
+abbrev pub ended_after : List ℕ → List ℕ → List (List ℕ)
+ended_after begun [] = []
+ended_after begun (b ∷ bs) = if b == 10 then begun ∷ ended_after [] bs else ended_after (begun ++ b ∷ []) bs
 
-abbrev pub is_too_long : List ℕ → Bool
-is_too_long input = nat_lt input_limit (length input)
+-- the lines that were wholly read of an input of which these bytes were read
+abbrev pub wholly_read : List ℕ → List (ℕ × Result (List ℕ) LineFault)
+wholly_read bytes = judged_from 1 (ended_after [] bytes)
 
 -- a run: its replies, its last state, and the place of the discipline at each refusal of a segment
 pub record Ran : Type 0 where

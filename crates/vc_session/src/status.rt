@@ -6,7 +6,7 @@ pub enum Status {
     /// The script was read to its end and had no bad line.
     Ok,
 
-    /// The script has a bad line, or is too long.
+    /// A line of the script is bad.
     Script,
 
     /// The words behind the program's name were refused.

@@ -1,15 +1,15 @@
 // The top call: a script from a source, its replies to one sink, a fault to another.
-ghost use Rattle.std.specs.Prelude.{◌≡◌, ◌≢◌, ◌<◌, ℕ, ◌≤◌, ◌⊎◌, List, [], ◌++◌, Some, None, IfSome, IfOk, IfErr, OnErr, OnOk, codes, length, true, false};
+ghost use Rattle.std.specs.Prelude.{◌≡◌, ◌<◌, ◌≤◌, ◌⊎◌, ℕ, [], Some, None, IfSome, IfOk, IfErr, OnErr, OnOk, codes, length};
 ghost use Rattle.vc_model.specs.Count.{Rose};
 ghost use Rattle.vc_seg.specs.Shelf.{slots_of};
+ghost use Rattle.vc_script.specs.declared.line_fault.LineFault.{LineFault};
 ghost use Rattle.vc_session.specs.Account.{Settles, accounts};
 ghost use Rattle.vc_session.specs.Homes.{state_over};
-ghost use Rattle.vc_session.specs.Replay.{IsReplay, Told, Tried, err_line, fault_text};
+ghost use Rattle.vc_session.specs.Replay.{IsCutShort, IsReplay, Told, Tried, err_line, fault_text};
 
 use crate::Status;
 use crate::close::close_all;
 use crate::engine::{Stop, run_lines};
-use crate::input::{Input, InputFault, read_all};
 use crate::stream::write_all;
 use itoa::Buffer;
 use std::alloc::Global;
@@ -17,27 +17,24 @@ use vc_base::{Sink, Source, WriteFailed};
 use vc_script::LineFault;
 use vc_seg::{BoxedDisc, SegDisc, Shelf};
 
-// What is wrong with a script.
-#[derive(Clone, Copy)]
-enum ScriptFault {
-    TooLong,
-    Line(usize, LineFault),
-}
-
 // Runs the script of a source.
 fn run_source<S: Source, O: Sink>(
     alloc: Global,
     shelf: &mut Shelf,
     source: &mut S,
     out: &mut O,
-) -> Result<Option<ScriptFault>, Stop>
-    ensures replay { IfOk result (λ fault. IfSome (S.left source.old) (λ input. IsReplay
-        (state_over ⟦<BoxedDisc as SegDisc>⟧.state shelf.old.slots.items []) input fault
+) -> Result<Option<(u32, LineFault)>, Stop>
+    ensures replay { IfOk result (λ bad. IfSome (S.left source.old) (λ input. IsReplay
+        (state_over ⟦<BoxedDisc as SegDisc>⟧.state shelf.old.slots.items []) input bad
+        (S.left source.new) (O.written out.old) (O.written out.new)
+        (accounts (slots_of ⟦<BoxedDisc as SegDisc>⟧.state shelf.old.slots.items))
+        (accounts (slots_of ⟦<BoxedDisc as SegDisc>⟧.state shelf.new.slots.items)))) }
+    ensures cut_short { IfErr result (λ stop. stop ≡ Stop.Read → IfSome (S.left source.old) (λ input. IsCutShort
+        (state_over ⟦<BoxedDisc as SegDisc>⟧.state shelf.old.slots.items []) input
         (S.left source.new) (O.written out.old) (O.written out.new)
         (accounts (slots_of ⟦<BoxedDisc as SegDisc>⟧.state shelf.old.slots.items))
         (accounts (slots_of ⟦<BoxedDisc as SegDisc>⟧.state shelf.new.slots.items)))) }
     ensures read { IfErr result (λ stop. stop ≡ Stop.Read → Rose (S.failures source.old) (S.failures source.new)) }
-    ensures unwritten { IfErr result (λ stop. stop ≡ Stop.Read → out.new ≡ out.old) }
     ensures write { IfErr result (λ stop. stop ≡ Stop.Write → Rose (O.failures out.old) (O.failures out.new)) }
     ensures settles { Settles
         (accounts (slots_of ⟦<BoxedDisc as SegDisc>⟧.state shelf.old.slots.items))
@@ -45,19 +42,10 @@ fn run_source<S: Source, O: Sink>(
     ensures reads { S.failures source.old ≤ S.failures source.new }
     ensures writes { O.failures out.old ≤ O.failures out.new }
 {
-    let input = match read_all(alloc, source) {
-        Ok(Input::Whole(bytes)) => bytes,
-        Ok(Input::TooLong) => return Ok(Some(ScriptFault::TooLong)),
-        Err(InputFault::Failed) => return Err(Stop::Read),
-        Err(InputFault::NoMemory) => return Err(Stop::Memory),
-    };
     let mut homes = Vec::new(alloc);
-    let bad = run_lines(alloc, &mut homes, shelf, input.as_slice(), out);
+    let ended = run_lines(alloc, &mut homes, shelf, source, out);
     close_all(homes, shelf);
-    match bad? {
-        None => Ok(None),
-        Some((n, fault)) => Ok(Some(ScriptFault::Line(n, fault))),
-    }
+    ended
 }
 
 // Writes a fault's one line.
@@ -68,23 +56,18 @@ fn tell<E: Sink>(err: &mut E, line: &[u8])
     let _ = write_all(err, line);
 }
 
-// Writes what is wrong with a script.
-fn tell_fault<E: Sink>(err: &mut E, fault: ScriptFault) -> Result<(), WriteFailed>
-    ensures told { OnOk result (Told (E.written err.old) (E.written err.new) (err_line fault)) }
+// Writes what is wrong with a line.
+fn tell_fault<E: Sink>(err: &mut E, n: u32, fault: LineFault) -> Result<(), WriteFailed>
+    ensures told { OnOk result (Told (E.written err.old) (E.written err.new) (err_line (n, fault))) }
     ensures cause { OnErr result (Rose (E.failures err.old) (E.failures err.new)) }
     ensures never_falls { E.failures err.old ≤ E.failures err.new }
 {
-    match fault {
-        ScriptFault::TooLong => write_all(err, b"vmreplay: input too long\n"),
-        ScriptFault::Line(n, fault) => {
-            let mut buffer = Buffer::new();
-            write_all(err, b"vmreplay: line ")?;
-            write_all(err, buffer.format(n).as_bytes())?;
-            write_all(err, b": ")?;
-            write_all(err, fault_text(fault))?;
-            write_all(err, b"\n")
-        }
-    }
+    let mut buffer = Buffer::new();
+    write_all(err, b"vmreplay: line ")?;
+    write_all(err, buffer.format(n).as_bytes())?;
+    write_all(err, b": ")?;
+    write_all(err, fault_text(fault))?;
+    write_all(err, b"\n")
 }
 
 fn fault_text(fault: LineFault) -> &'static [u8]
@@ -123,13 +106,13 @@ pub fn replay<S: Source, O: Sink, E: Sink>(
 
     // The replies of the lines before the fault were written, and the fault's line.
     ensures script { result ≡ Status.Script → (length words.now ≡ 0)
-        × IfSome (S.left source.old) (λ input. (fault : ScriptFault)
+        × IfSome (S.left source.old) (λ input. (bad : ℕ × LineFault)
         × IsReplay
-        (state_over ⟦<BoxedDisc as SegDisc>⟧.state shelf.old.slots.items []) input (Some fault)
+        (state_over ⟦<BoxedDisc as SegDisc>⟧.state shelf.old.slots.items []) input (Some bad)
         (S.left source.new) (O.written out.old) (O.written out.new)
         (accounts (slots_of ⟦<BoxedDisc as SegDisc>⟧.state shelf.old.slots.items))
         (accounts (slots_of ⟦<BoxedDisc as SegDisc>⟧.state shelf.new.slots.items))
-        × Told (E.written err.old) (E.written err.new) (err_line fault)) }
+        × Told (E.written err.old) (E.written err.new) (err_line bad)) }
 
     // The tool takes no words.
     ensures words { 0 < length words.now → (source.new ≡ source.old) × (out.new ≡ out.old)
@@ -138,8 +121,13 @@ pub fn replay<S: Source, O: Sink, E: Sink>(
         × Told (E.written err.old) (E.written err.new) (codes "vmreplay: bad arguments\n") }
 
     // A fault comes from its stream, and its line is tried once.
-    ensures read { result ≡ Status.Read → Rose (S.failures source.old) (S.failures source.new) × (out.new ≡ out.old)
+    ensures read { result ≡ Status.Read → Rose (S.failures source.old) (S.failures source.new)
         × Tried (E.failures err.old) (E.failures err.new) (E.written err.old) (E.written err.new) (codes "vmreplay: read failed\n") }
+    ensures cut_short { result ≡ Status.Read → IfSome (S.left source.old) (λ input. IsCutShort
+        (state_over ⟦<BoxedDisc as SegDisc>⟧.state shelf.old.slots.items []) input
+        (S.left source.new) (O.written out.old) (O.written out.new)
+        (accounts (slots_of ⟦<BoxedDisc as SegDisc>⟧.state shelf.old.slots.items))
+        (accounts (slots_of ⟦<BoxedDisc as SegDisc>⟧.state shelf.new.slots.items))) }
     ensures write { result ≡ Status.Write → Rose (E.failures err.old) (E.failures err.new)
         ⊎ (Rose (O.failures out.old) (O.failures out.new)
         × Tried (E.failures err.old) (E.failures err.new) (E.written err.old) (E.written err.new) (codes "vmreplay: write failed\n")) }
@@ -162,7 +150,7 @@ pub fn replay<S: Source, O: Sink, E: Sink>(
     }
     match run_source(alloc, shelf, source, out) {
         Ok(None) => Status::Ok,
-        Ok(Some(fault)) => match tell_fault(err, fault) {
+        Ok(Some((n, fault))) => match tell_fault(err, n, fault) {
             Ok(()) => Status::Script,
             Err(_) => Status::Write,
         },

@@ -157,58 +157,137 @@ fn words(rt: HostRuntime) -> Result<(), Fail> {
     Ok(())
 }
 
+// A line of 4,096 bytes is one, also with a CR among them; one byte more is too many, also in a comment. There may be any
+// number of lines.
 #[test]
-fn too_long(rt: HostRuntime) -> Result<(), Fail> {
+fn long_lines(rt: HostRuntime) -> Result<(), Fail> {
     let alloc = rt.alloc();
     let mut shelf = Shelf::new(alloc);
-    for (len, status, line) in [
-        (1_048_576, Status::Ok, b"".as_slice()),
+    for (byte, len, status, line) in [
+        (b'#', 4096, Status::Ok, b"".as_slice()),
         (
-            1_048_577,
+            b'#',
+            4097,
             Status::Script,
-            b"vmreplay: input too long\n".as_slice(),
+            b"vmreplay: line 1: line too long\n".as_slice(),
         ),
+        (
+            b'a',
+            4096,
+            Status::Script,
+            b"vmreplay: line 1: unknown command\n".as_slice(),
+        ),
+        (
+            b'a',
+            4097,
+            Status::Script,
+            b"vmreplay: line 1: line too long\n".as_slice(),
+        ),
+        (b'\n', 1_048_577, Status::Ok, b"".as_slice()),
     ] {
-        let script = Vec::from_elem(alloc, b'\n', len)?;
-        let ran = run(
-            alloc,
-            &mut shelf,
-            Given {
-                script: &script,
-                piece: 4096,
+        let script = Vec::from_elem(alloc, byte, len)?;
+        for piece in [1000, 4096] {
+            let given = Given {
+                script: script.as_slice(),
+                piece,
                 fails: &[],
                 room: 0,
-            },
-        )?;
-        is_run(&rt, &ran, status, b"", line);
+            };
+            let ran = run(alloc, &mut shelf, given)?;
+            is_run(&rt, &ran, status, b"", line);
+        }
     }
     Ok(())
 }
 
-// Row one's script comes in 28 pieces of one byte, and its end is the read behind them.
+// One line for each fault of a line's words.
+#[test]
+fn faults(rt: HostRuntime) -> Result<(), Fail> {
+    let alloc = rt.alloc();
+    let mut shelf = Shelf::new(alloc);
+    for (script, line) in [
+        (
+            b"frob".as_slice(),
+            b"vmreplay: line 1: unknown command\n".as_slice(),
+        ),
+        (b"open r best", b"vmreplay: line 1: wrong number of words\n"),
+        (b"open 9r best 1", b"vmreplay: line 1: bad name\n"),
+        (b"alloc r a 99999999999", b"vmreplay: line 1: bad number\n"),
+        (b"addr r 0:5", b"vmreplay: line 1: bad address\n"),
+        (b"write r a 0 %zz", b"vmreplay: line 1: bad bytes\n"),
+        (
+            b"open r bset 1",
+            b"vmreplay: line 1: unknown method or mode\n",
+        ),
+    ] {
+        let given = Given {
+            script,
+            piece: 4096,
+            fails: &[],
+            room: 0,
+        };
+        let ran = run(alloc, &mut shelf, given)?;
+        is_run(&rt, &ran, Status::Script, b"", line);
+    }
+    Ok(())
+}
+
+// A well-formed command that isn't built is refused before anything else, and a site is taken.
+#[test]
+fn not_built(rt: HostRuntime) -> Result<(), Fail> {
+    let alloc = rt.alloc();
+    let mut shelf = Shelf::new(alloc);
+    assert!(rt; shelf.put(Box::new(alloc, HeapDisc::new(4096))?).is_ok());
+    let script = b"open q pool 1\nclear q\nopen r best 1\nalloc r a 1 @s\n";
+    let replies = b"refused: not built\nrefused: not built\nr open\na 1:32\n";
+    let given = Given {
+        script,
+        piece: 1,
+        fails: &[],
+        room: 100,
+    };
+    let ran = run(alloc, &mut shelf, given)?;
+    is_run(&rt, &ran, Status::Ok, replies, b"");
+    Ok(())
+}
+
+// The script comes in 28 pieces of one byte, 14 a line, and its end is the read behind them. A read that fails leaves the
+// replies of the lines that were wholly read.
 #[test]
 fn failing_reads(rt: HostRuntime) -> Result<(), Fail> {
     let alloc = rt.alloc();
     let mut shelf = Shelf::new(alloc);
     assert!(rt; shelf.put(Box::new(alloc, HeapDisc::new(4096))?).is_ok());
-    for call in 1..30 {
-        let given = Given {
-            script: ROW,
-            piece: 1,
-            fails: &[call],
-            room: 100,
-        };
-        let ran = run(alloc, &mut shelf, given)?;
-        is_run(&rt, &ran, Status::Read, b"", b"vmreplay: read failed\n");
+    for (first, behind, replies) in [
+        (1, 15, b"".as_slice()),
+        (15, 29, b"r open\n".as_slice()),
+        (29, 30, REPLIES),
+    ] {
+        for call in first..behind {
+            let given = Given {
+                script: ROW,
+                piece: 1,
+                fails: &[call],
+                room: 100,
+            };
+            let ran = run(alloc, &mut shelf, given)?;
+            is_run(&rt, &ran, Status::Read, replies, b"vmreplay: read failed\n");
+        }
     }
     let given = Given {
-        script: ROW,
-        piece: 1,
-        fails: &[30],
+        script: b"open r best 1\nalloc r a",
+        piece: 4096,
+        fails: &[2],
         room: 100,
     };
     let ran = run(alloc, &mut shelf, given)?;
-    is_run(&rt, &ran, Status::Ok, REPLIES, b"");
+    is_run(
+        &rt,
+        &ran,
+        Status::Read,
+        b"r open\n",
+        b"vmreplay: read failed\n",
+    );
     Ok(())
 }
 

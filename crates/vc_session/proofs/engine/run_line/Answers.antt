@@ -1,10 +1,9 @@
 use Rattle.std.proofs.Common.{sym, ◌∙◌, refl}
-use Rattle.vc_session.proofs.Running.{on_err}
 use Rattle.vc_session.proofs.engine.run_line.Goals as goal
 
 pub returns-in_ok-write_all-in-Is-clause-ran : goal.returns-in_ok-write_all-in-Is-clause-ran
 returns-in_ok-write_all-in-Is-clause-ran g c =
-    let is = sym c.in_ok-read_built.ensures ∙ c.in-Is.is in
+    let is = sym c.in_ok-read_line.ensures.value ∙ c.in-Is.is in
     let line = rw (c.as_slice.ensures.value, c.in_ok-line-in-Is.ensures) at c.in_ok-write_all-in-Is.ensures.ok in
     rw is (
       refl,
@@ -15,6 +14,3 @@ returns-in_ok-write_all-in-Is-clause-ran g c =
         settles = c.in_ok-reply-in-Is.ensures.settles;
       },
     )
-
-pub returns-in_err-write_all-in-Is-clause-settles : goal.returns-in_err-write_all-in-Is-clause-settles
-returns-in_err-write_all-in-Is-clause-settles g c = on_err _ c.in_ok-reply-in-Is.ensures.settles

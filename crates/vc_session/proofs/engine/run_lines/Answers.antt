@@ -1,36 +1,74 @@
-use Rattle.std.proofs.Common.{◌+◌, sym, ◌∙◌, arith}
-use Rattle.std.proofs.lemmas.Bool.Decides.{nat_tests}
-use Rattle.vc_session.proofs.Running.{first-bad, none-left, running-bad, running-end, running-line, running-start}
+use Rattle.std.proofs.Common.{ap, ◌∙◌, subst, arith, refl, Ok, []}
+use Rattle.vc_model.specs.Stream.{Reads}
+use Rattle.vc_script.specs.Answer.{answer}
+use Rattle.vc_script.specs.declared.tool.Tool.TheVariants.{Vmreplay}
+use Rattle.vc_session.proofs.SoFar.{end-none, end-whole, line-settles, new-is, so_far-cut_short, so_far-end_bad, so_far-end_good, so_far-end_none, so_far-read, so_far-start, if_err}
+use Rattle.vc_session.proofs.Settling.{settles-same, settles-trans}
 use Rattle.vc_session.proofs.engine.run_lines.Goals as goal
 
-pub loop-rest-init : goal.loop-rest-init
-loop-rest-init g c =
-    record {
-      count = omega arith;
+pub loop-cutter-init : goal.loop-cutter-init
+loop-cutter-init g c =
+    rw c.in_ok-cutter.ensures
+    (record {
+      room = refl;
+      fed = refl;
+      cutting = new-is;
       session = c.requires;
-      running = running-start _ _ _ _;
-      never_falls = omega arith;
-    }
+      so_far = so_far-start _ _ _ _;
+      settles = settles-same _;
+      reads = omega arith;
+      writes = omega arith;
+    })
 
-pub loop-rest-preserved : goal.loop-rest-preserved
-loop-rest-preserved g c =
-    let ran = rw (c.drop_cr.ensures, c.in-None.is) at c.in_ok-fault.ensures.ran in
+pub returns-in_err-n-clause-cut_short : goal.returns-in_err-n-clause-cut_short
+returns-in_err-n-clause-cut_short g c = if_err _ _ _ (so_far-cut_short c.loop-cutter.invariant.so_far _ refl c.in_err-n.ensures.err)
+
+pub returns-in-Some-clause-replay : goal.returns-in-Some-clause-replay
+returns-in-Some-clause-replay g c =
+    (c.in_ok-bad.ensures.bad c.in-Some.bad (ap (λ o. Ok o) c.in-Some.is)).end (so_far-read c.loop-cutter.invariant.so_far _ _ c.in_ok-n.n refl c.in_ok-n.ensures.ok)
+
+pub loop-cutter-preserved : goal.loop-cutter-preserved
+loop-cutter-preserved g c =
+    let inv = c.loop-cutter.invariant in
+    let none = ap (λ o. Ok o) c.in-None.is in
     record {
-      count = omega (arith, c.loop-rest.invariant.count, c.first_line.ensures.shorter);
-      session = c.run_line.ensures.session;
-      running = running-line _ _ _ c.first_line.result.0.now c.first_line.result.1.now c.loop-rest.invariant.running c.first_line.ensures.lines ran;
-      never_falls = omega (arith, c.loop-rest.invariant.never_falls, c.run_line.ensures.never_falls);
+      room = c.read.auto.buf ∙ inv.room;
+      fed = (c.in_ok-bad.ensures.open none).0;
+      cutting = (c.in_ok-bad.ensures.open none).1;
+      session = c.run_piece.ensures.session;
+      so_far = (c.in_ok-bad.ensures.good none).on (so_far-read inv.so_far _ _ c.in_ok-n.n refl c.in_ok-n.ensures.ok);
+      settles = settles-trans _ _ _ [] [] inv.settles c.run_piece.ensures.settles;
+      reads = omega (arith, inv.reads, c.read.ensures.never_falls);
+      writes = omega (arith, inv.writes, c.run_piece.ensures.never_falls);
     }
 
-pub returns-in-Some-clause-ran : goal.returns-in-Some-clause-ran
-returns-in-Some-clause-ran g c =
-    let ran = rw (c.drop_cr.ensures, c.in-Some.is) at c.in_ok-fault.ensures.ran in
-    running-bad _ _ _ c.first_line.result.0.now c.first_line.result.1.now c.in-Some.fault c.loop-rest.invariant.running c.first_line.ensures.lines ran
+pub returns-in-Some-2-clause-replay : goal.returns-in-Some-2-clause-replay
+returns-in-Some-2-clause-replay g c =
+    let inv = c.loop-cutter.invariant in
+    let reads = subst (Reads _ _ c.read.new.buf) c.if-n-eq0.true c.in_ok-n.ensures.ok in
+    let last = end-whole c.loop-cutter.cutter c.end.new.self c.end.result inv.cutting c.end.ensures.state c.end.ensures.cut c.in-Whole.is in
+    let ran = rw (c.line.ensures, c.in-Some-2.is) at c.in_ok-fault-in-Whole.ensures.ran in
+    rw c.number.ensures.value
+    (so_far-end_bad inv.so_far _ c.read.new.buf refl (omega (arith, c.read.auto.buf, inv.room)) reads _ _ _ c.end.new.self.count c.end.new.self.line c.in-Some-2.fault last ran)
 
-pub returns-in-Some-clause-bad : goal.returns-in-Some-clause-bad
-returns-in-Some-clause-bad g c =
-    let ran = rw (c.drop_cr.ensures, c.in-Some.is) at c.in_ok-fault.ensures.ran in
-    sym (c.loop-rest.invariant.running.bad ∙ first-bad _ _ _ _ _ _ (c.loop-rest.n + 1) c.loop-rest.rest.now c.first_line.result.0.now c.first_line.result.1.now c.in-Some.fault c.first_line.ensures.lines ran)
+pub returns-in-Some-2-clause-settles : goal.returns-in-Some-2-clause-settles
+returns-in-Some-2-clause-settles g c =
+    line-settles _ _ _ _ (answer Vmreplay c.line.result.now) c.in_ok-fault-in-Whole.field-0 _ c.in_ok-fault-in-Whole.ensures.ran c.loop-cutter.invariant.settles
 
-pub returns-clause-ran : goal.returns-clause-ran
-returns-clause-ran g c = running-end c.loop-rest.invariant.running (none-left (c.loop-rest.n + 1) c.loop-rest.rest.now (grind (arith, nat_tests, c.loop-rest-test.ensures)))
+pub returns-in-Whole-clause-replay : goal.returns-in-Whole-clause-replay
+returns-in-Whole-clause-replay g c =
+    let inv = c.loop-cutter.invariant in
+    let reads = subst (Reads _ _ c.read.new.buf) c.if-n-eq0.true c.in_ok-n.ensures.ok in
+    let last = end-whole c.loop-cutter.cutter c.end.new.self c.end.result inv.cutting c.end.ensures.state c.end.ensures.cut c.in-Whole.is in
+    let ran = rw (c.line.ensures, c.in-None-2.is) at c.in_ok-fault-in-Whole.ensures.ran in
+    so_far-end_good inv.so_far _ c.read.new.buf refl (omega (arith, c.read.auto.buf, inv.room)) reads _ _ _ c.end.new.self.count c.end.new.self.line last ran
+
+pub returns-in-Whole-clause-settles : goal.returns-in-Whole-clause-settles
+returns-in-Whole-clause-settles g c =
+    line-settles _ _ _ _ (answer Vmreplay c.line.result.now) c.in_ok-fault-in-Whole.field-0 _ c.in_ok-fault-in-Whole.ensures.ran c.loop-cutter.invariant.settles
+
+pub returns-clause-replay : goal.returns-clause-replay
+returns-clause-replay g c =
+    let inv = c.loop-cutter.invariant in
+    let reads = subst (Reads _ _ c.read.new.buf) c.if-n-eq0.true c.in_ok-n.ensures.ok in
+    so_far-end_none inv.so_far _ c.read.new.buf refl (omega (arith, c.read.auto.buf, inv.room)) reads (end-none c.loop-cutter.cutter c.end.result inv.cutting c.end.ensures.cut c.in_default.not-Whole)
