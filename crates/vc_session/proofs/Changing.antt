@@ -6,15 +6,16 @@ use Rattle.std.proofs.lemmas.Option.{same_Some, slice_get-map}
 use Rattle.std.proofs.lemmas.Bool.Decides.{nat_tests}
 use Rattle.vc_model.specs.Count.{Rose}
 use Rattle.vc_model.specs.Numbered.{at_number}
-use Rattle.vc_script.specs.declared.command.Command.TheVariants.{Alloc}
+use Rattle.vc_script.specs.declared.command.Command.{Command}
 use Rattle.vc_script.specs.declared.reply.Reply.{Reply}
 use Rattle.vc_script.specs.declared.reply.Reply.TheVariants.{Refused}
 use Rattle.vc_script.specs.declared.refusal.Refusal.TheVariants.{NoSegment}
-use Rattle.vc_session.specs.State.{Stepped, Home, alloc_in, alloc_step, changed, home_named, is_home, with_region}
-use Rattle.vc_session.specs.Run.{refusal_at, place_of}
+use Rattle.vc_script.specs.Needs.{Need}
+use Rattle.vc_session.specs.State.{State, Stepped, Home, changed, home_named, in_region, is_home, region_of, region_step, with_region}
+use Rattle.vc_session.specs.Run.{refusal_at, place_named, place_of}
 use Rattle.vc_session.specs.Homes.{IsFirst}
 use Rattle.vc_session.specs.Account.{Held, IsChange, IsHeld, IsSession, RoseBy, Settles, account, accounts, account_after, home_of, settled, state_of, without_faults}
-use Rattle.vc_session.proofs.Cells.{at_number-from_one, at_number_some}
+use Rattle.vc_session.proofs.Cells.{at_number-from_one, at_number_some, map-set_alike}
 use Rattle.vc_session.proofs.Firsts.{find-first, with_region-first}
 use Rattle.vc_session.proofs.Settle.{settled-change, settled-at}
 use Rattle.vc_session.proofs.Settling.{OnlyAt, settles-set}
@@ -67,11 +68,12 @@ module _ (slots : Slots) (hs : List Held) (i : ℕ) (h g : Held) (at : slice_get
   pub settles-none : Settles (settled (accounts slots) hs) (settled (accounts slots) (set hs i g)) []
   settles-none = quiet
 
-  pub settles-reply : (r x : List ℕ) (size : ℕ) (site : Option (List ℕ)) (reply : Reply) → home_named r (state_of slots hs).homes ≡ Some (home_of h) → (reply ≡ Refused NoSegment → Rose h.disc.faults g.disc.faults) → Settles (settled (accounts slots) hs) (settled (accounts slots) (set hs i g)) (refusal_at (state_of slots hs) (Alloc r x size site) reply)
-  settles-reply r x size site (Refused NoSegment) found rose =
-      subst (λ o. Settles (settled (accounts slots) hs) (settled (accounts slots) (set hs i g)) (place_of o)) (sym found)
-      (settles-change 1 (h.place ∷ []) (rose-by_one h.disc.faults g.disc.faults (rose refl)) (one_refusal h.place))
-  settles-reply r x size site reply found rose = quiet
+  pub settles-reply : (r : List ℕ) (command : Command) (reply : Reply) → region_of command ≡ Some r → home_named r (state_of slots hs).homes ≡ Some (home_of h) → (reply ≡ Refused NoSegment → Rose h.disc.faults g.disc.faults) → Settles (settled (accounts slots) hs) (settled (accounts slots) (set hs i g)) (refusal_at (state_of slots hs) command reply)
+  settles-reply r command (Refused NoSegment) works found rose =
+      subst (λ o. Settles (settled (accounts slots) hs) (settled (accounts slots) (set hs i g)) (place_named (state_of slots hs) o)) (sym works)
+      (subst (λ o. Settles (settled (accounts slots) hs) (settled (accounts slots) (set hs i g)) (place_of o)) (sym found)
+      (settles-change 1 (h.place ∷ []) (rose-by_one h.disc.faults g.disc.faults (rose refl)) (one_refusal h.place)))
+  settles-reply r command reply works found rose = quiet
 
   same_home : (let k : Home = record (home_of h) { region = (home_of g).region } in k) ≡ home_of g
   same_home =
@@ -91,8 +93,14 @@ module _ (slots : Slots) (hs : List Held) (i : ℕ) (h g : Held) (at : slice_get
       let item : first.item ≡ home_of h = same_Some first.item (home_of h) (sym first.at ∙ (slice_get-map home_of hs i ∙ ap (option_map home_of) at)) in
       find-first (is_home r) (map home_of hs) i first ∙ ap (λ k. Some k) item
 
-  pub step-change : (r x : List ℕ) (size : ℕ) (not_lent : Bool) (reply : Reply) → IsFirst (is_home r) (map home_of hs) i → alloc_in (home_of h) x size not_lent ≡ record { region = (home_of g).region; reply = reply } → alloc_step (state_of slots hs) r x size not_lent (home_named r (state_of slots hs).homes) ≡ record { state = state_of slots (set hs i g); reply = reply }
-  step-change r x size not_lent reply first answer =
-      ap (alloc_step (state_of slots hs) r x size not_lent) (found-change r first)
+  pub step-change : (r : List ℕ) (command : Command) (need : Need) (reply : Reply) → IsFirst (is_home r) (map home_of hs) i → in_region (home_of h) command need ≡ record { region = (home_of g).region; reply = reply } → region_step (state_of slots hs) r command need (home_named r (state_of slots hs).homes) ≡ record { state = state_of slots (set hs i g); reply = reply }
+  step-change r command need reply first answer =
+      ap (region_step (state_of slots hs) r command need) (found-change r first)
       ∙ (ap (changed (state_of slots hs) r) answer
       ∙ ap (λ homes. let s : Stepped = record { state = record { shelf = (state_of slots hs).shelf; homes = homes }; reply = reply } in s) (homes-change r first))
+
+  -- with the lists as before the state is the same
+  pub state-same : (home_of g).region ≡ (home_of h).region → state_of slots (set hs i g) ≡ state_of slots hs
+  state-same same =
+      let home : home_of g ≡ home_of h = sym same_home ∙ ap (λ r. let k : Home = record (home_of h) { region = r } in k) same in
+      ap (λ homes. let s : State = record { shelf = (state_of slots hs).shelf; homes = homes } in s) (map-set_alike home_of hs i h g at home)

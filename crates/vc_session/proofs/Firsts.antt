@@ -8,7 +8,7 @@ use Rattle.vc_model.specs.Region.{Region}
 use Rattle.vc_session.specs.State.{Home, is_home, with_region}
 use Rattle.vc_session.specs.Homes.{IsFirst}
 
-or-false : (a b : Bool) → (a || b) ≡ false → (a ≡ false) × (b ≡ false)
+pub or-false : (a b : Bool) → (a || b) ≡ false → (a ≡ false) × (b ≡ false)
 or-false true b h = absurd cc
 or-false false b h = (refl, h)
 

@@ -10,7 +10,9 @@ pub mod Firsts
 pub mod Sessions
 pub mod Opening
 pub mod Allocating
+pub mod Freeing
 pub mod Helds
+pub mod Agreeing
 pub mod Changing
 pub mod Closing
 pub mod Running

@@ -1,12 +1,11 @@
--- Allocation commutes with the naming of tags.
-use Rattle.std.proofs.Common.{◌≡◌, ℕ, ◌+◌, ◌-◌, ◌<◌, ◌≤◌, Bool, true, false, cond, List, [], ◌∷◌, ◌++◌, Option, Some, None, length, map, refl, sym, ap, ◌∙◌, arith}
+-- Allocation and freeing commute with the naming of tags.
+use Rattle.std.proofs.Common.{◌≡◌, ℕ, Bool, true, false, cond, List, [], ◌∷◌, Option, Some, None, map, refl, sym, ap, ◌∙◌, ◌+◌}
 use Rattle.std.specs.List.{AllByRecursion}
-use Rattle.std.proofs.lemmas.List.{get_or_append_left, get_or_push}
 use Rattle.vc_model.specs.Segments.{Asked, Granted, TooMany, NotLent, ask, span}
 use Rattle.vc_model.specs.Place.{place}
-use Rattle.vc_model.specs.Region.{Block, Region, footprint, footprints, lies_before, with_block}
+use Rattle.vc_model.specs.Region.{Block, Region, footprint, footprints, is_at, lies_before, with_block, without_block}
 use Rattle.vc_model.specs.Best.{Allocated, Placed, TooManySegments, NoSegment, best_alloc, put, put_at, put_in_new, put_or_ask, place_in, with_segment, zeros}
-use Rattle.vc_session.specs.Account.{name_of, named_block, named}
+use Rattle.vc_session.specs.Account.{named_block, named}
 
 abbrev pub named_answer : (ℕ → List ℕ) → Allocated ℕ → Allocated (List ℕ)
 named_answer f (Placed at region) = Placed at (named f region)
@@ -22,6 +21,12 @@ with_block-named f b [] = refl
 with_block-named f b (c ∷ cs) =
     elim (lies_before b c) as (λ v. map (named_block f) (cond v (b ∷ c ∷ cs) (c ∷ with_block b cs)) ≡ cond v (named_block f b ∷ named_block f c ∷ map (named_block f) cs) (named_block f c ∷ with_block (named_block f b) (map (named_block f) cs)))
     [ true ↦ refl | false ↦ ap (λ ds. named_block f c ∷ ds) (with_block-named f b cs) ]
+
+pub without_block-named : (f : ℕ → List ℕ) (at : ℕ × ℕ) (bs : List (Block ℕ)) → map (named_block f) (without_block at bs) ≡ without_block at (map (named_block f) bs)
+without_block-named f at [] = refl
+without_block-named f at (b ∷ bs) =
+    elim (is_at at b) as (λ v. map (named_block f) (cond v bs (b ∷ without_block at bs)) ≡ cond v (map (named_block f) bs) (named_block f b ∷ without_block at (map (named_block f) bs)))
+    [ true ↦ refl | false ↦ ap (λ cs. named_block f b ∷ cs) (without_block-named f at bs) ]
 
 put_at-named : (f : ℕ → List ℕ) (r : Region ℕ) (tag size : ℕ) (at : ℕ × ℕ) → put_at (named f r) (f tag) size at ≡ named_answer f (put_at r tag size at)
 put_at-named f r tag size at = ap (λ bs. Placed at (record { segments = r.segments; blocks = bs })) (sym (with_block-named f (zeros tag size at) r.blocks))
@@ -49,17 +54,9 @@ best_alloc-named f round r tag size align refused =
     ap (put_or_ask round (named f r) (f tag) size align refused) (place_in-named f r size align)
     ∙ put_or_ask-named f round r tag size align refused (place_in r size align)
 
-abbrev pub TagsUpTo : ℕ → List (Block ℕ) → Type 0
-TagsUpTo n bs = AllByRecursion (λ b. (1 ≤ b.label) × (b.label ≤ n)) bs
-
--- one more name changes no block's name
-pub named-more : (labels : List (List ℕ)) (x : List ℕ) (bs : List (Block ℕ)) → TagsUpTo (length labels) bs → map (named_block (name_of (labels ++ x ∷ []))) bs ≡ map (named_block (name_of labels)) bs
-named-more labels x [] t = refl
-named-more labels x (b ∷ bs) t =
-    let within : b.label - 1 < length labels = omega (arith, t.0.0, t.0.1) in
-    let one : name_of (labels ++ x ∷ []) b.label ≡ name_of labels b.label = get_or_append_left labels (x ∷ []) [] (b.label - 1) within in
-    ap (λ n. (let c : Block (List ℕ) = record { label = n; seg = b.seg; off = b.off; size = b.size; bytes = b.bytes } in c) ∷ map (named_block (name_of (labels ++ x ∷ []))) bs) one
-    ∙ ap (λ cs. named_block (name_of labels) b ∷ cs) (named-more labels x bs t.1)
-
-pub name_of-new : (labels : List (List ℕ)) (x : List ℕ) → name_of (labels ++ x ∷ []) (length labels + 1) ≡ x
-name_of-new labels x = get_or_push labels x [] (length labels + 1 - 1) (omega arith)
+-- names that agree on the blocks name them alike
+pub named-alike : (f g : ℕ → List ℕ) (bs : List (Block ℕ)) → AllByRecursion (λ b. f b.label ≡ g b.label) bs → map (named_block f) bs ≡ map (named_block g) bs
+named-alike f g [] same = refl
+named-alike f g (b ∷ bs) same =
+    ap (λ n. (let c : Block (List ℕ) = record { label = n; seg = b.seg; off = b.off; size = b.size; bytes = b.bytes } in c) ∷ map (named_block f) bs) same.0
+    ∙ ap (λ cs. named_block g b ∷ cs) (named-alike f g bs same.1)

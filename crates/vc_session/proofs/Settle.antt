@@ -43,12 +43,12 @@ all-away-set p [] i h g at same all = tt
 all-away-set p (f ∷ hs) zero h g at same all = ((λ e. all.0 (ap (λ (x : Held). x.place) (same_Some f h at) ∙ (sym same ∙ e))), all.1)
 all-away-set p (f ∷ hs) (suc i) h g at same all = (all.0, all-away-set p hs i h g at same all.1)
 
-away-at : (p : ℕ) (hs : List Held) (i : ℕ) (h : Held) → slice_get hs i ≡ Some h → AllByRecursion (λ f. f.place ≢ p) hs → h.place ≢ p
+pub away-at : (p : ℕ) (hs : List Held) (i : ℕ) (h : Held) → slice_get hs i ≡ Some h → AllByRecursion (λ f. f.place ≢ p) hs → h.place ≢ p
 away-at p [] i h at all = absurd (none-some h at)
 away-at p (f ∷ hs) zero h at all = λ e. all.0 (ap (λ (x : Held). x.place) (same_Some f h at) ∙ e)
 away-at p (f ∷ hs) (suc i) h at all = away-at p hs i h at all.1
 
-low-at : (hs : List Held) (i : ℕ) (h : Held) → slice_get hs i ≡ Some h → IsApart hs → 1 ≤ h.place
+pub low-at : (hs : List Held) (i : ℕ) (h : Held) → slice_get hs i ≡ Some h → IsApart hs → 1 ≤ h.place
 low-at [] i h at apart = absurd (none-some h at)
 low-at (f ∷ hs) zero h at apart = subst (λ (x : Held). 1 ≤ x.place) (same_Some f h at) apart.0
 low-at (f ∷ hs) (suc i) h at apart = low-at hs i h at apart.2

@@ -1,13 +1,17 @@
 -- What lasts of the shelf through a run: the accounts of its disciplines.
-use Rattle.std.specs.Prelude.{◌≡◌, ◌≢◌, ℕ, ◌+◌, ◌-◌, ◌≤◌, ◌⊎◌, List, [], ◌∷◌, Option, Some, None, ⊤, length, map, option_map, take, slice_set, slice_index_or, count_by, ◌==◌}
+use Rattle.std.specs.Prelude.{◌≡◌, ◌≢◌, ℕ, ◌+◌, ◌-◌, ◌≤◌, ◌⊎◌, List, [], ◌∷◌, Option, Some, None, ⊤, length, map, option_map, take, slice_set, count_by, is_some, ◌==◌}
 use Rattle.std.specs.List.{AllByRecursion}
-use Rattle.std.specs.Str.{bytes_eq}
-use Rattle.std.specs.List.{list_any}
 use Rattle.vc_model.specs.Count.{last_count}
 use Rattle.vc_model.specs.Discipline.{Discipline, EndsWith, Kept}
 use Rattle.vc_model.specs.Numbered.{at_number}
 use Rattle.vc_model.specs.Region.{Block, Region}
-use Rattle.vc_session.specs.State.{Home, State, has_label, label_limit}
+use Rattle.vc_base.specs.Addr.{address}
+use Rattle.vc_best.specs.Apart.{AreApart}
+use Rattle.slab.specs.Slab.{slab_len}
+use Rattle.vc_session.specs.declared.labels.Label.{Label}
+use Rattle.vc_session.specs.declared.labels.Labels.{Labels}
+use Rattle.vc_session.specs.Labels.{AreLabels, label_at, tag_of}
+use Rattle.vc_session.specs.State.{Home, State, has_label}
 
 -- the segments of a discipline that are out, its round, and its faults
 pub record Account : Type 0 where
@@ -22,17 +26,21 @@ account d = record { out = d.out; round = d.round; faults = d.faults }
 abbrev pub accounts : List (Option Discipline) → List (Option Account)
 accounts shelf = map (option_map account) shelf
 
--- a region that is open: its discipline, its lists with tags, and the name of each tag, from 1 on
+-- a region that is open: its discipline, its lists with tags, and the names of the tags in use
 pub record Held : Type 0 where
   pub name : List ℕ
   pub place : ℕ
   pub disc : Discipline
   pub layout : Region ℕ
-  pub labels : List (List ℕ)
+  pub labels : Labels
+
+abbrev pub name_in : Option Label → List ℕ
+name_in None = []
+name_in (Some l) = l.name
 
 -- the name of a tag
-abbrev pub name_of : List (List ℕ) → ℕ → List ℕ
-name_of labels tag = slice_index_or labels (tag - 1) []
+abbrev pub name_of : Labels → ℕ → List ℕ
+name_of labels tag = name_in (label_at labels tag)
 
 abbrev pub named_block : (ℕ → List ℕ) → Block ℕ → Block (List ℕ)
 named_block name b = record { label = name b.label; seg = b.seg; off = b.off; size = b.size; bytes = b.bytes }
@@ -57,12 +65,20 @@ abbrev pub settled : List (Option Account) → List Held → List (Option Accoun
 settled shelf [] = shelf
 settled shelf (h ∷ hs) = settled (slice_set shelf (h.place - 1) (Some (account_after h))) hs
 
--- each tag has a name, and the names are those of the blocks
-pub record IsNamed (layout : Region ℕ) (labels : List (List ℕ)) : Type 0 where
-  pub count : length layout.blocks ≡ length labels
-  pub few : length labels ≤ label_limit
-  pub tags : AllByRecursion (λ b. (1 ≤ b.label) × (b.label ≤ length labels)) layout.blocks
-  pub known : (x : List ℕ) → list_any (λ n. bytes_eq n x) labels ≡ has_label x (map (named_block (name_of labels)) layout.blocks)
+-- a block is the live one of its tag
+pub record IsLive (labels : Labels) (b : Block ℕ) : Type 0 where
+  pub first : 1 ≤ b.label
+  pub label : Label
+  pub here : label_at labels b.label ≡ Some label
+  pub at : label.at.0 ≡ address (b.seg, b.off)
+
+-- the names are those of the blocks, which don't overlap
+pub record IsNamed (layout : Region ℕ) (labels : Labels) : Type 0 where
+  pub agree : AreLabels labels
+  pub count : length layout.blocks ≡ slab_len labels.by_tag
+  pub live : AllByRecursion (IsLive labels) layout.blocks
+  pub known : (x : List ℕ) → is_some (tag_of labels x) ≡ has_label x (map (named_block (name_of labels)) layout.blocks)
+  pub apart : AreApart layout.blocks
 
 -- a region's discipline is taken from its place, and the region's segments are the last that it lent
 pub record IsHeld (shelf : List (Option Discipline)) (h : Held) : Type 0 where

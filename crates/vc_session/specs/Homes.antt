@@ -11,7 +11,7 @@ use Rattle.vc_session.specs.declared.home.Home.{Home}
 
 -- a region, with what its boxed discipline means
 abbrev pub held_of : {I : Type 0} {V : I → Type 0} → (DynBox I Global V → Discipline) → Home I V → Held
-held_of meaning h = record { name = h.name; place = h.place; disc = meaning h.best.disc; layout = h.best.layout; labels = h.labels.items }
+held_of meaning h = record { name = h.name; place = h.place; disc = meaning h.best.disc; layout = h.best.layout; labels = h.labels }
 
 abbrev pub held_all : {I : Type 0} {V : I → Type 0} → (DynBox I Global V → Discipline) → List (Home I V) → List Held
 held_all meaning homes = map (held_of meaning) homes

@@ -2,6 +2,9 @@ pub use Rattle.vc_model.specs.Count
 pub use Rattle.vc_model.specs.Stream
 pub use Rattle.vc_model.specs.Discipline
 pub use Rattle.vc_base.specs.Name
+pub use Rattle.vc_base.specs.Addr
+pub use Rattle.vc_best.specs.Apart
+pub mod Labels
 pub mod State
 pub mod Run
 pub mod Account

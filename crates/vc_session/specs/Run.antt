@@ -1,7 +1,6 @@
 -- The commands of an input, a run of them, and its text.
 use Rattle.std.specs.Prelude.{ℕ, List, [], ◌∷◌, ◌++◌, Option, Some, None, Result, Ok, Err, ◌==◌, if◌then◌else◌}
 use Rattle.vc_script.specs.declared.command.Command.{Command}
-use Rattle.vc_script.specs.declared.command.Command.TheVariants.{Alloc}
 use Rattle.vc_script.specs.declared.line_answer.LineAnswer.{LineAnswer}
 use Rattle.vc_script.specs.declared.line_answer.LineAnswer.TheVariants.{Blank, Is, Bad}
 use Rattle.vc_script.specs.declared.line_fault.LineFault.{LineFault}
@@ -12,7 +11,7 @@ use Rattle.vc_script.specs.declared.tool.Tool.TheVariants.{Vmreplay}
 use Rattle.vc_script.specs.Judged.{judged, judged_from}
 use Rattle.vc_script.specs.Answer.{answer}
 use Rattle.vc_script.specs.Needs.{Need, NoNeed}
-use Rattle.vc_session.specs.State.{State, Home, Stepped, step, home_named}
+use Rattle.vc_session.specs.State.{State, Home, Stepped, step, home_named, region_of}
 
 -- what a line's answer leaves of the commands behind it: none behind a bad line
 abbrev pub command_then : ℕ → LineAnswer → List (ℕ × Command) → List (ℕ × Command)
@@ -68,9 +67,13 @@ abbrev pub place_of : Option Home → List ℕ
 place_of None = []
 place_of (Some h) = h.place ∷ []
 
+abbrev pub place_named : State → Option (List ℕ) → List ℕ
+place_named s None = []
+place_named s (Some r) = place_of (home_named r s.homes)
+
 -- the place of the discipline that refused a segment in a step, where one did
 abbrev pub refusal_at : State → Command → Reply → List ℕ
-refusal_at s (Alloc r x size site) (Refused NoSegment) = place_of (home_named r s.homes)
+refusal_at s command (Refused NoSegment) = place_named s (region_of command)
 refusal_at s command reply = []
 
 -- a step, and then the run of the rest

@@ -1,5 +1,5 @@
 // The end of a session: every region is closed, and each discipline is given back.
-ghost use Rattle.std.specs.Prelude.{◌≡◌, ◌≢◌, ℕ, ◌-◌, [], Some, slice_set};
+ghost use Rattle.std.specs.Prelude.{◌≡◌, ◌≢◌, ℕ, ◌-◌, [], Some, length, slice_set};
 ghost use Rattle.vc_model.specs.Discipline.{EndsWith};
 ghost use Rattle.vc_model.specs.Numbered.{at_number};
 ghost use Rattle.vc_seg.specs.Shelf.{slots_of, place_at};
@@ -9,10 +9,11 @@ ghost use Rattle.vc_session.specs.Homes.{IsSessionOver, held_of, settled_over};
 use crate::home::Home;
 use vc_seg::{BoxedDisc, SegDisc, Shelf, ShelfPlace};
 
-// Closes one region, and gives its discipline back to its place.
-fn close_region(home: Home, shelf: &mut Shelf)
+// Closes one region, gives its discipline back to its place, and answers how many segments it gave back.
+pub(crate) fn close_region(home: Home, shelf: &mut Shelf) -> u32
     requires taken { place_at (slots_of ⟦<BoxedDisc as SegDisc>⟧.state shelf.old.slots.items) home.place ≡ ShelfPlace.Taken }
     requires lent { EndsWith (⟦<BoxedDisc as SegDisc>⟧.state home.best.disc).out home.best.layout.segments }
+    ensures count { result ≡ length home.best.layout.segments }
     ensures here { accounts (slots_of ⟦<BoxedDisc as SegDisc>⟧.state shelf.new.slots.items)
         ≡ slice_set (accounts (slots_of ⟦<BoxedDisc as SegDisc>⟧.state shelf.old.slots.items)) (home.place - 1) (Some (account_after (held_of ⟦<BoxedDisc as SegDisc>⟧.state home))) }
     ensures elsewhere { (p : ℕ) → p ≢ home.place
@@ -24,8 +25,9 @@ fn close_region(home: Home, shelf: &mut Shelf)
         best,
         labels: _,
     } = home;
-    let (disc, _) = best.close();
+    let (disc, count) = best.close();
     shelf.give_back(place, disc);
+    count
 }
 
 // Closes every region, in order of opening.
@@ -36,6 +38,6 @@ pub(crate) fn close_all(homes: Vec<Home>, shelf: &mut Shelf)
 {
     let mut rest = homes;
     while !rest.is_empty() {
-        close_region(rest.remove(0), shelf);
+        let _ = close_region(rest.remove(0), shelf);
     }
 }

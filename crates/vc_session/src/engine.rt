@@ -11,8 +11,7 @@ ghost use Rattle.vc_session.specs.Homes.{IsSessionOver, settled_over, state_over
 ghost use Rattle.vc_session.specs.Replay.{IsCutShort, IsReplay};
 ghost use Rattle.vc_session.specs.SoFar.{Ends, GoesOn, fuel};
 
-use crate::home::Home;
-use crate::session::run_command;
+use crate::session::Session;
 use crate::stream::write_all;
 use std::alloc::Global;
 use vc_base::{OutOfMemory, ReadFailed, Sink, Source, WriteFailed};
@@ -57,25 +56,26 @@ impl From<WriteFailed> for Stop {
     }
 }
 
-// Runs one line and writes its reply, or answers what is wrong with it.
+// Runs the line of that number and writes its reply, or answers what is wrong with it.
 fn run_line<O: Sink>(
     alloc: Global,
-    homes: &mut Vec<Home>,
+    session: &mut Session,
     shelf: &mut Shelf,
+    n: u32,
     line: &[u8],
     out: &mut O,
 ) -> Result<Option<LineFault>, Stop>
-    requires { IsSessionOver ⟦<BoxedDisc as SegDisc>⟧.state shelf.old.slots.items homes.old.items }
+    requires { IsSessionOver ⟦<BoxedDisc as SegDisc>⟧.state shelf.old.slots.items session.old.homes.items }
     ensures ran { IfOk result (λ fault. LineRan (answer Vmreplay line.now) fault
-        (state_over ⟦<BoxedDisc as SegDisc>⟧.state shelf.old.slots.items homes.old.items)
-        (state_over ⟦<BoxedDisc as SegDisc>⟧.state shelf.new.slots.items homes.new.items)
+        (state_over ⟦<BoxedDisc as SegDisc>⟧.state shelf.old.slots.items session.old.homes.items)
+        (state_over ⟦<BoxedDisc as SegDisc>⟧.state shelf.new.slots.items session.new.homes.items)
         (O.written out.old) (O.written out.new)
-        (settled_over ⟦<BoxedDisc as SegDisc>⟧.state shelf.old.slots.items homes.old.items)
-        (settled_over ⟦<BoxedDisc as SegDisc>⟧.state shelf.new.slots.items homes.new.items)) }
-    ensures session { IsSessionOver ⟦<BoxedDisc as SegDisc>⟧.state shelf.new.slots.items homes.new.items }
+        (settled_over ⟦<BoxedDisc as SegDisc>⟧.state shelf.old.slots.items session.old.homes.items)
+        (settled_over ⟦<BoxedDisc as SegDisc>⟧.state shelf.new.slots.items session.new.homes.items)) }
+    ensures session { IsSessionOver ⟦<BoxedDisc as SegDisc>⟧.state shelf.new.slots.items session.new.homes.items }
     ensures settles { OnErr result (Settles
-        (settled_over ⟦<BoxedDisc as SegDisc>⟧.state shelf.old.slots.items homes.old.items)
-        (settled_over ⟦<BoxedDisc as SegDisc>⟧.state shelf.new.slots.items homes.new.items) []) }
+        (settled_over ⟦<BoxedDisc as SegDisc>⟧.state shelf.old.slots.items session.old.homes.items)
+        (settled_over ⟦<BoxedDisc as SegDisc>⟧.state shelf.new.slots.items session.new.homes.items) []) }
     ensures cause { IfErr result (λ stop. stop ≡ Stop.Write → Rose (O.failures out.old) (O.failures out.new)) }
     ensures no_read { IfErr result (λ stop. stop ≢ Stop.Read) }
     ensures never_falls { O.failures out.old ≤ O.failures out.new }
@@ -84,7 +84,7 @@ fn run_line<O: Sink>(
         LineAnswer::Blank => Ok(None),
         LineAnswer::Bad(fault) => Ok(Some(fault)),
         LineAnswer::Is(command) => {
-            let reply = run_command(alloc, homes, shelf, &command)?;
+            let reply = session.step(shelf, n, &command)?;
             let line = print_reply(alloc, &reply)?;
             write_all(out, line.as_slice())?;
             Ok(None)
@@ -95,34 +95,34 @@ fn run_line<O: Sink>(
 // Runs the lines that a piece ends, and answers the first bad one, by its number from 1 on. A run so far goes on.
 fn run_piece<O: Sink>(
     alloc: Global,
-    homes: &mut Vec<Home>,
+    session: &mut Session,
     shelf: &mut Shelf,
     cutter: &mut LineCutter,
     piece: &[u8],
     out: &mut O,
 ) -> Result<Option<(u32, LineFault)>, Stop>
-    requires session { IsSessionOver ⟦<BoxedDisc as SegDisc>⟧.state shelf.old.slots.items homes.old.items }
+    requires session { IsSessionOver ⟦<BoxedDisc as SegDisc>⟧.state shelf.old.slots.items session.old.homes.items }
     requires fed { IsTrue cutter.old.is_open }
     requires cutting { IsCutting cutter.old }
     ensures good { result ≡ Ok None → GoesOn
-        (state_over ⟦<BoxedDisc as SegDisc>⟧.state shelf.old.slots.items homes.old.items)
-        (state_over ⟦<BoxedDisc as SegDisc>⟧.state shelf.new.slots.items homes.new.items)
+        (state_over ⟦<BoxedDisc as SegDisc>⟧.state shelf.old.slots.items session.old.homes.items)
+        (state_over ⟦<BoxedDisc as SegDisc>⟧.state shelf.new.slots.items session.new.homes.items)
         (O.written out.old) (O.written out.new)
-        (settled_over ⟦<BoxedDisc as SegDisc>⟧.state shelf.old.slots.items homes.old.items)
-        (settled_over ⟦<BoxedDisc as SegDisc>⟧.state shelf.new.slots.items homes.new.items)
+        (settled_over ⟦<BoxedDisc as SegDisc>⟧.state shelf.old.slots.items session.old.homes.items)
+        (settled_over ⟦<BoxedDisc as SegDisc>⟧.state shelf.new.slots.items session.new.homes.items)
         cutter.old cutter.new piece.now [] }
     ensures bad { (bad : ℕ × LineFault) → result ≡ Ok (Some bad) → Ends
-        (state_over ⟦<BoxedDisc as SegDisc>⟧.state shelf.old.slots.items homes.old.items)
+        (state_over ⟦<BoxedDisc as SegDisc>⟧.state shelf.old.slots.items session.old.homes.items)
         (O.written out.old) (O.written out.new)
-        (settled_over ⟦<BoxedDisc as SegDisc>⟧.state shelf.old.slots.items homes.old.items)
-        (settled_over ⟦<BoxedDisc as SegDisc>⟧.state shelf.new.slots.items homes.new.items)
+        (settled_over ⟦<BoxedDisc as SegDisc>⟧.state shelf.old.slots.items session.old.homes.items)
+        (settled_over ⟦<BoxedDisc as SegDisc>⟧.state shelf.new.slots.items session.new.homes.items)
         cutter.old piece.now bad }
     ensures open { result ≡ Ok None → IsTrue cutter.new.is_open × IsCutting cutter.new }
     ensures less { result ≡ Ok None → fuel cutter.new + length piece.now ≤ fuel cutter.old }
-    ensures session { IsSessionOver ⟦<BoxedDisc as SegDisc>⟧.state shelf.new.slots.items homes.new.items }
+    ensures session { IsSessionOver ⟦<BoxedDisc as SegDisc>⟧.state shelf.new.slots.items session.new.homes.items }
     ensures settles { Settles
-        (settled_over ⟦<BoxedDisc as SegDisc>⟧.state shelf.old.slots.items homes.old.items)
-        (settled_over ⟦<BoxedDisc as SegDisc>⟧.state shelf.new.slots.items homes.new.items) [] }
+        (settled_over ⟦<BoxedDisc as SegDisc>⟧.state shelf.old.slots.items session.old.homes.items)
+        (settled_over ⟦<BoxedDisc as SegDisc>⟧.state shelf.new.slots.items session.new.homes.items) [] }
     ensures cause { IfErr result (λ stop. stop ≡ Stop.Write → Rose (O.failures out.old) (O.failures out.new)) }
     ensures no_read { IfErr result (λ stop. stop ≢ Stop.Read) }
     ensures never_falls { O.failures out.old ≤ O.failures out.new }
@@ -135,7 +135,7 @@ fn run_piece<O: Sink>(
             Cut::More => {}
             Cut::Bad(fault) => return Ok(Some((cutter.number() + 1, fault))),
             Cut::Whole => {
-                match run_line(alloc, homes, shelf, cutter.line(), out)? {
+                match run_line(alloc, session, shelf, cutter.number(), cutter.line(), out)? {
                     Some(fault) => return Ok(Some((cutter.number(), fault))),
                     None => {}
                 }
@@ -149,26 +149,26 @@ fn run_piece<O: Sink>(
 // were taken is written before the next read.
 pub(crate) fn run_lines<S: Source, O: Sink>(
     alloc: Global,
-    homes: &mut Vec<Home>,
+    session: &mut Session,
     shelf: &mut Shelf,
     source: &mut S,
     out: &mut O,
 ) -> Result<Option<(u32, LineFault)>, Stop>
-    requires { IsSessionOver ⟦<BoxedDisc as SegDisc>⟧.state shelf.old.slots.items homes.old.items }
+    requires { IsSessionOver ⟦<BoxedDisc as SegDisc>⟧.state shelf.old.slots.items session.old.homes.items }
     ensures replay { IfOk result (λ bad. IfSome (S.left source.old) (λ input. IsReplay
-        (state_over ⟦<BoxedDisc as SegDisc>⟧.state shelf.old.slots.items homes.old.items) input bad
+        (state_over ⟦<BoxedDisc as SegDisc>⟧.state shelf.old.slots.items session.old.homes.items) input bad
         (S.left source.new) (O.written out.old) (O.written out.new)
-        (settled_over ⟦<BoxedDisc as SegDisc>⟧.state shelf.old.slots.items homes.old.items)
-        (settled_over ⟦<BoxedDisc as SegDisc>⟧.state shelf.new.slots.items homes.new.items))) }
+        (settled_over ⟦<BoxedDisc as SegDisc>⟧.state shelf.old.slots.items session.old.homes.items)
+        (settled_over ⟦<BoxedDisc as SegDisc>⟧.state shelf.new.slots.items session.new.homes.items))) }
     ensures cut_short { IfErr result (λ stop. stop ≡ Stop.Read → IfSome (S.left source.old) (λ input. IsCutShort
-        (state_over ⟦<BoxedDisc as SegDisc>⟧.state shelf.old.slots.items homes.old.items) input
+        (state_over ⟦<BoxedDisc as SegDisc>⟧.state shelf.old.slots.items session.old.homes.items) input
         (S.left source.new) (O.written out.old) (O.written out.new)
-        (settled_over ⟦<BoxedDisc as SegDisc>⟧.state shelf.old.slots.items homes.old.items)
-        (settled_over ⟦<BoxedDisc as SegDisc>⟧.state shelf.new.slots.items homes.new.items))) }
-    ensures session { IsSessionOver ⟦<BoxedDisc as SegDisc>⟧.state shelf.new.slots.items homes.new.items }
+        (settled_over ⟦<BoxedDisc as SegDisc>⟧.state shelf.old.slots.items session.old.homes.items)
+        (settled_over ⟦<BoxedDisc as SegDisc>⟧.state shelf.new.slots.items session.new.homes.items))) }
+    ensures session { IsSessionOver ⟦<BoxedDisc as SegDisc>⟧.state shelf.new.slots.items session.new.homes.items }
     ensures settles { Settles
-        (settled_over ⟦<BoxedDisc as SegDisc>⟧.state shelf.old.slots.items homes.old.items)
-        (settled_over ⟦<BoxedDisc as SegDisc>⟧.state shelf.new.slots.items homes.new.items) [] }
+        (settled_over ⟦<BoxedDisc as SegDisc>⟧.state shelf.old.slots.items session.old.homes.items)
+        (settled_over ⟦<BoxedDisc as SegDisc>⟧.state shelf.new.slots.items session.new.homes.items) [] }
     ensures read { IfErr result (λ stop. stop ≡ Stop.Read → Rose (S.failures source.old) (S.failures source.new)) }
     ensures write { IfErr result (λ stop. stop ≡ Stop.Write → Rose (O.failures out.old) (O.failures out.new)) }
     ensures reads { S.failures source.old ≤ S.failures source.new }
@@ -181,13 +181,13 @@ pub(crate) fn run_lines<S: Source, O: Sink>(
         if n == 0 {
             break;
         }
-        match run_piece(alloc, homes, shelf, &mut cutter, &buf[..n], out)? {
+        match run_piece(alloc, session, shelf, &mut cutter, &buf[..n], out)? {
             Some(bad) => return Ok(Some(bad)),
             None => {}
         }
     }
     match cutter.end() {
-        Cut::Whole => match run_line(alloc, homes, shelf, cutter.line(), out)? {
+        Cut::Whole => match run_line(alloc, session, shelf, cutter.number(), cutter.line(), out)? {
             Some(fault) => Ok(Some((cutter.number(), fault))),
             None => Ok(None),
         },

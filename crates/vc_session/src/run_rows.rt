@@ -23,3 +23,27 @@ pub fn bad_line()
     ensures out { text (run (record { shelf = Some 4096 ∷ []; homes = [] }) (script (codes "open r best 1\nalloc r a 1\nfrobnicate\nalloc r b 1")) []).replies ≡ codes "r open\na 1:32\n" }
     ensures fault { first_bad (codes "open r best 1\nalloc r a 1\nfrobnicate\nalloc r b 1") ≡ Some (3, UnknownCommand) }
 {}
+
+/// A gap that a free leaves is taken again, and a freed block merges with the gaps beside it.
+pub fn freed_gap()
+    ensures { text (run (record { shelf = Some 4096 ∷ []; homes = [] }) (script (codes "open r best 1\nalloc r a 100\nalloc r b 1\nfree r a\nalloc r c 100\n")) []).replies
+        ≡ codes "r open\na 1:32\nb 1:160\na freed\nc 1:32\n" }
+{}
+
+/// Of two gaps of the same size the one with the lower offset is taken first.
+pub fn tie()
+    ensures { text (run (record { shelf = Some 4096 ∷ []; homes = [] }) (script (codes "open r best 1\nalloc r a 100\nalloc r b 1\nalloc r c 100\nalloc r d 1\nfree r a\nfree r c\nalloc r e 100\nalloc r f 100\n")) []).replies
+        ≡ codes "r open\na 1:32\nb 1:160\nc 1:192\nd 1:320\na freed\nc freed\ne 1:32\nf 1:192\n" }
+{}
+
+/// A block that isn't there can't be freed, nor a region closed twice.
+pub fn free_and_close()
+    ensures { text (run (record { shelf = Some 4096 ∷ []; homes = [] }) (script (codes "open r best 1\nalloc r a 1\nfree r x\nfree r a\nclose r\nclose r\n")) []).replies
+        ≡ codes "r open\na 1:32\nrefused: no block\na freed\nr closed 1\nrefused: no region\n" }
+{}
+
+/// A region that asked for no segment gives none back, and its place is free again.
+pub fn closed_empty()
+    ensures { text (run (record { shelf = Some 4096 ∷ []; homes = [] }) (script (codes "open r best 1\nclose r\nopen q best 1")) []).replies
+        ≡ codes "r open\nr closed 0\nq open\n" }
+{}

@@ -8,13 +8,13 @@ ghost use Rattle.vc_session.specs.Homes.{state_over};
 ghost use Rattle.vc_session.specs.Replay.{IsCutShort, IsReplay, Told, Tried, err_line, fault_text};
 
 use crate::Status;
-use crate::close::close_all;
 use crate::engine::{Stop, run_lines};
+use crate::session::Session;
 use crate::stream::write_all;
 use itoa::Buffer;
 use std::alloc::Global;
 use vc_base::{Sink, Source, WriteFailed};
-use vc_script::LineFault;
+use vc_script::{LineFault, Tool};
 use vc_seg::{BoxedDisc, SegDisc, Shelf};
 
 // Runs the script of a source.
@@ -42,9 +42,9 @@ fn run_source<S: Source, O: Sink>(
     ensures reads { S.failures source.old ≤ S.failures source.new }
     ensures writes { O.failures out.old ≤ O.failures out.new }
 {
-    let mut homes = Vec::new(alloc);
-    let ended = run_lines(alloc, &mut homes, shelf, source, out);
-    close_all(homes, shelf);
+    let mut session = Session::new(alloc, Tool::Vmreplay)?;
+    let ended = run_lines(alloc, &mut session, shelf, source, out);
+    session.end(shelf);
     ended
 }
 
