@@ -1,15 +1,16 @@
 -- A run in its middle, and what each line adds to it.
 use Rattle.std.proofs.Common.{Ok, ◌≡◌, ℕ, ◌+◌, List, [], ◌∷◌, ◌++◌, Option, Some, None, Bool, true, false, cond, length, map, refl, sym, ap, ◌∙◌, subst, arith, inl, inr, ◌&&◌}
-use Rattle.std.specs.Prelude.{count_by, nat_lt, ◌==◌}
+use Rattle.std.specs.Prelude.{count_by, find, nat_lt, ◌==◌}
 use Rattle.std.specs.Bool.{IsTrue}
 use Rattle.std.specs.List.{AllByRecursion, list_any}
 use Rattle.std.proofs.lemmas.List.{append_assoc, append-nil, length-append, length-map, map-append}
 use Rattle.std.proofs.lemmas.Grind.{flat_map-append}
 use Rattle.std.proofs.lemmas.Option.{none-some, same_Some}
 use Rattle.vc_model.specs.Numbered.{at_number}
+use Rattle.vc_model.specs.Region.{Block}
 use Rattle.vc_model.specs.Best.{Allocated, Placed, TooManySegments, NoSegment, best_alloc}
 use Rattle.vc_script.specs.declared.command.Command.{Command}
-use Rattle.vc_script.specs.declared.command.Command.TheVariants.{OpenRegion, Alloc}
+use Rattle.vc_script.specs.declared.command.Command.TheVariants.{OpenRegion, CloseRegion, Alloc, Free}
 use Rattle.vc_script.specs.declared.line_answer.LineAnswer.{LineAnswer}
 use Rattle.vc_script.specs.declared.line_answer.LineAnswer.TheVariants.{Blank, Is, Bad}
 use Rattle.vc_script.specs.declared.line_fault.LineFault.{LineFault}
@@ -26,7 +27,7 @@ use Rattle.vc_session.specs.SoFar.{Found, Running}
 use Rattle.vc_session.specs.Run.{Ran, command_then, commands, fault_in, fault_then, refusal_at, run}
 use Rattle.vc_script.specs.Words.{is_name}
 use Rattle.vc_script.specs.declared.refusal.Refusal.TheVariants.{NotYet}
-use Rattle.vc_session.specs.State.{Changed, refused, unchanged, Home, State, alloc_in, alloc_step, allocated, has_label, home_named, is_for_block, is_home, is_size, label_limit, open_by, opened_over, step}
+use Rattle.vc_session.specs.State.{Changed, refused, unchanged, Home, State, alloc_in, allocated, close_home, freed, has_label, home_named, in_region, is_block, is_for_block, is_home, is_size, label_limit, opened_over, region_of, region_step, shelf_step, step, step_of}
 use Rattle.vc_script.proofs.ProperCommands.{IsProperCommand-answer}
 use Rattle.vc_session.proofs.Runs.{one_more, run-push}
 use Rattle.vc_session.proofs.Settling.{settles-same, settles-trans}
@@ -104,9 +105,13 @@ proper-alloc_in h x size not_lent name =
     proper-if (has_label x h.region.blocks) (unchanged h NotYet) (cond (is_size size && nat_lt (length h.region.blocks) label_limit) placed (unchanged h NotYet)) tt
     (proper-if (is_size size && nat_lt (length h.region.blocks) label_limit) placed (unchanged h NotYet) (proper-allocated h x (best_alloc h.round h.region x size 32 not_lent) name) tt)
 
-proper-alloc : (s : State) (r x : List ℕ) (size : ℕ) (not_lent : Bool) (o : Option Home) → IsTrue (is_name x) → IsProperReply (alloc_step s r x size not_lent o).reply
-proper-alloc s r x size not_lent None name = tt
-proper-alloc s r x size not_lent (Some h) name = proper-alloc_in h x size not_lent name
+proper-freed : (h : Home) (x : List ℕ) (o : Option (Block (List ℕ))) → IsTrue (is_name x) → IsProperReply (freed h x o).reply
+proper-freed h x None name = tt
+proper-freed h x (Some b) name = name
+
+proper-closed : (s : State) (r : List ℕ) (o : Option Home) → IsTrue (is_name r) → IsProperReply (close_home s r o).reply
+proper-closed s r None name = tt
+proper-closed s r (Some h) name = name
 
 proper-opened : (s : State) (r : List ℕ) (n : ℕ) (place : Option (Option ℕ)) → IsTrue (is_name r) → IsProperReply (opened_over s r n place).reply
 proper-opened s r n None name = tt
@@ -117,15 +122,27 @@ proper-open : (s : State) (r : List ℕ) (n : ℕ) (t : Bool) → IsTrue (is_nam
 proper-open s r n true name = tt
 proper-open s r n false name = proper-opened s r n (at_number s.shelf n) name
 
-proper-by : (s : State) (r : List ℕ) (method : Method) (n : ℕ) → IsTrue (is_name r) → IsProperReply (open_by s r method n).reply
-proper-by s r VmBest n name = proper-open s r n (list_any (is_home r) s.homes) name
-proper-by s r method n name = tt
+proper-on_shelf : (s : State) (c : Command) → IsProperCommand c → IsProperReply (shelf_step s c).reply
+proper-on_shelf s (OpenRegion r VmBest n) proper = proper-open s r n (list_any (is_home r) s.homes) proper.0
+proper-on_shelf s (CloseRegion r) proper = proper-closed s r (home_named r s.homes) proper
+proper-on_shelf s command proper = tt
+
+proper-in_region : (h : Home) (c : Command) (need : Need) → IsProperCommand c → IsProperReply (in_region h c need).reply
+proper-in_region h (Alloc r x size site) need proper = proper-alloc_in h x size (is_for_block need) proper.1
+proper-in_region h (Free r x) need proper = proper-freed h x (find (is_block x) h.region.blocks) proper.1
+proper-in_region h command need proper = tt
+
+proper-at : (s : State) (r : List ℕ) (c : Command) (need : Need) (o : Option Home) → IsProperCommand c → IsProperReply (region_step s r c need o).reply
+proper-at s r c need None proper = tt
+proper-at s r c need (Some h) proper = proper-in_region h c need proper
+
+proper-of : (s : State) (c : Command) (need : Need) (o : Option (List ℕ)) → IsProperCommand c → IsProperReply (step_of s c need o).reply
+proper-of s c need None proper = proper-on_shelf s c proper
+proper-of s c need (Some r) proper = proper-at s r c need (home_named r s.homes) proper
 
 -- a step of a command whose names are names replies with such names
 proper-step : (s : State) (c : Command) (need : Need) → IsProperCommand c → IsProperReply (step s c need).reply
-proper-step s (OpenRegion r method n) need proper = proper-by s r method n proper.0
-proper-step s (Alloc r x size site) need proper = proper-alloc s r x size (is_for_block need) (home_named r s.homes) proper.1
-proper-step s command need proper = tt
+proper-step s c need proper = proper-of s c need (region_of c) proper
 
 all-push : (rs : List Reply) (r : Reply) → AllByRecursion IsProperReply rs → IsProperReply r → AllByRecursion IsProperReply (rs ++ r ∷ [])
 all-push [] r each last = (last, tt)

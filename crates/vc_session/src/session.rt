@@ -140,9 +140,9 @@ fn run_command(
         (settled_over ⟦<BoxedDisc as SegDisc>⟧.state shelf.old.slots.items homes.old.items)
         (settled_over ⟦<BoxedDisc as SegDisc>⟧.state shelf.new.slots.items homes.new.items)
         (refusal_at (state_over ⟦<BoxedDisc as SegDisc>⟧.state shelf.old.slots.items homes.old.items) command.now reply)) }
-    ensures settles_err { OnErr result (Settles
+    ensures keeps { Settles
         (settled_over ⟦<BoxedDisc as SegDisc>⟧.state shelf.old.slots.items homes.old.items)
-        (settled_over ⟦<BoxedDisc as SegDisc>⟧.state shelf.new.slots.items homes.new.items) []) }
+        (settled_over ⟦<BoxedDisc as SegDisc>⟧.state shelf.new.slots.items homes.new.items) [] }
 {
     match region_of(command) {
         None => run_on_shelf(alloc, homes, shelf, command),
@@ -200,9 +200,9 @@ impl Session {
             (settled_over ⟦<BoxedDisc as SegDisc>⟧.state shelf.old.slots.items self.old.homes.items)
             (settled_over ⟦<BoxedDisc as SegDisc>⟧.state shelf.new.slots.items self.new.homes.items)
             (refusal_at (state_over ⟦<BoxedDisc as SegDisc>⟧.state shelf.old.slots.items self.old.homes.items) command.now reply)) }
-        ensures settles_err { OnErr result (Settles
+        ensures keeps { Settles
             (settled_over ⟦<BoxedDisc as SegDisc>⟧.state shelf.old.slots.items self.old.homes.items)
-            (settled_over ⟦<BoxedDisc as SegDisc>⟧.state shelf.new.slots.items self.new.homes.items) []) }
+            (settled_over ⟦<BoxedDisc as SegDisc>⟧.state shelf.new.slots.items self.new.homes.items) [] }
     {
         let _ = line;
         if self.is_spent {

@@ -48,7 +48,7 @@ returns-in-Some-2-clause-replay g c =
     let reads = subst (Reads _ _ c.read.new.buf) c.if-n-eq0.true c.in_ok-n.ensures.ok in
     let last = end-whole c.loop-cutter.cutter c.end.new.self c.end.result inv.cutting c.end.ensures.state c.end.ensures.cut c.in-Whole.is in
     let ran = rw (c.line.ensures, c.in-Some-2.is) at c.in_ok-fault-in-Whole.ensures.ran in
-    rw c.number.ensures.value
+    rw c.number-in-Some-2.ensures.value
     (so_far-end_bad inv.so_far _ c.read.new.buf refl (omega (arith, c.read.auto.buf, inv.room)) reads _ _ _ c.end.new.self.count c.end.new.self.line c.in-Some-2.fault last ran)
 
 pub returns-in-Some-2-clause-settles : goal.returns-in-Some-2-clause-settles

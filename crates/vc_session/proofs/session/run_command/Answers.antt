@@ -105,8 +105,8 @@ returns-in_err-run-in-Some-find_home-clause-err g c =
     let after = map-set (held_of meaning) c.args.homes.now.items c.in-Some-find_home.i c.run.new.self in
     on_err c.from_residual.result (ap (state_of slots) after ∙ state-same slots helds c.in-Some-find_home.i h k at c.requires c.run.ensures.change c.in_err-run-in-Some-find_home.ensures.err)
 
-pub returns-in_err-run-in-Some-find_home-clause-settles_err : goal.returns-in_err-run-in-Some-find_home-clause-settles_err
-returns-in_err-run-in-Some-find_home-clause-settles_err g c =
+pub returns-in_err-run-in-Some-find_home-clause-keeps : goal.returns-in_err-run-in-Some-find_home-clause-keeps
+returns-in_err-run-in-Some-find_home-clause-keeps g c =
     let meaning = (boxed.state-value g.dyn-1).it in
     let slots = slots_of meaning c.args.shelf.now.slots.items in
     let helds = held_all meaning c.args.homes.now.items in
@@ -114,5 +114,15 @@ returns-in_err-run-in-Some-find_home-clause-settles_err g c =
     let at = held-read meaning c.args.homes.now.items c.in-Some-find_home.i c.index_mut.result.now (rw c.deref.ensures.value at c.in-Some-find_home.ensures.within) c.index_mut.ensures.value in
     let k = held_of meaning c.run.new.self in
     let after = map-set (held_of meaning) c.args.homes.now.items c.in-Some-find_home.i c.run.new.self in
-    let stays = subst (λ hs. Settles (settled (accounts slots) helds) (settled (accounts slots) hs) []) (sym after) (settles-none slots helds c.in-Some-find_home.i h k at c.requires c.run.ensures.change) in
-    on_err c.from_residual.result stays
+    subst (λ hs. Settles (settled (accounts slots) helds) (settled (accounts slots) hs) []) (sym after) (settles-none slots helds c.in-Some-find_home.i h k at c.requires c.run.ensures.change)
+
+pub returns-in_ok-run-in-Some-find_home-clause-keeps : goal.returns-in_ok-run-in-Some-find_home-clause-keeps
+returns-in_ok-run-in-Some-find_home-clause-keeps g c =
+    let meaning = (boxed.state-value g.dyn-1).it in
+    let slots = slots_of meaning c.args.shelf.now.slots.items in
+    let helds = held_all meaning c.args.homes.now.items in
+    let h = held_of meaning c.index_mut.result.now in
+    let at = held-read meaning c.args.homes.now.items c.in-Some-find_home.i c.index_mut.result.now (rw c.deref.ensures.value at c.in-Some-find_home.ensures.within) c.index_mut.ensures.value in
+    let k = held_of meaning c.run.new.self in
+    let after = map-set (held_of meaning) c.args.homes.now.items c.in-Some-find_home.i c.run.new.self in
+    subst (λ hs. Settles (settled (accounts slots) helds) (settled (accounts slots) hs) []) (sym after) (settles-none slots helds c.in-Some-find_home.i h k at c.requires c.run.ensures.change)
