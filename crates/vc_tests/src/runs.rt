@@ -70,7 +70,7 @@ fn is_run(rt: &impl Abort, ran: &Ran, status: Status, out: &[u8], err: &[u8]) {
 #[test]
 fn scripts(rt: HostRuntime) -> Result<(), Fail> {
     let alloc = rt.alloc();
-    for piece in [1, 4096] {
+    for piece in [1, 3, 4096] {
         let mut shelf = Shelf::new(alloc);
         assert!(rt; shelf.put(Box::new(alloc, HeapDisc::new(4096))?).is_ok());
         let given = Given {
@@ -99,6 +99,47 @@ fn scripts(rt: HostRuntime) -> Result<(), Fail> {
             },
         )?;
         is_run(&rt, &ran, Status::Ok, b"", b"");
+    }
+    Ok(())
+}
+
+// Whole scripts and their replies, each in pieces of one byte, of three, and whole.
+#[test]
+fn rows(rt: HostRuntime) -> Result<(), Fail> {
+    let alloc = rt.alloc();
+    for (script, replies) in [
+        (
+            b"open r best 1\nalloc r a 100\nalloc r b 1\nfree r a\nalloc r c 100\n".as_slice(),
+            b"r open\na 1:32\nb 1:160\na freed\nc 1:32\n".as_slice(),
+        ),
+        (
+            b"open r best 1\nalloc r a 100\nalloc r b 1\nalloc r c 100\nalloc r d 1\nfree r a\nfree r c\nalloc r e 100\nalloc r f 100\n",
+            b"r open\na 1:32\nb 1:160\nc 1:192\nd 1:320\na freed\nc freed\ne 1:32\nf 1:192\n",
+        ),
+        (
+            b"open r best 1\nalloc r a 1\nfree r x\nfree r a\nclose r\nclose r\n",
+            b"r open\na 1:32\nrefused: no block\na freed\nr closed 1\nrefused: no region\n",
+        ),
+        (b"open r best 1\nclose r", b"r open\nr closed 0\n"),
+        (
+            b"open r best 1\nalloc r a 9\nopen s best 2\nalloc s a 9\nclose r\nopen r best 1\nfree r a\nfree s a\nfree s a\nalloc s a 9\nclose s\n",
+            b"r open\na 1:32\ns open\na 1:32\nr closed 1\nr open\nrefused: no block\na freed\nrefused: no block\na 1:32\ns closed 1\n",
+        ),
+    ] {
+        for piece in [1, 3, 4096] {
+            let mut shelf = Shelf::new(alloc);
+            for _ in 0..2 {
+                assert!(rt; shelf.put(Box::new(alloc, HeapDisc::new(4096))?).is_ok());
+            }
+            let given = Given {
+                script,
+                piece,
+                fails: &[],
+                room: 1000,
+            };
+            let ran = run(alloc, &mut shelf, given)?;
+            is_run(&rt, &ran, Status::Ok, replies, b"");
+        }
     }
     Ok(())
 }
@@ -157,8 +198,7 @@ fn words(rt: HostRuntime) -> Result<(), Fail> {
     Ok(())
 }
 
-// A line of 4,096 bytes is one, also with a CR among them; one byte more is too many, also in a comment. There may be any
-// number of lines.
+// A line of 4,096 bytes is one, also with a CR among them; one byte more is too many, also in a comment.
 #[test]
 fn long_lines(rt: HostRuntime) -> Result<(), Fail> {
     let alloc = rt.alloc();
@@ -183,10 +223,9 @@ fn long_lines(rt: HostRuntime) -> Result<(), Fail> {
             Status::Script,
             b"vmreplay: line 1: line too long\n".as_slice(),
         ),
-        (b'\n', 1_048_577, Status::Ok, b"".as_slice()),
     ] {
         let script = Vec::from_elem(alloc, byte, len)?;
-        for piece in [1000, 4096] {
+        for piece in [1, 3, 4096] {
             let given = Given {
                 script: script.as_slice(),
                 piece,
@@ -220,14 +259,16 @@ fn faults(rt: HostRuntime) -> Result<(), Fail> {
             b"vmreplay: line 1: unknown method or mode\n",
         ),
     ] {
-        let given = Given {
-            script,
-            piece: 4096,
-            fails: &[],
-            room: 0,
-        };
-        let ran = run(alloc, &mut shelf, given)?;
-        is_run(&rt, &ran, Status::Script, b"", line);
+        for piece in [1, 3, 4096] {
+            let given = Given {
+                script,
+                piece,
+                fails: &[],
+                room: 0,
+            };
+            let ran = run(alloc, &mut shelf, given)?;
+            is_run(&rt, &ran, Status::Script, b"", line);
+        }
     }
     Ok(())
 }
