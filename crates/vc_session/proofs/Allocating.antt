@@ -23,7 +23,7 @@ use Rattle.vc_session.specs.Labels.{AreLabels, SameLabels, WithLabel, label_at, 
 use Rattle.vc_session.specs.Account.{Held, IsChange, IsLive, IsNamed, home_of, name_of, named, named_block}
 use Rattle.vc_session.proofs.Ends.{ends_more, front_same}
 use Rattle.vc_session.proofs.Named.{named_answer, best_alloc-named, named-alike}
-use Rattle.vc_session.proofs.Names.{isnamed-same, live-other, named-more, named-put, named-same, name_of-new}
+use Rattle.vc_session.proofs.Names.{isnamed-same, live-other, named-put, named-same}
 
 -- where a block was put, and what is left of the lists
 pub placed_at : {L : Type 0} (answer : Allocated L) (a : ℕ) (r : Region L) → IsPlaced answer a r → answer ≡ Placed (place_of a) r

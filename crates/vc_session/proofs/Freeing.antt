@@ -1,18 +1,16 @@
 -- What freeing a block answers, and how it changes the region.
-use Rattle.std.proofs.Common.{◌≡◌, ◌≢◌, ℕ, ◌+◌, ◌-◌, ◌<◌, zero, suc, Bool, true, false, ◌||◌, cond, is_some, List, [], ◌∷◌, Option, Some, None, length, get_or, map, take, refl, sym, ap, ◌∙◌, subst, ⊎_elim, arith}
+use Rattle.std.proofs.Common.{◌≡◌, ◌≢◌, ℕ, ◌+◌, ◌-◌, ◌<◌, zero, suc, Bool, true, false, ◌||◌, cond, is_some, List, [], ◌∷◌, Some, None, length, get_or, map, take, refl, sym, ap, ◌∙◌, subst, ⊎_elim, arith}
 use Rattle.std.specs.Prelude.{Contains, find}
-use Rattle.std.specs.List.{AllByRecursion, HoldsAt, list_any, remove}
+use Rattle.std.specs.List.{AllByRecursion, list_any, remove}
 use Rattle.std.specs.Str.{bytes_eq}
 use Rattle.std.proofs.lemmas.Bool.{cases_Bool, false≢true}
 use Rattle.std.proofs.lemmas.List.{get_or-map, length-map}
 use Rattle.std.proofs.lemmas.Option.{same_Some, none-some}
-use Rattle.slab.specs.Slab.{slab_len}
-use Rattle.vc_base.specs.Addr.{address, place_of}
+use Rattle.vc_base.specs.Addr.{address}
 use Rattle.vc_best.specs.Apart.{AreApart}
 use Rattle.vc_best.proofs.Places.{without_block-remove}
 use Rattle.vc_model.specs.Discipline.{Discipline, EndsWith, Kept}
 use Rattle.vc_model.specs.Region.{Block, Region, without_block}
-use Rattle.vc_model.specs.Best.{best_free}
 use Rattle.vc_script.specs.declared.reply.Reply.TheVariants.{Freed}
 use Rattle.vc_script.specs.declared.refusal.Refusal.TheVariants as why
 use Rattle.vc_session.specs.State.{Changed, free_in, freed, has_label, is_block, unchanged}

@@ -1,19 +1,17 @@
 -- Names and tags stay in step as a block is put and as one is freed.
-use Rattle.std.proofs.Common.{◌≡◌, ◌≢◌, ℕ, ◌+◌, ◌<◌, ◌≤◌, zero, suc, Bool, true, false, ◌||◌, cond, is_some, List, [], ◌∷◌, Option, Some, None, length, get_or, map, refl, sym, ap, ◌∙◌, subst, ⊎_elim, arith}
-use Rattle.std.specs.Prelude.{remove, Contains}
-use Rattle.std.specs.List.{AllByRecursion, list_any, HoldsAt}
+use Rattle.std.proofs.Common.{◌≡◌, ◌≢◌, ℕ, ◌+◌, ◌≤◌, Bool, true, false, ◌||◌, cond, is_some, List, [], ◌∷◌, None, length, map, refl, sym, ap, ◌∙◌, subst, ⊎_elim, arith}
+use Rattle.std.specs.List.{AllByRecursion}
 use Rattle.std.specs.Str.{bytes_eq}
 use Rattle.std.proofs.lemmas.Bool.{cases_Bool, false≢true}
-use Rattle.std.proofs.lemmas.Option.{same_Some, none-some}
+use Rattle.std.proofs.lemmas.Option.{none-some}
 use Rattle.std.proofs.lemmas.Slice.Eq.{bytes_eq-Decides}
-use Rattle.slab.specs.Slab.{slab_len}
 use Rattle.vc_base.specs.Addr.{address}
 use Rattle.vc_best.specs.Apart.{AreApart}
 use Rattle.vc_model.specs.Region.{Block, Region, lies_before, with_block}
-use Rattle.vc_session.specs.State.{has_label, is_block}
+use Rattle.vc_session.specs.State.{has_label}
 use Rattle.vc_session.specs.declared.labels.Label.{Label}
 use Rattle.vc_session.specs.declared.labels.Labels.{Labels}
-use Rattle.vc_session.specs.Labels.{AreLabels, SameLabels, WithLabel, WithoutLabel, label_at, tag_of}
+use Rattle.vc_session.specs.Labels.{AreLabels, SameLabels, WithLabel, label_at, tag_of}
 use Rattle.vc_session.specs.Account.{IsLive, IsNamed, name_in, name_of, named_block}
 use Rattle.vc_session.proofs.Named.{with_block-named, named-alike}
 

@@ -33,7 +33,6 @@ use Rattle.vc_session.proofs.Runs.{one_more, run-push}
 use Rattle.vc_session.proofs.Settling.{settles-same, settles-trans}
 use Rattle.vc_script.proofs.Texts.{needs_of-text}
 use Rattle.vc_session.specs.Engine.{IsIdle, IsStep, LineRan}
-use Rattle.vc_seg.specs.declared.method.Method.{Method}
 use Rattle.vc_seg.specs.declared.method.Method.TheVariants.{VmBest}
 
 told-none : (before : Option (List ℕ)) → Told before before []

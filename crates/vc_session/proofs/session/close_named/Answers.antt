@@ -1,7 +1,7 @@
-use Rattle.std.proofs.Common.{ap, ◌∙◌, subst, sym}
+use Rattle.std.proofs.Common.{ap, ◌∙◌}
 use Rattle.vc_seg.specs.contracts.boxed.BoxDynSegDiscSegDisc.TheImpl as boxed
 use Rattle.vc_seg.specs.Shelf.{place_of, slots_of}
-use Rattle.vc_session.specs.Account.{IsSession, accounts, settled, state_of}
+use Rattle.vc_session.specs.Account.{state_of}
 use Rattle.vc_session.specs.Homes.{held_all, held_of}
 use Rattle.vc_session.specs.State.{close_home, is_home}
 use Rattle.vc_session.proofs.Cells.{map-remove}

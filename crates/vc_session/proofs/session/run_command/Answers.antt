@@ -2,9 +2,8 @@ use Rattle.std.proofs.Common.{Err, Ok, OnErr, Result, [], ◌∙◌, ap, subst, 
 use Rattle.std.proofs.lemmas.List.{map-set}
 use Rattle.vc_seg.specs.contracts.boxed.BoxDynSegDiscSegDisc.TheImpl as boxed
 use Rattle.vc_seg.specs.Shelf.{slots_of}
-use Rattle.vc_script.specs.Needs.{need_shown}
 use Rattle.vc_session.specs.Run.{refusal_at}
-use Rattle.vc_session.specs.State.{is_home, region_step, step_of}
+use Rattle.vc_session.specs.State.{is_home, region_step}
 use Rattle.vc_session.specs.Account.{IsSession, Settles, accounts, settled, state_of}
 use Rattle.vc_session.specs.Homes.{held_all, held_of}
 use Rattle.vc_session.proofs.Changing.{found-change, session-change, settles-none, settles-reply, state-same, step-change}

@@ -1,4 +1,4 @@
-use Rattle.std.proofs.Common.{◌≡◌, ◌+◌, ◌<◌, length, is_some, true, false, None, sym, ap, subst, Err, arith, ◌∙◌}
+use Rattle.std.proofs.Common.{◌≡◌, ◌<◌, length, is_some, true, false, None, sym, ap, subst, Err, arith, ◌∙◌}
 use Rattle.vc_seg.specs.contracts.boxed.BoxDynSegDiscSegDisc.TheImpl as boxed
 use Rattle.vc_session.specs.Account.{name_of}
 use Rattle.vc_session.specs.Homes.{held_of}
