@@ -4,4 +4,10 @@
 #[cfg(test)]
 mod calls;
 #[cfg(test)]
+mod forms;
+#[cfg(test)]
+mod prints;
+#[cfg(test)]
 mod runs;
+#[cfg(test)]
+mod session;
