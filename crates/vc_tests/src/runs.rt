@@ -71,6 +71,7 @@ fn is_run(rt: &impl Abort, ran: &Ran, status: Status, out: &[u8], err: &[u8]) {
 fn scripts(rt: HostRuntime) -> Result<(), Fail> {
     let alloc = rt.alloc();
     for piece in [1, 3, 4096] {
+        assert!(rt; 1 <= piece);
         let mut shelf = Shelf::new(alloc);
         assert!(rt; shelf.put(Box::new(alloc, HeapDisc::new(4096))?).is_ok());
         let given = Given {
@@ -129,6 +130,7 @@ fn rows(rt: HostRuntime) -> Result<(), Fail> {
         for piece in [1, 3, 4096] {
             let mut shelf = Shelf::new(alloc);
             for _ in 0..2 {
+                assert!(rt; shelf.len() < 2);
                 assert!(rt; shelf.put(Box::new(alloc, HeapDisc::new(4096))?).is_ok());
             }
             let given = Given {
