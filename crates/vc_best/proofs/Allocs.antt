@@ -20,7 +20,7 @@ use Rattle.vc_best.proofs.Bytes.{bytes_of_number-push}
 use Rattle.vc_best.proofs.Gaps.{best_gap-IsBestGap, least-None}
 use Rattle.vc_best.proofs.Clear.{unused-no_slot, unused-clear, best_gap-clear}
 use Rattle.vc_best.proofs.Rounding.{IsAligned-from_IsAlign, IsAligned, IsSegmentSize-asked, round_up-least}
-use Rattle.vc_best.proofs.Regions.{IsSlotAt, IsSlotAt-gap, footprints-blocks, region_of-with_slot, region_of-push, IsLayout-push, IsLayout-with_slot}
+use Rattle.vc_best.proofs.Regions.{IsSlotAt, IsSlotAt-gap, footprints-blocks, block_in-zeros, region_of-with_slot, region_of-push, IsLayout-push, IsLayout-with_slot}
 
 abbrev pub place_of : ℕ → Run → ℕ × ℕ
 place_of align g = (g.seg, lowest_offset align g)
@@ -109,7 +109,7 @@ module _ (segs : List Bytes) (slots : List Slot) (round size align n bytes : ℕ
   long = length-replicate {A = ℕ} bytes 0
 
   IsRegionSegment-lent : IsRegionSegment (zeroed n bytes)
-  IsRegionSegment-lent = record { first = asked.first; last = asked.last; size = subst IsSegmentSize (sym long) legal; zeros = ap (λ k. replicate k 0) (sym long) }
+  IsRegionSegment-lent = record { first = asked.first; last = asked.last; size = subst IsSegmentSize (sym long) legal }
 
   fits : span size + align ≤ bytes
   fits =
@@ -140,9 +140,12 @@ module _ (segs : List Bytes) (slots : List Slot) (round size align n bytes : ℕ
   put_at-lent tag =
       let same : with_segment (region_of segs slots) (n, bytes) ≡ region_of (with_lent segs n bytes) slots =
       ap (λ k. with_segment (region_of segs slots) (n, k)) (sym long) ∙ sym (region_of-push segs (zeroed n bytes) slots l.blocks) in
-      let all = (IsLayout-push segs (zeroed n bytes) slots l few IsRegionSegment-lent unused).segments in
+      let s = slot_at tag size (n, align) in
+      let room = fits in
+      let low = round_up-least (size + 16) 32 (omega arith) in
+      let new = block_in-zeros (with_lent segs n bytes) s bytes (bytes_of_number-push (zeroed n bytes) segs unused) (omega arith) in
       ap (λ region. put_at region tag size (n, align)) same
-      ∙ ap (Placed (n, align)) (sym (region_of-with_slot (with_lent segs n bytes) (slot_at tag size (n, align)) slots all (IsSlotIn-lent tag)))
+      ∙ ap (Placed (n, align)) (sym (region_of-with_slot (with_lent segs n bytes) (slot_at tag size (n, align)) slots new))
 
   pub best_alloc-lent : (tag : ℕ) → best_gap (map pair_of segs) (runs_of slots) size align ≡ None →
       best_alloc round (region_of segs slots) tag size align false ≡ Placed (n, align) (region_of (with_lent segs n bytes) (with_slot (slot_at tag size (n, align)) slots))

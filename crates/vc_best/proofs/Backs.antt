@@ -1,14 +1,18 @@
 -- A segment that is taken back.
-use Rattle.std.proofs.Common.{◌≡◌, ℕ, zero, suc, ◌+◌, ◌-◌, ◌<◌, ◌≤◌, ◌≢◌, List, [], ◌∷◌, ◌++◌, true, false, All, AllPairs, Contains, length, get_or, map, take, drop, refl, ap, sym, subst, ◌∙◌, eqb, arith}
+use Rattle.std.proofs.Common.{◌≡◌, ℕ, zero, suc, ◌+◌, ◌-◌, ◌<◌, ◌≤◌, ◌≢◌, List, [], ◌∷◌, ◌++◌, Bool, true, false, not, All, AllPairs, Contains, length, get_or, map, filter, take, refl, ap, sym, subst, ◌∙◌, ⊎_elim, eqb, leb, arith}
+use Rattle.std.specs.Prelude.{◌==◌, ◌&&◌, ◌||◌}
 use Rattle.std.specs.List.{list_any, remove}
-use Rattle.std.proofs.lemmas.Bool.{eq-eqb, ne_eqb, and_from, and_left, or_from, or_left, or_right}
+use Rattle.std.proofs.lemmas.Bool.{cases_Bool, eq-eqb, ne_eqb, eqb-true, le-leb, lt-leb, and_from, and_left, or_from, or_left, or_right}
+use Rattle.std.proofs.lemmas.Bool.Decides.{nat_tests}
 use Rattle.std.proofs.lemmas.List.{length-append, length-map, take_at, get_or-map}
-use Rattle.std.proofs.lemmas.List.Elements.{All-head, All-tail, All-cons, All-append, All-take, All-drop, Contains-append_right}
+use Rattle.std.proofs.lemmas.List.Elements.{All-head, All-tail, Contains-append_right, filter_agree}
 use Rattle.std.proofs.lemmas.List.Folds.{list_any-append}
-use Rattle.std.proofs.lemmas.List.Quantifiers.{all_pairs_remove}
 use Rattle.vc_model.specs.Discipline.{Discipline, EndsWith, same_pair, without_last}
 use Rattle.vc_seg.specs.Segment.{Bytes, pair_of}
-use Rattle.vc_best.specs.Close.{TakesBack, AreNumberedFrom}
+use Rattle.vc_best.specs.declared.slot.Slot.{Slot}
+use Rattle.vc_best.specs.Slot.{has_slot}
+use Rattle.vc_best.specs.Close.{TakesBack, has_other_number, is_kept}
+use Rattle.vc_best.proofs.Filters.{filter-filter, filter-all, filter-agree_on}
 use Rattle.vc_best.proofs.Bytes.{Apart, Apart-tail}
 
 same_pair-self : (p : ℕ × ℕ) → same_pair p p ≡ true
@@ -54,30 +58,56 @@ module _ (ss : List Bytes) (i : ℕ) (s : Bytes) (lt : i < length ss) (at : s �
       let last : without_last (pair_of s) (map pair_of ss) ≡ map pair_of (remove ss i) = subst (λ (t : Bytes). without_last (pair_of t) (map pair_of ss) ≡ map pair_of (remove ss i)) (sym at) (without_last-at ss i s h lt) in
       without_last-append (pair_of s) rest (map pair_of ss) among ∙ ap (λ (zs : List (ℕ × ℕ)). rest ++ zs) last
 
-All-remove : (P : Bytes → Type 0) (ss : List Bytes) (i : ℕ) → All P ss → All P (remove ss i)
-All-remove P ss i h = All-append P (take i ss) (drop (suc i) ss) (All-take P i ss h) (All-drop P (suc i) ss h)
-
-above : (n : ℕ) (ss : List Bytes) (i : ℕ) (d : Bytes) → AllPairs Apart ss → i < length ss → (get_or ss i d).number ≡ n → All (λ b. n ≤ b.number) ss → All (λ b. n + 1 ≤ b.number) (remove ss i)
-above n [] i d h lt at low = absurd (omega arith)
-above n (s ∷ ss) zero d h lt at low =
-    λ k e within.
-    let apart : s.number ≢ (get_or ss k e).number = Apart-head s ss h k e within in
-    let least : n ≤ (get_or ss k e).number = All-tail (λ b. n ≤ b.number) s ss low k e within in
-    let other : n ≢ (get_or ss k e).number = λ q. apart (at ∙ q) in
-    omega arith
-above n (s ∷ ss) (suc i) d h lt at low =
+-- the segment of a number taken out, where there is one
+pub remove-other : (n : ℕ) (ss : List Bytes) (i : ℕ) (d : Bytes) → AllPairs Apart ss → i < length ss → (get_or ss i d).number ≡ n → remove ss i ≡ filter (has_other_number n) ss
+remove-other n [] i d h lt at = absurd (omega arith)
+remove-other n (s ∷ ss) zero d h lt at =
+    rw (eq-eqb s.number n at)
+    (sym (filter-all (has_other_number n) ss (λ k e within. let other : s.number ≢ (get_or ss k e).number = Apart-head s ss h k e within in ap not (ne_eqb (get_or ss k e).number n (λ q. other (at ∙ sym q))))))
+remove-other n (s ∷ ss) (suc i) d h lt at =
     let apart : s.number ≢ (get_or ss i d).number = Apart-head s ss h i d (omega arith) in
-    let least : n ≤ s.number = All-head (λ b. n ≤ b.number) s ss low in
-    let other : s.number ≢ n = λ q. apart (q ∙ sym at) in
-    All-cons (λ b. n + 1 ≤ b.number) s (remove ss i) (omega arith) (above n ss i d (Apart-tail s ss h) (omega arith) at (All-tail (λ b. n ≤ b.number) s ss low))
+    rw (ne_eqb s.number n (λ q. apart (q ∙ sym at))) (ap (λ bs. s ∷ bs) (remove-other n ss i d (Apart-tail s ss h) (omega arith) at))
 
-pub AreNumberedFrom-remove : (n : ℕ) (ss : List Bytes) (i : ℕ) (d : Bytes) → AreNumberedFrom n ss → i < length ss → (get_or ss i d).number ≡ n → AreNumberedFrom (n + 1) (remove ss i)
-AreNumberedFrom-remove n ss i d h lt at =
-    record {
-      distinct = all_pairs_remove Apart ss i lt h.distinct;
-      first = above n ss i d h.distinct lt at h.first;
-      last = All-remove (λ b. b.number ≤ 1023) ss i h.last;
-    }
+pub none-other : (n : ℕ) (ss : List Bytes) → All (λ b. b.number ≢ n) ss → filter (has_other_number n) ss ≡ ss
+none-other n ss h = filter-all (has_other_number n) ss (λ k d lt. ap not (ne_eqb (get_or ss k d).number n (h k d lt)))
+
+pub is_kept-occupied : (slots : List Slot) (n : ℕ) (ss : List Bytes) → has_slot slots n ≡ true → filter (is_kept slots n) ss ≡ ss
+is_kept-occupied slots n ss here =
+    filter-all (is_kept slots n) ss
+    (λ k d lt.
+    let m = (get_or ss k d).number in
+    ⊎_elim
+    (λ e. or_left (has_slot slots m) (not (m == n)) (ap (has_slot slots) (eqb-true m n e) ∙ here))
+    (λ e. or_right (has_slot slots m) (not (m == n)) (ap not e))
+    (cases_Bool (eqb m n)))
+
+pub is_kept-empty : (slots : List Slot) (n : ℕ) (ss : List Bytes) → has_slot slots n ≡ false → filter (has_other_number n) ss ≡ filter (is_kept slots n) ss
+is_kept-empty slots n ss none =
+    filter_agree (has_other_number n) (is_kept slots n)
+    (λ b.
+    ⊎_elim
+    (λ e. rw (e, ap (has_slot slots) (eqb-true b.number n e) ∙ none) refl)
+    (λ e. rw e (sym (or_right (has_slot slots b.number) true refl)))
+    (cases_Bool (eqb b.number n)))
+    ss
+
+-- whether a segment stays where each one below a number goes unless a slot is in it
+abbrev pub stays_from : List Slot → ℕ → Bytes → Bool
+stays_from slots n b = leb n b.number || has_slot slots b.number
+
+pub stays_from-first : (slots : List Slot) (ss : List Bytes) → All (λ b. 1 ≤ b.number) ss → filter (stays_from slots 1) ss ≡ ss
+stays_from-first slots ss h =
+    filter-all (stays_from slots 1) ss (λ k d lt. or_left (leb 1 (get_or ss k d).number) (has_slot slots (get_or ss k d).number) (le-leb 1 (get_or ss k d).number (h k d lt)))
+
+pub stays_from-more : (slots : List Slot) (n : ℕ) (ss : List Bytes) → filter (is_kept slots n) (filter (stays_from slots n) ss) ≡ filter (stays_from slots (n + 1)) ss
+stays_from-more slots n ss =
+    filter-filter (stays_from slots n) (is_kept slots n) ss
+    ∙ filter_agree (λ b. stays_from slots n b && is_kept slots n b) (stays_from slots (n + 1)) (λ b. grind (arith, nat_tests)) ss
+
+pub stays_from-last : (slots : List Slot) (n : ℕ) (ss : List Bytes) → All (λ b. b.number ≤ 1023) ss → 1024 ≤ n → filter (stays_from slots n) ss ≡ filter (λ b. has_slot slots b.number) ss
+stays_from-last slots n ss h le =
+    filter-agree_on (stays_from slots n) (λ b. has_slot slots b.number) ss
+    (λ k d lt. let last = h k d lt in rw (lt-leb n (get_or ss k d).number (omega (arith, last))) refl)
 
 pub Contains-ends : (out ys : List (ℕ × ℕ)) (p : ℕ × ℕ) → EndsWith out ys → Contains ys p → Contains out p
 Contains-ends out ys p e h = subst (λ (o : List (ℕ × ℕ)). Contains o p) e (Contains-append_right (take (length out - length ys) out) ys p h)
@@ -96,14 +126,6 @@ EndsWith-left a b held left h e =
     let n : length b.out ≡ length rest + length left = ap length o ∙ length-append rest left in
     let t : take (length b.out - length left) b.out ≡ rest = ap (take (length b.out - length left)) o ∙ take_at rest left (length b.out - length left) (omega arith) in
     ap (λ (xs : List (ℕ × ℕ)). xs ++ left) t ∙ sym o
-
--- none is numbered above the last number
-pub AreNumberedFrom-none : (n : ℕ) (ss : List Bytes) → AreNumberedFrom n ss → 1024 ≤ n → ss ≡ []
-AreNumberedFrom-none n [] h le = refl
-AreNumberedFrom-none n (s ∷ ss) h le =
-    let first = All-head (λ b. n ≤ b.number) s ss h.first in
-    let last = All-head (λ b. b.number ≤ 1023) s ss h.last in
-    absurd (omega arith)
 
 pub TakesBack-all : (a b : Discipline) (held : List (ℕ × ℕ)) (ss : List Bytes) → TakesBack a b held (map pair_of ss) → ss ≡ [] → TakesBack a b held []
 TakesBack-all a b held ss h none = subst (TakesBack a b held) (ap (map pair_of) none) h

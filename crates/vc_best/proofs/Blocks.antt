@@ -47,6 +47,16 @@ IsUsable-slot segs s a e here =
     let of : Any (OfSegment s.seg (s.off - 16) (s.off - 16 + span s.size)) (map pair_of segs) = usable-number s.seg (s.off - 16) (s.off - 16 + span s.size) segs (omega (arith, first)) here.within in
     subst (λ p. IsUsable (map pair_of segs) (footprint_at s.size p)) (sym e) of
 
+-- and so does each block of a layout
+pub IsUsable-blocks : (segs : List Bytes) (slots : List Slot) → All (IsSlotIn segs) slots → All (λ b. IsUsable (map pair_of segs) (footprint b)) (map (block_in segs) slots)
+IsUsable-blocks segs slots h =
+    All-map (λ (b : Block ℕ). IsUsable (map pair_of segs) (footprint b)) (block_in segs) slots
+    (λ k d lt.
+    let s : Slot = get_or slots k d in
+    let here : IsSlotIn segs s = h k d lt in
+    let first : 32 ≤ s.off = here.slot.first in
+    usable-number s.seg (s.off - 16) (s.off - 16 + span s.size) segs (omega (arith, first)) here.within)
+
 -- a block overlaps none where its slot overlaps none
 pub IsApartFrom-blocks : (segs : List Bytes) (slots : List Slot) (size a : ℕ) (at : ℕ × ℕ) → place_of a ≡ at → All (λ t. IsApart (footprint_at size at) (run_of_slot t)) slots → IsApartFrom (map (block_in segs) slots) size (place_of a)
 IsApartFrom-blocks segs slots size a at e h =

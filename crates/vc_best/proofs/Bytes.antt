@@ -1,19 +1,11 @@
 -- The bytes of the segment of a number.
-use Rattle.std.proofs.Common.{◌≡◌, ℕ, zero, suc, ◌<◌, ◌≤◌, ◌≢◌, List, [], ◌∷◌, ◌++◌, false, All, AllPairs, length, get_or, map, replicate, refl, ⊎_elim, eqb, arith}
+use Rattle.std.proofs.Common.{◌≡◌, ℕ, zero, suc, ◌<◌, ◌≤◌, ◌≢◌, List, [], ◌∷◌, ◌++◌, false, All, AllPairs, length, get_or, map, refl, ⊎_elim, eqb, arith}
 use Rattle.std.proofs.lemmas.Bool.{cases_Bool, or_parts, eq-eqb, ne_eqb}
 use Rattle.std.proofs.lemmas.List.Elements.{All-head, All-tail}
 use Rattle.vc_model.specs.Segments.{numbers}
 use Rattle.vc_seg.specs.Segment.{Bytes, pair_of}
 use Rattle.vc_best.specs.Layout.{bytes_of_number, IsRegionSegment}
 use Rattle.vc_best.proofs.Unused.{is_among}
-
-pub bytes_of_number-zeros : (n : ℕ) (segs : List Bytes) → All IsRegionSegment segs → bytes_of_number n segs ≡ replicate (length (bytes_of_number n segs)) 0
-bytes_of_number-zeros n [] h = refl
-bytes_of_number-zeros n (s ∷ ss) h =
-    ⊎_elim
-    (λ e. rw e ((All-head IsRegionSegment s ss h).zeros))
-    (λ e. rw e (bytes_of_number-zeros n ss (All-tail IsRegionSegment s ss h)))
-    (cases_Bool (eqb s.number n))
 
 pub bytes_of_number-most : (n : ℕ) (segs : List Bytes) → All IsRegionSegment segs → length (bytes_of_number n segs) ≤ 33554432
 bytes_of_number-most n [] h = omega arith

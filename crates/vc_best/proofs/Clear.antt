@@ -48,7 +48,7 @@ record IsBetween (n from : ℕ) (fs : List Run) (g : Run) : Type 0 where
   behind : from ≤ g.from
   beside : All (Beside g) fs
 
-run_of-All : (P : Run → Type 0) (n from to : ℕ) → (from < to → P (record { seg = n; from = from; to = to })) → All P (run_of n from to)
+pub run_of-All : (P : Run → Type 0) (n from to : ℕ) → (from < to → P (record { seg = n; from = from; to = to })) → All P (run_of n from to)
 run_of-All P n from to h =
     ⊎_elim
     (λ e. rw e (All-cons P (record { seg = n; from = from; to = to }) [] (h (ltb-true from to e)) (All-nil P)))

@@ -1,9 +1,10 @@
 -- Of blocks that don't overlap, one alone stands at each place.
-use Rattle.std.proofs.Common.{◌≡◌, ℕ, zero, suc, ◌%◌, ◌<◌, List, [], ◌∷◌, true, All, length, get_or, map, refl, ap, sym, ◌∙◌, ⊎_elim, eqb, arith}
+use Rattle.std.proofs.Common.{◌≡◌, ℕ, zero, suc, ◌%◌, ◌<◌, List, [], ◌∷◌, true, Some, All, length, get_or, map, refl, ap, sym, ◌∙◌, ⊎_elim, eqb, arith}
 use Rattle.std.specs.List.{remove, HoldsAt}
 use Rattle.std.proofs.lemmas.Bool.{cases_Bool, and_parts, and_from, eqb-true, eq-eqb}
 use Rattle.std.proofs.lemmas.List.Elements.{All-map}
 use Rattle.vc_model.specs.Region.{Block, footprint, is_at, without_block}
+use Rattle.vc_model.specs.Touch.{find_block}
 use Rattle.vc_base.specs.Addr.{address, place_of}
 use Rattle.vc_seg.specs.Segment.{Bytes}
 use Rattle.vc_best.specs.Apart.{EndsBefore, AreApart}
@@ -34,6 +35,19 @@ without_block-remove {L = L} (b ∷ bs) (suc i) d h lt =
     ⊎_elim
     (λ e. absurd (not_at b c (AllPairs-head R b bs h i d within) e))
     (λ e. rw e (ap (λ cs. b ∷ cs) (without_block-remove bs i d (AllPairs-tail R b bs h) within)))
+    (cases_Bool (is_at (c.seg, c.off) b))
+
+-- of blocks that don't overlap, the one at a place is found there
+pub find_block-at : {L : Type 0} (blocks : List (Block L)) (i : ℕ) (d : Block L) → AreApart blocks → i < length blocks → find_block ((get_or blocks i d).seg, (get_or blocks i d).off) blocks ≡ Some (get_or blocks i d)
+find_block-at [] i d h lt = absurd (omega (arith, lt))
+find_block-at (b ∷ bs) zero d h lt = rw (and_from (eqb b.seg b.seg) (eqb b.off b.off) (eq-eqb b.seg b.seg refl) (eq-eqb b.off b.off refl)) refl
+find_block-at {L = L} (b ∷ bs) (suc i) d h lt =
+    let R : Block L → Block L → Type 0 = λ x y. EndsBefore (footprint x) (footprint y) in
+    let c : Block L = get_or bs i d in
+    let within : i < length bs = omega (arith, lt) in
+    ⊎_elim
+    (λ e. absurd (not_at b c (AllPairs-head R b bs h i d within) e))
+    (λ e. rw e (find_block-at bs i d (AllPairs-tail R b bs h) within))
     (cases_Bool (is_at (c.seg, c.off) b))
 
 -- the block at an address is the one that goes with the slot of the address

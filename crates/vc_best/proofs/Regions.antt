@@ -15,7 +15,7 @@ use Rattle.vc_best.specs.Slot.{run_of_slot, runs_of, lies_before_slot, with_slot
 use Rattle.vc_best.specs.Layout.{bytes_of_number, block_in, region_of, IsRegionSegment, IsSlotIn, IsLayout}
 use Rattle.vc_best.specs.Apart.{IsApart}
 use Rattle.vc_best.proofs.Unused.{is_among}
-use Rattle.vc_best.proofs.Bytes.{Apart, bytes_of_number-zeros, bytes_of_number-most, bytes_of_number-append}
+use Rattle.vc_best.proofs.Bytes.{Apart, bytes_of_number-most, bytes_of_number-append}
 use Rattle.vc_best.proofs.Gaps.{IsBestGap}
 use Rattle.vc_best.proofs.Apart.{Before-with_slot, All-with_slot, span-least}
 use Rattle.vc_best.proofs.Rounding.{IsAligned, round_up-least, round_up-mod_32}
@@ -28,17 +28,16 @@ footprints-blocks segs (s ∷ ss) = ap (λ rs. run_of_slot s ∷ rs) (footprints
 pub IsSlotIn-bytes : (segs : List Bytes) (s : Slot) → IsSlotIn segs s → s.off + s.size ≤ length (bytes_of_number s.seg segs)
 IsSlotIn-bytes segs s h = let first : 32 ≤ s.off = h.slot.first in let within = h.within in omega (arith, span-least s.size, first, within)
 
-block_in-zeros : (segs : List Bytes) (s : Slot) → All IsRegionSegment segs → IsSlotIn segs s → block_in segs s ≡ zeros s.tag s.size (s.seg, s.off)
-block_in-zeros segs s h here =
-    let bytes = bytes_of_number s.seg segs in
-    let within : s.off + s.size ≤ length bytes = IsSlotIn-bytes segs s here in
-    let all : take s.size (drop s.off bytes) ≡ replicate s.size 0 =
-    ap (λ b. take s.size (drop s.off b)) (bytes_of_number-zeros s.seg segs h)
-    ∙ (ap (take s.size) (drop-replicate s.off (length bytes) 0) ∙ take-replicate s.size (length bytes - s.off) 0 (omega arith)) in
+-- a block in a segment of zeros
+pub block_in-zeros : (segs : List Bytes) (s : Slot) (size : ℕ) → bytes_of_number s.seg segs ≡ replicate size 0 → s.off + s.size ≤ size → block_in segs s ≡ zeros s.tag s.size (s.seg, s.off)
+block_in-zeros segs s size bytes within =
+    let all : take s.size (drop s.off (bytes_of_number s.seg segs)) ≡ replicate s.size 0 =
+    ap (λ b. take s.size (drop s.off b)) bytes
+    ∙ (ap (take s.size) (drop-replicate s.off size 0) ∙ take-replicate s.size (size - s.off) 0 (omega arith)) in
     let block : List ℕ → Block ℕ = λ b. record { label = s.tag; seg = s.seg; off = s.off; size = s.size; bytes = b } in
     ap block all
 
-blocks-with_slot : (segs : List Bytes) (s : Slot) (slots : List Slot) → map (block_in segs) (with_slot s slots) ≡ with_block (block_in segs s) (map (block_in segs) slots)
+pub blocks-with_slot : (segs : List Bytes) (s : Slot) (slots : List Slot) → map (block_in segs) (with_slot s slots) ≡ with_block (block_in segs s) (map (block_in segs) slots)
 blocks-with_slot segs s [] = refl
 blocks-with_slot segs s (t ∷ ts) =
     ⊎_elim
@@ -46,12 +45,12 @@ blocks-with_slot segs s (t ∷ ts) =
     (λ e. rw e (ap (λ bs. block_in segs t ∷ bs) (blocks-with_slot segs s ts)))
     (cases_Bool (lies_before_slot s.seg s.off t))
 
--- the block in the slot is put among the others
-pub region_of-with_slot : (segs : List Bytes) (s : Slot) (slots : List Slot) → All IsRegionSegment segs → IsSlotIn segs s →
+-- the block in the slot, of zeros, is put among the others
+pub region_of-with_slot : (segs : List Bytes) (s : Slot) (slots : List Slot) → block_in segs s ≡ zeros s.tag s.size (s.seg, s.off) →
     region_of segs (with_slot s slots) ≡ record { segments = map pair_of segs; blocks = with_block (zeros s.tag s.size (s.seg, s.off)) (map (block_in segs) slots) }
-region_of-with_slot segs s slots h here =
+region_of-with_slot segs s slots new =
     let region : List (Block ℕ) → Region ℕ = λ bs. record { segments = map pair_of segs; blocks = bs } in
-    ap region (blocks-with_slot segs s slots ∙ ap (λ b. with_block b (map (block_in segs) slots)) (block_in-zeros segs s h here))
+    ap region (blocks-with_slot segs s slots ∙ ap (λ b. with_block b (map (block_in segs) slots)) new)
 
 pub IsLayout-with_slot : (segs : List Bytes) (s : Slot) (slots : List Slot) → IsLayout segs slots → IsSlotIn segs s → All (λ t. IsApart (run_of_slot s) (run_of_slot t)) slots → IsLayout segs (with_slot s slots)
 IsLayout-with_slot segs s slots l here clear =
@@ -64,7 +63,7 @@ IsLayout-with_slot segs s slots l here clear =
     }
 
 -- a slot has bytes
-stands : (segs : List Bytes) (s : Slot) → IsSlotIn segs s → 0 < length (bytes_of_number s.seg segs)
+pub stands : (segs : List Bytes) (s : Slot) → IsSlotIn segs s → 0 < length (bytes_of_number s.seg segs)
 stands segs s h = let some : 1 ≤ s.size = h.slot.some in let within = IsSlotIn-bytes segs s h in omega arith
 
 IsSlotIn-push : (segs : List Bytes) (b : Bytes) (s : Slot) → IsSlotIn segs s → IsSlotIn (segs ++ b ∷ []) s

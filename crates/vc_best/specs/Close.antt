@@ -1,7 +1,9 @@
--- What closing a region does, segment by segment.
-use Rattle.std.specs.Prelude.{◌≡◌, ◌≢◌, ℕ, ◌≤◌, List, ◌++◌, All, AllPairs}
+-- What closing and compacting a region do, segment by segment.
+use Rattle.std.specs.Prelude.{◌≡◌, ◌≢◌, ℕ, ◌≤◌, List, ◌++◌, All, AllPairs, Bool, not, ◌==◌, ◌||◌}
 use Rattle.vc_model.specs.Discipline.{Discipline}
 use Rattle.vc_seg.specs.Segment.{Bytes}
+use Rattle.vc_best.specs.declared.slot.Slot.{Slot}
+use Rattle.vc_best.specs.Slot.{has_slot}
 
 -- the discipline takes back what is held but not left, and keeps all else that is out
 pub record TakesBack (before after : Discipline) (held left : List (ℕ × ℕ)) : Type 0 where
@@ -9,8 +11,16 @@ pub record TakesBack (before after : Discipline) (held left : List (ℕ × ℕ))
   pub round : after.round ≡ before.round
   pub faults : after.faults ≡ before.faults
 
--- segments with different numbers from n to 1,023
-pub record AreNumberedFrom (n : ℕ) (segs : List Bytes) : Type 0 where
+-- segments with different numbers from 1 to 1,023
+pub record AreNumbered (segs : List Bytes) : Type 0 where
   pub distinct : AllPairs (λ a b. a.number ≢ b.number) segs
-  pub first : All (λ b. n ≤ b.number) segs
+  pub first : All (λ b. 1 ≤ b.number) segs
   pub last : All (λ b. b.number ≤ 1023) segs
+
+-- whether a segment has another number
+abbrev pub has_other_number : ℕ → Bytes → Bool
+has_other_number number b = not (b.number == number)
+
+-- whether a segment stays where the one of a number goes unless a slot is in it
+abbrev pub is_kept : List Slot → ℕ → Bytes → Bool
+is_kept slots number b = has_slot slots b.number || has_other_number number b

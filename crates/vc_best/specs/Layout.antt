@@ -1,5 +1,5 @@
 -- A layout as a region: its segments, and its slots as blocks.
-use Rattle.std.specs.Prelude.{◌≡◌, ◌≢◌, ℕ, ◌+◌, ◌≤◌, List, [], ◌∷◌, All, AllPairs, length, map, replicate, take, drop, ◌==◌, if◌then◌else◌}
+use Rattle.std.specs.Prelude.{◌≢◌, ℕ, ◌+◌, ◌≤◌, List, [], ◌∷◌, All, AllPairs, length, map, take, drop, ◌==◌, if◌then◌else◌}
 use Rattle.vc_model.specs.Discipline.{IsSegmentSize}
 use Rattle.vc_model.specs.Region.{Block, Region}
 use Rattle.vc_seg.specs.Segment.{Bytes, pair_of}
@@ -19,12 +19,11 @@ block_in segs s = record { label = s.tag; seg = s.seg; off = s.off; size = s.siz
 abbrev pub region_of : List Bytes → List Slot → Region ℕ
 region_of segs slots = record { segments = map pair_of segs; blocks = map (block_in segs) slots }
 
--- a segment of zeros, with a number and a size that a region's segment can have
+-- the numbers and sizes that a region's segment can have
 pub record IsRegionSegment (s : Bytes) : Type 0 where
   pub first : 1 ≤ s.number
   pub last : s.number ≤ 1023
   pub size : IsSegmentSize (length s.bytes)
-  pub zeros : s.bytes ≡ replicate (length s.bytes) 0
 
 -- a slot that lies in the usable part of a segment of these, all but its first and its last 16 bytes
 pub record IsSlotIn (segs : List Bytes) (s : Slot) : Type 0 where

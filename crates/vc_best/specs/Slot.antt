@@ -1,5 +1,6 @@
 -- A slot: a block's place, size and tag.
-use Rattle.std.specs.Prelude.{◌≡◌, ℕ, ◌+◌, ◌-◌, ◌%◌, ◌<◌, ◌≤◌, List, [], ◌∷◌, Bool, map, nat_lt, ◌==◌, ◌&&◌, ◌||◌, if◌then◌else◌}
+use Rattle.std.specs.Prelude.{◌≡◌, ℕ, ◌+◌, ◌-◌, ◌%◌, ◌<◌, ◌≤◌, List, [], ◌∷◌, Bool, map, nat_le, nat_lt, ◌==◌, ◌&&◌, ◌||◌, if◌then◌else◌}
+use Rattle.std.specs.List.{list_any}
 use Rattle.vc_model.specs.Segments.{span}
 use Rattle.vc_model.specs.Gap.{Run}
 use Rattle.vc_best.specs.declared.slot.Slot.{Slot}
@@ -32,7 +33,19 @@ with_slot s (t ∷ ts) = if lies_before_slot s.seg s.off t then s ∷ t ∷ ts e
 abbrev pub place_of_slot : Slot → ℕ × ℕ
 place_of_slot s = (s.seg, s.off)
 
+-- whether a slot is at a place, as segment and offset
+abbrev pub is_slot_at : ℕ × ℕ → Slot → Bool
+is_slot_at at s = (s.seg == at.0) && (s.off == at.1)
+
 -- the slots without the one at a place
 abbrev pub without_slot : ℕ × ℕ → List Slot → List Slot
 without_slot at [] = []
 without_slot at (s ∷ ss) = if (s.seg == at.0) && (s.off == at.1) then ss else s ∷ without_slot at ss
+
+-- whether a slot is in the segment of that number
+abbrev pub has_slot : List Slot → ℕ → Bool
+has_slot slots number = list_any (λ s. s.seg == number) slots
+
+-- whether the block in a slot holds the byte at a place, as segment and offset
+abbrev pub slot_holds_byte : ℕ × ℕ → Slot → Bool
+slot_holds_byte at s = (s.seg == at.0) && (nat_le s.off at.1 && nat_lt at.1 (s.off + s.size))

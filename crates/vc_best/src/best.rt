@@ -1,10 +1,14 @@
-ghost use Rattle.std.specs.Prelude.{◌≡◌, ◌≢◌, ℕ, Contains, map, ◌+◌, ◌≤◌, ◌<◌, ◌⊎◌, ◌++◌, ◌↔◌, [], drop, length, IfOk, IfErr, IfSome, OnErr, OnOk, IsErrOf, Err, true, false};
+ghost use Rattle.std.specs.Prelude.{◌≡◌, ◌≢◌, ℕ, All, Contains, map, ◌+◌, ◌≤◌, ◌<◌, ◌⊎◌, ◌++◌, ◌↔◌, List, [], drop, length, option_map, IfOk, IfErr, IfSome, OnErr, OnOk, IsErrOf, Err, true, false};
 ghost use Rattle.std.specs.List.{HoldsAt, remove};
 ghost use Rattle.vc_model.specs.Best.{best_alloc, best_free, TooManySegments, NoSegment};
+ghost use Rattle.vc_model.specs.Compact.{cleared, compact_count, compacted};
 ghost use Rattle.vc_model.specs.Count.{Rose};
 ghost use Rattle.vc_model.specs.Discipline.{EndsWith, Kept};
+ghost use Rattle.vc_model.specs.Numbers.{block_bytes, block_count, gap_bytes, gap_count, greatest_block, greatest_gap, segment_bytes, segment_count};
 ghost use Rattle.vc_model.specs.Place.{IsAlign};
+ghost use Rattle.vc_model.specs.Region.{footprint};
 ghost use Rattle.vc_model.specs.Segments.{round_up, span};
+ghost use Rattle.vc_model.specs.Walk.{block_at, next_block, next_segment, segment_at};
 ghost use Rattle.vc_base.specs.Addr.{address, place_of};
 ghost use Rattle.vc_best.specs.Alloc.{IsPlaced};
 ghost use Rattle.vc_best.specs.Apart.{AreApart, IsApartFrom, IsUsable, footprint_at};
@@ -12,7 +16,7 @@ ghost use Rattle.vc_best.specs.Apart.{AreApart, IsApartFrom, IsUsable, footprint
 use crate::layout::Layout;
 use std::alloc::Global;
 use vc_base::{Addr, OutOfMemory, Steps};
-use vc_seg::{RegionFault, SegDisc};
+use vc_seg::{RegionFault, SegDisc, Stat};
 
 /// A region by exact best fit over the segments of a discipline, after Vmalloc's `Vmbest`. Sizes and offsets are in
 /// bytes.
@@ -102,6 +106,78 @@ impl Best {
     {
         let _ = steps;
         self.layout.free(a);
+    }
+
+    /// Frees all its blocks, and keeps its segments.
+    pub fn clear<L>(&mut self, steps: &mut Steps<L>)
+        ensures layout { self.new.layout ≡ cleared self.old.layout }
+        ensures disc { state self.new.disc ≡ state self.old.disc }
+    {
+        let _ = steps;
+        self.layout.clear();
+    }
+
+    /// Gives back each segment without a block, in ascending order of number, and answers how many those were.
+    pub fn compact<L>(&mut self, steps: &mut Steps<L>) -> u32
+        requires { EndsWith (state self.old.disc).out self.old.layout.segments }
+        ensures layout { self.new.layout ≡ compacted self.old.layout }
+        ensures count { result ≡ compact_count self.old.layout }
+        ensures usable { All (λ b. IsUsable self.new.layout.segments (footprint b)) self.new.layout.blocks }
+        ensures all_apart { AreApart self.new.layout.blocks }
+
+        // What becomes of the discipline.
+        ensures out { (rest : List (ℕ × ℕ)) → (state self.old.disc).out ≡ rest ++ self.old.layout.segments → (state self.new.disc).out ≡ rest ++ self.new.layout.segments }
+        ensures round { (state self.new.disc).round ≡ (state self.old.disc).round }
+        ensures faults { (state self.new.disc).faults ≡ (state self.old.disc).faults }
+    {
+        let _ = steps;
+        self.layout.compact(&mut self.disc)
+    }
+
+    /// The block whose bytes hold the byte at an offset of a segment, and the offset in the block. None where no block
+    /// does.
+    pub fn block_at(&self, seg: u32, off: u32) -> Option<(Addr, u32)>
+        ensures value { option_map {U = ℕ × ℕ} (λ f. (f.0.0, f.1)) result ≡ option_map {U = ℕ × ℕ} (λ f. (address (f.0.seg, f.0.off), f.1)) (block_at (seg, off) self.now.layout.blocks) }
+        ensures live { IfSome result (λ f. Contains (map (λ b. address (b.seg, b.off)) self.now.layout.blocks) f.0.0) }
+    {
+        self.layout.block_at(seg, off)
+    }
+
+    /// The size of the segment of that number, where it has a byte at that offset, else None.
+    pub fn segment_at(&self, seg: u32, off: u32) -> Option<u32>
+        ensures { result ≡ segment_at (seg, off) self.now.layout.segments }
+    {
+        self.layout.segment_at(seg, off)
+    }
+
+    /// The segment with the least number above one, as number and size. A walk begins with 0, and ends with None.
+    pub fn next_segment(&self, after: u32) -> Option<(u32, u32)>
+        ensures { result ≡ next_segment after self.now.layout.segments }
+    {
+        self.layout.next_segment(after)
+    }
+
+    /// The block behind one in order of addresses. A walk begins with `Addr::NONE`, and ends with None.
+    pub fn next_block(&self, after: Addr) -> Option<Addr>
+        requires { (after.0 ≡ 0) ⊎ Contains (map (λ b. address (b.seg, b.off)) self.now.layout.blocks) after.0 }
+        ensures value { option_map (λ a. a.0) result ≡ option_map (λ b. address (b.seg, b.off)) (next_block (place_of after.0) self.now.layout.blocks) }
+        ensures live { IfSome result (λ a. Contains (map (λ b. address (b.seg, b.off)) self.now.layout.blocks) a.0) }
+    {
+        self.layout.next_block(after)
+    }
+
+    /// Its numbers of blocks, gaps and segments, and their sizes in bytes.
+    pub fn stat(&self) -> Stat
+        ensures busy { result.busy ≡ block_count self.now.layout }
+        ensures free { result.free ≡ gap_count self.now.layout }
+        ensures sbusy { result.sbusy ≡ block_bytes self.now.layout }
+        ensures sfree { result.sfree ≡ gap_bytes self.now.layout }
+        ensures mbusy { result.mbusy ≡ greatest_block self.now.layout }
+        ensures mfree { result.mfree ≡ greatest_gap self.now.layout }
+        ensures segs { result.segs ≡ segment_count self.now.layout }
+        ensures extent { result.extent ≡ segment_bytes self.now.layout }
+    {
+        self.layout.stat()
     }
 
     /// Gives all its segments back, in ascending order of number, and answers with the discipline and how many there

@@ -1,32 +1,39 @@
-ghost use Rattle.std.specs.Prelude.{◌≡◌, ℕ, Contains, map, ◌+◌, ◌≤◌, ◌<◌, ◌⊎◌, ◌++◌, [], None, Some, drop, length, vec_len, vec_capacity, IfOk, IfErr, IfSome, OnErr, OnOk, IsErrOf, Err, ◌↔◌, ◌≢◌, true, false};
+ghost use Rattle.std.specs.Prelude.{◌≡◌, ℕ, All, Contains, map, ◌+◌, ◌≤◌, ◌<◌, ◌⊎◌, ◌++◌, [], None, Some, drop, option_map, length, vec_len, vec_capacity, IfOk, IfErr, IfSome, OnErr, OnOk, IsErrOf, Err, ◌↔◌, ◌≢◌, true, false};
 ghost use Rattle.std.specs.List.{HoldsAt, remove};
 ghost use Rattle.vc_model.specs.Best.{best_alloc, best_free, place_in, put_at, TooManySegments, NoSegment};
+ghost use Rattle.vc_model.specs.Compact.{cleared, compact_count, compacted};
 ghost use Rattle.vc_model.specs.Count.{Rose};
 ghost use Rattle.vc_model.specs.Discipline.{EndsWith, Kept};
+ghost use Rattle.vc_model.specs.Numbers.{block_bytes, block_count, gap_bytes, gap_count, greatest_block, greatest_gap, segment_bytes, segment_count};
 ghost use Rattle.vc_model.specs.Place.{IsAlign};
+ghost use Rattle.vc_model.specs.Region.{footprint};
 ghost use Rattle.vc_model.specs.Segments.{round_up, span};
+ghost use Rattle.vc_model.specs.Walk.{block_at, next_block, next_segment, segment_at};
 ghost use Rattle.vc_base.specs.Addr.{address, place_of};
 ghost use Rattle.vc_best.specs.Alloc.{IsPlaced};
 ghost use Rattle.vc_best.specs.Apart.{AreApart, IsApartFrom, IsUsable, footprint_at};
 ghost use Rattle.vc_best.specs.Close.{TakesBack};
 
-use crate::close::give_back_all;
 use crate::fit::best_gap;
 use crate::free::take_out;
 use crate::gap::{rounded_up, span_of};
+use crate::give_back::give_back_empty;
 use crate::lend::{lend_segment, round_of};
 use crate::number::lowest_unused;
+use crate::range::fill_in;
 use crate::slot::Slot;
+use crate::stat::{tally_gaps, tally_segments, tally_slots};
+use crate::walk::{next_segment, next_slot, segment_at, slot_at};
 use std::alloc::Global;
 use std::marker::Model;
 use vc_base::Addr;
-use vc_seg::{RegionFault, SegDisc, Segment};
+use vc_seg::{RegionFault, SegDisc, Segment, Stat};
 
 /// The segments in order of lending and the blocks by address.
 #[derive(Drop)]
 pub struct Layout {
-    segs: Vec<Segment>,
-    blocks: Vec<Slot>,
+    pub(crate) segs: Vec<Segment>,
+    pub(crate) blocks: Vec<Slot>,
 }
 
 impl Model for Layout {
@@ -97,6 +104,7 @@ impl Layout {
         ensures all_apart { AreApart self.new.blocks }
     {
         reserve_one(&mut self.blocks)?;
+        fill_in(&mut self.segs, seg, off, size, 0);
         Slot {
             seg,
             off,
@@ -176,6 +184,85 @@ impl Layout {
         take_out(&mut self.blocks, a.seg(), a.off());
     }
 
+    /// The block whose bytes hold the byte at an offset of a segment, and the offset in it.
+    pub(crate) fn block_at(&self, seg: u32, off: u32) -> Option<(Addr, u32)>
+        ensures value { option_map {U = ℕ × ℕ} (λ f. (f.0.0, f.1)) result ≡ option_map {U = ℕ × ℕ} (λ f. (address (f.0.seg, f.0.off), f.1)) (block_at (seg, off) self.now.blocks) }
+        ensures live { IfSome result (λ f. Contains (map (λ b. address (b.seg, b.off)) self.now.blocks) f.0.0) }
+    {
+        let slot = slot_at(&self.blocks, seg, off)?;
+        Some((Addr::new(slot.seg, slot.off), off - slot.off))
+    }
+
+    /// The size of the segment of that number, where the offset is below it.
+    pub(crate) fn segment_at(&self, seg: u32, off: u32) -> Option<u32>
+        ensures { result ≡ segment_at (seg, off) self.now.segments }
+    {
+        segment_at(&self.segs, seg, off)
+    }
+
+    /// The segment with the least number above one, as number and size.
+    pub(crate) fn next_segment(&self, after: u32) -> Option<(u32, u32)>
+        ensures { result ≡ next_segment after self.now.segments }
+    {
+        next_segment(&self.segs, after)
+    }
+
+    /// The first block behind an address.
+    pub(crate) fn next_block(&self, after: Addr) -> Option<Addr>
+        ensures value { option_map (λ a. a.0) result ≡ option_map (λ b. address (b.seg, b.off)) (next_block (place_of after.0) self.now.blocks) }
+        ensures live { IfSome result (λ a. Contains (map (λ b. address (b.seg, b.off)) self.now.blocks) a.0) }
+    {
+        let slot = next_slot(&self.blocks, after.seg(), after.off())?;
+        Some(Addr::new(slot.seg, slot.off))
+    }
+
+    /// Its numbers of blocks, gaps and segments, and their sizes in bytes.
+    pub(crate) fn stat(&self) -> Stat
+        ensures busy { result.busy ≡ block_count self.now }
+        ensures free { result.free ≡ gap_count self.now }
+        ensures sbusy { result.sbusy ≡ block_bytes self.now }
+        ensures sfree { result.sfree ≡ gap_bytes self.now }
+        ensures mbusy { result.mbusy ≡ greatest_block self.now }
+        ensures mfree { result.mfree ≡ greatest_gap self.now }
+        ensures segs { result.segs ≡ segment_count self.now }
+        ensures extent { result.extent ≡ segment_bytes self.now }
+    {
+        let blocks = tally_slots(&self.blocks);
+        let gaps = tally_gaps(&self.segs, &self.blocks);
+        let segments = tally_segments(&self.segs);
+        Stat {
+            busy: blocks.count,
+            free: gaps.count,
+            sbusy: blocks.bytes,
+            sfree: gaps.bytes,
+            mbusy: blocks.most,
+            mfree: gaps.most,
+            segs: self.segs.len() as u32,
+            extent: segments.bytes,
+        }
+    }
+
+    /// Frees all blocks.
+    pub(crate) fn clear(&mut self)
+        ensures { self.new ≡ cleared self.old }
+    {
+        self.blocks.clear();
+    }
+
+    /// The discipline takes back each segment without a block, in ascending order of number, and they are counted.
+    pub(crate) fn compact(&mut self, disc: &mut Box<dyn SegDisc>) -> u32
+        requires { EndsWith (state disc.old).out self.old.segments }
+        ensures value { self.new ≡ compacted self.old }
+        ensures count { result ≡ compact_count self.old }
+        ensures out { TakesBack (state disc.old) (state disc.new) self.old.segments self.new.segments }
+        ensures usable { All (λ b. IsUsable self.new.segments (footprint b)) self.new.blocks }
+        ensures all_apart { AreApart self.new.blocks }
+    {
+        let before = self.segs.len();
+        give_back_empty(&mut self.segs, &self.blocks, disc);
+        (before - self.segs.len()) as u32
+    }
+
     /// The discipline takes all its segments back, in ascending order of number, and they are counted.
     pub(crate) fn close(self, disc: &mut Box<dyn SegDisc>) -> u32
         requires { EndsWith (state disc.old).out self.segments }
@@ -187,7 +274,7 @@ impl Layout {
             blocks: _,
         } = self;
         let count = segs.len() as u32;
-        give_back_all(&mut segs, disc);
+        give_back_empty(&mut segs, &[], disc);
         count
     }
 }

@@ -1,10 +1,16 @@
 pub mod Count
 pub mod Stream
 pub mod Numbered
+pub mod Bytes
 pub mod Discipline
 pub mod Segments
 pub mod Gap
 pub mod Place
 pub mod Region
+pub mod Touch
 pub mod Best
+pub mod Resize
+pub mod Numbers
+pub mod Compact
+pub mod Walk
 pub mod Rows

@@ -2,6 +2,7 @@
 use Rattle.std.specs.Prelude.{ℕ, List, [], ◌∷◌}
 use Rattle.vc_model.specs.Region.{Block, Region, with_block}
 use Rattle.vc_model.specs.Best.{zeros, best_free}
+use Rattle.vc_model.specs.Compact.{compacted}
 
 abbrev pub over_one_segment : List (Block ℕ) → Region ℕ
 over_one_segment blocks = record { segments = (1, 4096) ∷ []; blocks = blocks }
@@ -21,3 +22,31 @@ two_freed =
 -- and a block of 100 bytes is put where the first stood
 abbrev pub one_put : Region ℕ
 one_put = over_one_segment (with_block (zeros 5 100 (1, 32)) two_freed.blocks)
+
+-- of blocks of 100, 100 and 1 bytes, side by side, the second is freed
+abbrev pub second_freed : Region ℕ
+second_freed =
+    let three = over_one_segment (zeros 1 100 (1, 32) ∷ zeros 2 100 (1, 160) ∷ zeros 3 1 (1, 288) ∷ []) in
+    best_free three (1, 160)
+
+-- and the first has another size, where it is
+abbrev pub first_resized : ℕ → Region ℕ
+first_resized size = over_one_segment (zeros 1 size (1, 32) ∷ zeros 3 1 (1, 288) ∷ [])
+
+-- or behind the last block
+abbrev pub first_moved : ℕ → Region ℕ
+first_moved size = over_one_segment (zeros 3 1 (1, 288) ∷ zeros 1 size (1, 320) ∷ [])
+
+-- nine blocks in three segments of 4,096 bytes, and a segment of 8,192 bytes without one
+abbrev pub nine_blocks : Region ℕ
+nine_blocks =
+    record {
+      segments = (1, 4096) ∷ (2, 4096) ∷ (3, 4096) ∷ (4, 8192) ∷ [];
+      blocks =
+          zeros 1 512 (1, 32) ∷ zeros 2 200 (1, 576) ∷ zeros 3 48 (1, 800) ∷ zeros 4 900 (1, 864) ∷ zeros 5 64 (1, 1792) ∷ zeros 6 200 (1, 1888)
+          ∷ zeros 7 64 (2, 3072) ∷ zeros 8 64 (2, 3168) ∷ zeros 9 1024 (3, 1024) ∷ [];
+    }
+
+-- these without the last
+abbrev pub eight_blocks : Region ℕ
+eight_blocks = best_free (compacted nine_blocks) (3, 1024)

@@ -2,6 +2,12 @@
 //! of every crate cite. The functions here have no code: each states rows of the definitions, which the check computes.
 #![tactic(auto)]
 
+mod number_rows;
 mod rows;
+mod walk_rows;
 
-pub use rows::{aligned_places, merging, merging_by_free, tie, tie_by_free};
+pub use number_rows::{numbers_of_nine_blocks, numbers_of_nothing, numbers_of_one_block};
+pub use rows::{aligned_places, kept_bytes, merging, merging_by_free, resizing, tie, tie_by_free};
+pub use walk_rows::{
+    bytes_of_blocks, bytes_of_segments, compacting, walk_of_blocks, walk_of_segments,
+};

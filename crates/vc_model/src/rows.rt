@@ -1,9 +1,10 @@
-ghost use Rattle.std.specs.Prelude.{◌≡◌, ℕ, [], ◌∷◌, Some, None, false, map};
+ghost use Rattle.std.specs.Prelude.{◌≡◌, ℕ, [], ◌∷◌, Some, None, false, true, map};
 ghost use Rattle.vc_model.specs.Gap.{Run, bytes_of, gaps};
 ghost use Rattle.vc_model.specs.Place.{place};
 ghost use Rattle.vc_model.specs.Region.{footprints};
 ghost use Rattle.vc_model.specs.Best.{Placed, best_alloc, place_in};
-ghost use Rattle.vc_model.specs.Rows.{one_put, three_freed, two_freed};
+ghost use Rattle.vc_model.specs.Resize.{Fixed, Moves, Stays, best_resize, fitted};
+ghost use Rattle.vc_model.specs.Rows.{first_moved, first_resized, one_put, second_freed, three_freed, two_freed};
 
 /// Two gaps of 128 bytes tie, and the one at the lower offset is taken; then the other.
 pub fn tie()
@@ -38,4 +39,17 @@ pub fn merging_by_free()
 pub fn tie_by_free()
     ensures first { best_alloc 32 two_freed 5 100 32 false ≡ Placed (1, 32) one_put }
     ensures second { place_in one_put 100 32 ≡ Some (1, 192) }
+{}
+
+/// The block beside a gap of 128 bytes grows to 240 bytes where it is, and not to 241: that is refused, or it moves.
+pub fn resizing()
+    ensures stays { best_resize 4096 second_freed (1, 32) 240 false false ≡ Stays (first_resized 240) }
+    ensures fixed { best_resize 4096 (first_resized 240) (1, 32) 241 false false ≡ Fixed }
+    ensures moves { best_resize 4096 (first_resized 240) (1, 32) 241 true false ≡ Moves (Placed (1, 320) (first_moved 241)) }
+{}
+
+/// A block that shrinks and grows again has zeros behind the bytes that were kept.
+pub fn kept_bytes()
+    ensures shorter { fitted 2 (7 ∷ 8 ∷ 9 ∷ []) ≡ 7 ∷ 8 ∷ [] }
+    ensures longer { fitted 4 (7 ∷ 8 ∷ []) ≡ 7 ∷ 8 ∷ 0 ∷ 0 ∷ [] }
 {}

@@ -2,6 +2,7 @@
 #![tactic(auto)]
 
 mod boxed;
+mod bytes;
 mod disc;
 mod fault;
 mod fuse;

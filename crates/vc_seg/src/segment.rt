@@ -10,7 +10,7 @@ use vc_base::OutOfMemory;
 #[derive(Drop)]
 pub struct Segment {
     number: u32,
-    bytes: Vec<u8>,
+    pub(crate) bytes: Vec<u8>,
 }
 
 impl Model for Segment {

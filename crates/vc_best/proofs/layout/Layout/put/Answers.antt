@@ -1,15 +1,36 @@
-use Rattle.std.proofs.Common.{All, sym}
-use Rattle.vc_best.specs.Apart.{IsApart, footprint_at}
-use Rattle.vc_best.specs.Layout.{IsLayout}
-use Rattle.vc_best.specs.Slot.{run_of_slot}
-use Rattle.vc_best.proofs.Allocs.{IsSlotAt-place, clear-place}
-use Rattle.vc_best.proofs.Regions.{IsSlotAt, IsLayout-with_slot, region_of-with_slot}
+use Rattle.std.proofs.Common.{◌≡◌, ℕ, List, All, map, replicate, ap, sym, ◌∙◌, subst, arith}
+use Rattle.std.specs.Vec.{with_items}
+use Rattle.std.proofs.lemmas.List.{with_items_is}
+use Rattle.vc_base.specs.Addr.{place_of}
+use Rattle.vc_seg.specs.Segment.{pair_of}
+use Rattle.vc_best.specs.Apart.{IsApart, IsUsable, footprint_at}
+use Rattle.vc_best.specs.Layout.{IsLayout, region_of}
+use Rattle.vc_best.specs.Slot.{run_of_slot, with_slot}
+use Rattle.vc_best.specs.Write.{write_segment}
+use Rattle.vc_best.proofs.Allocs.{slot_at, IsSlotAt-place, clear-place}
+use Rattle.vc_best.proofs.Regions.{IsSlotAt, stands}
+use Rattle.vc_best.proofs.Writes.{put-within, pairs-put, IsLayout-put, region_of-put}
 use Rattle.vc_best.proofs.Blocks.{AreApart-blocks, IsApartFrom-blocks, IsUsable-slot, no_block_at}
 use Rattle.vc_best.proofs.layout.Layout.put.Goals as goal
 use Rattle.vc_best.proofs.layout.Layout.put.Goals.{After-put_among}
 
-here : (c : After-put_among) → IsSlotAt c.self.inside.segs.items (record { seg = c.args.seg; off = c.args.off; size = c.args.size; tag = c.args.tag })
+-- the block's place is that of a slot
+here : (c : After-put_among) → IsSlotAt c.self.inside.segs.items (slot_at c.args.tag c.args.size (c.args.seg, c.args.off))
 here c = IsSlotAt-place c.self.inside.segs.items c.self.inside.blocks.items c.args.size c.args.align c.args.seg c.args.off c.args.tag c.self.invariant c.requires.align c.requires.some c.requires.most (rw (← c.self.view_is) at c.requires.place)
+
+-- it overlaps no slot
+clear : (c : After-put_among) → All (λ t. IsApart (footprint_at c.args.size (c.args.seg, c.args.off)) (run_of_slot t)) c.self.inside.blocks.items
+clear c = clear-place c.self.inside.segs.items c.self.inside.blocks.items c.args.size c.args.align c.args.seg c.args.off c.self.invariant c.requires.align (rw (← c.self.view_is) at c.requires.place)
+
+pub fill_in-requires-clause-some : goal.fill_in-requires-clause-some
+fill_in-requires-clause-some c =
+    rw c.deref_mut.ensures.value
+    (stands c.self.inside.segs.items _ (IsSlotAt-place c.self.inside.segs.items c.self.inside.blocks.items c.args.size c.args.align c.args.seg c.args.off c.args.tag c.self.invariant c.requires.align c.requires.some c.requires.most (rw (← c.self.view_is) at c.requires.place)).slot)
+
+pub fill_in-requires-clause-range : goal.fill_in-requires-clause-range
+fill_in-requires-clause-range c =
+    rw c.deref_mut.ensures.value
+    (put-within c.self.inside.segs.items _ (IsSlotAt-place c.self.inside.segs.items c.self.inside.blocks.items c.args.size c.args.align c.args.seg c.args.off c.args.tag c.self.invariant c.requires.align c.requires.some c.requires.most (rw (← c.self.view_is) at c.requires.place)).slot)
 
 pub new-requires-clause-first : goal.new-requires-clause-first
 new-requires-clause-first c = (here (goal.at.new-requires-clause-first c).After-put_among).first
@@ -23,25 +44,34 @@ new-requires-clause-below c = (here (goal.at.new-requires-clause-below c).After-
 pub new-requires-clause-multiple : goal.new-requires-clause-multiple
 new-requires-clause-multiple c = (here (goal.at.new-requires-clause-multiple c).After-put_among).slot.slot.multiple
 
--- it overlaps no slot
-clear : (c : After-put_among) → All (λ t. IsApart (footprint_at c.args.size (c.args.seg, c.args.off)) (run_of_slot t)) c.self.inside.blocks.items
-clear c = clear-place c.self.inside.segs.items c.self.inside.blocks.items c.args.size c.args.align c.args.seg c.args.off c.self.invariant c.requires.align (rw (← c.self.view_is) at c.requires.place)
+-- its bytes are filled
+after : (c : After-put_among) → (with_items c.self.inside.segs c.fill_in.new.segs).items ≡ write_segment c.args.seg c.args.off (replicate c.args.size 0) c.self.inside.segs.items
+after c =
+    with_items_is c.self.inside.segs c.fill_in.new.segs (omega (arith, c.fill_in.auto.segs, c.deref_mut.ensures.len))
+    ∙ (rw (← c.deref_mut.ensures.value) c.fill_in.ensures)
 
-whole : (c : After-put_among) → IsLayout c.self.inside.segs.items c.put_among.new.slots.items
+slots : (c : After-put_among) → c.put_among.new.slots.items ≡ with_slot (slot_at c.args.tag c.args.size (c.args.seg, c.args.off)) c.self.inside.blocks.items
+slots c = rw (← c.in_ok-reserve_one.ensures.items) c.put_among.ensures
+
+whole : (c : After-put_among) → IsLayout (with_items c.self.inside.segs c.fill_in.new.segs).items c.put_among.new.slots.items
 whole c =
-    rw (c.put_among.ensures, c.in_ok-reserve_one.ensures.items)
-    (IsLayout-with_slot c.self.inside.segs.items _ c.self.inside.blocks.items c.self.invariant (here c).slot (clear c))
+    subst (λ segs. IsLayout segs c.put_among.new.slots.items) (sym (after c))
+    (subst (λ blocks. IsLayout (write_segment c.args.seg c.args.off (replicate c.args.size 0) c.self.inside.segs.items) blocks) (sym (slots c))
+    (IsLayout-put c.self.inside.segs.items (slot_at c.args.tag c.args.size (c.args.seg, c.args.off)) (here c).slot c.self.inside.blocks.items c.self.invariant (clear c)))
 
 pub invariant_of-self-2 : goal.invariant_of-self-2
 invariant_of-self-2 c = whole (goal.at.invariant_of-self-2 c).After-put_among
 
 pub returns-clause-ok : goal.returns-clause-ok
-returns-clause-ok c = (
-  c.new.ensures.value,
-  sym c.new.ensures.place,
-  rw (c.put_among.ensures, c.in_ok-reserve_one.ensures.items, ← c.self.view_is)
-      (region_of-with_slot c.self.inside.segs.items _ c.self.inside.blocks.items c.self.invariant.segments (here (goal.at.returns-clause-ok c).After-put_among).slot),
-)
+returns-clause-ok c =
+    let at = goal.at.returns-clause-ok c in (
+      c.new.ensures.value,
+      sym c.new.ensures.place,
+      ap (λ segs. region_of segs c.put_among.new.slots.items) (after at.After-put_among)
+          ∙ (ap (region_of (write_segment c.args.seg c.args.off (replicate c.args.size 0) c.self.inside.segs.items)) (slots at.After-put_among)
+          ∙ rw (← c.self.view_is)
+          (region_of-put c.self.inside.segs.items (slot_at c.args.tag c.args.size (c.args.seg, c.args.off)) (here at.After-put_among).slot c.self.inside.blocks.items c.self.invariant (clear at.After-put_among))),
+    )
 
 pub returns-in_err-reserve_one-clause-all_apart : goal.returns-in_err-reserve_one-clause-all_apart
 returns-in_err-reserve_one-clause-all_apart c =
@@ -58,7 +88,11 @@ returns-clause-fresh c =
     (no_block_at c.self.inside.segs.items c.self.inside.blocks.items c.args.size c.new.result.0 (c.args.seg, c.args.off) c.new.ensures.place c.self.invariant.blocks (clear (goal.at.returns-clause-fresh c).After-put_among))
 
 pub returns-clause-all_apart : goal.returns-clause-all_apart
-returns-clause-all_apart c = AreApart-blocks c.self.inside.segs.items c.put_among.new.slots.items (whole (goal.at.returns-clause-all_apart c).After-put_among)
+returns-clause-all_apart c = AreApart-blocks _ c.put_among.new.slots.items (whole (goal.at.returns-clause-all_apart c).After-put_among)
 
 pub returns-clause-usable : goal.returns-clause-usable
-returns-clause-usable c = IsUsable-slot c.self.inside.segs.items _ c.new.result.0 c.new.ensures.place (here (goal.at.returns-clause-usable c).After-put_among).slot
+returns-clause-usable c =
+    let at = goal.at.returns-clause-usable c in
+    let slot = (here at.After-put_among).slot in
+    let pairs = ap (map pair_of) (after at.After-put_among) ∙ pairs-put c.self.inside.segs.items (slot_at c.args.tag c.args.size (c.args.seg, c.args.off)) slot in
+    subst (λ (ss : List (ℕ × ℕ)). IsUsable ss (footprint_at c.args.size (place_of c.new.result.0))) (sym pairs) (IsUsable-slot c.self.inside.segs.items _ c.new.result.0 c.new.ensures.place slot)

@@ -1,0 +1,17 @@
+use Rattle.std.proofs.Common.{◌≡◌, filter, map}
+use Rattle.vc_seg.specs.Segment.{pair_of}
+use Rattle.vc_best.specs.Close.{TakesBack}
+use Rattle.vc_best.proofs.Backs.{stays_from}
+use Rattle.vc_best.proofs.give_back.give_back_empty.Given as goal
+
+-- of those below the number, the segments without a slot are back
+abbrev pub invariant-loop-number : goal.invariant-loop-number
+invariant-loop-number g l =
+    record {
+      segments : l.segs.items ≡ filter (stays_from l.slots l.number) l.initial.segs.items;
+      back : TakesBack
+          ((goal.SegDisc-dyn g (l.initial.disc.vtable, l.initial.disc.value)).state l.initial.disc.value)
+          ((goal.SegDisc-dyn g (l.disc.vtable, l.disc.value)).state l.disc.value)
+          (map pair_of l.initial.segs.items)
+          (map pair_of l.segs.items);
+    }

@@ -1,0 +1,14 @@
+-- Bytes that are written into one of some segments.
+use Rattle.std.specs.Prelude.{ℕ, List, [], ◌∷◌, take, drop, ◌==◌, if◌then◌else◌}
+use Rattle.vc_model.specs.Bytes.{with_bytes}
+use Rattle.vc_seg.specs.Segment.{Bytes}
+
+-- the segments with other bytes, from an offset on, in the one of that number
+abbrev pub write_segment : ℕ → ℕ → List ℕ → List Bytes → List Bytes
+write_segment number off src [] = []
+write_segment number off src (s ∷ ss) =
+    if s.number == number then record { number = s.number; bytes = with_bytes off src s.bytes } ∷ ss else s ∷ write_segment number off src ss
+
+-- a segment with a copy of a range of one, from an offset on
+abbrev pub copied : Bytes → ℕ → ℕ → ℕ → Bytes → Bytes
+copied source from len to s = record { number = s.number; bytes = with_bytes to (take len (drop from source.bytes)) s.bytes }

@@ -1,0 +1,56 @@
+ghost use Rattle.std.specs.Prelude.{◌≡◌, ℕ, ◌+◌, ◌≤◌, length, take, drop, replicate};
+ghost use Rattle.vc_model.specs.Bytes.{with_bytes};
+
+use crate::Segment;
+
+impl Segment {
+    /// Its bytes from an offset on. The range lies in the segment.
+    pub fn bytes(&self, off: u32, len: u32) -> &[u8]
+        requires { off + len ≤ length self.now.bytes }
+        ensures { result.now ≡ take len (drop off self.now.bytes) }
+    {
+        &self.bytes[off as usize..off as usize + len as usize]
+    }
+
+    /// Puts bytes there from an offset on. They fit behind it.
+    pub fn put(&mut self, off: u32, src: &[u8])
+        requires { off + length src.now ≤ length self.old.bytes }
+        ensures bytes { self.new.bytes ≡ with_bytes off src.now self.old.bytes }
+        ensures number { self.new.number ≡ self.old.number }
+    {
+        let from = off as usize;
+        self.bytes[from..from + src.len()].copy_from_slice(src);
+    }
+
+    /// Fills a range that lies in the segment with one byte.
+    pub fn fill(&mut self, off: u32, len: u32, byte: u8)
+        requires { off + len ≤ length self.old.bytes }
+        ensures bytes { self.new.bytes ≡ with_bytes off (replicate len byte) self.old.bytes }
+        ensures number { self.new.number ≡ self.old.number }
+    {
+        let from = off as usize;
+        self.bytes[from..from + len as usize].fill(byte);
+    }
+
+    /// Copies a range within the segment, also where the two ranges overlap. Both lie in the segment.
+    pub fn shift(&mut self, from: u32, to: u32, len: u32)
+        requires from { from + len ≤ length self.old.bytes }
+        requires to { to + len ≤ length self.old.bytes }
+        ensures bytes { self.new.bytes ≡ with_bytes to (take len (drop from self.old.bytes)) self.old.bytes }
+        ensures number { self.new.number ≡ self.old.number }
+    {
+        let start = from as usize;
+        self.bytes
+            .copy_within(start..start + len as usize, to as usize);
+    }
+
+    /// Copies a range of another segment here. It lies in that segment, and fits here.
+    pub fn carry(&mut self, to: u32, src: &Segment, from: u32, len: u32)
+        requires from { from + len ≤ length src.now.bytes }
+        requires to { to + len ≤ length self.old.bytes }
+        ensures bytes { self.new.bytes ≡ with_bytes to (take len (drop from src.now.bytes)) self.old.bytes }
+        ensures number { self.new.number ≡ self.old.number }
+    {
+        self.put(to, src.bytes(from, len));
+    }
+}
