@@ -8,7 +8,7 @@ use Rattle.std.proofs.lemmas.List.{append-nil, take-append-drop}
 use Rattle.std.proofs.lemmas.Slice.Eq.{bytes_eq-Decides}
 use Rattle.hex.specs.Hex.{encode_lower}
 use Rattle.vc_script.specs.declared.refusal.Refusal.{Refusal}
-use Rattle.vc_script.specs.declared.refusal.Refusal.TheVariants.{NoRegion, NoBlock, NoSegment, NotYet}
+use Rattle.vc_script.specs.declared.refusal.Refusal.TheVariants.{NoSegment}
 use Rattle.vc_script.specs.declared.reply.Reply.{Reply}
 use Rattle.vc_script.specs.declared.reply.Reply.TheVariants.{Opened, Closed, Cleared, Compacted, At, Freed, Written, Hex, Size, AddrIn, AddrNone, SegmentIs, SegmentNone, Stats, SegmentList, BlockList, Poked, Damaged, Watched, Rows, New, Old, Gone, Out, Found, Nothing, Objects, Number, Views, MethodIs, Emptied, ShutDown, Refused}
 use Rattle.vc_script.specs.Words.{is_digit, is_letter, is_name_byte}
@@ -149,10 +149,7 @@ plain-begins : (xs : List ℕ) → Plain xs → begins_refused xs ≡ false
 plain-begins xs plain = elim (cases_Bool (begins_refused xs)) [ inl begins ↦ absurd (plain (colon-begins xs begins)) | inr otherwise ↦ otherwise ]
 
 begins-refusal : (why : Refusal) → begins_refused (printed (Refused why)) ≡ true
-begins-refusal NoRegion = refl
-begins-refusal NoBlock = refl
-begins-refusal NoSegment = refl
-begins-refusal NotYet = refl
+begins-refusal why = refl
 
 -- a reply is printed with `refused: ` in front exactly where it is a refusal
 pub begins_refused-printed : (r : Reply) → IsProperReply r → begins_refused (printed r) ≡ is_refusal r
@@ -170,10 +167,8 @@ plain-need xs plain =
     ]
 
 need-refusal : (why : Refusal) → need_of (printed (Refused why)) ≡ need_for why
-need-refusal NoRegion = refl
-need-refusal NoBlock = refl
 need-refusal NoSegment = refl
-need-refusal NotYet = refl
+need-refusal why = refl
 
 -- a line shows the need that its reply shows
 pub need_of-printed : (r : Reply) → IsProperReply r → need_of (printed r) ≡ need_shown r

@@ -16,14 +16,15 @@ use Rattle.vc_base.specs.declared.dict_method.DictMethod.TheVariants.{DtSet, DtB
 use Rattle.vc_seg.specs.declared.profile_row.ProfileRow.{ProfileRow}
 use Rattle.vc_seg.specs.declared.stat.Stat.{Stat}
 use Rattle.vc_script.specs.declared.place.Place.{Place}
-use Rattle.vc_script.specs.declared.refusal.Refusal.TheVariants.{NoRegion, NoBlock, NoSegment, NotYet}
+use Rattle.vc_script.specs.declared.refusal.Refusal.{Refusal}
+use Rattle.vc_script.specs.declared.refusal.Refusal.TheVariants.{NoSegment}
 use Rattle.vc_script.specs.declared.reply.Reply.{Reply}
 use Rattle.vc_script.specs.declared.reply.Reply.TheVariants.{Opened, Closed, Cleared, Compacted, At, Freed, Written, Hex, Size, AddrIn, AddrNone, SegmentIs, SegmentNone, Stats, SegmentList, BlockList, Poked, Damaged, Watched, Rows, New, Old, Gone, Out, Found, Nothing, Objects, Number, Views, MethodIs, Emptied, ShutDown, Refused}
 use Rattle.vc_script.specs.Words.{is_digit, is_letter, is_name, is_name_byte}
 use Rattle.vc_script.specs.Proper.{IsName, IsSite}
 use Rattle.vc_script.specs.ProperReply.{IsProperReply, is_row_site}
 use Rattle.vc_script.specs.Shown.{is_plain, shown, shown_byte}
-use Rattle.vc_script.specs.Print.{printed, watch_text, label_text, viewed_text, method_word, segment_text, block_text, damage_text, row_text, object_text, stat_text}
+use Rattle.vc_script.specs.Print.{printed, watch_text, label_text, viewed_text, method_word, refusal_text, segment_text, block_text, damage_text, row_text, object_text, stat_text}
 
 -- a byte that isn't a newline
 abbrev pub stays : ℕ → Bool
@@ -115,6 +116,11 @@ line-method DtObag = refl
 line-method DtList = refl
 line-method DtStack = refl
 line-method DtQueue = refl
+
+-- one clause is named, so that the other is checked for each refusal
+line-refusal : (why : Refusal) → OneLine (refusal_text why)
+line-refusal NoSegment = refl
+line-refusal why = refl
 
 -- a digit of a table without newlines
 stays-at : (table : List ℕ) → OneLine table → (i : ℕ) → stays (get_or table i 0) ≡ true
@@ -254,7 +260,4 @@ line-printed (Views dict viewed) proper = both (dict ++ codes " views ") (viewed
 line-printed (MethodIs dict method) proper = both (dict ++ codes " method ") (method_word method) (named dict (codes " method ") proper refl) (line-method method)
 line-printed (Emptied dict count) proper = counted dict (codes " empty ") count proper refl
 line-printed (ShutDown dict) proper = named dict (codes " shut") proper refl
-line-printed (Refused NoRegion) proper = refl
-line-printed (Refused NoBlock) proper = refl
-line-printed (Refused NoSegment) proper = refl
-line-printed (Refused NotYet) proper = refl
+line-printed (Refused why) proper = both (codes "refused: ") (refusal_text why) refl (line-refusal why)

@@ -1,7 +1,7 @@
 -- What a command needs of a discipline that it doesn't get, as its printed line shows it.
 use Rattle.std.specs.Prelude.{ℕ, List, Bool, true, false, bytes_eq, codes, map, take, if◌then◌else◌}
 use Rattle.vc_script.specs.declared.refusal.Refusal.{Refusal}
-use Rattle.vc_script.specs.declared.refusal.Refusal.TheVariants.{NoRegion, NoBlock, NoSegment, NotYet}
+use Rattle.vc_script.specs.declared.refusal.Refusal.TheVariants.{NoSegment}
 use Rattle.vc_script.specs.declared.reply.Reply.{Reply}
 use Rattle.vc_script.specs.declared.reply.Reply.TheVariants.{Refused}
 use Rattle.vc_script.specs.Lines.{lines}
@@ -19,11 +19,10 @@ need_of line = if bytes_eq line (codes "refused: no segment") then ForBlock else
 abbrev pub needs_of : List ℕ → List Need
 needs_of written = map need_of (lines written)
 
+-- of the refusals, only that of a segment is a need
 abbrev pub need_for : Refusal → Need
-need_for NoRegion = NoNeed
-need_for NoBlock = NoNeed
 need_for NoSegment = ForBlock
-need_for NotYet = NoNeed
+need_for why = NoNeed
 
 -- the need that a reply shows
 abbrev pub need_shown : Reply → Need

@@ -9,16 +9,25 @@ use Rattle.vc_seg.specs.declared.profile_row.ProfileRow.{ProfileRow}
 use Rattle.vc_seg.specs.declared.stat.Stat.{Stat}
 use Rattle.vc_script.specs.declared.place.Place.{Place}
 use Rattle.vc_script.specs.declared.refusal.Refusal.{Refusal}
-use Rattle.vc_script.specs.declared.refusal.Refusal.TheVariants.{NoRegion, NoBlock, NoSegment, NotYet}
+use Rattle.vc_script.specs.declared.refusal.Refusal.TheVariants as why
 use Rattle.vc_script.specs.declared.reply.Reply.{Reply}
 use Rattle.vc_script.specs.declared.reply.Reply.TheVariants.{Opened, Closed, Cleared, Compacted, At, Freed, Written, Hex, Size, AddrIn, AddrNone, SegmentIs, SegmentNone, Stats, SegmentList, BlockList, Poked, Damaged, Watched, Rows, New, Old, Gone, Out, Found, Nothing, Objects, Number, Views, MethodIs, Emptied, ShutDown, Refused}
 use Rattle.vc_script.specs.Shown.{shown}
 
 abbrev pub refusal_text : Refusal → List ℕ
-refusal_text NoRegion = codes "no region"
-refusal_text NoBlock = codes "no block"
-refusal_text NoSegment = codes "no segment"
-refusal_text NotYet = codes "not built"
+refusal_text why.NoRegion = codes "no region"
+refusal_text why.RegionExists = codes "region exists"
+refusal_text why.NoSuchDiscipline = codes "no such discipline"
+refusal_text why.DisciplineInUse = codes "discipline in use"
+refusal_text why.NoBlock = codes "no block"
+refusal_text why.BlockExists = codes "block exists"
+refusal_text why.Size = codes "size"
+refusal_text why.Range = codes "range"
+refusal_text why.TooManyBlocks = codes "too many blocks"
+refusal_text why.CannotGrow = codes "cannot grow here"
+refusal_text why.TooManySegments = codes "too many segments"
+refusal_text why.NoSegment = codes "no segment"
+refusal_text why.NotYet = codes "not built"
 
 abbrev pub method_word : DictMethod → List ℕ
 method_word DtSet = codes "set"

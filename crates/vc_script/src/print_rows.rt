@@ -87,7 +87,16 @@ pub fn printed_dictionaries()
 /// Refusals.
 pub fn printed_refusals()
     ensures no_region { printed (reply.Refused why.NoRegion) ≡ codes "refused: no region" }
+    ensures region_exists { printed (reply.Refused why.RegionExists) ≡ codes "refused: region exists" }
+    ensures no_such_discipline { printed (reply.Refused why.NoSuchDiscipline) ≡ codes "refused: no such discipline" }
+    ensures discipline_in_use { printed (reply.Refused why.DisciplineInUse) ≡ codes "refused: discipline in use" }
     ensures no_block { printed (reply.Refused why.NoBlock) ≡ codes "refused: no block" }
+    ensures block_exists { printed (reply.Refused why.BlockExists) ≡ codes "refused: block exists" }
+    ensures size { printed (reply.Refused why.Size) ≡ codes "refused: size" }
+    ensures range { printed (reply.Refused why.Range) ≡ codes "refused: range" }
+    ensures too_many_blocks { printed (reply.Refused why.TooManyBlocks) ≡ codes "refused: too many blocks" }
+    ensures cannot_grow { printed (reply.Refused why.CannotGrow) ≡ codes "refused: cannot grow here" }
+    ensures too_many_segments { printed (reply.Refused why.TooManySegments) ≡ codes "refused: too many segments" }
     ensures no_segment { printed (reply.Refused why.NoSegment) ≡ codes "refused: no segment" }
     ensures not_built { printed (reply.Refused why.NotYet) ≡ codes "refused: not built" }
 {}

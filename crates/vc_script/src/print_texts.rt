@@ -10,7 +10,16 @@ pub(crate) fn refusal_text(why: Refusal) -> &'static [u8]
 {
     match why {
         Refusal::NoRegion => b"no region",
+        Refusal::RegionExists => b"region exists",
+        Refusal::NoSuchDiscipline => b"no such discipline",
+        Refusal::DisciplineInUse => b"discipline in use",
         Refusal::NoBlock => b"no block",
+        Refusal::BlockExists => b"block exists",
+        Refusal::Size => b"size",
+        Refusal::Range => b"range",
+        Refusal::TooManyBlocks => b"too many blocks",
+        Refusal::CannotGrow => b"cannot grow here",
+        Refusal::TooManySegments => b"too many segments",
         Refusal::NoSegment => b"no segment",
         Refusal::NotYet => b"not built",
     }
