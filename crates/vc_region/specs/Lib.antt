@@ -1,0 +1,16 @@
+pub use Rattle.vc_model.specs.Best
+pub use Rattle.vc_model.specs.Compact
+pub use Rattle.vc_model.specs.Count
+pub use Rattle.vc_model.specs.Discipline
+pub use Rattle.vc_model.specs.Numbers
+pub use Rattle.vc_model.specs.Place
+pub use Rattle.vc_model.specs.Region
+pub use Rattle.vc_model.specs.Resize
+pub use Rattle.vc_model.specs.Segments
+pub use Rattle.vc_model.specs.Touch
+pub use Rattle.vc_model.specs.Walk
+pub use Rattle.vc_base.specs.Addr
+pub use Rattle.vc_best.specs.Alloc
+pub use Rattle.vc_best.specs.Apart
+pub use Rattle.vc_best.specs.Resized
+pub mod Parts
