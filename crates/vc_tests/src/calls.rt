@@ -71,6 +71,23 @@ fn segments(rt: HostRuntime) -> Result<(), Fail> {
 }
 
 #[test]
+fn segment_bytes(rt: HostRuntime) -> Result<(), Fail> {
+    let alloc = rt.alloc();
+    let mut segment = Segment::take(alloc, 7, 64)?;
+    segment.put(2, b"abcdef");
+    assert_eq!(rt; segment.bytes(1, 8), b"\0abcdef\0".as_slice());
+    segment.shift(2, 4, 6);
+    assert_eq!(rt; segment.bytes(1, 10), b"\0ababcdef\0".as_slice());
+    segment.shift(4, 3, 6);
+    assert_eq!(rt; segment.bytes(1, 10), b"\0aabcdeff\0".as_slice());
+    segment.fill(3, 2, b'x');
+    let mut other = Segment::take(alloc, 8, 64)?;
+    other.carry(62, &segment, 4, 2);
+    assert_eq!(rt; other.bytes(61, 3), b"\0xc".as_slice());
+    Ok(())
+}
+
+#[test]
 fn shelf(rt: HostRuntime) -> Result<(), Fail> {
     let alloc = rt.alloc();
     let mut shelf = Shelf::new(alloc);

@@ -8,6 +8,10 @@ mod forms;
 #[cfg(test)]
 mod prints;
 #[cfg(test)]
+mod region;
+#[cfg(test)]
 mod runs;
 #[cfg(test)]
 mod session;
+#[cfg(test)]
+mod walks;

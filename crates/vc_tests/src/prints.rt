@@ -202,7 +202,16 @@ fn refusals(rt: HostRuntime) {
     let alloc = rt.alloc();
     for (why, line) in [
         (Refusal::NoRegion, b"refused: no region\n".as_slice()),
+        (Refusal::RegionExists, b"refused: region exists\n"),
+        (Refusal::NoSuchDiscipline, b"refused: no such discipline\n"),
+        (Refusal::DisciplineInUse, b"refused: discipline in use\n"),
         (Refusal::NoBlock, b"refused: no block\n"),
+        (Refusal::BlockExists, b"refused: block exists\n"),
+        (Refusal::Size, b"refused: size\n"),
+        (Refusal::Range, b"refused: range\n"),
+        (Refusal::TooManyBlocks, b"refused: too many blocks\n"),
+        (Refusal::CannotGrow, b"refused: cannot grow here\n"),
+        (Refusal::TooManySegments, b"refused: too many segments\n"),
         (Refusal::NoSegment, b"refused: no segment\n"),
         (Refusal::NotYet, b"refused: not built\n"),
     ] {

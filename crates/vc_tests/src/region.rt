@@ -1,0 +1,109 @@
+// Each call of a region of one of the methods once, with ample memory.
+use std::test::Fail;
+use vc_base::Addr;
+use vc_region::Region;
+use vc_seg::{HeapDisc, Method, Stat};
+
+#[test]
+fn told(rt: HostRuntime) -> Result<(), Fail> {
+    let alloc = rt.alloc();
+    let disc = Box::new(alloc, HeapDisc::new(4096))?;
+    match Region::open(alloc, Method::VmBest, disc) {
+        Ok(mut region) => {
+            assert_eq!(rt; region.method(), Method::VmBest);
+            let first = region.alloc(100, 1, b"-");
+            assert_eq!(rt; first, Ok(Addr::new(1, 32)));
+            let second = region.align(100, 256, 2, b"x");
+            assert_eq!(rt; second, Ok(Addr::new(1, 256)));
+            let stat = Stat {
+                busy: 2,
+                free: 2,
+                sbusy: 200,
+                sfree: 3808,
+                mbusy: 100,
+                mfree: 3712,
+                segs: 1,
+                extent: 4096,
+            };
+            assert_eq!(rt; region.stat(), stat);
+            assert_eq!(rt; region.block_at(1, 355), Some((Addr::new(1, 256), 99)));
+            assert_eq!(rt; region.segment_at(1, 4095), Some(4096));
+            assert_eq!(rt; region.next_segment(0), Some((1, 4096)));
+            assert_eq!(rt; region.next_block(Addr::NONE), Some(Addr::new(1, 32)));
+        }
+        Err(_) => assert!(rt; false),
+    }
+    Ok(())
+}
+
+#[test]
+fn changed(rt: HostRuntime) -> Result<(), Fail> {
+    let alloc = rt.alloc();
+    let disc = Box::new(alloc, HeapDisc::new(4096))?;
+    match Region::open(alloc, Method::VmBest, disc) {
+        Ok(mut region) => match region.alloc(6, 1, b"-") {
+            Ok(at) => {
+                region.write(at, 1, b"abc");
+                assert_eq!(rt; (region.size(at), region.tag(at)), (6, 1));
+                assert_eq!(rt; region.read(at, 0, 6), b"\0abc\0\0".as_slice());
+                assert_eq!(rt; region.resize(at, 3, false), Ok(at));
+            }
+            Err(_) => assert!(rt; false),
+        },
+        Err(_) => assert!(rt; false),
+    }
+    Ok(())
+}
+
+#[test]
+fn freed(rt: HostRuntime) -> Result<(), Fail> {
+    let alloc = rt.alloc();
+    let disc = Box::new(alloc, HeapDisc::new(4096))?;
+    match Region::open(alloc, Method::VmBest, disc) {
+        Ok(mut region) => {
+            match region.alloc(6, 1, b"-") {
+                Ok(at) => assert_eq!(rt; region.free(at), Ok(())),
+                Err(_) => assert!(rt; false),
+            }
+            let next = region.alloc(50, 2, b"-");
+            assert_eq!(rt; next, Ok(Addr::new(1, 32)));
+        }
+        Err(_) => assert!(rt; false),
+    }
+    Ok(())
+}
+
+#[test]
+fn emptied(rt: HostRuntime) -> Result<(), Fail> {
+    let alloc = rt.alloc();
+    let disc = Box::new(alloc, HeapDisc::new(4096))?;
+    match Region::open(alloc, Method::VmBest, disc) {
+        Ok(mut region) => {
+            let first = region.alloc(5000, 1, b"-");
+            assert_eq!(rt; first, Ok(Addr::new(1, 32)));
+            region.clear();
+            let stat = region.stat();
+            assert_eq!(rt; (stat.busy, stat.mfree, stat.segs), (0, 8160, 1));
+            assert_eq!(rt; region.compact(), 1);
+            assert_eq!(rt; region.next_segment(0), None);
+        }
+        Err(_) => assert!(rt; false),
+    }
+    Ok(())
+}
+
+#[test]
+fn closed(rt: HostRuntime) -> Result<(), Fail> {
+    let alloc = rt.alloc();
+    let disc = Box::new(alloc, HeapDisc::new(4096))?;
+    match Region::open(alloc, Method::VmBest, disc) {
+        Ok(mut region) => {
+            let first = region.alloc(100, 1, b"-");
+            assert_eq!(rt; first, Ok(Addr::new(1, 32)));
+            let (disc, count) = region.close();
+            assert_eq!(rt; (disc.round(), count), (4096, 1));
+        }
+        Err(_) => assert!(rt; false),
+    }
+    Ok(())
+}
