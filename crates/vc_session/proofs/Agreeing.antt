@@ -7,7 +7,7 @@ use Rattle.std.proofs.lemmas.Slice.Eq.{bytes_eq-Decides}
 use Rattle.slab.specs.Slab.{get, Updates}
 use Rattle.vc_session.specs.declared.labels.Label.{Label}
 use Rattle.vc_session.specs.declared.labels.Labels.{Labels}
-use Rattle.vc_session.specs.Labels.{label_at, tag_of, AreLabels}
+use Rattle.vc_session.specs.Labels.{label_at, tag_of, AreLabels, MovesLabel}
 
 -- what holds on success, at a result that is one
 pub from_ok : {T E P : Type 0} (r : Result T E) → IsOk r → OnOk r P → P
@@ -46,3 +46,27 @@ module _ (old new : Labels) (key : ℕ) (label : Label) (agree : AreLabels old) 
   -- a block is put under a new name and a vacant key
   pub agree-put : AreLabels new
   agree-put = record { tagged = tagged-put; named = named-put }
+
+-- a block that has another address keeps its name and its tag
+pub agree-moved : (old new : Labels) (tag : ℕ) (label : Label) → AreLabels old → tag_of old label.name ≡ Some tag → MovesLabel old new tag label → AreLabels new
+agree-moved old new tag label agree named m =
+    let before = agree.tagged label.name tag named in
+    record {
+      tagged = λ x t found.
+          let was = agree.tagged x t (sym (m.names x) ∙ found) in
+          elim (cases_eq t tag) [
+            | inl same ↦
+                let two : Some was.1.0 ≡ Some before.1.0 = sym was.1.1 ∙ (ap (label_at old) same ∙ before.1.1) in
+                let is : was.1.0 ≡ before.1.0 = cc in
+                (was.0, (label, ap (label_at new) same ∙ m.at, sym before.1.2 ∙ (ap (λ (k : Label). k.name) (sym is) ∙ was.1.2)))
+            | inr other ↦ (was.0, (was.1.0, m.other_tags t was.0 other ∙ was.1.1, was.1.2))
+          ];
+      named = λ t l first found.
+          elim (cases_eq t tag) [
+            | inl same ↦
+                let two : Some label ≡ Some l = sym m.at ∙ (ap (label_at new) (sym same) ∙ found) in
+                let is : label ≡ l = cc in
+                ap (λ (k : Label). tag_of new k.name) (sym is) ∙ (m.names label.name ∙ (named ∙ ap (λ n. Some n) (sym same)))
+            | inr other ↦ m.names l.name ∙ agree.named t l first (sym (m.other_tags t first other) ∙ found)
+          ];
+    }

@@ -11,7 +11,8 @@ use Rattle.vc_script.specs.declared.reply.Reply.{Reply}
 use Rattle.vc_script.specs.declared.reply.Reply.TheVariants.{Refused}
 use Rattle.vc_script.specs.declared.refusal.Refusal.TheVariants.{NoSegment}
 use Rattle.vc_script.specs.Needs.{Need}
-use Rattle.vc_session.specs.State.{State, Stepped, Home, changed, home_named, in_region, is_home, region_of, region_step, with_region}
+use Rattle.vc_session.specs.State.{State, Stepped, Home, changed, home_named, is_home, with_region}
+use Rattle.vc_session.specs.Step.{in_region, region_of, region_step}
 use Rattle.vc_session.specs.Run.{refusal_at, place_named, place_of}
 use Rattle.vc_session.specs.Homes.{IsFirst}
 use Rattle.vc_session.specs.Account.{Held, IsChange, IsHeld, IsSession, RoseBy, Settles, account, accounts, account_after, home_of, settled, state_of, without_faults}

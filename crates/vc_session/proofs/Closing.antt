@@ -1,5 +1,5 @@
 -- What closing a region leaves.
-use Rattle.std.proofs.Common.{◌≡◌, ◌≢◌, ℕ, ◌-◌, ◌≤◌, ◌<◌, true, false, cond, List, [], ◌∷◌, ◌++◌, Option, Some, None, length, map, option_map, set, take, get_or, zero, suc, refl, sym, ap, ◌∙◌, subst, arith}
+use Rattle.std.proofs.Common.{◌≡◌, ◌≢◌, ℕ, ◌-◌, ◌≤◌, true, false, cond, List, [], ◌∷◌, ◌++◌, Option, Some, None, length, map, option_map, set, take, zero, suc, refl, sym, ap, ◌∙◌, subst, arith}
 use Rattle.std.specs.Prelude.{remove, slice_get}
 use Rattle.std.specs.List.{AllByRecursion, list_any}
 use Rattle.std.proofs.lemmas.List.{length-append, map-set, set_comm, take_at}
@@ -47,9 +47,9 @@ session-closed slots slots' n (h ∷ hs) same away s = (
 )
 
 -- a list that isn't empty, by its first item and the rest
-pub first-rest : {A : Type 0} (xs : List A) (x : A) → 0 < length xs → x ≡ get_or xs 0 x → xs ≡ x ∷ remove xs 0
-first-rest [] x some read = absurd (omega arith)
-first-rest (y ∷ ys) x some read = ap (λ z. z ∷ ys) (sym read)
+pub first-rest : {A : Type 0} (xs : List A) (x : A) → slice_get xs 0 ≡ Some x → xs ≡ x ∷ remove xs 0
+first-rest [] x at = absurd (none-some x at)
+first-rest (y ∷ ys) x at = ap (λ z. z ∷ ys) (same_Some y x at)
 
 taken_of : (o : Option (Option Discipline)) → place_of o ≡ Taken → o ≡ Some None
 taken_of None e = absurd cc

@@ -1,54 +1,27 @@
 -- What freeing a block answers, and how it changes the region.
-use Rattle.std.proofs.Common.{◌≡◌, ◌≢◌, ℕ, ◌+◌, ◌-◌, ◌<◌, zero, suc, Bool, true, false, ◌||◌, cond, is_some, List, [], ◌∷◌, Some, None, length, get_or, map, take, refl, sym, ap, ◌∙◌, subst, ⊎_elim, arith}
-use Rattle.std.specs.Prelude.{Contains, find}
+use Rattle.std.proofs.Common.{◌≡◌, ◌≢◌, ℕ, ◌+◌, ◌-◌, ◌<◌, zero, suc, Bool, false, ◌||◌, is_some, List, [], ◌∷◌, Some, None, length, get_or, map, take, refl, sym, ap, ◌∙◌, subst, ⊎_elim, arith}
+use Rattle.std.specs.Prelude.{Contains}
 use Rattle.std.specs.List.{AllByRecursion, list_any, remove}
 use Rattle.std.specs.Str.{bytes_eq}
-use Rattle.std.proofs.lemmas.Bool.{cases_Bool, false≢true}
-use Rattle.std.proofs.lemmas.List.{get_or-map, length-map}
+use Rattle.std.proofs.lemmas.Bool.{cases_Bool}
 use Rattle.std.proofs.lemmas.Option.{same_Some, none-some}
-use Rattle.vc_base.specs.Addr.{address}
 use Rattle.vc_best.specs.Apart.{AreApart}
 use Rattle.vc_best.proofs.Places.{without_block-remove}
 use Rattle.vc_model.specs.Discipline.{Discipline, EndsWith, Kept}
 use Rattle.vc_model.specs.Region.{Block, Region, without_block}
 use Rattle.vc_script.specs.declared.reply.Reply.TheVariants.{Freed}
 use Rattle.vc_script.specs.declared.refusal.Refusal.TheVariants as why
-use Rattle.vc_session.specs.State.{Changed, free_in, freed, has_label, is_block, unchanged}
+use Rattle.vc_session.specs.State.{Changed, unchanged}
+use Rattle.vc_session.specs.Blocks.{free_block, free_in, has_label, is_block}
 use Rattle.vc_session.specs.declared.labels.Label.{Label}
 use Rattle.vc_session.specs.declared.labels.Labels.{Labels}
 use Rattle.vc_session.specs.Labels.{AreLabels, WithoutLabel, label_at, tag_of}
 use Rattle.vc_session.specs.Account.{Held, IsChange, IsLive, IsNamed, home_of, name_in, name_of, named, named_block}
 use Rattle.vc_session.proofs.Cells.{all-remove, map-remove}
-use Rattle.vc_session.proofs.Firsts.{find-none}
+use Rattle.vc_session.proofs.Lives as lives
+use Rattle.vc_session.proofs.Lives.{address_of, on_block-none}
 use Rattle.vc_session.proofs.Named.{named-alike, without_block-named}
 use Rattle.vc_session.proofs.Names.{lives-moved, names-moved, same_bytes, other_bytes}
-
--- where the first item stands that passes a test
-pub record Found {A : Type 0} (test : A → Bool) (xs : List A) : Type 0 where
-  pub at : ℕ
-  pub within : at < length xs
-  pub passes : (d : A) → test (get_or xs at d) ≡ true
-  pub found : (d : A) → find test xs ≡ Some (get_or xs at d)
-
-pub found-any : {A : Type 0} (test : A → Bool) (xs : List A) → list_any test xs ≡ true → Found test xs
-found-any test [] any = absurd (false≢true any)
-found-any test (x ∷ xs) any =
-    ⊎_elim
-    (λ e. record { at = 0; within = omega arith; passes = λ d. e; found = λ d. ap (λ b. cond b (Some x) (find test xs)) e })
-    (λ e.
-    let rest = found-any test xs (sym (ap (λ b. b || list_any test xs) e) ∙ any) in
-    record {
-      at = suc rest.at;
-      within = omega (arith, rest.within);
-      passes = λ d. rest.passes d;
-      found = λ d. ap (λ b. cond b (Some x) (find test xs)) e ∙ rest.found d;
-    })
-    (cases_Bool (test x))
-
-all-at : {A : Type 0} (P : A → Type 0) (xs : List A) (i : ℕ) (d : A) → i < length xs → AllByRecursion P xs → P (get_or xs i d)
-all-at P [] i d within all = absurd (omega (arith, within))
-all-at P (x ∷ xs) zero d within all = all.0
-all-at P (x ∷ xs) (suc i) d within all = all-at P xs i d (omega (arith, within)) all.1
 
 -- an item that fails the test may go
 any-remove : {A : Type 0} (test : A → Bool) (xs : List A) (i : ℕ) → i < length xs → ((d : A) → test (get_or xs i d) ≡ false) → list_any test (remove xs i) ≡ list_any test xs
@@ -60,9 +33,6 @@ none-of-all : {A : Type 0} (test : A → Bool) (xs : List A) → AllByRecursion 
 none-of-all test [] all = refl
 none-of-all test (x ∷ xs) all = ap (λ b. b || list_any test xs) all.0 ∙ none-of-all test xs all.1
 
-abbrev pub address_of : Block ℕ → ℕ
-address_of b = address (b.seg, b.off)
-
 -- an address that no block has
 all-other : (a : ℕ) (bs : List (Block ℕ)) → (Contains (map address_of bs) a → ⊥) → AllByRecursion (λ b. address_of b ≢ a) bs
 all-other a [] none = tt
@@ -71,53 +41,25 @@ all-other a (b ∷ bs) none = ((λ e. none (0, omega arith, e)), all-other a bs 
 -- a block that isn't there
 pub free_in-none : (h : Held) (x : List ℕ) → IsNamed h.layout h.labels → tag_of h.labels x ≡ None → free_in (home_of h) x ≡ unchanged (home_of h) why.NoBlock
 free_in-none h x names none =
-    ap (freed (home_of h) x) (find-none (is_block x) (home_of h).region.blocks (sym (names.known x) ∙ ap is_some none))
+    on_block-none h x (free_block (home_of h) x) names none
 
 module _ (h : Held) (x : List ℕ) (tag : ℕ) (label : Label) (labels : Labels) (names : IsNamed h.layout h.labels) (is_named : label.name ≡ x) (w : WithoutLabel h.labels labels tag label) where
-  abbrev any : list_any (is_block x) (map (named_block (name_of h.labels)) h.layout.blocks) ≡ true
-  any = sym (names.known x) ∙ ap is_some (ap (tag_of h.labels) (sym is_named) ∙ w.was_named)
-
-  abbrev there : Found (is_block x) (map (named_block (name_of h.labels)) h.layout.blocks)
-  there = found-any (is_block x) (map (named_block (name_of h.labels)) h.layout.blocks) any
+  abbrev was_named : tag_of h.labels x ≡ Some tag
+  was_named = ap (tag_of h.labels) (sym is_named) ∙ w.was_named
 
   -- where the block stands
   abbrev pub at : ℕ
-  at = there.at
+  at = lives.at h.layout h.labels x tag label names is_named was_named w.was_at
 
   pub within : at < length h.layout.blocks
-  within = omega (arith, there.within, length-map h.layout.blocks (named_block (name_of h.labels)))
-
-  named-at : (d : Block ℕ) → get_or (map (named_block (name_of h.labels)) h.layout.blocks) at (named_block (name_of h.labels) d) ≡ named_block (name_of h.labels) (get_or h.layout.blocks at d)
-  named-at d = get_or-map (named_block (name_of h.labels)) h.layout.blocks at d (named_block (name_of h.labels) d) within
-
-  abbrev nothing : Block ℕ
-  nothing = record { label = 0; seg = 0; off = 0; size = 0; bytes = [] }
-
-  abbrev pub block : Block ℕ
-  block = get_or h.layout.blocks at nothing
-
-  is_live : (d : Block ℕ) → IsLive h.labels (get_or h.layout.blocks at d)
-  is_live d = all-at (IsLive h.labels) h.layout.blocks at d within names.live
-
-  name-at : (d : Block ℕ) → name_of h.labels (get_or h.layout.blocks at d).label ≡ x
-  name-at d = same_bytes (name_of h.labels (get_or h.layout.blocks at d).label) x (sym (ap (is_block x) (named-at d)) ∙ there.passes (named_block (name_of h.labels) d))
-
-  tag-at : (d : Block ℕ) → (get_or h.layout.blocks at d).label ≡ tag
-  tag-at d =
-      let l = is_live d in
-      let b = get_or h.layout.blocks at d in
-      let name : l.label.name ≡ label.name = sym (ap name_in l.here) ∙ (name-at d ∙ sym is_named) in
-      same_Some b.label tag (sym (names.agree.named b.label l.label l.first l.here) ∙ (ap (tag_of h.labels) name ∙ w.was_named))
+  within = lives.within h.layout h.labels x tag label names is_named was_named w.was_at
 
   pub address-at : (d : Block ℕ) → address_of (get_or h.layout.blocks at d) ≡ label.at.0
-  address-at d =
-      let l = is_live d in
-      let same : l.label ≡ label = same_Some l.label label (sym l.here ∙ (ap (label_at h.labels) (tag-at d) ∙ w.was_at)) in
-      sym l.at ∙ ap (λ (k : Label). k.at.0) same
+  address-at d = lives.address-at h.layout h.labels x tag label names is_named was_named w.was_at d
 
   -- the address is that of a block
   pub is_there : Contains (map address_of h.layout.blocks) label.at.0
-  is_there = (at, omega (arith, within, length-map h.layout.blocks address_of), get_or-map address_of h.layout.blocks at nothing label.at.0 within ∙ address-at nothing)
+  is_there = lives.is_there h.layout h.labels x tag label names is_named was_named w.was_at
 
   module _ (layout : Region ℕ) (disc : Discipline) (less : length layout.blocks + 1 ≡ length h.layout.blocks) (segments : layout.segments ≡ h.layout.segments) (rest : layout.blocks ≡ remove h.layout.blocks at) (none_left : Contains (map address_of layout.blocks) label.at.0 → ⊥) (apart : AreApart layout.blocks) (agree : AreLabels labels) (same_disc : disc ≡ h.disc) where
     stay : (bs : List (Block ℕ)) → AllByRecursion (IsLive h.labels) bs → AllByRecursion (λ b. address_of b ≢ label.at.0) bs → AllByRecursion (λ b. label_at labels b.label ≡ label_at h.labels b.label) bs
@@ -141,12 +83,13 @@ module _ (h : Held) (x : List ℕ) (tag : ℕ) (label : Label) (labels : Labels)
 
     pub step-free : free_in (home_of h) x ≡ record { region = named (name_of labels) layout; reply = Freed x None }
     step-free =
-        let place : ℕ × ℕ = (block.seg, block.off) in
+        let nothing : Block ℕ = record { label = 0; seg = 0; off = 0; size = 0; bytes = [] } in
+        let place : ℕ × ℕ = ((get_or h.layout.blocks at nothing).seg, (get_or h.layout.blocks at nothing).off) in
         let gone : without_block place (map (named_block (name_of h.labels)) h.layout.blocks) ≡ map (named_block (name_of labels)) layout.blocks =
         sym (without_block-named (name_of h.labels) place h.layout.blocks)
         ∙ (ap (map (named_block (name_of h.labels))) (without_block-remove h.layout.blocks at nothing names.apart within)
         ∙ (sym alike ∙ ap (map (named_block (name_of labels))) (sym rest))) in
-        ap (freed (home_of h) x) (there.found (named_block (name_of h.labels) nothing) ∙ ap (λ b. Some b) (named-at nothing))
+        lives.on_block-there h.layout h.labels x tag label names is_named was_named w.was_at h (free_block (home_of h) x) refl refl
         ∙ (ap (λ bs. let c : Changed = record { region = record { segments = h.layout.segments; blocks = bs }; reply = Freed x None } in c) gone
         ∙ ap (λ ss. let c : Changed = record { region = record { segments = ss; blocks = map (named_block (name_of labels)) layout.blocks }; reply = Freed x None } in c) (sym segments))
 
@@ -168,10 +111,10 @@ module _ (h : Held) (x : List ℕ) (tag : ℕ) (label : Label) (labels : Labels)
         ap is_some gone ∙ sym (unnamed y gone (remove h.layout.blocks at) live))
         (λ e.
         let fails : (d : Block (List ℕ)) → is_block y (get_or (map (named_block (name_of h.labels)) h.layout.blocks) at d) ≡ false =
-        λ d. ap (λ n. bytes_eq n y) (same_bytes (get_or (map (named_block (name_of h.labels)) h.layout.blocks) at d).label x (there.passes d)) ∙ e in
+        λ d. ap (λ n. bytes_eq n y) (same_bytes (get_or (map (named_block (name_of h.labels)) h.layout.blocks) at d).label x (lives.passes-at h.layout h.labels x tag label names is_named was_named w.was_at d)) ∙ e in
         ap is_some (w.other_names y (λ same. other_bytes x y e (sym (same ∙ is_named))))
         ∙ (names.known y
-        ∙ (sym (any-remove (is_block y) (map (named_block (name_of h.labels)) h.layout.blocks) at there.within fails)
+        ∙ (sym (any-remove (is_block y) (map (named_block (name_of h.labels)) h.layout.blocks) at (lives.within-named h.layout h.labels x tag label names is_named was_named w.was_at) fails)
         ∙ (ap (has_label y) (sym (map-remove (named_block (name_of h.labels)) h.layout.blocks at))
         ∙ ap (has_label y) (sym alike)))))
         (cases_Bool (bytes_eq x y))

@@ -5,10 +5,10 @@ use Rattle.std.specs.Str.{bytes_eq}
 use Rattle.std.proofs.lemmas.Bool.{cases_Bool, false≢true}
 use Rattle.std.proofs.lemmas.Option.{none-some}
 use Rattle.std.proofs.lemmas.Slice.Eq.{bytes_eq-Decides}
-use Rattle.vc_base.specs.Addr.{address}
+use Rattle.vc_base.specs.Addr.{address, place_of}
 use Rattle.vc_best.specs.Apart.{AreApart}
 use Rattle.vc_model.specs.Region.{Block, Region, lies_before, with_block}
-use Rattle.vc_session.specs.State.{has_label}
+use Rattle.vc_session.specs.Blocks.{has_label}
 use Rattle.vc_session.specs.declared.labels.Label.{Label}
 use Rattle.vc_session.specs.declared.labels.Labels.{Labels}
 use Rattle.vc_session.specs.Labels.{AreLabels, SameLabels, WithLabel, label_at, tag_of}
@@ -25,19 +25,19 @@ bytes_same x = (bytes_eq-Decides x x).1 refl
 pub other_bytes : (x y : List ℕ) → bytes_eq x y ≡ false → x ≢ y
 other_bytes x y differ e = false≢true (sym differ ∙ (bytes_eq-Decides x y).1 e)
 
-length-with_block : (b : Block ℕ) (cs : List (Block ℕ)) → length (with_block b cs) ≡ length cs + 1
+pub length-with_block : (b : Block ℕ) (cs : List (Block ℕ)) → length (with_block b cs) ≡ length cs + 1
 length-with_block b [] = refl
 length-with_block b (c ∷ cs) =
     elim (lies_before b c) as (λ v. length (cond v (b ∷ c ∷ cs) (c ∷ with_block b cs)) ≡ length (c ∷ cs) + 1)
     [ true ↦ omega arith | false ↦ omega (arith, length-with_block b cs) ]
 
-all-with_block : (P : Block ℕ → Type 0) (b : Block ℕ) (cs : List (Block ℕ)) → P b → AllByRecursion P cs → AllByRecursion P (with_block b cs)
+pub all-with_block : (P : Block ℕ → Type 0) (b : Block ℕ) (cs : List (Block ℕ)) → P b → AllByRecursion P cs → AllByRecursion P (with_block b cs)
 all-with_block P b [] p all = (p, all)
 all-with_block P b (c ∷ cs) p all =
     elim (lies_before b c) as (λ v. AllByRecursion P (cond v (b ∷ c ∷ cs) (c ∷ with_block b cs)))
     [ true ↦ (p, all) | false ↦ (all.0, all-with_block P b cs p all.1) ]
 
-or-swap : (a b c : Bool) → (a || (b || c)) ≡ (b || (a || c))
+pub or-swap : (a b c : Bool) → (a || (b || c)) ≡ (b || (a || c))
 or-swap true true c = refl
 or-swap true false c = refl
 or-swap false true c = refl
@@ -57,7 +57,7 @@ live-other labels tag b vacant l e = none-some l.label (sym vacant ∙ (ap (labe
 
 -- what holds of the labels of the live blocks
 live-moved : (old new : Labels) (b : Block ℕ) → label_at new b.label ≡ label_at old b.label → IsLive old b → IsLive new b
-live-moved old new b same l = record { first = l.first; label = l.label; here = same ∙ l.here; at = l.at }
+live-moved old new b same l = record { first = l.first; label = l.label; here = same ∙ l.here; at = l.at; place = l.place }
 
 pub lives-moved : (old new : Labels) (bs : List (Block ℕ)) → AllByRecursion (λ b. label_at new b.label ≡ label_at old b.label) bs → AllByRecursion (IsLive old) bs → AllByRecursion (IsLive new) bs
 lives-moved old new [] same all = tt
@@ -121,14 +121,14 @@ module _ (old new : Labels) (tag : ℕ) (label : Label) (w : WithLabel old new t
       (cases_Bool (bytes_eq label.name y))
 
   -- a block with that tag at that address, put among the others
-  pub named-put : (layout : Region ℕ) (b : Block ℕ) (segments : List (ℕ × ℕ)) → b.label ≡ tag → label.at.0 ≡ address (b.seg, b.off) → AreLabels new → AreApart (with_block b layout.blocks) → IsNamed layout old → IsNamed (record { segments = segments; blocks = with_block b layout.blocks }) new
-  named-put layout b segments is_tag at agree apart n =
+  pub named-put : (layout : Region ℕ) (b : Block ℕ) (segments : List (ℕ × ℕ)) → b.label ≡ tag → label.at.0 ≡ address (b.seg, b.off) → place_of label.at.0 ≡ (b.seg, b.off) → AreLabels new → AreApart (with_block b layout.blocks) → IsNamed layout old → IsNamed (record { segments = segments; blocks = with_block b layout.blocks }) new
+  named-put layout b segments is_tag at place agree apart n =
       let first : 1 ≤ b.label = subst (λ t. 1 ≤ t) (sym is_tag) w.first in
       record {
         agree = agree;
         count = length-with_block b layout.blocks ∙ (ap (λ k. k + 1) n.count ∙ sym w.count);
         live = all-with_block (IsLive new) b layout.blocks
-            (record { first = first; label = label; here = ap (label_at new) is_tag ∙ w.at; at = at })
+            (record { first = first; label = label; here = ap (label_at new) is_tag ∙ w.at; at = at; place = place })
             (lives-moved old new layout.blocks (stays layout.blocks n.live) n.live);
         known = λ y.
             known-more y

@@ -1,5 +1,5 @@
 -- What opening a region does to the state, and to the settled shelf.
-use Rattle.std.proofs.Common.{◌≡◌, ℕ, ◌-◌, Bool, true, false, cond, is_some, List, [], ◌∷◌, ◌++◌, Option, Some, None, length, map, option_map, set, take, refl, sym, ap, ◌∙◌, arith}
+use Rattle.std.proofs.Common.{◌≡◌, ℕ, ◌-◌, true, false, cond, is_some, List, [], ◌∷◌, ◌++◌, Option, Some, None, length, map, option_map, set, take, refl, sym, ap, ◌∙◌, arith}
 use Rattle.std.specs.Prelude.{slice_get}
 use Rattle.std.specs.List.{list_any}
 use Rattle.std.proofs.lemmas.List.{append-nil, map-append, map-set, set-set, take_all}
@@ -10,13 +10,14 @@ use Rattle.vc_model.specs.Region.{Block, Region}
 use Rattle.vc_seg.specs.Shelf.{place_at, place_of}
 use Rattle.vc_seg.specs.declared.shelf.ShelfPlace.TheVariants.{Here}
 use Rattle.vc_script.specs.declared.reply.Reply.TheVariants.{Opened}
-use Rattle.vc_script.specs.declared.refusal.Refusal.TheVariants.{NotYet}
+use Rattle.vc_script.specs.declared.refusal.Refusal.TheVariants.{RegionExists}
 use Rattle.vc_session.specs.State.{State, Stepped, is_home, open_step, opened_over, refused}
 use Rattle.slab.specs.Slab.{slab_len}
 use Rattle.vc_best.specs.Apart.{AreApart}
 use Rattle.vc_session.specs.declared.labels.Labels.{Labels}
 use Rattle.vc_session.specs.Labels.{AreLabels, tag_of}
 use Rattle.vc_session.specs.Account.{Account, Held, IsNamed, IsSession, account, accounts, account_after, home_of, settled, state_of}
+use Rattle.vc_session.specs.Homes.{not_here as why_not}
 use Rattle.vc_session.proofs.Cells.{at_number-from_one, at_number_some, slice_get-set_same, at_number-map, set_same}
 use Rattle.vc_session.proofs.Settle.{settled-push, settled-set, settled-keeps, off-apart, Off}
 use Rattle.vc_session.proofs.Sessions.{Slots, apart-session, away-session, session-push}
@@ -47,7 +48,7 @@ module _ (slots : Slots) (hs : List Held) (name : List ℕ) (n : ℕ) (d : Disci
 
   pub open_step-ok : list_any (is_home name) (map home_of hs) ≡ false → open_step (state_of slots hs) name n ≡ record { state = state_of (set slots (n - 1) None) (hs ++ fresh name n d labels ∷ []); reply = Opened name }
   open_step-ok new =
-      ap (λ b. cond b (refused (state_of slots hs) NotYet) (opened_over (state_of slots hs) name n (at_number (state_of slots hs).shelf n))) new
+      ap (λ b. cond b (refused (state_of slots hs) RegionExists) (opened_over (state_of slots hs) name n (at_number (state_of slots hs).shelf n))) new
       ∙ (ap (opened_over (state_of slots hs) name n) (at_number-map (option_map (λ e. e.round)) slots n ∙ ap (option_map (option_map (λ e. e.round))) at)
       ∙ (ap (λ shelf. stepped (let s : State = record { shelf = shelf; homes = map home_of hs ++ home_of (fresh name n d labels) ∷ [] } in s)) (sym (map-set (option_map (λ (e : Discipline). e.round)) slots (n - 1) None))
       ∙ ap (λ homes. stepped (let s : State = record { shelf = map (option_map (λ e. e.round)) (set slots (n - 1) None); homes = homes } in s)) (sym (map-append home_of hs (fresh name n d labels ∷ [])))))
@@ -85,20 +86,16 @@ fresh_like name n d e layout labels disc segments blocks = sym
     ∙ (ap (λ x. let h : Held = record { name = name; place = n; disc = d; layout = record { segments = x; blocks = layout.blocks }; labels = labels } in h) segments
     ∙ ap (λ x. let h : Held = record { name = name; place = n; disc = d; layout = record { segments = []; blocks = x }; labels = labels } in h) blocks))
 
-pub open_step-named : (s : State) (name : List ℕ) (n : ℕ) → list_any (is_home name) s.homes ≡ true → open_step s name n ≡ refused s NotYet
-open_step-named s name n named = ap (λ b. cond b (refused s NotYet) (opened_over s name n (at_number s.shelf n))) named
+pub open_step-named : (s : State) (name : List ℕ) (n : ℕ) → list_any (is_home name) s.homes ≡ true → open_step s name n ≡ refused s RegionExists
+open_step-named s name n named = ap (λ b. cond b (refused s RegionExists) (opened_over s name n (at_number s.shelf n))) named
 
-opened_over-not_here : (s : State) (name : List ℕ) (n : ℕ) (o : Option (Option Discipline)) → (place_of o ≡ Here → ⊥) → opened_over s name n (option_map (option_map (λ d. d.round)) o) ≡ refused s NotYet
+opened_over-not_here : (s : State) (name : List ℕ) (n : ℕ) (o : Option (Option Discipline)) → (place_of o ≡ Here → ⊥) → opened_over s name n (option_map (option_map (λ d. d.round)) o) ≡ refused s (why_not (place_of o))
 opened_over-not_here s name n None not_here = refl
 opened_over-not_here s name n (Some None) not_here = refl
 opened_over-not_here s name n (Some (Some d)) not_here = absurd (not_here refl)
 
-same_branches : {A : Type 0} (b : Bool) (x y : A) → y ≡ x → cond b x y ≡ x
-same_branches true x y same = refl
-same_branches false x y same = same
-
 -- no discipline is here at the number
-pub open_step-not_here : (slots : Slots) (hs : List Held) (name : List ℕ) (n : ℕ) → (place_at slots n ≡ Here → ⊥) → open_step (state_of slots hs) name n ≡ refused (state_of slots hs) NotYet
-open_step-not_here slots hs name n not_here =
-    same_branches (list_any (is_home name) (state_of slots hs).homes) (refused (state_of slots hs) NotYet) (opened_over (state_of slots hs) name n (at_number (state_of slots hs).shelf n))
-    (ap (opened_over (state_of slots hs) name n) (at_number-map (option_map (λ e. e.round)) slots n) ∙ opened_over-not_here (state_of slots hs) name n (at_number slots n) not_here)
+pub open_step-not_here : (slots : Slots) (hs : List Held) (name : List ℕ) (n : ℕ) → list_any (is_home name) (map home_of hs) ≡ false → (place_at slots n ≡ Here → ⊥) → open_step (state_of slots hs) name n ≡ refused (state_of slots hs) (why_not (place_at slots n))
+open_step-not_here slots hs name n new not_here =
+    ap (λ b. cond b (refused (state_of slots hs) RegionExists) (opened_over (state_of slots hs) name n (at_number (state_of slots hs).shelf n))) new
+    ∙ (ap (opened_over (state_of slots hs) name n) (at_number-map (option_map (λ e. e.round)) slots n) ∙ opened_over-not_here (state_of slots hs) name n (at_number slots n) not_here)

@@ -3,7 +3,8 @@ use Rattle.std.proofs.Common.{◌≡◌, ℕ, List, [], ◌∷◌, ◌++◌, len
 use Rattle.std.proofs.lemmas.List.{append_assoc, append-nil}
 use Rattle.vc_script.specs.declared.command.Command.{Command}
 use Rattle.vc_script.specs.Needs.{Need}
-use Rattle.vc_session.specs.State.{State, Stepped, step}
+use Rattle.vc_session.specs.State.{State, Stepped}
+use Rattle.vc_session.specs.Step.{step}
 use Rattle.vc_session.specs.Run.{Ran, ran, run, refusal_at}
 
 abbrev pub one_more : Ran → Command → Need → Ran

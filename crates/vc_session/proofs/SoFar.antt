@@ -16,6 +16,7 @@ use Rattle.vc_script.specs.Pieces.{found_then}
 use Rattle.vc_script.proofs.Pieces.{Tells, end-tells, fed-tells}
 use Rattle.vc_session.specs.Account.{Account, Settles}
 use Rattle.vc_session.specs.Engine.{LineRan}
+use Rattle.vc_session.specs.ProperState.{IsProperState}
 use Rattle.vc_session.specs.Replay.{IsCutShort, IsReplay, IsRun}
 use Rattle.vc_session.specs.Run.{commands, fault_in, wholly_read}
 use Rattle.vc_session.specs.State.{State}
@@ -76,8 +77,8 @@ reading-more input left s after used xs whole tells feeds r = let none = used-up
   ended = λ more. r.ended more ∙ (ap (λ ls. whole ++ ls) (feeds more).0 ∙ ap (λ xs'. whole ++ ended_rest after (xs' ++ more)) (sym none));
 }
 
-pub so_far-start : (start : State) (before : Option (List ℕ)) (entry : List (Option Account)) (told : Option (List ℕ)) → SoFar start start before before entry entry told told new_cutting []
-so_far-start start before entry told = record { whole = []; running = running-start start before entry; reading = reading-start told }
+pub so_far-start : (start : State) (before : Option (List ℕ)) (entry : List (Option Account)) (told : Option (List ℕ)) → IsProperState start → SoFar start start before before entry entry told told new_cutting []
+so_far-start start before entry told all = record { whole = []; running = running-start start before entry all; reading = reading-start told }
 
 module _ {start now : State} {before after : Option (List ℕ)} {entry accounts : List (Option Account)} {told left : Option (List ℕ)} {s : Cutting} {rest : List ℕ} (r : SoFar start now before after entry accounts told left s rest) where
   -- a piece was read

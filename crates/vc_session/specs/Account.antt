@@ -5,13 +5,14 @@ use Rattle.vc_model.specs.Count.{last_count}
 use Rattle.vc_model.specs.Discipline.{Discipline, EndsWith, Kept}
 use Rattle.vc_model.specs.Numbered.{at_number}
 use Rattle.vc_model.specs.Region.{Block, Region}
-use Rattle.vc_base.specs.Addr.{address}
+use Rattle.vc_base.specs.Addr.{address, place_of}
 use Rattle.vc_best.specs.Apart.{AreApart}
 use Rattle.slab.specs.Slab.{slab_len}
 use Rattle.vc_session.specs.declared.labels.Label.{Label}
 use Rattle.vc_session.specs.declared.labels.Labels.{Labels}
 use Rattle.vc_session.specs.Labels.{AreLabels, label_at, tag_of}
-use Rattle.vc_session.specs.State.{Home, State, has_label}
+use Rattle.vc_session.specs.State.{Home, State}
+use Rattle.vc_session.specs.Blocks.{has_label}
 
 -- the segments of a discipline that are out, its round, and its faults
 pub record Account : Type 0 where
@@ -71,6 +72,7 @@ pub record IsLive (labels : Labels) (b : Block ℕ) : Type 0 where
   pub label : Label
   pub here : label_at labels b.label ≡ Some label
   pub at : label.at.0 ≡ address (b.seg, b.off)
+  pub place : place_of label.at.0 ≡ (b.seg, b.off)
 
 -- the names are those of the blocks, which don't overlap
 pub record IsNamed (layout : Region ℕ) (labels : Labels) : Type 0 where

@@ -10,7 +10,8 @@ use Rattle.vc_script.specs.Print.{line_of}
 use Rattle.vc_session.specs.Account.{Account, Settles}
 use Rattle.vc_session.specs.Replay.{Told}
 use Rattle.vc_session.specs.Run.{refusal_at}
-use Rattle.vc_session.specs.State.{State, step}
+use Rattle.vc_session.specs.State.{State}
+use Rattle.vc_session.specs.Step.{step}
 
 -- nothing was run
 pub record IsIdle (start now : State) (before after : Option (List ℕ)) (entry accounts : List (Option Account)) : Type 0 where

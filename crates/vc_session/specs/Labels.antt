@@ -44,3 +44,11 @@ pub record WithoutLabel (old new : Labels) (tag : ℕ) (label : Label) : Type 0 
   pub name_gone : tag_of new label.name ≡ None
   pub other_names : (x : List ℕ) → x ≢ label.name → tag_of new x ≡ tag_of old x
   pub count : slab_len new.by_tag + 1 ≡ slab_len old.by_tag
+
+-- the block of this tag has another address, and every other tag and each name is as in old
+pub record MovesLabel (old new : Labels) (tag : ℕ) (label : Label) : Type 0 where
+  pub first : 1 ≤ tag
+  pub at : label_at new tag ≡ Some label
+  pub other_tags : (other : ℕ) → 1 ≤ other → other ≢ tag → label_at new other ≡ label_at old other
+  pub names : (x : List ℕ) → tag_of new x ≡ tag_of old x
+  pub count : slab_len new.by_tag ≡ slab_len old.by_tag

@@ -6,6 +6,10 @@ pub use Rattle.vc_base.specs.Addr
 pub use Rattle.vc_best.specs.Apart
 pub mod Labels
 pub mod State
+pub mod Blocks
+pub mod Whole
+pub mod Step
+pub mod ProperState
 pub mod Run
 pub mod Account
 pub mod Homes

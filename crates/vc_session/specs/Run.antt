@@ -11,7 +11,8 @@ use Rattle.vc_script.specs.declared.tool.Tool.TheVariants.{Vmreplay}
 use Rattle.vc_script.specs.Judged.{judged, judged_from}
 use Rattle.vc_script.specs.Answer.{answer}
 use Rattle.vc_script.specs.Needs.{Need, NoNeed}
-use Rattle.vc_session.specs.State.{State, Home, Stepped, step, home_named, region_of}
+use Rattle.vc_session.specs.State.{State, Home, Stepped, home_named}
+use Rattle.vc_session.specs.Step.{region_of, step}
 
 -- what a line's answer leaves of the commands behind it: none behind a bad line
 abbrev pub command_then : ℕ → LineAnswer → List (ℕ × Command) → List (ℕ × Command)

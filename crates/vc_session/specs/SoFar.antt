@@ -11,6 +11,7 @@ use Rattle.vc_script.specs.Needs.{need_shown}
 use Rattle.vc_script.specs.Print.{text}
 use Rattle.vc_script.specs.ProperReply.{IsProperReply}
 use Rattle.vc_session.specs.Account.{Account, Settles}
+use Rattle.vc_session.specs.ProperState.{IsProperState}
 use Rattle.vc_session.specs.Replay.{IsReplay, Told}
 use Rattle.vc_session.specs.Run.{commands, ended_after, fault_in, run, wholly_read}
 use Rattle.vc_session.specs.State.{State}
@@ -25,6 +26,7 @@ pub record Running (start now : State) (before after : Option (List ℕ)) (entry
   pub replies : List Reply
   pub refusals : List ℕ
   pub proper : AllByRecursion IsProperReply replies
+  pub proper_state : IsProperState now
   pub same : length done ≡ length replies
   pub script : (behind : Found) → commands (whole ++ behind) ≡ done ++ commands behind
   pub bad : (behind : Found) → fault_in (whole ++ behind) ≡ fault_in behind

@@ -8,6 +8,7 @@ ghost use Rattle.vc_script.specs.Cutting.{IsCutting};
 ghost use Rattle.vc_script.specs.declared.line_fault.LineFault.{LineFault};
 ghost use Rattle.vc_session.specs.Engine.{LineRan};
 ghost use Rattle.vc_session.specs.Homes.{IsSessionOver, settled_over, state_over};
+ghost use Rattle.vc_session.specs.ProperState.{IsProperState};
 ghost use Rattle.vc_session.specs.Replay.{IsCutShort, IsReplay};
 ghost use Rattle.vc_session.specs.SoFar.{Ends, GoesOn, fuel};
 
@@ -65,17 +66,17 @@ fn run_line<O: Sink>(
     line: &[u8],
     out: &mut O,
 ) -> Result<Option<LineFault>, Stop>
-    requires { IsSessionOver ⟦<BoxedDisc as SegDisc>⟧.state shelf.old.slots.items session.old.homes.items }
+    requires { IsSessionOver ⟦<BoxedDisc as SegDisc>⟧.state shelf.old.slots.items session.old.homes.entries }
     ensures ran { IfOk result (λ fault. LineRan (answer Vmreplay line.now) fault
-        (state_over ⟦<BoxedDisc as SegDisc>⟧.state shelf.old.slots.items session.old.homes.items)
-        (state_over ⟦<BoxedDisc as SegDisc>⟧.state shelf.new.slots.items session.new.homes.items)
+        (state_over ⟦<BoxedDisc as SegDisc>⟧.state shelf.old.slots.items session.old.homes.entries)
+        (state_over ⟦<BoxedDisc as SegDisc>⟧.state shelf.new.slots.items session.new.homes.entries)
         (O.written out.old) (O.written out.new)
-        (settled_over ⟦<BoxedDisc as SegDisc>⟧.state shelf.old.slots.items session.old.homes.items)
-        (settled_over ⟦<BoxedDisc as SegDisc>⟧.state shelf.new.slots.items session.new.homes.items)) }
-    ensures session { IsSessionOver ⟦<BoxedDisc as SegDisc>⟧.state shelf.new.slots.items session.new.homes.items }
+        (settled_over ⟦<BoxedDisc as SegDisc>⟧.state shelf.old.slots.items session.old.homes.entries)
+        (settled_over ⟦<BoxedDisc as SegDisc>⟧.state shelf.new.slots.items session.new.homes.entries)) }
+    ensures session { IsSessionOver ⟦<BoxedDisc as SegDisc>⟧.state shelf.new.slots.items session.new.homes.entries }
     ensures settles { OnErr result (Settles
-        (settled_over ⟦<BoxedDisc as SegDisc>⟧.state shelf.old.slots.items session.old.homes.items)
-        (settled_over ⟦<BoxedDisc as SegDisc>⟧.state shelf.new.slots.items session.new.homes.items) []) }
+        (settled_over ⟦<BoxedDisc as SegDisc>⟧.state shelf.old.slots.items session.old.homes.entries)
+        (settled_over ⟦<BoxedDisc as SegDisc>⟧.state shelf.new.slots.items session.new.homes.entries) []) }
     ensures cause { IfErr result (λ stop. stop ≡ Stop.Write → Rose (O.failures out.old) (O.failures out.new)) }
     ensures no_read { IfErr result (λ stop. stop ≢ Stop.Read) }
     ensures never_falls { O.failures out.old ≤ O.failures out.new }
@@ -101,28 +102,28 @@ fn run_piece<O: Sink>(
     piece: &[u8],
     out: &mut O,
 ) -> Result<Option<(u32, LineFault)>, Stop>
-    requires session { IsSessionOver ⟦<BoxedDisc as SegDisc>⟧.state shelf.old.slots.items session.old.homes.items }
+    requires session { IsSessionOver ⟦<BoxedDisc as SegDisc>⟧.state shelf.old.slots.items session.old.homes.entries }
     requires fed { IsTrue cutter.old.is_open }
     requires cutting { IsCutting cutter.old }
     ensures good { result ≡ Ok None → GoesOn
-        (state_over ⟦<BoxedDisc as SegDisc>⟧.state shelf.old.slots.items session.old.homes.items)
-        (state_over ⟦<BoxedDisc as SegDisc>⟧.state shelf.new.slots.items session.new.homes.items)
+        (state_over ⟦<BoxedDisc as SegDisc>⟧.state shelf.old.slots.items session.old.homes.entries)
+        (state_over ⟦<BoxedDisc as SegDisc>⟧.state shelf.new.slots.items session.new.homes.entries)
         (O.written out.old) (O.written out.new)
-        (settled_over ⟦<BoxedDisc as SegDisc>⟧.state shelf.old.slots.items session.old.homes.items)
-        (settled_over ⟦<BoxedDisc as SegDisc>⟧.state shelf.new.slots.items session.new.homes.items)
+        (settled_over ⟦<BoxedDisc as SegDisc>⟧.state shelf.old.slots.items session.old.homes.entries)
+        (settled_over ⟦<BoxedDisc as SegDisc>⟧.state shelf.new.slots.items session.new.homes.entries)
         cutter.old cutter.new piece.now [] }
     ensures bad { (bad : ℕ × LineFault) → result ≡ Ok (Some bad) → Ends
-        (state_over ⟦<BoxedDisc as SegDisc>⟧.state shelf.old.slots.items session.old.homes.items)
+        (state_over ⟦<BoxedDisc as SegDisc>⟧.state shelf.old.slots.items session.old.homes.entries)
         (O.written out.old) (O.written out.new)
-        (settled_over ⟦<BoxedDisc as SegDisc>⟧.state shelf.old.slots.items session.old.homes.items)
-        (settled_over ⟦<BoxedDisc as SegDisc>⟧.state shelf.new.slots.items session.new.homes.items)
+        (settled_over ⟦<BoxedDisc as SegDisc>⟧.state shelf.old.slots.items session.old.homes.entries)
+        (settled_over ⟦<BoxedDisc as SegDisc>⟧.state shelf.new.slots.items session.new.homes.entries)
         cutter.old piece.now bad }
     ensures open { result ≡ Ok None → IsTrue cutter.new.is_open × IsCutting cutter.new }
     ensures less { result ≡ Ok None → fuel cutter.new + length piece.now ≤ fuel cutter.old }
-    ensures session { IsSessionOver ⟦<BoxedDisc as SegDisc>⟧.state shelf.new.slots.items session.new.homes.items }
+    ensures session { IsSessionOver ⟦<BoxedDisc as SegDisc>⟧.state shelf.new.slots.items session.new.homes.entries }
     ensures settles { Settles
-        (settled_over ⟦<BoxedDisc as SegDisc>⟧.state shelf.old.slots.items session.old.homes.items)
-        (settled_over ⟦<BoxedDisc as SegDisc>⟧.state shelf.new.slots.items session.new.homes.items) [] }
+        (settled_over ⟦<BoxedDisc as SegDisc>⟧.state shelf.old.slots.items session.old.homes.entries)
+        (settled_over ⟦<BoxedDisc as SegDisc>⟧.state shelf.new.slots.items session.new.homes.entries) [] }
     ensures cause { IfErr result (λ stop. stop ≡ Stop.Write → Rose (O.failures out.old) (O.failures out.new)) }
     ensures no_read { IfErr result (λ stop. stop ≢ Stop.Read) }
     ensures never_falls { O.failures out.old ≤ O.failures out.new }
@@ -154,21 +155,22 @@ pub(crate) fn run_lines<S: Source, O: Sink>(
     source: &mut S,
     out: &mut O,
 ) -> Result<Option<(u32, LineFault)>, Stop>
-    requires { IsSessionOver ⟦<BoxedDisc as SegDisc>⟧.state shelf.old.slots.items session.old.homes.items }
+    requires session { IsSessionOver ⟦<BoxedDisc as SegDisc>⟧.state shelf.old.slots.items session.old.homes.entries }
+    requires proper { IsProperState (state_over ⟦<BoxedDisc as SegDisc>⟧.state shelf.old.slots.items session.old.homes.entries) }
     ensures replay { IfOk result (λ bad. IfSome (S.left source.old) (λ input. IsReplay
-        (state_over ⟦<BoxedDisc as SegDisc>⟧.state shelf.old.slots.items session.old.homes.items) input bad
+        (state_over ⟦<BoxedDisc as SegDisc>⟧.state shelf.old.slots.items session.old.homes.entries) input bad
         (S.left source.new) (O.written out.old) (O.written out.new)
-        (settled_over ⟦<BoxedDisc as SegDisc>⟧.state shelf.old.slots.items session.old.homes.items)
-        (settled_over ⟦<BoxedDisc as SegDisc>⟧.state shelf.new.slots.items session.new.homes.items))) }
+        (settled_over ⟦<BoxedDisc as SegDisc>⟧.state shelf.old.slots.items session.old.homes.entries)
+        (settled_over ⟦<BoxedDisc as SegDisc>⟧.state shelf.new.slots.items session.new.homes.entries))) }
     ensures cut_short { IfErr result (λ stop. stop ≡ Stop.Read → IfSome (S.left source.old) (λ input. IsCutShort
-        (state_over ⟦<BoxedDisc as SegDisc>⟧.state shelf.old.slots.items session.old.homes.items) input
+        (state_over ⟦<BoxedDisc as SegDisc>⟧.state shelf.old.slots.items session.old.homes.entries) input
         (S.left source.new) (O.written out.old) (O.written out.new)
-        (settled_over ⟦<BoxedDisc as SegDisc>⟧.state shelf.old.slots.items session.old.homes.items)
-        (settled_over ⟦<BoxedDisc as SegDisc>⟧.state shelf.new.slots.items session.new.homes.items))) }
-    ensures session { IsSessionOver ⟦<BoxedDisc as SegDisc>⟧.state shelf.new.slots.items session.new.homes.items }
+        (settled_over ⟦<BoxedDisc as SegDisc>⟧.state shelf.old.slots.items session.old.homes.entries)
+        (settled_over ⟦<BoxedDisc as SegDisc>⟧.state shelf.new.slots.items session.new.homes.entries))) }
+    ensures session { IsSessionOver ⟦<BoxedDisc as SegDisc>⟧.state shelf.new.slots.items session.new.homes.entries }
     ensures settles { Settles
-        (settled_over ⟦<BoxedDisc as SegDisc>⟧.state shelf.old.slots.items session.old.homes.items)
-        (settled_over ⟦<BoxedDisc as SegDisc>⟧.state shelf.new.slots.items session.new.homes.items) [] }
+        (settled_over ⟦<BoxedDisc as SegDisc>⟧.state shelf.old.slots.items session.old.homes.entries)
+        (settled_over ⟦<BoxedDisc as SegDisc>⟧.state shelf.new.slots.items session.new.homes.entries) [] }
     ensures read { IfErr result (λ stop. stop ≡ Stop.Read → Rose (S.failures source.old) (S.failures source.new)) }
     ensures write { IfErr result (λ stop. stop ≡ Stop.Write → Rose (O.failures out.old) (O.failures out.new)) }
     ensures reads { S.failures source.old ≤ S.failures source.new }

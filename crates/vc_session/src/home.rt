@@ -1,40 +1,30 @@
 // A region that is open, with the names of its blocks.
-ghost use Rattle.std.specs.Prelude.{◌≡◌, ℕ, Ok, IfOk, OnErr};
+ghost use Rattle.std.specs.Prelude.{◌≡◌, ℕ, List, Ok, IfOk, OnErr};
 ghost use Rattle.vc_base.specs.Addr.{place_of};
 ghost use Rattle.vc_model.specs.Count.{Rose};
 ghost use Rattle.vc_model.specs.Discipline.{EndsWith};
-ghost use Rattle.vc_session.specs.State.{alloc_in, free_in, in_region, is_for_block, is_size};
+ghost use Rattle.vc_region.specs.Parts.{disc_of, layout_of};
 ghost use Rattle.vc_script.specs.Needs.{need_shown};
 ghost use Rattle.vc_session.specs.Account.{home_of, IsNamed, IsChange};
+ghost use Rattle.vc_session.specs.Step.{in_region};
 
 use crate::labels::Labels;
-use vc_base::{Addr, Name, OutOfMemory, Steps};
-use vc_best::Best;
+use std::alloc::Global;
+use vc_base::{Addr, OutOfMemory};
+use vc_region::Region;
 use vc_script::{Command, Place, Refusal, Reply};
-use vc_seg::{BoxedDisc, RegionFault, SegDisc};
+use vc_seg::{BoxedDisc, SegDisc};
 
-// A region has at most so many labels.
-const LABEL_LIMIT: usize = 1_000_000;
-
-// Marks a counter that no one reads.
-struct Uncounted;
-
-// A region: its name, the number of its discipline on the shelf, and the names of its blocks.
+// A region: the number of its discipline on the shelf, its lists, and the names of its blocks.
 #[derive(Drop)]
 pub(crate) struct Home {
-    pub name: Name,
     pub place: u32,
-    pub best: Best,
+    pub region: Region,
     pub labels: Labels,
 }
 
-fn is_size(size: u32) -> bool
-    ensures { result ≡ is_size size }
-{
-    1 <= size && size <= 16_777_216
-}
-
-fn place_of(at: Addr) -> Place
+// The segment and the offset of an address.
+pub(crate) fn place_of(at: Addr) -> Place
     ensures seg { result.seg ≡ (place_of at.0).0 }
     ensures off { result.off ≡ (place_of at.0).1 }
 {
@@ -47,74 +37,37 @@ fn place_of(at: Addr) -> Place
 impl Home {
     ghost use Rattle.vc_session.specs.Homes.{held_of};
 
-    // Allocates a block under a name.
-    fn allocate(&mut self, name: Name, size: u32) -> Result<Reply, OutOfMemory>
-        requires names { IsNamed self.old.best.layout self.old.labels }
-        requires lent { EndsWith (⟦<BoxedDisc as SegDisc>⟧.state self.old.best.disc).out self.old.best.layout.segments }
-
-        ensures step { IfOk result (λ reply.
-            alloc_in (home_of (held_of ⟦<BoxedDisc as SegDisc>⟧.state self.old)) name size (is_for_block (need_shown reply))
-            ≡ record { region = (home_of (held_of ⟦<BoxedDisc as SegDisc>⟧.state self.new)).region; reply = reply }) }
-        ensures err { OnErr result ((home_of (held_of ⟦<BoxedDisc as SegDisc>⟧.state self.new)).region ≡ (home_of (held_of ⟦<BoxedDisc as SegDisc>⟧.state self.old)).region) }
-        ensures change { IsChange (held_of ⟦<BoxedDisc as SegDisc>⟧.state self.old) (held_of ⟦<BoxedDisc as SegDisc>⟧.state self.new) }
-        ensures refused { result ≡ Ok (Reply.Refused Refusal.NoSegment)
-            → Rose (⟦<BoxedDisc as SegDisc>⟧.state self.old.best.disc).faults (⟦<BoxedDisc as SegDisc>⟧.state self.new.best.disc).faults }
-    {
-        if self.labels.has(&name) {
-            return Ok(Reply::Refused(Refusal::NotYet));
-        }
-        if !is_size(size) || self.labels.len() >= LABEL_LIMIT {
-            return Ok(Reply::Refused(Refusal::NotYet));
-        }
-        let tag = self.labels.reserve()?;
-        let mut steps = Steps::<Uncounted>::new(self.best.alloc);
-        match self.best.alloc(size, 32, tag, &mut steps) {
-            Ok(at) => {
-                self.labels.insert(name, at);
-                Ok(Reply::At(name, place_of(at), None))
-            }
-            Err(RegionFault::TooManySegments) => Ok(Reply::Refused(Refusal::NotYet)),
-            Err(RegionFault::NoSegment) => Ok(Reply::Refused(Refusal::NoSegment)),
-            Err(_) => Err(OutOfMemory),
-        }
-    }
-
-    // Frees the block of that name.
-    fn free(&mut self, name: &Name) -> Reply
-        requires names { IsNamed self.old.best.layout self.old.labels }
-        requires lent { EndsWith (⟦<BoxedDisc as SegDisc>⟧.state self.old.best.disc).out self.old.best.layout.segments }
-
-        ensures step { free_in (home_of (held_of ⟦<BoxedDisc as SegDisc>⟧.state self.old)) name.now
-            ≡ record { region = (home_of (held_of ⟦<BoxedDisc as SegDisc>⟧.state self.new)).region; reply = result } }
-        ensures change { IsChange (held_of ⟦<BoxedDisc as SegDisc>⟧.state self.old) (held_of ⟦<BoxedDisc as SegDisc>⟧.state self.new) }
-        ensures granted { result ≡ Reply.Refused Refusal.NoSegment → ⊥ }
-    {
-        match self.labels.remove(name) {
-            Some(at) => {
-                let mut steps = Steps::<Uncounted>::new(self.best.alloc);
-                self.best.free(at, &mut steps);
-                Reply::Freed(*name, None)
-            }
-            None => Reply::Refused(Refusal::NoBlock),
-        }
-    }
-
     // Runs a command in the region.
-    pub(crate) fn run(&mut self, command: &Command) -> Result<Reply, OutOfMemory>
-        requires names { IsNamed self.old.best.layout self.old.labels }
-        requires lent { EndsWith (⟦<BoxedDisc as SegDisc>⟧.state self.old.best.disc).out self.old.best.layout.segments }
+    pub(crate) fn run(&mut self, alloc: Global, command: &Command) -> Result<Reply, OutOfMemory>
+        requires names { IsNamed (layout_of self.old.region) self.old.labels }
+        requires lent { EndsWith (⟦<BoxedDisc as SegDisc>⟧.state (disc_of self.old.region)).out (layout_of self.old.region).segments }
 
-        ensures step { IfOk result (λ reply.
-            in_region (home_of (held_of ⟦<BoxedDisc as SegDisc>⟧.state self.old)) command.now (need_shown reply)
-            ≡ record { region = (home_of (held_of ⟦<BoxedDisc as SegDisc>⟧.state self.new)).region; reply = reply }) }
-        ensures err { OnErr result ((home_of (held_of ⟦<BoxedDisc as SegDisc>⟧.state self.new)).region ≡ (home_of (held_of ⟦<BoxedDisc as SegDisc>⟧.state self.old)).region) }
-        ensures change { IsChange (held_of ⟦<BoxedDisc as SegDisc>⟧.state self.old) (held_of ⟦<BoxedDisc as SegDisc>⟧.state self.new) }
+        ensures step { IfOk result (λ reply. (r : List ℕ) → in_region (home_of (held_of ⟦<BoxedDisc as SegDisc>⟧.state r self.old)) command.now (need_shown reply)
+            ≡ record { region = (home_of (held_of ⟦<BoxedDisc as SegDisc>⟧.state r self.new)).region; reply = reply }) }
+        ensures err { OnErr result ((r : List ℕ) → (home_of (held_of ⟦<BoxedDisc as SegDisc>⟧.state r self.new)).region ≡ (home_of (held_of ⟦<BoxedDisc as SegDisc>⟧.state r self.old)).region) }
+        ensures change { (r : List ℕ) → IsChange (held_of ⟦<BoxedDisc as SegDisc>⟧.state r self.old) (held_of ⟦<BoxedDisc as SegDisc>⟧.state r self.new) }
         ensures refused { result ≡ Ok (Reply.Refused Refusal.NoSegment)
-            → Rose (⟦<BoxedDisc as SegDisc>⟧.state self.old.best.disc).faults (⟦<BoxedDisc as SegDisc>⟧.state self.new.best.disc).faults }
+            → Rose (⟦<BoxedDisc as SegDisc>⟧.state (disc_of self.old.region)).faults (⟦<BoxedDisc as SegDisc>⟧.state (disc_of self.new.region)).faults }
     {
         match command {
-            Command::Alloc(_, block, size, _) => self.allocate(*block, *size),
+            Command::ClearRegion(name) => Ok(self.clear(*name)),
+            Command::Compact(name) => Ok(self.compact(*name)),
+            Command::Alloc(_, block, size, _) => self.allocate(*block, *size, 32),
+            Command::Align(_, block, size, align) => self.allocate(*block, *size, *align),
+            Command::Resize(_, block, size, may_move) => self.resize(block, *size, *may_move),
             Command::Free(_, block) => Ok(self.free(block)),
+            Command::WriteBlock(_, block, off, bytes) => Ok(self.write(
+                block,
+                *off,
+                bytes.as_slice(),
+            )),
+            Command::ReadBlock(_, block, off, len) => self.read(alloc, block, *off, *len),
+            Command::SizeOf(_, block) => Ok(self.size(block)),
+            Command::AddrOf(_, at) => Ok(self.addr(*at)),
+            Command::SegmentOf(_, at) => Ok(self.segment(*at)),
+            Command::StatOf(_) => Ok(self.stat()),
+            Command::Segments(_) => self.segments(alloc),
+            Command::Blocks(_) => self.blocks(alloc),
             _ => Ok(Reply::Refused(Refusal::NotYet)),
         }
     }

@@ -1,8 +1,8 @@
 // The names of a region's live blocks.
-ghost use Rattle.std.specs.Prelude.{◌≡◌, ℕ, List, ◌+◌, ◌^◌, ◌<◌, ◌≤◌, Some, None, is_some, IsOk, IfOk, IfSome, IfNone};
+ghost use Rattle.std.specs.Prelude.{◌≡◌, ℕ, List, ◌+◌, ◌^◌, ◌<◌, ◌≤◌, Some, None, is_some, IsOk, IfOk, IfSome, IfNone, IsSome, option_map};
 ghost use Rattle.std.specs.HashMap.{spare};
 ghost use Rattle.slab.specs.Slab.{slab_len, HasRoomFor};
-ghost use Rattle.vc_session.specs.Labels.{label_at, tag_of, AreLabels, SameLabels, WithLabel, WithoutLabel};
+ghost use Rattle.vc_session.specs.Labels.{label_at, tag_of, AreLabels, SameLabels, MovesLabel, WithLabel, WithoutLabel};
 
 use slab::Slab;
 use std::alloc::Global;
@@ -99,5 +99,69 @@ impl Labels {
             Some(tag) => Some(self.by_tag.remove(tag as usize - 1).at),
             None => None,
         }
+    }
+
+    // The address of the block of this name.
+    pub(crate) fn find(&self, name: &Name) -> Option<Addr>
+        requires agree { AreLabels self.now }
+        ensures some { IfSome result (λ at. (tag : ℕ) × (tag_of self.now name.now ≡ Some tag) × (label_at self.now tag ≡ Some (record { name = name.now; at = at }))) }
+        ensures none { IfNone result (tag_of self.now name.now ≡ None) }
+    {
+        match self.tags.get(name) {
+            Some(tag) => match self.by_tag.get(*tag as usize - 1) {
+                Some(label) => Some(label.at),
+                None => unreachable!(),
+            },
+            None => None,
+        }
+    }
+
+    // The name of a tag that is in use.
+    pub(crate) fn name(&self, tag: u32) -> Name
+        requires first { 1 ≤ tag }
+        requires used { IsSome (label_at self.now tag) }
+        ensures { option_map (λ l. l.name) (label_at self.now tag) ≡ Some result }
+    {
+        match self.by_tag.get(tag as usize - 1) {
+            Some(label) => label.name,
+            None => unreachable!(),
+        }
+    }
+
+    // Puts another address to a tag that is in use.
+    fn put_at(&mut self, tag: u32, label: Label)
+        requires first { 1 ≤ tag }
+        requires used { IsSome (label_at self.old tag) }
+        ensures { MovesLabel self.old self.new tag label }
+    {
+        let _ = self.by_tag.remove(tag as usize - 1);
+        let _ = self.by_tag.insert_reserved(label);
+    }
+
+    // Puts the block of this name at another address.
+    pub(crate) fn move_to(&mut self, name: &Name, at: Addr)
+        requires agree { AreLabels self.old }
+        requires there { IsSome (tag_of self.old name.now) }
+        ensures agree { AreLabels self.new }
+        ensures moved { IfSome (tag_of self.old name.now) (λ tag. MovesLabel self.old self.new tag (record { name = name.now; at = at })) }
+    {
+        match self.tags.get(name) {
+            Some(tag) => {
+                let tag = *tag;
+                self.put_at(tag, Label { name: *name, at });
+            }
+            None => unreachable!(),
+        }
+    }
+
+    // Takes out every block.
+    pub(crate) fn clear(&mut self)
+        ensures agree { AreLabels self.new }
+        ensures no_tags { (tag : ℕ) → label_at self.new tag ≡ None }
+        ensures no_names { (x : List ℕ) → tag_of self.new x ≡ None }
+        ensures count { slab_len self.new.by_tag ≡ 0 }
+    {
+        self.by_tag.clear();
+        self.tags.clear();
     }
 }

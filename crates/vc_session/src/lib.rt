@@ -1,6 +1,8 @@
 //! Runs scripts over regions.
 #![tactic(auto)]
 
+mod blocks;
+mod bytes;
 mod close;
 mod engine;
 mod home;
@@ -9,7 +11,9 @@ pub mod run_rows;
 mod session;
 mod status;
 mod stream;
+mod tells;
 mod tool;
+mod whole;
 
 pub use session::Session;
 pub use status::Status;

@@ -15,7 +15,7 @@ pub fn row_one()
 /// A segment is refused once, and granted when the block is asked for again.
 pub fn refused_segment()
     ensures { text (run (record { shelf = Some 4096 ∷ []; homes = [] }) (script (codes "open r best 1\nalloc r a 4000\nalloc r b 4000\nalloc r b 4000\nalloc q a 1\nalloc r c 0\n")) (NoNeed ∷ NoNeed ∷ ForBlock ∷ [])).replies
-        ≡ codes "r open\na 1:32\nrefused: no segment\nb 2:32\nrefused: no region\nrefused: not built\n" }
+        ≡ codes "r open\na 1:32\nrefused: no segment\nb 2:32\nrefused: no region\nrefused: size\n" }
 {}
 
 /// The commands before a bad line are run, and none behind it.
@@ -46,4 +46,40 @@ pub fn free_and_close()
 pub fn closed_empty()
     ensures { text (run (record { shelf = Some 4096 ∷ []; homes = [] }) (script (codes "open r best 1\nclose r\nopen q best 1")) []).replies
         ≡ codes "r open\nr closed 0\nq open\n" }
+{}
+
+/// The numbers of a region with a gap before its one block and one behind it.
+pub fn numbers()
+    ensures { text (run (record { shelf = Some 4096 ∷ []; homes = [] }) (script (codes "open r best 1\nalloc r a 100\nalloc r b 1\nfree r a\nstat r\n")) []).replies
+        ≡ codes "r open\na 1:32\nb 1:160\na freed\nbusy 1 free 2 sbusy 1 sfree 4032 mbusy 1 mfree 3904 segs 1 extent 4096\n" }
+{}
+
+/// A freed block merges with a gap on each side.
+pub fn merging()
+    ensures { text (run (record { shelf = Some 4096 ∷ []; homes = [] }) (script (codes "open r best 1\nalloc r a 1\nalloc r b 1\nalloc r c 1\nalloc r d 1\nfree r a\nfree r c\nfree r b\nstat r\nalloc r e 80\n")) []).replies
+        ≡ codes "r open\na 1:32\nb 1:64\nc 1:96\nd 1:128\na freed\nc freed\nb freed\nbusy 1 free 2 sbusy 1 sfree 4032 mbusy 1 mfree 3936 segs 1 extent 4096\ne 1:32\n" }
+{}
+
+/// A block at an offset that 4,096 divides.
+pub fn aligned()
+    ensures { text (run (record { shelf = Some 4096 ∷ []; homes = [] }) (script (codes "open r best 1\nalign r a 10 4096\nstat r\n")) []).replies
+        ≡ codes "r open\na 1:4096\nbusy 1 free 2 sbusy 10 sfree 8128 mbusy 10 mfree 4064 segs 1 extent 8192\n" }
+{}
+
+/// A block grows into the gap behind it, and can't grow further where it is.
+pub fn fixed()
+    ensures { text (run (record { shelf = Some 4096 ∷ []; homes = [] }) (script (codes "open r best 1\nalloc r a 9\nalloc r b 9\nalloc r c 1\nfree r b\nresize r a 48 fixed\nresize r a 49 fixed\n")) []).replies
+        ≡ codes "r open\na 1:32\nb 1:64\nc 1:96\nb freed\na 1:32\nrefused: cannot grow here\n" }
+{}
+
+/// A region, a place and a name in use are refused, and a size and a range that aren't legal.
+pub fn refusals()
+    ensures { text (run (record { shelf = Some 4096 ∷ []; homes = [] }) (script (codes "open r best 3\nopen r best 1\nopen r best 1\nopen s best 1\nalloc r a 1\nalloc r a 0\nalloc r b 0\nsize r b\nread r a 0 2\n")) []).replies
+        ≡ codes "refused: no such discipline\nr open\nrefused: region exists\nrefused: discipline in use\na 1:32\nrefused: block exists\nrefused: size\nrefused: no block\nrefused: range\n" }
+{}
+
+/// What is where in a region, and what is left of it.
+pub fn told()
+    ensures { text (run (record { shelf = Some 4096 ∷ []; homes = [] }) (script (codes "open r best 1\nalloc r a 1\naddr r 1:32\naddr r 1:33\nsegment r 1:4096\nsegments r\nblocks r\nclear r\ncompact r\n")) []).replies
+        ≡ codes "r open\na 1:32\naddr a 0\naddr -1\nsegment -1\nsegments 1 1:4096\nblocks 1 a@1:32+1\nr cleared\nr compacted 1\n" }
 {}

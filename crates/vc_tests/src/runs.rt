@@ -121,6 +121,30 @@ fn rows(rt: HostRuntime) -> Result<(), Fail> {
             b"open r best 1\nalloc r a 1\nfree r x\nfree r a\nclose r\nclose r\n",
             b"r open\na 1:32\nrefused: no block\na freed\nr closed 1\nrefused: no region\n",
         ),
+        (
+            b"open r best 1\nalloc r a 100\nalloc r b 1\nfree r a\nstat r\n",
+            b"r open\na 1:32\nb 1:160\na freed\nbusy 1 free 2 sbusy 1 sfree 4032 mbusy 1 mfree 3904 segs 1 extent 4096\n",
+        ),
+        (
+            b"open r best 1\nalloc r a 1\nalloc r b 1\nalloc r c 1\nalloc r d 1\nfree r a\nfree r c\nfree r b\nstat r\nalloc r e 80\n",
+            b"r open\na 1:32\nb 1:64\nc 1:96\nd 1:128\na freed\nc freed\nb freed\nbusy 1 free 2 sbusy 1 sfree 4032 mbusy 1 mfree 3936 segs 1 extent 4096\ne 1:32\n",
+        ),
+        (
+            b"open r best 1\nalloc r z 0\nalloc r z 16777217\nalloc r z 16777216\nsegments r\n",
+            b"r open\nrefused: size\nrefused: size\nz 1:32\nsegments 1 1:16781312\n",
+        ),
+        (
+            b"open r best 1\nalign r a 10 4096\nstat r\n",
+            b"r open\na 1:4096\nbusy 1 free 2 sbusy 10 sfree 8128 mbusy 10 mfree 4064 segs 1 extent 8192\n",
+        ),
+        (
+            b"open r best 1\nalloc r a 100\nalloc r b 100\nalloc r c 1\nwrite r a 0 hello\nfree r b\nresize r a 240 fixed\nresize r a 241 fixed\nresize r a 241 move\nread r a 0 5\nread r a 240 1\n",
+            b"r open\na 1:32\nb 1:160\nc 1:288\na written 5\nb freed\na 1:32\nrefused: cannot grow here\na 1:320\na 68656c6c6f\na 00\n",
+        ),
+        (
+            b"open r best 3\nopen r best 1\nopen r best 1\nopen s best 1\nalloc r a 1\nalloc r a 0\nalloc r b 0\nalign r b 1 3\nsize r b\nread r a 0 2\nwrite r a 1 x\nresize r b 0 move\nresize r a 0 move\naddr r 1:32\naddr r 1:33\nsegment r 1:4096\nsegment r 1:4095\nsegments r\nblocks r\ncompact r\nclear r\ncompact r\npoke r a 0 1\n",
+            b"refused: no such discipline\nr open\nrefused: region exists\nrefused: discipline in use\na 1:32\nrefused: block exists\nrefused: size\nrefused: size\nrefused: no block\nrefused: range\nrefused: range\nrefused: no block\nrefused: size\naddr a 0\naddr -1\nsegment -1\nsegment 1 4096\nsegments 1 1:4096\nblocks 1 a@1:32+1\nr compacted 0\nr cleared\nr compacted 1\nrefused: not built\n",
+        ),
         (b"open r best 1\nclose r", b"r open\nr closed 0\n"),
         (
             b"open r best 1\nalloc r a 9\nopen s best 2\nalloc s a 9\nclose r\nopen r best 1\nfree r a\nfree s a\nfree s a\nalloc s a 9\nclose s\n",
@@ -152,7 +176,7 @@ fn refused_segment(rt: HostRuntime) -> Result<(), Fail> {
     let script =
         b"open r best 1\nalloc r a 4000\nalloc r b 4000\nalloc r b 4000\nalloc q a 1\nalloc r c 0\n";
     let replies =
-        b"r open\na 1:32\nrefused: no segment\nb 2:32\nrefused: no region\nrefused: not built\n";
+        b"r open\na 1:32\nrefused: no segment\nb 2:32\nrefused: no region\nrefused: size\n";
     for piece in [1, 4096] {
         let mut shelf = Shelf::new(alloc);
         let mut fails = Vec::new(alloc);
@@ -281,7 +305,7 @@ fn not_built(rt: HostRuntime) -> Result<(), Fail> {
     let alloc = rt.alloc();
     let mut shelf = Shelf::new(alloc);
     assert!(rt; shelf.put(Box::new(alloc, HeapDisc::new(4096))?).is_ok());
-    let script = b"open q pool 1\nclear q\nopen r best 1\nalloc r a 1 @s\n";
+    let script = b"open q pool 1\ncheck q\nopen r best 1\nalloc r a 1 @s\n";
     let replies = b"refused: not built\nrefused: not built\nr open\na 1:32\n";
     let given = Given {
         script,

@@ -1,4 +1,4 @@
-use Rattle.std.proofs.Common.{◌-◌, Some, option_map, set, ap, ◌∙◌}
+use Rattle.std.proofs.Common.{◌-◌, [], Some, option_map, set, ap, ◌∙◌}
 use Rattle.std.proofs.lemmas.List.{map-set}
 use Rattle.vc_model.specs.Numbered.{at_number}
 use Rattle.vc_seg.specs.contracts.boxed.BoxDynSegDiscSegDisc.TheImpl as boxed
@@ -15,7 +15,7 @@ returns-clause-here g c =
     let disc = meaning c.close-disc.result.0 in
     ap accounts c.give_back.ensures.filled
     ∙ (map-set (option_map account) slots (c.args.home.place - 1) (Some disc)
-    ∙ ap (λ a. set (accounts slots) (c.args.home.place - 1) (Some a)) (account-closed (held_of meaning c.args.home) disc c.close-disc.ensures.out c.close-disc.ensures.round c.close-disc.ensures.faults))
+    ∙ ap (λ a. set (accounts slots) (c.args.home.place - 1) (Some a)) (account-closed (held_of meaning [] c.args.home) disc c.close-disc.ensures.out c.close-disc.ensures.round c.close-disc.ensures.faults))
 
 pub returns-clause-elsewhere : goal.returns-clause-elsewhere
 returns-clause-elsewhere g c = λ p other.

@@ -15,14 +15,14 @@ invariant-loop-cutter g l =
       room : length l.buf ≡ 4096;
       fed : IsTrue l.cutter.is_open;
       cutting : IsCutting l.cutter;
-      session : IsSessionOver meaning l.shelf.slots.items l.session.homes.items;
+      session : IsSessionOver meaning l.shelf.slots.items l.session.homes.entries;
       so_far : SoFar
-          (state_over meaning l.fn.shelf.slots.items l.fn.session.homes.items) (state_over meaning l.shelf.slots.items l.session.homes.items)
+          (state_over meaning l.fn.shelf.slots.items l.fn.session.homes.entries) (state_over meaning l.shelf.slots.items l.session.homes.entries)
           (g.O.Sink.written l.fn.out) (g.O.Sink.written l.out)
-          (settled_over meaning l.fn.shelf.slots.items l.fn.session.homes.items) (settled_over meaning l.shelf.slots.items l.session.homes.items)
+          (settled_over meaning l.fn.shelf.slots.items l.fn.session.homes.entries) (settled_over meaning l.shelf.slots.items l.session.homes.entries)
           (g.S.Source.left l.fn.source) (g.S.Source.left l.source)
           l.cutter [];
-      settles : Settles (settled_over meaning l.fn.shelf.slots.items l.fn.session.homes.items) (settled_over meaning l.shelf.slots.items l.session.homes.items) [];
+      settles : Settles (settled_over meaning l.fn.shelf.slots.items l.fn.session.homes.entries) (settled_over meaning l.shelf.slots.items l.session.homes.entries) [];
       reads : g.S.Source.failures l.fn.source ≤ g.S.Source.failures l.source;
       writes : g.O.Sink.failures l.fn.out ≤ g.O.Sink.failures l.out;
     }

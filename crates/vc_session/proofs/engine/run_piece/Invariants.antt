@@ -14,13 +14,13 @@ invariant-loop-rest g l =
     record {
       fed : IsTrue l.cutter.is_open;
       cutting : IsCutting l.cutter;
-      session : IsSessionOver meaning l.shelf.slots.items l.session.homes.items;
+      session : IsSessionOver meaning l.shelf.slots.items l.session.homes.entries;
       goes_on : GoesOn
-          (state_over meaning l.fn.shelf.slots.items l.fn.session.homes.items) (state_over meaning l.shelf.slots.items l.session.homes.items)
+          (state_over meaning l.fn.shelf.slots.items l.fn.session.homes.entries) (state_over meaning l.shelf.slots.items l.session.homes.entries)
           (g.O.Sink.written l.fn.out) (g.O.Sink.written l.out)
-          (settled_over meaning l.fn.shelf.slots.items l.fn.session.homes.items) (settled_over meaning l.shelf.slots.items l.session.homes.items)
+          (settled_over meaning l.fn.shelf.slots.items l.fn.session.homes.entries) (settled_over meaning l.shelf.slots.items l.session.homes.entries)
           l.fn.cutter l.cutter l.piece l.rest;
-      settles : Settles (settled_over meaning l.fn.shelf.slots.items l.fn.session.homes.items) (settled_over meaning l.shelf.slots.items l.session.homes.items) [];
+      settles : Settles (settled_over meaning l.fn.shelf.slots.items l.fn.session.homes.entries) (settled_over meaning l.shelf.slots.items l.session.homes.entries) [];
       less : fuel l.cutter + length l.piece ≤ fuel l.fn.cutter + length l.rest;
       never_falls : g.O.Sink.failures l.fn.out ≤ g.O.Sink.failures l.out;
     }
