@@ -1,6 +1,6 @@
 -- A segment that is taken back.
-use Rattle.std.proofs.Common.{◌≡◌, ℕ, zero, suc, ◌+◌, ◌-◌, ◌<◌, ◌≤◌, ◌≢◌, List, [], ◌∷◌, ◌++◌, Bool, true, false, not, All, AllPairs, Contains, length, get_or, map, filter, take, refl, ap, sym, subst, ◌∙◌, ⊎_elim, eqb, leb, arith}
-use Rattle.std.specs.Prelude.{◌==◌, ◌&&◌, ◌||◌}
+use Rattle.std.proofs.Common.{◌≡◌, ℕ, zero, suc, ◌+◌, ◌-◌, ◌<◌, ◌≤◌, ◌≢◌, List, [], ◌∷◌, ◌++◌, true, false, not, All, AllPairs, Contains, length, get_or, map, filter, take, refl, ap, sym, subst, ◌∙◌, ⊎_elim, eqb, leb, arith}
+use Rattle.std.specs.Prelude.{◌==◌, ◌&&◌}
 use Rattle.std.specs.List.{list_any, remove}
 use Rattle.std.proofs.lemmas.Bool.{cases_Bool, eq-eqb, ne_eqb, eqb-true, le-leb, lt-leb, and_from, and_left, or_from, or_left, or_right}
 use Rattle.std.proofs.lemmas.Bool.Decides.{nat_tests}
@@ -11,7 +11,7 @@ use Rattle.vc_model.specs.Discipline.{Discipline, EndsWith, same_pair, without_l
 use Rattle.vc_seg.specs.Segment.{Bytes, pair_of}
 use Rattle.vc_best.specs.declared.slot.Slot.{Slot}
 use Rattle.vc_best.specs.Slot.{has_slot}
-use Rattle.vc_best.specs.Close.{TakesBack, has_other_number, is_kept}
+use Rattle.vc_best.specs.Close.{TakesBack, has_other_number, is_kept, stays_from}
 use Rattle.vc_best.proofs.Filters.{filter-filter, filter-all, filter-agree_on}
 use Rattle.vc_best.proofs.Bytes.{Apart, Apart-tail}
 
@@ -90,10 +90,6 @@ is_kept-empty slots n ss none =
     (λ e. rw e (sym (or_right (has_slot slots b.number) true refl)))
     (cases_Bool (eqb b.number n)))
     ss
-
--- whether a segment stays where each one below a number goes unless a slot is in it
-abbrev pub stays_from : List Slot → ℕ → Bytes → Bool
-stays_from slots n b = leb n b.number || has_slot slots b.number
 
 pub stays_from-first : (slots : List Slot) (ss : List Bytes) → All (λ b. 1 ≤ b.number) ss → filter (stays_from slots 1) ss ≡ ss
 stays_from-first slots ss h =

@@ -1,16 +1,18 @@
 -- The slot that a walk stops at, and its block.
-use Rattle.std.proofs.Common.{◌≡◌, ℕ, suc, ◌-◌, ◌<◌, ◌≤◌, List, [], ◌∷◌, Bool, true, Option, None, Some, All, Contains, length, map, refl, ap, sym, ◌∙◌, subst, ⊎_elim, eqb, arith}
+use Rattle.std.proofs.Common.{◌≡◌, ℕ, suc, ◌-◌, ◌<◌, ◌≤◌, List, [], ◌∷◌, Bool, true, Option, None, Some, ◌≢◌, All, Contains, get_or, length, map, refl, ap, sym, ◌∙◌, subst, ⊎_elim, eqb, arith}
 use Rattle.std.specs.Prelude.{find, option_map}
 use Rattle.std.proofs.lemmas.Bool.{cases_Bool, eqb-true}
 use Rattle.std.proofs.lemmas.List.{length-map, get_or-map}
-use Rattle.std.proofs.lemmas.List.Elements.{All-head, All-tail}
+use Rattle.std.proofs.lemmas.List.Elements.{All-head, All-map, All-tail}
 use Rattle.vc_model.specs.Region.{Block}
 use Rattle.vc_model.specs.Walk.{block_at, next_block, holds_byte, begins_behind}
 use Rattle.vc_base.specs.Addr.{address}
-use Rattle.vc_seg.specs.Segment.{Bytes}
+use Rattle.vc_seg.specs.Segment.{Bytes, pair_of}
 use Rattle.vc_best.specs.declared.slot.Slot.{Slot}
 use Rattle.vc_best.specs.Slot.{lies_before_slot, slot_holds_byte}
 use Rattle.vc_best.specs.Layout.{bytes_of_number, block_in, IsRegionSegment, IsSlotIn, IsLayout}
+use Rattle.vc_best.specs.Numbered.{HaveOwnNumbers, LieInNumbered}
+use Rattle.vc_best.proofs.Apart.{AllPairs-map}
 use Rattle.vc_best.proofs.Regions.{IsSlotIn-bytes}
 
 -- the numbers that a segment can have
@@ -99,3 +101,17 @@ module _ (segs : List Bytes) (slots : List Slot) where
 
   pub next_block-slots : (at : ℕ × ℕ) (o : Option Slot) → find (lies_before_slot at.0 at.1) slots ≡ o → next_block at (map (block_in segs) slots) ≡ option_map (block_in segs) o
   next_block-slots at o e = find-map (block_in segs) (begins_behind at) slots ∙ ap (option_map (block_in segs)) e
+
+-- the segments of a layout have numbers of their own
+pub HaveOwnNumbers-segments : (segs : List Bytes) (slots : List Slot) → IsLayout segs slots → HaveOwnNumbers (map pair_of segs)
+HaveOwnNumbers-segments segs slots l =
+    record {
+      first = All-map (λ (s : ℕ × ℕ). 1 ≤ s.0) pair_of segs (λ k d lt. (l.segments k d lt).first);
+      distinct = AllPairs-map (λ (s t : ℕ × ℕ). s.0 ≢ t.0) pair_of segs l.distinct;
+    }
+
+-- and its blocks lie in them
+pub LieInNumbered-blocks : (segs : List Bytes) (slots : List Slot) → IsLayout segs slots → LieInNumbered (map (block_in segs) slots)
+LieInNumbered-blocks segs slots l =
+    All-map (λ (b : Block ℕ). 1 ≤ b.seg) (block_in segs) slots
+    (λ k d lt. (IsNumber-slot segs (get_or slots k d) l.segments (l.blocks k d lt)).first)

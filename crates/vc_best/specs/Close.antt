@@ -1,5 +1,5 @@
 -- What closing and compacting a region do, segment by segment.
-use Rattle.std.specs.Prelude.{◌≡◌, ◌≢◌, ℕ, ◌≤◌, List, ◌++◌, All, AllPairs, Bool, not, ◌==◌, ◌||◌}
+use Rattle.std.specs.Prelude.{◌≡◌, ◌≢◌, ℕ, ◌≤◌, List, ◌++◌, All, AllPairs, Bool, nat_le, not, ◌==◌, ◌||◌}
 use Rattle.vc_model.specs.Discipline.{Discipline}
 use Rattle.vc_seg.specs.Segment.{Bytes}
 use Rattle.vc_best.specs.declared.slot.Slot.{Slot}
@@ -24,3 +24,7 @@ has_other_number number b = not (b.number == number)
 -- whether a segment stays where the one of a number goes unless a slot is in it
 abbrev pub is_kept : List Slot → ℕ → Bytes → Bool
 is_kept slots number b = has_slot slots b.number || has_other_number number b
+
+-- whether a segment stays where each one below a number goes unless a slot is in it
+abbrev pub stays_from : List Slot → ℕ → Bytes → Bool
+stays_from slots n b = nat_le n b.number || has_slot slots b.number

@@ -13,6 +13,7 @@ pub use Rattle.vc_model.specs.Walk
 pub use Rattle.vc_base.specs.Addr
 pub mod Slot
 pub mod Apart
+pub mod Numbered
 pub mod Layout
 pub mod Write
 pub mod Stay

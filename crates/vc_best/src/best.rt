@@ -12,6 +12,7 @@ ghost use Rattle.vc_model.specs.Walk.{block_at, next_block, next_segment, segmen
 ghost use Rattle.vc_base.specs.Addr.{address, place_of};
 ghost use Rattle.vc_best.specs.Alloc.{IsPlaced};
 ghost use Rattle.vc_best.specs.Apart.{AreApart, IsApartFrom, IsUsable, footprint_at};
+ghost use Rattle.vc_best.specs.Numbered.{HaveOwnNumbers, LieInNumbered};
 
 use crate::layout::Layout;
 use std::alloc::Global;
@@ -152,7 +153,10 @@ impl Best {
 
     /// The segment with the least number above one, as number and size. A walk begins with 0, and ends with None.
     pub fn next_segment(&self, after: u32) -> Option<(u32, u32)>
-        ensures { result ≡ next_segment after self.now.layout.segments }
+        ensures value { result ≡ next_segment after self.now.layout.segments }
+
+        // A walk passes each segment once.
+        ensures numbered { HaveOwnNumbers self.now.layout.segments }
     {
         self.layout.next_segment(after)
     }
@@ -162,6 +166,10 @@ impl Best {
         requires { (after.0 ≡ 0) ⊎ Contains (map (λ b. address (b.seg, b.off)) self.now.layout.blocks) after.0 }
         ensures value { option_map (λ a. a.0) result ≡ option_map (λ b. address (b.seg, b.off)) (next_block (place_of after.0) self.now.layout.blocks) }
         ensures live { IfSome result (λ a. Contains (map (λ b. address (b.seg, b.off)) self.now.layout.blocks) a.0) }
+
+        // A walk passes each block once.
+        ensures numbered { LieInNumbered self.now.layout.blocks }
+        ensures all_apart { AreApart self.now.layout.blocks }
     {
         self.layout.next_block(after)
     }

@@ -1,8 +1,8 @@
-ghost use Rattle.std.specs.Prelude.{◌≡◌, ◌≢◌, ℕ, ◌<◌, All, AllPairs, IfSome, IfNone, filter, length, map, take};
+ghost use Rattle.std.specs.Prelude.{◌≡◌, ◌≢◌, ℕ, ◌<◌, All, AllPairs, IfSome, IfNone, filter, length, map, take, true};
 ghost use Rattle.std.specs.List.{HoldsAt};
 ghost use Rattle.vc_model.specs.Discipline.{EndsWith};
 ghost use Rattle.vc_seg.specs.Segment.{pair_of};
-ghost use Rattle.vc_best.specs.Close.{AreNumbered, TakesBack, has_other_number, is_kept};
+ghost use Rattle.vc_best.specs.Close.{AreNumbered, TakesBack, has_other_number, is_kept, stays_from};
 ghost use Rattle.vc_best.specs.Slot.{has_slot};
 
 use crate::lend::take_back_segment;
@@ -48,7 +48,8 @@ fn is_occupied(slots: &[Slot], number: u32) -> bool
     false
 }
 
-/// The discipline takes back the segment of that number, where there is one and no slot is in it.
+/// The discipline takes back the segment of that number, where there is one and no slot is in it. Those of lower numbers
+/// went before it, so that they go in ascending order.
 fn give_back_if_empty(
     segs: &mut Vec<Segment>,
     slots: &[Slot],
@@ -56,6 +57,7 @@ fn give_back_if_empty(
     number: u32,
 )
     requires distinct { AllPairs (λ a b. a.number ≢ b.number) segs.old.items }
+    requires ascending { All (λ b. stays_from slots.now number b ≡ true) segs.old.items }
     requires out { EndsWith (state disc.old).out (map pair_of segs.old.items) }
     ensures segments { segs.new.items ≡ filter (is_kept slots.now number) segs.old.items }
     ensures out { TakesBack (state disc.old) (state disc.new) (map pair_of segs.old.items) (map pair_of segs.new.items) }

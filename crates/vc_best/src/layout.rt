@@ -13,6 +13,7 @@ ghost use Rattle.vc_base.specs.Addr.{address, place_of};
 ghost use Rattle.vc_best.specs.Alloc.{IsPlaced};
 ghost use Rattle.vc_best.specs.Apart.{AreApart, IsApartFrom, IsUsable, footprint_at};
 ghost use Rattle.vc_best.specs.Close.{TakesBack};
+ghost use Rattle.vc_best.specs.Numbered.{HaveOwnNumbers, LieInNumbered};
 
 use crate::fit::best_gap;
 use crate::free::take_out;
@@ -202,7 +203,8 @@ impl Layout {
 
     /// The segment with the least number above one, as number and size.
     pub(crate) fn next_segment(&self, after: u32) -> Option<(u32, u32)>
-        ensures { result ≡ next_segment after self.now.segments }
+        ensures value { result ≡ next_segment after self.now.segments }
+        ensures numbered { HaveOwnNumbers self.now.segments }
     {
         next_segment(&self.segs, after)
     }
@@ -211,6 +213,8 @@ impl Layout {
     pub(crate) fn next_block(&self, after: Addr) -> Option<Addr>
         ensures value { option_map (λ a. a.0) result ≡ option_map (λ b. address (b.seg, b.off)) (next_block (place_of after.0) self.now.blocks) }
         ensures live { IfSome result (λ a. Contains (map (λ b. address (b.seg, b.off)) self.now.blocks) a.0) }
+        ensures numbered { LieInNumbered self.now.blocks }
+        ensures all_apart { AreApart self.now.blocks }
     {
         let slot = next_slot(&self.blocks, after.seg(), after.off())?;
         Some(Addr::new(slot.seg, slot.off))

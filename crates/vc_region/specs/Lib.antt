@@ -12,5 +12,6 @@ pub use Rattle.vc_model.specs.Walk
 pub use Rattle.vc_base.specs.Addr
 pub use Rattle.vc_best.specs.Alloc
 pub use Rattle.vc_best.specs.Apart
+pub use Rattle.vc_best.specs.Numbered
 pub use Rattle.vc_best.specs.Resized
 pub mod Parts

@@ -10,7 +10,18 @@ ghost use Rattle.vc_region.specs.Parts.{disc_of, layout_of};
 
 use crate::region::{Region, Uncounted};
 use vc_base::{Addr, Steps};
+use vc_best::Best;
 use vc_seg::{BoxedDisc, RegionFault, SegDisc};
+
+// Frees all blocks of a best region. The condition always holds.
+fn clear_best(best: &mut Best)
+    requires { 0 ≤ 0 }
+    ensures layout { best.new.layout ≡ cleared best.old.layout }
+    ensures disc { ⟦<BoxedDisc as SegDisc>⟧.state best.new.disc ≡ ⟦<BoxedDisc as SegDisc>⟧.state best.old.disc }
+{
+    let mut steps = Steps::<Uncounted>::new(best.alloc);
+    best.clear(&mut steps);
+}
 
 /// The calls that make room. None takes memory.
 impl Region {
@@ -34,17 +45,13 @@ impl Region {
         Ok(())
     }
 
-    /// Frees all its blocks, and keeps its segments. It has no condition but one that always holds.
+    /// Frees all its blocks, and keeps its segments.
     pub fn clear(&mut self)
-        requires { 0 ≤ 0 }
         ensures layout { layout_of self.new ≡ cleared (layout_of self.old) }
         ensures disc { ⟦<BoxedDisc as SegDisc>⟧.state (disc_of self.new) ≡ ⟦<BoxedDisc as SegDisc>⟧.state (disc_of self.old) }
     {
         match self {
-            Region::Best(best) => {
-                let mut steps = Steps::<Uncounted>::new(best.alloc);
-                best.clear(&mut steps);
-            }
+            Region::Best(best) => clear_best(best),
         }
     }
 

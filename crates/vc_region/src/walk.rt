@@ -2,6 +2,8 @@ ghost use Rattle.std.specs.Prelude.{◌≡◌, ℕ, ◌⊎◌, Contains, IfSome,
 ghost use Rattle.vc_model.specs.Numbers.{block_bytes, block_count, gap_bytes, gap_count, greatest_block, greatest_gap, segment_bytes, segment_count};
 ghost use Rattle.vc_model.specs.Walk.{block_at, next_block, next_segment, segment_at};
 ghost use Rattle.vc_base.specs.Addr.{address, place_of};
+ghost use Rattle.vc_best.specs.Apart.{AreApart};
+ghost use Rattle.vc_best.specs.Numbered.{HaveOwnNumbers, LieInNumbered};
 ghost use Rattle.vc_region.specs.Parts.{layout_of};
 
 use crate::region::Region;
@@ -32,7 +34,10 @@ impl Region {
 
     /// The segment with the least number above one, as number and size. A walk begins with 0, and ends with None.
     pub fn next_segment(&self, after: u32) -> Option<(u32, u32)>
-        ensures { result ≡ next_segment after (layout_of self.now).segments }
+        ensures value { result ≡ next_segment after (layout_of self.now).segments }
+
+        // A walk passes each segment once.
+        ensures numbered { HaveOwnNumbers (layout_of self.now).segments }
     {
         match self {
             Region::Best(best) => best.next_segment(after),
@@ -44,6 +49,10 @@ impl Region {
         requires { (after.0 ≡ 0) ⊎ Contains (map (λ b. address (b.seg, b.off)) (layout_of self.now).blocks) after.0 }
         ensures value { option_map (λ a. a.0) result ≡ option_map (λ b. address (b.seg, b.off)) (next_block (place_of after.0) (layout_of self.now).blocks) }
         ensures live { IfSome result (λ a. Contains (map (λ b. address (b.seg, b.off)) (layout_of self.now).blocks) a.0) }
+
+        // A walk passes each block once.
+        ensures numbered { LieInNumbered (layout_of self.now).blocks }
+        ensures all_apart { AreApart (layout_of self.now).blocks }
     {
         match self {
             Region::Best(best) => best.next_block(after),

@@ -1,11 +1,12 @@
 -- The blocks by address, the walk over them, and the block at a place.
-use Rattle.std.proofs.Common.{◌≡◌, ℕ, ◌-◌, ◌<◌, ◌⊎◌, Bool, true, false, List, [], ◌∷◌, Option, Some, None, All, filter, ltb, eqb, map, option_map, sym, ap, ◌∙◌, inl, inr, ⊎_elim, arith}
+use Rattle.std.proofs.Common.{◌≡◌, ℕ, ◌-◌, ◌<◌, ◌≤◌, ◌⊎◌, Bool, true, false, List, [], ◌∷◌, Option, Some, None, All, filter, ltb, eqb, map, option_map, sym, ap, ◌∙◌, inl, inr, ⊎_elim, arith}
 use Rattle.std.specs.Prelude.{find, ◌&&◌, ◌||◌}
 use Rattle.std.specs.List.{AllByRecursion}
 use Rattle.std.proofs.lemmas.Bool.Decides.{nat_tests}
 use Rattle.std.proofs.lemmas.List.Elements.{All-head, All-tail}
 use Rattle.vc_base.specs.Addr.{address, place_of}
 use Rattle.vc_best.specs.Apart.{AreApart, EndsBefore}
+use Rattle.vc_best.specs.Numbered.{LieInNumbered}
 use Rattle.vc_best.proofs.Apart.{AllPairs-head, AllPairs-tail, span-least}
 use Rattle.vc_model.specs.Region.{Block, Region, footprint}
 use Rattle.vc_model.specs.Walk.{begins_behind, block_at, holds_byte, next_block}
@@ -14,7 +15,7 @@ use Rattle.vc_session.specs.declared.labels.Labels.{Labels}
 use Rattle.vc_session.specs.Account.{IsNamed, name_of, named_block}
 use Rattle.vc_session.specs.Whole.{item_of}
 use Rattle.vc_session.proofs.Standing.{FromSome, find-unmap, from_none, from_some, place-is}
-use Rattle.vc_session.proofs.Walking.{IsRow, filter-next, filter-none}
+use Rattle.vc_session.proofs.Walking.{IsRow, filter-all, filter-next, filter-none}
 
 abbrev pub Named : Type 0
 Named = Block (List ℕ)
@@ -82,6 +83,16 @@ walk layout labels names at b found a e =
 -- and ends
 pub none-behind : (f : ℕ → List ℕ) (at : ℕ × ℕ) (bs : List (Block ℕ)) → next_block at bs ≡ None → filter (behind at) (map (named_block f) bs) ≡ []
 none-behind f at bs e = filter-none (behind at) (map (named_block f) bs) (find-behind f at bs None e)
+
+all-numbered : (f : ℕ → List ℕ) (bs : List (Block ℕ)) → LieInNumbered bs → AllByRecursion (λ b. behind (0, 0) b ≡ true) (map (named_block f) bs)
+all-numbered f [] all = tt
+all-numbered f (b ∷ bs) all =
+    let P : Block ℕ → Type 0 = λ c. 1 ≤ c.seg in
+    (test-from 0 0 b.seg b.off (inl (All-head P b bs all)), all-numbered f bs (All-tail P b bs all))
+
+-- where blocks lie in segments of numbers from 1 on, all are behind the beginning
+pub all-behind : (f : ℕ → List ℕ) (bs : List (Block ℕ)) → LieInNumbered bs → filter (behind (0, 0)) (map (named_block f) bs) ≡ map (named_block f) bs
+all-behind f bs all = filter-all (behind (0, 0)) (map (named_block f) bs) (all-numbered f bs all)
 
 -- the block that holds a byte, and the offset in it
 pub record Holds (at : ℕ × ℕ) (bs : List (Block ℕ)) (a off : ℕ) : Type 0 where

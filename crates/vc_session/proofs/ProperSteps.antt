@@ -1,13 +1,13 @@
 -- A step of a command whose names are names replies with names, and leaves a state with names.
 use Rattle.std.proofs.Common.{ℕ, ◌+◌, ◌-◌, List, [], ◌∷◌, ◌++◌, Option, Some, None, option_map, map, length, take, drop, Bool, true, false, cond, ◌&&◌}
-use Rattle.std.specs.Prelude.{IfSome, filter, find, nat_le, nat_lt}
+use Rattle.std.specs.Prelude.{IfSome, find, nat_le, nat_lt}
 use Rattle.std.specs.List.{AllByRecursion, list_any}
 use Rattle.vc_model.specs.Numbered.{at_number}
 use Rattle.vc_model.specs.Region.{Block, Region}
 use Rattle.vc_model.specs.Best.{Allocated, Placed, TooManySegments, NoSegment, best_alloc}
 use Rattle.vc_model.specs.Resize.{Resized, Stays, Fixed, Moves, best_resize}
 use Rattle.vc_model.specs.Touch.{best_write}
-use Rattle.vc_model.specs.Walk.{begins_behind, holds_byte, segment_at}
+use Rattle.vc_model.specs.Walk.{holds_byte, segment_at}
 use Rattle.vc_seg.specs.declared.method.Method.TheVariants.{VmBest}
 use Rattle.vc_script.specs.declared.command.Command.{Command}
 use Rattle.vc_script.specs.declared.command.Command.TheVariants.{OpenRegion, CloseRegion, ClearRegion, Compact, Alloc, Align, Resize, Free, WriteBlock, ReadBlock, SizeOf, AddrOf, SegmentOf, StatOf, Segments, Blocks}
@@ -78,12 +78,6 @@ proper-segment : (number : ℕ) (o : Option ℕ) → IsProperReply (segment_repl
 proper-segment number None = tt
 proper-segment number (Some size) = tt
 
-proper-filter : (test : Block (List ℕ) → Bool) (blocks : List (Block (List ℕ))) → AreProper blocks → AreProper (filter test blocks)
-proper-filter test [] all = tt
-proper-filter test (b ∷ bs) all =
-    elim (test b) as (λ v. AreProper (cond v (b ∷ filter test bs) (filter test bs)))
-    [ true ↦ (all.0, proper-filter test bs all.1) | false ↦ proper-filter test bs all.1 ]
-
 proper-items : (blocks : List (Block (List ℕ))) → AreProper blocks → AllByRecursion (λ b. IsSite b.0) (map item_of blocks)
 proper-items [] all = tt
 proper-items (b ∷ bs) all = (all.0, proper-items bs all.1)
@@ -109,7 +103,7 @@ proper-in_region h (AddrOf r at) need proper all =
 proper-in_region h (SegmentOf r at) need proper all = (proper-segment at.seg (segment_at (at.seg, at.off) h.region.segments), all)
 proper-in_region h (StatOf r) need proper all = (tt, all)
 proper-in_region h (Segments r) need proper all = (tt, all)
-proper-in_region h (Blocks r) need proper all = (proper-items (filter (begins_behind (0, 0)) h.region.blocks) (proper-filter (begins_behind (0, 0)) h.region.blocks all), all)
+proper-in_region h (Blocks r) need proper all = (proper-items h.region.blocks all, all)
 proper-in_region h command need proper all = (tt, all)
 
 abbrev AreProperHomes : List Home → Type 0

@@ -19,7 +19,7 @@ filter-none test (x ∷ xs) e =
     (λ t. ap (λ v. cond v (x ∷ filter test xs) (filter test xs)) t ∙ filter-none test xs (sym (ap (λ v. cond v (Some x) (find test xs)) t) ∙ e))
     (cases_Bool (test x))
 
-filter-all : {A : Type 0} (test : A → Bool) (xs : List A) → AllByRecursion (λ x. test x ≡ true) xs → filter test xs ≡ xs
+pub filter-all : {A : Type 0} (test : A → Bool) (xs : List A) → AllByRecursion (λ x. test x ≡ true) xs → filter test xs ≡ xs
 filter-all test [] all = refl
 filter-all test (x ∷ xs) all = ap (λ v. cond v (x ∷ filter test xs) (filter test xs)) all.0 ∙ ap (λ ys. x ∷ ys) (filter-all test xs all.1)
 

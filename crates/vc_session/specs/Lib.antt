@@ -4,6 +4,7 @@ pub use Rattle.vc_model.specs.Discipline
 pub use Rattle.vc_base.specs.Name
 pub use Rattle.vc_base.specs.Addr
 pub use Rattle.vc_best.specs.Apart
+pub use Rattle.vc_best.specs.Numbered
 pub mod Labels
 pub mod State
 pub mod Blocks
@@ -11,6 +12,7 @@ pub mod Whole
 pub mod Step
 pub mod ProperState
 pub mod Run
+pub mod Rows
 pub mod Account
 pub mod Homes
 pub use Rattle.vc_script.specs.Answer

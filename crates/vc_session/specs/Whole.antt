@@ -1,9 +1,9 @@
 -- The commands on a whole region, and those that tell what is in it.
-use Rattle.std.specs.Prelude.{ℕ, List, [], ◌∷◌, Option, Some, None, filter, map, nat_lt, if◌then◌else◌}
+use Rattle.std.specs.Prelude.{ℕ, List, [], ◌∷◌, Option, Some, None, map, nat_lt, if◌then◌else◌}
 use Rattle.vc_model.specs.Region.{Block, Region}
 use Rattle.vc_model.specs.Compact.{cleared, compacted, compact_count}
 use Rattle.vc_model.specs.Numbers.{block_count, gap_count, block_bytes, gap_bytes, greatest_block, greatest_gap, segment_count, segment_bytes}
-use Rattle.vc_model.specs.Walk.{begins_behind, block_at, segment_at}
+use Rattle.vc_model.specs.Walk.{block_at, segment_at}
 use Rattle.vc_seg.specs.declared.stat.Stat.{Stat}
 use Rattle.vc_script.specs.declared.place.Place.{Place}
 use Rattle.vc_script.specs.declared.reply.Reply.{Reply}
@@ -50,22 +50,22 @@ stat_of r =
 abbrev pub stat_in : Home → Changed
 stat_in h = told h (Stats (stat_of h.region))
 
--- a segment among others that stand by number, each number once
+-- a segment among others that stand by number
 abbrev pub put_by_number : ℕ × ℕ → List (ℕ × ℕ) → List (ℕ × ℕ)
 put_by_number s [] = s ∷ []
-put_by_number s (t ∷ ts) = if nat_lt t.0 s.0 then t ∷ put_by_number s ts else (if nat_lt s.0 t.0 then s ∷ t ∷ ts else s ∷ ts)
+put_by_number s (t ∷ ts) = if nat_lt s.0 t.0 then s ∷ t ∷ ts else t ∷ put_by_number s ts
 
 abbrev pub by_number : List (ℕ × ℕ) → List (ℕ × ℕ)
 by_number [] = []
 by_number (s ∷ ss) = put_by_number s (by_number ss)
 
--- the segments by number, from 1 on
+-- the segments by number
 abbrev pub segments_in : Home → Changed
-segments_in h = told h (SegmentList (filter (λ s. nat_lt 0 s.0) (by_number h.region.segments)))
+segments_in h = told h (SegmentList (by_number h.region.segments))
 
 abbrev pub item_of : Block (List ℕ) → Option (List ℕ) × Place × ℕ
 item_of b = (Some b.label, record { seg = b.seg; off = b.off }, b.size)
 
--- the blocks by address, all that begin behind address 0
+-- the blocks by address
 abbrev pub blocks_in : Home → Changed
-blocks_in h = told h (BlockList (map item_of (filter (begins_behind (0, 0)) h.region.blocks)))
+blocks_in h = told h (BlockList (map item_of h.region.blocks))

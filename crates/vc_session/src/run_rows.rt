@@ -4,6 +4,7 @@ ghost use Rattle.vc_script.specs.Print.{text};
 ghost use Rattle.vc_script.specs.Needs.{Need, NoNeed, ForBlock};
 ghost use Rattle.vc_session.specs.State.{State};
 ghost use Rattle.vc_session.specs.Run.{run, script, first_bad};
+ghost use Rattle.vc_session.specs.Rows.{at_first, gap_behind, moved, parsed};
 ghost use Rattle.vc_script.specs.declared.line_fault.LineFault.TheVariants.{UnknownCommand, LineTooLong};
 
 /// A region is opened and a block allocated; the empty input writes nothing.
@@ -82,4 +83,37 @@ pub fn refusals()
 pub fn told()
     ensures { text (run (record { shelf = Some 4096 ∷ []; homes = [] }) (script (codes "open r best 1\nalloc r a 1\naddr r 1:32\naddr r 1:33\nsegment r 1:4096\nsegments r\nblocks r\nclear r\ncompact r\n")) []).replies
         ≡ codes "r open\na 1:32\naddr a 0\naddr -1\nsegment -1\nsegments 1 1:4096\nblocks 1 a@1:32+1\nr cleared\nr compacted 1\n" }
+{}
+
+/// A block is written, and the one behind it is freed.
+pub fn written()
+    ensures replies { text (run at_first (script (codes "open r best 1\nalloc r a 100\nalloc r b 100\nalloc r c 1\nwrite r a 0 hello\nfree r b\n")) []).replies
+        ≡ codes "r open\na 1:32\nb 1:160\nc 1:288\na written 5\nb freed\n" }
+    ensures state { (run at_first (script (codes "open r best 1\nalloc r a 100\nalloc r b 100\nalloc r c 1\nwrite r a 0 hello\nfree r b\n")) []).state ≡ gap_behind }
+{}
+
+/// It grows into the gap to its last byte, moves for one more, and keeps its bytes.
+pub fn grown()
+    ensures { text (run gap_behind (script (codes "resize r a 240 fixed\nresize r a 241 fixed\nresize r a 241 move\nread r a 0 5\nread r a 240 1\n")) []).replies
+        ≡ codes "a 1:32\nrefused: cannot grow here\na 1:320\na 68656c6c6f\na 00\n" }
+{}
+
+/// One parse of a longer script.
+pub fn parse()
+    ensures replies { text (run at_first (script (codes "# one parse and one report\nopen heap best 1\nalloc heap conf 512\nalloc heap line 80\nwrite heap line 0 GET%20/index\nalloc heap word1 3\nalloc heap word2 6\nalloc heap node1 48\nalloc heap node2 48\nalloc heap buf 1000\n")) []).replies
+        ≡ codes "heap open\nconf 1:32\nline 1:576\nline written 10\nword1 1:672\nword2 1:704\nnode1 1:736\nnode2 1:800\nbuf 1:864\n" }
+    ensures state { (run at_first (script (codes "# one parse and one report\nopen heap best 1\nalloc heap conf 512\nalloc heap line 80\nwrite heap line 0 GET%20/index\nalloc heap word1 3\nalloc heap word2 6\nalloc heap node1 48\nalloc heap node2 48\nalloc heap buf 1000\n")) []).state ≡ parsed }
+{}
+
+/// Its line moves, and the gap that two words leave is taken.
+pub fn line_moved()
+    ensures replies { text (run parsed (script (codes "read heap line 0 3\nresize heap line 200 move\nfree heap word1\nfree heap word2\nalloc heap tok 100\nalloc heap c 16\n")) []).replies
+        ≡ codes "line 474554\nline 1:1888\nword1 freed\nword2 freed\ntok 1:576\nc 1:704\n" }
+    ensures state { (run parsed (script (codes "read heap line 0 3\nresize heap line 200 move\nfree heap word1\nfree heap word2\nalloc heap tok 100\nalloc heap c 16\n")) []).state ≡ moved }
+{}
+
+/// A block moves to a segment of its own, and the gaps that are left are taken by size.
+pub fn buffer_moved()
+    ensures { text (run moved (script (codes "resize heap buf 3000 move\nalloc heap out 900\nalloc heap row1 64\nalloc heap row2 64\n")) []).replies
+        ≡ codes "buf 2:32\nout 1:864\nrow1 1:1792\nrow2 2:3072\n" }
 {}

@@ -1,4 +1,4 @@
-//! Runs of the top calls over memory, and each public call once.
+//! Each public call of the libraries once, over memory.
 #![tactic(auto)]
 
 #[cfg(test)]
@@ -9,8 +9,6 @@ mod forms;
 mod prints;
 #[cfg(test)]
 mod region;
-#[cfg(test)]
-mod runs;
 #[cfg(test)]
 mod session;
 #[cfg(test)]

@@ -1,7 +1,6 @@
 use Rattle.std.proofs.Common.{◌≡◌, filter, map}
 use Rattle.vc_seg.specs.Segment.{pair_of}
-use Rattle.vc_best.specs.Close.{TakesBack}
-use Rattle.vc_best.proofs.Backs.{stays_from}
+use Rattle.vc_best.specs.Close.{TakesBack, stays_from}
 use Rattle.vc_best.proofs.give_back.give_back_empty.Given as goal
 
 -- of those below the number, the segments without a slot are back

@@ -5,7 +5,8 @@ use Rattle.vc_model.specs.Walk.{next_block}
 use Rattle.vc_best.specs.declared.slot.Slot.{Slot}
 use Rattle.vc_best.specs.Slot.{lies_before_slot}
 use Rattle.vc_best.specs.Layout.{block_in}
-use Rattle.vc_best.proofs.Walks.{Contains-found, IsFound, IsFound-find, next_block-slots}
+use Rattle.vc_best.proofs.Blocks.{AreApart-blocks}
+use Rattle.vc_best.proofs.Walks.{Contains-found, IsFound, IsFound-find, LieInNumbered-blocks, next_block-slots}
 use Rattle.vc_best.proofs.layout.Layout.next_block.Goals as goal
 use Rattle.vc_best.proofs.layout.Layout.next_block.Goals.{After-next_slot}
 
@@ -43,3 +44,15 @@ pub returns-clause-live : goal.returns-clause-live
 returns-clause-live c =
     rw (← c.self.view_is)
     (Contains-found c.self.inside.segs.items c.self.inside.blocks.items _ c.in_ok-slot.slot c.new.result.0 (slot (goal.at.returns-clause-live c).After-next_slot ∙ c.in_ok-slot.was) c.new.ensures.value)
+
+pub returns-in_err-slot-clause-numbered : goal.returns-in_err-slot-clause-numbered
+returns-in_err-slot-clause-numbered c = rw (← c.self.view_is) (LieInNumbered-blocks c.self.inside.segs.items c.self.inside.blocks.items c.self.invariant)
+
+pub returns-in_err-slot-clause-all_apart : goal.returns-in_err-slot-clause-all_apart
+returns-in_err-slot-clause-all_apart c = rw (← c.self.view_is) (AreApart-blocks c.self.inside.segs.items c.self.inside.blocks.items c.self.invariant)
+
+pub returns-clause-numbered : goal.returns-clause-numbered
+returns-clause-numbered c = rw (← c.self.view_is) (LieInNumbered-blocks c.self.inside.segs.items c.self.inside.blocks.items c.self.invariant)
+
+pub returns-clause-all_apart : goal.returns-clause-all_apart
+returns-clause-all_apart c = rw (← c.self.view_is) (AreApart-blocks c.self.inside.segs.items c.self.inside.blocks.items c.self.invariant)

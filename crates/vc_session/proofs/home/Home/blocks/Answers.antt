@@ -10,7 +10,7 @@ use Rattle.vc_session.specs.Account.{home_of, name_of, named_block}
 use Rattle.vc_session.specs.Homes.{held_of}
 use Rattle.vc_session.specs.State.{told}
 use Rattle.vc_session.specs.Whole.{item_of}
-use Rattle.vc_session.proofs.Listing.{Named, behind, item-is, none-behind, walk}
+use Rattle.vc_session.proofs.Listing.{Named, all-behind, behind, item-is, none-behind, walk}
 use Rattle.vc_session.proofs.Standing.{FromSome, from_none, from_some, name-is, place-is, size-is, tag-first, tag-used}
 use Rattle.vc_session.proofs.home.Home.blocks.Goals as goal
 
@@ -70,9 +70,10 @@ returns g c = λ n.
     let blocks : List Named = map (named_block (name_of c.args.self.now.labels)) r.blocks in
     let where_at : Block ℕ → ℕ = λ b. address (b.seg, b.off) in
     let none = from_none where_at (next_block at r.blocks) (sym c.in_default.ensures.value) in
-    let all : c.from_vec.result ≡ map item_of (filter (behind (0, 0)) blocks) =
+    let all : c.from_vec.result ≡ map item_of blocks =
     c.from_vec.ensures
     ∙ (sym (append-nil c.loop-block.items.items)
     ∙ (ap (λ is. c.loop-block.items.items ++ map item_of is) (sym (none-behind (name_of c.args.self.now.labels) at r.blocks none))
-    ∙ c.loop-block.invariant.items)) in
+    ∙ (c.loop-block.invariant.items
+    ∙ ap (map item_of) (all-behind (name_of c.args.self.now.labels) r.blocks c.in_default.ensures.numbered)))) in
     ap (λ is. told (home_of h) (BlockList is)) (sym all)

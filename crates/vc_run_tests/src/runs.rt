@@ -1,71 +1,13 @@
 // Scripts through the top call: what comes out, and that every segment comes back.
-ghost use Rattle.std.specs.Prelude.{◌≤◌};
-
-use std::alloc::{AllocError, Global};
-use std::process::Abort;
+use crate::given::{Given, is_run, run};
 use std::test::Fail;
 use vc_base::{MemSink, MemSource, Sink, Source};
-use vc_best::Best;
 use vc_seg::{FuseDisc, HeapDisc, Shelf};
 use vc_session::{Status, replay};
 
 const ROW: &[u8] = b"open r best 1\nalloc r a 100\n";
 
 const REPLIES: &[u8] = b"r open\na 1:32\n";
-
-#[derive(Drop)]
-struct Ran {
-    status: Status,
-    out: Vec<u8>,
-    err: Vec<u8>,
-}
-
-// What a script is given: it comes in pieces, some of its reads fail, and there's room for so many bytes of replies.
-#[derive(Clone, Copy)]
-struct Given<'a> {
-    script: &'a [u8],
-    piece: usize,
-    fails: &'a [u64],
-    room: usize,
-}
-
-fn run(alloc: Global, shelf: &mut Shelf, given: Given) -> Result<Ran, AllocError>
-    requires { 1 ≤ given.piece }
-{
-    let mut source = MemSource::new(
-        given.script.to_vec(alloc)?,
-        given.piece,
-        given.fails.to_vec(alloc)?,
-    );
-    let mut out = match MemSink::new(alloc, given.room, given.piece, Vec::new(alloc)) {
-        Ok(sink) => sink,
-        Err(_) => return Err(AllocError),
-    };
-    let mut err = match MemSink::new(alloc, 100, given.piece, Vec::new(alloc)) {
-        Ok(sink) => sink,
-        Err(_) => return Err(AllocError),
-    };
-    let words = Vec::new(alloc);
-    let status = replay(
-        alloc,
-        words.as_slice(),
-        shelf,
-        &mut source,
-        &mut out,
-        &mut err,
-    );
-    Ok(Ran {
-        status,
-        out: out.bytes().to_vec(alloc)?,
-        err: err.bytes().to_vec(alloc)?,
-    })
-}
-
-fn is_run(rt: &impl Abort, ran: &Ran, status: Status, out: &[u8], err: &[u8]) {
-    assert_eq!(rt; ran.status, status);
-    assert_eq!(rt; ran.out.as_slice(), out);
-    assert_eq!(rt; ran.err.as_slice(), err);
-}
 
 #[test]
 fn scripts(rt: HostRuntime) -> Result<(), Fail> {

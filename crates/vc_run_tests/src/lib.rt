@@ -1,0 +1,11 @@
+//! Scripts through the top call, over memory.
+#![tactic(auto)]
+
+#[cfg(test)]
+mod blocks;
+#[cfg(test)]
+mod given;
+#[cfg(test)]
+mod long;
+#[cfg(test)]
+mod runs;

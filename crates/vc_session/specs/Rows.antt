@@ -1,0 +1,54 @@
+-- The states between the parts of the worked scripts.
+use Rattle.std.specs.Prelude.{ℕ, ◌-◌, List, [], ◌∷◌, ◌++◌, Some, None, codes, length, replicate}
+use Rattle.vc_model.specs.Region.{Block}
+use Rattle.vc_session.specs.State.{State}
+
+-- before the first line: a place of the shelf, whose discipline rounds to 4,096 bytes, and no region
+abbrev pub at_first : State
+at_first = record { shelf = Some 4096 ∷ []; homes = [] }
+
+-- one region over the discipline of that place
+abbrev pub one_region : List ℕ → List (ℕ × ℕ) → List (Block (List ℕ)) → State
+one_region name segments blocks =
+    record {
+      shelf = None ∷ [];
+      homes = record { name = name; place = 1; round = 4096; region = record { segments = segments; blocks = blocks } } ∷ [];
+    }
+
+-- a block with these bytes first and zeros behind them
+abbrev pub block_with : List ℕ → ℕ → ℕ → ℕ → List ℕ → Block (List ℕ)
+block_with name seg off size first = record { label = name; seg = seg; off = off; size = size; bytes = first ++ replicate (size - length first) 0 }
+
+-- a block between a block that was written and one that was freed
+abbrev pub gap_behind : State
+gap_behind =
+    one_region (codes "r") ((1, 4096) ∷ [])
+    (block_with (codes "a") 1 32 100 (codes "hello")
+    ∷ block_with (codes "c") 1 288 1 []
+    ∷ [])
+
+-- a parse: two buffers, two words and two nodes
+abbrev pub parsed : State
+parsed =
+    one_region (codes "heap") ((1, 4096) ∷ [])
+    (block_with (codes "conf") 1 32 512 []
+    ∷ block_with (codes "line") 1 576 80 (codes "GET /index")
+    ∷ block_with (codes "word1") 1 672 3 []
+    ∷ block_with (codes "word2") 1 704 6 []
+    ∷ block_with (codes "node1") 1 736 48 []
+    ∷ block_with (codes "node2") 1 800 48 []
+    ∷ block_with (codes "buf") 1 864 1000 []
+    ∷ [])
+
+-- and then the line has moved, the words are gone, and the gap has two others
+abbrev pub moved : State
+moved =
+    one_region (codes "heap") ((1, 4096) ∷ [])
+    (block_with (codes "conf") 1 32 512 []
+    ∷ block_with (codes "tok") 1 576 100 []
+    ∷ block_with (codes "c") 1 704 16 []
+    ∷ block_with (codes "node1") 1 736 48 []
+    ∷ block_with (codes "node2") 1 800 48 []
+    ∷ block_with (codes "buf") 1 864 1000 []
+    ∷ block_with (codes "line") 1 1888 200 (codes "GET /index")
+    ∷ [])
