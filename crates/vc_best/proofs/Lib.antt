@@ -23,5 +23,6 @@ pub mod Found
 pub mod Copies
 pub mod Fitted
 pub mod Resizes
+pub mod Others
 pub mod Stays
 pub mod Moves

@@ -21,7 +21,7 @@ use Rattle.vc_best.proofs.Found.{find-passes}
 address-place_of : (a : ℕ) → address (place_of a) ≡ a
 address-place_of a = omega arith
 
-at-place : (at : ℕ × ℕ) (b : Block ℕ) → is_at at b ≡ true → (b.seg, b.off) ≡ at
+pub at-place : (at : ℕ × ℕ) (b : Block ℕ) → is_at at b ≡ true → (b.seg, b.off) ≡ at
 at-place at b e =
     let both = and_parts (eqb b.seg at.0) (eqb b.off at.1) e in
     let pair : ℕ → ℕ → ℕ × ℕ = λ m n. (m, n) in
@@ -76,7 +76,7 @@ among-kept b (c ∷ cs) a h =
     (cases_Bool (lies_before b c))
 
 -- no block stands at a place whose address no block has
-none-at : (at : ℕ) (blocks : List (Block ℕ)) → (IsAmong blocks at → ⊥) → All (λ c. is_at (place_of at) c ≡ false) blocks
+pub none-at : (at : ℕ) (blocks : List (Block ℕ)) → (IsAmong blocks at → ⊥) → All (λ c. is_at (place_of at) c ≡ false) blocks
 none-at at blocks fresh =
     λ k d lt.
     let c : Block ℕ = get_or blocks k d in
@@ -92,7 +92,7 @@ pub record IsNew (r : Region ℕ) (label size to : ℕ) (region : Region ℕ) : 
   pub blocks : region.blocks ≡ with_block (zeros label size (place_of to)) r.blocks
   pub at : to ≡ address (place_of to)
 
-put_at-new : (r s : Region ℕ) (label size to : ℕ) (at : ℕ × ℕ) (region : Region ℕ) → s.blocks ≡ r.blocks → IsPlaced (put_at s label size at) to region → IsNew r label size to region
+pub put_at-new : (r s : Region ℕ) (label size to : ℕ) (at : ℕ × ℕ) (region : Region ℕ) → s.blocks ≡ r.blocks → IsPlaced (put_at s label size at) to region → IsNew r label size to region
 put_at-new r s label size to at region same h =
     record {
       blocks = ap (λ (q : Region ℕ). q.blocks) h.2 ∙ (ap (with_block (zeros label size at)) same ∙ ap (λ p. with_block (zeros label size p) r.blocks) h.1);
@@ -108,7 +108,7 @@ asked-new r label size align to (Granted n bytes) region h = put-new r (with_seg
 asked-new r label size align to TooMany region h = absurd h
 asked-new r label size align to NotLent region h = absurd h
 
-place-new : (round : ℕ) (r : Region ℕ) (label size align : ℕ) (refused : Bool) (to : ℕ) (o : Option (ℕ × ℕ)) (region : Region ℕ) → IsPlaced (put_or_ask round r label size align refused o) to region → IsNew r label size to region
+pub place-new : (round : ℕ) (r : Region ℕ) (label size align : ℕ) (refused : Bool) (to : ℕ) (o : Option (ℕ × ℕ)) (region : Region ℕ) → IsPlaced (put_or_ask round r label size align refused o) to region → IsNew r label size to region
 place-new round r label size align refused to None region h = asked-new r label size align to (ask round r.segments (span size + align) refused) region h
 place-new round r label size align refused to (Some at) region h = put_at-new r r label size to at region refl h
 

@@ -2,7 +2,7 @@
 use Rattle.std.specs.Prelude.{◌≡◌, ℕ, ◌+◌, ◌-◌, ◌<◌, ◌≤◌, ◌⊎◌, List, All, AllPairs, Any}
 use Rattle.vc_model.specs.Segments.{span}
 use Rattle.vc_model.specs.Gap.{Run}
-use Rattle.vc_model.specs.Region.{Block, footprint}
+use Rattle.vc_model.specs.Region.{Block, Region, footprint}
 
 -- one run ends where another begins, or before it, in the order of addresses
 abbrev pub EndsBefore : Run → Run → Type 0
@@ -27,3 +27,7 @@ IsUsable segments f = Any (λ s. (f.seg ≡ s.0) × (16 ≤ f.from) × (f.to + 1
 -- blocks by address, of which no two overlap
 abbrev pub AreApart : {L : Type 0} → List (Block L) → Type 0
 AreApart blocks = AllPairs (λ a b. EndsBefore (footprint a) (footprint b)) blocks
+
+-- each block of a region lies in the usable part of one of its segments
+abbrev pub AllUsable : {L : Type 0} → Region L → Type 0
+AllUsable r = All (λ b. IsUsable r.segments (footprint b)) r.blocks

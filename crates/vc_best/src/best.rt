@@ -6,12 +6,12 @@ ghost use Rattle.vc_model.specs.Count.{Rose};
 ghost use Rattle.vc_model.specs.Discipline.{EndsWith, Kept};
 ghost use Rattle.vc_model.specs.Numbers.{block_bytes, block_count, gap_bytes, gap_count, greatest_block, greatest_gap, segment_bytes, segment_count};
 ghost use Rattle.vc_model.specs.Place.{IsAlign};
-ghost use Rattle.vc_model.specs.Region.{footprint};
+ghost use Rattle.vc_model.specs.Region.{without_block};
 ghost use Rattle.vc_model.specs.Segments.{round_up, span};
 ghost use Rattle.vc_model.specs.Walk.{block_at, next_block, next_segment, segment_at};
 ghost use Rattle.vc_base.specs.Addr.{address, place_of};
 ghost use Rattle.vc_best.specs.Alloc.{IsPlaced};
-ghost use Rattle.vc_best.specs.Apart.{AreApart, IsApartFrom, IsUsable, footprint_at};
+ghost use Rattle.vc_best.specs.Apart.{AllUsable, AreApart, IsApartFrom, IsUsable, footprint_at};
 ghost use Rattle.vc_best.specs.Numbered.{HaveOwnNumbers, LieInNumbered};
 
 use crate::layout::Layout;
@@ -84,7 +84,9 @@ impl Best {
         ensures usable { IfOk result (λ a. IsUsable self.new.layout.segments (footprint_at size (place_of a.0))) }
         ensures apart { IfOk result (λ a. IsApartFrom self.old.layout.blocks size (place_of a.0)) }
         ensures fresh { IfOk result (λ a. Contains (map (λ b. address (b.seg, b.off)) self.old.layout.blocks) a.0 → ⊥) }
+        ensures others { IfOk result (λ a. without_block (place_of a.0) self.new.layout.blocks ≡ self.old.layout.blocks) }
         ensures all_apart { AreApart self.new.layout.blocks }
+        ensures all_usable { AllUsable self.new.layout }
     {
         let _ = steps;
         match self.layout.place(size, align) {
@@ -103,6 +105,7 @@ impl Best {
         ensures freed { (i : ℕ) → i < length self.old.layout.blocks → HoldsAt (λ b. address (b.seg, b.off) ≡ a.0) self.old.layout.blocks i → self.new.layout.blocks ≡ remove self.old.layout.blocks i }
         ensures none_left { Contains (map (λ b. address (b.seg, b.off)) self.new.layout.blocks) a.0 → ⊥ }
         ensures all_apart { AreApart self.new.layout.blocks }
+        ensures all_usable { AllUsable self.new.layout }
         ensures disc { state self.new.disc ≡ state self.old.disc }
     {
         let _ = steps;
@@ -123,8 +126,8 @@ impl Best {
         requires { EndsWith (state self.old.disc).out self.old.layout.segments }
         ensures layout { self.new.layout ≡ compacted self.old.layout }
         ensures count { result ≡ compact_count self.old.layout }
-        ensures usable { All (λ b. IsUsable self.new.layout.segments (footprint b)) self.new.layout.blocks }
         ensures all_apart { AreApart self.new.layout.blocks }
+        ensures all_usable { AllUsable self.new.layout }
 
         // What becomes of the discipline.
         ensures out { (rest : List (ℕ × ℕ)) → (state self.old.disc).out ≡ rest ++ self.old.layout.segments → (state self.new.disc).out ≡ rest ++ self.new.layout.segments }
@@ -170,6 +173,7 @@ impl Best {
         // A walk passes each block once.
         ensures numbered { LieInNumbered self.now.layout.blocks }
         ensures all_apart { AreApart self.now.layout.blocks }
+        ensures all_usable { AllUsable self.now.layout }
     {
         self.layout.next_block(after)
     }

@@ -1,7 +1,8 @@
 ghost use Rattle.std.specs.Prelude.{◌≡◌, ℕ, ◌+◌, ◌≤◌, Some, Contains, IfSome, length, map, take, drop, option_map, replicate};
+ghost use Rattle.vc_model.specs.Region.{without_block};
 ghost use Rattle.vc_model.specs.Touch.{best_write, find_block};
 ghost use Rattle.vc_base.specs.Addr.{address, place_of};
-ghost use Rattle.vc_best.specs.Apart.{AreApart};
+ghost use Rattle.vc_best.specs.Apart.{AllUsable, AreApart};
 
 use crate::best::Best;
 use vc_base::Addr;
@@ -39,6 +40,8 @@ impl Best {
         requires range { IfSome (find_block (place_of a.0) self.old.layout.blocks) (λ b. off + length src.now ≤ b.size) }
         ensures layout { self.new.layout ≡ best_write self.old.layout (place_of a.0) off src.now }
         ensures all_apart { AreApart self.new.layout.blocks }
+        ensures all_usable { AllUsable self.new.layout }
+        ensures others { without_block (place_of a.0) self.new.layout.blocks ≡ without_block (place_of a.0) self.old.layout.blocks }
         ensures disc { state self.new.disc ≡ state self.old.disc }
     {
         self.layout.write(a, off, src);
@@ -50,6 +53,8 @@ impl Best {
         requires range { IfSome (find_block (place_of a.0) self.old.layout.blocks) (λ b. off + len ≤ b.size) }
         ensures layout { self.new.layout ≡ best_write self.old.layout (place_of a.0) off (replicate len byte) }
         ensures all_apart { AreApart self.new.layout.blocks }
+        ensures all_usable { AllUsable self.new.layout }
+        ensures others { without_block (place_of a.0) self.new.layout.blocks ≡ without_block (place_of a.0) self.old.layout.blocks }
         ensures disc { state self.new.disc ≡ state self.old.disc }
     {
         self.layout.fill(a, off, len, byte);

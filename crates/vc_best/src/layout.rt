@@ -6,12 +6,11 @@ ghost use Rattle.vc_model.specs.Count.{Rose};
 ghost use Rattle.vc_model.specs.Discipline.{EndsWith, Kept};
 ghost use Rattle.vc_model.specs.Numbers.{block_bytes, block_count, gap_bytes, gap_count, greatest_block, greatest_gap, segment_bytes, segment_count};
 ghost use Rattle.vc_model.specs.Place.{IsAlign};
-ghost use Rattle.vc_model.specs.Region.{footprint};
 ghost use Rattle.vc_model.specs.Segments.{round_up, span};
 ghost use Rattle.vc_model.specs.Walk.{block_at, next_block, next_segment, segment_at};
 ghost use Rattle.vc_base.specs.Addr.{address, place_of};
 ghost use Rattle.vc_best.specs.Alloc.{IsPlaced};
-ghost use Rattle.vc_best.specs.Apart.{AreApart, IsApartFrom, IsUsable, footprint_at};
+ghost use Rattle.vc_best.specs.Apart.{AllUsable, AreApart, IsApartFrom, IsUsable, footprint_at};
 ghost use Rattle.vc_best.specs.Close.{TakesBack};
 ghost use Rattle.vc_best.specs.Numbered.{HaveOwnNumbers, LieInNumbered};
 
@@ -103,6 +102,7 @@ impl Layout {
         ensures apart { IfOk result (λ a. IsApartFrom self.old.blocks size (place_of a.0)) }
         ensures fresh { IfOk result (λ a. Contains (map (λ b. address (b.seg, b.off)) self.old.blocks) a.0 → ⊥) }
         ensures all_apart { AreApart self.new.blocks }
+        ensures all_usable { AllUsable self.new }
     {
         reserve_one(&mut self.blocks)?;
         fill_in(&mut self.segs, seg, off, size, 0);
@@ -153,6 +153,7 @@ impl Layout {
         ensures apart { IfOk result (λ a. IsApartFrom self.old.blocks size (place_of a.0)) }
         ensures fresh { IfOk result (λ a. Contains (map (λ b. address (b.seg, b.off)) self.old.blocks) a.0 → ⊥) }
         ensures all_apart { AreApart self.new.blocks }
+        ensures all_usable { AllUsable self.new }
     {
         if self.segs.len() >= 1023 {
             return Err(RegionFault::TooManySegments);
@@ -181,6 +182,7 @@ impl Layout {
         ensures freed { (i : ℕ) → i < length self.old.blocks → HoldsAt (λ b. address (b.seg, b.off) ≡ a.0) self.old.blocks i → self.new.blocks ≡ remove self.old.blocks i }
         ensures none_left { Contains (map (λ b. address (b.seg, b.off)) self.new.blocks) a.0 → ⊥ }
         ensures all_apart { AreApart self.new.blocks }
+        ensures all_usable { AllUsable self.new }
     {
         take_out(&mut self.blocks, a.seg(), a.off());
     }
@@ -215,6 +217,7 @@ impl Layout {
         ensures live { IfSome result (λ a. Contains (map (λ b. address (b.seg, b.off)) self.now.blocks) a.0) }
         ensures numbered { LieInNumbered self.now.blocks }
         ensures all_apart { AreApart self.now.blocks }
+        ensures all_usable { AllUsable self.now }
     {
         let slot = next_slot(&self.blocks, after.seg(), after.off())?;
         Some(Addr::new(slot.seg, slot.off))
@@ -259,8 +262,8 @@ impl Layout {
         ensures value { self.new ≡ compacted self.old }
         ensures count { result ≡ compact_count self.old }
         ensures out { TakesBack (state disc.old) (state disc.new) self.old.segments self.new.segments }
-        ensures usable { All (λ b. IsUsable self.new.segments (footprint b)) self.new.blocks }
         ensures all_apart { AreApart self.new.blocks }
+        ensures all_usable { AllUsable self.new }
     {
         let before = self.segs.len();
         give_back_empty(&mut self.segs, &self.blocks, disc);

@@ -2,7 +2,7 @@ ghost use Rattle.std.specs.Prelude.{◌≡◌, ℕ, ◌≤◌, Contains, IfSome,
 ghost use Rattle.vc_model.specs.Best.{best_free};
 ghost use Rattle.vc_model.specs.Touch.{best_write, find_block};
 ghost use Rattle.vc_base.specs.Addr.{address, place_of};
-ghost use Rattle.vc_best.specs.Apart.{AreApart};
+ghost use Rattle.vc_best.specs.Apart.{AllUsable, AreApart};
 
 use crate::copy::copy_in;
 use crate::layout::Layout;
@@ -31,6 +31,7 @@ impl Layout {
         ensures segments { self.new.segments ≡ self.old.segments }
         ensures moved { IfSome (find_block (place_of a.0) self.old.blocks) (λ b. self.new ≡ best_free (best_write self.old (place_of to.0) 0 (take size b.bytes)) (place_of a.0)) }
         ensures all_apart { AreApart self.new.blocks }
+        ensures all_usable { AllUsable self.new }
     {
         self.copy_front(a, to, size);
         self.free(a);

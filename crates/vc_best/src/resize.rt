@@ -2,10 +2,11 @@ ghost use Rattle.std.specs.Prelude.{◌≡◌, ◌≢◌, ℕ, Contains, map, �
 ghost use Rattle.vc_model.specs.Best.{TooManySegments, NoSegment};
 ghost use Rattle.vc_model.specs.Count.{Rose};
 ghost use Rattle.vc_model.specs.Discipline.{Kept};
+ghost use Rattle.vc_model.specs.Region.{without_block};
 ghost use Rattle.vc_model.specs.Resize.{best_resize, Fixed, Moves};
 ghost use Rattle.vc_model.specs.Segments.{round_up, span};
 ghost use Rattle.vc_base.specs.Addr.{address, place_of};
-ghost use Rattle.vc_best.specs.Apart.{AreApart, IsUsable, footprint_at};
+ghost use Rattle.vc_best.specs.Apart.{AllUsable, AreApart, IsUsable, footprint_at};
 ghost use Rattle.vc_best.specs.Resized.{IsMove, IsResized};
 
 use crate::best::Best;
@@ -49,7 +50,9 @@ impl Best {
 
         // The block lies in a segment, and no two blocks overlap.
         ensures usable { IfOk result (λ to. IsUsable self.new.layout.segments (footprint_at size (place_of to.0))) }
+        ensures others { IfOk result (λ to. without_block (place_of to.0) self.new.layout.blocks ≡ without_block (place_of a.0) self.old.layout.blocks) }
         ensures all_apart { AreApart self.new.layout.blocks }
+        ensures all_usable { AllUsable self.new.layout }
     {
         if self.layout.can_stay(a, size) {
             self.layout.resize_there(a, size);

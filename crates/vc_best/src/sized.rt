@@ -3,7 +3,7 @@ ghost use Rattle.std.specs.List.{find};
 ghost use Rattle.vc_model.specs.Resize.{can_stay, resize_there};
 ghost use Rattle.vc_model.specs.Touch.{find_block};
 ghost use Rattle.vc_base.specs.Addr.{address, place_of};
-ghost use Rattle.vc_best.specs.Apart.{AreApart};
+ghost use Rattle.vc_best.specs.Apart.{AllUsable, AreApart};
 ghost use Rattle.vc_best.specs.Slot.{is_slot_at, place_of_slot};
 ghost use Rattle.vc_best.specs.Stay.{resize_slot};
 
@@ -46,6 +46,7 @@ impl Layout {
         requires some { 1 ≤ size }
         requires most { size ≤ 16777264 }
         ensures all_apart { AreApart self.now.blocks }
+        ensures all_usable { AllUsable self.now }
         ensures value { option_map (can_stay self.now size) (find_block (place_of a.0) self.now.blocks) ≡ Some result }
     {
         match find_slot(&self.blocks, a.seg(), a.off()) {
@@ -62,6 +63,7 @@ impl Layout {
         requires stays { IfSome (find_block (place_of a.0) self.old.blocks) (λ b. can_stay self.old size b ≡ true) }
         ensures value { self.new ≡ resize_there self.old (place_of a.0) size }
         ensures all_apart { AreApart self.new.blocks }
+        ensures all_usable { AllUsable self.new }
     {
         let before = set_size(&mut self.blocks, a.seg(), a.off(), size);
         let kept = before.min(size);

@@ -2,7 +2,7 @@ ghost use Rattle.std.specs.Prelude.{◌≡◌, ℕ, ◌+◌, ◌≤◌, Some, Co
 ghost use Rattle.std.specs.List.{find};
 ghost use Rattle.vc_model.specs.Touch.{find_block, best_write};
 ghost use Rattle.vc_base.specs.Addr.{address, place_of};
-ghost use Rattle.vc_best.specs.Apart.{AreApart};
+ghost use Rattle.vc_best.specs.Apart.{AllUsable, AreApart};
 ghost use Rattle.vc_best.specs.Slot.{is_slot_at};
 
 use crate::layout::Layout;
@@ -58,6 +58,7 @@ impl Layout {
         requires range { IfSome (find_block (place_of a.0) self.old.blocks) (λ b. off + length src.now ≤ b.size) }
         ensures value { self.new ≡ best_write self.old (place_of a.0) off src.now }
         ensures all_apart { AreApart self.new.blocks }
+        ensures all_usable { AllUsable self.new }
     {
         put_in(&mut self.segs, a.seg(), a.off() + off, src);
     }
@@ -68,6 +69,7 @@ impl Layout {
         requires range { IfSome (find_block (place_of a.0) self.old.blocks) (λ b. off + len ≤ b.size) }
         ensures value { self.new ≡ best_write self.old (place_of a.0) off (replicate len byte) }
         ensures all_apart { AreApart self.new.blocks }
+        ensures all_usable { AllUsable self.new }
     {
         fill_in(&mut self.segs, a.seg(), a.off() + off, len, byte);
     }

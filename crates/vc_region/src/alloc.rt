@@ -3,10 +3,11 @@ ghost use Rattle.vc_model.specs.Best.{best_alloc, TooManySegments, NoSegment};
 ghost use Rattle.vc_model.specs.Count.{Rose};
 ghost use Rattle.vc_model.specs.Discipline.{Kept};
 ghost use Rattle.vc_model.specs.Place.{IsAlign};
+ghost use Rattle.vc_model.specs.Region.{without_block};
 ghost use Rattle.vc_model.specs.Segments.{round_up, span};
 ghost use Rattle.vc_base.specs.Addr.{address, place_of};
 ghost use Rattle.vc_best.specs.Alloc.{IsPlaced};
-ghost use Rattle.vc_best.specs.Apart.{AreApart, IsApartFrom, IsUsable, footprint_at};
+ghost use Rattle.vc_best.specs.Apart.{AllUsable, AreApart, IsApartFrom, IsUsable, footprint_at};
 ghost use Rattle.vc_region.specs.Parts.{disc_of, layout_of};
 
 use crate::region::{Region, Uncounted};
@@ -44,7 +45,9 @@ impl Region {
         ensures usable { IfOk result (λ a. IsUsable (layout_of self.new).segments (footprint_at size (place_of a.0))) }
         ensures apart { IfOk result (λ a. IsApartFrom (layout_of self.old).blocks size (place_of a.0)) }
         ensures fresh { IfOk result (λ a. Contains (map (λ b. address (b.seg, b.off)) (layout_of self.old).blocks) a.0 → ⊥) }
+        ensures others { IfOk result (λ a. without_block (place_of a.0) (layout_of self.new).blocks ≡ (layout_of self.old).blocks) }
         ensures all_apart { AreApart (layout_of self.new).blocks }
+        ensures all_usable { AllUsable (layout_of self.new) }
     {
         let _ = site;
         match self {
@@ -91,7 +94,9 @@ impl Region {
         ensures usable { IfOk result (λ a. IsUsable (layout_of self.new).segments (footprint_at size (place_of a.0))) }
         ensures apart { IfOk result (λ a. IsApartFrom (layout_of self.old).blocks size (place_of a.0)) }
         ensures fresh { IfOk result (λ a. Contains (map (λ b. address (b.seg, b.off)) (layout_of self.old).blocks) a.0 → ⊥) }
+        ensures others { IfOk result (λ a. without_block (place_of a.0) (layout_of self.new).blocks ≡ (layout_of self.old).blocks) }
         ensures all_apart { AreApart (layout_of self.new).blocks }
+        ensures all_usable { AllUsable (layout_of self.new) }
     {
         let _ = site;
         match self {

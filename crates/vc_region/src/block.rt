@@ -1,7 +1,8 @@
 ghost use Rattle.std.specs.Prelude.{◌≡◌, ◌+◌, ◌≤◌, Some, Contains, IfSome, length, map, take, drop, option_map};
+ghost use Rattle.vc_model.specs.Region.{without_block};
 ghost use Rattle.vc_model.specs.Touch.{best_write, find_block};
 ghost use Rattle.vc_base.specs.Addr.{address, place_of};
-ghost use Rattle.vc_best.specs.Apart.{AreApart};
+ghost use Rattle.vc_best.specs.Apart.{AllUsable, AreApart};
 ghost use Rattle.vc_region.specs.Parts.{disc_of, layout_of};
 
 use crate::region::Region;
@@ -46,7 +47,9 @@ impl Region {
         requires block { Contains (map (λ b. address (b.seg, b.off)) (layout_of self.old).blocks) a.0 }
         requires range { IfSome (find_block (place_of a.0) (layout_of self.old).blocks) (λ b. off + length src.now ≤ b.size) }
         ensures layout { layout_of self.new ≡ best_write (layout_of self.old) (place_of a.0) off src.now }
+        ensures others { without_block (place_of a.0) (layout_of self.new).blocks ≡ without_block (place_of a.0) (layout_of self.old).blocks }
         ensures all_apart { AreApart (layout_of self.new).blocks }
+        ensures all_usable { AllUsable (layout_of self.new) }
         ensures disc { ⟦<BoxedDisc as SegDisc>⟧.state (disc_of self.new) ≡ ⟦<BoxedDisc as SegDisc>⟧.state (disc_of self.old) }
     {
         match self {

@@ -3,9 +3,8 @@ ghost use Rattle.std.specs.List.{HoldsAt, remove};
 ghost use Rattle.vc_model.specs.Best.{best_free};
 ghost use Rattle.vc_model.specs.Compact.{cleared, compact_count, compacted};
 ghost use Rattle.vc_model.specs.Discipline.{EndsWith};
-ghost use Rattle.vc_model.specs.Region.{footprint};
 ghost use Rattle.vc_base.specs.Addr.{address, place_of};
-ghost use Rattle.vc_best.specs.Apart.{AreApart, IsUsable};
+ghost use Rattle.vc_best.specs.Apart.{AllUsable, AreApart};
 ghost use Rattle.vc_region.specs.Parts.{disc_of, layout_of};
 
 use crate::region::{Region, Uncounted};
@@ -34,6 +33,7 @@ impl Region {
         ensures freed { (i : ℕ) → i < length (layout_of self.old).blocks → HoldsAt (λ b. address (b.seg, b.off) ≡ a.0) (layout_of self.old).blocks i → (layout_of self.new).blocks ≡ remove (layout_of self.old).blocks i }
         ensures none_left { Contains (map (λ b. address (b.seg, b.off)) (layout_of self.new).blocks) a.0 → ⊥ }
         ensures all_apart { AreApart (layout_of self.new).blocks }
+        ensures all_usable { AllUsable (layout_of self.new) }
         ensures disc { ⟦<BoxedDisc as SegDisc>⟧.state (disc_of self.new) ≡ ⟦<BoxedDisc as SegDisc>⟧.state (disc_of self.old) }
     {
         match self {
@@ -60,8 +60,8 @@ impl Region {
         requires { EndsWith (⟦<BoxedDisc as SegDisc>⟧.state (disc_of self.old)).out (layout_of self.old).segments }
         ensures layout { layout_of self.new ≡ compacted (layout_of self.old) }
         ensures count { result ≡ compact_count (layout_of self.old) }
-        ensures usable { All (λ b. IsUsable (layout_of self.new).segments (footprint b)) (layout_of self.new).blocks }
         ensures all_apart { AreApart (layout_of self.new).blocks }
+        ensures all_usable { AllUsable (layout_of self.new) }
 
         // What becomes of the discipline.
         ensures out { (rest : List (ℕ × ℕ)) → (⟦<BoxedDisc as SegDisc>⟧.state (disc_of self.old)).out ≡ rest ++ (layout_of self.old).segments → (⟦<BoxedDisc as SegDisc>⟧.state (disc_of self.new)).out ≡ rest ++ (layout_of self.new).segments }

@@ -2,10 +2,11 @@ ghost use Rattle.std.specs.Prelude.{◌≡◌, ◌≢◌, Contains, map, ◌+◌
 ghost use Rattle.vc_model.specs.Best.{TooManySegments, NoSegment};
 ghost use Rattle.vc_model.specs.Count.{Rose};
 ghost use Rattle.vc_model.specs.Discipline.{Kept};
+ghost use Rattle.vc_model.specs.Region.{without_block};
 ghost use Rattle.vc_model.specs.Resize.{best_resize, Fixed, Moves};
 ghost use Rattle.vc_model.specs.Segments.{round_up, span};
 ghost use Rattle.vc_base.specs.Addr.{address, place_of};
-ghost use Rattle.vc_best.specs.Apart.{AreApart};
+ghost use Rattle.vc_best.specs.Apart.{AllUsable, AreApart};
 ghost use Rattle.vc_best.specs.Resized.{IsMove, IsResized};
 ghost use Rattle.vc_region.specs.Parts.{disc_of, layout_of};
 
@@ -42,8 +43,10 @@ impl Region {
         ensures faults { result ≢ Err RegionFault.NoSegment → (⟦<BoxedDisc as SegDisc>⟧.state (disc_of self.new)).faults ≡ (⟦<BoxedDisc as SegDisc>⟧.state (disc_of self.old)).faults }
         ensures kept { Kept (⟦<BoxedDisc as SegDisc>⟧.state (disc_of self.old)) (⟦<BoxedDisc as SegDisc>⟧.state (disc_of self.new)) }
 
-        // No two blocks overlap.
+        // The other blocks stay, and no two overlap.
+        ensures others { IfOk result (λ to. without_block (place_of to.0) (layout_of self.new).blocks ≡ without_block (place_of a.0) (layout_of self.old).blocks) }
         ensures all_apart { AreApart (layout_of self.new).blocks }
+        ensures all_usable { AllUsable (layout_of self.new) }
     {
         match self {
             Region::Best(best) => {

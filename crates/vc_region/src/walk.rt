@@ -2,7 +2,7 @@ ghost use Rattle.std.specs.Prelude.{◌≡◌, ℕ, ◌⊎◌, Contains, IfSome,
 ghost use Rattle.vc_model.specs.Numbers.{block_bytes, block_count, gap_bytes, gap_count, greatest_block, greatest_gap, segment_bytes, segment_count};
 ghost use Rattle.vc_model.specs.Walk.{block_at, next_block, next_segment, segment_at};
 ghost use Rattle.vc_base.specs.Addr.{address, place_of};
-ghost use Rattle.vc_best.specs.Apart.{AreApart};
+ghost use Rattle.vc_best.specs.Apart.{AllUsable, AreApart};
 ghost use Rattle.vc_best.specs.Numbered.{HaveOwnNumbers, LieInNumbered};
 ghost use Rattle.vc_region.specs.Parts.{layout_of};
 
@@ -53,6 +53,7 @@ impl Region {
         // A walk passes each block once.
         ensures numbered { LieInNumbered (layout_of self.now).blocks }
         ensures all_apart { AreApart (layout_of self.now).blocks }
+        ensures all_usable { AllUsable (layout_of self.now) }
     {
         match self {
             Region::Best(best) => best.next_block(after),

@@ -4,7 +4,7 @@ use Rattle.vc_best.specs.Layout.{IsLayout}
 use Rattle.vc_best.specs.Slot.{run_of_slot}
 use Rattle.vc_best.proofs.Allocs.{IsAskedFor, IsSlotIn-lent, IsLayout-lent, best_alloc-lent, clear-lent, best_gap-none}
 use Rattle.vc_best.proofs.Rounding.{IsAligned-from_IsAlign, IsSegmentSize-asked}
-use Rattle.vc_best.proofs.Blocks.{AreApart-blocks, IsApartFrom-blocks, IsUsable-slot, no_block_at}
+use Rattle.vc_best.proofs.Blocks.{AreApart-blocks, IsApartFrom-blocks, IsUsable-blocks, IsUsable-slot, no_block_at}
 use Rattle.vc_best.proofs.layout.Layout.alloc_in_new.Goals as goal
 use Rattle.vc_best.proofs.layout.Layout.alloc_in_new.Goals.{After-put_among}
 use Rattle.vc_best.proofs.layout.Layout.alloc_in_new.Given.{Over}
@@ -85,3 +85,21 @@ returns-clause-usable g c =
     rw (c.push_reserved.ensures.items, c.in_ok-segment.ensures.segment, c.in_ok-reserve_one.ensures.items)
     (IsUsable-slot _ _ c.new.result.0 c.new.ensures.place
     (IsSlotIn-lent c.self.inside.segs.items c.self.inside.blocks.items c.round_of.result c.args.size c.args.align c.lowest_unused-number.result c.rounded_up-bytes.result c.self.invariant (few g at) (asked g at) c.round_of.ensures.legal (IsAligned-from_IsAlign c.args.align c.requires.align) c.requires.some c.requires.most c.args.tag))
+
+pub returns-then-len-ge1023-clause-all_usable : goal.returns-then-len-ge1023-clause-all_usable
+returns-then-len-ge1023-clause-all_usable g c = rw (← c.self.view_is) (IsUsable-blocks c.self.inside.segs.items c.self.inside.blocks.items c.self.invariant.blocks)
+
+pub returns-in_err-reserve_one-clause-all_usable : goal.returns-in_err-reserve_one-clause-all_usable
+returns-in_err-reserve_one-clause-all_usable g c =
+    rw c.in_err-reserve_one.ensures.items (IsUsable-blocks c.self.inside.segs.items c.self.inside.blocks.items c.self.invariant.blocks)
+
+pub returns-in_err-reserve_one-2-clause-all_usable : goal.returns-in_err-reserve_one-2-clause-all_usable
+returns-in_err-reserve_one-2-clause-all_usable g c =
+    rw (c.in_ok-reserve_one.ensures.items, c.in_err-reserve_one-2.ensures.items) (IsUsable-blocks c.self.inside.segs.items c.self.inside.blocks.items c.self.invariant.blocks)
+
+pub returns-in_err-segment-clause-all_usable : goal.returns-in_err-segment-clause-all_usable
+returns-in_err-segment-clause-all_usable g c =
+    rw (c.in_ok-reserve_one.ensures.items, c.in_ok-reserve_one-2.ensures.items) (IsUsable-blocks c.self.inside.segs.items c.self.inside.blocks.items c.self.invariant.blocks)
+
+pub returns-clause-all_usable : goal.returns-clause-all_usable
+returns-clause-all_usable g c = IsUsable-blocks c.push_reserved.new.self.items c.put_among.new.slots.items (whole g (goal.at.returns-clause-all_usable g c).After-put_among).blocks

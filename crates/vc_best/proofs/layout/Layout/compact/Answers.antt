@@ -33,7 +33,7 @@ returns-clause-all_apart g c =
     rw (c.give_back_empty.ensures.segments, c.deref.ensures.value)
     (AreApart-blocks _ c.self.inside.blocks.items (IsLayout-occupied c.self.inside.segs.items c.self.inside.blocks.items c.self.invariant))
 
-pub returns-clause-usable : goal.returns-clause-usable
-returns-clause-usable g c =
+pub returns-clause-all_usable : goal.returns-clause-all_usable
+returns-clause-all_usable g c =
     rw (c.give_back_empty.ensures.segments, c.deref.ensures.value)
     (IsUsable-blocks _ c.self.inside.blocks.items (IsLayout-occupied c.self.inside.segs.items c.self.inside.blocks.items c.self.invariant).blocks)

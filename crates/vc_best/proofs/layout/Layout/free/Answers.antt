@@ -1,6 +1,6 @@
 use Rattle.vc_base.specs.Addr.{place_of}
 use Rattle.vc_best.proofs.Frees.{Contains-place, IsLayout-without_slot, region_of-without_slot}
-use Rattle.vc_best.proofs.Blocks.{AreApart-blocks, no_block_left}
+use Rattle.vc_best.proofs.Blocks.{AreApart-blocks, IsUsable-blocks, no_block_left}
 use Rattle.vc_best.proofs.Places.{freed-remove}
 use Rattle.vc_best.proofs.layout.Layout.free.Goals as goal
 
@@ -33,3 +33,8 @@ pub returns-clause-freed : goal.returns-clause-freed
 returns-clause-freed c =
     rw (c.take_out.ensures.slots, c.seg.ensures, c.off.ensures, ← c.self.view_is)
     (λ i lt here. freed-remove c.self.inside.segs.items c.self.inside.blocks.items c.args.a.0 i c.self.invariant lt here)
+
+pub returns-clause-all_usable : goal.returns-clause-all_usable
+returns-clause-all_usable c =
+    rw (c.take_out.ensures.slots, c.seg.ensures, c.off.ensures)
+    (IsUsable-blocks c.self.inside.segs.items _ (IsLayout-without_slot c.self.inside.segs.items (place_of c.args.a.0) c.self.inside.blocks.items c.self.invariant).blocks)

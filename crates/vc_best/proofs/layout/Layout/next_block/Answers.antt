@@ -5,7 +5,7 @@ use Rattle.vc_model.specs.Walk.{next_block}
 use Rattle.vc_best.specs.declared.slot.Slot.{Slot}
 use Rattle.vc_best.specs.Slot.{lies_before_slot}
 use Rattle.vc_best.specs.Layout.{block_in}
-use Rattle.vc_best.proofs.Blocks.{AreApart-blocks}
+use Rattle.vc_best.proofs.Blocks.{AreApart-blocks, IsUsable-blocks}
 use Rattle.vc_best.proofs.Walks.{Contains-found, IsFound, IsFound-find, LieInNumbered-blocks, next_block-slots}
 use Rattle.vc_best.proofs.layout.Layout.next_block.Goals as goal
 use Rattle.vc_best.proofs.layout.Layout.next_block.Goals.{After-next_slot}
@@ -56,3 +56,9 @@ returns-clause-numbered c = rw (← c.self.view_is) (LieInNumbered-blocks c.self
 
 pub returns-clause-all_apart : goal.returns-clause-all_apart
 returns-clause-all_apart c = rw (← c.self.view_is) (AreApart-blocks c.self.inside.segs.items c.self.inside.blocks.items c.self.invariant)
+
+pub returns-in_err-slot-clause-all_usable : goal.returns-in_err-slot-clause-all_usable
+returns-in_err-slot-clause-all_usable c = rw (← c.self.view_is) (IsUsable-blocks c.self.inside.segs.items c.self.inside.blocks.items c.self.invariant.blocks)
+
+pub returns-clause-all_usable : goal.returns-clause-all_usable
+returns-clause-all_usable c = rw (← c.self.view_is) (IsUsable-blocks c.self.inside.segs.items c.self.inside.blocks.items c.self.invariant.blocks)

@@ -10,7 +10,7 @@ use Rattle.vc_best.specs.Write.{write_segment}
 use Rattle.vc_best.proofs.Allocs.{slot_at, IsSlotAt-place, clear-place}
 use Rattle.vc_best.proofs.Regions.{IsSlotAt, stands}
 use Rattle.vc_best.proofs.Writes.{put-within, pairs-put, IsLayout-put, region_of-put}
-use Rattle.vc_best.proofs.Blocks.{AreApart-blocks, IsApartFrom-blocks, IsUsable-slot, no_block_at}
+use Rattle.vc_best.proofs.Blocks.{AreApart-blocks, IsApartFrom-blocks, IsUsable-blocks, IsUsable-slot, no_block_at}
 use Rattle.vc_best.proofs.layout.Layout.put.Goals as goal
 use Rattle.vc_best.proofs.layout.Layout.put.Goals.{After-put_among}
 
@@ -96,3 +96,10 @@ returns-clause-usable c =
     let slot = (here at.After-put_among).slot in
     let pairs = ap (map pair_of) (after at.After-put_among) ∙ pairs-put c.self.inside.segs.items (slot_at c.args.tag c.args.size (c.args.seg, c.args.off)) slot in
     subst (λ (ss : List (ℕ × ℕ)). IsUsable ss (footprint_at c.args.size (place_of c.new.result.0))) (sym pairs) (IsUsable-slot c.self.inside.segs.items _ c.new.result.0 c.new.ensures.place slot)
+
+pub returns-in_err-reserve_one-clause-all_usable : goal.returns-in_err-reserve_one-clause-all_usable
+returns-in_err-reserve_one-clause-all_usable c =
+    rw c.in_err-reserve_one.ensures.items (IsUsable-blocks c.self.inside.segs.items c.self.inside.blocks.items c.self.invariant.blocks)
+
+pub returns-clause-all_usable : goal.returns-clause-all_usable
+returns-clause-all_usable c = IsUsable-blocks _ c.put_among.new.slots.items (whole (goal.at.returns-clause-all_usable c).After-put_among).blocks

@@ -8,7 +8,7 @@ use Rattle.vc_best.specs.Slot.{is_slot_at}
 use Rattle.vc_best.specs.Stay.{resize_slot}
 use Rattle.vc_best.specs.Write.{write_segment}
 use Rattle.vc_best.specs.Layout.{IsLayout, region_of}
-use Rattle.vc_best.proofs.Blocks.{AreApart-blocks}
+use Rattle.vc_best.proofs.Blocks.{AreApart-blocks, IsUsable-blocks}
 use Rattle.vc_best.proofs.Frees.{Contains-place}
 use Rattle.vc_best.proofs.Stays.{sized-some, sized-within, sized-layout, sized-region}
 use Rattle.vc_best.proofs.layout.Layout.resize_there.Goals as goal
@@ -62,3 +62,6 @@ returns-clause-value c =
 
 pub returns-clause-all_apart : goal.returns-clause-all_apart
 returns-clause-all_apart c = AreApart-blocks _ c.set_size-before.new.slots.items (whole (goal.at.returns-clause-all_apart c).After-fill_in)
+
+pub returns-clause-all_usable : goal.returns-clause-all_usable
+returns-clause-all_usable c = IsUsable-blocks _ c.set_size-before.new.slots.items (whole (goal.at.returns-clause-all_usable c).After-fill_in).blocks

@@ -4,7 +4,7 @@ use Rattle.std.proofs.lemmas.List.{with_items_is}
 use Rattle.vc_base.specs.Addr.{place_of}
 use Rattle.vc_best.specs.Layout.{IsLayout, region_of}
 use Rattle.vc_best.specs.Write.{write_segment}
-use Rattle.vc_best.proofs.Blocks.{AreApart-blocks}
+use Rattle.vc_best.proofs.Blocks.{AreApart-blocks, IsUsable-blocks}
 use Rattle.vc_best.proofs.Found.{InBlock, IsLive, some-range, within-range, below-range, IsLayout-range, region_of-range}
 use Rattle.vc_best.proofs.layout.Layout.write.Goals as goal
 use Rattle.vc_best.proofs.layout.Layout.write.Goals.{After-off, After-put_in}
@@ -53,3 +53,6 @@ returns-clause-value c =
 
 pub returns-clause-all_apart : goal.returns-clause-all_apart
 returns-clause-all_apart c = AreApart-blocks _ c.self.inside.blocks.items (whole (goal.at.returns-clause-all_apart c).After-put_in)
+
+pub returns-clause-all_usable : goal.returns-clause-all_usable
+returns-clause-all_usable c = IsUsable-blocks _ c.self.inside.blocks.items (whole (goal.at.returns-clause-all_usable c).After-put_in).blocks
