@@ -1,6 +1,6 @@
 // Where blocks are placed, and what can be read and written of them.
-use crate::given::replies;
-use std::alloc::{AllocError, Global};
+use crate::given::{put_number, replies};
+use std::alloc::AllocError;
 use std::test::Fail;
 
 const EDGES: &[u8] = b"\
@@ -90,89 +90,50 @@ fn long_reads(rt: HostRuntime) -> Result<(), Fail> {
     Ok(())
 }
 
-fn joined(alloc: Global, parts: &[&[u8]]) -> Result<Vec<u8>, AllocError> {
-    let mut all = Vec::new(alloc);
-    for part in parts {
-        all.extend_from_slice(part)?;
-    }
-    Ok(all)
+fn asked(script: &mut Vec<u8>, name: u8, size: u32, align: u32) -> Result<(), AllocError> {
+    script.extend_from_slice(b"align r ")?;
+    script.push(name)?;
+    script.push(b' ')?;
+    put_number(script, size)?;
+    script.push(b' ')?;
+    put_number(script, align)?;
+    script.push(b'\n')?;
+    Ok(())
 }
 
-// Each alignment over a gap of 128 bytes, whose blocks may begin at 64: a block that takes all of it, and one that takes
-// 32 bytes. Where the gap doesn't hold the block at such an offset, a later one does, and for the last a new segment.
+fn placed(out: &mut Vec<u8>, name: u8, off: u32) -> Result<(), AllocError> {
+    out.push(name)?;
+    out.extend_from_slice(b" 1:")?;
+    put_number(out, off)?;
+    out.push(b'\n')?;
+    Ok(())
+}
+
+// Each alignment, in a segment of 32,768 bytes: three blocks at the first three offsets that it divides, of which the
+// middle one is freed. The gap that it leaves holds a block at its offset up to the third block, and no greater one, which
+// goes behind that.
 #[test]
 fn alignments(rt: HostRuntime) -> Result<(), Fail> {
     let alloc = rt.alloc();
-    for (align, first, second, stat) in [
-        (
-            b"32".as_slice(),
-            b"a 1:64\n".as_slice(),
-            b"b 1:64\n".as_slice(),
-            b"busy 3 free 2 sbusy 33 sfree 3968 mbusy 16 mfree 3872 segs 1 extent 4096\n".as_slice(),
-        ),
-        (
-            b"64",
-            b"a 1:64\n",
-            b"b 1:64\n",
-            b"busy 3 free 2 sbusy 33 sfree 3968 mbusy 16 mfree 3872 segs 1 extent 4096\n",
-        ),
-        (
-            b"128",
-            b"a 1:256\n",
-            b"b 1:128\n",
-            b"busy 3 free 3 sbusy 33 sfree 3968 mbusy 16 mfree 3872 segs 1 extent 4096\n",
-        ),
-        (
-            b"256",
-            b"a 1:256\n",
-            b"b 1:256\n",
-            b"busy 3 free 3 sbusy 33 sfree 3968 mbusy 16 mfree 3808 segs 1 extent 4096\n",
-        ),
-        (
-            b"512",
-            b"a 1:512\n",
-            b"b 1:512\n",
-            b"busy 3 free 3 sbusy 33 sfree 3968 mbusy 16 mfree 3552 segs 1 extent 4096\n",
-        ),
-        (
-            b"1024",
-            b"a 1:1024\n",
-            b"b 1:1024\n",
-            b"busy 3 free 3 sbusy 33 sfree 3968 mbusy 16 mfree 3040 segs 1 extent 4096\n",
-        ),
-        (
-            b"2048",
-            b"a 1:2048\n",
-            b"b 1:2048\n",
-            b"busy 3 free 3 sbusy 33 sfree 3968 mbusy 16 mfree 2016 segs 1 extent 4096\n",
-        ),
-        (
-            b"4096",
-            b"a 2:4096\n",
-            b"b 2:4096\n",
-            b"busy 3 free 4 sbusy 33 sfree 12128 mbusy 16 mfree 4064 segs 2 extent 12288\n",
-        ),
-    ] {
-        let script = joined(
-            alloc,
-            &[
-                b"open r best 1\nalloc r p 16\nalloc r g 112\nalloc r w 1\nfree r g\nalign r a 112 ",
-                align,
-                b"\nfree r a\nalign r b 16 ",
-                align,
-                b"\nstat r\n",
-            ],
-        )?;
-        let out = joined(
-            alloc,
-            &[
-                b"r open\np 1:32\ng 1:64\nw 1:192\ng freed\n",
-                first,
-                b"a freed\n",
-                second,
-                stat,
-            ],
-        )?;
+    for align in [32, 64, 128, 256, 512, 1024, 2048, 4096] {
+        assert!(rt; 32 <= align);
+        assert!(rt; align <= 4096);
+        let mut script = b"open r best 1\nalloc r big 30000\nfree r big\n".to_vec(alloc)?;
+        let mut out = b"r open\nbig 1:32\nbig freed\n".to_vec(alloc)?;
+        asked(&mut script, b'p', 16, align)?;
+        placed(&mut out, b'p', align)?;
+        asked(&mut script, b'q', 16, align)?;
+        placed(&mut out, b'q', 2 * align)?;
+        asked(&mut script, b'w', 16, align)?;
+        placed(&mut out, b'w', 3 * align)?;
+        script.extend_from_slice(b"free r q\n")?;
+        out.extend_from_slice(b"q freed\n")?;
+        asked(&mut script, b'a', align - 16, align)?;
+        placed(&mut out, b'a', 2 * align)?;
+        script.extend_from_slice(b"free r a\n")?;
+        out.extend_from_slice(b"a freed\n")?;
+        asked(&mut script, b'b', align - 15, align)?;
+        placed(&mut out, b'b', 4 * align)?;
         replies(&rt, alloc, script.as_slice(), out.as_slice())?;
     }
     Ok(())

@@ -1,6 +1,7 @@
 // What a script through the top call is given, and what comes out.
 ghost use Rattle.std.specs.Prelude.{◌≤◌};
 
+use itoa::Buffer;
 use std::alloc::{AllocError, Global};
 use std::process::Abort;
 use vc_base::{MemSink, MemSource, Sink, Source};
@@ -59,6 +60,10 @@ pub(crate) fn is_run(rt: &impl Abort, ran: &Ran, status: Status, out: &[u8], err
     assert_eq!(rt; ran.status, status);
     assert_eq!(rt; ran.out.as_slice(), out);
     assert_eq!(rt; ran.err.as_slice(), err);
+}
+
+pub(crate) fn put_number(text: &mut Vec<u8>, number: u32) -> Result<(), AllocError> {
+    text.extend_from_slice(Buffer::new().format(number).as_bytes())
 }
 
 // A script with no failing read and ample room, over a discipline that rounds to 4,096 bytes, whole and in pieces of seven

@@ -1,7 +1,5 @@
 // Longer scripts, whole and in pieces of seven bytes.
-use crate::given::replies;
-use itoa::Buffer;
-use std::alloc::AllocError;
+use crate::given::{put_number, replies};
 use std::test::Fail;
 
 const TRACE: &[u8] = b"\
@@ -94,10 +92,6 @@ heap closed 2\n\
 fn trace(rt: HostRuntime) -> Result<(), Fail> {
     replies(&rt, rt.alloc(), TRACE, TOLD)?;
     Ok(())
-}
-
-fn put_number(text: &mut Vec<u8>, number: u32) -> Result<(), AllocError> {
-    text.extend_from_slice(Buffer::new().format(number).as_bytes())
 }
 
 // Each block takes a segment, up to 1,023 of them. Another is refused, and a small one goes into the first gap.
