@@ -1,6 +1,6 @@
 pub use Rattle.vc_model.specs.Count
 pub use Rattle.vc_model.specs.Stream
-pub mod Addr
+pub use Rattle.vc_model.specs.Addr
 pub mod Memory
 pub mod Name
 pub mod Steps

@@ -1,5 +1,5 @@
 ghost use Rattle.std.specs.Prelude.{◌≡◌, ℕ, ◌+◌, ◌*◌, ◌/◌, ◌%◌, ◌<◌, ◌≤◌};
-ghost use Rattle.vc_base.specs.Addr.{address, place_of};
+ghost use Rattle.vc_model.specs.Addr.{address, place_of};
 
 /// An address in a region: `number × 2^20 + offset / 32`, with the number of a segment, from 1 to 1,023, and an offset
 /// in bytes, a multiple of 32 below 33,554,432. This project's own.

@@ -6,7 +6,7 @@ use Rattle.std.proofs.lemmas.Bool.{cases_Bool, and_parts, and_from, eqb-true, eq
 use Rattle.std.proofs.lemmas.Map.Made.{Contains-tail}
 use Rattle.vc_model.specs.Region.{Block}
 use Rattle.vc_model.specs.Touch.{find_block, best_write}
-use Rattle.vc_base.specs.Addr.{address, place_of}
+use Rattle.vc_model.specs.Addr.{address, place_of}
 use Rattle.vc_seg.specs.Segment.{Bytes}
 use Rattle.vc_best.specs.declared.slot.Slot.{Slot}
 use Rattle.vc_best.specs.Slot.{place_of_slot, is_slot_at}

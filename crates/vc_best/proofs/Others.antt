@@ -8,7 +8,7 @@ use Rattle.vc_model.specs.Region.{Block, Region, is_at, lies_before, with_block,
 use Rattle.vc_model.specs.Touch.{best_write, change_block, find_block, rewritten}
 use Rattle.vc_model.specs.Best.{best_alloc, best_free, place_in, put_at, zeros}
 use Rattle.vc_model.specs.Resize.{sized}
-use Rattle.vc_base.specs.Addr.{address, place_of}
+use Rattle.vc_model.specs.Addr.{address, place_of}
 use Rattle.vc_base.specs.declared.addr.Addr.{Addr}
 use Rattle.vc_seg.specs.declared.fault.RegionFault.{RegionFault}
 use Rattle.vc_best.specs.Alloc.{IsPlaced}

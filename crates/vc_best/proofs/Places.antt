@@ -5,7 +5,7 @@ use Rattle.std.proofs.lemmas.Bool.{cases_Bool, and_parts, and_from, eqb-true, eq
 use Rattle.std.proofs.lemmas.List.Elements.{All-map}
 use Rattle.vc_model.specs.Region.{Block, footprint, is_at, without_block}
 use Rattle.vc_model.specs.Touch.{find_block}
-use Rattle.vc_base.specs.Addr.{address, place_of}
+use Rattle.vc_model.specs.Addr.{address, place_of}
 use Rattle.vc_seg.specs.Segment.{Bytes}
 use Rattle.vc_best.specs.Apart.{EndsBefore, AreApart}
 use Rattle.vc_best.specs.declared.slot.Slot.{Slot}

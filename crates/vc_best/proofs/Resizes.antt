@@ -11,7 +11,7 @@ use Rattle.vc_model.specs.Region.{Block, Region, is_at, lies_before, with_block}
 use Rattle.vc_model.specs.Touch.{best_write, find_block}
 use Rattle.vc_model.specs.Best.{Allocated, Placed, TooManySegments, NoSegment, best_alloc, best_free, place_in, put, put_at, put_in_new, put_or_ask, with_segment, zeros}
 use Rattle.vc_model.specs.Resize.{Stays, best_resize, can_stay, is_usable, moved, resize_found, resize_there}
-use Rattle.vc_base.specs.Addr.{address, place_of}
+use Rattle.vc_model.specs.Addr.{address, place_of}
 use Rattle.vc_best.specs.Alloc.{IsPlaced}
 use Rattle.vc_best.specs.Apart.{IsUsable, footprint_at}
 use Rattle.vc_best.specs.Resized.{IsResized}

@@ -12,7 +12,7 @@ use Rattle.vc_model.specs.Gap.{Run}
 use Rattle.vc_model.specs.Region.{Block, Region, footprint, is_at}
 use Rattle.vc_model.specs.Touch.{find_block, change_block}
 use Rattle.vc_model.specs.Resize.{can_stay, fitted, is_usable, meets, resize_there, sized}
-use Rattle.vc_base.specs.Addr.{place_of}
+use Rattle.vc_model.specs.Addr.{place_of}
 use Rattle.vc_seg.specs.Segment.{Bytes, pair_of}
 use Rattle.vc_best.specs.declared.slot.Slot.{Slot}
 use Rattle.vc_best.specs.Slot.{run_of_slot, place_of_slot, is_slot_at}

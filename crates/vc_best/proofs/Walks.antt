@@ -6,7 +6,7 @@ use Rattle.std.proofs.lemmas.List.{length-map, get_or-map}
 use Rattle.std.proofs.lemmas.List.Elements.{All-head, All-map, All-tail}
 use Rattle.vc_model.specs.Region.{Block}
 use Rattle.vc_model.specs.Walk.{block_at, next_block, holds_byte, begins_behind}
-use Rattle.vc_base.specs.Addr.{address}
+use Rattle.vc_model.specs.Addr.{address}
 use Rattle.vc_seg.specs.Segment.{Bytes, pair_of}
 use Rattle.vc_best.specs.declared.slot.Slot.{Slot}
 use Rattle.vc_best.specs.Slot.{lies_before_slot, slot_holds_byte}

@@ -2,7 +2,7 @@
 use Rattle.std.specs.Prelude.{◌≡◌, ℕ}
 use Rattle.vc_model.specs.Best.{Allocated, Placed, TooManySegments, NoSegment}
 use Rattle.vc_model.specs.Region.{Region}
-use Rattle.vc_base.specs.Addr.{address, place_of}
+use Rattle.vc_model.specs.Addr.{address, place_of}
 
 -- the block is placed at that address, which leaves this region
 abbrev pub IsPlaced : {L : Type 0} → Allocated L → ℕ → Region L → Type 0

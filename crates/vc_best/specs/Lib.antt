@@ -10,7 +10,7 @@ pub use Rattle.vc_model.specs.Segments
 pub use Rattle.vc_model.specs.Touch
 pub use Rattle.vc_model.specs.Resize
 pub use Rattle.vc_model.specs.Walk
-pub use Rattle.vc_base.specs.Addr
+pub use Rattle.vc_model.specs.Addr
 pub mod Slot
 pub mod Apart
 pub mod Numbered

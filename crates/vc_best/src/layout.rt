@@ -8,7 +8,7 @@ ghost use Rattle.vc_model.specs.Numbers.{block_bytes, block_count, gap_bytes, ga
 ghost use Rattle.vc_model.specs.Place.{IsAlign};
 ghost use Rattle.vc_model.specs.Segments.{round_up, span};
 ghost use Rattle.vc_model.specs.Walk.{block_at, next_block, next_segment, segment_at};
-ghost use Rattle.vc_base.specs.Addr.{address, place_of};
+ghost use Rattle.vc_model.specs.Addr.{address, place_of};
 ghost use Rattle.vc_best.specs.Alloc.{IsPlaced};
 ghost use Rattle.vc_best.specs.Apart.{AllUsable, AreApart, IsApartFrom, IsUsable, footprint_at};
 ghost use Rattle.vc_best.specs.Close.{TakesBack};

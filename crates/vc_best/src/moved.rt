@@ -1,7 +1,7 @@
 ghost use Rattle.std.specs.Prelude.{◌≡◌, ℕ, ◌≤◌, Contains, IfSome, map, take};
 ghost use Rattle.vc_model.specs.Best.{best_free};
 ghost use Rattle.vc_model.specs.Touch.{best_write, find_block};
-ghost use Rattle.vc_base.specs.Addr.{address, place_of};
+ghost use Rattle.vc_model.specs.Addr.{address, place_of};
 ghost use Rattle.vc_best.specs.Apart.{AllUsable, AreApart};
 
 use crate::copy::copy_in;

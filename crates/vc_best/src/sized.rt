@@ -2,7 +2,7 @@ ghost use Rattle.std.specs.Prelude.{◌≡◌, ℕ, ◌+◌, ◌≤◌, Some, Co
 ghost use Rattle.std.specs.List.{find};
 ghost use Rattle.vc_model.specs.Resize.{can_stay, resize_there};
 ghost use Rattle.vc_model.specs.Touch.{find_block};
-ghost use Rattle.vc_base.specs.Addr.{address, place_of};
+ghost use Rattle.vc_model.specs.Addr.{address, place_of};
 ghost use Rattle.vc_best.specs.Apart.{AllUsable, AreApart};
 ghost use Rattle.vc_best.specs.Slot.{is_slot_at, place_of_slot};
 ghost use Rattle.vc_best.specs.Stay.{resize_slot};

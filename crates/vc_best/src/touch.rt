@@ -1,7 +1,7 @@
 ghost use Rattle.std.specs.Prelude.{◌≡◌, ℕ, ◌+◌, ◌≤◌, Some, Contains, IfSome, length, map, take, drop, option_map, replicate};
 ghost use Rattle.std.specs.List.{find};
 ghost use Rattle.vc_model.specs.Touch.{find_block, best_write};
-ghost use Rattle.vc_base.specs.Addr.{address, place_of};
+ghost use Rattle.vc_model.specs.Addr.{address, place_of};
 ghost use Rattle.vc_best.specs.Apart.{AllUsable, AreApart};
 ghost use Rattle.vc_best.specs.Slot.{is_slot_at};
 

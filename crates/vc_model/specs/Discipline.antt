@@ -1,12 +1,17 @@
 -- What a segment discipline means to whoever asks it for segments.
-use Rattle.std.specs.Prelude.{◌≡◌, ℕ, ◌-◌, ◌%◌, ◌≤◌, ◌==◌, ◌&&◌, List, [], ◌∷◌, ◌++◌, Bool, length, take, Option, if◌then◌else◌}
+use Rattle.std.specs.Prelude.{◌≡◌, ◌≢◌, ℕ, ◌%◌, ◌<◌, ◌≤◌, ◌==◌, ◌&&◌, List, [], ◌∷◌, ◌++◌, Bool, Option, IfSome, if◌then◌else◌}
 use Rattle.std.specs.List.{list_any}
+use Rattle.vc_model.specs.Count.{Rose}
 
--- the segments that are out, as number and bytes; the refusals so far; the bytes to a multiple of which sizes are rounded up; the bytes that it can still lend, where it tells them
+-- what is constant of a discipline: the bytes to a multiple of which sizes are rounded up
+pub record Terms : Type 0 where
+  pub round : ℕ
+
+-- the segments that are out, as number and bytes; the refusals so far; the bytes that it can still lend, where it tells them
 pub record Discipline : Type 0 where
   pub out : List (ℕ × ℕ)
   pub faults : ℕ
-  pub round : ℕ
+  pub terms : Terms
   pub room : Option ℕ
 
 -- a round is a multiple of 32 from 32 to 65,536
@@ -21,10 +26,43 @@ pub record IsSegmentSize (size : ℕ) : Type 0 where
   pub most : size ≤ 33554432
   pub multiple : size % 32 ≡ 0
 
--- from entry to exit of a call the round is the same and the faults have not fallen
+-- from entry to exit of a call the terms are the same and the faults have not fallen
 pub record Kept (old new : Discipline) : Type 0 where
-  pub round : new.round ≡ old.round
+  pub terms : new.terms ≡ old.terms
   pub faults : old.faults ≤ new.faults
+
+-- a segment was lent: its pair is the last that is out, and the room held it where it is told
+pub record Lent (old new : Discipline) (number size : ℕ) : Type 0 where
+  pub out : new.out ≡ old.out ++ (number, size) ∷ []
+  pub faults : new.faults ≡ old.faults
+  pub terms : new.terms ≡ old.terms
+  pub room : IfSome old.room (λ room. size ≤ room)
+
+-- a segment of that size was refused: the faults rose, and the room was below the size where it is told; all else stays
+pub record Unserved (old new : Discipline) (size : ℕ) : Type 0 where
+  pub kept : Kept old new
+  pub rose : Rose old.faults new.faults
+  pub room : IfSome old.room (λ room. room < size)
+  pub out : new.out ≡ old.out
+  pub same_room : new.room ≡ old.room
+
+-- a call of a region refused nothing. Where it left other segments than before, these stand in their place among those that are out, and the room held the size that was asked for; else the discipline is the same
+pub record Served (old new : Discipline) (segments segments' : List (ℕ × ℕ)) (size : ℕ) : Type 0 where
+  pub terms : new.terms ≡ old.terms
+  pub faults : new.faults ≡ old.faults
+  pub out : (rest : List (ℕ × ℕ)) → old.out ≡ rest ++ segments → new.out ≡ rest ++ segments'
+  pub room : segments' ≢ segments → IfSome old.room (λ room. size ≤ room)
+  pub same : segments' ≡ segments → new ≡ old
+
+-- the discipline took back those of a region's segments that are gone, and keeps all else that is out
+pub record TookBack (old new : Discipline) (segments segments' : List (ℕ × ℕ)) : Type 0 where
+  pub terms : new.terms ≡ old.terms
+  pub faults : new.faults ≡ old.faults
+  pub out : (rest : List (ℕ × ℕ)) → old.out ≡ rest ++ segments → new.out ≡ rest ++ segments'
+
+-- the last segments that are out are those of a region
+abbrev pub HasOut : Discipline → List (ℕ × ℕ) → Type 0
+HasOut d segments = (rest : List (ℕ × ℕ)) × (d.out ≡ rest ++ segments)
 
 abbrev pub same_pair : ℕ × ℕ → ℕ × ℕ → Bool
 same_pair p q = (p.0 == q.0) && (p.1 == q.1)
@@ -33,7 +71,3 @@ same_pair p q = (p.0 == q.0) && (p.1 == q.1)
 abbrev pub without_last : ℕ × ℕ → List (ℕ × ℕ) → List (ℕ × ℕ)
 without_last p [] = []
 without_last p (q ∷ qs) = if list_any (same_pair p) qs then q ∷ without_last p qs else (if same_pair p q then qs else q ∷ qs)
-
--- the first list ends with the second
-abbrev pub EndsWith : List (ℕ × ℕ) → List (ℕ × ℕ) → Type 0
-EndsWith xs ys = take (length xs - length ys) xs ++ ys ≡ xs

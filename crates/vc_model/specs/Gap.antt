@@ -1,6 +1,7 @@
 -- Gaps, computed anew from the segments and the footprints.
 use Rattle.std.specs.Prelude.{ℕ, ◌-◌, List, [], ◌∷◌, ◌++◌, Bool, filter, nat_lt, ◌==◌, ◌&&◌, ◌||◌, if◌then◌else◌}
 use Rattle.std.specs.List.{flat_map}
+use Rattle.vc_model.specs.Order.{sorted_by}
 
 -- a run of bytes of a segment, up to but not including `to`
 pub record Run : Type 0 where
@@ -15,14 +16,18 @@ bytes_of r = r.to - r.from
 abbrev pub run_of : ℕ → ℕ → ℕ → List Run
 run_of seg from to = if nat_lt from to then record { seg = seg; from = from; to = to } ∷ [] else []
 
--- what these footprints, by address, leave free of a segment from one offset to another
+-- what these runs, by their first bytes, leave free of a segment from one offset to another
 abbrev pub gaps_between : ℕ → ℕ → ℕ → List Run → List Run
 gaps_between seg from to [] = run_of seg from to
 gaps_between seg from to (f ∷ fs) = run_of seg from f.from ++ gaps_between seg f.to to fs
 
+-- the runs of one segment, by their first bytes
+abbrev pub runs_in : ℕ → List Run → List Run
+runs_in seg runs = sorted_by (λ f. f.from) (filter (λ f. f.seg == seg) runs)
+
 -- the gaps of one segment, whose usable part is all but its first and its last 16 bytes
 abbrev pub gaps_in : List Run → ℕ × ℕ → List Run
-gaps_in footprints s = gaps_between s.0 16 (s.1 - 16) (filter (λ f. f.seg == s.0) footprints)
+gaps_in footprints s = gaps_between s.0 16 (s.1 - 16) (runs_in s.0 footprints)
 
 -- the gaps of all segments
 abbrev pub gaps : List (ℕ × ℕ) → List Run → List Run

@@ -1,42 +1,65 @@
--- A region as its lists. The label of a block is a tag in the libraries and a name in a session.
-use Rattle.std.specs.Prelude.{ℕ, ◌+◌, ◌-◌, List, [], ◌∷◌, Bool, map, nat_lt, ◌==◌, ◌&&◌, ◌||◌, if◌then◌else◌}
-use Rattle.vc_model.specs.Segments.{span}
-use Rattle.vc_model.specs.Gap.{Run}
+-- A region by its method, and each call of it by cases on the method.
+use Rattle.std.specs.Prelude.{ℕ, List, Bool}
+use Rattle.vc_model.specs.Discipline.{Terms}
+use Rattle.vc_model.specs.Layout.{Block, Layout, empty_layout}
+use Rattle.vc_model.specs.Outcome.{Outcome, Done, Put, outcome_as}
+use Rattle.vc_model.specs.Best.{best_alloc, best_need, without_block_at}
+use Rattle.vc_model.specs.Resize.{best_resize}
+use Rattle.vc_model.specs.Touch.{with_bytes_at}
+use Rattle.vc_model.specs.Compact.{cleared, compact_count, compacted}
 
--- a block, which begins at its offset in a segment; sizes and offsets are in bytes
-pub record Block (L : Type 0) : Type 0 where
-  pub label : L
-  pub seg : ℕ
-  pub off : ℕ
-  pub size : ℕ
-  pub bytes : List ℕ
+-- what a region of each method is
+pub data Region (L : Type 0) : Type 0 where
+  OfBest : (layout : Layout L) → Region L
 
--- segments in order of lending, as number and size, and blocks by address
-pub record Region (L : Type 0) : Type 0 where
-  pub segments : List (ℕ × ℕ)
-  pub blocks : List (Block L)
+-- its segments and its blocks
+abbrev pub layout_in : {L : Type 0} → Region L → Layout L
+layout_in (OfBest layout) = layout
 
--- what a block takes of its segment, from its head of 16 bytes on
-abbrev pub footprint : {L : Type 0} → Block L → Run
-footprint b = record { seg = b.seg; from = b.off - 16; to = b.off - 16 + span b.size }
+abbrev pub segments_of : {L : Type 0} → Region L → List (ℕ × ℕ)
+segments_of r = (layout_in r).segments
 
-abbrev pub footprints : {L : Type 0} → List (Block L) → List Run
-footprints blocks = map footprint blocks
+abbrev pub blocks_of : {L : Type 0} → Region L → List (Block L)
+blocks_of r = (layout_in r).blocks
 
--- whether one block lies before another
-abbrev pub lies_before : {L : Type 0} → Block L → Block L → Bool
-lies_before a b = nat_lt a.seg b.seg || ((a.seg == b.seg) && nat_lt a.off b.off)
+-- a region of the same method with other lists, for calls that change nothing else
+abbrev pub with_layout : {L : Type 0} → Region L → Layout L → Region L
+with_layout (OfBest layout) other = OfBest other
 
--- a block among the others, by address
-abbrev pub with_block : {L : Type 0} → Block L → List (Block L) → List (Block L)
-with_block b [] = b ∷ []
-with_block b (c ∷ cs) = if lies_before b c then b ∷ c ∷ cs else c ∷ with_block b cs
+-- a block is put, at an offset that 32 divides
+abbrev pub region_alloc : {L : Type 0} → Terms → Region L → L → ℕ → Bool → Outcome (Put (Region L))
+region_alloc terms (OfBest layout) label size refused = outcome_as OfBest (best_alloc terms layout label size 32 refused)
 
--- whether a block begins at a place, as segment and offset
-abbrev pub is_at : {L : Type 0} → ℕ × ℕ → Block L → Bool
-is_at at b = (b.seg == at.0) && (b.off == at.1)
+-- a block is put, at an offset that the alignment divides
+abbrev pub region_align : {L : Type 0} → Terms → Region L → L → ℕ → ℕ → Bool → Outcome (Put (Region L))
+region_align terms (OfBest layout) label size align refused =
+    outcome_as OfBest (best_alloc terms layout label size align refused)
 
--- the blocks without the one at a place
-abbrev pub without_block : {L : Type 0} → ℕ × ℕ → List (Block L) → List (Block L)
-without_block at [] = []
-without_block at (b ∷ bs) = if is_at at b then bs else b ∷ without_block at bs
+-- the block at a place gets another size
+abbrev pub region_resize : {L : Type 0} → Terms → Region L → ℕ × ℕ → ℕ → Bool → Bool → Outcome (Put (Region L))
+region_resize terms (OfBest layout) at size may_move refused =
+    outcome_as OfBest (best_resize terms layout at size may_move refused)
+
+-- the bytes of the segment that a call asks for, where it needs one
+abbrev pub region_need : {L : Type 0} → Terms → Region L → ℕ → ℕ → ℕ
+region_need terms (OfBest layout) size align = best_need terms size align
+
+-- the block at a place goes
+abbrev pub region_free : {L : Type 0} → Region L → ℕ × ℕ → Outcome (Region L)
+region_free (OfBest layout) at = Done (OfBest (without_block_at layout at))
+
+-- other bytes stand in the block at a place, from an offset on
+abbrev pub region_write : {L : Type 0} → Region L → ℕ × ℕ → ℕ → List ℕ → Region L
+region_write r at off bytes = with_layout r (with_bytes_at (layout_in r) at off bytes)
+
+-- all blocks go
+abbrev pub region_clear : {L : Type 0} → Region L → Region L
+region_clear (OfBest layout) = OfBest (cleared layout)
+
+-- the segments without a block go
+abbrev pub region_compact : {L : Type 0} → Region L → Region L
+region_compact (OfBest layout) = OfBest (compacted layout)
+
+-- how many segments go by that
+abbrev pub region_compact_count : {L : Type 0} → Region L → ℕ
+region_compact_count r = compact_count (layout_in r)

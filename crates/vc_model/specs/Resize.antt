@@ -1,10 +1,12 @@
--- Resizing of a block in a best region.
+-- Resizing by exact best fit.
 use Rattle.std.specs.Prelude.{ℕ, ◌+◌, ◌-◌, List, ◌++◌, Option, Some, None, Bool, not, length, take, replicate, nat_le, nat_lt, ◌==◌, ◌&&◌, ◌||◌, if◌then◌else◌}
 use Rattle.std.specs.List.{list_all, list_any}
+use Rattle.vc_model.specs.Discipline.{Terms}
 use Rattle.vc_model.specs.Gap.{Run}
-use Rattle.vc_model.specs.Region.{Block, Region, footprint, is_at}
-use Rattle.vc_model.specs.Touch.{change_block, find_block, best_write}
-use Rattle.vc_model.specs.Best.{Allocated, Placed, TooManySegments, NoSegment, best_alloc, best_free}
+use Rattle.vc_model.specs.Layout.{Block, Layout, footprint, is_at}
+use Rattle.vc_model.specs.Outcome.{Outcome, Done, Refused, Put, Fixed}
+use Rattle.vc_model.specs.Touch.{change_block, find_block, with_bytes_at}
+use Rattle.vc_model.specs.Best.{best_alloc, without_block_at}
 
 -- bytes that are cut, or followed by zeros, to a size
 abbrev pub fitted : ℕ → List ℕ → List ℕ
@@ -23,37 +25,39 @@ abbrev pub meets : Run → Run → Bool
 meets f g = (f.seg == g.seg) && (nat_lt f.from g.to && nat_lt g.from f.to)
 
 -- whether a block can have a size where it is: what it would take is usable and meets what no other block takes
-abbrev pub can_stay : {L : Type 0} → Region L → ℕ → Block L → Bool
+abbrev pub can_stay : {L : Type 0} → Layout L → ℕ → Block L → Bool
 can_stay r size b =
     is_usable r.segments (footprint (sized size b))
     && list_all (λ c. is_at (b.seg, b.off) c || not (meets (footprint (sized size b)) (footprint c))) r.blocks
 
--- the region with another size of the block at a place
-abbrev pub resize_there : {L : Type 0} → Region L → ℕ × ℕ → ℕ → Region L
+-- the layout with another size of the block at a place
+abbrev pub resize_there : {L : Type 0} → Layout L → ℕ × ℕ → ℕ → Layout L
 resize_there r at size = record { segments = r.segments; blocks = change_block (sized size) at r.blocks }
 
--- a block moves to where one of that size was placed: the new one gets as many of its bytes as fit, and it goes
-abbrev pub moved : {L : Type 0} → ℕ → Block L → Allocated L → Allocated L
-moved size b (Placed to region) = Placed to (best_free (best_write region to 0 (take size b.bytes)) (b.seg, b.off))
-moved size b TooManySegments = TooManySegments
-moved size b NoSegment = NoSegment
+-- the block stays where it is
+abbrev pub stays : {L : Type 0} → Layout L → ℕ → Block L → Outcome (Put (Layout L))
+stays r size b =
+    Done (record { at = (b.seg, b.off); region = resize_there r (b.seg, b.off) size; granted = None })
 
--- what a resize gives: the block stays, it can't stay and may not move, or it moves
-pub data Resized (L : Type 0) : Type 0 where
-  Stays : (region : Region L) → Resized L
-  Fixed : Resized L
-  Moves : (to : Allocated L) → Resized L
+-- a block moves to where one of that size was put: the new one gets as many of its bytes as fit, and it goes
+abbrev pub moved : {L : Type 0} → ℕ → Block L → Outcome (Put (Layout L)) → Outcome (Put (Layout L))
+moved size b (Done p) =
+    Done (record {
+      at = p.at;
+      region = without_block_at (with_bytes_at p.region p.at 0 (take size b.bytes)) (b.seg, b.off);
+      granted = p.granted;
+    })
+moved size b (Refused why) = Refused why
 
-abbrev pub resize_block : {L : Type 0} → ℕ → Region L → ℕ → Bool → Bool → Block L → Resized L
-resize_block round r size may_move refused b =
-    if can_stay r size b
-    then Stays (resize_there r (b.seg, b.off) size)
-    else (if may_move then Moves (moved size b (best_alloc round r b.label size 32 refused)) else Fixed)
+abbrev pub resize_block : {L : Type 0} → Terms → Layout L → ℕ → Bool → Bool → Block L → Outcome (Put (Layout L))
+resize_block terms r size may_move refused b =
+    if can_stay r size b then stays r size b
+    else (if may_move then moved size b (best_alloc terms r b.label size 32 refused) else Refused Fixed)
 
-abbrev pub resize_found : {L : Type 0} → ℕ → Region L → ℕ → Bool → Bool → Option (Block L) → Resized L
-resize_found round r size may_move refused None = Fixed
-resize_found round r size may_move refused (Some b) = resize_block round r size may_move refused b
+abbrev pub resize_found : {L : Type 0} → Terms → Layout L → ℕ → Bool → Bool → Option (Block L) → Outcome (Put (Layout L))
+resize_found terms r size may_move refused None = Refused Fixed
+resize_found terms r size may_move refused (Some b) = resize_block terms r size may_move refused b
 
 -- the block at a place gets another size; it stays there if it can, and else moves if it may
-abbrev pub best_resize : {L : Type 0} → ℕ → Region L → ℕ × ℕ → ℕ → Bool → Bool → Resized L
-best_resize round r at size may_move refused = resize_found round r size may_move refused (find_block at r.blocks)
+abbrev pub best_resize : {L : Type 0} → Terms → Layout L → ℕ × ℕ → ℕ → Bool → Bool → Outcome (Put (Layout L))
+best_resize terms r at size may_move refused = resize_found terms r size may_move refused (find_block at r.blocks)

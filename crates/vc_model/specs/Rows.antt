@@ -1,44 +1,55 @@
 -- Regions of one segment of 4,096 bytes, for worked rows.
-use Rattle.std.specs.Prelude.{ℕ, List, [], ◌∷◌}
-use Rattle.vc_model.specs.Region.{Block, Region, with_block}
-use Rattle.vc_model.specs.Best.{zeros, best_free}
+use Rattle.std.specs.Prelude.{ℕ, List, [], ◌∷◌, Option, Some, None}
+use Rattle.vc_model.specs.Discipline.{Terms}
+use Rattle.vc_model.specs.Outcome.{Outcome, Done, Put, Refused}
+use Rattle.vc_model.specs.Layout.{Block, Layout, with_block}
+use Rattle.vc_model.specs.Best.{zeros, without_block_at}
 use Rattle.vc_model.specs.Compact.{compacted}
 
-abbrev pub over_one_segment : List (Block ℕ) → Region ℕ
+-- terms of that round
+abbrev pub rounds_to : ℕ → Terms
+rounds_to round = record { round = round }
+
+-- where a block was put, and what was granted for it
+abbrev pub asked_place : Outcome (Put (Layout ℕ)) → Option ((ℕ × ℕ) × Option (ℕ × ℕ))
+asked_place (Done p) = Some (p.at, p.granted)
+asked_place (Refused why) = None
+
+abbrev pub over_one_segment : List (Block ℕ) → Layout ℕ
 over_one_segment blocks = record { segments = (1, 4096) ∷ []; blocks = blocks }
 
 -- of four blocks of 1 byte, side by side, the first is freed, the third, and then the second
-abbrev pub three_freed : Region ℕ
+abbrev pub three_freed : Layout ℕ
 three_freed =
     let four = over_one_segment (zeros 1 1 (1, 32) ∷ zeros 2 1 (1, 64) ∷ zeros 3 1 (1, 96) ∷ zeros 4 1 (1, 128) ∷ []) in
-    best_free (best_free (best_free four (1, 32)) (1, 96)) (1, 64)
+    without_block_at (without_block_at (without_block_at four (1, 32)) (1, 96)) (1, 64)
 
 -- of blocks of 100, 1, 100 and 1 bytes, side by side, the first is freed and then the third
-abbrev pub two_freed : Region ℕ
+abbrev pub two_freed : Layout ℕ
 two_freed =
     let four = over_one_segment (zeros 1 100 (1, 32) ∷ zeros 2 1 (1, 160) ∷ zeros 3 100 (1, 192) ∷ zeros 4 1 (1, 320) ∷ []) in
-    best_free (best_free four (1, 32)) (1, 192)
+    without_block_at (without_block_at four (1, 32)) (1, 192)
 
 -- and a block of 100 bytes is put where the first stood
-abbrev pub one_put : Region ℕ
+abbrev pub one_put : Layout ℕ
 one_put = over_one_segment (with_block (zeros 5 100 (1, 32)) two_freed.blocks)
 
 -- of blocks of 100, 100 and 1 bytes, side by side, the second is freed
-abbrev pub second_freed : Region ℕ
+abbrev pub second_freed : Layout ℕ
 second_freed =
     let three = over_one_segment (zeros 1 100 (1, 32) ∷ zeros 2 100 (1, 160) ∷ zeros 3 1 (1, 288) ∷ []) in
-    best_free three (1, 160)
+    without_block_at three (1, 160)
 
 -- and the first has another size, where it is
-abbrev pub first_resized : ℕ → Region ℕ
+abbrev pub first_resized : ℕ → Layout ℕ
 first_resized size = over_one_segment (zeros 1 size (1, 32) ∷ zeros 3 1 (1, 288) ∷ [])
 
 -- or behind the last block
-abbrev pub first_moved : ℕ → Region ℕ
+abbrev pub first_moved : ℕ → Layout ℕ
 first_moved size = over_one_segment (zeros 3 1 (1, 288) ∷ zeros 1 size (1, 320) ∷ [])
 
 -- nine blocks in three segments of 4,096 bytes, and a segment of 8,192 bytes without one
-abbrev pub nine_blocks : Region ℕ
+abbrev pub nine_blocks : Layout ℕ
 nine_blocks =
     record {
       segments = (1, 4096) ∷ (2, 4096) ∷ (3, 4096) ∷ (4, 8192) ∷ [];
@@ -48,5 +59,5 @@ nine_blocks =
     }
 
 -- these without the last
-abbrev pub eight_blocks : Region ℕ
-eight_blocks = best_free (compacted nine_blocks) (3, 1024)
+abbrev pub eight_blocks : Layout ℕ
+eight_blocks = without_block_at (compacted nine_blocks) (3, 1024)

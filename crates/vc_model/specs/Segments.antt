@@ -32,9 +32,9 @@ pub data Asked : Type 0 where
   TooMany : Asked
   NotLent : Asked
 
--- asking for at least these bytes; whether the discipline refuses is the one free choice
-abbrev pub ask : ℕ → List (ℕ × ℕ) → ℕ → Bool → Asked
-ask round segments bytes refused =
+-- asking for so many bytes, a multiple of the round; whether the discipline refuses is the one free choice
+abbrev pub ask : ℕ → List (ℕ × ℕ) → Bool → Asked
+ask bytes segments refused =
     if nat_lt (length segments) segment_limit
-    then (if refused then NotLent else Granted (lowest_unused (numbers segments)) (round_up bytes round))
+    then (if refused then NotLent else Granted (lowest_unused (numbers segments)) bytes)
     else TooMany

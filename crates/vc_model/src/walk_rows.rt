@@ -1,6 +1,8 @@
-ghost use Rattle.std.specs.Prelude.{◌≡◌, ℕ, [], ◌∷◌, Some, None, option_map};
+ghost use Rattle.std.specs.Prelude.{◌≡◌, ℕ, [], ◌∷◌, Some, None, map, option_map};
+ghost use Rattle.vc_model.specs.Addr.{address};
+ghost use Rattle.vc_model.specs.Best.{zeros};
 ghost use Rattle.vc_model.specs.Compact.{compact_count, compacted};
-ghost use Rattle.vc_model.specs.Walk.{block_at, next_block, next_segment, segment_at};
+ghost use Rattle.vc_model.specs.Walk.{block_at, by_address, next_block, next_segment, segment_at};
 ghost use Rattle.vc_model.specs.Rows.{eight_blocks, nine_blocks};
 
 /// The segment without a block goes; and once the one block of another is freed, that one too.
@@ -40,10 +42,12 @@ pub fn walk_of_segments()
     ensures absent { next_segment 5 ((3, 64) ∷ (1, 96) ∷ (7, 128) ∷ []) ≡ Some (7, 128) }
 {}
 
-/// Blocks are walked by address, from no address on.
+/// Blocks are walked by address, from no address on, whatever their order in the list.
 pub fn walk_of_blocks()
-    ensures first { option_map (λ b. b.label) (next_block (0, 0) nine_blocks.blocks) ≡ Some 1 }
-    ensures second { option_map (λ b. b.label) (next_block (1, 32) nine_blocks.blocks) ≡ Some 2 }
-    ensures across { option_map (λ b. b.label) (next_block (1, 1888) nine_blocks.blocks) ≡ Some 7 }
-    ensures last { next_block (3, 1024) nine_blocks.blocks ≡ None }
+    ensures first { option_map (λ b. b.label) (next_block 0 nine_blocks.blocks) ≡ Some 1 }
+    ensures second { option_map (λ b. b.label) (next_block (address (1, 32)) nine_blocks.blocks) ≡ Some 2 }
+    ensures across { option_map (λ b. b.label) (next_block (address (1, 1888)) nine_blocks.blocks) ≡ Some 7 }
+    ensures last { next_block (address (3, 1024)) nine_blocks.blocks ≡ None }
+    ensures by_address { map {B = ℕ} (λ b. b.label) (by_address
+        (zeros 1 8 (2, 32) ∷ zeros 2 8 (1, 64) ∷ zeros 3 8 (1, 32) ∷ [])) ≡ 3 ∷ 2 ∷ 1 ∷ [] }
 {}

@@ -5,7 +5,7 @@ ghost use Rattle.vc_model.specs.Discipline.{Kept};
 ghost use Rattle.vc_model.specs.Place.{IsAlign};
 ghost use Rattle.vc_model.specs.Region.{without_block};
 ghost use Rattle.vc_model.specs.Segments.{round_up, span};
-ghost use Rattle.vc_base.specs.Addr.{address, place_of};
+ghost use Rattle.vc_model.specs.Addr.{address, place_of};
 ghost use Rattle.vc_best.specs.Alloc.{IsPlaced};
 ghost use Rattle.vc_best.specs.Apart.{AllUsable, AreApart, IsApartFrom, IsUsable, footprint_at};
 ghost use Rattle.vc_region.specs.Parts.{disc_of, layout_of};

@@ -1,7 +1,7 @@
 ghost use Rattle.std.specs.Prelude.{◌≡◌, ◌+◌, ◌≤◌, Some, Contains, IfSome, length, map, take, drop, option_map};
 ghost use Rattle.vc_model.specs.Region.{without_block};
 ghost use Rattle.vc_model.specs.Touch.{best_write, find_block};
-ghost use Rattle.vc_base.specs.Addr.{address, place_of};
+ghost use Rattle.vc_model.specs.Addr.{address, place_of};
 ghost use Rattle.vc_best.specs.Apart.{AllUsable, AreApart};
 ghost use Rattle.vc_region.specs.Parts.{disc_of, layout_of};
 

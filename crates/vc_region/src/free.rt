@@ -3,7 +3,7 @@ ghost use Rattle.std.specs.List.{HoldsAt, remove};
 ghost use Rattle.vc_model.specs.Best.{best_free};
 ghost use Rattle.vc_model.specs.Compact.{cleared, compact_count, compacted};
 ghost use Rattle.vc_model.specs.Discipline.{EndsWith};
-ghost use Rattle.vc_base.specs.Addr.{address, place_of};
+ghost use Rattle.vc_model.specs.Addr.{address, place_of};
 ghost use Rattle.vc_best.specs.Apart.{AllUsable, AreApart};
 ghost use Rattle.vc_region.specs.Parts.{disc_of, layout_of};
 

@@ -1,7 +1,7 @@
 ghost use Rattle.std.specs.Prelude.{◌≡◌, ℕ, ◌⊎◌, Contains, IfSome, map, option_map};
 ghost use Rattle.vc_model.specs.Numbers.{block_bytes, block_count, gap_bytes, gap_count, greatest_block, greatest_gap, segment_bytes, segment_count};
 ghost use Rattle.vc_model.specs.Walk.{block_at, next_block, next_segment, segment_at};
-ghost use Rattle.vc_base.specs.Addr.{address, place_of};
+ghost use Rattle.vc_model.specs.Addr.{address, place_of};
 ghost use Rattle.vc_best.specs.Apart.{AllUsable, AreApart};
 ghost use Rattle.vc_best.specs.Numbered.{HaveOwnNumbers, LieInNumbered};
 ghost use Rattle.vc_region.specs.Parts.{layout_of};

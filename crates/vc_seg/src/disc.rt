@@ -1,6 +1,6 @@
-ghost use Rattle.std.specs.Prelude.{◌≡◌, ℕ, ◌%◌, ◌<◌, ◌≤◌, List, [], ◌∷◌, ◌++◌, Option, length, Contains, IfSome, IfOk, OnOk, OnErr, IsErrOf};
-ghost use Rattle.vc_model.specs.Count.{Rose};
-ghost use Rattle.vc_model.specs.Discipline.{Discipline, IsRound, IsSegmentSize, Kept, without_last};
+ghost use Rattle.std.specs.Prelude.{◌≡◌, ◌%◌, Contains, IfOk, OnOk, IsErrOf};
+ghost use Rattle.vc_model.specs.Discipline.{Discipline, IsRound, IsSegmentSize, Lent, Unserved};
+ghost use Rattle.vc_seg.specs.Lend.{Returned};
 ghost use Rattle.vc_seg.specs.Segment.{zeroed, pair_of};
 
 use crate::{LendFault, Segment};
@@ -8,12 +8,12 @@ use std::alloc::Global;
 
 /// A discipline obtains segments and takes them back, after Vmalloc's disciplines. It is used as `Box<dyn SegDisc>`.
 pub trait SegDisc: Drop {
-    /// What it means: the segments that are out, its faults, its round, and its room where it tells it.
+    /// What it means: the segments that are out, its faults, its terms, and its room where it tells it.
     ghost state: { Self → Discipline };
 
     /// The bytes to a multiple of which segment sizes are rounded up: a constant multiple of 32 from 32 to 65,536.
     fn round(&self) -> u32
-        ensures value { result ≡ (state self.now).round }
+        ensures value { result ≡ (state self.now).terms.round }
         ensures legal { IsRound result };
 
     /// How often a lend was refused. It never falls, and stays at the greatest u64 once there.
@@ -27,27 +27,17 @@ pub trait SegDisc: Drop {
     /// Lends a segment of zeros under that number. The size in bytes is a multiple of the round, from 64 to 33,554,432.
     fn lend(&mut self, alloc: Global, number: u32, size: u32) -> Result<Segment, LendFault>
         requires size { IsSegmentSize size }
-        requires multiple { size % (state self.old).round ≡ 0 }
+        requires multiple { size % (state self.old).terms.round ≡ 0 }
 
         ensures segment { IfOk result (λ segment. segment ≡ zeroed number size) }
-        ensures lent { OnOk result ((state self.new).out ≡ (state self.old).out ++ (number, size) ∷ []) }
-        ensures out { OnErr result ((state self.new).out ≡ (state self.old).out) }
-        ensures room { OnErr result ((state self.new).room ≡ (state self.old).room) }
+        ensures lent { OnOk result (Lent (state self.old) (state self.new) number size) }
 
         // Refused comes only where the faults rose, and where the room is told, exactly where the size is above it.
-        ensures refused { IsErrOf result LendFault.Refused → Rose (state self.old).faults (state self.new).faults }
-        ensures above_room { IfSome (state self.old).room (λ room. IsErrOf result LendFault.Refused → room < size) }
-        ensures within_room { IfSome (state self.old).room (λ room. OnOk result (size ≤ room)) }
-
-        // The faults change in a lend that is refused, and in no other.
-        ensures no_fault { OnOk result ((state self.new).faults ≡ (state self.old).faults) }
-        ensures no_memory { IsErrOf result LendFault.OutOfMemory → (state self.new).faults ≡ (state self.old).faults }
-        ensures kept { Kept (state self.old) (state self.new) };
+        ensures refused { IsErrOf result LendFault.Refused → Unserved (state self.old) (state self.new) size }
+        ensures no_memory { IsErrOf result LendFault.OutOfMemory → state self.new ≡ state self.old };
 
     /// Takes a segment back that is out: the last pair of that number and size. It cannot fail.
     fn take_back(&mut self, seg: Segment)
         requires { Contains (state self.old).out (pair_of seg) }
-        ensures out { (state self.new).out ≡ without_last (pair_of seg) (state self.old).out }
-        ensures round { (state self.new).round ≡ (state self.old).round }
-        ensures faults { (state self.new).faults ≡ (state self.old).faults };
+        ensures { Returned (state self.old) (state self.new) (pair_of seg) };
 }

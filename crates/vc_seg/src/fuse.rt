@@ -1,6 +1,7 @@
 ghost use Rattle.std.specs.Prelude.{◌≡◌, ℕ, ◌%◌, ◌<◌, ◌≤◌, ◌↔◌, List, [], ◌∷◌, ◌++◌, None, length, Contains, IfSome, IfOk, OnOk, OnErr, IsErrOf};
 ghost use Rattle.vc_model.specs.Count.{Rose, next_count};
-ghost use Rattle.vc_model.specs.Discipline.{Discipline, IsRound, IsSegmentSize, Kept, without_last};
+ghost use Rattle.vc_model.specs.Discipline.{Discipline, IsRound, IsSegmentSize, Lent, Unserved};
+ghost use Rattle.vc_seg.specs.Lend.{Returned};
 ghost use Rattle.vc_seg.specs.Segment.{zeroed, pair_of};
 
 use crate::out_list::OutList;
@@ -28,7 +29,7 @@ impl Model for FuseDisc {
     ghost Value = { Fuse };
 
     ghost view = { λ d. record {
-      discipline = record { out = d.lent; faults = d.refusals; round = d.unit; room = None };
+      discipline = record { out = d.lent; faults = d.refusals; terms = record { round = d.unit }; room = None };
       fails = d.fails.items;
       calls = d.calls;
     } };
@@ -41,7 +42,7 @@ impl FuseDisc {
     /// 32 to 65,536.
     pub fn new(round: u32, fails: Vec<u64>) -> FuseDisc
         requires { IsRound round }
-        ensures meaning { result.discipline ≡ record { out = []; faults = 0; round = round; room = None } }
+        ensures meaning { result.discipline ≡ record { out = []; faults = 0; terms = record { round = round }; room = None } }
         ensures fails { result.fails ≡ fails.items }
         ensures calls { result.calls ≡ 0 }
     {
@@ -77,7 +78,7 @@ impl SegDisc for FuseDisc {
 
     fn lend(&mut self, alloc: Global, number: u32, size: u32) -> Result<Segment, LendFault>
         requires size { IsSegmentSize size }
-        requires multiple { size % self.old.discipline.round ≡ 0 }
+        requires multiple { size % self.old.discipline.terms.round ≡ 0 }
 
         ensures refuses { IsErrOf result LendFault.Refused ↔ Contains self.old.fails (next_count self.old.calls) }
         ensures counts { self.new.calls ≡ next_count self.old.calls }
@@ -86,15 +87,9 @@ impl SegDisc for FuseDisc {
 
         // The trait's clauses.
         ensures segment { IfOk result (λ segment. segment ≡ zeroed number size) }
-        ensures lent { OnOk result (self.new.discipline.out ≡ self.old.discipline.out ++ (number, size) ∷ []) }
-        ensures out { OnErr result (self.new.discipline.out ≡ self.old.discipline.out) }
-        ensures room { OnErr result (self.new.discipline.room ≡ self.old.discipline.room) }
-        ensures refused { IsErrOf result LendFault.Refused → Rose self.old.discipline.faults self.new.discipline.faults }
-        ensures above_room { IfSome self.old.discipline.room (λ room. IsErrOf result LendFault.Refused → room < size) }
-        ensures within_room { IfSome self.old.discipline.room (λ room. OnOk result (size ≤ room)) }
-        ensures no_fault { OnOk result (self.new.discipline.faults ≡ self.old.discipline.faults) }
-        ensures no_memory { IsErrOf result LendFault.OutOfMemory → self.new.discipline.faults ≡ self.old.discipline.faults }
-        ensures kept { Kept self.old.discipline self.new.discipline }
+        ensures lent { OnOk result (Lent self.old.discipline self.new.discipline number size) }
+        ensures refused { IsErrOf result LendFault.Refused → Unserved self.old.discipline self.new.discipline size }
+        ensures no_memory { IsErrOf result LendFault.OutOfMemory → self.new.discipline ≡ self.old.discipline }
     {
         self.calls = one_more(self.calls);
         if self.fails.contains(&self.calls) {
@@ -108,9 +103,7 @@ impl SegDisc for FuseDisc {
 
     fn take_back(&mut self, seg: Segment)
         requires { Contains self.old.discipline.out (pair_of seg) }
-        ensures out { self.new.discipline.out ≡ without_last (pair_of seg) self.old.discipline.out }
-        ensures round { self.new.discipline.round ≡ self.old.discipline.round }
-        ensures faults { self.new.discipline.faults ≡ self.old.discipline.faults }
+        ensures returned { Returned self.old.discipline self.new.discipline (pair_of seg) }
         ensures room { self.new.discipline.room ≡ self.old.discipline.room }
         ensures fails { self.new.fails ≡ self.old.fails }
         ensures calls { self.new.calls ≡ self.old.calls }

@@ -5,7 +5,7 @@ use Rattle.std.specs.List.{AllByRecursion}
 use Rattle.std.proofs.lemmas.List.{length-map, drop_all, append-nil}
 use Rattle.std.proofs.lemmas.Bool.Decides.{nat_tests}
 use Rattle.std.proofs.lemmas.Bool.{eq-eqb, eqb-true}
-use Rattle.vc_base.specs.Addr.{address, place_of}
+use Rattle.vc_model.specs.Addr.{address, place_of}
 use Rattle.vc_best.specs.Apart.{AreApart}
 use Rattle.vc_best.specs.Alloc.{IsPlaced}
 use Rattle.vc_model.specs.Discipline.{EndsWith, Kept}

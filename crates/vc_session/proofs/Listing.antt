@@ -4,7 +4,7 @@ use Rattle.std.specs.Prelude.{find, ◌&&◌, ◌||◌}
 use Rattle.std.specs.List.{AllByRecursion}
 use Rattle.std.proofs.lemmas.Bool.Decides.{nat_tests}
 use Rattle.std.proofs.lemmas.List.Elements.{All-head, All-tail}
-use Rattle.vc_base.specs.Addr.{address, place_of}
+use Rattle.vc_model.specs.Addr.{address, place_of}
 use Rattle.vc_best.specs.Apart.{AreApart, EndsBefore}
 use Rattle.vc_best.specs.Numbered.{LieInNumbered}
 use Rattle.vc_best.proofs.Apart.{AllPairs-head, AllPairs-tail, span-least}

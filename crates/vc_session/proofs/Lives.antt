@@ -5,7 +5,7 @@ use Rattle.std.specs.List.{AllByRecursion, list_any}
 use Rattle.std.proofs.lemmas.Bool.{cases_Bool, false≢true}
 use Rattle.std.proofs.lemmas.List.{get_or-map, length-map}
 use Rattle.std.proofs.lemmas.Option.{same_Some}
-use Rattle.vc_base.specs.Addr.{address, place_of}
+use Rattle.vc_model.specs.Addr.{address, place_of}
 use Rattle.vc_best.proofs.Places.{find_block-at}
 use Rattle.vc_model.specs.Region.{Block, Region}
 use Rattle.vc_model.specs.Touch.{find_block}

@@ -1,7 +1,7 @@
 -- Where an allocation puts a block, and what it adds to the lists.
 use Rattle.std.proofs.Common.{◌≡◌, ℕ, Bool, [], ◌∷◌, ◌++◌, Option, Some, None, length, drop, refl, sym, ap, ◌∙◌, subst, ◌+◌, arith}
 use Rattle.std.proofs.lemmas.List.{drop_all, drop_at, append-nil}
-use Rattle.vc_base.specs.Addr.{place_of}
+use Rattle.vc_model.specs.Addr.{place_of}
 use Rattle.vc_best.specs.Alloc.{IsPlaced}
 use Rattle.vc_model.specs.Segments.{Asked, Granted, TooMany, NotLent, ask, span}
 use Rattle.vc_model.specs.Region.{Region, with_block}

@@ -4,7 +4,7 @@ use Rattle.std.specs.Prelude.{IsSome, find}
 use Rattle.std.specs.List.{AllByRecursion}
 use Rattle.std.proofs.lemmas.Bool.{cases_Bool}
 use Rattle.std.proofs.lemmas.Option.{same_Some, none-some}
-use Rattle.vc_base.specs.Addr.{address, place_of}
+use Rattle.vc_model.specs.Addr.{address, place_of}
 use Rattle.vc_best.proofs.Places.{find_block-at}
 use Rattle.vc_model.specs.Region.{Block, Region}
 use Rattle.vc_model.specs.Touch.{find_block}

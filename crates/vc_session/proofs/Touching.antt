@@ -5,7 +5,7 @@ use Rattle.std.specs.List.{AllByRecursion}
 use Rattle.std.specs.Str.{bytes_eq}
 use Rattle.std.proofs.lemmas.Bool.Decides.{nat_tests}
 use Rattle.std.proofs.lemmas.Option.{same_Some}
-use Rattle.vc_base.specs.Addr.{place_of}
+use Rattle.vc_model.specs.Addr.{place_of}
 use Rattle.vc_best.specs.Apart.{AreApart}
 use Rattle.vc_model.specs.Discipline.{Discipline, EndsWith}
 use Rattle.vc_model.specs.Region.{Block, Region, is_at}

@@ -5,7 +5,7 @@ use Rattle.vc_model.specs.Count.{last_count}
 use Rattle.vc_model.specs.Discipline.{Discipline, EndsWith, Kept}
 use Rattle.vc_model.specs.Numbered.{at_number}
 use Rattle.vc_model.specs.Region.{Block, Region}
-use Rattle.vc_base.specs.Addr.{address, place_of}
+use Rattle.vc_model.specs.Addr.{address, place_of}
 use Rattle.vc_best.specs.Apart.{AreApart}
 use Rattle.slab.specs.Slab.{slab_len}
 use Rattle.vc_session.specs.declared.labels.Label.{Label}

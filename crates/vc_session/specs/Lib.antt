@@ -2,7 +2,7 @@ pub use Rattle.vc_model.specs.Count
 pub use Rattle.vc_model.specs.Stream
 pub use Rattle.vc_model.specs.Discipline
 pub use Rattle.vc_base.specs.Name
-pub use Rattle.vc_base.specs.Addr
+pub use Rattle.vc_model.specs.Addr
 pub use Rattle.vc_best.specs.Apart
 pub use Rattle.vc_best.specs.Numbered
 pub mod Labels

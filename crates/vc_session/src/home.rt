@@ -1,6 +1,6 @@
 // A region that is open, with the names of its blocks.
 ghost use Rattle.std.specs.Prelude.{◌≡◌, ℕ, List, Ok, IfOk, OnErr};
-ghost use Rattle.vc_base.specs.Addr.{place_of};
+ghost use Rattle.vc_model.specs.Addr.{place_of};
 ghost use Rattle.vc_model.specs.Count.{Rose};
 ghost use Rattle.vc_model.specs.Discipline.{EndsWith};
 ghost use Rattle.vc_region.specs.Parts.{disc_of, layout_of};

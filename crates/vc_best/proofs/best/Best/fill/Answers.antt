@@ -1,6 +1,6 @@
 use Rattle.std.proofs.Common.{ℕ, replicate, ap, ◌∙◌}
 use Rattle.vc_model.specs.Region.{Region, without_block}
-use Rattle.vc_base.specs.Addr.{place_of}
+use Rattle.vc_model.specs.Addr.{place_of}
 use Rattle.vc_best.proofs.Others.{others-write}
 use Rattle.vc_best.proofs.best.Best.fill.Goals as goal
 

@@ -1,6 +1,6 @@
 use Rattle.std.proofs.Common.{ℕ, List, Some, false, refl, ap, sym, ◌∙◌, subst}
 use Rattle.vc_model.specs.Region.{Region, without_block}
-use Rattle.vc_base.specs.Addr.{place_of}
+use Rattle.vc_model.specs.Addr.{place_of}
 use Rattle.vc_best.specs.Apart.{IsUsable, footprint_at}
 use Rattle.vc_best.proofs.Others.{others-moved, others-sized}
 use Rattle.vc_best.proofs.Resizes.{resize-stays, usable-stays, resize-moves, new-among, new-room, old-among, old-found}

@@ -1,7 +1,7 @@
 use Rattle.std.proofs.Common.{◌≡◌, Some, ap, sym, ◌∙◌}
 use Rattle.std.specs.List.{find}
 use Rattle.vc_model.specs.Resize.{can_stay}
-use Rattle.vc_base.specs.Addr.{place_of}
+use Rattle.vc_model.specs.Addr.{place_of}
 use Rattle.vc_best.specs.Slot.{is_slot_at}
 use Rattle.vc_best.specs.Layout.{region_of, IsSlotIn}
 use Rattle.vc_best.proofs.Blocks.{AreApart-blocks, IsUsable-blocks}

@@ -3,7 +3,7 @@ use Rattle.std.specs.Vec.{with_items}
 use Rattle.std.proofs.lemmas.List.{with_items_is}
 use Rattle.vc_model.specs.Region.{Region}
 use Rattle.vc_model.specs.Touch.{best_write, find_block}
-use Rattle.vc_base.specs.Addr.{place_of}
+use Rattle.vc_model.specs.Addr.{place_of}
 use Rattle.vc_seg.specs.Segment.{pair_of}
 use Rattle.vc_best.specs.Write.{write_segment}
 use Rattle.vc_best.specs.Layout.{bytes_of_number, IsLayout, region_of}

@@ -1,4 +1,4 @@
-use Rattle.vc_base.specs.Addr.{place_of}
+use Rattle.vc_model.specs.Addr.{place_of}
 use Rattle.vc_best.proofs.Frees.{Contains-place, IsLayout-without_slot, region_of-without_slot}
 use Rattle.vc_best.proofs.Blocks.{AreApart-blocks, IsUsable-blocks, no_block_left}
 use Rattle.vc_best.proofs.Places.{freed-remove}

@@ -1,7 +1,7 @@
 use Rattle.std.proofs.Common.{◌≡◌, ℕ, List, All, map, replicate, ap, sym, ◌∙◌, subst, arith}
 use Rattle.std.specs.Vec.{with_items}
 use Rattle.std.proofs.lemmas.List.{with_items_is}
-use Rattle.vc_base.specs.Addr.{place_of}
+use Rattle.vc_model.specs.Addr.{place_of}
 use Rattle.vc_seg.specs.Segment.{pair_of}
 use Rattle.vc_best.specs.Apart.{IsApart, IsUsable, footprint_at}
 use Rattle.vc_best.specs.Layout.{IsLayout, region_of}

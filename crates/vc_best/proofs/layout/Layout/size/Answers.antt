@@ -1,7 +1,7 @@
 use Rattle.std.proofs.Common.{◌≡◌, ℕ, sym, ◌∙◌}
 use Rattle.std.specs.List.{find}
 use Rattle.vc_model.specs.Region.{Block}
-use Rattle.vc_base.specs.Addr.{place_of}
+use Rattle.vc_model.specs.Addr.{place_of}
 use Rattle.vc_best.specs.Slot.{is_slot_at}
 use Rattle.vc_best.proofs.Found.{slot_of, block_of-found}
 use Rattle.vc_best.proofs.layout.Layout.size.Goals as goal

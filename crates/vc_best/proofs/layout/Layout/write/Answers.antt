@@ -1,7 +1,7 @@
 use Rattle.std.proofs.Common.{◌≡◌, ◌+◌, length, refl, ap, sym, ◌∙◌, subst, arith}
 use Rattle.std.specs.Vec.{with_items}
 use Rattle.std.proofs.lemmas.List.{with_items_is}
-use Rattle.vc_base.specs.Addr.{place_of}
+use Rattle.vc_model.specs.Addr.{place_of}
 use Rattle.vc_best.specs.Layout.{IsLayout, region_of}
 use Rattle.vc_best.specs.Write.{write_segment}
 use Rattle.vc_best.proofs.Blocks.{AreApart-blocks, IsUsable-blocks}

@@ -1,5 +1,5 @@
 use Rattle.std.proofs.Common.{◌≡◌, ℕ, Option, List, ◌++◌, [], ◌∷◌, filter, map, length, inr, sym, ap, ◌∙◌, append_assoc, append-nil, arith}
-use Rattle.vc_base.specs.Addr.{address, place_of}
+use Rattle.vc_model.specs.Addr.{address, place_of}
 use Rattle.vc_model.specs.Region.{Block, Region}
 use Rattle.vc_model.specs.Walk.{begins_behind, next_block}
 use Rattle.vc_region.specs.Parts.{layout_of}

@@ -1,6 +1,6 @@
 use Rattle.std.proofs.Common.{◌≡◌, ◌⊎◌, ◌++◌, filter, length, map}
 use Rattle.std.specs.Prelude.{Contains}
-use Rattle.vc_base.specs.Addr.{address, place_of}
+use Rattle.vc_model.specs.Addr.{address, place_of}
 use Rattle.vc_region.specs.Parts.{layout_of}
 use Rattle.vc_session.specs.Account.{name_of, named_block}
 use Rattle.vc_session.specs.Whole.{item_of}

@@ -1,5 +1,5 @@
 use Rattle.std.proofs.Common.{◌+◌, length, refl, arith}
-use Rattle.vc_base.specs.Addr.{place_of}
+use Rattle.vc_model.specs.Addr.{place_of}
 use Rattle.vc_region.specs.Parts.{disc_of, layout_of}
 use Rattle.vc_seg.specs.contracts.boxed.BoxDynSegDiscSegDisc.TheImpl as boxed
 use Rattle.vc_session.specs.Account.{home_of}
