@@ -4,7 +4,7 @@ use Rattle.vc_model.specs.Discipline.{Terms}
 use Rattle.vc_model.specs.Layout.{Block, Layout, empty_layout}
 use Rattle.vc_model.specs.Outcome.{Outcome, Done, Put, outcome_as}
 use Rattle.vc_model.specs.Best.{best_alloc, best_need, without_block_at}
-use Rattle.vc_model.specs.Resize.{best_resize}
+use Rattle.vc_model.specs.Resize.{best_resize, can_stay}
 use Rattle.vc_model.specs.Touch.{with_bytes_at}
 use Rattle.vc_model.specs.Compact.{cleared, compact_count, compacted}
 
@@ -39,6 +39,10 @@ region_align terms (OfBest layout) label size align refused =
 abbrev pub region_resize : {L : Type 0} → Terms → Region L → ℕ × ℕ → ℕ → Bool → Bool → Outcome (Put (Region L))
 region_resize terms (OfBest layout) at size may_move refused =
     outcome_as OfBest (best_resize terms layout at size may_move refused)
+
+-- whether the block stays where it is then
+abbrev pub stays_in : {L : Type 0} → Region L → ℕ → Block L → Bool
+stays_in (OfBest layout) size b = can_stay layout size b
 
 -- the bytes of the segment that a call asks for, where it needs one
 abbrev pub region_need : {L : Type 0} → Terms → Region L → ℕ → ℕ → ℕ

@@ -1,14 +1,12 @@
-ghost use Rattle.std.specs.Prelude.{◌≡◌, ◌≢◌, Contains, map, ◌+◌, ◌≤◌, ◌<◌, ◌⊎◌, ◌++◌, ◌↔◌, drop, length, IfOk, IfErr, IfSome, OnErr, OnOk, IsErrOf, Err, true, false};
-ghost use Rattle.vc_model.specs.Best.{best_alloc, TooManySegments, NoSegment};
-ghost use Rattle.vc_model.specs.Count.{Rose};
-ghost use Rattle.vc_model.specs.Discipline.{Kept};
+ghost use Rattle.std.specs.Prelude.{◌≡◌, ◌≤◌, Some, IfOk, length};
+ghost use Rattle.vc_model.specs.Addr.{place_of};
+ghost use Rattle.vc_model.specs.Best.{zeros};
+ghost use Rattle.vc_model.specs.Layout.{without_block};
 ghost use Rattle.vc_model.specs.Place.{IsAlign};
-ghost use Rattle.vc_model.specs.Region.{without_block};
-ghost use Rattle.vc_model.specs.Segments.{round_up, span};
-ghost use Rattle.vc_model.specs.Addr.{address, place_of};
-ghost use Rattle.vc_best.specs.Alloc.{IsPlaced};
-ghost use Rattle.vc_best.specs.Apart.{AllUsable, AreApart, IsApartFrom, IsUsable, footprint_at};
-ghost use Rattle.vc_region.specs.Parts.{disc_of, layout_of};
+ghost use Rattle.vc_model.specs.Region.{region_align, region_alloc, region_need};
+ghost use Rattle.vc_model.specs.Touch.{HasBlock, find_block};
+ghost use Rattle.vc_seg.specs.Answer.{Answers, Asks};
+ghost use Rattle.vc_region.specs.Parts.{blocks_in, disc_of, region_of, segments_in};
 
 use crate::region::{Region, Uncounted};
 use vc_base::{Addr, Steps};
@@ -23,31 +21,17 @@ impl Region {
         requires named { 1 ≤ length site.now }
         requires short { length site.now ≤ 32 }
 
-        ensures ok { IfOk result (λ a. IsPlaced (best_alloc (⟦<BoxedDisc as SegDisc>⟧.state (disc_of self.old)).round (layout_of self.old) tag size 32 false) a.0 (layout_of self.new)) }
-        ensures err { OnErr result (layout_of self.new ≡ layout_of self.old) }
+        ensures answer { Answers (region_alloc (state (disc_of self.old)).terms (region_of self.old) tag size)
+            result (region_of self.old) (region_of self.new) }
+        ensures disc { Asks result (state (disc_of self.old)) (state (disc_of self.new))
+            (segments_in self.old) (segments_in self.new)
+            (region_need (state (disc_of self.old)).terms (region_of self.old) size 32) }
 
-        // Which error comes, and when.
-        ensures only { IfErr result (λ e. (e ≡ RegionFault.TooManySegments) ⊎ ((e ≡ RegionFault.NoSegment) ⊎ (e ≡ RegionFault.OutOfMemory))) }
-        ensures too_many { (result ≡ Err RegionFault.TooManySegments) ↔ (best_alloc (⟦<BoxedDisc as SegDisc>⟧.state (disc_of self.old)).round (layout_of self.old) tag size 32 false ≡ TooManySegments) }
-        ensures no_segment { IsErrOf result RegionFault.NoSegment → best_alloc (⟦<BoxedDisc as SegDisc>⟧.state (disc_of self.old)).round (layout_of self.old) tag size 32 true ≡ NoSegment }
-        ensures refused { IsErrOf result RegionFault.NoSegment → Rose (⟦<BoxedDisc as SegDisc>⟧.state (disc_of self.old)).faults (⟦<BoxedDisc as SegDisc>⟧.state (disc_of self.new)).faults }
-        ensures above_room { IfSome (⟦<BoxedDisc as SegDisc>⟧.state (disc_of self.old)).room (λ room. IsErrOf result RegionFault.NoSegment → room < round_up (span size + 32) (⟦<BoxedDisc as SegDisc>⟧.state (disc_of self.old)).round) }
-
-        // What becomes of the discipline.
-        ensures out { (⟦<BoxedDisc as SegDisc>⟧.state (disc_of self.new)).out ≡ (⟦<BoxedDisc as SegDisc>⟧.state (disc_of self.old)).out ++ drop (length (layout_of self.old).segments) (layout_of self.new).segments }
-        ensures within_room { IfSome (⟦<BoxedDisc as SegDisc>⟧.state (disc_of self.old)).room (λ room. OnOk result (length (layout_of self.old).segments < length (layout_of self.new).segments → round_up (span size + 32) (⟦<BoxedDisc as SegDisc>⟧.state (disc_of self.old)).round ≤ room)) }
-        ensures untouched { OnOk result ((layout_of self.new).segments ≡ (layout_of self.old).segments → ⟦<BoxedDisc as SegDisc>⟧.state (disc_of self.new) ≡ ⟦<BoxedDisc as SegDisc>⟧.state (disc_of self.old)) }
-        ensures room { OnErr result ((⟦<BoxedDisc as SegDisc>⟧.state (disc_of self.new)).room ≡ (⟦<BoxedDisc as SegDisc>⟧.state (disc_of self.old)).room) }
-        ensures faults { result ≢ Err RegionFault.NoSegment → (⟦<BoxedDisc as SegDisc>⟧.state (disc_of self.new)).faults ≡ (⟦<BoxedDisc as SegDisc>⟧.state (disc_of self.old)).faults }
-        ensures kept { Kept (⟦<BoxedDisc as SegDisc>⟧.state (disc_of self.old)) (⟦<BoxedDisc as SegDisc>⟧.state (disc_of self.new)) }
-
-        // The block lies in a segment, and no two blocks overlap.
-        ensures usable { IfOk result (λ a. IsUsable (layout_of self.new).segments (footprint_at size (place_of a.0))) }
-        ensures apart { IfOk result (λ a. IsApartFrom (layout_of self.old).blocks size (place_of a.0)) }
-        ensures fresh { IfOk result (λ a. Contains (map (λ b. address (b.seg, b.off)) (layout_of self.old).blocks) a.0 → ⊥) }
-        ensures others { IfOk result (λ a. without_block (place_of a.0) (layout_of self.new).blocks ≡ (layout_of self.old).blocks) }
-        ensures all_apart { AreApart (layout_of self.new).blocks }
-        ensures all_usable { AllUsable (layout_of self.new) }
+        // The block has an address of its own, and the others stay.
+        ensures there { IfOk result (λ a. find_block (place_of a.0) (blocks_in self.new)
+            ≡ Some (zeros tag size (place_of a.0))) }
+        ensures fresh { IfOk result (λ a. ¬ HasBlock (blocks_in self.old) a.0) }
+        ensures others { IfOk result (λ a. without_block (place_of a.0) (blocks_in self.new) ≡ blocks_in self.old) }
     {
         let _ = site;
         match self {
@@ -72,31 +56,17 @@ impl Region {
         requires named { 1 ≤ length site.now }
         requires short { length site.now ≤ 32 }
 
-        ensures ok { IfOk result (λ a. IsPlaced (best_alloc (⟦<BoxedDisc as SegDisc>⟧.state (disc_of self.old)).round (layout_of self.old) tag size align false) a.0 (layout_of self.new)) }
-        ensures err { OnErr result (layout_of self.new ≡ layout_of self.old) }
+        ensures answer { Answers (region_align (state (disc_of self.old)).terms (region_of self.old) tag size align)
+            result (region_of self.old) (region_of self.new) }
+        ensures disc { Asks result (state (disc_of self.old)) (state (disc_of self.new))
+            (segments_in self.old) (segments_in self.new)
+            (region_need (state (disc_of self.old)).terms (region_of self.old) size align) }
 
-        // Which error comes, and when.
-        ensures only { IfErr result (λ e. (e ≡ RegionFault.TooManySegments) ⊎ ((e ≡ RegionFault.NoSegment) ⊎ (e ≡ RegionFault.OutOfMemory))) }
-        ensures too_many { (result ≡ Err RegionFault.TooManySegments) ↔ (best_alloc (⟦<BoxedDisc as SegDisc>⟧.state (disc_of self.old)).round (layout_of self.old) tag size align false ≡ TooManySegments) }
-        ensures no_segment { IsErrOf result RegionFault.NoSegment → best_alloc (⟦<BoxedDisc as SegDisc>⟧.state (disc_of self.old)).round (layout_of self.old) tag size align true ≡ NoSegment }
-        ensures refused { IsErrOf result RegionFault.NoSegment → Rose (⟦<BoxedDisc as SegDisc>⟧.state (disc_of self.old)).faults (⟦<BoxedDisc as SegDisc>⟧.state (disc_of self.new)).faults }
-        ensures above_room { IfSome (⟦<BoxedDisc as SegDisc>⟧.state (disc_of self.old)).room (λ room. IsErrOf result RegionFault.NoSegment → room < round_up (span size + align) (⟦<BoxedDisc as SegDisc>⟧.state (disc_of self.old)).round) }
-
-        // What becomes of the discipline.
-        ensures out { (⟦<BoxedDisc as SegDisc>⟧.state (disc_of self.new)).out ≡ (⟦<BoxedDisc as SegDisc>⟧.state (disc_of self.old)).out ++ drop (length (layout_of self.old).segments) (layout_of self.new).segments }
-        ensures within_room { IfSome (⟦<BoxedDisc as SegDisc>⟧.state (disc_of self.old)).room (λ room. OnOk result (length (layout_of self.old).segments < length (layout_of self.new).segments → round_up (span size + align) (⟦<BoxedDisc as SegDisc>⟧.state (disc_of self.old)).round ≤ room)) }
-        ensures untouched { OnOk result ((layout_of self.new).segments ≡ (layout_of self.old).segments → ⟦<BoxedDisc as SegDisc>⟧.state (disc_of self.new) ≡ ⟦<BoxedDisc as SegDisc>⟧.state (disc_of self.old)) }
-        ensures room { OnErr result ((⟦<BoxedDisc as SegDisc>⟧.state (disc_of self.new)).room ≡ (⟦<BoxedDisc as SegDisc>⟧.state (disc_of self.old)).room) }
-        ensures faults { result ≢ Err RegionFault.NoSegment → (⟦<BoxedDisc as SegDisc>⟧.state (disc_of self.new)).faults ≡ (⟦<BoxedDisc as SegDisc>⟧.state (disc_of self.old)).faults }
-        ensures kept { Kept (⟦<BoxedDisc as SegDisc>⟧.state (disc_of self.old)) (⟦<BoxedDisc as SegDisc>⟧.state (disc_of self.new)) }
-
-        // The block lies in a segment, and no two blocks overlap.
-        ensures usable { IfOk result (λ a. IsUsable (layout_of self.new).segments (footprint_at size (place_of a.0))) }
-        ensures apart { IfOk result (λ a. IsApartFrom (layout_of self.old).blocks size (place_of a.0)) }
-        ensures fresh { IfOk result (λ a. Contains (map (λ b. address (b.seg, b.off)) (layout_of self.old).blocks) a.0 → ⊥) }
-        ensures others { IfOk result (λ a. without_block (place_of a.0) (layout_of self.new).blocks ≡ (layout_of self.old).blocks) }
-        ensures all_apart { AreApart (layout_of self.new).blocks }
-        ensures all_usable { AllUsable (layout_of self.new) }
+        // The block has an address of its own, and the others stay.
+        ensures there { IfOk result (λ a. find_block (place_of a.0) (blocks_in self.new)
+            ≡ Some (zeros tag size (place_of a.0))) }
+        ensures fresh { IfOk result (λ a. ¬ HasBlock (blocks_in self.old) a.0) }
+        ensures others { IfOk result (λ a. without_block (place_of a.0) (blocks_in self.new) ≡ blocks_in self.old) }
     {
         let _ = site;
         match self {

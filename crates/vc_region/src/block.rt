@@ -1,9 +1,9 @@
-ghost use Rattle.std.specs.Prelude.{◌≡◌, ◌+◌, ◌≤◌, Some, Contains, IfSome, length, map, take, drop, option_map};
-ghost use Rattle.vc_model.specs.Region.{without_block};
-ghost use Rattle.vc_model.specs.Touch.{best_write, find_block};
-ghost use Rattle.vc_model.specs.Addr.{address, place_of};
-ghost use Rattle.vc_best.specs.Apart.{AllUsable, AreApart};
-ghost use Rattle.vc_region.specs.Parts.{disc_of, layout_of};
+ghost use Rattle.std.specs.Prelude.{◌≡◌, Some, length, take, drop, option_map};
+ghost use Rattle.vc_model.specs.Addr.{place_of};
+ghost use Rattle.vc_model.specs.Layout.{without_block};
+ghost use Rattle.vc_model.specs.Region.{region_write};
+ghost use Rattle.vc_model.specs.Touch.{HasBlock, HasRange, find_block};
+ghost use Rattle.vc_region.specs.Parts.{blocks_in, disc_of, region_of};
 
 use crate::region::Region;
 use vc_base::Addr;
@@ -13,8 +13,8 @@ use vc_seg::{BoxedDisc, SegDisc};
 impl Region {
     /// The size in bytes of the block at that address, from 1 to 16,777,264.
     pub fn size(&self, a: Addr) -> u32
-        requires { Contains (map (λ b. address (b.seg, b.off)) (layout_of self.now).blocks) a.0 }
-        ensures { option_map (λ b. b.size) (find_block (place_of a.0) (layout_of self.now).blocks) ≡ Some result }
+        requires { HasBlock (blocks_in self.now) a.0 }
+        ensures { option_map (λ b. b.size) (find_block (place_of a.0) (blocks_in self.now)) ≡ Some result }
     {
         match self {
             Region::Best(best) => best.size(a),
@@ -23,8 +23,8 @@ impl Region {
 
     /// The tag of the block at that address.
     pub fn tag(&self, a: Addr) -> u32
-        requires { Contains (map (λ b. address (b.seg, b.off)) (layout_of self.now).blocks) a.0 }
-        ensures { option_map (λ b. b.label) (find_block (place_of a.0) (layout_of self.now).blocks) ≡ Some result }
+        requires { HasBlock (blocks_in self.now) a.0 }
+        ensures { option_map (λ b. b.label) (find_block (place_of a.0) (blocks_in self.now)) ≡ Some result }
     {
         match self {
             Region::Best(best) => best.tag(a),
@@ -33,9 +33,10 @@ impl Region {
 
     /// The bytes of a range of the block at that address. The range lies in the block.
     pub fn read(&self, a: Addr, off: u32, len: u32) -> &[u8]
-        requires block { Contains (map (λ b. address (b.seg, b.off)) (layout_of self.now).blocks) a.0 }
-        requires range { IfSome (find_block (place_of a.0) (layout_of self.now).blocks) (λ b. off + len ≤ b.size) }
-        ensures { option_map (λ b. take len (drop off b.bytes)) (find_block (place_of a.0) (layout_of self.now).blocks) ≡ Some result.now }
+        requires block { HasBlock (blocks_in self.now) a.0 }
+        requires range { HasRange (blocks_in self.now) a.0 off len }
+        ensures { option_map (λ b. take len (drop off b.bytes)) (find_block (place_of a.0) (blocks_in self.now))
+            ≡ Some result.now }
     {
         match self {
             Region::Best(best) => best.read(a, off, len),
@@ -44,13 +45,12 @@ impl Region {
 
     /// Puts bytes into the block at that address, from an offset on. They lie in the block.
     pub fn write(&mut self, a: Addr, off: u32, src: &[u8])
-        requires block { Contains (map (λ b. address (b.seg, b.off)) (layout_of self.old).blocks) a.0 }
-        requires range { IfSome (find_block (place_of a.0) (layout_of self.old).blocks) (λ b. off + length src.now ≤ b.size) }
-        ensures layout { layout_of self.new ≡ best_write (layout_of self.old) (place_of a.0) off src.now }
-        ensures others { without_block (place_of a.0) (layout_of self.new).blocks ≡ without_block (place_of a.0) (layout_of self.old).blocks }
-        ensures all_apart { AreApart (layout_of self.new).blocks }
-        ensures all_usable { AllUsable (layout_of self.new) }
-        ensures disc { ⟦<BoxedDisc as SegDisc>⟧.state (disc_of self.new) ≡ ⟦<BoxedDisc as SegDisc>⟧.state (disc_of self.old) }
+        requires block { HasBlock (blocks_in self.old) a.0 }
+        requires range { HasRange (blocks_in self.old) a.0 off (length src.now) }
+        ensures region { region_of self.new ≡ region_write (region_of self.old) (place_of a.0) off src.now }
+        ensures disc { state (disc_of self.new) ≡ state (disc_of self.old) }
+        ensures others { without_block (place_of a.0) (blocks_in self.new)
+            ≡ without_block (place_of a.0) (blocks_in self.old) }
     {
         match self {
             Region::Best(best) => best.write(a, off, src),

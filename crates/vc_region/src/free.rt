@@ -1,11 +1,13 @@
-ghost use Rattle.std.specs.Prelude.{◌≡◌, ℕ, All, Contains, map, ◌+◌, ◌<◌, ◌≤◌, ◌++◌, List, length, Ok};
+ghost use Rattle.std.specs.Prelude.{◌≡◌, ℕ, ◌+◌, ◌<◌, ◌≤◌, OnOk, length};
 ghost use Rattle.std.specs.List.{HoldsAt, remove};
-ghost use Rattle.vc_model.specs.Best.{best_free};
-ghost use Rattle.vc_model.specs.Compact.{cleared, compact_count, compacted};
-ghost use Rattle.vc_model.specs.Discipline.{EndsWith};
-ghost use Rattle.vc_model.specs.Addr.{address, place_of};
-ghost use Rattle.vc_best.specs.Apart.{AllUsable, AreApart};
-ghost use Rattle.vc_region.specs.Parts.{disc_of, layout_of};
+ghost use Rattle.vc_model.specs.Addr.{place_of};
+ghost use Rattle.vc_model.specs.Compact.{cleared};
+ghost use Rattle.vc_model.specs.Discipline.{HasOut, TookBack};
+ghost use Rattle.vc_model.specs.Layout.{address_of};
+ghost use Rattle.vc_model.specs.Region.{region_clear, region_compact, region_compact_count, region_free};
+ghost use Rattle.vc_model.specs.Touch.{HasBlock};
+ghost use Rattle.vc_seg.specs.Answer.{Frees};
+ghost use Rattle.vc_region.specs.Parts.{blocks_in, disc_of, region_of, segments_in};
 
 use crate::region::{Region, Uncounted};
 use vc_base::{Addr, Steps};
@@ -16,7 +18,7 @@ use vc_seg::{BoxedDisc, RegionFault, SegDisc};
 fn clear_best(best: &mut Best)
     requires { 0 ≤ 0 }
     ensures layout { best.new.layout ≡ cleared best.old.layout }
-    ensures disc { ⟦<BoxedDisc as SegDisc>⟧.state best.new.disc ≡ ⟦<BoxedDisc as SegDisc>⟧.state best.old.disc }
+    ensures disc { state best.new.disc ≡ state best.old.disc }
 {
     let mut steps = Steps::<Uncounted>::new(best.alloc);
     best.clear(&mut steps);
@@ -26,15 +28,17 @@ fn clear_best(best: &mut Best)
 impl Region {
     /// Frees the block at that address. In a best region no block is refused.
     pub fn free(&mut self, a: Addr) -> Result<(), RegionFault>
-        requires block { Contains (map (λ b. address (b.seg, b.off)) (layout_of self.old).blocks) a.0 }
-        ensures ok { result ≡ Ok tt }
-        ensures layout { layout_of self.new ≡ best_free (layout_of self.old) (place_of a.0) }
-        ensures one_less { length (layout_of self.new).blocks + 1 ≡ length (layout_of self.old).blocks }
-        ensures freed { (i : ℕ) → i < length (layout_of self.old).blocks → HoldsAt (λ b. address (b.seg, b.off) ≡ a.0) (layout_of self.old).blocks i → (layout_of self.new).blocks ≡ remove (layout_of self.old).blocks i }
-        ensures none_left { Contains (map (λ b. address (b.seg, b.off)) (layout_of self.new).blocks) a.0 → ⊥ }
-        ensures all_apart { AreApart (layout_of self.new).blocks }
-        ensures all_usable { AllUsable (layout_of self.new) }
-        ensures disc { ⟦<BoxedDisc as SegDisc>⟧.state (disc_of self.new) ≡ ⟦<BoxedDisc as SegDisc>⟧.state (disc_of self.old) }
+        requires { HasBlock (blocks_in self.old) a.0 }
+        ensures answer { Frees (region_free (region_of self.old) (place_of a.0)) result
+            (region_of self.old) (region_of self.new) }
+        ensures disc { state (disc_of self.new) ≡ state (disc_of self.old) }
+
+        // It is the one block at that address that goes.
+        ensures one_less { OnOk result (length (blocks_in self.new) + 1 ≡ length (blocks_in self.old)) }
+        ensures freed { OnOk result ((i : ℕ) → i < length (blocks_in self.old)
+            → HoldsAt (λ b. address_of b ≡ a.0) (blocks_in self.old) i
+            → blocks_in self.new ≡ remove (blocks_in self.old) i) }
+        ensures none_left { OnOk result (¬ HasBlock (blocks_in self.new) a.0) }
     {
         match self {
             Region::Best(best) => {
@@ -47,8 +51,8 @@ impl Region {
 
     /// Frees all its blocks, and keeps its segments.
     pub fn clear(&mut self)
-        ensures layout { layout_of self.new ≡ cleared (layout_of self.old) }
-        ensures disc { ⟦<BoxedDisc as SegDisc>⟧.state (disc_of self.new) ≡ ⟦<BoxedDisc as SegDisc>⟧.state (disc_of self.old) }
+        ensures region { region_of self.new ≡ region_clear (region_of self.old) }
+        ensures disc { state (disc_of self.new) ≡ state (disc_of self.old) }
     {
         match self {
             Region::Best(best) => clear_best(best),
@@ -57,16 +61,11 @@ impl Region {
 
     /// Gives back each segment without a block, in ascending order of number, and answers how many those were.
     pub fn compact(&mut self) -> u32
-        requires { EndsWith (⟦<BoxedDisc as SegDisc>⟧.state (disc_of self.old)).out (layout_of self.old).segments }
-        ensures layout { layout_of self.new ≡ compacted (layout_of self.old) }
-        ensures count { result ≡ compact_count (layout_of self.old) }
-        ensures all_apart { AreApart (layout_of self.new).blocks }
-        ensures all_usable { AllUsable (layout_of self.new) }
-
-        // What becomes of the discipline.
-        ensures out { (rest : List (ℕ × ℕ)) → (⟦<BoxedDisc as SegDisc>⟧.state (disc_of self.old)).out ≡ rest ++ (layout_of self.old).segments → (⟦<BoxedDisc as SegDisc>⟧.state (disc_of self.new)).out ≡ rest ++ (layout_of self.new).segments }
-        ensures round { (⟦<BoxedDisc as SegDisc>⟧.state (disc_of self.new)).round ≡ (⟦<BoxedDisc as SegDisc>⟧.state (disc_of self.old)).round }
-        ensures faults { (⟦<BoxedDisc as SegDisc>⟧.state (disc_of self.new)).faults ≡ (⟦<BoxedDisc as SegDisc>⟧.state (disc_of self.old)).faults }
+        requires { HasOut (state (disc_of self.old)) (segments_in self.old) }
+        ensures region { region_of self.new ≡ region_compact (region_of self.old) }
+        ensures count { result ≡ region_compact_count (region_of self.old) }
+        ensures disc { TookBack (state (disc_of self.old)) (state (disc_of self.new))
+            (segments_in self.old) (segments_in self.new) }
     {
         match self {
             Region::Best(best) => {

@@ -1,6 +1,7 @@
-ghost use Rattle.std.specs.Prelude.{◌≡◌, ◌++◌, [], length, IfOk, IfErr};
-ghost use Rattle.vc_model.specs.Discipline.{EndsWith};
-ghost use Rattle.vc_region.specs.Parts.{disc_of, layout_of, method_of};
+ghost use Rattle.std.specs.Prelude.{◌≡◌, ℕ, [], Some, IsSome, IfOk, IfErr, length};
+ghost use Rattle.vc_model.specs.Discipline.{HasOut, TookBack};
+ghost use Rattle.vc_seg.specs.Stat.{method_of, opened};
+ghost use Rattle.vc_region.specs.Parts.{disc_of, region_of, segments_in};
 
 use std::alloc::Global;
 use vc_base::OutOfMemory;
@@ -26,12 +27,9 @@ impl Region {
         method: Method,
         disc: Box<dyn SegDisc>,
     ) -> Result<Region, (OutOfMemory, Box<dyn SegDisc>)>
-        requires { method ≡ Method.VmBest }
-        ensures method { IfOk result (λ r. method_of r ≡ method) }
-        ensures segments { IfOk result (λ r. (layout_of r).segments ≡ []) }
-        ensures blocks { IfOk result (λ r. (layout_of r).blocks ≡ []) }
-        ensures ok { IfOk result (λ r. ⟦<BoxedDisc as SegDisc>⟧.state (disc_of r) ≡ ⟦<BoxedDisc as SegDisc>⟧.state disc) }
-        ensures err { IfErr result (λ e. ⟦<BoxedDisc as SegDisc>⟧.state e.1 ≡ ⟦<BoxedDisc as SegDisc>⟧.state disc) }
+        requires { IsSome (opened {L = ℕ} method) }
+        ensures ok { IfOk result (λ r. (opened method ≡ Some (region_of r)) × (state (disc_of r) ≡ state disc)) }
+        ensures err { IfErr result (λ e. state e.1 ≡ state disc) }
     {
         let _ = method;
         match Best::open(alloc, disc) {
@@ -42,7 +40,7 @@ impl Region {
 
     /// Its method.
     pub fn method(&self) -> Method
-        ensures { result ≡ method_of self.now }
+        ensures { result ≡ method_of (region_of self.now) }
     {
         match self {
             Region::Best(_) => Method::VmBest,
@@ -52,11 +50,9 @@ impl Region {
     /// Gives all its segments back, in ascending order of number, and answers with the discipline and how many there
     /// were.
     pub fn close(self) -> (Box<dyn SegDisc>, u32)
-        requires { EndsWith (⟦<BoxedDisc as SegDisc>⟧.state (disc_of self)).out (layout_of self).segments }
-        ensures out { (⟦<BoxedDisc as SegDisc>⟧.state (disc_of self)).out ≡ (⟦<BoxedDisc as SegDisc>⟧.state result.0).out ++ (layout_of self).segments }
-        ensures count { result.1 ≡ length (layout_of self).segments }
-        ensures round { (⟦<BoxedDisc as SegDisc>⟧.state result.0).round ≡ (⟦<BoxedDisc as SegDisc>⟧.state (disc_of self)).round }
-        ensures faults { (⟦<BoxedDisc as SegDisc>⟧.state result.0).faults ≡ (⟦<BoxedDisc as SegDisc>⟧.state (disc_of self)).faults }
+        requires { HasOut (state (disc_of self)) (segments_in self) }
+        ensures disc { TookBack (state (disc_of self)) (state result.0) (segments_in self) [] }
+        ensures count { result.1 ≡ length (segments_in self) }
     {
         match self {
             Region::Best(best) => best.close(),

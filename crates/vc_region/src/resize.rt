@@ -1,14 +1,10 @@
-ghost use Rattle.std.specs.Prelude.{◌≡◌, ◌≢◌, Contains, map, ◌+◌, ◌≤◌, ◌<◌, ◌⊎◌, ◌++◌, ◌↔◌, drop, length, IfOk, IfErr, IfSome, OnErr, OnOk, IsErrOf, Err, true, false};
-ghost use Rattle.vc_model.specs.Best.{TooManySegments, NoSegment};
-ghost use Rattle.vc_model.specs.Count.{Rose};
-ghost use Rattle.vc_model.specs.Discipline.{Kept};
-ghost use Rattle.vc_model.specs.Region.{without_block};
-ghost use Rattle.vc_model.specs.Resize.{best_resize, Fixed, Moves};
-ghost use Rattle.vc_model.specs.Segments.{round_up, span};
-ghost use Rattle.vc_model.specs.Addr.{address, place_of};
-ghost use Rattle.vc_best.specs.Apart.{AllUsable, AreApart};
-ghost use Rattle.vc_best.specs.Resized.{IsMove, IsResized};
-ghost use Rattle.vc_region.specs.Parts.{disc_of, layout_of};
+ghost use Rattle.std.specs.Prelude.{◌≡◌, ◌≤◌, IfOk, IfSome, IsErrOf, IsTrue, false, option_map};
+ghost use Rattle.vc_model.specs.Addr.{place_of};
+ghost use Rattle.vc_model.specs.Layout.{without_block};
+ghost use Rattle.vc_model.specs.Region.{region_need, region_resize, stays_in};
+ghost use Rattle.vc_model.specs.Touch.{HasBlock, find_block};
+ghost use Rattle.vc_seg.specs.Answer.{Answers, Asks};
+ghost use Rattle.vc_region.specs.Parts.{blocks_in, disc_of, region_of, segments_in};
 
 use crate::region::{Region, Uncounted};
 use vc_base::{Addr, Steps};
@@ -19,34 +15,25 @@ impl Region {
     /// and else moves if it may. The first bytes of both sizes are kept, and the others are zero. `Fixed` comes where it
     /// can't stay and may not move; the other faults are those of `alloc`, and come only where it moves.
     pub fn resize(&mut self, a: Addr, size: u32, may_move: bool) -> Result<Addr, RegionFault>
-        requires block { Contains (map (λ b. address (b.seg, b.off)) (layout_of self.old).blocks) a.0 }
+        requires block { HasBlock (blocks_in self.old) a.0 }
         requires some { 1 ≤ size }
         requires most { size ≤ 16777216 }
 
-        ensures ok { IfOk result (λ to. IsResized (best_resize (⟦<BoxedDisc as SegDisc>⟧.state (disc_of self.old)).round (layout_of self.old) (place_of a.0) size may_move false) a.0 to.0 (layout_of self.new)) }
-        ensures err { OnErr result (layout_of self.new ≡ layout_of self.old) }
+        ensures answer { Answers
+            (region_resize (state (disc_of self.old)).terms (region_of self.old) (place_of a.0) size may_move)
+            result (region_of self.old) (region_of self.new) }
+        ensures disc { Asks result (state (disc_of self.old)) (state (disc_of self.new))
+            (segments_in self.old) (segments_in self.new)
+            (region_need (state (disc_of self.old)).terms (region_of self.old) size 32) }
+        ensures no_memory { IsErrOf result RegionFault.OutOfMemory
+            → IfSome (find_block (place_of a.0) (blocks_in self.old))
+            (λ b. stays_in (region_of self.old) size b ≡ false) × IsTrue may_move }
 
-        // Which error comes, and when.
-        ensures only { IfErr result (λ e. (e ≡ RegionFault.Fixed) ⊎ ((e ≡ RegionFault.TooManySegments) ⊎ ((e ≡ RegionFault.NoSegment) ⊎ (e ≡ RegionFault.OutOfMemory)))) }
-        ensures fixed { (result ≡ Err RegionFault.Fixed) ↔ (best_resize (⟦<BoxedDisc as SegDisc>⟧.state (disc_of self.old)).round (layout_of self.old) (place_of a.0) size may_move false ≡ Fixed) }
-        ensures too_many { (result ≡ Err RegionFault.TooManySegments) ↔ (best_resize (⟦<BoxedDisc as SegDisc>⟧.state (disc_of self.old)).round (layout_of self.old) (place_of a.0) size may_move false ≡ Moves TooManySegments) }
-        ensures no_segment { IsErrOf result RegionFault.NoSegment → best_resize (⟦<BoxedDisc as SegDisc>⟧.state (disc_of self.old)).round (layout_of self.old) (place_of a.0) size may_move true ≡ Moves NoSegment }
-        ensures no_memory { IsErrOf result RegionFault.OutOfMemory → IsMove (best_resize (⟦<BoxedDisc as SegDisc>⟧.state (disc_of self.old)).round (layout_of self.old) (place_of a.0) size may_move false) }
-        ensures refused { IsErrOf result RegionFault.NoSegment → Rose (⟦<BoxedDisc as SegDisc>⟧.state (disc_of self.old)).faults (⟦<BoxedDisc as SegDisc>⟧.state (disc_of self.new)).faults }
-        ensures above_room { IfSome (⟦<BoxedDisc as SegDisc>⟧.state (disc_of self.old)).room (λ room. IsErrOf result RegionFault.NoSegment → room < round_up (span size + 32) (⟦<BoxedDisc as SegDisc>⟧.state (disc_of self.old)).round) }
-
-        // What becomes of the discipline.
-        ensures out { (⟦<BoxedDisc as SegDisc>⟧.state (disc_of self.new)).out ≡ (⟦<BoxedDisc as SegDisc>⟧.state (disc_of self.old)).out ++ drop (length (layout_of self.old).segments) (layout_of self.new).segments }
-        ensures within_room { IfSome (⟦<BoxedDisc as SegDisc>⟧.state (disc_of self.old)).room (λ room. OnOk result (length (layout_of self.old).segments < length (layout_of self.new).segments → round_up (span size + 32) (⟦<BoxedDisc as SegDisc>⟧.state (disc_of self.old)).round ≤ room)) }
-        ensures untouched { OnOk result ((layout_of self.new).segments ≡ (layout_of self.old).segments → ⟦<BoxedDisc as SegDisc>⟧.state (disc_of self.new) ≡ ⟦<BoxedDisc as SegDisc>⟧.state (disc_of self.old)) }
-        ensures room { OnErr result ((⟦<BoxedDisc as SegDisc>⟧.state (disc_of self.new)).room ≡ (⟦<BoxedDisc as SegDisc>⟧.state (disc_of self.old)).room) }
-        ensures faults { result ≢ Err RegionFault.NoSegment → (⟦<BoxedDisc as SegDisc>⟧.state (disc_of self.new)).faults ≡ (⟦<BoxedDisc as SegDisc>⟧.state (disc_of self.old)).faults }
-        ensures kept { Kept (⟦<BoxedDisc as SegDisc>⟧.state (disc_of self.old)) (⟦<BoxedDisc as SegDisc>⟧.state (disc_of self.new)) }
-
-        // The other blocks stay, and no two overlap.
-        ensures others { IfOk result (λ to. without_block (place_of to.0) (layout_of self.new).blocks ≡ without_block (place_of a.0) (layout_of self.old).blocks) }
-        ensures all_apart { AreApart (layout_of self.new).blocks }
-        ensures all_usable { AllUsable (layout_of self.new) }
+        // The block keeps its tag, and the others stay.
+        ensures there { IfOk result (λ to. option_map (λ b. b.label) (find_block (place_of to.0) (blocks_in self.new))
+            ≡ option_map (λ b. b.label) (find_block (place_of a.0) (blocks_in self.old))) }
+        ensures others { IfOk result (λ to. without_block (place_of to.0) (blocks_in self.new)
+            ≡ without_block (place_of a.0) (blocks_in self.old)) }
     {
         match self {
             Region::Best(best) => {

@@ -27,6 +27,11 @@ abbrev pub Answers : {R : Type 0} → (Bool → Outcome (Put R)) → Result Addr
 Answers call (Ok a) old new = IsPut (call false) a.0 new
 Answers call (Err why) old new = IsRefusal call why × (new ≡ old)
 
+-- the answer of a call that frees a block, and the region before it and after it
+abbrev pub Frees : {R : Type 0} → Outcome R → Result Unit RegionFault → R → R → Type 0
+Frees outcome (Ok done) old new = outcome ≡ Done new
+Frees outcome (Err why) old new = IsRefusal (λ refused. outcome) why × (new ≡ old)
+
 -- what such a call leaves of the discipline, of the region's segments before it and after it, and of the size that it may have asked for
 abbrev pub Asks : Result Addr RegionFault → Discipline → Discipline → List (ℕ × ℕ) → List (ℕ × ℕ) → ℕ → Type 0
 Asks (Err code.NoSegment) old new segments segments' size = Unserved old new size
