@@ -1,5 +1,5 @@
 -- A region by its method, and each call of it by cases on the method.
-use Rattle.std.specs.Prelude.{ℕ, List, Bool}
+use Rattle.std.specs.Prelude.{ℕ, List, Bool, map}
 use Rattle.vc_model.specs.Discipline.{Terms}
 use Rattle.vc_model.specs.Layout.{Block, Layout, empty_layout}
 use Rattle.vc_model.specs.Outcome.{Outcome, Done, Put, outcome_as}
@@ -67,3 +67,13 @@ region_compact (OfBest layout) = OfBest (compacted layout)
 -- how many segments go by that
 abbrev pub region_compact_count : {L : Type 0} → Region L → ℕ
 region_compact_count r = compact_count (layout_in r)
+
+-- the same with other labels
+abbrev pub relabel_block : {L M : Type 0} → (L → M) → Block L → Block M
+relabel_block name b = record { label = name b.label; seg = b.seg; off = b.off; size = b.size; bytes = b.bytes }
+
+abbrev pub relabel_layout : {L M : Type 0} → (L → M) → Layout L → Layout M
+relabel_layout name r = record { segments = r.segments; blocks = map (relabel_block name) r.blocks }
+
+abbrev pub relabelled : {L M : Type 0} → (L → M) → Region L → Region M
+relabelled name (OfBest layout) = OfBest (relabel_layout name layout)

@@ -1,29 +1,39 @@
--- The commands on the blocks of a region: each gives the first refusal that applies, else the lists after it and the reply.
-use Rattle.std.specs.Prelude.{ℕ, ◌+◌, List, [], ◌∷◌, Option, Some, None, Bool, length, find, take, drop, nat_lt, nat_le, ◌==◌, ◌&&◌, if◌then◌else◌}
+-- The commands on the blocks of a region: each gives the first refusal that applies, else the region after it and the reply.
+use Rattle.std.specs.Prelude.{ℕ, ◌+◌, List, [], ◌∷◌, Option, Some, None, Bool, false, count_by, find, is_some, length, take, drop, nat_lt, nat_le, ◌==◌, ◌&&◌, if◌then◌else◌}
 use Rattle.std.specs.List.{list_any}
 use Rattle.std.specs.Str.{bytes_eq}
-use Rattle.vc_model.specs.Region.{Block}
-use Rattle.vc_model.specs.Touch.{best_write}
-use Rattle.vc_model.specs.Resize.{Resized, Stays, Fixed, Moves, best_resize}
-use Rattle.vc_model.specs.Best.{Allocated, Placed, TooManySegments, NoSegment, best_alloc, best_free}
+use Rattle.vc_model.specs.Layout.{Block}
+use Rattle.vc_model.specs.Outcome as model
+use Rattle.vc_model.specs.Outcome.{Fault, Outcome, Done, Refused, Put}
+use Rattle.vc_model.specs.Region.{Region, blocks_of, region_align, region_alloc, region_free, region_resize, region_write}
 use Rattle.vc_script.specs.declared.reply.Reply.{Reply}
 use Rattle.vc_script.specs.declared.reply.Reply.TheVariants.{At, Freed, Written, Hex, Size}
+use Rattle.vc_script.specs.declared.refusal.Refusal.{Refusal}
 use Rattle.vc_script.specs.declared.refusal.Refusal.TheVariants as why
-use Rattle.vc_session.specs.State.{Changed, Home, told, unchanged}
+use Rattle.vc_session.specs.State.{Changed, Home, Label, changed_to, told, unchanged}
 
-abbrev pub is_block : List ℕ → Block (List ℕ) → Bool
-is_block x b = bytes_eq b.label x
+-- whether a label is that name
+abbrev pub is_name_of : List ℕ → Label → Bool
+is_name_of x None = false
+is_name_of x (Some y) = bytes_eq y x
 
-abbrev pub has_label : List ℕ → List (Block (List ℕ)) → Bool
-has_label x blocks = list_any (is_block x) blocks
+abbrev pub is_block : List ℕ → Block Label → Bool
+is_block x b = is_name_of x b.label
+
+abbrev pub has_label : List ℕ → Region Label → Bool
+has_label x r = list_any (is_block x) (blocks_of r)
+
+-- how many blocks have a name
+abbrev pub label_count : Region Label → ℕ
+label_count r = count_by (λ b. is_some b.label) (blocks_of r)
 
 -- what is done with the block of that name
-abbrev pub with_block : Home → Option (Block (List ℕ)) → (Block (List ℕ) → Changed) → Changed
-with_block h None act = unchanged h why.NoBlock
-with_block h (Some b) act = act b
+abbrev pub with_named : Home → Option (Block Label) → (Block Label → Changed) → Changed
+with_named h None act = unchanged h why.NoBlock
+with_named h (Some b) act = act b
 
-abbrev pub on_block : Home → List ℕ → (Block (List ℕ) → Changed) → Changed
-on_block h x act = with_block h (find (is_block x) h.region.blocks) act
+abbrev pub on_block : Home → List ℕ → (Block Label → Changed) → Changed
+on_block h x act = with_named h (find (is_block x) (blocks_of h.region)) act
 
 -- a script's sizes are from 1 to 16,777,216 bytes
 abbrev pub is_size : ℕ → Bool
@@ -41,51 +51,67 @@ label_limit = 1000000
 abbrev pub at_place : List ℕ → ℕ × ℕ → Reply
 at_place x at = At x (record { seg = at.0; off = at.1 }) None
 
-abbrev pub allocated : Home → List ℕ → Allocated (List ℕ) → Changed
-allocated h x (Placed at region) = record { region = region; reply = at_place x at }
-allocated h x TooManySegments = unchanged h why.TooManySegments
-allocated h x NoSegment = unchanged h why.NoSegment
+-- the refusal of a script for each of a region's
+abbrev pub refusal_of : Fault → Refusal
+refusal_of model.TooManySegments = why.TooManySegments
+refusal_of model.NoSegment = why.NoSegment
+refusal_of model.Fixed = why.CannotGrow
+refusal_of model.PoolSize = why.PoolSize
+refusal_of model.NotLast = why.NotLast
+refusal_of model.WrongMethod = why.WrongMethod
 
--- a block is allocated in a region; whether a segment is refused is the one free choice
-abbrev pub alloc_in : Home → List ℕ → ℕ → ℕ → Bool → Changed
-alloc_in h x size align not_lent =
-    if has_label x h.region.blocks then unchanged h why.BlockExists
-    else (if is_size size && is_align align
-    then (if nat_lt (length h.region.blocks) label_limit
-    then allocated h x (best_alloc h.round h.region x size align not_lent)
-    else unchanged h why.TooManyBlocks)
+-- what a call gives that puts a block or keeps it
+abbrev pub put_in : Home → List ℕ → Outcome (Put (Region Label)) → Changed
+put_in h x (Done p) = record { region = p.region; reply = at_place x p.at; granted = p.granted }
+put_in h x (Refused fault) = unchanged h (refusal_of fault)
+
+-- a new block needs a name that is free, a size and an alignment that a script can have, and a label that is left
+abbrev pub put_new : Home → List ℕ → Bool → Outcome (Put (Region Label)) → Changed
+put_new h x is_legal outcome =
+    if has_label x h.region then unchanged h why.BlockExists
+    else (if is_legal
+    then (if nat_lt (label_count h.region) label_limit then put_in h x outcome else unchanged h why.TooManyBlocks)
     else unchanged h why.Size)
 
-abbrev pub free_block : Home → List ℕ → Block (List ℕ) → Changed
-free_block h x b = record { region = best_free h.region (b.seg, b.off); reply = Freed x None }
+-- a block is allocated; whether a segment is refused is the one free choice
+abbrev pub alloc_in : Home → List ℕ → ℕ → Bool → Changed
+alloc_in h x size not_lent = put_new h x (is_size size) (region_alloc h.terms h.region (Some x) size not_lent)
+
+-- and at an offset that the alignment divides
+abbrev pub align_in : Home → List ℕ → ℕ → ℕ → Bool → Changed
+align_in h x size align not_lent =
+    put_new h x (is_size size && is_align align) (region_align h.terms h.region (Some x) size align not_lent)
+
+abbrev pub freed : Home → List ℕ → Outcome (Region Label) → Changed
+freed h x (Done region) = changed_to region (Freed x None)
+freed h x (Refused fault) = unchanged h (refusal_of fault)
+
+abbrev pub free_block : Home → List ℕ → Block Label → Changed
+free_block h x b = freed h x (region_free h.region (b.seg, b.off))
 
 abbrev pub free_in : Home → List ℕ → Changed
 free_in h x = on_block h x (free_block h x)
 
-abbrev pub resized : Home → List ℕ → Block (List ℕ) → Resized (List ℕ) → Changed
-resized h x b (Stays region) = record { region = region; reply = at_place x (b.seg, b.off) }
-resized h x b Fixed = unchanged h why.CannotGrow
-resized h x b (Moves to) = allocated h x to
-
-abbrev pub resize_block : Home → List ℕ → ℕ → Bool → Bool → Block (List ℕ) → Changed
+abbrev pub resize_block : Home → List ℕ → ℕ → Bool → Bool → Block Label → Changed
 resize_block h x size may_move not_lent b =
-    if is_size size then resized h x b (best_resize h.round h.region (b.seg, b.off) size may_move not_lent) else unchanged h why.Size
+    if is_size size then put_in h x (region_resize h.terms h.region (b.seg, b.off) size may_move not_lent)
+    else unchanged h why.Size
 
 -- a block gets another size, where it is or where it moves to
 abbrev pub resize_in : Home → List ℕ → ℕ → Bool → Bool → Changed
 resize_in h x size may_move not_lent = on_block h x (resize_block h x size may_move not_lent)
 
-abbrev pub write_block : Home → List ℕ → ℕ → List ℕ → Block (List ℕ) → Changed
+abbrev pub write_block : Home → List ℕ → ℕ → List ℕ → Block Label → Changed
 write_block h x off bytes b =
     if nat_le (off + length bytes) b.size
-    then record { region = best_write h.region (b.seg, b.off) off bytes; reply = Written x (length bytes) None }
+    then changed_to (region_write h.region (b.seg, b.off) off bytes) (Written x (length bytes) None)
     else unchanged h why.Range
 
 -- bytes are written into a block, from an offset on
 abbrev pub write_in : Home → List ℕ → ℕ → List ℕ → Changed
 write_in h x off bytes = on_block h x (write_block h x off bytes)
 
-abbrev pub read_block : Home → List ℕ → ℕ → ℕ → Block (List ℕ) → Changed
+abbrev pub read_block : Home → List ℕ → ℕ → ℕ → Block Label → Changed
 read_block h x off len b =
     if (nat_le 1 len && nat_le len 4096) && nat_le (off + len) b.size
     then told h (Hex x (take len (drop off b.bytes)))

@@ -1,16 +1,17 @@
 -- The commands of an input, a run of them, and its text.
-use Rattle.std.specs.Prelude.{ℕ, List, [], ◌∷◌, ◌++◌, Option, Some, None, Result, Ok, Err, ◌==◌, if◌then◌else◌}
+use Rattle.std.specs.Prelude.{ℕ, List, [], ◌∷◌, ◌++◌, Option, Some, None, Result, Ok, Err, map, ◌==◌, if◌then◌else◌}
 use Rattle.vc_script.specs.declared.command.Command.{Command}
 use Rattle.vc_script.specs.declared.line_answer.LineAnswer.{LineAnswer}
 use Rattle.vc_script.specs.declared.line_answer.LineAnswer.TheVariants.{Blank, Is, Bad}
 use Rattle.vc_script.specs.declared.line_fault.LineFault.{LineFault}
 use Rattle.vc_script.specs.declared.reply.Reply.{Reply}
 use Rattle.vc_script.specs.declared.reply.Reply.TheVariants.{Refused}
-use Rattle.vc_script.specs.declared.refusal.Refusal.TheVariants.{NoSegment}
+use Rattle.vc_script.specs.declared.refusal.Refusal.TheVariants.{NoSegment, NoSegmentForTable, NoSegmentForObject}
 use Rattle.vc_script.specs.declared.tool.Tool.TheVariants.{Vmreplay}
 use Rattle.vc_script.specs.Judged.{judged, judged_from}
 use Rattle.vc_script.specs.Answer.{answer}
-use Rattle.vc_script.specs.Needs.{Need, NoNeed}
+use Rattle.vc_script.specs.Needs.{Need, need_at}
+use Rattle.vc_script.specs.Print.{text}
 use Rattle.vc_session.specs.State.{State, Home, Stepped, home_named}
 use Rattle.vc_session.specs.Step.{region_of, step}
 
@@ -58,11 +59,13 @@ ended_after begun (b ∷ bs) = if b == 10 then begun ∷ ended_after [] bs else 
 abbrev pub wholly_read : List ℕ → List (ℕ × Result (List ℕ) LineFault)
 wholly_read bytes = judged_from 1 (ended_after [] bytes)
 
--- a run: its replies, its last state, and the place of the discipline at each refusal of a segment
+-- a run: its replies, each with the number of its line; its last state; the place of the discipline at each refusal of a segment; what was told to kinds; and the segments that were granted, as number and bytes
 pub record Ran : Type 0 where
-  pub replies : List Reply
+  pub replies : List (ℕ × Reply)
   pub state : State
   pub refusals : List ℕ
+  pub told : List (ℕ × List ℕ)
+  pub granted : List (ℕ × ℕ)
 
 abbrev pub place_of : Option Home → List ℕ
 place_of None = []
@@ -75,15 +78,39 @@ place_named s (Some r) = place_of (home_named r s.homes)
 -- the place of the discipline that refused a segment in a step, where one did
 abbrev pub refusal_at : State → Command → Reply → List ℕ
 refusal_at s command (Refused NoSegment) = place_named s (region_of command)
+refusal_at s command (Refused NoSegmentForTable) = place_named s (region_of command)
+refusal_at s command (Refused NoSegmentForObject) = place_named s (region_of command)
 refusal_at s command reply = []
 
--- a step, and then the run of the rest
-abbrev pub ran : State → Command → Stepped → Ran → Ran
-ran s command t rest =
-    record { replies = t.reply ∷ rest.replies; state = rest.state; refusals = refusal_at s command t.reply ++ rest.refusals }
+-- an item, where there is one
+abbrev pub listed : {A : Type 0} → Option A → List A
+listed None = []
+listed (Some x) = x ∷ []
 
--- the steps in order, each with its need; a command without one has none
-abbrev pub run : State → List (ℕ × Command) → List Need → Ran
-run s [] needs = record { replies = []; state = s; refusals = [] }
-run s (c ∷ cs) [] = let t = step s c.1 NoNeed in ran s c.1 t (run t.state cs [])
-run s (c ∷ cs) (need ∷ needs) = let t = step s c.1 need in ran s c.1 t (run t.state cs needs)
+-- a run of no command
+abbrev pub nothing_ran : State → Ran
+nothing_ran s = record { replies = []; state = s; refusals = []; told = []; granted = [] }
+
+-- a step, and then the run of the rest
+abbrev pub ran : State → ℕ × Command → Stepped → Ran → Ran
+ran s c t rest =
+    record {
+      replies = (c.0, t.reply) ∷ rest.replies;
+      state = rest.state;
+      refusals = refusal_at s c.1 t.reply ++ rest.refusals;
+      told = t.told ++ rest.told;
+      granted = listed t.granted ++ rest.granted;
+    }
+
+-- the steps in order, each with its line and with the need of that line
+abbrev pub run : State → List (ℕ × Command) → List (ℕ × Need) → Ran
+run s [] needs = nothing_ran s
+run s (c ∷ cs) needs = let t = step s c.0 c.1 (need_at needs c.0) in ran s c t (run t.state cs needs)
+
+-- the lines of commands
+abbrev pub lines_of : List (ℕ × Command) → List ℕ
+lines_of commands = map (λ c. c.0) commands
+
+-- what a run writes
+abbrev pub text_of : Ran → List ℕ
+text_of r = text (map (λ p. p.1) r.replies)

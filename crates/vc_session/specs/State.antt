@@ -2,33 +2,46 @@
 use Rattle.std.specs.Prelude.{ℕ, ◌-◌, List, [], ◌∷◌, ◌++◌, Option, Some, None, Bool, length, find, slice_set, if◌then◌else◌}
 use Rattle.std.specs.List.{list_any}
 use Rattle.std.specs.Str.{bytes_eq}
+use Rattle.vc_model.specs.Discipline.{Terms}
 use Rattle.vc_model.specs.Numbered.{at_number}
-use Rattle.vc_model.specs.Region.{Region}
+use Rattle.vc_model.specs.Region.{Region, segments_of}
+use Rattle.vc_seg.specs.Stat.{opened}
+use Rattle.vc_seg.specs.declared.method.Method.{Method}
 use Rattle.vc_script.specs.declared.reply.Reply.{Reply}
 use Rattle.vc_script.specs.declared.reply.Reply.TheVariants.{Opened, Closed, Refused}
 use Rattle.vc_script.specs.declared.refusal.Refusal.{Refusal}
 use Rattle.vc_script.specs.declared.refusal.Refusal.TheVariants as why
 
--- a region of the session: its name, the place of its discipline on the shelf, from 1 on, that discipline's round, and its lists
+-- the label of a block in a session: its name, or none
+abbrev pub Label : Type 0
+Label = Option (List ℕ)
+
+-- a region of the session: its name, the place of its discipline on the shelf, from 1 on, that discipline's terms, and what it is by its method
 pub record Home : Type 0 where
   pub name : List ℕ
   pub place : ℕ
-  pub round : ℕ
-  pub region : Region (List ℕ)
+  pub terms : Terms
+  pub region : Region Label
 
--- for each place of the shelf the round of the discipline that is here, None where it is taken; and the regions in order of opening
+-- for each place of the shelf the terms of the discipline that is here, None where it is taken; and the regions in order of opening
 pub record State : Type 0 where
-  pub shelf : List (Option ℕ)
+  pub shelf : List (Option Terms)
   pub homes : List Home
 
--- what a step gives: the state after it, and the reply
+-- what a step gives: the state after it, the reply, what was told to kinds (the kind's number and the object), and the segment that was granted, as number and bytes
 pub record Stepped : Type 0 where
   pub state : State
   pub reply : Reply
+  pub told : List (ℕ × List ℕ)
+  pub granted : Option (ℕ × ℕ)
+
+-- a step that tells no kind and is granted no segment
+abbrev pub stepped : State → Reply → Stepped
+stepped s reply = record { state = s; reply = reply; told = []; granted = None }
 
 -- a refusal changes nothing
 abbrev pub refused : State → Refusal → Stepped
-refused s why = record { state = s; reply = Refused why }
+refused s why = stepped s (Refused why)
 
 abbrev pub is_home : List ℕ → Home → Bool
 is_home r h = bytes_eq h.name r
@@ -36,24 +49,30 @@ is_home r h = bytes_eq h.name r
 abbrev pub home_named : List ℕ → List Home → Option Home
 home_named r homes = find (is_home r) homes
 
--- a region is opened with a discipline of that round
-abbrev pub opened : State → List ℕ → ℕ → ℕ → Stepped
-opened s r n round =
-    record {
-      state = record {
-        shelf = slice_set s.shelf (n - 1) None;
-        homes = s.homes ++ record { name = r; place = n; round = round; region = record { segments = []; blocks = [] } } ∷ [];
-      };
-      reply = Opened r;
-    }
+-- a region is opened with a discipline of those terms
+abbrev pub opened_with : State → List ℕ → ℕ → Region Label → Terms → Stepped
+opened_with s r n region terms =
+    stepped
+    (record {
+      shelf = slice_set s.shelf (n - 1) None;
+      homes = s.homes ++ record { name = r; place = n; terms = terms; region = region } ∷ [];
+    })
+    (Opened r)
 
-abbrev pub opened_over : State → List ℕ → ℕ → Option (Option ℕ) → Stepped
-opened_over s r n None = refused s why.NoSuchDiscipline
-opened_over s r n (Some None) = refused s why.DisciplineInUse
-opened_over s r n (Some (Some round)) = opened s r n round
+abbrev pub opened_over : State → List ℕ → ℕ → Region Label → Option (Option Terms) → Stepped
+opened_over s r n region None = refused s why.NoSuchDiscipline
+opened_over s r n region (Some None) = refused s why.DisciplineInUse
+opened_over s r n region (Some (Some terms)) = opened_with s r n region terms
 
-abbrev pub open_step : State → List ℕ → ℕ → Stepped
-open_step s r n = if list_any (is_home r) s.homes then refused s why.RegionExists else opened_over s r n (at_number s.shelf n)
+-- a region of a method that is not built is not opened
+abbrev pub opened_as : State → List ℕ → ℕ → Option (Region Label) → Stepped
+opened_as s r n None = refused s why.NotYet
+opened_as s r n (Some region) =
+    if list_any (is_home r) s.homes then refused s why.RegionExists
+    else opened_over s r n region (at_number s.shelf n)
+
+abbrev pub open_step : State → List ℕ → Method → ℕ → Stepped
+open_step s r method n = opened_as s r n (opened method)
 
 -- the regions without the one of that name
 abbrev pub without_home : List ℕ → List Home → List Home
@@ -64,31 +83,41 @@ without_home r (h ∷ hs) = if is_home r h then hs else h ∷ without_home r hs
 abbrev pub close_home : State → List ℕ → Option Home → Stepped
 close_home s r None = refused s why.NoRegion
 close_home s r (Some h) =
-    record {
-      state = record { shelf = slice_set s.shelf (h.place - 1) (Some h.round); homes = without_home r s.homes };
-      reply = Closed r (length h.region.segments);
-    }
+    stepped
+    (record { shelf = slice_set s.shelf (h.place - 1) (Some h.terms); homes = without_home r s.homes })
+    (Closed r (length (segments_of h.region)))
 
 abbrev pub close_step : State → List ℕ → Stepped
 close_step s r = close_home s r (home_named r s.homes)
 
--- what a command on one region gives: its lists after it, and the reply
+-- what a command on one region gives: the region after it, the reply, and the segment that was granted
 pub record Changed : Type 0 where
-  pub region : Region (List ℕ)
+  pub region : Region Label
   pub reply : Reply
+  pub granted : Option (ℕ × ℕ)
+
+-- a command that is granted no segment
+abbrev pub changed_to : Region Label → Reply → Changed
+changed_to region reply = record { region = region; reply = reply; granted = None }
 
 abbrev pub unchanged : Home → Refusal → Changed
-unchanged h why = record { region = h.region; reply = Refused why }
+unchanged h why = changed_to h.region (Refused why)
 
 -- a command that changes nothing tells something
 abbrev pub told : Home → Reply → Changed
-told h reply = record { region = h.region; reply = reply }
+told h reply = changed_to h.region reply
 
--- the regions, with other lists in the one of that name
-abbrev pub with_region : List ℕ → Region (List ℕ) → List Home → List Home
+-- the regions, with another one of that name
+abbrev pub with_region : List ℕ → Region Label → List Home → List Home
 with_region r region [] = []
 with_region r region (h ∷ hs) = if is_home r h then (record h { region = region }) ∷ hs else h ∷ with_region r region hs
 
 -- the state with the change of the region of that name
 abbrev pub changed : State → List ℕ → Changed → Stepped
-changed s r c = record { state = record { shelf = s.shelf; homes = with_region r c.region s.homes }; reply = c.reply }
+changed s r c =
+    record {
+      state = record { shelf = s.shelf; homes = with_region r c.region s.homes };
+      reply = c.reply;
+      told = [];
+      granted = c.granted;
+    }

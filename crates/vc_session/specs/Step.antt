@@ -2,16 +2,17 @@
 use Rattle.std.specs.Prelude.{ℕ, List, Option, Some, None, Bool, true, false}
 use Rattle.vc_script.specs.declared.command.Command.{Command}
 use Rattle.vc_script.specs.declared.command.Command.TheVariants.{OpenRegion, CloseRegion, ClearRegion, Compact, Alloc, Align, Resize, Free, WriteBlock, ReadBlock, SizeOf, AddrOf, SegmentOf, StatOf, Segments, Blocks}
-use Rattle.vc_seg.specs.declared.method.Method.TheVariants.{VmBest}
 use Rattle.vc_script.specs.declared.refusal.Refusal.TheVariants as why
-use Rattle.vc_script.specs.Needs.{Need, NoNeed, ForBlock}
+use Rattle.vc_script.specs.Needs.{Need, NoNeed, ForBlock, ForTable, ForObject}
 use Rattle.vc_session.specs.State.{Changed, Home, State, Stepped, changed, close_step, home_named, open_step, refused, unchanged}
-use Rattle.vc_session.specs.Blocks.{alloc_in, free_in, read_in, resize_in, size_in, write_in}
-use Rattle.vc_session.specs.Whole.{addr_in, blocks_in, clear_in, compact_in, segment_in, segments_in, stat_in}
+use Rattle.vc_session.specs.Blocks.{align_in, alloc_in, free_in, read_in, resize_in, size_in, write_in}
+use Rattle.vc_session.specs.Whole.{addr_in, clear_in, compact_in, list_blocks, list_segments, segment_in, stat_in}
 
 abbrev pub is_for_block : Need → Bool
 is_for_block NoNeed = false
 is_for_block ForBlock = true
+is_for_block ForTable = false
+is_for_block ForObject = false
 
 -- the region that a command works in
 abbrev pub region_of : Command → Option (List ℕ)
@@ -35,8 +36,8 @@ region_of command = None
 abbrev pub in_region : Home → Command → Need → Changed
 in_region h (ClearRegion r) need = clear_in h r
 in_region h (Compact r) need = compact_in h r
-in_region h (Alloc r x size site) need = alloc_in h x size 32 (is_for_block need)
-in_region h (Align r x size align) need = alloc_in h x size align (is_for_block need)
+in_region h (Alloc r x size site) need = alloc_in h x size (is_for_block need)
+in_region h (Align r x size align) need = align_in h x size align (is_for_block need)
 in_region h (Resize r x size may_move) need = resize_in h x size may_move (is_for_block need)
 in_region h (Free r x) need = free_in h x
 in_region h (WriteBlock r x off bytes) need = write_in h x off bytes
@@ -45,8 +46,8 @@ in_region h (SizeOf r x) need = size_in h x
 in_region h (AddrOf r at) need = addr_in h at
 in_region h (SegmentOf r at) need = segment_in h at
 in_region h (StatOf r) need = stat_in h
-in_region h (Segments r) need = segments_in h
-in_region h (Blocks r) need = blocks_in h
+in_region h (Segments r) need = list_segments h
+in_region h (Blocks r) need = list_blocks h
 in_region h command need = unchanged h why.NotYet
 
 abbrev pub region_step : State → List ℕ → Command → Need → Option Home → Stepped
@@ -55,7 +56,7 @@ region_step s r command need (Some h) = changed s r (in_region h command need)
 
 -- a command that opens or closes a region, or one that is not built
 abbrev pub shelf_step : State → Command → Stepped
-shelf_step s (OpenRegion r VmBest n) = open_step s r n
+shelf_step s (OpenRegion r method n) = open_step s r method n
 shelf_step s (CloseRegion r) = close_step s r
 shelf_step s command = refused s why.NotYet
 
@@ -63,6 +64,6 @@ abbrev pub step_of : State → Command → Need → Option (List ℕ) → Steppe
 step_of s command need None = shelf_step s command
 step_of s command need (Some r) = region_step s r command need (home_named r s.homes)
 
--- one step: the first refusal that applies, else the state changed; the need is the one free choice
-abbrev pub step : State → Command → Need → Stepped
-step s command need = step_of s command need (region_of command)
+-- one step, of the command at a line: the first refusal that applies, else the state changed; the need is the one free choice
+abbrev pub step : State → ℕ → Command → Need → Stepped
+step s line command need = step_of s command need (region_of command)
