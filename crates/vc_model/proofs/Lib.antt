@@ -1,0 +1,4 @@
+pub mod Pairs
+pub mod Walking
+pub mod Sorting
+pub mod Relabel
