@@ -1,4 +1,5 @@
 pub mod Pairs
 pub mod Walking
 pub mod Sorting
+pub mod Places
 pub mod Relabel
