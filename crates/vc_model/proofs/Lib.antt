@@ -3,3 +3,4 @@ pub mod Walking
 pub mod Sorting
 pub mod Places
 pub mod Relabel
+pub mod Clearing
