@@ -1,7 +1,7 @@
 ghost use Rattle.std.specs.Prelude.{◌≡◌, ℕ, ◌+◌, ◌<◌, ◌≤◌, length, take, drop, slice_set, slice_index_or};
 ghost use Rattle.std.specs.List.{HoldsAt};
 ghost use Rattle.vc_seg.specs.Segment.{Bytes};
-ghost use Rattle.vc_best.specs.Layout.{bytes_of_number};
+ghost use Rattle.vc_best.specs.Parts.{bytes_of_number};
 ghost use Rattle.vc_best.specs.Write.{copied, write_segment};
 
 use crate::give_back::find_number;

@@ -1,5 +1,5 @@
 ghost use Rattle.std.specs.Prelude.{◌≡◌, ℕ, ◌+◌, ◌<◌, ◌≤◌, length, take, drop, replicate};
-ghost use Rattle.vc_best.specs.Layout.{bytes_of_number};
+ghost use Rattle.vc_best.specs.Parts.{bytes_of_number};
 ghost use Rattle.vc_best.specs.Write.{write_segment};
 
 use crate::give_back::find_number;
