@@ -1,4 +1,4 @@
--- The gaps that runs by address leave, of which no two overlap. They are the gaps of the region, in which the runs are sorted first.
+-- The gaps that runs by address leave. They are those of the region, where the runs are sorted first.
 use Rattle.std.specs.Prelude.{ℕ, ◌-◌, List, Option, filter, ◌==◌}
 use Rattle.std.specs.List.{flat_map}
 use Rattle.vc_model.specs.Gap.{Run, gaps_between}

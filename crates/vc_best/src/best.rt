@@ -60,8 +60,8 @@ impl Best {
         requires most { size ≤ 16777264 }
         requires align { IsAlign align }
 
-        ensures answer { Answers (best_alloc (state self.old.disc).terms self.old.layout tag size align) result
-            self.old.layout self.new.layout }
+        ensures answer { Answers (best_alloc (state self.old.disc).terms self.old.layout tag size align)
+            result self.old.layout self.new.layout }
         ensures disc { Asks result (state self.old.disc) (state self.new.disc)
             self.old.layout.segments self.new.layout.segments
             (best_need (state self.old.disc).terms size align) }
@@ -122,7 +122,8 @@ impl Best {
     /// does.
     pub fn block_at(&self, seg: u32, off: u32) -> Option<(Addr, u32)>
         ensures value { option_map {U = ℕ × ℕ} (λ f. (f.0.0, f.1)) result
-            ≡ option_map {U = ℕ × ℕ} (λ f. (address_of f.0, f.1)) (block_at (seg, off) self.now.layout.blocks) }
+            ≡ option_map {U = ℕ × ℕ} (λ f. (address_of f.0, f.1))
+            (block_at (seg, off) self.now.layout.blocks) }
         ensures live { IfSome result (λ f. HasBlock self.now.layout.blocks f.0.0) }
     {
         self.layout.block_at(seg, off)

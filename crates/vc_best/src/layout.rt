@@ -91,7 +91,8 @@ impl Layout {
         requires most { size ≤ 16777264 }
         requires align { IsAlign align }
         requires place { place_in self.old size align ≡ Some (seg, off) }
-        ensures ok { IfOk result (λ a. IsPut (put_at self.old tag size None (seg, off)) a.0 self.new) }
+        ensures ok { IfOk result
+            (λ a. IsPut (put_at self.old tag size None (seg, off)) a.0 self.new) }
         ensures err { OnErr result (self.new ≡ self.old) }
         ensures only { IfErr result (λ e. e ≡ RegionFault.OutOfMemory) }
         ensures fresh { IfOk result (λ a. ¬ HasBlock self.old.blocks a.0) }
@@ -123,9 +124,10 @@ impl Layout {
         requires align { IsAlign align }
         requires none { place_in self.old size align ≡ None }
 
-        ensures answer { Answers (best_alloc (state disc.old).terms self.old tag size align) result self.old self.new }
-        ensures disc { Asks result (state disc.old) (state disc.new) self.old.segments self.new.segments
-            (best_need (state disc.old).terms size align) }
+        ensures answer { Answers (best_alloc (state disc.old).terms self.old tag size align)
+            result self.old self.new }
+        ensures disc { Asks result (state disc.old) (state disc.new)
+            self.old.segments self.new.segments (best_need (state disc.old).terms size align) }
         ensures fresh { IfOk result (λ a. ¬ HasBlock self.old.blocks a.0) }
         ensures sound { IsSound self.new }
     {
@@ -154,7 +156,8 @@ impl Layout {
         ensures value { self.new ≡ without_block_at self.old (place_of a.0) }
         ensures one_less { length self.new.blocks + 1 ≡ length self.old.blocks }
         ensures freed { (i : ℕ) → i < length self.old.blocks
-            → HoldsAt (λ b. address_of b ≡ a.0) self.old.blocks i → self.new.blocks ≡ remove self.old.blocks i }
+            → HoldsAt (λ b. address_of b ≡ a.0) self.old.blocks i
+            → self.new.blocks ≡ remove self.old.blocks i }
         ensures none_left { ¬ HasBlock self.new.blocks a.0 }
         ensures sound { IsSound self.new }
     {
@@ -164,7 +167,8 @@ impl Layout {
     /// The block whose bytes hold the byte at an offset of a segment, and the offset in it.
     pub(crate) fn block_at(&self, seg: u32, off: u32) -> Option<(Addr, u32)>
         ensures value { option_map {U = ℕ × ℕ} (λ f. (f.0.0, f.1)) result
-            ≡ option_map {U = ℕ × ℕ} (λ f. (address_of f.0, f.1)) (block_at (seg, off) self.now.blocks) }
+            ≡ option_map {U = ℕ × ℕ} (λ f. (address_of f.0, f.1))
+            (block_at (seg, off) self.now.blocks) }
         ensures live { IfSome result (λ f. HasBlock self.now.blocks f.0.0) }
     {
         let slot = slot_at(&self.blocks, seg, off)?;
@@ -187,7 +191,8 @@ impl Layout {
 
     /// The first block behind an address.
     pub(crate) fn next_block(&self, after: Addr) -> Option<Addr>
-        ensures value { option_map (λ a. a.0) result ≡ option_map address_of (next_block after.0 self.now.blocks) }
+        ensures value { option_map (λ a. a.0) result
+            ≡ option_map address_of (next_block after.0 self.now.blocks) }
         ensures live { IfSome result (λ a. HasBlock self.now.blocks a.0) }
     {
         let slot = next_slot(&self.blocks, after.seg(), after.off())?;
@@ -226,7 +231,8 @@ impl Layout {
         requires { HasOut (state disc.old) self.old.segments }
         ensures value { self.new ≡ compacted self.old }
         ensures count { result ≡ compact_count self.old }
-        ensures disc { TookBack (state disc.old) (state disc.new) self.old.segments self.new.segments }
+        ensures disc { TookBack (state disc.old) (state disc.new)
+            self.old.segments self.new.segments }
         ensures sound { IsSound self.new }
     {
         let before = self.segs.len();

@@ -27,7 +27,8 @@ pub(crate) fn lend_segment(
     ensures segment { IfOk result (λ segment. segment ≡ zeroed number bytes) }
     ensures lent { OnOk result (Lent (state disc.old) (state disc.new) number bytes) }
     ensures only { IfErr result (λ e. (e ≡ RegionFault.NoSegment) ⊎ (e ≡ RegionFault.OutOfMemory)) }
-    ensures refused { IsErrOf result RegionFault.NoSegment → Unserved (state disc.old) (state disc.new) bytes }
+    ensures refused { IsErrOf result RegionFault.NoSegment
+        → Unserved (state disc.old) (state disc.new) bytes }
     ensures no_memory { IsErrOf result RegionFault.OutOfMemory → state disc.new ≡ state disc.old }
 {
     match disc.lend(alloc, number, bytes) {

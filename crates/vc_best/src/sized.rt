@@ -1,10 +1,10 @@
-ghost use Rattle.std.specs.Prelude.{◌≡◌, ◌≤◌, Some, Contains, IfSome, map, option_map, position, true};
+ghost use Rattle.std.specs.Prelude.{◌≡◌, ◌≤◌, Some, IfSome, option_map, position, true};
 ghost use Rattle.std.specs.List.{find};
 ghost use Rattle.vc_model.specs.Addr.{place_of};
 ghost use Rattle.vc_model.specs.Resize.{can_stay, resize_there};
 ghost use Rattle.vc_model.specs.Sound.{IsSound};
 ghost use Rattle.vc_model.specs.Touch.{HasBlock, find_block};
-ghost use Rattle.vc_best.specs.Slot.{is_slot_at, place_of_slot};
+ghost use Rattle.vc_best.specs.Slot.{HasSlotAt, is_slot_at};
 ghost use Rattle.vc_best.specs.Stay.{resize_slot};
 
 use crate::layout::Layout;
@@ -25,8 +25,9 @@ fn position_of(slots: &[Slot], seg: u32, off: u32) -> Option<usize>
 
 /// Gives the slot at a place another size, and answers the one that it had. There is one.
 fn set_size(slots: &mut Vec<Slot>, seg: u32, off: u32, size: u32) -> u32
-    requires { Contains (map place_of_slot slots.old.items) (seg, off) }
-    ensures before { option_map (λ s. s.size) (find (is_slot_at (seg, off)) slots.old.items) ≡ Some result }
+    requires { HasSlotAt slots.old.items (seg, off) }
+    ensures before { option_map (λ s. s.size) (find (is_slot_at (seg, off)) slots.old.items)
+        ≡ Some result }
     ensures slots { slots.new.items ≡ resize_slot (seg, off) size slots.old.items }
 {
     match position_of(slots, seg, off) {
@@ -45,7 +46,8 @@ impl Layout {
         requires block { HasBlock self.now.blocks a.0 }
         requires some { 1 ≤ size }
         requires most { size ≤ 16777264 }
-        ensures { option_map (can_stay self.now size) (find_block (place_of a.0) self.now.blocks) ≡ Some result }
+        ensures { option_map (can_stay self.now size) (find_block (place_of a.0) self.now.blocks)
+            ≡ Some result }
     {
         match find_slot(&self.blocks, a.seg(), a.off()) {
             Some(slot) => fits_in(&self.segs, &self.blocks, Slot { size, ..slot }),

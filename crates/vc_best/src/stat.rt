@@ -40,7 +40,8 @@ fn tally_gaps_in(tally: Tally, seg: u32, bytes: u32, slots: &[Slot]) -> Tally
     requires bytes { IsSegmentSize bytes }
     requires slots { All IsSlot slots.now }
     requires room { HasRoom tally (map bytes_of (gaps_left_in (runs_of slots.now) (seg, bytes))) }
-    ensures { result ≡ tallied_all tally (map bytes_of (gaps_left_in (runs_of slots.now) (seg, bytes))) }
+    ensures { result
+        ≡ tallied_all tally (map bytes_of (gaps_left_in (runs_of slots.now) (seg, bytes))) }
 {
     let mut tally = tally;
     let mut from = 16;
@@ -57,8 +58,10 @@ fn tally_gaps_in(tally: Tally, seg: u32, bytes: u32, slots: &[Slot]) -> Tally
 /// The gaps that these slots leave in these segments.
 pub(crate) fn tally_gaps(segs: &[Segment], slots: &[Slot]) -> Tally
     requires slots { All IsSlot slots.now }
-    requires room { HasRoom (tally_of []) (map bytes_of (gaps_left (map pair_of segs.now) (runs_of slots.now))) }
-    ensures { result ≡ tally_of (map bytes_of (gaps_left (map pair_of segs.now) (runs_of slots.now))) }
+    requires room { HasRoom (tally_of [])
+        (map bytes_of (gaps_left (map pair_of segs.now) (runs_of slots.now))) }
+    ensures { result
+        ≡ tally_of (map bytes_of (gaps_left (map pair_of segs.now) (runs_of slots.now))) }
 {
     let mut tally = Tally::new();
     for segment in segs {

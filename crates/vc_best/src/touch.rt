@@ -24,7 +24,8 @@ impl Layout {
     /// The block at that address: its size in bytes.
     pub(crate) fn size(&self, a: Addr) -> u32
         requires { HasBlock self.now.blocks a.0 }
-        ensures { option_map (λ b. b.size) (find_block (place_of a.0) self.now.blocks) ≡ Some result }
+        ensures { option_map (λ b. b.size) (find_block (place_of a.0) self.now.blocks)
+            ≡ Some result }
     {
         match find_slot(&self.blocks, a.seg(), a.off()) {
             Some(slot) => slot.size,
@@ -35,7 +36,8 @@ impl Layout {
     /// The block at that address: its tag.
     pub(crate) fn tag(&self, a: Addr) -> u32
         requires { HasBlock self.now.blocks a.0 }
-        ensures { option_map (λ b. b.label) (find_block (place_of a.0) self.now.blocks) ≡ Some result }
+        ensures { option_map (λ b. b.label) (find_block (place_of a.0) self.now.blocks)
+            ≡ Some result }
     {
         match find_slot(&self.blocks, a.seg(), a.off()) {
             Some(slot) => slot.tag,
@@ -47,8 +49,8 @@ impl Layout {
     pub(crate) fn read(&self, a: Addr, off: u32, len: u32) -> &[u8]
         requires block { HasBlock self.now.blocks a.0 }
         requires range { HasRange self.now.blocks a.0 off len }
-        ensures { option_map (λ b. take len (drop off b.bytes)) (find_block (place_of a.0) self.now.blocks)
-            ≡ Some result.now }
+        ensures { option_map (λ b. take len (drop off b.bytes))
+            (find_block (place_of a.0) self.now.blocks) ≡ Some result.now }
     {
         bytes_in(&self.segs, a.seg(), a.off() + off, len)
     }
