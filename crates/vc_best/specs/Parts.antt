@@ -1,23 +1,31 @@
--- A layout as a region: its segments, and its slots as blocks.
-use Rattle.std.specs.Prelude.{◌≢◌, ℕ, ◌+◌, ◌≤◌, List, [], ◌∷◌, All, AllPairs, length, map, take, drop, ◌==◌, if◌then◌else◌}
+-- A layout from its parts: its segments, and its slots as blocks.
+use Rattle.std.specs.Prelude.{◌≢◌, ℕ, ◌+◌, ◌<◌, ◌≤◌, List, [], ◌∷◌, All, AllPairs, length, map, take, drop, ◌==◌, if◌then◌else◌}
 use Rattle.vc_model.specs.Discipline.{IsSegmentSize}
-use Rattle.vc_model.specs.Region.{Block, Region}
+use Rattle.vc_model.specs.Layout.{Block, Layout}
+use Rattle.vc_model.specs.Sound.{EndsBefore}
 use Rattle.vc_seg.specs.Segment.{Bytes, pair_of}
 use Rattle.vc_best.specs.declared.slot.Slot.{Slot}
 use Rattle.vc_best.specs.Slot.{IsSlot, run_of_slot}
-use Rattle.vc_best.specs.Apart.{EndsBefore}
 
 -- the bytes of the segment of that number, or none
 abbrev pub bytes_of_number : ℕ → List Bytes → List ℕ
 bytes_of_number number [] = []
 bytes_of_number number (s ∷ ss) = if s.number == number then s.bytes else bytes_of_number number ss
 
+-- one of the segments has that number, and bytes
+abbrev pub HasNumber : List Bytes → ℕ → Type 0
+HasNumber segs number = 0 < length (bytes_of_number number segs)
+
+-- a range of so many bytes, from an offset on, lies in the segment of that number
+abbrev pub IsWithin : List Bytes → ℕ → ℕ → ℕ → Type 0
+IsWithin segs number off len = off + len ≤ length (bytes_of_number number segs)
+
 -- the block in a slot, whose bytes lie in its segment
 abbrev pub block_in : List Bytes → Slot → Block ℕ
 block_in segs s = record { label = s.tag; seg = s.seg; off = s.off; size = s.size; bytes = take s.size (drop s.off (bytes_of_number s.seg segs)) }
 
-abbrev pub region_of : List Bytes → List Slot → Region ℕ
-region_of segs slots = record { segments = map pair_of segs; blocks = map (block_in segs) slots }
+abbrev pub layout_of : List Bytes → List Slot → Layout ℕ
+layout_of segs slots = record { segments = map pair_of segs; blocks = map (block_in segs) slots }
 
 -- the numbers and sizes that a region's segment can have
 pub record IsRegionSegment (s : Bytes) : Type 0 where
