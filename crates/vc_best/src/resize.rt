@@ -25,7 +25,8 @@ impl Best {
         requires some { 1 ≤ size }
         requires most { size ≤ 16777264 }
 
-        ensures answer { Answers (best_resize (state self.old.disc).terms self.old.layout (place_of a.0) size may_move)
+        ensures answer { Answers
+            (best_resize (state self.old.disc).terms self.old.layout (place_of a.0) size may_move)
             result self.old.layout self.new.layout }
         ensures disc { Asks result (state self.old.disc) (state self.new.disc)
             self.old.layout.segments self.new.layout.segments
