@@ -106,14 +106,20 @@ impl HomeEntry {
         size: u32,
     ) -> Result<Reply, OutOfMemory>
         requires names { IsNamed (region_of self.old.region) labels.old }
-        requires lent { HasOut (⟦<BoxedDisc as SegDisc>⟧.state (disc_of self.old.region)) (segments_in self.old.region) }
+        requires lent { HasOut (⟦<BoxedDisc as SegDisc>⟧.state (disc_of self.old.region))
+            (segments_in self.old.region) }
 
-        ensures step { IfOk result (λ reply. Runs ⟦<BoxedDisc as SegDisc>⟧.state (λ h. alloc_in h name size (is_for_block (need_shown reply)))
+        ensures step { IfOk result (λ reply. Runs ⟦<BoxedDisc as SegDisc>⟧.state
+            (λ h. alloc_in h name size (is_for_block (need_shown reply)))
             self.old labels.old (region_with self.new labels.new) reply) }
-        ensures err { OnErr result (region_with self.new labels.new ≡ region_with self.old labels.old) }
-        ensures change { Changes ⟦<BoxedDisc as SegDisc>⟧.state self.old labels.old self.new labels.new }
+        ensures err { OnErr result (region_with self.new labels.new
+            ≡ region_with self.old labels.old) }
+        ensures change { Changes ⟦<BoxedDisc as SegDisc>⟧.state
+            self.old labels.old self.new labels.new }
         ensures unserved { result ≡ Ok (Reply.Refused Refusal.NoSegment)
-            → LacksSegment (held_of ⟦<BoxedDisc as SegDisc>⟧.state [] self.old labels.old) (held_of ⟦<BoxedDisc as SegDisc>⟧.state [] self.new labels.new)
+            → LacksSegment
+            (held_of ⟦<BoxedDisc as SegDisc>⟧.state [] self.old labels.old)
+            (held_of ⟦<BoxedDisc as SegDisc>⟧.state [] self.new labels.new)
             (size, 32) }
     {
         if let Some(why) = new_refused(labels, &name, is_size(size)) {
@@ -132,15 +138,20 @@ impl HomeEntry {
         align: u32,
     ) -> Result<Reply, OutOfMemory>
         requires names { IsNamed (region_of self.old.region) labels.old }
-        requires lent { HasOut (⟦<BoxedDisc as SegDisc>⟧.state (disc_of self.old.region)) (segments_in self.old.region) }
+        requires lent { HasOut (⟦<BoxedDisc as SegDisc>⟧.state (disc_of self.old.region))
+            (segments_in self.old.region) }
 
-        ensures step { IfOk result (λ reply. Runs state
+        ensures step { IfOk result (λ reply. Runs ⟦<BoxedDisc as SegDisc>⟧.state
             (λ h. align_in h name size align (is_for_block (need_shown reply)))
             self.old labels.old (region_with self.new labels.new) reply) }
-        ensures err { OnErr result (region_with self.new labels.new ≡ region_with self.old labels.old) }
-        ensures change { Changes ⟦<BoxedDisc as SegDisc>⟧.state self.old labels.old self.new labels.new }
+        ensures err { OnErr result (region_with self.new labels.new
+            ≡ region_with self.old labels.old) }
+        ensures change { Changes ⟦<BoxedDisc as SegDisc>⟧.state
+            self.old labels.old self.new labels.new }
         ensures unserved { result ≡ Ok (Reply.Refused Refusal.NoSegment)
-            → LacksSegment (held_of ⟦<BoxedDisc as SegDisc>⟧.state [] self.old labels.old) (held_of ⟦<BoxedDisc as SegDisc>⟧.state [] self.new labels.new)
+            → LacksSegment
+            (held_of ⟦<BoxedDisc as SegDisc>⟧.state [] self.old labels.old)
+            (held_of ⟦<BoxedDisc as SegDisc>⟧.state [] self.new labels.new)
             (size, align) }
     {
         if let Some(why) = new_refused(labels, &name, is_size(size) && is_align(align)) {
@@ -159,15 +170,20 @@ impl HomeEntry {
         may_move: bool,
     ) -> Result<Reply, OutOfMemory>
         requires names { IsNamed (region_of self.old.region) labels.old }
-        requires lent { HasOut (⟦<BoxedDisc as SegDisc>⟧.state (disc_of self.old.region)) (segments_in self.old.region) }
+        requires lent { HasOut (⟦<BoxedDisc as SegDisc>⟧.state (disc_of self.old.region))
+            (segments_in self.old.region) }
 
-        ensures step { IfOk result (λ reply. Runs state
+        ensures step { IfOk result (λ reply. Runs ⟦<BoxedDisc as SegDisc>⟧.state
             (λ h. resize_in h name.now size may_move (is_for_block (need_shown reply)))
             self.old labels.old (region_with self.new labels.new) reply) }
-        ensures err { OnErr result (region_with self.new labels.new ≡ region_with self.old labels.old) }
-        ensures change { Changes ⟦<BoxedDisc as SegDisc>⟧.state self.old labels.old self.new labels.new }
+        ensures err { OnErr result (region_with self.new labels.new
+            ≡ region_with self.old labels.old) }
+        ensures change { Changes ⟦<BoxedDisc as SegDisc>⟧.state
+            self.old labels.old self.new labels.new }
         ensures unserved { result ≡ Ok (Reply.Refused Refusal.NoSegment)
-            → LacksSegment (held_of ⟦<BoxedDisc as SegDisc>⟧.state [] self.old labels.old) (held_of ⟦<BoxedDisc as SegDisc>⟧.state [] self.new labels.new)
+            → LacksSegment
+            (held_of ⟦<BoxedDisc as SegDisc>⟧.state [] self.old labels.old)
+            (held_of ⟦<BoxedDisc as SegDisc>⟧.state [] self.new labels.new)
             (size, 32) }
     {
         let Some(at) = labels.find(name) else {
@@ -192,12 +208,16 @@ impl HomeEntry {
         name: &Name,
     ) -> Result<Reply, OutOfMemory>
         requires names { IsNamed (region_of self.old.region) labels.old }
-        requires lent { HasOut (⟦<BoxedDisc as SegDisc>⟧.state (disc_of self.old.region)) (segments_in self.old.region) }
+        requires lent { HasOut (⟦<BoxedDisc as SegDisc>⟧.state (disc_of self.old.region))
+            (segments_in self.old.region) }
 
-        ensures step { IfOk result (λ reply. Runs ⟦<BoxedDisc as SegDisc>⟧.state (λ h. free_in h name.now)
+        ensures step { IfOk result (λ reply. Runs ⟦<BoxedDisc as SegDisc>⟧.state
+            (λ h. free_in h name.now)
             self.old labels.old (region_with self.new labels.new) reply) }
-        ensures err { OnErr result (region_with self.new labels.new ≡ region_with self.old labels.old) }
-        ensures change { Changes ⟦<BoxedDisc as SegDisc>⟧.state self.old labels.old self.new labels.new }
+        ensures err { OnErr result (region_with self.new labels.new
+            ≡ region_with self.old labels.old) }
+        ensures change { Changes ⟦<BoxedDisc as SegDisc>⟧.state
+            self.old labels.old self.new labels.new }
         ensures granted { result ≡ Ok (Reply.Refused Refusal.NoSegment) → ⊥ }
     {
         let Some(at) = labels.find(name) else {

@@ -18,12 +18,15 @@ use vc_seg::{BoxedDisc, SegDisc, Shelf, ShelfPlace};
 // Closes one region, gives its discipline back to its place, and answers how many segments it gave back.
 fn close_region(home: HomeEntry, shelf: &mut Shelf) -> u32
     requires taken { place_at (slots_on ⟦<BoxedDisc as SegDisc>⟧.state shelf.old) home.place ≡ ShelfPlace.Taken }
-    requires lent { HasOut (⟦<BoxedDisc as SegDisc>⟧.state (disc_of home.region)) (segments_in home.region) }
+    requires lent { HasOut (⟦<BoxedDisc as SegDisc>⟧.state (disc_of home.region))
+        (segments_in home.region) }
     ensures count { result ≡ length (segments_in home.region) }
-    ensures here { accounts_on ⟦<BoxedDisc as SegDisc>⟧.state shelf.new ≡ slice_set (accounts_on ⟦<BoxedDisc as SegDisc>⟧.state shelf.old) (home.place - 1)
+    ensures here { accounts_on ⟦<BoxedDisc as SegDisc>⟧.state shelf.new
+        ≡ slice_set (accounts_on ⟦<BoxedDisc as SegDisc>⟧.state shelf.old) (home.place - 1)
         (Some (account_back (⟦<BoxedDisc as SegDisc>⟧.state (disc_of home.region)) (segments_in home.region))) }
     ensures elsewhere { (p : ℕ) → p ≢ home.place
-        → at_number (slots_on ⟦<BoxedDisc as SegDisc>⟧.state shelf.new) p ≡ at_number (slots_on ⟦<BoxedDisc as SegDisc>⟧.state shelf.old) p }
+        → at_number (slots_on ⟦<BoxedDisc as SegDisc>⟧.state shelf.new) p
+        ≡ at_number (slots_on ⟦<BoxedDisc as SegDisc>⟧.state shelf.old) p }
 {
     let HomeEntry { place, region } = home;
     let (disc, count) = region.close();
@@ -41,11 +44,14 @@ impl Session {
             (λ h. result ≡ length (segments_of h.region)) }
         ensures here { IfSome (slice_get (held_in ⟦<BoxedDisc as SegDisc>⟧.state self.old) i)
             (λ h. accounts_on ⟦<BoxedDisc as SegDisc>⟧.state shelf.new
-            ≡ slice_set (accounts_on ⟦<BoxedDisc as SegDisc>⟧.state shelf.old) (h.place - 1) (Some (account_after h))) }
-        ensures others { held_in ⟦<BoxedDisc as SegDisc>⟧.state self.new ≡ remove (held_in ⟦<BoxedDisc as SegDisc>⟧.state self.old) i }
+            ≡ slice_set (accounts_on ⟦<BoxedDisc as SegDisc>⟧.state shelf.old) (h.place - 1)
+            (Some (account_after h))) }
+        ensures others { held_in ⟦<BoxedDisc as SegDisc>⟧.state self.new
+            ≡ remove (held_in ⟦<BoxedDisc as SegDisc>⟧.state self.old) i }
         ensures fewer { length self.new.homes.entries + 1 ≡ length self.old.homes.entries }
         ensures session { IsSessionOver ⟦<BoxedDisc as SegDisc>⟧.state shelf.new self.new }
-        ensures settled { settled_over ⟦<BoxedDisc as SegDisc>⟧.state shelf.new self.new ≡ settled_over ⟦<BoxedDisc as SegDisc>⟧.state shelf.old self.old }
+        ensures settled { settled_over ⟦<BoxedDisc as SegDisc>⟧.state shelf.new self.new
+            ≡ settled_over ⟦<BoxedDisc as SegDisc>⟧.state shelf.old self.old }
     {
         let _ = self.labels.remove(i);
         match self.homes.shift_remove_index(i) {
@@ -60,7 +66,8 @@ impl Session {
         ensures step { close_step (state_over ⟦<BoxedDisc as SegDisc>⟧.state shelf.old self.old) name.now
             ≡ stepped (state_over ⟦<BoxedDisc as SegDisc>⟧.state shelf.new self.new) result }
         ensures session { IsSessionOver ⟦<BoxedDisc as SegDisc>⟧.state shelf.new self.new }
-        ensures settled { settled_over ⟦<BoxedDisc as SegDisc>⟧.state shelf.new self.new ≡ settled_over ⟦<BoxedDisc as SegDisc>⟧.state shelf.old self.old }
+        ensures settled { settled_over ⟦<BoxedDisc as SegDisc>⟧.state shelf.new self.new
+            ≡ settled_over ⟦<BoxedDisc as SegDisc>⟧.state shelf.old self.old }
     {
         match self.homes.get_index_of(name) {
             None => Reply::Refused(Refusal::NoRegion),

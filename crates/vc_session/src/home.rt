@@ -45,14 +45,20 @@ impl HomeEntry {
         command: &Command,
     ) -> Result<Reply, OutOfMemory>
         requires names { IsNamed (region_of self.old.region) labels.old }
-        requires lent { HasOut (⟦<BoxedDisc as SegDisc>⟧.state (disc_of self.old.region)) (segments_in self.old.region) }
+        requires lent { HasOut (⟦<BoxedDisc as SegDisc>⟧.state (disc_of self.old.region))
+            (segments_in self.old.region) }
 
-        ensures step { IfOk result (λ reply. Runs ⟦<BoxedDisc as SegDisc>⟧.state (λ h. in_region h command.now (need_shown reply))
+        ensures step { IfOk result (λ reply. Runs ⟦<BoxedDisc as SegDisc>⟧.state
+            (λ h. in_region h command.now (need_shown reply))
             self.old labels.old (region_with self.new labels.new) reply) }
-        ensures err { OnErr result (region_with self.new labels.new ≡ region_with self.old labels.old) }
-        ensures change { Changes ⟦<BoxedDisc as SegDisc>⟧.state self.old labels.old self.new labels.new }
+        ensures err { OnErr result (region_with self.new labels.new
+            ≡ region_with self.old labels.old) }
+        ensures change { Changes ⟦<BoxedDisc as SegDisc>⟧.state
+            self.old labels.old self.new labels.new }
         ensures unserved { result ≡ Ok (Reply.Refused Refusal.NoSegment)
-            → LacksSegment (held_of ⟦<BoxedDisc as SegDisc>⟧.state [] self.old labels.old) (held_of ⟦<BoxedDisc as SegDisc>⟧.state [] self.new labels.new)
+            → LacksSegment
+            (held_of ⟦<BoxedDisc as SegDisc>⟧.state [] self.old labels.old)
+            (held_of ⟦<BoxedDisc as SegDisc>⟧.state [] self.new labels.new)
             (block_asked command.now) }
     {
         match command {

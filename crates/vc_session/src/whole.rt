@@ -19,11 +19,13 @@ impl HomeEntry {
     // Frees all blocks.
     pub(crate) fn clear(&mut self, labels: &mut Labels, name: Name) -> Reply
         requires names { IsNamed (region_of self.old.region) labels.old }
-        requires lent { HasOut (⟦<BoxedDisc as SegDisc>⟧.state (disc_of self.old.region)) (segments_in self.old.region) }
+        requires lent { HasOut (⟦<BoxedDisc as SegDisc>⟧.state (disc_of self.old.region))
+            (segments_in self.old.region) }
 
         ensures step { (r : List ℕ) → clear_in (home_of (held_of ⟦<BoxedDisc as SegDisc>⟧.state r self.old labels.old)) name
             ≡ changed_to (region_with self.new labels.new) result }
-        ensures change { Changes ⟦<BoxedDisc as SegDisc>⟧.state self.old labels.old self.new labels.new }
+        ensures change { Changes ⟦<BoxedDisc as SegDisc>⟧.state
+            self.old labels.old self.new labels.new }
     {
         labels.clear();
         self.region.clear();
@@ -32,11 +34,13 @@ impl HomeEntry {
 
     // Gives back the segments without a block.
     pub(crate) fn compact(&mut self, name: Name) -> Reply
-        requires lent { HasOut (⟦<BoxedDisc as SegDisc>⟧.state (disc_of self.old.region)) (segments_in self.old.region) }
+        requires lent { HasOut (⟦<BoxedDisc as SegDisc>⟧.state (disc_of self.old.region))
+            (segments_in self.old.region) }
 
         ensures step { (labels : Labels) (r : List ℕ) → compact_in (home_of (held_of ⟦<BoxedDisc as SegDisc>⟧.state r self.old labels)) name
             ≡ changed_to (region_with self.new labels) result }
-        ensures change { (labels : Labels) → IsNamed (region_of self.old.region) labels → Changes ⟦<BoxedDisc as SegDisc>⟧.state self.old labels self.new labels }
+        ensures change { (labels : Labels) → IsNamed (region_of self.old.region) labels → Changes ⟦<BoxedDisc as SegDisc>⟧.state
+            self.old labels self.new labels }
     {
         Reply::Compacted(name, self.region.compact())
     }
