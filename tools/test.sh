@@ -130,7 +130,7 @@ check "a program that becomes another: the script is that of the last one" diff 
 "$record" closes.vm -- ./closes own
 check "closed files and a limit of 0 bytes for files: the program goes on" same "$?" 0
 check "closed files: its own file holds what it wrote alone" same "$(cat own)" own
-check "closed files: 100 blocks are recorded before the limit, and none behind it" same "$(lines alloc closes.vm)" 100
+check "closed files: 101 blocks are recorded before the limit, and none behind it" same "$(lines alloc closes.vm)" 101
 check "closed files: the script runs to its end" runs closes.vm
 (ulimit -f 8 && "$record" limit.vm -- ./threads 3000 > counts.limit)
 check "a limit of 8 blocks for files: the program goes on" same "$?" 0
