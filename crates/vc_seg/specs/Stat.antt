@@ -1,5 +1,4 @@
 -- The numbers of a region, by its method.
-use Rattle.std.specs.Prelude.{ℕ}
 use Rattle.vc_model.specs.Layout.{Layout}
 use Rattle.vc_model.specs.Numbers.{block_bytes, block_count, gap_bytes, gap_count, greatest_block, greatest_gap, segment_bytes, segment_count}
 use Rattle.vc_model.specs.Region.{Region, OfBest}

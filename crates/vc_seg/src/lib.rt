@@ -2,6 +2,7 @@
 #![tactic(auto)]
 
 mod boxed;
+mod budget;
 mod bytes;
 mod disc;
 mod fault;
@@ -15,6 +16,7 @@ mod shelf;
 mod stat;
 
 pub use boxed::BoxedDisc;
+pub use budget::BudgetDisc;
 pub use disc::SegDisc;
 pub use fault::{LendFault, RegionFault};
 pub use fuse::FuseDisc;
