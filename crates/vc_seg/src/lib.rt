@@ -14,6 +14,7 @@ mod profile_row;
 mod segment;
 mod shelf;
 mod stat;
+mod word;
 
 pub use boxed::BoxedDisc;
 pub use budget::BudgetDisc;
