@@ -1,0 +1,4 @@
+pub mod Members
+pub mod Sweep
+pub mod Sorting
+pub mod Maximality

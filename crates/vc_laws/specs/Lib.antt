@@ -1,0 +1,3 @@
+pub use Rattle.vc_model.specs.Gap
+pub use Rattle.vc_model.specs.Sound
+pub mod Maximal
