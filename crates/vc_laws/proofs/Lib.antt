@@ -2,3 +2,4 @@ pub mod Members
 pub mod Sweep
 pub mod Sorting
 pub mod Maximality
+pub mod Layouts

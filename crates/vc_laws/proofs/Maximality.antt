@@ -1,11 +1,11 @@
 -- The runs that the sweep finds are the longest runs of free bytes.
-use Rattle.std.proofs.Common.{◌≡◌, ◌≢◌, ℕ, ◌+◌, ◌-◌, ◌<◌, ◌≤◌, ◌⊎◌, List, [], ◌∷◌, Contains, refl, sym, ap, ◌∙◌, subst, inl, inr, ⊎_elim, arith}
+use Rattle.std.proofs.Common.{◌≡◌, ◌≢◌, ℕ, ◌+◌, ◌-◌, ◌<◌, ◌≤◌, ◌⊎◌, List, [], AllPairs, ◌∷◌, Contains, refl, sym, ap, ◌∙◌, subst, inl, inr, ⊎_elim, arith}
 use Rattle.std.proofs.lemmas.Bool.{cases_lt}
 use Rattle.vc_model.specs.Gap.{Run, runs_in, gaps_in, gaps}
 use Rattle.vc_model.specs.Sound.{IsApart, IsUsable}
 use Rattle.vc_laws.specs.Maximal.{Covers, IsFree, IsGap, AreLawful}
-use Rattle.vc_laws.proofs.Members.{Member, Pairwise, Some_of, All-at_member, All-from_members, Member-from_Contains, Contains-from_Member, Some_of-from_Any, Any-from_member, Pairwise-from_AllPairs, same_segment, Member-flat_map, flat_map-member}
-use Rattle.vc_laws.proofs.Sweep.{Fits, Within, Beside, StartsBehind, EndsAt, Between, Between-from_sweep, sweep-from_Between}
+use Rattle.vc_laws.proofs.Members.{Member, Pairwise, Some_of, All-at_member, All-from_members, Member-from_Contains, Contains-from_Member, Some_of-from_Any, Any-from_member, Pairwise-from_AllPairs, same_segment, Member-flat_map, flat_map-member, Pairwise-append, AllPairs-from_Pairwise}
+use Rattle.vc_laws.proofs.Sweep.{Fits, Within, Beside, StartsBehind, EndsAt, Between, Between-from_sweep, sweep-from_Between, sweep-apart}
 use Rattle.vc_laws.proofs.Sorting.{runs_in-member, member-runs_in, Fits-runs_in}
 
 -- whether a run of that segment covers a byte, one way or the other
@@ -31,6 +31,14 @@ any_covers_or (g ∷ gs) at same =
 -- a segment whose usable part has the byte at a place
 abbrev UsableIn : ℕ × ℕ → ℕ × ℕ → Type 0
 UsableIn at s = (at.0 ≡ s.0) × (16 ≤ at.1) × (at.1 + 16 < s.1)
+
+-- runs of two segments
+apart_by_segment : (g h : Run) → g.seg ≢ h.seg → IsApart g h
+apart_by_segment g h other =
+    ⊎_elim
+    (λ less. inl (inl less))
+    (λ more. ⊎_elim (λ less. inr (inl less)) (λ same. absurd (other (omega (arith, more, same)))) (cases_lt h.seg g.seg))
+    (cases_lt g.seg h.seg)
 
 module _ (segments : List (ℕ × ℕ)) (footprints : List Run) (lawful : AreLawful segments footprints) where
   own : Pairwise (λ (a b : ℕ × ℕ). a.0 ≢ b.0) segments
@@ -196,3 +204,22 @@ module _ (segments : List (ℕ × ℕ)) (footprints : List Run) (lawful : AreLaw
       Contains-from_Member (gaps segments footprints) g
       (flat_map-member (gaps_in footprints) segments g at.0 at.1
       (sweep-from_Between at.0.0 16 (at.0.1 - 16) (runs_in at.0.0 footprints) g (runs_fit at.0 at.1) (Between-from_IsGap g gap at.0 at.1 at.2.0)))
+
+  seg_of_gap : (s : ℕ × ℕ) → Member s segments → (g : Run) → Member g (gaps_in footprints s) → g.seg ≡ s.0
+  seg_of_gap s ms g m = (Between-from_sweep s.0 16 (s.1 - 16) (runs_in s.0 footprints) g (runs_fit s ms) m).seg_is
+
+  -- those of some of the segments
+  gaps_of-apart : (some : List (ℕ × ℕ)) → ((s : ℕ × ℕ) → Member s some → Member s segments) → Pairwise (λ (a b : ℕ × ℕ). a.0 ≢ b.0) some → Pairwise IsApart (gaps some footprints)
+  gaps_of-apart [] among distinct = tt
+  gaps_of-apart (s ∷ ss) among distinct =
+      Pairwise-append IsApart (gaps_in footprints s) (gaps ss footprints)
+      (sweep-apart s.0 16 (s.1 - 16) (runs_in s.0 footprints) (runs_fit s (among s (inl refl))))
+      (gaps_of-apart ss (λ t m. among t (inr m)) distinct.1)
+      (λ g h one two.
+      let at = Member-flat_map (gaps_in footprints) ss h two in
+      let here : g.seg ≡ s.0 = seg_of_gap s (among s (inl refl)) g one in
+      let there : h.seg ≡ at.0.0 = seg_of_gap at.0 (among at.0 (inr at.1)) h at.2 in
+      apart_by_segment g h (λ same. distinct.0 at.0 at.1 (sym here ∙ same ∙ there)))
+
+  pub gaps-apart : AllPairs IsApart (gaps segments footprints)
+  gaps-apart = AllPairs-from_Pairwise IsApart (gaps segments footprints) (gaps_of-apart segments (λ s m. m) own)

@@ -1,7 +1,7 @@
 -- What is in a list, by recursion on it.
-use Rattle.std.proofs.Common.{◌≡◌, ◌≢◌, ℕ, suc, ◌⊎◌, List, [], ◌∷◌, ◌++◌, All, AllPairs, Any, Contains, refl, sym, ap, ◌∙◌, subst, inl, inr, ⊎_elim, arith}
+use Rattle.std.proofs.Common.{◌≡◌, ◌≢◌, ℕ, zero, suc, ◌<◌, ◌⊎◌, List, [], ◌∷◌, ◌++◌, length, get_or, map, All, AllPairs, Any, Contains, refl, sym, ap, ◌∙◌, subst, inl, inr, ⊎_elim, arith}
 use Rattle.std.specs.List.{flat_map}
-use Rattle.std.proofs.lemmas.List.Elements.{All-nil, All-cons, All-head, All-tail, All-contains, All-contains_itself}
+use Rattle.std.proofs.lemmas.List.Elements.{All-nil, All-cons, All-head, All-tail, All-contains, All-contains_itself, Contains-get_or}
 
 abbrev pub Member : {X : Type 0} → X → List X → Type 0
 Member x [] = ⊥
@@ -78,3 +78,32 @@ pub flat_map-member : {X A : Type 0} (f : X → List A) (xs : List X) (a : A) (x
 flat_map-member f [] a x m u = absurd m
 flat_map-member f (y ∷ xs) a x (inl e) u = Member-append_left (f y) (flat_map f xs) a (subst (λ z. Member a (f z)) e u)
 flat_map-member f (y ∷ xs) a x (inr m) u = Member-append_right (f y) (flat_map f xs) a (flat_map-member f xs a x m u)
+
+Member-get_or : {X : Type 0} (xs : List X) (k : ℕ) (d : X) → k < length xs → Member (get_or xs k d) xs
+Member-get_or xs k d within = Member-from_Contains xs (get_or xs k d) (Contains-get_or xs k d within)
+
+pub AllPairs-from_Pairwise : {X : Type 0} (R : X → X → Type 0) (xs : List X) → Pairwise R xs → AllPairs R xs
+AllPairs-from_Pairwise R [] each i j d before within = absurd (omega (arith, before, within))
+AllPairs-from_Pairwise R (x ∷ xs) each zero zero d before within = absurd (omega (arith, before))
+AllPairs-from_Pairwise R (x ∷ xs) each zero (suc j) d before within = each.0 (get_or xs j d) (Member-get_or xs j d (omega (arith, within)))
+AllPairs-from_Pairwise R (x ∷ xs) each (suc i) zero d before within = absurd (omega (arith, before))
+AllPairs-from_Pairwise R (x ∷ xs) each (suc i) (suc j) d before within = AllPairs-from_Pairwise R xs each.1 i j d (omega (arith, before)) (omega (arith, within))
+
+pub Pairwise-append : {X : Type 0} (R : X → X → Type 0) (xs ys : List X) → Pairwise R xs → Pairwise R ys → ((x y : X) → Member x xs → Member y ys → R x y) → Pairwise R (xs ++ ys)
+Pairwise-append R [] ys one two across = two
+Pairwise-append R (x ∷ xs) ys one two across = (
+  (λ y m. ⊎_elim (λ u. one.0 y u) (λ u. across x y (inl refl) u) (Member-append_cases xs ys y m)),
+  Pairwise-append R xs ys one.1 two (λ a b ma mb. across a b (inr ma) mb),
+)
+
+Member-map : {X Y : Type 0} (f : X → Y) (xs : List X) (y : Y) → Member y (map f xs) → Some_of (λ x. f x ≡ y) xs
+Member-map f [] y m = absurd m
+Member-map f (x ∷ xs) y (inl e) = (x, inl refl, sym e)
+Member-map f (x ∷ xs) y (inr m) = let later = Member-map f xs y m in (later.0, inr later.1, later.2)
+
+pub Pairwise-map : {X Y : Type 0} (R : Y → Y → Type 0) (f : X → Y) (xs : List X) → Pairwise (λ a b. R (f a) (f b)) xs → Pairwise R (map f xs)
+Pairwise-map R f [] each = tt
+Pairwise-map R f (x ∷ xs) each = (
+  (λ y m. let at = Member-map f xs y m in subst (R (f x)) at.2 (each.0 at.0 at.1)),
+  Pairwise-map R f xs each.1,
+)

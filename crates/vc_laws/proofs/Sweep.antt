@@ -1,8 +1,9 @@
 -- What the sweep over runs by their first bytes finds: the runs between them.
-use Rattle.std.proofs.Common.{◌≡◌, ℕ, ◌<◌, ◌≤◌, ◌⊎◌, List, [], ◌∷◌, true, false, cond, ltb, refl, sym, ap, inl, inr, ⊎_elim, arith}
+use Rattle.std.proofs.Common.{◌≡◌, ℕ, ◌<◌, ◌≤◌, ◌⊎◌, List, [], ◌∷◌, true, false, cond, ltb, refl, sym, ap, ◌∙◌, inl, inr, ⊎_elim, arith}
 use Rattle.std.proofs.lemmas.Bool.{ltb-true, lt-ltb}
 use Rattle.vc_model.specs.Gap.{Run, run_of, gaps_between}
-use Rattle.vc_laws.proofs.Members.{Member, Member-append_cases, Member-append_left, Member-append_right}
+use Rattle.vc_model.specs.Sound.{IsApart}
+use Rattle.vc_laws.proofs.Members.{Member, Pairwise, Member-append_cases, Member-append_left, Member-append_right, Pairwise-append}
 
 -- these runs stand one behind the other from lo to hi, and each has a byte
 abbrev pub Fits : ℕ → ℕ → List Run → Type 0
@@ -180,3 +181,16 @@ sweep-from_Between seg lo hi (f ∷ fs) g fits b =
     (λ after. Member-append_right (run_of seg lo f.from) (gaps_between seg f.to hi fs) g (sweep-from_Between seg f.to hi fs g fits.3 (Between-rest seg lo hi f fs fits g b after)))
     (λ before. Member-append_left (run_of seg lo f.from) (gaps_between seg f.to hi fs) g (member-run_of seg lo f.from g (IsRun-first seg lo hi f fs fits g b before)))
     (b.clear f (inl refl))
+
+alone-apart : (seg from to : ℕ) → Pairwise IsApart (run_of seg from to)
+alone-apart seg from to = elim (ltb from to) as (λ t. Pairwise IsApart (cond t (record { seg = seg; from = from; to = to } ∷ []) [])) [ true ↦ ((λ y m. absurd m), tt) | false ↦ tt ]
+
+-- and each is found once: no two have a byte in common
+pub sweep-apart : (seg lo hi : ℕ) (fs : List Run) → Fits lo hi fs → Pairwise IsApart (gaps_between seg lo hi fs)
+sweep-apart seg lo hi [] fits = alone-apart seg lo hi
+sweep-apart seg lo hi (f ∷ fs) fits =
+    Pairwise-append IsApart (run_of seg lo f.from) (gaps_between seg f.to hi fs) (alone-apart seg lo f.from) (sweep-apart seg f.to hi fs fits.3)
+    (λ g h one two.
+    let first = run_of-member seg lo f.from g one in
+    let later = Between-from_sweep seg f.to hi fs h fits.3 two in
+    inl (inr (first.seg_is ∙ sym later.seg_is, omega (arith, first.to_is, fits.1, later.within.low))))

@@ -3,4 +3,4 @@
 
 mod gap_laws;
 
-pub use gap_laws::gaps_are_maximal;
+pub use gap_laws::{gaps_are_maximal, gaps_of_regions_are_maximal};
