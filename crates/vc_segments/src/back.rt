@@ -18,6 +18,7 @@ pub trait Keeps {
 }
 
 /// No segment stays.
+#[derive(Drop)]
 pub struct KeepsNone;
 
 impl Keeps for KeepsNone {
