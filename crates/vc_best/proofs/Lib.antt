@@ -27,5 +27,6 @@ pub mod Copies
 pub mod Fitted
 pub mod Resizes
 pub mod Others
+pub mod There
 pub mod Stays
 pub mod Moves

@@ -18,7 +18,7 @@ use Rattle.vc_seg.specs.Answer.{IsPut, IsRefusal}
 use Rattle.vc_best.proofs.Found.{find-passes}
 
 -- every number is the address of its place
-address-place_of : (a : ℕ) → address (place_of a) ≡ a
+pub address-place_of : (a : ℕ) → address (place_of a) ≡ a
 address-place_of a = omega arith
 
 pub at-place : (at : ℕ × ℕ) (b : Block ℕ) → is_at at b ≡ true → (b.seg, b.off) ≡ at

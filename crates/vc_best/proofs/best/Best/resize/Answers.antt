@@ -1,9 +1,11 @@
-use Rattle.std.proofs.Common.{ℕ, Some, false, refl, ap, ◌∙◌}
+use Rattle.std.proofs.Common.{ℕ, option_map, Some, false, refl, ap, ◌∙◌}
 use Rattle.vc_model.specs.Addr.{place_of}
 use Rattle.vc_model.specs.Layout.{Layout, without_block}
+use Rattle.vc_model.specs.Touch.{find_block}
 use Rattle.vc_best.proofs.Asking.{Served-later, Served-same}
 use Rattle.vc_best.proofs.Others.{others-moved, others-sized}
 use Rattle.vc_best.proofs.Resizes.{resize-stays, resize-fixed, resize-moves, resize-refused, new-among, new-room, old-among, old-found, none-stays}
+use Rattle.vc_best.proofs.There.{there-moved, there-sized}
 use Rattle.vc_best.proofs.best.Best.resize.Goals as goal
 
 pub returns-then-can_stay-clause-answer : goal.returns-then-can_stay-clause-answer
@@ -52,3 +54,13 @@ pub returns-in-Ok-clause-others : goal.returns-in-Ok-clause-others
 returns-in-Ok-clause-others g c =
     let same = old-found _ c.args.self.now.layout c.tag-tag.result c.args.size 32 c.in-Ok.to.0 false c.alloc.new.self.layout c.in-Ok.ensures.answer c.in-Ok.ensures.fresh c.args.a.0 c.requires.block in
     others-moved c.alloc.new.self.layout c.take_over.new.self c.args.self.now.layout (place_of c.args.a.0) (place_of c.in-Ok.to.0) c.args.size c.tag-tag.result same c.tag-tag.ensures c.take_over.ensures.moved c.in-Ok.ensures.others
+
+pub returns-then-can_stay-clause-there : goal.returns-then-can_stay-clause-there
+returns-then-can_stay-clause-there g c =
+    ap (λ (r : Layout ℕ). option_map (λ b. b.label) (find_block (place_of c.args.a.0) r.blocks)) c.resize_there.ensures.value
+    ∙ there-sized c.args.size (place_of c.args.a.0) c.args.self.now.layout.blocks
+
+pub returns-in-Ok-clause-there : goal.returns-in-Ok-clause-there
+returns-in-Ok-clause-there g c =
+    let same = old-found _ c.args.self.now.layout c.tag-tag.result c.args.size 32 c.in-Ok.to.0 false c.alloc.new.self.layout c.in-Ok.ensures.answer c.in-Ok.ensures.fresh c.args.a.0 c.requires.block in
+    there-moved c.alloc.new.self.layout c.take_over.new.self c.args.self.now.layout c.args.a.0 c.in-Ok.to.0 c.args.size c.tag-tag.result c.requires.block c.in-Ok.ensures.fresh same c.tag-tag.ensures c.take_over.ensures.moved c.in-Ok.ensures.there
