@@ -8,8 +8,6 @@ use Rattle.std.proofs.lemmas.Bool.{cases_Bool}
 use Rattle.std.proofs.lemmas.List.Quantifiers.{position-Some}
 use Rattle.std.proofs.lemmas.Option.{same_Some, none-some}
 use Rattle.std.proofs.lemmas.Slice.Eq.{bytes_eq-Decides}
-use Rattle.std.specs.declared.dyn_box.DynBox.{DynBox}
-use Rattle.std.specs.declared.alloc.Global.{Global}
 use Rattle.indexmap.specs.IndexMap.{set_value_at}
 use Rattle.vc_model.specs.Discipline.{Discipline}
 use Rattle.vc_session.specs.declared.home.HomeEntry.{HomeEntry}
@@ -27,7 +25,7 @@ swapped x y =
     (λ e. e ∙ sym (⊎_elim (λ f. absurd (other_bytes x y e (sym (same_bytes y x f)))) (λ f. f) (cases_Bool (bytes_eq y x))))
     (cases_Bool (bytes_eq x y))
 
-module _ {I : Type 0} {V : I → Type 0} (meaning : DynBox I Global V → Discipline) where
+module _ {I : Type 0} {V : I → Type 0} (meaning : (x : I) × V x → Discipline) where
   abbrev Homes : Type 0
   Homes = List (List ℕ × HomeEntry I V)
 
