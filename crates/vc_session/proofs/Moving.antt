@@ -165,7 +165,7 @@ module _ (old : Labels) (r : Region ℕ) (names : IsNamed r old) (x : List ℕ) 
               ∙ (ap (λ o. is_name_of y o || list_any (named_by (name_of new) y) (without_block q (blocks_of r'))) (name-moved b'.label ∙ ap f tagged)
               ∙ ap (λ v. is_name_of y (f b.block.label) || v)
               (ap (list_any (named_by (name_of new) y)) others
-              ∙ any-alike (named_by (name_of new) y) (named_by f y) (without_block p (blocks_of r)) (tests-stay old new y (without_block p (blocks_of r)) (names-stay old new (without_block p (blocks_of r)) (rest-stays new m.other_tags)))))))))));
+              ∙ any-alike (named_by (name_of new) y) (named_by f y) (without_block p (blocks_of r)) (tests-stay old new y (without_block p (blocks_of r)) (names-stay old new (without_block p (blocks_of r)) (rest-stays new m.other_tags))))))))));
           places = places;
         }
 

@@ -85,11 +85,7 @@ abbrev name_with : Labels → ℕ → List ℕ → ℕ → state.Label
 name_with labels tag x t = cond (t == tag) (Some x) (name_of labels t)
 
 -- the labels with room for one more, and the region and the labels after the call, which is that of the tags and that of the names
-module _ {E : Type 0} (h : Held) (x : List ℕ) (legal : Bool) (names : IsNamed h.region h.labels) (allowed : new_refused h.labels x legal ≡ None)
-    (mid : Labels) (same : SameLabels h.labels mid) (mid_agree : AreLabels mid) (tag : ℕ) (first : 1 ≤ tag) (vacant : label_at mid tag ≡ None)
-    (call : Bool → Outcome (Put (Region ℕ))) (called : Bool → Outcome (Put (Region state.Label)))
-    (commutes : (f : ℕ → state.Label) → f tag ≡ Some x → relabelled f h.region ≡ (home_of h).region → (refused : Bool) → called refused ≡ outcome_as (relabelled f) (call refused))
-    (region : Region ℕ) (new : Labels) where
+module _ {E : Type 0} (h : Held) (x : List ℕ) (legal : Bool) (names : IsNamed h.region h.labels) (allowed : new_refused h.labels x legal ≡ None) (mid : Labels) (same : SameLabels h.labels mid) (mid_agree : AreLabels mid) (tag : ℕ) (first : 1 ≤ tag) (vacant : label_at mid tag ≡ None) (call : Bool → Outcome (Put (Region ℕ))) (called : Bool → Outcome (Put (Region state.Label))) (commutes : (f : ℕ → state.Label) → f tag ≡ Some x → relabelled f h.region ≡ (home_of h).region → (refused : Bool) → called refused ≡ outcome_as (relabelled f) (call refused)) (region : Region ℕ) (new : Labels) where
   mid-names : IsNamed h.region mid
   mid-names = isnamed-same h.region h.labels mid same mid_agree names
 

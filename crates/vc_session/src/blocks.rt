@@ -122,11 +122,13 @@ impl HomeEntry {
             (held_of state [] self.new labels.new)
             (size, 32) }
     {
-        if let Some(why) = new_refused(labels, &name, is_size(size)) {
-            return Ok(Reply::Refused(why));
+        match new_refused(labels, &name, is_size(size)) {
+            Some(why) => Ok(Reply::Refused(why)),
+            None => {
+                let tag = labels.reserve()?;
+                name_put(labels, name, self.region.alloc(size, tag, b"-"))
+            }
         }
-        let tag = labels.reserve()?;
-        name_put(labels, name, self.region.alloc(size, tag, b"-"))
     }
 
     // Allocates a block under a name, at an offset that the alignment divides.
@@ -154,11 +156,13 @@ impl HomeEntry {
             (held_of state [] self.new labels.new)
             (size, align) }
     {
-        if let Some(why) = new_refused(labels, &name, is_size(size) && is_align(align)) {
-            return Ok(Reply::Refused(why));
+        match new_refused(labels, &name, is_size(size) && is_align(align)) {
+            Some(why) => Ok(Reply::Refused(why)),
+            None => {
+                let tag = labels.reserve()?;
+                name_put(labels, name, self.region.align(size, align, tag, b"-"))
+            }
         }
-        let tag = labels.reserve()?;
-        name_put(labels, name, self.region.align(size, align, tag, b"-"))
     }
 
     // Gives a block another size, where it is or where it moves to.
