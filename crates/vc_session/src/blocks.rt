@@ -1,5 +1,5 @@
 // The commands that put, move and free blocks.
-ghost use Rattle.std.specs.Prelude.{◌≡◌, ◌<◌, ◌+◌, ◌^◌, [], Some, None, Ok, IfOk, OnErr, option_map};
+ghost use Rattle.std.specs.Prelude.{◌≡◌, ◌<◌, ◌+◌, ◌^◌, ◌&&◌, [], Some, None, Ok, IfOk, OnErr, option_map};
 ghost use Rattle.std.specs.HashMap.{spare};
 ghost use Rattle.slab.specs.Slab.{HasRoomFor, slab_len};
 ghost use Rattle.vc_model.specs.Discipline.{HasOut};
@@ -30,6 +30,12 @@ fn is_align(align: u32) -> bool
     ensures { result ≡ is_align align }
 {
     matches!(align, 32 | 64 | 128 | 256 | 512 | 1024 | 2048 | 4096)
+}
+
+fn are_legal(size: u32, align: u32) -> bool
+    ensures { result ≡ (is_size size && is_align align) }
+{
+    is_size(size) && is_align(align)
 }
 
 // The refusal for a region's fault; want of memory has none.
@@ -156,7 +162,7 @@ impl HomeEntry {
             (held_of state [] self.new labels.new)
             (size, align) }
     {
-        match new_refused(labels, &name, is_size(size) && is_align(align)) {
+        match new_refused(labels, &name, are_legal(size, align)) {
             Some(why) => Ok(Reply::Refused(why)),
             None => {
                 let tag = labels.reserve()?;
