@@ -10,8 +10,9 @@ use Rattle.vc_session.specs.Blocks.{is_align, is_size, put_new}
 use Rattle.vc_session.specs.Step.{is_for_block}
 use Rattle.vc_session.specs.Homes.{held_of}
 use Rattle.vc_session.specs.Naming.{NamesPut, new_refused}
-use Rattle.vc_session.proofs.Answers.{gives-unchanged, if_ok-all}
+use Rattle.vc_session.proofs.Answers.{change-same, gives-unchanged, if_ok-all}
 use Rattle.vc_session.proofs.Found.{align-in, both-parts}
+use Rattle.vc_session.proofs.Names.{isnamed-same}
 use Rattle.vc_session.proofs.Putting.{align-commutes, change-put, err-put, new-legal, put_new-refused, step-put}
 use Rattle.vc_session.proofs.home.HomeEntry.align.Given as given
 use Rattle.vc_session.proofs.home.HomeEntry.align.Goals as goal
@@ -66,3 +67,8 @@ align-requires-clause-align g c =
     let legal = is_size c.args.size && is_align c.args.align in
     let is : new_refused c.args.labels.now c.args.name legal ≡ None = ap (λ b. new_refused c.args.labels.now c.args.name b) (sym c.are_legal.ensures) ∙ (sym c.new_refused.ensures ∙ c.in-None.is) in
     align-in c.args.align (both-parts (is_size c.args.size) (is_align c.args.align) (new-legal c.args.labels.now c.args.name legal is)).1
+
+pub returns-in_err-tag-in-None-clause-change : goal.returns-in_err-tag-in-None-clause-change
+returns-in_err-tag-in-None-clause-change g c = λ r.
+    let h = held_of (meaning g) r c.args.self.now c.args.labels.now in
+    change-same h c.reserve.new.self c.requires.lent (isnamed-same h.region h.labels c.reserve.new.self c.reserve.ensures.same c.reserve.ensures.agree c.requires.names)

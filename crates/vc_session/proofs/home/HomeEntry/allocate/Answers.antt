@@ -10,7 +10,8 @@ use Rattle.vc_session.specs.Blocks.{is_size, put_new}
 use Rattle.vc_session.specs.Step.{is_for_block}
 use Rattle.vc_session.specs.Homes.{held_of}
 use Rattle.vc_session.specs.Naming.{NamesPut, new_refused}
-use Rattle.vc_session.proofs.Answers.{gives-unchanged, if_ok-all}
+use Rattle.vc_session.proofs.Answers.{change-same, gives-unchanged, if_ok-all}
+use Rattle.vc_session.proofs.Names.{isnamed-same}
 use Rattle.vc_session.proofs.Putting.{alloc-commutes, change-put, err-put, put_new-refused, step-put}
 use Rattle.vc_session.proofs.home.HomeEntry.allocate.Given as given
 use Rattle.vc_session.proofs.home.HomeEntry.allocate.Goals as goal
@@ -59,3 +60,8 @@ returns-in_ok-tag-in-None-clause-change g c = λ r.
     (λ u. region_alloc h.disc.terms h.region tag c.args.size u) (λ u. region_alloc h.disc.terms (home_of h).region (Some c.args.name) c.args.size u)
     (alloc-commutes h c.args.name tag c.args.size) (region_of c.alloc.new.self) c.name_put.new.labels
     (disc_in (meaning g) c.alloc.new.self) (region_need h.disc.terms h.region c.args.size 32) c.args.size c.alloc.result c.name_put.result named c.alloc.ensures.answer c.alloc.ensures.disc c.alloc.ensures.there c.alloc.ensures.others (own_places c.alloc.new.self) c.requires.lent
+
+pub returns-in_err-tag-in-None-clause-change : goal.returns-in_err-tag-in-None-clause-change
+returns-in_err-tag-in-None-clause-change g c = λ r.
+    let h = held_of (meaning g) r c.args.self.now c.args.labels.now in
+    change-same h c.reserve.new.self c.requires.lent (isnamed-same h.region h.labels c.reserve.new.self c.reserve.ensures.same c.reserve.ensures.agree c.requires.names)
