@@ -1,4 +1,4 @@
-use Rattle.std.proofs.Common.{◌≡◌, [], IfOk, List, ℕ, ap, refl, subst}
+use Rattle.std.proofs.Common.{◌≡◌, [], IfOk, List, ℕ, ap, refl, subst, sym}
 use Rattle.vc_model.specs.Discipline.{Discipline}
 use Rattle.vc_script.specs.declared.reply.Reply.TheVariants.{Refused}
 use Rattle.vc_script.specs.declared.refusal.Refusal.TheVariants.{NoSegment}
@@ -50,7 +50,7 @@ pub returns-in-Free-clause-step : goal.returns-in-Free-clause-step
 returns-in-Free-clause-step g c = rw c.in-Free.is c.free.ensures.step
 
 pub returns-in-WriteBlock-clause-step : goal.returns-in-WriteBlock-clause-step
-returns-in-WriteBlock-clause-step g c = rw c.in-WriteBlock.is c.write.ensures.step
+returns-in-WriteBlock-clause-step g c = rw (c.in-WriteBlock.is, sym c.as_slice.ensures) c.write.ensures.step
 
 pub returns-in-ReadBlock-clause-step : goal.returns-in-ReadBlock-clause-step
 returns-in-ReadBlock-clause-step g c = rw c.in-ReadBlock.is c.read.ensures
@@ -108,10 +108,10 @@ returns-in-Segments-clause-unserved g c = λ e.
 
 pub returns-in-Blocks-clause-step : goal.returns-in-Blocks-clause-step
 returns-in-Blocks-clause-step g c =
-    rw c.in-Blocks.is (if_ok-map c.blocks.result _ _ (λ told eq r. gives-changed _ _ told (eq r)) c.blocks.ensures)
+    rw c.in-Blocks.is (if_ok-map c.blocks-in-Blocks.result _ _ (λ told eq r. gives-changed _ _ told (eq r)) c.blocks-in-Blocks.ensures)
 
 pub returns-in-Blocks-clause-unserved : goal.returns-in-Blocks-clause-unserved
 returns-in-Blocks-clause-unserved g c = λ e.
     let k = home_of (held_of (meaning g) [] c.args.self.now c.args.labels.now) in
-    let eq = subst (λ r. IfOk r (λ reply. (n : List ℕ) → list_blocks (home_of (held_of (meaning g) n c.args.self.now c.args.labels.now)) ≡ told (home_of (held_of (meaning g) n c.args.self.now c.args.labels.now)) reply)) e c.blocks.ensures in
+    let eq = subst (λ r. IfOk r (λ reply. (n : List ℕ) → list_blocks (home_of (held_of (meaning g) n c.args.self.now c.args.labels.now)) ≡ told (home_of (held_of (meaning g) n c.args.self.now c.args.labels.now)) reply)) e c.blocks-in-Blocks.ensures in
     absurd (not_refused (list_blocks k) (Refused NoSegment) tt (ap (λ (d : Changed). d.reply) (eq [])) refl)
