@@ -60,7 +60,8 @@ impl Best {
         requires most { size ≤ 16777264 }
         requires align { IsAlign align }
 
-        ensures answer { Answers (best_alloc (state self.old.disc).terms self.old.layout tag size align)
+        ensures answer { Answers
+            (best_alloc (state self.old.disc).terms self.old.layout tag size align)
             result self.old.layout self.new.layout }
         ensures disc { Asks result (state self.old.disc) (state self.new.disc)
             self.old.layout.segments self.new.layout.segments
