@@ -2,12 +2,11 @@ use Rattle.std.proofs.Common.{◌≡◌, ℕ, Option, List, ◌++◌, [], ◌∷
 use Rattle.vc_model.specs.Layout.{address_of}
 use Rattle.vc_model.specs.Walk.{by_address, next_block}
 use Rattle.vc_region.proofs.Sound.{own_places}
+use Rattle.vc_model.specs.Region.{relabelled}
 use Rattle.vc_region.specs.Parts.{blocks_in, region_of}
 use Rattle.vc_script.specs.declared.reply.Reply.TheVariants.{BlockList}
-use Rattle.vc_seg.specs.contracts.boxed.BoxDynSegDiscSegDisc.TheImpl as boxed
-use Rattle.vc_session.specs.Account.{home_of}
-use Rattle.vc_session.specs.Homes.{held_of}
-use Rattle.vc_session.specs.State.{told}
+use Rattle.vc_session.specs.Labels.{name_of}
+use Rattle.vc_session.specs.State.{changed_to}
 use Rattle.vc_session.specs.Whole.{item_of}
 use Rattle.vc_session.proofs.Listing.{FromSome, NextBlock, blocks-all, blocks-end, blocks-next, blocks_above, from_none, from_some, items_of, list-items, next-told}
 use Rattle.vc_session.proofs.home.HomeEntry.blocks.Goals as goal
@@ -36,7 +35,6 @@ loop-block-preserved g c =
 
 pub returns : goal.returns
 returns g c = λ r.
-    let h = held_of (boxed.state-value g.dyn-1).it r c.args.self.now c.args.labels.now in
     let bs = blocks_in c.args.self.now.region in
     let labels = c.args.labels.now in
     let places = own_places c.args.self.now.region in
@@ -47,4 +45,4 @@ returns g c = λ r.
     ∙ (ap (λ is. c.loop-block.items.items ++ items_of labels is) (sym (blocks-end c.loop-block.after.0 bs places none))
     ∙ (c.loop-block.invariant.items
     ∙ ap (items_of labels) (blocks-all bs places)))) in
-    ap (λ is. told (home_of h) (BlockList is)) (list-items (region_of c.args.self.now.region) labels ∙ sym all)
+    ap (λ is. changed_to (relabelled (name_of c.args.labels.now) (region_of c.args.self.now.region)) (BlockList is)) (list-items (region_of c.args.self.now.region) labels ∙ sym all)

@@ -2,10 +2,8 @@ use Rattle.std.proofs.Common.{[], sym, ap, ◌∙◌}
 use Rattle.vc_model.proofs.Clearing.{cleared-blocks, cleared-segments}
 use Rattle.vc_model.specs.Region.{blocks_of, relabelled, segments_of}
 use Rattle.vc_region.proofs.Sound.{own_places}
-use Rattle.vc_region.specs.Parts.{disc_of, region_of}
+use Rattle.vc_region.specs.Parts.{region_of}
 use Rattle.vc_script.specs.declared.reply.Reply.TheVariants.{Cleared}
-use Rattle.vc_seg.specs.contracts.boxed.BoxDynSegDiscSegDisc.TheImpl as boxed
-use Rattle.vc_session.specs.Homes.{held_of}
 use Rattle.vc_session.specs.Labels.{name_of}
 use Rattle.vc_session.specs.State.{changed_to}
 use Rattle.vc_session.proofs.Emptying.{change-same, cleared-names, named-cleared}
@@ -19,10 +17,9 @@ returns-clause-step g c = λ r.
 
 pub returns-clause-change : goal.returns-clause-change
 returns-clause-change g c = λ r.
-    let meaning = (boxed.state-value g.dyn-1).it in
     let old = region_of c.args.self.now.region in
     let new = region_of c.clear-2.new.self in
-    change-same (held_of meaning r c.args.self.now c.args.labels.now) (meaning (disc_of c.clear-2.new.self)) new c.clear.new.self
+    change-same _ _ new c.clear.new.self
     c.clear-2.ensures.disc
     (ap segments_of c.clear-2.ensures.region ∙ cleared-segments old)
     c.requires.lent

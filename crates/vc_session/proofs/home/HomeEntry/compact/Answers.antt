@@ -2,10 +2,8 @@ use Rattle.std.proofs.Common.{sym, ap, ◌∙◌}
 use Rattle.vc_model.proofs.Clearing.{compacted-blocks}
 use Rattle.vc_model.proofs.Relabel.{compact-relabelled, compact_count-relabelled}
 use Rattle.vc_model.specs.Region.{blocks_of, region_compact_count, relabelled}
-use Rattle.vc_region.specs.Parts.{disc_of, region_of}
+use Rattle.vc_region.specs.Parts.{region_of}
 use Rattle.vc_script.specs.declared.reply.Reply.TheVariants.{Compacted}
-use Rattle.vc_seg.specs.contracts.boxed.BoxDynSegDiscSegDisc.TheImpl as boxed
-use Rattle.vc_session.specs.Homes.{held_of}
 use Rattle.vc_session.specs.Labels.{name_of}
 use Rattle.vc_session.specs.State.{changed_to}
 use Rattle.vc_session.proofs.Emptying.{change-back, named-blocks}
@@ -20,9 +18,8 @@ returns-clause-step g c = λ labels r.
 
 pub returns-clause-change : goal.returns-clause-change
 returns-clause-change g c = λ labels names r.
-    let meaning = (boxed.state-value g.dyn-1).it in
     let old = region_of c.args.self.now.region in
     let new = region_of c.compact.new.self in
-    change-back (held_of meaning r c.args.self.now labels) (meaning (disc_of c.compact.new.self)) new labels
+    change-back _ _ new labels
     c.compact.ensures.disc c.requires.lent
     (named-blocks old new labels (ap blocks_of c.compact.ensures.region ∙ compacted-blocks old) names)

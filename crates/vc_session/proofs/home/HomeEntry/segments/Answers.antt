@@ -2,13 +2,11 @@ use Rattle.std.proofs.Common.{◌≡◌, ◌++◌, [], ◌∷◌, length, sym, a
 use Rattle.vc_model.proofs.Relabel.{segments-relabelled}
 use Rattle.vc_model.specs.Walk.{by_number}
 use Rattle.vc_region.proofs.Sound.{own_numbers}
+use Rattle.vc_model.specs.Region.{relabelled}
 use Rattle.vc_region.specs.Parts.{region_of, segments_in}
 use Rattle.vc_script.specs.declared.reply.Reply.TheVariants.{SegmentList}
-use Rattle.vc_seg.specs.contracts.boxed.BoxDynSegDiscSegDisc.TheImpl as boxed
-use Rattle.vc_session.specs.Account.{home_of}
-use Rattle.vc_session.specs.Homes.{held_of}
 use Rattle.vc_session.specs.Labels.{name_of}
-use Rattle.vc_session.specs.State.{told}
+use Rattle.vc_session.specs.State.{changed_to}
 use Rattle.vc_session.proofs.Listing.{segments-all, segments-end, segments-next, segments_above}
 use Rattle.vc_session.proofs.home.HomeEntry.segments.Goals as goal
 
@@ -28,7 +26,6 @@ loop-segment-preserved g c =
 
 pub returns : goal.returns
 returns g c = λ labels r.
-    let h = held_of (boxed.state-value g.dyn-1).it r c.args.self.now labels in
     let ss = segments_in c.args.self.now.region in
     let numbers = own_numbers c.args.self.now.region in
     let all : c.from_vec.result ≡ by_number ss =
@@ -37,4 +34,4 @@ returns g c = λ labels r.
     ∙ (ap (λ is. c.loop-segment.items.items ++ is) (sym (segments-end c.loop-segment.after ss numbers (sym c.in_default.ensures)))
     ∙ (c.loop-segment.invariant
     ∙ segments-all ss numbers))) in
-    ap (λ is. told (home_of h) (SegmentList is)) (ap by_number (segments-relabelled (name_of labels) (region_of c.args.self.now.region)) ∙ sym all)
+    ap (λ is. changed_to (relabelled (name_of labels) (region_of c.args.self.now.region)) (SegmentList is)) (ap by_number (segments-relabelled (name_of labels) (region_of c.args.self.now.region)) ∙ sym all)
