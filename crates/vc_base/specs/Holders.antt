@@ -37,15 +37,24 @@ abbrev pub without : ℕ → List ℕ → List ℕ
 without at [] = []
 without at (x ∷ xs) = if x == at then xs else x ∷ without at xs
 
--- the address behind that one, or 0 where it is the last
-abbrev pub next_of : ℕ → List ℕ → ℕ
-next_of at [] = 0
-next_of at (x ∷ xs) = if x == at then first_of xs 0 else next_of at xs
+-- the first address, and the last
+abbrev pub first_in : List ℕ → Option ℕ
+first_in [] = None
+first_in (x ∷ xs) = Some x
 
--- the address before that one, or the other where it is the first
-abbrev pub previous_of : ℕ → ℕ → List ℕ → ℕ
-previous_of other at [] = 0
-previous_of other at (x ∷ xs) = if x == at then other else previous_of x at xs
+abbrev pub last_in : List ℕ → Option ℕ
+last_in [] = None
+last_in (x ∷ xs) = Some (last_of x xs)
+
+-- the address behind that one
+abbrev pub next_in : ℕ → List ℕ → Option ℕ
+next_in at [] = None
+next_in at (x ∷ xs) = if x == at then first_in xs else next_in at xs
+
+-- the address before that one, in a list behind another address or none
+abbrev pub previous_in : Option ℕ → ℕ → List ℕ → Option ℕ
+previous_in before at [] = None
+previous_in before at (x ∷ xs) = if x == at then before else previous_in (Some x) at xs
 
 -- an address, or none where it is 0
 abbrev pub some_address : ℕ → Option ℕ
