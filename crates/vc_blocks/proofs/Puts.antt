@@ -1,8 +1,8 @@
 -- What putting a block leaves.
 use Rattle.std.proofs.Common.{◌≡◌, ◌≢◌, ℕ, ◌+◌, ◌<◌, ◌≤◌, List, [], ◌∷◌, ◌++◌, false, All, length, get_or, map, replicate, refl, ap, sym, ◌∙◌, subst, eqb, append_assoc, arith}
-use Rattle.std.specs.Prelude.{Ok, Err}
+use Rattle.std.specs.Prelude.{Err}
 use Rattle.std.proofs.lemmas.Bool.{ne_eqb, or_from}
-use Rattle.std.proofs.lemmas.List.{length_push, length-map, length-replicate, map_push}
+use Rattle.std.proofs.lemmas.List.{length_push, length-replicate, map_push}
 use Rattle.std.proofs.lemmas.List.Elements.{All-head, All-tail, All-map}
 use Rattle.vc_model.specs.Best.{zeros}
 use Rattle.vc_model.specs.Discipline.{Discipline, Lent, Served}
@@ -11,7 +11,6 @@ use Rattle.vc_model.specs.Segments.{numbers}
 use Rattle.vc_model.specs.Sound.{HaveOwnNumbers}
 use Rattle.vc_seg.specs.declared.fault.RegionFault.{RegionFault}
 use Rattle.vc_seg.specs.declared.fault.RegionFault.TheVariants as code
-use Rattle.vc_base.specs.declared.addr.Addr.{Addr}
 use Rattle.vc_seg.specs.Answer.{Asks}
 use Rattle.vc_seg.specs.Segment.{Bytes, pair_of, zeroed}
 use Rattle.vc_segments.specs.Lend.{IsAsked}

@@ -15,3 +15,4 @@ mod walk;
 pub use layout::Layout;
 pub use order::Order;
 pub use slot::Slot;
+pub use slots::is_occupied;
