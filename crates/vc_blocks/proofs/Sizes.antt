@@ -37,7 +37,7 @@ abbrev pub Clear : Slot → Slot → Slot → Type 0
 Clear s new t = (is_slot_at (place_of_slot s) t ≡ true) ⊎ IsApart (body_of new) (body_of t)
 
 -- two slots with no byte in common are not at one place
-not_there : (s t : Slot) → 1 ≤ s.size → 1 ≤ t.size → Beside s t → is_slot_at (place_of_slot s) t ≡ true → ⊥
+pub not_there : (s t : Slot) → 1 ≤ s.size → 1 ≤ t.size → Beside s t → is_slot_at (place_of_slot s) t ≡ true → ⊥
 not_there s t some its beside e =
     let both = and_parts (eqb t.seg s.seg) (eqb t.off s.off) e in
     let seg : t.seg ≡ s.seg = eqb-true t.seg s.seg both.0 in

@@ -9,6 +9,8 @@ mod put;
 mod sized;
 mod slot;
 mod slots;
+mod stat;
+mod tally;
 mod touch;
 mod walk;
 
@@ -16,3 +18,4 @@ pub use layout::Layout;
 pub use order::Order;
 pub use slot::Slot;
 pub use slots::is_occupied;
+pub use tally::Tally;

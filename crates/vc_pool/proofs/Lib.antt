@@ -8,3 +8,5 @@ pub mod Fitting
 pub mod Standing
 pub mod Compacting
 pub mod Written
+pub mod Counts
+pub mod Numbers

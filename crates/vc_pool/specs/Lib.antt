@@ -7,3 +7,4 @@ pub use Rattle.vc_model.specs.Touch
 pub use Rattle.vc_model.specs.Walk
 pub use Rattle.vc_seg.specs.Answer
 pub mod Cells
+pub mod Stat

@@ -6,14 +6,16 @@ ghost use Rattle.vc_model.specs.Addr.{place_of};
 ghost use Rattle.vc_model.specs.Outcome.{Done};
 ghost use Rattle.vc_model.specs.Touch.{HasBlock, HasRange, with_bytes_at};
 ghost use Rattle.vc_blocks.specs.Slot.{has_slot};
+ghost use Rattle.vc_pool.specs.Stat.{pool_stat};
 ghost use Rattle.vc_seg.specs.Answer.{Answers, Asks, IsRefusal};
 
 use crate::carved::{carve_one, find_uncarved};
+use crate::count::count_cells;
 use std::alloc::Global;
 use std::marker::Model;
 use vc_base::Addr;
 use vc_blocks::{Layout, Order, Slot, is_occupied};
-use vc_seg::{RegionFault, SegDisc};
+use vc_seg::{RegionFault, SegDisc, Stat};
 use vc_segments::{round_of, rounded_up};
 
 /// The segments, the blocks and the cells of a pool.
@@ -251,5 +253,30 @@ impl Cells {
         ensures { IsPoolSound self.now }
     {
         let _ = &self.element;
+    }
+
+    /// Its numbers of blocks, cells and segments, and their sizes in bytes.
+    pub(crate) fn stat(&self) -> Stat
+        ensures { result ≡ pool_stat self.now }
+    {
+        let blocks = self.layout.tally_blocks();
+        let segments = self.layout.tally_segments();
+        let cell = rounded_up(self.element, 32);
+        let cells = if self.element == 0 {
+            0
+        } else {
+            count_cells(self.layout.segments(), cell)
+        };
+        let free = cells.saturating_sub(blocks.count);
+        Stat {
+            busy: blocks.count,
+            free,
+            sbusy: blocks.bytes,
+            sfree: free * u64::from(cell),
+            mbusy: blocks.most,
+            mfree: if free == 0 { 0 } else { u64::from(cell) },
+            segs: segments.count as u32,
+            extent: segments.bytes,
+        }
     }
 }

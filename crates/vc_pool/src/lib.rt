@@ -4,6 +4,7 @@
 mod block;
 mod carved;
 mod cells;
+mod count;
 mod pool;
 
 pub use cells::Cells;

@@ -7,12 +7,13 @@ ghost use Rattle.vc_model.specs.Outcome.{Done};
 ghost use Rattle.vc_model.specs.Pool.{IsPoolSound, empty_pool, pool_alloc, pool_clear, pool_compact, pool_free, pool_need, pool_resize};
 ghost use Rattle.vc_model.specs.Touch.{HasBlock};
 ghost use Rattle.vc_model.specs.Walk.{block_at, next_block, next_segment, segment_at};
+ghost use Rattle.vc_pool.specs.Stat.{pool_stat};
 ghost use Rattle.vc_seg.specs.Answer.{Answers, Asks, IsRefusal};
 
 use crate::cells::Cells;
 use std::alloc::Global;
 use vc_base::{Addr, OutOfMemory};
-use vc_seg::{RegionFault, SegDisc};
+use vc_seg::{RegionFault, SegDisc, Stat};
 
 /// A region of cells of one size over the segments of a discipline, after Vmalloc's `Vmpool`. The first block that is
 /// granted sets the element size, which stays until `close`. Sizes and offsets are in bytes.
@@ -112,6 +113,14 @@ impl Pool {
         let count = self.cells.compact(&mut self.disc);
         self.cells.look();
         count
+    }
+
+    /// Its numbers of blocks, cells and segments, and their sizes in bytes: `free` counts the cells that no block is in,
+    /// and `mfree` is the cell, or 0 with no such cell.
+    pub fn stat(&self) -> Stat
+        ensures { result ≡ pool_stat self.now.cells }
+    {
+        self.cells.stat()
     }
 
     /// Gives all its segments back, in ascending order of number, and answers with the discipline and how many there
