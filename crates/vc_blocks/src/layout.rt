@@ -112,7 +112,8 @@ impl Layout {
         requires { HasOut (state disc.old) self.old.segments }
         ensures layout { self.new ≡ compacted self.old }
         ensures count { result ≡ compact_count self.old }
-        ensures disc { TookBack (state disc.old) (state disc.new) self.old.segments self.new.segments }
+        ensures disc { TookBack (state disc.old)
+            (state disc.new) self.old.segments self.new.segments }
     {
         let before = self.segs.len();
         give_back(&mut self.segs, &Occupied(&self.blocks), disc);

@@ -19,7 +19,8 @@ pub(crate) fn slot_at(slots: &[Slot], seg: u32, off: u32) -> Option<Slot>
 
 /// The lesser of the least address so far and one more, where that is above another.
 fn consider(least: Option<u32>, after: u32, address: u32) -> Option<u32>
-    ensures { result ≡ fold (lesser_by (λ a. a)) least (filter (λ a. nat_lt after a) (address ∷ [])) }
+    ensures { result ≡ fold (lesser_by (λ a. a)) least (filter (λ a. nat_lt after a)
+        (address ∷ [])) }
 {
     if address <= after {
         return least;

@@ -20,7 +20,8 @@ pub(crate) fn carved_of(carved: &[(u32, u32)], number: u32) -> u32
 
 /// Where the segment of that number is among these.
 fn find_entry(carved: &[(u32, u32)], number: u32) -> Option<usize>
-    ensures found { IfSome result (λ i. (i < length carved.now) × HoldsAt (λ c. c.0 ≡ number) carved.now i) }
+    ensures found { IfSome result (λ i. (i < length carved.now) × HoldsAt (λ c. c.0
+        ≡ number) carved.now i) }
     ensures first { IfSome result (λ i. All (λ c. c.0 ≢ number) (take i carved.now)) }
     ensures none { IfNone result (All (λ c. c.0 ≢ number) carved.now) }
 {
@@ -51,7 +52,8 @@ pub(crate) fn find_uncarved(
     cell: u32,
 ) -> Option<(u32, u32)>
     requires legal { AreSegments segs.now }
-    requires within { All (λ s. cell_offset cell (carved_in s.number carved.now) ≤ length s.bytes) segs.now }
+    requires within { All (λ s. cell_offset cell
+        (carved_in s.number carved.now) ≤ length s.bytes) segs.now }
     requires cell { cell ≤ 16777216 }
     ensures { result ≡ uncarved cell carved.now (map pair_of segs.now) }
 {

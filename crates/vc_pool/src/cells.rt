@@ -101,7 +101,8 @@ impl Cells {
         requires most { size ≤ 16777216 }
         requires fits { size ≤ element_with self.old size }
         requires none { self.old.freed ≡ [] }
-        ensures answer { Answers (pool_alloc (state disc.old).terms self.old tag size) result self.old self.new }
+        ensures answer { Answers (pool_alloc
+            (state disc.old).terms self.old tag size) result self.old self.new }
         ensures disc { Asks result (state disc.old) (state disc.new)
             self.old.layout.segments self.new.layout.segments (pool_need (state disc.old).terms self.old size) }
     {
@@ -146,7 +147,8 @@ impl Cells {
     ) -> Result<Addr, RegionFault>
         requires some { 1 ≤ size }
         requires most { size ≤ 16777216 }
-        ensures answer { Answers (pool_alloc (state disc.old).terms self.old tag size) result self.old self.new }
+        ensures answer { Answers (pool_alloc
+            (state disc.old).terms self.old tag size) result self.old self.new }
         ensures disc { Asks result (state disc.old) (state disc.new)
             self.old.layout.segments self.new.layout.segments (pool_need (state disc.old).terms self.old size) }
     {
@@ -243,7 +245,10 @@ impl Cells {
     pub(crate) fn write(&mut self, a: Addr, off: u32, src: &[u8])
         requires block { HasBlock self.old.layout.blocks a.0 }
         requires range { HasRange self.old.layout.blocks a.0 off (length src.now) }
-        ensures { self.new ≡ record self.old { layout = with_bytes_at self.old.layout (place_of a.0) off src.now } }
+        ensures { self.new ≡ record self.old {
+          layout = with_bytes_at self.old.layout
+              (place_of a.0) off src.now;
+        } }
     {
         self.layout.write(a, off, src);
     }

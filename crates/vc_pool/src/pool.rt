@@ -69,7 +69,8 @@ impl Pool {
         requires most { size ≤ 16777216 }
         ensures ok { OnOk result (pool_resize self.old.cells (place_of a.0) size
             ≡ Done (record { at = place_of a.0; region = self.new.cells; granted = None })) }
-        ensures err { IfErr result (IsRefusal (λ _. pool_resize self.old.cells (place_of a.0) size)) }
+        ensures err { IfErr result (IsRefusal (λ _. pool_resize self.old.cells
+            (place_of a.0) size)) }
         ensures same { OnErr result (self.new.cells ≡ self.old.cells) }
         ensures disc { state self.new.disc ≡ state self.old.disc }
         ensures sound { IsPoolSound self.new.cells }
