@@ -18,7 +18,7 @@ impl Keeps for Occupied<'_> {
 }
 
 /// Whether a slot is in the segment of that number.
-fn is_occupied(slots: &[Slot], number: u32) -> bool
+pub fn is_occupied(slots: &[Slot], number: u32) -> bool
     ensures { result ≡ has_slot slots.now number }
 {
     for slot in slots {
