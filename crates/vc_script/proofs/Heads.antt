@@ -8,13 +8,13 @@ use Rattle.std.proofs.lemmas.List.{append-nil, take-append-drop}
 use Rattle.std.proofs.lemmas.Slice.Eq.{bytes_eq-Decides}
 use Rattle.hex.specs.Hex.{encode_lower}
 use Rattle.vc_script.specs.declared.refusal.Refusal.{Refusal}
-use Rattle.vc_script.specs.declared.refusal.Refusal.TheVariants.{NoSegment}
+use Rattle.vc_script.specs.declared.refusal.Refusal.TheVariants.{NoSegment, NoSegmentForTable, NoSegmentForObject}
 use Rattle.vc_script.specs.declared.reply.Reply.{Reply}
 use Rattle.vc_script.specs.declared.reply.Reply.TheVariants.{Opened, Closed, Cleared, Compacted, At, Freed, Written, Hex, Size, AddrIn, AddrNone, SegmentIs, SegmentNone, Stats, SegmentList, BlockList, Poked, Damaged, Watched, Rows, New, Old, Gone, Out, Found, Nothing, Objects, Number, Views, MethodIs, Emptied, ShutDown, Refused}
 use Rattle.vc_script.specs.Words.{is_digit, is_letter, is_name_byte}
 use Rattle.vc_script.specs.Proper.{IsName}
 use Rattle.vc_script.specs.ProperReply.{IsProperReply}
-use Rattle.vc_script.specs.Needs.{NoNeed, ForBlock, begins_refused, is_refusal, need_of, need_for, need_shown}
+use Rattle.vc_script.specs.Needs.{NoNeed, ForBlock, ForTable, ForObject, begins_refused, is_refusal, need_of, need_for, need_shown}
 use Rattle.vc_script.specs.Print.{printed, watch_text, viewed_text, method_word, object_text}
 use Rattle.vc_script.proofs.Newlines.{list_all-decimal, list_all-name}
 
@@ -159,12 +159,20 @@ begins_refused-printed r proper =
       | inr w ↦ plain-begins (printed r) w.2 ∙ sym w.0
     ]
 
+-- a line in which no colon comes first isn't that of a refusal
+plain-differs : (xs line : List ℕ) → Plain xs → first_other line ≡ 58 → bytes_eq xs line ≡ false
+plain-differs xs line plain colon =
+    elim (cases_Bool (bytes_eq xs line)) [
+      | inl same ↦ absurd (plain (ap first_other ((bytes_eq-Decides xs line).0 same) ∙ colon))
+      | inr differs ↦ differs
+    ]
+
 plain-need : (xs : List ℕ) → Plain xs → need_of xs ≡ NoNeed
 plain-need xs plain =
-    elim (cases_Bool (bytes_eq xs (codes "refused: no segment"))) [
-      | inl same ↦ absurd (plain (ap first_other ((bytes_eq-Decides xs (codes "refused: no segment")).0 same)))
-      | inr differs ↦ ap (λ t. cond t ForBlock NoNeed) differs
-    ]
+    let block = plain-differs xs (codes "refused: no segment") plain refl in
+    let table = plain-differs xs (codes "refused: no segment for table") plain refl in
+    let object = plain-differs xs (codes "refused: no segment for object") plain refl in
+    rw (block, table, object) refl
 
 need-refusal : (why : Refusal) → need_of (printed (Refused why)) ≡ need_for why
 need-refusal NoSegment = refl
@@ -177,3 +185,25 @@ need_of-printed r proper =
       | inl w ↦ subst (λ q. need_of (printed q) ≡ need_shown q) (sym w.1) (need-refusal w.0)
       | inr w ↦ plain-need (printed r) w.2 ∙ sym w.1
     ]
+
+need_shown-block : (r : Reply) → need_shown r ≡ ForBlock → r ≡ Refused NoSegment
+need_shown-block (Refused NoSegment) is = refl
+need_shown-block r is = cc
+
+need_shown-table : (r : Reply) → need_shown r ≡ ForTable → r ≡ Refused NoSegmentForTable
+need_shown-table (Refused NoSegmentForTable) is = refl
+need_shown-table r is = cc
+
+need_shown-object : (r : Reply) → need_shown r ≡ ForObject → r ≡ Refused NoSegmentForObject
+need_shown-object (Refused NoSegmentForObject) is = refl
+need_shown-object r is = cc
+
+-- a whole line of a refused segment is the line of that refusal
+pub block-printed : (r : Reply) → IsProperReply r → printed r ≡ codes "refused: no segment" → r ≡ Refused NoSegment
+block-printed r proper line = need_shown-block r (sym (need_of-printed r proper) ∙ ap need_of line)
+
+pub table-printed : (r : Reply) → IsProperReply r → printed r ≡ codes "refused: no segment for table" → r ≡ Refused NoSegmentForTable
+table-printed r proper line = need_shown-table r (sym (need_of-printed r proper) ∙ ap need_of line)
+
+pub object-printed : (r : Reply) → IsProperReply r → printed r ≡ codes "refused: no segment for object" → r ≡ Refused NoSegmentForObject
+object-printed r proper line = need_shown-object r (sym (need_of-printed r proper) ∙ ap need_of line)

@@ -6,7 +6,6 @@ pub mod NameBounds
 pub mod WordSteps
 pub mod PrintSteps
 pub mod ProperWords
-pub mod ProperCounts
 pub mod ProperCommands
 pub mod Newlines
 pub mod Heads

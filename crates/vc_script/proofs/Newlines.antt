@@ -17,7 +17,7 @@ use Rattle.vc_seg.specs.declared.profile_row.ProfileRow.{ProfileRow}
 use Rattle.vc_seg.specs.declared.stat.Stat.{Stat}
 use Rattle.vc_script.specs.declared.place.Place.{Place}
 use Rattle.vc_script.specs.declared.refusal.Refusal.{Refusal}
-use Rattle.vc_script.specs.declared.refusal.Refusal.TheVariants.{NoSegment}
+use Rattle.vc_script.specs.declared.refusal.Refusal.TheVariants.{FreedAt}
 use Rattle.vc_script.specs.declared.reply.Reply.{Reply}
 use Rattle.vc_script.specs.declared.reply.Reply.TheVariants.{Opened, Closed, Cleared, Compacted, At, Freed, Written, Hex, Size, AddrIn, AddrNone, SegmentIs, SegmentNone, Stats, SegmentList, BlockList, Poked, Damaged, Watched, Rows, New, Old, Gone, Out, Found, Nothing, Objects, Number, Views, MethodIs, Emptied, ShutDown, Refused}
 use Rattle.vc_script.specs.Words.{is_digit, is_letter, is_name, is_name_byte}
@@ -117,9 +117,9 @@ line-method DtList = refl
 line-method DtStack = refl
 line-method DtQueue = refl
 
--- one clause is named, so that the other is checked for each refusal
+-- the clause of the line is named, so that the others are checked for each refusal
 line-refusal : (why : Refusal) → OneLine (refusal_text why)
-line-refusal NoSegment = refl
+line-refusal (FreedAt line) = both (codes "freed at line ") (decimal line) refl (line-decimal line)
 line-refusal why = refl
 
 -- a digit of a table without newlines

@@ -1,143 +1,211 @@
 -- The commands that a line gives are proper.
-use Rattle.std.proofs.Common.{◌≡◌, ◌≢◌, sym, IfOk, ℕ, Bool, true, false, cond, List, [], ◌∷◌, subst, codes}
-use Rattle.std.specs.Prelude.{Result, Ok, Err}
+use Rattle.std.proofs.Common.{◌≡◌, ◌≢◌, sym, IfOk, ℕ, Bool, true, false, List, [], ◌∷◌, cond, length, subst, nat_abs}
+use Rattle.std.specs.Prelude.{Option, Some, None, Result, Ok, Err}
+use Rattle.std.specs.List.{AllByRecursion}
 use Rattle.std.specs.Str.{bytes_eq}
 use Rattle.vc_script.specs.declared.command.Command.{Command}
-use Rattle.vc_script.specs.declared.command.Command.TheVariants.{CloseRegion, ClearRegion, Compact, Align, Free, ReadBlock, SizeOf, AddrOf, SegmentOf, StatOf, Segments, Blocks, Check, Watch, ProfileOf}
 use Rattle.vc_script.specs.declared.line_fault.LineFault.{LineFault}
+use Rattle.vc_script.specs.declared.line_fault.LineFault.TheVariants.{WordCount}
 use Rattle.vc_script.specs.declared.line_answer.LineAnswer.{LineAnswer}
 use Rattle.vc_script.specs.declared.line_answer.LineAnswer.TheVariants.{Blank, Is, Bad}
-use Rattle.vc_script.specs.declared.place.Place.{Place}
 use Rattle.vc_script.specs.declared.tool.Tool.{Tool}
-use Rattle.vc_script.specs.declared.tool.Tool.TheVariants.{Vmreplay}
+use Rattle.vc_script.specs.declared.tool.Tool.TheVariants.{Vmreplay, Dtrun}
 use Rattle.vc_base.specs.declared.fault.OutOfMemory.{OutOfMemory}
 use Rattle.vc_script.specs.Words.{words}
-use Rattle.vc_script.specs.Counts.{four_words, one_word, three_or_four_words, three_words, two_words}
-use Rattle.vc_script.specs.Forms.{◌>>=◌, address_of, bytes_of, method_of, mode_of, name_of, number_of, optional_site_of, signed_of}
-use Rattle.vc_script.specs.Commands.{address_in, alloc_in, block_and_numbers_in, block_command, block_in, command_over_regions, open_in, place_command, poke_in, region_command, region_in, resize_in, write_in}
-use Rattle.vc_script.specs.Answer.{answer, answer_of, answer_to, command_of, is_comment}
+use Rattle.vc_script.specs.Forms.{◌>>=◌, Form, Name, Site, Number, SignedNumber, Address, Bytes, RegionMethod, DictionaryMethod, Mode, NameOrDash, Value, value_of}
+use Rattle.vc_script.specs.Table.{Row, Values, command_of, dictionary_rows, made, own_rows, read_words, table, takes, values_of}
+use Rattle.vc_script.specs.Answer.{answer, answer_of, answer_to, command_in, is_comment}
 use Rattle.vc_script.specs.Proper.{IsAddress, IsFaultOfWords, IsName, IsNumber, IsProperAnswer, IsProperCommand, IsSite}
-use Rattle.vc_script.proofs.ProperWords.{Anything, Gives, Gives-address_of, Gives-bytes_of, Gives-if, Gives-method_of, Gives-mode_of, Gives-name_of, Gives-number_of, Gives-optional_site_of, Gives-signed_of, Gives-then, IsSigned}
-use Rattle.vc_script.proofs.ProperCounts.{Gives-four_words, Gives-one_word, Gives-three_or_four_words, Gives-three_words, Gives-two_words}
+use Rattle.vc_script.proofs.ProperWords.{Anything, Gives, Gives-address_of, Gives-bytes_of, Gives-dict_method_of, Gives-if, Gives-method_of, Gives-mode_of, Gives-name_of, Gives-name_or_dash_of, Gives-number_of, Gives-signed_of, Gives-site_of, Gives-then}
 
-Gives-region_in : (others : List (List ℕ)) → Gives IsName (region_in others)
-Gives-region_in others =
-    Gives-then Anything IsName (one_word others) name_of (Gives-one_word others) (λ word _. Gives-name_of word)
+-- the value of a word of a form
+abbrev IsProperValue : (form : Form) → Value form → Type 0
+IsProperValue Name name = IsName name
+IsProperValue Site site = IsName site
+IsProperValue Number n = IsNumber n
+IsProperValue SignedNumber n = IsNumber (nat_abs n)
+IsProperValue Address place = IsAddress place
+IsProperValue NameOrDash name = IsSite name
+IsProperValue form value = Unit {0}
 
-abbrev IsBlock : List ℕ × List ℕ → Type 0
-IsBlock x = IsName x.0 × IsName x.1
+-- of a last word that may be missing
+abbrev IsProperLast : (form : Form) → Option (Value form) → Type 0
+IsProperLast form None = Unit {0}
+IsProperLast form (Some value) = IsProperValue form value
 
-abbrev IsPlace : List ℕ × Place → Type 0
-IsPlace x = IsName x.0 × IsAddress x.1
+-- of all words
+abbrev AreProper : (forms : List Form) (last : Option Form) → Values forms last → Type 0
+AreProper [] None values = Unit {0}
+AreProper [] (Some form) value = IsProperLast form value
+AreProper (form ∷ forms) last values = IsProperValue form values.0 × AreProper forms last values.1
 
-abbrev IsBlockAndNumbers : List ℕ × List ℕ × ℕ × ℕ → Type 0
-IsBlockAndNumbers x = IsName x.0 × IsName x.1 × IsNumber x.2 × IsNumber x.3
+Gives-value_of : (form : Form) (word : List ℕ) → Gives (IsProperValue form) (value_of form word)
+Gives-value_of Name word = Gives-name_of word
+Gives-value_of Site word = Gives-site_of word
+Gives-value_of Number word = Gives-number_of word
+Gives-value_of SignedNumber word = Gives-signed_of word
+Gives-value_of Address word = Gives-address_of word
+Gives-value_of Bytes word = Gives-bytes_of word
+Gives-value_of RegionMethod word = Gives-method_of word
+Gives-value_of DictionaryMethod word = Gives-dict_method_of word
+Gives-value_of Mode word = Gives-mode_of word
+Gives-value_of NameOrDash word = Gives-name_or_dash_of word
 
-Gives-block_in : (others : List (List ℕ)) → Gives IsBlock (block_in others)
-Gives-block_in others =
-    Gives-then Anything IsBlock (two_words others) _ (Gives-two_words others) (λ ws _.
-    Gives-then IsName IsBlock (name_of ws.0) _ (Gives-name_of ws.0) (λ region proper_region.
-    Gives-then IsName IsBlock (name_of ws.1) _ (Gives-name_of ws.1) (λ block proper_block.
-    (proper_region, proper_block))))
+Gives-values_of : (forms : List Form) (last : Option Form) (others : List (List ℕ)) → Gives (AreProper forms last) (values_of forms last others)
+Gives-values_of [] None others = tt
+Gives-values_of [] (Some form) [] = tt
+Gives-values_of [] (Some form) (word ∷ others) =
+    Gives-then (IsProperValue form) (AreProper [] (Some form)) (value_of form word) (λ value. Ok (Some value)) (Gives-value_of form word) (λ value proper. proper)
+Gives-values_of (form ∷ forms) last [] = tt
+Gives-values_of (form ∷ forms) last (word ∷ others) =
+    Gives-then (IsProperValue form) (AreProper (form ∷ forms) last) (value_of form word) _ (Gives-value_of form word) (λ value proper_value.
+    Gives-then (AreProper forms last) (AreProper (form ∷ forms) last) (values_of forms last others) _ (Gives-values_of forms last others) (λ values proper_values.
+    (proper_value, proper_values)))
 
-Gives-address_in : (others : List (List ℕ)) → Gives IsPlace (address_in others)
-Gives-address_in others =
-    Gives-then Anything IsPlace (two_words others) _ (Gives-two_words others) (λ ws _.
-    Gives-then IsName IsPlace (name_of ws.0) _ (Gives-name_of ws.0) (λ region proper_region.
-    Gives-then IsAddress IsPlace (address_of ws.1) _ (Gives-address_of ws.1) (λ place proper_place.
-    (proper_region, proper_place))))
+Gives-read_words : (forms : List Form) (last : Option Form) (others : List (List ℕ)) → Gives (AreProper forms last) (read_words forms last others)
+Gives-read_words forms last others =
+    Gives-if (AreProper forms last) (takes forms last (length others)) (values_of forms last others) (Err WordCount) (λ _. Gives-values_of forms last others) tt
 
-Gives-block_and_numbers_in : (others : List (List ℕ)) → Gives IsBlockAndNumbers (block_and_numbers_in others)
-Gives-block_and_numbers_in others =
-    Gives-then Anything IsBlockAndNumbers (four_words others) _ (Gives-four_words others) (λ ws _.
-    Gives-then IsName IsBlockAndNumbers (name_of ws.0) _ (Gives-name_of ws.0) (λ region proper_region.
-    Gives-then IsName IsBlockAndNumbers (name_of ws.1) _ (Gives-name_of ws.1) (λ block proper_block.
-    Gives-then IsNumber IsBlockAndNumbers (number_of ws.2) _ (Gives-number_of ws.2) (λ n proper_n.
-    Gives-then IsNumber IsBlockAndNumbers (number_of ws.3) _ (Gives-number_of ws.3) (λ m proper_m.
-    (proper_region, proper_block, proper_n, proper_m))))))
+-- proper words make a proper command
+abbrev IsProperRow : Row → Type 0
+IsProperRow r = (values : Values r.forms r.last) → AreProper r.forms r.last values → IsProperCommand (made r.forms r.last r.make values)
 
-Gives-open_in : (others : List (List ℕ)) → Gives IsProperCommand (open_in others)
-Gives-open_in others =
-    Gives-then Anything IsProperCommand (three_words others) _ (Gives-three_words others) (λ ws _.
-    Gives-then IsName IsProperCommand (name_of ws.0) _ (Gives-name_of ws.0) (λ region proper_region.
-    Gives-then Anything IsProperCommand (method_of ws.1) _ (Gives-method_of ws.1) (λ method proper_method.
-    Gives-then IsNumber IsProperCommand (number_of ws.2) _ (Gives-number_of ws.2) (λ place proper_place.
-    (proper_region, proper_place)))))
+IsSite-last : (site : Option (List ℕ)) → IsProperLast Site site → IsSite site
+IsSite-last None proper = tt
+IsSite-last (Some site) proper = proper
 
-Gives-alloc_in : (others : List (List ℕ)) → Gives IsProperCommand (alloc_in others)
-Gives-alloc_in others =
-    Gives-then Anything IsProperCommand (three_or_four_words others) _ (Gives-three_or_four_words others) (λ ws _.
-    Gives-then IsName IsProperCommand (name_of ws.0) _ (Gives-name_of ws.0) (λ region proper_region.
-    Gives-then IsName IsProperCommand (name_of ws.1) _ (Gives-name_of ws.1) (λ block proper_block.
-    Gives-then IsNumber IsProperCommand (number_of ws.2) _ (Gives-number_of ws.2) (λ size proper_size.
-    Gives-then IsSite IsProperCommand (optional_site_of ws.3) _ (Gives-optional_site_of ws.3) (λ site proper_site.
-    (proper_region, proper_block, proper_size, proper_site))))))
+proper_dictionary_rows : AllByRecursion IsProperRow dictionary_rows
+proper_dictionary_rows = (
+  (λ values p. (p.0, p.1.1.0, p.1.1.1.0)),
+  (
+    (λ values p. p.0),
+    (
+      (λ values p. p.0),
+      (
+        (λ values p. p.0),
+        (
+          (λ values p. p.0),
+          (
+            (λ values p. p.0),
+            (
+              (λ values p. p.0),
+              (
+                (λ values p. p.0),
+                (
+                  (λ values p. p.0),
+                  (
+                    (λ values p. p.0),
+                    (
+                      (λ values p. p.0),
+                      (
+                        (λ values p. p.0),
+                        (
+                          (λ values p. p.0),
+                          (
+                            (λ values p. p.0),
+                            (
+                              (λ values p. (p.0, p.1.0)),
+                              (
+                                (λ values p. p.0),
+                                (
+                                  (λ values p. p.0),
+                                  (
+                                    (λ values p. p.0),
+                                    tt,
+                                  ),
+                                ),
+                              ),
+                            ),
+                          ),
+                        ),
+                      ),
+                    ),
+                  ),
+                ),
+              ),
+            ),
+          ),
+        ),
+      ),
+    ),
+  ),
+)
 
-Gives-resize_in : (others : List (List ℕ)) → Gives IsProperCommand (resize_in others)
-Gives-resize_in others =
-    Gives-then Anything IsProperCommand (four_words others) _ (Gives-four_words others) (λ ws _.
-    Gives-then IsName IsProperCommand (name_of ws.0) _ (Gives-name_of ws.0) (λ region proper_region.
-    Gives-then IsName IsProperCommand (name_of ws.1) _ (Gives-name_of ws.1) (λ block proper_block.
-    Gives-then IsNumber IsProperCommand (number_of ws.2) _ (Gives-number_of ws.2) (λ size proper_size.
-    Gives-then Anything IsProperCommand (mode_of ws.3) _ (Gives-mode_of ws.3) (λ moves proper_moves.
-    (proper_region, proper_block, proper_size))))))
+proper_own_rows : (tool : Tool) → AllByRecursion IsProperRow (own_rows tool)
+proper_own_rows Vmreplay = tt
+proper_own_rows Dtrun = proper_dictionary_rows
 
-Gives-write_in : (others : List (List ℕ)) → Gives IsProperCommand (write_in others)
-Gives-write_in others =
-    Gives-then Anything IsProperCommand (four_words others) _ (Gives-four_words others) (λ ws _.
-    Gives-then IsName IsProperCommand (name_of ws.0) _ (Gives-name_of ws.0) (λ region proper_region.
-    Gives-then IsName IsProperCommand (name_of ws.1) _ (Gives-name_of ws.1) (λ block proper_block.
-    Gives-then IsNumber IsProperCommand (number_of ws.2) _ (Gives-number_of ws.2) (λ off proper_off.
-    Gives-then Anything IsProperCommand (bytes_of ws.3) _ (Gives-bytes_of ws.3) (λ bytes proper_bytes.
-    (proper_region, proper_block, proper_off))))))
+proper_rows : (tool : Tool) → AllByRecursion IsProperRow (table tool)
+proper_rows tool = (
+  (λ values p. (p.0, p.1.1.0)),
+  (
+    (λ values p. p.0),
+    (
+      (λ values p. p.0),
+      (
+        (λ values p. p.0),
+        (
+          (λ values p. (p.0, p.1.0, p.1.1.0, IsSite-last values.1.1.1 p.1.1.1)),
+          (
+            (λ values p. (p.0, p.1.0, p.1.1.0, p.1.1.1.0)),
+            (
+              (λ values p. (p.0, p.1.0, p.1.1.0)),
+              (
+                (λ values p. (p.0, p.1.0)),
+                (
+                  (λ values p. (p.0, p.1.0, p.1.1.0)),
+                  (
+                    (λ values p. (p.0, p.1.0, p.1.1.0, p.1.1.1.0)),
+                    (
+                      (λ values p. (p.0, p.1.0)),
+                      (
+                        (λ values p. (p.0, p.1.0)),
+                        (
+                          (λ values p. (p.0, p.1.0)),
+                          (
+                            (λ values p. p.0),
+                            (
+                              (λ values p. p.0),
+                              (
+                                (λ values p. p.0),
+                                (
+                                  (λ values p. (p.0, p.1.0, p.1.1.0, p.1.1.1.0)),
+                                  (
+                                    (λ values p. p.0),
+                                    (
+                                      (λ values p. (p.0, p.1.0)),
+                                      (
+                                        (λ values p. p.0),
+                                        proper_own_rows tool,
+                                      ),
+                                    ),
+                                  ),
+                                ),
+                              ),
+                            ),
+                          ),
+                        ),
+                      ),
+                    ),
+                  ),
+                ),
+              ),
+            ),
+          ),
+        ),
+      ),
+    ),
+  ),
+)
 
-Gives-poke_in : (others : List (List ℕ)) → Gives IsProperCommand (poke_in others)
-Gives-poke_in others =
-    Gives-then Anything IsProperCommand (four_words others) _ (Gives-four_words others) (λ ws _.
-    Gives-then IsName IsProperCommand (name_of ws.0) _ (Gives-name_of ws.0) (λ region proper_region.
-    Gives-then IsName IsProperCommand (name_of ws.1) _ (Gives-name_of ws.1) (λ block proper_block.
-    Gives-then IsSigned IsProperCommand (signed_of ws.2) _ (Gives-signed_of ws.2) (λ off proper_off.
-    Gives-then IsNumber IsProperCommand (number_of ws.3) _ (Gives-number_of ws.3) (λ byte proper_byte.
-    (proper_region, proper_block, proper_off, proper_byte))))))
+Gives-command_of : (r : Row) (others : List (List ℕ)) → IsProperRow r → Gives IsProperCommand (command_of r others)
+Gives-command_of r others makes =
+    Gives-then (AreProper r.forms r.last) IsProperCommand (read_words r.forms r.last others) (λ values. Ok (made r.forms r.last r.make values)) (Gives-read_words r.forms r.last others) makes
 
-Gives-block_command : (first : List ℕ) (others : List (List ℕ)) → Gives IsProperCommand (block_command first others)
-Gives-block_command first others =
-    Gives-if IsProperCommand (bytes_eq first (codes "open")) (open_in others) _ (λ _. Gives-open_in others) (
-    Gives-if IsProperCommand (bytes_eq first (codes "alloc")) (alloc_in others) _ (λ _. Gives-alloc_in others) (
-    Gives-if IsProperCommand (bytes_eq first (codes "resize")) (resize_in others) _ (λ _. Gives-resize_in others) (
-    Gives-if IsProperCommand (bytes_eq first (codes "poke")) (poke_in others) _ (λ _. Gives-poke_in others) (
-    tt))))
-
-Gives-place_command : (first : List ℕ) (others : List (List ℕ)) → Gives IsProperCommand (place_command first others)
-Gives-place_command first others =
-    Gives-if IsProperCommand (bytes_eq first (codes "free")) (block_in others >>= λ x. Ok (Free x.0 x.1)) _ (λ _. Gives-then IsBlock IsProperCommand (block_in others) (λ x. Ok (Free x.0 x.1)) (Gives-block_in others) (λ x proper. proper)) (
-    Gives-if IsProperCommand (bytes_eq first (codes "size")) (block_in others >>= λ x. Ok (SizeOf x.0 x.1)) _ (λ _. Gives-then IsBlock IsProperCommand (block_in others) (λ x. Ok (SizeOf x.0 x.1)) (Gives-block_in others) (λ x proper. proper)) (
-    Gives-if IsProperCommand (bytes_eq first (codes "watch")) (block_in others >>= λ x. Ok (Watch x.0 x.1)) _ (λ _. Gives-then IsBlock IsProperCommand (block_in others) (λ x. Ok (Watch x.0 x.1)) (Gives-block_in others) (λ x proper. proper)) (
-    Gives-if IsProperCommand (bytes_eq first (codes "align")) (block_and_numbers_in others >>= λ x. Ok (Align x.0 x.1 x.2 x.3)) _ (λ _. Gives-then IsBlockAndNumbers IsProperCommand (block_and_numbers_in others) (λ x. Ok (Align x.0 x.1 x.2 x.3)) (Gives-block_and_numbers_in others) (λ x proper. proper)) (
-    Gives-if IsProperCommand (bytes_eq first (codes "read")) (block_and_numbers_in others >>= λ x. Ok (ReadBlock x.0 x.1 x.2 x.3)) _ (λ _. Gives-then IsBlockAndNumbers IsProperCommand (block_and_numbers_in others) (λ x. Ok (ReadBlock x.0 x.1 x.2 x.3)) (Gives-block_and_numbers_in others) (λ x proper. proper)) (
-    Gives-if IsProperCommand (bytes_eq first (codes "addr")) (address_in others >>= λ x. Ok (AddrOf x.0 x.1)) _ (λ _. Gives-then IsPlace IsProperCommand (address_in others) (λ x. Ok (AddrOf x.0 x.1)) (Gives-address_in others) (λ x proper. proper)) (
-    Gives-if IsProperCommand (bytes_eq first (codes "segment")) (address_in others >>= λ x. Ok (SegmentOf x.0 x.1)) _ (λ _. Gives-then IsPlace IsProperCommand (address_in others) (λ x. Ok (SegmentOf x.0 x.1)) (Gives-address_in others) (λ x proper. proper)) (
-    Gives-block_command first others)))))))
-
-Gives-region_command : (first : List ℕ) (others : List (List ℕ)) → Gives IsProperCommand (region_command first others)
-Gives-region_command first others =
-    Gives-if IsProperCommand (bytes_eq first (codes "close")) (region_in others >>= λ r. Ok (CloseRegion r)) _ (λ _. Gives-then IsName IsProperCommand (region_in others) (λ r. Ok (CloseRegion r)) (Gives-region_in others) (λ x proper. proper)) (
-    Gives-if IsProperCommand (bytes_eq first (codes "clear")) (region_in others >>= λ r. Ok (ClearRegion r)) _ (λ _. Gives-then IsName IsProperCommand (region_in others) (λ r. Ok (ClearRegion r)) (Gives-region_in others) (λ x proper. proper)) (
-    Gives-if IsProperCommand (bytes_eq first (codes "compact")) (region_in others >>= λ r. Ok (Compact r)) _ (λ _. Gives-then IsName IsProperCommand (region_in others) (λ r. Ok (Compact r)) (Gives-region_in others) (λ x proper. proper)) (
-    Gives-if IsProperCommand (bytes_eq first (codes "stat")) (region_in others >>= λ r. Ok (StatOf r)) _ (λ _. Gives-then IsName IsProperCommand (region_in others) (λ r. Ok (StatOf r)) (Gives-region_in others) (λ x proper. proper)) (
-    Gives-if IsProperCommand (bytes_eq first (codes "segments")) (region_in others >>= λ r. Ok (Segments r)) _ (λ _. Gives-then IsName IsProperCommand (region_in others) (λ r. Ok (Segments r)) (Gives-region_in others) (λ x proper. proper)) (
-    Gives-if IsProperCommand (bytes_eq first (codes "blocks")) (region_in others >>= λ r. Ok (Blocks r)) _ (λ _. Gives-then IsName IsProperCommand (region_in others) (λ r. Ok (Blocks r)) (Gives-region_in others) (λ x proper. proper)) (
-    Gives-if IsProperCommand (bytes_eq first (codes "check")) (region_in others >>= λ r. Ok (Check r)) _ (λ _. Gives-then IsName IsProperCommand (region_in others) (λ r. Ok (Check r)) (Gives-region_in others) (λ x proper. proper)) (
-    Gives-if IsProperCommand (bytes_eq first (codes "profile")) (region_in others >>= λ r. Ok (ProfileOf r)) _ (λ _. Gives-then IsName IsProperCommand (region_in others) (λ r. Ok (ProfileOf r)) (Gives-region_in others) (λ x proper. proper)) (
-    Gives-place_command first others))))))))
-
-Gives-command_over_regions : (first : List ℕ) (others : List (List ℕ)) → Gives IsProperCommand (command_over_regions first others)
-Gives-command_over_regions first others =
-    Gives-if IsProperCommand (bytes_eq first (codes "write")) (write_in others) _ (λ _. Gives-write_in others) (
-    Gives-region_command first others)
-
-Gives-command_of : (tool : Tool) (first : List ℕ) (others : List (List ℕ)) → Gives IsProperCommand (command_of tool first others)
-Gives-command_of Vmreplay first others = Gives-command_over_regions first others
+Gives-command_in : (rows : List Row) (first : List ℕ) (others : List (List ℕ)) → AllByRecursion IsProperRow rows → Gives IsProperCommand (command_in rows first others)
+Gives-command_in [] first others each = tt
+Gives-command_in (r ∷ rows) first others each =
+    Gives-if IsProperCommand (bytes_eq first r.word) (command_of r others) (command_in rows first others) (λ _. Gives-command_of r others each.0) (Gives-command_in rows first others each.1)
 
 IsProperAnswer-answer_of : (read : Result Command LineFault) → Gives IsProperCommand read → IsProperAnswer (answer_of read)
 IsProperAnswer-answer_of (Ok command) given = given
@@ -150,7 +218,7 @@ IsProperAnswer-cond false read proper = proper
 IsProperAnswer-answer_to : (tool : Tool) (ws : List (List ℕ)) → IsProperAnswer (answer_to tool ws)
 IsProperAnswer-answer_to tool [] = tt
 IsProperAnswer-answer_to tool (first ∷ others) =
-    IsProperAnswer-cond (is_comment first) (answer_of (command_of tool first others)) (IsProperAnswer-answer_of (command_of tool first others) (Gives-command_of tool first others))
+    IsProperAnswer-cond (is_comment first) (answer_of (command_in (table tool) first others)) (IsProperAnswer-answer_of (command_in (table tool) first others) (Gives-command_in (table tool) first others (proper_rows tool)))
 
 pub IsProperAnswer-answer : (tool : Tool) (line : List ℕ) → IsProperAnswer (answer tool line)
 IsProperAnswer-answer tool line = IsProperAnswer-answer_to tool (words line)

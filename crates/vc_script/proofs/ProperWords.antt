@@ -5,11 +5,12 @@ use Rattle.std.specs.List.{list_all, before_first, after_first}
 use Rattle.std.specs.Str.{bytes_eq}
 use Rattle.std.proofs.lemmas.Bool.{and_parts, leb-true}
 use Rattle.percent_encoding.specs.Percent.{percent_decode}
+use Rattle.vc_base.specs.declared.dict_method.DictMethod.TheVariants.{DtSet, DtBag, DtOset, DtObag, DtList, DtStack, DtQueue}
 use Rattle.vc_seg.specs.declared.method.Method.TheVariants.{VmBest, VmPool, VmLast, VmDebug, VmProfile}
 use Rattle.vc_script.specs.declared.line_fault.LineFault.{LineFault}
 use Rattle.vc_script.specs.declared.line_fault.LineFault.TheVariants.{BadName, BadNumber, BadAddress, BadBytes, UnknownMethod}
 use Rattle.vc_script.specs.Words.{digits_value, is_between, is_digit, is_escaped, is_name, is_number}
-use Rattle.vc_script.specs.Forms.{◌>>=◌, address_of, address_of_parts, bytes_of, is_address, is_colon, method_of, mode_of, name_of, number_of, optional_site_of, signed_of, site_of}
+use Rattle.vc_script.specs.Forms.{◌>>=◌, address_of, address_of_parts, bytes_of, is_address, is_colon, dict_method_of, method_of, mode_of, name_of, name_or_dash_of, number_of, signed_of, site_of}
 use Rattle.vc_script.specs.Proper.{IsAddress, IsFaultOfWords, IsName, IsNumber, IsSite}
 
 -- the value is proper, or the fault is one of words
@@ -34,11 +35,6 @@ Gives-name_of word = Gives-if IsName (is_name word) (Ok word) (Err BadName) (λ 
 pub Gives-site_of : (word : List ℕ) → Gives IsName (site_of word)
 Gives-site_of [] = tt
 Gives-site_of (b ∷ bs) = Gives-if IsName (b == 64) (name_of bs) (Err BadName) (λ _. Gives-name_of bs) tt
-
-pub Gives-optional_site_of : (word : Option (List ℕ)) → Gives IsSite (optional_site_of word)
-Gives-optional_site_of None = tt
-Gives-optional_site_of (Some word) =
-    Gives-then IsName IsSite (site_of word) (λ site. Ok (Some site)) (Gives-site_of word) (λ site name. name)
 
 -- what a number's digits spell is below 2^32
 small_number : (word : List ℕ) → is_number word ≡ true → IsNumber (digits_value word)
@@ -101,3 +97,18 @@ Gives-method_of word =
 pub Gives-mode_of : (word : List ℕ) → Gives Anything (mode_of word)
 Gives-mode_of word =
     one_of (bytes_eq word (codes "move")) true _ (one_of (bytes_eq word (codes "fixed")) false (Err UnknownMethod) tt)
+
+pub Gives-dict_method_of : (word : List ℕ) → Gives Anything (dict_method_of word)
+Gives-dict_method_of word =
+    one_of (bytes_eq word (codes "set")) DtSet _
+    (one_of (bytes_eq word (codes "bag")) DtBag _
+    (one_of (bytes_eq word (codes "oset")) DtOset _
+    (one_of (bytes_eq word (codes "obag")) DtObag _
+    (one_of (bytes_eq word (codes "list")) DtList _
+    (one_of (bytes_eq word (codes "stack")) DtStack _
+    (one_of (bytes_eq word (codes "queue")) DtQueue (Err UnknownMethod) tt))))))
+
+pub Gives-name_or_dash_of : (word : List ℕ) → Gives IsSite (name_or_dash_of word)
+Gives-name_or_dash_of word =
+    Gives-if IsSite (bytes_eq word (codes "-")) (Ok None) (name_of word >>= λ name. Ok (Some name)) (λ _. tt)
+    (Gives-then IsName IsSite (name_of word) (λ name. Ok (Some name)) (Gives-name_of word) (λ name proper. proper))

@@ -2,6 +2,8 @@
 use Rattle.std.specs.Prelude.{ℕ, ℤ, pos, neg_ℤ, List, [], ◌∷◌, Option, Some, None, Bool, true, false, bytes_eq, codes, nat_le, ◌==◌, ◌&&◌, if◌then◌else◌, Result, Ok, Err}
 use Rattle.std.specs.List.{before_first, after_first}
 use Rattle.percent_encoding.specs.Percent.{percent_decode}
+use Rattle.vc_base.specs.declared.dict_method.DictMethod.{DictMethod}
+use Rattle.vc_base.specs.declared.dict_method.DictMethod.TheVariants.{DtSet, DtBag, DtOset, DtObag, DtList, DtStack, DtQueue}
 use Rattle.vc_seg.specs.declared.method.Method.{Method}
 use Rattle.vc_seg.specs.declared.method.Method.TheVariants.{VmBest, VmPool, VmLast, VmDebug, VmProfile}
 use Rattle.vc_script.specs.declared.line_fault.LineFault.{LineFault}
@@ -22,11 +24,6 @@ name_of word = if is_name word then Ok word else Err BadName
 abbrev pub site_of : List ℕ → Result (List ℕ) LineFault
 site_of [] = Err BadName
 site_of (b ∷ bs) = if b == 64 then name_of bs else Err BadName
-
--- a site, where the word is there
-abbrev pub optional_site_of : Option (List ℕ) → Result (Option (List ℕ)) LineFault
-optional_site_of None = Ok None
-optional_site_of (Some word) = site_of word >>= λ site. Ok (Some site)
 
 abbrev pub number_of : List ℕ → Result ℕ LineFault
 number_of word = if is_number word then Ok (digits_value word) else Err BadNumber
@@ -61,6 +58,7 @@ address_of word = address_of_parts (before_first is_colon word) (after_first is_
 abbrev pub bytes_of : List ℕ → Result (List ℕ) LineFault
 bytes_of word = if is_escaped word then Ok (percent_decode word) else Err BadBytes
 
+-- the methods of regions
 abbrev pub method_of : List ℕ → Result Method LineFault
 method_of word =
     if bytes_eq word (codes "best") then Ok VmBest
@@ -70,9 +68,64 @@ method_of word =
     else (if bytes_eq word (codes "profile") then Ok VmProfile
     else Err UnknownMethod))))
 
+-- the methods of dictionaries
+abbrev pub dict_method_of : List ℕ → Result DictMethod LineFault
+dict_method_of word =
+    if bytes_eq word (codes "set") then Ok DtSet
+    else (if bytes_eq word (codes "bag") then Ok DtBag
+    else (if bytes_eq word (codes "oset") then Ok DtOset
+    else (if bytes_eq word (codes "obag") then Ok DtObag
+    else (if bytes_eq word (codes "list") then Ok DtList
+    else (if bytes_eq word (codes "stack") then Ok DtStack
+    else (if bytes_eq word (codes "queue") then Ok DtQueue
+    else Err UnknownMethod))))))
+
 -- whether a block may move
 abbrev pub mode_of : List ℕ → Result Bool LineFault
 mode_of word =
     if bytes_eq word (codes "move") then Ok true
     else (if bytes_eq word (codes "fixed") then Ok false
     else Err UnknownMethod)
+
+-- a name, or `-` for none
+abbrev pub name_or_dash_of : List ℕ → Result (Option (List ℕ)) LineFault
+name_or_dash_of word =
+    if bytes_eq word (codes "-") then Ok None else (name_of word >>= λ name. Ok (Some name))
+
+-- the forms of words
+pub data Form : Type 0 where
+  Name : Form
+  Site : Form
+  Number : Form
+  SignedNumber : Form
+  Address : Form
+  Bytes : Form
+  RegionMethod : Form
+  DictionaryMethod : Form
+  Mode : Form
+  NameOrDash : Form
+
+-- what a word of a form spells
+abbrev pub Value : Form → Type 0
+Value Name = List ℕ
+Value Site = List ℕ
+Value Number = ℕ
+Value SignedNumber = ℤ
+Value Address = Place
+Value Bytes = List ℕ
+Value RegionMethod = Method
+Value DictionaryMethod = DictMethod
+Value Mode = Bool
+Value NameOrDash = Option (List ℕ)
+
+abbrev pub value_of : (form : Form) → List ℕ → Result (Value form) LineFault
+value_of Name word = name_of word
+value_of Site word = site_of word
+value_of Number word = number_of word
+value_of SignedNumber word = signed_of word
+value_of Address word = address_of word
+value_of Bytes word = bytes_of word
+value_of RegionMethod word = method_of word
+value_of DictionaryMethod word = dict_method_of word
+value_of Mode word = mode_of word
+value_of NameOrDash word = name_or_dash_of word

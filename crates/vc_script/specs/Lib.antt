@@ -9,8 +9,7 @@ pub mod Cutter
 pub mod Pieces
 pub mod Words
 pub mod Forms
-pub mod Counts
-pub mod Commands
+pub mod Table
 pub mod Answer
 pub mod Proper
 pub mod Needs

@@ -15,6 +15,15 @@ lines_after begun (b ∷ bs) = if b == 10 then begun ∷ lines_after [] bs else 
 abbrev pub lines : List ℕ → List (List ℕ)
 lines input = lines_after [] input
 
+-- the lines that a newline ends, of the first of which some bytes were read
+abbrev pub ended_after : List ℕ → List ℕ → List (List ℕ)
+ended_after begun [] = []
+ended_after begun (b ∷ bs) = if b == 10 then begun ∷ ended_after [] bs else ended_after (begun ++ b ∷ []) bs
+
+-- the whole lines: a last piece without its newline is none
+abbrev pub ended_lines : List ℕ → List (List ℕ)
+ended_lines bytes = ended_after [] bytes
+
 -- a CR that is the last byte of a line is dropped
 abbrev pub without_cr : List ℕ → List ℕ
 without_cr [] = []

@@ -1,33 +1,62 @@
 -- What a command needs of a discipline that it doesn't get, as its printed line shows it.
-use Rattle.std.specs.Prelude.{ℕ, List, Bool, true, false, bytes_eq, codes, map, take, if◌then◌else◌}
+use Rattle.std.specs.Prelude.{◌≡◌, ℕ, ◌<◌, List, [], ◌∷◌, Bool, true, false, bytes_eq, codes, take, ◌==◌, if◌then◌else◌}
+use Rattle.std.specs.List.{AllByRecursion}
 use Rattle.vc_script.specs.declared.refusal.Refusal.{Refusal}
-use Rattle.vc_script.specs.declared.refusal.Refusal.TheVariants.{NoSegment}
+use Rattle.vc_script.specs.declared.refusal.Refusal.TheVariants.{NoSegment, NoSegmentForTable, NoSegmentForObject}
 use Rattle.vc_script.specs.declared.reply.Reply.{Reply}
 use Rattle.vc_script.specs.declared.reply.Reply.TheVariants.{Refused}
-use Rattle.vc_script.specs.Lines.{lines}
+use Rattle.vc_script.specs.Lines.{ended_lines}
 
 -- whether a segment was refused, and for what
 pub data Need : Type 0 where
   NoNeed : Need
   ForBlock : Need
+  ForTable : Need
+  ForObject : Need
 
 -- the need that a line shows
 abbrev pub need_of : List ℕ → Need
-need_of line = if bytes_eq line (codes "refused: no segment") then ForBlock else NoNeed
+need_of line =
+    if bytes_eq line (codes "refused: no segment") then ForBlock
+    else (if bytes_eq line (codes "refused: no segment for table") then ForTable
+    else (if bytes_eq line (codes "refused: no segment for object") then ForObject
+    else NoNeed))
 
--- the needs that a text shows, one for each of its lines
-abbrev pub needs_of : List ℕ → List Need
-needs_of written = map need_of (lines written)
+-- the needs that printed lines show, each by the line of its command
+abbrev pub needs_by : List ℕ → List (List ℕ) → List (ℕ × Need)
+needs_by [] printed = []
+needs_by (n ∷ ns) [] = []
+needs_by (n ∷ ns) (line ∷ rest) = (n, need_of line) ∷ needs_by ns rest
 
--- of the refusals, only that of a segment is a need
+-- of the commands of these lines, in order, the k-th has the k-th whole line of what was written
+abbrev pub needs_of : List ℕ → List ℕ → List (ℕ × Need)
+needs_of lines written = needs_by lines (ended_lines written)
+
+-- the need of a line; none where none is shown
+abbrev pub need_at : List (ℕ × Need) → ℕ → Need
+need_at [] n = NoNeed
+need_at (x ∷ xs) n = if x.0 == n then x.1 else need_at xs n
+
+-- of the refusals, only those of a segment are needs
 abbrev pub need_for : Refusal → Need
 need_for NoSegment = ForBlock
+need_for NoSegmentForTable = ForTable
+need_for NoSegmentForObject = ForObject
 need_for why = NoNeed
 
 -- the need that a reply shows
 abbrev pub need_shown : Reply → Need
 need_shown (Refused why) = need_for why
 need_shown reply = NoNeed
+
+-- each line stands behind all before it
+abbrev pub IsAscending : List ℕ → Type 0
+IsAscending [] = Unit {0}
+IsAscending (n ∷ ns) = AllByRecursion (λ m. n < m) ns × IsAscending ns
+
+-- of replies with their lines: at each line stands the need that its reply shows
+abbrev pub ShowsNeeds : List (ℕ × Need) → List (ℕ × Reply) → Type 0
+ShowsNeeds needs replies = AllByRecursion (λ r. need_at needs r.0 ≡ need_shown r.1) replies
 
 abbrev pub is_refusal : Reply → Bool
 is_refusal (Refused why) = true

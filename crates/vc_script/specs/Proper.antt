@@ -1,7 +1,7 @@
 -- What holds of each command that a line gives.
 use Rattle.std.specs.Prelude.{ℕ, ◌^◌, ◌<◌, ◌≤◌, List, Option, Some, None, IsTrue, nat_abs}
 use Rattle.vc_script.specs.declared.command.Command.{Command}
-use Rattle.vc_script.specs.declared.command.Command.TheVariants.{OpenRegion, CloseRegion, ClearRegion, Compact, Alloc, Align, Resize, Free, WriteBlock, ReadBlock, SizeOf, AddrOf, SegmentOf, StatOf, Segments, Blocks, Poke, Check, Watch, ProfileOf}
+use Rattle.vc_script.specs.declared.command.Command.TheVariants.{OpenRegion, CloseRegion, ClearRegion, Compact, Alloc, Align, Resize, Free, WriteBlock, ReadBlock, SizeOf, AddrOf, SegmentOf, StatOf, Segments, Blocks, Poke, Check, Watch, ProfileOf, OpenDict, Insert, Append, Attach, Delete, Detach, Search, MatchKey, First, Last, Next, Prev, Walk, Count, View, Remethod, Empty, Shut}
 use Rattle.vc_script.specs.declared.line_answer.LineAnswer.{LineAnswer}
 use Rattle.vc_script.specs.declared.line_answer.LineAnswer.TheVariants.{Blank, Is, Bad}
 use Rattle.vc_script.specs.declared.line_fault.LineFault.{LineFault}
@@ -12,10 +12,10 @@ use Rattle.vc_script.specs.Words.{is_name}
 abbrev pub IsName : List ℕ → Type 0
 IsName bytes = IsTrue (is_name bytes)
 
--- the site is a name, where there is one
+-- the name is one, where there is one
 abbrev pub IsSite : Option (List ℕ) → Type 0
 IsSite None = Unit {0}
-IsSite (Some site) = IsName site
+IsSite (Some name) = IsName name
 
 -- a number of the language, or the size of a signed one
 abbrev pub IsNumber : ℕ → Type 0
@@ -27,7 +27,7 @@ pub record IsAddress (place : Place) : Type 0 where
   pub last : place.seg ≤ 1023
   pub below : place.off < 33554432
 
--- the names in a command are names, and its numbers are numbers of the language; no line gives a command over dictionaries
+-- the names in a command are names, and its numbers are numbers of the language
 abbrev pub IsProperCommand : Command → Type 0
 IsProperCommand (OpenRegion region method n) = IsName region × IsNumber n
 IsProperCommand (CloseRegion region) = IsName region
@@ -49,7 +49,24 @@ IsProperCommand (Poke region block off byte) = IsName region × IsName block × 
 IsProperCommand (Check region) = IsName region
 IsProperCommand (Watch region block) = IsName region × IsName block
 IsProperCommand (ProfileOf region) = IsName region
-IsProperCommand command = ⊥
+IsProperCommand (OpenDict dict method region kind) = IsName dict × IsName region × IsNumber kind
+IsProperCommand (Insert dict object) = IsName dict
+IsProperCommand (Append dict object) = IsName dict
+IsProperCommand (Attach dict object) = IsName dict
+IsProperCommand (Delete dict object) = IsName dict
+IsProperCommand (Detach dict object) = IsName dict
+IsProperCommand (Search dict object) = IsName dict
+IsProperCommand (MatchKey dict key) = IsName dict
+IsProperCommand (First dict) = IsName dict
+IsProperCommand (Last dict) = IsName dict
+IsProperCommand (Next dict object) = IsName dict
+IsProperCommand (Prev dict object) = IsName dict
+IsProperCommand (Walk dict) = IsName dict
+IsProperCommand (Count dict) = IsName dict
+IsProperCommand (View dict viewed) = IsName dict × IsSite viewed
+IsProperCommand (Remethod dict method) = IsName dict
+IsProperCommand (Empty dict) = IsName dict
+IsProperCommand (Shut dict) = IsName dict
 
 -- faults of the words of a line; the other two are found where the input is cut into lines
 abbrev pub IsFaultOfWords : LineFault → Type 0

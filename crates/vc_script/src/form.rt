@@ -1,15 +1,14 @@
 // The forms of words.
 ghost use Rattle.std.specs.Prelude.{◌≡◌, IfOk};
 ghost use Rattle.std.specs.Result.{result_map_both};
-ghost use Rattle.std.specs.Option.{option_copied};
 ghost use Rattle.percent_encoding.specs.Percent.{percent_decode};
-ghost use Rattle.vc_script.specs.Forms.{address_of, address_of_parts, bytes_of, method_of, mode_of, name_of, number_of, optional_site_of, signed_of, site_of};
+ghost use Rattle.vc_script.specs.Forms.{address_of, address_of_parts, bytes_of, dict_method_of, method_of, mode_of, name_of, name_or_dash_of, number_of, signed_of, site_of};
 
 use crate::word::{is_escaped, is_name, is_number, value_of};
 use crate::{Bytes, LineFault, Place};
 use percent_encoding::percent_decode;
 use std::alloc::{AllocError, Global};
-use vc_base::Name;
+use vc_base::{DictMethod, Name};
 use vc_seg::Method;
 
 #[tactic(auto, using(crate::proofs::NameBounds::name_bounds))]
@@ -23,21 +22,12 @@ pub(crate) fn name_of(word: &[u8]) -> Result<Name, LineFault>
     }
 }
 
-fn site_of(word: &[u8]) -> Result<Name, LineFault>
+pub(crate) fn site_of(word: &[u8]) -> Result<Name, LineFault>
     ensures { result ≡ site_of word.now }
 {
     match word.split_first() {
         Some((b'@', rest)) => name_of(rest),
         _ => Err(LineFault::BadName),
-    }
-}
-
-pub(crate) fn optional_site_of(word: Option<&[u8]>) -> Result<Option<Name>, LineFault>
-    ensures { result ≡ optional_site_of (option_copied word.entry) }
-{
-    match word {
-        None => Ok(None),
-        Some(word) => Ok(Some(site_of(word)?)),
     }
 }
 
@@ -125,6 +115,28 @@ pub(crate) fn method_of(word: &[u8]) -> Result<Method, LineFault>
     }
 }
 
+pub(crate) fn dict_method_of(word: &[u8]) -> Result<DictMethod, LineFault>
+    ensures { result ≡ dict_method_of word.now }
+{
+    if word == b"set".as_slice() {
+        Ok(DictMethod::DtSet)
+    } else if word == b"bag".as_slice() {
+        Ok(DictMethod::DtBag)
+    } else if word == b"oset".as_slice() {
+        Ok(DictMethod::DtOset)
+    } else if word == b"obag".as_slice() {
+        Ok(DictMethod::DtObag)
+    } else if word == b"list".as_slice() {
+        Ok(DictMethod::DtList)
+    } else if word == b"stack".as_slice() {
+        Ok(DictMethod::DtStack)
+    } else if word == b"queue".as_slice() {
+        Ok(DictMethod::DtQueue)
+    } else {
+        Err(LineFault::UnknownMethod)
+    }
+}
+
 // Whether a block may move.
 pub(crate) fn mode_of(word: &[u8]) -> Result<bool, LineFault>
     ensures { result ≡ mode_of word.now }
@@ -135,5 +147,16 @@ pub(crate) fn mode_of(word: &[u8]) -> Result<bool, LineFault>
         Ok(false)
     } else {
         Err(LineFault::UnknownMethod)
+    }
+}
+
+// A name, or `-` for none.
+pub(crate) fn name_or_dash_of(word: &[u8]) -> Result<Option<Name>, LineFault>
+    ensures { result ≡ name_or_dash_of word.now }
+{
+    if word == b"-".as_slice() {
+        Ok(None)
+    } else {
+        Ok(Some(name_of(word)?))
     }
 }

@@ -3,11 +3,12 @@
 #![tactic(auto)]
 
 mod block_items;
+mod byte_shape;
 mod bytes;
 mod command;
-mod count;
 mod cutter;
 mod damage_items;
+mod dict_table;
 mod form;
 mod line_answer;
 mod line_fault;
@@ -19,6 +20,7 @@ mod print;
 mod print_lines;
 mod print_lists;
 mod print_parts;
+mod print_refusals;
 pub mod print_rows;
 mod print_texts;
 mod refusal;

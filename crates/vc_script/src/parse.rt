@@ -3,7 +3,7 @@ ghost use Rattle.std.specs.Prelude.{◌≡◌, ◌≢◌, ◌∷◌, map, IfOk};
 ghost use Rattle.vc_script.specs.Answer.{answer, answer_of, answer_to, is_comment};
 ghost use Rattle.vc_script.specs.Proper.{IsProperAnswer};
 
-use crate::table::command_over_regions;
+use crate::table::command_in;
 use crate::word::words_of;
 use crate::{Command, LineAnswer, LineFault, Tool};
 use std::alloc::Global;
@@ -35,9 +35,7 @@ fn answer_to(
     if is_comment(first) {
         return Ok(LineAnswer::Blank);
     }
-    match tool {
-        Tool::Vmreplay => Ok(answer_of(command_over_regions(alloc, first, others)?)),
-    }
+    Ok(answer_of(command_in(alloc, tool, first, others)?))
 }
 
 fn is_comment(word: &[u8]) -> bool

@@ -4,10 +4,11 @@ ghost use Rattle.vc_script.specs.Print.{line_of, printed};
 
 use crate::Reply;
 use crate::print_lines::{
-    address, block_at, blocks, counted, damage, hex_line, joined, named, number, object, objects,
-    rows, segment, segments, stats, three, watched, written,
+    address, block_at, blocks, counted, damage, hex_line, named, number, object, objects, rows,
+    segment, segments, stats, three, watched, written,
 };
-use crate::print_texts::{method_word, refusal_text, viewed_text};
+use crate::print_refusals::refused;
+use crate::print_texts::{method_word, viewed_text};
 use std::alloc::{AllocError, Global};
 use vc_base::OutOfMemory;
 
@@ -56,6 +57,6 @@ fn printed(alloc: Global, reply: &Reply) -> Result<Vec<u8>, AllocError>
         Reply::MethodIs(dict, method) => three(alloc, dict, b" method ", method_word(*method)),
         Reply::Emptied(dict, count) => counted(alloc, dict, b" empty ", *count),
         Reply::ShutDown(dict) => named(alloc, dict, b" shut"),
-        Reply::Refused(why) => joined(alloc, b"refused: ", refusal_text(*why)),
+        Reply::Refused(why) => refused(alloc, *why),
     }
 }

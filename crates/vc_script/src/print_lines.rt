@@ -116,7 +116,7 @@ pub(crate) fn address(alloc: Global, block: &Option<Name>, off: u32) -> Result<V
 }
 
 // A text and a number.
-fn labelled(alloc: Global, label: &[u8], n: u64) -> Result<Vec<u8>, AllocError>
+pub(crate) fn labelled(alloc: Global, label: &[u8], n: u64) -> Result<Vec<u8>, AllocError>
     ensures { IfOk result (λ v. v.items ≡ label.now ++ decimal n) }
 {
     let mut line = Vec::from_slice(alloc, label)?;

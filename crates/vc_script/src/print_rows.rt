@@ -1,9 +1,9 @@
 // Laws and rows of printed replies. The functions have no code.
-ghost use Rattle.std.specs.Prelude.{◌≡◌, ◌++◌, List, [], ◌∷◌, Some, None, codes, map, pos, negsuc};
+ghost use Rattle.std.specs.Prelude.{◌≡◌, ℕ, ◌++◌, List, [], ◌∷◌, Some, None, codes, map, pos, negsuc};
 ghost use Rattle.std.specs.List.{AllByRecursion};
 ghost use Rattle.vc_base.specs.declared.dict_method.DictMethod.TheVariants as dict;
-ghost use Rattle.vc_script.specs.Lines.{lines};
-ghost use Rattle.vc_script.specs.Needs.{begins_refused, is_refusal, need_shown, needs_of};
+ghost use Rattle.vc_script.specs.Lines.{ended_lines, lines};
+ghost use Rattle.vc_script.specs.Needs.{ForBlock, ForObject, ForTable, IsAscending, NoNeed, ShowsNeeds, begins_refused, is_refusal, need_at, need_of, need_shown, needs_of};
 ghost use Rattle.vc_script.specs.Print.{line_of, method_word, printed, text};
 ghost use Rattle.vc_script.specs.ProperReply.{IsProperReply};
 ghost use Rattle.vc_script.specs.Shown.{shown};
@@ -11,12 +11,39 @@ ghost use Rattle.vc_script.specs.declared.refusal.Refusal.TheVariants as why;
 ghost use Rattle.vc_script.specs.declared.reply.Reply.{Reply};
 ghost use Rattle.vc_script.specs.declared.reply.Reply.TheVariants as reply;
 
-/// Each reply is one line of the text, and the lines of a text tell its replies' needs: where the names in the replies
-/// are names, a line begins with `refused: ` exactly where its reply is a refusal.
+/// Each reply is one line of the text, and the whole lines of a text tell its replies' needs at the lines of their commands,
+/// which rise: where the names in the replies are names, a line begins with `refused: ` exactly where its reply is a
+/// refusal, and is the line of a refused segment exactly where its reply is that refusal.
 pub fn text_of_replies()
-    ensures lines { (replies : List Reply) → AllByRecursion IsProperReply replies → lines (text replies) ≡ map printed replies }
-    ensures needs { (replies : List Reply) → AllByRecursion IsProperReply replies → needs_of (text replies) ≡ map need_shown replies }
+    ensures lines { (replies : List Reply) → AllByRecursion IsProperReply replies
+        → lines (text replies) ≡ map printed replies }
+    ensures ended { (replies : List Reply) → AllByRecursion IsProperReply replies
+        → ended_lines (text replies) ≡ map printed replies }
+    ensures needs { (replies : List (ℕ × Reply)) → IsAscending (map (λ r. r.0) replies)
+        → AllByRecursion (λ r. IsProperReply r.1) replies
+        → ShowsNeeds (needs_of (map (λ r. r.0) replies) (text (map (λ r. r.1) replies))) replies }
+    ensures shown { (r : Reply) → IsProperReply r → need_of (printed r) ≡ need_shown r }
     ensures refusals { (r : Reply) → IsProperReply r → begins_refused (printed r) ≡ is_refusal r }
+    ensures block { (r : Reply) → IsProperReply r → printed r ≡ codes "refused: no segment"
+        → r ≡ reply.Refused why.NoSegment }
+    ensures table { (r : Reply) → IsProperReply r → printed r ≡ codes "refused: no segment for table"
+        → r ≡ reply.Refused why.NoSegmentForTable }
+    ensures object { (r : Reply) → IsProperReply r → printed r ≡ codes "refused: no segment for object"
+        → r ≡ reply.Refused why.NoSegmentForObject }
+{}
+
+/// The needs that texts show at lines 3 and 7: a last piece without its newline shows none, and a line beyond the
+/// commands belongs to none.
+pub fn shown_needs()
+    ensures each { needs_of (3 ∷ 7 ∷ []) (codes "refused: no segment\nrefused: no segment for table\n")
+        ≡ (3, ForBlock) ∷ (7, ForTable) ∷ [] }
+    ensures object { needs_of (3 ∷ []) (codes "refused: no segment for object\n") ≡ (3, ForObject) ∷ [] }
+    ensures others { needs_of (3 ∷ 7 ∷ []) (codes "refused: no block\na 1:32\n")
+        ≡ (3, NoNeed) ∷ (7, NoNeed) ∷ [] }
+    ensures cut { needs_of (3 ∷ 7 ∷ []) (codes "a 1:32\nrefused: no segment") ≡ (3, NoNeed) ∷ [] }
+    ensures beyond { needs_of (3 ∷ []) (codes "a 1:32\nrefused: no segment\n") ≡ (3, NoNeed) ∷ [] }
+    ensures at_line { need_at ((3, ForBlock) ∷ (7, ForTable) ∷ []) 7 ≡ ForTable }
+    ensures at_other { need_at ((3, ForBlock) ∷ (7, ForTable) ∷ []) 4 ≡ NoNeed }
 {}
 
 /// Replies on regions.
@@ -84,7 +111,8 @@ pub fn printed_dictionaries()
     ensures shut { printed (reply.ShutDown (codes "d")) ≡ codes "d shut" }
 {}
 
-/// Refusals.
+/// Refusals over regions and blocks.
+#[tactic(auto, unfolding(crate::proofs::OnLiterals::printing_on_literals))]
 pub fn printed_refusals()
     ensures no_region { printed (reply.Refused why.NoRegion) ≡ codes "refused: no region" }
     ensures region_exists { printed (reply.Refused why.RegionExists) ≡ codes "refused: region exists" }
@@ -92,13 +120,32 @@ pub fn printed_refusals()
     ensures discipline_in_use { printed (reply.Refused why.DisciplineInUse) ≡ codes "refused: discipline in use" }
     ensures no_block { printed (reply.Refused why.NoBlock) ≡ codes "refused: no block" }
     ensures block_exists { printed (reply.Refused why.BlockExists) ≡ codes "refused: block exists" }
+    ensures freed_at { printed (reply.Refused (why.FreedAt 12)) ≡ codes "refused: freed at line 12" }
+    ensures wrong_method { printed (reply.Refused why.WrongMethod) ≡ codes "refused: wrong method" }
     ensures size { printed (reply.Refused why.Size) ≡ codes "refused: size" }
     ensures range { printed (reply.Refused why.Range) ≡ codes "refused: range" }
     ensures too_many_blocks { printed (reply.Refused why.TooManyBlocks) ≡ codes "refused: too many blocks" }
+    ensures pool_size { printed (reply.Refused why.PoolSize) ≡ codes "refused: pool size" }
+    ensures not_last { printed (reply.Refused why.NotLast) ≡ codes "refused: not last" }
     ensures cannot_grow { printed (reply.Refused why.CannotGrow) ≡ codes "refused: cannot grow here" }
+    ensures busy { printed (reply.Refused why.Busy) ≡ codes "refused: busy" }
     ensures too_many_segments { printed (reply.Refused why.TooManySegments) ≡ codes "refused: too many segments" }
     ensures no_segment { printed (reply.Refused why.NoSegment) ≡ codes "refused: no segment" }
     ensures not_built { printed (reply.Refused why.NotYet) ≡ codes "refused: not built" }
+{}
+
+/// Refusals over dictionaries.
+pub fn printed_dictionary_refusals()
+    ensures no_dictionary { printed (reply.Refused why.NoDictionary) ≡ codes "refused: no dictionary" }
+    ensures dictionary_exists { printed (reply.Refused why.DictionaryExists) ≡ codes "refused: dictionary exists" }
+    ensures no_such_kind { printed (reply.Refused why.NoSuchKind) ≡ codes "refused: no such kind" }
+    ensures too_many_dictionaries { printed (reply.Refused why.TooManyDictionaries) ≡ codes "refused: too many dictionaries" }
+    ensures viewed { printed (reply.Refused why.Viewed) ≡ codes "refused: viewed" }
+    ensures view_differs { printed (reply.Refused why.ViewDiffers) ≡ codes "refused: view differs" }
+    ensures view_cycle { printed (reply.Refused why.ViewCycle) ≡ codes "refused: view cycle" }
+    ensures view_too_deep { printed (reply.Refused why.ViewTooDeep) ≡ codes "refused: view too deep" }
+    ensures no_segment_for_table { printed (reply.Refused why.NoSegmentForTable) ≡ codes "refused: no segment for table" }
+    ensures no_segment_for_object { printed (reply.Refused why.NoSegmentForObject) ≡ codes "refused: no segment for object" }
 {}
 
 /// The words of the methods of dictionaries.

@@ -1,29 +1,8 @@
 // Texts that stand in printed lines.
 ghost use Rattle.std.specs.Prelude.{◌≡◌};
-ghost use Rattle.vc_script.specs.Print.{label_text, method_word, refusal_text, viewed_text};
+ghost use Rattle.vc_script.specs.Print.{label_text, method_word, viewed_text};
 
-use crate::Refusal;
 use vc_base::{DictMethod, Name};
-
-pub(crate) fn refusal_text(why: Refusal) -> &'static [u8]
-    ensures { result.now ≡ refusal_text why }
-{
-    match why {
-        Refusal::NoRegion => b"no region",
-        Refusal::RegionExists => b"region exists",
-        Refusal::NoSuchDiscipline => b"no such discipline",
-        Refusal::DisciplineInUse => b"discipline in use",
-        Refusal::NoBlock => b"no block",
-        Refusal::BlockExists => b"block exists",
-        Refusal::Size => b"size",
-        Refusal::Range => b"range",
-        Refusal::TooManyBlocks => b"too many blocks",
-        Refusal::CannotGrow => b"cannot grow here",
-        Refusal::TooManySegments => b"too many segments",
-        Refusal::NoSegment => b"no segment",
-        Refusal::NotYet => b"not built",
-    }
-}
 
 pub(crate) fn method_word(method: DictMethod) -> &'static [u8]
     ensures { result.now ≡ method_word method }

@@ -1,13 +1,14 @@
 // Rows of the grammar, proved by computing.
 ghost use Rattle.std.specs.Prelude.{◌≡◌, ◌++◌, [], ◌∷◌, Some, None, Ok, Err, true, false, codes, replicate, pos, negsuc};
+ghost use Rattle.vc_base.specs.declared.dict_method.DictMethod.TheVariants.{DtSet, DtBag, DtOset, DtObag, DtList, DtStack, DtQueue};
 ghost use Rattle.vc_seg.specs.declared.method.Method.TheVariants.{VmBest, VmPool, VmLast, VmDebug, VmProfile};
 ghost use Rattle.vc_script.specs.Answer.{answer};
-ghost use Rattle.vc_script.specs.Forms.{address_of, bytes_of, method_of, mode_of, name_of, number_of, signed_of, site_of};
+ghost use Rattle.vc_script.specs.Forms.{address_of, bytes_of, dict_method_of, method_of, mode_of, name_of, name_or_dash_of, number_of, signed_of, site_of};
 ghost use Rattle.vc_script.specs.Words.{words};
-ghost use Rattle.vc_script.specs.declared.command.Command.TheVariants.{OpenRegion, CloseRegion, ClearRegion, Compact, Alloc, Align, Resize, Free, WriteBlock, ReadBlock, SizeOf, AddrOf, SegmentOf, StatOf, Segments, Blocks, Poke, Check, Watch, ProfileOf};
+ghost use Rattle.vc_script.specs.declared.command.Command.TheVariants.{OpenRegion, CloseRegion, ClearRegion, Compact, Alloc, Align, Resize, Free, WriteBlock, ReadBlock, SizeOf, AddrOf, SegmentOf, StatOf, Segments, Blocks, Poke, Check, Watch, ProfileOf, OpenDict, Insert, Append, Attach, Delete, Detach, Search, MatchKey, First, Last, Next, Prev, Walk, Count, View, Remethod, Empty, Shut};
 ghost use Rattle.vc_script.specs.declared.line_answer.LineAnswer.TheVariants.{Blank, Is, Bad};
 ghost use Rattle.vc_script.specs.declared.line_fault.LineFault.TheVariants.{UnknownCommand, WordCount, BadName, BadNumber, BadAddress, BadBytes, UnknownMethod};
-ghost use Rattle.vc_script.specs.declared.tool.Tool.TheVariants.{Vmreplay};
+ghost use Rattle.vc_script.specs.declared.tool.Tool.TheVariants.{Vmreplay, Dtrun};
 
 /// Words stand between runs of spaces and tabs; any other byte stands in a word.
 pub fn cut_words()
@@ -51,11 +52,30 @@ pub fn order()
     ensures cr_in_word { answer Vmreplay (codes "free r a\r") ≡ Bad BadName }
 {}
 
-/// Commands over dictionaries are no commands of this tool.
-pub fn other_commands()
+/// Commands over dictionaries are commands of one tool alone; those over regions are commands of both.
+pub fn tools()
     ensures dict { answer Vmreplay (codes "dict d set r 1") ≡ Bad UnknownCommand }
     ensures insert { answer Vmreplay (codes "insert d a") ≡ Bad UnknownCommand }
-    ensures method { answer Vmreplay (codes "method d list") ≡ Bad UnknownCommand }
+    ensures shut { answer Vmreplay (codes "shut d") ≡ Bad UnknownCommand }
+    ensures open { answer Dtrun (codes "open r best 1") ≡ Is (OpenRegion (codes "r") VmBest 1) }
+    ensures profile { answer Dtrun (codes "profile r") ≡ Is (ProfileOf (codes "r")) }
+    ensures frob { answer Dtrun (codes "frob") ≡ Bad UnknownCommand }
+    ensures comment { answer Dtrun (codes " # dict d set r 1") ≡ Blank }
+{}
+
+/// Of a command over dictionaries too the number of words is judged first, then the words from the left.
+pub fn dictionary_order()
+    ensures count { answer Dtrun (codes "dict 9 Set") ≡ Bad WordCount }
+    ensures name_first { answer Dtrun (codes "dict 9 Set 9 x") ≡ Bad BadName }
+    ensures method_second { answer Dtrun (codes "dict d Set 9 x") ≡ Bad UnknownMethod }
+    ensures region_third { answer Dtrun (codes "dict d set 9 x") ≡ Bad BadName }
+    ensures kind_last { answer Dtrun (codes "dict d set r x") ≡ Bad BadNumber }
+    ensures no_object { answer Dtrun (codes "insert d") ≡ Bad WordCount }
+    ensures two_objects { answer Dtrun (codes "delete d a b") ≡ Bad WordCount }
+    ensures object_last { answer Dtrun (codes "delete 9 %") ≡ Bad BadName }
+    ensures bad_object { answer Dtrun (codes "delete d %") ≡ Bad BadBytes }
+    ensures bad_viewed { answer Dtrun (codes "view d --") ≡ Bad BadName }
+    ensures no_dash { answer Dtrun (codes "shut -") ≡ Bad BadName }
 {}
 
 /// A line of each command with a region alone.
@@ -97,6 +117,33 @@ pub fn block_commands()
     ensures poke { answer Vmreplay (codes "poke r a -3 165")
         ≡ Is (Poke (codes "r") (codes "a") (negsuc 2) 165) }
     ensures watch { answer Vmreplay (codes "watch r a") ≡ Is (Watch (codes "r") (codes "a")) }
+{}
+
+/// A line of each command over dictionaries.
+#[tactic(auto, unfolding(percent_encoding::specs::Percent::percent_decode))]
+pub fn dictionary_commands()
+    ensures dict { answer Dtrun (codes "dict d oset r 6")
+        ≡ Is (OpenDict (codes "d") DtOset (codes "r") 6) }
+    ensures insert { answer Dtrun (codes "insert d a%20") ≡ Is (Insert (codes "d") (codes "a ")) }
+    ensures append { answer Dtrun (codes "append d a") ≡ Is (Append (codes "d") (codes "a")) }
+    ensures attach { answer Dtrun (codes "attach d a") ≡ Is (Attach (codes "d") (codes "a")) }
+    ensures delete { answer Dtrun (codes "delete d a") ≡ Is (Delete (codes "d") (Some (codes "a"))) }
+    ensures delete_any { answer Dtrun (codes "delete d") ≡ Is (Delete (codes "d") None) }
+    ensures detach { answer Dtrun (codes "detach d a") ≡ Is (Detach (codes "d") (codes "a")) }
+    ensures search { answer Dtrun (codes "search d a") ≡ Is (Search (codes "d") (codes "a")) }
+    ensures match_key { answer Dtrun (codes "match d a") ≡ Is (MatchKey (codes "d") (codes "a")) }
+    ensures first { answer Dtrun (codes "first d") ≡ Is (First (codes "d")) }
+    ensures last { answer Dtrun (codes "last d") ≡ Is (Last (codes "d")) }
+    ensures next { answer Dtrun (codes "next d a") ≡ Is (Next (codes "d") (codes "a")) }
+    ensures prev { answer Dtrun (codes "prev d a") ≡ Is (Prev (codes "d") (codes "a")) }
+    ensures walk { answer Dtrun (codes "walk d") ≡ Is (Walk (codes "d")) }
+    ensures count { answer Dtrun (codes "count d") ≡ Is (Count (codes "d")) }
+    ensures view { answer Dtrun (codes "view d e") ≡ Is (View (codes "d") (Some (codes "e"))) }
+    ensures view_none { answer Dtrun (codes "view d -") ≡ Is (View (codes "d") None) }
+    ensures method { answer Dtrun (codes "method d list")
+        ≡ Is (Remethod (codes "d") DtList) }
+    ensures empty { answer Dtrun (codes "empty d") ≡ Is (Empty (codes "d")) }
+    ensures shut { answer Dtrun (codes "shut d") ≡ Is (Shut (codes "d")) }
 {}
 
 /// A name has 1 to 32 bytes: a letter, then letters, digits, `_` and `.`.
@@ -192,4 +239,26 @@ pub fn methods()
     ensures moves { mode_of (codes "move") ≡ Ok true }
     ensures stays { mode_of (codes "fixed") ≡ Ok false }
     ensures other_mode { mode_of (codes "best") ≡ Err UnknownMethod }
+{}
+
+/// The methods of dictionaries, in lower case.
+pub fn dictionary_methods()
+    ensures set { dict_method_of (codes "set") ≡ Ok DtSet }
+    ensures bag { dict_method_of (codes "bag") ≡ Ok DtBag }
+    ensures oset { dict_method_of (codes "oset") ≡ Ok DtOset }
+    ensures obag { dict_method_of (codes "obag") ≡ Ok DtObag }
+    ensures list { dict_method_of (codes "list") ≡ Ok DtList }
+    ensures stack { dict_method_of (codes "stack") ≡ Ok DtStack }
+    ensures queue { dict_method_of (codes "queue") ≡ Ok DtQueue }
+    ensures upper_case { dict_method_of (codes "Set") ≡ Err UnknownMethod }
+    ensures longer { dict_method_of (codes "osets") ≡ Err UnknownMethod }
+    ensures of_regions { dict_method_of (codes "best") ≡ Err UnknownMethod }
+{}
+
+/// The dictionary that another is to view is a name, or `-` for none.
+pub fn viewed_names()
+    ensures name { name_or_dash_of (codes "e") ≡ Ok (Some (codes "e")) }
+    ensures dash { name_or_dash_of (codes "-") ≡ Ok None }
+    ensures two_dashes { name_or_dash_of (codes "--") ≡ Err BadName }
+    ensures other { name_or_dash_of (codes "9") ≡ Err BadName }
 {}

@@ -1,121 +1,164 @@
-// Shapes of commands: the number of the words behind the first, and their forms from left to right.
-ghost use Rattle.std.specs.Prelude.{◌≡◌, map, IfOk};
+// The words behind the first, by their number and then by their forms from the left.
+ghost use Rattle.std.specs.Prelude.{◌≡◌, [], ◌∷◌, Some, None, map};
 ghost use Rattle.std.specs.Result.{result_map_both};
-ghost use Rattle.percent_encoding.specs.Percent.{percent_decode};
-ghost use Rattle.vc_script.specs.declared.command.Command.TheVariants.{WriteBlock};
-ghost use Rattle.vc_script.specs.Commands.{address_in, alloc_in, block_and_numbers_in, block_in, open_in, poke_in, region_in, resize_in, write_in};
+ghost use Rattle.vc_script.specs.Forms as form;
+ghost use Rattle.vc_script.specs.Table.{read_words};
 
-use crate::count::{four_words, one_word, three_or_four_words, three_words, two_words};
 use crate::form::{
-    address_of, decoded, escaped_of, method_of, mode_of, name_of, number_of, optional_site_of,
-    signed_of,
+    address_of, dict_method_of, method_of, mode_of, name_of, name_or_dash_of, number_of, signed_of,
+    site_of,
 };
-use crate::{Command, LineFault, Place};
-use std::alloc::Global;
-use vc_base::{Name, OutOfMemory};
+use crate::{LineFault, Place};
+use vc_base::{DictMethod, Name};
+use vc_seg::Method;
 
-pub(crate) fn region_in(others: &[&[u8]]) -> Result<Name, LineFault>
-    ensures { result ≡ region_in (map (λ w. w.now) others.now) }
+// `R`, or `D`.
+pub(crate) fn name_in(others: &[&[u8]]) -> Result<Name, LineFault>
+    ensures { result_map_both (λ a. (a, tt)) (λ e. e) result
+        ≡ read_words (form.Name ∷ []) None (map (λ w. w.now) others.now) }
 {
-    name_of(one_word(others)?)
+    match others {
+        [name] => name_of(name),
+        _ => Err(LineFault::WordCount),
+    }
 }
 
+// `R X`.
 pub(crate) fn block_in(others: &[&[u8]]) -> Result<(Name, Name), LineFault>
-    ensures { result ≡ block_in (map (λ w. w.now) others.now) }
+    ensures { result_map_both (λ t. (t.0, (t.1, tt))) (λ e. e) result
+        ≡ read_words (form.Name ∷ form.Name ∷ []) None (map (λ w. w.now) others.now) }
 {
-    let (region, block) = two_words(others)?;
-    let region = name_of(region)?;
-    let block = name_of(block)?;
-    Ok((region, block))
+    match others {
+        [region, block] => Ok((name_of(region)?, name_of(block)?)),
+        _ => Err(LineFault::WordCount),
+    }
 }
 
+// `R S:O`.
 pub(crate) fn address_in(others: &[&[u8]]) -> Result<(Name, Place), LineFault>
-    ensures { result ≡ address_in (map (λ w. w.now) others.now) }
+    ensures { result_map_both (λ t. (t.0, (t.1, tt))) (λ e. e) result
+        ≡ read_words (form.Name ∷ form.Address ∷ []) None (map (λ w. w.now) others.now) }
 {
-    let (region, place) = two_words(others)?;
-    let region = name_of(region)?;
-    let place = address_of(place)?;
-    Ok((region, place))
+    match others {
+        [region, place] => Ok((name_of(region)?, address_of(place)?)),
+        _ => Err(LineFault::WordCount),
+    }
 }
 
-pub(crate) fn block_and_numbers_in(others: &[&[u8]]) -> Result<(Name, Name, u32, u32), LineFault>
-    ensures { result ≡ block_and_numbers_in (map (λ w. w.now) others.now) }
+// `R METHOD N`.
+pub(crate) fn open_in(others: &[&[u8]]) -> Result<(Name, Method, u32), LineFault>
+    ensures { result_map_both (λ t. (t.0, (t.1, (t.2, tt)))) (λ e. e) result
+        ≡ read_words (form.Name ∷ form.RegionMethod ∷ form.Number ∷ []) None (map (λ w. w.now) others.now) }
 {
-    let (region, block, n, m) = four_words(others)?;
-    let region = name_of(region)?;
-    let block = name_of(block)?;
-    let n = number_of(n)?;
-    let m = number_of(m)?;
-    Ok((region, block, n, m))
+    match others {
+        [region, method, place] => { Ok((name_of(region)?, method_of(method)?, number_of(place)?)) }
+        _ => Err(LineFault::WordCount),
+    }
 }
 
-pub(crate) fn open_in(others: &[&[u8]]) -> Result<Command, LineFault>
-    ensures { result ≡ open_in (map (λ w. w.now) others.now) }
+// `R X SIZE [@SITE]`.
+pub(crate) fn alloc_in(others: &[&[u8]]) -> Result<(Name, Name, u32, Option<Name>), LineFault>
+    ensures { result_map_both (λ t. (t.0, (t.1, (t.2, t.3)))) (λ e. e) result
+        ≡ read_words (form.Name ∷ form.Name ∷ form.Number ∷ []) (Some form.Site) (map (λ w. w.now) others.now) }
 {
-    let (region, method, place) = three_words(others)?;
-    let region = name_of(region)?;
-    let method = method_of(method)?;
-    let place = number_of(place)?;
-    Ok(Command::OpenRegion(region, method, place))
-}
-
-pub(crate) fn alloc_in(others: &[&[u8]]) -> Result<Command, LineFault>
-    ensures { result ≡ alloc_in (map (λ w. w.now) others.now) }
-{
-    let (region, block, size, site) = three_or_four_words(others)?;
-    let region = name_of(region)?;
-    let block = name_of(block)?;
-    let size = number_of(size)?;
-    let site = optional_site_of(site)?;
-    Ok(Command::Alloc(region, block, size, site))
-}
-
-pub(crate) fn resize_in(others: &[&[u8]]) -> Result<Command, LineFault>
-    ensures { result ≡ resize_in (map (λ w. w.now) others.now) }
-{
-    let (region, block, size, moves) = four_words(others)?;
-    let region = name_of(region)?;
-    let block = name_of(block)?;
-    let size = number_of(size)?;
-    let moves = mode_of(moves)?;
-    Ok(Command::Resize(region, block, size, moves))
-}
-
-pub(crate) fn poke_in(others: &[&[u8]]) -> Result<Command, LineFault>
-    ensures { result ≡ poke_in (map (λ w. w.now) others.now) }
-{
-    let (region, block, off, byte) = four_words(others)?;
-    let region = name_of(region)?;
-    let block = name_of(block)?;
-    let off = signed_of(off)?;
-    let byte = number_of(byte)?;
-    Ok(Command::Poke(region, block, off, byte))
-}
-
-// What `write` takes, with the word that spells its bytes.
-fn write_parts_in<'a>(others: &[&'a [u8]]) -> Result<(Name, Name, u32, &'a [u8]), LineFault>
-    ensures { result_map_both (λ t. WriteBlock t.0 t.1 t.2 (percent_decode t.3.now)) (λ e. e) result
-        ≡ write_in (map (λ w. w.now) others.now) }
-{
-    let (region, block, off, bytes) = four_words(others)?;
-    let region = name_of(region)?;
-    let block = name_of(block)?;
-    let off = number_of(off)?;
-    let bytes = escaped_of(bytes)?;
-    Ok((region, block, off, bytes))
-}
-
-pub(crate) fn write_in(
-    alloc: Global,
-    others: &[&[u8]],
-) -> Result<Result<Command, LineFault>, OutOfMemory>
-    ensures { IfOk result (λ read. read ≡ write_in (map (λ w. w.now) others.now)) }
-{
-    match write_parts_in(others) {
-        Ok((region, block, off, bytes)) => {
-            let bytes = decoded(alloc, bytes)?;
-            Ok(Ok(Command::WriteBlock(region, block, off, bytes)))
+    match others {
+        [region, block, size] => { Ok((name_of(region)?, name_of(block)?, number_of(size)?, None)) }
+        [region, block, size, site] => {
+            let region = name_of(region)?;
+            let block = name_of(block)?;
+            let size = number_of(size)?;
+            Ok((region, block, size, Some(site_of(site)?)))
         }
-        Err(fault) => Ok(Err(fault)),
+        _ => Err(LineFault::WordCount),
+    }
+}
+
+// `R X`, and two numbers.
+pub(crate) fn numbers_in(others: &[&[u8]]) -> Result<(Name, Name, u32, u32), LineFault>
+    ensures { result_map_both (λ t. (t.0, (t.1, (t.2, (t.3, tt))))) (λ e. e) result
+        ≡ read_words (form.Name ∷ form.Name ∷ form.Number ∷ form.Number ∷ []) None (map (λ w. w.now) others.now) }
+{
+    match others {
+        [region, block, n, m] => {
+            let region = name_of(region)?;
+            let block = name_of(block)?;
+            let n = number_of(n)?;
+            let m = number_of(m)?;
+            Ok((region, block, n, m))
+        }
+        _ => Err(LineFault::WordCount),
+    }
+}
+
+// `R X SIZE MODE`.
+pub(crate) fn resize_in(others: &[&[u8]]) -> Result<(Name, Name, u32, bool), LineFault>
+    ensures { result_map_both (λ t. (t.0, (t.1, (t.2, (t.3, tt))))) (λ e. e) result
+        ≡ read_words (form.Name ∷ form.Name ∷ form.Number ∷ form.Mode ∷ []) None (map (λ w. w.now) others.now) }
+{
+    match others {
+        [region, block, size, moves] => {
+            let region = name_of(region)?;
+            let block = name_of(block)?;
+            let size = number_of(size)?;
+            let moves = mode_of(moves)?;
+            Ok((region, block, size, moves))
+        }
+        _ => Err(LineFault::WordCount),
+    }
+}
+
+// `R X OFF BYTE`.
+pub(crate) fn poke_in(others: &[&[u8]]) -> Result<(Name, Name, i64, u32), LineFault>
+    ensures { result_map_both (λ t. (t.0, (t.1, (t.2, (t.3, tt))))) (λ e. e) result
+        ≡ read_words (form.Name ∷ form.Name ∷ form.SignedNumber ∷ form.Number ∷ []) None (map (λ w. w.now) others.now) }
+{
+    match others {
+        [region, block, off, byte] => {
+            let region = name_of(region)?;
+            let block = name_of(block)?;
+            let off = signed_of(off)?;
+            let byte = number_of(byte)?;
+            Ok((region, block, off, byte))
+        }
+        _ => Err(LineFault::WordCount),
+    }
+}
+
+// `D METHOD R K`.
+pub(crate) fn dict_in(others: &[&[u8]]) -> Result<(Name, DictMethod, Name, u32), LineFault>
+    ensures { result_map_both (λ t. (t.0, (t.1, (t.2, (t.3, tt))))) (λ e. e) result
+        ≡ read_words (form.Name ∷ form.DictionaryMethod ∷ form.Name ∷ form.Number ∷ []) None (map (λ w. w.now) others.now) }
+{
+    match others {
+        [dict, method, region, kind] => {
+            let dict = name_of(dict)?;
+            let method = dict_method_of(method)?;
+            let region = name_of(region)?;
+            let kind = number_of(kind)?;
+            Ok((dict, method, region, kind))
+        }
+        _ => Err(LineFault::WordCount),
+    }
+}
+
+// `D E`, or `D -`.
+pub(crate) fn view_in(others: &[&[u8]]) -> Result<(Name, Option<Name>), LineFault>
+    ensures { result_map_both (λ t. (t.0, (t.1, tt))) (λ e. e) result
+        ≡ read_words (form.Name ∷ form.NameOrDash ∷ []) None (map (λ w. w.now) others.now) }
+{
+    match others {
+        [dict, viewed] => Ok((name_of(dict)?, name_or_dash_of(viewed)?)),
+        _ => Err(LineFault::WordCount),
+    }
+}
+
+// `D METHOD`.
+pub(crate) fn method_in(others: &[&[u8]]) -> Result<(Name, DictMethod), LineFault>
+    ensures { result_map_both (λ t. (t.0, (t.1, tt))) (λ e. e) result
+        ≡ read_words (form.Name ∷ form.DictionaryMethod ∷ []) None (map (λ w. w.now) others.now) }
+{
+    match others {
+        [dict, method] => Ok((name_of(dict)?, dict_method_of(method)?)),
+        _ => Err(LineFault::WordCount),
     }
 }

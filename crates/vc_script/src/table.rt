@@ -1,98 +1,128 @@
-// The commands by their first words.
-ghost use Rattle.std.specs.Prelude.{◌≡◌, map, IfOk};
-ghost use Rattle.vc_script.specs.Commands.{block_command, command_over_regions, place_command, region_command};
+// The commands by their first words, in the order of the table: those over regions.
+ghost use Rattle.std.specs.Prelude.{◌≡◌, map, drop, IfOk};
+ghost use Rattle.vc_script.specs.Answer.{command_in};
+ghost use Rattle.vc_script.specs.Table.{own_rows, table};
 
+use crate::byte_shape::write_in;
+use crate::dict_table::dictionary_command;
 use crate::shape::{
-    address_in, alloc_in, block_and_numbers_in, block_in, open_in, poke_in, region_in, resize_in,
-    write_in,
+    address_in, alloc_in, block_in, name_in, numbers_in, open_in, poke_in, resize_in,
 };
-use crate::{Command, LineFault};
+use crate::{Command, LineFault, Tool};
 use std::alloc::Global;
 use vc_base::OutOfMemory;
 
-pub(crate) fn command_over_regions(
+// Every command of the tool.
+pub(crate) fn command_in(
     alloc: Global,
+    tool: Tool,
     first: &[u8],
     others: &[&[u8]],
 ) -> Result<Result<Command, LineFault>, OutOfMemory>
-    ensures { IfOk result
-        (λ read. read ≡ command_over_regions first.now (map (λ w. w.now) others.now)) }
-{
-    if first == b"write".as_slice() {
-        write_in(alloc, others)
-    } else {
-        Ok(region_command(first, others))
-    }
-}
-
-// Those with a region alone.
-fn region_command(first: &[u8], others: &[&[u8]]) -> Result<Command, LineFault>
-    ensures { result ≡ region_command first.now (map (λ w. w.now) others.now) }
-{
-    if first == b"close".as_slice() {
-        Ok(Command::CloseRegion(region_in(others)?))
-    } else if first == b"clear".as_slice() {
-        Ok(Command::ClearRegion(region_in(others)?))
-    } else if first == b"compact".as_slice() {
-        Ok(Command::Compact(region_in(others)?))
-    } else if first == b"stat".as_slice() {
-        Ok(Command::StatOf(region_in(others)?))
-    } else if first == b"segments".as_slice() {
-        Ok(Command::Segments(region_in(others)?))
-    } else if first == b"blocks".as_slice() {
-        Ok(Command::Blocks(region_in(others)?))
-    } else if first == b"check".as_slice() {
-        Ok(Command::Check(region_in(others)?))
-    } else if first == b"profile".as_slice() {
-        Ok(Command::ProfileOf(region_in(others)?))
-    } else {
-        place_command(first, others)
-    }
-}
-
-// Those with a block, with a block and two numbers, or with an address.
-fn place_command(first: &[u8], others: &[&[u8]]) -> Result<Command, LineFault>
-    ensures { result ≡ place_command first.now (map (λ w. w.now) others.now) }
-{
-    if first == b"free".as_slice() {
-        let (region, block) = block_in(others)?;
-        Ok(Command::Free(region, block))
-    } else if first == b"size".as_slice() {
-        let (region, block) = block_in(others)?;
-        Ok(Command::SizeOf(region, block))
-    } else if first == b"watch".as_slice() {
-        let (region, block) = block_in(others)?;
-        Ok(Command::Watch(region, block))
-    } else if first == b"align".as_slice() {
-        let (region, block, size, align) = block_and_numbers_in(others)?;
-        Ok(Command::Align(region, block, size, align))
-    } else if first == b"read".as_slice() {
-        let (region, block, off, len) = block_and_numbers_in(others)?;
-        Ok(Command::ReadBlock(region, block, off, len))
-    } else if first == b"addr".as_slice() {
-        let (region, place) = address_in(others)?;
-        Ok(Command::AddrOf(region, place))
-    } else if first == b"segment".as_slice() {
-        let (region, place) = address_in(others)?;
-        Ok(Command::SegmentOf(region, place))
-    } else {
-        block_command(first, others)
-    }
-}
-
-// Those with a shape of their own.
-fn block_command(first: &[u8], others: &[&[u8]]) -> Result<Command, LineFault>
-    ensures { result ≡ block_command first.now (map (λ w. w.now) others.now) }
+    ensures { IfOk result (λ read.
+        read ≡ command_in (table tool) first.now (map (λ w. w.now) others.now)) }
 {
     if first == b"open".as_slice() {
-        open_in(others)
+        Ok(open_in(others).map(|(region, method, place)| Command::OpenRegion(
+            region, method, place,
+        )))
+    } else if first == b"close".as_slice() {
+        Ok(name_in(others).map(|region| Command::CloseRegion(region)))
+    } else if first == b"clear".as_slice() {
+        Ok(name_in(others).map(|region| Command::ClearRegion(region)))
+    } else if first == b"compact".as_slice() {
+        Ok(name_in(others).map(|region| Command::Compact(region)))
     } else if first == b"alloc".as_slice() {
-        alloc_in(others)
+        Ok(alloc_in(others).map(|(region, block, size, site)| Command::Alloc(
+            region, block, size, site,
+        )))
+    } else if first == b"align".as_slice() {
+        Ok(numbers_in(others).map(|(region, block, size, align)| Command::Align(
+            region, block, size, align,
+        )))
     } else if first == b"resize".as_slice() {
-        resize_in(others)
-    } else if first == b"poke".as_slice() {
-        poke_in(others)
+        Ok(resize_in(others).map(|(region, block, size, moves)| Command::Resize(
+            region, block, size, moves,
+        )))
     } else {
-        Err(LineFault::UnknownCommand)
+        block_command(alloc, tool, first, others)
+    }
+}
+
+// From `free` on.
+fn block_command(
+    alloc: Global,
+    tool: Tool,
+    first: &[u8],
+    others: &[&[u8]],
+) -> Result<Result<Command, LineFault>, OutOfMemory>
+    ensures { IfOk result (λ read.
+        read ≡ command_in (drop 7 (table tool)) first.now (map (λ w. w.now) others.now)) }
+{
+    if first == b"free".as_slice() {
+        Ok(block_in(others).map(|(region, block)| Command::Free(region, block)))
+    } else if first == b"write".as_slice() {
+        Ok(write_in(alloc, others)?.map(|(region, block, off, bytes)| Command::WriteBlock(
+            region, block, off, bytes,
+        )))
+    } else if first == b"read".as_slice() {
+        Ok(numbers_in(others).map(|(region, block, off, len)| Command::ReadBlock(
+            region, block, off, len,
+        )))
+    } else if first == b"size".as_slice() {
+        Ok(block_in(others).map(|(region, block)| Command::SizeOf(region, block)))
+    } else if first == b"addr".as_slice() {
+        Ok(address_in(others).map(|(region, place)| Command::AddrOf(region, place)))
+    } else if first == b"segment".as_slice() {
+        Ok(address_in(others).map(|(region, place)| Command::SegmentOf(region, place)))
+    } else {
+        report_command(alloc, tool, first, others)
+    }
+}
+
+// From `stat` on.
+fn report_command(
+    alloc: Global,
+    tool: Tool,
+    first: &[u8],
+    others: &[&[u8]],
+) -> Result<Result<Command, LineFault>, OutOfMemory>
+    ensures { IfOk result (λ read.
+        read ≡ command_in (drop 13 (table tool)) first.now (map (λ w. w.now) others.now)) }
+{
+    if first == b"stat".as_slice() {
+        Ok(name_in(others).map(|region| Command::StatOf(region)))
+    } else if first == b"segments".as_slice() {
+        Ok(name_in(others).map(|region| Command::Segments(region)))
+    } else if first == b"blocks".as_slice() {
+        Ok(name_in(others).map(|region| Command::Blocks(region)))
+    } else if first == b"poke".as_slice() {
+        Ok(poke_in(others).map(|(region, block, off, byte)| Command::Poke(
+            region, block, off, byte,
+        )))
+    } else if first == b"check".as_slice() {
+        Ok(name_in(others).map(|region| Command::Check(region)))
+    } else if first == b"watch".as_slice() {
+        Ok(block_in(others).map(|(region, block)| Command::Watch(region, block)))
+    } else if first == b"profile".as_slice() {
+        Ok(name_in(others).map(|region| Command::ProfileOf(region)))
+    } else {
+        own_command(alloc, tool, first, others)
+    }
+}
+
+// The commands that not every tool has.
+fn own_command(
+    alloc: Global,
+    tool: Tool,
+    first: &[u8],
+    others: &[&[u8]],
+) -> Result<Result<Command, LineFault>, OutOfMemory>
+    ensures { IfOk result (λ read.
+        read ≡ command_in (own_rows tool) first.now (map (λ w. w.now) others.now)) }
+{
+    match tool {
+        Tool::Vmreplay => Ok(Err(LineFault::UnknownCommand)),
+        Tool::Dtrun => dictionary_command(alloc, first, others),
     }
 }

@@ -3,4 +3,6 @@
 pub enum Tool {
     /// Replays a script over regions.
     Vmreplay,
+    /// Runs a script over regions and dictionaries.
+    Dtrun,
 }

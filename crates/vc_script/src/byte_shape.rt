@@ -1,0 +1,85 @@
+// The words behind the first of commands that take bytes: a word is judged before memory is taken for its bytes.
+ghost use Rattle.std.specs.Prelude.{◌≡◌, [], ◌∷◌, Some, None, map, option_map, IfOk};
+ghost use Rattle.std.specs.Result.{result_map_both};
+ghost use Rattle.percent_encoding.specs.Percent.{percent_decode};
+ghost use Rattle.vc_script.specs.Forms as form;
+ghost use Rattle.vc_script.specs.Table.{read_words};
+
+use crate::form::{decoded, escaped_of, name_of, number_of};
+use crate::{Bytes, LineFault};
+use std::alloc::Global;
+use vc_base::{Name, OutOfMemory};
+
+// `D OBJ`, with the word that spells the object.
+fn object_word_in<'a>(others: &[&'a [u8]]) -> Result<(Name, &'a [u8]), LineFault>
+    ensures { result_map_both (λ t. (t.0, (percent_decode t.1.now, tt))) (λ e. e) result
+        ≡ read_words (form.Name ∷ form.Bytes ∷ []) None (map (λ w. w.now) others.now) }
+{
+    match others {
+        [dict, object] => Ok((name_of(dict)?, escaped_of(object)?)),
+        _ => Err(LineFault::WordCount),
+    }
+}
+
+// `D OBJ`.
+pub(crate) fn object_in(
+    alloc: Global,
+    others: &[&[u8]],
+) -> Result<Result<(Name, Bytes), LineFault>, OutOfMemory>
+    ensures { IfOk result (λ read. result_map_both (λ t. (t.0, (t.1, tt))) (λ e. e) read
+        ≡ read_words (form.Name ∷ form.Bytes ∷ []) None (map (λ w. w.now) others.now)) }
+{
+    match object_word_in(others) {
+        Ok((dict, object)) => Ok(Ok((dict, decoded(alloc, object)?))),
+        Err(fault) => Ok(Err(fault)),
+    }
+}
+
+// `D [OBJ]`.
+pub(crate) fn delete_in(
+    alloc: Global,
+    others: &[&[u8]],
+) -> Result<Result<(Name, Option<Bytes>), LineFault>, OutOfMemory>
+    ensures { IfOk result (λ read. result_map_both (λ t. (t.0, t.1)) (λ e. e) read
+        ≡ read_words (form.Name ∷ []) (Some form.Bytes) (map (λ w. w.now) others.now)) }
+{
+    match others {
+        [dict] => Ok(name_of(dict).map(|dict| (dict, None))),
+        [_, _] => match object_in(alloc, others)? {
+            Ok((dict, object)) => Ok(Ok((dict, Some(object)))),
+            Err(fault) => Ok(Err(fault)),
+        },
+        _ => Ok(Err(LineFault::WordCount)),
+    }
+}
+
+// `R X OFF BYTES`, with the word that spells the bytes.
+fn write_word_in<'a>(others: &[&'a [u8]]) -> Result<(Name, Name, u32, &'a [u8]), LineFault>
+    ensures { result_map_both (λ t. (t.0, (t.1, (t.2, (percent_decode t.3.now, tt))))) (λ e. e) result
+        ≡ read_words (form.Name ∷ form.Name ∷ form.Number ∷ form.Bytes ∷ []) None (map (λ w. w.now) others.now) }
+{
+    match others {
+        [region, block, off, bytes] => {
+            let region = name_of(region)?;
+            let block = name_of(block)?;
+            let off = number_of(off)?;
+            let bytes = escaped_of(bytes)?;
+            Ok((region, block, off, bytes))
+        }
+        _ => Err(LineFault::WordCount),
+    }
+}
+
+// `R X OFF BYTES`.
+pub(crate) fn write_in(
+    alloc: Global,
+    others: &[&[u8]],
+) -> Result<Result<(Name, Name, u32, Bytes), LineFault>, OutOfMemory>
+    ensures { IfOk result (λ read. result_map_both (λ t. (t.0, (t.1, (t.2, (t.3, tt))))) (λ e. e) read
+        ≡ read_words (form.Name ∷ form.Name ∷ form.Number ∷ form.Bytes ∷ []) None (map (λ w. w.now) others.now)) }
+{
+    match write_word_in(others) {
+        Ok((region, block, off, bytes)) => Ok(Ok((region, block, off, decoded(alloc, bytes)?))),
+        Err(fault) => Ok(Err(fault)),
+    }
+}
