@@ -3,4 +3,5 @@ pub use Rattle.vc_model.specs.Stream
 pub use Rattle.vc_model.specs.Addr
 pub mod Memory
 pub mod Name
+pub mod Standard
 pub mod Steps

@@ -1,4 +1,4 @@
-ghost use Rattle.std.specs.Prelude.{◌≡◌, ℕ, ◌+◌, ◌*◌, ◌/◌, ◌%◌, ◌<◌, ◌≤◌};
+ghost use Rattle.std.specs.Prelude.{◌≡◌, ℕ, ◌+◌, ◌*◌, ◌/◌, ◌%◌, ◌<◌, ◌≤◌, ◌↔◌, IsTrue};
 ghost use Rattle.vc_model.specs.Addr.{address, place_of};
 
 /// An address in a region: `number × 2^20 + offset / 32`, with the number of a segment, from 1 to 1,023, and an offset
@@ -7,8 +7,15 @@ ghost use Rattle.vc_model.specs.Addr.{address, place_of};
 pub struct Addr(pub u32);
 
 impl Addr {
-    /// No address.
+    /// No address: 0, which no segment has, since their numbers are from 1 on.
     pub const NONE: Addr = Addr(0);
+
+    /// Whether this is no address.
+    pub fn is_none(self) -> bool
+        ensures { IsTrue result ↔ (self.0 ≡ 0) }
+    {
+        self == Addr::NONE
+    }
 
     /// The address of an offset in a segment.
     pub fn new(seg: u32, off: u32) -> Addr

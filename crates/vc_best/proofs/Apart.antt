@@ -5,9 +5,9 @@ use Rattle.std.proofs.lemmas.Bool.{cases_Bool, or_cases, or_parts, and_parts, an
 use Rattle.std.proofs.lemmas.List.Elements.{All-head, All-tail, All-nil, All-cons, All-map, All-weaker}
 use Rattle.std.proofs.lemmas.List.Kept.{AllPairs-cons}
 use Rattle.vc_model.specs.Segments.{span}
+use Rattle.vc_model.specs.Sound.{EndsBefore, IsApart}
 use Rattle.vc_best.specs.declared.slot.Slot.{Slot}
 use Rattle.vc_best.specs.Slot.{IsSlot, run_of_slot, lies_before_slot, with_slot}
-use Rattle.vc_best.specs.Apart.{EndsBefore, IsApart}
 use Rattle.vc_best.proofs.Rounding.{round_up-least}
 
 pub span-least : (size : ℕ) → size + 16 ≤ span size

@@ -1,17 +1,17 @@
 -- A segment that is taken back.
-use Rattle.std.proofs.Common.{◌≡◌, ℕ, zero, suc, ◌+◌, ◌-◌, ◌<◌, ◌≤◌, ◌≢◌, List, [], ◌∷◌, ◌++◌, true, false, not, All, AllPairs, Contains, length, get_or, map, filter, take, refl, ap, sym, subst, ◌∙◌, ⊎_elim, eqb, leb, arith}
+use Rattle.std.proofs.Common.{◌≡◌, ℕ, zero, suc, ◌+◌, ◌<◌, ◌≤◌, ◌≢◌, List, [], ◌∷◌, ◌++◌, true, false, not, All, AllPairs, Contains, length, get_or, map, filter, refl, ap, sym, subst, ◌∙◌, ⊎_elim, eqb, leb, arith}
 use Rattle.std.specs.Prelude.{◌==◌, ◌&&◌}
 use Rattle.std.specs.List.{list_any, remove}
 use Rattle.std.proofs.lemmas.Bool.{cases_Bool, eq-eqb, ne_eqb, eqb-true, le-leb, lt-leb, and_from, and_left, or_from, or_left, or_right}
 use Rattle.std.proofs.lemmas.Bool.Decides.{nat_tests}
-use Rattle.std.proofs.lemmas.List.{length-append, length-map, take_at, get_or-map}
+use Rattle.std.proofs.lemmas.List.{length-map, get_or-map}
 use Rattle.std.proofs.lemmas.List.Elements.{All-head, All-tail, Contains-append_right, filter_agree}
 use Rattle.std.proofs.lemmas.List.Folds.{list_any-append}
-use Rattle.vc_model.specs.Discipline.{Discipline, EndsWith, same_pair, without_last}
+use Rattle.vc_model.specs.Discipline.{Discipline, HasOut, TookBack, same_pair, without_last}
 use Rattle.vc_seg.specs.Segment.{Bytes, pair_of}
 use Rattle.vc_best.specs.declared.slot.Slot.{Slot}
 use Rattle.vc_best.specs.Slot.{has_slot}
-use Rattle.vc_best.specs.Close.{TakesBack, has_other_number, is_kept, stays_from}
+use Rattle.vc_best.specs.Close.{has_other_number, is_kept, stays_from}
 use Rattle.vc_best.proofs.Filters.{filter-filter, filter-all, filter-agree_on}
 use Rattle.vc_best.proofs.Bytes.{Apart, Apart-tail}
 
@@ -105,23 +105,18 @@ stays_from-last slots n ss h le =
     filter-agree_on (stays_from slots n) (λ b. has_slot slots b.number) ss
     (λ k d lt. let last = h k d lt in rw (lt-leb n (get_or ss k d).number (omega (arith, last))) refl)
 
-pub Contains-ends : (out ys : List (ℕ × ℕ)) (p : ℕ × ℕ) → EndsWith out ys → Contains ys p → Contains out p
-Contains-ends out ys p e h = subst (λ (o : List (ℕ × ℕ)). Contains o p) e (Contains-append_right (take (length out - length ys) out) ys p h)
+pub Contains-ends : (out ys : List (ℕ × ℕ)) (p : ℕ × ℕ) → (rest : List (ℕ × ℕ)) × (out ≡ rest ++ ys) → Contains ys p → Contains out p
+Contains-ends out ys p e h = subst (λ (o : List (ℕ × ℕ)). Contains o p) (sym e.1) (Contains-append_right e.0 ys p h)
 
-pub TakesBack-none : (d : Discipline) (held : List (ℕ × ℕ)) → TakesBack d d held held
-TakesBack-none d held = record { out = λ rest e. e; round = refl; faults = refl }
+pub TookBack-none : (d : Discipline) (held : List (ℕ × ℕ)) → TookBack d d held held
+TookBack-none d held = record { terms = refl; faults = refl; out = λ rest e. e }
 
-pub TakesBack-more : (a b c : Discipline) (held some left : List (ℕ × ℕ)) → TakesBack a b held some → TakesBack b c some left → TakesBack a c held left
-TakesBack-more a b c held some left h k = record { out = λ rest e. k.out rest (h.out rest e); round = k.round ∙ h.round; faults = k.faults ∙ h.faults }
+pub TookBack-more : (a b c : Discipline) (held some left : List (ℕ × ℕ)) → TookBack a b held some → TookBack b c some left → TookBack a c held left
+TookBack-more a b c held some left h k = record { terms = k.terms ∙ h.terms; faults = k.faults ∙ h.faults; out = λ rest e. k.out rest (h.out rest e) }
 
 -- what is left is still the end of what is out
-pub EndsWith-left : (a b : Discipline) (held left : List (ℕ × ℕ)) → TakesBack a b held left → EndsWith a.out held → EndsWith b.out left
-EndsWith-left a b held left h e =
-    let rest = take (length a.out - length held) a.out in
-    let o : b.out ≡ rest ++ left = h.out rest (sym e) in
-    let n : length b.out ≡ length rest + length left = ap length o ∙ length-append rest left in
-    let t : take (length b.out - length left) b.out ≡ rest = ap (take (length b.out - length left)) o ∙ take_at rest left (length b.out - length left) (omega arith) in
-    ap (λ (xs : List (ℕ × ℕ)). xs ++ left) t ∙ sym o
+pub HasOut-left : (a b : Discipline) (held left : List (ℕ × ℕ)) → TookBack a b held left → HasOut a held → HasOut b left
+HasOut-left a b held left h e = (e.0, h.out e.0 e.1)
 
-pub TakesBack-all : (a b : Discipline) (held : List (ℕ × ℕ)) (ss : List Bytes) → TakesBack a b held (map pair_of ss) → ss ≡ [] → TakesBack a b held []
-TakesBack-all a b held ss h none = subst (TakesBack a b held) (ap (map pair_of) none) h
+pub TookBack-all : (a b : Discipline) (held : List (ℕ × ℕ)) (ss : List Bytes) → TookBack a b held (map pair_of ss) → ss ≡ [] → TookBack a b held []
+TookBack-all a b held ss h none = subst (TookBack a b held) (ap (map pair_of) none) h

@@ -1,4 +1,4 @@
--- Blocks of a layout's region lie in its segments, don't overlap, and each is the only one at its address.
+-- Blocks of a layout lie in its segments, don't overlap, and each is the only one at its address.
 use Rattle.std.proofs.Common.{◌≡◌, ℕ, ◌+◌, ◌-◌, ◌<◌, ◌≤◌, List, [], ◌∷◌, true, false, All, AllPairs, Any, Contains, length, get_or, map, refl, suc, ap, sym, ◌∙◌, subst, inl, ⊎_elim, eqb, arith}
 use Rattle.std.specs.Prelude.{◌==◌, ◌&&◌}
 use Rattle.std.proofs.lemmas.Bool.{cases_Bool, and_parts, and_from, eqb-true, eq-eqb}
@@ -6,22 +6,20 @@ use Rattle.std.proofs.lemmas.List.{length-map, get_or-map}
 use Rattle.std.proofs.lemmas.List.Elements.{All-map}
 use Rattle.std.proofs.lemmas.Map.Made.{Contains-tail}
 use Rattle.vc_model.specs.Segments.{span}
-use Rattle.vc_model.specs.Region.{Block, footprint}
-use Rattle.vc_model.specs.Addr.{address, place_of}
+use Rattle.vc_model.specs.Layout.{Block, footprint}
+use Rattle.vc_model.specs.Addr.{place_of}
+use Rattle.vc_model.specs.Touch.{HasBlock}
+use Rattle.vc_model.specs.Sound.{EndsBefore, IsApart, IsUsable}
 use Rattle.vc_seg.specs.Segment.{Bytes, pair_of}
 use Rattle.vc_best.specs.declared.slot.Slot.{Slot}
 use Rattle.vc_best.specs.Slot.{run_of_slot, place_of_slot, without_slot}
-use Rattle.vc_best.specs.Apart.{EndsBefore, IsApart, footprint_at, IsApartFrom, AreApart, IsUsable}
-use Rattle.vc_best.specs.Layout.{bytes_of_number, block_in, IsSlotIn, IsLayout}
+use Rattle.vc_best.specs.Apart.{footprint_at, AreApart}
+use Rattle.vc_best.specs.Parts.{bytes_of_number, block_in, IsSlotIn, IsLayout}
 use Rattle.vc_best.proofs.Apart.{AllPairs-head, AllPairs-tail, AllPairs-map, Before, span-least}
 use Rattle.vc_best.proofs.Frees.{Contains-place, All-without_slot}
 
 pub AreApart-blocks : (segs : List Bytes) (slots : List Slot) → IsLayout segs slots → AreApart (map (block_in segs) slots)
 AreApart-blocks segs slots l = AllPairs-map (λ (a b : Block ℕ). EndsBefore (footprint a) (footprint b)) (block_in segs) slots l.apart
-
--- a block of that size at that place overlaps none of these slots
-abbrev ClearAt : ℕ → List Slot → ℕ × ℕ → Type 0
-ClearAt size slots at = All (λ t. IsApart (footprint_at size at) (run_of_slot t)) slots
 
 -- it is that segment, and the run lies in its usable part
 abbrev OfSegment : ℕ → ℕ → ℕ → ℕ × ℕ → Type 0
@@ -41,13 +39,6 @@ usable-number n from to (s ∷ ss) first last =
     (cases_Bool (eqb s.number n))
 
 -- a block lies in a segment where its slot does
-pub IsUsable-slot : (segs : List Bytes) (s : Slot) (a : ℕ) → place_of a ≡ (s.seg, s.off) → IsSlotIn segs s → IsUsable (map pair_of segs) (footprint_at s.size (place_of a))
-IsUsable-slot segs s a e here =
-    let first : 32 ≤ s.off = here.slot.first in
-    let of : Any (OfSegment s.seg (s.off - 16) (s.off - 16 + span s.size)) (map pair_of segs) = usable-number s.seg (s.off - 16) (s.off - 16 + span s.size) segs (omega (arith, first)) here.within in
-    subst (λ p. IsUsable (map pair_of segs) (footprint_at s.size p)) (sym e) of
-
--- and so does each block of a layout
 pub IsUsable-blocks : (segs : List Bytes) (slots : List Slot) → All (IsSlotIn segs) slots → All (λ b. IsUsable (map pair_of segs) (footprint b)) (map (block_in segs) slots)
 IsUsable-blocks segs slots h =
     All-map (λ (b : Block ℕ). IsUsable (map pair_of segs) (footprint b)) (block_in segs) slots
@@ -56,11 +47,6 @@ IsUsable-blocks segs slots h =
     let here : IsSlotIn segs s = h k d lt in
     let first : 32 ≤ s.off = here.slot.first in
     usable-number s.seg (s.off - 16) (s.off - 16 + span s.size) segs (omega (arith, first)) here.within)
-
--- a block overlaps none where its slot overlaps none
-pub IsApartFrom-blocks : (segs : List Bytes) (slots : List Slot) (size a : ℕ) (at : ℕ × ℕ) → place_of a ≡ at → All (λ t. IsApart (footprint_at size at) (run_of_slot t)) slots → IsApartFrom (map (block_in segs) slots) size (place_of a)
-IsApartFrom-blocks segs slots size a at e h =
-    All-map (λ (b : Block ℕ). IsApart (footprint_at size (place_of a)) (footprint b)) (block_in segs) slots (subst (ClearAt size slots) (sym e) h)
 
 -- where a footprint is apart from these slots, none of them is at its place
 not_among : (size : ℕ) (at : ℕ × ℕ) (slots : List Slot) → All (λ t. IsApart (footprint_at size at) (run_of_slot t)) slots → Contains (map place_of_slot slots) at → ⊥
@@ -80,7 +66,7 @@ not_among size at slots apart among =
 
 -- nor is a block at its address
 pub no_block_at : (segs : List Bytes) (slots : List Slot) (size a : ℕ) (at : ℕ × ℕ) → place_of a ≡ at → All (IsSlotIn segs) slots → All (λ t. IsApart (footprint_at size at) (run_of_slot t)) slots →
-    Contains (map (λ (b : Block ℕ). address (b.seg, b.off)) (map (block_in segs) slots)) a → ⊥
+    ¬ HasBlock (map (block_in segs) slots) a
 no_block_at segs slots size a at e h apart among = not_among size at slots apart (subst (λ p. Contains (map place_of_slot slots) p) e (Contains-place segs slots a h among))
 
 none_left : (at : ℕ × ℕ) (slots : List Slot) → AllPairs Before slots → Contains (map place_of_slot (without_slot at slots)) at → ⊥
@@ -102,6 +88,6 @@ none_left at (s ∷ ss) pairs among =
 
 -- where the slot of an address is taken out, no block is left at the address
 pub no_block_left : (segs : List Bytes) (slots : List Slot) (a : ℕ) → IsLayout segs slots →
-    Contains (map (λ (b : Block ℕ). address (b.seg, b.off)) (map (block_in segs) (without_slot (place_of a) slots))) a → ⊥
+    ¬ HasBlock (map (block_in segs) (without_slot (place_of a) slots)) a
 no_block_left segs slots a l among =
     none_left (place_of a) slots l.apart (Contains-place segs (without_slot (place_of a) slots) a (All-without_slot (IsSlotIn segs) (place_of a) slots l.blocks) among)

@@ -4,7 +4,7 @@ use Rattle.std.proofs.lemmas.Bool.{cases_Bool, or_parts, eq-eqb, ne_eqb}
 use Rattle.std.proofs.lemmas.List.Elements.{All-head, All-tail}
 use Rattle.vc_model.specs.Segments.{numbers}
 use Rattle.vc_seg.specs.Segment.{Bytes, pair_of}
-use Rattle.vc_best.specs.Layout.{bytes_of_number, IsRegionSegment}
+use Rattle.vc_best.specs.Parts.{bytes_of_number, IsRegionSegment}
 use Rattle.vc_best.proofs.Unused.{is_among}
 
 pub bytes_of_number-most : (n : ℕ) (segs : List Bytes) → All IsRegionSegment segs → length (bytes_of_number n segs) ≤ 33554432

@@ -4,13 +4,15 @@ use Rattle.std.proofs.lemmas.Bool.{cases_Bool, eqb-true, eq-eqb, ltb-true, ltb-f
 use Rattle.std.proofs.lemmas.List.Elements.{All-head, All-tail, All-nil, All-cons, All-append, All-filter, All-map, All-weaker, filter_passes}
 use Rattle.std.proofs.lemmas.List.Kept.{AllPairs-filter}
 use Rattle.vc_model.specs.Segments.{span, numbers}
-use Rattle.vc_model.specs.Gap.{Run, run_of, gaps_between, gaps_in, gaps}
-use Rattle.vc_model.specs.Place.{best_gap, holds, lowest_offset}
+use Rattle.vc_model.specs.Gap.{Run, run_of, gaps_between}
+use Rattle.vc_model.specs.Place.{holds, lowest_offset}
+use Rattle.vc_model.specs.Sound.{EndsBefore, IsApart}
 use Rattle.vc_seg.specs.Segment.{Bytes, pair_of}
 use Rattle.vc_best.specs.declared.slot.Slot.{Slot}
 use Rattle.vc_best.specs.Slot.{IsSlot, run_of_slot, runs_of}
-use Rattle.vc_best.specs.Apart.{EndsBefore, IsApart, footprint_at}
-use Rattle.vc_best.specs.Layout.{bytes_of_number, IsSlotIn}
+use Rattle.vc_best.specs.Apart.{footprint_at}
+use Rattle.vc_best.specs.Parts.{bytes_of_number, IsSlotIn}
+use Rattle.vc_best.specs.Gaps.{gaps_left_in, gaps_left, best_left}
 use Rattle.vc_best.proofs.Unused.{is_among}
 use Rattle.vc_best.proofs.Bytes.{bytes_of_number-unused}
 use Rattle.vc_best.proofs.Gaps.{least-All}
@@ -97,20 +99,20 @@ clear-all n g same (f ∷ fs) h =
     All-cons (IsApart g) f fs (apart_by_seg g f other) (clear-all n g same fs all))
     (cases_Bool (eqb f.seg n))
 
-gaps_in-clear : (runs : List Run) → All (λ f. f.from ≤ f.to) runs → AllPairs EndsBefore runs → (s : ℕ × ℕ) → All (λ f. 16 ≤ f.from) runs → All (λ g. All (IsApart g) runs) (gaps_in runs s)
+gaps_in-clear : (runs : List Run) → All (λ f. f.from ≤ f.to) runs → AllPairs EndsBefore runs → (s : ℕ × ℕ) → All (λ f. 16 ≤ f.from) runs → All (λ g. All (IsApart g) runs) (gaps_left_in runs s)
 gaps_in-clear runs order pairs s first =
     let test : Run → Bool = λ f. eqb f.seg s.0 in
     let own = filter test runs in
     let of : All (IsOf s.0) own = λ k d lt. record { seg = eqb-true _ s.0 (filter_passes test runs k d lt); order = All-filter test (λ (f : Run). f.from ≤ f.to) runs order k d lt } in
     All-weaker (IsBetween s.0 16 own) (λ g. All (IsApart g) runs)
     (λ g b. clear-all s.0 g b.seg runs b.beside)
-    (gaps_in runs s)
+    (gaps_left_in runs s)
     (gaps_between-beside s.0 (s.1 - 16) 16 own of (All-filter test (λ (f : Run). 16 ≤ f.from) runs first) (AllPairs-filter EndsBefore test runs pairs))
 
-gaps-clear : (runs : List Run) → All (λ f. f.from ≤ f.to) runs → AllPairs EndsBefore runs → All (λ f. 16 ≤ f.from) runs → (ss : List (ℕ × ℕ)) → All (λ g. All (IsApart g) runs) (gaps ss runs)
+gaps-clear : (runs : List Run) → All (λ f. f.from ≤ f.to) runs → AllPairs EndsBefore runs → All (λ f. 16 ≤ f.from) runs → (ss : List (ℕ × ℕ)) → All (λ g. All (IsApart g) runs) (gaps_left ss runs)
 gaps-clear runs order pairs first [] = All-nil (λ (g : Run). All (IsApart g) runs)
 gaps-clear runs order pairs first (s ∷ ss) =
-    All-append (λ (g : Run). All (IsApart g) runs) (gaps_in runs s) (gaps ss runs) (gaps_in-clear runs order pairs s first) (gaps-clear runs order pairs first ss)
+    All-append (λ (g : Run). All (IsApart g) runs) (gaps_left_in runs s) (gaps_left ss runs) (gaps_in-clear runs order pairs s first) (gaps-clear runs order pairs first ss)
 
 All-from_runs : (P : Run → Type 0) (slots : List Slot) → All P (runs_of slots) → All (λ t. P (run_of_slot t)) slots
 All-from_runs P [] h = All-nil (λ (t : Slot). P (run_of_slot t))
@@ -118,14 +120,14 @@ All-from_runs P (s ∷ ss) h =
     All-cons (λ (t : Slot). P (run_of_slot t)) s ss (All-head P (run_of_slot s) (runs_of ss) h) (All-from_runs P ss (All-tail P (run_of_slot s) (runs_of ss) h))
 
 -- a slot of a layout, at the lowest offset of the least gap that holds it, overlaps none of its slots
-pub best_gap-clear : (segments : List (ℕ × ℕ)) (slots : List Slot) (size align : ℕ) (g : Run) → All IsSlot slots → AllPairs Before slots → 1 ≤ align → best_gap segments (runs_of slots) size align ≡ Some g →
+pub best_gap-clear : (segments : List (ℕ × ℕ)) (slots : List Slot) (size align : ℕ) (g : Run) → All IsSlot slots → AllPairs Before slots → 1 ≤ align → best_left segments (runs_of slots) size align ≡ Some g →
     All (λ t. IsApart (footprint_at size (g.seg, lowest_offset align g)) (run_of_slot t)) slots
 best_gap-clear segments slots size align g h pairs one e =
     let runs = runs_of slots in
     let order : All (λ (f : Run). f.from ≤ f.to) runs = All-map (λ (f : Run). f.from ≤ f.to) run_of_slot slots (λ k d lt. omega arith) in
     let first : All (λ (f : Run). 16 ≤ f.from) runs = All-map (λ (f : Run). 16 ≤ f.from) run_of_slot slots (λ k d lt. let low = (h k d lt).first in omega (arith, low)) in
     let test = holds (span size) align in
-    let all = gaps segments runs in
+    let all = gaps_left segments runs in
     let off = lowest_offset align g in
     let clear : All (IsApart g) runs = least-All (λ x. All (IsApart x) runs) None (filter test all) g (λ c q. absurd (cc)) (All-filter test (λ x. All (IsApart x) runs) all (gaps-clear runs order (AllPairs-map EndsBefore run_of_slot slots pairs) first segments)) e in
     let fits : off + span size ≤ g.to + 16 = leb-true (off + span size) (g.to + 16) (least-All (λ x. test x ≡ true) None (filter test all) g (λ c q. absurd (cc)) (filter_passes test all) e) in

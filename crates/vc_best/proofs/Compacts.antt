@@ -6,12 +6,12 @@ use Rattle.std.proofs.lemmas.List.Elements.{All-head, All-tail, All-nil, All-fil
 use Rattle.std.proofs.lemmas.List.Folds.{list_any_at}
 use Rattle.std.proofs.lemmas.List.Kept.{AllPairs-filter}
 use Rattle.std.proofs.lemmas.List.Sums.{length-filter, count_by-le-length}
-use Rattle.vc_model.specs.Region.{Block, Region}
+use Rattle.vc_model.specs.Layout.{Block, Layout}
 use Rattle.vc_model.specs.Compact.{compact_count, compacted, is_occupied}
 use Rattle.vc_seg.specs.Segment.{Bytes, pair_of}
 use Rattle.vc_best.specs.declared.slot.Slot.{Slot}
 use Rattle.vc_best.specs.Slot.{has_slot, run_of_slot}
-use Rattle.vc_best.specs.Layout.{bytes_of_number, block_in, region_of, IsRegionSegment, IsSlotIn, IsLayout}
+use Rattle.vc_best.specs.Parts.{bytes_of_number, block_in, layout_of, IsRegionSegment, IsSlotIn, IsLayout}
 use Rattle.vc_best.proofs.Apart.{AllPairs-nil, Before}
 use Rattle.vc_best.proofs.Bytes.{Apart}
 use Rattle.vc_best.proofs.Filters.{filter-map}
@@ -79,9 +79,9 @@ is_occupied-slots : (segs : List Bytes) (slots : List Slot) (n : ℕ) → is_occ
 is_occupied-slots segs [] n = refl
 is_occupied-slots segs (s ∷ ss) n = rw (is_occupied-slots segs ss n) refl
 
-pub region_of-occupied : (segs : List Bytes) (slots : List Slot) → region_of (occupied slots segs) slots ≡ compacted (region_of segs slots)
-region_of-occupied segs slots =
-    let region : List (ℕ × ℕ) → List (Block ℕ) → Region ℕ = λ ss bs. record { segments = ss; blocks = bs } in
+pub layout_of-occupied : (segs : List Bytes) (slots : List Slot) → layout_of (occupied slots segs) slots ≡ compacted (layout_of segs slots)
+layout_of-occupied segs slots =
+    let region : List (ℕ × ℕ) → List (Block ℕ) → Layout ℕ = λ ss bs. record { segments = ss; blocks = bs } in
     let blocks = map (block_in segs) slots in
     let kept : filter (λ s. is_occupied blocks s.0) (map pair_of segs) ≡ map pair_of (occupied slots segs) =
     filter-map pair_of (λ (s : ℕ × ℕ). is_occupied blocks s.0) segs
@@ -90,10 +90,10 @@ region_of-occupied segs slots =
     ∙ ap (λ ss. region ss blocks) (sym kept)
 
 -- how many segments that leaves
-pub compact_count-lengths : (segs : List Bytes) (slots : List Slot) → length segs - length (occupied slots segs) ≡ compact_count (region_of segs slots)
+pub compact_count-lengths : (segs : List Bytes) (slots : List Slot) → length segs - length (occupied slots segs) ≡ compact_count (layout_of segs slots)
 compact_count-lengths segs slots =
     ap (λ n. n - length (occupied slots segs)) (sym (length-map segs pair_of))
-    ∙ ap (λ n. length (map pair_of segs) - n) (sym (length-map (occupied slots segs) pair_of) ∙ ap (λ (r : Region ℕ). length r.segments) (region_of-occupied segs slots))
+    ∙ ap (λ n. length (map pair_of segs) - n) (sym (length-map (occupied slots segs) pair_of) ∙ ap (λ (r : Layout ℕ). length r.segments) (layout_of-occupied segs slots))
 
 -- with no slot none stays
 pub occupied-none : (segs : List Bytes) → occupied [] segs ≡ []

@@ -4,19 +4,19 @@ use Rattle.std.specs.List.{find}
 use Rattle.std.specs.Prelude.{option_map}
 use Rattle.std.proofs.lemmas.Bool.{cases_Bool, and_parts, and_from, eqb-true, eq-eqb}
 use Rattle.std.proofs.lemmas.Map.Made.{Contains-tail}
-use Rattle.vc_model.specs.Region.{Block}
-use Rattle.vc_model.specs.Touch.{find_block, best_write}
+use Rattle.vc_model.specs.Layout.{Block}
+use Rattle.vc_model.specs.Touch.{find_block, with_bytes_at}
 use Rattle.vc_model.specs.Addr.{address, place_of}
 use Rattle.vc_seg.specs.Segment.{Bytes}
 use Rattle.vc_best.specs.declared.slot.Slot.{Slot}
 use Rattle.vc_best.specs.Slot.{place_of_slot, is_slot_at}
 use Rattle.vc_best.specs.Write.{write_segment}
-use Rattle.vc_best.specs.Layout.{bytes_of_number, block_in, region_of, IsSlotIn, IsLayout}
+use Rattle.vc_best.specs.Parts.{bytes_of_number, block_in, layout_of, IsSlotIn, IsLayout}
 use Rattle.vc_best.proofs.Bytes.{bytes_of_number-most}
 use Rattle.vc_best.proofs.Frees.{Contains-place}
 use Rattle.vc_best.proofs.Overwrites.{range-part}
 use Rattle.vc_best.proofs.Regions.{IsSlotIn-bytes, stands}
-use Rattle.vc_best.proofs.Writes.{IsLayout-write, region_of-written, find-All}
+use Rattle.vc_best.proofs.Writes.{IsLayout-write, layout_of-written, find-All}
 
 -- what is found passes
 pub find-passes : {A : Type 0} (test : A → Bool) (xs : List A) (x : A) → find test xs ≡ Some x → test x ≡ true
@@ -117,9 +117,9 @@ module _ (segs : List Bytes) (slots : List Slot) (a o n : ℕ) (l : IsLayout seg
   pub IsLayout-range : (src : List ℕ) → length src ≡ n → IsLayout (write_segment (place_of a).0 ((place_of a).1 + o) src segs) slots
   IsLayout-range src long = IsLayout-write (place_of a).0 ((place_of a).1 + o) src segs slots some-range (omega (arith, within-range, long)) l
 
-  pub region_of-range : (src : List ℕ) → length src ≡ n → region_of (write_segment (place_of a).0 ((place_of a).1 + o) src segs) slots ≡ best_write (region_of segs slots) (place_of a) o src
-  region_of-range src long =
+  pub layout_of-range : (src : List ℕ) → length src ≡ n → layout_of (write_segment (place_of a).0 ((place_of a).1 + o) src segs) slots ≡ with_bytes_at (layout_of segs slots) (place_of a) o src
+  layout_of-range src long =
       let enough : o + length src ≤ s.size = omega (arith, fits, long) in
       let here : find (is_slot_at (place_of_slot s)) slots ≡ Some s = subst (λ (p : ℕ × ℕ). find (is_slot_at p) slots ≡ Some s) (sym at.place) at.found in
-      subst (λ (p : ℕ × ℕ). region_of (write_segment p.0 (p.1 + o) src segs) slots ≡ best_write (region_of segs slots) p o src) at.place
-      (region_of-written segs s o (s.off + o) src at.slot refl enough slots l here)
+      subst (λ (p : ℕ × ℕ). layout_of (write_segment p.0 (p.1 + o) src segs) slots ≡ with_bytes_at (layout_of segs slots) p o src) at.place
+      (layout_of-written segs s o (s.off + o) src at.slot refl enough slots l here)

@@ -7,13 +7,13 @@ use Rattle.std.proofs.lemmas.List.{length-map, length-drop, get_or-map}
 use Rattle.std.proofs.lemmas.Map.Made.{Contains-tail}
 use Rattle.std.proofs.lemmas.List.Elements.{All-head, All-tail, All-cons}
 use Rattle.std.proofs.lemmas.List.Kept.{AllPairs-cons}
-use Rattle.vc_model.specs.Region.{Block, Region, without_block}
-use Rattle.vc_model.specs.Best.{best_free}
+use Rattle.vc_model.specs.Layout.{Block, Layout, without_block}
+use Rattle.vc_model.specs.Best.{without_block_at}
 use Rattle.vc_model.specs.Addr.{address, place_of}
 use Rattle.vc_seg.specs.Segment.{Bytes, pair_of}
 use Rattle.vc_best.specs.declared.slot.Slot.{Slot}
 use Rattle.vc_best.specs.Slot.{place_of_slot, without_slot}
-use Rattle.vc_best.specs.Layout.{block_in, region_of, IsSlotIn, IsLayout}
+use Rattle.vc_best.specs.Parts.{block_in, layout_of, IsSlotIn, IsLayout}
 use Rattle.vc_best.proofs.Apart.{Before, AllPairs-head, AllPairs-tail}
 
 module _ (at : ℕ × ℕ) where
@@ -82,9 +82,9 @@ pub IsLayout-without_slot : (segs : List Bytes) (at : ℕ × ℕ) (slots : List 
 IsLayout-without_slot segs at slots l =
     record { few = l.few; segments = l.segments; distinct = l.distinct; blocks = All-without_slot (IsSlotIn segs) at slots l.blocks; apart = Before-without_slot at slots l.apart }
 
-pub region_of-without_slot : (segs : List Bytes) (at : ℕ × ℕ) (slots : List Slot) → region_of segs (without_slot at slots) ≡ best_free (region_of segs slots) at
-region_of-without_slot segs at slots =
-    let region : List (Block ℕ) → Region ℕ = λ bs. record { segments = map pair_of segs; blocks = bs } in
+pub layout_of-without_slot : (segs : List Bytes) (at : ℕ × ℕ) (slots : List Slot) → layout_of segs (without_slot at slots) ≡ without_block_at (layout_of segs slots) at
+layout_of-without_slot segs at slots =
+    let region : List (Block ℕ) → Layout ℕ = λ bs. record { segments = map pair_of segs; blocks = bs } in
     ap region (blocks-without_slot segs at slots)
 
 pub place_of-address : (seg off : ℕ) → off < 33554432 → off % 32 ≡ 0 → place_of (address (seg, off)) ≡ (seg, off)

@@ -3,12 +3,13 @@ use Rattle.std.proofs.Common.{◌≡◌, ℕ, ◌+◌, ◌-◌, ◌≤◌, List,
 use Rattle.std.proofs.lemmas.Bool.{cases_Bool, eqb-true}
 use Rattle.std.proofs.lemmas.List.Elements.{All-head, All-tail, All-nil, All-cons, All-append, All-filter, filter_passes}
 use Rattle.vc_model.specs.Segments.{span}
-use Rattle.vc_model.specs.Gap.{Run, run_of, gaps_between, gaps_in, gaps, comes_before}
-use Rattle.vc_model.specs.Place.{best_gap, holds, least, lesser}
+use Rattle.vc_model.specs.Gap.{Run, run_of, gaps_between, comes_before}
+use Rattle.vc_model.specs.Place.{holds, least, lesser}
 use Rattle.vc_seg.specs.Segment.{Bytes, pair_of}
 use Rattle.vc_best.specs.declared.slot.Slot.{Slot}
 use Rattle.vc_best.specs.Slot.{run_of_slot, runs_of}
-use Rattle.vc_best.specs.Layout.{bytes_of_number, IsRegionSegment, IsSlotIn, IsLayout}
+use Rattle.vc_best.specs.Parts.{bytes_of_number, IsRegionSegment, IsSlotIn, IsLayout}
+use Rattle.vc_best.specs.Gaps.{gaps_left_in, gaps_left, best_left}
 use Rattle.vc_best.proofs.Bytes.{Apart, bytes_of_number-at}
 
 -- a gap lies behind the first bytes of a segment of these, and before its last
@@ -61,17 +62,17 @@ record IsOneOf (segs : List Bytes) (b : Bytes) : Type 0 where
 IsOneOf-all : (segs : List Bytes) → AllPairs Apart segs → All IsRegionSegment segs → All (IsOneOf segs) segs
 IsOneOf-all segs apart h = λ k d lt. record { segment = h k d lt; bytes = bytes_of_number-at segs k d apart lt }
 
-IsGapIn-flat_map : (segs : List Bytes) (slots : List Slot) → All (IsSlotIn segs) slots → (bs : List Bytes) → All (IsOneOf segs) bs → All (IsGapIn segs) (gaps (map pair_of bs) (runs_of slots))
+IsGapIn-flat_map : (segs : List Bytes) (slots : List Slot) → All (IsSlotIn segs) slots → (bs : List Bytes) → All (IsOneOf segs) bs → All (IsGapIn segs) (gaps_left (map pair_of bs) (runs_of slots))
 IsGapIn-flat_map segs slots h [] o = All-nil (IsGapIn segs)
 IsGapIn-flat_map segs slots h (b ∷ bs) o =
     let here = All-head (IsOneOf segs) b bs o in
     let len : length (bytes_of_number b.number segs) ≡ length b.bytes = ap length here.bytes in
     let least : 64 ≤ length b.bytes = here.segment.size.least in
-    All-append (IsGapIn segs) (gaps_in (runs_of slots) (pair_of b)) (gaps (map pair_of bs) (runs_of slots))
+    All-append (IsGapIn segs) (gaps_left_in (runs_of slots) (pair_of b)) (gaps_left (map pair_of bs) (runs_of slots))
     (IsGapIn-gaps_between segs b.number here.segment.first here.segment.last (length b.bytes - 16) (omega arith) _ (IsTaken-runs_of segs b.number slots h) 16 (omega arith))
     (IsGapIn-flat_map segs slots h bs (All-tail (IsOneOf segs) b bs o))
 
-pub IsGapIn-gaps : (segs : List Bytes) (slots : List Slot) → IsLayout segs slots → All (IsGapIn segs) (gaps (map pair_of segs) (runs_of slots))
+pub IsGapIn-gaps : (segs : List Bytes) (slots : List Slot) → IsLayout segs slots → All (IsGapIn segs) (gaps_left (map pair_of segs) (runs_of slots))
 IsGapIn-gaps segs slots l = IsGapIn-flat_map segs slots l.blocks segs (IsOneOf-all segs l.distinct l.segments)
 
 lesser-keeps : (P : Run → Type 0) (best : Option Run) (x b : Run) → ((c : Run) → best ≡ Some c → P c) → P x → lesser best x ≡ Some b → P b
@@ -93,9 +94,9 @@ pub record IsBestGap (segs : List Bytes) (size align : ℕ) (g : Run) : Type 0 w
   pub gap : IsGapIn segs g
   pub holds : holds (span size) align g ≡ true
 
-pub best_gap-IsBestGap : (segs : List Bytes) (slots : List Slot) (size align : ℕ) (g : Run) → IsLayout segs slots → best_gap (map pair_of segs) (runs_of slots) size align ≡ Some g → IsBestGap segs size align g
+pub best_gap-IsBestGap : (segs : List Bytes) (slots : List Slot) (size align : ℕ) (g : Run) → IsLayout segs slots → best_left (map pair_of segs) (runs_of slots) size align ≡ Some g → IsBestGap segs size align g
 best_gap-IsBestGap segs slots size align g l e =
-    let all = gaps (map pair_of segs) (runs_of slots) in
+    let all = gaps_left (map pair_of segs) (runs_of slots) in
     let test = holds (span size) align in
     record {
       gap = least-All (IsGapIn segs) None (filter test all) g (λ c q. absurd (cc)) (All-filter test (IsGapIn segs) all (IsGapIn-gaps segs slots l)) e;

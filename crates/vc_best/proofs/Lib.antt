@@ -5,10 +5,13 @@ pub mod Gaps
 pub mod Clear
 pub mod Rounding
 pub mod Apart
+pub mod Ordered
 pub mod Regions
 pub mod Allocs
 pub mod Filters
 pub mod Backs
+pub mod Asking
+pub mod Sounds
 pub mod Frees
 pub mod Blocks
 pub mod Compacts
@@ -24,5 +27,6 @@ pub mod Copies
 pub mod Fitted
 pub mod Resizes
 pub mod Others
+pub mod There
 pub mod Stays
 pub mod Moves

@@ -2,15 +2,15 @@
 use Rattle.std.proofs.Common.{◌≡◌, ℕ, ◌+◌, ◌<◌, ◌≤◌, List, [], ◌∷◌, IfSome, Option, None, Some, length, map, min, take, drop, refl, ap, sym, ◌∙◌, subst, arith}
 use Rattle.std.specs.Prelude.{option_map}
 use Rattle.std.proofs.lemmas.List.{length-drop, length-take-le, same_lists, places}
-use Rattle.vc_model.specs.Region.{Block}
-use Rattle.vc_model.specs.Touch.{best_write, find_block}
+use Rattle.vc_model.specs.Layout.{Block}
+use Rattle.vc_model.specs.Touch.{with_bytes_at, find_block}
 use Rattle.vc_model.specs.Addr.{address, place_of}
 use Rattle.vc_seg.specs.Segment.{Bytes, pair_of}
 use Rattle.vc_best.specs.declared.slot.Slot.{Slot}
 use Rattle.vc_best.specs.Write.{write_segment}
-use Rattle.vc_best.specs.Layout.{bytes_of_number, block_in, region_of, IsLayout}
+use Rattle.vc_best.specs.Parts.{bytes_of_number, block_in, layout_of, IsLayout}
 use Rattle.vc_best.proofs.Writes.{pairs-write}
-use Rattle.vc_best.proofs.Found.{InBlock, IsLive, slot_of, some-range, within-range, IsLayout-range, region_of-range}
+use Rattle.vc_best.proofs.Found.{InBlock, IsLive, slot_of, some-range, within-range, IsLayout-range, layout_of-range}
 
 IfSome-weaker : {X : Type 0} (P Q : X → Type 0) (o : Option X) → IfSome o P → ((x : X) → P x → Q x) → IfSome o Q
 IfSome-weaker P Q None h f = h
@@ -61,18 +61,18 @@ module _ (segs : List Bytes) (slots : List Slot) (a to size held kept : ℕ) (l 
   pub copied-pairs : map pair_of (write_segment (place_of to).0 (place_of to).1 front segs) ≡ map pair_of segs
   copied-pairs = pairs-write (place_of to).0 (place_of to).1 front segs (omega (arith, target-within, long))
 
-  pub copied-region : IfSome (find_block (place_of a) (map (block_in segs) slots)) (λ b. region_of (write_segment (place_of to).0 (place_of to).1 front segs) slots ≡ best_write (region_of segs slots) (place_of to) 0 (take size b.bytes))
+  pub copied-region : IfSome (find_block (place_of a) (map (block_in segs) slots)) (λ b. layout_of (write_segment (place_of to).0 (place_of to).1 front segs) slots ≡ with_bytes_at (layout_of segs slots) (place_of to) 0 (take size b.bytes))
   copied-region =
       let at = slot_of segs slots a l live in
       let s : Slot = at.0 in
-      let region : region_of (write_segment (place_of to).0 (place_of to).1 front segs) slots ≡ best_write (region_of segs slots) (place_of to) 0 front =
-      subst (λ off. region_of (write_segment (place_of to).0 off front segs) slots ≡ best_write (region_of segs slots) (place_of to) 0 front) none_more (region_of-range segs slots to 0 kept l there target front long) in
+      let region : layout_of (write_segment (place_of to).0 (place_of to).1 front segs) slots ≡ with_bytes_at (layout_of segs slots) (place_of to) 0 front =
+      subst (λ off. layout_of (write_segment (place_of to).0 off front segs) slots ≡ with_bytes_at (layout_of segs slots) (place_of to) 0 front) none_more (layout_of-range segs slots to 0 kept l there target front long) in
       let own : Some s.size ≡ Some held = sym (ap (option_map (λ (b : Block ℕ). b.size)) at.1.block) ∙ has in
       let same : s.size ≡ held = cc in
       let bytes : front ≡ take size (block_in segs s).bytes =
       ap (λ (p : ℕ × ℕ). take kept (drop p.1 (bytes_of_number p.0 segs))) (sym at.1.place) ∙ front-range (bytes_of_number s.seg segs) s.off s.size size kept (omega (arith, is, same)) in
-      subst (λ (o : Option (Block ℕ)). IfSome o (λ b. region_of (write_segment (place_of to).0 (place_of to).1 front segs) slots ≡ best_write (region_of segs slots) (place_of to) 0 (take size b.bytes))) (sym at.1.block)
-      (region ∙ ap (best_write (region_of segs slots) (place_of to) 0) bytes)
+      subst (λ (o : Option (Block ℕ)). IfSome o (λ b. layout_of (write_segment (place_of to).0 (place_of to).1 front segs) slots ≡ with_bytes_at (layout_of segs slots) (place_of to) 0 (take size b.bytes))) (sym at.1.block)
+      (region ∙ ap (with_bytes_at (layout_of segs slots) (place_of to) 0) bytes)
 
 -- the addresses don't depend on the segments
 pub addresses-same : (segs other : List Bytes) (slots : List Slot) → map (λ (b : Block ℕ). address (b.seg, b.off)) (map (block_in segs) slots) ≡ map (λ (b : Block ℕ). address (b.seg, b.off)) (map (block_in other) slots)

@@ -5,7 +5,7 @@ use Rattle.std.proofs.lemmas.List.Elements.{All-head, All-tail}
 use Rattle.vc_model.specs.Bytes.{with_bytes}
 use Rattle.vc_seg.specs.Segment.{Bytes}
 use Rattle.vc_best.specs.Write.{write_segment}
-use Rattle.vc_best.specs.Layout.{bytes_of_number}
+use Rattle.vc_best.specs.Parts.{bytes_of_number}
 
 -- a segment has another number
 abbrev pub IsOther : ℕ → Bytes → Type 0

@@ -1,17 +1,18 @@
 -- The blocks but for one stay.
-use Rattle.std.proofs.Common.{◌≡◌, ℕ, List, [], ◌∷◌, Bool, true, false, All, Contains, IfSome, Option, None, Some, map, take, refl, ap, sym, ◌∙◌, ⊎_elim, eqb}
+use Rattle.std.proofs.Common.{◌≡◌, ℕ, List, [], ◌∷◌, Bool, true, false, All, IfSome, Option, None, Some, take, refl, ap, sym, ◌∙◌, ⊎_elim, eqb}
 use Rattle.std.specs.Prelude.{IfOk, Ok, Err, option_map}
 use Rattle.std.specs.declared.result.Result.{Result}
 use Rattle.std.proofs.lemmas.Bool.{cases_Bool, and_from, eq-eqb}
 use Rattle.std.proofs.lemmas.List.Elements.{All-head, All-tail}
-use Rattle.vc_model.specs.Region.{Block, Region, is_at, lies_before, with_block, without_block}
-use Rattle.vc_model.specs.Touch.{best_write, change_block, find_block, rewritten}
-use Rattle.vc_model.specs.Best.{best_alloc, best_free, place_in, put_at, zeros}
+use Rattle.vc_model.specs.Layout.{Block, Layout, is_at, lies_before, with_block, without_block}
+use Rattle.vc_model.specs.Touch.{HasBlock, with_bytes_at, change_block, find_block, rewritten}
+use Rattle.vc_model.specs.Best.{best_alloc, without_block_at, place_in, put_at, zeros}
 use Rattle.vc_model.specs.Resize.{sized}
-use Rattle.vc_model.specs.Addr.{address, place_of}
+use Rattle.vc_model.specs.Addr.{place_of}
+use Rattle.vc_model.specs.Discipline.{Terms}
+use Rattle.vc_seg.specs.Answer.{Answers, IsPut}
 use Rattle.vc_base.specs.declared.addr.Addr.{Addr}
 use Rattle.vc_seg.specs.declared.fault.RegionFault.{RegionFault}
-use Rattle.vc_best.specs.Alloc.{IsPlaced}
 use Rattle.vc_best.proofs.Resizes.{IsNew, at-place, none-at, place-new, put_at-new}
 
 -- one block changes and stays where it is
@@ -60,39 +61,39 @@ others-twice p q (b ∷ bs) =
     (cases_Bool (is_at q b)))
     (cases_Bool (is_at p b))
 
-moved-found : (mid new : Region ℕ) (a to : ℕ × ℕ) (size tag : ℕ) (o : Option (Block ℕ)) → option_map (λ b. b.label) o ≡ Some tag → IfSome o (λ b. new ≡ best_free (best_write mid to 0 (take size b.bytes)) a) → without_block to new.blocks ≡ without_block a (without_block to mid.blocks)
+moved-found : (mid new : Layout ℕ) (a to : ℕ × ℕ) (size tag : ℕ) (o : Option (Block ℕ)) → option_map (λ b. b.label) o ≡ Some tag → IfSome o (λ b. new ≡ without_block_at (with_bytes_at mid to 0 (take size b.bytes)) a) → without_block to new.blocks ≡ without_block a (without_block to mid.blocks)
 moved-found mid new a to size tag None label own = absurd (cc)
 moved-found mid new a to size tag (Some b) label own =
-    ap (λ (r : Region ℕ). without_block to r.blocks) own
+    ap (λ (r : Layout ℕ). without_block to r.blocks) own
     ∙ (others-twice to a (change_block (rewritten 0 (take size b.bytes)) to mid.blocks)
     ∙ ap (without_block a) (others-write 0 (take size b.bytes) to mid.blocks))
 
 -- one block moves over another
-pub others-moved : (mid new old : Region ℕ) (a to : ℕ × ℕ) (size tag : ℕ) → find_block a mid.blocks ≡ find_block a old.blocks → option_map (λ b. b.label) (find_block a old.blocks) ≡ Some tag →
-    IfSome (find_block a mid.blocks) (λ b. new ≡ best_free (best_write mid to 0 (take size b.bytes)) a) → without_block to mid.blocks ≡ old.blocks → without_block to new.blocks ≡ without_block a old.blocks
+pub others-moved : (mid new old : Layout ℕ) (a to : ℕ × ℕ) (size tag : ℕ) → find_block a mid.blocks ≡ find_block a old.blocks → option_map (λ b. b.label) (find_block a old.blocks) ≡ Some tag →
+    IfSome (find_block a mid.blocks) (λ b. new ≡ without_block_at (with_bytes_at mid to 0 (take size b.bytes)) a) → without_block to mid.blocks ≡ old.blocks → without_block to new.blocks ≡ without_block a old.blocks
 others-moved mid new old a to size tag same label own others =
     moved-found mid new a to size tag (find_block a mid.blocks) (ap (option_map (λ b. b.label)) same ∙ label) own ∙ ap (without_block a) others
 
 -- the block that was placed is one more
-module _ (r : Region ℕ) (label size to : ℕ) (mid : Region ℕ) (fresh : Contains (map (λ b. address (b.seg, b.off)) r.blocks) to → ⊥) where
+module _ (r : Layout ℕ) (label size to : ℕ) (mid : Layout ℕ) (fresh : ¬ HasBlock r.blocks to) where
   others-new : IsNew r label size to mid → without_block (place_of to) mid.blocks ≡ r.blocks
   others-new is_new =
       ap (without_block (place_of to)) is_new.blocks
       ∙ others-with (place_of to) (zeros label size (place_of to)) r.blocks (own-zeros label size (place_of to)) (none-at to r.blocks fresh)
 
-  pub others-put : (at : ℕ × ℕ) → IsPlaced (put_at r label size at) to mid → without_block (place_of to) mid.blocks ≡ r.blocks
-  others-put at placed = others-new (put_at-new r r label size to at mid refl placed)
+  pub others-put : (at : ℕ × ℕ) → IsPut (put_at r label size None at) to mid → without_block (place_of to) mid.blocks ≡ r.blocks
+  others-put at placed = others-new (put_at-new r r label size to None at mid refl placed)
 
-  pub others-alloc : (round align : ℕ) (refused : Bool) → IsPlaced (best_alloc round r label size align refused) to mid → without_block (place_of to) mid.blocks ≡ r.blocks
-  others-alloc round align refused placed = others-new (place-new round r label size align refused to (place_in r size align) mid placed)
+  pub others-alloc : (terms : Terms) (align : ℕ) (refused : Bool) → IsPut (best_alloc terms r label size align refused) to mid → without_block (place_of to) mid.blocks ≡ r.blocks
+  others-alloc terms align refused placed = others-new (place-new terms r label size align refused to (place_in r size align) mid placed)
 
 -- where a block was placed
-pub others-if_put : (result : Result Addr RegionFault) (r mid : Region ℕ) (label size : ℕ) (at : ℕ × ℕ) → IfOk result (λ a. IsPlaced (put_at r label size at) a.0 mid) →
-    IfOk result (λ a. Contains (map (λ b. address (b.seg, b.off)) r.blocks) a.0 → ⊥) → IfOk result (λ a. without_block (place_of a.0) mid.blocks ≡ r.blocks)
+pub others-if_put : (result : Result Addr RegionFault) (r mid : Layout ℕ) (label size : ℕ) (at : ℕ × ℕ) → IfOk result (λ a. IsPut (put_at r label size None at) a.0 mid) →
+    IfOk result (λ a. ¬ HasBlock r.blocks a.0) → IfOk result (λ a. without_block (place_of a.0) mid.blocks ≡ r.blocks)
 others-if_put (Ok a) r mid label size at placed fresh = others-put r label size a.0 mid fresh at placed
 others-if_put (Err e) r mid label size at placed fresh = tt
 
-pub others-if_alloc : (result : Result Addr RegionFault) (r mid : Region ℕ) (round label size align : ℕ) (refused : Bool) → IfOk result (λ a. IsPlaced (best_alloc round r label size align refused) a.0 mid) →
-    IfOk result (λ a. Contains (map (λ b. address (b.seg, b.off)) r.blocks) a.0 → ⊥) → IfOk result (λ a. without_block (place_of a.0) mid.blocks ≡ r.blocks)
-others-if_alloc (Ok a) r mid round label size align refused placed fresh = others-alloc r label size a.0 mid fresh round align refused placed
-others-if_alloc (Err e) r mid round label size align refused placed fresh = tt
+pub others-if_alloc : (result : Result Addr RegionFault) (r mid : Layout ℕ) (terms : Terms) (label size align : ℕ) → Answers (best_alloc terms r label size align) result r mid →
+    IfOk result (λ a. ¬ HasBlock r.blocks a.0) → IfOk result (λ a. without_block (place_of a.0) mid.blocks ≡ r.blocks)
+others-if_alloc (Ok a) r mid terms label size align placed fresh = others-alloc r label size a.0 mid fresh terms align false placed
+others-if_alloc (Err e) r mid terms label size align placed fresh = tt

@@ -3,14 +3,15 @@ use Rattle.std.proofs.Common.{◌≡◌, ℕ, zero, suc, ◌%◌, ◌<◌, List,
 use Rattle.std.specs.List.{remove, HoldsAt}
 use Rattle.std.proofs.lemmas.Bool.{cases_Bool, and_parts, and_from, eqb-true, eq-eqb}
 use Rattle.std.proofs.lemmas.List.Elements.{All-map}
-use Rattle.vc_model.specs.Region.{Block, footprint, is_at, without_block}
+use Rattle.vc_model.specs.Layout.{Block, footprint, is_at, without_block}
 use Rattle.vc_model.specs.Touch.{find_block}
 use Rattle.vc_model.specs.Addr.{address, place_of}
+use Rattle.vc_model.specs.Sound.{EndsBefore}
 use Rattle.vc_seg.specs.Segment.{Bytes}
-use Rattle.vc_best.specs.Apart.{EndsBefore, AreApart}
+use Rattle.vc_best.specs.Apart.{AreApart}
 use Rattle.vc_best.specs.declared.slot.Slot.{Slot}
 use Rattle.vc_best.specs.Slot.{without_slot}
-use Rattle.vc_best.specs.Layout.{block_in, IsLayout}
+use Rattle.vc_best.specs.Parts.{block_in, IsLayout}
 use Rattle.vc_best.proofs.Blocks.{AreApart-blocks}
 use Rattle.vc_best.proofs.Frees.{blocks-without_slot, place_of-address}
 use Rattle.vc_best.proofs.Apart.{AllPairs-head, AllPairs-tail, span-least}

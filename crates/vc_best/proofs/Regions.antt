@@ -7,13 +7,13 @@ use Rattle.std.proofs.lemmas.List.Quantifiers.{all_pairs_push}
 use Rattle.vc_model.specs.Segments.{numbers, span}
 use Rattle.vc_model.specs.Gap.{Run}
 use Rattle.vc_model.specs.Place.{lowest_offset}
-use Rattle.vc_model.specs.Region.{Block, Region, footprints, with_block}
-use Rattle.vc_model.specs.Best.{zeros, with_segment}
+use Rattle.vc_model.specs.Layout.{Block, Layout, footprints, with_block, with_segment}
+use Rattle.vc_model.specs.Best.{zeros}
+use Rattle.vc_model.specs.Sound.{IsApart}
 use Rattle.vc_seg.specs.Segment.{Bytes, pair_of}
 use Rattle.vc_best.specs.declared.slot.Slot.{Slot}
 use Rattle.vc_best.specs.Slot.{run_of_slot, runs_of, lies_before_slot, with_slot}
-use Rattle.vc_best.specs.Layout.{bytes_of_number, block_in, region_of, IsRegionSegment, IsSlotIn, IsLayout}
-use Rattle.vc_best.specs.Apart.{IsApart}
+use Rattle.vc_best.specs.Parts.{bytes_of_number, block_in, layout_of, IsRegionSegment, IsSlotIn, IsLayout}
 use Rattle.vc_best.proofs.Unused.{is_among}
 use Rattle.vc_best.proofs.Bytes.{Apart, bytes_of_number-most, bytes_of_number-append}
 use Rattle.vc_best.proofs.Gaps.{IsBestGap}
@@ -46,10 +46,10 @@ blocks-with_slot segs s (t ∷ ts) =
     (cases_Bool (lies_before_slot s.seg s.off t))
 
 -- the block in the slot, of zeros, is put among the others
-pub region_of-with_slot : (segs : List Bytes) (s : Slot) (slots : List Slot) → block_in segs s ≡ zeros s.tag s.size (s.seg, s.off) →
-    region_of segs (with_slot s slots) ≡ record { segments = map pair_of segs; blocks = with_block (zeros s.tag s.size (s.seg, s.off)) (map (block_in segs) slots) }
-region_of-with_slot segs s slots new =
-    let region : List (Block ℕ) → Region ℕ = λ bs. record { segments = map pair_of segs; blocks = bs } in
+pub layout_of-with_slot : (segs : List Bytes) (s : Slot) (slots : List Slot) → block_in segs s ≡ zeros s.tag s.size (s.seg, s.off) →
+    layout_of segs (with_slot s slots) ≡ record { segments = map pair_of segs; blocks = with_block (zeros s.tag s.size (s.seg, s.off)) (map (block_in segs) slots) }
+layout_of-with_slot segs s slots new =
+    let region : List (Block ℕ) → Layout ℕ = λ bs. record { segments = map pair_of segs; blocks = bs } in
     ap region (blocks-with_slot segs s slots ∙ ap (λ b. with_block b (map (block_in segs) slots)) new)
 
 pub IsLayout-with_slot : (segs : List Bytes) (s : Slot) (slots : List Slot) → IsLayout segs slots → IsSlotIn segs s → All (λ t. IsApart (run_of_slot s) (run_of_slot t)) slots → IsLayout segs (with_slot s slots)
@@ -80,9 +80,9 @@ blocks-push segs b (s ∷ ss) h =
     ap (λ bytes. block bytes ∷ map (block_in (segs ++ b ∷ [])) ss) same ∙ ap (λ bs. block_in segs s ∷ bs) rest
 
 -- a segment is added at the end, and the blocks stay
-pub region_of-push : (segs : List Bytes) (b : Bytes) (slots : List Slot) → All (IsSlotIn segs) slots → region_of (segs ++ b ∷ []) slots ≡ with_segment (region_of segs slots) (pair_of b)
-region_of-push segs b slots h =
-    let region : List (ℕ × ℕ) → List (Block ℕ) → Region ℕ = λ ss bs. record { segments = ss; blocks = bs } in
+pub layout_of-push : (segs : List Bytes) (b : Bytes) (slots : List Slot) → All (IsSlotIn segs) slots → layout_of (segs ++ b ∷ []) slots ≡ with_segment (layout_of segs slots) (pair_of b)
+layout_of-push segs b slots h =
+    let region : List (ℕ × ℕ) → List (Block ℕ) → Layout ℕ = λ ss bs. record { segments = ss; blocks = bs } in
     ap (λ ss. region ss (map (block_in (segs ++ b ∷ [])) slots)) (map_push pair_of segs b)
     ∙ ap (region (map pair_of segs ++ pair_of b ∷ [])) (blocks-push segs b slots h)
 

@@ -1,24 +1,24 @@
 -- What a resize answers, by what its parts do.
-use Rattle.std.proofs.Common.{◌≡◌, ℕ, zero, suc, ◌+◌, ◌<◌, ◌≤◌, List, [], ◌∷◌, Bool, true, false, All, Contains, IfSome, Option, None, Some, length, get_or, map, take, refl, ap, sym, ◌∙◌, subst, ⊎_elim, cond, eqb, leb, arith}
+use Rattle.std.proofs.Common.{◌≡◌, ℕ, zero, suc, ◌<◌, ◌≤◌, List, [], ◌∷◌, Bool, true, false, All, IfSome, Option, None, Some, length, get_or, map, take, refl, ap, sym, ◌∙◌, subst, ⊎_elim, cond, eqb, arith}
 use Rattle.std.specs.Prelude.{option_map}
-use Rattle.std.specs.Prelude.{◌&&◌}
-use Rattle.std.proofs.lemmas.Bool.{cases_Bool, and_parts, and_from, or_cases, eqb-true, eq-eqb, leb-true}
+use Rattle.std.proofs.lemmas.Bool.{cases_Bool, and_parts, and_from, eqb-true, eq-eqb}
 use Rattle.std.proofs.lemmas.List.{length-map, get_or-map}
 use Rattle.std.proofs.lemmas.List.Elements.{All-head, All-tail}
-use Rattle.vc_model.specs.Segments.{Asked, Granted, TooMany, NotLent, ask, span}
-use Rattle.vc_model.specs.Gap.{Run}
-use Rattle.vc_model.specs.Region.{Block, Region, is_at, lies_before, with_block}
-use Rattle.vc_model.specs.Touch.{best_write, find_block}
-use Rattle.vc_model.specs.Best.{Allocated, Placed, TooManySegments, NoSegment, best_alloc, best_free, place_in, put, put_at, put_in_new, put_or_ask, with_segment, zeros}
-use Rattle.vc_model.specs.Resize.{Stays, best_resize, can_stay, is_usable, moved, resize_found, resize_there}
+use Rattle.vc_model.specs.Segments.{Asked, Granted, TooMany, NotLent, ask}
+use Rattle.vc_model.specs.Layout.{Block, Layout, address_of, is_at, lies_before, with_block, with_segment}
+use Rattle.vc_model.specs.Touch.{HasBlock, find_block, with_bytes_at}
+use Rattle.vc_model.specs.Discipline.{Terms}
+use Rattle.vc_model.specs.Outcome.{Outcome, Done, Refused, Put, Fault, Fixed}
+use Rattle.vc_model.specs.Best.{best_alloc, best_need, without_block_at, place_in, put, put_at, put_in_new, put_or_ask, zeros}
+use Rattle.vc_model.specs.Resize.{best_resize, can_stay, moved, resize_found, resize_there}
 use Rattle.vc_model.specs.Addr.{address, place_of}
-use Rattle.vc_best.specs.Alloc.{IsPlaced}
-use Rattle.vc_best.specs.Apart.{IsUsable, footprint_at}
-use Rattle.vc_best.specs.Resized.{IsResized}
+use Rattle.vc_seg.specs.declared.fault.RegionFault.{RegionFault}
+use Rattle.vc_seg.specs.declared.fault.RegionFault.TheVariants as code
+use Rattle.vc_seg.specs.Answer.{IsPut, IsRefusal}
 use Rattle.vc_best.proofs.Found.{find-passes}
 
 -- every number is the address of its place
-address-place_of : (a : ℕ) → address (place_of a) ≡ a
+pub address-place_of : (a : ℕ) → address (place_of a) ≡ a
 address-place_of a = omega arith
 
 pub at-place : (at : ℕ × ℕ) (b : Block ℕ) → is_at at b ≡ true → (b.seg, b.off) ≡ at
@@ -46,11 +46,8 @@ find_with-own at b (c ∷ cs) own others =
     (λ e. rw e (rw here (find_with-own at b cs own (All-tail P c cs others))))
     (cases_Bool (lies_before b c))
 
-abbrev address_of : Block ℕ → ℕ
-address_of b = address (b.seg, b.off)
-
 abbrev IsAmong : List (Block ℕ) → ℕ → Type 0
-IsAmong blocks a = Contains (map (λ (b : Block ℕ). address (b.seg, b.off)) blocks) a
+IsAmong blocks a = HasBlock blocks a
 
 among-cons : (b : Block ℕ) (bs : List (Block ℕ)) (a : ℕ) → IsAmong bs a → IsAmong (b ∷ bs) a
 among-cons b bs a h = (suc h.0, omega (arith, h.1), h.2)
@@ -88,33 +85,33 @@ none-at at blocks fresh =
     (cases_Bool (is_at (place_of at) c))
 
 -- what a block that was placed makes of the region
-pub record IsNew (r : Region ℕ) (label size to : ℕ) (region : Region ℕ) : Type 0 where
+pub record IsNew (r : Layout ℕ) (label size to : ℕ) (region : Layout ℕ) : Type 0 where
   pub blocks : region.blocks ≡ with_block (zeros label size (place_of to)) r.blocks
   pub at : to ≡ address (place_of to)
 
-pub put_at-new : (r s : Region ℕ) (label size to : ℕ) (at : ℕ × ℕ) (region : Region ℕ) → s.blocks ≡ r.blocks → IsPlaced (put_at s label size at) to region → IsNew r label size to region
-put_at-new r s label size to at region same h =
+pub put_at-new : (r s : Layout ℕ) (label size to : ℕ) (granted : Option (ℕ × ℕ)) (at : ℕ × ℕ) (region : Layout ℕ) → s.blocks ≡ r.blocks → IsPut (put_at s label size granted at) to region → IsNew r label size to region
+put_at-new r s label size to granted at region same h =
     record {
-      blocks = ap (λ (q : Region ℕ). q.blocks) h.2 ∙ (ap (with_block (zeros label size at)) same ∙ ap (λ p. with_block (zeros label size p) r.blocks) h.1);
+      blocks = ap (λ (q : Layout ℕ). q.blocks) h.2 ∙ (ap (with_block (zeros label size at)) same ∙ ap (λ p. with_block (zeros label size p) r.blocks) h.1);
       at = h.0 ∙ ap address h.1;
     }
 
-put-new : (r s : Region ℕ) (label size to : ℕ) (o : Option (ℕ × ℕ)) (region : Region ℕ) → s.blocks ≡ r.blocks → IsPlaced (put s label size o) to region → IsNew r label size to region
-put-new r s label size to None region same h = absurd h
-put-new r s label size to (Some at) region same h = put_at-new r s label size to at region same h
+put-new : (r s : Layout ℕ) (label size to : ℕ) (granted o : Option (ℕ × ℕ)) (region : Layout ℕ) → s.blocks ≡ r.blocks → IsPut (put s label size granted o) to region → IsNew r label size to region
+put-new r s label size to granted None region same h = absurd h
+put-new r s label size to granted (Some at) region same h = put_at-new r s label size to granted at region same h
 
-asked-new : (r : Region ℕ) (label size align to : ℕ) (asked : Asked) (region : Region ℕ) → IsPlaced (put_in_new r label size align asked) to region → IsNew r label size to region
-asked-new r label size align to (Granted n bytes) region h = put-new r (with_segment r (n, bytes)) label size to (place_in (with_segment r (n, bytes)) size align) region refl h
+asked-new : (r : Layout ℕ) (label size align to : ℕ) (asked : Asked) (region : Layout ℕ) → IsPut (put_in_new r label size align asked) to region → IsNew r label size to region
+asked-new r label size align to (Granted n bytes) region h = put-new r (with_segment r (n, bytes)) label size to (Some (n, bytes)) (place_in (with_segment r (n, bytes)) size align) region refl h
 asked-new r label size align to TooMany region h = absurd h
 asked-new r label size align to NotLent region h = absurd h
 
-pub place-new : (round : ℕ) (r : Region ℕ) (label size align : ℕ) (refused : Bool) (to : ℕ) (o : Option (ℕ × ℕ)) (region : Region ℕ) → IsPlaced (put_or_ask round r label size align refused o) to region → IsNew r label size to region
-place-new round r label size align refused to None region h = asked-new r label size align to (ask round r.segments (span size + align) refused) region h
-place-new round r label size align refused to (Some at) region h = put_at-new r r label size to at region refl h
+pub place-new : (terms : Terms) (r : Layout ℕ) (label size align : ℕ) (refused : Bool) (to : ℕ) (o : Option (ℕ × ℕ)) (region : Layout ℕ) → IsPut (put_or_ask terms r label size align refused o) to region → IsNew r label size to region
+place-new terms r label size align refused to None region h = asked-new r label size align to (ask (best_need terms size align) r.segments refused) region h
+place-new terms r label size align refused to (Some at) region h = put_at-new r r label size to None at region refl h
 
-module _ (round : ℕ) (r : Region ℕ) (label size align to : ℕ) (refused : Bool) (mid : Region ℕ) (placed : IsPlaced (best_alloc round r label size align refused) to mid) (fresh : IsAmong r.blocks to → ⊥) where
+module _ (terms : Terms) (r : Layout ℕ) (label size align to : ℕ) (refused : Bool) (mid : Layout ℕ) (placed : IsPut (best_alloc terms r label size align refused) to mid) (fresh : IsAmong r.blocks to → ⊥) where
   is_new : IsNew r label size to mid
-  is_new = place-new round r label size align refused to (place_in r size align) mid placed
+  is_new = place-new terms r label size align refused to (place_in r size align) mid placed
 
   -- the new block stands there
   pub new-among : IsAmong mid.blocks to
@@ -146,63 +143,76 @@ module _ (round : ℕ) (r : Region ℕ) (label size align to : ℕ) (refused : B
         ap (find_block (place_of a)) is_new.blocks ∙ find_with-other (place_of a) z r.blocks other
 
 -- the block stays where it can
-module _ (round : ℕ) (r : Region ℕ) (at : ℕ × ℕ) (size : ℕ) (may_move refused : Bool) where
-  stays-found : (o : Option (Block ℕ)) → find_block at r.blocks ≡ o → option_map (can_stay r size) o ≡ Some true → resize_found round r size may_move refused o ≡ Stays (resize_there r at size)
+module _ (terms : Terms) (r : Layout ℕ) (a size : ℕ) (may_move refused : Bool) where
+  -- what that gives
+  abbrev kept : Outcome (Put (Layout ℕ))
+  kept = Done (record { at = place_of a; region = resize_there r (place_of a) size; granted = None })
+
+  stays-found : (o : Option (Block ℕ)) → find_block (place_of a) r.blocks ≡ o → option_map (can_stay r size) o ≡ Some true → resize_found terms r size may_move refused o ≡ kept
   stays-found None found e = absurd (cc)
   stays-found (Some b) found e =
       let can : can_stay r size b ≡ true = cc in
-      rw can (ap (λ p. Stays (resize_there r p size)) (at-place at b (find-passes (is_at at) r.blocks b found)))
+      let there : ℕ × ℕ → Outcome (Put (Layout ℕ)) = λ p. Done (record { at = p; region = resize_there r p size; granted = None }) in
+      rw can (ap there (at-place (place_of a) b (find-passes (is_at (place_of a)) r.blocks b found)))
 
-  pub resize-stays : option_map (can_stay r size) (find_block at r.blocks) ≡ Some true → best_resize round r at size may_move refused ≡ Stays (resize_there r at size)
-  resize-stays e = stays-found (find_block at r.blocks) refl e
+  pub resize-stays : (new : Layout ℕ) → option_map (can_stay r size) (find_block (place_of a) r.blocks) ≡ Some true → new ≡ resize_there r (place_of a) size → IsPut (best_resize terms r (place_of a) size may_move refused) a new
+  resize-stays new e is =
+      subst (λ (o : Outcome (Put (Layout ℕ))). IsPut o a new) (sym (stays-found (find_block (place_of a) r.blocks) refl e)) (sym (address-place_of a), refl, is)
 
-moved-placed : (size to : ℕ) (b : Block ℕ) (x : Allocated ℕ) (mid new : Region ℕ) → IsPlaced x to mid → new ≡ best_free (best_write mid (place_of to) 0 (take size b.bytes)) (b.seg, b.off) → IsPlaced (moved size b x) to new
-moved-placed size to b (Placed at region) mid new h e =
-    (h.0, h.1, e ∙ (ap (λ (p : ℕ × ℕ). best_free (best_write mid p 0 (take size b.bytes)) (b.seg, b.off)) (sym h.1) ∙ ap (λ (q : Region ℕ). best_free (best_write q at 0 (take size b.bytes)) (b.seg, b.off)) h.2))
-moved-placed size to b TooManySegments mid new h e = absurd h
-moved-placed size to b NoSegment mid new h e = absurd h
+-- where it can't stay and may not move, it is refused
+fixed-found : (terms : Terms) (r : Layout ℕ) (size : ℕ) (may_move refused : Bool) (o : Option (Block ℕ)) → option_map (can_stay r size) o ≡ Some false → may_move ≡ false → resize_found terms r size may_move refused o ≡ Refused Fixed
+fixed-found terms r size may_move refused None e may = absurd (cc)
+fixed-found terms r size may_move refused (Some b) e may = let can : can_stay r size b ≡ false = cc in rw (can, may) refl
+
+pub resize-fixed : (terms : Terms) (r : Layout ℕ) (at : ℕ × ℕ) (size : ℕ) (may_move refused : Bool) → option_map (can_stay r size) (find_block at r.blocks) ≡ Some false → may_move ≡ false →
+    best_resize terms r at size may_move refused ≡ Refused Fixed
+resize-fixed terms r at size may_move refused e may = fixed-found terms r size may_move refused (find_block at r.blocks) e may
+
+moved-put : (size to : ℕ) (b : Block ℕ) (x : Outcome (Put (Layout ℕ))) (mid new : Layout ℕ) → IsPut x to mid → new ≡ without_block_at (with_bytes_at mid (place_of to) 0 (take size b.bytes)) (b.seg, b.off) → IsPut (moved size b x) to new
+moved-put size to b (Done p) mid new h e =
+    (h.0, h.1, e ∙ (ap (λ (at : ℕ × ℕ). without_block_at (with_bytes_at mid at 0 (take size b.bytes)) (b.seg, b.off)) (sym h.1) ∙ ap (λ (q : Layout ℕ). without_block_at (with_bytes_at q p.at 0 (take size b.bytes)) (b.seg, b.off)) h.2))
+moved-put size to b (Refused why) mid new h e = absurd h
 
 -- and else it moves, where it may
-moves-found : (round : ℕ) (r : Region ℕ) (a size tag to : ℕ) (mid new : Region ℕ) (o : Option (Block ℕ)) → find_block (place_of a) r.blocks ≡ o → find_block (place_of a) mid.blocks ≡ o → option_map (can_stay r size) o ≡ Some false →
-    option_map (λ b. b.label) o ≡ Some tag → IsPlaced (best_alloc round r tag size 32 false) to mid → IfSome o (λ b. new ≡ best_free (best_write mid (place_of to) 0 (take size b.bytes)) (place_of a)) →
-    IsResized (resize_found round r size true false o) a to new
-moves-found round r a size tag to mid new None found kept e l h own = absurd (cc)
-moves-found round r a size tag to mid new (Some b) found kept e l h own =
-    let can : can_stay r size b ≡ false = cc in
-    let label : tag ≡ b.label = cc in
-    let at : (b.seg, b.off) ≡ place_of a = at-place (place_of a) b (find-passes (is_at (place_of a)) r.blocks b found) in
-    let placed : IsPlaced (best_alloc round r b.label size 32 false) to mid = subst (λ k. IsPlaced (best_alloc round r k size 32 false) to mid) label h in
-    rw can (moved-placed size to b (best_alloc round r b.label size 32 false) mid new placed (own ∙ ap (best_free (best_write mid (place_of to) 0 (take size b.bytes))) (sym at)))
+module _ (terms : Terms) (r : Layout ℕ) (a size tag : ℕ) (may_move : Bool) (may : may_move ≡ true) where
+  moves-found : (to : ℕ) (mid new : Layout ℕ) (o : Option (Block ℕ)) → find_block (place_of a) r.blocks ≡ o → option_map (can_stay r size) o ≡ Some false →
+      option_map (λ b. b.label) o ≡ Some tag → IsPut (best_alloc terms r tag size 32 false) to mid → IfSome o (λ b. new ≡ without_block_at (with_bytes_at mid (place_of to) 0 (take size b.bytes)) (place_of a)) →
+      IsPut (resize_found terms r size may_move false o) to new
+  moves-found to mid new None found e l h own = absurd (cc)
+  moves-found to mid new (Some b) found e l h own =
+      let can : can_stay r size b ≡ false = cc in
+      let label : tag ≡ b.label = cc in
+      let at : (b.seg, b.off) ≡ place_of a = at-place (place_of a) b (find-passes (is_at (place_of a)) r.blocks b found) in
+      let placed : IsPut (best_alloc terms r b.label size 32 false) to mid = subst (λ k. IsPut (best_alloc terms r k size 32 false) to mid) label h in
+      rw (can, may) (moved-put size to b (best_alloc terms r b.label size 32 false) mid new placed (own ∙ ap (without_block_at (with_bytes_at mid (place_of to) 0 (take size b.bytes))) (sym at)))
 
-pub resize-moves : (round : ℕ) (r : Region ℕ) (a size tag to : ℕ) (may_move : Bool) (mid new : Region ℕ) → may_move ≡ true → find_block (place_of a) mid.blocks ≡ find_block (place_of a) r.blocks →
-    option_map (can_stay r size) (find_block (place_of a) r.blocks) ≡ Some false → option_map (λ b. b.label) (find_block (place_of a) r.blocks) ≡ Some tag → IsPlaced (best_alloc round r tag size 32 false) to mid →
-    IfSome (find_block (place_of a) mid.blocks) (λ b. new ≡ best_free (best_write mid (place_of to) 0 (take size b.bytes)) (place_of a)) → IsResized (best_resize round r (place_of a) size may_move false) a to new
-resize-moves round r a size tag to may_move mid new may kept can label placed own =
-    let found = find_block (place_of a) r.blocks in
-    let there : IfSome found (λ b. new ≡ best_free (best_write mid (place_of to) 0 (take size b.bytes)) (place_of a)) = subst (λ (o : Option (Block ℕ)). IfSome o (λ b. new ≡ best_free (best_write mid (place_of to) 0 (take size b.bytes)) (place_of a))) kept own in
-    subst (λ (m : Bool). IsResized (resize_found round r size m false found) a to new) (sym may) (moves-found round r a size tag to mid new found refl kept can label placed there)
+  pub resize-moves : (to : ℕ) (mid new : Layout ℕ) → find_block (place_of a) mid.blocks ≡ find_block (place_of a) r.blocks →
+      option_map (can_stay r size) (find_block (place_of a) r.blocks) ≡ Some false → option_map (λ b. b.label) (find_block (place_of a) r.blocks) ≡ Some tag → IsPut (best_alloc terms r tag size 32 false) to mid →
+      IfSome (find_block (place_of a) mid.blocks) (λ b. new ≡ without_block_at (with_bytes_at mid (place_of to) 0 (take size b.bytes)) (place_of a)) → IsPut (best_resize terms r (place_of a) size may_move false) to new
+  resize-moves to mid new kept can label placed own =
+      let found = find_block (place_of a) r.blocks in
+      let there : IfSome found (λ b. new ≡ without_block_at (with_bytes_at mid (place_of to) 0 (take size b.bytes)) (place_of a)) = subst (λ (o : Option (Block ℕ)). IfSome o (λ b. new ≡ without_block_at (with_bytes_at mid (place_of to) 0 (take size b.bytes)) (place_of a))) kept own in
+      moves-found to mid new found refl can label placed there
 
-usable-any : (segments : List (ℕ × ℕ)) (f : Run) → is_usable segments f ≡ true → IsUsable segments f
-usable-any [] f e = absurd (cc)
-usable-any (s ∷ ss) f e =
-    ⊎_elim
-    (λ u.
-    let both = and_parts (eqb f.seg s.0) (leb 16 f.from && leb (f.to + 16) s.1) u in
-    let ends = and_parts (leb 16 f.from) (leb (f.to + 16) s.1) both.1 in
-    (0, s, omega arith, refl, (eqb-true f.seg s.0 both.0, leb-true 16 f.from ends.0, leb-true (f.to + 16) s.1 ends.1)))
-    (λ u.
-    let rest : IsUsable ss f = usable-any ss f u in
-    let within = rest.2 in
-    (suc rest.0, rest.1, omega (arith, within), rest.3, rest.4))
-    (or_cases (eqb f.seg s.0 && (leb 16 f.from && leb (f.to + 16) s.1)) (is_usable ss f) e)
+  -- where it is refused a place, the resize is refused
+  refused-found : (refused : Bool) (why : Fault) (o : Option (Block ℕ)) → option_map (can_stay r size) o ≡ Some false → option_map (λ b. b.label) o ≡ Some tag → best_alloc terms r tag size 32 refused ≡ Refused why → resize_found terms r size may_move refused o ≡ Refused why
+  refused-found refused why None e l h = absurd (cc)
+  refused-found refused why (Some b) e l h =
+      let can : can_stay r size b ≡ false = cc in
+      let label : b.label ≡ tag = cc in
+      rw (can, may) (ap (moved size b) (ap (λ k. best_alloc terms r k size 32 refused) label ∙ h))
 
-usable-found : (r : Region ℕ) (at : ℕ × ℕ) (size : ℕ) (o : Option (Block ℕ)) → find_block at r.blocks ≡ o → option_map (can_stay r size) o ≡ Some true → IsUsable r.segments (footprint_at size at)
-usable-found r at size None found e = absurd (cc)
-usable-found r at size (Some b) found e =
-    let can : can_stay r size b ≡ true = cc in
-    let usable = usable-any r.segments (footprint_at size (b.seg, b.off)) (and_parts (is_usable r.segments (footprint_at size (b.seg, b.off))) _ can).0 in
-    subst (λ (p : ℕ × ℕ). IsUsable r.segments (footprint_at size p)) (at-place at b (find-passes (is_at at) r.blocks b found)) usable
+  pub resize-refused : (e : RegionFault) → option_map (can_stay r size) (find_block (place_of a) r.blocks) ≡ Some false → option_map (λ b. b.label) (find_block (place_of a) r.blocks) ≡ Some tag →
+      IsRefusal (best_alloc terms r tag size 32) e → IsRefusal (best_resize terms r (place_of a) size may_move) e
+  resize-refused code.TooManySegments can label h = refused-found false _ (find_block (place_of a) r.blocks) can label h
+  resize-refused code.NoSegment can label h = refused-found true _ (find_block (place_of a) r.blocks) can label h
+  resize-refused code.OutOfMemory can label h = tt
+  resize-refused code.Fixed can label h = refused-found false _ (find_block (place_of a) r.blocks) can label h
+  resize-refused code.PoolSize can label h = refused-found false _ (find_block (place_of a) r.blocks) can label h
+  resize-refused code.NotLast can label h = refused-found false _ (find_block (place_of a) r.blocks) can label h
+  resize-refused code.WrongMethod can label h = refused-found false _ (find_block (place_of a) r.blocks) can label h
 
--- where a block can stay, it lies in the usable part of its segment
-pub usable-stays : (r : Region ℕ) (at : ℕ × ℕ) (size : ℕ) → option_map (can_stay r size) (find_block at r.blocks) ≡ Some true → IsUsable r.segments (footprint_at size at)
-usable-stays r at size e = usable-found r at size (find_block at r.blocks) refl e
+-- what does not stay where it is
+pub none-stays : (r : Layout ℕ) (size : ℕ) (o : Option (Block ℕ)) → option_map (can_stay r size) o ≡ Some false → IfSome o (λ b. can_stay r size b ≡ false)
+none-stays r size None e = tt
+none-stays r size (Some b) e = cc

@@ -1,10 +1,11 @@
 -- The search for the least gap, from where it stands.
 use Rattle.std.proofs.Common.{ℕ, List, Option, map, filter, fold, eqb}
-use Rattle.vc_model.specs.Gap.{Run, gaps_between, gaps}
+use Rattle.vc_model.specs.Gap.{Run, gaps_between}
 use Rattle.vc_model.specs.Place.{holds, lesser}
 use Rattle.vc_seg.specs.Segment.{Bytes, pair_of}
 use Rattle.vc_best.specs.declared.slot.Slot.{Slot}
 use Rattle.vc_best.specs.Slot.{runs_of}
+use Rattle.vc_best.specs.Gaps.{gaps_left}
 
 -- the least of the gap so far and of those that these slots leave of a segment from an offset on
 abbrev pub scan : ℕ → ℕ → ℕ → ℕ → ℕ → Option Run → List Slot → Option Run
@@ -13,4 +14,4 @@ scan space align seg end from best slots =
 
 -- the least of the gap so far and of those of some segments
 abbrev pub scan_all : ℕ → ℕ → List Run → Option Run → List Bytes → Option Run
-scan_all space align runs best segs = fold lesser best (filter (holds space align) (gaps (map pair_of segs) runs))
+scan_all space align runs best segs = fold lesser best (filter (holds space align) (gaps_left (map pair_of segs) runs))

@@ -6,12 +6,13 @@ use Rattle.std.proofs.lemmas.List.Elements.{All-head, All-tail, All-nil, All-app
 use Rattle.std.proofs.lemmas.List.Kept.{AllPairs-filter}
 use Rattle.std.proofs.lemmas.List.Sums.{sum_by-append, sum_by-cons}
 use Rattle.vc_model.specs.Segments.{span}
-use Rattle.vc_model.specs.Gap.{Run, bytes_of, run_of, gaps_between, gaps_in, gaps}
+use Rattle.vc_model.specs.Gap.{Run, bytes_of, run_of, gaps_between}
+use Rattle.vc_model.specs.Sound.{EndsBefore}
 use Rattle.vc_seg.specs.Segment.{Bytes, pair_of}
 use Rattle.vc_best.specs.declared.slot.Slot.{Slot}
 use Rattle.vc_best.specs.Slot.{run_of_slot, runs_of}
-use Rattle.vc_best.specs.Apart.{EndsBefore}
-use Rattle.vc_best.specs.Layout.{bytes_of_number, IsRegionSegment, IsSlotIn, IsLayout}
+use Rattle.vc_best.specs.Parts.{bytes_of_number, IsRegionSegment, IsSlotIn, IsLayout}
+use Rattle.vc_best.specs.Gaps.{gaps_left_in, gaps_left}
 use Rattle.vc_best.proofs.Apart.{AllPairs-head, AllPairs-tail, AllPairs-map, Before, span-least}
 use Rattle.vc_best.proofs.Bytes.{bytes_of_number-at, bytes_of_number-most}
 use Rattle.vc_best.proofs.Walks.{IsNumber-slot}
@@ -89,12 +90,12 @@ gaps_between-some : (n end from : ℕ) (fs : List Run) → All HasByte (gaps_bet
 gaps_between-some n end from [] = run_of-All HasByte n from end (λ lt. lt)
 gaps_between-some n end from (f ∷ fs) = All-append HasByte (run_of n from f.from) (gaps_between n f.to end fs) (run_of-All HasByte n from f.from (λ lt. lt)) (gaps_between-some n end f.to fs)
 
-gaps-some : (runs : List Run) (ss : List (ℕ × ℕ)) → All HasByte (gaps ss runs)
+gaps-some : (runs : List Run) (ss : List (ℕ × ℕ)) → All HasByte (gaps_left ss runs)
 gaps-some runs [] = All-nil HasByte
-gaps-some runs (s ∷ ss) = All-append HasByte (gaps_in runs s) (gaps ss runs) (gaps_between-some s.0 (s.1 - 16) 16 (filter (λ f. eqb f.seg s.0) runs)) (gaps-some runs ss)
+gaps-some runs (s ∷ ss) = All-append HasByte (gaps_left_in runs s) (gaps_left ss runs) (gaps_between-some s.0 (s.1 - 16) 16 (filter (λ f. eqb f.seg s.0) runs)) (gaps-some runs ss)
 
-pub gap_sizes-some : (runs : List Run) (ss : List (ℕ × ℕ)) → All (λ n. 1 ≤ n) (map bytes_of (gaps ss runs))
-gap_sizes-some runs ss = All-map (λ (n : ℕ). 1 ≤ n) bytes_of (gaps ss runs) (λ k d lt. let some : (get_or (gaps ss runs) k d).from < (get_or (gaps ss runs) k d).to = gaps-some runs ss k d lt in omega (arith, some))
+pub gap_sizes-some : (runs : List Run) (ss : List (ℕ × ℕ)) → All (λ n. 1 ≤ n) (map bytes_of (gaps_left ss runs))
+gap_sizes-some runs ss = All-map (λ (n : ℕ). 1 ≤ n) bytes_of (gaps_left ss runs) (λ k d lt. let some : (get_or (gaps_left ss runs) k d).from < (get_or (gaps_left ss runs) k d).to = gaps-some runs ss k d lt in omega (arith, some))
 
 run_of-most : (n from to : ℕ) → sum (map bytes_of (run_of n from to)) ≤ to - from
 run_of-most n from to = ⊎_elim (λ e. rw e (omega (arith, sum-cons (to - from) []))) (λ e. rw e (omega arith)) (cases_Bool (ltb from to))
@@ -142,7 +143,7 @@ module _ (segs : List Bytes) (slots : List Slot) (l : IsLayout segs slots) where
       let within : f.to + 16 ≤ length (bytes_of_number n segs) = subst (λ (m : ℕ). f.to + 16 ≤ length (bytes_of_number m segs)) seg lies.1 in
       record { seg = seg; order = order; before = omega (arith, within) }
 
-  gaps_in-most : (b : Bytes) → bytes_of_number b.number segs ≡ b.bytes → 64 ≤ length b.bytes → sum (map bytes_of (gaps_in (runs_of slots) (pair_of b))) ≤ length b.bytes
+  gaps_in-most : (b : Bytes) → bytes_of_number b.number segs ≡ b.bytes → 64 ≤ length b.bytes → sum (map bytes_of (gaps_left_in (runs_of slots) (pair_of b))) ≤ length b.bytes
   gaps_in-most b own least =
       let test : Run → Bool = λ f. eqb f.seg b.number in
       let behind : All (λ (f : Run). 16 ≤ f.from) (runs_of slots) = All-map (λ (f : Run). 16 ≤ f.from) run_of_slot slots (λ k d lt. let first = (l.blocks k d lt).slot.first in omega (arith, first)) in
@@ -153,16 +154,16 @@ module _ (segs : List Bytes) (slots : List Slot) (l : IsLayout segs slots) where
       (omega (arith, least)) in
       omega (arith, most)
 
-  gaps-most : (bs : List Bytes) → All (λ b. (bytes_of_number b.number segs ≡ b.bytes) × (64 ≤ length b.bytes)) bs → sum (map bytes_of (gaps (map pair_of bs) (runs_of slots))) ≤ sum (map (λ s. s.1) (map pair_of bs))
+  gaps-most : (bs : List Bytes) → All (λ b. (bytes_of_number b.number segs ≡ b.bytes) × (64 ≤ length b.bytes)) bs → sum (map bytes_of (gaps_left (map pair_of bs) (runs_of slots))) ≤ sum (map (λ s. s.1) (map pair_of bs))
   gaps-most [] h = omega arith
   gaps-most (b ∷ bs) h =
       let P : Bytes → Type 0 = λ c. (bytes_of_number c.number segs ≡ c.bytes) × (64 ≤ length c.bytes) in
       let here = All-head P b bs h in
       let first = gaps_in-most b here.0 here.1 in
       let rest = gaps-most bs (All-tail P b bs h) in
-      let all = gaps (map pair_of bs) (runs_of slots) in
-      rw (map-append bytes_of (gaps_in (runs_of slots) (pair_of b)) all)
-      (omega (arith, sum-append (map bytes_of (gaps_in (runs_of slots) (pair_of b))) (map bytes_of all), sum-cons (length b.bytes) (map (λ (s : ℕ × ℕ). s.1) (map pair_of bs)), first, rest))
+      let all = gaps_left (map pair_of bs) (runs_of slots) in
+      rw (map-append bytes_of (gaps_left_in (runs_of slots) (pair_of b)) all)
+      (omega (arith, sum-append (map bytes_of (gaps_left_in (runs_of slots) (pair_of b))) (map bytes_of all), sum-cons (length b.bytes) (map (λ (s : ℕ × ℕ). s.1) (map pair_of bs)), first, rest))
 
 segment_sizes-length : (segs : List Bytes) → All IsRegionSegment segs → sum (map (λ s. s.1) (map pair_of segs)) ≤ length segs * 33554432
 segment_sizes-length [] h = omega arith
@@ -179,7 +180,7 @@ segment_sizes-some segs slots l =
     All-map (λ (n : ℕ). 1 ≤ n) (λ (s : ℕ × ℕ). s.1) (map pair_of segs)
     (All-map (λ (s : ℕ × ℕ). 1 ≤ s.1) pair_of segs (λ k d lt. let least = (l.segments k d lt).size.least in omega (arith, least)))
 
-pub gap_sizes-most : (segs : List Bytes) (slots : List Slot) → IsLayout segs slots → sum (map bytes_of (gaps (map pair_of segs) (runs_of slots))) ≤ 34359738368
+pub gap_sizes-most : (segs : List Bytes) (slots : List Slot) → IsLayout segs slots → sum (map bytes_of (gaps_left (map pair_of segs) (runs_of slots))) ≤ 34359738368
 gap_sizes-most segs slots l =
     let all = gaps-most segs slots l segs (λ k d lt. (bytes_of_number-at segs k d l.distinct lt, (l.segments k d lt).size.least)) in
     omega (arith, all, segment_sizes-most segs slots l)

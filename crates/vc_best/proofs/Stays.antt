@@ -9,17 +9,17 @@ use Rattle.std.proofs.lemmas.List.Folds.{list_all-map}
 use Rattle.std.proofs.lemmas.List.Kept.{AllPairs-cons}
 use Rattle.vc_model.specs.Bytes.{with_bytes}
 use Rattle.vc_model.specs.Gap.{Run}
-use Rattle.vc_model.specs.Region.{Block, Region, footprint, is_at}
+use Rattle.vc_model.specs.Layout.{Block, Layout, footprint, is_at}
 use Rattle.vc_model.specs.Touch.{find_block, change_block}
 use Rattle.vc_model.specs.Resize.{can_stay, fitted, is_usable, meets, resize_there, sized}
 use Rattle.vc_model.specs.Addr.{place_of}
+use Rattle.vc_model.specs.Sound.{IsApart}
 use Rattle.vc_seg.specs.Segment.{Bytes, pair_of}
 use Rattle.vc_best.specs.declared.slot.Slot.{Slot}
 use Rattle.vc_best.specs.Slot.{run_of_slot, place_of_slot, is_slot_at}
-use Rattle.vc_best.specs.Apart.{IsApart}
 use Rattle.vc_best.specs.Stay.{fits_in, is_clear, resize_slot, sized_slot}
 use Rattle.vc_best.specs.Write.{write_segment}
-use Rattle.vc_best.specs.Layout.{bytes_of_number, block_in, region_of, IsSlotIn, IsLayout}
+use Rattle.vc_best.specs.Parts.{bytes_of_number, block_in, layout_of, IsSlotIn, IsLayout}
 use Rattle.vc_best.proofs.Apart.{Before, AllPairs-head, AllPairs-tail, span-least}
 use Rattle.vc_best.proofs.Bytes.{Apart, Apart-tail}
 use Rattle.vc_best.proofs.Found.{IsLive, StandsAt, slot_of}
@@ -32,7 +32,7 @@ pub fitted-range : (bytes : List ℕ) (from before size kept : ℕ) → from + b
 fitted-range bytes from before size kept h k is = same_lists _ _ (grind (arith, places)) (λ i d lt. grind (arith, places))
 
 -- a block can stay where its slot fits
-pub can_stay-slot : (segs : List Bytes) (slots : List Slot) (size : ℕ) (s : Slot) → can_stay (region_of segs slots) size (block_in segs s) ≡ fits_in segs slots (sized_slot size s)
+pub can_stay-slot : (segs : List Bytes) (slots : List Slot) (size : ℕ) (s : Slot) → can_stay (layout_of segs slots) size (block_in segs s) ≡ fits_in segs slots (sized_slot size s)
 can_stay-slot segs slots size s =
     let run = run_of_slot (sized_slot size s) in
     let clear : Block ℕ → Bool = λ c. is_at (s.seg, s.off) c || not (meets run (footprint c)) in
@@ -221,7 +221,7 @@ module _ (segs : List Bytes) (s : Slot) (size kept at : ℕ) (here : IsSlotIn se
 
 -- the block at an address can have that size where it is
 abbrev pub CanStay : List Bytes → List Slot → ℕ → ℕ → Type 0
-CanStay segs slots a size = IfSome (find_block (place_of a) (map (block_in segs) slots)) (λ b. can_stay (region_of segs slots) size b ≡ true)
+CanStay segs slots a size = IfSome (find_block (place_of a) (map (block_in segs) slots)) (λ b. can_stay (layout_of segs slots) size b ≡ true)
 
 module _ (segs : List Bytes) (slots : List Slot) (a size before kept : ℕ) (l : IsLayout segs slots) (live : IsLive segs slots a) (stays : CanStay segs slots a size) (some : 1 ≤ size) (most : size ≤ 16777264)
     (old : option_map (λ s. s.size) (find (is_slot_at (place_of a)) slots) ≡ Some before) (is : kept ≡ min before size) where
@@ -233,7 +233,7 @@ module _ (segs : List Bytes) (slots : List Slot) (a size before kept : ℕ) (l :
   at = (slot_of segs slots a l live).1
 
   stay : fits_in segs slots (sized_slot size s) ≡ true
-  stay = sym (can_stay-slot segs slots size s) ∙ subst (λ (b : Option (Block ℕ)). IfSome b (λ c. can_stay (region_of segs slots) size c ≡ true)) at.block stays
+  stay = sym (can_stay-slot segs slots size s) ∙ subst (λ (b : Option (Block ℕ)). IfSome b (λ c. can_stay (layout_of segs slots) size c ≡ true)) at.block stays
 
   parts : (is_usable (map pair_of segs) (run_of_slot (sized_slot size s)) ≡ true) × (is_clear slots (sized_slot size s) ≡ true)
   parts = and_parts (is_usable (map pair_of segs) (run_of_slot (sized_slot size s))) (is_clear slots (sized_slot size s)) stay
@@ -266,10 +266,10 @@ module _ (segs : List Bytes) (slots : List Slot) (a size before kept : ℕ) (l :
       let slots' : IsLayout segs (resize_slot (place_of a) size slots) = subst (λ (p : ℕ × ℕ). IsLayout segs (resize_slot p size slots)) at.place (IsLayout-resize segs s size slots l new clear here) in
       IsLayout-write (place_of a).0 ((place_of a).1 + kept) (replicate (size - kept) 0) segs (resize_slot (place_of a) size slots) sized-some (omega (arith, sized-within, length-replicate {A = ℕ} (size - kept) 0)) slots'
 
-  pub sized-region : region_of (write_segment (place_of a).0 ((place_of a).1 + kept) (replicate (size - kept) 0) segs) (resize_slot (place_of a) size slots) ≡ resize_there (region_of segs slots) (place_of a) size
+  pub sized-region : layout_of (write_segment (place_of a).0 ((place_of a).1 + kept) (replicate (size - kept) 0) segs) (resize_slot (place_of a) size slots) ≡ resize_there (layout_of segs slots) (place_of a) size
   sized-region =
       let tail : List ℕ = replicate (size - kept) 0 in
-      let region : List (ℕ × ℕ) → List (Block ℕ) → Region ℕ = λ ss bs. record { segments = ss; blocks = bs } in
+      let region : List (ℕ × ℕ) → List (Block ℕ) → Layout ℕ = λ ss bs. record { segments = ss; blocks = bs } in
       let blocks : map (block_in (write_segment (place_of a).0 ((place_of a).1 + kept) tail segs)) (resize_slot (place_of a) size slots) ≡ change_block (sized size) (place_of a) (map (block_in segs) slots) =
       subst (λ (p : ℕ × ℕ). map (block_in (write_segment p.0 (p.1 + kept) tail segs)) (resize_slot p size slots) ≡ change_block (sized size) p (map (block_in segs) slots)) at.place
       (blocks-sized segs s size kept (s.off + kept) at.slot new own refl slots l.blocks l.apart clear here) in

@@ -1,18 +1,20 @@
 -- The slot that a walk stops at, and its block.
-use Rattle.std.proofs.Common.{◌≡◌, ℕ, suc, ◌-◌, ◌<◌, ◌≤◌, List, [], ◌∷◌, Bool, true, Option, None, Some, ◌≢◌, All, Contains, get_or, length, map, refl, ap, sym, ◌∙◌, subst, ⊎_elim, eqb, arith}
+use Rattle.std.proofs.Common.{◌≡◌, ℕ, suc, ◌+◌, ◌-◌, ◌<◌, ◌≤◌, List, [], ◌∷◌, Bool, true, Option, None, Some, All, AllPairs, Contains, cond, get_or, length, map, refl, ap, sym, ◌∙◌, subst, ⊎_elim, eqb, ltb, arith}
 use Rattle.std.specs.Prelude.{find, option_map}
 use Rattle.std.proofs.lemmas.Bool.{cases_Bool, eqb-true}
+use Rattle.std.proofs.lemmas.Bool.Decides.{nat_tests}
 use Rattle.std.proofs.lemmas.List.{length-map, get_or-map}
-use Rattle.std.proofs.lemmas.List.Elements.{All-head, All-map, All-tail}
-use Rattle.vc_model.specs.Region.{Block}
-use Rattle.vc_model.specs.Walk.{block_at, next_block, holds_byte, begins_behind}
-use Rattle.vc_model.specs.Addr.{address}
-use Rattle.vc_seg.specs.Segment.{Bytes, pair_of}
+use Rattle.std.proofs.lemmas.List.Elements.{All-head, All-tail}
+use Rattle.vc_model.specs.Layout.{Block, address_of}
+use Rattle.vc_model.specs.Walk.{block_at, next_block, holds_byte}
+use Rattle.vc_model.specs.Addr.{address, place_of}
+use Rattle.vc_model.specs.Segments.{span}
+use Rattle.vc_seg.specs.Segment.{Bytes}
 use Rattle.vc_best.specs.declared.slot.Slot.{Slot}
-use Rattle.vc_best.specs.Slot.{lies_before_slot, slot_holds_byte}
-use Rattle.vc_best.specs.Layout.{bytes_of_number, block_in, IsRegionSegment, IsSlotIn, IsLayout}
-use Rattle.vc_best.specs.Numbered.{HaveOwnNumbers, LieInNumbered}
-use Rattle.vc_best.proofs.Apart.{AllPairs-map}
+use Rattle.vc_best.specs.Slot.{IsSlot, lies_before_slot, slot_holds_byte}
+use Rattle.vc_best.specs.Parts.{bytes_of_number, block_in, IsRegionSegment, IsSlotIn, IsLayout}
+use Rattle.vc_best.proofs.Apart.{AllPairs-map, Before, span-least}
+use Rattle.vc_best.proofs.Ordered.{Less, least_above-first}
 use Rattle.vc_best.proofs.Regions.{IsSlotIn-bytes}
 
 -- the numbers that a segment can have
@@ -99,19 +101,45 @@ module _ (segs : List Bytes) (slots : List Slot) where
       ap (option_map pair) (find-map (block_in segs) (holds_byte at) slots ∙ ap (option_map (block_in segs)) e)
       ∙ elim o as (λ v. option_map pair (option_map (block_in segs) v) ≡ option_map {U = Block ℕ × ℕ} (λ s. (block_in segs s, at.1 - s.off)) v) [ None ↦ refl | Some s ↦ refl ]
 
-  pub next_block-slots : (at : ℕ × ℕ) (o : Option Slot) → find (lies_before_slot at.0 at.1) slots ≡ o → next_block at (map (block_in segs) slots) ≡ option_map (block_in segs) o
-  next_block-slots at o e = find-map (block_in segs) (begins_behind at) slots ∙ ap (option_map (block_in segs)) e
+-- a slot before another has the lesser address
+address-before : (s t : Slot) → IsSlot s → IsSlot t → Before s t → address (s.seg, s.off) < address (t.seg, t.off)
+address-before s t p q before =
+    let low = span-least s.size in
+    let one = p.multiple in
+    let two = q.multiple in
+    let last = p.last in
+    let first = p.first in
+    let behind = q.first in
+    ⊎_elim
+    (λ u. omega (arith, u, last))
+    (λ u. let seg = u.0 in let le : s.off - 16 + span s.size ≤ t.off - 16 = u.1 in omega (arith, seg, le, low, one, two, first, behind))
+    before
 
--- the segments of a layout have numbers of their own
-pub HaveOwnNumbers-segments : (segs : List Bytes) (slots : List Slot) → IsLayout segs slots → HaveOwnNumbers (map pair_of segs)
-HaveOwnNumbers-segments segs slots l =
-    record {
-      first = All-map (λ (s : ℕ × ℕ). 1 ≤ s.0) pair_of segs (λ k d lt. (l.segments k d lt).first);
-      distinct = AllPairs-map (λ (s t : ℕ × ℕ). s.0 ≢ t.0) pair_of segs l.distinct;
-    }
+-- whether a slot lies behind an address
+behind-address : (after : ℕ) (s : Slot) → IsSlot s → ltb after (address (s.seg, s.off)) ≡ lies_before_slot (place_of after).0 (place_of after).1 s
+behind-address after s p =
+    let multiple = p.multiple in
+    let last = p.last in
+    grind (arith, nat_tests)
 
--- and its blocks lie in them
-pub LieInNumbered-blocks : (segs : List Bytes) (slots : List Slot) → IsLayout segs slots → LieInNumbered (map (block_in segs) slots)
-LieInNumbered-blocks segs slots l =
-    All-map (λ (b : Block ℕ). 1 ≤ b.seg) (block_in segs) slots
-    (λ k d lt. (IsNumber-slot segs (get_or slots k d) l.segments (l.blocks k d lt)).first)
+find-agree : {A : Type 0} (p q : A → Bool) (xs : List A) → All (λ x. p x ≡ q x) xs → find p xs ≡ find q xs
+find-agree p q [] h = refl
+find-agree {A = A} p q (x ∷ xs) h =
+    let P : A → Type 0 = λ y. p y ≡ q y in
+    rw (All-head P x xs h) (ap (cond (q x) (Some x)) (find-agree p q xs (All-tail P x xs h)))
+
+-- the block behind an address is the first behind its place
+pub next_block-slots : (segs : List Bytes) (slots : List Slot) (after : ℕ) (o : Option Slot) → IsLayout segs slots → find (lies_before_slot (place_of after).0 (place_of after).1) slots ≡ o →
+    next_block after (map (block_in segs) slots) ≡ option_map (block_in segs) o
+next_block-slots segs slots after o l e =
+    let key : Block ℕ → ℕ = address_of in
+    let ordered : AllPairs (Less key) (map (block_in segs) slots) =
+    AllPairs-map (Less key) (block_in segs) slots
+    (λ i j d lt within.
+    let early : i < length slots = omega (arith, lt, within) in
+    address-before (get_or slots i d) (get_or slots j d) (l.blocks i d early).slot (l.blocks j d within).slot (l.apart i j d lt within)) in
+    least_above-first key after (map (block_in segs) slots) ordered
+    ∙ (find-map (block_in segs) (λ b. ltb after (address_of b)) slots
+    ∙ ap (option_map (block_in segs))
+    (find-agree (λ s. ltb after (address (s.seg, s.off))) (lies_before_slot (place_of after).0 (place_of after).1) slots (λ k d lt. behind-address after (get_or slots k d) (l.blocks k d lt).slot)
+    ∙ e))

@@ -7,15 +7,15 @@ use Rattle.std.proofs.lemmas.List.Elements.{All-head, All-tail, All-cons, All-we
 use Rattle.std.proofs.lemmas.List.Kept.{AllPairs-cons}
 use Rattle.vc_model.specs.Bytes.{with_bytes}
 use Rattle.vc_model.specs.Discipline.{IsSegmentSize}
-use Rattle.vc_model.specs.Region.{Block, Region, with_block}
+use Rattle.vc_model.specs.Layout.{Block, Layout, with_block}
 use Rattle.vc_model.specs.Best.{zeros}
-use Rattle.vc_model.specs.Touch.{rewritten, change_block, best_write}
+use Rattle.vc_model.specs.Touch.{rewritten, change_block, with_bytes_at}
+use Rattle.vc_model.specs.Sound.{IsApart}
 use Rattle.vc_seg.specs.Segment.{Bytes, pair_of}
 use Rattle.vc_best.specs.declared.slot.Slot.{Slot}
 use Rattle.vc_best.specs.Slot.{run_of_slot, place_of_slot, with_slot, is_slot_at}
-use Rattle.vc_best.specs.Apart.{IsApart}
 use Rattle.vc_best.specs.Write.{write_segment}
-use Rattle.vc_best.specs.Layout.{bytes_of_number, block_in, region_of, IsRegionSegment, IsSlotIn, IsLayout}
+use Rattle.vc_best.specs.Parts.{bytes_of_number, block_in, layout_of, IsRegionSegment, IsSlotIn, IsLayout}
 use Rattle.vc_best.proofs.Apart.{Before, AllPairs-head, AllPairs-tail, span-least}
 use Rattle.vc_best.proofs.Bytes.{Apart}
 use Rattle.vc_best.proofs.Regions.{IsSlotIn-bytes, IsLayout-with_slot, stands, blocks-with_slot}
@@ -188,10 +188,10 @@ module _ (segs : List Bytes) (s : Slot) (o at : ℕ) (src : List ℕ) (here : Is
       ∙ ap (λ bs. block_in segs t ∷ bs) (blocks-written ts others (AllPairs-tail Before t ts pairs) rest)))
       (cases_Bool (test t))
 
-  pub region_of-written : (slots : List Slot) → IsLayout segs slots → find (is_slot_at (place_of_slot s)) slots ≡ Some s →
-      region_of (write_segment s.seg at src segs) slots ≡ best_write (region_of segs slots) (place_of_slot s) o src
-  region_of-written slots l e =
-      let region : List (ℕ × ℕ) → List (Block ℕ) → Region ℕ = λ ss bs. record { segments = ss; blocks = bs } in
+  pub layout_of-written : (slots : List Slot) → IsLayout segs slots → find (is_slot_at (place_of_slot s)) slots ≡ Some s →
+      layout_of (write_segment s.seg at src segs) slots ≡ with_bytes_at (layout_of segs slots) (place_of_slot s) o src
+  layout_of-written slots l e =
+      let region : List (ℕ × ℕ) → List (Block ℕ) → Layout ℕ = λ ss bs. record { segments = ss; blocks = bs } in
       ap (λ ss. region ss (map (block_in (write_segment s.seg at src segs)) slots)) (pairs-write s.seg at src segs room)
       ∙ ap (region (map pair_of segs)) (blocks-written slots l.blocks l.apart e)
 
@@ -215,14 +215,14 @@ module _ (segs : List Bytes) (s : Slot) (here : IsSlotIn segs s) where
   unfolding zero_bytes
   IsLayout-put slots l apart = IsLayout-write s.seg s.off zero_bytes segs (with_slot s slots) (stands segs s here) (omega (arith, put-within, long)) (IsLayout-with_slot segs s slots l here apart)
 
-  pub region_of-put : (slots : List Slot) → IsLayout segs slots → All (λ t. IsApart (run_of_slot s) (run_of_slot t)) slots →
-      region_of (write_segment s.seg s.off (replicate s.size 0) segs) (with_slot s slots) ≡ record { segments = map pair_of segs; blocks = with_block (zeros s.tag s.size (s.seg, s.off)) (map (block_in segs) slots) }
+  pub layout_of-put : (slots : List Slot) → IsLayout segs slots → All (λ t. IsApart (run_of_slot s) (run_of_slot t)) slots →
+      layout_of (write_segment s.seg s.off (replicate s.size 0) segs) (with_slot s slots) ≡ record { segments = map pair_of segs; blocks = with_block (zeros s.tag s.size (s.seg, s.off)) (map (block_in segs) slots) }
   unfolding zero_bytes
-  region_of-put slots l apart =
+  layout_of-put slots l apart =
       let after = write_segment s.seg s.off zero_bytes segs in
       let is : s.off ≡ s.off + 0 = omega arith in
       let fits : 0 + length zero_bytes ≤ s.size = omega (arith, long) in
-      let region : List (ℕ × ℕ) → List (Block ℕ) → Region ℕ = λ ss bs. record { segments = ss; blocks = bs } in
+      let region : List (ℕ × ℕ) → List (Block ℕ) → Layout ℕ = λ ss bs. record { segments = ss; blocks = bs } in
       let block : List ℕ → Block ℕ = λ bytes. record { label = s.tag; seg = s.seg; off = s.off; size = s.size; bytes = bytes } in
       let old = (block_in segs s).bytes in
       let none : drop (0 + length zero_bytes) old ≡ [] = drop_all (0 + length zero_bytes) old (omega (arith, long, length-take s.size (drop s.off (bytes_of_number s.seg segs)))) in

@@ -1,15 +1,8 @@
 -- What closing and compacting a region do, segment by segment.
-use Rattle.std.specs.Prelude.{◌≡◌, ◌≢◌, ℕ, ◌≤◌, List, ◌++◌, All, AllPairs, Bool, nat_le, not, ◌==◌, ◌||◌}
-use Rattle.vc_model.specs.Discipline.{Discipline}
+use Rattle.std.specs.Prelude.{◌≢◌, ℕ, ◌≤◌, List, All, AllPairs, Bool, nat_le, not, ◌==◌, ◌||◌}
 use Rattle.vc_seg.specs.Segment.{Bytes}
 use Rattle.vc_best.specs.declared.slot.Slot.{Slot}
 use Rattle.vc_best.specs.Slot.{has_slot}
-
--- the discipline takes back what is held but not left, and keeps all else that is out
-pub record TakesBack (before after : Discipline) (held left : List (ℕ × ℕ)) : Type 0 where
-  pub out : (rest : List (ℕ × ℕ)) → before.out ≡ rest ++ held → after.out ≡ rest ++ left
-  pub round : after.round ≡ before.round
-  pub faults : after.faults ≡ before.faults
 
 -- segments with different numbers from 1 to 1,023
 pub record AreNumbered (segs : List Bytes) : Type 0 where

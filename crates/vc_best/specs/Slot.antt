@@ -1,5 +1,5 @@
 -- A slot: a block's place, size and tag.
-use Rattle.std.specs.Prelude.{◌≡◌, ℕ, ◌+◌, ◌-◌, ◌%◌, ◌<◌, ◌≤◌, List, [], ◌∷◌, Bool, map, nat_le, nat_lt, ◌==◌, ◌&&◌, ◌||◌, if◌then◌else◌}
+use Rattle.std.specs.Prelude.{◌≡◌, ℕ, ◌+◌, ◌-◌, ◌%◌, ◌<◌, ◌≤◌, List, [], ◌∷◌, Bool, Contains, map, nat_le, nat_lt, ◌==◌, ◌&&◌, ◌||◌, if◌then◌else◌}
 use Rattle.std.specs.List.{list_any}
 use Rattle.vc_model.specs.Segments.{span}
 use Rattle.vc_model.specs.Gap.{Run}
@@ -33,7 +33,11 @@ with_slot s (t ∷ ts) = if lies_before_slot s.seg s.off t then s ∷ t ∷ ts e
 abbrev pub place_of_slot : Slot → ℕ × ℕ
 place_of_slot s = (s.seg, s.off)
 
--- whether a slot is at a place, as segment and offset
+-- a slot is at a place, as segment and offset
+abbrev pub HasSlotAt : List Slot → ℕ × ℕ → Type 0
+HasSlotAt slots at = Contains (map place_of_slot slots) at
+
+-- whether a slot is at a place
 abbrev pub is_slot_at : ℕ × ℕ → Slot → Bool
 is_slot_at at s = (s.seg == at.0) && (s.off == at.1)
 

@@ -1,12 +1,13 @@
-ghost use Rattle.std.specs.Prelude.{◌≡◌, ℕ, ◌+◌, ◌≤◌, ◌<◌, ◌⊎◌, IfOk, IfErr, IfSome, [], length, option_map};
+ghost use Rattle.std.specs.Prelude.{◌≡◌, ℕ, ◌+◌, ◌≤◌, ◌<◌, ◌⊎◌, IfOk, IfErr, IfSome, Some, [], length, option_map};
 ghost use Rattle.std.specs.List.{HoldsAt, remove};
 ghost use Rattle.vc_model.specs.Addr.{place_of};
-ghost use Rattle.vc_model.specs.Best.{best_alloc, best_need, without_block_at};
+ghost use Rattle.vc_model.specs.Best.{best_alloc, best_need, without_block_at, zeros};
 ghost use Rattle.vc_model.specs.Compact.{cleared, compact_count, compacted};
 ghost use Rattle.vc_model.specs.Discipline.{HasOut, TookBack};
 ghost use Rattle.vc_model.specs.Layout.{address_of, empty_layout, without_block};
 ghost use Rattle.vc_model.specs.Place.{IsAlign};
-ghost use Rattle.vc_model.specs.Touch.{HasBlock};
+ghost use Rattle.vc_model.specs.Sound.{IsSound};
+ghost use Rattle.vc_model.specs.Touch.{HasBlock, find_block};
 ghost use Rattle.vc_model.specs.Walk.{block_at, next_block, next_segment, segment_at};
 ghost use Rattle.vc_seg.specs.Answer.{Answers, Asks};
 ghost use Rattle.vc_seg.specs.Stat.{layout_stat};
@@ -59,13 +60,15 @@ impl Best {
         requires most { size ≤ 16777264 }
         requires align { IsAlign align }
 
-        ensures answer { Answers (best_alloc (state self.old.disc).terms self.old.layout tag size align) result
-            self.old.layout self.new.layout }
+        ensures answer { Answers (best_alloc (state self.old.disc).terms self.old.layout tag size align)
+            result self.old.layout self.new.layout }
         ensures disc { Asks result (state self.old.disc) (state self.new.disc)
             self.old.layout.segments self.new.layout.segments
             (best_need (state self.old.disc).terms size align) }
 
-        // The block has an address of its own, and the others stay.
+        // The block stands there, at an address of its own, and the others stay.
+        ensures there { IfOk result (λ a. find_block (place_of a.0) self.new.layout.blocks
+            ≡ Some (zeros tag size (place_of a.0))) }
         ensures fresh { IfOk result (λ a. ¬ HasBlock self.old.layout.blocks a.0) }
         ensures others { IfOk result (λ a. without_block (place_of a.0) self.new.layout.blocks
             ≡ self.old.layout.blocks) }
@@ -121,7 +124,8 @@ impl Best {
     /// does.
     pub fn block_at(&self, seg: u32, off: u32) -> Option<(Addr, u32)>
         ensures value { option_map {U = ℕ × ℕ} (λ f. (f.0.0, f.1)) result
-            ≡ option_map {U = ℕ × ℕ} (λ f. (address_of f.0, f.1)) (block_at (seg, off) self.now.layout.blocks) }
+            ≡ option_map {U = ℕ × ℕ} (λ f. (address_of f.0, f.1))
+            (block_at (seg, off) self.now.layout.blocks) }
         ensures live { IfSome result (λ f. HasBlock self.now.layout.blocks f.0.0) }
     {
         self.layout.block_at(seg, off)

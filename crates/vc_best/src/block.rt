@@ -11,7 +11,8 @@ impl Best {
     /// The size in bytes of the block at that address, from 1 to 16,777,264.
     pub fn size(&self, a: Addr) -> u32
         requires { HasBlock self.now.layout.blocks a.0 }
-        ensures { option_map (λ b. b.size) (find_block (place_of a.0) self.now.layout.blocks) ≡ Some result }
+        ensures { option_map (λ b. b.size) (find_block (place_of a.0) self.now.layout.blocks)
+            ≡ Some result }
     {
         self.layout.size(a)
     }
@@ -19,7 +20,8 @@ impl Best {
     /// The tag of the block at that address.
     pub fn tag(&self, a: Addr) -> u32
         requires { HasBlock self.now.layout.blocks a.0 }
-        ensures { option_map (λ b. b.label) (find_block (place_of a.0) self.now.layout.blocks) ≡ Some result }
+        ensures { option_map (λ b. b.label) (find_block (place_of a.0) self.now.layout.blocks)
+            ≡ Some result }
     {
         self.layout.tag(a)
     }
@@ -28,8 +30,8 @@ impl Best {
     pub fn read(&self, a: Addr, off: u32, len: u32) -> &[u8]
         requires block { HasBlock self.now.layout.blocks a.0 }
         requires range { HasRange self.now.layout.blocks a.0 off len }
-        ensures { option_map (λ b. take len (drop off b.bytes)) (find_block (place_of a.0) self.now.layout.blocks)
-            ≡ Some result.now }
+        ensures { option_map (λ b. take len (drop off b.bytes))
+            (find_block (place_of a.0) self.now.layout.blocks) ≡ Some result.now }
     {
         self.layout.read(a, off, len)
     }
@@ -38,7 +40,8 @@ impl Best {
     pub fn write(&mut self, a: Addr, off: u32, src: &[u8])
         requires block { HasBlock self.old.layout.blocks a.0 }
         requires range { HasRange self.old.layout.blocks a.0 off (length src.now) }
-        ensures layout { self.new.layout ≡ with_bytes_at self.old.layout (place_of a.0) off src.now }
+        ensures layout { self.new.layout
+            ≡ with_bytes_at self.old.layout (place_of a.0) off src.now }
         ensures others { without_block (place_of a.0) self.new.layout.blocks
             ≡ without_block (place_of a.0) self.old.layout.blocks }
         ensures disc { state self.new.disc ≡ state self.old.disc }

@@ -1,7 +1,7 @@
 ghost use Rattle.std.specs.Prelude.{◌≡◌, ℕ, ◌+◌, ◌<◌, ◌≤◌, length, take, drop, slice_set, slice_index_or};
 ghost use Rattle.std.specs.List.{HoldsAt};
 ghost use Rattle.vc_seg.specs.Segment.{Bytes};
-ghost use Rattle.vc_best.specs.Layout.{bytes_of_number};
+ghost use Rattle.vc_best.specs.Parts.{HasNumber, IsWithin, bytes_of_number};
 ghost use Rattle.vc_best.specs.Write.{copied, write_segment};
 
 use crate::give_back::find_number;
@@ -13,7 +13,8 @@ fn copy_between(segs: &mut [Segment], source: usize, from: u32, target: usize, t
     requires target { target < length segs.old }
     requires from { HoldsAt (λ s. from + len ≤ length s.bytes) segs.old source }
     requires to { HoldsAt (λ s. to + len ≤ length s.bytes) segs.old target }
-    ensures { (d : Bytes) → segs.new ≡ slice_set segs.old target (copied (slice_index_or segs.old source d) from len to (slice_index_or segs.old target d)) }
+    ensures { (d : Bytes) → segs.new ≡ slice_set segs.old target
+        (copied (slice_index_or segs.old source d) from len to (slice_index_or segs.old target d)) }
 {
     if source == target {
         segs[target].shift(from, to, len);
@@ -28,11 +29,12 @@ fn copy_between(segs: &mut [Segment], source: usize, from: u32, target: usize, t
 
 /// Copies a range of the segment of one number into that of another, which may be the same. Both are there.
 pub(crate) fn copy_in(segs: &mut [Segment], number: u32, from: u32, target: u32, to: u32, len: u32)
-    requires source { 0 < length (bytes_of_number number segs.old) }
-    requires target { 0 < length (bytes_of_number target segs.old) }
-    requires from { from + len ≤ length (bytes_of_number number segs.old) }
-    requires to { to + len ≤ length (bytes_of_number target segs.old) }
-    ensures { segs.new ≡ write_segment target to (take len (drop from (bytes_of_number number segs.old))) segs.old }
+    requires source { HasNumber segs.old number }
+    requires target { HasNumber segs.old target }
+    requires from { IsWithin segs.old number from len }
+    requires to { IsWithin segs.old target to len }
+    ensures { segs.new
+        ≡ write_segment target to (take len (drop from (bytes_of_number number segs.old))) segs.old }
 {
     match find_number(segs, number) {
         Some(source) => match find_number(segs, target) {

@@ -1,9 +1,9 @@
 ghost use Rattle.std.specs.Prelude.{◌≡◌, ℕ, ◌+◌, ◌≤◌, All, Option, None, filter, fold, map};
 ghost use Rattle.vc_model.specs.Discipline.{IsSegmentSize};
-ghost use Rattle.vc_model.specs.Gap.{gaps_in};
-ghost use Rattle.vc_model.specs.Place.{best_gap, holds, lesser};
+ghost use Rattle.vc_model.specs.Place.{holds, lesser};
 ghost use Rattle.vc_seg.specs.Segment.{pair_of};
 ghost use Rattle.vc_best.specs.Slot.{IsSlot, runs_of};
+ghost use Rattle.vc_best.specs.Gaps.{gaps_left_in, best_left};
 
 use crate::gap::{Gap, consider, span_of};
 use crate::slot::Slot;
@@ -23,7 +23,8 @@ fn best_in_segment(
     requires span { span ≤ 16777280 }
     requires least { 1 ≤ align }
     requires most { align ≤ 4096 }
-    ensures { result ≡ fold lesser best (filter (holds span align) (gaps_in (runs_of slots.now) (seg, bytes))) }
+    ensures { result
+        ≡ fold lesser best (filter (holds span align) (gaps_left_in (runs_of slots.now) (seg, bytes))) }
 {
     let mut best = best;
     let mut from = 16;
@@ -43,7 +44,7 @@ pub(crate) fn best_gap(segs: &[Segment], slots: &[Slot], size: u32, align: u32) 
     requires size { size ≤ 16777264 }
     requires least { 1 ≤ align }
     requires most { align ≤ 4096 }
-    ensures { result ≡ best_gap (map pair_of segs.now) (runs_of slots.now) size align }
+    ensures { result ≡ best_left (map pair_of segs.now) (runs_of slots.now) size align }
 {
     let span = span_of(size);
     let mut best = None;

@@ -1,5 +1,5 @@
-ghost use Rattle.std.specs.Prelude.{◌≡◌, ℕ, ◌+◌, ◌<◌, ◌≤◌, length, take, drop, replicate};
-ghost use Rattle.vc_best.specs.Layout.{bytes_of_number};
+ghost use Rattle.std.specs.Prelude.{◌≡◌, length, take, drop, replicate};
+ghost use Rattle.vc_best.specs.Parts.{HasNumber, IsWithin, bytes_of_number};
 ghost use Rattle.vc_best.specs.Write.{write_segment};
 
 use crate::give_back::find_number;
@@ -7,8 +7,8 @@ use vc_seg::Segment;
 
 /// The bytes of a range of the segment of that number. There is one.
 pub(crate) fn bytes_in(segs: &[Segment], number: u32, off: u32, len: u32) -> &[u8]
-    requires some { 0 < length (bytes_of_number number segs.now) }
-    requires range { off + len ≤ length (bytes_of_number number segs.now) }
+    requires some { HasNumber segs.now number }
+    requires range { IsWithin segs.now number off len }
     ensures { result.now ≡ take len (drop off (bytes_of_number number segs.now)) }
 {
     match find_number(segs, number) {
@@ -19,8 +19,8 @@ pub(crate) fn bytes_in(segs: &[Segment], number: u32, off: u32, len: u32) -> &[u
 
 /// Puts bytes into the segment of that number, from an offset on. There is one.
 pub(crate) fn put_in(segs: &mut [Segment], number: u32, off: u32, src: &[u8])
-    requires some { 0 < length (bytes_of_number number segs.old) }
-    requires range { off + length src.now ≤ length (bytes_of_number number segs.old) }
+    requires some { HasNumber segs.old number }
+    requires range { IsWithin segs.old number off (length src.now) }
     ensures { segs.new ≡ write_segment number off src.now segs.old }
 {
     match find_number(segs, number) {
@@ -31,8 +31,8 @@ pub(crate) fn put_in(segs: &mut [Segment], number: u32, off: u32, src: &[u8])
 
 /// Fills a range of the segment of that number with one byte. There is one.
 pub(crate) fn fill_in(segs: &mut [Segment], number: u32, off: u32, len: u32, byte: u8)
-    requires some { 0 < length (bytes_of_number number segs.old) }
-    requires range { off + len ≤ length (bytes_of_number number segs.old) }
+    requires some { HasNumber segs.old number }
+    requires range { IsWithin segs.old number off len }
     ensures { segs.new ≡ write_segment number off (replicate len byte) segs.old }
 {
     match find_number(segs, number) {

@@ -1,4 +1,4 @@
-ghost use Rattle.std.specs.Prelude.{◌≡◌, ◌≤◌, IfOk, IfSome, IsErrOf, IsTrue, false};
+ghost use Rattle.std.specs.Prelude.{◌≡◌, ◌≤◌, IfOk, IfSome, IsErrOf, IsTrue, false, option_map};
 ghost use Rattle.vc_model.specs.Addr.{place_of};
 ghost use Rattle.vc_model.specs.Best.{best_need};
 ghost use Rattle.vc_model.specs.Layout.{without_block};
@@ -25,7 +25,8 @@ impl Best {
         requires some { 1 ≤ size }
         requires most { size ≤ 16777264 }
 
-        ensures answer { Answers (best_resize (state self.old.disc).terms self.old.layout (place_of a.0) size may_move)
+        ensures answer { Answers
+            (best_resize (state self.old.disc).terms self.old.layout (place_of a.0) size may_move)
             result self.old.layout self.new.layout }
         ensures disc { Asks result (state self.old.disc) (state self.new.disc)
             self.old.layout.segments self.new.layout.segments
@@ -34,7 +35,10 @@ impl Best {
             → IfSome (find_block (place_of a.0) self.old.layout.blocks)
             (λ b. can_stay self.old.layout size b ≡ false) × IsTrue may_move }
 
-        // The other blocks stay.
+        // The block keeps its tag, and the others stay.
+        ensures there { IfOk result (λ to.
+            option_map (λ b. b.label) (find_block (place_of to.0) self.new.layout.blocks)
+            ≡ option_map (λ b. b.label) (find_block (place_of a.0) self.old.layout.blocks)) }
         ensures others { IfOk result (λ to. without_block (place_of to.0) self.new.layout.blocks
             ≡ without_block (place_of a.0) self.old.layout.blocks) }
     {

@@ -1,10 +1,10 @@
-ghost use Rattle.std.specs.Prelude.{◌≡◌, ℕ, ◌+◌, ◌≤◌, Some, Contains, IfSome, map, option_map, position, true};
+ghost use Rattle.std.specs.Prelude.{◌≡◌, ◌≤◌, Some, IfSome, option_map, position, true};
 ghost use Rattle.std.specs.List.{find};
+ghost use Rattle.vc_model.specs.Addr.{place_of};
 ghost use Rattle.vc_model.specs.Resize.{can_stay, resize_there};
-ghost use Rattle.vc_model.specs.Touch.{find_block};
-ghost use Rattle.vc_model.specs.Addr.{address, place_of};
-ghost use Rattle.vc_best.specs.Apart.{AllUsable, AreApart};
-ghost use Rattle.vc_best.specs.Slot.{is_slot_at, place_of_slot};
+ghost use Rattle.vc_model.specs.Sound.{IsSound};
+ghost use Rattle.vc_model.specs.Touch.{HasBlock, find_block};
+ghost use Rattle.vc_best.specs.Slot.{HasSlotAt, is_slot_at};
 ghost use Rattle.vc_best.specs.Stay.{resize_slot};
 
 use crate::layout::Layout;
@@ -25,8 +25,9 @@ fn position_of(slots: &[Slot], seg: u32, off: u32) -> Option<usize>
 
 /// Gives the slot at a place another size, and answers the one that it had. There is one.
 fn set_size(slots: &mut Vec<Slot>, seg: u32, off: u32, size: u32) -> u32
-    requires { Contains (map place_of_slot slots.old.items) (seg, off) }
-    ensures before { option_map (λ s. s.size) (find (is_slot_at (seg, off)) slots.old.items) ≡ Some result }
+    requires { HasSlotAt slots.old.items (seg, off) }
+    ensures before { option_map (λ s. s.size) (find (is_slot_at (seg, off)) slots.old.items)
+        ≡ Some result }
     ensures slots { slots.new.items ≡ resize_slot (seg, off) size slots.old.items }
 {
     match position_of(slots, seg, off) {
@@ -42,12 +43,11 @@ fn set_size(slots: &mut Vec<Slot>, seg: u32, off: u32, size: u32) -> u32
 impl Layout {
     /// Whether the block at that address can have another size where it is.
     pub(crate) fn can_stay(&self, a: Addr, size: u32) -> bool
-        requires block { Contains (map (λ b. address (b.seg, b.off)) self.now.blocks) a.0 }
+        requires block { HasBlock self.now.blocks a.0 }
         requires some { 1 ≤ size }
         requires most { size ≤ 16777264 }
-        ensures all_apart { AreApart self.now.blocks }
-        ensures all_usable { AllUsable self.now }
-        ensures value { option_map (can_stay self.now size) (find_block (place_of a.0) self.now.blocks) ≡ Some result }
+        ensures { option_map (can_stay self.now size) (find_block (place_of a.0) self.now.blocks)
+            ≡ Some result }
     {
         match find_slot(&self.blocks, a.seg(), a.off()) {
             Some(slot) => fits_in(&self.segs, &self.blocks, Slot { size, ..slot }),
@@ -57,13 +57,13 @@ impl Layout {
 
     /// Gives the block at that address another size where it is. What is new in it is zero.
     pub(crate) fn resize_there(&mut self, a: Addr, size: u32)
-        requires block { Contains (map (λ b. address (b.seg, b.off)) self.old.blocks) a.0 }
+        requires block { HasBlock self.old.blocks a.0 }
         requires some { 1 ≤ size }
         requires most { size ≤ 16777264 }
-        requires stays { IfSome (find_block (place_of a.0) self.old.blocks) (λ b. can_stay self.old size b ≡ true) }
+        requires stays { IfSome (find_block (place_of a.0) self.old.blocks)
+            (λ b. can_stay self.old size b ≡ true) }
         ensures value { self.new ≡ resize_there self.old (place_of a.0) size }
-        ensures all_apart { AreApart self.new.blocks }
-        ensures all_usable { AllUsable self.new }
+        ensures sound { IsSound self.new }
     {
         let before = set_size(&mut self.blocks, a.seg(), a.off(), size);
         let kept = before.min(size);

@@ -1,9 +1,10 @@
 ghost use Rattle.std.specs.Prelude.{◌≡◌, [], All, map};
 ghost use Rattle.vc_model.specs.Discipline.{IsSegmentSize};
-ghost use Rattle.vc_model.specs.Gap.{bytes_of, gaps, gaps_in};
+ghost use Rattle.vc_model.specs.Gap.{bytes_of};
 ghost use Rattle.vc_seg.specs.Segment.{pair_of};
 ghost use Rattle.vc_best.specs.Slot.{IsSlot, runs_of};
 ghost use Rattle.vc_best.specs.Tally.{HasRoom, tallied_all, tally_of};
+ghost use Rattle.vc_best.specs.Gaps.{gaps_left, gaps_left_in};
 
 use crate::gap::span_of;
 use crate::slot::Slot;
@@ -38,8 +39,9 @@ pub(crate) fn tally_segments(segs: &[Segment]) -> Tally
 fn tally_gaps_in(tally: Tally, seg: u32, bytes: u32, slots: &[Slot]) -> Tally
     requires bytes { IsSegmentSize bytes }
     requires slots { All IsSlot slots.now }
-    requires room { HasRoom tally (map bytes_of (gaps_in (runs_of slots.now) (seg, bytes))) }
-    ensures { result ≡ tallied_all tally (map bytes_of (gaps_in (runs_of slots.now) (seg, bytes))) }
+    requires room { HasRoom tally (map bytes_of (gaps_left_in (runs_of slots.now) (seg, bytes))) }
+    ensures { result
+        ≡ tallied_all tally (map bytes_of (gaps_left_in (runs_of slots.now) (seg, bytes))) }
 {
     let mut tally = tally;
     let mut from = 16;
@@ -56,8 +58,10 @@ fn tally_gaps_in(tally: Tally, seg: u32, bytes: u32, slots: &[Slot]) -> Tally
 /// The gaps that these slots leave in these segments.
 pub(crate) fn tally_gaps(segs: &[Segment], slots: &[Slot]) -> Tally
     requires slots { All IsSlot slots.now }
-    requires room { HasRoom (tally_of []) (map bytes_of (gaps (map pair_of segs.now) (runs_of slots.now))) }
-    ensures { result ≡ tally_of (map bytes_of (gaps (map pair_of segs.now) (runs_of slots.now))) }
+    requires room { HasRoom (tally_of [])
+        (map bytes_of (gaps_left (map pair_of segs.now) (runs_of slots.now))) }
+    ensures { result
+        ≡ tally_of (map bytes_of (gaps_left (map pair_of segs.now) (runs_of slots.now))) }
 {
     let mut tally = Tally::new();
     for segment in segs {

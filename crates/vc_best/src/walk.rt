@@ -1,5 +1,6 @@
 ghost use Rattle.std.specs.Prelude.{◌≡◌, [], ◌∷◌, find, filter, fold, map, nat_lt};
-ghost use Rattle.vc_model.specs.Walk.{lesser_number, next_segment, segment_at};
+ghost use Rattle.vc_model.specs.Order.{lesser_by};
+ghost use Rattle.vc_model.specs.Walk.{next_segment, segment_at};
 ghost use Rattle.vc_seg.specs.Segment.{pair_of};
 ghost use Rattle.vc_best.specs.Slot.{lies_before_slot, slot_holds_byte};
 
@@ -44,7 +45,8 @@ pub(crate) fn segment_at(segs: &[Segment], seg: u32, off: u32) -> Option<u32>
 
 /// The lesser by number of the least segment so far and one more, as number and size, where that is above a number.
 fn consider(least: Option<(u32, u32)>, after: u32, number: u32, bytes: u32) -> Option<(u32, u32)>
-    ensures { result ≡ fold lesser_number least (filter (λ s. nat_lt after s.0) ((number, bytes) ∷ [])) }
+    ensures { result ≡ fold (lesser_by (λ s. s.0)) least
+        (filter (λ s. nat_lt after s.0) ((number, bytes) ∷ [])) }
 {
     if number <= after {
         return least;

@@ -1,5 +1,6 @@
 -- Blocks that don't overlap, and that lie in their segments.
 use Rattle.std.specs.Prelude.{◌≡◌, ◌≢◌, ℕ, ◌+◌, ◌<◌, ◌≤◌, ◌⊎◌, List, All, AllPairs, Any}
+use Rattle.vc_model.specs.Addr.{place_of}
 use Rattle.vc_model.specs.Gap.{Run}
 use Rattle.vc_model.specs.Layout.{Block, Layout, address_of, footprint}
 
@@ -20,13 +21,15 @@ pub record HaveOwnNumbers (segments : List (ℕ × ℕ)) : Type 0 where
   pub first : All (λ s. 1 ≤ s.0) segments
   pub distinct : AllPairs (λ s t. s.0 ≢ t.0) segments
 
--- blocks with heads: no two overlap, each lies in the usable part of a segment, and segments have numbers of their own
+-- blocks with heads: no two overlap, each lies in the usable part of a segment, its address tells its place, and segments have numbers of their own
 pub record IsSound {L : Type 0} (r : Layout L) : Type 0 where
   pub apart : AllPairs (λ a b. IsApart (footprint a) (footprint b)) r.blocks
   pub usable : All (λ b. IsUsable r.segments (footprint b)) r.blocks
+  pub exact : All (λ b. place_of (address_of b) ≡ (b.seg, b.off)) r.blocks
   pub numbered : HaveOwnNumbers r.segments
 
--- no two blocks stand at one address, and each stands in a segment whose number is from 1 on
+-- no two blocks stand at one address, each stands in a segment whose number is from 1 on, and its address tells its place
 pub record HaveOwnPlaces {L : Type 0} (blocks : List (Block L)) : Type 0 where
   pub distinct : AllPairs (λ a b. address_of a ≢ address_of b) blocks
   pub first : All (λ b. 1 ≤ b.seg) blocks
+  pub exact : All (λ b. place_of (address_of b) ≡ (b.seg, b.off)) blocks

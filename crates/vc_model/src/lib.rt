@@ -7,7 +7,10 @@ mod rows;
 mod walk_rows;
 
 pub use number_rows::{numbers_of_nine_blocks, numbers_of_nothing, numbers_of_one_block};
-pub use rows::{aligned_places, asking, gaps_in_any_order, kept_bytes, merging, merging_by_free, resizing, tie, tie_by_free};
+pub use rows::{
+    aligned_places, asking, gaps_in_any_order, kept_bytes, merging, merging_by_free, resizing, tie,
+    tie_by_free,
+};
 pub use walk_rows::{
     bytes_of_blocks, bytes_of_segments, compacting, walk_of_blocks, walk_of_segments,
 };

@@ -6,7 +6,7 @@ ghost use Rattle.vc_model.specs.Place.{IsAlign};
 ghost use Rattle.vc_model.specs.Region.{region_align, region_alloc, region_need};
 ghost use Rattle.vc_model.specs.Touch.{HasBlock, find_block};
 ghost use Rattle.vc_seg.specs.Answer.{Answers, Asks};
-ghost use Rattle.vc_region.specs.Parts.{blocks_in, disc_of, region_of, segments_in};
+ghost use Rattle.vc_region.specs.Parts.{blocks_in, disc_in, region_of, segments_in};
 
 use crate::region::{Region, Uncounted};
 use vc_base::{Addr, Steps};
@@ -21,11 +21,11 @@ impl Region {
         requires named { 1 ≤ length site.now }
         requires short { length site.now ≤ 32 }
 
-        ensures answer { Answers (region_alloc (state (disc_of self.old)).terms (region_of self.old) tag size)
+        ensures answer { Answers (region_alloc (disc_in state self.old).terms (region_of self.old) tag size)
             result (region_of self.old) (region_of self.new) }
-        ensures disc { Asks result (state (disc_of self.old)) (state (disc_of self.new))
+        ensures disc { Asks result (disc_in state self.old) (disc_in state self.new)
             (segments_in self.old) (segments_in self.new)
-            (region_need (state (disc_of self.old)).terms (region_of self.old) size 32) }
+            (region_need (disc_in state self.old).terms (region_of self.old) size 32) }
 
         // The block has an address of its own, and the others stay.
         ensures there { IfOk result (λ a. find_block (place_of a.0) (blocks_in self.new)
@@ -56,11 +56,11 @@ impl Region {
         requires named { 1 ≤ length site.now }
         requires short { length site.now ≤ 32 }
 
-        ensures answer { Answers (region_align (state (disc_of self.old)).terms (region_of self.old) tag size align)
+        ensures answer { Answers (region_align (disc_in state self.old).terms (region_of self.old) tag size align)
             result (region_of self.old) (region_of self.new) }
-        ensures disc { Asks result (state (disc_of self.old)) (state (disc_of self.new))
+        ensures disc { Asks result (disc_in state self.old) (disc_in state self.new)
             (segments_in self.old) (segments_in self.new)
-            (region_need (state (disc_of self.old)).terms (region_of self.old) size align) }
+            (region_need (disc_in state self.old).terms (region_of self.old) size align) }
 
         // The block has an address of its own, and the others stay.
         ensures there { IfOk result (λ a. find_block (place_of a.0) (blocks_in self.new)

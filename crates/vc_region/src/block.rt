@@ -3,7 +3,7 @@ ghost use Rattle.vc_model.specs.Addr.{place_of};
 ghost use Rattle.vc_model.specs.Layout.{without_block};
 ghost use Rattle.vc_model.specs.Region.{region_write};
 ghost use Rattle.vc_model.specs.Touch.{HasBlock, HasRange, find_block};
-ghost use Rattle.vc_region.specs.Parts.{blocks_in, disc_of, region_of};
+ghost use Rattle.vc_region.specs.Parts.{blocks_in, disc_in, region_of};
 
 use crate::region::Region;
 use vc_base::Addr;
@@ -48,7 +48,7 @@ impl Region {
         requires block { HasBlock (blocks_in self.old) a.0 }
         requires range { HasRange (blocks_in self.old) a.0 off (length src.now) }
         ensures region { region_of self.new ≡ region_write (region_of self.old) (place_of a.0) off src.now }
-        ensures disc { state (disc_of self.new) ≡ state (disc_of self.old) }
+        ensures disc { disc_in state self.new ≡ disc_in state self.old }
         ensures others { without_block (place_of a.0) (blocks_in self.new)
             ≡ without_block (place_of a.0) (blocks_in self.old) }
     {

@@ -7,7 +7,7 @@ ghost use Rattle.vc_model.specs.Layout.{address_of};
 ghost use Rattle.vc_model.specs.Region.{region_clear, region_compact, region_compact_count, region_free};
 ghost use Rattle.vc_model.specs.Touch.{HasBlock};
 ghost use Rattle.vc_seg.specs.Answer.{Frees};
-ghost use Rattle.vc_region.specs.Parts.{blocks_in, disc_of, region_of, segments_in};
+ghost use Rattle.vc_region.specs.Parts.{blocks_in, boxed, disc_in, region_of, segments_in};
 
 use crate::region::{Region, Uncounted};
 use vc_base::{Addr, Steps};
@@ -18,7 +18,7 @@ use vc_seg::{BoxedDisc, RegionFault, SegDisc};
 fn clear_best(best: &mut Best)
     requires { 0 ≤ 0 }
     ensures layout { best.new.layout ≡ cleared best.old.layout }
-    ensures disc { state best.new.disc ≡ state best.old.disc }
+    ensures disc { boxed state best.new.disc ≡ boxed state best.old.disc }
 {
     let mut steps = Steps::<Uncounted>::new(best.alloc);
     best.clear(&mut steps);
@@ -31,7 +31,7 @@ impl Region {
         requires { HasBlock (blocks_in self.old) a.0 }
         ensures answer { Frees (region_free (region_of self.old) (place_of a.0)) result
             (region_of self.old) (region_of self.new) }
-        ensures disc { state (disc_of self.new) ≡ state (disc_of self.old) }
+        ensures disc { disc_in state self.new ≡ disc_in state self.old }
 
         // It is the one block at that address that goes.
         ensures one_less { OnOk result (length (blocks_in self.new) + 1 ≡ length (blocks_in self.old)) }
@@ -52,7 +52,7 @@ impl Region {
     /// Frees all its blocks, and keeps its segments.
     pub fn clear(&mut self)
         ensures region { region_of self.new ≡ region_clear (region_of self.old) }
-        ensures disc { state (disc_of self.new) ≡ state (disc_of self.old) }
+        ensures disc { disc_in state self.new ≡ disc_in state self.old }
     {
         match self {
             Region::Best(best) => clear_best(best),
@@ -61,10 +61,10 @@ impl Region {
 
     /// Gives back each segment without a block, in ascending order of number, and answers how many those were.
     pub fn compact(&mut self) -> u32
-        requires { HasOut (state (disc_of self.old)) (segments_in self.old) }
+        requires { HasOut (disc_in state self.old) (segments_in self.old) }
         ensures region { region_of self.new ≡ region_compact (region_of self.old) }
         ensures count { result ≡ region_compact_count (region_of self.old) }
-        ensures disc { TookBack (state (disc_of self.old)) (state (disc_of self.new))
+        ensures disc { TookBack (disc_in state self.old) (disc_in state self.new)
             (segments_in self.old) (segments_in self.new) }
     {
         match self {

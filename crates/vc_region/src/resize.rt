@@ -4,7 +4,7 @@ ghost use Rattle.vc_model.specs.Layout.{without_block};
 ghost use Rattle.vc_model.specs.Region.{region_need, region_resize, stays_in};
 ghost use Rattle.vc_model.specs.Touch.{HasBlock, find_block};
 ghost use Rattle.vc_seg.specs.Answer.{Answers, Asks};
-ghost use Rattle.vc_region.specs.Parts.{blocks_in, disc_of, region_of, segments_in};
+ghost use Rattle.vc_region.specs.Parts.{blocks_in, disc_in, region_of, segments_in};
 
 use crate::region::{Region, Uncounted};
 use vc_base::{Addr, Steps};
@@ -20,11 +20,11 @@ impl Region {
         requires most { size ≤ 16777216 }
 
         ensures answer { Answers
-            (region_resize (state (disc_of self.old)).terms (region_of self.old) (place_of a.0) size may_move)
+            (region_resize (disc_in state self.old).terms (region_of self.old) (place_of a.0) size may_move)
             result (region_of self.old) (region_of self.new) }
-        ensures disc { Asks result (state (disc_of self.old)) (state (disc_of self.new))
+        ensures disc { Asks result (disc_in state self.old) (disc_in state self.new)
             (segments_in self.old) (segments_in self.new)
-            (region_need (state (disc_of self.old)).terms (region_of self.old) size 32) }
+            (region_need (disc_in state self.old).terms (region_of self.old) size 32) }
         ensures no_memory { IsErrOf result RegionFault.OutOfMemory
             → IfSome (find_block (place_of a.0) (blocks_in self.old))
             (λ b. stays_in (region_of self.old) size b ≡ false) × IsTrue may_move }

@@ -12,11 +12,11 @@ use Rattle.vc_script.specs.declared.tool.Tool.{Tool}
 use Rattle.vc_script.specs.declared.tool.Tool.TheVariants.{Vmreplay, Dtrun}
 use Rattle.vc_base.specs.declared.fault.OutOfMemory.{OutOfMemory}
 use Rattle.vc_script.specs.Words.{words}
-use Rattle.vc_script.specs.Forms.{◌>>=◌, Form, Name, Site, Number, SignedNumber, Address, Bytes, RegionMethod, DictionaryMethod, Mode, NameOrDash, Value, value_of}
+use Rattle.vc_script.specs.Forms.{Form, Name, Site, Number, SignedNumber, Address, Bytes, RegionMethod, DictionaryMethod, Mode, NameOrDash, Value, value_of}
 use Rattle.vc_script.specs.Table.{Row, Values, command_of, dictionary_rows, made, own_rows, read_words, table, takes, values_of}
 use Rattle.vc_script.specs.Answer.{answer, answer_of, answer_to, command_in, is_comment}
 use Rattle.vc_script.specs.Proper.{IsAddress, IsFaultOfWords, IsName, IsNumber, IsProperAnswer, IsProperCommand, IsSite}
-use Rattle.vc_script.proofs.ProperWords.{Anything, Gives, Gives-address_of, Gives-bytes_of, Gives-dict_method_of, Gives-if, Gives-method_of, Gives-mode_of, Gives-name_of, Gives-name_or_dash_of, Gives-number_of, Gives-signed_of, Gives-site_of, Gives-then}
+use Rattle.vc_script.proofs.ProperWords.{Gives, Gives-address_of, Gives-bytes_of, Gives-dict_method_of, Gives-if, Gives-method_of, Gives-mode_of, Gives-name_of, Gives-name_or_dash_of, Gives-number_of, Gives-signed_of, Gives-site_of, Gives-then}
 
 -- the value of a word of a form
 abbrev IsProperValue : (form : Form) → Value form → Type 0

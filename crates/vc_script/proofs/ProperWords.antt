@@ -1,5 +1,5 @@
 -- What the forms of words give is proper, or a fault of words.
-use Rattle.std.proofs.Common.{◌≡◌, ℕ, zero, suc, Bool, true, false, cond, List, [], ◌∷◌, Option, Some, None, length, refl, subst, sym, arith, leb, ◌&&◌, codes, ℤ, pos, neg_ℤ, nat_abs}
+use Rattle.std.proofs.Common.{◌≡◌, ℕ, zero, suc, Bool, true, false, cond, List, [], ◌∷◌, Some, None, length, refl, subst, sym, arith, leb, ◌&&◌, codes, ℤ, pos, neg_ℤ, nat_abs}
 use Rattle.std.specs.Prelude.{Result, Ok, Err, ◌==◌}
 use Rattle.std.specs.List.{list_all, before_first, after_first}
 use Rattle.std.specs.Str.{bytes_eq}

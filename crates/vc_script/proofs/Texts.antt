@@ -7,7 +7,7 @@ use Rattle.std.proofs.lemmas.List.{append-nil, append_assoc}
 use Rattle.vc_script.specs.declared.reply.Reply.{Reply}
 use Rattle.vc_script.specs.Lines.{ended_after, ended_lines, lines, lines_after}
 use Rattle.vc_script.specs.ProperReply.{IsProperReply}
-use Rattle.vc_script.specs.Needs.{IsAscending, Need, ShowsNeeds, need_at, need_of, need_shown, needs_by, needs_of}
+use Rattle.vc_script.specs.Needs.{IsAscending, Need, ShowsNeeds, need_at, need_shown, needs_by, needs_of}
 use Rattle.vc_script.specs.Print.{line_of, printed, text}
 use Rattle.vc_script.proofs.Newlines.{OneLine, stays, line-printed}
 use Rattle.vc_script.proofs.Heads.{need_of-printed}

@@ -1,4 +1,4 @@
-// The words behind the first of commands that take bytes: a word is judged before memory is taken for its bytes.
+// The words behind the first of commands that take bytes: all words are judged before memory is taken for the bytes.
 ghost use Rattle.std.specs.Prelude.{◌≡◌, [], ◌∷◌, Some, None, map, option_map, IfOk};
 ghost use Rattle.std.specs.Result.{result_map_both};
 ghost use Rattle.percent_encoding.specs.Percent.{percent_decode};
@@ -55,8 +55,10 @@ pub(crate) fn delete_in(
 
 // `R X OFF BYTES`, with the word that spells the bytes.
 fn write_word_in<'a>(others: &[&'a [u8]]) -> Result<(Name, Name, u32, &'a [u8]), LineFault>
-    ensures { result_map_both (λ t. (t.0, (t.1, (t.2, (percent_decode t.3.now, tt))))) (λ e. e) result
-        ≡ read_words (form.Name ∷ form.Name ∷ form.Number ∷ form.Bytes ∷ []) None (map (λ w. w.now) others.now) }
+    ensures { result_map_both (λ t. (t.0, (t.1, (t.2, (percent_decode t.3.now, tt))))) (λ e. e)
+        result
+        ≡ read_words (form.Name ∷ form.Name ∷ form.Number ∷ form.Bytes ∷ []) None
+        (map (λ w. w.now) others.now) }
 {
     match others {
         [region, block, off, bytes] => {
@@ -75,8 +77,10 @@ pub(crate) fn write_in(
     alloc: Global,
     others: &[&[u8]],
 ) -> Result<Result<(Name, Name, u32, Bytes), LineFault>, OutOfMemory>
-    ensures { IfOk result (λ read. result_map_both (λ t. (t.0, (t.1, (t.2, (t.3, tt))))) (λ e. e) read
-        ≡ read_words (form.Name ∷ form.Name ∷ form.Number ∷ form.Bytes ∷ []) None (map (λ w. w.now) others.now)) }
+    ensures { IfOk result (λ read.
+        result_map_both (λ t. (t.0, (t.1, (t.2, (t.3, tt))))) (λ e. e) read
+        ≡ read_words (form.Name ∷ form.Name ∷ form.Number ∷ form.Bytes ∷ []) None
+        (map (λ w. w.now) others.now)) }
 {
     match write_word_in(others) {
         Ok((region, block, off, bytes)) => Ok(Ok((region, block, off, decoded(alloc, bytes)?))),

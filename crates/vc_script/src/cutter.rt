@@ -46,10 +46,16 @@ impl Model for LineCutter {
 
     ghost Value = { Cutting };
 
-    ghost view = { λ c. record { kept = c.kept.items; count = c.count; line = c.line.items; is_open = c.is_open } };
+    ghost view = { λ c.
+        record { kept = c.kept.items; count = c.count; line = c.line.items; is_open = c.is_open } };
 
     ghost invariant = { λ c.
-        IsCutting (record { kept = c.kept.items; count = c.count; line = c.line.items; is_open = c.is_open })
+        IsCutting (record {
+          kept = c.kept.items;
+          count = c.count;
+          line = c.line.items;
+          is_open = c.is_open;
+        })
         × (line_limit ≤ vec_capacity c.kept)
         × (line_limit ≤ vec_capacity c.line) };
 }
@@ -74,7 +80,8 @@ impl LineCutter {
     /// no call of `feed` or `end` may follow.
     pub fn feed(&mut self, piece: &[u8]) -> (Cut, usize)
         requires { IsTrue self.old.is_open }
-        ensures fed { fed self.old piece.now ≡ record { after = self.new; cut = result.0; used = result.1 } }
+        ensures fed { fed self.old piece.now
+            ≡ record { after = self.new; cut = result.0; used = result.1 } }
         ensures within { result.1 ≤ length piece.now }
         ensures progress { 0 < length piece.now → 0 < result.1 }
     {

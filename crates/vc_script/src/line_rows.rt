@@ -12,7 +12,10 @@ ghost use Rattle.vc_script.specs.declared.line_fault.LineFault.TheVariants.{Line
 /// However an input is cut into pieces, empty ones among them, the whole lines that `feed` and `end` find, their numbers
 /// and the fault are those of the input. Each line takes one call, each piece one more, and the end one.
 pub fn pieces_joined()
-    ensures { (pieces : List (List ℕ)) → (calls : ℕ) → length (concat pieces) + length pieces < calls → found_in calls new_cutting pieces ≡ judged (concat pieces) }
+    ensures { (pieces : List (List ℕ)) → (calls : ℕ)
+        → length (concat pieces) + length pieces < calls
+        → found_in calls new_cutting pieces
+        ≡ judged (concat pieces) }
 {}
 
 /// An input is cut at newlines: two newlines have an empty line between them, and the last line needs none.
@@ -34,7 +37,8 @@ pub fn carriage_returns()
 
 /// Lines are numbered from 1, and the last one needs no newline.
 pub fn numbered_lines()
-    ensures crs { judged (codes "a\r\n\nb\r") ≡ (1, Ok (codes "a")) ∷ (2, Ok []) ∷ (3, Ok (codes "b")) ∷ [] }
+    ensures crs { judged (codes "a\r\n\nb\r")
+        ≡ (1, Ok (codes "a")) ∷ (2, Ok []) ∷ (3, Ok (codes "b")) ∷ [] }
     ensures empty { judged [] ≡ [] }
 {}
 
@@ -49,7 +53,8 @@ pub fn limits()
     ensures last_number { judge 2147483647 (codes "a") ≡ Ok (codes "a") }
     ensures too_many { judge 2147483648 [] ≡ Err TooManyLines }
     ensures too_many_first { judge 2147483648 (replicate 4097 97) ≡ Err TooManyLines }
-    ensures nothing_behind { judged_from 1 (replicate 4097 97 ∷ codes "a" ∷ []) ≡ (1, Err LineTooLong) ∷ [] }
+    ensures nothing_behind { judged_from 1 (replicate 4097 97 ∷ codes "a" ∷ [])
+        ≡ (1, Err LineTooLong) ∷ [] }
 {}
 
 /// One call of `feed`: what it keeps, answers and takes.
@@ -59,10 +64,13 @@ pub fn fed_pieces()
       cut = cut.More;
       used = 2;
     } }
-    ensures whole { fed (record { kept = codes "a"; count = 6; line = []; is_open = true }) (codes "b\r\ncd") ≡ record {
-      after = record { kept = []; count = 7; line = codes "ab"; is_open = true };
-      cut = cut.Whole;
-      used = 3;
-    } }
-    ensures nothing { fed new_cutting [] ≡ record { after = new_cutting; cut = cut.More; used = 0 } }
+    ensures whole { fed (record { kept = codes "a"; count = 6; line = []; is_open = true })
+        (codes "b\r\ncd")
+        ≡ record {
+          after = record { kept = []; count = 7; line = codes "ab"; is_open = true };
+          cut = cut.Whole;
+          used = 3;
+        } }
+    ensures nothing { fed new_cutting []
+        ≡ record { after = new_cutting; cut = cut.More; used = 0 } }
 {}

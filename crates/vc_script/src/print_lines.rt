@@ -78,7 +78,8 @@ pub(crate) fn block_at(
     watch: Option<u32>,
 ) -> Result<Vec<u8>, AllocError>
     ensures { IfOk result (λ v. v.items
-        ≡ block.now ++ codes " " ++ decimal place.seg ++ codes ":" ++ decimal place.off ++ watch_text watch) }
+        ≡ block.now ++ codes " " ++ decimal place.seg ++ codes ":" ++ decimal place.off
+        ++ watch_text watch) }
 {
     let mut line = counted(alloc, block, b" ", place.seg)?;
     put_labelled(&mut line, b":", u64::from(place.off))?;
@@ -92,7 +93,8 @@ pub(crate) fn written(
     count: u32,
     watch: Option<u32>,
 ) -> Result<Vec<u8>, AllocError>
-    ensures { IfOk result (λ v. v.items ≡ block.now ++ codes " written " ++ decimal count ++ watch_text watch) }
+    ensures { IfOk result (λ v. v.items
+        ≡ block.now ++ codes " written " ++ decimal count ++ watch_text watch) }
 {
     let mut line = counted(alloc, block, b" written ", count)?;
     put_watch(&mut line, watch)?;
@@ -108,7 +110,8 @@ pub(crate) fn hex_line(alloc: Global, block: &Name, bytes: &Bytes) -> Result<Vec
 }
 
 pub(crate) fn address(alloc: Global, block: &Option<Name>, off: u32) -> Result<Vec<u8>, AllocError>
-    ensures { IfOk result (λ v. v.items ≡ codes "addr " ++ label_text block.now ++ codes " " ++ decimal off) }
+    ensures { IfOk result (λ v. v.items
+        ≡ codes "addr " ++ label_text block.now ++ codes " " ++ decimal off) }
 {
     let mut line = joined(alloc, b"addr ", label_text(block))?;
     put_labelled(&mut line, b" ", u64::from(off))?;
@@ -125,7 +128,8 @@ pub(crate) fn labelled(alloc: Global, label: &[u8], n: u64) -> Result<Vec<u8>, A
 }
 
 pub(crate) fn segment(alloc: Global, number: u32, size: u32) -> Result<Vec<u8>, AllocError>
-    ensures { IfOk result (λ v. v.items ≡ codes "segment " ++ decimal number ++ codes " " ++ decimal size) }
+    ensures { IfOk result (λ v. v.items
+        ≡ codes "segment " ++ decimal number ++ codes " " ++ decimal size) }
 {
     let mut line = labelled(alloc, b"segment ", u64::from(number))?;
     put_labelled(&mut line, b" ", u64::from(size))?;
@@ -147,7 +151,8 @@ pub(crate) fn stats(alloc: Global, stat: &Stat) -> Result<Vec<u8>, AllocError>
 }
 
 pub(crate) fn segments(alloc: Global, items: &SegmentItems) -> Result<Vec<u8>, AllocError>
-    ensures { IfOk result (λ v. v.items ≡ codes "segments " ++ decimal (length items.now) ++ flat_map segment_text items.now) }
+    ensures { IfOk result (λ v. v.items
+        ≡ codes "segments " ++ decimal (length items.now) ++ flat_map segment_text items.now) }
 {
     let mut line = labelled(alloc, b"segments ", items.as_slice().len() as u64)?;
     put_segments(&mut line, items)?;
@@ -155,7 +160,8 @@ pub(crate) fn segments(alloc: Global, items: &SegmentItems) -> Result<Vec<u8>, A
 }
 
 pub(crate) fn blocks(alloc: Global, items: &BlockItems) -> Result<Vec<u8>, AllocError>
-    ensures { IfOk result (λ v. v.items ≡ codes "blocks " ++ decimal (length items.now) ++ flat_map block_text items.now) }
+    ensures { IfOk result (λ v. v.items
+        ≡ codes "blocks " ++ decimal (length items.now) ++ flat_map block_text items.now) }
 {
     let mut line = labelled(alloc, b"blocks ", items.as_slice().len() as u64)?;
     put_blocks(&mut line, items)?;
@@ -163,7 +169,8 @@ pub(crate) fn blocks(alloc: Global, items: &BlockItems) -> Result<Vec<u8>, Alloc
 }
 
 pub(crate) fn damage(alloc: Global, items: &DamageItems) -> Result<Vec<u8>, AllocError>
-    ensures { IfOk result (λ v. v.items ≡ codes "check " ++ decimal (length items.now) ++ flat_map damage_text items.now) }
+    ensures { IfOk result (λ v. v.items
+        ≡ codes "check " ++ decimal (length items.now) ++ flat_map damage_text items.now) }
 {
     let mut line = labelled(alloc, b"check ", items.as_slice().len() as u64)?;
     put_damage(&mut line, items)?;
@@ -171,7 +178,8 @@ pub(crate) fn damage(alloc: Global, items: &DamageItems) -> Result<Vec<u8>, Allo
 }
 
 pub(crate) fn rows(alloc: Global, items: &RowItems) -> Result<Vec<u8>, AllocError>
-    ensures { IfOk result (λ v. v.items ≡ codes "profile " ++ decimal (length items.now) ++ flat_map row_text items.now) }
+    ensures { IfOk result (λ v. v.items
+        ≡ codes "profile " ++ decimal (length items.now) ++ flat_map row_text items.now) }
 {
     let mut line = labelled(alloc, b"profile ", items.as_slice().len() as u64)?;
     put_rows(&mut line, items)?;
@@ -187,7 +195,8 @@ pub(crate) fn object(alloc: Global, text: &[u8], bytes: &Bytes) -> Result<Vec<u8
 }
 
 pub(crate) fn objects(alloc: Global, items: &ObjectItems) -> Result<Vec<u8>, AllocError>
-    ensures { IfOk result (λ v. v.items ≡ decimal (length items.now) ++ flat_map object_text items.now) }
+    ensures { IfOk result (λ v. v.items
+        ≡ decimal (length items.now) ++ flat_map object_text items.now) }
 {
     let mut line = number(alloc, items.as_slice().len() as u64)?;
     put_objects(alloc, &mut line, items)?;

@@ -127,7 +127,8 @@ pub fn dictionary_commands()
     ensures insert { answer Dtrun (codes "insert d a%20") ≡ Is (Insert (codes "d") (codes "a ")) }
     ensures append { answer Dtrun (codes "append d a") ≡ Is (Append (codes "d") (codes "a")) }
     ensures attach { answer Dtrun (codes "attach d a") ≡ Is (Attach (codes "d") (codes "a")) }
-    ensures delete { answer Dtrun (codes "delete d a") ≡ Is (Delete (codes "d") (Some (codes "a"))) }
+    ensures delete { answer Dtrun (codes "delete d a")
+        ≡ Is (Delete (codes "d") (Some (codes "a"))) }
     ensures delete_any { answer Dtrun (codes "delete d") ≡ Is (Delete (codes "d") None) }
     ensures detach { answer Dtrun (codes "detach d a") ≡ Is (Detach (codes "d") (codes "a")) }
     ensures search { answer Dtrun (codes "search d a") ≡ Is (Search (codes "d") (codes "a")) }

@@ -48,7 +48,8 @@ pub(crate) fn address_in(others: &[&[u8]]) -> Result<(Name, Place), LineFault>
 // `R METHOD N`.
 pub(crate) fn open_in(others: &[&[u8]]) -> Result<(Name, Method, u32), LineFault>
     ensures { result_map_both (λ t. (t.0, (t.1, (t.2, tt)))) (λ e. e) result
-        ≡ read_words (form.Name ∷ form.RegionMethod ∷ form.Number ∷ []) None (map (λ w. w.now) others.now) }
+        ≡ read_words (form.Name ∷ form.RegionMethod ∷ form.Number ∷ []) None
+        (map (λ w. w.now) others.now) }
 {
     match others {
         [region, method, place] => { Ok((name_of(region)?, method_of(method)?, number_of(place)?)) }
@@ -59,7 +60,8 @@ pub(crate) fn open_in(others: &[&[u8]]) -> Result<(Name, Method, u32), LineFault
 // `R X SIZE [@SITE]`.
 pub(crate) fn alloc_in(others: &[&[u8]]) -> Result<(Name, Name, u32, Option<Name>), LineFault>
     ensures { result_map_both (λ t. (t.0, (t.1, (t.2, t.3)))) (λ e. e) result
-        ≡ read_words (form.Name ∷ form.Name ∷ form.Number ∷ []) (Some form.Site) (map (λ w. w.now) others.now) }
+        ≡ read_words (form.Name ∷ form.Name ∷ form.Number ∷ []) (Some form.Site)
+        (map (λ w. w.now) others.now) }
 {
     match others {
         [region, block, size] => { Ok((name_of(region)?, name_of(block)?, number_of(size)?, None)) }
@@ -76,7 +78,8 @@ pub(crate) fn alloc_in(others: &[&[u8]]) -> Result<(Name, Name, u32, Option<Name
 // `R X`, and two numbers.
 pub(crate) fn numbers_in(others: &[&[u8]]) -> Result<(Name, Name, u32, u32), LineFault>
     ensures { result_map_both (λ t. (t.0, (t.1, (t.2, (t.3, tt))))) (λ e. e) result
-        ≡ read_words (form.Name ∷ form.Name ∷ form.Number ∷ form.Number ∷ []) None (map (λ w. w.now) others.now) }
+        ≡ read_words (form.Name ∷ form.Name ∷ form.Number ∷ form.Number ∷ []) None
+        (map (λ w. w.now) others.now) }
 {
     match others {
         [region, block, n, m] => {
@@ -93,7 +96,8 @@ pub(crate) fn numbers_in(others: &[&[u8]]) -> Result<(Name, Name, u32, u32), Lin
 // `R X SIZE MODE`.
 pub(crate) fn resize_in(others: &[&[u8]]) -> Result<(Name, Name, u32, bool), LineFault>
     ensures { result_map_both (λ t. (t.0, (t.1, (t.2, (t.3, tt))))) (λ e. e) result
-        ≡ read_words (form.Name ∷ form.Name ∷ form.Number ∷ form.Mode ∷ []) None (map (λ w. w.now) others.now) }
+        ≡ read_words (form.Name ∷ form.Name ∷ form.Number ∷ form.Mode ∷ []) None
+        (map (λ w. w.now) others.now) }
 {
     match others {
         [region, block, size, moves] => {
@@ -110,7 +114,8 @@ pub(crate) fn resize_in(others: &[&[u8]]) -> Result<(Name, Name, u32, bool), Lin
 // `R X OFF BYTE`.
 pub(crate) fn poke_in(others: &[&[u8]]) -> Result<(Name, Name, i64, u32), LineFault>
     ensures { result_map_both (λ t. (t.0, (t.1, (t.2, (t.3, tt))))) (λ e. e) result
-        ≡ read_words (form.Name ∷ form.Name ∷ form.SignedNumber ∷ form.Number ∷ []) None (map (λ w. w.now) others.now) }
+        ≡ read_words (form.Name ∷ form.Name ∷ form.SignedNumber ∷ form.Number ∷ []) None
+        (map (λ w. w.now) others.now) }
 {
     match others {
         [region, block, off, byte] => {
@@ -127,7 +132,8 @@ pub(crate) fn poke_in(others: &[&[u8]]) -> Result<(Name, Name, i64, u32), LineFa
 // `D METHOD R K`.
 pub(crate) fn dict_in(others: &[&[u8]]) -> Result<(Name, DictMethod, Name, u32), LineFault>
     ensures { result_map_both (λ t. (t.0, (t.1, (t.2, (t.3, tt))))) (λ e. e) result
-        ≡ read_words (form.Name ∷ form.DictionaryMethod ∷ form.Name ∷ form.Number ∷ []) None (map (λ w. w.now) others.now) }
+        ≡ read_words (form.Name ∷ form.DictionaryMethod ∷ form.Name ∷ form.Number ∷ []) None
+        (map (λ w. w.now) others.now) }
 {
     match others {
         [dict, method, region, kind] => {

@@ -1,7 +1,9 @@
 -- The last pair of a list that is equal to a given one.
-use Rattle.std.proofs.Common.{◌≡◌, ℕ, zero, suc, ◌<◌, Bool, true, false, List, [], ◌∷◌, length, get_or, drop, refl, ap, arith, ◌||◌}
+use Rattle.std.proofs.Common.{◌≡◌, ℕ, zero, suc, ◌+◌, ◌<◌, Bool, true, false, List, [], ◌∷◌, length, get_or, drop, refl, ap, arith, ◌||◌}
 use Rattle.std.specs.List.{list_any, remove}
+use Rattle.std.proofs.lemmas.List.Sums.{sum_by-remove}
 use Rattle.vc_model.specs.Discipline.{same_pair, without_last}
+use Rattle.vc_seg.specs.Budget.{bytes_of}
 
 -- an element that passes is found
 pub list_any-at : {X : Type 0} (test : X → Bool) (xs : List X) (i : ℕ) (d : X) → i < length xs → test (get_or xs i d) ≡ true → list_any test xs ≡ true
@@ -20,3 +22,7 @@ remove-last_pair p (q ∷ qs) zero d within here after =
 remove-last_pair p (q ∷ qs) (suc i) d within here after =
     let found = list_any-at (same_pair p) qs i d (omega arith) here in
     rw found (ap (λ rest. q ∷ rest) (remove-last_pair p qs i d (omega arith) here after))
+
+-- without the pair at a place the bytes are fewer by its own
+pub less_one_pair : (xs : List (ℕ × ℕ)) (i : ℕ) → i < length xs → bytes_of (remove xs i) + (get_or xs i (0, 0)).1 ≡ bytes_of xs
+less_one_pair xs i within = sum_by-remove (λ s. s.1) xs i (0, 0) within

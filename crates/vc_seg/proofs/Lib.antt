@@ -1,2 +1,3 @@
 pub mod LastPair
 pub mod Slots
+pub mod Stats

@@ -6,6 +6,7 @@ pub use Rattle.vc_model.specs.Region
 pub use Rattle.vc_model.specs.Segments
 pub mod Segment
 pub mod Lend
+pub mod Budget
 pub mod Answer
 pub mod Stat
 pub mod Fuse

@@ -1,5 +1,5 @@
 -- A shelf of disciplines as its slots, in order of putting and numbered from 1. A slot whose discipline was taken is None.
-use Rattle.std.specs.Prelude.{ℕ, ◌-◌, List, Option, Some, None, map, option_map, slice_get, ◌==◌, if◌then◌else◌}
+use Rattle.std.specs.Prelude.{ℕ, List, Option, Some, None, map, option_map}
 use Rattle.vc_model.specs.Numbered.{at_number}
 use Rattle.vc_model.specs.Discipline.{Discipline}
 use Rattle.vc_seg.specs.declared.shelf.ShelfPlace.{ShelfPlace}

@@ -1,5 +1,5 @@
 -- The numbers of a region, by its method.
-use Rattle.std.specs.Prelude.{ℕ, Option, Some, None}
+use Rattle.std.specs.Prelude.{Option, Some, None}
 use Rattle.vc_model.specs.Layout.{Layout, empty_layout}
 use Rattle.vc_model.specs.Numbers.{block_bytes, block_count, gap_bytes, gap_count, greatest_block, greatest_gap, segment_bytes, segment_count}
 use Rattle.vc_model.specs.Region.{Region, OfBest}

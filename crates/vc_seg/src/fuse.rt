@@ -96,9 +96,7 @@ impl SegDisc for FuseDisc {
             self.refusals = one_more(self.refusals);
             return Err(LendFault::Refused);
         }
-        let segment = Segment::take(alloc, number, size)?;
-        self.lent.push(alloc, number, size)?;
-        Ok(segment)
+        Ok(self.lent.lend(alloc, number, size)?)
     }
 
     fn take_back(&mut self, seg: Segment)
@@ -108,6 +106,6 @@ impl SegDisc for FuseDisc {
         ensures fails { self.new.fails ≡ self.old.fails }
         ensures calls { self.new.calls ≡ self.old.calls }
     {
-        self.lent.remove_last(seg.number(), seg.size());
+        self.lent.take_back(seg);
     }
 }

@@ -74,9 +74,7 @@ impl SegDisc for HeapDisc {
         ensures refused { IsErrOf result LendFault.Refused → Unserved self.old self.new size }
         ensures no_memory { IsErrOf result LendFault.OutOfMemory → self.new ≡ self.old }
     {
-        let segment = Segment::take(alloc, number, size)?;
-        self.lent.push(alloc, number, size)?;
-        Ok(segment)
+        Ok(self.lent.lend(alloc, number, size)?)
     }
 
     fn take_back(&mut self, seg: Segment)
@@ -84,6 +82,6 @@ impl SegDisc for HeapDisc {
         ensures returned { Returned self.old self.new (pair_of seg) }
         ensures room { self.new.room ≡ self.old.room }
     {
-        self.lent.remove_last(seg.number(), seg.size());
+        self.lent.take_back(seg);
     }
 }

@@ -2,6 +2,7 @@
 #![tactic(auto)]
 
 mod boxed;
+mod budget;
 mod bytes;
 mod disc;
 mod fault;
@@ -13,8 +14,10 @@ mod profile_row;
 mod segment;
 mod shelf;
 mod stat;
+mod word;
 
 pub use boxed::BoxedDisc;
+pub use budget::BudgetDisc;
 pub use disc::SegDisc;
 pub use fault::{LendFault, RegionFault};
 pub use fuse::FuseDisc;

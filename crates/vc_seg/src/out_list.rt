@@ -1,6 +1,9 @@
-ghost use Rattle.std.specs.Prelude.{◌≡◌, ℕ, ◌+◌, ◌<◌, List, [], ◌∷◌, ◌++◌, length, remove, Contains, OnOk, OnErr};
-ghost use Rattle.vc_model.specs.Discipline.{without_last};
+ghost use Rattle.std.specs.Prelude.{◌≡◌, ℕ, ◌+◌, ◌<◌, List, [], ◌∷◌, ◌++◌, length, remove, slice_index_or, Contains, IfOk, OnOk, OnErr};
+ghost use Rattle.vc_model.specs.Discipline.{IsSegmentSize, without_last};
+ghost use Rattle.vc_seg.specs.Budget.{bytes_of};
+ghost use Rattle.vc_seg.specs.Segment.{zeroed, pair_of};
 
+use crate::Segment;
 use std::alloc::Global;
 use std::marker::Model;
 use vc_base::OutOfMemory;
@@ -27,7 +30,20 @@ impl OutList {
         OutList { pairs: None }
     }
 
-    pub fn push(&mut self, alloc: Global, number: u32, size: u32) -> Result<(), OutOfMemory>
+    /// A segment of zeros from the heap, which is out from then on.
+    pub fn lend(&mut self, alloc: Global, number: u32, size: u32) -> Result<Segment, OutOfMemory>
+        requires { IsSegmentSize size }
+        ensures segment { IfOk result (λ segment. segment ≡ zeroed number size) }
+        ensures ok { OnOk result (self.new ≡ self.old ++ (number, size) ∷ []) }
+        ensures bytes { OnOk result (bytes_of self.new ≡ bytes_of self.old + size) }
+        ensures err { OnErr result (self.new ≡ self.old) }
+    {
+        let segment = Segment::take(alloc, number, size)?;
+        self.push(alloc, number, size)?;
+        Ok(segment)
+    }
+
+    fn push(&mut self, alloc: Global, number: u32, size: u32) -> Result<(), OutOfMemory>
         ensures ok { OnOk result (self.new ≡ self.old ++ (number, size) ∷ []) }
         ensures err { OnErr result (self.new ≡ self.old) }
     {
@@ -42,13 +58,15 @@ impl OutList {
         Ok(())
     }
 
-    /// Removes the last pair that is equal to this one, which is there.
-    pub fn remove_last(&mut self, number: u32, size: u32)
-        requires { Contains self.old (number, size) }
-        ensures { self.new ≡ without_last (number, size) self.old }
+    /// Takes a segment back that is out: the last pair that is equal to its own goes.
+    #[tactic(auto, using(crate::proofs::LastPair::less_one_pair))]
+    pub fn take_back(&mut self, seg: Segment)
+        requires { Contains self.old (pair_of seg) }
+        ensures out { self.new ≡ without_last (pair_of seg) self.old }
+        ensures bytes { bytes_of self.new + length seg.bytes ≡ bytes_of self.old }
     {
         if let Some(pairs) = &mut self.pairs {
-            let place = last_place(pairs, number, size);
+            let place = last_place(pairs, seg.number(), seg.size());
             pairs.remove(place);
         }
     }
@@ -59,6 +77,7 @@ fn last_place(pairs: &[(u32, u32)], number: u32, size: u32) -> usize
     requires { Contains pairs.now (number, size) }
     ensures within { result < length pairs.now }
     ensures last { remove pairs.now result ≡ without_last (number, size) pairs.now }
+    ensures bytes { (slice_index_or pairs.now result (0, 0)).1 ≡ size }
 {
     let mut end = pairs.len();
     while end > 0 {

@@ -2,11 +2,11 @@
 use std::alloc::Global;
 use std::process::Abort;
 use std::test::Fail;
-use vc_base::Name;
+use vc_base::{DictMethod, Name};
 use vc_script::{Bytes, Command, LineAnswer, LineFault, Place, Tool, read_line};
 use vc_seg::Method;
 
-// Lines that aren't blank, each with its fault where it isn't a command.
+// Lines of vmreplay that aren't blank, each with its fault where it isn't a command.
 const LINES: &[(&str, Option<LineFault>)] = &[
     // Names.
     ("close r", None),
@@ -144,6 +144,87 @@ const LINES: &[(&str, Option<LineFault>)] = &[
     ("\r", Some(LineFault::UnknownCommand)),
 ];
 
+// The same of dtrun.
+const DICTIONARY_LINES: &[(&str, Option<LineFault>)] = &[
+    // Commands of both tools.
+    ("open r best 1", None),
+    ("alloc r a 1 @s", None),
+    ("profile r", None),
+    // Methods of dictionaries.
+    ("dict d set r 1", None),
+    ("dict d bag r 1", None),
+    ("dict d oset r 1", None),
+    ("dict d obag r 1", None),
+    ("dict d list r 1", None),
+    ("dict d stack r 1", None),
+    ("dict d queue r 1", None),
+    ("dict d Set r 1", Some(LineFault::UnknownMethod)),
+    ("dict d sets r 1", Some(LineFault::UnknownMethod)),
+    ("dict d o r 1", Some(LineFault::UnknownMethod)),
+    ("dict d best r 1", Some(LineFault::UnknownMethod)),
+    ("dict d - r 1", Some(LineFault::UnknownMethod)),
+    ("open r set 1", Some(LineFault::UnknownMethod)),
+    ("method d queue", None),
+    ("method d Queue", Some(LineFault::UnknownMethod)),
+    ("method d pool", Some(LineFault::UnknownMethod)),
+    // Kinds are numbers.
+    ("dict d set r 0", None),
+    ("dict d set r 4294967295", None),
+    ("dict d set r 4294967296", Some(LineFault::BadNumber)),
+    ("dict d set r -1", Some(LineFault::BadNumber)),
+    // Objects and keys.
+    ("insert d %00%fF", None),
+    ("append d -", None),
+    ("attach d #", None),
+    ("detach d 9", None),
+    ("search d @s", None),
+    ("match d %25", None),
+    ("next d a", None),
+    ("prev d a", None),
+    ("insert d %", Some(LineFault::BadBytes)),
+    ("append d %4", Some(LineFault::BadBytes)),
+    ("match d %zz", Some(LineFault::BadBytes)),
+    ("insert 9 %", Some(LineFault::BadName)),
+    ("search d", Some(LineFault::WordCount)),
+    ("search d a b", Some(LineFault::WordCount)),
+    // The object of `delete` may be missing.
+    ("delete d", None),
+    ("delete d a", None),
+    ("delete d -", None),
+    ("delete", Some(LineFault::WordCount)),
+    ("delete d a b", Some(LineFault::WordCount)),
+    ("delete 9", Some(LineFault::BadName)),
+    ("delete 9 %", Some(LineFault::BadName)),
+    ("delete d %g4", Some(LineFault::BadBytes)),
+    ("detach d", Some(LineFault::WordCount)),
+    // The second name of `view` may be `-`.
+    ("view d e", None),
+    ("view d d", None),
+    ("view d -", None),
+    ("view d --", Some(LineFault::BadName)),
+    ("view d -e", Some(LineFault::BadName)),
+    ("view d 9", Some(LineFault::BadName)),
+    ("view - d", Some(LineFault::BadName)),
+    ("view d", Some(LineFault::WordCount)),
+    // A dictionary alone.
+    ("first d", None),
+    ("last d", None),
+    ("walk d", None),
+    ("count d", None),
+    ("empty d", None),
+    ("shut d", None),
+    ("shut -", Some(LineFault::BadName)),
+    ("count d a", Some(LineFault::WordCount)),
+    ("first", Some(LineFault::WordCount)),
+    // The leftmost fault decides, behind the command and the number of words.
+    ("Dict 9", Some(LineFault::UnknownCommand)),
+    ("dict 9 Set 9", Some(LineFault::WordCount)),
+    ("dict 9 Set 9 x", Some(LineFault::BadName)),
+    ("dict d Set 9 x", Some(LineFault::UnknownMethod)),
+    ("dict d set 9 x", Some(LineFault::BadName)),
+    ("dict d set r x", Some(LineFault::BadNumber)),
+];
+
 fn is_read(rt: &impl Abort, answer: &LineAnswer, fault: Option<LineFault>, line: &str) {
     let found = match answer {
         LineAnswer::Blank => panic!(rt; "blank: {line}"),
@@ -156,9 +237,11 @@ fn is_read(rt: &impl Abort, answer: &LineAnswer, fault: Option<LineFault>, line:
 #[test]
 fn forms(rt: HostRuntime) -> Result<(), Fail> {
     let alloc = rt.alloc();
-    for (line, fault) in LINES {
-        let answer = read_line(alloc, Tool::Vmreplay, line.as_bytes())?;
-        is_read(&rt, &answer, *fault, line);
+    for (tool, lines) in [(Tool::Vmreplay, LINES), (Tool::Dtrun, DICTIONARY_LINES)] {
+        for (line, fault) in lines {
+            let answer = read_line(alloc, tool, line.as_bytes())?;
+            is_read(&rt, &answer, *fault, line);
+        }
     }
     Ok(())
 }
@@ -167,44 +250,64 @@ fn forms(rt: HostRuntime) -> Result<(), Fail> {
 fn blank_lines(rt: HostRuntime) -> Result<(), Fail> {
     let alloc = rt.alloc();
     for line in ["", " \t", "#", "  # x", "\t#open r best 1"] {
-        let answer = read_line(alloc, Tool::Vmreplay, line.as_bytes())?;
+        let answer = read_line(alloc, Tool::Dtrun, line.as_bytes())?;
         assert_eq!(rt; answer, LineAnswer::Blank, "at {line}");
     }
     Ok(())
 }
 
-fn reads(rt: &impl Abort, alloc: Global, line: &str, command: Command) {
-    let answer = read_line(alloc, Tool::Vmreplay, line.as_bytes()).expect(rt, "memory");
-    assert_eq!(rt; answer, LineAnswer::Is(command), "at {line}");
+fn bytes(rt: &impl Abort, alloc: Global, bytes: &[u8]) -> Bytes {
+    Bytes::from_vec(bytes.to_vec(alloc).expect(rt, "memory"))
 }
 
-// What words at the edges of their forms spell.
+// What words at the edges of their forms spell, and words of both numbers where a last one may be missing.
 #[test]
-fn spelled(rt: HostRuntime) {
+fn spelled(rt: HostRuntime) -> Result<(), Fail> {
     let alloc = rt.alloc();
     let (r, a) = (Name::new(b"r"), Name::new(b"a"));
-    let first = Command::Alloc(r, a, 1, None);
-    reads(&rt, alloc, "alloc r a 0000000001", first);
     let site = Some(Name::new(b"a_.9"));
-    let last = Command::Alloc(r, a, u32::MAX, site);
-    reads(&rt, alloc, "alloc r a 4294967295 @a_.9", last);
-    let zero = Command::Poke(r, a, 0, 0);
-    reads(&rt, alloc, "poke r a -0 0", zero);
-    let least = Command::Poke(r, a, -4294967295, 1);
-    reads(&rt, alloc, "poke r a -4294967295 1", least);
     let place = Place {
         seg: 1023,
         off: 33554431,
     };
-    let addr = Command::AddrOf(r, place);
-    reads(&rt, alloc, "addr r 1023:33554431", addr);
-    let bytes = b"aA\xff%\n+".to_vec(alloc).expect(&rt, "memory");
-    let write = Command::WriteBlock(r, a, 0, Bytes::from_vec(bytes));
-    reads(&rt, alloc, "write r a 0 a%41%fF%25%0a+", write);
-    let open = Command::OpenRegion(r, Method::VmProfile, 0);
-    reads(&rt, alloc, "open r profile 0", open);
-    let moves = Command::Resize(r, a, 1, true);
-    reads(&rt, alloc, "resize r a 1 move", moves);
-    let stays = Command::Resize(r, a, 1, false);
-    reads(&rt, alloc, "resize r a 1 fixed", stays);
+    let written = bytes(&rt, alloc, b"aA\xff%\n+");
+    let object = bytes(&rt, alloc, b"\0-");
+    let table = [
+        ("alloc r a 0000000001", Command::Alloc(r, a, 1, None)),
+        (
+            "alloc r a 4294967295 @a_.9",
+            Command::Alloc(r, a, u32::MAX, site),
+        ),
+        ("poke r a -0 0", Command::Poke(r, a, 0, 0)),
+        (
+            "poke r a -4294967295 1",
+            Command::Poke(r, a, -4294967295, 1),
+        ),
+        ("addr r 1023:33554431", Command::AddrOf(r, place)),
+        (
+            "write r a 0 a%41%fF%25%0a+",
+            Command::WriteBlock(r, a, 0, written),
+        ),
+        (
+            "open r profile 0",
+            Command::OpenRegion(r, Method::VmProfile, 0),
+        ),
+        ("resize r a 1 move", Command::Resize(r, a, 1, true)),
+        ("resize r a 1 fixed", Command::Resize(r, a, 1, false)),
+        (
+            "dict a stack r 6",
+            Command::OpenDict(a, DictMethod::DtStack, r, 6),
+        ),
+        ("delete a %00-", Command::Delete(a, Some(object))),
+        ("delete a", Command::Delete(a, None)),
+        ("view a r", Command::View(a, Some(r))),
+        ("view a -", Command::View(a, None)),
+    ];
+    for (line, command) in &table {
+        match read_line(alloc, Tool::Dtrun, line.as_bytes())? {
+            LineAnswer::Is(found) => assert!(rt; found == *command, "at {line}"),
+            _ => assert!(rt; false, "at {line}"),
+        }
+    }
+    Ok(())
 }

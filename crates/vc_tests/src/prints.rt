@@ -1,6 +1,7 @@
 // The printed line of a reply of each variant.
 use std::alloc::Global;
 use std::process::Abort;
+use std::test::Fail;
 use vc_base::{DictMethod, Name};
 use vc_script::{
     BlockItems, Bytes, DamageItems, ObjectItems, Place, Refusal, Reply, RowItems, SegmentItems,
@@ -13,30 +14,19 @@ pub(crate) fn prints(rt: &impl Abort, alloc: Global, reply: Reply, line: &[u8]) 
     assert_eq!(rt; printed.as_slice(), line);
 }
 
-fn bytes(rt: &impl Abort, alloc: Global, bytes: &[u8]) -> Bytes {
-    Bytes::from_vec(bytes.to_vec(alloc).expect(rt, "memory"))
+fn all_print(rt: &impl Abort, alloc: Global, table: &[(Reply, &str)]) -> Result<(), Fail> {
+    for (reply, line) in table {
+        let printed = print_reply(alloc, reply)?;
+        assert_eq!(rt; printed.as_slice(), line.as_bytes());
+    }
+    Ok(())
 }
 
 #[test]
-fn regions(rt: HostRuntime) {
+fn regions(rt: HostRuntime) -> Result<(), Fail> {
     let alloc = rt.alloc();
     let heap = Name::new(b"heap");
-    prints(&rt, alloc, Reply::Opened(heap), b"heap open\n");
-    prints(&rt, alloc, Reply::Closed(heap, 0), b"heap closed 0\n");
-    prints(&rt, alloc, Reply::Closed(heap, 1023), b"heap closed 1023\n");
-    prints(&rt, alloc, Reply::Cleared(heap), b"heap cleared\n");
-    prints(
-        &rt,
-        alloc,
-        Reply::Compacted(heap, 10),
-        b"heap compacted 10\n",
-    );
     let page = Some(Name::new(b"page"));
-    prints(&rt, alloc, Reply::AddrIn(page, 76), b"addr page 76\n");
-    prints(&rt, alloc, Reply::AddrIn(None, 0), b"addr * 0\n");
-    prints(&rt, alloc, Reply::AddrNone, b"addr -1\n");
-    prints(&rt, alloc, Reply::SegmentIs(2, 4096), b"segment 2 4096\n");
-    prints(&rt, alloc, Reply::SegmentNone, b"segment -1\n");
     let stat = Stat {
         busy: 9,
         free: 6,
@@ -47,77 +37,63 @@ fn regions(rt: HostRuntime) {
         segs: 4,
         extent: 20480,
     };
-    prints(
-        &rt,
-        alloc,
-        Reply::Stats(stat),
-        b"busy 9 free 6 sbusy 3076 sfree 17024 mbusy 1024 mfree 8160 segs 4 extent 20480\n",
-    );
+    let table = [
+        (Reply::Opened(heap), "heap open\n"),
+        (Reply::Closed(heap, 0), "heap closed 0\n"),
+        (Reply::Closed(heap, 1023), "heap closed 1023\n"),
+        (Reply::Cleared(heap), "heap cleared\n"),
+        (Reply::Compacted(heap, 10), "heap compacted 10\n"),
+        (Reply::AddrIn(page, 76), "addr page 76\n"),
+        (Reply::AddrIn(None, 0), "addr * 0\n"),
+        (Reply::AddrNone, "addr -1\n"),
+        (Reply::SegmentIs(2, 4096), "segment 2 4096\n"),
+        (Reply::SegmentNone, "segment -1\n"),
+        (
+            Reply::Stats(stat),
+            "busy 9 free 6 sbusy 3076 sfree 17024 mbusy 1024 mfree 8160 segs 4 extent 20480\n",
+        ),
+    ];
+    all_print(&rt, alloc, &table)
 }
 
 // Replies on a block, with and without the line of its watch.
 #[test]
-fn blocks(rt: HostRuntime) {
+fn blocks(rt: HostRuntime) -> Result<(), Fail> {
     let alloc = rt.alloc();
     let x = Name::new(b"x");
     let place = Place { seg: 1, off: 1888 };
-    let last = Some(2147483647);
-    prints(&rt, alloc, Reply::At(x, place, None), b"x 1:1888\n");
-    prints(
-        &rt,
-        alloc,
-        Reply::At(x, place, Some(5)),
-        b"x 1:1888 watched 5\n",
-    );
-    prints(&rt, alloc, Reply::Freed(x, None), b"x freed\n");
-    prints(
-        &rt,
-        alloc,
-        Reply::Freed(x, last),
-        b"x freed watched 2147483647\n",
-    );
-    prints(&rt, alloc, Reply::Written(x, 10, None), b"x written 10\n");
-    prints(
-        &rt,
-        alloc,
-        Reply::Written(x, 10, Some(7)),
-        b"x written 10 watched 7\n",
-    );
-    prints(&rt, alloc, Reply::Poked(x, None), b"x poked\n");
-    prints(&rt, alloc, Reply::Poked(x, Some(1)), b"x poked watched 1\n");
-    let get = bytes(&rt, alloc, b"GET");
-    prints(&rt, alloc, Reply::Hex(x, get), b"x 474554\n");
-    let edges = bytes(&rt, alloc, b"\x00\x0a\xab\xff");
-    prints(&rt, alloc, Reply::Hex(x, edges), b"x 000aabff\n");
-    prints(&rt, alloc, Reply::Size(x, 16777216), b"x 16777216\n");
-    prints(&rt, alloc, Reply::Watched(x), b"x watched\n");
+    let get = Bytes::from_vec(b"GET".to_vec(alloc)?);
+    let edges = Bytes::from_vec(b"\x00\x0a\xab\xff".to_vec(alloc)?);
+    let table = [
+        (Reply::At(x, place, None), "x 1:1888\n"),
+        (Reply::At(x, place, Some(5)), "x 1:1888 watched 5\n"),
+        (Reply::Freed(x, None), "x freed\n"),
+        (
+            Reply::Freed(x, Some(2147483647)),
+            "x freed watched 2147483647\n",
+        ),
+        (Reply::Written(x, 10, None), "x written 10\n"),
+        (Reply::Written(x, 10, Some(7)), "x written 10 watched 7\n"),
+        (Reply::Poked(x, None), "x poked\n"),
+        (Reply::Poked(x, Some(1)), "x poked watched 1\n"),
+        (Reply::Hex(x, get), "x 474554\n"),
+        (Reply::Hex(x, edges), "x 000aabff\n"),
+        (Reply::Size(x, 16777216), "x 16777216\n"),
+        (Reply::Watched(x), "x watched\n"),
+    ];
+    all_print(&rt, alloc, &table)
 }
 
 #[test]
-fn lists(rt: HostRuntime) {
+fn lists(rt: HostRuntime) -> Result<(), Fail> {
     let alloc = rt.alloc();
-    let items = vec![in alloc; (1, 4096), (3, 33554432)].expect(&rt, "memory");
-    let reply = Reply::SegmentList(SegmentItems::from_vec(items));
-    prints(&rt, alloc, reply, b"segments 2 1:4096 3:33554432\n");
-    let reply = Reply::SegmentList(SegmentItems::from_vec(Vec::new(alloc)));
-    prints(&rt, alloc, reply, b"segments 0\n");
     let here = (Some(Name::new(b"a")), Place { seg: 1, off: 32 }, 100);
     let unlabelled = (None, Place { seg: 2, off: 160 }, 24);
-    let items = vec![in alloc; here, unlabelled].expect(&rt, "memory");
-    let reply = Reply::BlockList(BlockItems::from_vec(items));
-    prints(&rt, alloc, reply, b"blocks 2 a@1:32+100 *@2:160+24\n");
-    let reply = Reply::BlockList(BlockItems::from_vec(Vec::new(alloc)));
-    prints(&rt, alloc, reply, b"blocks 0\n");
-    let items = vec![in alloc;
+    let damage = [
         (Name::new(b"x"), -32),
         (Name::new(b"y"), 0),
         (Name::new(b"z"), 115),
-    ]
-    .expect(&rt, "memory");
-    let reply = Reply::Damaged(DamageItems::from_vec(items));
-    prints(&rt, alloc, reply, b"check 3 x:-32 y:0 z:115\n");
-    let reply = Reply::Damaged(DamageItems::from_vec(Vec::new(alloc)));
-    prints(&rt, alloc, reply, b"check 0\n");
+    ];
     let main = ProfileRow {
         site: Name::new(b"main"),
         blocks: 1,
@@ -130,91 +106,138 @@ fn lists(rt: HostRuntime) {
         bytes: 5,
         peak: 6,
     };
-    let items = vec![in alloc; main, other].expect(&rt, "memory");
-    let reply = Reply::Rows(RowItems::from_vec(items));
-    prints(&rt, alloc, reply, b"profile 2 main=1,30,40 -=2,5,6\n");
-    let reply = Reply::Rows(RowItems::from_vec(Vec::new(alloc)));
-    prints(&rt, alloc, reply, b"profile 0\n");
+    let segments = SegmentItems::from_vec([(1, 4096), (3, 33554432)].to_vec(alloc)?);
+    let blocks = BlockItems::from_vec([here, unlabelled].to_vec(alloc)?);
+    let damage = DamageItems::from_vec(damage.to_vec(alloc)?);
+    let rows = RowItems::from_vec([main, other].to_vec(alloc)?);
+    let table = [
+        (
+            Reply::SegmentList(segments),
+            "segments 2 1:4096 3:33554432\n",
+        ),
+        (
+            Reply::SegmentList(SegmentItems::from_vec(Vec::new(alloc))),
+            "segments 0\n",
+        ),
+        (Reply::BlockList(blocks), "blocks 2 a@1:32+100 *@2:160+24\n"),
+        (
+            Reply::BlockList(BlockItems::from_vec(Vec::new(alloc))),
+            "blocks 0\n",
+        ),
+        (Reply::Damaged(damage), "check 3 x:-32 y:0 z:115\n"),
+        (
+            Reply::Damaged(DamageItems::from_vec(Vec::new(alloc))),
+            "check 0\n",
+        ),
+        (Reply::Rows(rows), "profile 2 main=1,30,40 -=2,5,6\n"),
+        (
+            Reply::Rows(RowItems::from_vec(Vec::new(alloc))),
+            "profile 0\n",
+        ),
+    ];
+    all_print(&rt, alloc, &table)
 }
 
 #[test]
-fn objects(rt: HostRuntime) {
+fn objects(rt: HostRuntime) -> Result<(), Fail> {
     let alloc = rt.alloc();
-    let plain = bytes(&rt, alloc, b"AZaz09-._~");
-    prints(&rt, alloc, Reply::New(plain), b"new AZaz09-._~\n");
-    let escaped = bytes(&rt, alloc, b"a b%\x00\n\xab\xff");
-    prints(
-        &rt,
-        alloc,
-        Reply::Old(escaped),
-        b"old a%20b%25%00%0A%AB%FF\n",
-    );
-    let gone = bytes(&rt, alloc, b"b");
-    prints(&rt, alloc, Reply::Gone(gone), b"gone b\n");
-    let out = bytes(&rt, alloc, b"b");
-    prints(&rt, alloc, Reply::Out(out), b"out b\n");
-    let found = bytes(&rt, alloc, b"key1-up");
-    prints(&rt, alloc, Reply::Found(found), b"found key1-up\n");
-    prints(&rt, alloc, Reply::Nothing, b"none\n");
-    let apple = bytes(&rt, alloc, b"apple");
-    let pear = bytes(&rt, alloc, b"pear/1");
-    let items = vec![in alloc; apple, pear].expect(&rt, "memory");
-    let reply = Reply::Objects(ObjectItems::from_vec(items));
-    prints(&rt, alloc, reply, b"2 apple pear%2F1\n");
-    let reply = Reply::Objects(ObjectItems::from_vec(Vec::new(alloc)));
-    prints(&rt, alloc, reply, b"0\n");
+    let plain = Bytes::from_vec(b"AZaz09-._~".to_vec(alloc)?);
+    let escaped = Bytes::from_vec(b"a b%\x00\n\xab\xff".to_vec(alloc)?);
+    let gone = Bytes::from_vec(b"b".to_vec(alloc)?);
+    let out = Bytes::from_vec(b"-".to_vec(alloc)?);
+    let found = Bytes::from_vec(b"key1-up".to_vec(alloc)?);
+    let mut items = Vec::new(alloc);
+    items.push(Bytes::from_vec(b"apple".to_vec(alloc)?))?;
+    items.push(Bytes::from_vec(b"pear/1".to_vec(alloc)?))?;
+    let table = [
+        (Reply::New(plain), "new AZaz09-._~\n"),
+        (Reply::Old(escaped), "old a%20b%25%00%0A%AB%FF\n"),
+        (Reply::Gone(gone), "gone b\n"),
+        (Reply::Out(out), "out -\n"),
+        (Reply::Found(found), "found key1-up\n"),
+        (Reply::Nothing, "none\n"),
+        (
+            Reply::Objects(ObjectItems::from_vec(items)),
+            "2 apple pear%2F1\n",
+        ),
+        (
+            Reply::Objects(ObjectItems::from_vec(Vec::new(alloc))),
+            "0\n",
+        ),
+    ];
+    all_print(&rt, alloc, &table)
 }
 
 #[test]
-fn dictionaries(rt: HostRuntime) {
+fn dictionaries(rt: HostRuntime) -> Result<(), Fail> {
     let alloc = rt.alloc();
     let d = Name::new(b"d");
-    prints(
-        &rt,
-        alloc,
-        Reply::Number(u64::MAX),
-        b"18446744073709551615\n",
-    );
-    prints(
-        &rt,
-        alloc,
-        Reply::Views(d, Some(Name::new(b"e"))),
-        b"d views e\n",
-    );
-    prints(&rt, alloc, Reply::Views(d, None), b"d views -\n");
-    prints(&rt, alloc, Reply::Emptied(d, 3), b"d empty 3\n");
-    prints(&rt, alloc, Reply::ShutDown(d), b"d shut\n");
-    for (method, line) in [
-        (DictMethod::DtSet, b"d method set\n".as_slice()),
-        (DictMethod::DtBag, b"d method bag\n"),
-        (DictMethod::DtOset, b"d method oset\n"),
-        (DictMethod::DtObag, b"d method obag\n"),
-        (DictMethod::DtList, b"d method list\n"),
-        (DictMethod::DtStack, b"d method stack\n"),
-        (DictMethod::DtQueue, b"d method queue\n"),
-    ] {
-        prints(&rt, alloc, Reply::MethodIs(d, method), line);
-    }
+    let e = Some(Name::new(b"e"));
+    let table = [
+        (Reply::Number(u64::MAX), "18446744073709551615\n"),
+        (Reply::Views(d, e), "d views e\n"),
+        (Reply::Views(d, None), "d views -\n"),
+        (Reply::MethodIs(d, DictMethod::DtSet), "d method set\n"),
+        (Reply::MethodIs(d, DictMethod::DtBag), "d method bag\n"),
+        (Reply::MethodIs(d, DictMethod::DtOset), "d method oset\n"),
+        (Reply::MethodIs(d, DictMethod::DtObag), "d method obag\n"),
+        (Reply::MethodIs(d, DictMethod::DtList), "d method list\n"),
+        (Reply::MethodIs(d, DictMethod::DtStack), "d method stack\n"),
+        (Reply::MethodIs(d, DictMethod::DtQueue), "d method queue\n"),
+        (Reply::Emptied(d, 3), "d empty 3\n"),
+        (Reply::ShutDown(d), "d shut\n"),
+    ];
+    all_print(&rt, alloc, &table)
 }
 
 #[test]
-fn refusals(rt: HostRuntime) {
+fn refusals(rt: HostRuntime) -> Result<(), Fail> {
     let alloc = rt.alloc();
     for (why, line) in [
-        (Refusal::NoRegion, b"refused: no region\n".as_slice()),
-        (Refusal::RegionExists, b"refused: region exists\n"),
-        (Refusal::NoSuchDiscipline, b"refused: no such discipline\n"),
-        (Refusal::DisciplineInUse, b"refused: discipline in use\n"),
-        (Refusal::NoBlock, b"refused: no block\n"),
-        (Refusal::BlockExists, b"refused: block exists\n"),
-        (Refusal::Size, b"refused: size\n"),
-        (Refusal::Range, b"refused: range\n"),
-        (Refusal::TooManyBlocks, b"refused: too many blocks\n"),
-        (Refusal::CannotGrow, b"refused: cannot grow here\n"),
-        (Refusal::TooManySegments, b"refused: too many segments\n"),
-        (Refusal::NoSegment, b"refused: no segment\n"),
-        (Refusal::NotYet, b"refused: not built\n"),
+        (Refusal::NoRegion, "refused: no region\n"),
+        (Refusal::RegionExists, "refused: region exists\n"),
+        (Refusal::NoSuchDiscipline, "refused: no such discipline\n"),
+        (Refusal::DisciplineInUse, "refused: discipline in use\n"),
+        (Refusal::NoBlock, "refused: no block\n"),
+        (Refusal::BlockExists, "refused: block exists\n"),
+        (Refusal::FreedAt(1), "refused: freed at line 1\n"),
+        (
+            Refusal::FreedAt(2147483647),
+            "refused: freed at line 2147483647\n",
+        ),
+        (Refusal::NoDictionary, "refused: no dictionary\n"),
+        (Refusal::DictionaryExists, "refused: dictionary exists\n"),
+        (Refusal::NoSuchKind, "refused: no such kind\n"),
+        (Refusal::WrongMethod, "refused: wrong method\n"),
+        (Refusal::Size, "refused: size\n"),
+        (Refusal::Range, "refused: range\n"),
+        (Refusal::TooManyBlocks, "refused: too many blocks\n"),
+        (
+            Refusal::TooManyDictionaries,
+            "refused: too many dictionaries\n",
+        ),
+        (Refusal::PoolSize, "refused: pool size\n"),
+        (Refusal::NotLast, "refused: not last\n"),
+        (Refusal::CannotGrow, "refused: cannot grow here\n"),
+        (Refusal::Busy, "refused: busy\n"),
+        (Refusal::Viewed, "refused: viewed\n"),
+        (Refusal::ViewDiffers, "refused: view differs\n"),
+        (Refusal::ViewCycle, "refused: view cycle\n"),
+        (Refusal::ViewTooDeep, "refused: view too deep\n"),
+        (Refusal::TooManySegments, "refused: too many segments\n"),
+        (Refusal::NoSegment, "refused: no segment\n"),
+        (
+            Refusal::NoSegmentForTable,
+            "refused: no segment for table\n",
+        ),
+        (
+            Refusal::NoSegmentForObject,
+            "refused: no segment for object\n",
+        ),
+        (Refusal::NotYet, "refused: not built\n"),
     ] {
-        prints(&rt, alloc, Reply::Refused(why), line);
+        let printed = print_reply(alloc, &Reply::Refused(why))?;
+        assert_eq!(rt; printed.as_slice(), line.as_bytes());
     }
+    Ok(())
 }

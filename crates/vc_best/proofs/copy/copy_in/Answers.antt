@@ -1,7 +1,7 @@
 use Rattle.std.proofs.Common.{◌≡◌, [], length, get_or, take, drop, refl, ap, sym, ◌∙◌, arith}
 use Rattle.vc_model.specs.Bytes.{with_bytes}
 use Rattle.vc_seg.specs.Segment.{Bytes}
-use Rattle.vc_best.specs.Layout.{bytes_of_number}
+use Rattle.vc_best.specs.Parts.{bytes_of_number}
 use Rattle.vc_best.specs.Write.{copied}
 use Rattle.vc_best.proofs.Numbered.{bytes_of_number-none, bytes_of_number-first, write_segment-first}
 use Rattle.vc_best.proofs.copy.copy_in.Goals as goal

@@ -1,6 +1,7 @@
 use Rattle.std.proofs.Common.{◌≡◌, filter, map}
 use Rattle.vc_seg.specs.Segment.{pair_of}
-use Rattle.vc_best.specs.Close.{TakesBack, stays_from}
+use Rattle.vc_best.specs.Close.{stays_from}
+use Rattle.vc_model.specs.Discipline.{TookBack}
 use Rattle.vc_best.proofs.give_back.give_back_empty.Given as goal
 
 -- of those below the number, the segments without a slot are back
@@ -8,7 +9,7 @@ abbrev pub invariant-loop-number : goal.invariant-loop-number
 invariant-loop-number g l =
     record {
       segments : l.segs.items ≡ filter (stays_from l.slots l.number) l.initial.segs.items;
-      back : TakesBack
+      back : TookBack
           ((goal.SegDisc-dyn g (l.initial.disc.vtable, l.initial.disc.value)).state l.initial.disc.value)
           ((goal.SegDisc-dyn g (l.disc.vtable, l.disc.value)).state l.disc.value)
           (map pair_of l.initial.segs.items)

@@ -15,14 +15,14 @@ returns-in-Some-clause-segments g c =
     rw c.remove-segment.ensures.items
     (remove-other c.args.number c.args.segs.now.items c.in-Some.place c.remove-segment.result c.requires.distinct found.0 (found.1 c.remove-segment.result))
 
-pub returns-in-Some-clause-out : goal.returns-in-Some-clause-out
-returns-in-Some-clause-out g c =
+pub returns-in-Some-clause-disc : goal.returns-in-Some-clause-disc
+returns-in-Some-clause-disc g c =
     let found = rw c.deref.ensures.value at c.in-Some.ensures.found in
     record {
       out = λ rest e.
           rw (c.remove-segment.ensures.items, c.take_back_segment.ensures.out, e)
           (without_last-segment c.args.segs.now.items c.in-Some.place c.remove-segment.result found.0 c.remove-segment.ensures.value c.requires.distinct rest);
-      round = c.take_back_segment.ensures.round;
+      terms = c.take_back_segment.ensures.terms;
       faults = c.take_back_segment.ensures.faults;
     }
 

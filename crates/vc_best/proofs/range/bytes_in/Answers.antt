@@ -1,6 +1,6 @@
 use Rattle.std.proofs.Common.{◌≡◌, length, take, drop, ap, sym, ◌∙◌, arith}
 use Rattle.vc_seg.specs.Segment.{Bytes}
-use Rattle.vc_best.specs.Layout.{bytes_of_number}
+use Rattle.vc_best.specs.Parts.{bytes_of_number}
 use Rattle.vc_best.proofs.Numbered.{bytes_of_number-none, bytes_of_number-first}
 use Rattle.vc_best.proofs.range.bytes_in.Goals as goal
 use Rattle.vc_best.proofs.range.bytes_in.Goals.{After-index-segs-place}

@@ -1,7 +1,8 @@
 use Rattle.std.proofs.Common.{◌≡◌, ◌-◌, drop, map}
-use Rattle.vc_model.specs.Gap.{bytes_of, gaps_in}
+use Rattle.vc_model.specs.Gap.{bytes_of}
 use Rattle.vc_best.specs.Slot.{runs_of}
 use Rattle.vc_best.specs.Tally.{HasRoom, tallied_all}
+use Rattle.vc_best.specs.Gaps.{gaps_left_in}
 use Rattle.vc_best.proofs.Tallies.{sizes_between}
 use Rattle.vc_best.proofs.stat.tally_gaps_in.Given as goal
 
@@ -10,5 +11,5 @@ abbrev pub invariant-loop-slot : goal.invariant-loop-slot
 invariant-loop-slot l =
     record {
       room : HasRoom l.tally (sizes_between l.seg (l.bytes - 16) l.from (drop l.slot-index l.slots));
-      rest : tallied_all l.tally (sizes_between l.seg (l.bytes - 16) l.from (drop l.slot-index l.slots)) ≡ tallied_all l.initial.tally (map bytes_of (gaps_in (runs_of l.slots) (l.seg, l.bytes)));
+      rest : tallied_all l.tally (sizes_between l.seg (l.bytes - 16) l.from (drop l.slot-index l.slots)) ≡ tallied_all l.initial.tally (map bytes_of (gaps_left_in (runs_of l.slots) (l.seg, l.bytes)));
     }

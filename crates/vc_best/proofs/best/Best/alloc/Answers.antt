@@ -1,10 +1,30 @@
-use Rattle.std.proofs.Common.{false}
+use Rattle.std.proofs.Common.{sym, ◌∙◌}
+use Rattle.vc_best.proofs.Asking.{Answers-put, Asks-put}
 use Rattle.vc_best.proofs.Others.{others-if_alloc, others-if_put}
+use Rattle.vc_best.proofs.There.{there-alloc}
 use Rattle.vc_best.proofs.best.Best.alloc.Goals as goal
+
+pub returns-in-Some-clause-answer : goal.returns-in-Some-clause-answer
+returns-in-Some-clause-answer g c =
+    Answers-put c.args.self.now.layout c.put.new.self _ c.args.tag c.args.size c.args.align c.put.result (c.in-Some.seg, c.in-Some.off) (sym c.place.ensures ∙ c.in-Some.is) c.put.ensures.ok c.put.ensures.err c.put.ensures.only
+
+pub returns-in-Some-clause-disc : goal.returns-in-Some-clause-disc
+returns-in-Some-clause-disc g c =
+    Asks-put _ c.args.self.now.layout c.put.new.self c.args.tag c.args.size _ c.put.result (c.in-Some.seg, c.in-Some.off) c.put.ensures.ok c.put.ensures.err c.put.ensures.only
 
 pub returns-in-Some-clause-others : goal.returns-in-Some-clause-others
 returns-in-Some-clause-others g c = others-if_put c.put.result c.args.self.now.layout c.put.new.self c.args.tag c.args.size (c.in-Some.seg, c.in-Some.off) c.put.ensures.ok c.put.ensures.fresh
 
 pub returns-in-None-clause-others : goal.returns-in-None-clause-others
 returns-in-None-clause-others g c =
-    others-if_alloc c.alloc_in_new.result c.args.self.now.layout c.alloc_in_new.new.self _ c.args.tag c.args.size c.args.align false c.alloc_in_new.ensures.ok c.alloc_in_new.ensures.fresh
+    others-if_alloc c.alloc_in_new.result c.args.self.now.layout c.alloc_in_new.new.self _ c.args.tag c.args.size c.args.align c.alloc_in_new.ensures.answer c.alloc_in_new.ensures.fresh
+
+pub returns-in-Some-clause-there : goal.returns-in-Some-clause-there
+returns-in-Some-clause-there g c =
+    there-alloc c.put.result c.args.self.now.layout c.put.new.self (record { round = 32 }) c.args.tag c.args.size c.args.align
+    (Answers-put c.args.self.now.layout c.put.new.self (record { round = 32 }) c.args.tag c.args.size c.args.align c.put.result (c.in-Some.seg, c.in-Some.off) (sym c.place.ensures ∙ c.in-Some.is) c.put.ensures.ok c.put.ensures.err c.put.ensures.only)
+    c.put.ensures.fresh
+
+pub returns-in-None-clause-there : goal.returns-in-None-clause-there
+returns-in-None-clause-there g c =
+    there-alloc c.alloc_in_new.result c.args.self.now.layout c.alloc_in_new.new.self _ c.args.tag c.args.size c.args.align c.alloc_in_new.ensures.answer c.alloc_in_new.ensures.fresh

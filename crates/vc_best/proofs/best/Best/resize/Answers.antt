@@ -1,43 +1,66 @@
-use Rattle.std.proofs.Common.{ℕ, List, Some, false, refl, ap, sym, ◌∙◌, subst}
-use Rattle.vc_model.specs.Region.{Region, without_block}
+use Rattle.std.proofs.Common.{ℕ, option_map, Some, false, refl, ap, ◌∙◌}
 use Rattle.vc_model.specs.Addr.{place_of}
-use Rattle.vc_best.specs.Apart.{IsUsable, footprint_at}
+use Rattle.vc_model.specs.Layout.{Layout, without_block}
+use Rattle.vc_model.specs.Touch.{find_block}
+use Rattle.vc_best.proofs.Asking.{Served-later, Served-same}
 use Rattle.vc_best.proofs.Others.{others-moved, others-sized}
-use Rattle.vc_best.proofs.Resizes.{resize-stays, usable-stays, resize-moves, new-among, new-room, old-among, old-found}
+use Rattle.vc_best.proofs.Resizes.{resize-stays, resize-fixed, resize-moves, resize-refused, new-among, new-room, old-among, old-found, none-stays}
+use Rattle.vc_best.proofs.There.{there-moved, there-sized}
 use Rattle.vc_best.proofs.best.Best.resize.Goals as goal
 
-pub returns-then-can_stay-clause-ok : goal.returns-then-can_stay-clause-ok
-returns-then-can_stay-clause-ok g c =
-    let can = c.can_stay.ensures.value ∙ ap Some c.if-can_stay.true in
-    rw (resize-stays _ c.args.self.now.layout (place_of c.args.a.0) c.args.size c.args.may_move false can) (refl, c.resize_there.ensures.value)
+pub returns-then-can_stay-clause-answer : goal.returns-then-can_stay-clause-answer
+returns-then-can_stay-clause-answer g c =
+    resize-stays _ c.args.self.now.layout c.args.a.0 c.args.size c.args.may_move false c.resize_there.new.self (c.can_stay.ensures ∙ ap Some c.if-can_stay.true) c.resize_there.ensures.value
 
-pub returns-then-can_stay-clause-usable : goal.returns-then-can_stay-clause-usable
-returns-then-can_stay-clause-usable g c =
-    let can = c.can_stay.ensures.value ∙ ap Some c.if-can_stay.true in
-    let segments = ap (λ (r : Region ℕ). r.segments) c.resize_there.ensures.value in
-    subst (λ (ss : List (ℕ × ℕ)). IsUsable ss (footprint_at c.args.size (place_of c.args.a.0))) (sym segments) (usable-stays c.args.self.now.layout (place_of c.args.a.0) c.args.size can)
+pub returns-then-not-may_move-clause-answer : goal.returns-then-not-may_move-clause-answer
+returns-then-not-may_move-clause-answer g c =
+    (resize-fixed _ c.args.self.now.layout (place_of c.args.a.0) c.args.size c.args.may_move false (c.can_stay.ensures ∙ ap Some c.if-can_stay.false) c.if-not-may_move.true, refl)
 
 pub take_over-requires-clause-block : goal.take_over-requires-clause-block
-take_over-requires-clause-block g c = old-among _ c.args.self.now.layout c.tag-tag.result c.args.size 32 c.in-Ok.to.0 false c.alloc.new.self.layout c.in-Ok.ensures.ok c.in-Ok.ensures.fresh c.args.a.0 c.requires.block
+take_over-requires-clause-block g c = old-among _ c.args.self.now.layout c.tag-tag.result c.args.size 32 c.in-Ok.to.0 false c.alloc.new.self.layout c.in-Ok.ensures.answer c.in-Ok.ensures.fresh c.args.a.0 c.requires.block
 
 pub take_over-requires-clause-to : goal.take_over-requires-clause-to
-take_over-requires-clause-to g c = new-among _ c.args.self.now.layout c.tag-tag.result c.args.size 32 c.in-Ok.to.0 false c.alloc.new.self.layout c.in-Ok.ensures.ok c.in-Ok.ensures.fresh
+take_over-requires-clause-to g c = new-among _ c.args.self.now.layout c.tag-tag.result c.args.size 32 c.in-Ok.to.0 false c.alloc.new.self.layout c.in-Ok.ensures.answer c.in-Ok.ensures.fresh
 
 pub take_over-requires-clause-room : goal.take_over-requires-clause-room
-take_over-requires-clause-room g c = new-room _ c.args.self.now.layout c.tag-tag.result c.args.size 32 c.in-Ok.to.0 false c.alloc.new.self.layout c.in-Ok.ensures.ok c.in-Ok.ensures.fresh
+take_over-requires-clause-room g c = new-room _ c.args.self.now.layout c.tag-tag.result c.args.size 32 c.in-Ok.to.0 false c.alloc.new.self.layout c.in-Ok.ensures.answer c.in-Ok.ensures.fresh
 
-pub returns-in-Ok-clause-ok : goal.returns-in-Ok-clause-ok
-returns-in-Ok-clause-ok g c =
-    let same = old-found _ c.args.self.now.layout c.tag-tag.result c.args.size 32 c.in-Ok.to.0 false c.alloc.new.self.layout c.in-Ok.ensures.ok c.in-Ok.ensures.fresh c.args.a.0 c.requires.block in
-    let can = c.can_stay.ensures.value ∙ ap Some c.if-can_stay.false in
-    resize-moves _ c.args.self.now.layout c.args.a.0 c.args.size c.tag-tag.result c.in-Ok.to.0 c.args.may_move c.alloc.new.self.layout c.take_over.new.self c.if-not-may_move.false same can c.tag-tag.ensures c.in-Ok.ensures.ok c.take_over.ensures.moved
+pub returns-in-Ok-clause-answer : goal.returns-in-Ok-clause-answer
+returns-in-Ok-clause-answer g c =
+    let same = old-found _ c.args.self.now.layout c.tag-tag.result c.args.size 32 c.in-Ok.to.0 false c.alloc.new.self.layout c.in-Ok.ensures.answer c.in-Ok.ensures.fresh c.args.a.0 c.requires.block in
+    let can = c.can_stay.ensures ∙ ap Some c.if-can_stay.false in
+    resize-moves _ c.args.self.now.layout c.args.a.0 c.args.size c.tag-tag.result c.args.may_move c.if-not-may_move.false c.in-Ok.to.0 c.alloc.new.self.layout c.take_over.new.self same can c.tag-tag.ensures c.in-Ok.ensures.answer c.take_over.ensures.moved
+
+pub returns-in-Err-clause-answer : goal.returns-in-Err-clause-answer
+returns-in-Err-clause-answer g c =
+    let can = c.can_stay.ensures ∙ ap Some c.if-can_stay.false in
+    (resize-refused _ c.args.self.now.layout c.args.a.0 c.args.size c.tag-tag.result c.args.may_move c.if-not-may_move.false c.in-Err.fault can c.tag-tag.ensures c.in-Err.ensures.answer.0, c.in-Err.ensures.answer.1)
+
+pub returns-then-can_stay-clause-disc : goal.returns-then-can_stay-clause-disc
+returns-then-can_stay-clause-disc g c = Served-same _ _ _ _ (ap (λ (r : Layout ℕ). r.segments) c.resize_there.ensures.value)
+
+pub returns-in-Ok-clause-disc : goal.returns-in-Ok-clause-disc
+returns-in-Ok-clause-disc g c = Served-later _ _ _ _ _ _ c.take_over.ensures.segments c.in-Ok.ensures.disc
+
+pub returns-in-Err-clause-no_memory : goal.returns-in-Err-clause-no_memory
+returns-in-Err-clause-no_memory g c = λ _. (none-stays c.args.self.now.layout c.args.size _ (c.can_stay.ensures ∙ ap Some c.if-can_stay.false), c.if-not-may_move.false)
 
 pub returns-then-can_stay-clause-others : goal.returns-then-can_stay-clause-others
 returns-then-can_stay-clause-others g c =
-    ap (λ (r : Region ℕ). without_block (place_of c.args.a.0) r.blocks) c.resize_there.ensures.value
+    ap (λ (r : Layout ℕ). without_block (place_of c.args.a.0) r.blocks) c.resize_there.ensures.value
     ∙ others-sized c.args.size (place_of c.args.a.0) c.args.self.now.layout.blocks
 
 pub returns-in-Ok-clause-others : goal.returns-in-Ok-clause-others
 returns-in-Ok-clause-others g c =
-    let same = old-found _ c.args.self.now.layout c.tag-tag.result c.args.size 32 c.in-Ok.to.0 false c.alloc.new.self.layout c.in-Ok.ensures.ok c.in-Ok.ensures.fresh c.args.a.0 c.requires.block in
+    let same = old-found _ c.args.self.now.layout c.tag-tag.result c.args.size 32 c.in-Ok.to.0 false c.alloc.new.self.layout c.in-Ok.ensures.answer c.in-Ok.ensures.fresh c.args.a.0 c.requires.block in
     others-moved c.alloc.new.self.layout c.take_over.new.self c.args.self.now.layout (place_of c.args.a.0) (place_of c.in-Ok.to.0) c.args.size c.tag-tag.result same c.tag-tag.ensures c.take_over.ensures.moved c.in-Ok.ensures.others
+
+pub returns-then-can_stay-clause-there : goal.returns-then-can_stay-clause-there
+returns-then-can_stay-clause-there g c =
+    ap (λ (r : Layout ℕ). option_map (λ b. b.label) (find_block (place_of c.args.a.0) r.blocks)) c.resize_there.ensures.value
+    ∙ there-sized c.args.size (place_of c.args.a.0) c.args.self.now.layout.blocks
+
+pub returns-in-Ok-clause-there : goal.returns-in-Ok-clause-there
+returns-in-Ok-clause-there g c =
+    let same = old-found _ c.args.self.now.layout c.tag-tag.result c.args.size 32 c.in-Ok.to.0 false c.alloc.new.self.layout c.in-Ok.ensures.answer c.in-Ok.ensures.fresh c.args.a.0 c.requires.block in
+    there-moved c.alloc.new.self.layout c.take_over.new.self c.args.self.now.layout c.args.a.0 c.in-Ok.to.0 c.args.size c.tag-tag.result c.requires.block c.in-Ok.ensures.fresh same c.tag-tag.ensures c.take_over.ensures.moved c.in-Ok.ensures.there

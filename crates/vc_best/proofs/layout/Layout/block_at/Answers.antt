@@ -1,11 +1,11 @@
 use Rattle.std.proofs.Common.{◌≡◌, ℕ, ◌+◌, ◌-◌, Some, refl, sym, ◌∙◌, eqb, leb, ltb}
 use Rattle.std.specs.Prelude.{find, option_map}
 use Rattle.std.proofs.lemmas.Bool.{and_parts, leb-true}
-use Rattle.vc_model.specs.Region.{Block}
+use Rattle.vc_model.specs.Layout.{Block}
 use Rattle.vc_model.specs.Walk.{block_at}
 use Rattle.vc_best.specs.declared.slot.Slot.{Slot}
 use Rattle.vc_best.specs.Slot.{slot_holds_byte}
-use Rattle.vc_best.specs.Layout.{block_in}
+use Rattle.vc_best.specs.Parts.{block_in}
 use Rattle.vc_best.proofs.Walks.{Contains-found, IsFound, IsFound-find, block_at-slots}
 use Rattle.vc_best.proofs.layout.Layout.block_at.Goals as goal
 use Rattle.vc_best.proofs.layout.Layout.block_at.Goals.{After-slot_at}

@@ -3,8 +3,7 @@ use Rattle.std.specs.List.{find}
 use Rattle.vc_model.specs.Resize.{can_stay}
 use Rattle.vc_model.specs.Addr.{place_of}
 use Rattle.vc_best.specs.Slot.{is_slot_at}
-use Rattle.vc_best.specs.Layout.{region_of, IsSlotIn}
-use Rattle.vc_best.proofs.Blocks.{AreApart-blocks, IsUsable-blocks}
+use Rattle.vc_best.specs.Parts.{layout_of, IsSlotIn}
 use Rattle.vc_best.proofs.Found.{slot_of, block_of-found}
 use Rattle.vc_best.proofs.Stays.{can_stay-slot}
 use Rattle.vc_best.proofs.Writes.{find-All}
@@ -26,14 +25,8 @@ unreachable-requires c =
     let some = at.1.found in
     cc (none, some, c.in-None.is)
 
-pub returns-clause-all_apart : goal.returns-clause-all_apart
-returns-clause-all_apart c = rw (← c.self.view_is) (AreApart-blocks c.self.inside.segs.items c.self.inside.blocks.items c.self.invariant)
-
-pub returns-clause-value : goal.returns-clause-value
-returns-clause-value c =
+pub returns : goal.returns
+returns c =
     rw (← c.self.view_is)
-    (block_of-found c.self.inside.segs.items c.self.inside.blocks.items c.args.a.0 c.in-Some.slot (can_stay (region_of c.self.inside.segs.items c.self.inside.blocks.items) c.args.size) (sym (found (goal.at.returns-clause-value c).After-find_slot) ∙ c.in-Some.is)
+    (block_of-found c.self.inside.segs.items c.self.inside.blocks.items c.args.a.0 c.in-Some.slot (can_stay (layout_of c.self.inside.segs.items c.self.inside.blocks.items) c.args.size) (sym (found (goal.at.returns c).After-find_slot) ∙ c.in-Some.is)
     ∙ ap Some (can_stay-slot c.self.inside.segs.items c.self.inside.blocks.items c.args.size c.in-Some.slot ∙ rw (← c.deref-in-Some.ensures.value, ← c.deref-in-Some-2.ensures.value) (sym c.fits_in.ensures)))
-
-pub returns-clause-all_usable : goal.returns-clause-all_usable
-returns-clause-all_usable c = rw (← c.self.view_is) (IsUsable-blocks c.self.inside.segs.items c.self.inside.blocks.items c.self.invariant.blocks)

@@ -1,6 +1,6 @@
 use Rattle.std.proofs.Common.{◌≡◌, length, ap, ◌∙◌, arith}
-use Rattle.vc_best.proofs.Blocks.{AreApart-blocks, IsUsable-blocks}
-use Rattle.vc_best.proofs.Compacts.{IsLayout-occupied, occupied, occupied-most, region_of-occupied, compact_count-lengths}
+use Rattle.vc_best.proofs.Compacts.{IsLayout-occupied, occupied, occupied-most, layout_of-occupied, compact_count-lengths}
+use Rattle.vc_best.proofs.Sounds.{IsSound-layout}
 use Rattle.vc_best.proofs.layout.Layout.compact.Goals as goal
 use Rattle.vc_best.proofs.layout.Layout.compact.Goals.{After-give_back_empty}
 use Rattle.vc_best.proofs.layout.Layout.compact.Given.{Over}
@@ -20,7 +20,7 @@ invariant_of-self g c = rw (c.give_back_empty.ensures.segments, c.deref.ensures.
 
 pub returns-clause-value : goal.returns-clause-value
 returns-clause-value g c =
-    rw (c.give_back_empty.ensures.segments, c.deref.ensures.value, ← c.self.view_is) (region_of-occupied c.self.inside.segs.items c.self.inside.blocks.items)
+    rw (c.give_back_empty.ensures.segments, c.deref.ensures.value, ← c.self.view_is) (layout_of-occupied c.self.inside.segs.items c.self.inside.blocks.items)
 
 pub returns-clause-count : goal.returns-clause-count
 returns-clause-count g c =
@@ -28,12 +28,7 @@ returns-clause-count g c =
     let same = ap length (left g (goal.at.returns-clause-count g c).After-give_back_empty) in
     rw (← c.self.view_is, ← count) (omega (arith, same))
 
-pub returns-clause-all_apart : goal.returns-clause-all_apart
-returns-clause-all_apart g c =
+pub returns-clause-sound : goal.returns-clause-sound
+returns-clause-sound g c =
     rw (c.give_back_empty.ensures.segments, c.deref.ensures.value)
-    (AreApart-blocks _ c.self.inside.blocks.items (IsLayout-occupied c.self.inside.segs.items c.self.inside.blocks.items c.self.invariant))
-
-pub returns-clause-all_usable : goal.returns-clause-all_usable
-returns-clause-all_usable g c =
-    rw (c.give_back_empty.ensures.segments, c.deref.ensures.value)
-    (IsUsable-blocks _ c.self.inside.blocks.items (IsLayout-occupied c.self.inside.segs.items c.self.inside.blocks.items c.self.invariant).blocks)
+    (IsSound-layout _ c.self.inside.blocks.items (IsLayout-occupied c.self.inside.segs.items c.self.inside.blocks.items c.self.invariant))

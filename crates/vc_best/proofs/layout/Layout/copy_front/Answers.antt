@@ -1,12 +1,12 @@
 use Rattle.std.proofs.Common.{◌≡◌, ℕ, IfSome, map, take, drop, ap, sym, ◌∙◌, subst, arith}
 use Rattle.std.specs.Vec.{with_items}
 use Rattle.std.proofs.lemmas.List.{with_items_is}
-use Rattle.vc_model.specs.Region.{Region}
-use Rattle.vc_model.specs.Touch.{best_write, find_block}
+use Rattle.vc_model.specs.Layout.{Layout}
+use Rattle.vc_model.specs.Touch.{with_bytes_at, find_block}
 use Rattle.vc_model.specs.Addr.{place_of}
 use Rattle.vc_seg.specs.Segment.{pair_of}
 use Rattle.vc_best.specs.Write.{write_segment}
-use Rattle.vc_best.specs.Layout.{bytes_of_number, IsLayout, region_of}
+use Rattle.vc_best.specs.Parts.{bytes_of_number, IsLayout, layout_of}
 use Rattle.vc_best.proofs.Moves.{source-some, target-some, source-within, target-within, copied-layout, copied-pairs, copied-region, addresses-same}
 use Rattle.vc_best.proofs.layout.Layout.copy_front.Goals as goal
 use Rattle.vc_best.proofs.layout.Layout.copy_front.Goals.{After-copy_in}
@@ -53,7 +53,7 @@ returns-clause-segments c =
 
 pub returns-clause-copied : goal.returns-clause-copied
 returns-clause-copied c =
-    let region : Region ℕ → Type 0 = λ r. IfSome (find_block (place_of c.args.a.0) c.args.self.now.blocks) (λ b. r ≡ best_write c.args.self.now (place_of c.args.to.0) 0 (take c.args.size b.bytes)) in
-    subst (λ segs. region (region_of segs c.self.inside.blocks.items)) (sym (after (goal.at.returns-clause-copied c).After-copy_in))
+    let region : Layout ℕ → Type 0 = λ r. IfSome (find_block (place_of c.args.a.0) c.args.self.now.blocks) (λ b. r ≡ with_bytes_at c.args.self.now (place_of c.args.to.0) 0 (take c.args.size b.bytes)) in
+    subst (λ segs. region (layout_of segs c.self.inside.blocks.items)) (sym (after (goal.at.returns-clause-copied c).After-copy_in))
     (rw (← c.self.view_is)
     (copied-region c.self.inside.segs.items c.self.inside.blocks.items c.args.a.0 c.args.to.0 c.args.size c.size.result c.min-kept.result c.self.invariant (rw (← c.self.view_is) at c.requires.block) (rw (← c.self.view_is) at c.requires.to) (rw (← c.self.view_is) at c.requires.room) (rw (← c.self.view_is) at c.size.ensures) c.min-kept.ensures))

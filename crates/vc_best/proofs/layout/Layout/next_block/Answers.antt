@@ -4,9 +4,8 @@ use Rattle.vc_model.specs.Addr.{place_of}
 use Rattle.vc_model.specs.Walk.{next_block}
 use Rattle.vc_best.specs.declared.slot.Slot.{Slot}
 use Rattle.vc_best.specs.Slot.{lies_before_slot}
-use Rattle.vc_best.specs.Layout.{block_in}
-use Rattle.vc_best.proofs.Blocks.{AreApart-blocks, IsUsable-blocks}
-use Rattle.vc_best.proofs.Walks.{Contains-found, IsFound, IsFound-find, LieInNumbered-blocks, next_block-slots}
+use Rattle.vc_best.specs.Parts.{block_in}
+use Rattle.vc_best.proofs.Walks.{Contains-found, IsFound, IsFound-find, next_block-slots}
 use Rattle.vc_best.proofs.layout.Layout.next_block.Goals as goal
 use Rattle.vc_best.proofs.layout.Layout.next_block.Goals.{After-next_slot}
 
@@ -14,8 +13,8 @@ use Rattle.vc_best.proofs.layout.Layout.next_block.Goals.{After-next_slot}
 slot : (c : After-next_slot) → find (lies_before_slot (place_of c.args.after.0).0 (place_of c.args.after.0).1) c.self.inside.blocks.items ≡ c.next_slot.result
 slot c = rw (← c.deref.ensures.value, ← c.seg.ensures, ← c.off.ensures) (sym c.next_slot.ensures)
 
-block : (c : After-next_slot) → next_block (place_of c.args.after.0) c.args.self.now.blocks ≡ option_map (block_in c.self.inside.segs.items) c.next_slot.result
-block c = rw (← c.self.view_is) (next_block-slots c.self.inside.segs.items c.self.inside.blocks.items (place_of c.args.after.0) c.next_slot.result (slot c))
+block : (c : After-next_slot) → next_block c.args.after.0 c.args.self.now.blocks ≡ option_map (block_in c.self.inside.segs.items) c.next_slot.result
+block c = rw (← c.self.view_is) (next_block-slots c.self.inside.segs.items c.self.inside.blocks.items c.args.after.0 c.next_slot.result c.self.invariant (slot c))
 
 found : (c : After-next_slot) (s : Slot) → c.next_slot.result ≡ Some s → IsFound c.self.inside.segs.items (lies_before_slot (place_of c.args.after.0).0 (place_of c.args.after.0).1) s
 found c s e = IsFound-find c.self.inside.segs.items c.self.inside.blocks.items _ s c.self.invariant (slot c ∙ e)
@@ -44,21 +43,3 @@ pub returns-clause-live : goal.returns-clause-live
 returns-clause-live c =
     rw (← c.self.view_is)
     (Contains-found c.self.inside.segs.items c.self.inside.blocks.items _ c.in_ok-slot.slot c.new.result.0 (slot (goal.at.returns-clause-live c).After-next_slot ∙ c.in_ok-slot.was) c.new.ensures.value)
-
-pub returns-in_err-slot-clause-numbered : goal.returns-in_err-slot-clause-numbered
-returns-in_err-slot-clause-numbered c = rw (← c.self.view_is) (LieInNumbered-blocks c.self.inside.segs.items c.self.inside.blocks.items c.self.invariant)
-
-pub returns-in_err-slot-clause-all_apart : goal.returns-in_err-slot-clause-all_apart
-returns-in_err-slot-clause-all_apart c = rw (← c.self.view_is) (AreApart-blocks c.self.inside.segs.items c.self.inside.blocks.items c.self.invariant)
-
-pub returns-clause-numbered : goal.returns-clause-numbered
-returns-clause-numbered c = rw (← c.self.view_is) (LieInNumbered-blocks c.self.inside.segs.items c.self.inside.blocks.items c.self.invariant)
-
-pub returns-clause-all_apart : goal.returns-clause-all_apart
-returns-clause-all_apart c = rw (← c.self.view_is) (AreApart-blocks c.self.inside.segs.items c.self.inside.blocks.items c.self.invariant)
-
-pub returns-in_err-slot-clause-all_usable : goal.returns-in_err-slot-clause-all_usable
-returns-in_err-slot-clause-all_usable c = rw (← c.self.view_is) (IsUsable-blocks c.self.inside.segs.items c.self.inside.blocks.items c.self.invariant.blocks)
-
-pub returns-clause-all_usable : goal.returns-clause-all_usable
-returns-clause-all_usable c = rw (← c.self.view_is) (IsUsable-blocks c.self.inside.segs.items c.self.inside.blocks.items c.self.invariant.blocks)

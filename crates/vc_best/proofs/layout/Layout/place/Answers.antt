@@ -9,7 +9,7 @@ use Rattle.vc_best.proofs.layout.Layout.place.Goals.{After-best_gap}
 here : (c : After-best_gap) → place_in c.args.self.now c.args.size c.args.align ≡ option_map (place_of c.args.align) c.best_gap.result
 here c =
     rw (← c.self.view_is)
-    (place_in-gap c.self.inside.segs.items c.self.inside.blocks.items c.args.size c.args.align c.best_gap.result
+    (place_in-gap c.self.inside.segs.items c.self.inside.blocks.items c.args.size c.args.align c.best_gap.result c.self.invariant.apart
     (rw (← c.deref.ensures.value, ← c.deref-2.ensures.value) (sym c.best_gap.ensures)))
 
 pub returns-in_err-gap : goal.returns-in_err-gap

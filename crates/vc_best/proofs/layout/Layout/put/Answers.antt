@@ -1,16 +1,16 @@
-use Rattle.std.proofs.Common.{◌≡◌, ℕ, List, All, map, replicate, ap, sym, ◌∙◌, subst, arith}
+use Rattle.std.proofs.Common.{◌≡◌, All, replicate, ap, sym, ◌∙◌, subst, arith}
 use Rattle.std.specs.Vec.{with_items}
 use Rattle.std.proofs.lemmas.List.{with_items_is}
-use Rattle.vc_model.specs.Addr.{place_of}
-use Rattle.vc_seg.specs.Segment.{pair_of}
-use Rattle.vc_best.specs.Apart.{IsApart, IsUsable, footprint_at}
-use Rattle.vc_best.specs.Layout.{IsLayout, region_of}
+use Rattle.vc_model.specs.Sound.{IsApart}
+use Rattle.vc_best.specs.Apart.{footprint_at}
+use Rattle.vc_best.specs.Parts.{IsLayout, layout_of}
 use Rattle.vc_best.specs.Slot.{run_of_slot, with_slot}
 use Rattle.vc_best.specs.Write.{write_segment}
 use Rattle.vc_best.proofs.Allocs.{slot_at, IsSlotAt-place, clear-place}
 use Rattle.vc_best.proofs.Regions.{IsSlotAt, stands}
-use Rattle.vc_best.proofs.Writes.{put-within, pairs-put, IsLayout-put, region_of-put}
-use Rattle.vc_best.proofs.Blocks.{AreApart-blocks, IsApartFrom-blocks, IsUsable-blocks, IsUsable-slot, no_block_at}
+use Rattle.vc_best.proofs.Writes.{put-within, IsLayout-put, layout_of-put}
+use Rattle.vc_best.proofs.Blocks.{no_block_at}
+use Rattle.vc_best.proofs.Sounds.{IsSound-layout}
 use Rattle.vc_best.proofs.layout.Layout.put.Goals as goal
 use Rattle.vc_best.proofs.layout.Layout.put.Goals.{After-put_among}
 
@@ -67,39 +67,20 @@ returns-clause-ok c =
     let at = goal.at.returns-clause-ok c in (
       c.new.ensures.value,
       sym c.new.ensures.place,
-      ap (λ segs. region_of segs c.put_among.new.slots.items) (after at.After-put_among)
-          ∙ (ap (region_of (write_segment c.args.seg c.args.off (replicate c.args.size 0) c.self.inside.segs.items)) (slots at.After-put_among)
+      ap (λ segs. layout_of segs c.put_among.new.slots.items) (after at.After-put_among)
+          ∙ (ap (layout_of (write_segment c.args.seg c.args.off (replicate c.args.size 0) c.self.inside.segs.items)) (slots at.After-put_among)
           ∙ rw (← c.self.view_is)
-          (region_of-put c.self.inside.segs.items (slot_at c.args.tag c.args.size (c.args.seg, c.args.off)) (here at.After-put_among).slot c.self.inside.blocks.items c.self.invariant (clear at.After-put_among))),
+          (layout_of-put c.self.inside.segs.items (slot_at c.args.tag c.args.size (c.args.seg, c.args.off)) (here at.After-put_among).slot c.self.inside.blocks.items c.self.invariant (clear at.After-put_among))),
     )
-
-pub returns-in_err-reserve_one-clause-all_apart : goal.returns-in_err-reserve_one-clause-all_apart
-returns-in_err-reserve_one-clause-all_apart c =
-    rw c.in_err-reserve_one.ensures.items (AreApart-blocks c.self.inside.segs.items c.self.inside.blocks.items c.self.invariant)
-
-pub returns-clause-apart : goal.returns-clause-apart
-returns-clause-apart c =
-    rw (← c.self.view_is)
-    (IsApartFrom-blocks c.self.inside.segs.items c.self.inside.blocks.items c.args.size c.new.result.0 (c.args.seg, c.args.off) c.new.ensures.place (clear (goal.at.returns-clause-apart c).After-put_among))
 
 pub returns-clause-fresh : goal.returns-clause-fresh
 returns-clause-fresh c =
     rw (← c.self.view_is)
     (no_block_at c.self.inside.segs.items c.self.inside.blocks.items c.args.size c.new.result.0 (c.args.seg, c.args.off) c.new.ensures.place c.self.invariant.blocks (clear (goal.at.returns-clause-fresh c).After-put_among))
 
-pub returns-clause-all_apart : goal.returns-clause-all_apart
-returns-clause-all_apart c = AreApart-blocks _ c.put_among.new.slots.items (whole (goal.at.returns-clause-all_apart c).After-put_among)
+pub returns-in_err-reserve_one-clause-sound : goal.returns-in_err-reserve_one-clause-sound
+returns-in_err-reserve_one-clause-sound c =
+    rw c.in_err-reserve_one.ensures.items (IsSound-layout c.self.inside.segs.items c.self.inside.blocks.items c.self.invariant)
 
-pub returns-clause-usable : goal.returns-clause-usable
-returns-clause-usable c =
-    let at = goal.at.returns-clause-usable c in
-    let slot = (here at.After-put_among).slot in
-    let pairs = ap (map pair_of) (after at.After-put_among) ∙ pairs-put c.self.inside.segs.items (slot_at c.args.tag c.args.size (c.args.seg, c.args.off)) slot in
-    subst (λ (ss : List (ℕ × ℕ)). IsUsable ss (footprint_at c.args.size (place_of c.new.result.0))) (sym pairs) (IsUsable-slot c.self.inside.segs.items _ c.new.result.0 c.new.ensures.place slot)
-
-pub returns-in_err-reserve_one-clause-all_usable : goal.returns-in_err-reserve_one-clause-all_usable
-returns-in_err-reserve_one-clause-all_usable c =
-    rw c.in_err-reserve_one.ensures.items (IsUsable-blocks c.self.inside.segs.items c.self.inside.blocks.items c.self.invariant.blocks)
-
-pub returns-clause-all_usable : goal.returns-clause-all_usable
-returns-clause-all_usable c = IsUsable-blocks _ c.put_among.new.slots.items (whole (goal.at.returns-clause-all_usable c).After-put_among).blocks
+pub returns-clause-sound : goal.returns-clause-sound
+returns-clause-sound c = IsSound-layout _ c.put_among.new.slots.items (whole (goal.at.returns-clause-sound c).After-put_among)

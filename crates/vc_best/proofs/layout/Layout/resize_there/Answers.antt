@@ -7,10 +7,10 @@ use Rattle.vc_model.specs.Addr.{place_of}
 use Rattle.vc_best.specs.Slot.{is_slot_at}
 use Rattle.vc_best.specs.Stay.{resize_slot}
 use Rattle.vc_best.specs.Write.{write_segment}
-use Rattle.vc_best.specs.Layout.{IsLayout, region_of}
-use Rattle.vc_best.proofs.Blocks.{AreApart-blocks, IsUsable-blocks}
+use Rattle.vc_best.specs.Parts.{IsLayout, layout_of}
 use Rattle.vc_best.proofs.Frees.{Contains-place}
 use Rattle.vc_best.proofs.Stays.{sized-some, sized-within, sized-layout, sized-region}
+use Rattle.vc_best.proofs.Sounds.{IsSound-layout}
 use Rattle.vc_best.proofs.layout.Layout.resize_there.Goals as goal
 use Rattle.vc_best.proofs.layout.Layout.resize_there.Goals.{After-off-2, After-fill_in}
 
@@ -55,13 +55,10 @@ invariant_of-self c = whole (goal.at.invariant_of-self c).After-fill_in
 pub returns-clause-value : goal.returns-clause-value
 returns-clause-value c =
     let at = goal.at.returns-clause-value c in
-    ap (λ segs. region_of segs c.set_size-before.new.slots.items) (after at.After-fill_in)
-    ∙ (ap (region_of (write_segment (place_of c.args.a.0).0 ((place_of c.args.a.0).1 + c.min-kept.result) (replicate (c.args.size - c.min-kept.result) 0) c.self.inside.segs.items)) (slots at.After-fill_in)
+    ap (λ segs. layout_of segs c.set_size-before.new.slots.items) (after at.After-fill_in)
+    ∙ (ap (layout_of (write_segment (place_of c.args.a.0).0 ((place_of c.args.a.0).1 + c.min-kept.result) (replicate (c.args.size - c.min-kept.result) 0) c.self.inside.segs.items)) (slots at.After-fill_in)
     ∙ rw (← c.self.view_is)
     (sized-region c.self.inside.segs.items c.self.inside.blocks.items c.args.a.0 c.args.size c.set_size-before.result c.min-kept.result c.self.invariant (rw (← c.self.view_is) at c.requires.block) (rw (← c.self.view_is) at c.requires.stays) c.requires.some c.requires.most (old at.After-off-2) c.min-kept.ensures))
 
-pub returns-clause-all_apart : goal.returns-clause-all_apart
-returns-clause-all_apart c = AreApart-blocks _ c.set_size-before.new.slots.items (whole (goal.at.returns-clause-all_apart c).After-fill_in)
-
-pub returns-clause-all_usable : goal.returns-clause-all_usable
-returns-clause-all_usable c = IsUsable-blocks _ c.set_size-before.new.slots.items (whole (goal.at.returns-clause-all_usable c).After-fill_in).blocks
+pub returns-clause-sound : goal.returns-clause-sound
+returns-clause-sound c = IsSound-layout _ c.set_size-before.new.slots.items (whole (goal.at.returns-clause-sound c).After-fill_in)

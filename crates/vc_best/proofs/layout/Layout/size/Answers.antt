@@ -1,6 +1,6 @@
 use Rattle.std.proofs.Common.{◌≡◌, ℕ, sym, ◌∙◌}
 use Rattle.std.specs.List.{find}
-use Rattle.vc_model.specs.Region.{Block}
+use Rattle.vc_model.specs.Layout.{Block}
 use Rattle.vc_model.specs.Addr.{place_of}
 use Rattle.vc_best.specs.Slot.{is_slot_at}
 use Rattle.vc_best.proofs.Found.{slot_of, block_of-found}

@@ -2,10 +2,10 @@ use Rattle.std.proofs.Common.{◌≡◌, ◌+◌, length, refl, ap, sym, ◌∙�
 use Rattle.std.specs.Vec.{with_items}
 use Rattle.std.proofs.lemmas.List.{with_items_is}
 use Rattle.vc_model.specs.Addr.{place_of}
-use Rattle.vc_best.specs.Layout.{IsLayout, region_of}
+use Rattle.vc_best.specs.Parts.{IsLayout, layout_of}
 use Rattle.vc_best.specs.Write.{write_segment}
-use Rattle.vc_best.proofs.Blocks.{AreApart-blocks, IsUsable-blocks}
-use Rattle.vc_best.proofs.Found.{InBlock, IsLive, some-range, within-range, below-range, IsLayout-range, region_of-range}
+use Rattle.vc_best.proofs.Found.{InBlock, IsLive, some-range, within-range, below-range, IsLayout-range, layout_of-range}
+use Rattle.vc_best.proofs.Sounds.{IsSound-layout}
 use Rattle.vc_best.proofs.layout.Layout.write.Goals as goal
 use Rattle.vc_best.proofs.layout.Layout.write.Goals.{After-off, After-put_in}
 
@@ -47,12 +47,9 @@ invariant_of-self c = whole (goal.at.invariant_of-self c).After-put_in
 pub returns-clause-value : goal.returns-clause-value
 returns-clause-value c =
     let at = (goal.at.returns-clause-value c).After-put_in in
-    ap (λ segs. region_of segs c.self.inside.blocks.items) (after at)
+    ap (λ segs. layout_of segs c.self.inside.blocks.items) (after at)
     ∙ rw (← c.self.view_is)
-    (region_of-range c.self.inside.segs.items c.self.inside.blocks.items c.args.a.0 c.args.off (length c.args.src.now) c.self.invariant (rw (← c.self.view_is) at c.requires.block) (rw (← c.self.view_is) at c.requires.range) c.args.src.now refl)
+    (layout_of-range c.self.inside.segs.items c.self.inside.blocks.items c.args.a.0 c.args.off (length c.args.src.now) c.self.invariant (rw (← c.self.view_is) at c.requires.block) (rw (← c.self.view_is) at c.requires.range) c.args.src.now refl)
 
-pub returns-clause-all_apart : goal.returns-clause-all_apart
-returns-clause-all_apart c = AreApart-blocks _ c.self.inside.blocks.items (whole (goal.at.returns-clause-all_apart c).After-put_in)
-
-pub returns-clause-all_usable : goal.returns-clause-all_usable
-returns-clause-all_usable c = IsUsable-blocks _ c.self.inside.blocks.items (whole (goal.at.returns-clause-all_usable c).After-put_in).blocks
+pub returns-clause-sound : goal.returns-clause-sound
+returns-clause-sound c = IsSound-layout _ c.self.inside.blocks.items (whole (goal.at.returns-clause-sound c).After-put_in)

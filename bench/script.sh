@@ -1,0 +1,68 @@
+#!/bin/sh
+# Prints a script for vmreplay:
+#   bench/script.sh frees            20,000 lines: fifty names of blocks are allocated and freed in turn
+#   bench/script.sh resizes [LINES]  200,000 lines or so many: of two hundred names, each line allocates, resizes or frees one
+#   bench/script.sh segments         1,026 lines: of 1,025 allocations, 1,023 take a segment each
+#   bench/script.sh one [LINES]      2,000,000 lines or so many: one block is allocated and freed again and again
+#   bench/script.sh live BLOCKS      so many blocks of one byte are allocated in one region
+# It needs awk.
+set -eu
+
+frees() {
+    awk 'BEGIN {
+        print "open r best 1"
+        for (i = 0; i < 19998; i++) {
+            name = i % 100
+            if (name < 50) print "alloc r b" name " " (name * 37) % 900 + 1
+            else print "free r b" (name - 50)
+        }
+        print "close r"
+    }'
+}
+
+resizes() {
+    awk -v lines="${1:-200000}" '
+    function random(n) { seed = (seed * 1103515245 + 12345) % 2147483648; return int(seed / 65536) % n }
+    BEGIN {
+        seed = 1
+        print "open r best 1"
+        for (i = 0; i < lines - 2; i++) {
+            name = random(200)
+            size = random(900) + 1
+            move = random(2)
+            if (!(name in live)) { print "alloc r b" name " " size; live[name] }
+            else if (move) print "resize r b" name " " size " move"
+            else { print "free r b" name; delete live[name] }
+        }
+        print "close r"
+    }'
+}
+
+segments() {
+    awk 'BEGIN {
+        print "open r best 1"
+        for (i = 1; i <= 1023; i++) print "alloc r a" i " 4000"
+        print "alloc r z 4000"
+        print "alloc r z 16"
+    }'
+}
+
+one() {
+    awk -v lines="${1:-2000000}" 'BEGIN {
+        print "open r best 1"
+        for (i = 1; i < lines; i++) print i % 2 ? "alloc r a 1" : "free r a"
+    }'
+}
+
+live() {
+    awk -v blocks="$1" 'BEGIN {
+        print "open r best 9"
+        for (i = 1; i <= blocks; i++) print "alloc r b" i " 1"
+        print "close r"
+    }'
+}
+
+case "${1-} $#" in
+    "frees 1" | "segments 1" | "resizes 1" | "resizes 2" | "one 1" | "one 2" | "live 2") "$@" ;;
+    *) echo "usage: bench/script.sh frees | segments | resizes [LINES] | one [LINES] | live BLOCKS" >&2; exit 2 ;;
+esac

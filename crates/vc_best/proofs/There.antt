@@ -1,0 +1,67 @@
+-- The block that is put, or that gets another size, stands at the address that is answered.
+use Rattle.std.proofs.Common.{◌≡◌, ◌≢◌, ℕ, List, [], ◌∷◌, Bool, true, false, cond, IfSome, Option, None, Some, take, refl, ap, sym, ◌∙◌, subst, ⊎_elim}
+use Rattle.std.specs.Prelude.{IfOk, Ok, Err, option_map}
+use Rattle.std.specs.declared.result.Result.{Result}
+use Rattle.std.proofs.lemmas.Bool.{cases_Bool}
+use Rattle.vc_model.specs.Addr.{address, place_of}
+use Rattle.vc_model.specs.Best.{best_alloc, without_block_at, zeros}
+use Rattle.vc_model.specs.Discipline.{Terms}
+use Rattle.vc_model.specs.Layout.{Block, Layout, is_at, without_block}
+use Rattle.vc_model.specs.Resize.{sized}
+use Rattle.vc_model.specs.Touch.{HasBlock, change_block, find_block, rewritten, with_bytes_at}
+use Rattle.vc_seg.specs.Answer.{Answers}
+use Rattle.vc_base.specs.declared.addr.Addr.{Addr}
+use Rattle.vc_seg.specs.declared.fault.RegionFault.{RegionFault}
+use Rattle.vc_best.proofs.Resizes.{address-place_of, at-place, new-found}
+
+abbrev label_of : Option (Block ℕ) → Option ℕ
+label_of o = option_map (λ b. b.label) o
+
+-- a block that was put
+pub there-alloc : (result : Result Addr RegionFault) (r mid : Layout ℕ) (terms : Terms) (label size align : ℕ) → Answers (best_alloc terms r label size align) result r mid →
+    IfOk result (λ a. ¬ HasBlock r.blocks a.0) → IfOk result (λ a. find_block (place_of a.0) mid.blocks ≡ Some (zeros label size (place_of a.0)))
+there-alloc (Ok a) r mid terms label size align placed fresh = new-found terms r label size align a.0 false mid placed fresh
+there-alloc (Err e) r mid terms label size align placed fresh = tt
+
+-- a change that keeps the place and the label
+changed : (f : Block ℕ → Block ℕ) → ((at : ℕ × ℕ) (b : Block ℕ) → is_at at (f b) ≡ is_at at b) → ((b : Block ℕ) → (f b).label ≡ b.label) → (at : ℕ × ℕ) (bs : List (Block ℕ)) →
+    label_of (find_block at (change_block f at bs)) ≡ label_of (find_block at bs)
+changed f same label at [] = refl
+changed f same label at (b ∷ bs) =
+    ⊎_elim
+    (λ e. rw e (rw (same at b ∙ e) (ap Some (label b))))
+    (λ e. rw e (rw e (changed f same label at bs)))
+    (cases_Bool (is_at at b))
+
+pub there-sized : (size : ℕ) (at : ℕ × ℕ) (bs : List (Block ℕ)) → label_of (find_block at (change_block (sized size) at bs)) ≡ label_of (find_block at bs)
+there-sized size at bs = changed (sized size) (λ p b. refl) (λ b. refl) at bs
+
+-- a block goes that stands elsewhere
+find-without : (p q : ℕ × ℕ) → p ≢ q → (bs : List (Block ℕ)) → find_block q (without_block p bs) ≡ find_block q bs
+find-without p q differ [] = refl
+find-without p q differ (b ∷ bs) =
+    ⊎_elim
+    (λ (e : is_at p b ≡ true).
+    ⊎_elim
+    (λ (u : is_at q b ≡ true). absurd (differ (sym (at-place p b e) ∙ at-place q b u)))
+    (λ (u : is_at q b ≡ false). rw e (rw u refl))
+    (cases_Bool (is_at q b)))
+    (λ (e : is_at p b ≡ false). rw e (ap (cond (is_at q b) (Some b)) (find-without p q differ bs)))
+    (cases_Bool (is_at p b))
+
+own-moved : (mid new : Layout ℕ) (a to : ℕ × ℕ) (size tag : ℕ) → a ≢ to → (o : Option (Block ℕ)) → label_of o ≡ Some tag → IfSome o (λ b. new ≡ without_block_at (with_bytes_at mid to 0 (take size b.bytes)) a) →
+    label_of (find_block to mid.blocks) ≡ Some tag → label_of (find_block to new.blocks) ≡ Some tag
+own-moved mid new a to size tag differ None label own there = absurd (cc)
+own-moved mid new a to size tag differ (Some b) label own there =
+    let src = take size b.bytes in
+    ap (λ (r : Layout ℕ). label_of (find_block to r.blocks)) own
+    ∙ (ap label_of (find-without a to differ (change_block (rewritten 0 src) to mid.blocks))
+    ∙ (changed (rewritten 0 src) (λ p c. refl) (λ c. refl) to mid.blocks ∙ there))
+
+-- a block that moved to where one was put
+pub there-moved : (mid new old : Layout ℕ) (a to size tag : ℕ) → HasBlock old.blocks a → ¬ HasBlock old.blocks to → find_block (place_of a) mid.blocks ≡ find_block (place_of a) old.blocks → label_of (find_block (place_of a) old.blocks) ≡ Some tag →
+    IfSome (find_block (place_of a) mid.blocks) (λ b. new ≡ without_block_at (with_bytes_at mid (place_of to) 0 (take size b.bytes)) (place_of a)) → find_block (place_of to) mid.blocks ≡ Some (zeros tag size (place_of to)) →
+    label_of (find_block (place_of to) new.blocks) ≡ label_of (find_block (place_of a) old.blocks)
+there-moved mid new old a to size tag live fresh same label own there =
+    let differ : place_of a ≢ place_of to = λ e. fresh (subst (HasBlock old.blocks) (sym (address-place_of a) ∙ (ap address e ∙ address-place_of to)) live) in
+    own-moved mid new (place_of a) (place_of to) size tag differ (find_block (place_of a) mid.blocks) (ap label_of same ∙ label) own (ap label_of there) ∙ sym label

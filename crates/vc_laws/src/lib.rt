@@ -1,0 +1,6 @@
+//! Laws of the definitions of `vc_model`, each the contract of a function without code.
+#![tactic(auto)]
+
+mod gap_laws;
+
+pub use gap_laws::{gaps_are_maximal, gaps_of_regions_are_maximal};

@@ -1,0 +1,6 @@
+pub mod Pairs
+pub mod Walking
+pub mod Sorting
+pub mod Places
+pub mod Relabel
+pub mod Clearing

@@ -1,0 +1,117 @@
+ghost use Rattle.std.specs.Prelude.{◌≡◌, ◌+◌, ◌%◌, ◌<◌, ◌↔◌, [], Some, length, Contains, IfOk, OnOk, IsErrOf};
+ghost use Rattle.vc_model.specs.Count.{next_count};
+ghost use Rattle.vc_model.specs.Discipline.{IsRound, IsSegmentSize, Lent, Unserved};
+ghost use Rattle.vc_seg.specs.Budget.{discipline_of, room_of};
+ghost use Rattle.vc_seg.specs.Lend.{Returned};
+ghost use Rattle.vc_seg.specs.Segment.{zeroed, pair_of};
+
+use crate::out_list::OutList;
+use crate::{LendFault, SegDisc, Segment};
+use std::alloc::Global;
+use std::marker::Model;
+use vc_base::one_more;
+
+/// A discipline that has at most a budget of bytes out at a time. As its room it tells the budget less the bytes out,
+/// and it refuses exactly the sizes above that.
+#[derive(Drop)]
+pub struct BudgetDisc {
+    lent: OutList,
+    unit: u32,
+    budget: u64,
+    left: u64,
+    refusals: u64,
+}
+
+impl Model for BudgetDisc {
+    ghost use Rattle.std.specs.Prelude.{◌≡◌, ◌+◌};
+    ghost use Rattle.vc_model.specs.Discipline.{IsRound};
+    ghost use Rattle.vc_seg.specs.Budget.{Budget, bytes_of};
+
+    ghost Value = { Budget };
+
+    ghost view = { λ d. record {
+      budget = d.budget;
+      out = d.lent;
+      faults = d.refusals;
+      terms = record { round = d.unit };
+    } };
+
+    ghost invariant = { λ d. IsRound d.unit × (d.left + bytes_of d.lent ≡ d.budget) };
+}
+
+impl BudgetDisc {
+    /// A discipline that has at most `budget` bytes out, and rounds sizes up to a multiple of `round` bytes, a multiple
+    /// of 32 from 32 to 65,536.
+    pub fn new(round: u32, budget: u64) -> BudgetDisc
+        requires { IsRound round }
+        ensures { result ≡ record {
+          budget = budget;
+          out = [];
+          faults = 0;
+          terms = record { round = round };
+        } }
+    {
+        BudgetDisc {
+            lent: OutList::new(),
+            unit: round,
+            budget,
+            left: budget,
+            refusals: 0,
+        }
+    }
+}
+
+impl SegDisc for BudgetDisc {
+    ghost state = { discipline_of };
+
+    fn round(&self) -> u32 {
+        self.unit
+    }
+
+    fn faults(&self) -> u64 {
+        self.refusals
+    }
+
+    fn room(&self) -> Option<u64>
+        ensures { result ≡ Some (room_of self.now) }
+    {
+        Some(self.left)
+    }
+
+    fn lend(&mut self, alloc: Global, number: u32, size: u32) -> Result<Segment, LendFault>
+        requires size { IsSegmentSize size }
+        requires multiple { size % self.old.terms.round ≡ 0 }
+
+        ensures refuses { IsErrOf result LendFault.Refused ↔ (room_of self.old < size) }
+        ensures spent { OnOk result (room_of self.new + size ≡ room_of self.old) }
+        ensures budget { self.new.budget ≡ self.old.budget }
+        ensures fault { IsErrOf result LendFault.Refused → self.new.faults ≡ next_count self.old.faults }
+
+        // The trait's clauses.
+        ensures segment { IfOk result (λ segment. segment ≡ zeroed number size) }
+        ensures lent { OnOk result (Lent (discipline_of self.old) (discipline_of self.new) number size) }
+        ensures refused { IsErrOf result LendFault.Refused
+            → Unserved (discipline_of self.old) (discipline_of self.new) size }
+        ensures no_memory { IsErrOf result LendFault.OutOfMemory → self.new ≡ self.old }
+    {
+        let bytes = u64::from(size);
+        if bytes > self.left {
+            self.refusals = one_more(self.refusals);
+            return Err(LendFault::Refused);
+        }
+        let segment = self.lent.lend(alloc, number, size)?;
+        self.left -= bytes;
+        Ok(segment)
+    }
+
+    fn take_back(&mut self, seg: Segment)
+        requires { Contains self.old.out (pair_of seg) }
+        ensures returned { Returned (discipline_of self.old) (discipline_of self.new) (pair_of seg) }
+        ensures back { room_of self.new ≡ room_of self.old + length seg.bytes }
+        ensures budget { self.new.budget ≡ self.old.budget }
+    {
+        let bytes = u64::from(seg.size());
+        self.lent.take_back(seg);
+        self.left += bytes;
+    }
+}

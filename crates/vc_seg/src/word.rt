@@ -1,0 +1,30 @@
+ghost use Rattle.std.specs.Prelude.{◌≡◌, ◌+◌, ◌%◌, ◌≤◌, length, take, drop};
+ghost use Rattle.std.specs.Int.{from_le_bytes, to_le_bytes, w64};
+ghost use Rattle.vc_model.specs.Bytes.{with_bytes};
+
+use crate::Segment;
+
+impl Segment {
+    /// The word at a place, 8 bytes with the lowest first. The place is a multiple of 8, and the word lies in the
+    /// segment.
+    pub fn load(&self, at: u32) -> u64
+        requires within { at + 8 ≤ length self.now.bytes }
+        requires multiple { at % 8 ≡ 0 }
+        ensures { result ≡ from_le_bytes w64 (take 8 (drop at self.now.bytes)) }
+    {
+        let mut word = [0u8; 8];
+        word.copy_from_slice(self.bytes(at, 8));
+        u64::from_le_bytes(word)
+    }
+
+    /// Writes a word at a place, 8 bytes with the lowest first. The place is a multiple of 8, and the word lies in the
+    /// segment.
+    pub fn store(&mut self, at: u32, v: u64)
+        requires within { at + 8 ≤ length self.old.bytes }
+        requires multiple { at % 8 ≡ 0 }
+        ensures bytes { self.new.bytes ≡ with_bytes at (to_le_bytes w64 v) self.old.bytes }
+        ensures number { self.new.number ≡ self.old.number }
+    {
+        self.put(at, &v.to_le_bytes());
+    }
+}
