@@ -2,30 +2,35 @@
 use Rattle.std.proofs.Common.{◌≡◌, ◌≢◌, ℕ, ◌-◌, ◌≤◌, true, false, cond, List, [], ◌∷◌, ◌++◌, Option, Some, None, length, map, option_map, set, take, zero, suc, refl, sym, ap, ◌∙◌, subst, arith}
 use Rattle.std.specs.Prelude.{remove, slice_get}
 use Rattle.std.specs.List.{AllByRecursion, list_any}
-use Rattle.std.proofs.lemmas.List.{length-append, map-set, set_comm, take_at}
+use Rattle.std.proofs.lemmas.List.{append-nil, length-append, map-set, set_comm, take_at}
 use Rattle.std.proofs.lemmas.Option.{none-some, same_Some, slice_get-map}
-use Rattle.vc_model.specs.Discipline.{Discipline}
+use Rattle.vc_model.specs.Discipline.{Discipline, Terms, TookBack, HasOut}
+use Rattle.vc_model.specs.Region.{segments_of}
 use Rattle.vc_model.specs.Numbered.{at_number}
 use Rattle.vc_script.specs.declared.reply.Reply.TheVariants.{Closed}
-use Rattle.vc_session.specs.State.{Home, Stepped, close_home, close_step, home_named, is_home, without_home}
-use Rattle.vc_session.specs.Homes.{IsFirst}
-use Rattle.vc_session.specs.Account.{Account, Held, IsSession, account, accounts, account_after, home_of, settled, state_of}
+use Rattle.vc_session.specs.State.{Home, stepped, close_home, close_step, home_named, is_home, without_home}
+use Rattle.vc_session.specs.Account.{Account, Held, IsSession, account, accounts, account_after, account_back, home_of, settled, state_of}
 use Rattle.vc_session.proofs.Cells.{all-remove, at_number-from_one, at_number-zero, at_number_some, map-remove, slice_get-set_other}
-use Rattle.vc_session.proofs.Firsts.{find-first, or-false}
+use Rattle.vc_session.proofs.Firsts.{IsFirst, find-first, or-false}
 use Rattle.vc_session.proofs.Settle.{IsApart, away-at, low-at}
 use Rattle.vc_seg.specs.Shelf.{place_at, place_of}
 use Rattle.vc_seg.specs.declared.shelf.ShelfPlace.TheVariants.{Taken}
 use Rattle.vc_session.proofs.Sessions.{Slots, apart-session}
 
+-- what is left of segments that are out, when those of a region are back
+pub front-out : (rest segments out : List (ℕ × ℕ)) → out ≡ rest ++ segments → take (length out - length segments) out ≡ rest
+front-out rest segments out e =
+    ap (λ o. take (length o - length segments) o) e
+    ∙ take_at rest segments (length (rest ++ segments) - length segments) (omega (arith, length-append rest segments))
+
 -- the account of a discipline that has its segments back
-pub account-closed : (h : Held) (d : Discipline) → h.disc.out ≡ d.out ++ h.layout.segments → d.round ≡ h.disc.round → d.faults ≡ h.disc.faults → account d ≡ account_after h
-account-closed h d out round faults =
-    let front : take (length h.disc.out - length h.layout.segments) h.disc.out ≡ d.out =
-    ap (λ o. take (length o - length h.layout.segments) o) out
-    ∙ take_at d.out h.layout.segments (length (d.out ++ h.layout.segments) - length h.layout.segments) (omega (arith, length-append d.out h.layout.segments)) in
-    ap (λ o. let a : Account = record { out = o; round = d.round; faults = d.faults } in a) (sym front)
-    ∙ (ap (λ r. let a : Account = record { out = (account_after h).out; round = r; faults = d.faults } in a) round
-    ∙ ap (λ f. let a : Account = record { out = (account_after h).out; round = h.disc.round; faults = f } in a) faults)
+pub account-closed : (d e : Discipline) (segments : List (ℕ × ℕ)) → HasOut d segments → TookBack d e segments [] → account e ≡ account_back d segments
+account-closed d e segments has back =
+    let out : take (length d.out - length segments) d.out ≡ e.out =
+    front-out has.0 segments d.out has.1 ∙ sym (back.out has.0 has.1 ∙ append-nil has.0) in
+    ap (λ o. let a : Account = record { out = o; terms = e.terms; faults = e.faults } in a) (sym out)
+    ∙ (ap (λ t. let a : Account = record { out = (account_back d segments).out; terms = t; faults = e.faults } in a) back.terms
+    ∙ ap (λ f. let a : Account = record { out = (account_back d segments).out; terms = d.terms; faults = f } in a) back.faults)
 
 -- another place stays
 pub elsewhere : (slots : Slots) (n : ℕ) (d : Discipline) → at_number slots n ≡ Some None → (p : ℕ) → p ≢ n → at_number (set slots (n - 1) (Some d)) p ≡ at_number slots p
@@ -83,10 +88,10 @@ settled-remove shelf (g ∷ hs) (suc i) h at apart =
     ap (λ s. settled s (remove hs i)) (set_comm shelf (h.place - 1) (g.place - 1) (Some (account_after h)) (Some (account_after g)) (λ e. other (omega (arith, e, low, first))))
     ∙ settled-remove (set shelf (g.place - 1) (Some (account_after g))) hs i h at apart.2
 
-rounds : (slots : Slots) → map (option_map (λ (a : Account). a.round)) (accounts slots) ≡ map (option_map (λ (d : Discipline). d.round)) slots
-rounds [] = refl
-rounds (None ∷ slots) = ap (λ rs. None ∷ rs) (rounds slots)
-rounds (Some d ∷ slots) = ap (λ rs. Some d.round ∷ rs) (rounds slots)
+terms_of : (slots : Slots) → map (option_map (λ (a : Account). a.terms)) (accounts slots) ≡ map (option_map (λ (d : Discipline). d.terms)) slots
+terms_of [] = refl
+terms_of (None ∷ slots) = ap (λ rs. None ∷ rs) (terms_of slots)
+terms_of (Some d ∷ slots) = ap (λ rs. Some d.terms ∷ rs) (terms_of slots)
 
 without_home-at : (r : List ℕ) (hs : List Home) (i : ℕ) (h : Home) → slice_get hs i ≡ Some h → is_home r h ≡ true → list_any (is_home r) (take i hs) ≡ false → without_home r hs ≡ remove hs i
 without_home-at r [] i h at passes none = absurd (none-some h at)
@@ -102,20 +107,20 @@ module _ (slots slots' : Slots) (hs : List Held) (i : ℕ) (h : Held) (at : slic
   pub settled-close : settled (accounts slots') (remove hs i) ≡ settled (accounts slots) hs
   settled-close = ap (λ a. settled a (remove hs i)) here ∙ settled-remove (accounts slots) hs i h at (apart-session slots hs session)
 
-  shelf-close : map (option_map (λ (d : Discipline). d.round)) slots' ≡ set (map (option_map (λ (d : Discipline). d.round)) slots) (h.place - 1) (Some h.disc.round)
+  shelf-close : map (option_map (λ (d : Discipline). d.terms)) slots' ≡ set (map (option_map (λ (d : Discipline). d.terms)) slots) (h.place - 1) (Some h.disc.terms)
   shelf-close =
-      sym (rounds slots')
-      ∙ (ap (map (option_map (λ (a : Account). a.round))) here
-      ∙ (map-set (option_map (λ (a : Account). a.round)) (accounts slots) (h.place - 1) (Some (account_after h))
-      ∙ ap (λ rs. set rs (h.place - 1) (Some h.disc.round)) (rounds slots)))
+      sym (terms_of slots')
+      ∙ (ap (map (option_map (λ (a : Account). a.terms))) here
+      ∙ (map-set (option_map (λ (a : Account). a.terms)) (accounts slots) (h.place - 1) (Some (account_after h))
+      ∙ ap (λ rs. set rs (h.place - 1) (Some h.disc.terms)) (terms_of slots)))
 
-  pub step-close : (r : List ℕ) (count : ℕ) → IsFirst (is_home r) (map home_of hs) i → count ≡ length h.layout.segments → close_step (state_of slots hs) r ≡ record { state = state_of slots' (remove hs i); reply = Closed r count }
+  pub step-close : (r : List ℕ) (count : ℕ) → IsFirst (is_home r) (map home_of hs) i → count ≡ length (segments_of h.region) → close_step (state_of slots hs) r ≡ stepped (state_of slots' (remove hs i)) (Closed r count)
   step-close r count first counted =
       let item : first.item ≡ home_of h = same_Some first.item (home_of h) (sym first.at ∙ (slice_get-map home_of hs i ∙ ap (option_map home_of) at)) in
       let found : home_named r (map home_of hs) ≡ Some (home_of h) = find-first (is_home r) (map home_of hs) i first ∙ ap (λ k. Some k) item in
       let left : without_home r (map home_of hs) ≡ map home_of (remove hs i) =
       without_home-at r (map home_of hs) i first.item first.at first.passes first.before ∙ sym (map-remove home_of hs i) in
       ap (close_home (state_of slots hs) r) found
-      ∙ (ap (λ rs. let s : Stepped = record { state = record { shelf = rs; homes = without_home r (map home_of hs) }; reply = Closed r (length h.layout.segments) } in s) (sym shelf-close)
-      ∙ (ap (λ ks. let s : Stepped = record { state = record { shelf = (state_of slots' hs).shelf; homes = ks }; reply = Closed r (length h.layout.segments) } in s) left
-      ∙ ap (λ n. let s : Stepped = record { state = state_of slots' (remove hs i); reply = Closed r n } in s) (sym counted)))
+      ∙ (ap (λ rs. stepped (record { shelf = rs; homes = without_home r (map home_of hs) }) (Closed r (length (segments_of h.region)))) (sym shelf-close)
+      ∙ (ap (λ ks. stepped (record { shelf = (state_of slots' hs).shelf; homes = ks }) (Closed r (length (segments_of h.region)))) left
+      ∙ ap (λ n. stepped (state_of slots' (remove hs i)) (Closed r n)) (sym counted)))

@@ -5,8 +5,14 @@ use Rattle.std.specs.List.{list_any}
 use Rattle.std.proofs.lemmas.List.{take-map}
 use Rattle.std.proofs.lemmas.Option.{same_Some, none-some}
 use Rattle.vc_model.specs.Region.{Region}
-use Rattle.vc_session.specs.State.{Home, is_home, with_region}
-use Rattle.vc_session.specs.Homes.{IsFirst}
+use Rattle.vc_session.specs.State.{Home, Label, is_home, with_region}
+
+-- the first place of a list that passes a test
+pub record IsFirst {A : Type 0} (test : A → Bool) (xs : List A) (i : ℕ) : Type 0 where
+  pub item : A
+  pub at : slice_get xs i ≡ Some item
+  pub passes : test item ≡ true
+  pub before : list_any test (take i xs) ≡ false
 
 pub or-false : (a b : Bool) → (a || b) ≡ false → (a ≡ false) × (b ≡ false)
 or-false true b h = absurd cc
@@ -43,7 +49,7 @@ find-none test (y ∷ ys) none =
     let parts = or-false (test y) (list_any test ys) none in
     ap (λ b. cond b (Some y) (find test ys)) parts.0 ∙ find-none test ys parts.1
 
-any-unmap : {A B : Type 0} (test : B → Bool) (f : A → B) (xs : List A) → list_any test (map f xs) ≡ list_any (λ x. test (f x)) xs
+pub any-unmap : {A B : Type 0} (test : B → Bool) (f : A → B) (xs : List A) → list_any test (map f xs) ≡ list_any (λ x. test (f x)) xs
 any-unmap test f [] = refl
 any-unmap test f (x ∷ xs) = ap (λ b. test (f x) || b) (any-unmap test f xs)
 
@@ -66,7 +72,7 @@ first-unmap test f xs i first =
 pub none-unmap : {A B : Type 0} (test : B → Bool) (f : A → B) (xs : List A) → list_any test (map f xs) ≡ false → list_any (λ x. test (f x)) xs ≡ false
 none-unmap test f xs none = sym (any-unmap test f xs) ∙ none
 
-with_region-at : (r : List ℕ) (region : Region (List ℕ)) (hs : List Home) (i : ℕ) (h : Home) → slice_get hs i ≡ Some h → is_home r h ≡ true → list_any (is_home r) (take i hs) ≡ false → with_region r region hs ≡ set hs i (record h { region = region })
+with_region-at : (r : List ℕ) (region : Region Label) (hs : List Home) (i : ℕ) (h : Home) → slice_get hs i ≡ Some h → is_home r h ≡ true → list_any (is_home r) (take i hs) ≡ false → with_region r region hs ≡ set hs i (record h { region = region })
 with_region-at r region [] i h at passes none = absurd (none-some h at)
 with_region-at r region (g ∷ hs) zero h at passes none =
     let same : g ≡ h = same_Some g h at in
@@ -79,7 +85,7 @@ with_region-at r region (g ∷ hs) (suc i) h at passes none =
     ∙ ap (λ ks. g ∷ ks) (with_region-at r region hs i h at passes parts.1)
 
 -- the region of a name is the first of that name
-pub with_region-first : (r : List ℕ) (region : Region (List ℕ)) (hs : List Home) (i : ℕ) (f : IsFirst (is_home r) hs i) → with_region r region hs ≡ set hs i (record f.item { region = region })
+pub with_region-first : (r : List ℕ) (region : Region Label) (hs : List Home) (i : ℕ) (f : IsFirst (is_home r) hs i) → with_region r region hs ≡ set hs i (record f.item { region = region })
 with_region-first r region hs i f = with_region-at r region hs i f.item f.at f.passes f.before
 
 or-true : (b : Bool) → (b || true) ≡ true

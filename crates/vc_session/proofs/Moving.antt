@@ -1,196 +1,231 @@
--- What holds of blocks as one of them gets another size or moves.
-use Rattle.std.proofs.Common.{◌≡◌, ℕ, ◌+◌, suc, Bool, true, false, ◌||◌, cond, List, [], ◌∷◌, Some, All, length, map, eqb, refl, sym, ap, ◌∙◌, subst, ⊎_elim, arith}
+-- The names of a region stay in step with its blocks as one is put, moves or goes.
+use Rattle.std.proofs.Common.{◌≡◌, ◌≢◌, ℕ, ◌+◌, ◌≤◌, zero, suc, Bool, true, false, ◌||◌, cond, is_some, List, [], ◌∷◌, Option, Some, None, refl, sym, ap, ◌∙◌, subst, ⊎_elim, inl, inr, arith}
+use Rattle.std.specs.Prelude.{count_by, nat_lt}
 use Rattle.std.specs.List.{AllByRecursion, list_any}
 use Rattle.std.specs.Str.{bytes_eq}
-use Rattle.std.proofs.lemmas.Bool.{cases_Bool, and_parts, eqb-true}
-use Rattle.std.proofs.lemmas.List.{length-map}
+use Rattle.std.proofs.lemmas.Bool.{cases_Bool, cases_eq}
+use Rattle.std.proofs.lemmas.Bool.Decides.{nat_tests}
 use Rattle.std.proofs.lemmas.Option.{same_Some, none-some}
-use Rattle.vc_best.specs.Apart.{AreApart, EndsBefore}
-use Rattle.vc_best.proofs.Apart.{AllPairs-head, AllPairs-tail, span-least}
-use Rattle.vc_model.specs.Region.{Block, footprint, is_at, lies_before, with_block, without_block}
-use Rattle.vc_model.specs.Touch.{change_block, find_block}
-use Rattle.vc_session.specs.Blocks.{has_label}
+use Rattle.vc_model.specs.Addr.{address, place_of}
+use Rattle.vc_model.specs.Best.{zeros}
+use Rattle.vc_model.specs.Layout.{Block, address_of, without_block}
+use Rattle.vc_model.specs.Region.{Region, blocks_of, relabelled}
+use Rattle.vc_model.specs.Sound.{HaveOwnPlaces}
+use Rattle.vc_model.specs.Touch.{find_block}
+use Rattle.vc_model.proofs.Relabel.{relabelled-alike}
+use Rattle.vc_session.specs.Blocks.{has_label, is_name_of}
+use Rattle.vc_session.specs.declared.labels.Label.{Label}
 use Rattle.vc_session.specs.declared.labels.Labels.{Labels}
-use Rattle.vc_session.specs.Account.{IsLive, named_block}
-use Rattle.vc_session.proofs.Names.{all-with_block, length-with_block, or-swap}
+use Rattle.vc_session.specs.Labels.{AreLabels, MovesLabel, SameLabels, WithLabel, WithoutLabel, label_at, name_of, tag_of}
+use Rattle.vc_session.specs.Account.{IsLive, IsNamed, tag_count}
+use Rattle.vc_session.proofs.Found.{TheBlock}
+use Rattle.vc_session.proofs.Lists.{all-join, all-map, all-without, any-alike, any-split, count-split, others-apart}
+use Rattle.vc_session.proofs.Names.{has-label-any, name-alike, name-here, name-none, named_by, other_bytes, same_bytes}
 
--- a block without its size and its bytes
-abbrev pub bare : Block ℕ → Block ℕ
-bare b = record { label = b.label; seg = b.seg; off = b.off; size = 0; bytes = [] }
+-- the tag is that of no block, or of the one that is looked at alone
+abbrev pub Stays : Labels → Labels → Block ℕ → Type 0
+Stays old new b = 1 ≤ b.label → IsLive new b × (label_at new b.label ≡ label_at old b.label)
 
--- the blocks that stand where they stood, under their labels
-pub bare-change : (change : Block ℕ → Block ℕ) (same : (b : Block ℕ) → bare (change b) ≡ bare b) (at : ℕ × ℕ) (bs : List (Block ℕ)) → map bare (change_block change at bs) ≡ map bare bs
-bare-change change same at [] = refl
-bare-change change same at (b ∷ bs) =
-    elim (is_at at b) as (λ v. map bare (cond v (change b ∷ bs) (b ∷ change_block change at bs)) ≡ map bare (b ∷ bs))
-    [ true ↦ ap (λ c. c ∷ map bare bs) (same b) | false ↦ ap (λ cs. bare b ∷ cs) (bare-change change same at bs) ]
+lives : (old new : Labels) (bs : List (Block ℕ)) → AllByRecursion (Stays old new) bs → AllByRecursion (λ b. 1 ≤ b.label → IsLive new b) bs
+lives old new [] all = tt
+lives old new (b ∷ bs) all = ((λ first. (all.0 first).0), lives old new bs all.1)
 
-bare-without : (at : ℕ × ℕ) (bs : List (Block ℕ)) → map bare (without_block at bs) ≡ without_block at (map bare bs)
-bare-without at [] = refl
-bare-without at (b ∷ bs) =
-    elim (is_at at b) as (λ v. map bare (cond v bs (b ∷ without_block at bs)) ≡ cond v (map bare bs) (bare b ∷ without_block at (map bare bs)))
-    [ true ↦ refl | false ↦ ap (λ cs. bare b ∷ cs) (bare-without at bs) ]
+name-stays : (old new : Labels) (b : Block ℕ) → Stays old new b → name_of new b.label ≡ name_of old b.label
+name-stays old new b stays =
+    ⊎_elim
+    (λ none. name-none new b.label none ∙ sym (name-none old b.label none))
+    (λ some. name-alike old new b.label (stays some).1)
+    (zero-or b.label)
+  where
+    zero-or : (n : ℕ) → (n ≡ 0) ⊎ (1 ≤ n)
+    zero-or zero = inl refl
+    zero-or (suc n) = inr (omega arith)
 
-pub alike-without : (at : ℕ × ℕ) (bs cs : List (Block ℕ)) → map bare bs ≡ map bare cs → map bare (without_block at bs) ≡ map bare (without_block at cs)
-alike-without at bs cs same = bare-without at bs ∙ (ap (without_block at) same ∙ sym (bare-without at cs))
+pub names-stay : (old new : Labels) (bs : List (Block ℕ)) → AllByRecursion (Stays old new) bs → AllByRecursion (λ b. name_of new b.label ≡ name_of old b.label) bs
+names-stay old new [] all = tt
+names-stay old new (b ∷ bs) all = (name-stays old new b all.0, names-stay old new bs all.1)
 
-pub length-alike : (bs cs : List (Block ℕ)) → map bare bs ≡ map bare cs → length bs ≡ length cs
-length-alike bs cs same = sym (length-map bs bare) ∙ (ap length same ∙ length-map cs bare)
+tests-stay : (old new : Labels) (y : List ℕ) (bs : List (Block ℕ)) → AllByRecursion (λ b. name_of new b.label ≡ name_of old b.label) bs → AllByRecursion (λ b. named_by (name_of new) y b ≡ named_by (name_of old) y b) bs
+tests-stay old new y [] all = tt
+tests-stay old new y (b ∷ bs) all = (ap (is_name_of y) all.0, tests-stay old new y bs all.1)
 
-live-to : (labels : Labels) (bs : List (Block ℕ)) → AllByRecursion (IsLive labels) bs → AllByRecursion (IsLive labels) (map bare bs)
-live-to labels [] all = tt
-live-to labels (b ∷ bs) all =
-    let l = all.0 in
-    (record { first = l.first; label = l.label; here = l.here; at = l.at; place = l.place }, live-to labels bs all.1)
+stay-other : (old new : Labels) (tag : ℕ) (b : Block ℕ) → ((t : ℕ) → 1 ≤ t → t ≢ tag → label_at new t ≡ label_at old t) → (1 ≤ b.label → IsLive old b) → b.label ≢ tag → Stays old new b
+stay-other old new tag b same live other = λ first.
+    let l = live first in
+    let is = same b.label first other in
+    (record { label = l.label; here = is ∙ l.here; at = l.at; place = l.place }, is)
 
-live-from : (labels : Labels) (bs : List (Block ℕ)) → AllByRecursion (IsLive labels) (map bare bs) → AllByRecursion (IsLive labels) bs
-live-from labels [] all = tt
-live-from labels (b ∷ bs) all =
-    let l = all.0 in
-    (record { first = l.first; label = l.label; here = l.here; at = l.at; place = l.place }, live-from labels bs all.1)
+-- a new block, under a new name and a tag that was not in use
+module _ (old new : Labels) (tag : ℕ) (label : Label) (w : WithLabel old new tag label) (vacant : label_at old tag ≡ None) where
+  stay-new : (bs : List (Block ℕ)) → AllByRecursion (λ b. 1 ≤ b.label → IsLive old b) bs → AllByRecursion (Stays old new) bs
+  stay-new [] all = tt
+  stay-new (b ∷ bs) all =
+      ((λ first.
+      let l = all.0 first in
+      stay-other old new tag b w.other_tags all.0 (λ e. none-some l.label (sym vacant ∙ (ap (label_at old) (sym e) ∙ l.here))) first), stay-new bs all.1)
 
-pub live-alike : (labels : Labels) (bs cs : List (Block ℕ)) → map bare bs ≡ map bare cs → AllByRecursion (IsLive labels) cs → AllByRecursion (IsLive labels) bs
-live-alike labels bs cs same all = live-from labels bs (subst (AllByRecursion (IsLive labels)) (sym same) (live-to labels cs all))
+  pub name-new : name_of new tag ≡ Some label.name
+  name-new = name-here new tag label w.first w.at
 
-has_label-bare : (f : ℕ → List ℕ) (y : List ℕ) (bs : List (Block ℕ)) → has_label y (map (named_block f) (map bare bs)) ≡ has_label y (map (named_block f) bs)
-has_label-bare f y [] = refl
-has_label-bare f y (b ∷ bs) = ap (λ v. bytes_eq (f b.label) y || v) (has_label-bare f y bs)
+  -- one more name changes no block's name
+  pub region-more : (r : Region ℕ) → IsNamed r old → relabelled (name_of new) r ≡ relabelled (name_of old) r
+  region-more r names = relabelled-alike (name_of new) (name_of old) r (names-stay old new (blocks_of r) (stay-new (blocks_of r) names.live))
 
-pub has_label-alike : (f : ℕ → List ℕ) (y : List ℕ) (bs cs : List (Block ℕ)) → map bare bs ≡ map bare cs → has_label y (map (named_block f) bs) ≡ has_label y (map (named_block f) cs)
-has_label-alike f y bs cs same = sym (has_label-bare f y bs) ∙ (ap (λ ds. has_label y (map (named_block f) ds)) same ∙ has_label-bare f y cs)
-
--- the block that is found at a place, or one that is found further on
-first_at : (p : ℕ × ℕ) (b c : Block ℕ) (cs : List (Block ℕ)) → find_block p (c ∷ cs) ≡ Some b → is_at p c ≡ true → c ≡ b
-first_at p b c cs e here = same_Some c b (sym (ap (λ v. cond v (Some c) (find_block p cs)) here) ∙ e)
-
-later_at : (p : ℕ × ℕ) (b c : Block ℕ) (cs : List (Block ℕ)) → find_block p (c ∷ cs) ≡ Some b → is_at p c ≡ false → find_block p cs ≡ Some b
-later_at p b c cs e not_here = sym (ap (λ v. cond v (Some c) (find_block p cs)) not_here) ∙ e
-
-without-here : (p : ℕ × ℕ) (c : Block ℕ) (cs : List (Block ℕ)) → is_at p c ≡ true → without_block p (c ∷ cs) ≡ cs
-without-here p c cs here = ap (λ v. cond v cs (c ∷ without_block p cs)) here
-
-without-later : (p : ℕ × ℕ) (c : Block ℕ) (cs : List (Block ℕ)) → is_at p c ≡ false → without_block p (c ∷ cs) ≡ c ∷ without_block p cs
-without-later p c cs not_here = ap (λ v. cond v cs (c ∷ without_block p cs)) not_here
-
-module _ (p : ℕ × ℕ) (b : Block ℕ) where
-  length-without : (bs : List (Block ℕ)) → find_block p bs ≡ Some b → length (without_block p bs) + 1 ≡ length bs
-  length-without [] e = absurd (none-some b e)
-  length-without (c ∷ cs) e =
+  known-more : (y : List ℕ) → is_some (tag_of new y) ≡ (bytes_eq label.name y || is_some (tag_of old y))
+  known-more y =
       ⊎_elim
-      (λ here. omega (arith, ap length (without-here p c cs here)))
-      (λ not_here. omega (arith, ap length (without-later p c cs not_here), length-without cs (later_at p b c cs e not_here)))
-      (cases_Bool (is_at p c))
+      (λ e. ap (λ x. is_some (tag_of new x)) (sym (same_bytes label.name y e)) ∙ (ap is_some w.name ∙ sym (ap (λ b. b || is_some (tag_of old y)) e)))
+      (λ e. ap is_some (w.other_names y (λ same. other_bytes label.name y e (sym same))) ∙ sym (ap (λ b. b || is_some (tag_of old y)) e))
+      (cases_Bool (bytes_eq label.name y))
 
-  -- as many blocks as before, with one put and the one at a place gone
-  pub length-move : (z : Block ℕ) (bs : List (Block ℕ)) → find_block p bs ≡ Some b → length (without_block p (with_block z bs)) ≡ length bs
-  length-move z [] e = absurd (none-some b e)
-  length-move z (c ∷ cs) e =
-      elim (lies_before z c) as (λ v. length (without_block p (cond v (z ∷ c ∷ cs) (c ∷ with_block z cs))) ≡ length (c ∷ cs)) [
-        | true ↦
-            elim (is_at p z) as (λ v. length (cond v (c ∷ cs) (z ∷ without_block p (c ∷ cs))) ≡ length (c ∷ cs))
-            [ true ↦ refl | false ↦ omega (arith, length-without (c ∷ cs) e) ]
-        | false ↦
-            ⊎_elim
-            (λ here. omega (arith, ap length (without-here p c (with_block z cs) here), length-with_block z cs))
-            (λ not_here. omega (arith, ap length (without-later p c (with_block z cs) not_here), length-move z cs (later_at p b c cs e not_here)))
-            (cases_Bool (is_at p c))
-      ]
+  pub named-put : (r r' : Region ℕ) (size : ℕ) → find_block (place_of label.at.0) (blocks_of r') ≡ Some (zeros tag size (place_of label.at.0)) → without_block (place_of label.at.0) (blocks_of r') ≡ blocks_of r → label.at.0 ≡ address (place_of label.at.0) → AreLabels new → HaveOwnPlaces (blocks_of r') → IsNamed r old → IsNamed r' new
+  named-put r r' size there others at agree places n =
+      let p = place_of label.at.0 in
+      let z : Block ℕ = zeros tag size p in
+      let stays : AllByRecursion (Stays old new) (without_block p (blocks_of r')) = subst (AllByRecursion (Stays old new)) (sym others) (stay-new (blocks_of r) n.live) in
+      let first : nat_lt 0 tag ≡ true = grind (arith, nat_tests, w.first) in
+      let one : cond (nat_lt 0 tag) 1 0 ≡ 1 = ap (λ b. cond b 1 0) first in
+      let all : tag_count (blocks_of r') ≡ cond (nat_lt 0 tag) 1 0 + tag_count (without_block p (blocks_of r')) = count-split p z (λ b. nat_lt 0 b.label) (blocks_of r') there in
+      let left : tag_count (without_block p (blocks_of r')) ≡ tag_count (blocks_of r) = ap tag_count others in
+      record {
+        agree = agree;
+        count = omega (arith, all, left, one, n.count, w.count);
+        live = all-join p z (λ b. 1 ≤ b.label → IsLive new b) (blocks_of r') there (λ low. record { label = label; here = w.at; at = at; place = refl }) (lives old new (without_block p (blocks_of r')) stays);
+        known = λ y.
+            known-more y
+            ∙ (ap (λ v. bytes_eq label.name y || v) (n.known y ∙ has-label-any (name_of old) y r)
+            ∙ sym (has-label-any (name_of new) y r'
+            ∙ (any-split p z (named_by (name_of new) y) (blocks_of r') there
+            ∙ (ap (λ o. is_name_of y o || list_any (named_by (name_of new) y) (without_block p (blocks_of r'))) name-new
+            ∙ (ap (λ v. bytes_eq label.name y || v)
+            (ap (list_any (named_by (name_of new) y)) others
+            ∙ any-alike (named_by (name_of new) y) (named_by (name_of old) y) (blocks_of r) (tests-stay old new y (blocks_of r) (names-stay old new (blocks_of r) (stay-new (blocks_of r) n.live)))))))));
+        places = places;
+      }
 
-  module _ (test : Block ℕ → Bool) where
-    any-without : (bs : List (Block ℕ)) → find_block p bs ≡ Some b → list_any test bs ≡ (test b || list_any test (without_block p bs))
-    any-without [] e = absurd (none-some b e)
-    any-without (c ∷ cs) e =
+-- blocks that stand elsewhere than the one of a name have other tags
+module _ (old : Labels) (r : Region ℕ) (names : IsNamed r old) (x : List ℕ) (tag : ℕ) (label : Label) (was_at : label_at old tag ≡ Some label) (b : TheBlock r old x tag label.at.0) where
+  differs : (c : Block ℕ) → (1 ≤ c.label → IsLive old c) → address_of c ≢ address_of b.block → 1 ≤ c.label → c.label ≢ tag
+  differs c live other first e =
+      let l = live first in
+      let same : l.label ≡ label = same_Some l.label label (sym l.here ∙ (ap (label_at old) e ∙ was_at)) in
+      other (sym l.at ∙ (ap (λ (k : Label). k.at.0) same ∙ sym b.address))
+
+  stay-others : (new : Labels) → ((t : ℕ) → 1 ≤ t → t ≢ tag → label_at new t ≡ label_at old t) → (bs : List (Block ℕ)) → AllByRecursion (λ c. 1 ≤ c.label → IsLive old c) bs → AllByRecursion (λ c. address_of c ≢ address_of b.block) bs → AllByRecursion (Stays old new) bs
+  stay-others new same [] all away = tt
+  stay-others new same (c ∷ cs) all away =
+      ((λ first. stay-other old new tag c same all.0 (differs c all.0 away.0 first) first), stay-others new same cs all.1 away.1)
+
+  -- those behind without it
+  pub rest-stays : (new : Labels) → ((t : ℕ) → 1 ≤ t → t ≢ tag → label_at new t ≡ label_at old t) → AllByRecursion (Stays old new) (without_block (place_of label.at.0) (blocks_of r))
+  rest-stays new same =
+      stay-others new same (without_block (place_of label.at.0) (blocks_of r))
+      (all-without (place_of label.at.0) b.block (λ c. 1 ≤ c.label → IsLive old c) (blocks_of r) names.live)
+      (others-apart (place_of label.at.0) b.block (blocks_of r) b.found names.places)
+
+  -- the block has another address, or another size or bytes, under its tag
+  module _ (new : Labels) (to : Label) (m : MovesLabel old new tag to) (same_name : to.name ≡ label.name) where
+    pub name-moved : (t : ℕ) → name_of new t ≡ name_of old t
+    name-moved t =
         ⊎_elim
-        (λ here. ap (λ d. test d || list_any test cs) (first_at p b c cs e here) ∙ sym (ap (λ ds. test b || list_any test ds) (without-here p c cs here)))
-        (λ not_here.
-        ap (λ v. test c || v) (any-without cs (later_at p b c cs e not_here))
-        ∙ (or-swap (test c) (test b) (list_any test (without_block p cs))
-        ∙ sym (ap (λ ds. test b || list_any test ds) (without-later p c cs not_here))))
-        (cases_Bool (is_at p c))
+        (λ e.
+        subst (λ u. name_of new u ≡ name_of old u) (sym e)
+        (name-here new tag to m.first m.at ∙ (ap (λ n. Some n) same_name ∙ sym (name-here old tag label m.first was_at))))
+        (λ other. other-name t other)
+        (cases_eq t tag)
+      where
+        other-name : (u : ℕ) → u ≢ tag → name_of new u ≡ name_of old u
+        other-name zero other = name-none new 0 refl ∙ sym (name-none old 0 refl)
+        other-name (suc u) other = name-alike old new (suc u) (m.other_tags (suc u) (omega arith) other)
 
-    any-with : (z : Block ℕ) (bs : List (Block ℕ)) → list_any test (with_block z bs) ≡ (test z || list_any test bs)
-    any-with z [] = refl
-    any-with z (c ∷ cs) =
-        elim (lies_before z c) as (λ v. list_any test (cond v (z ∷ c ∷ cs) (c ∷ with_block z cs)) ≡ (test z || list_any test (c ∷ cs)))
-        [ true ↦ refl | false ↦ ap (λ v. test c || v) (any-with z cs) ∙ or-swap (test c) (test z) (list_any test cs) ]
+    pub named-moved : (r' : Region ℕ) (b' : Block ℕ) → find_block (place_of to.at.0) (blocks_of r') ≡ Some b' → b'.label ≡ b.block.label → to.at.0 ≡ address_of b' → place_of to.at.0 ≡ (b'.seg, b'.off) → without_block (place_of to.at.0) (blocks_of r') ≡ without_block (place_of label.at.0) (blocks_of r) → AreLabels new → HaveOwnPlaces (blocks_of r') → IsNamed r' new
+    named-moved r' b' there tagged at place others agree places =
+        let p = place_of label.at.0 in
+        let q = place_of to.at.0 in
+        let f = name_of old in
+        let stays : AllByRecursion (Stays old new) (without_block q (blocks_of r')) = subst (AllByRecursion (Stays old new)) (sym others) (rest-stays new m.other_tags) in
+        let is_tag : b'.label ≡ tag = tagged ∙ b.is_tag in
+        let all : tag_count (blocks_of r') ≡ cond (nat_lt 0 b'.label) 1 0 + tag_count (without_block q (blocks_of r')) = count-split q b' (λ c. nat_lt 0 c.label) (blocks_of r') there in
+        let was : tag_count (blocks_of r) ≡ cond (nat_lt 0 b.block.label) 1 0 + tag_count (without_block p (blocks_of r)) = count-split p b.block (λ c. nat_lt 0 c.label) (blocks_of r) b.found in
+        let one : cond (nat_lt 0 b'.label) 1 0 ≡ cond (nat_lt 0 b.block.label) 1 0 = ap (λ t. cond (nat_lt 0 t) 1 0) tagged in
+        let left : tag_count (without_block q (blocks_of r')) ≡ tag_count (without_block p (blocks_of r)) = ap tag_count others in
+        record {
+          agree = agree;
+          count = omega (arith, all, was, one, left, names.count, m.count);
+          live = all-join q b' (λ c. 1 ≤ c.label → IsLive new c) (blocks_of r') there
+              (λ low. record { label = to; here = ap (label_at new) is_tag ∙ m.at; at = at; place = place })
+              (lives old new (without_block q (blocks_of r')) stays);
+          known = λ y.
+              ap is_some (m.names y)
+              ∙ (names.known y
+              ∙ (has-label-any f y r
+              ∙ (any-split p b.block (named_by f y) (blocks_of r) b.found
+              ∙ sym (has-label-any (name_of new) y r'
+              ∙ (any-split q b' (named_by (name_of new) y) (blocks_of r') there
+              ∙ (ap (λ o. is_name_of y o || list_any (named_by (name_of new) y) (without_block q (blocks_of r'))) (name-moved b'.label ∙ ap f tagged)
+              ∙ ap (λ v. is_name_of y (f b.block.label) || v)
+              (ap (list_any (named_by (name_of new) y)) others
+              ∙ any-alike (named_by (name_of new) y) (named_by f y) (without_block p (blocks_of r)) (tests-stay old new y (without_block p (blocks_of r)) (names-stay old new (without_block p (blocks_of r)) (rest-stays new m.other_tags)))))))))));
+          places = places;
+        }
 
-    -- a block is put that passes the test if the one that goes does
-    pub any-move : (z : Block ℕ) (bs : List (Block ℕ)) → find_block p bs ≡ Some b → test b ≡ test z → list_any test (without_block p (with_block z bs)) ≡ list_any test bs
-    any-move z [] e same = absurd (none-some b e)
-    any-move z (c ∷ cs) e same =
-        elim (lies_before z c) as (λ v. list_any test (without_block p (cond v (z ∷ c ∷ cs) (c ∷ with_block z cs))) ≡ list_any test (c ∷ cs)) [
-          | true ↦
-              elim (is_at p z) as (λ v. list_any test (cond v (c ∷ cs) (z ∷ without_block p (c ∷ cs))) ≡ list_any test (c ∷ cs))
-              [ true ↦ refl | false ↦ ap (λ t. t || list_any test (without_block p (c ∷ cs))) (sym same) ∙ sym (any-without (c ∷ cs) e) ]
-          | false ↦
+  -- the block goes, and its name
+  module _ (new : Labels) (w : WithoutLabel old new tag label) (is_named : label.name ≡ x) where
+    pub region-less : (r' : Region ℕ) → blocks_of r' ≡ without_block (place_of label.at.0) (blocks_of r) → relabelled (name_of new) r' ≡ relabelled (name_of old) r'
+    region-less r' left = relabelled-alike (name_of new) (name_of old) r' (names-stay old new (blocks_of r') (subst (AllByRecursion (Stays old new)) (sym left) (rest-stays new w.other_tags)))
+
+    unnamed : (y : List ℕ) → AreLabels new → tag_of new y ≡ None → (bs : List (Block ℕ)) → AllByRecursion (λ c. 1 ≤ c.label → IsLive new c) bs → list_any (named_by (name_of new) y) bs ≡ false
+    unnamed y agree none [] all = refl
+    unnamed y agree none (c ∷ cs) all =
+        ap (λ v. v || list_any (named_by (name_of new) y) cs) (fails c.label all.0) ∙ unnamed y agree none cs all.1
+      where
+        fails : (t : ℕ) → (1 ≤ c.label → IsLive new c) → is_name_of y (name_of new c.label) ≡ false
+        fails t live =
+            ⊎_elim
+            (λ zero_is. ap (is_name_of y) (name-none new c.label zero_is))
+            (λ first.
+            let l = live first in
+            let own = name-here new c.label l.label first l.here in
+            ap (is_name_of y) own
+            ∙ ⊎_elim
+            (λ e. absurd (none-some c.label (sym none ∙ (ap (tag_of new) (sym (same_bytes l.label.name y e)) ∙ agree.named c.label l.label first l.here))))
+            (λ e. e)
+            (cases_Bool (bytes_eq l.label.name y)))
+            (zero-or c.label)
+        zero-or : (n : ℕ) → (n ≡ 0) ⊎ (1 ≤ n)
+        zero-or zero = inl refl
+        zero-or (suc n) = inr (omega arith)
+
+    pub named-left : (r' : Region ℕ) → blocks_of r' ≡ without_block (place_of label.at.0) (blocks_of r) → AreLabels new → HaveOwnPlaces (blocks_of r') → IsNamed r' new
+    named-left r' left agree places =
+        let p = place_of label.at.0 in
+        let f = name_of old in
+        let stays : AllByRecursion (Stays old new) (blocks_of r') = subst (AllByRecursion (Stays old new)) (sym left) (rest-stays new w.other_tags) in
+        let live = lives old new (blocks_of r') stays in
+        let low : 1 ≤ b.block.label = b.first in
+        let first : nat_lt 0 b.block.label ≡ true = grind (arith, nat_tests, low) in
+        let one : cond (nat_lt 0 b.block.label) 1 0 ≡ 1 = ap (λ v. cond v 1 0) first in
+        let was : tag_count (blocks_of r) ≡ cond (nat_lt 0 b.block.label) 1 0 + tag_count (without_block p (blocks_of r)) = count-split p b.block (λ c. nat_lt 0 c.label) (blocks_of r) b.found in
+        let same : tag_count (blocks_of r') ≡ tag_count (without_block p (blocks_of r)) = ap tag_count left in
+        record {
+          agree = agree;
+          count = omega (arith, was, one, same, names.count, w.count);
+          live = live;
+          known = λ y.
               ⊎_elim
-              (λ here.
-              ap (list_any test) (without-here p c (with_block z cs) here)
-              ∙ (any-with z cs ∙ ap (λ t. t || list_any test cs) (sym same ∙ ap test (sym (first_at p b c cs e here)))))
-              (λ not_here.
-              ap (list_any test) (without-later p c (with_block z cs) not_here)
-              ∙ ap (λ v. test c || v) (any-move z cs (later_at p b c cs e not_here) same))
-              (cases_Bool (is_at p c))
-        ]
-
-has_label-any : (f : ℕ → List ℕ) (y : List ℕ) (bs : List (Block ℕ)) → has_label y (map (named_block f) bs) ≡ list_any (λ b. bytes_eq (f b.label) y) bs
-has_label-any f y [] = refl
-has_label-any f y (b ∷ bs) = ap (λ v. bytes_eq (f b.label) y || v) (has_label-any f y bs)
-
--- the names are the same where the block that is put has the label of the one that goes
-pub has_label-move : (f : ℕ → List ℕ) (y : List ℕ) (p : ℕ × ℕ) (b z : Block ℕ) (bs : List (Block ℕ)) → find_block p bs ≡ Some b → b.label ≡ z.label → has_label y (map (named_block f) (without_block p (with_block z bs))) ≡ has_label y (map (named_block f) bs)
-has_label-move f y p b z bs e same =
-    has_label-any f y (without_block p (with_block z bs))
-    ∙ (any-move p b (λ c. bytes_eq (f c.label) y) z bs e (ap (λ l. bytes_eq (f l) y) same)
-    ∙ sym (has_label-any f y bs))
-
--- what holds of the block that is put and of all but the one at a place
-pub all-move : (P : Block ℕ → Type 0) (p : ℕ × ℕ) (z : Block ℕ) (bs : List (Block ℕ)) → is_at p z ≡ false → P z → AllByRecursion P (without_block p bs) → AllByRecursion P (without_block p (with_block z bs))
-all-move P p z [] other put all = subst (AllByRecursion P) (sym (without-later p z [] other)) (put, tt)
-all-move P p z (c ∷ cs) other put all =
-    elim (lies_before z c) as (λ v. AllByRecursion P (without_block p (cond v (z ∷ c ∷ cs) (c ∷ with_block z cs)))) [
-      | true ↦ subst (AllByRecursion P) (sym (without-later p z (c ∷ cs) other)) (put, all)
-      | false ↦
-          ⊎_elim
-          (λ here. subst (AllByRecursion P) (sym (without-here p c (with_block z cs) here)) (all-with_block P z cs put (subst (AllByRecursion P) (without-here p c cs here) all)))
-          (λ not_here.
-          let rest : AllByRecursion P (c ∷ without_block p cs) = subst (AllByRecursion P) (without-later p c cs not_here) all in
-          subst (AllByRecursion P) (sym (without-later p c (with_block z cs) not_here)) (rest.0, all-move P p z cs other put rest.1))
-          (cases_Bool (is_at p c))
-    ]
-
-pub all-without : (P : Block ℕ → Type 0) (p : ℕ × ℕ) (bs : List (Block ℕ)) → AllByRecursion P bs → AllByRecursion P (without_block p bs)
-all-without P p [] all = tt
-all-without P p (c ∷ cs) all =
-    elim (is_at p c) as (λ v. AllByRecursion P (cond v cs (c ∷ without_block p cs)))
-    [ true ↦ all.1 | false ↦ (all.0, all-without P p cs all.1) ]
-
-apart-places : (p : ℕ × ℕ) (b c : Block ℕ) → EndsBefore (footprint b) (footprint c) → is_at p b ≡ true → is_at p c ≡ false
-apart-places p b c before here =
-    let at = and_parts (eqb b.seg p.0) (eqb b.off p.1) here in
-    let seg : b.seg ≡ p.0 = eqb-true b.seg p.0 at.0 in
-    let off : b.off ≡ p.1 = eqb-true b.off p.1 at.1 in
-    let some = span-least b.size in
-    ⊎_elim
-    (λ there.
-    let both = and_parts (eqb c.seg p.0) (eqb c.off p.1) there in
-    let seg' : c.seg ≡ p.0 = eqb-true c.seg p.0 both.0 in
-    let off' : c.off ≡ p.1 = eqb-true c.off p.1 both.1 in
-    absurd (⊎_elim (λ u. omega (arith, u, seg, seg')) (λ u. let le = u.1 in omega (arith, le, off, off', some)) before))
-    (λ e. e)
-    (cases_Bool (is_at p c))
-
-none_behind : (p : ℕ × ℕ) (b : Block ℕ) (cs : List (Block ℕ)) → All (λ c. EndsBefore (footprint b) (footprint c)) cs → is_at p b ≡ true → AllByRecursion (λ c. is_at p c ≡ false) cs
-none_behind p b [] all here = tt
-none_behind p b (c ∷ cs) all here =
-    (apart-places p b c (all 0 c (omega arith)) here, none_behind p b cs (λ i d within. all (suc i) d (omega (arith, within))) here)
-
--- of blocks that don't overlap, no other stands at the place of the one that goes
-pub none_left : (p : ℕ × ℕ) (bs : List (Block ℕ)) → AreApart bs → AllByRecursion (λ c. is_at p c ≡ false) (without_block p bs)
-none_left p [] apart = tt
-none_left p (c ∷ cs) apart =
-    let R : Block ℕ → Block ℕ → Type 0 = λ x y. EndsBefore (footprint x) (footprint y) in
-    ⊎_elim
-    (λ here. subst (AllByRecursion (λ d. is_at p d ≡ false)) (sym (without-here p c cs here)) (none_behind p c cs (AllPairs-head R c cs apart) here))
-    (λ not_here. subst (AllByRecursion (λ d. is_at p d ≡ false)) (sym (without-later p c cs not_here)) (not_here, none_left p cs (AllPairs-tail R c cs apart)))
-    (cases_Bool (is_at p c))
+              (λ e.
+              let gone : tag_of new y ≡ None = ap (tag_of new) (sym (is_named ∙ same_bytes x y e)) ∙ w.name_gone in
+              ap is_some gone ∙ sym (has-label-any (name_of new) y r' ∙ unnamed y agree gone (blocks_of r') live))
+              (λ e.
+              ap is_some (w.other_names y (λ same_name. other_bytes x y e (sym (same_name ∙ is_named))))
+              ∙ (names.known y
+              ∙ (has-label-any f y r
+              ∙ (any-split p b.block (named_by f y) (blocks_of r) b.found
+              ∙ (ap (λ o. is_name_of y o || list_any (named_by f y) (without_block p (blocks_of r))) b.name
+              ∙ (ap (λ v. v || list_any (named_by f y) (without_block p (blocks_of r))) e
+              ∙ (ap (list_any (named_by f y)) (sym left)
+              ∙ (sym (any-alike (named_by (name_of new) y) (named_by f y) (blocks_of r') (tests-stay old new y (blocks_of r') (names-stay old new (blocks_of r') stays)))
+              ∙ sym (has-label-any (name_of new) y r')))))))))
+              (cases_Bool (bytes_eq x y));
+          places = places;
+        }

@@ -1,20 +1,22 @@
 -- What lasts of the shelf through a run: the accounts of its disciplines.
-use Rattle.std.specs.Prelude.{◌≡◌, ◌≢◌, ℕ, ◌+◌, ◌-◌, ◌≤◌, ◌⊎◌, List, [], ◌∷◌, Option, Some, None, ⊤, length, map, option_map, take, slice_set, count_by, nat_lt, ◌==◌, is_some, if◌then◌else◌}
+use Rattle.std.specs.Prelude.{◌≡◌, ◌≢◌, ℕ, ◌+◌, ◌-◌, ◌≤◌, ◌⊎◌, List, [], ◌∷◌, Option, Some, None, ⊤, find, length, map, option_map, take, slice_set, count_by, nat_lt, ◌==◌, is_some}
 use Rattle.std.specs.List.{AllByRecursion}
+use Rattle.std.specs.Str.{bytes_eq}
 use Rattle.vc_model.specs.Count.{last_count}
-use Rattle.vc_model.specs.Discipline.{Discipline, HasOut, Kept, Terms}
+use Rattle.vc_model.specs.Discipline.{Discipline, HasOut, Kept, Terms, Unserved}
 use Rattle.vc_model.specs.Layout.{Block, address_of, place_of_block}
 use Rattle.vc_model.specs.Addr.{place_of}
 use Rattle.vc_model.specs.Numbered.{at_number}
-use Rattle.vc_model.specs.Region.{Region, blocks_of, relabelled, segments_of}
+use Rattle.vc_model.specs.Region.{Region, blocks_of, region_need, relabelled, segments_of}
 use Rattle.vc_model.specs.Sound.{HaveOwnPlaces}
 use Rattle.slab.specs.Slab.{slab_len}
 use Rattle.vc_session.specs.declared.labels.Label.{Label}
 use Rattle.vc_session.specs.declared.labels.Labels.{Labels}
-use Rattle.vc_session.specs.Labels.{AreLabels, label_at, tag_of}
-use Rattle.vc_session.specs.State as state
+use Rattle.vc_session.specs.Labels.{AreLabels, label_at, name_of, tag_of}
 use Rattle.vc_session.specs.State.{Home, State}
 use Rattle.vc_session.specs.Blocks.{has_label}
+use Rattle.vc_session.specs.Step.{block_asked, region_of}
+use Rattle.vc_script.specs.declared.command.Command.{Command}
 
 -- the segments of a discipline that are out, its terms, and its faults
 pub record Account : Type 0 where
@@ -37,10 +39,6 @@ pub record Held : Type 0 where
   pub region : Region ℕ
   pub labels : Labels
 
--- the name of a tag; 0 is the tag of a block without one
-abbrev pub name_of : Labels → ℕ → state.Label
-name_of labels tag = if tag == 0 then None else option_map (λ l. l.name) (label_at labels tag)
-
 abbrev pub home_of : Held → Home
 home_of h = record { name = h.name; place = h.place; terms = h.disc.terms; region = relabelled (name_of h.labels) h.region }
 
@@ -48,10 +46,13 @@ home_of h = record { name = h.name; place = h.place; terms = h.disc.terms; regio
 abbrev pub state_of : List (Option Discipline) → List Held → State
 state_of shelf held = record { shelf = map (option_map (λ d. d.terms)) shelf; homes = map home_of held }
 
--- the account of a region's discipline when the region's segments are back
+-- the account of a discipline when segments that are the last of those out are back
+abbrev pub account_back : Discipline → List (ℕ × ℕ) → Account
+account_back d segments = record { out = take (length d.out - length segments) d.out; terms = d.terms; faults = d.faults }
+
+-- that of a region's discipline when the region's segments are back
 abbrev pub account_after : Held → Account
-account_after h =
-    record { out = take (length h.disc.out - length (segments_of h.region)) h.disc.out; terms = h.disc.terms; faults = h.disc.faults }
+account_after h = account_back h.disc (segments_of h.region)
 
 -- the accounts on the shelf when every open region is closed, in order
 abbrev pub settled : List (Option Account) → List Held → List (Option Account)
@@ -91,6 +92,26 @@ pub record IsChange (before after : Held) : Type 0 where
   pub lent : HasOut after.disc (segments_of after.region)
   pub out : (account_after after).out ≡ (account_after before).out
   pub names : IsNamed after.region after.labels
+
+-- for a block of that size and alignment a region asked its discipline for a segment, and was refused it
+abbrev pub LacksSegment : Held → Held → ℕ × ℕ → Type 0
+LacksSegment before after asked =
+    Unserved before.disc after.disc (region_need before.disc.terms before.region asked.0 asked.1)
+
+-- the open region that a command works in
+abbrev pub held_named : List Held → Option (List ℕ) → Option Held
+held_named held None = None
+held_named held (Some r) = find (λ h. bytes_eq h.name r) held
+
+abbrev pub Lacks : Option Held → Option Held → ℕ × ℕ → Type 0
+Lacks None after asked = ⊥
+Lacks (Some h) None asked = ⊥
+Lacks (Some h) (Some g) asked = LacksSegment h g asked
+
+-- from before a step to after it, the region of a command was refused the segment that its block needs
+abbrev pub StepLacks : List Held → List Held → Command → Type 0
+StepLacks before after command =
+    Lacks (held_named before (region_of command)) (held_named after (region_of command)) (block_asked command)
 
 -- open regions over a shelf, each with a place of its own
 abbrev pub IsSession : List (Option Discipline) → List Held → Type 0

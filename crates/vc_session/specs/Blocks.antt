@@ -6,6 +6,8 @@ use Rattle.vc_model.specs.Layout.{Block}
 use Rattle.vc_model.specs.Outcome as model
 use Rattle.vc_model.specs.Outcome.{Fault, Outcome, Done, Refused, Put}
 use Rattle.vc_model.specs.Region.{Region, blocks_of, region_align, region_alloc, region_free, region_resize, region_write}
+use Rattle.vc_seg.specs.declared.fault.RegionFault.{RegionFault}
+use Rattle.vc_seg.specs.declared.fault.RegionFault.TheVariants as code
 use Rattle.vc_script.specs.declared.reply.Reply.{Reply}
 use Rattle.vc_script.specs.declared.reply.Reply.TheVariants.{At, Freed, Written, Hex, Size}
 use Rattle.vc_script.specs.declared.refusal.Refusal.{Refusal}
@@ -59,6 +61,16 @@ refusal_of model.Fixed = why.CannotGrow
 refusal_of model.PoolSize = why.PoolSize
 refusal_of model.NotLast = why.NotLast
 refusal_of model.WrongMethod = why.WrongMethod
+
+-- the fault of the definitions that a region's fault is; want of memory is none
+abbrev pub fault_of : RegionFault → Option Fault
+fault_of code.TooManySegments = Some model.TooManySegments
+fault_of code.NoSegment = Some model.NoSegment
+fault_of code.OutOfMemory = None
+fault_of code.Fixed = Some model.Fixed
+fault_of code.PoolSize = Some model.PoolSize
+fault_of code.NotLast = Some model.NotLast
+fault_of code.WrongMethod = Some model.WrongMethod
 
 -- what a call gives that puts a block or keeps it
 abbrev pub put_in : Home → List ℕ → Outcome (Put (Region Label)) → Changed

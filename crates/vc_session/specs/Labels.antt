@@ -1,5 +1,5 @@
 -- The live blocks of a region, by tag and by name.
-use Rattle.std.specs.Prelude.{◌≡◌, ◌≢◌, ℕ, ◌+◌, ◌-◌, ◌≤◌, List, Option, Some, None}
+use Rattle.std.specs.Prelude.{◌≡◌, ◌≢◌, ℕ, ◌+◌, ◌-◌, ◌≤◌, ◌==◌, List, Option, Some, None, option_map, if◌then◌else◌}
 use Rattle.std.specs.HashMap as names
 use Rattle.std.specs.Str.{bytes_eq}
 use Rattle.slab.specs.Slab.{get, slab_len}
@@ -9,6 +9,10 @@ use Rattle.vc_session.specs.declared.labels.Labels.{Labels}
 -- the block of a tag, from 1 on
 abbrev pub label_at : Labels → ℕ → Option Label
 label_at labels tag = get labels.by_tag (tag - 1)
+
+-- the name of a tag; 0 is the tag of a block without one
+abbrev pub name_of : Labels → ℕ → Option (List ℕ)
+name_of labels tag = if tag == 0 then None else option_map (λ l. l.name) (label_at labels tag)
 
 -- the tag of a name
 abbrev pub tag_of : Labels → List ℕ → Option ℕ

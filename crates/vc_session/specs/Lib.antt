@@ -3,8 +3,11 @@ pub use Rattle.vc_model.specs.Stream
 pub use Rattle.vc_model.specs.Discipline
 pub use Rattle.vc_base.specs.Name
 pub use Rattle.vc_model.specs.Addr
-pub use Rattle.vc_best.specs.Apart
-pub use Rattle.vc_best.specs.Numbered
+pub use Rattle.vc_model.specs.Layout
+pub use Rattle.vc_model.specs.Outcome
+pub use Rattle.vc_model.specs.Region
+pub use Rattle.vc_model.specs.Sound
+pub use Rattle.vc_region.specs.Parts
 pub mod Labels
 pub mod State
 pub mod Blocks
@@ -14,6 +17,7 @@ pub mod ProperState
 pub mod Run
 pub mod Rows
 pub mod Account
+pub mod Naming
 pub mod Homes
 pub use Rattle.vc_script.specs.Answer
 pub use Rattle.vc_script.specs.Judged

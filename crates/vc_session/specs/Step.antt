@@ -1,10 +1,12 @@
 -- One step of a session.
-use Rattle.std.specs.Prelude.{ℕ, List, Option, Some, None, Bool, true, false}
+use Rattle.std.specs.Prelude.{◌≡◌, ℕ, List, Option, Some, None, Bool, true, false}
 use Rattle.vc_script.specs.declared.command.Command.{Command}
 use Rattle.vc_script.specs.declared.command.Command.TheVariants.{OpenRegion, CloseRegion, ClearRegion, Compact, Alloc, Align, Resize, Free, WriteBlock, ReadBlock, SizeOf, AddrOf, SegmentOf, StatOf, Segments, Blocks}
 use Rattle.vc_script.specs.declared.refusal.Refusal.TheVariants as why
-use Rattle.vc_script.specs.Needs.{Need, NoNeed, ForBlock, ForTable, ForObject}
-use Rattle.vc_session.specs.State.{Changed, Home, State, Stepped, changed, close_step, home_named, open_step, refused, unchanged}
+use Rattle.vc_script.specs.Needs.{Need, NoNeed, ForBlock, ForTable, ForObject, need_shown}
+use Rattle.vc_script.specs.declared.reply.Reply.{Reply}
+use Rattle.vc_model.specs.Region.{Region}
+use Rattle.vc_session.specs.State.{Changed, Home, Label, State, Stepped, changed, close_step, home_named, open_step, refused, unchanged}
 use Rattle.vc_session.specs.Blocks.{align_in, alloc_in, free_in, read_in, resize_in, size_in, write_in}
 use Rattle.vc_session.specs.Whole.{addr_in, clear_in, compact_in, list_blocks, list_segments, segment_in, stat_in}
 
@@ -67,3 +69,20 @@ step_of s command need (Some r) = region_step s r command need (home_named r s.h
 -- one step, of the command at a line: the first refusal that applies, else the state changed; the need is the one free choice
 abbrev pub step : State → ℕ → Command → Need → Stepped
 step s line command need = step_of s command need (region_of command)
+
+-- what a command on one region gives is this reply, and the region is this one after it
+pub record Gives (c : Changed) (region : Region Label) (reply : Reply) : Type 0 where
+  pub region_after : c.region ≡ region
+  pub replied : c.reply ≡ reply
+
+-- for the need that a reply shows, the step of the command at a line gives that reply and leaves this state
+pub record StepsTo (before : State) (line : ℕ) (command : Command) (reply : Reply) (after : State) : Type 0 where
+  pub replied : (step before line command (need_shown reply)).reply ≡ reply
+  pub state_after : (step before line command (need_shown reply)).state ≡ after
+
+-- the size and the alignment of the block that a command puts
+abbrev pub block_asked : Command → ℕ × ℕ
+block_asked (Alloc r x size site) = (size, 32)
+block_asked (Align r x size align) = (size, align)
+block_asked (Resize r x size may_move) = (size, 32)
+block_asked command = (0, 32)

@@ -1,15 +1,19 @@
 // The commands that put, move and free blocks.
-ghost use Rattle.std.specs.Prelude.{◌≡◌, ℕ, List, Ok, IfOk, OnErr};
-ghost use Rattle.vc_model.specs.Count.{Rose};
-ghost use Rattle.vc_model.specs.Discipline.{EndsWith};
-ghost use Rattle.vc_region.specs.Parts.{disc_of, layout_of};
+ghost use Rattle.std.specs.Prelude.{◌≡◌, ◌<◌, ◌+◌, ◌^◌, [], Some, None, Ok, IfOk, OnErr, option_map};
+ghost use Rattle.std.specs.HashMap.{spare};
+ghost use Rattle.slab.specs.Slab.{HasRoomFor, slab_len};
+ghost use Rattle.vc_model.specs.Discipline.{HasOut};
+ghost use Rattle.vc_region.specs.Parts.{disc_of, region_of, segments_in};
 ghost use Rattle.vc_script.specs.Needs.{need_shown};
-ghost use Rattle.vc_session.specs.Account.{home_of, IsNamed, IsChange};
-ghost use Rattle.vc_session.specs.Blocks.{alloc_in, free_in, is_align, is_size, resize_in};
+ghost use Rattle.vc_session.specs.Account.{IsNamed, LacksSegment};
+ghost use Rattle.vc_session.specs.Blocks.{align_in, alloc_in, fault_of, free_in, is_align, is_size, refusal_of, resize_in};
+ghost use Rattle.vc_session.specs.Labels.{AreLabels, tag_of};
+ghost use Rattle.vc_session.specs.Naming.{NamesPut, TellsFault, new_refused};
 ghost use Rattle.vc_session.specs.Step.{is_for_block};
 
-use crate::home::{Home, place_of};
-use vc_base::{Name, OutOfMemory};
+use crate::home::{HomeEntry, place_of};
+use crate::labels::Labels;
+use vc_base::{Addr, Name, OutOfMemory};
 use vc_script::{Refusal, Reply};
 use vc_seg::{BoxedDisc, RegionFault, SegDisc};
 
@@ -28,65 +32,145 @@ fn is_align(align: u32) -> bool
     matches!(align, 32 | 64 | 128 | 256 | 512 | 1024 | 2048 | 4096)
 }
 
-impl Home {
-    ghost use Rattle.vc_session.specs.Homes.{held_of};
+// The refusal for a region's fault; want of memory has none.
+fn refusal_of(fault: RegionFault) -> Option<Refusal>
+    ensures { result ≡ option_map refusal_of (fault_of fault) }
+{
+    match fault {
+        RegionFault::TooManySegments => Some(Refusal::TooManySegments),
+        RegionFault::NoSegment => Some(Refusal::NoSegment),
+        RegionFault::OutOfMemory => None,
+        RegionFault::Fixed => Some(Refusal::CannotGrow),
+        RegionFault::PoolSize => Some(Refusal::PoolSize),
+        RegionFault::NotLast => Some(Refusal::NotLast),
+        RegionFault::WrongMethod => Some(Refusal::WrongMethod),
+    }
+}
+
+// The answer to a region's fault.
+fn refused(fault: RegionFault) -> Result<Reply, OutOfMemory>
+    ensures { TellsFault fault result }
+{
+    match refusal_of(fault) {
+        Some(why) => Ok(Reply::Refused(why)),
+        None => Err(OutOfMemory),
+    }
+}
+
+// Why a new block of that name is refused before a place is looked for.
+fn new_refused(labels: &Labels, name: &Name, is_legal: bool) -> Option<Refusal>
+    ensures { result ≡ new_refused labels.now name.now is_legal }
+{
+    if labels.has(name) {
+        return Some(Refusal::BlockExists);
+    }
+    if !is_legal {
+        return Some(Refusal::Size);
+    }
+    if labels.len() >= LABEL_LIMIT {
+        return Some(Refusal::TooManyBlocks);
+    }
+    None
+}
+
+// Names the block that was put, and tells its place; or tells why none was put.
+fn name_put(
+    labels: &mut Labels,
+    name: Name,
+    put: Result<Addr, RegionFault>,
+) -> Result<Reply, OutOfMemory>
+    requires agree { AreLabels labels.old }
+    requires new { tag_of labels.old name ≡ None }
+    requires room_by_tag { HasRoomFor labels.old.by_tag 1 }
+    requires room_by_name { 0 < spare labels.old.tags }
+    requires tag { labels.old.by_tag.vacant_key + 1 < 2 ^ 32 }
+    ensures { NamesPut (labels.old.by_tag.vacant_key + 1) name put labels.old labels.new result }
+{
+    match put {
+        Ok(at) => {
+            labels.insert(name, at);
+            Ok(Reply::At(name, place_of(at), None))
+        }
+        Err(fault) => refused(fault),
+    }
+}
+
+impl HomeEntry {
+    ghost use Rattle.vc_session.specs.Homes.{Changes, Runs, held_of, region_with};
 
     // Allocates a block under a name.
     pub(crate) fn allocate(
         &mut self,
+        labels: &mut Labels,
+        name: Name,
+        size: u32,
+    ) -> Result<Reply, OutOfMemory>
+        requires names { IsNamed (region_of self.old.region) labels.old }
+        requires lent { HasOut (⟦<BoxedDisc as SegDisc>⟧.state (disc_of self.old.region)) (segments_in self.old.region) }
+
+        ensures step { IfOk result (λ reply. Runs ⟦<BoxedDisc as SegDisc>⟧.state (λ h. alloc_in h name size (is_for_block (need_shown reply)))
+            self.old labels.old (region_with self.new labels.new) reply) }
+        ensures err { OnErr result (region_with self.new labels.new ≡ region_with self.old labels.old) }
+        ensures change { Changes ⟦<BoxedDisc as SegDisc>⟧.state self.old labels.old self.new labels.new }
+        ensures unserved { result ≡ Ok (Reply.Refused Refusal.NoSegment)
+            → LacksSegment (held_of ⟦<BoxedDisc as SegDisc>⟧.state [] self.old labels.old) (held_of ⟦<BoxedDisc as SegDisc>⟧.state [] self.new labels.new)
+            (size, 32) }
+    {
+        if let Some(why) = new_refused(labels, &name, is_size(size)) {
+            return Ok(Reply::Refused(why));
+        }
+        let tag = labels.reserve()?;
+        name_put(labels, name, self.region.alloc(size, tag, b"-"))
+    }
+
+    // Allocates a block under a name, at an offset that the alignment divides.
+    pub(crate) fn align(
+        &mut self,
+        labels: &mut Labels,
         name: Name,
         size: u32,
         align: u32,
     ) -> Result<Reply, OutOfMemory>
-        requires names { IsNamed (layout_of self.old.region) self.old.labels }
-        requires lent { EndsWith (⟦<BoxedDisc as SegDisc>⟧.state (disc_of self.old.region)).out (layout_of self.old.region).segments }
+        requires names { IsNamed (region_of self.old.region) labels.old }
+        requires lent { HasOut (⟦<BoxedDisc as SegDisc>⟧.state (disc_of self.old.region)) (segments_in self.old.region) }
 
-        ensures step { IfOk result (λ reply. (r : List ℕ) → alloc_in (home_of (held_of ⟦<BoxedDisc as SegDisc>⟧.state r self.old)) name size align (is_for_block (need_shown reply))
-            ≡ record { region = (home_of (held_of ⟦<BoxedDisc as SegDisc>⟧.state r self.new)).region; reply = reply }) }
-        ensures err { OnErr result ((r : List ℕ) → (home_of (held_of ⟦<BoxedDisc as SegDisc>⟧.state r self.new)).region ≡ (home_of (held_of ⟦<BoxedDisc as SegDisc>⟧.state r self.old)).region) }
-        ensures change { (r : List ℕ) → IsChange (held_of ⟦<BoxedDisc as SegDisc>⟧.state r self.old) (held_of ⟦<BoxedDisc as SegDisc>⟧.state r self.new) }
-        ensures refused { result ≡ Ok (Reply.Refused Refusal.NoSegment)
-            → Rose (⟦<BoxedDisc as SegDisc>⟧.state (disc_of self.old.region)).faults (⟦<BoxedDisc as SegDisc>⟧.state (disc_of self.new.region)).faults }
+        ensures step { IfOk result (λ reply. Runs state
+            (λ h. align_in h name size align (is_for_block (need_shown reply)))
+            self.old labels.old (region_with self.new labels.new) reply) }
+        ensures err { OnErr result (region_with self.new labels.new ≡ region_with self.old labels.old) }
+        ensures change { Changes ⟦<BoxedDisc as SegDisc>⟧.state self.old labels.old self.new labels.new }
+        ensures unserved { result ≡ Ok (Reply.Refused Refusal.NoSegment)
+            → LacksSegment (held_of ⟦<BoxedDisc as SegDisc>⟧.state [] self.old labels.old) (held_of ⟦<BoxedDisc as SegDisc>⟧.state [] self.new labels.new)
+            (size, align) }
     {
-        if self.labels.has(&name) {
-            return Ok(Reply::Refused(Refusal::BlockExists));
+        if let Some(why) = new_refused(labels, &name, is_size(size) && is_align(align)) {
+            return Ok(Reply::Refused(why));
         }
-        if !is_size(size) || !is_align(align) {
-            return Ok(Reply::Refused(Refusal::Size));
-        }
-        if self.labels.len() >= LABEL_LIMIT {
-            return Ok(Reply::Refused(Refusal::TooManyBlocks));
-        }
-        let tag = self.labels.reserve()?;
-        match self.region.align(size, align, tag, b"-") {
-            Ok(at) => {
-                self.labels.insert(name, at);
-                Ok(Reply::At(name, place_of(at), None))
-            }
-            Err(RegionFault::TooManySegments) => Ok(Reply::Refused(Refusal::TooManySegments)),
-            Err(RegionFault::NoSegment) => Ok(Reply::Refused(Refusal::NoSegment)),
-            Err(_) => Err(OutOfMemory),
-        }
+        let tag = labels.reserve()?;
+        name_put(labels, name, self.region.align(size, align, tag, b"-"))
     }
 
     // Gives a block another size, where it is or where it moves to.
     pub(crate) fn resize(
         &mut self,
+        labels: &mut Labels,
         name: &Name,
         size: u32,
         may_move: bool,
     ) -> Result<Reply, OutOfMemory>
-        requires names { IsNamed (layout_of self.old.region) self.old.labels }
-        requires lent { EndsWith (⟦<BoxedDisc as SegDisc>⟧.state (disc_of self.old.region)).out (layout_of self.old.region).segments }
+        requires names { IsNamed (region_of self.old.region) labels.old }
+        requires lent { HasOut (⟦<BoxedDisc as SegDisc>⟧.state (disc_of self.old.region)) (segments_in self.old.region) }
 
-        ensures step { IfOk result (λ reply. (r : List ℕ) → resize_in (home_of (held_of ⟦<BoxedDisc as SegDisc>⟧.state r self.old)) name.now size may_move (is_for_block (need_shown reply))
-            ≡ record { region = (home_of (held_of ⟦<BoxedDisc as SegDisc>⟧.state r self.new)).region; reply = reply }) }
-        ensures err { OnErr result ((r : List ℕ) → (home_of (held_of ⟦<BoxedDisc as SegDisc>⟧.state r self.new)).region ≡ (home_of (held_of ⟦<BoxedDisc as SegDisc>⟧.state r self.old)).region) }
-        ensures change { (r : List ℕ) → IsChange (held_of ⟦<BoxedDisc as SegDisc>⟧.state r self.old) (held_of ⟦<BoxedDisc as SegDisc>⟧.state r self.new) }
-        ensures refused { result ≡ Ok (Reply.Refused Refusal.NoSegment)
-            → Rose (⟦<BoxedDisc as SegDisc>⟧.state (disc_of self.old.region)).faults (⟦<BoxedDisc as SegDisc>⟧.state (disc_of self.new.region)).faults }
+        ensures step { IfOk result (λ reply. Runs state
+            (λ h. resize_in h name.now size may_move (is_for_block (need_shown reply)))
+            self.old labels.old (region_with self.new labels.new) reply) }
+        ensures err { OnErr result (region_with self.new labels.new ≡ region_with self.old labels.old) }
+        ensures change { Changes ⟦<BoxedDisc as SegDisc>⟧.state self.old labels.old self.new labels.new }
+        ensures unserved { result ≡ Ok (Reply.Refused Refusal.NoSegment)
+            → LacksSegment (held_of ⟦<BoxedDisc as SegDisc>⟧.state [] self.old labels.old) (held_of ⟦<BoxedDisc as SegDisc>⟧.state [] self.new labels.new)
+            (size, 32) }
     {
-        let Some(at) = self.labels.find(name) else {
+        let Some(at) = labels.find(name) else {
             return Ok(Reply::Refused(Refusal::NoBlock));
         };
         if !is_size(size) {
@@ -94,32 +178,37 @@ impl Home {
         }
         match self.region.resize(at, size, may_move) {
             Ok(to) => {
-                self.labels.move_to(name, to);
+                labels.move_to(name, to);
                 Ok(Reply::At(*name, place_of(to), None))
             }
-            Err(RegionFault::Fixed) => Ok(Reply::Refused(Refusal::CannotGrow)),
-            Err(RegionFault::TooManySegments) => Ok(Reply::Refused(Refusal::TooManySegments)),
-            Err(RegionFault::NoSegment) => Ok(Reply::Refused(Refusal::NoSegment)),
-            Err(_) => Err(OutOfMemory),
+            Err(fault) => refused(fault),
         }
     }
 
     // Frees the block of that name.
-    pub(crate) fn free(&mut self, name: &Name) -> Reply
-        requires names { IsNamed (layout_of self.old.region) self.old.labels }
-        requires lent { EndsWith (⟦<BoxedDisc as SegDisc>⟧.state (disc_of self.old.region)).out (layout_of self.old.region).segments }
+    pub(crate) fn free(
+        &mut self,
+        labels: &mut Labels,
+        name: &Name,
+    ) -> Result<Reply, OutOfMemory>
+        requires names { IsNamed (region_of self.old.region) labels.old }
+        requires lent { HasOut (⟦<BoxedDisc as SegDisc>⟧.state (disc_of self.old.region)) (segments_in self.old.region) }
 
-        ensures step { (r : List ℕ) → free_in (home_of (held_of ⟦<BoxedDisc as SegDisc>⟧.state r self.old)) name.now
-            ≡ record { region = (home_of (held_of ⟦<BoxedDisc as SegDisc>⟧.state r self.new)).region; reply = result } }
-        ensures change { (r : List ℕ) → IsChange (held_of ⟦<BoxedDisc as SegDisc>⟧.state r self.old) (held_of ⟦<BoxedDisc as SegDisc>⟧.state r self.new) }
-        ensures granted { result ≡ Reply.Refused Refusal.NoSegment → ⊥ }
+        ensures step { IfOk result (λ reply. Runs ⟦<BoxedDisc as SegDisc>⟧.state (λ h. free_in h name.now)
+            self.old labels.old (region_with self.new labels.new) reply) }
+        ensures err { OnErr result (region_with self.new labels.new ≡ region_with self.old labels.old) }
+        ensures change { Changes ⟦<BoxedDisc as SegDisc>⟧.state self.old labels.old self.new labels.new }
+        ensures granted { result ≡ Ok (Reply.Refused Refusal.NoSegment) → ⊥ }
     {
-        match self.labels.remove(name) {
-            None => Reply::Refused(Refusal::NoBlock),
-            Some(at) => {
-                let _ = self.region.free(at);
-                Reply::Freed(*name, None)
+        let Some(at) = labels.find(name) else {
+            return Ok(Reply::Refused(Refusal::NoBlock));
+        };
+        match self.region.free(at) {
+            Ok(()) => {
+                let _ = labels.remove(name);
+                Ok(Reply::Freed(*name, None))
             }
+            Err(fault) => refused(fault),
         }
     }
 }

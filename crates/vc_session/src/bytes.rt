@@ -1,30 +1,31 @@
 // The commands that read and write the bytes of a block.
 ghost use Rattle.std.specs.Prelude.{◌≡◌, ℕ, List, IfOk};
-ghost use Rattle.vc_model.specs.Discipline.{EndsWith};
-ghost use Rattle.vc_region.specs.Parts.{disc_of, layout_of};
-ghost use Rattle.vc_session.specs.Account.{home_of, IsNamed, IsChange};
+ghost use Rattle.vc_model.specs.Discipline.{HasOut};
+ghost use Rattle.vc_region.specs.Parts.{disc_of, region_of, segments_in};
+ghost use Rattle.vc_session.specs.Account.{IsNamed};
 ghost use Rattle.vc_session.specs.Blocks.{read_in, size_in, write_in};
 
-use crate::home::Home;
+use crate::home::HomeEntry;
+use crate::labels::Labels;
 use std::alloc::Global;
 use vc_base::{Name, OutOfMemory};
 use vc_script::{Bytes, Refusal, Reply};
 use vc_seg::{BoxedDisc, SegDisc};
 
-impl Home {
-    ghost use Rattle.vc_session.specs.Homes.{held_of};
+impl HomeEntry {
+    ghost use Rattle.vc_session.specs.Homes.{Changes, Runs, region_with};
 
     // Writes bytes into a block, from an offset on.
-    pub(crate) fn write(&mut self, name: &Name, off: u32, bytes: &[u8]) -> Reply
-        requires names { IsNamed (layout_of self.old.region) self.old.labels }
-        requires lent { EndsWith (⟦<BoxedDisc as SegDisc>⟧.state (disc_of self.old.region)).out (layout_of self.old.region).segments }
+    pub(crate) fn write(&mut self, labels: &Labels, name: &Name, off: u32, bytes: &[u8]) -> Reply
+        requires names { IsNamed (region_of self.old.region) labels.now }
+        requires lent { HasOut (⟦<BoxedDisc as SegDisc>⟧.state (disc_of self.old.region)) (segments_in self.old.region) }
 
-        ensures step { (r : List ℕ) → write_in (home_of (held_of ⟦<BoxedDisc as SegDisc>⟧.state r self.old)) name.now off bytes.now
-            ≡ record { region = (home_of (held_of ⟦<BoxedDisc as SegDisc>⟧.state r self.new)).region; reply = result } }
-        ensures change { (r : List ℕ) → IsChange (held_of ⟦<BoxedDisc as SegDisc>⟧.state r self.old) (held_of ⟦<BoxedDisc as SegDisc>⟧.state r self.new) }
+        ensures step { Runs ⟦<BoxedDisc as SegDisc>⟧.state (λ h. write_in h name.now off bytes.now)
+            self.old labels.now (region_with self.new labels.now) result }
+        ensures change { Changes ⟦<BoxedDisc as SegDisc>⟧.state self.old labels.now self.new labels.now }
         ensures granted { result ≡ Reply.Refused Refusal.NoSegment → ⊥ }
     {
-        match self.labels.find(name) {
+        match labels.find(name) {
             None => Reply::Refused(Refusal::NoBlock),
             Some(at) => {
                 if off as u64 + bytes.len() as u64 > self.region.size(at) as u64 {
@@ -40,15 +41,16 @@ impl Home {
     pub(crate) fn read(
         &self,
         alloc: Global,
+        labels: &Labels,
         name: &Name,
         off: u32,
         len: u32,
     ) -> Result<Reply, OutOfMemory>
-        requires names { IsNamed (layout_of self.now.region) self.now.labels }
-        ensures { IfOk result (λ reply. (r : List ℕ) → read_in (home_of (held_of ⟦<BoxedDisc as SegDisc>⟧.state r self.now)) name.now off len
-            ≡ record { region = (home_of (held_of ⟦<BoxedDisc as SegDisc>⟧.state r self.now)).region; reply = reply }) }
+        requires names { IsNamed (region_of self.now.region) labels.now }
+        ensures { IfOk result (λ reply. Runs ⟦<BoxedDisc as SegDisc>⟧.state (λ h. read_in h name.now off len)
+            self.now labels.now (region_with self.now labels.now) reply) }
     {
-        match self.labels.find(name) {
+        match labels.find(name) {
             None => Ok(Reply::Refused(Refusal::NoBlock)),
             Some(at) => {
                 if len == 0 || len > 4096 || off as u64 + len as u64 > self.region.size(at) as u64 {
@@ -61,12 +63,11 @@ impl Home {
     }
 
     // Tells the size of a block.
-    pub(crate) fn size(&self, name: &Name) -> Reply
-        requires names { IsNamed (layout_of self.now.region) self.now.labels }
-        ensures { (r : List ℕ) → size_in (home_of (held_of ⟦<BoxedDisc as SegDisc>⟧.state r self.now)) name.now
-            ≡ record { region = (home_of (held_of ⟦<BoxedDisc as SegDisc>⟧.state r self.now)).region; reply = result } }
+    pub(crate) fn size(&self, labels: &Labels, name: &Name) -> Reply
+        requires names { IsNamed (region_of self.now.region) labels.now }
+        ensures { Runs ⟦<BoxedDisc as SegDisc>⟧.state (λ h. size_in h name.now) self.now labels.now (region_with self.now labels.now) result }
     {
-        match self.labels.find(name) {
+        match labels.find(name) {
             None => Reply::Refused(Refusal::NoBlock),
             Some(at) => Reply::Size(*name, self.region.size(at)),
         }

@@ -1,45 +1,70 @@
-// The end of a session: every region is closed, and each discipline is given back.
-ghost use Rattle.std.specs.Prelude.{◌≡◌, ◌≢◌, ℕ, ◌-◌, [], Some, length, slice_set};
-ghost use Rattle.vc_model.specs.Discipline.{EndsWith};
+// The closing of regions: the segments and the discipline are given back.
+ghost use Rattle.std.specs.Prelude.{◌≡◌, ◌≢◌, ℕ, ◌+◌, ◌-◌, ◌<◌, [], Some, IfSome, length, remove, slice_get, slice_set};
+ghost use Rattle.vc_model.specs.Discipline.{HasOut};
 ghost use Rattle.vc_model.specs.Numbered.{at_number};
-ghost use Rattle.vc_region.specs.Parts.{disc_of, layout_of};
-ghost use Rattle.vc_seg.specs.Shelf.{slots_of, place_at};
-ghost use Rattle.vc_session.specs.Account.{account_after, accounts};
-ghost use Rattle.vc_session.specs.Homes.{IsSessionOver, held_of, settled_over};
+ghost use Rattle.vc_model.specs.Region.{segments_of};
+ghost use Rattle.vc_seg.specs.Shelf.{place_at};
+ghost use Rattle.vc_region.specs.Parts.{disc_of, segments_in};
+ghost use Rattle.vc_session.specs.Account.{account_after, account_back};
+ghost use Rattle.vc_session.specs.Homes.{IsSessionOver, accounts_on, held_in, settled_over, slots_on, state_over};
+ghost use Rattle.vc_session.specs.State.{close_step, stepped};
 
-use crate::home::Home;
-use indexmap::IndexMap;
+use crate::home::HomeEntry;
+use crate::session::Session;
 use vc_base::Name;
+use vc_script::{Refusal, Reply};
 use vc_seg::{BoxedDisc, SegDisc, Shelf, ShelfPlace};
 
 // Closes one region, gives its discipline back to its place, and answers how many segments it gave back.
-pub(crate) fn close_region(home: Home, shelf: &mut Shelf) -> u32
-    requires taken { place_at (slots_of ⟦<BoxedDisc as SegDisc>⟧.state shelf.old.slots.items) home.place ≡ ShelfPlace.Taken }
-    requires lent { EndsWith (⟦<BoxedDisc as SegDisc>⟧.state (disc_of home.region)).out (layout_of home.region).segments }
-    ensures count { result ≡ length (layout_of home.region).segments }
-    ensures here { accounts (slots_of ⟦<BoxedDisc as SegDisc>⟧.state shelf.new.slots.items)
-        ≡ slice_set (accounts (slots_of ⟦<BoxedDisc as SegDisc>⟧.state shelf.old.slots.items)) (home.place - 1) (Some (account_after (held_of ⟦<BoxedDisc as SegDisc>⟧.state [] home))) }
+fn close_region(home: HomeEntry, shelf: &mut Shelf) -> u32
+    requires taken { place_at (slots_on ⟦<BoxedDisc as SegDisc>⟧.state shelf.old) home.place ≡ ShelfPlace.Taken }
+    requires lent { HasOut (⟦<BoxedDisc as SegDisc>⟧.state (disc_of home.region)) (segments_in home.region) }
+    ensures count { result ≡ length (segments_in home.region) }
+    ensures here { accounts_on ⟦<BoxedDisc as SegDisc>⟧.state shelf.new ≡ slice_set (accounts_on ⟦<BoxedDisc as SegDisc>⟧.state shelf.old) (home.place - 1)
+        (Some (account_back (⟦<BoxedDisc as SegDisc>⟧.state (disc_of home.region)) (segments_in home.region))) }
     ensures elsewhere { (p : ℕ) → p ≢ home.place
-        → at_number (slots_of ⟦<BoxedDisc as SegDisc>⟧.state shelf.new.slots.items) p ≡ at_number (slots_of ⟦<BoxedDisc as SegDisc>⟧.state shelf.old.slots.items) p }
+        → at_number (slots_on ⟦<BoxedDisc as SegDisc>⟧.state shelf.new) p ≡ at_number (slots_on ⟦<BoxedDisc as SegDisc>⟧.state shelf.old) p }
 {
-    let Home {
-        place,
-        region,
-        labels: _,
-    } = home;
+    let HomeEntry { place, region } = home;
     let (disc, count) = region.close();
     shelf.give_back(place, disc);
     count
 }
 
-// Closes every region, in order of opening.
-pub(crate) fn close_all(homes: IndexMap<Name, Home>, shelf: &mut Shelf)
-    requires { IsSessionOver ⟦<BoxedDisc as SegDisc>⟧.state shelf.old.slots.items homes.entries }
-    ensures { accounts (slots_of ⟦<BoxedDisc as SegDisc>⟧.state shelf.new.slots.items)
-        ≡ settled_over ⟦<BoxedDisc as SegDisc>⟧.state shelf.old.slots.items homes.entries }
-{
-    let mut rest = homes;
-    while let Some((_, home)) = rest.shift_remove_index(0) {
-        let _ = close_region(home, shelf);
+impl Session {
+    // Closes the region that was opened as the one of that index, from 0 on, of those that are open, and answers how many
+    // segments it gave back.
+    pub(crate) fn close_at(&mut self, shelf: &mut Shelf, i: usize) -> u32
+        requires session { IsSessionOver ⟦<BoxedDisc as SegDisc>⟧.state shelf.old self.old }
+        requires within { i < length self.old.homes.entries }
+        ensures count { IfSome (slice_get (held_in ⟦<BoxedDisc as SegDisc>⟧.state self.old) i)
+            (λ h. result ≡ length (segments_of h.region)) }
+        ensures here { IfSome (slice_get (held_in ⟦<BoxedDisc as SegDisc>⟧.state self.old) i)
+            (λ h. accounts_on ⟦<BoxedDisc as SegDisc>⟧.state shelf.new
+            ≡ slice_set (accounts_on ⟦<BoxedDisc as SegDisc>⟧.state shelf.old) (h.place - 1) (Some (account_after h))) }
+        ensures others { held_in ⟦<BoxedDisc as SegDisc>⟧.state self.new ≡ remove (held_in ⟦<BoxedDisc as SegDisc>⟧.state self.old) i }
+        ensures fewer { length self.new.homes.entries + 1 ≡ length self.old.homes.entries }
+        ensures session { IsSessionOver ⟦<BoxedDisc as SegDisc>⟧.state shelf.new self.new }
+        ensures settled { settled_over ⟦<BoxedDisc as SegDisc>⟧.state shelf.new self.new ≡ settled_over ⟦<BoxedDisc as SegDisc>⟧.state shelf.old self.old }
+    {
+        let _ = self.labels.remove(i);
+        match self.homes.shift_remove_index(i) {
+            Some((_, home)) => close_region(home, shelf),
+            None => unreachable!(),
+        }
+    }
+
+    // Closes the region of that name.
+    pub(crate) fn close_named(&mut self, shelf: &mut Shelf, name: &Name) -> Reply
+        requires { IsSessionOver ⟦<BoxedDisc as SegDisc>⟧.state shelf.old self.old }
+        ensures step { close_step (state_over ⟦<BoxedDisc as SegDisc>⟧.state shelf.old self.old) name.now
+            ≡ stepped (state_over ⟦<BoxedDisc as SegDisc>⟧.state shelf.new self.new) result }
+        ensures session { IsSessionOver ⟦<BoxedDisc as SegDisc>⟧.state shelf.new self.new }
+        ensures settled { settled_over ⟦<BoxedDisc as SegDisc>⟧.state shelf.new self.new ≡ settled_over ⟦<BoxedDisc as SegDisc>⟧.state shelf.old self.old }
+    {
+        match self.homes.get_index_of(name) {
+            None => Reply::Refused(Refusal::NoRegion),
+            Some(i) => Reply::Closed(*name, self.close_at(shelf, i)),
+        }
     }
 }

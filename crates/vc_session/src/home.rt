@@ -1,12 +1,11 @@
-// A region that is open, with the names of its blocks.
-ghost use Rattle.std.specs.Prelude.{◌≡◌, ℕ, List, Ok, IfOk, OnErr};
+// A region that is open.
+ghost use Rattle.std.specs.Prelude.{◌≡◌, [], Ok, IfOk, OnErr};
 ghost use Rattle.vc_model.specs.Addr.{place_of};
-ghost use Rattle.vc_model.specs.Count.{Rose};
-ghost use Rattle.vc_model.specs.Discipline.{EndsWith};
-ghost use Rattle.vc_region.specs.Parts.{disc_of, layout_of};
+ghost use Rattle.vc_model.specs.Discipline.{HasOut};
+ghost use Rattle.vc_region.specs.Parts.{disc_of, region_of, segments_in};
 ghost use Rattle.vc_script.specs.Needs.{need_shown};
-ghost use Rattle.vc_session.specs.Account.{home_of, IsNamed, IsChange};
-ghost use Rattle.vc_session.specs.Step.{in_region};
+ghost use Rattle.vc_session.specs.Account.{IsNamed, LacksSegment};
+ghost use Rattle.vc_session.specs.Step.{block_asked, in_region};
 
 use crate::labels::Labels;
 use std::alloc::Global;
@@ -15,12 +14,13 @@ use vc_region::Region;
 use vc_script::{Command, Place, Refusal, Reply};
 use vc_seg::{BoxedDisc, SegDisc};
 
-// A region: the number of its discipline on the shelf, its lists, and the names of its blocks.
+/// A region that is open.
 #[derive(Drop)]
-pub(crate) struct Home {
+pub struct HomeEntry {
+    /// The number of its discipline on the shelf.
     pub place: u32,
+    /// The region, whose blocks have tags: 0 is that of a block without a name.
     pub region: Region,
-    pub labels: Labels,
 }
 
 // The segment and the offset of an address.
@@ -34,40 +34,47 @@ pub(crate) fn place_of(at: Addr) -> Place
     }
 }
 
-impl Home {
-    ghost use Rattle.vc_session.specs.Homes.{held_of};
+impl HomeEntry {
+    ghost use Rattle.vc_session.specs.Homes.{Changes, Runs, held_of, region_with};
 
-    // Runs a command in the region.
-    pub(crate) fn run(&mut self, alloc: Global, command: &Command) -> Result<Reply, OutOfMemory>
-        requires names { IsNamed (layout_of self.old.region) self.old.labels }
-        requires lent { EndsWith (⟦<BoxedDisc as SegDisc>⟧.state (disc_of self.old.region)).out (layout_of self.old.region).segments }
+    // Runs a command in the region, whose names these are.
+    pub(crate) fn run(
+        &mut self,
+        alloc: Global,
+        labels: &mut Labels,
+        command: &Command,
+    ) -> Result<Reply, OutOfMemory>
+        requires names { IsNamed (region_of self.old.region) labels.old }
+        requires lent { HasOut (⟦<BoxedDisc as SegDisc>⟧.state (disc_of self.old.region)) (segments_in self.old.region) }
 
-        ensures step { IfOk result (λ reply. (r : List ℕ) → in_region (home_of (held_of ⟦<BoxedDisc as SegDisc>⟧.state r self.old)) command.now (need_shown reply)
-            ≡ record { region = (home_of (held_of ⟦<BoxedDisc as SegDisc>⟧.state r self.new)).region; reply = reply }) }
-        ensures err { OnErr result ((r : List ℕ) → (home_of (held_of ⟦<BoxedDisc as SegDisc>⟧.state r self.new)).region ≡ (home_of (held_of ⟦<BoxedDisc as SegDisc>⟧.state r self.old)).region) }
-        ensures change { (r : List ℕ) → IsChange (held_of ⟦<BoxedDisc as SegDisc>⟧.state r self.old) (held_of ⟦<BoxedDisc as SegDisc>⟧.state r self.new) }
-        ensures refused { result ≡ Ok (Reply.Refused Refusal.NoSegment)
-            → Rose (⟦<BoxedDisc as SegDisc>⟧.state (disc_of self.old.region)).faults (⟦<BoxedDisc as SegDisc>⟧.state (disc_of self.new.region)).faults }
+        ensures step { IfOk result (λ reply. Runs ⟦<BoxedDisc as SegDisc>⟧.state (λ h. in_region h command.now (need_shown reply))
+            self.old labels.old (region_with self.new labels.new) reply) }
+        ensures err { OnErr result (region_with self.new labels.new ≡ region_with self.old labels.old) }
+        ensures change { Changes ⟦<BoxedDisc as SegDisc>⟧.state self.old labels.old self.new labels.new }
+        ensures unserved { result ≡ Ok (Reply.Refused Refusal.NoSegment)
+            → LacksSegment (held_of ⟦<BoxedDisc as SegDisc>⟧.state [] self.old labels.old) (held_of ⟦<BoxedDisc as SegDisc>⟧.state [] self.new labels.new)
+            (block_asked command.now) }
     {
         match command {
-            Command::ClearRegion(name) => Ok(self.clear(*name)),
+            Command::ClearRegion(name) => Ok(self.clear(labels, *name)),
             Command::Compact(name) => Ok(self.compact(*name)),
-            Command::Alloc(_, block, size, _) => self.allocate(*block, *size, 32),
-            Command::Align(_, block, size, align) => self.allocate(*block, *size, *align),
-            Command::Resize(_, block, size, may_move) => self.resize(block, *size, *may_move),
-            Command::Free(_, block) => Ok(self.free(block)),
+            Command::Alloc(_, block, size, _) => self.allocate(labels, *block, *size),
+            Command::Align(_, block, size, align) => self.align(labels, *block, *size, *align),
+            Command::Resize(_, block, size, may_move) => self.resize(labels, block, *size, *may_move),
+            Command::Free(_, block) => self.free(labels, block),
             Command::WriteBlock(_, block, off, bytes) => Ok(self.write(
+                labels,
                 block,
                 *off,
                 bytes.as_slice(),
             )),
-            Command::ReadBlock(_, block, off, len) => self.read(alloc, block, *off, *len),
-            Command::SizeOf(_, block) => Ok(self.size(block)),
-            Command::AddrOf(_, at) => Ok(self.addr(*at)),
+            Command::ReadBlock(_, block, off, len) => self.read(alloc, labels, block, *off, *len),
+            Command::SizeOf(_, block) => Ok(self.size(labels, block)),
+            Command::AddrOf(_, at) => Ok(self.addr(labels, *at)),
             Command::SegmentOf(_, at) => Ok(self.segment(*at)),
             Command::StatOf(_) => Ok(self.stat()),
             Command::Segments(_) => self.segments(alloc),
-            Command::Blocks(_) => self.blocks(alloc),
+            Command::Blocks(_) => self.blocks(labels, alloc),
             _ => Ok(Reply::Refused(Refusal::NotYet)),
         }
     }

@@ -1,8 +1,8 @@
 // The names of a region's live blocks.
-ghost use Rattle.std.specs.Prelude.{◌≡◌, ℕ, List, ◌+◌, ◌^◌, ◌<◌, ◌≤◌, Some, None, is_some, IsOk, IfOk, IfSome, IfNone, IsSome, option_map};
+ghost use Rattle.std.specs.Prelude.{◌≡◌, ℕ, List, ◌+◌, ◌^◌, ◌<◌, ◌≤◌, Some, None, is_some, IsOk, IfOk, IfSome, IfNone, IsSome};
 ghost use Rattle.std.specs.HashMap.{spare};
 ghost use Rattle.slab.specs.Slab.{slab_len, HasRoomFor};
-ghost use Rattle.vc_session.specs.Labels.{label_at, tag_of, AreLabels, SameLabels, MovesLabel, WithLabel, WithoutLabel};
+ghost use Rattle.vc_session.specs.Labels.{label_at, name_of, tag_of, AreLabels, SameLabels, MovesLabel, WithLabel, WithoutLabel};
 
 use slab::Slab;
 use std::alloc::Global;
@@ -116,15 +116,16 @@ impl Labels {
         }
     }
 
-    // The name of a tag that is in use.
-    pub(crate) fn name(&self, tag: u32) -> Name
-        requires first { 1 ≤ tag }
-        requires used { IsSome (label_at self.now tag) }
-        ensures { option_map (λ l. l.name) (label_at self.now tag) ≡ Some result }
+    // The name of a tag, where it has one.
+    pub(crate) fn name(&self, tag: u32) -> Option<Name>
+        ensures { result ≡ name_of self.now tag }
     {
+        if tag == 0 {
+            return None;
+        }
         match self.by_tag.get(tag as usize - 1) {
-            Some(label) => label.name,
-            None => unreachable!(),
+            Some(label) => Some(label.name),
+            None => None,
         }
     }
 

@@ -7,6 +7,7 @@ mod close;
 mod engine;
 mod home;
 mod labels;
+mod open;
 pub mod run_rows;
 mod session;
 mod status;
@@ -15,6 +16,7 @@ mod tells;
 mod tool;
 mod whole;
 
+pub use home::HomeEntry;
 pub use session::Session;
 pub use status::Status;
 pub use tool::replay;

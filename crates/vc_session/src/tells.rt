@@ -1,37 +1,37 @@
 // The commands that tell what is in a region.
 ghost use Rattle.std.specs.Prelude.{◌≡◌, ℕ, List, IfOk};
-ghost use Rattle.vc_region.specs.Parts.{layout_of};
-ghost use Rattle.vc_session.specs.Account.{home_of, IsNamed};
-ghost use Rattle.vc_session.specs.Whole.{addr_in, blocks_in, segment_in, segments_in, stat_in};
+ghost use Rattle.vc_region.specs.Parts.{region_of};
+ghost use Rattle.vc_session.specs.Account.{IsNamed, home_of};
+ghost use Rattle.vc_session.specs.State.{told};
+ghost use Rattle.vc_session.specs.Whole.{addr_in, list_blocks, list_segments, segment_in, stat_in};
 
-use crate::home::{Home, place_of};
+use crate::home::{HomeEntry, place_of};
+use crate::labels::Labels;
 use std::alloc::Global;
-use vc_base::{Addr, Name, OutOfMemory};
+use vc_base::{Addr, OutOfMemory};
 use vc_script::{BlockItems, Place, Reply, SegmentItems};
 use vc_seg::{BoxedDisc, SegDisc};
 
-impl Home {
+impl HomeEntry {
     ghost use Rattle.vc_session.specs.Homes.{held_of};
+    ghost use Rattle.vc_session.specs.declared.labels.Labels.{Labels};
 
     // Tells the block whose bytes hold the byte at a place, and the offset in it.
-    pub(crate) fn addr(&self, at: Place) -> Reply
-        requires names { IsNamed (layout_of self.now.region) self.now.labels }
-        ensures { (r : List ℕ) → addr_in (home_of (held_of ⟦<BoxedDisc as SegDisc>⟧.state r self.now)) at
-            ≡ record { region = (home_of (held_of ⟦<BoxedDisc as SegDisc>⟧.state r self.now)).region; reply = result } }
+    pub(crate) fn addr(&self, labels: &Labels, at: Place) -> Reply
+        requires names { IsNamed (region_of self.now.region) labels.now }
+        ensures { (r : List ℕ) → addr_in (home_of (held_of ⟦<BoxedDisc as SegDisc>⟧.state r self.now labels.now)) at
+            ≡ told (home_of (held_of ⟦<BoxedDisc as SegDisc>⟧.state r self.now labels.now)) result }
     {
         match self.region.block_at(at.seg, at.off) {
             None => Reply::AddrNone,
-            Some((block, off)) => Reply::AddrIn(
-                Some(self.labels.name(self.region.tag(block))),
-                off,
-            ),
+            Some((block, off)) => Reply::AddrIn(labels.name(self.region.tag(block)), off),
         }
     }
 
     // Tells the segment that has the byte at a place.
     pub(crate) fn segment(&self, at: Place) -> Reply
-        ensures { (r : List ℕ) → segment_in (home_of (held_of ⟦<BoxedDisc as SegDisc>⟧.state r self.now)) at
-            ≡ record { region = (home_of (held_of ⟦<BoxedDisc as SegDisc>⟧.state r self.now)).region; reply = result } }
+        ensures { (labels : Labels) (r : List ℕ) → segment_in (home_of (held_of ⟦<BoxedDisc as SegDisc>⟧.state r self.now labels)) at
+            ≡ told (home_of (held_of ⟦<BoxedDisc as SegDisc>⟧.state r self.now labels)) result }
     {
         match self.region.segment_at(at.seg, at.off) {
             None => Reply::SegmentNone,
@@ -41,16 +41,16 @@ impl Home {
 
     // Tells the numbers of the region.
     pub(crate) fn stat(&self) -> Reply
-        ensures { (r : List ℕ) → stat_in (home_of (held_of ⟦<BoxedDisc as SegDisc>⟧.state r self.now))
-            ≡ record { region = (home_of (held_of ⟦<BoxedDisc as SegDisc>⟧.state r self.now)).region; reply = result } }
+        ensures { (labels : Labels) (r : List ℕ) → stat_in (home_of (held_of ⟦<BoxedDisc as SegDisc>⟧.state r self.now labels))
+            ≡ told (home_of (held_of ⟦<BoxedDisc as SegDisc>⟧.state r self.now labels)) result }
     {
         Reply::Stats(self.region.stat())
     }
 
     // Lists the segments by number.
     pub(crate) fn segments(&self, alloc: Global) -> Result<Reply, OutOfMemory>
-        ensures { IfOk result (λ reply. (r : List ℕ) → segments_in (home_of (held_of ⟦<BoxedDisc as SegDisc>⟧.state r self.now))
-            ≡ record { region = (home_of (held_of ⟦<BoxedDisc as SegDisc>⟧.state r self.now)).region; reply = reply }) }
+        ensures { IfOk result (λ reply. (labels : Labels) (r : List ℕ) → list_segments (home_of (held_of ⟦<BoxedDisc as SegDisc>⟧.state r self.now labels))
+            ≡ told (home_of (held_of ⟦<BoxedDisc as SegDisc>⟧.state r self.now labels)) reply) }
     {
         let mut items = Vec::new(alloc);
         let mut after = 0;
@@ -62,16 +62,16 @@ impl Home {
     }
 
     // Lists the blocks by address.
-    pub(crate) fn blocks(&self, alloc: Global) -> Result<Reply, OutOfMemory>
-        requires names { IsNamed (layout_of self.now.region) self.now.labels }
-        ensures { IfOk result (λ reply. (r : List ℕ) → blocks_in (home_of (held_of ⟦<BoxedDisc as SegDisc>⟧.state r self.now))
-            ≡ record { region = (home_of (held_of ⟦<BoxedDisc as SegDisc>⟧.state r self.now)).region; reply = reply }) }
+    pub(crate) fn blocks(&self, labels: &Labels, alloc: Global) -> Result<Reply, OutOfMemory>
+        requires names { IsNamed (region_of self.now.region) labels.now }
+        ensures { IfOk result (λ reply. (r : List ℕ) → list_blocks (home_of (held_of ⟦<BoxedDisc as SegDisc>⟧.state r self.now labels.now))
+            ≡ told (home_of (held_of ⟦<BoxedDisc as SegDisc>⟧.state r self.now labels.now)) reply) }
     {
         let mut items = Vec::new(alloc);
         let mut after = Addr::NONE;
         while let Some(block) = self.region.next_block(after) {
-            let name = self.labels.name(self.region.tag(block));
-            items.push((Some(name), place_of(block), self.region.size(block)))?;
+            let name = labels.name(self.region.tag(block));
+            items.push((name, place_of(block), self.region.size(block)))?;
             after = block;
         }
         Ok(Reply::BlockList(BlockItems::from_vec(items)))

@@ -1,40 +1,42 @@
 // The commands that change a whole region.
 ghost use Rattle.std.specs.Prelude.{◌≡◌, ℕ, List};
-ghost use Rattle.vc_model.specs.Discipline.{EndsWith};
-ghost use Rattle.vc_region.specs.Parts.{disc_of, layout_of};
-ghost use Rattle.vc_session.specs.Account.{home_of, IsNamed, IsChange};
+ghost use Rattle.vc_model.specs.Discipline.{HasOut};
+ghost use Rattle.vc_region.specs.Parts.{disc_of, region_of, segments_in};
+ghost use Rattle.vc_session.specs.Account.{IsNamed, home_of};
+ghost use Rattle.vc_session.specs.State.{changed_to};
 ghost use Rattle.vc_session.specs.Whole.{clear_in, compact_in};
 
-use crate::home::Home;
+use crate::home::HomeEntry;
+use crate::labels::Labels;
 use vc_base::Name;
 use vc_script::Reply;
 use vc_seg::{BoxedDisc, SegDisc};
 
-impl Home {
-    ghost use Rattle.vc_session.specs.Homes.{held_of};
+impl HomeEntry {
+    ghost use Rattle.vc_session.specs.Homes.{Changes, held_of, region_with};
+    ghost use Rattle.vc_session.specs.declared.labels.Labels.{Labels};
 
     // Frees all blocks.
-    pub(crate) fn clear(&mut self, name: Name) -> Reply
-        requires names { IsNamed (layout_of self.old.region) self.old.labels }
-        requires lent { EndsWith (⟦<BoxedDisc as SegDisc>⟧.state (disc_of self.old.region)).out (layout_of self.old.region).segments }
+    pub(crate) fn clear(&mut self, labels: &mut Labels, name: Name) -> Reply
+        requires names { IsNamed (region_of self.old.region) labels.old }
+        requires lent { HasOut (⟦<BoxedDisc as SegDisc>⟧.state (disc_of self.old.region)) (segments_in self.old.region) }
 
-        ensures step { (r : List ℕ) → clear_in (home_of (held_of ⟦<BoxedDisc as SegDisc>⟧.state r self.old)) name
-            ≡ record { region = (home_of (held_of ⟦<BoxedDisc as SegDisc>⟧.state r self.new)).region; reply = result } }
-        ensures change { (r : List ℕ) → IsChange (held_of ⟦<BoxedDisc as SegDisc>⟧.state r self.old) (held_of ⟦<BoxedDisc as SegDisc>⟧.state r self.new) }
+        ensures step { (r : List ℕ) → clear_in (home_of (held_of ⟦<BoxedDisc as SegDisc>⟧.state r self.old labels.old)) name
+            ≡ changed_to (region_with self.new labels.new) result }
+        ensures change { Changes ⟦<BoxedDisc as SegDisc>⟧.state self.old labels.old self.new labels.new }
     {
-        self.labels.clear();
+        labels.clear();
         self.region.clear();
         Reply::Cleared(name)
     }
 
     // Gives back the segments without a block.
     pub(crate) fn compact(&mut self, name: Name) -> Reply
-        requires names { IsNamed (layout_of self.old.region) self.old.labels }
-        requires lent { EndsWith (⟦<BoxedDisc as SegDisc>⟧.state (disc_of self.old.region)).out (layout_of self.old.region).segments }
+        requires lent { HasOut (⟦<BoxedDisc as SegDisc>⟧.state (disc_of self.old.region)) (segments_in self.old.region) }
 
-        ensures step { (r : List ℕ) → compact_in (home_of (held_of ⟦<BoxedDisc as SegDisc>⟧.state r self.old)) name
-            ≡ record { region = (home_of (held_of ⟦<BoxedDisc as SegDisc>⟧.state r self.new)).region; reply = result } }
-        ensures change { (r : List ℕ) → IsChange (held_of ⟦<BoxedDisc as SegDisc>⟧.state r self.old) (held_of ⟦<BoxedDisc as SegDisc>⟧.state r self.new) }
+        ensures step { (labels : Labels) (r : List ℕ) → compact_in (home_of (held_of ⟦<BoxedDisc as SegDisc>⟧.state r self.old labels)) name
+            ≡ changed_to (region_with self.new labels) result }
+        ensures change { (labels : Labels) → IsNamed (region_of self.old.region) labels → Changes ⟦<BoxedDisc as SegDisc>⟧.state self.old labels self.new labels }
     {
         Reply::Compacted(name, self.region.compact())
     }
