@@ -21,7 +21,7 @@ pub(crate) struct Given<'a> {
 }
 
 // With no failing call, and ample room.
-pub(crate) fn given(script: &[u8], piece: usize) -> Given {
+pub(crate) fn ample(script: &[u8], piece: usize) -> Given {
     Given {
         script,
         piece,
@@ -34,7 +34,7 @@ pub(crate) fn given(script: &[u8], piece: usize) -> Given {
 
 // What comes out.
 #[derive(Clone, Copy)]
-pub(crate) struct Comes<'a> {
+pub(crate) struct Expected<'a> {
     pub status: Status,
     pub out: &'a [u8],
     pub err: &'a [u8],
@@ -66,7 +66,7 @@ pub(crate) fn comes(
     alloc: Global,
     shelf: &mut Shelf,
     given: Given,
-    comes: Comes,
+    expected: Expected,
 ) -> Result<(), AllocError> {
     assert!(rt; 1 <= given.piece);
     let mut source = MemSource::new(
@@ -85,9 +85,9 @@ pub(crate) fn comes(
         &mut out,
         &mut err,
     );
-    assert_eq!(rt; status, comes.status);
-    assert_eq!(rt; out.bytes(), comes.out);
-    assert_eq!(rt; err.bytes(), comes.err);
+    assert_eq!(rt; status, expected.status);
+    assert_eq!(rt; out.bytes(), expected.out);
+    assert_eq!(rt; err.bytes(), expected.err);
     Ok(())
 }
 
@@ -101,17 +101,17 @@ pub(crate) fn replies(
     alloc: Global,
     lends: &[u64],
     script: &[u8],
-    expected: Comes,
+    expected: Expected,
 ) -> Result<(), AllocError> {
     for piece in [7, 4096] {
         let mut shelf = shelf_of(rt, alloc, lends)?;
-        comes(rt, alloc, &mut shelf, given(script, piece), expected)?;
+        comes(rt, alloc, &mut shelf, ample(script, piece), expected)?;
     }
     Ok(())
 }
 
-pub(crate) fn fine(out: &[u8]) -> Comes {
-    Comes {
+pub(crate) fn fine(out: &[u8]) -> Expected {
+    Expected {
         status: Status::Ok,
         out,
         err: b"",

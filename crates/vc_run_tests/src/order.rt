@@ -5,7 +5,7 @@ ghost use Rattle.vc_seg.specs.Budget.{discipline_of};
 ghost use Rattle.vc_seg.specs.Lend.{Returned};
 ghost use Rattle.vc_seg.specs.Segment.{pair_of, zeroed};
 
-use crate::given::{comes, fine, given};
+use crate::given::{ample, comes, fine};
 use std::alloc::Global;
 use std::cell::Cell;
 use std::rc::Rc;
@@ -110,7 +110,7 @@ fn order(rt: HostRuntime) -> Result<(), Fail> {
             };
             assert!(rt; shelf.put(Box::new(alloc, disc)?).is_ok());
         }
-        comes(&rt, alloc, &mut shelf, given(SCRIPT, piece), fine(REPLIES))?;
+        comes(&rt, alloc, &mut shelf, ample(SCRIPT, piece), fine(REPLIES))?;
         assert_eq!(rt; notes.get(), 111_321_222_311_121_421_222_324);
     }
     Ok(())

@@ -1,5 +1,5 @@
 // Whole scripts through the top call, and what comes of them.
-use crate::given::{Comes, replies};
+use crate::given::{Expected, replies};
 use std::test::Fail;
 use vc_session::Status;
 
@@ -173,7 +173,7 @@ const ROWS: &[Row] = &[
 #[test]
 fn rows(rt: HostRuntime) -> Result<(), Fail> {
     for row in ROWS {
-        let expected = Comes {
+        let expected = Expected {
             status: row.status,
             out: row.out,
             err: row.err,

@@ -1,5 +1,5 @@
 // Scripts whose reads and writes fail, and lines at their limit.
-use crate::given::{Comes, Given, comes, fine, given, shelf_of};
+use crate::given::{Expected, Given, ample, comes, fine, shelf_of};
 use std::test::Fail;
 use vc_base::{MemSink, MemSource, Sink, Source};
 use vc_seg::Shelf;
@@ -187,7 +187,7 @@ fn faults(rt: HostRuntime) -> Result<(), Fail> {
             err_writes: row.err_writes,
             room: row.room,
         };
-        let expected = Comes {
+        let expected = Expected {
             status: row.status,
             out: row.out,
             err: row.err,
@@ -195,7 +195,7 @@ fn faults(rt: HostRuntime) -> Result<(), Fail> {
         comes(&rt, alloc, &mut shelf, given, expected)?;
 
         // Every segment is back: the next script is lent the first again.
-        comes(&rt, alloc, &mut shelf, crate::given::given(ROW, 4096), fine(REPLIES))?;
+        comes(&rt, alloc, &mut shelf, ample(ROW, 4096), fine(REPLIES))?;
     }
     Ok(())
 }
@@ -214,9 +214,9 @@ fn each_call(rt: HostRuntime) -> Result<(), Fail> {
         for call in first..behind {
             let given = Given {
                 reads: &[call],
-                ..given(ROW, 1)
+                ..ample(ROW, 1)
             };
-            let expected = Comes {
+            let expected = Expected {
                 status: Status::Read,
                 out,
                 err: READ_FAILED,
@@ -228,9 +228,9 @@ fn each_call(rt: HostRuntime) -> Result<(), Fail> {
         for piece in [1, 6, 7, 8, 4096] {
             let given = Given {
                 room,
-                ..given(ROW, piece)
+                ..ample(ROW, piece)
             };
-            let expected = Comes {
+            let expected = Expected {
                 status: Status::Write,
                 out: &REPLIES[..room],
                 err: WRITE_FAILED,
@@ -271,9 +271,9 @@ fn gathered(rt: HostRuntime) -> Result<(), Fail> {
         let given = Given {
             writes,
             room,
-            ..given(script.as_slice(), 4096)
+            ..ample(script.as_slice(), 4096)
         };
-        let expected = Comes {
+        let expected = Expected {
             status,
             out: &out.as_slice()[..len],
             err: if status == Status::Ok { b"" } else { WRITE_FAILED },
@@ -311,9 +311,9 @@ fn long_lines(rt: HostRuntime) -> Result<(), Fail> {
         let given = Given {
             reads,
             room: 0,
-            ..given(script.as_slice(), 4)
+            ..ample(script.as_slice(), 4)
         };
-        let expected = Comes {
+        let expected = Expected {
             status,
             out: b"",
             err: err.as_slice(),

@@ -169,11 +169,11 @@ module _ {tool : Tool} {start now : Moment} {front : List ℕ} {count : ℕ} {wh
   }
 
   module _ (c : Command) (next : Moment) (is : answer tool line ≡ Is c) (i : IsStep now next n c) where
-    t : Stepped
+    abbrev t : Stepped
     t = step now.state n c (need_shown i.reply)
 
     -- the run with the line's step
-    stepped_ran : Ran
+    abbrev stepped_ran : Ran
     stepped_ran = record {
       replies = r.ran.replies ++ (n, i.reply) ∷ [];
       state = next.state;
@@ -191,7 +191,6 @@ module _ {tool : Tool} {start now : Moment} {front : List ℕ} {count : ℕ} {wh
     lines_next = map-append (λ (d : ℕ × Command). d.0) r.done ((n, c) ∷ [])
 
     run_next : (needs : List (ℕ × Need)) → ShowsNeeds needs (r.ran.replies ++ (n, i.reply) ∷ []) → run start.state (r.done ++ (n, c) ∷ []) needs ≡ stepped_ran
-    unfolding stepped_ran t
     run_next needs shows =
         let parts = all-front (λ (x : ℕ × Reply). need_at needs x.0 ≡ need_shown x.1) r.ran.replies (n, i.reply) shows in
         run-push start.state r.done needs (n, c)
@@ -204,7 +203,6 @@ module _ {tool : Tool} {start now : Moment} {front : List ℕ} {count : ℕ} {wh
 
     -- a line with a command
     running-step : Running tool start next (front ++ line_of i.reply) n (whole ++ (n, Ok line) ∷ [])
-    unfolding stepped_ran
     running-step = record {
       done = r.done ++ (n, c) ∷ [];
       ran = stepped_ran;
@@ -269,11 +267,11 @@ bad-by tool n line fault (Bad why) is ran = record {
 pub bad-line : {now next : Moment} (tool : Tool) (n : ℕ) (line : List ℕ) (fault : LineFault) → LineRan now next n (answer tool line) (Some fault) → BadLine tool now next n line fault
 bad-line tool n line fault ran = bad-by tool n line fault (answer tool line) refl ran
 
-keeps-by : {now next : Moment} (n : ℕ) (a : LineAnswer) (fault : Option LineFault) → LineRan now next n a fault → Settles now.accounts next.accounts []
-keeps-by n Blank fault ran = ran.1.keeps
-keeps-by n (Bad why) fault ran = ran.1.keeps
-keeps-by n (Is c) fault ran = settles-any ran.1.settles
+keeps-by : (now next : Moment) (n : ℕ) (a : LineAnswer) (fault : Option LineFault) → LineRan now next n a fault → Settles now.accounts next.accounts []
+keeps-by now next n Blank fault ran = ran.1.keeps
+keeps-by now next n (Bad why) fault ran = ran.1.keeps
+keeps-by now next n (Is c) fault ran = settles-any ran.1.settles
 
 -- running a line keeps the disciplines, but for their faults
-pub line-keeps : {now next : Moment} (n : ℕ) (a : LineAnswer) (fault : Option LineFault) (first : List (Option Account)) → LineRan now next n a fault → Settles first now.accounts [] → Settles first next.accounts []
-line-keeps {now} {next} n a fault first ran before = settles-trans first now.accounts next.accounts [] [] before (keeps-by n a fault ran)
+pub line-keeps : (now next : Moment) (n : ℕ) (a : LineAnswer) (fault : Option LineFault) (first : List (Option Account)) → LineRan now next n a fault → Settles first now.accounts [] → Settles first next.accounts []
+line-keeps now next n a fault first ran before = settles-trans first now.accounts next.accounts [] [] before (keeps-by now next n a fault ran)

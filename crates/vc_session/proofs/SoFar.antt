@@ -17,7 +17,7 @@ use Rattle.vc_script.specs.Judged.{judged, judged_from, judged_then, last_number
 use Rattle.vc_script.specs.Lines.{piece}
 use Rattle.vc_script.specs.Pieces.{found_then}
 use Rattle.vc_script.proofs.Pieces.{Tells, end-tells, fed-tells, judge-ok}
-use Rattle.vc_session.specs.Engine.{LineRan}
+use Rattle.vc_session.specs.Engine.{IsIdle, LineRan}
 use Rattle.vc_session.specs.Moment.{Moment, over_sink}
 use Rattle.vc_session.specs.ProperState.{IsProperState}
 use Rattle.vc_session.specs.Replay.{IsCutShort, IsReplay, IsRun, ShowsNoFault, Stops, StopsAtFault, Told}
@@ -169,6 +169,10 @@ module _ {tool : Tool} {start now : Moment} {text : List ℕ} {told left : Optio
   pub so_far-over : {rest : List ℕ} (written : Option (List ℕ)) → SoFar tool start now text told left s rest → SoFar tool start (over_sink now written) text told left s rest
   so_far-over written r = record { whole = r.whole; running = running-over written r.running; reading = r.reading }
 
+  -- nothing was gathered yet
+  pub so_far-none : {rest : List ℕ} (none : List ℕ) → none ≡ [] → SoFar tool start now text told left s rest → SoFar tool start now (text ++ none) told left s rest
+  so_far-none {rest} none e r = subst (λ xs. SoFar tool start now xs told left s rest) (sym (ap (λ xs. text ++ xs) e ∙ append-nil text)) r
+
   -- a piece was read
   pub so_far-read : (left' : Option (List ℕ)) (buf : List ℕ) (n : ℕ) → SoFar tool start now text told left s [] → IsCutting s → length buf ≡ 4096 → Reads left left' buf n → SoFar tool start now text told left' s (take n buf)
   so_far-read left' buf n r is room reads = record {
@@ -196,19 +200,24 @@ module _ {tool : Tool} {start now : Moment} {text : List ℕ} {told left : Optio
       replay-end input left after ((next.count + 1, Err fault) ∷ []) (Some (next.count + 1, fault)) r.running (judged-input reading ∙ ap (λ ls. r.whole ++ ls) (fed-tells-all s rest next (Bad fault) used is e reading.behind)) refl refl (stops-at reading) written) r.reading
 
 -- a line was run
-pub so_far-line : {tool : Tool} {start now next_moment : Moment} {told left : Option (List ℕ)} {s : Cutting} {rest : List ℕ} (front old new : List ℕ) (next : Cutting) (used : ℕ) → now.written ≡ Some old → next_moment.written ≡ Some new → IsCutting s → SoFar tool start now (front ++ old) told left s rest → fed s rest ≡ record { after = next; cut = Whole; used = used } → LineRan now next_moment next.count (answer tool next.line) None → SoFar tool start next_moment (front ++ new) told left next (drop used rest)
-so_far-line {told = told} {s = s} {rest = rest} front old new next used held holds is r e ran = record {
+pub so_far-line : {tool : Tool} {start now : Moment} (next_moment : Moment) {told left : Option (List ℕ)} {s : Cutting} {rest : List ℕ} (front old new : List ℕ) (next : Cutting) (used : ℕ) → now.written ≡ Some old → next_moment.written ≡ Some new → IsCutting s → SoFar tool start now (front ++ old) told left s rest → fed s rest ≡ record { after = next; cut = Whole; used = used } → LineRan now next_moment next.count (answer tool next.line) None → SoFar tool start next_moment (front ++ new) told left next (drop used rest)
+so_far-line next_moment {told} {left} {s} {rest} front old new next used held holds is r e ran = record {
   whole = r.whole ++ (next.count, Ok next.line) ∷ [];
   running = running-line front old new next.count next.line held holds (omega (arith, (fed-feeds-all s rest next Whole used is e []).1.1.1)) r.running ran;
   reading = if_some told _ _ (λ input reading. reading-whole s next used rest r.whole (fed-tells-all s rest next Whole used is e) (fed-feeds-all s rest next Whole used is e) reading) r.reading;
 }
 
+-- a line that asks for nothing leaves what was gathered
+idle-told : {now next : Moment} (front old new : List ℕ) (before after : Option (List ℕ)) → now.written ≡ Some old → next.written ≡ Some new → IsIdle now next → Told before after (front ++ new) → Told before after (front ++ old)
+idle-told front old new before after held holds idle written =
+    subst (λ xs. Told before after (front ++ xs)) (same_Some new old (sym holds ∙ (idle.told ∙ held))) written
+
 -- a line is bad
-pub so_far-bad_line : {tool : Tool} {start now next_moment : Moment} {text : List ℕ} {told left : Option (List ℕ)} {s : Cutting} {rest : List ℕ} (next : Cutting) (used : ℕ) (fault : LineFault) (after : Option (List ℕ)) → IsCutting s → SoFar tool start now text told left s rest → fed s rest ≡ record { after = next; cut = Whole; used = used } → LineRan now next_moment next.count (answer tool next.line) (Some fault) → Told start.written after text → IfSome told (λ input. IsReplay tool start (over_sink next_moment after) input (Some (next.count, fault)) left)
-so_far-bad_line {tool} {told = told} {left = left} {s = s} {rest = rest} next used fault after is r e ran written = if_some told _ _ (λ input reading.
+pub so_far-bad_line : {tool : Tool} {start now : Moment} (next_moment : Moment) {told left : Option (List ℕ)} {s : Cutting} {rest : List ℕ} (front old new : List ℕ) (next : Cutting) (used : ℕ) (fault : LineFault) (after : Option (List ℕ)) → now.written ≡ Some old → next_moment.written ≡ Some new → IsCutting s → SoFar tool start now (front ++ old) told left s rest → fed s rest ≡ record { after = next; cut = Whole; used = used } → LineRan now next_moment next.count (answer tool next.line) (Some fault) → Told start.written after (front ++ new) → IfSome told (λ input. IsReplay tool start (over_sink next_moment after) input (Some (next.count, fault)) left)
+so_far-bad_line {tool} {start} next_moment {told} {left} {s} {rest} front old new next used fault after held holds is r e ran written = if_some told _ _ (λ input reading.
     let bad = bad-line tool next.count next.line fault ran in
     let behind = judged_rest next (drop used rest ++ reading.behind) in
-    replay-end input left after ((next.count, Ok next.line) ∷ behind) (Some (next.count, fault)) (running-same r.running bad.idle) (judged-input reading ∙ ap (λ ls. r.whole ++ ls) (fed-tells-all s rest next Whole used is e reading.behind).0) (bad.none behind) (bad.first behind) (stops-at reading) written) r.reading
+    replay-end input left after ((next.count, Ok next.line) ∷ behind) (Some (next.count, fault)) (running-same r.running bad.idle) (judged-input reading ∙ ap (λ ls. r.whole ++ ls) (fed-tells-all s rest next Whole used is e reading.behind).0) (bad.none behind) (bad.first behind) (stops-at reading) (idle-told front old new start.written after held holds bad.idle written)) r.reading
 
 -- nothing is behind the bytes of a source that is at its end
 none-behind : {tool : Tool} {input : List ℕ} {left : Option (List ℕ)} {s : Cutting} {whole : Found} (r : Reading tool input left s [] whole) → left ≡ Some [] → judged input ≡ whole ++ judged_rest s []
@@ -220,17 +229,17 @@ module _ {tool : Tool} {start now : Moment} {told left : Option (List ℕ)} {s :
   so_far-end_none after r at_end last written = if_both told _ _ _ (λ input reading end.
       replay-end input left after [] None r.running (none-behind reading end ∙ ap (λ ls. r.whole ++ ls) last) refl refl end written) r.reading at_end
 
-  module _ {next : Moment} (n : ℕ) (line : List ℕ) (last : judged_rest s [] ≡ (n, Ok line) ∷ []) (below : s.count < n) where
+  module _ (next : Moment) (n : ℕ) (line : List ℕ) (last : judged_rest s [] ≡ (n, Ok line) ∷ []) (below : s.count < n) where
     -- the end behind a last line, which is good
     pub so_far-end_good : (front old new : List ℕ) (after : Option (List ℕ)) → now.written ≡ Some old → next.written ≡ Some new → SoFar tool start now (front ++ old) told left s [] → IfSome told (λ input. left ≡ Some []) → LineRan now next n (answer tool line) None → Told start.written after (front ++ new) → IfSome told (λ input. IsReplay tool start (over_sink next after) input None left)
     so_far-end_good front old new after held holds r at_end ran written = if_both told _ _ _ (λ input reading end.
         replay-end input left after [] None (running-line front old new n line held holds below r.running ran) (none-behind reading end ∙ (ap (λ ls. r.whole ++ ls) last ∙ sym (append-nil (r.whole ++ (n, Ok line) ∷ [])))) refl refl end written) r.reading at_end
 
     -- or bad
-    pub so_far-end_bad : {text : List ℕ} (fault : LineFault) (after : Option (List ℕ)) → SoFar tool start now text told left s [] → IfSome told (λ input. left ≡ Some []) → LineRan now next n (answer tool line) (Some fault) → Told start.written after text → IfSome told (λ input. IsReplay tool start (over_sink next after) input (Some (n, fault)) left)
-    so_far-end_bad fault after r at_end ran written = if_both told _ _ _ (λ input reading end.
+    pub so_far-end_bad : (front old new : List ℕ) (fault : LineFault) (after : Option (List ℕ)) → now.written ≡ Some old → next.written ≡ Some new → SoFar tool start now (front ++ old) told left s [] → IfSome told (λ input. left ≡ Some []) → LineRan now next n (answer tool line) (Some fault) → Told start.written after (front ++ new) → IfSome told (λ input. IsReplay tool start (over_sink next after) input (Some (n, fault)) left)
+    so_far-end_bad front old new fault after held holds r at_end ran written = if_both told _ _ _ (λ input reading end.
         let bad = bad-line tool n line fault ran in
-        replay-end input left after ((n, Ok line) ∷ []) (Some (n, fault)) (running-same r.running bad.idle) (none-behind reading end ∙ ap (λ ls. r.whole ++ ls) last) (bad.none []) (bad.first []) (stops-at reading) written) r.reading at_end
+        replay-end input left after ((n, Ok line) ∷ []) (Some (n, fault)) (running-same r.running bad.idle) (none-behind reading end ∙ ap (λ ls. r.whole ++ ls) last) (bad.none []) (bad.first []) (stops-at reading) (idle-told front old new start.written after held holds bad.idle written)) r.reading at_end
 
 -- a read that gave nothing found nothing left
 pub at-end : {tool : Tool} {start now : Moment} {text : List ℕ} {told left : Option (List ℕ)} {s : Cutting} (left' : Option (List ℕ)) (buf : List ℕ) → SoFar tool start now text told left s [] → length buf ≡ 4096 → Reads left left' buf 0 → IfSome told (λ input. left' ≡ Some [])

@@ -1,7 +1,5 @@
 -- What a run is at a moment.
 use Rattle.std.specs.Prelude.{ℕ, List, [], Option}
-use Rattle.std.specs.declared.dyn_box.DynBox.{DynBox}
-use Rattle.std.specs.declared.alloc.Global.{Global}
 use Rattle.vc_model.specs.Discipline.{Discipline}
 use Rattle.vc_seg.specs.declared.shelf.Shelf.{Shelf}
 use Rattle.vc_session.specs.declared.session.Session.{Session}
@@ -16,12 +14,12 @@ pub record Moment : Type 0 where
   pub accounts : List (Option Account)
 
 -- of a session over a shelf
-abbrev pub moment : {I : Type 0} {V : I → Type 0} → (DynBox I Global V → Discipline) → Shelf I V → Session I V → Option (List ℕ) → Moment
+abbrev pub moment : {I : Type 0} {V : I → Type 0} → ((x : I) × V x → Discipline) → Shelf I V → Session I V → Option (List ℕ) → Moment
 moment meaning shelf session written =
     record { state = state_over meaning shelf session; written = written; accounts = settled_over meaning shelf session }
 
 -- of a shelf over which no region is open
-abbrev pub at_rest : {I : Type 0} {V : I → Type 0} → (DynBox I Global V → Discipline) → Shelf I V → Option (List ℕ) → Moment
+abbrev pub at_rest : {I : Type 0} {V : I → Type 0} → ((x : I) × V x → Discipline) → Shelf I V → Option (List ℕ) → Moment
 at_rest meaning shelf written =
     record { state = state_on meaning shelf; written = written; accounts = accounts_on meaning shelf }
 

@@ -66,12 +66,13 @@ fn run_line(
     line: &[u8],
     replies: &mut Vec<u8>,
 ) -> Result<Option<LineFault>, OutOfMemory>
-    requires { IsSessionOver ⟦<BoxedDisc as SegDisc>⟧.state shelf.old session.old }
-    ensures ran { IfOk result (λ fault. LineRan (moment ⟦<BoxedDisc as SegDisc>⟧.state shelf.old session.old (Some replies.old.items))
-        (moment ⟦<BoxedDisc as SegDisc>⟧.state shelf.new session.new (Some replies.new.items)) n (answer tool line.now) fault) }
-    ensures session { IsSessionOver ⟦<BoxedDisc as SegDisc>⟧.state shelf.new session.new }
-    ensures keeps { OnErr result (Keeps (moment ⟦<BoxedDisc as SegDisc>⟧.state shelf.old session.old None)
-        (moment ⟦<BoxedDisc as SegDisc>⟧.state shelf.new session.new None)) }
+    requires { IsSessionOver state shelf.old session.old }
+    ensures ran { IfOk result (λ fault. LineRan
+        (moment state shelf.old session.old (Some replies.old.items))
+        (moment state shelf.new session.new (Some replies.new.items)) n (answer tool line.now) fault) }
+    ensures session { IsSessionOver state shelf.new session.new }
+    ensures keeps { OnErr result (Keeps (moment state shelf.old session.old None)
+        (moment state shelf.new session.new None)) }
 {
     match read_line(alloc, tool, line)? {
         LineAnswer::Blank => Ok(None),
@@ -95,18 +96,23 @@ fn run_piece(
     piece: &[u8],
     replies: &mut Vec<u8>,
 ) -> Result<Option<(u32, LineFault)>, OutOfMemory>
-    requires session { IsSessionOver ⟦<BoxedDisc as SegDisc>⟧.state shelf.old session.old }
+    requires session { IsSessionOver state shelf.old session.old }
     requires fed { IsTrue cutter.old.is_open }
     requires cutting { IsCutting cutter.old }
     requires none { replies.old.items ≡ [] }
-    ensures good { result ≡ Ok None → GoesOn tool (moment ⟦<BoxedDisc as SegDisc>⟧.state shelf.old session.old None)
-        (moment ⟦<BoxedDisc as SegDisc>⟧.state shelf.new session.new None) replies.new.items cutter.old cutter.new piece.now [] }
-    ensures bad { (bad : ℕ × LineFault) → result ≡ Ok (Some bad) → Ends tool (moment ⟦<BoxedDisc as SegDisc>⟧.state shelf.old session.old None)
-        (moment ⟦<BoxedDisc as SegDisc>⟧.state shelf.new session.new None) replies.new.items cutter.old piece.now bad }
+    ensures good { result ≡ Ok None → GoesOn tool
+        (moment state shelf.old session.old (Some replies.old.items))
+        (moment state shelf.new session.new (Some replies.new.items))
+        replies.new.items cutter.old cutter.new piece.now [] }
+    ensures bad { (bad : ℕ × LineFault) → result ≡ Ok (Some bad) → Ends tool
+        (moment state shelf.old session.old (Some replies.old.items))
+        (moment state shelf.new session.new (Some replies.new.items))
+        replies.new.items cutter.old piece.now bad }
     ensures open { result ≡ Ok None → IsTrue cutter.new.is_open × IsCutting cutter.new }
     ensures less { result ≡ Ok None → fuel cutter.new + length piece.now ≤ fuel cutter.old }
-    ensures session { IsSessionOver ⟦<BoxedDisc as SegDisc>⟧.state shelf.new session.new }
-    ensures keeps { Keeps (moment ⟦<BoxedDisc as SegDisc>⟧.state shelf.old session.old None) (moment ⟦<BoxedDisc as SegDisc>⟧.state shelf.new session.new None) }
+    ensures session { IsSessionOver state shelf.new session.new }
+    ensures keeps { Keeps (moment state shelf.old session.old None)
+        (moment state shelf.new session.new None) }
 {
     let mut rest = piece;
     while !rest.is_empty() {
@@ -143,14 +149,16 @@ fn run_last(
     cutter: &mut LineCutter,
     replies: &mut Vec<u8>,
 ) -> Result<Option<(u32, LineFault)>, OutOfMemory>
-    requires session { IsSessionOver ⟦<BoxedDisc as SegDisc>⟧.state shelf.old session.old }
+    requires session { IsSessionOver state shelf.old session.old }
     requires fed { IsTrue cutter.old.is_open }
     requires cutting { IsCutting cutter.old }
     requires none { replies.old.items ≡ [] }
-    ensures ends { IfOk result (EndsAll tool (moment ⟦<BoxedDisc as SegDisc>⟧.state shelf.old session.old None)
-        (moment ⟦<BoxedDisc as SegDisc>⟧.state shelf.new session.new None) replies.new.items cutter.old) }
-    ensures session { IsSessionOver ⟦<BoxedDisc as SegDisc>⟧.state shelf.new session.new }
-    ensures keeps { Keeps (moment ⟦<BoxedDisc as SegDisc>⟧.state shelf.old session.old None) (moment ⟦<BoxedDisc as SegDisc>⟧.state shelf.new session.new None) }
+    ensures ends { IfOk result (EndsAll tool
+        (moment state shelf.old session.old (Some replies.old.items))
+        (moment state shelf.new session.new (Some replies.new.items)) replies.new.items cutter.old) }
+    ensures session { IsSessionOver state shelf.new session.new }
+    ensures keeps { Keeps (moment state shelf.old session.old None)
+        (moment state shelf.new session.new None) }
 {
     match cutter.end() {
         Cut::Whole => match run_line(
@@ -179,18 +187,22 @@ pub(crate) fn run_lines<S: Source, O: Sink>(
     source: &mut S,
     out: &mut O,
 ) -> Result<Option<(u32, LineFault)>, Stop>
-    requires session { IsSessionOver ⟦<BoxedDisc as SegDisc>⟧.state shelf.old session.old }
-    requires proper { IsProperState (state_over ⟦<BoxedDisc as SegDisc>⟧.state shelf.old session.old) }
+    requires session { IsSessionOver state shelf.old session.old }
+    requires proper { IsProperState (state_over state shelf.old session.old) }
     ensures replay { IfOk result (λ bad. IfSome (S.left source.old) (λ input. IsReplay tool
-        (moment ⟦<BoxedDisc as SegDisc>⟧.state shelf.old session.old (O.written out.old))
-        (moment ⟦<BoxedDisc as SegDisc>⟧.state shelf.new session.new (O.written out.new)) input bad (S.left source.new))) }
-    ensures cut_short { IfErr result (λ stop. stop ≡ Stop.Read → IfSome (S.left source.old) (λ input. IsCutShort tool
-        (moment ⟦<BoxedDisc as SegDisc>⟧.state shelf.old session.old (O.written out.old))
-        (moment ⟦<BoxedDisc as SegDisc>⟧.state shelf.new session.new (O.written out.new)) input (S.left source.new))) }
-    ensures session { IsSessionOver ⟦<BoxedDisc as SegDisc>⟧.state shelf.new session.new }
-    ensures keeps { Keeps (moment ⟦<BoxedDisc as SegDisc>⟧.state shelf.old session.old None) (moment ⟦<BoxedDisc as SegDisc>⟧.state shelf.new session.new None) }
-    ensures read { IfErr result (λ stop. stop ≡ Stop.Read → Rose (S.failures source.old) (S.failures source.new)) }
-    ensures write { IfErr result (λ stop. stop ≡ Stop.Write → Rose (O.failures out.old) (O.failures out.new)) }
+        (moment state shelf.old session.old (O.written out.old))
+        (moment state shelf.new session.new (O.written out.new)) input bad (S.left source.new))) }
+    ensures cut_short { IfErr result (λ stop. stop ≡ Stop.Read
+        → IfSome (S.left source.old) (λ input. IsCutShort tool
+        (moment state shelf.old session.old (O.written out.old))
+        (moment state shelf.new session.new (O.written out.new)) input (S.left source.new))) }
+    ensures session { IsSessionOver state shelf.new session.new }
+    ensures keeps { Keeps (moment state shelf.old session.old None)
+        (moment state shelf.new session.new None) }
+    ensures read { IfErr result (λ stop. stop ≡ Stop.Read
+        → Rose (S.failures source.old) (S.failures source.new)) }
+    ensures write { IfErr result (λ stop. stop ≡ Stop.Write
+        → Rose (O.failures out.old) (O.failures out.new)) }
     ensures reads { S.failures source.old ≤ S.failures source.new }
     ensures writes { O.failures out.old ≤ O.failures out.new }
 {

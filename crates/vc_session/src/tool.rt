@@ -1,6 +1,5 @@
 // The top call: a script from a source, its replies to one sink, a fault to another.
 ghost use Rattle.std.specs.Prelude.{◌≡◌, ◌<◌, ◌≤◌, ◌+◌, ◌++◌, ◌⊎◌, ℕ, Some, None, IfSome, IfOk, IfErr, OnErr, OnOk, codes, length};
-ghost use Rattle.arrayvec.specs.ArrayVec.{array_string_len};
 ghost use Rattle.vc_model.specs.Count.{Rose};
 ghost use Rattle.vc_script.specs.declared.line_fault.LineFault.{LineFault};
 ghost use Rattle.vc_script.specs.declared.tool.Tool.TheVariants.{Vmreplay};
@@ -27,14 +26,17 @@ fn run_source<S: Source, O: Sink>(
     out: &mut O,
 ) -> Result<Option<(u32, LineFault)>, Stop>
     ensures replay { IfOk result (λ bad. IfSome (S.left source.old) (λ input. IsReplay tool
-        (at_rest ⟦<BoxedDisc as SegDisc>⟧.state shelf.old (O.written out.old)) (at_rest ⟦<BoxedDisc as SegDisc>⟧.state shelf.new (O.written out.new))
+        (at_rest state shelf.old (O.written out.old)) (at_rest state shelf.new (O.written out.new))
         input bad (S.left source.new))) }
-    ensures cut_short { IfErr result (λ stop. stop ≡ Stop.Read → IfSome (S.left source.old) (λ input. IsCutShort tool
-        (at_rest ⟦<BoxedDisc as SegDisc>⟧.state shelf.old (O.written out.old)) (at_rest ⟦<BoxedDisc as SegDisc>⟧.state shelf.new (O.written out.new))
+    ensures cut_short { IfErr result (λ stop. stop ≡ Stop.Read
+        → IfSome (S.left source.old) (λ input. IsCutShort tool
+        (at_rest state shelf.old (O.written out.old)) (at_rest state shelf.new (O.written out.new))
         input (S.left source.new))) }
-    ensures read { IfErr result (λ stop. stop ≡ Stop.Read → Rose (S.failures source.old) (S.failures source.new)) }
-    ensures write { IfErr result (λ stop. stop ≡ Stop.Write → Rose (O.failures out.old) (O.failures out.new)) }
-    ensures keeps { Keeps (at_rest ⟦<BoxedDisc as SegDisc>⟧.state shelf.old None) (at_rest ⟦<BoxedDisc as SegDisc>⟧.state shelf.new None) }
+    ensures read { IfErr result (λ stop. stop ≡ Stop.Read
+        → Rose (S.failures source.old) (S.failures source.new)) }
+    ensures write { IfErr result (λ stop. stop ≡ Stop.Write
+        → Rose (O.failures out.old) (O.failures out.new)) }
+    ensures keeps { Keeps (at_rest state shelf.old None) (at_rest state shelf.new None) }
     ensures reads { S.failures source.old ≤ S.failures source.new }
     ensures writes { O.failures out.old ≤ O.failures out.new }
 {
@@ -77,7 +79,8 @@ fn fault_text(fault: LineFault) -> &'static str
 // Writes what happened, in one line behind the tool's name.
 fn tell<E: Sink>(err: &mut E, tool: Tool, text: &str) -> Result<(), WriteFailed>
     requires { length text.now ≤ 80 }
-    ensures told { OnOk result (Told (E.written err.old) (E.written err.new) (message tool text.now)) }
+    ensures told { OnOk result (Told (E.written err.old) (E.written err.new)
+        (message tool text.now)) }
     ensures broke { OnErr result (Broke (E.failures err.old) (E.failures err.new)
         (E.written err.old) (E.written err.new) (message tool text.now)) }
     ensures never_falls { E.failures err.old ≤ E.failures err.new }
@@ -97,7 +100,8 @@ fn tell_fault<E: Sink>(
     n: u32,
     fault: LineFault,
 ) -> Result<(), WriteFailed>
-    ensures told { OnOk result (Told (E.written err.old) (E.written err.new) (err_line tool (n, fault))) }
+    ensures told { OnOk result (Told (E.written err.old) (E.written err.new)
+        (err_line tool (n, fault))) }
     ensures broke { OnErr result (Broke (E.failures err.old) (E.failures err.new)
         (E.written err.old) (E.written err.new) (err_line tool (n, fault))) }
     ensures never_falls { E.failures err.old ≤ E.failures err.new }
@@ -125,7 +129,7 @@ pub fn replay<S: Source, O: Sink, E: Sink>(
     // Nothing was wrong, and the replies of the whole script were written.
     ensures ok { result ≡ Status.Ok → (length words.now ≡ 0) × (err.new ≡ err.old)
         × IfSome (S.left source.old) (λ input. IsReplay Vmreplay
-            (at_rest ⟦<BoxedDisc as SegDisc>⟧.state shelf.old (O.written out.old)) (at_rest ⟦<BoxedDisc as SegDisc>⟧.state shelf.new (O.written out.new))
+            (at_rest state shelf.old (O.written out.old)) (at_rest state shelf.new (O.written out.new))
             input None (S.left source.new)) }
 
     // The replies of the lines before the fault were written, and the fault's line. At most 4,096 bytes were read behind
@@ -133,7 +137,7 @@ pub fn replay<S: Source, O: Sink, E: Sink>(
     ensures script { result ≡ Status.Script → (length words.now ≡ 0) × ((bad : ℕ × LineFault)
         × Told (E.written err.old) (E.written err.new) (err_line Vmreplay bad)
         × IfSome (S.left source.old) (λ input. IsReplay Vmreplay
-            (at_rest ⟦<BoxedDisc as SegDisc>⟧.state shelf.old (O.written out.old)) (at_rest ⟦<BoxedDisc as SegDisc>⟧.state shelf.new (O.written out.new))
+            (at_rest state shelf.old (O.written out.old)) (at_rest state shelf.new (O.written out.new))
             input (Some bad) (S.left source.new))) }
 
     // The tool takes no words.
@@ -151,7 +155,7 @@ pub fn replay<S: Source, O: Sink, E: Sink>(
     // With a failed read the replies of the lines that were wholly read were written, and no byte that was read shows a
     // fault.
     ensures cut_short { result ≡ Status.Read → IfSome (S.left source.old) (λ input. IsCutShort Vmreplay
-        (at_rest ⟦<BoxedDisc as SegDisc>⟧.state shelf.old (O.written out.old)) (at_rest ⟦<BoxedDisc as SegDisc>⟧.state shelf.new (O.written out.new))
+        (at_rest state shelf.old (O.written out.old)) (at_rest state shelf.new (O.written out.new))
         input (S.left source.new)) }
 
     // Where the line of status 1 or 2 could not be written whole, a front of it was.
@@ -163,7 +167,7 @@ pub fn replay<S: Source, O: Sink, E: Sink>(
             × Broke (E.failures err.old) (E.failures err.new)
                 (E.written err.old) (E.written err.new) (err_line Vmreplay bad)
             × IfSome (S.left source.old) (λ input. IsReplay Vmreplay
-                (at_rest ⟦<BoxedDisc as SegDisc>⟧.state shelf.old (O.written out.old)) (at_rest ⟦<BoxedDisc as SegDisc>⟧.state shelf.new (O.written out.new))
+                (at_rest state shelf.old (O.written out.old)) (at_rest state shelf.new (O.written out.new))
                 input (Some bad) (S.left source.new))) }
     ensures memory { result ≡ Status.Memory → Tried (E.failures err.old) (E.failures err.new)
         (E.written err.old) (E.written err.new) (message Vmreplay (codes "out of memory")) }
@@ -172,7 +176,7 @@ pub fn replay<S: Source, O: Sink, E: Sink>(
     ensures writes { (O.failures out.old ≤ O.failures out.new) × (E.failures err.old ≤ E.failures err.new) }
 
     // On every exit each place has its discipline, with the segments out and the terms that it had, and no fault less.
-    ensures keeps { Keeps (at_rest ⟦<BoxedDisc as SegDisc>⟧.state shelf.old None) (at_rest ⟦<BoxedDisc as SegDisc>⟧.state shelf.new None) }
+    ensures keeps { Keeps (at_rest state shelf.old None) (at_rest state shelf.new None) }
 {
     let tool = Tool::Vmreplay;
     if !words.is_empty() {
