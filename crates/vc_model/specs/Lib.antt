@@ -17,5 +17,8 @@ pub mod Resize
 pub mod Numbers
 pub mod Compact
 pub mod Walk
+pub mod Pool
+pub mod Last
 pub mod Region
 pub mod Rows
+pub mod PoolRows

@@ -100,3 +100,18 @@ any-at test (y ∷ ys) (suc i) x at passes = ap (λ b. test y || b) (any-at test
 -- where a first item is, some item passes
 pub any-first : {A : Type 0} (test : A → Bool) (xs : List A) (i : ℕ) → IsFirst test xs i → list_any test xs ≡ true
 any-first test xs i f = any-at test xs i f.item f.at f.passes
+
+take-set : {A : Type 0} (xs : List A) (i : ℕ) (y : A) → take i (set xs i y) ≡ take i xs
+take-set [] zero y = refl
+take-set [] (suc i) y = refl
+take-set (x ∷ xs) zero y = refl
+take-set (x ∷ xs) (suc i) y = ap (λ ys. x ∷ ys) (take-set xs i y)
+
+get-set : {A : Type 0} (xs : List A) (i : ℕ) (x y : A) → slice_get xs i ≡ Some x → slice_get (set xs i y) i ≡ Some y
+get-set [] i x y at = absurd (none-some x at)
+get-set (z ∷ zs) zero x y at = refl
+get-set (z ∷ zs) (suc i) x y at = get-set zs i x y at
+
+-- another item that passes in the first one's place
+pub first-set : {A : Type 0} (test : A → Bool) (xs : List A) (i : ℕ) (x y : A) → slice_get xs i ≡ Some x → list_any test (take i xs) ≡ false → test y ≡ true → IsFirst test (set xs i y) i
+first-set test xs i x y at none passes = record { item = y; at = get-set xs i x y at; passes = passes; before = ap (list_any test) (take-set xs i y) ∙ none }

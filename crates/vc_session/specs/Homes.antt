@@ -1,15 +1,13 @@
 -- What the regions of a session stand for.
 use Rattle.std.specs.Prelude.{◌≡◌, ℕ, List, [], Option, length, map}
 use Rattle.std.specs.List.{zip}
-use Rattle.std.specs.declared.dyn_box.DynBox.{DynBox}
-use Rattle.std.specs.declared.alloc.Global.{Global}
 use Rattle.vc_model.specs.Discipline.{Discipline}
 use Rattle.vc_model.specs.Region.{Region, relabelled}
 use Rattle.vc_seg.specs.Shelf.{slots_of}
 use Rattle.vc_seg.specs.declared.shelf.Shelf.{Shelf}
 use Rattle.vc_seg.specs.declared.shelf.ShelfPlace.{ShelfPlace}
 use Rattle.vc_seg.specs.declared.shelf.ShelfPlace.TheVariants.{Missing, Taken, Here}
-use Rattle.vc_region.specs.Parts.{disc_of, region_of}
+use Rattle.vc_region.specs.Parts.{boxed, disc_in, region_of}
 use Rattle.vc_script.specs.declared.refusal.Refusal.{Refusal}
 use Rattle.vc_script.specs.declared.refusal.Refusal.TheVariants.{NoSuchDiscipline, DisciplineInUse}
 use Rattle.vc_script.specs.declared.reply.Reply.{Reply}
@@ -22,55 +20,55 @@ use Rattle.vc_session.specs.declared.labels.Labels.{Labels}
 use Rattle.vc_session.specs.declared.session.Session.{Session}
 
 -- a region under its name, with what its boxed discipline means, and the names of its tags
-abbrev pub held_of : {I : Type 0} {V : I → Type 0} → (DynBox I Global V → Discipline) → List ℕ → HomeEntry I V → Labels → Held
+abbrev pub held_of : {I : Type 0} {V : I → Type 0} → ((x : I) × V x → Discipline) → List ℕ → HomeEntry I V → Labels → Held
 held_of meaning name h labels =
-    record { name = name; place = h.place; disc = meaning (disc_of h.region); region = region_of h.region; labels = labels }
+    record { name = name; place = h.place; disc = disc_in meaning h.region; region = region_of h.region; labels = labels }
 
 -- a region with names for its tags
 abbrev pub region_with : {I : Type 0} {V : I → Type 0} → HomeEntry I V → Labels → Region Label
 region_with h labels = relabelled (name_of labels) (region_of h.region)
 
 -- by a definition, a command on a region gives this reply and leaves the region so, whatever its name
-abbrev pub Runs : {I : Type 0} {V : I → Type 0} → (DynBox I Global V → Discipline) → (Home → Changed) → HomeEntry I V → Labels → Region Label → Reply → Type 0
+abbrev pub Runs : {I : Type 0} {V : I → Type 0} → ((x : I) × V x → Discipline) → (Home → Changed) → HomeEntry I V → Labels → Region Label → Reply → Type 0
 Runs meaning command h labels after reply = (name : List ℕ) → Gives (command (home_of (held_of meaning name h labels))) after reply
 
 -- a region and its names changed, whatever its name
-abbrev pub Changes : {I : Type 0} {V : I → Type 0} → (DynBox I Global V → Discipline) → HomeEntry I V → Labels → HomeEntry I V → Labels → Type 0
+abbrev pub Changes : {I : Type 0} {V : I → Type 0} → ((x : I) × V x → Discipline) → HomeEntry I V → Labels → HomeEntry I V → Labels → Type 0
 Changes meaning h labels after labels' = (name : List ℕ) → IsChange (held_of meaning name h labels) (held_of meaning name after labels')
 
-abbrev pub held_entry : {I : Type 0} {V : I → Type 0} → (DynBox I Global V → Discipline) → (List ℕ × HomeEntry I V) × Labels → Held
+abbrev pub held_entry : {I : Type 0} {V : I → Type 0} → ((x : I) × V x → Discipline) → (List ℕ × HomeEntry I V) × Labels → Held
 held_entry meaning e = held_of meaning e.0.0 e.0.1 e.1
 
 -- the open regions in order, each with its names
-abbrev pub held_all : {I : Type 0} {V : I → Type 0} → (DynBox I Global V → Discipline) → List (List ℕ × HomeEntry I V) → List Labels → List Held
+abbrev pub held_all : {I : Type 0} {V : I → Type 0} → ((x : I) × V x → Discipline) → List (List ℕ × HomeEntry I V) → List Labels → List Held
 held_all meaning homes labels = map (held_entry meaning) (zip homes labels)
 
 -- those of a session
-abbrev pub held_in : {I : Type 0} {V : I → Type 0} → (DynBox I Global V → Discipline) → Session I V → List Held
+abbrev pub held_in : {I : Type 0} {V : I → Type 0} → ((x : I) × V x → Discipline) → Session I V → List Held
 held_in meaning session = held_all meaning session.homes.entries session.labels.items
 
 -- the disciplines of a shelf, and their accounts
-abbrev pub slots_on : {I : Type 0} {V : I → Type 0} → (DynBox I Global V → Discipline) → Shelf I V → List (Option Discipline)
-slots_on meaning shelf = slots_of meaning shelf.slots.items
+abbrev pub slots_on : {I : Type 0} {V : I → Type 0} → ((x : I) × V x → Discipline) → Shelf I V → List (Option Discipline)
+slots_on meaning shelf = slots_of (boxed meaning) shelf.slots.items
 
-abbrev pub accounts_on : {I : Type 0} {V : I → Type 0} → (DynBox I Global V → Discipline) → Shelf I V → List (Option Account)
+abbrev pub accounts_on : {I : Type 0} {V : I → Type 0} → ((x : I) × V x → Discipline) → Shelf I V → List (Option Account)
 accounts_on meaning shelf = accounts (slots_on meaning shelf)
 
 -- the state that a shelf stands for where no region is open
-abbrev pub state_on : {I : Type 0} {V : I → Type 0} → (DynBox I Global V → Discipline) → Shelf I V → State
+abbrev pub state_on : {I : Type 0} {V : I → Type 0} → ((x : I) × V x → Discipline) → Shelf I V → State
 state_on meaning shelf = state_of (slots_on meaning shelf) []
 
 -- the state that a shelf and a session stand for
-abbrev pub state_over : {I : Type 0} {V : I → Type 0} → (DynBox I Global V → Discipline) → Shelf I V → Session I V → State
+abbrev pub state_over : {I : Type 0} {V : I → Type 0} → ((x : I) × V x → Discipline) → Shelf I V → Session I V → State
 state_over meaning shelf session = state_of (slots_on meaning shelf) (held_in meaning session)
 
 -- each open region has its names, and a place of its own, whose discipline it holds
-pub record IsSessionOver {I : Type 0} {V : I → Type 0} (meaning : DynBox I Global V → Discipline) (shelf : Shelf I V) (session : Session I V) : Type 0 where
+pub record IsSessionOver {I : Type 0} {V : I → Type 0} (meaning : (x : I) × V x → Discipline) (shelf : Shelf I V) (session : Session I V) : Type 0 where
   pub named : length session.labels.items ≡ length session.homes.entries
   pub held : IsSession (slots_on meaning shelf) (held_in meaning session)
 
 -- the accounts on the shelf when every open region is closed
-abbrev pub settled_over : {I : Type 0} {V : I → Type 0} → (DynBox I Global V → Discipline) → Shelf I V → Session I V → List (Option Account)
+abbrev pub settled_over : {I : Type 0} {V : I → Type 0} → ((x : I) × V x → Discipline) → Shelf I V → Session I V → List (Option Account)
 settled_over meaning shelf session = settled (accounts_on meaning shelf) (held_in meaning session)
 
 -- why no discipline is taken from a place of the shelf

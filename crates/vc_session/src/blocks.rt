@@ -3,7 +3,7 @@ ghost use Rattle.std.specs.Prelude.{◌≡◌, ◌<◌, ◌+◌, ◌^◌, [], So
 ghost use Rattle.std.specs.HashMap.{spare};
 ghost use Rattle.slab.specs.Slab.{HasRoomFor, slab_len};
 ghost use Rattle.vc_model.specs.Discipline.{HasOut};
-ghost use Rattle.vc_region.specs.Parts.{disc_of, region_of, segments_in};
+ghost use Rattle.vc_region.specs.Parts.{disc_in, region_of, segments_in};
 ghost use Rattle.vc_script.specs.Needs.{need_shown};
 ghost use Rattle.vc_session.specs.Account.{IsNamed, LacksSegment};
 ghost use Rattle.vc_session.specs.Blocks.{align_in, alloc_in, fault_of, free_in, is_align, is_size, refusal_of, resize_in};
@@ -106,14 +106,20 @@ impl HomeEntry {
         size: u32,
     ) -> Result<Reply, OutOfMemory>
         requires names { IsNamed (region_of self.old.region) labels.old }
-        requires lent { HasOut (⟦<BoxedDisc as SegDisc>⟧.state (disc_of self.old.region)) (segments_in self.old.region) }
+        requires lent { HasOut (disc_in state self.old.region)
+            (segments_in self.old.region) }
 
-        ensures step { IfOk result (λ reply. Runs ⟦<BoxedDisc as SegDisc>⟧.state (λ h. alloc_in h name size (is_for_block (need_shown reply)))
+        ensures step { IfOk result (λ reply. Runs state
+            (λ h. alloc_in h name size (is_for_block (need_shown reply)))
             self.old labels.old (region_with self.new labels.new) reply) }
-        ensures err { OnErr result (region_with self.new labels.new ≡ region_with self.old labels.old) }
-        ensures change { Changes ⟦<BoxedDisc as SegDisc>⟧.state self.old labels.old self.new labels.new }
+        ensures err { OnErr result (region_with self.new labels.new
+            ≡ region_with self.old labels.old) }
+        ensures change { Changes state
+            self.old labels.old self.new labels.new }
         ensures unserved { result ≡ Ok (Reply.Refused Refusal.NoSegment)
-            → LacksSegment (held_of ⟦<BoxedDisc as SegDisc>⟧.state [] self.old labels.old) (held_of ⟦<BoxedDisc as SegDisc>⟧.state [] self.new labels.new)
+            → LacksSegment
+            (held_of state [] self.old labels.old)
+            (held_of state [] self.new labels.new)
             (size, 32) }
     {
         if let Some(why) = new_refused(labels, &name, is_size(size)) {
@@ -132,15 +138,20 @@ impl HomeEntry {
         align: u32,
     ) -> Result<Reply, OutOfMemory>
         requires names { IsNamed (region_of self.old.region) labels.old }
-        requires lent { HasOut (⟦<BoxedDisc as SegDisc>⟧.state (disc_of self.old.region)) (segments_in self.old.region) }
+        requires lent { HasOut (disc_in state self.old.region)
+            (segments_in self.old.region) }
 
         ensures step { IfOk result (λ reply. Runs state
             (λ h. align_in h name size align (is_for_block (need_shown reply)))
             self.old labels.old (region_with self.new labels.new) reply) }
-        ensures err { OnErr result (region_with self.new labels.new ≡ region_with self.old labels.old) }
-        ensures change { Changes ⟦<BoxedDisc as SegDisc>⟧.state self.old labels.old self.new labels.new }
+        ensures err { OnErr result (region_with self.new labels.new
+            ≡ region_with self.old labels.old) }
+        ensures change { Changes state
+            self.old labels.old self.new labels.new }
         ensures unserved { result ≡ Ok (Reply.Refused Refusal.NoSegment)
-            → LacksSegment (held_of ⟦<BoxedDisc as SegDisc>⟧.state [] self.old labels.old) (held_of ⟦<BoxedDisc as SegDisc>⟧.state [] self.new labels.new)
+            → LacksSegment
+            (held_of state [] self.old labels.old)
+            (held_of state [] self.new labels.new)
             (size, align) }
     {
         if let Some(why) = new_refused(labels, &name, is_size(size) && is_align(align)) {
@@ -159,15 +170,20 @@ impl HomeEntry {
         may_move: bool,
     ) -> Result<Reply, OutOfMemory>
         requires names { IsNamed (region_of self.old.region) labels.old }
-        requires lent { HasOut (⟦<BoxedDisc as SegDisc>⟧.state (disc_of self.old.region)) (segments_in self.old.region) }
+        requires lent { HasOut (disc_in state self.old.region)
+            (segments_in self.old.region) }
 
         ensures step { IfOk result (λ reply. Runs state
             (λ h. resize_in h name.now size may_move (is_for_block (need_shown reply)))
             self.old labels.old (region_with self.new labels.new) reply) }
-        ensures err { OnErr result (region_with self.new labels.new ≡ region_with self.old labels.old) }
-        ensures change { Changes ⟦<BoxedDisc as SegDisc>⟧.state self.old labels.old self.new labels.new }
+        ensures err { OnErr result (region_with self.new labels.new
+            ≡ region_with self.old labels.old) }
+        ensures change { Changes state
+            self.old labels.old self.new labels.new }
         ensures unserved { result ≡ Ok (Reply.Refused Refusal.NoSegment)
-            → LacksSegment (held_of ⟦<BoxedDisc as SegDisc>⟧.state [] self.old labels.old) (held_of ⟦<BoxedDisc as SegDisc>⟧.state [] self.new labels.new)
+            → LacksSegment
+            (held_of state [] self.old labels.old)
+            (held_of state [] self.new labels.new)
             (size, 32) }
     {
         let Some(at) = labels.find(name) else {
@@ -192,12 +208,16 @@ impl HomeEntry {
         name: &Name,
     ) -> Result<Reply, OutOfMemory>
         requires names { IsNamed (region_of self.old.region) labels.old }
-        requires lent { HasOut (⟦<BoxedDisc as SegDisc>⟧.state (disc_of self.old.region)) (segments_in self.old.region) }
+        requires lent { HasOut (disc_in state self.old.region)
+            (segments_in self.old.region) }
 
-        ensures step { IfOk result (λ reply. Runs ⟦<BoxedDisc as SegDisc>⟧.state (λ h. free_in h name.now)
+        ensures step { IfOk result (λ reply. Runs state
+            (λ h. free_in h name.now)
             self.old labels.old (region_with self.new labels.new) reply) }
-        ensures err { OnErr result (region_with self.new labels.new ≡ region_with self.old labels.old) }
-        ensures change { Changes ⟦<BoxedDisc as SegDisc>⟧.state self.old labels.old self.new labels.new }
+        ensures err { OnErr result (region_with self.new labels.new
+            ≡ region_with self.old labels.old) }
+        ensures change { Changes state
+            self.old labels.old self.new labels.new }
         ensures granted { result ≡ Ok (Reply.Refused Refusal.NoSegment) → ⊥ }
     {
         let Some(at) = labels.find(name) else {

@@ -1,7 +1,7 @@
 // The commands that read and write the bytes of a block.
 ghost use Rattle.std.specs.Prelude.{◌≡◌, ℕ, List, IfOk};
 ghost use Rattle.vc_model.specs.Discipline.{HasOut};
-ghost use Rattle.vc_region.specs.Parts.{disc_of, region_of, segments_in};
+ghost use Rattle.vc_region.specs.Parts.{disc_in, region_of, segments_in};
 ghost use Rattle.vc_session.specs.Account.{IsNamed};
 ghost use Rattle.vc_session.specs.Blocks.{read_in, size_in, write_in};
 
@@ -18,11 +18,14 @@ impl HomeEntry {
     // Writes bytes into a block, from an offset on.
     pub(crate) fn write(&mut self, labels: &Labels, name: &Name, off: u32, bytes: &[u8]) -> Reply
         requires names { IsNamed (region_of self.old.region) labels.now }
-        requires lent { HasOut (⟦<BoxedDisc as SegDisc>⟧.state (disc_of self.old.region)) (segments_in self.old.region) }
+        requires lent { HasOut (disc_in state self.old.region)
+            (segments_in self.old.region) }
 
-        ensures step { Runs ⟦<BoxedDisc as SegDisc>⟧.state (λ h. write_in h name.now off bytes.now)
+        ensures step { Runs state
+            (λ h. write_in h name.now off bytes.now)
             self.old labels.now (region_with self.new labels.now) result }
-        ensures change { Changes ⟦<BoxedDisc as SegDisc>⟧.state self.old labels.now self.new labels.now }
+        ensures change { Changes state
+            self.old labels.now self.new labels.now }
         ensures granted { result ≡ Reply.Refused Refusal.NoSegment → ⊥ }
     {
         match labels.find(name) {
@@ -47,7 +50,8 @@ impl HomeEntry {
         len: u32,
     ) -> Result<Reply, OutOfMemory>
         requires names { IsNamed (region_of self.now.region) labels.now }
-        ensures { IfOk result (λ reply. Runs ⟦<BoxedDisc as SegDisc>⟧.state (λ h. read_in h name.now off len)
+        ensures { IfOk result (λ reply. Runs state
+            (λ h. read_in h name.now off len)
             self.now labels.now (region_with self.now labels.now) reply) }
     {
         match labels.find(name) {
@@ -65,7 +69,9 @@ impl HomeEntry {
     // Tells the size of a block.
     pub(crate) fn size(&self, labels: &Labels, name: &Name) -> Reply
         requires names { IsNamed (region_of self.now.region) labels.now }
-        ensures { Runs ⟦<BoxedDisc as SegDisc>⟧.state (λ h. size_in h name.now) self.now labels.now (region_with self.now labels.now) result }
+        ensures { Runs state
+            (λ h. size_in h name.now)
+            self.now labels.now (region_with self.now labels.now) result }
     {
         match labels.find(name) {
             None => Reply::Refused(Refusal::NoBlock),

@@ -4,7 +4,7 @@ ghost use Rattle.vc_model.specs.Discipline.{HasOut};
 ghost use Rattle.vc_model.specs.Numbered.{at_number};
 ghost use Rattle.vc_model.specs.Region.{segments_of};
 ghost use Rattle.vc_seg.specs.Shelf.{place_at};
-ghost use Rattle.vc_region.specs.Parts.{disc_of, segments_in};
+ghost use Rattle.vc_region.specs.Parts.{disc_in, segments_in};
 ghost use Rattle.vc_session.specs.Account.{account_after, account_back};
 ghost use Rattle.vc_session.specs.Homes.{IsSessionOver, accounts_on, held_in, settled_over, slots_on, state_over};
 ghost use Rattle.vc_session.specs.State.{close_step, stepped};
@@ -17,13 +17,16 @@ use vc_seg::{BoxedDisc, SegDisc, Shelf, ShelfPlace};
 
 // Closes one region, gives its discipline back to its place, and answers how many segments it gave back.
 fn close_region(home: HomeEntry, shelf: &mut Shelf) -> u32
-    requires taken { place_at (slots_on ⟦<BoxedDisc as SegDisc>⟧.state shelf.old) home.place ≡ ShelfPlace.Taken }
-    requires lent { HasOut (⟦<BoxedDisc as SegDisc>⟧.state (disc_of home.region)) (segments_in home.region) }
+    requires taken { place_at (slots_on state shelf.old) home.place ≡ ShelfPlace.Taken }
+    requires lent { HasOut (disc_in state home.region)
+        (segments_in home.region) }
     ensures count { result ≡ length (segments_in home.region) }
-    ensures here { accounts_on ⟦<BoxedDisc as SegDisc>⟧.state shelf.new ≡ slice_set (accounts_on ⟦<BoxedDisc as SegDisc>⟧.state shelf.old) (home.place - 1)
-        (Some (account_back (⟦<BoxedDisc as SegDisc>⟧.state (disc_of home.region)) (segments_in home.region))) }
+    ensures here { accounts_on state shelf.new
+        ≡ slice_set (accounts_on state shelf.old) (home.place - 1)
+        (Some (account_back (disc_in state home.region) (segments_in home.region))) }
     ensures elsewhere { (p : ℕ) → p ≢ home.place
-        → at_number (slots_on ⟦<BoxedDisc as SegDisc>⟧.state shelf.new) p ≡ at_number (slots_on ⟦<BoxedDisc as SegDisc>⟧.state shelf.old) p }
+        → at_number (slots_on state shelf.new) p
+        ≡ at_number (slots_on state shelf.old) p }
 {
     let HomeEntry { place, region } = home;
     let (disc, count) = region.close();
@@ -35,17 +38,20 @@ impl Session {
     // Closes the region that was opened as the one of that index, from 0 on, of those that are open, and answers how many
     // segments it gave back.
     pub(crate) fn close_at(&mut self, shelf: &mut Shelf, i: usize) -> u32
-        requires session { IsSessionOver ⟦<BoxedDisc as SegDisc>⟧.state shelf.old self.old }
+        requires session { IsSessionOver state shelf.old self.old }
         requires within { i < length self.old.homes.entries }
-        ensures count { IfSome (slice_get (held_in ⟦<BoxedDisc as SegDisc>⟧.state self.old) i)
+        ensures count { IfSome (slice_get (held_in state self.old) i)
             (λ h. result ≡ length (segments_of h.region)) }
-        ensures here { IfSome (slice_get (held_in ⟦<BoxedDisc as SegDisc>⟧.state self.old) i)
-            (λ h. accounts_on ⟦<BoxedDisc as SegDisc>⟧.state shelf.new
-            ≡ slice_set (accounts_on ⟦<BoxedDisc as SegDisc>⟧.state shelf.old) (h.place - 1) (Some (account_after h))) }
-        ensures others { held_in ⟦<BoxedDisc as SegDisc>⟧.state self.new ≡ remove (held_in ⟦<BoxedDisc as SegDisc>⟧.state self.old) i }
+        ensures here { IfSome (slice_get (held_in state self.old) i)
+            (λ h. accounts_on state shelf.new
+            ≡ slice_set (accounts_on state shelf.old) (h.place - 1)
+            (Some (account_after h))) }
+        ensures others { held_in state self.new
+            ≡ remove (held_in state self.old) i }
         ensures fewer { length self.new.homes.entries + 1 ≡ length self.old.homes.entries }
-        ensures session { IsSessionOver ⟦<BoxedDisc as SegDisc>⟧.state shelf.new self.new }
-        ensures settled { settled_over ⟦<BoxedDisc as SegDisc>⟧.state shelf.new self.new ≡ settled_over ⟦<BoxedDisc as SegDisc>⟧.state shelf.old self.old }
+        ensures session { IsSessionOver state shelf.new self.new }
+        ensures settled { settled_over state shelf.new self.new
+            ≡ settled_over state shelf.old self.old }
     {
         let _ = self.labels.remove(i);
         match self.homes.shift_remove_index(i) {
@@ -56,11 +62,12 @@ impl Session {
 
     // Closes the region of that name.
     pub(crate) fn close_named(&mut self, shelf: &mut Shelf, name: &Name) -> Reply
-        requires { IsSessionOver ⟦<BoxedDisc as SegDisc>⟧.state shelf.old self.old }
-        ensures step { close_step (state_over ⟦<BoxedDisc as SegDisc>⟧.state shelf.old self.old) name.now
-            ≡ stepped (state_over ⟦<BoxedDisc as SegDisc>⟧.state shelf.new self.new) result }
-        ensures session { IsSessionOver ⟦<BoxedDisc as SegDisc>⟧.state shelf.new self.new }
-        ensures settled { settled_over ⟦<BoxedDisc as SegDisc>⟧.state shelf.new self.new ≡ settled_over ⟦<BoxedDisc as SegDisc>⟧.state shelf.old self.old }
+        requires { IsSessionOver state shelf.old self.old }
+        ensures step { close_step (state_over state shelf.old self.old) name.now
+            ≡ stepped (state_over state shelf.new self.new) result }
+        ensures session { IsSessionOver state shelf.new self.new }
+        ensures settled { settled_over state shelf.new self.new
+            ≡ settled_over state shelf.old self.old }
     {
         match self.homes.get_index_of(name) {
             None => Reply::Refused(Refusal::NoRegion),

@@ -2,7 +2,7 @@
 ghost use Rattle.std.specs.Prelude.{◌≡◌, [], Ok, IfOk, OnErr};
 ghost use Rattle.vc_model.specs.Addr.{place_of};
 ghost use Rattle.vc_model.specs.Discipline.{HasOut};
-ghost use Rattle.vc_region.specs.Parts.{disc_of, region_of, segments_in};
+ghost use Rattle.vc_region.specs.Parts.{disc_in, region_of, segments_in};
 ghost use Rattle.vc_script.specs.Needs.{need_shown};
 ghost use Rattle.vc_session.specs.Account.{IsNamed, LacksSegment};
 ghost use Rattle.vc_session.specs.Step.{block_asked, in_region};
@@ -45,14 +45,20 @@ impl HomeEntry {
         command: &Command,
     ) -> Result<Reply, OutOfMemory>
         requires names { IsNamed (region_of self.old.region) labels.old }
-        requires lent { HasOut (⟦<BoxedDisc as SegDisc>⟧.state (disc_of self.old.region)) (segments_in self.old.region) }
+        requires lent { HasOut (disc_in state self.old.region)
+            (segments_in self.old.region) }
 
-        ensures step { IfOk result (λ reply. Runs ⟦<BoxedDisc as SegDisc>⟧.state (λ h. in_region h command.now (need_shown reply))
+        ensures step { IfOk result (λ reply. Runs state
+            (λ h. in_region h command.now (need_shown reply))
             self.old labels.old (region_with self.new labels.new) reply) }
-        ensures err { OnErr result (region_with self.new labels.new ≡ region_with self.old labels.old) }
-        ensures change { Changes ⟦<BoxedDisc as SegDisc>⟧.state self.old labels.old self.new labels.new }
+        ensures err { OnErr result (region_with self.new labels.new
+            ≡ region_with self.old labels.old) }
+        ensures change { Changes state
+            self.old labels.old self.new labels.new }
         ensures unserved { result ≡ Ok (Reply.Refused Refusal.NoSegment)
-            → LacksSegment (held_of ⟦<BoxedDisc as SegDisc>⟧.state [] self.old labels.old) (held_of ⟦<BoxedDisc as SegDisc>⟧.state [] self.new labels.new)
+            → LacksSegment
+            (held_of state [] self.old labels.old)
+            (held_of state [] self.new labels.new)
             (block_asked command.now) }
     {
         match command {

@@ -38,12 +38,16 @@ impl Session {
         method: Method,
         n: u32,
     ) -> Result<Reply, OutOfMemory>
-        requires { IsSessionOver ⟦<BoxedDisc as SegDisc>⟧.state shelf.old self.old }
-        ensures step { IfOk result (λ reply. open_step (state_over ⟦<BoxedDisc as SegDisc>⟧.state shelf.old self.old) name method n
-            ≡ stepped (state_over ⟦<BoxedDisc as SegDisc>⟧.state shelf.new self.new) reply) }
-        ensures session { IsSessionOver ⟦<BoxedDisc as SegDisc>⟧.state shelf.new self.new }
-        ensures settled { settled_over ⟦<BoxedDisc as SegDisc>⟧.state shelf.new self.new ≡ settled_over ⟦<BoxedDisc as SegDisc>⟧.state shelf.old self.old }
-        ensures err { OnErr result (state_over ⟦<BoxedDisc as SegDisc>⟧.state shelf.new self.new ≡ state_over ⟦<BoxedDisc as SegDisc>⟧.state shelf.old self.old) }
+        requires { IsSessionOver state shelf.old self.old }
+        ensures step { IfOk result (λ reply. open_step
+            (state_over state shelf.old self.old) name method n
+            ≡ stepped (state_over state shelf.new self.new) reply) }
+        ensures session { IsSessionOver state shelf.new self.new }
+        ensures settled { settled_over state shelf.new self.new
+            ≡ settled_over state shelf.old self.old }
+        ensures err { OnErr result
+            (state_over state shelf.new self.new
+            ≡ state_over state shelf.old self.old) }
     {
         if !is_built(method) {
             return Ok(Reply::Refused(Refusal::NotYet));

@@ -69,12 +69,16 @@ impl Session {
         shelf: &mut Shelf,
         command: &Command,
     ) -> Result<Reply, OutOfMemory>
-        requires { IsSessionOver ⟦<BoxedDisc as SegDisc>⟧.state shelf.old self.old }
-        ensures step { IfOk result (λ reply. shelf_step (state_over ⟦<BoxedDisc as SegDisc>⟧.state shelf.old self.old) command.now
-            ≡ stepped (state_over ⟦<BoxedDisc as SegDisc>⟧.state shelf.new self.new) reply) }
-        ensures session { IsSessionOver ⟦<BoxedDisc as SegDisc>⟧.state shelf.new self.new }
-        ensures settled { settled_over ⟦<BoxedDisc as SegDisc>⟧.state shelf.new self.new ≡ settled_over ⟦<BoxedDisc as SegDisc>⟧.state shelf.old self.old }
-        ensures err { OnErr result (state_over ⟦<BoxedDisc as SegDisc>⟧.state shelf.new self.new ≡ state_over ⟦<BoxedDisc as SegDisc>⟧.state shelf.old self.old) }
+        requires { IsSessionOver state shelf.old self.old }
+        ensures step { IfOk result (λ reply. shelf_step
+            (state_over state shelf.old self.old) command.now
+            ≡ stepped (state_over state shelf.new self.new) reply) }
+        ensures session { IsSessionOver state shelf.new self.new }
+        ensures settled { settled_over state shelf.new self.new
+            ≡ settled_over state shelf.old self.old }
+        ensures err { OnErr result
+            (state_over state shelf.new self.new
+            ≡ state_over state shelf.old self.old) }
     {
         match command {
             Command::OpenRegion(name, method, n) => self.open_region(shelf, *name, *method, *n),
@@ -90,20 +94,26 @@ impl Session {
         line: u32,
         command: &Command,
     ) -> Result<Reply, OutOfMemory>
-        requires { IsSessionOver ⟦<BoxedDisc as SegDisc>⟧.state shelf.old self.old }
-        ensures step { IfOk result (λ reply. StepsTo (state_over ⟦<BoxedDisc as SegDisc>⟧.state shelf.old self.old) line command.now reply
-            (state_over ⟦<BoxedDisc as SegDisc>⟧.state shelf.new self.new)) }
-        ensures session { IsSessionOver ⟦<BoxedDisc as SegDisc>⟧.state shelf.new self.new }
-        ensures err { OnErr result (state_over ⟦<BoxedDisc as SegDisc>⟧.state shelf.new self.new ≡ state_over ⟦<BoxedDisc as SegDisc>⟧.state shelf.old self.old) }
+        requires { IsSessionOver state shelf.old self.old }
+        ensures step { IfOk result (λ reply. StepsTo
+            (state_over state shelf.old self.old) line command.now reply
+            (state_over state shelf.new self.new)) }
+        ensures session { IsSessionOver state shelf.new self.new }
+        ensures err { OnErr result
+            (state_over state shelf.new self.new
+            ≡ state_over state shelf.old self.old) }
 
         // The disciplines are the same, but for the faults of the one that refused.
-        ensures settles { IfOk result (λ reply. Settles (settled_over ⟦<BoxedDisc as SegDisc>⟧.state shelf.old self.old)
-            (settled_over ⟦<BoxedDisc as SegDisc>⟧.state shelf.new self.new)
-            (refusal_at (state_over ⟦<BoxedDisc as SegDisc>⟧.state shelf.old self.old) command.now reply)) }
-        ensures keeps { Settles (settled_over ⟦<BoxedDisc as SegDisc>⟧.state shelf.old self.old)
-            (settled_over ⟦<BoxedDisc as SegDisc>⟧.state shelf.new self.new) [] }
+        ensures settles { IfOk result (λ reply. Settles
+            (settled_over state shelf.old self.old)
+            (settled_over state shelf.new self.new)
+            (refusal_at (state_over state shelf.old self.old) command.now reply)) }
+        ensures keeps { Settles
+            (settled_over state shelf.old self.old)
+            (settled_over state shelf.new self.new) [] }
         ensures unserved { result ≡ Ok (Reply.Refused Refusal.NoSegment)
-            → StepLacks (held_in ⟦<BoxedDisc as SegDisc>⟧.state self.old) (held_in ⟦<BoxedDisc as SegDisc>⟧.state self.new) command.now }
+            → StepLacks (held_in state self.old)
+            (held_in state self.new) command.now }
     {
         let _ = line;
         match region_of(command) {
@@ -123,26 +133,32 @@ impl Session {
         line: u32,
         command: &Command,
     ) -> Result<Reply, OutOfMemory>
-        requires { IsSessionOver ⟦<BoxedDisc as SegDisc>⟧.state shelf.old self.old }
-        ensures step { IfOk result (λ reply. StepsTo (state_over ⟦<BoxedDisc as SegDisc>⟧.state shelf.old self.old) line command.now reply
-            (state_over ⟦<BoxedDisc as SegDisc>⟧.state shelf.new self.new)) }
-        ensures session { IsSessionOver ⟦<BoxedDisc as SegDisc>⟧.state shelf.new self.new }
+        requires { IsSessionOver state shelf.old self.old }
+        ensures step { IfOk result (λ reply. StepsTo
+            (state_over state shelf.old self.old) line command.now reply
+            (state_over state shelf.new self.new)) }
+        ensures session { IsSessionOver state shelf.new self.new }
 
         // With no memory nothing changes, now or later.
-        ensures err { OnErr result (state_over ⟦<BoxedDisc as SegDisc>⟧.state shelf.new self.new ≡ state_over ⟦<BoxedDisc as SegDisc>⟧.state shelf.old self.old) }
+        ensures err { OnErr result
+            (state_over state shelf.new self.new
+            ≡ state_over state shelf.old self.old) }
         ensures spent { IsTrue self.old.is_spent → OnOk result ⊥ }
         ensures stays_spent { OnErr result (IsTrue self.new.is_spent) }
         ensures not_spent { OnOk result (self.new.is_spent ≡ false) }
 
         // The disciplines are the same, but for the faults of the one that refused. That one was asked for the segment
         // that the block needs, and its room was below that, where it is told.
-        ensures settles { IfOk result (λ reply. Settles (settled_over ⟦<BoxedDisc as SegDisc>⟧.state shelf.old self.old)
-            (settled_over ⟦<BoxedDisc as SegDisc>⟧.state shelf.new self.new)
-            (refusal_at (state_over ⟦<BoxedDisc as SegDisc>⟧.state shelf.old self.old) command.now reply)) }
-        ensures keeps { Settles (settled_over ⟦<BoxedDisc as SegDisc>⟧.state shelf.old self.old)
-            (settled_over ⟦<BoxedDisc as SegDisc>⟧.state shelf.new self.new) [] }
+        ensures settles { IfOk result (λ reply. Settles
+            (settled_over state shelf.old self.old)
+            (settled_over state shelf.new self.new)
+            (refusal_at (state_over state shelf.old self.old) command.now reply)) }
+        ensures keeps { Settles
+            (settled_over state shelf.old self.old)
+            (settled_over state shelf.new self.new) [] }
         ensures unserved { result ≡ Ok (Reply.Refused Refusal.NoSegment)
-            → StepLacks (held_in ⟦<BoxedDisc as SegDisc>⟧.state self.old) (held_in ⟦<BoxedDisc as SegDisc>⟧.state self.new) command.now }
+            → StepLacks (held_in state self.old)
+            (held_in state self.new) command.now }
     {
         if self.is_spent {
             return Err(OutOfMemory);
@@ -159,8 +175,9 @@ impl Session {
     /// Closes every region, and gives each discipline back to its place. It cannot fail. The regions are closed in order
     /// of opening, and each gives its segments back in ascending order of number.
     pub fn end(self, shelf: &mut Shelf)
-        requires { IsSessionOver ⟦<BoxedDisc as SegDisc>⟧.state shelf.old self }
-        ensures { accounts_on ⟦<BoxedDisc as SegDisc>⟧.state shelf.new ≡ settled_over ⟦<BoxedDisc as SegDisc>⟧.state shelf.old self }
+        requires { IsSessionOver state shelf.old self }
+        ensures { accounts_on state shelf.new
+            ≡ settled_over state shelf.old self }
     {
         let mut rest = self;
         while !rest.homes.is_empty() {

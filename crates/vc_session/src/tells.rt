@@ -19,8 +19,8 @@ impl HomeEntry {
     // Tells the block whose bytes hold the byte at a place, and the offset in it.
     pub(crate) fn addr(&self, labels: &Labels, at: Place) -> Reply
         requires names { IsNamed (region_of self.now.region) labels.now }
-        ensures { (r : List ℕ) → addr_in (home_of (held_of ⟦<BoxedDisc as SegDisc>⟧.state r self.now labels.now)) at
-            ≡ told (home_of (held_of ⟦<BoxedDisc as SegDisc>⟧.state r self.now labels.now)) result }
+        ensures { (r : List ℕ) → addr_in (home_of (held_of state r self.now labels.now)) at
+            ≡ told (home_of (held_of state r self.now labels.now)) result }
     {
         match self.region.block_at(at.seg, at.off) {
             None => Reply::AddrNone,
@@ -30,8 +30,8 @@ impl HomeEntry {
 
     // Tells the segment that has the byte at a place.
     pub(crate) fn segment(&self, at: Place) -> Reply
-        ensures { (labels : Labels) (r : List ℕ) → segment_in (home_of (held_of ⟦<BoxedDisc as SegDisc>⟧.state r self.now labels)) at
-            ≡ told (home_of (held_of ⟦<BoxedDisc as SegDisc>⟧.state r self.now labels)) result }
+        ensures { (labels : Labels) (r : List ℕ) → segment_in (home_of (held_of state r self.now labels)) at
+            ≡ told (home_of (held_of state r self.now labels)) result }
     {
         match self.region.segment_at(at.seg, at.off) {
             None => Reply::SegmentNone,
@@ -41,16 +41,16 @@ impl HomeEntry {
 
     // Tells the numbers of the region.
     pub(crate) fn stat(&self) -> Reply
-        ensures { (labels : Labels) (r : List ℕ) → stat_in (home_of (held_of ⟦<BoxedDisc as SegDisc>⟧.state r self.now labels))
-            ≡ told (home_of (held_of ⟦<BoxedDisc as SegDisc>⟧.state r self.now labels)) result }
+        ensures { (labels : Labels) (r : List ℕ) → stat_in (home_of (held_of state r self.now labels))
+            ≡ told (home_of (held_of state r self.now labels)) result }
     {
         Reply::Stats(self.region.stat())
     }
 
     // Lists the segments by number.
     pub(crate) fn segments(&self, alloc: Global) -> Result<Reply, OutOfMemory>
-        ensures { IfOk result (λ reply. (labels : Labels) (r : List ℕ) → list_segments (home_of (held_of ⟦<BoxedDisc as SegDisc>⟧.state r self.now labels))
-            ≡ told (home_of (held_of ⟦<BoxedDisc as SegDisc>⟧.state r self.now labels)) reply) }
+        ensures { IfOk result (λ reply. (labels : Labels) (r : List ℕ) → list_segments (home_of (held_of state r self.now labels))
+            ≡ told (home_of (held_of state r self.now labels)) reply) }
     {
         let mut items = Vec::new(alloc);
         let mut after = 0;
@@ -64,8 +64,8 @@ impl HomeEntry {
     // Lists the blocks by address.
     pub(crate) fn blocks(&self, labels: &Labels, alloc: Global) -> Result<Reply, OutOfMemory>
         requires names { IsNamed (region_of self.now.region) labels.now }
-        ensures { IfOk result (λ reply. (r : List ℕ) → list_blocks (home_of (held_of ⟦<BoxedDisc as SegDisc>⟧.state r self.now labels.now))
-            ≡ told (home_of (held_of ⟦<BoxedDisc as SegDisc>⟧.state r self.now labels.now)) reply) }
+        ensures { IfOk result (λ reply. (r : List ℕ) → list_blocks (home_of (held_of state r self.now labels.now))
+            ≡ told (home_of (held_of state r self.now labels.now)) reply) }
     {
         let mut items = Vec::new(alloc);
         let mut after = Addr::NONE;

@@ -1,7 +1,7 @@
 // The commands that change a whole region.
 ghost use Rattle.std.specs.Prelude.{◌≡◌, ℕ, List};
 ghost use Rattle.vc_model.specs.Discipline.{HasOut};
-ghost use Rattle.vc_region.specs.Parts.{disc_of, region_of, segments_in};
+ghost use Rattle.vc_region.specs.Parts.{disc_in, region_of, segments_in};
 ghost use Rattle.vc_session.specs.Account.{IsNamed, home_of};
 ghost use Rattle.vc_session.specs.State.{changed_to};
 ghost use Rattle.vc_session.specs.Whole.{clear_in, compact_in};
@@ -19,11 +19,13 @@ impl HomeEntry {
     // Frees all blocks.
     pub(crate) fn clear(&mut self, labels: &mut Labels, name: Name) -> Reply
         requires names { IsNamed (region_of self.old.region) labels.old }
-        requires lent { HasOut (⟦<BoxedDisc as SegDisc>⟧.state (disc_of self.old.region)) (segments_in self.old.region) }
+        requires lent { HasOut (disc_in state self.old.region)
+            (segments_in self.old.region) }
 
-        ensures step { (r : List ℕ) → clear_in (home_of (held_of ⟦<BoxedDisc as SegDisc>⟧.state r self.old labels.old)) name
+        ensures step { (r : List ℕ) → clear_in (home_of (held_of state r self.old labels.old)) name
             ≡ changed_to (region_with self.new labels.new) result }
-        ensures change { Changes ⟦<BoxedDisc as SegDisc>⟧.state self.old labels.old self.new labels.new }
+        ensures change { Changes state
+            self.old labels.old self.new labels.new }
     {
         labels.clear();
         self.region.clear();
@@ -32,11 +34,13 @@ impl HomeEntry {
 
     // Gives back the segments without a block.
     pub(crate) fn compact(&mut self, name: Name) -> Reply
-        requires lent { HasOut (⟦<BoxedDisc as SegDisc>⟧.state (disc_of self.old.region)) (segments_in self.old.region) }
+        requires lent { HasOut (disc_in state self.old.region)
+            (segments_in self.old.region) }
 
-        ensures step { (labels : Labels) (r : List ℕ) → compact_in (home_of (held_of ⟦<BoxedDisc as SegDisc>⟧.state r self.old labels)) name
+        ensures step { (labels : Labels) (r : List ℕ) → compact_in (home_of (held_of state r self.old labels)) name
             ≡ changed_to (region_with self.new labels) result }
-        ensures change { (labels : Labels) → IsNamed (region_of self.old.region) labels → Changes ⟦<BoxedDisc as SegDisc>⟧.state self.old labels self.new labels }
+        ensures change { (labels : Labels) → IsNamed (region_of self.old.region) labels → Changes state
+            self.old labels self.new labels }
     {
         Reply::Compacted(name, self.region.compact())
     }

@@ -1,0 +1,12 @@
+pub mod Apart
+pub mod Layouts
+pub mod Inside
+pub mod Writes
+pub mod Frees
+pub mod Found
+pub mod Walks
+pub mod Compacts
+pub mod Fitted
+pub mod Sizes
+pub mod Moves
+pub mod Puts

@@ -1,0 +1,59 @@
+-- What freeing the block of a name answers, and how it changes the region.
+use Rattle.std.proofs.Common.{◌≡◌, ℕ, Bool, List, Some, None, refl, sym, ap, ◌∙◌, subst}
+use Rattle.vc_model.specs.Addr.{place_of}
+use Rattle.vc_model.specs.Layout.{Block, without_block}
+use Rattle.vc_model.specs.Outcome as model
+use Rattle.vc_model.specs.Outcome.{Outcome, Done, Refused}
+use Rattle.vc_model.specs.Region.{OfBest, Region, blocks_of, region_free, relabelled, segments_of}
+use Rattle.vc_model.proofs.Relabel.{free-relabelled, relabel_freed}
+use Rattle.vc_script.specs.declared.reply.Reply.{Reply}
+use Rattle.vc_script.specs.declared.reply.Reply.TheVariants.{Freed}
+use Rattle.vc_session.specs.State as state
+use Rattle.vc_session.specs.State.{changed_to, unchanged}
+use Rattle.vc_session.specs.Account.{Held, IsNamed, home_of}
+use Rattle.vc_session.specs.Blocks.{free_block, free_in, freed}
+use Rattle.vc_session.specs.Labels.{WithoutLabel, label_at, name_of, tag_of}
+use Rattle.vc_session.specs.Step.{Gives}
+use Rattle.vc_session.specs.declared.labels.Label.{Label}
+use Rattle.vc_session.specs.declared.labels.Labels.{Labels}
+use Rattle.vc_session.proofs.Answers.{Told}
+use Rattle.vc_session.proofs.Found.{TheBlock, on_block-there, the_block}
+use Rattle.vc_session.proofs.Moving.{region-less}
+
+-- freeing asks for no segment
+pub free-granted : (r : Region ℕ) (at : ℕ × ℕ) → region_free r at ≡ Refused model.NoSegment → ⊥
+free-granted (OfBest l) at e = absurd cc
+
+-- it leaves the segments
+pub free-segments : (r r' : Region ℕ) (at : ℕ × ℕ) → region_free r at ≡ Done r' → segments_of r' ≡ segments_of r
+free-segments (OfBest l) r' at e = sym (ap (λ o. segments_of (done r' o)) e)
+  where
+    done : Region ℕ → Outcome (Region ℕ) → Region ℕ
+    done d (Done q) = q
+    done d (Refused why) = d
+
+module _ (h : Held) (x : List ℕ) (tag : ℕ) (label : Label) (names : IsNamed h.region h.labels) (is_named : label.name ≡ x) (was_named : tag_of h.labels x ≡ Some tag) (was_at : label_at h.labels tag ≡ Some label) where
+  abbrev b : TheBlock h.region h.labels x tag label.at.0
+  b = the_block h.region h.labels x tag label names is_named was_named was_at
+
+  free-named : free_in (home_of h) x ≡ freed (home_of h) x (relabel_freed (name_of h.labels) (region_free h.region (place_of label.at.0)))
+  free-named =
+      let k = home_of h in
+      on_block-there h x tag label.at.0 b (free_block k x)
+      ∙ (ap (λ p. freed k x (region_free k.region p)) (sym b.place)
+      ∙ ap (freed k x) (free-relabelled (name_of h.labels) h.region (place_of label.at.0)))
+
+  pub gives-freed : (new : Labels) → WithoutLabel h.labels new tag label → (region : Region ℕ) → region_free h.region (place_of label.at.0) ≡ Done region → blocks_of region ≡ without_block (place_of label.at.0) (blocks_of h.region) → Gives (free_in (home_of h) x) (relabelled (name_of new) region) (Freed x None)
+  gives-freed new w region is left =
+      let k = home_of h in
+      let f = name_of h.labels in
+      let eq : free_in k x ≡ changed_to (relabelled f region) (Freed x None) = free-named ∙ ap (λ o. freed k x (relabel_freed f o)) is in
+      subst (λ c. Gives c (relabelled (name_of new) region) (Freed x None)) (sym eq)
+      (record { region_after = sym (region-less h.labels h.region names x tag label was_at b new w is_named region left); replied = refl })
+
+  pub gives-kept : (told : Reply) → Told (λ (refused : Bool). region_free h.region (place_of label.at.0)) told → (region : Region ℕ) → region ≡ h.region → Gives (free_in (home_of h) x) (relabelled (name_of h.labels) region) told
+  gives-kept told t region same =
+      let k = home_of h in
+      let f = name_of h.labels in
+      let eq : free_in k x ≡ unchanged k _ = free-named ∙ ap (λ o. freed k x (relabel_freed f o)) t.refused in
+      subst (λ c. Gives c (relabelled f region) told) (sym eq) (record { region_after = ap (relabelled f) (sym same); replied = t.is })

@@ -1,0 +1,154 @@
+-- What opening a region does to the state, and to the settled shelf.
+use Rattle.std.proofs.Common.{◌≡◌, ℕ, ◌-◌, ◌≤◌, true, false, cond, is_some, List, [], ◌∷◌, ◌++◌, Option, Some, None, length, map, option_map, set, take, refl, sym, ap, ◌∙◌, subst, arith}
+use Rattle.std.specs.Prelude.{slice_get}
+use Rattle.std.specs.List.{AllByRecursion, list_any}
+use Rattle.std.proofs.lemmas.List.{append-nil, map-append, map-set, set-set}
+use Rattle.std.proofs.lemmas.Option.{none-some, same_Some, slice_get-map}
+use Rattle.vc_model.specs.Numbered.{at_number}
+use Rattle.vc_model.specs.Discipline.{Discipline}
+use Rattle.vc_model.specs.Layout.{Block, empty_layout}
+use Rattle.vc_model.specs.Region.{OfBest, Region, blocks_of, relabelled, segments_of}
+use Rattle.vc_model.specs.Sound.{HaveOwnPlaces}
+use Rattle.vc_seg.specs.Stat.{opened}
+use Rattle.vc_seg.specs.declared.method.Method.{Method}
+use Rattle.vc_seg.specs.declared.method.Method.TheVariants.{VmBest, VmPool, VmLast, VmDebug, VmProfile}
+use Rattle.vc_seg.specs.Shelf.{place_at, place_of}
+use Rattle.vc_seg.specs.declared.shelf.ShelfPlace.TheVariants.{Here}
+use Rattle.vc_script.specs.declared.reply.Reply.TheVariants.{Opened}
+use Rattle.vc_script.specs.declared.refusal.Refusal.TheVariants.{NotYet, RegionExists}
+use Rattle.vc_session.specs.State.{Label, State, is_home, open_step, opened_as, opened_over, refused, stepped}
+use Rattle.slab.specs.Slab.{slab_len}
+use Rattle.vc_session.specs.declared.labels.Labels.{Labels}
+use Rattle.vc_session.specs.Labels.{AreLabels, name_of, tag_of}
+use Rattle.vc_session.specs.Account.{Account, Held, IsLive, IsNamed, IsSession, account, accounts, account_after, home_of, settled, state_of, tag_count}
+use Rattle.vc_session.specs.Homes.{not_here as why_not}
+use Rattle.vc_session.proofs.Cells.{at_number-from_one, at_number_some, slice_get-set_same, at_number-map, set_same}
+use Rattle.vc_session.proofs.Closing.{front-out}
+use Rattle.vc_session.proofs.Names.{has-label-any, named_by}
+use Rattle.vc_session.proofs.Settle.{settled-push, settled-set, settled-keeps, off-apart, Off}
+use Rattle.vc_session.proofs.Sessions.{Slots, apart-session, away-session, session-push}
+
+-- a method that is built has an empty region, whatever its labels are
+pub built-region : (m : Method) → is_some (opened {L = ℕ} m) ≡ true → (r : Region Label) × (opened m ≡ Some r)
+built-region VmBest e = (OfBest empty_layout, refl)
+built-region VmPool e = absurd cc
+built-region VmLast e = absurd cc
+built-region VmDebug e = absurd cc
+built-region VmProfile e = absurd cc
+
+pub built-none : (m : Method) → is_some (opened {L = ℕ} m) ≡ false → opened {L = Label} m ≡ None
+built-none VmBest e = absurd cc
+built-none VmPool e = refl
+built-none VmLast e = refl
+built-none VmDebug e = refl
+built-none VmProfile e = refl
+
+pub opened-relabelled : (f : ℕ → Label) (m : Method) (r : Region ℕ) → opened m ≡ Some r → opened m ≡ Some (relabelled f r)
+opened-relabelled f VmBest r e = ap (λ q. Some (relabelled f q)) (same_Some (OfBest empty_layout) r e)
+opened-relabelled f VmPool r e = absurd (none-some r e)
+opened-relabelled f VmLast r e = absurd (none-some r e)
+opened-relabelled f VmDebug r e = absurd (none-some r e)
+opened-relabelled f VmProfile r e = absurd (none-some r e)
+
+pub opened-segments : (m : Method) (r : Region ℕ) → opened m ≡ Some r → segments_of r ≡ []
+opened-segments VmBest r e = sym (ap (λ q. segments_of q) (same_Some (OfBest empty_layout) r e))
+opened-segments VmPool r e = absurd (none-some r e)
+opened-segments VmLast r e = absurd (none-some r e)
+opened-segments VmDebug r e = absurd (none-some r e)
+opened-segments VmProfile r e = absurd (none-some r e)
+
+pub opened-blocks : (m : Method) (r : Region ℕ) → opened m ≡ Some r → blocks_of r ≡ []
+opened-blocks VmBest r e = sym (ap (λ q. blocks_of q) (same_Some (OfBest empty_layout) r e))
+opened-blocks VmPool r e = absurd (none-some r e)
+opened-blocks VmLast r e = absurd (none-some r e)
+opened-blocks VmDebug r e = absurd (none-some r e)
+opened-blocks VmProfile r e = absurd (none-some r e)
+
+-- labels with no name
+pub record AreNone (labels : Labels) : Type 0 where
+  pub agree : AreLabels labels
+  pub names : (x : List ℕ) → tag_of labels x ≡ None
+  pub count : slab_len labels.by_tag ≡ 0
+
+none_places : (bs : List (Block ℕ)) → bs ≡ [] → HaveOwnPlaces bs
+none_places bs e =
+    subst (λ cs. HaveOwnPlaces cs) (sym e)
+    (record {
+      distinct = λ i j d lt within. absurd (omega (arith, within));
+      first = λ i d within. absurd (omega (arith, within));
+      exact = λ i d within. absurd (omega (arith, within));
+    })
+
+-- no names, of no block
+pub none-named : (r : Region ℕ) (labels : Labels) → AreNone labels → blocks_of r ≡ [] → IsNamed r labels
+none-named r labels none e =
+    record {
+      agree = none.agree;
+      count = ap tag_count e ∙ sym none.count;
+      live = subst (AllByRecursion (λ b. 1 ≤ b.label → IsLive labels b)) (sym e) tt;
+      known = λ x. ap is_some (none.names x) ∙ sym (has-label-any (name_of labels) x r ∙ ap (list_any (named_by (name_of labels) x)) e);
+      places = none_places (blocks_of r) e;
+    }
+
+-- a region that was just opened
+abbrev pub fresh : List ℕ → ℕ → Discipline → Region ℕ → Labels → Held
+fresh name n d region labels = record { name = name; place = n; disc = d; region = region; labels = labels }
+
+module _ (slots : Slots) (hs : List Held) (name : List ℕ) (n : ℕ) (d : Discipline) (m : Method) (region : Region ℕ) (is : opened m ≡ Some region) (labels : Labels) (none : AreNone labels) (at : at_number slots n ≡ Some (Some d)) (session : IsSession slots hs) where
+  there : slice_get slots (n - 1) ≡ Some (Some d)
+  there = (at_number_some slots n (Some d) at).1
+
+  pub open_step-ok : list_any (is_home name) (map home_of hs) ≡ false → open_step (state_of slots hs) name m n ≡ stepped (state_of (set slots (n - 1) None) (hs ++ fresh name n d region labels ∷ [])) (Opened name)
+  open_step-ok new =
+      let r : Region Label = relabelled (name_of labels) region in
+      ap (opened_as (state_of slots hs) name n) (opened-relabelled (name_of labels) m region is)
+      ∙ (ap (λ b. cond b (refused (state_of slots hs) RegionExists) (opened_over (state_of slots hs) name n r (at_number (state_of slots hs).shelf n))) new
+      ∙ (ap (opened_over (state_of slots hs) name n r) (at_number-map (option_map (λ e. e.terms)) slots n ∙ ap (option_map (option_map (λ e. e.terms))) at)
+      ∙ (ap (λ shelf. stepped (record { shelf = shelf; homes = map home_of hs ++ home_of (fresh name n d region labels) ∷ [] }) (Opened name)) (sym (map-set (option_map (λ (e : Discipline). e.terms)) slots (n - 1) None))
+      ∙ ap (λ homes. stepped (record { shelf = map (option_map (λ e. e.terms)) (set slots (n - 1) None); homes = homes }) (Opened name)) (sym (map-append home_of hs (fresh name n d region labels ∷ []))))))
+
+  pub session-open : IsSession (set slots (n - 1) None) (hs ++ fresh name n d region labels ∷ [])
+  session-open =
+      let low = (at_number_some slots n (Some d) at).0 in
+      session-push slots (n - 1) (Some d) hs (fresh name n d region labels) there session (away-session slots n d hs at session)
+      (record {
+        place = at_number-from_one (set slots (n - 1) None) n low ∙ slice_get-set_same slots (n - 1) (Some d) None there;
+        lent = (d.out, sym (append-nil d.out) ∙ ap (λ s. d.out ++ s) (sym (opened-segments m region is)));
+        names = none-named region labels none (opened-blocks m region is);
+      })
+
+  pub settled-open : settled (accounts (set slots (n - 1) None)) (hs ++ fresh name n d region labels ∷ []) ≡ settled (accounts slots) hs
+  settled-open =
+      let low = (at_number_some slots n (Some d) at).0 in
+      let off : Off (n - 1) hs = off-apart n hs low (away-session slots n d hs at session) (apart-session slots hs session) in
+      let all : take (length d.out - length (segments_of region)) d.out ≡ d.out =
+      front-out d.out (segments_of region) d.out (sym (append-nil d.out) ∙ ap (λ s. d.out ++ s) (sym (opened-segments m region is))) in
+      let account_is : account_after (fresh name n d region labels) ≡ account d = ap (λ out. let a : Account = record { out = out; terms = d.terms; faults = d.faults } in a) all in
+      let kept : slice_get (settled (accounts slots) hs) (n - 1) ≡ Some (Some (account_after (fresh name n d region labels))) =
+      settled-keeps (accounts slots) (n - 1) hs off ∙ (slice_get-map (option_map account) slots (n - 1) ∙ (ap (option_map (option_map account)) there ∙ ap (λ a. Some (Some a)) (sym account_is))) in
+      settled-push (accounts (set slots (n - 1) None)) hs (fresh name n d region labels)
+      ∙ (ap (λ shelf. set (settled shelf hs) (n - 1) (Some (account_after (fresh name n d region labels)))) (map-set (option_map account) slots (n - 1) None)
+      ∙ (ap (λ shelf. set shelf (n - 1) (Some (account_after (fresh name n d region labels)))) (settled-set (accounts slots) (n - 1) None hs off)
+      ∙ (set-set (settled (accounts slots) hs) (n - 1) None (Some (account_after (fresh name n d region labels)))
+      ∙ set_same (settled (accounts slots) hs) (n - 1) (Some (account_after (fresh name n d region labels))) kept)))
+
+-- a method that is not built
+pub open_step-none : (s : State) (name : List ℕ) (m : Method) (n : ℕ) → opened {L = Label} m ≡ None → open_step s name m n ≡ refused s NotYet
+open_step-none s name m n none = ap (opened_as s name n) none
+
+pub open_step-named : (s : State) (name : List ℕ) (m : Method) (n : ℕ) (r : Region Label) → opened m ≡ Some r → list_any (is_home name) s.homes ≡ true → open_step s name m n ≡ refused s RegionExists
+open_step-named s name m n r is named =
+    ap (opened_as s name n) is
+    ∙ ap (λ b. cond b (refused s RegionExists) (opened_over s name n r (at_number s.shelf n))) named
+
+opened_over-not_here : (s : State) (name : List ℕ) (n : ℕ) (r : Region Label) (o : Option (Option Discipline)) → (place_of o ≡ Here → ⊥) → opened_over s name n r (option_map (option_map (λ d. d.terms)) o) ≡ refused s (why_not (place_of o))
+opened_over-not_here s name n r None not_here = refl
+opened_over-not_here s name n r (Some None) not_here = refl
+opened_over-not_here s name n r (Some (Some d)) not_here = absurd (not_here refl)
+
+-- no discipline is here at the number
+pub open_step-not_here : (slots : Slots) (hs : List Held) (name : List ℕ) (m : Method) (n : ℕ) (r : Region Label) → opened m ≡ Some r → list_any (is_home name) (map home_of hs) ≡ false → (place_at slots n ≡ Here → ⊥) → open_step (state_of slots hs) name m n ≡ refused (state_of slots hs) (why_not (place_at slots n))
+open_step-not_here slots hs name m n r is new not_here =
+    ap (opened_as (state_of slots hs) name n) is
+    ∙ (ap (λ b. cond b (refused (state_of slots hs) RegionExists) (opened_over (state_of slots hs) name n r (at_number (state_of slots hs).shelf n))) new
+    ∙ (ap (opened_over (state_of slots hs) name n r) (at_number-map (option_map (λ e. e.terms)) slots n) ∙ opened_over-not_here (state_of slots hs) name n r (at_number slots n) not_here))

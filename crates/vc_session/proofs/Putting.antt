@@ -1,0 +1,175 @@
+-- What allocating a block under a name answers, and how it changes the region.
+use Rattle.std.proofs.Common.{◌≡◌, ◌≢◌, ℕ, ◌≤◌, Bool, true, false, cond, is_some, List, [], ◌∷◌, Option, Some, None, Result, Ok, Err, IfOk, OnErr, refl, sym, ap, ◌∙◌, subst, arith}
+use Rattle.std.specs.Prelude.{nat_lt, ◌==◌}
+use Rattle.std.specs.List.{AllByRecursion}
+use Rattle.std.proofs.lemmas.Bool.{eq-eqb}
+use Rattle.std.proofs.lemmas.Bool.Decides.{nat_tests}
+use Rattle.std.proofs.lemmas.Option.{none-some}
+use Rattle.vc_base.specs.declared.addr.Addr.{Addr}
+use Rattle.vc_model.specs.Addr.{address, place_of}
+use Rattle.vc_model.specs.Best.{zeros}
+use Rattle.vc_model.specs.Discipline.{Discipline, HasOut, Unserved}
+use Rattle.vc_model.specs.Layout.{Block, without_block}
+use Rattle.vc_model.specs.Outcome.{Outcome, Done, Put, Refused, outcome_as}
+use Rattle.vc_model.specs.Region.{Region, blocks_of, relabelled, segments_of}
+use Rattle.vc_model.specs.Sound.{HaveOwnPlaces}
+use Rattle.vc_model.specs.Touch.{find_block}
+use Rattle.vc_model.proofs.Relabel.{relabelled-alike}
+use Rattle.slab.specs.Slab.{slab_len}
+use Rattle.vc_seg.specs.Answer.{Answers, Asks, IsPut}
+use Rattle.vc_seg.specs.declared.fault.RegionFault.{RegionFault}
+use Rattle.vc_script.specs.Needs.{need_shown}
+use Rattle.vc_script.specs.declared.refusal.Refusal.{Refusal}
+use Rattle.vc_script.specs.declared.refusal.Refusal.TheVariants as why
+use Rattle.vc_script.specs.declared.reply.Reply.{Reply}
+use Rattle.vc_script.specs.declared.reply.Reply.TheVariants as reply
+use Rattle.vc_session.specs.State as state
+use Rattle.vc_session.specs.State.{Changed, Home, unchanged}
+use Rattle.vc_session.specs.Account.{Held, IsChange, IsLive, IsNamed, home_of}
+use Rattle.vc_session.specs.Blocks.{at_place, has_label, label_count, label_limit, put_in, put_new}
+use Rattle.vc_session.specs.Labels.{AreLabels, SameLabels, WithLabel, label_at, name_of, tag_of}
+use Rattle.vc_session.specs.Naming.{NamesPut, new_refused}
+use Rattle.vc_session.specs.Step.{Gives, is_for_block}
+use Rattle.vc_session.specs.declared.labels.Label.{Label}
+use Rattle.vc_session.specs.declared.labels.Labels.{Labels}
+use Rattle.vc_session.proofs.Answers.{IsAn, NotNoSegment, Told, asks-kept, asks-out, asks-unserved, changed-by, fault-no_segment, fault-told, get_ok}
+use Rattle.vc_session.proofs.Moving.{name-new, named-put, region-more}
+use Rattle.vc_session.proofs.Names.{isnamed-same, label-count, relabelled-same}
+
+abbrev pub put_unless : Home → List ℕ → Option Refusal → Outcome (Put (Region state.Label)) → Changed
+put_unless h x (Some why) outcome = unchanged h why
+put_unless h x None outcome = put_in h x outcome
+
+unless : (h : Home) (x : List ℕ) (outcome : Outcome (Put (Region state.Label))) (named legal few : Bool) → cond named (unchanged h why.BlockExists) (cond legal (cond few (put_in h x outcome) (unchanged h why.TooManyBlocks)) (unchanged h why.Size)) ≡ put_unless h x (cond named (Some why.BlockExists) (cond legal (cond few None (Some why.TooManyBlocks)) (Some why.Size))) outcome
+unless h x outcome true legal few = refl
+unless h x outcome false false few = refl
+unless h x outcome false true true = refl
+unless h x outcome false true false = refl
+
+-- the names tell whether a new block is refused before a place is looked for
+pub put_new-by : (h : Held) (x : List ℕ) (legal : Bool) (outcome : Outcome (Put (Region state.Label))) → IsNamed h.region h.labels → put_new (home_of h) x legal outcome ≡ put_unless (home_of h) x (new_refused h.labels x legal) outcome
+put_new-by h x legal outcome names =
+    let k = home_of h in
+    unless k x outcome (has_label x k.region) legal (nat_lt (label_count k.region) label_limit)
+    ∙ (ap (λ b. put_unless k x (cond b (Some why.BlockExists) (cond legal (cond (nat_lt (label_count k.region) label_limit) None (Some why.TooManyBlocks)) (Some why.Size))) outcome) (sym (names.known x))
+    ∙ ap (λ n. put_unless k x (cond (is_some (tag_of h.labels x)) (Some why.BlockExists) (cond legal (cond (nat_lt n label_limit) None (Some why.TooManyBlocks)) (Some why.Size))) outcome) (label-count h.region h.labels names ∙ names.count))
+
+pub put_new-refused : (h : Held) (x : List ℕ) (legal : Bool) (outcome : Outcome (Put (Region state.Label))) (refusal : Refusal) → IsNamed h.region h.labels → new_refused h.labels x legal ≡ Some refusal → put_new (home_of h) x legal outcome ≡ unchanged (home_of h) refusal
+put_new-refused h x legal outcome refusal names is = put_new-by h x legal outcome names ∙ ap (λ o. put_unless (home_of h) x o outcome) is
+
+pub put_new-none : (h : Held) (x : List ℕ) (legal : Bool) (outcome : Outcome (Put (Region state.Label))) → IsNamed h.region h.labels → new_refused h.labels x legal ≡ None → put_new (home_of h) x legal outcome ≡ put_in (home_of h) x outcome
+put_new-none h x legal outcome names is = put_new-by h x legal outcome names ∙ ap (λ o. put_unless (home_of h) x o outcome) is
+
+unless-new : (named legal few : Bool) → cond named (Some why.BlockExists) (cond legal (cond few None (Some why.TooManyBlocks)) (Some why.Size)) ≡ None → named ≡ false
+unless-new true legal few e = absurd cc
+unless-new false legal few e = refl
+
+none-of-some : {A : Type 0} (o : Option A) → is_some o ≡ false → o ≡ None
+none-of-some None e = refl
+none-of-some (Some x) e = absurd cc
+
+-- a block that isn't refused has a new name
+pub new-name : (labels : Labels) (x : List ℕ) (legal : Bool) → new_refused labels x legal ≡ None → tag_of labels x ≡ None
+new-name labels x legal is = none-of-some (tag_of labels x) (unless-new (is_some (tag_of labels x)) legal (nat_lt (slab_len labels.by_tag) label_limit) is)
+
+gives-put : (h : Home) (x : List ℕ) (f : ℕ → state.Label) (o : Outcome (Put (Region ℕ))) (a : ℕ) (r' : Region ℕ) → IsPut o a r' → Gives (put_in h x (outcome_as (relabelled f) o)) (relabelled f r') (at_place x (place_of a))
+gives-put h x f (Done p) a r' is = record { region_after = ap (relabelled f) (sym is.2); replied = ap (at_place x) is.1 }
+gives-put h x f (Refused why) a r' is = absurd is
+
+pub put-address : (o : Outcome (Put (Region ℕ))) (a : ℕ) (r' : Region ℕ) → IsPut o a r' → a ≡ address (place_of a)
+put-address (Done p) a r' is = is.0 ∙ ap address is.1
+put-address (Refused why) a r' is = absurd is
+
+-- names with one more, of this tag
+abbrev name_with : Labels → ℕ → List ℕ → ℕ → state.Label
+name_with labels tag x t = cond (t == tag) (Some x) (name_of labels t)
+
+-- the labels with room for one more, and the region and the labels after the call, which is that of the tags and that of the names
+module _ {E : Type 0} (h : Held) (x : List ℕ) (legal : Bool) (names : IsNamed h.region h.labels) (allowed : new_refused h.labels x legal ≡ None)
+    (mid : Labels) (same : SameLabels h.labels mid) (mid_agree : AreLabels mid) (tag : ℕ) (first : 1 ≤ tag) (vacant : label_at mid tag ≡ None)
+    (call : Bool → Outcome (Put (Region ℕ))) (called : Bool → Outcome (Put (Region state.Label)))
+    (commutes : (f : ℕ → state.Label) → f tag ≡ Some x → relabelled f h.region ≡ (home_of h).region → (refused : Bool) → called refused ≡ outcome_as (relabelled f) (call refused))
+    (region : Region ℕ) (new : Labels) where
+  mid-names : IsNamed h.region mid
+  mid-names = isnamed-same h.region h.labels mid same mid_agree names
+
+  with-new : name_with mid tag x tag ≡ Some x
+  with-new = ap (λ b. cond b (Some x) (name_of mid tag)) (eq-eqb tag tag refl)
+
+  with-other : (t : ℕ) → t ≢ tag → name_with mid tag x t ≡ name_of mid t
+  with-other t other =
+      let differs : (t == tag) ≡ false = grind (arith, nat_tests, other) in
+      ap (λ b. cond b (Some x) (name_of mid t)) differs
+
+  -- no block has the tag, so that any name may be its name
+  with-old : relabelled (name_with mid tag x) h.region ≡ (home_of h).region
+  with-old =
+      relabelled-alike (name_with mid tag x) (name_of mid) h.region (go (blocks_of h.region) mid-names.live)
+      ∙ relabelled-same h.labels mid h.region same
+    where
+      go : (bs : List (Block ℕ)) → AllByRecursion (λ b. 1 ≤ b.label → IsLive mid b) bs → AllByRecursion (λ b. name_with mid tag x b.label ≡ name_of mid b.label) bs
+      go [] all = tt
+      go (b ∷ bs) all =
+          (with-other b.label (λ e.
+          let l = all.0 (subst (λ t. 1 ≤ t) (sym e) first) in
+          none-some l.label (sym vacant ∙ (ap (label_at mid) (sym e) ∙ l.here))), go bs all.1)
+
+  -- a fault leaves the region and its names
+  back : new ≡ mid → region ≡ h.region → relabelled (name_of new) region ≡ (home_of h).region
+  back labels_same region_same =
+      ap (λ l. relabelled (name_of l) region) labels_same
+      ∙ (ap (relabelled (name_of mid)) region_same ∙ relabelled-same h.labels mid h.region same)
+
+  gives-new : (a : Addr) → WithLabel mid new tag (record { name = x; at = a }) → IsPut (call false) a.0 region → Gives (put_new (home_of h) x legal (called false)) (relabelled (name_of new) region) (at_place x (place_of a.0))
+  gives-new a w is =
+      let k = home_of h in
+      let label : Label = record { name = x; at = a } in
+      let f = name_of new in
+      let old : relabelled f h.region ≡ k.region = region-more mid new tag label w vacant h.region mid-names ∙ relabelled-same h.labels mid h.region same in
+      let eq : put_new k x legal (called false) ≡ put_in k x (outcome_as (relabelled f) (call false)) =
+      put_new-none h x legal (called false) names allowed ∙ ap (put_in k x) (commutes f (name-new mid new tag label w vacant) old false) in
+      subst (λ c. Gives c (relabelled f region) (at_place x (place_of a.0))) (sym eq) (gives-put k x f (call false) a.0 region is)
+
+  gives-refused : (told : Reply) → Told call told → new ≡ mid → region ≡ h.region → Gives (put_new (home_of h) x legal (called (is_for_block (need_shown told)))) (relabelled (name_of new) region) told
+  gives-refused told t labels_same region_same =
+      let k = home_of h in
+      let u = is_for_block (need_shown told) in
+      let f = name_with mid tag x in
+      let eq : put_new k x legal (called u) ≡ put_in k x (outcome_as (relabelled f) (Refused t.fault)) =
+      put_new-none h x legal (called u) names allowed ∙ ap (put_in k x) (commutes f with-new with-old u ∙ ap (outcome_as (relabelled f)) t.refused) in
+      subst (λ c. Gives c (relabelled (name_of new) region) told) (sym eq) (record { region_after = sym (back labels_same region_same); replied = t.is })
+
+  -- the reply is that of the definitions
+  pub step-put : (put : Result Addr RegionFault) (result : Result Reply E) → NamesPut tag x put mid new result → Answers call put h.region region → IfOk result (λ told. Gives (put_new (home_of h) x legal (called (is_for_block (need_shown told)))) (relabelled (name_of new) region) told)
+  step-put (Ok a) (Ok told) named answers =
+      let is : told ≡ at_place x (place_of a.0) = ap (get_ok told) named.0 in
+      subst (λ t. Gives (put_new (home_of h) x legal (called (is_for_block (need_shown t)))) (relabelled (name_of new) region) t) (sym is) (gives-new a named.1 answers)
+  step-put (Err fault) (Ok told) named answers = gives-refused told (fault-told call fault told named.0 answers.0) named.1 answers.1
+  step-put put (Err e) named answers = tt
+
+  -- with no memory the region stays
+  pub err-put : (put : Result Addr RegionFault) (result : Result Reply E) → NamesPut tag x put mid new result → Answers call put h.region region → OnErr result (relabelled (name_of new) region ≡ (home_of h).region)
+  err-put (Ok a) (Err e) named answers = absurd (subst IsAn (sym named.0) tt)
+  err-put (Err fault) (Err e) named answers = back named.1 answers.1
+  err-put put (Ok told) named answers = tt
+
+  module _ (disc : Discipline) (need size : ℕ) where
+    names-put : (put : Result Addr RegionFault) (result : Result Reply E) → NamesPut tag x put mid new result → Answers call put h.region region → IfOk put (λ a. find_block (place_of a.0) (blocks_of region) ≡ Some (zeros tag size (place_of a.0))) → IfOk put (λ a. without_block (place_of a.0) (blocks_of region) ≡ blocks_of h.region) → HaveOwnPlaces (blocks_of region) → IsNamed region new
+    names-put (Ok a) result named answers there others places =
+        named-put mid new tag (record { name = x; at = a }) named.1 vacant h.region region size there others (put-address (call false) a.0 region answers) named.2 places mid-names
+    names-put (Err fault) result named answers there others places =
+        subst (λ l. IsNamed region l) (sym named.1) (subst (λ r. IsNamed r mid) (sym answers.1) mid-names)
+
+    pub change-put : (put : Result Addr RegionFault) (result : Result Reply E) → NamesPut tag x put mid new result → Answers call put h.region region → Asks put h.disc disc (segments_of h.region) (segments_of region) need → IfOk put (λ a. find_block (place_of a.0) (blocks_of region) ≡ Some (zeros tag size (place_of a.0))) → IfOk put (λ a. without_block (place_of a.0) (blocks_of region) ≡ blocks_of h.region) → HaveOwnPlaces (blocks_of region) → HasOut h.disc (segments_of h.region) → IsChange h (record { name = h.name; place = h.place; disc = disc; region = region; labels = new })
+    change-put put result named answers asks there others places has =
+        changed-by h disc region new has
+        (asks-kept put h.disc disc (segments_of h.region) (segments_of region) need asks)
+        (asks-out call h.region region h.disc disc need put answers asks)
+        (names-put put result named answers there others places)
+
+    pub unserved-put : (put : Result Addr RegionFault) (result : Result Reply E) → NamesPut tag x put mid new result → Asks put h.disc disc (segments_of h.region) (segments_of region) need → result ≡ Ok (reply.Refused why.NoSegment) → Unserved h.disc disc need
+    unserved-put (Ok a) result named asks is =
+        absurd (subst NotNoSegment (ap (get_ok (at_place x (place_of a.0))) (sym named.0 ∙ is)) tt)
+    unserved-put (Err fault) (Ok told) named asks is =
+        asks-unserved fault h.disc disc (segments_of h.region) (segments_of region) need (fault-no_segment fault told named.0 (ap (get_ok told) is)) asks
+    unserved-put (Err fault) (Err e) named asks is = absurd (subst IsAn (sym is) tt)

@@ -1,0 +1,104 @@
+-- What giving the block of a name another size answers, and how it changes the region.
+use Rattle.std.proofs.Common.{◌≡◌, ℕ, Bool, true, false, cond, eqb, List, [], ◌∷◌, Option, Some, None, Result, Ok, Err, option_map, refl, sym, ap, ◌∙◌, subst, ⊎_elim}
+use Rattle.std.proofs.lemmas.Bool.{cases_Bool, and_parts, eqb-true}
+use Rattle.std.proofs.lemmas.Option.{same_Some, none-some}
+use Rattle.vc_base.specs.declared.addr.Addr.{Addr}
+use Rattle.vc_model.specs.Addr.{address, place_of}
+use Rattle.vc_model.specs.Discipline.{Discipline, HasOut, Unserved}
+use Rattle.vc_model.specs.Layout.{Block, address_of, is_at, without_block}
+use Rattle.vc_model.specs.Outcome.{Outcome, Put, Refused, outcome_as}
+use Rattle.vc_model.specs.Region.{Region, blocks_of, region_resize, relabelled, segments_of}
+use Rattle.vc_model.specs.Sound.{HaveOwnPlaces}
+use Rattle.vc_model.specs.Touch.{find_block}
+use Rattle.vc_model.proofs.Relabel.{resize-relabelled}
+use Rattle.vc_seg.specs.Answer.{Answers, Asks, IsPut}
+use Rattle.vc_script.specs.Needs.{need_shown}
+use Rattle.vc_script.specs.declared.refusal.Refusal.TheVariants as why
+use Rattle.vc_script.specs.declared.reply.Reply.{Reply}
+use Rattle.vc_session.specs.State.{Changed, Home, unchanged}
+use Rattle.vc_session.specs.Account.{Held, IsChange, IsNamed, home_of}
+use Rattle.vc_session.specs.Blocks.{at_place, is_size, put_in, resize_block, resize_in}
+use Rattle.vc_session.specs.Labels.{AreLabels, MovesLabel, label_at, name_of, tag_of}
+use Rattle.vc_session.specs.Step.{Gives, is_for_block}
+use Rattle.vc_session.specs.declared.labels.Label.{Label}
+use Rattle.vc_session.specs.declared.labels.Labels.{Labels}
+use Rattle.vc_session.proofs.Answers.{Told, asks-kept, asks-out, changed-by}
+use Rattle.vc_session.proofs.Found.{TheBlock, on_block-none, on_block-there, the_block}
+use Rattle.vc_session.proofs.Moving.{name-moved, named-moved}
+use Rattle.vc_session.proofs.Names.{relabelled-names}
+use Rattle.vc_session.proofs.Putting.{gives-put, put-address}
+
+-- a map of an option that has a value
+pub record FromSome {A B : Type 0} (f : A → B) (o : Option A) (y : B) : Type 0 where
+  pub from : A
+  pub was : o ≡ Some from
+  pub to : f from ≡ y
+
+pub from_some : {A B : Type 0} (f : A → B) (o : Option A) (y : B) → option_map f o ≡ Some y → FromSome f o y
+from_some f None y e = absurd (none-some y e)
+from_some f (Some x) y e = record { from = x; was = refl; to = same_Some (f x) y e }
+
+found-at : (p : ℕ × ℕ) (b : Block ℕ) (bs : List (Block ℕ)) → find_block p bs ≡ Some b → is_at p b ≡ true
+found-at p b [] e = absurd (none-some b e)
+found-at p b (c ∷ cs) e =
+    ⊎_elim
+    (λ t. subst (λ d. is_at p d ≡ true) (same_Some c b (sym (ap (λ v. cond v (Some c) (find_block p cs)) t) ∙ e)) t)
+    (λ t. found-at p b cs (sym (ap (λ v. cond v (Some c) (find_block p cs)) t) ∙ e))
+    (cases_Bool (is_at p c))
+
+-- a block stands at the place where it is found
+pub found-place : (p : ℕ × ℕ) (b : Block ℕ) (bs : List (Block ℕ)) → find_block p bs ≡ Some b → p ≡ (b.seg, b.off)
+found-place p b bs e =
+    let both = and_parts (eqb b.seg p.0) (eqb b.off p.1) (found-at p b bs e) in
+    let seg : b.seg ≡ p.0 = eqb-true b.seg p.0 both.0 in
+    let off : b.off ≡ p.1 = eqb-true b.off p.1 both.1 in
+    ap (λ s. let q : ℕ × ℕ = (s, p.1) in q) (sym seg) ∙ ap (λ o. let q : ℕ × ℕ = (b.seg, o) in q) (sym off)
+
+module _ (h : Held) (x : List ℕ) (tag : ℕ) (label : Label) (names : IsNamed h.region h.labels) (is_named : label.name ≡ x) (was_named : tag_of h.labels x ≡ Some tag) (was_at : label_at h.labels tag ≡ Some label) (size : ℕ) (may_move : Bool) where
+  abbrev b : TheBlock h.region h.labels x tag label.at.0
+  b = the_block h.region h.labels x tag label names is_named was_named was_at
+
+  abbrev pub call : Bool → Outcome (Put (Region ℕ))
+  call refused = region_resize h.disc.terms h.region (place_of label.at.0) size may_move refused
+
+  -- a size that no script can have
+  pub resize-size : (u : Bool) → is_size size ≡ false → resize_in (home_of h) x size may_move u ≡ unchanged (home_of h) why.Size
+  resize-size u sized =
+      let k = home_of h in
+      on_block-there h x tag label.at.0 b (resize_block k x size may_move u)
+      ∙ ap (λ v. cond v (put_in k x (region_resize k.terms k.region (b.block.seg, b.block.off) size may_move u)) (unchanged k why.Size)) sized
+
+  module _ (sized : is_size size ≡ true) where
+    resize-named : (u : Bool) → resize_in (home_of h) x size may_move u ≡ put_in (home_of h) x (outcome_as (relabelled (name_of h.labels)) (call u))
+    resize-named u =
+        let k = home_of h in
+        on_block-there h x tag label.at.0 b (resize_block k x size may_move u)
+        ∙ (ap (λ v. cond v (put_in k x (region_resize k.terms k.region (b.block.seg, b.block.off) size may_move u)) (unchanged k why.Size)) sized
+        ∙ (ap (λ p. put_in k x (region_resize k.terms k.region p size may_move u)) (sym b.place)
+        ∙ ap (put_in k x) (resize-relabelled (name_of h.labels) h.disc.terms h.region (place_of label.at.0) size may_move u)))
+
+    -- a fault leaves the region and its names
+    pub gives-fault : (told : Reply) → Told call told → (region : Region ℕ) → region ≡ h.region → Gives (resize_in (home_of h) x size may_move (is_for_block (need_shown told))) (relabelled (name_of h.labels) region) told
+    gives-fault told t region same =
+        let k = home_of h in
+        let u = is_for_block (need_shown told) in
+        let f = name_of h.labels in
+        let eq : resize_in k x size may_move u ≡ unchanged k _ = resize-named u ∙ ap (λ o. put_in k x (outcome_as (relabelled f) o)) t.refused in
+        subst (λ c. Gives c (relabelled f region) told) (sym eq) (record { region_after = ap (relabelled f) (sym same); replied = t.is })
+
+    module _ (new : Labels) (to : Label) (m : MovesLabel h.labels new tag to) (same_name : to.name ≡ label.name) (region : Region ℕ) (is : IsPut (call false) to.at.0 region) where
+      pub gives-resized : Gives (resize_in (home_of h) x size may_move false) (relabelled (name_of new) region) (at_place x (place_of to.at.0))
+      gives-resized =
+          let k = home_of h in
+          let f = name_of h.labels in
+          let moved : relabelled (name_of new) region ≡ relabelled f region = relabelled-names h.labels new region (name-moved h.labels h.region names x tag label was_at b new to m same_name) in
+          subst (λ c. Gives c (relabelled (name_of new) region) (at_place x (place_of to.at.0))) (sym (resize-named false))
+          (subst (λ r. Gives (put_in k x (outcome_as (relabelled f) (call false))) r (at_place x (place_of to.at.0))) (sym moved)
+          (gives-put k x f (call false) to.at.0 region is))
+
+      pub named-resized : option_map (λ c. c.label) (find_block (place_of to.at.0) (blocks_of region)) ≡ option_map (λ c. c.label) (find_block (place_of label.at.0) (blocks_of h.region)) → without_block (place_of to.at.0) (blocks_of region) ≡ without_block (place_of label.at.0) (blocks_of h.region) → AreLabels new → HaveOwnPlaces (blocks_of region) → IsNamed region new
+      named-resized there others agree places =
+          let found = from_some (λ (c : Block ℕ). c.label) (find_block (place_of to.at.0) (blocks_of region)) b.block.label (there ∙ ap (option_map (λ (c : Block ℕ). c.label)) b.found) in
+          let place : place_of to.at.0 ≡ (found.from.seg, found.from.off) = found-place (place_of to.at.0) found.from (blocks_of region) found.was in
+          named-moved h.labels h.region names x tag label was_at b new to m same_name region found.from found.was found.to
+          (put-address (call false) to.at.0 region is ∙ ap address place) place others agree places

@@ -1,0 +1,89 @@
+-- What is done with the bytes of the block of a name.
+use Rattle.std.proofs.Common.{◌≡◌, ℕ, ◌+◌, ◌≤◌, Bool, true, false, cond, ◌&&◌, List, Option, Some, None, IfSome, length, option_map, take, drop, refl, sym, ap, ◌∙◌, subst}
+use Rattle.std.specs.Prelude.{nat_le}
+use Rattle.std.proofs.lemmas.Option.{same_Some}
+use Rattle.vc_model.specs.Addr.{place_of}
+use Rattle.vc_model.specs.Layout.{Block, is_at, without_block}
+use Rattle.vc_model.specs.Region.{OfBest, Region, blocks_of, region_write, relabelled}
+use Rattle.vc_model.specs.Sound.{HaveOwnPlaces}
+use Rattle.vc_model.specs.Touch.{change_block, find_block, rewritten}
+use Rattle.vc_model.proofs.Relabel.{write-relabelled}
+use Rattle.vc_script.specs.declared.refusal.Refusal.TheVariants as why
+use Rattle.vc_script.specs.declared.reply.Reply.TheVariants.{Written, Hex, Size}
+use Rattle.vc_session.specs.State.{changed_to, told, unchanged}
+use Rattle.vc_session.specs.Account.{Held, IsNamed, home_of}
+use Rattle.vc_session.specs.Blocks.{read_block, read_in, size_in, write_block, write_in}
+use Rattle.vc_session.specs.Labels.{MovesLabel, label_at, name_of, tag_of}
+use Rattle.vc_session.specs.Step.{Gives}
+use Rattle.vc_session.specs.declared.labels.Label.{Label}
+use Rattle.vc_session.specs.declared.labels.Labels.{Labels}
+use Rattle.vc_session.proofs.Found.{TheBlock, on_block-there, the_block}
+use Rattle.vc_session.proofs.Lists.{find-changed}
+use Rattle.vc_session.proofs.Moving.{named-moved}
+
+-- writing changes the bytes of the block at a place
+written-blocks : (r : Region ℕ) (at : ℕ × ℕ) (off : ℕ) (src : List ℕ) → blocks_of (region_write r at off src) ≡ change_block (rewritten off src) at (blocks_of r)
+written-blocks (OfBest l) at off src = refl
+
+module _ (h : Held) (x : List ℕ) (tag : ℕ) (label : Label) (names : IsNamed h.region h.labels) (is_named : label.name ≡ x) (was_named : tag_of h.labels x ≡ Some tag) (was_at : label_at h.labels tag ≡ Some label) where
+  abbrev pub b : TheBlock h.region h.labels x tag label.at.0
+  b = the_block h.region h.labels x tag label names is_named was_named was_at
+
+  -- the size that is told of the address is that of the block
+  pub size-told : (size : ℕ) → option_map (λ c. c.size) (find_block (place_of label.at.0) (blocks_of h.region)) ≡ Some size → b.block.size ≡ size
+  size-told size is = same_Some b.block.size size (sym (ap (option_map (λ (c : Block ℕ). c.size)) b.found) ∙ is)
+
+  -- so are its bytes
+  pub bytes-told : (off len : ℕ) (bytes : List ℕ) → option_map (λ c. take len (drop off c.bytes)) (find_block (place_of label.at.0) (blocks_of h.region)) ≡ Some bytes → take len (drop off b.block.bytes) ≡ bytes
+  bytes-told off len bytes is = same_Some (take len (drop off b.block.bytes)) bytes (sym (ap (option_map (λ (c : Block ℕ). take len (drop off c.bytes))) b.found) ∙ is)
+
+  pub range-told : (off len : ℕ) → off + len ≤ b.block.size → IfSome (find_block (place_of label.at.0) (blocks_of h.region)) (λ c. off + len ≤ c.size)
+  range-told off len within = subst (λ o. IfSome o (λ (c : Block ℕ). off + len ≤ c.size)) (sym b.found) within
+
+  pub gives-size : (size : ℕ) → b.block.size ≡ size → Gives (size_in (home_of h) x) (home_of h).region (Size x size)
+  gives-size size is =
+      subst (λ c. Gives c (home_of h).region (Size x size)) (sym (on_block-there h x tag label.at.0 b (λ c. told (home_of h) (Size x c.size))))
+      (record { region_after = refl; replied = ap (λ n. Size x n) is })
+
+  pub gives-read : (off len : ℕ) (bytes : List ℕ) → ((nat_le 1 len && nat_le len 4096) && nat_le (off + len) b.block.size) ≡ true → take len (drop off b.block.bytes) ≡ bytes → Gives (read_in (home_of h) x off len) (home_of h).region (Hex x bytes)
+  gives-read off len bytes passes is =
+      let k = home_of h in
+      let eq : read_in k x off len ≡ told k (Hex x (take len (drop off b.block.bytes))) =
+      on_block-there h x tag label.at.0 b (read_block k x off len)
+      ∙ ap (λ v. cond v (told k (Hex x (take len (drop off b.block.bytes)))) (unchanged k why.Range)) passes in
+      subst (λ c. Gives c k.region (Hex x bytes)) (sym eq) (record { region_after = refl; replied = ap (λ n. Hex x n) is })
+
+  pub read-range : (off len : ℕ) → ((nat_le 1 len && nat_le len 4096) && nat_le (off + len) b.block.size) ≡ false → read_in (home_of h) x off len ≡ unchanged (home_of h) why.Range
+  read-range off len fails =
+      let k = home_of h in
+      on_block-there h x tag label.at.0 b (read_block k x off len)
+      ∙ ap (λ v. cond v (told k (Hex x (take len (drop off b.block.bytes)))) (unchanged k why.Range)) fails
+
+  module _ (off : ℕ) (bytes : List ℕ) where
+    pub write-range : nat_le (off + length bytes) b.block.size ≡ false → write_in (home_of h) x off bytes ≡ unchanged (home_of h) why.Range
+    write-range fails =
+        let k = home_of h in
+        on_block-there h x tag label.at.0 b (write_block k x off bytes)
+        ∙ ap (λ v. cond v (changed_to (region_write k.region (b.block.seg, b.block.off) off bytes) (Written x (length bytes) None)) (unchanged k why.Range)) fails
+
+    pub gives-written : (region : Region ℕ) → nat_le (off + length bytes) b.block.size ≡ true → region ≡ region_write h.region (place_of label.at.0) off bytes → Gives (write_in (home_of h) x off bytes) (relabelled (name_of h.labels) region) (Written x (length bytes) None)
+    gives-written region passes is =
+        let k = home_of h in
+        let f = name_of h.labels in
+        let eq : write_in k x off bytes ≡ changed_to (relabelled f region) (Written x (length bytes) None) =
+        on_block-there h x tag label.at.0 b (write_block k x off bytes)
+        ∙ (ap (λ v. cond v (changed_to (region_write k.region (b.block.seg, b.block.off) off bytes) (Written x (length bytes) None)) (unchanged k why.Range)) passes
+        ∙ ap (λ r. changed_to r (Written x (length bytes) None))
+        (ap (λ p. region_write k.region p off bytes) (sym b.place)
+        ∙ (write-relabelled f h.region (place_of label.at.0) off bytes ∙ ap (relabelled f) (sym is)))) in
+        subst (λ c. Gives c (relabelled f region) (Written x (length bytes) None)) (sym eq) (record { region_after = refl; replied = refl })
+
+    pub named-written : (region : Region ℕ) → region ≡ region_write h.region (place_of label.at.0) off bytes → without_block (place_of label.at.0) (blocks_of region) ≡ without_block (place_of label.at.0) (blocks_of h.region) → HaveOwnPlaces (blocks_of region) → IsNamed region h.labels
+    named-written region is others places =
+        let p = place_of label.at.0 in
+        let first : 1 ≤ tag = subst (λ t. 1 ≤ t) b.is_tag b.first in
+        let still : MovesLabel h.labels h.labels tag label = record { first = first; at = was_at; other_tags = λ other low differs. refl; names = λ y. refl; count = refl } in
+        let there : find_block p (blocks_of region) ≡ Some (rewritten off bytes b.block) =
+        ap (find_block p) (ap blocks_of is ∙ written-blocks h.region p off bytes)
+        ∙ find-changed (rewritten off bytes) (λ c q. refl) p b.block (blocks_of h.region) b.found in
+        named-moved h.labels h.region names x tag label was_at b h.labels label still refl region (rewritten off bytes b.block) there refl (sym b.address) b.place others names.agree places
