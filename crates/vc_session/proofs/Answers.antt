@@ -17,7 +17,8 @@ use Rattle.vc_script.specs.declared.refusal.Refusal.TheVariants as why
 use Rattle.vc_session.specs.declared.labels.Labels.{Labels}
 use Rattle.vc_session.specs.Account.{Held, IsChange, IsNamed}
 use Rattle.vc_session.specs.Blocks.{fault_of, refusal_of}
-use Rattle.vc_session.specs.Step.{is_for_block}
+use Rattle.vc_session.specs.State.{Changed, Home, unchanged}
+use Rattle.vc_session.specs.Step.{Gives, is_for_block}
 use Rattle.vc_session.proofs.Closing.{front-out}
 
 -- a region's part of what is out, before and after it
@@ -131,3 +132,12 @@ IsAn (Err e) = ⊥
 pub if_ok-all : {E : Type 0} (result : Result Reply E) (P : List ℕ → Reply → Type 0) → ((name : List ℕ) → IfOk result (P name)) → IfOk result (λ told. (name : List ℕ) → P name told)
 if_ok-all (Ok told) P all = all
 if_ok-all (Err e) P all = tt
+
+-- a refusal leaves the region
+pub gives-unchanged : (h : Home) (c : Changed) (w : Refusal) → c ≡ unchanged h w → Gives c h.region (reply.Refused w)
+gives-unchanged h c w e = record { region_after = ap (λ (k : Changed). k.region) e; replied = ap (λ (k : Changed). k.reply) e }
+
+-- a region whose discipline and lists stay
+pub change-same : (h : Held) (labels : Labels) → HasOut h.disc (segments_of h.region) → IsNamed h.region labels → IsChange h (record { name = h.name; place = h.place; disc = h.disc; region = h.region; labels = labels })
+change-same h labels has names =
+    changed-by h h.disc h.region labels has (kept-same h.disc h.disc refl) (out-same h.disc h.disc (segments_of h.region) (segments_of h.region) refl refl) names

@@ -19,7 +19,7 @@ use Rattle.vc_session.specs.Run.{refusal_at, place_named, place_of}
 use Rattle.vc_session.proofs.Firsts.{IsFirst, first-unmap}
 use Rattle.vc_session.specs.Account.{Held, Lacks, LacksSegment, held_named, IsChange, IsHeld, IsSession, RoseBy, Settles, account, accounts, account_after, home_of, settled, state_of, without_faults}
 use Rattle.vc_session.proofs.Cells.{at_number-from_one, at_number_some, map-set_alike}
-use Rattle.vc_session.proofs.Firsts.{find-first, first-set, with_region-first}
+use Rattle.vc_session.proofs.Firsts.{find-first, find-set, with_region-first}
 use Rattle.vc_session.proofs.Settle.{settled-change, settled-at}
 use Rattle.vc_session.proofs.Settling.{OnlyAt, settles-set}
 use Rattle.vc_session.proofs.Sessions.{Slots, apart-session, held-at, session-set}
@@ -131,7 +131,7 @@ module _ (slots : Slots) (hs : List Held) (i : ℕ) (h g : Held) (at : slice_get
       let was : here.item ≡ h = same_Some here.item h (sym here.at ∙ at) in
       let passes : bytes_eq g.name r ≡ true = ap (λ n. bytes_eq n r) change.name ∙ (ap (λ (k : Held). bytes_eq k.name r) (sym was) ∙ here.passes) in
       subst (λ o. Lacks o (held_named (set hs i g) (Some r)) asked) (sym (find-first (λ k. bytes_eq k.name r) hs i here ∙ ap (λ k. Some k) was))
-      (subst (λ o. Lacks (Some h) o asked) (sym (find-first (λ k. bytes_eq k.name r) (set hs i g) i (first-set (λ k. bytes_eq k.name r) hs i h g at here.before passes))) lacks)
+      (subst (λ o. Lacks (Some h) o asked) (sym (find-set (λ k. bytes_eq k.name r) hs i h g at here.before passes)) lacks)
 
   -- with the lists as before the state is the same
   pub state-same : (home_of g).region ≡ (home_of h).region → state_of slots (set hs i g) ≡ state_of slots hs

@@ -8,6 +8,8 @@ use Rattle.vc_model.specs.Discipline.{Discipline, Terms, TookBack, HasOut}
 use Rattle.vc_model.specs.Region.{segments_of}
 use Rattle.vc_model.specs.Numbered.{at_number}
 use Rattle.vc_script.specs.declared.reply.Reply.TheVariants.{Closed}
+use Rattle.vc_model.proofs.Relabel.{segments-relabelled}
+use Rattle.vc_session.specs.Labels.{name_of}
 use Rattle.vc_session.specs.State.{Home, stepped, close_home, close_step, home_named, is_home, without_home}
 use Rattle.vc_session.specs.Account.{Account, Held, IsSession, account, accounts, account_after, account_back, home_of, settled, state_of}
 use Rattle.vc_session.proofs.Cells.{all-remove, at_number-from_one, at_number-zero, at_number_some, map-remove, slice_get-set_other}
@@ -121,6 +123,7 @@ module _ (slots slots' : Slots) (hs : List Held) (i : ℕ) (h : Held) (at : slic
       let left : without_home r (map home_of hs) ≡ map home_of (remove hs i) =
       without_home-at r (map home_of hs) i first.item first.at first.passes first.before ∙ sym (map-remove home_of hs i) in
       ap (close_home (state_of slots hs) r) found
+      ∙ (ap (λ ss. stepped (record { shelf = set (state_of slots hs).shelf (h.place - 1) (Some h.disc.terms); homes = without_home r (map home_of hs) }) (Closed r (length ss))) (segments-relabelled (name_of h.labels) h.region)
       ∙ (ap (λ rs. stepped (record { shelf = rs; homes = without_home r (map home_of hs) }) (Closed r (length (segments_of h.region)))) (sym shelf-close)
       ∙ (ap (λ ks. stepped (record { shelf = (state_of slots' hs).shelf; homes = ks }) (Closed r (length (segments_of h.region)))) left
-      ∙ ap (λ n. stepped (state_of slots' (remove hs i)) (Closed r n)) (sym counted)))
+      ∙ ap (λ n. stepped (state_of slots' (remove hs i)) (Closed r n)) (sym counted))))

@@ -113,5 +113,5 @@ get-set (z ∷ zs) zero x y at = refl
 get-set (z ∷ zs) (suc i) x y at = get-set zs i x y at
 
 -- another item that passes in the first one's place
-pub first-set : {A : Type 0} (test : A → Bool) (xs : List A) (i : ℕ) (x y : A) → slice_get xs i ≡ Some x → list_any test (take i xs) ≡ false → test y ≡ true → IsFirst test (set xs i y) i
-first-set test xs i x y at none passes = record { item = y; at = get-set xs i x y at; passes = passes; before = ap (list_any test) (take-set xs i y) ∙ none }
+pub find-set : {A : Type 0} (test : A → Bool) (xs : List A) (i : ℕ) (x y : A) → slice_get xs i ≡ Some x → list_any test (take i xs) ≡ false → test y ≡ true → find test (set xs i y) ≡ Some y
+find-set test xs i x y at none passes = find-at test (set xs i y) i y (get-set xs i x y at) passes (ap (list_any test) (take-set xs i y) ∙ none)

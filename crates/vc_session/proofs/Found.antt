@@ -1,19 +1,21 @@
 -- The block of a name, in a region with tags and in the one with names.
-use Rattle.std.proofs.Common.{◌≡◌, ℕ, ◌≤◌, Bool, true, is_some, List, Option, Some, None, option_map, map, refl, sym, ap, ◌∙◌, subst}
-use Rattle.std.specs.Prelude.{Contains, find}
+use Rattle.std.proofs.Common.{◌≡◌, ℕ, ◌≤◌, suc, Bool, true, false, ◌||◌, ◌&&◌, is_some, List, [], ◌∷◌, Some, None, option_map, map, refl, sym, ap, ◌∙◌, ⊎_elim, arith}
+use Rattle.std.specs.Prelude.{Contains, find, ◌==◌}
 use Rattle.std.specs.List.{list_any}
 use Rattle.std.specs.Str.{bytes_eq}
-use Rattle.std.proofs.lemmas.Option.{same_Some, none-some}
+use Rattle.std.proofs.lemmas.Bool.{cases_Bool, eqb-true, false≢true}
+use Rattle.std.proofs.lemmas.Option.{same_Some}
 use Rattle.vc_model.specs.Addr.{place_of}
 use Rattle.vc_model.specs.Layout.{Block, address_of}
 use Rattle.vc_model.specs.Region.{Region, blocks_of, relabel_block, relabelled}
+use Rattle.vc_model.specs.Place.{IsAlign}
 use Rattle.vc_model.specs.Touch.{find_block}
 use Rattle.vc_model.proofs.Places.{Among, among-all, among-find, found-there, place-of}
 use Rattle.vc_model.proofs.Relabel.{blocks-relabelled, find-relabel}
 use Rattle.vc_script.specs.declared.refusal.Refusal.TheVariants as why
 use Rattle.vc_session.specs.State as state
 use Rattle.vc_session.specs.State.{Changed, Home, unchanged}
-use Rattle.vc_session.specs.Blocks.{is_block, is_name_of, on_block, with_named}
+use Rattle.vc_session.specs.Blocks.{is_align, is_block, is_name_of, on_block, with_named}
 use Rattle.vc_session.specs.declared.labels.Label.{Label}
 use Rattle.vc_session.specs.declared.labels.Labels.{Labels}
 use Rattle.vc_session.specs.Labels.{label_at, name_of, tag_of}
@@ -77,3 +79,22 @@ module _ (r : Region ℕ) (labels : Labels) (x : List ℕ) (tag : ℕ) (label : 
 -- what is done with it
 pub on_block-there : (h : Held) (x : List ℕ) (tag a : ℕ) (b : TheBlock h.region h.labels x tag a) (act : Block state.Label → Changed) → on_block (home_of h) x act ≡ act (relabel_block (name_of h.labels) b.block)
 on_block-there h x tag a b act = ap (λ o. with_named (home_of h) o act) b.named
+
+-- a script's alignment is one of a region
+pub align-in : (align : ℕ) → is_align align ≡ true → IsAlign align
+align-in align passes = among (32 ∷ 64 ∷ 128 ∷ 256 ∷ 512 ∷ 1024 ∷ 2048 ∷ 4096 ∷ []) passes
+  where
+    among : (xs : List ℕ) → list_any (λ n. align == n) xs ≡ true → Contains xs align
+    among [] any = absurd (false≢true any)
+    among (y ∷ ys) any =
+        ⊎_elim
+        (λ e. (0, omega arith, sym (eqb-true align y e)))
+        (λ e.
+        let rest = among ys (sym (ap (λ b. b || list_any (λ n. align == n) ys) e) ∙ any) in
+        (suc rest.0, omega (arith, rest.1), rest.2))
+        (cases_Bool (align == y))
+
+pub both-parts : (a b : Bool) → (a && b) ≡ true → (a ≡ true) × (b ≡ true)
+both-parts true true e = (refl, refl)
+both-parts true false e = absurd cc
+both-parts false b e = absurd cc

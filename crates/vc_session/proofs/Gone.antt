@@ -1,5 +1,7 @@
 -- What freeing the block of a name answers, and how it changes the region.
-use Rattle.std.proofs.Common.{◌≡◌, ℕ, Bool, List, Some, None, refl, sym, ap, ◌∙◌, subst}
+use Rattle.std.proofs.Common.{◌≡◌, ℕ, Bool, List, Option, Some, None, IfSome, IfNone, refl, sym, ap, ◌∙◌, subst}
+use Rattle.std.proofs.lemmas.Option.{none-some, same_Some}
+use Rattle.vc_base.specs.declared.addr.Addr.{Addr}
 use Rattle.vc_model.specs.Addr.{place_of}
 use Rattle.vc_model.specs.Layout.{Block, without_block}
 use Rattle.vc_model.specs.Outcome as model
@@ -12,17 +14,13 @@ use Rattle.vc_session.specs.State as state
 use Rattle.vc_session.specs.State.{changed_to, unchanged}
 use Rattle.vc_session.specs.Account.{Held, IsNamed, home_of}
 use Rattle.vc_session.specs.Blocks.{free_block, free_in, freed}
-use Rattle.vc_session.specs.Labels.{WithoutLabel, label_at, name_of, tag_of}
+use Rattle.vc_session.specs.Labels.{SameLabels, WithoutLabel, label_at, name_of, tag_of}
 use Rattle.vc_session.specs.Step.{Gives}
 use Rattle.vc_session.specs.declared.labels.Label.{Label}
 use Rattle.vc_session.specs.declared.labels.Labels.{Labels}
 use Rattle.vc_session.proofs.Answers.{Told}
 use Rattle.vc_session.proofs.Found.{TheBlock, on_block-there, the_block}
 use Rattle.vc_session.proofs.Moving.{region-less}
-
--- freeing asks for no segment
-pub free-granted : (r : Region ℕ) (at : ℕ × ℕ) → region_free r at ≡ Refused model.NoSegment → ⊥
-free-granted (OfBest l) at e = absurd cc
 
 -- it leaves the segments
 pub free-segments : (r r' : Region ℕ) (at : ℕ × ℕ) → region_free r at ≡ Done r' → segments_of r' ≡ segments_of r
@@ -57,3 +55,13 @@ module _ (h : Held) (x : List ℕ) (tag : ℕ) (label : Label) (names : IsNamed 
       let f = name_of h.labels in
       let eq : free_in k x ≡ unchanged k _ = free-named ∙ ap (λ o. freed k x (relabel_freed f o)) t.refused in
       subst (λ c. Gives c (relabelled f region) told) (sym eq) (record { region_after = ap (relabelled f) (sym same); replied = t.is })
+
+-- the name that is taken out is that of the block
+pub removed-label : (old new : Labels) (x : List ℕ) (tag : ℕ) (label : Label) → tag_of old x ≡ Some tag → label_at old tag ≡ Some label → (o : Option Addr) → IfSome o (λ at. (t : ℕ) × WithoutLabel old new t (record { name = x; at = at })) → IfNone o ((tag_of old x ≡ None) × SameLabels old new) → WithoutLabel old new tag label
+removed-label old new x tag label named at None some none = absurd (none-some tag (sym none.0 ∙ named))
+removed-label old new x tag label named at (Some a) some none =
+    let w = some.1 in
+    let gone : Label = record { name = x; at = a } in
+    let same : some.0 ≡ tag = same_Some some.0 tag (sym w.was_named ∙ named) in
+    let is : gone ≡ label = same_Some gone label (sym w.was_at ∙ (ap (label_at old) same ∙ at)) in
+    subst (λ t. WithoutLabel old new t label) same (subst (λ l. WithoutLabel old new some.0 l) is w)

@@ -55,6 +55,13 @@ contains-among a b (c ∷ cs) m e =
     (λ rest. let r = contains-among a b cs rest e in (suc r.0, omega (arith, r.1), r.2))
     m
 
+-- where a block stands in a list, which is without it elsewhere
+pub record Index (p : ℕ × ℕ) (b : Block ℕ) (bs : List (Block ℕ)) : Type 0 where
+  pub at : ℕ
+  pub within : at < length bs
+  pub is : (d : Block ℕ) → get_or bs at d ≡ b
+  pub gone : remove bs at ≡ without_block p bs
+
 module _ (p : ℕ × ℕ) (b : Block ℕ) where
   first_at : (c : Block ℕ) (cs : List (Block ℕ)) → find_block p (c ∷ cs) ≡ Some b → is_at p c ≡ true → c ≡ b
   first_at c cs e here = same_Some c b (sym (ap (λ v. cond v (Some c) (find_block p cs)) here) ∙ e)
@@ -139,14 +146,7 @@ module _ (p : ℕ × ℕ) (b : Block ℕ) where
   pub others-apart : (bs : List (Block ℕ)) → find_block p bs ≡ Some b → HaveOwnPlaces bs → AllByRecursion (λ c. address_of c ≢ address_of b) (without_block p bs)
   others-apart bs e places = others-away bs e places.distinct
 
-  -- where it stands in the list
-  pub record Index (bs : List (Block ℕ)) : Type 0 where
-    pub at : ℕ
-    pub within : at < length bs
-    pub is : (d : Block ℕ) → get_or bs at d ≡ b
-    pub gone : remove bs at ≡ without_block p bs
-
-  pub index : (bs : List (Block ℕ)) → find_block p bs ≡ Some b → Index bs
+  pub index : (bs : List (Block ℕ)) → find_block p bs ≡ Some b → Index p b bs
   index [] e = absurd (none-some b e)
   index (c ∷ cs) e =
       ⊎_elim

@@ -1,5 +1,5 @@
 -- The names of a region stay in step with its blocks as one is put, moves or goes.
-use Rattle.std.proofs.Common.{◌≡◌, ◌≢◌, ℕ, ◌+◌, ◌≤◌, zero, suc, Bool, true, false, ◌||◌, cond, is_some, List, [], ◌∷◌, Option, Some, None, refl, sym, ap, ◌∙◌, subst, ⊎_elim, inl, inr, arith}
+use Rattle.std.proofs.Common.{◌≡◌, ◌≢◌, ℕ, ◌+◌, ◌≤◌, zero, suc, Bool, true, false, ◌||◌, ◌⊎◌, cond, is_some, List, [], ◌∷◌, Option, Some, None, refl, sym, ap, ◌∙◌, subst, ⊎_elim, inl, inr, arith}
 use Rattle.std.specs.Prelude.{count_by, nat_lt}
 use Rattle.std.specs.List.{AllByRecursion, list_any}
 use Rattle.std.specs.Str.{bytes_eq}
@@ -22,6 +22,10 @@ use Rattle.vc_session.proofs.Found.{TheBlock}
 use Rattle.vc_session.proofs.Lists.{all-join, all-map, all-without, any-alike, any-split, count-split, others-apart}
 use Rattle.vc_session.proofs.Names.{has-label-any, name-alike, name-here, name-none, named_by, other_bytes, same_bytes}
 
+zero-or : (n : ℕ) → (n ≡ 0) ⊎ (1 ≤ n)
+zero-or zero = inl refl
+zero-or (suc n) = inr (omega arith)
+
 -- the tag is that of no block, or of the one that is looked at alone
 abbrev pub Stays : Labels → Labels → Block ℕ → Type 0
 Stays old new b = 1 ≤ b.label → IsLive new b × (label_at new b.label ≡ label_at old b.label)
@@ -36,10 +40,6 @@ name-stays old new b stays =
     (λ none. name-none new b.label none ∙ sym (name-none old b.label none))
     (λ some. name-alike old new b.label (stays some).1)
     (zero-or b.label)
-  where
-    zero-or : (n : ℕ) → (n ≡ 0) ⊎ (1 ≤ n)
-    zero-or zero = inl refl
-    zero-or (suc n) = inr (omega arith)
 
 pub names-stay : (old new : Labels) (bs : List (Block ℕ)) → AllByRecursion (Stays old new) bs → AllByRecursion (λ b. name_of new b.label ≡ name_of old b.label) bs
 names-stay old new [] all = tt
@@ -84,7 +84,7 @@ module _ (old new : Labels) (tag : ℕ) (label : Label) (w : WithLabel old new t
       let z : Block ℕ = zeros tag size p in
       let stays : AllByRecursion (Stays old new) (without_block p (blocks_of r')) = subst (AllByRecursion (Stays old new)) (sym others) (stay-new (blocks_of r) n.live) in
       let first : nat_lt 0 tag ≡ true = grind (arith, nat_tests, w.first) in
-      let one : cond (nat_lt 0 tag) 1 0 ≡ 1 = ap (λ b. cond b 1 0) first in
+      let one : ◌≡◌ {A = ℕ} (cond (nat_lt 0 tag) 1 0) 1 = ap (λ b. cond b 1 0) first in
       let all : tag_count (blocks_of r') ≡ cond (nat_lt 0 tag) 1 0 + tag_count (without_block p (blocks_of r')) = count-split p z (λ b. nat_lt 0 b.label) (blocks_of r') there in
       let left : tag_count (without_block p (blocks_of r')) ≡ tag_count (blocks_of r) = ap tag_count others in
       record {
@@ -147,7 +147,7 @@ module _ (old : Labels) (r : Region ℕ) (names : IsNamed r old) (x : List ℕ) 
         let is_tag : b'.label ≡ tag = tagged ∙ b.is_tag in
         let all : tag_count (blocks_of r') ≡ cond (nat_lt 0 b'.label) 1 0 + tag_count (without_block q (blocks_of r')) = count-split q b' (λ c. nat_lt 0 c.label) (blocks_of r') there in
         let was : tag_count (blocks_of r) ≡ cond (nat_lt 0 b.block.label) 1 0 + tag_count (without_block p (blocks_of r)) = count-split p b.block (λ c. nat_lt 0 c.label) (blocks_of r) b.found in
-        let one : cond (nat_lt 0 b'.label) 1 0 ≡ cond (nat_lt 0 b.block.label) 1 0 = ap (λ t. cond (nat_lt 0 t) 1 0) tagged in
+        let one : ◌≡◌ {A = ℕ} (cond (nat_lt 0 b'.label) 1 0) (cond (nat_lt 0 b.block.label) 1 0) = ap (λ t. cond (nat_lt 0 t) 1 0) tagged in
         let left : tag_count (without_block q (blocks_of r')) ≡ tag_count (without_block p (blocks_of r)) = ap tag_count others in
         record {
           agree = agree;
@@ -165,7 +165,7 @@ module _ (old : Labels) (r : Region ℕ) (names : IsNamed r old) (x : List ℕ) 
               ∙ (ap (λ o. is_name_of y o || list_any (named_by (name_of new) y) (without_block q (blocks_of r'))) (name-moved b'.label ∙ ap f tagged)
               ∙ ap (λ v. is_name_of y (f b.block.label) || v)
               (ap (list_any (named_by (name_of new) y)) others
-              ∙ any-alike (named_by (name_of new) y) (named_by f y) (without_block p (blocks_of r)) (tests-stay old new y (without_block p (blocks_of r)) (names-stay old new (without_block p (blocks_of r)) (rest-stays new m.other_tags)))))))))));
+              ∙ any-alike (named_by (name_of new) y) (named_by f y) (without_block p (blocks_of r)) (tests-stay old new y (without_block p (blocks_of r)) (names-stay old new (without_block p (blocks_of r)) (rest-stays new m.other_tags))))))))));
           places = places;
         }
 
@@ -192,9 +192,6 @@ module _ (old : Labels) (r : Region ℕ) (names : IsNamed r old) (x : List ℕ) 
             (λ e. e)
             (cases_Bool (bytes_eq l.label.name y)))
             (zero-or c.label)
-        zero-or : (n : ℕ) → (n ≡ 0) ⊎ (1 ≤ n)
-        zero-or zero = inl refl
-        zero-or (suc n) = inr (omega arith)
 
     pub named-left : (r' : Region ℕ) → blocks_of r' ≡ without_block (place_of label.at.0) (blocks_of r) → AreLabels new → HaveOwnPlaces (blocks_of r') → IsNamed r' new
     named-left r' left agree places =
@@ -204,7 +201,7 @@ module _ (old : Labels) (r : Region ℕ) (names : IsNamed r old) (x : List ℕ) 
         let live = lives old new (blocks_of r') stays in
         let low : 1 ≤ b.block.label = b.first in
         let first : nat_lt 0 b.block.label ≡ true = grind (arith, nat_tests, low) in
-        let one : cond (nat_lt 0 b.block.label) 1 0 ≡ 1 = ap (λ v. cond v 1 0) first in
+        let one : ◌≡◌ {A = ℕ} (cond (nat_lt 0 b.block.label) 1 0) 1 = ap (λ v. cond v 1 0) first in
         let was : tag_count (blocks_of r) ≡ cond (nat_lt 0 b.block.label) 1 0 + tag_count (without_block p (blocks_of r)) = count-split p b.block (λ c. nat_lt 0 c.label) (blocks_of r) b.found in
         let same : tag_count (blocks_of r') ≡ tag_count (without_block p (blocks_of r)) = ap tag_count left in
         record {

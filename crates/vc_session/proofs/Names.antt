@@ -80,7 +80,7 @@ isnamed-same r old new same agree n =
     }
 
 -- as many blocks have a name as have a tag
-count-named : (labels : Labels) (bs : List (Block ℕ)) → AllByRecursion (λ b. 1 ≤ b.label → IsLive labels b) bs → count_by (λ b. is_some b.label) (map (relabel_block (name_of labels)) bs) ≡ tag_count bs
+count-named : (labels : Labels) (bs : List (Block ℕ)) → AllByRecursion (λ b. 1 ≤ b.label → IsLive labels b) bs → count_by (λ (b : Block state.Label). is_some b.label) (map (relabel_block (name_of labels)) bs) ≡ tag_count bs
 count-named labels [] all = refl
 count-named labels (b ∷ bs) all =
     let test : is_some (name_of labels b.label) ≡ nat_lt 0 b.label =

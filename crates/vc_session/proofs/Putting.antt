@@ -11,10 +11,10 @@ use Rattle.vc_model.specs.Best.{zeros}
 use Rattle.vc_model.specs.Discipline.{Discipline, HasOut, Unserved}
 use Rattle.vc_model.specs.Layout.{Block, without_block}
 use Rattle.vc_model.specs.Outcome.{Outcome, Done, Put, Refused, outcome_as}
-use Rattle.vc_model.specs.Region.{Region, blocks_of, relabelled, segments_of}
+use Rattle.vc_model.specs.Region.{Region, blocks_of, region_align, region_alloc, relabelled, segments_of}
 use Rattle.vc_model.specs.Sound.{HaveOwnPlaces}
 use Rattle.vc_model.specs.Touch.{find_block}
-use Rattle.vc_model.proofs.Relabel.{relabelled-alike}
+use Rattle.vc_model.proofs.Relabel.{align-relabelled, alloc-relabelled, relabelled-alike}
 use Rattle.slab.specs.Slab.{slab_len}
 use Rattle.vc_seg.specs.Answer.{Answers, Asks, IsPut}
 use Rattle.vc_seg.specs.declared.fault.RegionFault.{RegionFault}
@@ -72,7 +72,7 @@ none-of-some (Some x) e = absurd cc
 pub new-name : (labels : Labels) (x : List ℕ) (legal : Bool) → new_refused labels x legal ≡ None → tag_of labels x ≡ None
 new-name labels x legal is = none-of-some (tag_of labels x) (unless-new (is_some (tag_of labels x)) legal (nat_lt (slab_len labels.by_tag) label_limit) is)
 
-gives-put : (h : Home) (x : List ℕ) (f : ℕ → state.Label) (o : Outcome (Put (Region ℕ))) (a : ℕ) (r' : Region ℕ) → IsPut o a r' → Gives (put_in h x (outcome_as (relabelled f) o)) (relabelled f r') (at_place x (place_of a))
+pub gives-put : (h : Home) (x : List ℕ) (f : ℕ → state.Label) (o : Outcome (Put (Region ℕ))) (a : ℕ) (r' : Region ℕ) → IsPut o a r' → Gives (put_in h x (outcome_as (relabelled f) o)) (relabelled f r') (at_place x (place_of a))
 gives-put h x f (Done p) a r' is = record { region_after = ap (relabelled f) (sym is.2); replied = ap (at_place x) is.1 }
 gives-put h x f (Refused why) a r' is = absurd is
 
@@ -85,11 +85,7 @@ abbrev name_with : Labels → ℕ → List ℕ → ℕ → state.Label
 name_with labels tag x t = cond (t == tag) (Some x) (name_of labels t)
 
 -- the labels with room for one more, and the region and the labels after the call, which is that of the tags and that of the names
-module _ {E : Type 0} (h : Held) (x : List ℕ) (legal : Bool) (names : IsNamed h.region h.labels) (allowed : new_refused h.labels x legal ≡ None)
-    (mid : Labels) (same : SameLabels h.labels mid) (mid_agree : AreLabels mid) (tag : ℕ) (first : 1 ≤ tag) (vacant : label_at mid tag ≡ None)
-    (call : Bool → Outcome (Put (Region ℕ))) (called : Bool → Outcome (Put (Region state.Label)))
-    (commutes : (f : ℕ → state.Label) → f tag ≡ Some x → relabelled f h.region ≡ (home_of h).region → (refused : Bool) → called refused ≡ outcome_as (relabelled f) (call refused))
-    (region : Region ℕ) (new : Labels) where
+module _ (h : Held) (x : List ℕ) (legal : Bool) (names : IsNamed h.region h.labels) (allowed : new_refused h.labels x legal ≡ None) (mid : Labels) (same : SameLabels h.labels mid) (mid_agree : AreLabels mid) (tag : ℕ) (first : 1 ≤ tag) (vacant : label_at mid tag ≡ None) (call : Bool → Outcome (Put (Region ℕ))) (called : Bool → Outcome (Put (Region state.Label))) (commutes : (f : ℕ → state.Label) → f tag ≡ Some x → relabelled f h.region ≡ (home_of h).region → (refused : Bool) → called refused ≡ outcome_as (relabelled f) (call refused)) (region : Region ℕ) (new : Labels) where
   mid-names : IsNamed h.region mid
   mid-names = isnamed-same h.region h.labels mid same mid_agree names
 
@@ -140,7 +136,7 @@ module _ {E : Type 0} (h : Held) (x : List ℕ) (legal : Bool) (names : IsNamed 
       subst (λ c. Gives c (relabelled (name_of new) region) told) (sym eq) (record { region_after = sym (back labels_same region_same); replied = t.is })
 
   -- the reply is that of the definitions
-  pub step-put : (put : Result Addr RegionFault) (result : Result Reply E) → NamesPut tag x put mid new result → Answers call put h.region region → IfOk result (λ told. Gives (put_new (home_of h) x legal (called (is_for_block (need_shown told)))) (relabelled (name_of new) region) told)
+  pub step-put : {E : Type 0} (put : Result Addr RegionFault) (result : Result Reply E) → NamesPut tag x put mid new result → Answers call put h.region region → IfOk result (λ told. Gives (put_new (home_of h) x legal (called (is_for_block (need_shown told)))) (relabelled (name_of new) region) told)
   step-put (Ok a) (Ok told) named answers =
       let is : told ≡ at_place x (place_of a.0) = ap (get_ok told) named.0 in
       subst (λ t. Gives (put_new (home_of h) x legal (called (is_for_block (need_shown t)))) (relabelled (name_of new) region) t) (sym is) (gives-new a named.1 answers)
@@ -148,28 +144,48 @@ module _ {E : Type 0} (h : Held) (x : List ℕ) (legal : Bool) (names : IsNamed 
   step-put put (Err e) named answers = tt
 
   -- with no memory the region stays
-  pub err-put : (put : Result Addr RegionFault) (result : Result Reply E) → NamesPut tag x put mid new result → Answers call put h.region region → OnErr result (relabelled (name_of new) region ≡ (home_of h).region)
+  pub err-put : {E : Type 0} (put : Result Addr RegionFault) (result : Result Reply E) → NamesPut tag x put mid new result → Answers call put h.region region → OnErr result (relabelled (name_of new) region ≡ (home_of h).region)
   err-put (Ok a) (Err e) named answers = absurd (subst IsAn (sym named.0) tt)
   err-put (Err fault) (Err e) named answers = back named.1 answers.1
   err-put put (Ok told) named answers = tt
 
   module _ (disc : Discipline) (need size : ℕ) where
-    names-put : (put : Result Addr RegionFault) (result : Result Reply E) → NamesPut tag x put mid new result → Answers call put h.region region → IfOk put (λ a. find_block (place_of a.0) (blocks_of region) ≡ Some (zeros tag size (place_of a.0))) → IfOk put (λ a. without_block (place_of a.0) (blocks_of region) ≡ blocks_of h.region) → HaveOwnPlaces (blocks_of region) → IsNamed region new
+    names-put : {E : Type 0} (put : Result Addr RegionFault) (result : Result Reply E) → NamesPut tag x put mid new result → Answers call put h.region region → IfOk put (λ a. find_block (place_of a.0) (blocks_of region) ≡ Some (zeros tag size (place_of a.0))) → IfOk put (λ a. without_block (place_of a.0) (blocks_of region) ≡ blocks_of h.region) → HaveOwnPlaces (blocks_of region) → IsNamed region new
     names-put (Ok a) result named answers there others places =
         named-put mid new tag (record { name = x; at = a }) named.1 vacant h.region region size there others (put-address (call false) a.0 region answers) named.2 places mid-names
     names-put (Err fault) result named answers there others places =
         subst (λ l. IsNamed region l) (sym named.1) (subst (λ r. IsNamed r mid) (sym answers.1) mid-names)
 
-    pub change-put : (put : Result Addr RegionFault) (result : Result Reply E) → NamesPut tag x put mid new result → Answers call put h.region region → Asks put h.disc disc (segments_of h.region) (segments_of region) need → IfOk put (λ a. find_block (place_of a.0) (blocks_of region) ≡ Some (zeros tag size (place_of a.0))) → IfOk put (λ a. without_block (place_of a.0) (blocks_of region) ≡ blocks_of h.region) → HaveOwnPlaces (blocks_of region) → HasOut h.disc (segments_of h.region) → IsChange h (record { name = h.name; place = h.place; disc = disc; region = region; labels = new })
+    pub change-put : {E : Type 0} (put : Result Addr RegionFault) (result : Result Reply E) → NamesPut tag x put mid new result → Answers call put h.region region → Asks put h.disc disc (segments_of h.region) (segments_of region) need → IfOk put (λ a. find_block (place_of a.0) (blocks_of region) ≡ Some (zeros tag size (place_of a.0))) → IfOk put (λ a. without_block (place_of a.0) (blocks_of region) ≡ blocks_of h.region) → HaveOwnPlaces (blocks_of region) → HasOut h.disc (segments_of h.region) → IsChange h (record { name = h.name; place = h.place; disc = disc; region = region; labels = new })
     change-put put result named answers asks there others places has =
         changed-by h disc region new has
         (asks-kept put h.disc disc (segments_of h.region) (segments_of region) need asks)
         (asks-out call h.region region h.disc disc need put answers asks)
         (names-put put result named answers there others places)
 
-    pub unserved-put : (put : Result Addr RegionFault) (result : Result Reply E) → NamesPut tag x put mid new result → Asks put h.disc disc (segments_of h.region) (segments_of region) need → result ≡ Ok (reply.Refused why.NoSegment) → Unserved h.disc disc need
+    pub unserved-put : {E : Type 0} (put : Result Addr RegionFault) (result : Result Reply E) → NamesPut tag x put mid new result → Asks put h.disc disc (segments_of h.region) (segments_of region) need → result ≡ Ok (reply.Refused why.NoSegment) → Unserved h.disc disc need
     unserved-put (Ok a) result named asks is =
         absurd (subst NotNoSegment (ap (get_ok (at_place x (place_of a.0))) (sym named.0 ∙ is)) tt)
     unserved-put (Err fault) (Ok told) named asks is =
         asks-unserved fault h.disc disc (segments_of h.region) (segments_of region) need (fault-no_segment fault told named.0 (ap (get_ok told) is)) asks
     unserved-put (Err fault) (Err e) named asks is = absurd (subst IsAn (sym is) tt)
+
+-- the calls that put a block are those of the names
+pub alloc-commutes : (h : Held) (x : List ℕ) (tag size : ℕ) (f : ℕ → state.Label) → f tag ≡ Some x → relabelled f h.region ≡ (home_of h).region → (u : Bool) → region_alloc h.disc.terms (home_of h).region (Some x) size u ≡ outcome_as (relabelled f) (region_alloc h.disc.terms h.region tag size u)
+alloc-commutes h x tag size f new same u =
+    ap (λ r. region_alloc h.disc.terms r (Some x) size u) (sym same)
+    ∙ (ap (λ l. region_alloc h.disc.terms (relabelled f h.region) l size u) (sym new) ∙ alloc-relabelled f h.disc.terms h.region tag size u)
+
+pub align-commutes : (h : Held) (x : List ℕ) (tag size align : ℕ) (f : ℕ → state.Label) → f tag ≡ Some x → relabelled f h.region ≡ (home_of h).region → (u : Bool) → region_align h.disc.terms (home_of h).region (Some x) size align u ≡ outcome_as (relabelled f) (region_align h.disc.terms h.region tag size align u)
+align-commutes h x tag size align f new same u =
+    ap (λ r. region_align h.disc.terms r (Some x) size align u) (sym same)
+    ∙ (ap (λ l. region_align h.disc.terms (relabelled f h.region) l size align u) (sym new) ∙ align-relabelled f h.disc.terms h.region tag size align u)
+
+unless-legal : (named legal few : Bool) → cond named (Some why.BlockExists) (cond legal (cond few None (Some why.TooManyBlocks)) (Some why.Size)) ≡ None → legal ≡ true
+unless-legal true legal few e = absurd cc
+unless-legal false true few e = refl
+unless-legal false false few e = absurd cc
+
+-- nor is its size or alignment refused
+pub new-legal : (labels : Labels) (x : List ℕ) (legal : Bool) → new_refused labels x legal ≡ None → legal ≡ true
+new-legal labels x legal is = unless-legal (is_some (tag_of labels x)) legal (nat_lt (slab_len labels.by_tag) label_limit) is

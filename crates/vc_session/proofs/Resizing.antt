@@ -1,5 +1,5 @@
 -- What giving the block of a name another size answers, and how it changes the region.
-use Rattle.std.proofs.Common.{◌≡◌, ℕ, Bool, true, false, cond, eqb, List, [], ◌∷◌, Option, Some, None, Result, Ok, Err, option_map, refl, sym, ap, ◌∙◌, subst, ⊎_elim}
+use Rattle.std.proofs.Common.{◌≡◌, ℕ, Bool, true, false, cond, eqb, List, [], ◌∷◌, Option, Some, None, Result, Ok, Err, IfOk, option_map, refl, sym, ap, ◌∙◌, subst, ⊎_elim}
 use Rattle.std.proofs.lemmas.Bool.{cases_Bool, and_parts, eqb-true}
 use Rattle.std.proofs.lemmas.Option.{same_Some, none-some}
 use Rattle.vc_base.specs.declared.addr.Addr.{Addr}
@@ -11,7 +11,12 @@ use Rattle.vc_model.specs.Region.{Region, blocks_of, region_resize, relabelled, 
 use Rattle.vc_model.specs.Sound.{HaveOwnPlaces}
 use Rattle.vc_model.specs.Touch.{find_block}
 use Rattle.vc_model.proofs.Relabel.{resize-relabelled}
-use Rattle.vc_seg.specs.Answer.{Answers, Asks, IsPut}
+use Rattle.vc_seg.specs.Answer.{IsPut, IsRefusal}
+use Rattle.vc_seg.specs.declared.fault.RegionFault.{RegionFault}
+use Rattle.vc_script.specs.declared.place.Place.{Place}
+use Rattle.vc_script.specs.declared.reply.Reply.TheVariants.{At}
+use Rattle.vc_session.specs.State as state
+use Rattle.vc_session.specs.Naming.{TellsFault}
 use Rattle.vc_script.specs.Needs.{need_shown}
 use Rattle.vc_script.specs.declared.refusal.Refusal.TheVariants as why
 use Rattle.vc_script.specs.declared.reply.Reply.{Reply}
@@ -22,8 +27,8 @@ use Rattle.vc_session.specs.Labels.{AreLabels, MovesLabel, label_at, name_of, ta
 use Rattle.vc_session.specs.Step.{Gives, is_for_block}
 use Rattle.vc_session.specs.declared.labels.Label.{Label}
 use Rattle.vc_session.specs.declared.labels.Labels.{Labels}
-use Rattle.vc_session.proofs.Answers.{Told, asks-kept, asks-out, changed-by}
-use Rattle.vc_session.proofs.Found.{TheBlock, on_block-none, on_block-there, the_block}
+use Rattle.vc_session.proofs.Answers.{Told, fault-told}
+use Rattle.vc_session.proofs.Found.{TheBlock, on_block-there, the_block}
 use Rattle.vc_session.proofs.Moving.{name-moved, named-moved}
 use Rattle.vc_session.proofs.Names.{relabelled-names}
 use Rattle.vc_session.proofs.Putting.{gives-put, put-address}
@@ -102,3 +107,15 @@ module _ (h : Held) (x : List ℕ) (tag : ℕ) (label : Label) (names : IsNamed 
           let place : place_of to.at.0 ≡ (found.from.seg, found.from.off) = found-place (place_of to.at.0) found.from (blocks_of region) found.was in
           named-moved h.labels h.region names x tag label was_at b new to m same_name region found.from found.was found.to
           (put-address (call false) to.at.0 region is ∙ ap address place) place others agree places
+
+-- a place by its parts
+pub gives-place : (c : Changed) (r : Region state.Label) (x : List ℕ) (a : ℕ) (place : Place) → place.seg ≡ (place_of a).0 → place.off ≡ (place_of a).1 → Gives c r (at_place x (place_of a)) → Gives c r (At x place None)
+gives-place c r x a place seg off gives =
+    subst (λ o. Gives c r (At x (record { seg = place.seg; off = o }) None)) (sym off)
+    (subst (λ s. Gives c r (At x (record { seg = s; off = (place_of a).1 }) None)) (sym seg) gives)
+
+module _ (h : Held) (x : List ℕ) (tag : ℕ) (label : Label) (names : IsNamed h.region h.labels) (is_named : label.name ≡ x) (was_named : tag_of h.labels x ≡ Some tag) (was_at : label_at h.labels tag ≡ Some label) (size : ℕ) (may_move : Bool) (sized : is_size size ≡ true) where
+  pub step-fault : {E : Type 0} (fault : RegionFault) (result : Result Reply E) → TellsFault fault result → IsRefusal (call h x tag label names is_named was_named was_at size may_move) fault → (region : Region ℕ) → region ≡ h.region → IfOk result (λ told. Gives (resize_in (home_of h) x size may_move (is_for_block (need_shown told))) (relabelled (name_of h.labels) region) told)
+  step-fault fault (Ok told) tells refusal region same =
+      gives-fault h x tag label names is_named was_named was_at size may_move sized told (fault-told (call h x tag label names is_named was_named was_at size may_move) fault told tells refusal) region same
+  step-fault fault (Err e) tells refusal region same = tt

@@ -1,6 +1,7 @@
 -- What is done with the bytes of the block of a name.
-use Rattle.std.proofs.Common.{◌≡◌, ℕ, ◌+◌, ◌≤◌, Bool, true, false, cond, ◌&&◌, List, Option, Some, None, IfSome, length, option_map, take, drop, refl, sym, ap, ◌∙◌, subst}
+use Rattle.std.proofs.Common.{◌≡◌, ℕ, ◌+◌, ◌<◌, ◌≤◌, Bool, true, false, cond, ◌&&◌, List, Option, Some, None, IfSome, length, option_map, take, drop, refl, sym, ap, ◌∙◌, subst, arith}
 use Rattle.std.specs.Prelude.{nat_le}
+use Rattle.std.proofs.lemmas.Bool.Decides.{nat_tests}
 use Rattle.std.proofs.lemmas.Option.{same_Some}
 use Rattle.vc_model.specs.Addr.{place_of}
 use Rattle.vc_model.specs.Layout.{Block, is_at, without_block}
@@ -24,6 +25,31 @@ use Rattle.vc_session.proofs.Moving.{named-moved}
 -- writing changes the bytes of the block at a place
 written-blocks : (r : Region ℕ) (at : ℕ × ℕ) (off : ℕ) (src : List ℕ) → blocks_of (region_write r at off src) ≡ change_block (rewritten off src) at (blocks_of r)
 written-blocks (OfBest l) at off src = refl
+
+pub le-beyond : (a b : ℕ) → b < a → nat_le a b ≡ false
+le-beyond a b over = grind (arith, nat_tests)
+
+pub le-within : (a b : ℕ) → a ≤ b → nat_le a b ≡ true
+le-within a b within = grind (arith, nat_tests)
+
+pub range-within : (off len size : ℕ) → 1 ≤ len → len ≤ 4096 → off + len ≤ size → ((nat_le 1 len && nat_le len 4096) && nat_le (off + len) size) ≡ true
+range-within off len size some few within =
+    ap (λ b. (b && nat_le len 4096) && nat_le (off + len) size) (le-within 1 len some)
+    ∙ (ap (λ b. b && nat_le (off + len) size) (le-within len 4096 few) ∙ le-within (off + len) size within)
+
+and-false : (a b : Bool) → b ≡ false → (a && b) ≡ false
+and-false true b e = e
+and-false false b e = refl
+
+pub range-none : (off len size : ℕ) → len ≡ 0 → ((nat_le 1 len && nat_le len 4096) && nat_le (off + len) size) ≡ false
+range-none off len size none = ap (λ b. (b && nat_le len 4096) && nat_le (off + len) size) (le-beyond 1 len (omega (arith, none)))
+
+pub range-many : (off len size : ℕ) → 4096 < len → ((nat_le 1 len && nat_le len 4096) && nat_le (off + len) size) ≡ false
+range-many off len size many =
+    ap (λ b. b && nat_le (off + len) size) (and-false (nat_le 1 len) (nat_le len 4096) (le-beyond len 4096 many))
+
+pub range-beyond : (off len size : ℕ) → size < off + len → ((nat_le 1 len && nat_le len 4096) && nat_le (off + len) size) ≡ false
+range-beyond off len size over = and-false (nat_le 1 len && nat_le len 4096) (nat_le (off + len) size) (le-beyond (off + len) size over)
 
 module _ (h : Held) (x : List ℕ) (tag : ℕ) (label : Label) (names : IsNamed h.region h.labels) (is_named : label.name ≡ x) (was_named : tag_of h.labels x ≡ Some tag) (was_at : label_at h.labels tag ≡ Some label) where
   abbrev pub b : TheBlock h.region h.labels x tag label.at.0

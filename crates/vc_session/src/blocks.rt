@@ -1,5 +1,5 @@
 // The commands that put, move and free blocks.
-ghost use Rattle.std.specs.Prelude.{◌≡◌, ◌<◌, ◌+◌, ◌^◌, [], Some, None, Ok, IfOk, OnErr, option_map};
+ghost use Rattle.std.specs.Prelude.{◌≡◌, ◌<◌, ◌+◌, ◌^◌, ◌&&◌, [], Some, None, Ok, IfOk, OnErr, option_map};
 ghost use Rattle.std.specs.HashMap.{spare};
 ghost use Rattle.slab.specs.Slab.{HasRoomFor, slab_len};
 ghost use Rattle.vc_model.specs.Discipline.{HasOut};
@@ -30,6 +30,12 @@ fn is_align(align: u32) -> bool
     ensures { result ≡ is_align align }
 {
     matches!(align, 32 | 64 | 128 | 256 | 512 | 1024 | 2048 | 4096)
+}
+
+fn are_legal(size: u32, align: u32) -> bool
+    ensures { result ≡ (is_size size && is_align align) }
+{
+    is_size(size) && is_align(align)
 }
 
 // The refusal for a region's fault; want of memory has none.
@@ -122,11 +128,13 @@ impl HomeEntry {
             (held_of state [] self.new labels.new)
             (size, 32) }
     {
-        if let Some(why) = new_refused(labels, &name, is_size(size)) {
-            return Ok(Reply::Refused(why));
+        match new_refused(labels, &name, is_size(size)) {
+            Some(why) => Ok(Reply::Refused(why)),
+            None => {
+                let tag = labels.reserve()?;
+                name_put(labels, name, self.region.alloc(size, tag, b"-"))
+            }
         }
-        let tag = labels.reserve()?;
-        name_put(labels, name, self.region.alloc(size, tag, b"-"))
     }
 
     // Allocates a block under a name, at an offset that the alignment divides.
@@ -154,11 +162,13 @@ impl HomeEntry {
             (held_of state [] self.new labels.new)
             (size, align) }
     {
-        if let Some(why) = new_refused(labels, &name, is_size(size) && is_align(align)) {
-            return Ok(Reply::Refused(why));
+        match new_refused(labels, &name, are_legal(size, align)) {
+            Some(why) => Ok(Reply::Refused(why)),
+            None => {
+                let tag = labels.reserve()?;
+                name_put(labels, name, self.region.align(size, align, tag, b"-"))
+            }
         }
-        let tag = labels.reserve()?;
-        name_put(labels, name, self.region.align(size, align, tag, b"-"))
     }
 
     // Gives a block another size, where it is or where it moves to.

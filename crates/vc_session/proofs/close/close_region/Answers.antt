@@ -1,0 +1,36 @@
+use Rattle.std.proofs.Common.{◌-◌, Some, option_map, set, ap, ◌∙◌}
+use Rattle.std.proofs.lemmas.List.{map-set}
+use Rattle.vc_model.specs.Discipline.{Discipline}
+use Rattle.vc_model.specs.Numbered.{at_number}
+use Rattle.vc_region.specs.Parts.{disc_in, segments_in}
+use Rattle.vc_session.specs.Account.{account, accounts}
+use Rattle.vc_session.specs.Homes.{slots_on}
+use Rattle.vc_session.proofs.Closing.{account-closed, elsewhere, taken-at}
+use Rattle.vc_session.proofs.Putting.{step-put}
+use Rattle.vc_session.proofs.Resizing.{gives-resized}
+use Rattle.vc_session.proofs.Gone.{gives-freed}
+use Rattle.vc_session.proofs.Touching.{named-written}
+use Rattle.vc_session.proofs.Grants.{plain-region}
+use Rattle.vc_session.proofs.Helds.{held-remove}
+use Rattle.vc_session.proofs.Opening.{settled-open}
+use Rattle.vc_session.proofs.Changing.{step-change}
+use Rattle.vc_session.proofs.close.close_region.Given as given
+use Rattle.vc_session.proofs.close.close_region.Goals as goal
+
+abbrev meaning : (g : given.Over) → (x : g.dyn-1.0.I) × (g.dyn-1.0.entry x).0.Denot → Discipline
+meaning g p = (g.dyn-1.0.entry p.0).1.state p.1
+
+pub returns-clause-here : goal.returns-clause-here
+returns-clause-here g c =
+    let slots = slots_on (meaning g) c.args.shelf.now in
+    let disc = meaning g (c.close-disc.result.0.vtable, c.close-disc.result.0.value) in
+    ap accounts c.give_back.ensures.filled
+    ∙ (map-set (option_map account) slots (c.args.home.place - 1) (Some disc)
+    ∙ ap (λ a. set (accounts slots) (c.args.home.place - 1) (Some a)) (account-closed (disc_in (meaning g) c.args.home.region) disc (segments_in c.args.home.region) c.requires.lent c.close-disc.ensures.disc))
+
+pub returns-clause-elsewhere : goal.returns-clause-elsewhere
+returns-clause-elsewhere g c = λ p other.
+    let slots = slots_on (meaning g) c.args.shelf.now in
+    let disc = meaning g (c.close-disc.result.0.vtable, c.close-disc.result.0.value) in
+    ap (λ s. at_number s p) c.give_back.ensures.filled
+    ∙ elsewhere slots c.args.home.place disc (taken-at slots c.args.home.place c.requires.taken) p other

@@ -1,0 +1,86 @@
+use Rattle.std.proofs.Common.{◌≡◌, true, false, Ok, Err, IfSome, refl, sym, ap, ◌∙◌, subst}
+use Rattle.vc_model.specs.Discipline.{Discipline}
+use Rattle.vc_model.specs.Region.{region_need, relabelled, segments_of}
+use Rattle.vc_region.specs.Parts.{disc_in, region_of}
+use Rattle.vc_region.proofs.Sound.{own_places}
+use Rattle.vc_script.specs.declared.refusal.Refusal.TheVariants as why
+use Rattle.vc_session.specs.Account.{IsNamed, home_of}
+use Rattle.vc_session.specs.Blocks.{is_size, resize_block, resize_in}
+use Rattle.vc_session.specs.Homes.{held_of}
+use Rattle.vc_session.specs.Labels.{MovesLabel, name_of}
+use Rattle.vc_session.specs.declared.labels.Label.{Label}
+use Rattle.vc_session.proofs.Answers.{asks-kept, asks-out, changed-by, gives-unchanged, if_ok-all}
+use Rattle.vc_session.proofs.Found.{on_block-none, the_block}
+use Rattle.vc_session.proofs.Resizing.{call, gives-place, gives-resized, named-resized, resize-size, step-fault}
+use Rattle.vc_session.proofs.home.HomeEntry.resize.Given as given
+use Rattle.vc_session.proofs.home.HomeEntry.resize.Goals as goal
+
+abbrev meaning : (g : given.Over) → (x : g.dyn-1.0.I) × (g.dyn-1.0.entry x).0.Denot → Discipline
+meaning g p = (g.dyn-1.0.entry p.0).1.state p.1
+
+pub returns-in_default-clause-step : goal.returns-in_default-clause-step
+returns-in_default-clause-step g c = λ r.
+    let h = held_of (meaning g) r c.args.self.now c.args.labels.now in
+    gives-unchanged (home_of h) (resize_in (home_of h) c.args.name.now c.args.size c.args.may_move false) why.NoBlock
+    (on_block-none h c.args.name.now (resize_block (home_of h) c.args.name.now c.args.size c.args.may_move false) c.requires.names c.in_default.ensures.none)
+
+pub returns-then-not-is_size-clause-step : goal.returns-then-not-is_size-clause-step
+returns-then-not-is_size-clause-step g c = λ r.
+    let h = held_of (meaning g) r c.args.self.now c.args.labels.now in
+    let label : Label = record { name = c.args.name.now; at = c.in-Some.at } in
+    let f = c.in-Some.ensures.some in
+    gives-unchanged (home_of h) (resize_in (home_of h) c.args.name.now c.args.size c.args.may_move false) why.Size
+    (resize-size h c.args.name.now f.0 label c.requires.names refl f.1 f.2 c.args.size c.args.may_move false (sym c.if-not-is_size.ensures))
+
+pub resize-requires-clause-block : goal.resize-requires-clause-block
+resize-requires-clause-block g c =
+    let label : Label = record { name = c.args.name.now; at = c.in-Some.at } in
+    let f = c.in-Some.ensures.some in
+    (the_block (region_of c.args.self.now.region) c.args.labels.now c.args.name.now f.0 label c.requires.names refl f.1 f.2).there
+
+pub returns-in-Ok-clause-step : goal.returns-in-Ok-clause-step
+returns-in-Ok-clause-step g c = λ r.
+    let h = held_of (meaning g) r c.args.self.now c.args.labels.now in
+    let label : Label = record { name = c.args.name.now; at = c.in-Some.at } in
+    let to : Label = record { name = c.args.name.now; at = c.in-Ok.to } in
+    let f = c.in-Some.ensures.some in
+    let moved = subst (λ o. IfSome o (λ t. MovesLabel h.labels c.move_to.new.self t to)) f.1 c.move_to.ensures.moved in
+    gives-place (resize_in (home_of h) c.args.name.now c.args.size c.args.may_move false) (relabelled (name_of c.move_to.new.self) (region_of c.resize.new.self)) c.args.name.now c.in-Ok.to.0 c.place_of.result c.place_of.ensures.seg c.place_of.ensures.off
+    (gives-resized h c.args.name.now f.0 label c.requires.names refl f.1 f.2 c.args.size c.args.may_move (sym c.if-not-is_size.ensures) c.move_to.new.self to moved refl (region_of c.resize.new.self) c.in-Ok.ensures.answer)
+
+pub returns-in-Ok-clause-change : goal.returns-in-Ok-clause-change
+returns-in-Ok-clause-change g c = λ r.
+    let h = held_of (meaning g) r c.args.self.now c.args.labels.now in
+    let label : Label = record { name = c.args.name.now; at = c.in-Some.at } in
+    let to : Label = record { name = c.args.name.now; at = c.in-Ok.to } in
+    let f = c.in-Some.ensures.some in
+    let sized : is_size c.args.size ≡ true = sym c.if-not-is_size.ensures in
+    let moved = subst (λ o. IfSome o (λ t. MovesLabel h.labels c.move_to.new.self t to)) f.1 c.move_to.ensures.moved in
+    let new = region_of c.resize.new.self in
+    let disc = disc_in (meaning g) c.resize.new.self in
+    let need = region_need h.disc.terms h.region c.args.size 32 in
+    changed-by h disc new c.move_to.new.self c.requires.lent
+    (asks-kept (Ok c.in-Ok.to) h.disc disc (segments_of h.region) (segments_of new) need c.in-Ok.ensures.disc)
+    (asks-out (call h c.args.name.now f.0 label c.requires.names refl f.1 f.2 c.args.size c.args.may_move) h.region new h.disc disc need (Ok c.in-Ok.to) c.in-Ok.ensures.answer c.in-Ok.ensures.disc)
+    (named-resized h c.args.name.now f.0 label c.requires.names refl f.1 f.2 c.args.size c.args.may_move sized c.move_to.new.self to moved refl new c.in-Ok.ensures.answer c.in-Ok.ensures.there c.in-Ok.ensures.others c.move_to.ensures.agree (own_places c.resize.new.self))
+
+pub returns-in-Err-clause-step : goal.returns-in-Err-clause-step
+returns-in-Err-clause-step g c =
+    if_ok-all c.refused.result _ (λ r.
+    let h = held_of (meaning g) r c.args.self.now c.args.labels.now in
+    let label : Label = record { name = c.args.name.now; at = c.in-Some.at } in
+    let f = c.in-Some.ensures.some in
+    step-fault h c.args.name.now f.0 label c.requires.names refl f.1 f.2 c.args.size c.args.may_move (sym c.if-not-is_size.ensures) c.in-Err.fault c.refused.result c.refused.ensures c.in-Err.ensures.answer.0 (region_of c.resize.new.self) c.in-Err.ensures.answer.1)
+
+pub returns-in-Err-clause-change : goal.returns-in-Err-clause-change
+returns-in-Err-clause-change g c = λ r.
+    let h = held_of (meaning g) r c.args.self.now c.args.labels.now in
+    let label : Label = record { name = c.args.name.now; at = c.in-Some.at } in
+    let f = c.in-Some.ensures.some in
+    let new = region_of c.resize.new.self in
+    let disc = disc_in (meaning g) c.resize.new.self in
+    let need = region_need h.disc.terms h.region c.args.size 32 in
+    changed-by h disc new h.labels c.requires.lent
+    (asks-kept (Err c.in-Err.fault) h.disc disc (segments_of h.region) (segments_of new) need c.in-Err.ensures.disc)
+    (asks-out (call h c.args.name.now f.0 label c.requires.names refl f.1 f.2 c.args.size c.args.may_move) h.region new h.disc disc need (Err c.in-Err.fault) c.in-Err.ensures.answer c.in-Err.ensures.disc)
+    (subst (λ q. IsNamed q h.labels) (sym c.in-Err.ensures.answer.1) c.requires.names)

@@ -1,0 +1,37 @@
+use Rattle.std.proofs.Common.{◌≡◌, refl}
+use Rattle.vc_model.specs.Discipline.{Discipline}
+use Rattle.vc_region.specs.Parts.{region_of}
+use Rattle.vc_script.specs.declared.refusal.Refusal.TheVariants as why
+use Rattle.vc_script.specs.declared.reply.Reply.TheVariants.{Size}
+use Rattle.vc_session.specs.Account.{home_of}
+use Rattle.vc_session.specs.Blocks.{size_in}
+use Rattle.vc_session.specs.Homes.{held_of}
+use Rattle.vc_session.specs.State.{told}
+use Rattle.vc_session.specs.declared.labels.Label.{Label}
+use Rattle.vc_session.proofs.Answers.{gives-unchanged}
+use Rattle.vc_session.proofs.Found.{on_block-none, the_block}
+use Rattle.vc_session.proofs.Touching.{gives-size, size-told}
+use Rattle.vc_session.proofs.home.HomeEntry.size.Given as given
+use Rattle.vc_session.proofs.home.HomeEntry.size.Goals as goal
+
+abbrev meaning : (g : given.Over) → (x : g.dyn-1.0.I) × (g.dyn-1.0.entry x).0.Denot → Discipline
+meaning g p = (g.dyn-1.0.entry p.0).1.state p.1
+
+pub size-requires : goal.size-requires
+size-requires g c =
+    let label : Label = record { name = c.args.name.now; at = c.in-Some.at } in
+    let f = c.in-Some.ensures.some in
+    (the_block (region_of c.args.self.now.region) c.args.labels.now c.args.name.now f.0 label c.requires.names refl f.1 f.2).there
+
+pub returns-in-None : goal.returns-in-None
+returns-in-None g c = λ r.
+    let h = held_of (meaning g) r c.args.self.now c.args.labels.now in
+    gives-unchanged (home_of h) (size_in (home_of h) c.args.name.now) why.NoBlock
+    (on_block-none h c.args.name.now (λ b. told (home_of h) (Size c.args.name.now b.size)) c.requires.names c.in-None.ensures.none)
+
+pub returns-in-Some : goal.returns-in-Some
+returns-in-Some g c = λ r.
+    let h = held_of (meaning g) r c.args.self.now c.args.labels.now in
+    let label : Label = record { name = c.args.name.now; at = c.in-Some.at } in
+    let f = c.in-Some.ensures.some in
+    gives-size h c.args.name.now f.0 label c.requires.names refl f.1 f.2 c.size.result (size-told h c.args.name.now f.0 label c.requires.names refl f.1 f.2 c.size.result c.size.ensures)
