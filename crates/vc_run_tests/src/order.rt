@@ -41,8 +41,12 @@ impl SegDisc for Noting {
     }
 
     fn take_back(&mut self, seg: Segment) {
-        let note = self.digit.wrapping_mul(10).wrapping_add(u128::from(seg.number()));
-        self.notes.set(self.notes.get().wrapping_mul(100).wrapping_add(note));
+        let note = self
+            .digit
+            .wrapping_mul(10)
+            .wrapping_add(u128::from(seg.number()));
+        self.notes
+            .set(self.notes.get().wrapping_mul(100).wrapping_add(note));
         self.inner.take_back(seg);
     }
 }

@@ -276,7 +276,11 @@ fn gathered(rt: HostRuntime) -> Result<(), Fail> {
         let expected = Expected {
             status,
             out: &out.as_slice()[..len],
-            err: if status == Status::Ok { b"" } else { WRITE_FAILED },
+            err: if status == Status::Ok {
+                b""
+            } else {
+                WRITE_FAILED
+            },
         };
         comes(&rt, alloc, &mut shelf, given, expected)?;
     }

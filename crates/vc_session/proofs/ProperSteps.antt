@@ -171,17 +171,21 @@ proper-in_region h (ReadBlock r x off len) need proper all =
     proper-with_named h (find (is_block x) (blocks_of h.region)) (read_block h x off len) all (λ b. proper-read_block h x off len b proper.1 all)
 proper-in_region h (SizeOf r x) need proper all =
     proper-with_named h (find (is_block x) (blocks_of h.region)) (λ b. told h (Size x b.size)) all (λ b. (proper.1, all))
-proper-in_region h (AddrOf r at) need proper all =
-    (subst (λ o. IsProperReply (addr_reply o))
-    (sym (ap (λ bs. block_at (at.seg, at.off) bs) (relabelled-blocks h.region all) ∙ block_at-relabel name_or_none (at.seg, at.off) (blocks_of h.region)))
-    (proper-addr (block_at (at.seg, at.off) (blocks_of h.region))), all)
+proper-in_region h (AddrOf r at) need proper all = (
+  subst (λ o. IsProperReply (addr_reply o))
+      (sym (ap (λ bs. block_at (at.seg, at.off) bs) (relabelled-blocks h.region all) ∙ block_at-relabel name_or_none (at.seg, at.off) (blocks_of h.region)))
+      (proper-addr (block_at (at.seg, at.off) (blocks_of h.region))),
+  all,
+)
 proper-in_region h (SegmentOf r at) need proper all = (proper-segment at.seg (segment_at (at.seg, at.off) (segments_of h.region)), all)
 proper-in_region h (StatOf r) need proper all = (tt, all)
 proper-in_region h (Segments r) need proper all = (tt, all)
-proper-in_region h (Blocks r) need proper all =
-    (subst (λ bs. AllByRecursion (λ b. IsSite b.0) (map item_of bs))
-    (sym (ap (λ bs. by_address bs) (relabelled-blocks h.region all) ∙ by_address-relabel name_or_none (blocks_of h.region)))
-    (proper-items (by_address (blocks_of h.region))), all)
+proper-in_region h (Blocks r) need proper all = (
+  subst (λ bs. AllByRecursion (λ b. IsSite b.0) (map item_of bs))
+      (sym (ap (λ bs. by_address bs) (relabelled-blocks h.region all) ∙ by_address-relabel name_or_none (blocks_of h.region)))
+      (proper-items (by_address (blocks_of h.region))),
+  all,
+)
 proper-in_region h command need proper all = (tt, all)
 
 abbrev AreProperHomes : List Home → Type 0

@@ -69,7 +69,8 @@ fn run_line(
     requires { IsSessionOver state shelf.old session.old }
     ensures ran { IfOk result (λ fault. LineRan
         (moment state shelf.old session.old (Some replies.old.items))
-        (moment state shelf.new session.new (Some replies.new.items)) n (answer tool line.now) fault) }
+        (moment state shelf.new session.new (Some replies.new.items))
+        n (answer tool line.now) fault) }
     ensures session { IsSessionOver state shelf.new session.new }
     ensures keeps { OnErr result (Keeps (moment state shelf.old session.old None)
         (moment state shelf.new session.new None)) }
@@ -155,7 +156,8 @@ fn run_last(
     requires none { replies.old.items ≡ [] }
     ensures ends { IfOk result (EndsAll tool
         (moment state shelf.old session.old (Some replies.old.items))
-        (moment state shelf.new session.new (Some replies.new.items)) replies.new.items cutter.old) }
+        (moment state shelf.new session.new (Some replies.new.items))
+        replies.new.items cutter.old) }
     ensures session { IsSessionOver state shelf.new session.new }
     ensures keeps { Keeps (moment state shelf.old session.old None)
         (moment state shelf.new session.new None) }

@@ -94,12 +94,7 @@ fn tell<E: Sink>(err: &mut E, tool: Tool, text: &str) -> Result<(), WriteFailed>
 }
 
 // Writes what is wrong with a line.
-fn tell_fault<E: Sink>(
-    err: &mut E,
-    tool: Tool,
-    n: u32,
-    fault: LineFault,
-) -> Result<(), WriteFailed>
+fn tell_fault<E: Sink>(err: &mut E, tool: Tool, n: u32, fault: LineFault) -> Result<(), WriteFailed>
     ensures told { OnOk result (Told (E.written err.old) (E.written err.new)
         (err_line tool (n, fault))) }
     ensures broke { OnErr result (Broke (E.failures err.old) (E.failures err.new)
@@ -129,51 +124,56 @@ pub fn replay<S: Source, O: Sink, E: Sink>(
     // Nothing was wrong, and the replies of the whole script were written.
     ensures ok { result ≡ Status.Ok → (length words.now ≡ 0) × (err.new ≡ err.old)
         × IfSome (S.left source.old) (λ input. IsReplay Vmreplay
-            (at_rest state shelf.old (O.written out.old)) (at_rest state shelf.new (O.written out.new))
-            input None (S.left source.new)) }
+        (at_rest state shelf.old (O.written out.old))
+        (at_rest state shelf.new (O.written out.new)) input None (S.left source.new)) }
 
     // The replies of the lines before the fault were written, and the fault's line. At most 4,096 bytes were read behind
     // the bad line.
     ensures script { result ≡ Status.Script → (length words.now ≡ 0) × ((bad : ℕ × LineFault)
         × Told (E.written err.old) (E.written err.new) (err_line Vmreplay bad)
         × IfSome (S.left source.old) (λ input. IsReplay Vmreplay
-            (at_rest state shelf.old (O.written out.old)) (at_rest state shelf.new (O.written out.new))
-            input (Some bad) (S.left source.new))) }
+        (at_rest state shelf.old (O.written out.old))
+        (at_rest state shelf.new (O.written out.new)) input (Some bad) (S.left source.new))) }
 
     // The tool takes no words.
     ensures words { 0 < length words.now → (source.new ≡ source.old) × (out.new ≡ out.old)
-        × ((result ≡ Status.Usage) ⊎ ((result ≡ Status.Write) × Broke (E.failures err.old) (E.failures err.new)
-            (E.written err.old) (E.written err.new) (message Vmreplay (codes "bad arguments")))) }
+        × ((result ≡ Status.Usage) ⊎ ((result ≡ Status.Write)
+        × Broke (E.failures err.old) (E.failures err.new)
+        (E.written err.old) (E.written err.new)
+        (message Vmreplay (codes "bad arguments")))) }
     ensures usage { result ≡ Status.Usage → (0 < length words.now)
         × Told (E.written err.old) (E.written err.new) (message Vmreplay (codes "bad arguments")) }
 
     // A fault comes from its stream, and its line is tried once.
     ensures read { result ≡ Status.Read → Rose (S.failures source.old) (S.failures source.new)
         × Tried (E.failures err.old) (E.failures err.new)
-            (E.written err.old) (E.written err.new) (message Vmreplay (codes "read failed")) }
+        (E.written err.old) (E.written err.new) (message Vmreplay (codes "read failed")) }
 
     // With a failed read the replies of the lines that were wholly read were written, and no byte that was read shows a
     // fault.
-    ensures cut_short { result ≡ Status.Read → IfSome (S.left source.old) (λ input. IsCutShort Vmreplay
+    ensures cut_short { result ≡ Status.Read
+        → IfSome (S.left source.old) (λ input. IsCutShort Vmreplay
         (at_rest state shelf.old (O.written out.old)) (at_rest state shelf.new (O.written out.new))
         input (S.left source.new)) }
 
     // Where the line of status 1 or 2 could not be written whole, a front of it was.
     ensures write { result ≡ Status.Write → length words.now ≡ 0
         → (Rose (O.failures out.old) (O.failures out.new)
-            × Tried (E.failures err.old) (E.failures err.new)
-                (E.written err.old) (E.written err.new) (message Vmreplay (codes "write failed")))
+        × Tried (E.failures err.old) (E.failures err.new)
+        (E.written err.old) (E.written err.new) (message Vmreplay (codes "write failed")))
         ⊎ ((bad : ℕ × LineFault)
-            × Broke (E.failures err.old) (E.failures err.new)
-                (E.written err.old) (E.written err.new) (err_line Vmreplay bad)
-            × IfSome (S.left source.old) (λ input. IsReplay Vmreplay
-                (at_rest state shelf.old (O.written out.old)) (at_rest state shelf.new (O.written out.new))
-                input (Some bad) (S.left source.new))) }
+        × Broke (E.failures err.old) (E.failures err.new)
+        (E.written err.old) (E.written err.new) (err_line Vmreplay bad)
+        × IfSome (S.left source.old) (λ input. IsReplay Vmreplay
+        (at_rest state shelf.old (O.written out.old))
+        (at_rest state shelf.new (O.written out.new))
+        input (Some bad) (S.left source.new))) }
     ensures memory { result ≡ Status.Memory → Tried (E.failures err.old) (E.failures err.new)
         (E.written err.old) (E.written err.new) (message Vmreplay (codes "out of memory")) }
 
     ensures reads { S.failures source.old ≤ S.failures source.new }
-    ensures writes { (O.failures out.old ≤ O.failures out.new) × (E.failures err.old ≤ E.failures err.new) }
+    ensures writes { (O.failures out.old ≤ O.failures out.new)
+        × (E.failures err.old ≤ E.failures err.new) }
 
     // On every exit each place has its discipline, with the segments out and the terms that it had, and no fault less.
     ensures keeps { Keeps (at_rest state shelf.old None) (at_rest state shelf.new None) }
