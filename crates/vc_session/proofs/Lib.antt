@@ -4,7 +4,6 @@ pub mod Cells
 pub mod Changing
 pub mod Closing
 pub mod Emptying
-pub mod Ends
 pub mod Feeds
 pub mod Firsts
 pub mod Found
@@ -16,7 +15,6 @@ pub mod Lists
 pub mod Moving
 pub mod Names
 pub mod Opening
-pub mod ProperRegions
 pub mod ProperSteps
 pub mod Putting
 pub mod Resizing
