@@ -1,2 +1,3 @@
+pub mod CellsLemmas
 pub mod NameLemmas
 pub mod StepsWalks

@@ -1,6 +1,8 @@
 pub use Rattle.vc_model.specs.Count
 pub use Rattle.vc_model.specs.Stream
 pub use Rattle.vc_model.specs.Addr
+pub mod Cells
+pub mod Holders
 pub mod Memory
 pub mod Name
 pub mod Standard

@@ -2,6 +2,8 @@
 #![tactic(auto)]
 
 mod addr;
+mod cell_rows;
+mod cells;
 mod count;
 mod dict_method;
 mod fault;
@@ -16,6 +18,8 @@ mod standard;
 mod steps;
 
 pub use addr::Addr;
+pub use cell_rows::{holder_rows, word_rows};
+pub use cells::Cells;
 pub use count::one_more;
 pub use dict_method::DictMethod;
 pub use fault::{OutOfMemory, ReadFailed, WriteFailed};

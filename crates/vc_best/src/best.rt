@@ -60,7 +60,8 @@ impl Best {
         requires most { size ≤ 16777264 }
         requires align { IsAlign align }
 
-        ensures answer { Answers (best_alloc (state self.old.disc).terms self.old.layout tag size align)
+        ensures answer { Answers
+            (best_alloc (state self.old.disc).terms self.old.layout tag size align)
             result self.old.layout self.new.layout }
         ensures disc { Asks result (state self.old.disc) (state self.new.disc)
             self.old.layout.segments self.new.layout.segments
@@ -72,6 +73,9 @@ impl Best {
         ensures fresh { IfOk result (λ a. ¬ HasBlock self.old.layout.blocks a.0) }
         ensures others { IfOk result (λ a. without_block (place_of a.0) self.new.layout.blocks
             ≡ self.old.layout.blocks) }
+
+        // No step is counted.
+        ensures counter { steps.new ≡ steps.old }
     {
         let _ = steps;
         match self.layout.place(size, align) {
@@ -94,6 +98,9 @@ impl Best {
             → HoldsAt (λ b. address_of b ≡ a.0) self.old.layout.blocks i
             → self.new.layout.blocks ≡ remove self.old.layout.blocks i }
         ensures none_left { ¬ HasBlock self.new.layout.blocks a.0 }
+
+        // No step is counted.
+        ensures counter { steps.new ≡ steps.old }
     {
         let _ = steps;
         self.layout.free(a);
@@ -103,6 +110,9 @@ impl Best {
     pub fn clear<L>(&mut self, steps: &mut Steps<L>)
         ensures layout { self.new.layout ≡ cleared self.old.layout }
         ensures disc { state self.new.disc ≡ state self.old.disc }
+
+        // No step is counted.
+        ensures counter { steps.new ≡ steps.old }
     {
         let _ = steps;
         self.layout.clear();
@@ -115,6 +125,9 @@ impl Best {
         ensures count { result ≡ compact_count self.old.layout }
         ensures disc { TookBack (state self.old.disc) (state self.new.disc)
             self.old.layout.segments self.new.layout.segments }
+
+        // No step is counted.
+        ensures counter { steps.new ≡ steps.old }
     {
         let _ = steps;
         self.layout.compact(&mut self.disc)

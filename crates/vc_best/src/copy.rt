@@ -33,8 +33,8 @@ pub(crate) fn copy_in(segs: &mut [Segment], number: u32, from: u32, target: u32,
     requires target { HasNumber segs.old target }
     requires from { IsWithin segs.old number from len }
     requires to { IsWithin segs.old target to len }
-    ensures { segs.new
-        ≡ write_segment target to (take len (drop from (bytes_of_number number segs.old))) segs.old }
+    ensures { segs.new ≡ write_segment target to
+        (take len (drop from (bytes_of_number number segs.old))) segs.old }
 {
     match find_number(segs, number) {
         Some(source) => match find_number(segs, target) {

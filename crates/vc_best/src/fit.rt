@@ -23,8 +23,8 @@ fn best_in_segment(
     requires span { span ≤ 16777280 }
     requires least { 1 ≤ align }
     requires most { align ≤ 4096 }
-    ensures { result
-        ≡ fold lesser best (filter (holds span align) (gaps_left_in (runs_of slots.now) (seg, bytes))) }
+    ensures { result ≡ fold lesser best
+        (filter (holds span align) (gaps_left_in (runs_of slots.now) (seg, bytes))) }
 {
     let mut best = best;
     let mut from = 16;

@@ -41,6 +41,9 @@ impl Best {
             ≡ option_map (λ b. b.label) (find_block (place_of a.0) self.old.layout.blocks)) }
         ensures others { IfOk result (λ to. without_block (place_of to.0) self.new.layout.blocks
             ≡ without_block (place_of a.0) self.old.layout.blocks) }
+
+        // No step is counted.
+        ensures counter { steps.new ≡ steps.old }
     {
         if self.layout.can_stay(a, size) {
             self.layout.resize_there(a, size);

@@ -1,5 +1,5 @@
 // Where blocks are placed, and what can be read and written of them.
-use crate::given::{put_number, replies};
+use crate::given::{fine, put_number, replies};
 use std::alloc::AllocError;
 use std::test::Fail;
 
@@ -70,7 +70,7 @@ segment -1\n\
 // Bytes at each edge of a block, and one byte further.
 #[test]
 fn edges(rt: HostRuntime) -> Result<(), Fail> {
-    replies(&rt, rt.alloc(), EDGES, AT_EDGES)?;
+    replies(&rt, rt.alloc(), &[], EDGES, fine(AT_EDGES))?;
     Ok(())
 }
 
@@ -86,7 +86,7 @@ fn long_reads(rt: HostRuntime) -> Result<(), Fail> {
     out.extend_from_slice(b"\nrefused: range\nb ")?;
     out.extend_from_slice(zeros.as_slice())?;
     out.push(b'\n')?;
-    replies(&rt, alloc, script, out.as_slice())?;
+    replies(&rt, alloc, &[], script, fine(out.as_slice()))?;
     Ok(())
 }
 
@@ -134,7 +134,7 @@ fn alignments(rt: HostRuntime) -> Result<(), Fail> {
         out.extend_from_slice(b"a freed\n")?;
         asked(&mut script, b'b', align - 15, align)?;
         placed(&mut out, b'b', 4 * align)?;
-        replies(&rt, alloc, script.as_slice(), out.as_slice())?;
+        replies(&rt, alloc, &[], script.as_slice(), fine(out.as_slice()))?;
     }
     Ok(())
 }

@@ -8,4 +8,8 @@ mod given;
 #[cfg(test)]
 mod long;
 #[cfg(test)]
-mod runs;
+mod order;
+#[cfg(test)]
+mod rows;
+#[cfg(test)]
+mod streams;

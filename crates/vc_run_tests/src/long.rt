@@ -1,5 +1,5 @@
 // Longer scripts, whole and in pieces of seven bytes.
-use crate::given::{put_number, replies};
+use crate::given::{fine, put_number, replies};
 use std::test::Fail;
 
 const TRACE: &[u8] = b"\
@@ -90,7 +90,7 @@ heap closed 2\n\
 // A trace of one parse and one report, in which blocks move, segments come and go, and the numbers are told.
 #[test]
 fn trace(rt: HostRuntime) -> Result<(), Fail> {
-    replies(&rt, rt.alloc(), TRACE, TOLD)?;
+    replies(&rt, rt.alloc(), &[], TRACE, fine(TOLD))?;
     Ok(())
 }
 
@@ -112,6 +112,6 @@ fn too_many_segments(rt: HostRuntime) -> Result<(), Fail> {
     }
     script.extend_from_slice(b"alloc r z 4000\nalloc r z 16\n")?;
     out.extend_from_slice(b"refused: too many segments\nz 1:4064\n")?;
-    replies(&rt, alloc, script.as_slice(), out.as_slice())?;
+    replies(&rt, alloc, &[], script.as_slice(), fine(out.as_slice()))?;
     Ok(())
 }

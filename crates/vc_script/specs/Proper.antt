@@ -12,7 +12,7 @@ use Rattle.vc_script.specs.Words.{is_name}
 abbrev pub IsName : List ℕ → Type 0
 IsName bytes = IsTrue (is_name bytes)
 
--- the name is one, where there is one
+-- a name that may be missing
 abbrev pub IsSite : Option (List ℕ) → Type 0
 IsSite None = Unit {0}
 IsSite (Some name) = IsName name

@@ -7,7 +7,7 @@ use Rattle.std.proofs.lemmas.Option.{slice_get-map, gets}
 use Rattle.std.proofs.Math.ListN.{length-map}
 use Rattle.vc_model.specs.Discipline.{Discipline}
 use Rattle.vc_seg.specs.declared.shelf.ShelfPlace.TheVariants.{Taken}
-use Rattle.vc_seg.specs.Shelf.{slots_of, slot_at, place_of, place_at}
+use Rattle.vc_seg.specs.Shelf.{slots_of, slot_at, standing, place_at}
 
 slice_get-set_same : {X : Type 0} (xs : List X) (i : ℕ) (x : X) → i < length xs → slice_get (set xs i x) i ≡ Some x
 slice_get-set_same [] i x within = absurd (omega arith)
@@ -26,12 +26,12 @@ slot_at-above slots n above = let not_zero : eqb n 0 ≡ false = grind (arith, n
 pub number_within : {D : Type 0} (state : D → Discipline) (slots : List (Option D)) (n : ℕ) → place_at (slots_of state slots) n ≡ Taken → n ≤ length slots
 number_within state slots n taken = grind (arith, nat_tests, gets, length-map)
 
-pub place_at-set : {D : Type 0} (state : D → Discipline) (slots : List (Option D)) (n : ℕ) (slot : Option D) → 0 < n → n ≤ length slots → place_at (slots_of state (set slots (n - 1) slot)) n ≡ place_of (Some (option_map state slot))
+pub place_at-set : {D : Type 0} (state : D → Discipline) (slots : List (Option D)) (n : ℕ) (slot : Option D) → 0 < n → n ≤ length slots → place_at (slots_of state (set slots (n - 1) slot)) n ≡ standing (Some (option_map state slot))
 place_at-set state slots n slot above within =
-    ap place_of (slot_at-above _ n above ∙ slice_get-map (option_map state) (set slots (n - 1) slot) (n - 1) ∙ ap (option_map (option_map state)) (slice_get-set_same slots (n - 1) slot (omega arith)))
+    ap standing (slot_at-above _ n above ∙ slice_get-map (option_map state) (set slots (n - 1) slot) (n - 1) ∙ ap (option_map (option_map state)) (slice_get-set_same slots (n - 1) slot (omega arith)))
 
-pub place_at-push : {D : Type 0} (state : D → Discipline) (slots : List (Option D)) (n : ℕ) (slot : Option D) → n ≡ length slots + 1 → place_at (slots_of state (slots ++ slot ∷ [])) n ≡ place_of (Some (option_map state slot))
+pub place_at-push : {D : Type 0} (state : D → Discipline) (slots : List (Option D)) (n : ℕ) (slot : Option D) → n ≡ length slots + 1 → place_at (slots_of state (slots ++ slot ∷ [])) n ≡ standing (Some (option_map state slot))
 place_at-push state slots n slot last =
     let before : n - 1 ≡ length slots = omega arith in
     let pushed : slice_get (slots ++ slot ∷ []) (n - 1) ≡ Some slot = rw before (slice_get-push slots slot) in
-    ap place_of (slot_at-above _ n (omega arith) ∙ slice_get-map (option_map state) (slots ++ slot ∷ []) (n - 1) ∙ ap (option_map (option_map state)) pushed)
+    ap standing (slot_at-above _ n (omega arith) ∙ slice_get-map (option_map state) (slots ++ slot ∷ []) (n - 1) ∙ ap (option_map (option_map state)) pushed)

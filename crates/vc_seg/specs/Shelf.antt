@@ -10,10 +10,10 @@ abbrev pub slots_of : {D : Type 0} → (D → Discipline) → List (Option D) �
 slots_of state slots = map (option_map state) slots
 
 -- what a slot is, where there is one
-abbrev pub place_of : Option (Option Discipline) → ShelfPlace
-place_of None = Missing
-place_of (Some None) = Taken
-place_of (Some (Some d)) = Here
+abbrev pub standing : Option (Option Discipline) → ShelfPlace
+standing None = Missing
+standing (Some None) = Taken
+standing (Some (Some d)) = Here
 
 -- the slot of a number
 abbrev pub slot_at : List (Option Discipline) → ℕ → Option (Option Discipline)
@@ -21,4 +21,4 @@ slot_at slots n = at_number slots n
 
 -- what stands at a number
 abbrev pub place_at : List (Option Discipline) → ℕ → ShelfPlace
-place_at slots n = place_of (slot_at slots n)
+place_at slots n = standing (slot_at slots n)

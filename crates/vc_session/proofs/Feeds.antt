@@ -5,20 +5,20 @@ use Rattle.std.proofs.lemmas.Bool.Decides.{eqb_tells}
 use Rattle.std.proofs.lemmas.List.{length_push}
 use Rattle.vc_script.specs.declared.cutter.Cut.{Cut}
 use Rattle.vc_script.specs.declared.cutter.Cut.TheVariants.{Whole, More, Bad}
+use Rattle.vc_script.specs.Lines.{ended_after}
 use Rattle.vc_script.specs.Judged.{line_limit, last_number, judged_from, judged_then}
 use Rattle.vc_script.specs.Cutting.{Cutting, IsCutting}
 use Rattle.vc_script.specs.Cutter.{fed, with_byte, with_line}
 use Rattle.vc_script.proofs.Pieces.{judge-ok}
 use Rattle.vc_session.specs.SoFar.{Found, ended_rest, fuel}
-use Rattle.vc_session.specs.Run.{ended_after}
 
 abbrev pub Feeds : Cut → Cutting → ℕ → Cutting → List ℕ → List ℕ → Type 0
 Feeds Whole after used s xs behind =
     (ended_rest s (xs ++ behind) ≡ (after.count, Ok after.line) ∷ ended_rest after (drop used xs ++ behind))
-    × ((fuel after + used ≤ fuel s) × (after.is_open ≡ s.is_open))
+    × ((fuel after + used ≤ fuel s) × ((after.is_open ≡ s.is_open) × (after.count ≡ s.count + 1)))
 Feeds More after used s xs behind =
     (ended_rest s (xs ++ behind) ≡ ended_rest after behind)
-    × ((fuel after + used ≤ fuel s) × ((after.is_open ≡ s.is_open) × (used ≡ length xs)))
+    × ((fuel after + used ≤ fuel s) × ((after.is_open ≡ s.is_open) × ((used ≡ length xs) × (after.count ≡ s.count))))
 Feeds (Bad fault) after used s xs behind = Unit {0}
 
 -- a byte more in front, which is kept
@@ -27,7 +27,7 @@ feeds-byte Whole after used s b bs behind less same feeds =
     let shift : drop (used + 1) (b ∷ bs) ≡ drop used bs = ap (λ n. drop n (b ∷ bs)) (add-one used) in
     (same ∙ (feeds.0 ∙ ap (λ rest. (after.count, Ok after.line) ∷ ended_rest after (rest ++ behind)) (sym shift)), (omega (arith, less, feeds.1.0), feeds.1.1))
 feeds-byte More after used s b bs behind less same feeds =
-    (same ∙ feeds.0, (omega (arith, less, feeds.1.0), (feeds.1.1.0, omega (arith, feeds.1.1.1))))
+    (same ∙ feeds.0, (omega (arith, less, feeds.1.0), (feeds.1.1.0, (omega (arith, feeds.1.1.1.0), feeds.1.1.1.1))))
 feeds-byte (Bad fault) after used s b bs behind less same feeds = tt
 
 module _ (s : Cutting) (b : ℕ) (bs behind : List ℕ) (is : IsCutting s) (number : s.count ≢ last_number) where
@@ -37,7 +37,7 @@ module _ (s : Cutting) (b : ℕ) (bs behind : List ℕ) (is : IsCutting s) (numb
   feeds-line : eqb b 10 ≡ true → Feeds Whole (with_line s) 1 s (b ∷ bs) behind
   feeds-line newline = (
     ap ended_or newline ∙ ap (λ j. judged_then (s.count + 1) j (judged_from (s.count + 1 + 1) (ended_after [] (bs ++ behind)))) (judge-ok (s.count + 1) s.kept (omega (arith, number, is.few)) is.short),
-    (omega (arith, number, is.few, is.short), refl),
+    (omega (arith, number, is.few, is.short), (refl, refl)),
   )
 
   is-byte : length s.kept ≢ line_limit → IsCutting (with_byte s b)
@@ -47,7 +47,7 @@ module _ (s : Cutting) (b : ℕ) (bs behind : List ℕ) (is : IsCutting s) (numb
   less-byte room = omega (arith, length_push s.kept b, is.short, room)
 
 pub fed-feeds : (s : Cutting) (xs behind : List ℕ) → IsCutting s → Feeds (fed s xs).cut (fed s xs).after (fed s xs).used s xs behind
-fed-feeds s [] behind is = (refl, (omega arith, (refl, refl)))
+fed-feeds s [] behind is = (refl, (omega arith, (refl, (refl, refl))))
 fed-feeds s (b ∷ bs) behind is =
     elim (eqb_tells s.count last_number) [
       | inl number ↦ rw number.0 tt

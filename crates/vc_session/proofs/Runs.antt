@@ -1,31 +1,46 @@
 -- A run with one more step.
-use Rattle.std.proofs.Common.{◌≡◌, ℕ, List, [], ◌∷◌, ◌++◌, length, sym, ap, ◌∙◌, arith}
+use Rattle.std.proofs.Common.{◌≡◌, ℕ, List, [], ◌∷◌, ◌++◌, sym, ap, ◌∙◌}
 use Rattle.std.proofs.lemmas.List.{append_assoc, append-nil}
 use Rattle.vc_script.specs.declared.command.Command.{Command}
-use Rattle.vc_script.specs.Needs.{Need}
+use Rattle.vc_script.specs.declared.reply.Reply.{Reply}
+use Rattle.vc_script.specs.Needs.{Need, need_at}
 use Rattle.vc_session.specs.State.{State, Stepped}
 use Rattle.vc_session.specs.Step.{step}
-use Rattle.vc_session.specs.Run.{Ran, ran, run, refusal_at}
+use Rattle.vc_session.specs.Run.{Ran, listed, ran, run, refusal_at}
 
-abbrev pub one_more : Ran → Command → Need → Ran
-one_more r c need =
-    let t = step r.state c need in
-    record { replies = r.replies ++ t.reply ∷ []; state = t.state; refusals = r.refusals ++ refusal_at r.state c t.reply }
+abbrev pub one_more : Ran → ℕ × Command → Stepped → Ran
+one_more r c t =
+    record {
+      replies = r.replies ++ (c.0, t.reply) ∷ [];
+      state = t.state;
+      refusals = r.refusals ++ refusal_at r.state c.1 t.reply;
+      told = r.told ++ t.told;
+      granted = r.granted ++ listed t.granted;
+    }
+
+-- the step behind a run
+abbrev pub step_after : Ran → ℕ × Command → List (ℕ × Need) → Stepped
+step_after r c needs = step r.state c.0 c.1 (need_at needs c.0)
+
+same_ran : (replies : List (ℕ × Reply)) (state : State) (refusals refusals' : List ℕ) (told told' : List (ℕ × List ℕ)) (granted granted' : List (ℕ × ℕ)) → refusals ≡ refusals' → told ≡ told' → granted ≡ granted' → (let a : Ran = record { replies = replies; state = state; refusals = refusals; told = told; granted = granted } in a) ≡ record { replies = replies; state = state; refusals = refusals'; told = told'; granted = granted' }
+same_ran replies state refusals refusals' told told' granted granted' e0 e1 e2 =
+    ap (λ x. let a : Ran = record { replies = replies; state = state; refusals = x; told = told; granted = granted } in a) e0
+    ∙ (ap (λ x. let a : Ran = record { replies = replies; state = state; refusals = refusals'; told = x; granted = granted } in a) e1
+    ∙ ap (λ x. let a : Ran = record { replies = replies; state = state; refusals = refusals'; told = told'; granted = x } in a) e2)
 
 -- a run's first step, before and after one more at its end
-ran-one_more : (s : State) (d : Command) (t : Stepped) (r : Ran) (c : Command) (need : Need) → ran s d t (one_more r c need) ≡ one_more (ran s d t r) c need
-ran-one_more s d t r c need =
-    let u = step r.state c need in
-    ap (λ p. let e : Ran = record { replies = t.reply ∷ (r.replies ++ u.reply ∷ []); state = u.state; refusals = p } in e)
-    (sym (append_assoc (refusal_at s d t.reply) r.refusals (refusal_at r.state c u.reply)))
+ran-one_more : (s : State) (d : ℕ × Command) (t : Stepped) (r : Ran) (c : ℕ × Command) (u : Stepped) → ran s d t (one_more r c u) ≡ one_more (ran s d t r) c u
+ran-one_more s d t r c u =
+    same_ran ((d.0, t.reply) ∷ (r.replies ++ (c.0, u.reply) ∷ [])) u.state _ _ _ _ _ _
+    (sym (append_assoc (refusal_at s d.1 t.reply) r.refusals (refusal_at r.state c.1 u.reply)))
+    (sym (append_assoc t.told r.told u.told))
+    (sym (append_assoc (listed t.granted) r.granted (listed u.granted)))
 
-pub run-push : (s : State) (cs : List (ℕ × Command)) (needs : List Need) (c : ℕ × Command) (need : Need) → length cs ≡ length needs → run s (cs ++ c ∷ []) (needs ++ need ∷ []) ≡ one_more (run s cs needs) c.1 need
-run-push s [] [] c need same =
-    let u = step s c.1 need in
-    ap (λ p. let e : Ran = record { replies = u.reply ∷ []; state = u.state; refusals = p } in e) (append-nil (refusal_at s c.1 u.reply))
-run-push s [] (n ∷ ns) c need same = absurd (omega (arith, same))
-run-push s (d ∷ ds) [] c need same = absurd (omega (arith, same))
-run-push s (d ∷ ds) (n ∷ ns) c need same =
-    let t = step s d.1 n in
-    ap (ran s d.1 t) (run-push t.state ds ns c need (omega (arith, same)))
-    ∙ ran-one_more s d.1 t (run t.state ds ns) c.1 need
+pub run-push : (s : State) (cs : List (ℕ × Command)) (needs : List (ℕ × Need)) (c : ℕ × Command) → run s (cs ++ c ∷ []) needs ≡ one_more (run s cs needs) c (step_after (run s cs needs) c needs)
+run-push s [] needs c =
+    let t = step s c.0 c.1 (need_at needs c.0) in
+    same_ran ((c.0, t.reply) ∷ []) t.state _ _ _ _ _ _ (append-nil (refusal_at s c.1 t.reply)) (append-nil t.told) (append-nil (listed t.granted))
+run-push s (d ∷ ds) needs c =
+    let t = step s d.0 d.1 (need_at needs d.0) in
+    ap (ran s d t) (run-push t.state ds needs c)
+    ∙ ran-one_more s d t (run t.state ds needs) c (step_after (run t.state ds needs) c needs)

@@ -1,179 +1,251 @@
 -- A run of lines that come in pieces: what was run so far, and what is left.
-use Rattle.std.proofs.Common.{◌≡◌, ◌≢◌, ℕ, ◌+◌, ◌≤◌, ◌<◌, List, [], ◌∷◌, ◌++◌, Option, Some, None, Result, Ok, Err, length, take, drop, refl, sym, ap, ◌∙◌, subst, arith}
-use Rattle.std.specs.Prelude.{IfErr, IfSome}
-use Rattle.std.proofs.lemmas.List.{append_assoc, append-nil, drop_all, take-append-drop}
-use Rattle.std.proofs.lemmas.Option.{none-some}
+use Rattle.std.proofs.Common.{◌≡◌, ◌≢◌, ℕ, ◌+◌, ◌≤◌, ◌<◌, List, [], ◌∷◌, ◌++◌, Option, Some, None, Result, Ok, Err, length, take, drop, refl, sym, ap, ◌∙◌, subst, arith, inl, inr}
+use Rattle.std.specs.Prelude.{IfErr, IfSome, IsOk}
+use Rattle.std.specs.List.{AllByRecursion}
+use Rattle.std.proofs.lemmas.Bool.Decides.{eqb_tells}
+use Rattle.std.proofs.lemmas.List.{append_assoc, append-nil, drop_all, length-take-le, take-append-drop}
+use Rattle.std.proofs.lemmas.Option.{same_Some}
 use Rattle.vc_model.specs.Stream.{Reads, Takes}
 use Rattle.vc_script.specs.declared.line_fault.LineFault.{LineFault}
 use Rattle.vc_script.specs.declared.cutter.Cut.{Cut}
 use Rattle.vc_script.specs.declared.cutter.Cut.TheVariants.{Whole, More, Bad}
-use Rattle.vc_script.specs.declared.tool.Tool.TheVariants.{Vmreplay}
+use Rattle.vc_script.specs.declared.tool.Tool.{Tool}
 use Rattle.vc_script.specs.Answer.{answer}
 use Rattle.vc_script.specs.Cutter.{fed, end_cut, after_end}
 use Rattle.vc_script.specs.Cutting.{Cutting, IsCutting, new_cutting}
-use Rattle.vc_script.specs.Judged.{judged}
+use Rattle.vc_script.specs.Judged.{judged, judged_from, judged_then, last_number, line_limit}
+use Rattle.vc_script.specs.Lines.{piece}
 use Rattle.vc_script.specs.Pieces.{found_then}
-use Rattle.vc_script.proofs.Pieces.{Tells, end-tells, fed-tells}
-use Rattle.vc_session.specs.Account.{Account, Settles}
-use Rattle.vc_session.specs.Engine.{LineRan}
+use Rattle.vc_script.proofs.Pieces.{Tells, end-tells, fed-tells, judge-ok}
+use Rattle.vc_session.specs.Engine.{IsIdle, LineRan}
+use Rattle.vc_session.specs.Moment.{Moment, over_sink}
 use Rattle.vc_session.specs.ProperState.{IsProperState}
-use Rattle.vc_session.specs.Replay.{IsCutShort, IsReplay, IsRun}
+use Rattle.vc_session.specs.Replay.{IsCutShort, IsReplay, IsRun, ShowsNoFault, Stops, StopsAtFault, Told}
 use Rattle.vc_session.specs.Run.{commands, fault_in, wholly_read}
-use Rattle.vc_session.specs.State.{State}
 use Rattle.vc_session.specs.SoFar.{Found, Reading, Running, SoFar, ended_rest, fuel, judged_rest}
 use Rattle.vc_session.proofs.Feeds.{Feeds, fed-feeds}
-use Rattle.vc_script.specs.declared.line_answer.LineAnswer.{LineAnswer}
-use Rattle.vc_script.specs.declared.line_answer.LineAnswer.TheVariants.{Blank, Is}
-use Rattle.vc_script.specs.declared.line_answer.LineAnswer.TheVariants as answered
-use Rattle.vc_session.proofs.Settling.{settles-trans}
-use Rattle.vc_session.proofs.Running.{settles-any, bad-line, running-end, running-line, running-same, running-start}
+use Rattle.vc_session.proofs.Running.{all-append, bad-line, running-end, running-line, running-over, running-same, running-start}
 
 if_some : (o : Option (List ℕ)) (P Q : List ℕ → Type 0) → ((x : List ℕ) → P x → Q x) → IfSome o P → IfSome o Q
 if_some None P Q f p = tt
 if_some (Some x) P Q f p = f x p
 
-reading-start : (o : Option (List ℕ)) → IfSome o (λ input. Reading input o new_cutting [] [])
-reading-start None = tt
-reading-start (Some input) = record { bytes = []; behind = input; split = refl; unread = refl; lines = refl; ended = λ more. refl }
+if_both : (o : Option (List ℕ)) (P Q R : List ℕ → Type 0) → ((x : List ℕ) → P x → Q x → R x) → IfSome o P → IfSome o Q → IfSome o R
+if_both None P Q R f p q = tt
+if_both (Some x) P Q R f p q = f x p q
 
 taken : (bytes : List ℕ) (before after : Option (List ℕ)) (buf : List ℕ) (n : ℕ) → before ≡ Some bytes → Reads before after buf n → Takes bytes after buf n
 taken bytes before after buf n told reads = subst (λ (o : Option (List ℕ)). IfSome o (λ b. Takes b after buf n)) told reads.told
 
-reading-read : (input : List ℕ) (before after : Option (List ℕ)) (buf : List ℕ) (n : ℕ) (s : Cutting) (whole : Found) → Reads before after buf n → Reading input before s [] whole → Reading input after s (take n buf) whole
-reading-read input before after buf n s whole reads r =
-    let t = taken r.behind before after buf n r.unread reads in
-    record {
-      bytes = r.bytes ++ take n r.behind;
-      behind = drop n r.behind;
-      split = r.split ∙ (ap (λ xs. r.bytes ++ xs) (sym (take-append-drop n r.behind)) ∙ sym (append_assoc r.bytes (take n r.behind) (drop n r.behind)));
-      unread = t.rest;
-      lines = r.lines ∙ (ap (λ xs. whole ++ judged_rest s xs) (sym (take-append-drop n r.behind)) ∙ ap (λ xs. whole ++ judged_rest s (xs ++ drop n r.behind)) (sym t.same));
-      ended = λ more.
-          ap wholly_read (append_assoc r.bytes (take n r.behind) more)
-          ∙ (r.ended (take n r.behind ++ more)
-          ∙ ap (λ xs. whole ++ ended_rest s (xs ++ more)) (sym t.same));
-    }
+-- bytes of a line that has begun are not too many, nor its number too great
+begun-short : (number : ℕ) (kept : List ℕ) → length kept ≤ line_limit → (0 < length kept → number ≤ last_number) → AllByRecursion (λ line. IsOk line.1) (judged_from number (piece kept))
+begun-short number [] short few = tt
+begun-short number (b ∷ bs) short few =
+    subst (λ j. AllByRecursion (λ line. IsOk line.1) (judged_then number j [])) (sym (judge-ok number (b ∷ bs) (few (omega arith)) short)) (refl, tt)
 
-pub reading-whole : (input : List ℕ) (left : Option (List ℕ)) (s after : Cutting) (used : ℕ) (xs : List ℕ) (whole : Found) → ((behind : List ℕ) → Tells Whole after used s xs behind) → ((behind : List ℕ) → Feeds Whole after used s xs behind) → Reading input left s xs whole → Reading input left after (drop used xs) (whole ++ (after.count, Ok after.line) ∷ [])
-reading-whole input left s after used xs whole tells feeds r = record {
-  bytes = r.bytes;
+few-begun : (s : Cutting) → IsCutting s → 0 < length s.kept → s.count + 1 ≤ last_number
+few-begun s is some =
+    elim (eqb_tells s.count last_number) [
+      | inl last ↦ absurd (omega (arith, ap length (is.no_more last.1), some))
+      | inr other ↦ omega (arith, other.1, is.few)
+    ]
+
+module _ {tool : Tool} {start now : Moment} {text : List ℕ} {count : ℕ} {whole : Found} (running : Running tool start now text count whole) {input : List ℕ} {left : Option (List ℕ)} {s : Cutting} (is : IsCutting s) (r : Reading tool input left s [] whole) where
+  read_lines : wholly_read (r.before ++ r.last) ≡ whole ++ []
+  read_lines = ap wholly_read (sym (append-nil (r.before ++ r.last))) ∙ r.ended []
+
+  read_judged : judged (r.before ++ r.last) ≡ whole ++ judged_rest s []
+  read_judged = ap judged (sym (append-nil (r.before ++ r.last))) ∙ r.lines []
+
+  -- what was read so far shows no fault
+  shows-none : ShowsNoFault tool (r.before ++ r.last)
+  shows-none = record {
+    good = ap (fault_in tool) read_lines ∙ running.good [];
+    short =
+        subst (AllByRecursion (λ line. IsOk line.1)) (sym read_judged)
+        (all-append (λ line. IsOk line.1) whole (judged_rest s []) running.short (begun-short (s.count + 1) s.kept is.short (few-begun s is)));
+  }
+
+  reading-read : (left' : Option (List ℕ)) (buf : List ℕ) (n : ℕ) → length buf ≡ 4096 → Reads left left' buf n → Reading tool input left' s (take n buf) whole
+  reading-read left' buf n room reads =
+      let t = taken r.behind left left' buf n r.unread reads in
+      record {
+        before = r.before ++ r.last;
+        last = take n r.behind;
+        behind = drop n r.behind;
+        split = r.split ∙ (ap (λ xs. (r.before ++ r.last) ++ xs) (sym (take-append-drop n r.behind)) ∙ sym (append_assoc (r.before ++ r.last) (take n r.behind) (drop n r.behind)));
+        size = omega (arith, length-take-le n r.behind t.within, reads.fits, room);
+        no_fault = shows-none;
+        unread = t.rest;
+        lines = λ more.
+            ap judged (append_assoc (r.before ++ r.last) (take n r.behind) more)
+            ∙ (r.lines (take n r.behind ++ more)
+            ∙ ap (λ xs. whole ++ judged_rest s (xs ++ more)) (sym t.same));
+        ended = λ more.
+            ap wholly_read (append_assoc (r.before ++ r.last) (take n r.behind) more)
+            ∙ (r.ended (take n r.behind ++ more)
+            ∙ ap (λ xs. whole ++ ended_rest s (xs ++ more)) (sym t.same));
+      }
+
+  reading-cut_short : (left' after : Option (List ℕ)) → left' ≡ left → Told start.written after text → IsCutShort tool start (over_sink now after) input left'
+  reading-cut_short left' after same told = record {
+    bytes = r.before ++ r.last;
+    rest = r.behind;
+    split = r.split;
+    unread = same ∙ r.unread;
+    no_fault = shows-none;
+    run = subst (λ ls. IsRun start (over_sink now after) (commands tool ls)) (sym read_lines) (running-end [] after running refl told);
+  }
+
+reading-start : (tool : Tool) (o : Option (List ℕ)) → IfSome o (λ input. Reading tool input o new_cutting [] [])
+reading-start tool None = tt
+reading-start tool (Some input) = record {
+  before = [];
+  last = [];
+  behind = input;
+  split = refl;
+  size = omega arith;
+  no_fault = record { good = refl; short = tt };
+  unread = refl;
+  lines = λ more. refl;
+  ended = λ more. refl;
+}
+
+reading-whole : {tool : Tool} {input : List ℕ} {left : Option (List ℕ)} (s after : Cutting) (used : ℕ) (xs : List ℕ) (whole : Found) → ((behind : List ℕ) → Tells Whole after used s xs behind) → ((behind : List ℕ) → Feeds Whole after used s xs behind) → Reading tool input left s xs whole → Reading tool input left after (drop used xs) (whole ++ (after.count, Ok after.line) ∷ [])
+reading-whole s after used xs whole tells feeds r = record {
+  before = r.before;
+  last = r.last;
   behind = r.behind;
   split = r.split;
+  size = r.size;
+  no_fault = r.no_fault;
   unread = r.unread;
-  lines = r.lines ∙ (ap (λ ls. whole ++ ls) (tells r.behind).0 ∙ sym (append_assoc whole ((after.count, Ok after.line) ∷ []) (judged_rest after (drop used xs ++ r.behind))));
+  lines = λ more. r.lines more ∙ (ap (λ ls. whole ++ ls) (tells more).0 ∙ sym (append_assoc whole ((after.count, Ok after.line) ∷ []) (judged_rest after (drop used xs ++ more))));
   ended = λ more. r.ended more ∙ (ap (λ ls. whole ++ ls) (feeds more).0 ∙ sym (append_assoc whole ((after.count, Ok after.line) ∷ []) (ended_rest after (drop used xs ++ more))));
 }
 
 used-up : (xs : List ℕ) (used : ℕ) → used ≡ length xs → drop used xs ≡ []
 used-up xs used e = drop_all used xs (omega (arith, e))
 
-reading-more : (input : List ℕ) (left : Option (List ℕ)) (s after : Cutting) (used : ℕ) (xs : List ℕ) (whole : Found) → ((behind : List ℕ) → Tells More after used s xs behind) → ((behind : List ℕ) → Feeds More after used s xs behind) → Reading input left s xs whole → Reading input left after (drop used xs) whole
-reading-more input left s after used xs whole tells feeds r = let none = used-up xs used (feeds []).1.1.1 in record {
-  bytes = r.bytes;
+reading-more : {tool : Tool} {input : List ℕ} {left : Option (List ℕ)} (s after : Cutting) (used : ℕ) (xs : List ℕ) (whole : Found) → ((behind : List ℕ) → Tells More after used s xs behind) → ((behind : List ℕ) → Feeds More after used s xs behind) → Reading tool input left s xs whole → Reading tool input left after (drop used xs) whole
+reading-more s after used xs whole tells feeds r = let none = used-up xs used (feeds []).1.1.1.0 in record {
+  before = r.before;
+  last = r.last;
   behind = r.behind;
   split = r.split;
+  size = r.size;
+  no_fault = r.no_fault;
   unread = r.unread;
-  lines = r.lines ∙ (ap (λ ls. whole ++ ls) (tells r.behind).0 ∙ ap (λ xs'. whole ++ judged_rest after (xs' ++ r.behind)) (sym none));
+  lines = λ more. r.lines more ∙ (ap (λ ls. whole ++ ls) (tells more).0 ∙ ap (λ xs'. whole ++ judged_rest after (xs' ++ more)) (sym none));
   ended = λ more. r.ended more ∙ (ap (λ ls. whole ++ ls) (feeds more).0 ∙ ap (λ xs'. whole ++ ended_rest after (xs' ++ more)) (sym none));
 }
 
-pub so_far-start : (start : State) (before : Option (List ℕ)) (entry : List (Option Account)) (told : Option (List ℕ)) → IsProperState start → SoFar start start before before entry entry told told new_cutting []
-so_far-start start before entry told all = record { whole = []; running = running-start start before entry all; reading = reading-start told }
+-- what a call of feed does, whatever is behind what it is given
+fed-tells-all : (s : Cutting) (rest : List ℕ) (next : Cutting) (cut : Cut) (used : ℕ) → IsCutting s → fed s rest ≡ record { after = next; cut = cut; used = used } → (behind : List ℕ) → Tells cut next used s rest behind
+fed-tells-all s rest next cut used is e behind = subst (λ f. Tells f.cut f.after f.used s rest behind) e (fed-tells s rest behind is)
 
-module _ {start now : State} {before after : Option (List ℕ)} {entry accounts : List (Option Account)} {told left : Option (List ℕ)} {s : Cutting} {rest : List ℕ} (r : SoFar start now before after entry accounts told left s rest) where
-  -- a piece was read
-  pub so_far-read : (left' : Option (List ℕ)) (buf : List ℕ) (n : ℕ) → rest ≡ [] → Reads left left' buf n → SoFar start now before after entry accounts told left' s (take n buf)
-  so_far-read left' buf n none reads = record {
-    whole = r.whole;
-    running = r.running;
-    reading = if_some told _ _ (λ input reading. reading-read input left left' buf n s r.whole reads (subst (λ xs. Reading input left s xs r.whole) none reading)) r.reading;
-  }
+fed-feeds-all : (s : Cutting) (rest : List ℕ) (next : Cutting) (cut : Cut) (used : ℕ) → IsCutting s → fed s rest ≡ record { after = next; cut = cut; used = used } → (behind : List ℕ) → Feeds cut next used s rest behind
+fed-feeds-all s rest next cut used is e behind = subst (λ f. Feeds f.cut f.after f.used s rest behind) e (fed-feeds s rest behind is)
 
-  -- a piece is used up
-  pub so_far-more : (next : Cutting) (used : ℕ) → IsCutting s → fed s rest ≡ record { after = next; cut = More; used = used } → SoFar start now before after entry accounts told left next (drop used rest)
-  so_far-more next used is e = record {
-    whole = r.whole;
-    running = r.running;
-    reading = if_some told _ _ (λ input reading. reading-more input left s next used rest r.whole (λ behind. subst (λ f. Tells f.cut f.after f.used s rest behind) e (fed-tells s rest behind is)) (λ behind. subst (λ f. Feeds f.cut f.after f.used s rest behind) e (fed-feeds s rest behind is)) reading) r.reading;
-  }
-
-  -- a line was run
-  pub so_far-line : (now' : State) (after' : Option (List ℕ)) (accounts' : List (Option Account)) (next : Cutting) (used : ℕ) → IsCutting s → fed s rest ≡ record { after = next; cut = Whole; used = used } → LineRan (answer Vmreplay next.line) None now now' after after' accounts accounts' → SoFar start now' before after' entry accounts' told left next (drop used rest)
-  so_far-line now' after' accounts' next used is e ran = record {
-    whole = r.whole ++ (next.count, Ok next.line) ∷ [];
-    running = running-line now' after' accounts' next.count next.line r.running ran;
-    reading = if_some told _ _ (λ input reading. reading-whole input left s next used rest r.whole (λ behind. subst (λ f. Tells f.cut f.after f.used s rest behind) e (fed-tells s rest behind is)) (λ behind. subst (λ f. Feeds f.cut f.after f.used s rest behind) e (fed-feeds s rest behind is)) reading) r.reading;
-  }
+pub so_far-start : (tool : Tool) (start : Moment) (told : Option (List ℕ)) → IsProperState start.state → SoFar tool start start [] told told new_cutting []
+so_far-start tool start told all = record { whole = []; running = running-start tool start all; reading = reading-start tool told }
 
 -- the end of a run whose lines are found
-replay-end : {start now : State} {before after : Option (List ℕ)} {entry accounts : List (Option Account)} {whole : Found} (input : List ℕ) (left : Option (List ℕ)) (found : Found) (bad : Option (ℕ × LineFault)) → Running start now before after entry accounts whole → judged input ≡ whole ++ found → commands found ≡ [] → fault_in found ≡ bad → (bad ≡ None → left ≡ Some []) → IsReplay start input bad left before after entry accounts
-replay-end {start} {now} {before} {after} {entry} {accounts} {whole} input left found bad r all none first read = record {
-  first = sym (ap fault_in all ∙ (r.bad found ∙ first));
-  read = read;
-  run = subst (λ ls. IsRun start (commands ls) before after entry accounts) (sym all) (running-end found r none);
+replay-end : {tool : Tool} {start now : Moment} {text : List ℕ} {count : ℕ} {whole : Found} (input : List ℕ) (left after : Option (List ℕ)) (found : Found) (bad : Option (ℕ × LineFault)) → Running tool start now text count whole → judged input ≡ whole ++ found → commands tool found ≡ [] → fault_in tool found ≡ bad → Stops tool input bad left → Told start.written after text → IsReplay tool start (over_sink now after) input bad left
+replay-end {tool} {start} {now} {text} {count} {whole} input left after found bad r all none first stops told = record {
+  first = sym (ap (fault_in tool) all ∙ (r.good found ∙ first));
+  stops = stops;
+  run = subst (λ ls. IsRun start (over_sink now after) (commands tool ls)) (sym all) (running-end found after r none told);
 }
 
-some-none : {A : Type 0} {x : A} {P : Type 0} → Some x ≡ None → P
-some-none {x = x} e = absurd (none-some x (sym e))
+stops-at : {tool : Tool} {input : List ℕ} {left : Option (List ℕ)} {s : Cutting} {rest : List ℕ} {whole : Found} → Reading tool input left s rest whole → StopsAtFault tool input left
+stops-at r = record { before = r.before; last = r.last; rest = r.behind; split = r.split; short = r.size; no_fault = r.no_fault; unread = r.unread }
 
-module _ {start now : State} {before after : Option (List ℕ)} {entry accounts : List (Option Account)} {told left : Option (List ℕ)} {s : Cutting} {rest : List ℕ} (r : SoFar start now before after entry accounts told left s rest) where
+judged-input : {tool : Tool} {input : List ℕ} {left : Option (List ℕ)} {s : Cutting} {rest : List ℕ} {whole : Found} (r : Reading tool input left s rest whole) → judged input ≡ whole ++ judged_rest s (rest ++ r.behind)
+judged-input r = ap judged r.split ∙ r.lines r.behind
+
+module _ {tool : Tool} {start now : Moment} {text : List ℕ} {told left : Option (List ℕ)} {s : Cutting} where
+  -- the same, over another sink
+  pub so_far-over : {rest : List ℕ} (written : Option (List ℕ)) → SoFar tool start now text told left s rest → SoFar tool start (over_sink now written) text told left s rest
+  so_far-over written r = record { whole = r.whole; running = running-over written r.running; reading = r.reading }
+
+  -- nothing was gathered yet
+  pub so_far-none : {rest : List ℕ} (none : List ℕ) → none ≡ [] → SoFar tool start now text told left s rest → SoFar tool start now (text ++ none) told left s rest
+  so_far-none {rest} none e r = subst (λ xs. SoFar tool start now xs told left s rest) (sym (ap (λ xs. text ++ xs) e ∙ append-nil text)) r
+
+  -- a piece was read
+  pub so_far-read : (left' : Option (List ℕ)) (buf : List ℕ) (n : ℕ) → SoFar tool start now text told left s [] → IsCutting s → length buf ≡ 4096 → Reads left left' buf n → SoFar tool start now text told left' s (take n buf)
+  so_far-read left' buf n r is room reads = record {
+    whole = r.whole;
+    running = r.running;
+    reading = if_some told _ _ (λ input reading. reading-read r.running is reading left' buf n room reads) r.reading;
+  }
+
   -- a read failed where no byte was left over
-  pub so_far-cut_short : (left' : Option (List ℕ)) → rest ≡ [] → left' ≡ left → IfSome told (λ input. IsCutShort start input left' before after entry accounts)
-  so_far-cut_short left' none same = if_some told _ _ (λ input reading. record {
-    bytes = reading.bytes;
-    rest = reading.behind;
-    split = reading.split;
-    unread = same ∙ reading.unread;
-    good = ap fault_in (lines_of input reading) ∙ (ap fault_in (append-nil r.whole) ∙ (ap fault_in (sym (append-nil r.whole)) ∙ r.running.bad []));
-    run = subst (λ ls. IsRun start (commands ls) before after entry accounts) (sym (lines_of input reading)) (running-end [] r.running refl);
-  }) r.reading where
-    lines_of : (input : List ℕ) (reading : Reading input left s rest r.whole) → wholly_read reading.bytes ≡ r.whole ++ []
-    lines_of input reading =
-        ap wholly_read (sym (append-nil reading.bytes))
-        ∙ (reading.ended []
-        ∙ ap (λ xs. r.whole ++ ended_rest s (xs ++ [])) none)
+  pub so_far-cut_short : (left' after : Option (List ℕ)) → SoFar tool start now text told left s [] → IsCutting s → left' ≡ left → Told start.written after text → IfSome told (λ input. IsCutShort tool start (over_sink now after) input left')
+  so_far-cut_short left' after r is same written = if_some told _ _ (λ input reading. reading-cut_short r.running is reading left' after same written) r.reading
+
+module _ {tool : Tool} {start now : Moment} {text : List ℕ} {told left : Option (List ℕ)} {s : Cutting} {rest : List ℕ} (next : Cutting) (used : ℕ) (is : IsCutting s) where
+  -- a piece is used up
+  pub so_far-more : SoFar tool start now text told left s rest → fed s rest ≡ record { after = next; cut = More; used = used } → SoFar tool start now text told left next (drop used rest)
+  so_far-more r e = record {
+    whole = r.whole;
+    running = subst (λ n. Running tool start now text n r.whole) (sym (fed-feeds-all s rest next More used is e []).1.1.1.1) r.running;
+    reading = if_some told _ _ (λ input reading. reading-more s next used rest r.whole (fed-tells-all s rest next More used is e) (fed-feeds-all s rest next More used is e) reading) r.reading;
+  }
 
   -- a line can't be taken
-  pub so_far-bad_cut : (next : Cutting) (used : ℕ) (fault : LineFault) → IsCutting s → fed s rest ≡ record { after = next; cut = Bad fault; used = used } → IfSome told (λ input. IsReplay start input (Some (next.count + 1, fault)) left before after entry accounts)
-  so_far-bad_cut next used fault is e = if_some told _ _ (λ input reading.
-      let tells = subst (λ f. Tells f.cut f.after f.used s rest reading.behind) e (fed-tells s rest reading.behind is) in
-      replay-end input left ((next.count + 1, Err fault) ∷ []) (Some (next.count + 1, fault)) r.running (reading.lines ∙ ap (λ ls. r.whole ++ ls) tells) refl refl some-none) r.reading
+  pub so_far-bad_cut : (fault : LineFault) (after : Option (List ℕ)) → SoFar tool start now text told left s rest → fed s rest ≡ record { after = next; cut = Bad fault; used = used } → Told start.written after text → IfSome told (λ input. IsReplay tool start (over_sink now after) input (Some (next.count + 1, fault)) left)
+  so_far-bad_cut fault after r e written = if_some told _ _ (λ input reading.
+      replay-end input left after ((next.count + 1, Err fault) ∷ []) (Some (next.count + 1, fault)) r.running (judged-input reading ∙ ap (λ ls. r.whole ++ ls) (fed-tells-all s rest next (Bad fault) used is e reading.behind)) refl refl (stops-at reading) written) r.reading
 
-  -- a line is bad
-  pub so_far-bad_line : (now' : State) (after' : Option (List ℕ)) (accounts' : List (Option Account)) (next : Cutting) (used : ℕ) (fault : LineFault) → IsCutting s → fed s rest ≡ record { after = next; cut = Whole; used = used } → LineRan (answer Vmreplay next.line) (Some fault) now now' after after' accounts accounts' → IfSome told (λ input. IsReplay start input (Some (next.count, fault)) left before after' entry accounts')
-  so_far-bad_line now' after' accounts' next used fault is e ran = if_some told _ _ (λ input reading.
-      let tells = subst (λ f. Tells f.cut f.after f.used s rest reading.behind) e (fed-tells s rest reading.behind is) in
-      let bad = bad-line fault next.count next.line ran in
-      let behind = judged_rest next (drop used rest ++ reading.behind) in
-      replay-end input left ((next.count, Ok next.line) ∷ behind) (Some (next.count, fault)) (running-same now' after' accounts' r.running bad.idle) (reading.lines ∙ ap (λ ls. r.whole ++ ls) tells.0) (bad.none behind) (bad.first behind) some-none) r.reading
+-- a line was run
+pub so_far-line : {tool : Tool} {start now : Moment} (next_moment : Moment) {told left : Option (List ℕ)} {s : Cutting} {rest : List ℕ} (front old new : List ℕ) (next : Cutting) (used : ℕ) → now.written ≡ Some old → next_moment.written ≡ Some new → IsCutting s → SoFar tool start now (front ++ old) told left s rest → fed s rest ≡ record { after = next; cut = Whole; used = used } → LineRan now next_moment next.count (answer tool next.line) None → SoFar tool start next_moment (front ++ new) told left next (drop used rest)
+so_far-line next_moment {told} {left} {s} {rest} front old new next used held holds is r e ran = record {
+  whole = r.whole ++ (next.count, Ok next.line) ∷ [];
+  running = running-line front old new next.count next.line held holds (omega (arith, (fed-feeds-all s rest next Whole used is e []).1.1.1)) r.running ran;
+  reading = if_some told _ _ (λ input reading. reading-whole s next used rest r.whole (fed-tells-all s rest next Whole used is e) (fed-feeds-all s rest next Whole used is e) reading) r.reading;
+}
 
--- nothing is left of a source whose last read gave nothing
-at-end : (behind : List ℕ) (left left' : Option (List ℕ)) (buf : List ℕ) → left ≡ Some behind → 0 < length buf → Reads left left' buf 0 → (behind ≡ []) × (left' ≡ Some [])
-at-end behind left left' buf told room reads =
-    let t = taken behind left left' buf 0 told reads in
-    let none = t.at_end room refl in
-    (none, t.rest ∙ ap Some none)
+-- a line that asks for nothing leaves what was gathered
+idle-told : {now next : Moment} (front old new : List ℕ) (before after : Option (List ℕ)) → now.written ≡ Some old → next.written ≡ Some new → IsIdle now next → Told before after (front ++ new) → Told before after (front ++ old)
+idle-told front old new before after held holds idle written =
+    subst (λ xs. Told before after (front ++ xs)) (same_Some new old (sym holds ∙ (idle.told ∙ held))) written
 
-module _ {start now : State} {before after : Option (List ℕ)} {entry accounts : List (Option Account)} {told left : Option (List ℕ)} {s : Cutting} {rest : List ℕ} (r : SoFar start now before after entry accounts told left s rest) (left' : Option (List ℕ)) (buf : List ℕ) (none : rest ≡ []) (room : 0 < length buf) (reads : Reads left left' buf 0) where
-  end_lines : (input : List ℕ) (reading : Reading input left s rest r.whole) → judged input ≡ r.whole ++ judged_rest s []
-  end_lines input reading =
-      reading.lines ∙ ap (λ xs. r.whole ++ judged_rest s xs) (ap (λ xs. xs ++ reading.behind) none ∙ (at-end reading.behind left left' buf reading.unread room reads).0)
+-- a line is bad
+pub so_far-bad_line : {tool : Tool} {start now : Moment} (next_moment : Moment) {told left : Option (List ℕ)} {s : Cutting} {rest : List ℕ} (front old new : List ℕ) (next : Cutting) (used : ℕ) (fault : LineFault) (after : Option (List ℕ)) → now.written ≡ Some old → next_moment.written ≡ Some new → IsCutting s → SoFar tool start now (front ++ old) told left s rest → fed s rest ≡ record { after = next; cut = Whole; used = used } → LineRan now next_moment next.count (answer tool next.line) (Some fault) → Told start.written after (front ++ new) → IfSome told (λ input. IsReplay tool start (over_sink next_moment after) input (Some (next.count, fault)) left)
+so_far-bad_line {tool} {start} next_moment {told} {left} {s} {rest} front old new next used fault after held holds is r e ran written = if_some told _ _ (λ input reading.
+    let bad = bad-line tool next.count next.line fault ran in
+    let behind = judged_rest next (drop used rest ++ reading.behind) in
+    replay-end input left after ((next.count, Ok next.line) ∷ behind) (Some (next.count, fault)) (running-same r.running bad.idle) (judged-input reading ∙ ap (λ ls. r.whole ++ ls) (fed-tells-all s rest next Whole used is e reading.behind).0) (bad.none behind) (bad.first behind) (stops-at reading) (idle-told front old new start.written after held holds bad.idle written)) r.reading
 
+-- nothing is behind the bytes of a source that is at its end
+none-behind : {tool : Tool} {input : List ℕ} {left : Option (List ℕ)} {s : Cutting} {whole : Found} (r : Reading tool input left s [] whole) → left ≡ Some [] → judged input ≡ whole ++ judged_rest s []
+none-behind {s = s} {whole = whole} r at_end = judged-input r ∙ ap (λ xs. whole ++ judged_rest s xs) (same_Some r.behind [] (sym r.unread ∙ at_end))
+
+module _ {tool : Tool} {start now : Moment} {told left : Option (List ℕ)} {s : Cutting} where
   -- the end, with no line begun
-  pub so_far-end_none : judged_rest s [] ≡ [] → IfSome told (λ input. IsReplay start input None left' before after entry accounts)
-  so_far-end_none last = if_some told _ _ (λ input reading.
-      replay-end input left' [] None r.running (end_lines input reading ∙ ap (λ ls. r.whole ++ ls) last) refl refl (λ e. (at-end reading.behind left left' buf reading.unread room reads).1)) r.reading
+  pub so_far-end_none : {text : List ℕ} (after : Option (List ℕ)) → SoFar tool start now text told left s [] → IfSome told (λ input. left ≡ Some []) → judged_rest s [] ≡ [] → Told start.written after text → IfSome told (λ input. IsReplay tool start (over_sink now after) input None left)
+  so_far-end_none after r at_end last written = if_both told _ _ _ (λ input reading end.
+      replay-end input left after [] None r.running (none-behind reading end ∙ ap (λ ls. r.whole ++ ls) last) refl refl end written) r.reading at_end
 
-  -- the end behind a last line, which is good
-  pub so_far-end_good : (now' : State) (after' : Option (List ℕ)) (accounts' : List (Option Account)) (n : ℕ) (line : List ℕ) → judged_rest s [] ≡ (n, Ok line) ∷ [] → LineRan (answer Vmreplay line) None now now' after after' accounts accounts' → IfSome told (λ input. IsReplay start input None left' before after' entry accounts')
-  so_far-end_good now' after' accounts' n line last ran = if_some told _ _ (λ input reading.
-      replay-end input left' [] None (running-line now' after' accounts' n line r.running ran) (end_lines input reading ∙ (ap (λ ls. r.whole ++ ls) last ∙ sym (append-nil (r.whole ++ (n, Ok line) ∷ [])))) refl refl (λ e. (at-end reading.behind left left' buf reading.unread room reads).1)) r.reading
+  module _ (next : Moment) (n : ℕ) (line : List ℕ) (last : judged_rest s [] ≡ (n, Ok line) ∷ []) (below : s.count < n) where
+    -- the end behind a last line, which is good
+    pub so_far-end_good : (front old new : List ℕ) (after : Option (List ℕ)) → now.written ≡ Some old → next.written ≡ Some new → SoFar tool start now (front ++ old) told left s [] → IfSome told (λ input. left ≡ Some []) → LineRan now next n (answer tool line) None → Told start.written after (front ++ new) → IfSome told (λ input. IsReplay tool start (over_sink next after) input None left)
+    so_far-end_good front old new after held holds r at_end ran written = if_both told _ _ _ (λ input reading end.
+        replay-end input left after [] None (running-line front old new n line held holds below r.running ran) (none-behind reading end ∙ (ap (λ ls. r.whole ++ ls) last ∙ sym (append-nil (r.whole ++ (n, Ok line) ∷ [])))) refl refl end written) r.reading at_end
 
-  -- or bad
-  pub so_far-end_bad : (now' : State) (after' : Option (List ℕ)) (accounts' : List (Option Account)) (n : ℕ) (line : List ℕ) (fault : LineFault) → judged_rest s [] ≡ (n, Ok line) ∷ [] → LineRan (answer Vmreplay line) (Some fault) now now' after after' accounts accounts' → IfSome told (λ input. IsReplay start input (Some (n, fault)) left' before after' entry accounts')
-  so_far-end_bad now' after' accounts' n line fault last ran = if_some told _ _ (λ input reading.
-      let bad = bad-line fault n line ran in
-      replay-end input left' ((n, Ok line) ∷ []) (Some (n, fault)) (running-same now' after' accounts' r.running bad.idle) (end_lines input reading ∙ ap (λ ls. r.whole ++ ls) last) (bad.none []) (bad.first []) some-none) r.reading
+    -- or bad
+    pub so_far-end_bad : (front old new : List ℕ) (fault : LineFault) (after : Option (List ℕ)) → now.written ≡ Some old → next.written ≡ Some new → SoFar tool start now (front ++ old) told left s [] → IfSome told (λ input. left ≡ Some []) → LineRan now next n (answer tool line) (Some fault) → Told start.written after (front ++ new) → IfSome told (λ input. IsReplay tool start (over_sink next after) input (Some (n, fault)) left)
+    so_far-end_bad front old new fault after held holds r at_end ran written = if_both told _ _ _ (λ input reading end.
+        let bad = bad-line tool n line fault ran in
+        replay-end input left after ((n, Ok line) ∷ []) (Some (n, fault)) (running-same r.running bad.idle) (none-behind reading end ∙ ap (λ ls. r.whole ++ ls) last) (bad.none []) (bad.first []) (stops-at reading) (idle-told front old new start.written after held holds bad.idle written)) r.reading at_end
+
+-- a read that gave nothing found nothing left
+pub at-end : {tool : Tool} {start now : Moment} {text : List ℕ} {told left : Option (List ℕ)} {s : Cutting} (left' : Option (List ℕ)) (buf : List ℕ) → SoFar tool start now text told left s [] → length buf ≡ 4096 → Reads left left' buf 0 → IfSome told (λ input. left' ≡ Some [])
+at-end {told = told} {left = left} left' buf r room reads = if_some told _ _ (λ input reading.
+    let t = taken reading.behind left left' buf 0 reading.unread reads in
+    t.rest ∙ ap Some (t.at_end (omega (arith, room)) refl)) r.reading
 
 -- what else a call of feed keeps
 pub record Kept (s next : Cutting) (rest : List ℕ) (used : ℕ) : Type 0 where
@@ -183,14 +255,14 @@ pub record Kept (s next : Cutting) (rest : List ℕ) (used : ℕ) : Type 0 where
 
 pub whole-kept : (s : Cutting) (rest : List ℕ) (next : Cutting) (used : ℕ) → IsCutting s → fed s rest ≡ record { after = next; cut = Whole; used = used } → Kept s next rest used
 whole-kept s rest next used is e =
-    let tells = subst (λ f. Tells f.cut f.after f.used s rest []) e (fed-tells s rest [] is) in
-    let feeds = subst (λ f. Feeds f.cut f.after f.used s rest []) e (fed-feeds s rest [] is) in
-    record { less = feeds.1.0; fed = feeds.1.1; cutting = tells.1.0 }
+    let tells = fed-tells-all s rest next Whole used is e [] in
+    let feeds = fed-feeds-all s rest next Whole used is e [] in
+    record { less = feeds.1.0; fed = feeds.1.1.0; cutting = tells.1.0 }
 
 pub more-kept : (s : Cutting) (rest : List ℕ) (next : Cutting) (used : ℕ) → IsCutting s → fed s rest ≡ record { after = next; cut = More; used = used } → Kept s next rest used
 more-kept s rest next used is e =
-    let tells = subst (λ f. Tells f.cut f.after f.used s rest []) e (fed-tells s rest [] is) in
-    let feeds = subst (λ f. Feeds f.cut f.after f.used s rest []) e (fed-feeds s rest [] is) in
+    let tells = fed-tells-all s rest next More used is e [] in
+    let feeds = fed-feeds-all s rest next More used is e [] in
     record { less = feeds.1.0; fed = feeds.1.1.0; cutting = tells.1 }
 
 -- the answer of a call of feed, as it was told
@@ -206,15 +278,6 @@ pub ok-some : {A E : Type 0} (x y : A) → (let r : Result (Option A) E = Ok (So
 unfolding unwrap
 ok-some x y e = ap (unwrap x) e
 
-line-settles-by : (now now' : State) (after after' : Option (List ℕ)) {accounts accounts' : List (Option Account)} (a : LineAnswer) (fault : Option LineFault) → LineRan a fault now now' after after' accounts accounts' → Settles accounts accounts' []
-line-settles-by now now' after after' Blank fault ran = ran.1.settles
-line-settles-by now now' after after' (answered.Bad why) fault ran = ran.1.settles
-line-settles-by now now' after after' (Is c) fault ran = settles-any ran.1.settles
-
--- running a line keeps the disciplines, but for their faults
-pub line-settles : (now now' : State) (after after' : Option (List ℕ)) {accounts accounts' : List (Option Account)} (a : LineAnswer) (fault : Option LineFault) (first : List (Option Account)) → LineRan a fault now now' after after' accounts accounts' → Settles first accounts [] → Settles first accounts' []
-line-settles now now' after after' {accounts = accounts} {accounts' = accounts'} a fault first ran before = settles-trans first accounts accounts' [] [] before (line-settles-by now now' after after' a fault ran)
-
 none-of : (kept : List ℕ) (a : Cutting) → end_cut kept ≢ Whole → found_then (end_cut kept) a [] [] ≡ []
 none-of [] a other = refl
 none-of (b ∷ bs) a other = absurd (other refl)
@@ -229,6 +292,14 @@ end-whole s next cut is state e whole =
     sym (end-tells s is)
     ∙ (ap (λ k. found_then k (after_end s s.kept) [] []) (sym e ∙ whole)
     ∙ ap (λ a. let found : Found = (a.count, Ok a.line) ∷ [] in found) (sym state))
+
+end-count-by : (s : Cutting) (kept : List ℕ) → end_cut kept ≡ Whole → s.count < (after_end s kept).count
+end-count-by s [] whole = absurd cc
+end-count-by s (b ∷ bs) whole = omega arith
+
+-- its number is behind those of the others
+pub end-count : (s next : Cutting) (cut : Cut) → next ≡ after_end s s.kept → cut ≡ end_cut s.kept → cut ≡ Whole → s.count < next.count
+end-count s next cut state e whole = subst (λ (a : Cutting). s.count < a.count) (sym state) (end-count-by s s.kept (sym e ∙ whole))
 
 pub new-is : IsCutting new_cutting
 new-is = record { short = omega arith; few = omega arith; no_more = λ e. refl }

@@ -19,6 +19,7 @@ pub mod Rows
 pub mod Account
 pub mod Naming
 pub mod Homes
+pub mod Moment
 pub use Rattle.vc_script.specs.Answer
 pub use Rattle.vc_script.specs.Judged
 pub use Rattle.vc_script.specs.Needs

@@ -1,18 +1,19 @@
--- States whose blocks are labelled by names.
-use Rattle.std.specs.Prelude.{ℕ, List}
+-- States whose blocks are labelled by names or not at all.
+use Rattle.std.specs.Prelude.{◌≡◌, List, ℕ, Some, None, if◌then◌else◌}
 use Rattle.std.specs.List.{AllByRecursion}
-use Rattle.vc_model.specs.Region.{Block, Region}
-use Rattle.vc_script.specs.Proper.{IsName}
-use Rattle.vc_session.specs.State.{State}
+use Rattle.vc_model.specs.Region.{Region, relabelled}
+use Rattle.vc_script.specs.Words.{is_name}
+use Rattle.vc_session.specs.State.{Label, State}
 
--- a block's label is a name
-abbrev pub IsProperBlock : Block (List ℕ) → Type 0
-IsProperBlock b = IsName b.label
+-- a label that is a name; none in place of any other
+abbrev pub name_or_none : Label → Label
+name_or_none None = None
+name_or_none (Some x) = if is_name x then Some x else None
 
--- the label of every block of a region is a name
-abbrev pub IsProperRegion : Region (List ℕ) → Type 0
-IsProperRegion r = AllByRecursion IsProperBlock r.blocks
+-- the labels of a region are names: it stays the same where others are taken away
+abbrev pub IsProperRegion : Region Label → Type 0
+IsProperRegion r = relabelled name_or_none r ≡ r
 
--- the label of every block of every region is a name
+-- the labels of every region are names
 abbrev pub IsProperState : State → Type 0
 IsProperState s = AllByRecursion (λ h. IsProperRegion h.region) s.homes

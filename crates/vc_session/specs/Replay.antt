@@ -1,16 +1,19 @@
 -- What the end of a run promises.
-use Rattle.std.specs.Prelude.{◌≡◌, ℕ, ◌⊎◌, List, [], ◌++◌, Option, Some, None, IfSome, codes, decimal, take}
+use Rattle.std.specs.Prelude.{◌≡◌, ℕ, ◌≤◌, ◌⊎◌, List, [], ◌++◌, Option, Some, None, IfSome, IsOk, codes, decimal, length, take}
+use Rattle.std.specs.List.{AllByRecursion}
 use Rattle.vc_model.specs.Count.{Rose}
 use Rattle.vc_script.specs.declared.command.Command.{Command}
 use Rattle.vc_script.specs.declared.line_fault.LineFault.{LineFault}
 use Rattle.vc_script.specs.declared.line_fault.LineFault.TheVariants.{UnknownCommand, WordCount, BadName, BadNumber, BadAddress, BadBytes, UnknownMethod, LineTooLong, TooManyLines}
+use Rattle.vc_script.specs.declared.tool.Tool.{Tool}
+use Rattle.vc_script.specs.declared.tool.Tool.TheVariants.{Vmreplay, Dtrun}
 use Rattle.vc_session.specs.declared.status.Status.{Status}
 use Rattle.vc_session.specs.declared.status.Status.TheVariants.{Ok, Script, Usage, Read, Write, Memory}
-use Rattle.vc_session.specs.Account.{Account, Settles}
+use Rattle.vc_session.specs.Account.{Settles}
+use Rattle.vc_session.specs.Moment.{Moment}
+use Rattle.vc_script.specs.Judged.{judged}
 use Rattle.vc_script.specs.Needs.{needs_of}
-use Rattle.vc_script.specs.Print.{text}
-use Rattle.vc_session.specs.Run.{commands, fault_in, first_bad, run, script, wholly_read}
-use Rattle.vc_session.specs.State.{State}
+use Rattle.vc_session.specs.Run.{Ran, commands, fault_in, first_bad, lines_of, run, script, text_of, wholly_read}
 
 -- the number that a program ends with
 abbrev pub number : Status → ℕ
@@ -25,17 +28,23 @@ number Memory = 5
 abbrev pub Told : Option (List ℕ) → Option (List ℕ) → List ℕ → Type 0
 Told before after piece = IfSome before (λ w. after ≡ Some (w ++ piece))
 
+-- a front of a piece was written, and a write failed
+abbrev pub Broke : ℕ → ℕ → Option (List ℕ) → Option (List ℕ) → List ℕ → Type 0
+Broke failures failures' before after piece =
+    Rose failures failures' × IfSome before (λ w. (k : ℕ) × (after ≡ Some (w ++ take k piece)))
+
 -- a piece was written once: all of it, or a front of it and a write failed
 abbrev pub Tried : ℕ → ℕ → Option (List ℕ) → Option (List ℕ) → List ℕ → Type 0
 Tried failures failures' before after piece =
-    Told before after piece ⊎ (Rose failures failures' × IfSome before (λ w. (k : ℕ) × (after ≡ Some (w ++ take k piece))))
+    Told before after piece ⊎ Broke failures failures' before after piece
 
--- a run of commands: what was written is the text of the run for the needs that it shows, and from entry on the shelf settles with the run's refusals
-pub record IsRun (start : State) (commands : List (ℕ × Command)) (before after : Option (List ℕ)) (entry now : List (Option Account)) : Type 0 where
-  pub written : List ℕ
-  pub text : written ≡ text (run start commands (needs_of written)).replies
-  pub told : Told before after written
-  pub settles : Settles entry now (run start commands (needs_of written)).refusals
+abbrev pub tool_name : Tool → List ℕ
+tool_name Vmreplay = codes "vmreplay"
+tool_name Dtrun = codes "dtrun"
+
+-- the line that err gets: the tool's name, and what happened
+abbrev pub message : Tool → List ℕ → List ℕ
+message tool text = tool_name tool ++ codes ": " ++ text ++ codes "\n"
 
 abbrev pub fault_text : LineFault → List ℕ
 fault_text UnknownCommand = codes "unknown command"
@@ -49,20 +58,51 @@ fault_text LineTooLong = codes "line too long"
 fault_text TooManyLines = codes "too many lines"
 
 -- the line that err gets for a bad line
-abbrev pub err_line : ℕ × LineFault → List ℕ
-err_line bad = codes "vmreplay: line " ++ decimal bad.0 ++ codes ": " ++ fault_text bad.1 ++ codes "\n"
+abbrev pub err_line : Tool → ℕ × LineFault → List ℕ
+err_line tool bad = message tool (codes "line " ++ decimal bad.0 ++ codes ": " ++ fault_text bad.1)
 
--- a run of an input to its end, or to its first bad line; where there is none, the source was read to its end
-pub record IsReplay (start : State) (input : List ℕ) (bad : Option (ℕ × LineFault)) (left before after : Option (List ℕ)) (entry now : List (Option Account)) : Type 0 where
-  pub first : bad ≡ first_bad input
-  pub read : bad ≡ None → left ≡ Some []
-  pub run : IsRun start (script input) before after entry now
+-- the run of commands for the needs that a text shows
+abbrev pub run_by : Moment → List (ℕ × Command) → List ℕ → Ran
+run_by before commands written = run before.state commands (needs_of (lines_of commands) written)
 
--- a run that a failed read ended: the lines that were wholly read were run, and none of them was bad
-pub record IsCutShort (start : State) (input : List ℕ) (left before after : Option (List ℕ)) (entry now : List (Option Account)) : Type 0 where
+-- a run of commands: what was written is the text of the run for the needs that it shows, and the shelf settles with the run's refusals
+pub record IsRun (before after : Moment) (commands : List (ℕ × Command)) : Type 0 where
+  pub written : List ℕ
+  pub text : written ≡ text_of (run_by before commands written)
+  pub told : Told before.written after.written written
+  pub settles : Settles before.accounts after.accounts (run_by before commands written).refusals
+
+-- bytes that show no fault: their whole lines are good, and no line is too long or past the last number, the one that has begun among them
+pub record ShowsNoFault (tool : Tool) (bytes : List ℕ) : Type 0 where
+  pub good : fault_in tool (wholly_read bytes) ≡ None
+  pub short : AllByRecursion (λ line. IsOk line.1) (judged bytes)
+
+-- the reading stopped at a bad line: what was taken before its last 4,096 bytes or fewer shows no fault
+pub record StopsAtFault (tool : Tool) (input : List ℕ) (left : Option (List ℕ)) : Type 0 where
+  pub before : List ℕ
+  pub last : List ℕ
+  pub rest : List ℕ
+  pub split : input ≡ (before ++ last) ++ rest
+  pub short : length last ≤ 4096
+  pub no_fault : ShowsNoFault tool before
+  pub unread : left ≡ Some rest
+
+-- where there is no bad line, the source was read to its end
+abbrev pub Stops : Tool → List ℕ → Option (ℕ × LineFault) → Option (List ℕ) → Type 0
+Stops tool input None left = left ≡ Some []
+Stops tool input (Some bad) left = StopsAtFault tool input left
+
+-- a run of an input to its end, or to its first bad line
+pub record IsReplay (tool : Tool) (before after : Moment) (input : List ℕ) (bad : Option (ℕ × LineFault)) (left : Option (List ℕ)) : Type 0 where
+  pub first : bad ≡ first_bad tool input
+  pub stops : Stops tool input bad left
+  pub run : IsRun before after (script tool input)
+
+-- a run that a failed read ended: the lines that were wholly read were run, and no byte that was read shows a fault
+pub record IsCutShort (tool : Tool) (before after : Moment) (input : List ℕ) (left : Option (List ℕ)) : Type 0 where
   pub bytes : List ℕ
   pub rest : List ℕ
   pub split : input ≡ bytes ++ rest
   pub unread : left ≡ Some rest
-  pub good : fault_in (wholly_read bytes) ≡ None
-  pub run : IsRun start (commands (wholly_read bytes)) before after entry now
+  pub no_fault : ShowsNoFault tool bytes
+  pub run : IsRun before after (commands tool (wholly_read bytes))

@@ -1,23 +1,29 @@
 -- The states between the parts of the worked scripts.
 use Rattle.std.specs.Prelude.{ℕ, ◌-◌, List, [], ◌∷◌, ◌++◌, Some, None, codes, length, replicate}
-use Rattle.vc_model.specs.Region.{Block}
-use Rattle.vc_session.specs.State.{State}
+use Rattle.vc_model.specs.Discipline.{Terms}
+use Rattle.vc_model.specs.Layout.{Block}
+use Rattle.vc_model.specs.Region.{OfBest}
+use Rattle.vc_session.specs.State.{Label, State}
 
--- before the first line: a place of the shelf, whose discipline rounds to 4,096 bytes, and no region
+-- of a discipline that rounds to 4,096 bytes
+abbrev pub terms : Terms
+terms = record { round = 4096 }
+
+-- before the first line: a place of the shelf with such a discipline, and no region
 abbrev pub at_first : State
-at_first = record { shelf = Some 4096 ∷ []; homes = [] }
+at_first = record { shelf = Some terms ∷ []; homes = [] }
 
 -- one region over the discipline of that place
-abbrev pub one_region : List ℕ → List (ℕ × ℕ) → List (Block (List ℕ)) → State
+abbrev pub one_region : List ℕ → List (ℕ × ℕ) → List (Block Label) → State
 one_region name segments blocks =
     record {
       shelf = None ∷ [];
-      homes = record { name = name; place = 1; round = 4096; region = record { segments = segments; blocks = blocks } } ∷ [];
+      homes = record { name = name; place = 1; terms = terms; region = OfBest (record { segments = segments; blocks = blocks }) } ∷ [];
     }
 
 -- a block with these bytes first and zeros behind them
-abbrev pub block_with : List ℕ → ℕ → ℕ → ℕ → List ℕ → Block (List ℕ)
-block_with name seg off size first = record { label = name; seg = seg; off = off; size = size; bytes = first ++ replicate (size - length first) 0 }
+abbrev pub block_with : List ℕ → ℕ → ℕ → ℕ → List ℕ → Block Label
+block_with name seg off size first = record { label = Some name; seg = seg; off = off; size = size; bytes = first ++ replicate (size - length first) 0 }
 
 -- a block between a block that was written and one that was freed
 abbrev pub gap_behind : State

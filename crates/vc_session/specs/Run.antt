@@ -1,5 +1,5 @@
 -- The commands of an input, a run of them, and its text.
-use Rattle.std.specs.Prelude.{ℕ, List, [], ◌∷◌, ◌++◌, Option, Some, None, Result, Ok, Err, map, ◌==◌, if◌then◌else◌}
+use Rattle.std.specs.Prelude.{ℕ, List, [], ◌∷◌, ◌++◌, Option, Some, None, Result, Ok, Err, map}
 use Rattle.vc_script.specs.declared.command.Command.{Command}
 use Rattle.vc_script.specs.declared.line_answer.LineAnswer.{LineAnswer}
 use Rattle.vc_script.specs.declared.line_answer.LineAnswer.TheVariants.{Blank, Is, Bad}
@@ -7,7 +7,8 @@ use Rattle.vc_script.specs.declared.line_fault.LineFault.{LineFault}
 use Rattle.vc_script.specs.declared.reply.Reply.{Reply}
 use Rattle.vc_script.specs.declared.reply.Reply.TheVariants.{Refused}
 use Rattle.vc_script.specs.declared.refusal.Refusal.TheVariants.{NoSegment, NoSegmentForTable, NoSegmentForObject}
-use Rattle.vc_script.specs.declared.tool.Tool.TheVariants.{Vmreplay}
+use Rattle.vc_script.specs.declared.tool.Tool.{Tool}
+use Rattle.vc_script.specs.Lines.{ended_lines}
 use Rattle.vc_script.specs.Judged.{judged, judged_from}
 use Rattle.vc_script.specs.Answer.{answer}
 use Rattle.vc_script.specs.Needs.{Need, need_at}
@@ -21,43 +22,38 @@ command_then n Blank behind = behind
 command_then n (Is command) behind = (n, command) ∷ behind
 command_then n (Bad fault) behind = []
 
-abbrev pub command_of : ℕ → Result (List ℕ) LineFault → List (ℕ × Command) → List (ℕ × Command)
-command_of n (Ok line) behind = command_then n (answer Vmreplay line) behind
-command_of n (Err fault) behind = []
+abbrev pub command_of : Tool → ℕ → Result (List ℕ) LineFault → List (ℕ × Command) → List (ℕ × Command)
+command_of tool n (Ok line) behind = command_then n (answer tool line) behind
+command_of tool n (Err fault) behind = []
 
 -- the commands of lines before the first bad one, each with its line's number
-abbrev pub commands : List (ℕ × Result (List ℕ) LineFault) → List (ℕ × Command)
-commands [] = []
-commands (line ∷ rest) = command_of line.0 line.1 (commands rest)
+abbrev pub commands : Tool → List (ℕ × Result (List ℕ) LineFault) → List (ℕ × Command)
+commands tool [] = []
+commands tool (line ∷ rest) = command_of tool line.0 line.1 (commands tool rest)
 
-abbrev pub script : List ℕ → List (ℕ × Command)
-script input = commands (judged input)
+abbrev pub script : Tool → List ℕ → List (ℕ × Command)
+script tool input = commands tool (judged input)
 
 abbrev pub fault_then : ℕ → LineAnswer → Option (ℕ × LineFault) → Option (ℕ × LineFault)
 fault_then n Blank behind = behind
 fault_then n (Is command) behind = behind
 fault_then n (Bad fault) behind = Some (n, fault)
 
-abbrev pub fault_of : ℕ → Result (List ℕ) LineFault → Option (ℕ × LineFault) → Option (ℕ × LineFault)
-fault_of n (Ok line) behind = fault_then n (answer Vmreplay line) behind
-fault_of n (Err fault) behind = Some (n, fault)
+abbrev pub fault_of : Tool → ℕ → Result (List ℕ) LineFault → Option (ℕ × LineFault) → Option (ℕ × LineFault)
+fault_of tool n (Ok line) behind = fault_then n (answer tool line) behind
+fault_of tool n (Err fault) behind = Some (n, fault)
 
 -- the first bad line, by its number, and what is wrong with it
-abbrev pub fault_in : List (ℕ × Result (List ℕ) LineFault) → Option (ℕ × LineFault)
-fault_in [] = None
-fault_in (line ∷ rest) = fault_of line.0 line.1 (fault_in rest)
+abbrev pub fault_in : Tool → List (ℕ × Result (List ℕ) LineFault) → Option (ℕ × LineFault)
+fault_in tool [] = None
+fault_in tool (line ∷ rest) = fault_of tool line.0 line.1 (fault_in tool rest)
 
-abbrev pub first_bad : List ℕ → Option (ℕ × LineFault)
-first_bad input = fault_in (judged input)
-
--- the lines of some bytes that are ended by a newline
-abbrev pub ended_after : List ℕ → List ℕ → List (List ℕ)
-ended_after begun [] = []
-ended_after begun (b ∷ bs) = if b == 10 then begun ∷ ended_after [] bs else ended_after (begun ++ b ∷ []) bs
+abbrev pub first_bad : Tool → List ℕ → Option (ℕ × LineFault)
+first_bad tool input = fault_in tool (judged input)
 
 -- the lines that were wholly read of an input of which these bytes were read
 abbrev pub wholly_read : List ℕ → List (ℕ × Result (List ℕ) LineFault)
-wholly_read bytes = judged_from 1 (ended_after [] bytes)
+wholly_read bytes = judged_from 1 (ended_lines bytes)
 
 -- a run: its replies, each with the number of its line; its last state; the place of the discipline at each refusal of a segment; what was told to kinds; and the segments that were granted, as number and bytes
 pub record Ran : Type 0 where

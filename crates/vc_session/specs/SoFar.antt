@@ -1,38 +1,40 @@
 -- A run in its middle, of lines that come in pieces.
-use Rattle.std.specs.Prelude.{◌≡◌, ℕ, ◌+◌, ◌-◌, ◌*◌, List, ◌++◌, Option, Some, Result, IfSome, length, map}
+use Rattle.std.specs.Prelude.{◌≡◌, ℕ, ◌+◌, ◌-◌, ◌*◌, ◌≤◌, List, [], ◌++◌, Option, Some, Result, IfSome, IsOk, length, map}
 use Rattle.std.specs.List.{AllByRecursion}
 use Rattle.vc_script.specs.declared.command.Command.{Command}
 use Rattle.vc_script.specs.declared.line_fault.LineFault.{LineFault}
-use Rattle.vc_script.specs.declared.reply.Reply.{Reply}
+use Rattle.vc_script.specs.declared.tool.Tool.{Tool}
 use Rattle.vc_script.specs.Cutting.{Cutting}
 use Rattle.vc_script.specs.Judged.{judged, judged_from, last_number, line_limit}
-use Rattle.vc_script.specs.Lines.{lines_after}
-use Rattle.vc_script.specs.Needs.{need_shown}
-use Rattle.vc_script.specs.Print.{text}
+use Rattle.vc_script.specs.Lines.{ended_after, lines_after}
+use Rattle.vc_script.specs.Needs.{IsAscending, Need, ShowsNeeds}
 use Rattle.vc_script.specs.ProperReply.{IsProperReply}
-use Rattle.vc_session.specs.Account.{Account, Settles}
+use Rattle.vc_session.specs.Account.{Settles}
+use Rattle.vc_session.specs.Moment.{Moment, over_sink}
 use Rattle.vc_session.specs.ProperState.{IsProperState}
-use Rattle.vc_session.specs.Replay.{IsReplay, Told}
-use Rattle.vc_session.specs.Run.{commands, ended_after, fault_in, run, wholly_read}
-use Rattle.vc_session.specs.State.{State}
+use Rattle.vc_session.specs.Replay.{IsReplay, ShowsNoFault, Told}
+use Rattle.vc_session.specs.Run.{Ran, commands, fault_in, lines_of, run, text_of, wholly_read}
 
 -- lines by their numbers, or what is wrong with them
 abbrev pub Found : Type 0
 Found = List (ℕ × Result (List ℕ) LineFault)
 
--- these lines were run, whatever is behind them
-pub record Running (start now : State) (before after : Option (List ℕ)) (entry accounts : List (Option Account)) (whole : Found) : Type 0 where
+-- these lines, up to that number, were run, whatever is behind them, and that is the text of their replies
+pub record Running (tool : Tool) (start now : Moment) (text : List ℕ) (count : ℕ) (whole : Found) : Type 0 where
   pub done : List (ℕ × Command)
-  pub replies : List Reply
-  pub refusals : List ℕ
-  pub proper : AllByRecursion IsProperReply replies
-  pub proper_state : IsProperState now
-  pub same : length done ≡ length replies
-  pub script : (behind : Found) → commands (whole ++ behind) ≡ done ++ commands behind
-  pub bad : (behind : Found) → fault_in (whole ++ behind) ≡ fault_in behind
-  pub run : run start done (map need_shown replies) ≡ record { replies = replies; state = now; refusals = refusals }
-  pub settles : Settles entry accounts refusals
-  pub told : Told before after (text replies)
+  pub ran : Ran
+  pub lines : lines_of done ≡ map (λ r. r.0) ran.replies
+  pub rising : IsAscending (lines_of done)
+  pub within : AllByRecursion (λ n. n ≤ count) (lines_of done)
+  pub proper : AllByRecursion (λ r. IsProperReply r.1) ran.replies
+  pub proper_state : IsProperState now.state
+  pub short : AllByRecursion (λ line. IsOk line.1) whole
+  pub script : (behind : Found) → commands tool (whole ++ behind) ≡ done ++ commands tool behind
+  pub good : (behind : Found) → fault_in tool (whole ++ behind) ≡ fault_in tool behind
+  pub run : (needs : List (ℕ × Need)) → ShowsNeeds needs ran.replies → run start.state done needs ≡ ran
+  pub state : ran.state ≡ now.state
+  pub settles : Settles start.accounts now.accounts ran.refusals
+  pub told : text ≡ text_of ran
 
 -- what is judged of the bytes behind those that were fed
 abbrev pub judged_rest : Cutting → List ℕ → Found
@@ -43,27 +45,34 @@ abbrev pub ended_rest : Cutting → List ℕ → Found
 ended_rest s bytes = judged_from (s.count + 1) (ended_after s.kept bytes)
 
 -- of an input these lines were found, and the rest of the last piece is left with what is behind it
-pub record Reading (input : List ℕ) (left : Option (List ℕ)) (s : Cutting) (rest : List ℕ) (whole : Found) : Type 0 where
-  pub bytes : List ℕ
+pub record Reading (tool : Tool) (input : List ℕ) (left : Option (List ℕ)) (s : Cutting) (rest : List ℕ) (whole : Found) : Type 0 where
+  pub before : List ℕ
+  pub last : List ℕ
   pub behind : List ℕ
-  pub split : input ≡ bytes ++ behind
+  pub split : input ≡ (before ++ last) ++ behind
+  pub size : length last ≤ 4096
+  pub no_fault : ShowsNoFault tool before
   pub unread : left ≡ Some behind
-  pub lines : judged input ≡ whole ++ judged_rest s (rest ++ behind)
-  pub ended : (more : List ℕ) → wholly_read (bytes ++ more) ≡ whole ++ ended_rest s (rest ++ more)
+  pub lines : (more : List ℕ) → judged ((before ++ last) ++ more) ≡ whole ++ judged_rest s (rest ++ more)
+  pub ended : (more : List ℕ) → wholly_read ((before ++ last) ++ more) ≡ whole ++ ended_rest s (rest ++ more)
 
--- what was run so far of a source that told its bytes at entry, or didn't
-pub record SoFar (start now : State) (before after : Option (List ℕ)) (entry accounts : List (Option Account)) (told left : Option (List ℕ)) (s : Cutting) (rest : List ℕ) : Type 0 where
+-- what was run so far of a source that told its bytes at the start, or didn't
+pub record SoFar (tool : Tool) (start now : Moment) (text : List ℕ) (told left : Option (List ℕ)) (s : Cutting) (rest : List ℕ) : Type 0 where
   pub whole : Found
-  pub running : Running start now before after entry accounts whole
-  pub reading : IfSome told (λ input. Reading input left s rest whole)
+  pub running : Running tool start now text s.count whole
+  pub reading : IfSome told (λ input. Reading tool input left s rest whole)
 
--- each run so far goes on: what was left of a piece was run up to what is left now
-pub record GoesOn (first now : State) (told after : Option (List ℕ)) (accounts accounts' : List (Option Account)) (s next : Cutting) (rest rest' : List ℕ) : Type 0 where
-  pub on : {start : State} {before : Option (List ℕ)} {entry : List (Option Account)} {source left : Option (List ℕ)} → SoFar start first before told entry accounts source left s rest → SoFar start now before after entry accounts' source left next rest'
+-- each run so far goes on: what was left of a piece was run up to what is left now, and its replies were gathered
+pub record GoesOn (tool : Tool) (first now : Moment) (gathered : List ℕ) (s next : Cutting) (rest rest' : List ℕ) : Type 0 where
+  pub on : {start : Moment} {text : List ℕ} {told left : Option (List ℕ)} → SoFar tool start first text told left s rest → SoFar tool start now (text ++ gathered) told left next rest'
 
--- each run so far ends at this bad line
-pub record Ends (first : State) (told after : Option (List ℕ)) (accounts accounts' : List (Option Account)) (s : Cutting) (rest : List ℕ) (bad : ℕ × LineFault) : Type 0 where
-  pub end : {start : State} {before : Option (List ℕ)} {entry : List (Option Account)} {source left : Option (List ℕ)} → SoFar start first before told entry accounts source left s rest → IfSome source (λ input. IsReplay start input (Some bad) left before after entry accounts')
+-- each run so far ends at this bad line, once what was gathered is written
+pub record Ends (tool : Tool) (first now : Moment) (gathered : List ℕ) (s : Cutting) (rest : List ℕ) (bad : ℕ × LineFault) : Type 0 where
+  pub end : {start : Moment} {text : List ℕ} {told left : Option (List ℕ)} (after : Option (List ℕ)) → SoFar tool start first text told left s rest → Told start.written after (text ++ gathered) → IfSome told (λ input. IsReplay tool start (over_sink now after) input (Some bad) left)
+
+-- each run so far ends with the input
+pub record EndsAll (tool : Tool) (first now : Moment) (gathered : List ℕ) (s : Cutting) (bad : Option (ℕ × LineFault)) : Type 0 where
+  pub end : {start : Moment} {text : List ℕ} {told left : Option (List ℕ)} (after : Option (List ℕ)) → SoFar tool start first text told left s [] → IfSome told (λ input. left ≡ Some []) → Told start.written after (text ++ gathered) → IfSome told (λ input. IsReplay tool start (over_sink now after) input bad left)
 
 -- the bytes that can still be taken without a fault
 abbrev pub fuel : Cutting → ℕ

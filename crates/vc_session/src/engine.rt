@@ -1,16 +1,15 @@
 // The lines of a source, run in order as they come.
-ghost use Rattle.std.specs.Prelude.{◌≡◌, ◌≢◌, ℕ, ◌+◌, ◌≤◌, [], Ok, Some, None, IsTrue, IfSome, IfOk, IfErr, OnErr, length};
+ghost use Rattle.std.specs.Prelude.{◌≡◌, ℕ, ◌+◌, ◌≤◌, [], Ok, Some, None, IsTrue, IfSome, IfOk, IfErr, OnErr, length};
 ghost use Rattle.vc_model.specs.Count.{Rose};
 ghost use Rattle.vc_script.specs.Answer.{answer};
-ghost use Rattle.vc_script.specs.declared.tool.Tool.TheVariants.{Vmreplay};
-ghost use Rattle.vc_session.specs.Account.{Settles};
 ghost use Rattle.vc_script.specs.Cutting.{IsCutting};
 ghost use Rattle.vc_script.specs.declared.line_fault.LineFault.{LineFault};
 ghost use Rattle.vc_session.specs.Engine.{LineRan};
-ghost use Rattle.vc_session.specs.Homes.{IsSessionOver, settled_over, state_over};
+ghost use Rattle.vc_session.specs.Homes.{IsSessionOver, state_over};
+ghost use Rattle.vc_session.specs.Moment.{Keeps, moment};
 ghost use Rattle.vc_session.specs.ProperState.{IsProperState};
 ghost use Rattle.vc_session.specs.Replay.{IsCutShort, IsReplay};
-ghost use Rattle.vc_session.specs.SoFar.{Ends, GoesOn, fuel};
+ghost use Rattle.vc_session.specs.SoFar.{Ends, EndsAll, GoesOn, fuel};
 
 use crate::session::Session;
 use crate::stream::write_all;
@@ -57,76 +56,64 @@ impl From<WriteFailed> for Stop {
     }
 }
 
-// Runs the line of that number and writes its reply, or answers what is wrong with it.
-fn run_line<O: Sink>(
+// Runs the line of that number and gathers its reply, or answers what is wrong with it.
+fn run_line(
     alloc: Global,
+    tool: Tool,
     session: &mut Session,
     shelf: &mut Shelf,
     n: u32,
     line: &[u8],
-    out: &mut O,
-) -> Result<Option<LineFault>, Stop>
-    requires { IsSessionOver ⟦<BoxedDisc as SegDisc>⟧.state shelf.old.slots.items session.old.homes.entries }
-    ensures ran { IfOk result (λ fault. LineRan (answer Vmreplay line.now) fault
-        (state_over ⟦<BoxedDisc as SegDisc>⟧.state shelf.old.slots.items session.old.homes.entries)
-        (state_over ⟦<BoxedDisc as SegDisc>⟧.state shelf.new.slots.items session.new.homes.entries)
-        (O.written out.old) (O.written out.new)
-        (settled_over ⟦<BoxedDisc as SegDisc>⟧.state shelf.old.slots.items session.old.homes.entries)
-        (settled_over ⟦<BoxedDisc as SegDisc>⟧.state shelf.new.slots.items session.new.homes.entries)) }
-    ensures session { IsSessionOver ⟦<BoxedDisc as SegDisc>⟧.state shelf.new.slots.items session.new.homes.entries }
-    ensures settles { OnErr result (Settles
-        (settled_over ⟦<BoxedDisc as SegDisc>⟧.state shelf.old.slots.items session.old.homes.entries)
-        (settled_over ⟦<BoxedDisc as SegDisc>⟧.state shelf.new.slots.items session.new.homes.entries) []) }
-    ensures cause { IfErr result (λ stop. stop ≡ Stop.Write → Rose (O.failures out.old) (O.failures out.new)) }
-    ensures no_read { IfErr result (λ stop. stop ≢ Stop.Read) }
-    ensures never_falls { O.failures out.old ≤ O.failures out.new }
+    replies: &mut Vec<u8>,
+) -> Result<Option<LineFault>, OutOfMemory>
+    requires { IsSessionOver state shelf.old session.old }
+    ensures ran { IfOk result (λ fault. LineRan
+        (moment state shelf.old session.old (Some replies.old.items))
+        (moment state shelf.new session.new (Some replies.new.items))
+        n (answer tool line.now) fault) }
+    ensures session { IsSessionOver state shelf.new session.new }
+    ensures keeps { OnErr result (Keeps (moment state shelf.old session.old None)
+        (moment state shelf.new session.new None)) }
 {
-    match read_line(alloc, Tool::Vmreplay, line)? {
+    match read_line(alloc, tool, line)? {
         LineAnswer::Blank => Ok(None),
         LineAnswer::Bad(fault) => Ok(Some(fault)),
         LineAnswer::Is(command) => {
             let reply = session.step(shelf, n, &command)?;
-            let line = print_reply(alloc, &reply)?;
-            write_all(out, line.as_slice())?;
+            let printed = print_reply(alloc, &reply)?;
+            replies.extend_from_slice(printed.as_slice())?;
             Ok(None)
         }
     }
 }
 
-// Runs the lines that a piece ends, and answers the first bad one, by its number from 1 on. A run so far goes on.
-fn run_piece<O: Sink>(
+// Runs the lines that a piece ends, gathers their replies, and answers the first bad line, by its number from 1 on.
+fn run_piece(
     alloc: Global,
+    tool: Tool,
     session: &mut Session,
     shelf: &mut Shelf,
     cutter: &mut LineCutter,
     piece: &[u8],
-    out: &mut O,
-) -> Result<Option<(u32, LineFault)>, Stop>
-    requires session { IsSessionOver ⟦<BoxedDisc as SegDisc>⟧.state shelf.old.slots.items session.old.homes.entries }
+    replies: &mut Vec<u8>,
+) -> Result<Option<(u32, LineFault)>, OutOfMemory>
+    requires session { IsSessionOver state shelf.old session.old }
     requires fed { IsTrue cutter.old.is_open }
     requires cutting { IsCutting cutter.old }
-    ensures good { result ≡ Ok None → GoesOn
-        (state_over ⟦<BoxedDisc as SegDisc>⟧.state shelf.old.slots.items session.old.homes.entries)
-        (state_over ⟦<BoxedDisc as SegDisc>⟧.state shelf.new.slots.items session.new.homes.entries)
-        (O.written out.old) (O.written out.new)
-        (settled_over ⟦<BoxedDisc as SegDisc>⟧.state shelf.old.slots.items session.old.homes.entries)
-        (settled_over ⟦<BoxedDisc as SegDisc>⟧.state shelf.new.slots.items session.new.homes.entries)
-        cutter.old cutter.new piece.now [] }
-    ensures bad { (bad : ℕ × LineFault) → result ≡ Ok (Some bad) → Ends
-        (state_over ⟦<BoxedDisc as SegDisc>⟧.state shelf.old.slots.items session.old.homes.entries)
-        (O.written out.old) (O.written out.new)
-        (settled_over ⟦<BoxedDisc as SegDisc>⟧.state shelf.old.slots.items session.old.homes.entries)
-        (settled_over ⟦<BoxedDisc as SegDisc>⟧.state shelf.new.slots.items session.new.homes.entries)
-        cutter.old piece.now bad }
+    requires none { replies.old.items ≡ [] }
+    ensures good { result ≡ Ok None → GoesOn tool
+        (moment state shelf.old session.old (Some replies.old.items))
+        (moment state shelf.new session.new (Some replies.new.items))
+        replies.new.items cutter.old cutter.new piece.now [] }
+    ensures bad { (bad : ℕ × LineFault) → result ≡ Ok (Some bad) → Ends tool
+        (moment state shelf.old session.old (Some replies.old.items))
+        (moment state shelf.new session.new (Some replies.new.items))
+        replies.new.items cutter.old piece.now bad }
     ensures open { result ≡ Ok None → IsTrue cutter.new.is_open × IsCutting cutter.new }
     ensures less { result ≡ Ok None → fuel cutter.new + length piece.now ≤ fuel cutter.old }
-    ensures session { IsSessionOver ⟦<BoxedDisc as SegDisc>⟧.state shelf.new.slots.items session.new.homes.entries }
-    ensures settles { Settles
-        (settled_over ⟦<BoxedDisc as SegDisc>⟧.state shelf.old.slots.items session.old.homes.entries)
-        (settled_over ⟦<BoxedDisc as SegDisc>⟧.state shelf.new.slots.items session.new.homes.entries) [] }
-    ensures cause { IfErr result (λ stop. stop ≡ Stop.Write → Rose (O.failures out.old) (O.failures out.new)) }
-    ensures no_read { IfErr result (λ stop. stop ≢ Stop.Read) }
-    ensures never_falls { O.failures out.old ≤ O.failures out.new }
+    ensures session { IsSessionOver state shelf.new session.new }
+    ensures keeps { Keeps (moment state shelf.old session.old None)
+        (moment state shelf.new session.new None) }
 {
     let mut rest = piece;
     while !rest.is_empty() {
@@ -136,7 +123,15 @@ fn run_piece<O: Sink>(
             Cut::More => {}
             Cut::Bad(fault) => return Ok(Some((cutter.number() + 1, fault))),
             Cut::Whole => {
-                match run_line(alloc, session, shelf, cutter.number(), cutter.line(), out)? {
+                match run_line(
+                    alloc,
+                    tool,
+                    session,
+                    shelf,
+                    cutter.number(),
+                    cutter.line(),
+                    replies,
+                )? {
                     Some(fault) => return Ok(Some((cutter.number(), fault))),
                     None => {}
                 }
@@ -146,53 +141,98 @@ fn run_piece<O: Sink>(
     Ok(None)
 }
 
-// Runs the lines before the first bad one, and answers that one, by its number from 1 on. Every reply of the lines that
-// were taken is written before the next read.
+// Runs the line that the input's end ends, where one has begun, and answers it where it is bad.
+fn run_last(
+    alloc: Global,
+    tool: Tool,
+    session: &mut Session,
+    shelf: &mut Shelf,
+    cutter: &mut LineCutter,
+    replies: &mut Vec<u8>,
+) -> Result<Option<(u32, LineFault)>, OutOfMemory>
+    requires session { IsSessionOver state shelf.old session.old }
+    requires fed { IsTrue cutter.old.is_open }
+    requires cutting { IsCutting cutter.old }
+    requires none { replies.old.items ≡ [] }
+    ensures ends { IfOk result (EndsAll tool
+        (moment state shelf.old session.old (Some replies.old.items))
+        (moment state shelf.new session.new (Some replies.new.items))
+        replies.new.items cutter.old) }
+    ensures session { IsSessionOver state shelf.new session.new }
+    ensures keeps { Keeps (moment state shelf.old session.old None)
+        (moment state shelf.new session.new None) }
+{
+    match cutter.end() {
+        Cut::Whole => match run_line(
+            alloc,
+            tool,
+            session,
+            shelf,
+            cutter.number(),
+            cutter.line(),
+            replies,
+        )? {
+            Some(fault) => Ok(Some((cutter.number(), fault))),
+            None => Ok(None),
+        },
+        _ => Ok(None),
+    }
+}
+
+// Runs the lines before the first bad one, and answers that one, by its number from 1 on. The replies of what one read
+// gave are gathered, and written before the next read and before anything else.
 pub(crate) fn run_lines<S: Source, O: Sink>(
     alloc: Global,
+    tool: Tool,
     session: &mut Session,
     shelf: &mut Shelf,
     source: &mut S,
     out: &mut O,
 ) -> Result<Option<(u32, LineFault)>, Stop>
-    requires session { IsSessionOver ⟦<BoxedDisc as SegDisc>⟧.state shelf.old.slots.items session.old.homes.entries }
-    requires proper { IsProperState (state_over ⟦<BoxedDisc as SegDisc>⟧.state shelf.old.slots.items session.old.homes.entries) }
-    ensures replay { IfOk result (λ bad. IfSome (S.left source.old) (λ input. IsReplay
-        (state_over ⟦<BoxedDisc as SegDisc>⟧.state shelf.old.slots.items session.old.homes.entries) input bad
-        (S.left source.new) (O.written out.old) (O.written out.new)
-        (settled_over ⟦<BoxedDisc as SegDisc>⟧.state shelf.old.slots.items session.old.homes.entries)
-        (settled_over ⟦<BoxedDisc as SegDisc>⟧.state shelf.new.slots.items session.new.homes.entries))) }
-    ensures cut_short { IfErr result (λ stop. stop ≡ Stop.Read → IfSome (S.left source.old) (λ input. IsCutShort
-        (state_over ⟦<BoxedDisc as SegDisc>⟧.state shelf.old.slots.items session.old.homes.entries) input
-        (S.left source.new) (O.written out.old) (O.written out.new)
-        (settled_over ⟦<BoxedDisc as SegDisc>⟧.state shelf.old.slots.items session.old.homes.entries)
-        (settled_over ⟦<BoxedDisc as SegDisc>⟧.state shelf.new.slots.items session.new.homes.entries))) }
-    ensures session { IsSessionOver ⟦<BoxedDisc as SegDisc>⟧.state shelf.new.slots.items session.new.homes.entries }
-    ensures settles { Settles
-        (settled_over ⟦<BoxedDisc as SegDisc>⟧.state shelf.old.slots.items session.old.homes.entries)
-        (settled_over ⟦<BoxedDisc as SegDisc>⟧.state shelf.new.slots.items session.new.homes.entries) [] }
-    ensures read { IfErr result (λ stop. stop ≡ Stop.Read → Rose (S.failures source.old) (S.failures source.new)) }
-    ensures write { IfErr result (λ stop. stop ≡ Stop.Write → Rose (O.failures out.old) (O.failures out.new)) }
+    requires session { IsSessionOver state shelf.old session.old }
+    requires proper { IsProperState (state_over state shelf.old session.old) }
+    ensures replay { IfOk result (λ bad. IfSome (S.left source.old) (λ input. IsReplay tool
+        (moment state shelf.old session.old (O.written out.old))
+        (moment state shelf.new session.new (O.written out.new)) input bad (S.left source.new))) }
+    ensures cut_short { IfErr result (λ stop. stop ≡ Stop.Read
+        → IfSome (S.left source.old) (λ input. IsCutShort tool
+        (moment state shelf.old session.old (O.written out.old))
+        (moment state shelf.new session.new (O.written out.new)) input (S.left source.new))) }
+    ensures session { IsSessionOver state shelf.new session.new }
+    ensures keeps { Keeps (moment state shelf.old session.old None)
+        (moment state shelf.new session.new None) }
+    ensures read { IfErr result (λ stop. stop ≡ Stop.Read
+        → Rose (S.failures source.old) (S.failures source.new)) }
+    ensures write { IfErr result (λ stop. stop ≡ Stop.Write
+        → Rose (O.failures out.old) (O.failures out.new)) }
     ensures reads { S.failures source.old ≤ S.failures source.new }
     ensures writes { O.failures out.old ≤ O.failures out.new }
 {
     let mut cutter = LineCutter::new(alloc)?;
+    let mut replies = Vec::new(alloc);
     let mut buf = [0u8; 4096];
     loop {
         let n = source.read(&mut buf)?;
         if n == 0 {
             break;
         }
-        match run_piece(alloc, session, shelf, &mut cutter, &buf[..n], out)? {
+        let ran = run_piece(
+            alloc,
+            tool,
+            session,
+            shelf,
+            &mut cutter,
+            &buf[..n],
+            &mut replies,
+        );
+        write_all(out, replies.as_slice())?;
+        match ran? {
             Some(bad) => return Ok(Some(bad)),
             None => {}
         }
+        replies.clear();
     }
-    match cutter.end() {
-        Cut::Whole => match run_line(alloc, session, shelf, cutter.number(), cutter.line(), out)? {
-            Some(fault) => Ok(Some((cutter.number(), fault))),
-            None => Ok(None),
-        },
-        _ => Ok(None),
-    }
+    let ran = run_last(alloc, tool, session, shelf, &mut cutter, &mut replies);
+    write_all(out, replies.as_slice())?;
+    Ok(ran?)
 }

@@ -1,16 +1,16 @@
 // The top call: a script from a source, its replies to one sink, a fault to another.
-ghost use Rattle.std.specs.Prelude.{◌≡◌, ◌<◌, ◌≤◌, ◌⊎◌, ℕ, [], Some, None, IfSome, IfOk, IfErr, OnErr, OnOk, codes, length};
+ghost use Rattle.std.specs.Prelude.{◌≡◌, ◌<◌, ◌≤◌, ◌+◌, ◌++◌, ◌⊎◌, ℕ, Some, None, IfSome, IfOk, IfErr, OnErr, OnOk, codes, length};
 ghost use Rattle.vc_model.specs.Count.{Rose};
-ghost use Rattle.vc_seg.specs.Shelf.{slots_of};
 ghost use Rattle.vc_script.specs.declared.line_fault.LineFault.{LineFault};
-ghost use Rattle.vc_session.specs.Account.{Settles, accounts};
-ghost use Rattle.vc_session.specs.Homes.{state_over};
-ghost use Rattle.vc_session.specs.Replay.{IsCutShort, IsReplay, Told, Tried, err_line, fault_text};
+ghost use Rattle.vc_script.specs.declared.tool.Tool.TheVariants.{Vmreplay};
+ghost use Rattle.vc_session.specs.Moment.{Keeps, at_rest};
+ghost use Rattle.vc_session.specs.Replay.{Broke, IsCutShort, IsReplay, Told, Tried, err_line, fault_text, message, tool_name};
 
 use crate::Status;
 use crate::engine::{Stop, run_lines};
 use crate::session::Session;
 use crate::stream::write_all;
+use arrayvec::ArrayString;
 use itoa::Buffer;
 use std::alloc::Global;
 use vc_base::{Sink, Source, WriteFailed};
@@ -20,74 +20,99 @@ use vc_seg::{BoxedDisc, SegDisc, Shelf};
 // Runs the script of a source.
 fn run_source<S: Source, O: Sink>(
     alloc: Global,
+    tool: Tool,
     shelf: &mut Shelf,
     source: &mut S,
     out: &mut O,
 ) -> Result<Option<(u32, LineFault)>, Stop>
-    ensures replay { IfOk result (λ bad. IfSome (S.left source.old) (λ input. IsReplay
-        (state_over ⟦<BoxedDisc as SegDisc>⟧.state shelf.old.slots.items []) input bad
-        (S.left source.new) (O.written out.old) (O.written out.new)
-        (accounts (slots_of ⟦<BoxedDisc as SegDisc>⟧.state shelf.old.slots.items))
-        (accounts (slots_of ⟦<BoxedDisc as SegDisc>⟧.state shelf.new.slots.items)))) }
-    ensures cut_short { IfErr result (λ stop. stop ≡ Stop.Read → IfSome (S.left source.old) (λ input. IsCutShort
-        (state_over ⟦<BoxedDisc as SegDisc>⟧.state shelf.old.slots.items []) input
-        (S.left source.new) (O.written out.old) (O.written out.new)
-        (accounts (slots_of ⟦<BoxedDisc as SegDisc>⟧.state shelf.old.slots.items))
-        (accounts (slots_of ⟦<BoxedDisc as SegDisc>⟧.state shelf.new.slots.items)))) }
-    ensures read { IfErr result (λ stop. stop ≡ Stop.Read → Rose (S.failures source.old) (S.failures source.new)) }
-    ensures write { IfErr result (λ stop. stop ≡ Stop.Write → Rose (O.failures out.old) (O.failures out.new)) }
-    ensures settles { Settles
-        (accounts (slots_of ⟦<BoxedDisc as SegDisc>⟧.state shelf.old.slots.items))
-        (accounts (slots_of ⟦<BoxedDisc as SegDisc>⟧.state shelf.new.slots.items)) [] }
+    ensures replay { IfOk result (λ bad. IfSome (S.left source.old) (λ input. IsReplay tool
+        (at_rest state shelf.old (O.written out.old)) (at_rest state shelf.new (O.written out.new))
+        input bad (S.left source.new))) }
+    ensures cut_short { IfErr result (λ stop. stop ≡ Stop.Read
+        → IfSome (S.left source.old) (λ input. IsCutShort tool
+        (at_rest state shelf.old (O.written out.old)) (at_rest state shelf.new (O.written out.new))
+        input (S.left source.new))) }
+    ensures read { IfErr result (λ stop. stop ≡ Stop.Read
+        → Rose (S.failures source.old) (S.failures source.new)) }
+    ensures write { IfErr result (λ stop. stop ≡ Stop.Write
+        → Rose (O.failures out.old) (O.failures out.new)) }
+    ensures keeps { Keeps (at_rest state shelf.old None) (at_rest state shelf.new None) }
     ensures reads { S.failures source.old ≤ S.failures source.new }
     ensures writes { O.failures out.old ≤ O.failures out.new }
 {
-    let mut session = Session::new(alloc, Tool::Vmreplay)?;
-    let ended = run_lines(alloc, &mut session, shelf, source, out);
+    let mut session = Session::new(alloc, tool)?;
+    let ended = run_lines(alloc, tool, &mut session, shelf, source, out);
     session.end(shelf);
     ended
 }
 
-// Writes a fault's one line.
-fn tell<E: Sink>(err: &mut E, line: &[u8])
-    ensures tried { Tried (E.failures err.old) (E.failures err.new) (E.written err.old) (E.written err.new) line.now }
-    ensures never_falls { E.failures err.old ≤ E.failures err.new }
-{
-    let _ = write_all(err, line);
-}
+// The longest line of err has 50 bytes: `vmreplay: line 2147483647: unknown method or mode` with its newline.
+const LINE_BYTES: usize = 96;
 
-// Writes what is wrong with a line.
-fn tell_fault<E: Sink>(err: &mut E, n: u32, fault: LineFault) -> Result<(), WriteFailed>
-    ensures told { OnOk result (Told (E.written err.old) (E.written err.new) (err_line (n, fault))) }
-    ensures cause { OnErr result (Rose (E.failures err.old) (E.failures err.new)) }
-    ensures never_falls { E.failures err.old ≤ E.failures err.new }
+fn tool_name(tool: Tool) -> &'static str
+    ensures name { result.now ≡ tool_name tool }
+    ensures short { length result.now ≤ 8 }
 {
-    let mut buffer = Buffer::new();
-    write_all(err, b"vmreplay: line ")?;
-    write_all(err, buffer.format(n).as_bytes())?;
-    write_all(err, b": ")?;
-    write_all(err, fault_text(fault))?;
-    write_all(err, b"\n")
-}
-
-fn fault_text(fault: LineFault) -> &'static [u8]
-    ensures { result.now ≡ fault_text fault }
-{
-    match fault {
-        LineFault::UnknownCommand => b"unknown command",
-        LineFault::WordCount => b"wrong number of words",
-        LineFault::BadName => b"bad name",
-        LineFault::BadNumber => b"bad number",
-        LineFault::BadAddress => b"bad address",
-        LineFault::BadBytes => b"bad bytes",
-        LineFault::UnknownMethod => b"unknown method or mode",
-        LineFault::LineTooLong => b"line too long",
-        LineFault::TooManyLines => b"too many lines",
+    match tool {
+        Tool::Vmreplay => "vmreplay",
+        Tool::Dtrun => "dtrun",
     }
 }
 
-/// Runs the script that the source gives over the disciplines of a shelf, and ends with a status. The replies go to
-/// `out`, a fault's line to `err`.
+fn fault_text(fault: LineFault) -> &'static str
+    ensures text { result.now ≡ fault_text fault }
+    ensures short { length result.now ≤ 22 }
+{
+    match fault {
+        LineFault::UnknownCommand => "unknown command",
+        LineFault::WordCount => "wrong number of words",
+        LineFault::BadName => "bad name",
+        LineFault::BadNumber => "bad number",
+        LineFault::BadAddress => "bad address",
+        LineFault::BadBytes => "bad bytes",
+        LineFault::UnknownMethod => "unknown method or mode",
+        LineFault::LineTooLong => "line too long",
+        LineFault::TooManyLines => "too many lines",
+    }
+}
+
+// Writes what happened, in one line behind the tool's name.
+fn tell<E: Sink>(err: &mut E, tool: Tool, text: &str) -> Result<(), WriteFailed>
+    requires { length text.now ≤ 80 }
+    ensures told { OnOk result (Told (E.written err.old) (E.written err.new)
+        (message tool text.now)) }
+    ensures broke { OnErr result (Broke (E.failures err.old) (E.failures err.new)
+        (E.written err.old) (E.written err.new) (message tool text.now)) }
+    ensures never_falls { E.failures err.old ≤ E.failures err.new }
+{
+    let mut line = ArrayString::<LINE_BYTES>::new();
+    line.push_str(tool_name(tool));
+    line.push_str(": ");
+    line.push_str(text);
+    line.push_str("\n");
+    write_all(err, line.as_str().as_bytes())
+}
+
+// Writes what is wrong with a line.
+fn tell_fault<E: Sink>(err: &mut E, tool: Tool, n: u32, fault: LineFault) -> Result<(), WriteFailed>
+    ensures told { OnOk result (Told (E.written err.old) (E.written err.new)
+        (err_line tool (n, fault))) }
+    ensures broke { OnErr result (Broke (E.failures err.old) (E.failures err.new)
+        (E.written err.old) (E.written err.new) (err_line tool (n, fault))) }
+    ensures never_falls { E.failures err.old ≤ E.failures err.new }
+{
+    let mut buffer = Buffer::new();
+    let mut text = ArrayString::<LINE_BYTES>::new();
+    text.push_str("line ");
+    text.push_str(buffer.format(n));
+    text.push_str(": ");
+    text.push_str(fault_text(fault));
+    tell(err, tool, text.as_str())
+}
+
+/// Runs the script that the source gives over the disciplines of a shelf, and ends with a status. The source is read in
+/// pieces of at most 4,096 bytes. The replies to the lines of one piece are gathered and go to `out` before the next read;
+/// gathering them takes memory. A fault goes to `err`, as one line.
 pub fn replay<S: Source, O: Sink, E: Sink>(
     alloc: Global,
     words: &[String],
@@ -98,72 +123,84 @@ pub fn replay<S: Source, O: Sink, E: Sink>(
 ) -> Status
     // Nothing was wrong, and the replies of the whole script were written.
     ensures ok { result ≡ Status.Ok → (length words.now ≡ 0) × (err.new ≡ err.old)
-        × IfSome (S.left source.old) (λ input. IsReplay
-        (state_over ⟦<BoxedDisc as SegDisc>⟧.state shelf.old.slots.items []) input None
-        (S.left source.new) (O.written out.old) (O.written out.new)
-        (accounts (slots_of ⟦<BoxedDisc as SegDisc>⟧.state shelf.old.slots.items))
-        (accounts (slots_of ⟦<BoxedDisc as SegDisc>⟧.state shelf.new.slots.items))) }
+        × IfSome (S.left source.old) (λ input. IsReplay Vmreplay
+        (at_rest state shelf.old (O.written out.old))
+        (at_rest state shelf.new (O.written out.new)) input None (S.left source.new)) }
 
-    // The replies of the lines before the fault were written, and the fault's line.
-    ensures script { result ≡ Status.Script → (length words.now ≡ 0)
-        × IfSome (S.left source.old) (λ input. (bad : ℕ × LineFault)
-        × IsReplay
-        (state_over ⟦<BoxedDisc as SegDisc>⟧.state shelf.old.slots.items []) input (Some bad)
-        (S.left source.new) (O.written out.old) (O.written out.new)
-        (accounts (slots_of ⟦<BoxedDisc as SegDisc>⟧.state shelf.old.slots.items))
-        (accounts (slots_of ⟦<BoxedDisc as SegDisc>⟧.state shelf.new.slots.items))
-        × Told (E.written err.old) (E.written err.new) (err_line bad)) }
+    // The replies of the lines before the fault were written, and the fault's line. At most 4,096 bytes were read behind
+    // the bad line.
+    ensures script { result ≡ Status.Script → (length words.now ≡ 0) × ((bad : ℕ × LineFault)
+        × Told (E.written err.old) (E.written err.new) (err_line Vmreplay bad)
+        × IfSome (S.left source.old) (λ input. IsReplay Vmreplay
+        (at_rest state shelf.old (O.written out.old))
+        (at_rest state shelf.new (O.written out.new)) input (Some bad) (S.left source.new))) }
 
     // The tool takes no words.
     ensures words { 0 < length words.now → (source.new ≡ source.old) × (out.new ≡ out.old)
-        × ((result ≡ Status.Usage) ⊎ ((result ≡ Status.Write) × Rose (E.failures err.old) (E.failures err.new))) }
+        × ((result ≡ Status.Usage) ⊎ ((result ≡ Status.Write)
+        × Broke (E.failures err.old) (E.failures err.new)
+        (E.written err.old) (E.written err.new)
+        (message Vmreplay (codes "bad arguments")))) }
     ensures usage { result ≡ Status.Usage → (0 < length words.now)
-        × Told (E.written err.old) (E.written err.new) (codes "vmreplay: bad arguments\n") }
+        × Told (E.written err.old) (E.written err.new) (message Vmreplay (codes "bad arguments")) }
 
     // A fault comes from its stream, and its line is tried once.
     ensures read { result ≡ Status.Read → Rose (S.failures source.old) (S.failures source.new)
-        × Tried (E.failures err.old) (E.failures err.new) (E.written err.old) (E.written err.new) (codes "vmreplay: read failed\n") }
-    ensures cut_short { result ≡ Status.Read → IfSome (S.left source.old) (λ input. IsCutShort
-        (state_over ⟦<BoxedDisc as SegDisc>⟧.state shelf.old.slots.items []) input
-        (S.left source.new) (O.written out.old) (O.written out.new)
-        (accounts (slots_of ⟦<BoxedDisc as SegDisc>⟧.state shelf.old.slots.items))
-        (accounts (slots_of ⟦<BoxedDisc as SegDisc>⟧.state shelf.new.slots.items))) }
-    ensures write { result ≡ Status.Write → Rose (E.failures err.old) (E.failures err.new)
-        ⊎ (Rose (O.failures out.old) (O.failures out.new)
-        × Tried (E.failures err.old) (E.failures err.new) (E.written err.old) (E.written err.new) (codes "vmreplay: write failed\n")) }
-    ensures memory { result ≡ Status.Memory
-        → Tried (E.failures err.old) (E.failures err.new) (E.written err.old) (E.written err.new) (codes "vmreplay: out of memory\n") }
+        × Tried (E.failures err.old) (E.failures err.new)
+        (E.written err.old) (E.written err.new) (message Vmreplay (codes "read failed")) }
+
+    // With a failed read the replies of the lines that were wholly read were written, and no byte that was read shows a
+    // fault.
+    ensures cut_short { result ≡ Status.Read
+        → IfSome (S.left source.old) (λ input. IsCutShort Vmreplay
+        (at_rest state shelf.old (O.written out.old)) (at_rest state shelf.new (O.written out.new))
+        input (S.left source.new)) }
+
+    // Where the line of status 1 or 2 could not be written whole, a front of it was.
+    ensures write { result ≡ Status.Write → length words.now ≡ 0
+        → (Rose (O.failures out.old) (O.failures out.new)
+        × Tried (E.failures err.old) (E.failures err.new)
+        (E.written err.old) (E.written err.new) (message Vmreplay (codes "write failed")))
+        ⊎ ((bad : ℕ × LineFault)
+        × Broke (E.failures err.old) (E.failures err.new)
+        (E.written err.old) (E.written err.new) (err_line Vmreplay bad)
+        × IfSome (S.left source.old) (λ input. IsReplay Vmreplay
+        (at_rest state shelf.old (O.written out.old))
+        (at_rest state shelf.new (O.written out.new))
+        input (Some bad) (S.left source.new))) }
+    ensures memory { result ≡ Status.Memory → Tried (E.failures err.old) (E.failures err.new)
+        (E.written err.old) (E.written err.new) (message Vmreplay (codes "out of memory")) }
 
     ensures reads { S.failures source.old ≤ S.failures source.new }
-    ensures writes { (O.failures out.old ≤ O.failures out.new) × (E.failures err.old ≤ E.failures err.new) }
+    ensures writes { (O.failures out.old ≤ O.failures out.new)
+        × (E.failures err.old ≤ E.failures err.new) }
 
-    // On every exit each place has its discipline, with the segments out and the round that it had, and no fault less.
-    ensures settles { Settles
-        (accounts (slots_of ⟦<BoxedDisc as SegDisc>⟧.state shelf.old.slots.items))
-        (accounts (slots_of ⟦<BoxedDisc as SegDisc>⟧.state shelf.new.slots.items)) [] }
+    // On every exit each place has its discipline, with the segments out and the terms that it had, and no fault less.
+    ensures keeps { Keeps (at_rest state shelf.old None) (at_rest state shelf.new None) }
 {
+    let tool = Tool::Vmreplay;
     if !words.is_empty() {
-        return match write_all(err, b"vmreplay: bad arguments\n") {
+        return match tell(err, tool, "bad arguments") {
             Ok(()) => Status::Usage,
             Err(_) => Status::Write,
         };
     }
-    match run_source(alloc, shelf, source, out) {
+    match run_source(alloc, tool, shelf, source, out) {
         Ok(None) => Status::Ok,
-        Ok(Some((n, fault))) => match tell_fault(err, n, fault) {
+        Ok(Some((n, fault))) => match tell_fault(err, tool, n, fault) {
             Ok(()) => Status::Script,
             Err(_) => Status::Write,
         },
         Err(Stop::Read) => {
-            tell(err, b"vmreplay: read failed\n");
+            let _ = tell(err, tool, "read failed");
             Status::Read
         }
         Err(Stop::Write) => {
-            tell(err, b"vmreplay: write failed\n");
+            let _ = tell(err, tool, "write failed");
             Status::Write
         }
         Err(Stop::Memory) => {
-            tell(err, b"vmreplay: out of memory\n");
+            let _ = tell(err, tool, "out of memory");
             Status::Memory
         }
     }

@@ -1,11 +1,12 @@
 // Each public call once, with ample memory.
 use std::test::Fail;
 use vc_base::{
-    Addr, MemSink, MemSource, Name, NeverSink, NeverSource, Sink, Source, Steps, one_more,
+    Addr, MemSink, MemSource, Name, NeverSink, NeverSource, Sink, Source, StdSink, StdSource,
+    Steps, one_more,
 };
 use vc_best::Best;
 use vc_script::{Bytes, Command, Cut, LineAnswer, LineCutter, Reply, Tool, print_reply, read_line};
-use vc_seg::{FuseDisc, HeapDisc, LendFault, SegDisc, Segment, Shelf, ShelfPlace};
+use vc_seg::{BudgetDisc, FuseDisc, HeapDisc, SegDisc, Segment, Shelf, ShelfPlace};
 
 struct Mark;
 
@@ -14,6 +15,7 @@ fn base(rt: HostRuntime) -> Result<(), Fail> {
     let alloc = rt.alloc();
     let at = Addr::new(2, 64);
     assert_eq!(rt; (at.seg(), at.off()), (2, 64));
+    assert!(rt; Addr::NONE.is_none());
     assert_eq!(rt; Name::new(b"a.1").bytes(), b"a.1".as_slice());
     assert_eq!(rt; one_more(u64::MAX), u64::MAX);
     let mut steps = Steps::<Mark>::new(alloc);
@@ -74,6 +76,10 @@ fn segments(rt: HostRuntime) -> Result<(), Fail> {
 fn segment_bytes(rt: HostRuntime) -> Result<(), Fail> {
     let alloc = rt.alloc();
     let mut segment = Segment::take(alloc, 7, 64)?;
+    segment.store(8, 0x0102_0304_0506_0708);
+    assert_eq!(rt; segment.load(8), 0x0102_0304_0506_0708);
+    assert_eq!(rt; segment.bytes(7, 4), b"\0\x08\x07\x06".as_slice());
+    segment.fill(8, 8, 0);
     segment.put(2, b"abcdef");
     assert_eq!(rt; segment.bytes(1, 8), b"\0abcdef\0".as_slice());
     segment.shift(2, 4, 6);
@@ -84,6 +90,42 @@ fn segment_bytes(rt: HostRuntime) -> Result<(), Fail> {
     let mut other = Segment::take(alloc, 8, 64)?;
     other.carry(62, &segment, 4, 2);
     assert_eq!(rt; other.bytes(61, 3), b"\0xc".as_slice());
+    Ok(())
+}
+
+#[test]
+fn budget(rt: HostRuntime) -> Result<(), Fail> {
+    let alloc = rt.alloc();
+    let mut disc = BudgetDisc::new(64, 192);
+    assert_eq!(rt;
+        (disc.round(), disc.faults(), disc.room()),
+        (64, 0, Some(192))
+    );
+    match disc.lend(alloc, 1, 128) {
+        Ok(segment) => {
+            assert_eq!(rt; (segment.number(), segment.size()), (1, 128));
+            assert_eq!(rt; disc.room(), Some(64));
+            assert!(rt; disc.lend(alloc, 2, 128).is_err());
+            assert_eq!(rt; (disc.faults(), disc.room()), (1, Some(64)));
+            disc.take_back(segment);
+        }
+        Err(_) => assert!(rt; false),
+    }
+    assert_eq!(rt; (disc.faults(), disc.room()), (1, Some(192)));
+    Ok(())
+}
+
+#[test]
+fn streams(rt: HostRuntime) -> Result<(), Fail> {
+    let mut source = StdSource::new(b"abc".as_slice());
+    let mut buf = [0; 2];
+    assert_eq!(rt; source.read(&mut buf), Ok(2));
+    assert_eq!(rt; source.read(&mut buf), Ok(1));
+    assert_eq!(rt; source.read(&mut buf), Ok(0));
+    assert_eq!(rt; source.faults(), 0);
+    let mut sink = StdSink::new(Vec::new(rt.alloc()));
+    assert_eq!(rt; sink.write(b"abc"), Ok(3));
+    assert_eq!(rt; sink.faults(), 0);
     Ok(())
 }
 
@@ -114,28 +156,16 @@ fn best(rt: HostRuntime) -> Result<(), Fail> {
     match Best::open(alloc, Box::new(alloc, HeapDisc::new(4096))?) {
         Ok(mut region) => {
             let mut steps = Steps::<Mark>::new(alloc);
-            let at = region.alloc(100, 32, 1, &mut steps);
-            assert_eq!(rt; at, Ok(Addr::new(1, 32)));
-            let (disc, count) = region.close();
-            assert_eq!(rt; (disc.round(), count), (4096, 1));
-        }
-        Err(_) => assert!(rt; false),
-    }
-    Ok(())
-}
-
-#[test]
-fn freed(rt: HostRuntime) -> Result<(), Fail> {
-    let alloc = rt.alloc();
-    match Best::open(alloc, Box::new(alloc, HeapDisc::new(4096))?) {
-        Ok(mut region) => {
-            let mut steps = Steps::<Mark>::new(alloc);
-            match region.alloc(100, 32, 1, &mut steps) {
-                Ok(at) => region.free(at, &mut steps),
+            match region.alloc(100, 64, 1, &mut steps) {
+                Ok(at) => {
+                    assert_eq!(rt; at, Addr::new(1, 64));
+                    region.fill(at, 98, 2, b'x');
+                    assert_eq!(rt; region.read(at, 97, 3), b"\0xx".as_slice());
+                }
                 Err(_) => assert!(rt; false),
             }
-            let next = region.alloc(50, 32, 2, &mut steps);
-            assert_eq!(rt; next, Ok(Addr::new(1, 32)));
+            let (disc, count) = region.close();
+            assert_eq!(rt; (disc.round(), count), (4096, 1));
         }
         Err(_) => assert!(rt; false),
     }

@@ -11,5 +11,3 @@ mod prints;
 mod region;
 #[cfg(test)]
 mod session;
-#[cfg(test)]
-mod walks;

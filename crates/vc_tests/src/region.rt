@@ -41,67 +41,23 @@ fn changed(rt: HostRuntime) -> Result<(), Fail> {
     let alloc = rt.alloc();
     let disc = Box::new(alloc, HeapDisc::new(4096))?;
     match Region::open(alloc, Method::VmBest, disc) {
-        Ok(mut region) => match region.alloc(6, 1, b"-") {
-            Ok(at) => {
-                region.write(at, 1, b"abc");
-                assert_eq!(rt; (region.size(at), region.tag(at)), (6, 1));
-                assert_eq!(rt; region.read(at, 0, 6), b"\0abc\0\0".as_slice());
-                assert_eq!(rt; region.resize(at, 3, false), Ok(at));
-            }
-            Err(_) => assert!(rt; false),
-        },
-        Err(_) => assert!(rt; false),
-    }
-    Ok(())
-}
-
-#[test]
-fn freed(rt: HostRuntime) -> Result<(), Fail> {
-    let alloc = rt.alloc();
-    let disc = Box::new(alloc, HeapDisc::new(4096))?;
-    match Region::open(alloc, Method::VmBest, disc) {
         Ok(mut region) => {
             match region.alloc(6, 1, b"-") {
-                Ok(at) => assert_eq!(rt; region.free(at), Ok(())),
+                Ok(at) => {
+                    region.write(at, 1, b"abc");
+                    assert_eq!(rt; (region.size(at), region.tag(at)), (6, 1));
+                    assert_eq!(rt; region.read(at, 0, 6), b"\0abc\0\0".as_slice());
+                    assert_eq!(rt; region.resize(at, 3, false), Ok(at));
+                    assert_eq!(rt; region.free(at), Ok(()));
+                }
                 Err(_) => assert!(rt; false),
             }
-            let next = region.alloc(50, 2, b"-");
-            assert_eq!(rt; next, Ok(Addr::new(1, 32)));
-        }
-        Err(_) => assert!(rt; false),
-    }
-    Ok(())
-}
-
-#[test]
-fn emptied(rt: HostRuntime) -> Result<(), Fail> {
-    let alloc = rt.alloc();
-    let disc = Box::new(alloc, HeapDisc::new(4096))?;
-    match Region::open(alloc, Method::VmBest, disc) {
-        Ok(mut region) => {
-            let first = region.alloc(5000, 1, b"-");
-            assert_eq!(rt; first, Ok(Addr::new(1, 32)));
+            let large = region.alloc(5000, 2, b"-");
+            assert_eq!(rt; large, Ok(Addr::new(2, 32)));
             region.clear();
-            let stat = region.stat();
-            assert_eq!(rt; (stat.busy, stat.mfree, stat.segs), (0, 8160, 1));
-            assert_eq!(rt; region.compact(), 1);
-            assert_eq!(rt; region.next_segment(0), None);
-        }
-        Err(_) => assert!(rt; false),
-    }
-    Ok(())
-}
-
-#[test]
-fn closed(rt: HostRuntime) -> Result<(), Fail> {
-    let alloc = rt.alloc();
-    let disc = Box::new(alloc, HeapDisc::new(4096))?;
-    match Region::open(alloc, Method::VmBest, disc) {
-        Ok(mut region) => {
-            let first = region.alloc(100, 1, b"-");
-            assert_eq!(rt; first, Ok(Addr::new(1, 32)));
+            assert_eq!(rt; region.compact(), 2);
             let (disc, count) = region.close();
-            assert_eq!(rt; (disc.round(), count), (4096, 1));
+            assert_eq!(rt; (disc.round(), count), (4096, 0));
         }
         Err(_) => assert!(rt; false),
     }

@@ -1,6 +1,10 @@
 //! Runs a script over regions, from standard input to standard output.
 #![tactic(auto)]
 
+ghost use Rattle.std.specs.Prelude.{◌≡◌};
+ghost use Rattle.std.specs.Process.{exit_status};
+ghost use Rattle.vc_session.specs.Replay.{number};
+
 use std::alloc::{AllocError, Global};
 use std::env::{self, Env};
 use std::io::ErrorKind;
@@ -24,7 +28,10 @@ fn words_of<R: Env + Alloc<A = Global>>(rt: &R) -> Result<Vec<String>, AllocErro
     Ok(words)
 }
 
-fn exit(status: Status) -> ExitCode {
+// What the program ends with: the number of the status.
+fn exit(status: Status) -> ExitCode
+    ensures { exit_status result ≡ number status }
+{
     ExitCode::from(status.number())
 }
 

@@ -1,0 +1,11 @@
+use Rattle.std.proofs.Common.{◌≡◌, sym, ◌∙◌, arith, min, length}
+use Rattle.vc_dtdisc.specs.Shapes.{folded}
+use Rattle.vc_dtdisc.proofs.Folded.{ends_compare}
+use Rattle.vc_dtdisc.proofs.bytes.compare_folded.Goals as goal
+
+pub returns : goal.returns
+returns c =
+    let a = c.args.a.now in
+    let b = c.args.b.now in
+    let at : c.loop-i.i ≡ min (length a) (length b) = omega arith in
+    c.cmp.ensures ∙ sym (c.loop-i.invariant ∙ (rw at (ends_compare folded a b)))

@@ -1,0 +1,4 @@
+pub mod Finds
+pub mod Rules
+pub mod Shapes
+pub mod ShapeLaws

@@ -1,0 +1,42 @@
+ghost use Rattle.std.specs.Prelude.{◌≡◌, ℕ, ◌+◌, [], OnOk, OnErr};
+ghost use Rattle.vc_dtdisc.specs.Rules.{Gone, Rules, AreLawful, gone_after};
+
+use std::cmp::Ordering;
+use vc_base::{OutOfMemory, Steps};
+
+/// The kind of a dictionary, after Cdt's disciplines. Its meaning over lists of other numbers than bytes is its own
+/// choice.
+pub trait DictDisc {
+    /// Its rules: an object's key, the order and the hash of keys, and the object that is made of a prototype.
+    ghost rules: { Self → Rules };
+
+    /// Of how many objects and bytes it was told that they go.
+    ghost gone: { Self → Gone };
+
+    /// The key of an object: a part of its bytes.
+    fn key<'a>(&self, obj: &'a [u8]) -> &'a [u8]
+        ensures { result.now ≡ (rules self.now).key obj.now };
+
+    /// How one key stands to another, in one step.
+    fn compare<L>(&self, a: &[u8], b: &[u8], steps: &mut Steps<L>) -> Ordering
+        ensures value { result ≡ (rules self.now).compare a.now b.now }
+        ensures step { steps.new ≡ steps.old + 1 };
+
+    /// The hash of a key.
+    fn hash(&self, key: &[u8]) -> u64
+        ensures { result ≡ (rules self.now).hash key.now };
+
+    /// Makes an object of a prototype, into an empty vector. With no memory the vector stays empty.
+    fn make(&self, obj: &[u8], out: &mut Vec<u8>) -> Result<(), OutOfMemory>
+        requires { out.old.items ≡ [] }
+        ensures ok { OnOk result (out.new.items ≡ (rules self.now).made obj.now) }
+        ensures err { OnErr result (out.new.items ≡ []) };
+
+    /// Is told that an object goes. It cannot fail.
+    fn freed(&mut self, obj: &[u8])
+        ensures gone { gone self.new ≡ gone_after (gone self.old) obj.now }
+        ensures rules { rules self.new ≡ rules self.old };
+
+    /// Keys have a total preorder, equal keys have equal hashes, and a made object is an object with an equal key.
+    ghost lawful: { (kind : Self) → AreLawful (rules kind) };
+}

@@ -1,0 +1,28 @@
+use Rattle.std.proofs.Common.{◌≡◌, ◌++◌, ◌∷◌, false, refl, [], sym, subst, append-nil}
+use Rattle.vc_base.specs.Holders.{contains}
+use Rattle.vc_dtlist.specs.Linked.{StandsFor, Turned}
+use Rattle.vc_dtlist.proofs.TurnLemmas.{apart_in}
+use Rattle.vc_dtlist.proofs.dt_list.DtList.push_back.Goals as goal
+
+pub link-requires : goal.link-requires
+link-requires g c =
+    let r = c.requires in
+    let e = sym (append-nil r.holders) in
+    record {
+      front = r.holders;
+      rest = [];
+      stands = subst (λ z. StandsFor c.args.self.now (g.C.Cells.blocks c.args.cells.now) z) e r.stands;
+      apart = subst (λ z. contains z c.args.at.0 ≡ false) e r.apart;
+      holder = r.holder;
+      previous = r.stands.last;
+      next = refl;
+    }
+
+pub returns-clause-list : goal.returns-clause-list
+returns-clause-list g c = λ holders s.
+    let blocks = g.C.Cells.blocks in
+    let at = c.args.at.0 in
+    let e = append-nil holders in
+    let apart = apart_in c.args.self.now (blocks c.args.cells.now) at c.requires holders s in
+    subst (λ z. Turned at z (blocks c.args.cells.now) c.link.new.self (blocks c.link.new.cells) (holders ++ at ∷ [])) e
+    (c.link.ensures.list holders [] (subst (λ z. StandsFor c.args.self.now (blocks c.args.cells.now) z) (sym e) s) (subst (λ z. contains z at ≡ false) (sym e) apart) s.last refl)

@@ -1,0 +1,7 @@
+//! Linked lists of holders, for lists, stacks and queues: each holder's words name its neighbours.
+#![tactic(auto)]
+
+mod dt_list;
+mod words;
+
+pub use dt_list::DtList;

@@ -1,0 +1,121 @@
+// In what order segments go back, and what comes of a room that is told.
+ghost use Rattle.std.specs.Prelude.{◌≡◌, ◌%◌, Contains, IfOk, OnOk, IsErrOf};
+ghost use Rattle.vc_model.specs.Discipline.{IsRound, IsSegmentSize, Lent, Unserved};
+ghost use Rattle.vc_seg.specs.Budget.{discipline_of};
+ghost use Rattle.vc_seg.specs.Lend.{Returned};
+ghost use Rattle.vc_seg.specs.Segment.{pair_of, zeroed};
+
+use crate::given::{ample, comes, fine};
+use std::alloc::Global;
+use std::cell::Cell;
+use std::rc::Rc;
+use std::test::Fail;
+use vc_seg::{BudgetDisc, LendFault, SegDisc, Segment, Shelf};
+
+// A discipline with a budget that notes each segment that it takes back, by two digits behind those of earlier ones: its
+// own, and that of the segment's number.
+#[derive(Drop)]
+struct Noting {
+    inner: BudgetDisc,
+    digit: u128,
+    notes: Rc<Cell<u128>>,
+}
+
+impl SegDisc for Noting {
+    ghost state = { λ d. discipline_of d.inner };
+
+    fn round(&self) -> u32 {
+        self.inner.round()
+    }
+
+    fn faults(&self) -> u64 {
+        self.inner.faults()
+    }
+
+    fn room(&self) -> Option<u64> {
+        self.inner.room()
+    }
+
+    fn lend(&mut self, alloc: Global, number: u32, size: u32) -> Result<Segment, LendFault> {
+        self.inner.lend(alloc, number, size)
+    }
+
+    fn take_back(&mut self, seg: Segment) {
+        let note = self
+            .digit
+            .wrapping_mul(10)
+            .wrapping_add(u128::from(seg.number()));
+        self.notes
+            .set(self.notes.get().wrapping_mul(100).wrapping_add(note));
+        self.inner.take_back(seg);
+    }
+}
+
+const SCRIPT: &[u8] = b"\
+open r best 1\n\
+open s best 2\n\
+alloc r a 4000\n\
+alloc r b 4000\n\
+alloc r c 4000\n\
+alloc r d 4000\n\
+alloc s x 4000\n\
+alloc s y 4000\n\
+alloc s z 4000\n\
+free r c\n\
+free r a\n\
+compact r\n\
+alloc r e 4000\n\
+close s\n\
+open s best 2\n\
+alloc s x 4000\n\
+alloc s y 4000\n\
+alloc s z 4000\n\
+alloc s w 4000\n\
+alloc s v 4000\n\
+";
+
+const REPLIES: &[u8] = b"\
+r open\n\
+s open\n\
+a 1:32\n\
+b 2:32\n\
+c 3:32\n\
+d 4:32\n\
+x 1:32\n\
+y 2:32\n\
+z 3:32\n\
+c freed\n\
+a freed\n\
+r compacted 2\n\
+e 1:32\n\
+s closed 3\n\
+s open\n\
+x 1:32\n\
+y 2:32\n\
+z 3:32\n\
+w 4:32\n\
+refused: no segment\n\
+";
+
+// compact gives back 1 and 3 of the first, close 1 to 3 of the second, and the end 1, 2 and 4 of the first and then 1 to 4
+// of the second. The second has room for four segments of 4,096 bytes.
+#[test]
+fn order(rt: HostRuntime) -> Result<(), Fail> {
+    let alloc = rt.alloc();
+    for piece in [1, 4096] {
+        let notes = Rc::new(alloc, Cell::new(0))?;
+        let mut shelf = Shelf::new(alloc);
+        for digit in 1..3 {
+            assert!(rt; shelf.len() < 2);
+            let disc = Noting {
+                inner: BudgetDisc::new(4096, 16_384),
+                digit,
+                notes: notes.clone()?,
+            };
+            assert!(rt; shelf.put(Box::new(alloc, disc)?).is_ok());
+        }
+        comes(&rt, alloc, &mut shelf, ample(SCRIPT, piece), fine(REPLIES))?;
+        assert_eq!(rt; notes.get(), 111_321_222_311_121_421_222_324);
+    }
+    Ok(())
+}

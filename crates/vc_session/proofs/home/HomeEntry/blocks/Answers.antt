@@ -1,0 +1,48 @@
+use Rattle.std.proofs.Common.{◌≡◌, ℕ, Option, List, ◌++◌, [], ◌∷◌, length, inr, sym, ap, ◌∙◌, append_assoc, append-nil, arith}
+use Rattle.vc_model.specs.Layout.{address_of}
+use Rattle.vc_model.specs.Walk.{by_address, next_block}
+use Rattle.vc_region.proofs.Sound.{own_places}
+use Rattle.vc_model.specs.Region.{relabelled}
+use Rattle.vc_region.specs.Parts.{blocks_in, region_of}
+use Rattle.vc_script.specs.declared.reply.Reply.TheVariants.{BlockList}
+use Rattle.vc_session.specs.Labels.{name_of}
+use Rattle.vc_session.specs.State.{changed_to}
+use Rattle.vc_session.specs.Whole.{item_of}
+use Rattle.vc_session.proofs.Listing.{FromSome, NextBlock, blocks-all, blocks-end, blocks-next, blocks_above, from_none, from_some, items_of, list-items, next-told}
+use Rattle.vc_session.proofs.home.HomeEntry.blocks.Goals as goal
+
+pub loop-block-smaller : goal.loop-block-smaller
+loop-block-smaller g c =
+    let bs = blocks_in c.args.self.now.region in
+    let b = from_some address_of (next_block c.loop-block.after.0 bs) c.in-Some.block.0 (sym c.in-Some.ensures.value) in
+    let e = ap length (blocks-next c.loop-block.after.0 bs b.from c.in-Some.block.0 (own_places c.args.self.now.region) b.was b.to) in
+    omega (arith, e)
+
+pub loop-block-preserved : goal.loop-block-preserved
+loop-block-preserved g c =
+    let bs = blocks_in c.args.self.now.region in
+    let labels = c.args.labels.now in
+    let next = next-told bs labels c.loop-block.after.0 c.in-Some.block.0 c.tag.result c.size.result c.name-name.result c.place_of.result (own_places c.args.self.now.region) (sym c.in-Some.ensures.value) c.tag.ensures c.name-name.ensures c.place_of.ensures.seg c.place_of.ensures.off c.size.ensures in
+    let rest = items_of labels (blocks_above c.in-Some.block.0 bs) in
+    record {
+      items =
+          ap (λ is. is ++ rest) (c.in_ok-push.ensures.items ∙ ap (λ i. c.loop-block.items.items ++ i ∷ []) (sym next.item_is))
+          ∙ (append_assoc c.loop-block.items.items (items_of labels (next.it ∷ [])) rest
+          ∙ (ap (λ is. c.loop-block.items.items ++ is) (sym (ap (items_of labels) next.row))
+          ∙ c.loop-block.invariant.items));
+      from = inr c.in-Some.ensures.live;
+    }
+
+pub returns : goal.returns
+returns g c = λ r.
+    let bs = blocks_in c.args.self.now.region in
+    let labels = c.args.labels.now in
+    let places = own_places c.args.self.now.region in
+    let none = from_none address_of (next_block c.loop-block.after.0 bs) (sym c.in_default.ensures.value) in
+    let all : c.from_vec.result ≡ items_of labels (by_address bs) =
+    c.from_vec.ensures
+    ∙ (sym (append-nil c.loop-block.items.items)
+    ∙ (ap (λ is. c.loop-block.items.items ++ items_of labels is) (sym (blocks-end c.loop-block.after.0 bs places none))
+    ∙ (c.loop-block.invariant.items
+    ∙ ap (items_of labels) (blocks-all bs places)))) in
+    ap (λ is. changed_to (relabelled (name_of c.args.labels.now) (region_of c.args.self.now.region)) (BlockList is)) (list-items (region_of c.args.self.now.region) labels ∙ sym all)
