@@ -115,7 +115,8 @@ impl DtList {
     ) -> Option<Addr>
         requires { IsList self.now (C.blocks cells.now) }
         ensures { (holders : List ℕ) → StandsFor self.now (C.blocks cells.now) holders
-            → Finds (D.rules kind.now) (C.blocks cells.now) key.now holders result steps.old steps.new }
+            → Finds (D.rules kind.now) (C.blocks cells.now) key.now holders result
+            steps.old steps.new }
     {
         let mut at = self.first;
         // A list has fewer than 2^32 holders, since each has an address of its own.

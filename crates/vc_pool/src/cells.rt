@@ -104,7 +104,8 @@ impl Cells {
         ensures answer { Answers (pool_alloc
             (state disc.old).terms self.old tag size) result self.old self.new }
         ensures disc { Asks result (state disc.old) (state disc.new)
-            self.old.layout.segments self.new.layout.segments (pool_need (state disc.old).terms self.old size) }
+            self.old.layout.segments self.new.layout.segments
+            (pool_need (state disc.old).terms self.old size) }
     {
         let element = self.element_with(size);
         let blocks = self.layout.slots().len();
@@ -150,7 +151,8 @@ impl Cells {
         ensures answer { Answers (pool_alloc
             (state disc.old).terms self.old tag size) result self.old self.new }
         ensures disc { Asks result (state disc.old) (state disc.new)
-            self.old.layout.segments self.new.layout.segments (pool_need (state disc.old).terms self.old size) }
+            self.old.layout.segments self.new.layout.segments
+            (pool_need (state disc.old).terms self.old size) }
     {
         let element = self.element_with(size);
         if size > element {

@@ -49,7 +49,8 @@ impl Pool {
     pub fn alloc(&mut self, size: u32, tag: u32) -> Result<Addr, RegionFault>
         requires some { 1 ≤ size }
         requires most { size ≤ 16777216 }
-        ensures answer { Answers (pool_alloc (state self.old.disc).terms self.old.cells tag size) result
+        ensures answer { Answers (pool_alloc (state self.old.disc).terms self.old.cells tag size)
+            result
             self.old.cells self.new.cells }
         ensures disc { Asks result (state self.old.disc) (state self.new.disc)
             self.old.cells.layout.segments self.new.cells.layout.segments

@@ -20,7 +20,8 @@ impl Region {
         requires most { size ≤ 16777216 }
 
         ensures answer { Answers
-            (region_resize (disc_in state self.old).terms (region_of self.old) (place_of a.0) size may_move)
+            (region_resize (disc_in state self.old).terms
+            (region_of self.old) (place_of a.0) size may_move)
             result (region_of self.old) (region_of self.new) }
         ensures disc { Asks result (disc_in state self.old) (disc_in state self.new)
             (segments_in self.old) (segments_in self.new)

@@ -108,7 +108,8 @@ impl SegDisc for BudgetDisc {
 
     fn take_back(&mut self, seg: Segment)
         requires { Contains self.old.out (pair_of seg) }
-        ensures returned { Returned (discipline_of self.old) (discipline_of self.new) (pair_of seg) }
+        ensures returned { Returned
+            (discipline_of self.old) (discipline_of self.new) (pair_of seg) }
         ensures back { room_of self.new ≡ room_of self.old + length seg.bytes }
         ensures budget { self.new.budget ≡ self.old.budget }
     {

@@ -29,7 +29,12 @@ impl Model for FuseDisc {
     ghost Value = { Fuse };
 
     ghost view = { λ d. record {
-      discipline = record { out = d.lent; faults = d.refusals; terms = record { round = d.unit }; room = None };
+      discipline = record {
+        out = d.lent;
+        faults = d.refusals;
+        terms = record { round = d.unit };
+        room = None;
+      };
       fails = d.fails.items;
       calls = d.calls;
     } };

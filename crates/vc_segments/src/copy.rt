@@ -33,7 +33,8 @@ pub fn copy_in(segs: &mut [Segment], number: u32, from: u32, target: u32, to: u3
     requires from { from + len ≤ length (bytes_of_number number segs.old) }
     requires to { to + len ≤ length (bytes_of_number target segs.old) }
     ensures { segs.new
-        ≡ write_segment target to (take len (drop from (bytes_of_number number segs.old))) segs.old }
+        ≡ write_segment target to
+        (take len (drop from (bytes_of_number number segs.old))) segs.old }
 {
     match find_number(segs, number) {
         Some(source) => match find_number(segs, target) {

@@ -59,10 +59,12 @@ stay-other old new tag b same live other = λ first.
 module _ (old new : Labels) (tag : ℕ) (label : Label) (w : WithLabel old new tag label) (vacant : label_at old tag ≡ None) where
   stay-new : (bs : List (Block ℕ)) → AllByRecursion (λ b. 1 ≤ b.label → IsLive old b) bs → AllByRecursion (Stays old new) bs
   stay-new [] all = tt
-  stay-new (b ∷ bs) all =
-      ((λ first.
-      let l = all.0 first in
-      stay-other old new tag b w.other_tags all.0 (λ e. none-some l.label (sym vacant ∙ (ap (label_at old) (sym e) ∙ l.here))) first), stay-new bs all.1)
+  stay-new (b ∷ bs) all = (
+    (λ first.
+        let l = all.0 first in
+        stay-other old new tag b w.other_tags all.0 (λ e. none-some l.label (sym vacant ∙ (ap (label_at old) (sym e) ∙ l.here))) first),
+    stay-new bs all.1,
+  )
 
   pub name-new : name_of new tag ≡ Some label.name
   name-new = name-here new tag label w.first w.at

@@ -58,9 +58,12 @@ impl Labels {
 
         ensures agree { AreLabels self.new }
         ensures same { SameLabels self.old self.new }
-        ensures ok { IfOk result (λ tag. (tag ≡ self.new.by_tag.vacant_key + 1) × (1 ≤ tag) × (label_at self.new tag ≡ None)) }
-        ensures room { IfOk result (λ tag. HasRoomFor self.new.by_tag 1 × (0 < spare self.new.tags)) }
-        ensures succeeds { HasRoomFor self.old.by_tag 1 → 0 < spare self.old.tags → self.old.by_tag.vacant_key + 1 < 2 ^ 32 → IsOk result }
+        ensures ok { IfOk result (λ tag. (tag ≡ self.new.by_tag.vacant_key + 1)
+            × (1 ≤ tag) × (label_at self.new tag ≡ None)) }
+        ensures room { IfOk result (λ tag. HasRoomFor self.new.by_tag 1
+            × (0 < spare self.new.tags)) }
+        ensures succeeds { HasRoomFor self.old.by_tag 1 → 0 < spare self.old.tags
+            → self.old.by_tag.vacant_key + 1 < 2 ^ 32 → IsOk result }
     {
         self.by_tag.reserve(1)?;
         self.tags.reserve(1)?;
@@ -80,7 +83,8 @@ impl Labels {
         requires tag { self.old.by_tag.vacant_key + 1 < 2 ^ 32 }
 
         ensures agree { AreLabels self.new }
-        ensures with { WithLabel self.old self.new (self.old.by_tag.vacant_key + 1) (record { name = name; at = at }) }
+        ensures with { WithLabel self.old self.new
+            (self.old.by_tag.vacant_key + 1) (record { name = name; at = at }) }
     {
         let tag = self.by_tag.insert_reserved(Label { name, at }) as u32 + 1;
         // There is room, so this takes no memory and cannot fail.
@@ -92,8 +96,10 @@ impl Labels {
         requires agree { AreLabels self.old }
 
         ensures agree { AreLabels self.new }
-        ensures some { IfSome result (λ at. (tag : ℕ) × WithoutLabel self.old self.new tag (record { name = name.now; at = at })) }
-        ensures none { IfNone result ((tag_of self.old name.now ≡ None) × SameLabels self.old self.new) }
+        ensures some { IfSome result (λ at. (tag : ℕ)
+            × WithoutLabel self.old self.new tag (record { name = name.now; at = at })) }
+        ensures none { IfNone result ((tag_of self.old name.now ≡ None)
+            × SameLabels self.old self.new) }
     {
         match self.tags.remove(name) {
             Some(tag) => Some(self.by_tag.remove(tag as usize - 1).at),
@@ -104,7 +110,9 @@ impl Labels {
     // The address of the block of this name.
     pub(crate) fn find(&self, name: &Name) -> Option<Addr>
         requires agree { AreLabels self.now }
-        ensures some { IfSome result (λ at. (tag : ℕ) × (tag_of self.now name.now ≡ Some tag) × (label_at self.now tag ≡ Some (record { name = name.now; at = at }))) }
+        ensures some { IfSome result (λ at. (tag : ℕ)
+            × (tag_of self.now name.now ≡ Some tag)
+            × (label_at self.now tag ≡ Some (record { name = name.now; at = at }))) }
         ensures none { IfNone result (tag_of self.now name.now ≡ None) }
     {
         match self.tags.get(name) {
@@ -144,7 +152,8 @@ impl Labels {
         requires agree { AreLabels self.old }
         requires there { IsSome (tag_of self.old name.now) }
         ensures agree { AreLabels self.new }
-        ensures moved { IfSome (tag_of self.old name.now) (λ tag. MovesLabel self.old self.new tag (record { name = name.now; at = at })) }
+        ensures moved { IfSome (tag_of self.old name.now)
+            (λ tag. MovesLabel self.old self.new tag (record { name = name.now; at = at })) }
     {
         match self.tags.get(name) {
             Some(tag) => {

@@ -6,8 +6,10 @@ use vc_base::{Sink, WriteFailed};
 
 // Writes all of a piece, in as many writes as the sink wants.
 pub(crate) fn write_all<O: Sink>(out: &mut O, piece: &[u8]) -> Result<(), WriteFailed>
-    ensures ok { OnOk result (IfSome (O.written out.old) (λ w. O.written out.new ≡ Some (w ++ piece.now))) }
-    ensures front { IfSome (O.written out.old) (λ w. (k : ℕ) × (O.written out.new ≡ Some (w ++ take k piece.now))) }
+    ensures ok { OnOk result (IfSome (O.written out.old) (λ w.
+        O.written out.new ≡ Some (w ++ piece.now))) }
+    ensures front { IfSome (O.written out.old) (λ w. (k : ℕ)
+        × (O.written out.new ≡ Some (w ++ take k piece.now))) }
     ensures cause { OnErr result (Rose (O.failures out.old) (O.failures out.new)) }
     ensures never_falls { O.failures out.old ≤ O.failures out.new }
 {

@@ -30,7 +30,8 @@ impl HomeEntry {
 
     // Tells the segment that has the byte at a place.
     pub(crate) fn segment(&self, at: Place) -> Reply
-        ensures { (labels : Labels) (r : List ℕ) → segment_in (home_of (held_of state r self.now labels)) at
+        ensures { (labels : Labels) (r : List ℕ)
+            → segment_in (home_of (held_of state r self.now labels)) at
             ≡ told (home_of (held_of state r self.now labels)) result }
     {
         match self.region.segment_at(at.seg, at.off) {
@@ -41,7 +42,8 @@ impl HomeEntry {
 
     // Tells the numbers of the region.
     pub(crate) fn stat(&self) -> Reply
-        ensures { (labels : Labels) (r : List ℕ) → stat_in (home_of (held_of state r self.now labels))
+        ensures { (labels : Labels) (r : List ℕ)
+            → stat_in (home_of (held_of state r self.now labels))
             ≡ told (home_of (held_of state r self.now labels)) result }
     {
         Reply::Stats(self.region.stat())
@@ -49,7 +51,8 @@ impl HomeEntry {
 
     // Lists the segments by number.
     pub(crate) fn segments(&self, alloc: Global) -> Result<Reply, OutOfMemory>
-        ensures { IfOk result (λ reply. (labels : Labels) (r : List ℕ) → list_segments (home_of (held_of state r self.now labels))
+        ensures { IfOk result (λ reply. (labels : Labels) (r : List ℕ)
+            → list_segments (home_of (held_of state r self.now labels))
             ≡ told (home_of (held_of state r self.now labels)) reply) }
     {
         let mut items = Vec::new(alloc);
@@ -64,7 +67,8 @@ impl HomeEntry {
     // Lists the blocks by address.
     pub(crate) fn blocks(&self, labels: &Labels, alloc: Global) -> Result<Reply, OutOfMemory>
         requires names { IsNamed (region_of self.now.region) labels.now }
-        ensures { IfOk result (λ reply. (r : List ℕ) → list_blocks (home_of (held_of state r self.now labels.now))
+        ensures { IfOk result (λ reply. (r : List ℕ)
+            → list_blocks (home_of (held_of state r self.now labels.now))
             ≡ told (home_of (held_of state r self.now labels.now)) reply) }
     {
         let mut items = Vec::new(alloc);

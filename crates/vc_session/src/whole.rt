@@ -37,9 +37,11 @@ impl HomeEntry {
         requires lent { HasOut (disc_in state self.old.region)
             (segments_in self.old.region) }
 
-        ensures step { (labels : Labels) (r : List ℕ) → compact_in (home_of (held_of state r self.old labels)) name
+        ensures step { (labels : Labels) (r : List ℕ)
+            → compact_in (home_of (held_of state r self.old labels)) name
             ≡ changed_to (region_with self.new labels) result }
-        ensures change { (labels : Labels) → IsNamed (region_of self.old.region) labels → Changes state
+        ensures change { (labels : Labels) → IsNamed (region_of self.old.region) labels
+            → Changes state
             self.old labels self.new labels }
     {
         Reply::Compacted(name, self.region.compact())
