@@ -113,13 +113,8 @@ impl Layout {
         requires { HasOut (state disc.old) self.old.segments }
         ensures layout { self.new ≡ compacted self.old }
         ensures count { result ≡ compact_count self.old }
-<<<<<<< HEAD
         ensures disc { TookBack (state disc.old) (state disc.new) self.old.segments
             self.new.segments }
-=======
-        ensures disc { TookBack (state disc.old)
-            (state disc.new) self.old.segments self.new.segments }
->>>>>>> f27529f36c9332d5ab669f46220cdae92322740b
     {
         let before = self.segs.len();
         give_back(&mut self.segs, &Occupied(&self.blocks), disc);
