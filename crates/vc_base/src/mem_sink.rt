@@ -87,7 +87,8 @@ impl Sink for MemSink {
         ensures state { self.new ≡ after_write self.old piece.now }
 
         // What each sink ensures.
-        ensures ok { IfOk result (λ n. Writes (Some self.old.written) (Some self.new.written) piece.now n) }
+        ensures ok { IfOk result (λ n. Writes (Some self.old.written) (Some self.new.written)
+            piece.now n) }
         ensures err { OnErr result (Some self.new.written ≡ Some self.old.written) }
         ensures never_falls { self.old.faults ≤ self.new.faults }
         ensures cause { OnErr result (Rose self.old.faults self.new.faults) }

@@ -1,5 +1,5 @@
 -- Slots of which no two have a byte in common.
-use Rattle.std.proofs.Common.{◌≡◌, ℕ, suc, ◌<◌, ◌≤◌, List, [], ◌∷◌, ◌++◌, All, AllPairs, get_or, map, inl, inr, ⊎_elim, eqb, ltb, arith}
+use Rattle.std.proofs.Common.{◌≡◌, suc, List, [], ◌∷◌, All, AllPairs, get_or, map, inl, inr, ⊎_elim, ltb, arith}
 use Rattle.std.proofs.lemmas.Bool.{cases_Bool, ltb-true, ltb-false}
 use Rattle.std.proofs.lemmas.List.Elements.{All-head, All-tail, All-nil, All-cons, All-map, All-push}
 use Rattle.std.proofs.lemmas.List.Kept.{AllPairs-cons}

@@ -1,10 +1,9 @@
 -- What clearing and compacting make of a layout and of its region.
-use Rattle.std.proofs.Common.{◌≡◌, ℕ, ◌+◌, ◌-◌, ◌<◌, ◌≤◌, List, [], ◌∷◌, Bool, true, false, All, length, get_or, map, filter, take, drop, refl, ap, sym, ◌∙◌, subst, ⊎_elim, eqb, arith}
+use Rattle.std.proofs.Common.{◌≡◌, ℕ, ◌-◌, ◌<◌, ◌≤◌, List, [], ◌∷◌, Bool, true, false, All, length, get_or, map, filter, take, drop, refl, ap, sym, ◌∙◌, subst, ⊎_elim, eqb, arith}
 use Rattle.std.proofs.lemmas.Bool.{cases_Bool, eq-eqb, eqb-true}
 use Rattle.std.proofs.lemmas.List.{length-map}
-use Rattle.std.proofs.lemmas.List.Elements.{All-head, All-tail, All-nil, All-filter, filter_agree}
+use Rattle.std.proofs.lemmas.List.Elements.{All-head, All-tail, All-nil, filter_agree}
 use Rattle.std.proofs.lemmas.List.Folds.{list_any_at}
-use Rattle.std.proofs.lemmas.List.Kept.{AllPairs-filter}
 use Rattle.std.proofs.lemmas.List.Sums.{length-filter, count_by-le-length}
 use Rattle.vc_model.specs.Layout.{Block, Layout}
 use Rattle.vc_model.specs.Discipline.{Discipline, TookBack}
@@ -12,12 +11,10 @@ use Rattle.vc_model.specs.Compact.{compact_count, compacted, is_occupied}
 use Rattle.vc_seg.specs.Segment.{Bytes, pair_of}
 use Rattle.vc_blocks.specs.declared.slot.Slot.{Slot}
 use Rattle.vc_blocks.specs.Slot.{has_slot, body_of}
-use Rattle.vc_segments.specs.Memory.{bytes_of_number, IsRegionSegment}
+use Rattle.vc_segments.specs.Memory.{bytes_of_number}
 use Rattle.vc_blocks.specs.Layout.{block_in, layout_of, IsSlotIn, IsLayout}
-use Rattle.vc_segments.specs.Memory.{AreSegments}
 use Rattle.vc_segments.proofs.Backs.{AreSegments-filter}
 use Rattle.vc_blocks.proofs.Apart.{AllPairs-nil, Beside}
-use Rattle.vc_segments.proofs.Bytes.{Apart}
 use Rattle.vc_segments.proofs.Filters.{filter-map}
 
 pub IsLayout-cleared : (segs : List Bytes) (slots : List Slot) → IsLayout segs slots → IsLayout segs []

@@ -1,18 +1,18 @@
 -- What a layout is where a slot or a segment is added.
-use Rattle.std.proofs.Common.{◌≡◌, ℕ, ◌+◌, ◌-◌, ◌<◌, ◌≤◌, List, [], ◌∷◌, ◌++◌, true, false, All, length, map, replicate, take, drop, refl, ap, sym, ◌∙◌, subst, ⊎_elim, arith}
+use Rattle.std.proofs.Common.{◌≡◌, ℕ, ◌+◌, ◌-◌, ◌<◌, ◌≤◌, List, [], ◌∷◌, ◌++◌, All, length, map, replicate, take, drop, refl, ap, sym, ◌∙◌, subst, ⊎_elim, arith}
 use Rattle.std.proofs.lemmas.Bool.{cases_Bool}
 use Rattle.std.proofs.lemmas.List.{take-replicate, drop-replicate, map_push}
 use Rattle.std.proofs.lemmas.List.Elements.{All-head, All-tail, All-weaker}
 use Rattle.vc_model.specs.Best.{zeros}
-use Rattle.vc_model.specs.Layout.{Block, Layout, with_block, with_segment}
-use Rattle.vc_seg.specs.Segment.{Bytes, pair_of}
+use Rattle.vc_model.specs.Layout.{Block, with_block}
+use Rattle.vc_seg.specs.Segment.{Bytes}
 use Rattle.vc_segments.specs.Memory.{AreSegments, bytes_of_number}
 use Rattle.vc_segments.proofs.Bytes.{bytes_of_number-append}
 use Rattle.vc_blocks.specs.declared.order.Order.{Order}
 use Rattle.vc_blocks.specs.declared.order.Order.TheVariants.{ByAddress, ByAllocation}
 use Rattle.vc_blocks.specs.declared.slot.Slot.{Slot}
 use Rattle.vc_blocks.specs.Slot.{lies_before_slot, placed_slot, with_slot}
-use Rattle.vc_blocks.specs.Layout.{block_in, layout_of, IsSlotIn, IsLayout}
+use Rattle.vc_blocks.specs.Layout.{block_in, IsSlotIn, IsLayout}
 use Rattle.vc_blocks.specs.Put.{placed}
 use Rattle.vc_blocks.proofs.Apart.{All-placed, Beside, Beside-placed}
 

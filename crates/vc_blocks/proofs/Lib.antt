@@ -10,3 +10,4 @@ pub mod Fitted
 pub mod Sizes
 pub mod Moves
 pub mod Puts
+pub mod Tallies

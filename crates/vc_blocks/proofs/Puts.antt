@@ -1,16 +1,16 @@
 -- What putting a block leaves.
 use Rattle.std.proofs.Common.{◌≡◌, ◌≢◌, ℕ, ◌+◌, ◌<◌, ◌≤◌, List, [], ◌∷◌, ◌++◌, false, All, length, get_or, map, replicate, refl, ap, sym, ◌∙◌, subst, eqb, append_assoc, arith}
-use Rattle.std.specs.Prelude.{Ok, Err}
+use Rattle.std.specs.Prelude.{Err}
 use Rattle.std.proofs.lemmas.Bool.{ne_eqb, or_from}
-use Rattle.std.proofs.lemmas.List.{length_push, length-map, length-replicate, map_push}
-use Rattle.std.proofs.lemmas.List.Elements.{All-head, All-tail}
+use Rattle.std.proofs.lemmas.List.{length_push, length-replicate, map_push}
+use Rattle.std.proofs.lemmas.List.Elements.{All-head, All-tail, All-map}
 use Rattle.vc_model.specs.Best.{zeros}
 use Rattle.vc_model.specs.Discipline.{Discipline, Lent, Served}
 use Rattle.vc_model.specs.Layout.{Block, Layout, with_segment}
 use Rattle.vc_model.specs.Segments.{numbers}
+use Rattle.vc_model.specs.Sound.{HaveOwnNumbers}
 use Rattle.vc_seg.specs.declared.fault.RegionFault.{RegionFault}
 use Rattle.vc_seg.specs.declared.fault.RegionFault.TheVariants as code
-use Rattle.vc_base.specs.declared.addr.Addr.{Addr}
 use Rattle.vc_seg.specs.Answer.{Asks}
 use Rattle.vc_seg.specs.Segment.{Bytes, pair_of, zeroed}
 use Rattle.vc_segments.specs.Lend.{IsAsked}
@@ -23,7 +23,7 @@ use Rattle.vc_blocks.specs.declared.slot.Slot.{Slot}
 use Rattle.vc_blocks.specs.Slot.{body_of, placed_slot}
 use Rattle.vc_blocks.specs.Layout.{block_in, layout_of, IsSlotIn, IsLayout}
 use Rattle.vc_blocks.specs.Put.{placed, with_zeros}
-use Rattle.vc_blocks.proofs.Apart.{Beside, apart_by_seg}
+use Rattle.vc_blocks.proofs.Apart.{AllPairs-map, Beside, apart_by_seg}
 use Rattle.vc_blocks.proofs.Layouts.{IsLayout-placed, IsLayout-push, block_in-zeros, blocks-placed, blocks-push, stands}
 
 -- a slot of a size at a place
@@ -98,3 +98,11 @@ Asks-fault code.Fixed old new segments segments' bytes same h = subst (λ (ss : 
 Asks-fault code.PoolSize old new segments segments' bytes same h = subst (λ (ss : List (ℕ × ℕ)). Served old new segments ss bytes) (sym same) (subst (λ (d : Discipline). Served old d segments segments bytes) (sym h) (Served-same old segments bytes))
 Asks-fault code.NotLast old new segments segments' bytes same h = subst (λ (ss : List (ℕ × ℕ)). Served old new segments ss bytes) (sym same) (subst (λ (d : Discipline). Served old d segments segments bytes) (sym h) (Served-same old segments bytes))
 Asks-fault code.WrongMethod old new segments segments' bytes same h = subst (λ (ss : List (ℕ × ℕ)). Served old new segments ss bytes) (sym same) (subst (λ (d : Discipline). Served old d segments segments bytes) (sym h) (Served-same old segments bytes))
+
+-- the segments of a layout have numbers of their own
+pub HaveOwnNumbers-segments : (segs : List Bytes) → AreSegments segs → HaveOwnNumbers (map pair_of segs)
+HaveOwnNumbers-segments segs l =
+    record {
+      first = All-map (λ (s : ℕ × ℕ). 1 ≤ s.0) pair_of segs (λ k d lt. (l.legal k d lt).first);
+      distinct = AllPairs-map (λ (s t : ℕ × ℕ). s.0 ≢ t.0) pair_of segs l.distinct;
+    }

@@ -1,14 +1,14 @@
 -- A block that has another size where it is.
-use Rattle.std.proofs.Common.{◌≡◌, ℕ, ◌+◌, ◌-◌, ◌<◌, ◌≤◌, ◌≢◌, ◌⊎◌, List, [], ◌∷◌, Bool, true, false, All, AllPairs, IfSome, Option, Some, length, get_or, map, min, replicate, take, drop, refl, ap, sym, ◌∙◌, subst, inl, inr, ⊎_elim, eqb, leb, ltb, not, arith}
+use Rattle.std.proofs.Common.{◌≡◌, ℕ, ◌+◌, ◌-◌, ◌<◌, ◌≤◌, ◌⊎◌, List, [], ◌∷◌, true, false, All, AllPairs, Some, length, get_or, map, min, replicate, take, drop, refl, ap, sym, ◌∙◌, subst, ⊎_elim, eqb, arith}
 use Rattle.std.specs.List.{find}
-use Rattle.std.specs.Prelude.{◌==◌, ◌&&◌, ◌||◌, option_map}
-use Rattle.std.proofs.lemmas.Bool.{cases_Bool, and_parts, or_cases, eqb-true, eq-eqb, eqb-false, leb-true, ltb-true, ltb-false}
+use Rattle.std.specs.Prelude.{option_map}
+use Rattle.std.proofs.lemmas.Bool.{cases_Bool, and_parts, eqb-true}
 use Rattle.std.proofs.lemmas.List.{length-replicate, same_lists, places}
-use Rattle.std.proofs.lemmas.List.Elements.{All-head, All-tail, All-nil, All-cons}
+use Rattle.std.proofs.lemmas.List.Elements.{All-head, All-tail, All-cons}
 use Rattle.std.proofs.lemmas.List.Kept.{AllPairs-cons}
 use Rattle.vc_model.specs.Bytes.{with_bytes}
 use Rattle.vc_model.specs.Layout.{Block, Layout, is_at}
-use Rattle.vc_model.specs.Touch.{find_block, change_block}
+use Rattle.vc_model.specs.Touch.{change_block}
 use Rattle.vc_model.specs.Resize.{fitted, resize_there, sized}
 use Rattle.vc_model.specs.Addr.{place_of}
 use Rattle.vc_seg.specs.Segment.{Bytes, pair_of}
@@ -25,7 +25,7 @@ use Rattle.vc_blocks.specs.Layout.{block_in, layout_of, IsSlotIn, IsLayout}
 use Rattle.vc_blocks.proofs.Apart.{Beside, Beside-flip, AllPairs-head, AllPairs-tail}
 use Rattle.vc_blocks.proofs.Found.{IsLive, StandsAt, slot_of}
 use Rattle.vc_blocks.proofs.Layouts.{stands}
-use Rattle.vc_blocks.proofs.Writes.{pairs-write, IsLayout-write, block-written, block-other, blocks-other, find-All}
+use Rattle.vc_blocks.proofs.Writes.{pairs-write, IsLayout-write, block-written, block-other, blocks-other}
 
 -- the bytes that are kept, and zeros behind them
 pub fitted-range : (bytes : List ℕ) (from before size kept : ℕ) → from + before ≤ length bytes → from + size ≤ length bytes → kept ≡ min before size →
@@ -37,7 +37,7 @@ abbrev pub Clear : Slot → Slot → Slot → Type 0
 Clear s new t = (is_slot_at (place_of_slot s) t ≡ true) ⊎ IsApart (body_of new) (body_of t)
 
 -- two slots with no byte in common are not at one place
-not_there : (s t : Slot) → 1 ≤ s.size → 1 ≤ t.size → Beside s t → is_slot_at (place_of_slot s) t ≡ true → ⊥
+pub not_there : (s t : Slot) → 1 ≤ s.size → 1 ≤ t.size → Beside s t → is_slot_at (place_of_slot s) t ≡ true → ⊥
 not_there s t some its beside e =
     let both = and_parts (eqb t.seg s.seg) (eqb t.off s.off) e in
     let seg : t.seg ≡ s.seg = eqb-true t.seg s.seg both.0 in

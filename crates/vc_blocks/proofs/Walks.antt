@@ -3,13 +3,13 @@ use Rattle.std.proofs.Common.{◌≡◌, ℕ, suc, ◌-◌, ◌<◌, ◌≤◌, 
 use Rattle.std.specs.Prelude.{find, option_map}
 use Rattle.std.proofs.lemmas.Bool.{cases_Bool, eqb-true}
 use Rattle.std.proofs.lemmas.List.{length-map, get_or-map}
-use Rattle.std.proofs.lemmas.List.Elements.{All-head, All-map, All-tail}
+use Rattle.std.proofs.lemmas.List.Elements.{All-head, All-tail}
 use Rattle.vc_model.specs.Layout.{Block, address_of}
 use Rattle.vc_model.specs.Order.{least_above, lesser_by}
 use Rattle.vc_model.specs.Walk.{block_at, next_block, holds_byte}
 use Rattle.vc_segments.proofs.Filters.{filter-map}
 use Rattle.vc_model.specs.Addr.{address}
-use Rattle.vc_seg.specs.Segment.{Bytes, pair_of}
+use Rattle.vc_seg.specs.Segment.{Bytes}
 use Rattle.vc_blocks.specs.declared.slot.Slot.{Slot}
 use Rattle.vc_blocks.specs.Slot.{HasNumber, IsSlot, address_of_slot, slot_holds_byte}
 use Rattle.vc_segments.specs.Memory.{bytes_of_number, IsRegionSegment}

@@ -1,5 +1,5 @@
 -- What segments and blocks become where bytes are written into one segment.
-use Rattle.std.proofs.Common.{◌≡◌, ℕ, ◌+◌, ◌<◌, ◌≤◌, ◌≢◌, List, [], ◌∷◌, ◌++◌, Bool, false, All, AllPairs, Some, length, map, replicate, take, drop, refl, ap, sym, ◌∙◌, subst, inl, inr, ⊎_elim, cond, eqb, arith}
+use Rattle.std.proofs.Common.{◌≡◌, ℕ, ◌+◌, ◌<◌, ◌≤◌, ◌≢◌, List, [], ◌∷◌, ◌++◌, Bool, false, All, AllPairs, Some, length, map, replicate, take, drop, refl, ap, sym, ◌∙◌, subst, ⊎_elim, cond, eqb, arith}
 use Rattle.std.specs.List.{find}
 use Rattle.std.proofs.lemmas.Bool.{cases_Bool, eqb-true, ne_eqb, eqb-false}
 use Rattle.std.proofs.lemmas.List.{length-map, length-replicate, length-take, append-nil, drop_all}
@@ -12,8 +12,7 @@ use Rattle.vc_model.specs.Best.{zeros}
 use Rattle.vc_model.specs.Touch.{rewritten, change_block, with_bytes_at}
 use Rattle.vc_seg.specs.Segment.{Bytes, pair_of}
 use Rattle.vc_blocks.specs.declared.slot.Slot.{Slot}
-use Rattle.vc_blocks.specs.Slot.{body_of, place_of_slot, placed_slot, is_slot_at}
-use Rattle.vc_model.specs.Sound.{IsApart}
+use Rattle.vc_blocks.specs.Slot.{place_of_slot, placed_slot, is_slot_at}
 use Rattle.vc_segments.specs.Memory.{write_segment}
 use Rattle.vc_segments.specs.Memory.{bytes_of_number, IsRegionSegment}
 use Rattle.vc_blocks.specs.Layout.{block_in, layout_of, IsSlotIn, IsLayout}

@@ -10,3 +10,4 @@ pub use Rattle.vc_seg.specs.Segment
 pub mod Slot
 pub mod Layout
 pub mod Put
+pub mod Tally

@@ -1,12 +1,12 @@
 -- A block that is put into a layout, and the room for it.
-use Rattle.std.specs.Prelude.{◌≡◌, ℕ, ◌+◌, ◌≤◌, ◌⊎◌, List, [], ◌∷◌, ◌++◌, All, Any, true, false}
+use Rattle.std.specs.Prelude.{◌≡◌, ◌≢◌, ℕ, ◌+◌, ◌⊎◌, List, [], ◌∷◌, ◌++◌, All, true, false}
 use Rattle.vc_model.specs.Addr.{address, place_of}
 use Rattle.vc_model.specs.Best.{zeros}
 use Rattle.vc_model.specs.Gap.{Run}
 use Rattle.vc_model.specs.Layout.{Block, Layout, is_at, with_block, with_segment}
 use Rattle.vc_model.specs.Pool.{IsInside}
 use Rattle.vc_model.specs.Segments.{Granted, ask}
-use Rattle.vc_model.specs.Sound.{IsApart}
+use Rattle.vc_model.specs.Sound.{HaveOwnNumbers, IsApart}
 use Rattle.vc_blocks.specs.declared.order.Order.{Order}
 use Rattle.vc_blocks.specs.declared.order.Order.TheVariants.{ByAddress, ByAllocation}
 
@@ -42,8 +42,10 @@ with_zeros order r tag size at = record { segments = r.segments; blocks = placed
 abbrev pub IsAddress : ℕ → ℕ × ℕ → Type 0
 IsAddress a at = (a ≡ address at) × (place_of a ≡ at)
 
--- a segment of that many bytes was granted, and a block of zeros put at its offset 32
+-- a segment of that many bytes was granted under a number that no other has, and a block of zeros put at its offset 32
 pub record IsPutInNew (order : Order) (old new : Layout ℕ) (tag size bytes a : ℕ) : Type 0 where
   pub granted : ask bytes old.segments false ≡ Granted (place_of a).0 bytes
   pub address : IsAddress a ((place_of a).0, 32)
   pub layout : new ≡ with_zeros order (with_segment old ((place_of a).0, bytes)) tag size ((place_of a).0, 32)
+  pub fresh : All (λ s. s.0 ≢ (place_of a).0) old.segments
+  pub numbered : HaveOwnNumbers new.segments

@@ -69,7 +69,8 @@ impl Layout {
     /// The block whose bytes hold the byte at an offset of a segment, and the offset in it. None where no block does.
     pub fn block_at(&self, seg: u32, off: u32) -> Option<(Addr, u32)>
         ensures value { option_map {U = ℕ × ℕ} (λ f. (f.0.0, f.1)) result
-            ≡ option_map {U = ℕ × ℕ} (λ f. (address_of f.0, f.1)) (block_at (seg, off) self.now.blocks) }
+            ≡ option_map {U = ℕ × ℕ} (λ f. (address_of f.0, f.1))
+            (block_at (seg, off) self.now.blocks) }
         ensures live { IfSome result (λ f. HasBlock self.now.blocks f.0.0) }
     {
         let slot = slot_at(&self.blocks, seg, off)?;
@@ -112,7 +113,13 @@ impl Layout {
         requires { HasOut (state disc.old) self.old.segments }
         ensures layout { self.new ≡ compacted self.old }
         ensures count { result ≡ compact_count self.old }
-        ensures disc { TookBack (state disc.old) (state disc.new) self.old.segments self.new.segments }
+<<<<<<< HEAD
+        ensures disc { TookBack (state disc.old) (state disc.new) self.old.segments
+            self.new.segments }
+=======
+        ensures disc { TookBack (state disc.old)
+            (state disc.new) self.old.segments self.new.segments }
+>>>>>>> f27529f36c9332d5ab669f46220cdae92322740b
     {
         let before = self.segs.len();
         give_back(&mut self.segs, &Occupied(&self.blocks), disc);

@@ -9,9 +9,13 @@ mod put;
 mod sized;
 mod slot;
 mod slots;
+mod stat;
+mod tally;
 mod touch;
 mod walk;
 
 pub use layout::Layout;
 pub use order::Order;
 pub use slot::Slot;
+pub use slots::is_occupied;
+pub use tally::Tally;

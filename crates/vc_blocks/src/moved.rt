@@ -29,7 +29,8 @@ impl Layout {
         requires to { HasBlock self.old.blocks to.0 }
         requires room { IfSome (find_block (place_of to.0) self.old.blocks) (λ b. size ≤ b.size) }
         ensures { IfSome (find_block (place_of a.0) self.old.blocks)
-            (λ b. self.new ≡ without_block_at (with_bytes_at self.old (place_of to.0) 0 (take size b.bytes)) (place_of a.0)) }
+            (λ b. self.new
+            ≡ without_block_at (with_bytes_at self.old (place_of to.0) 0 (take size b.bytes)) (place_of a.0)) }
     {
         self.copy_front(a, to, size);
         self.remove(a);

@@ -77,7 +77,13 @@ impl Layout {
         ensures ok { IfOk result (λ a. IsPutInNew order self.old self.new tag size bytes a.0) }
         ensures fault { IfErr result (IsNoGrant bytes self.old.segments) }
         ensures err { OnErr result (self.new ≡ self.old) }
-        ensures disc { Asks result (state disc.old) (state disc.new) self.old.segments self.new.segments bytes }
+<<<<<<< HEAD
+        ensures disc { Asks result (state disc.old) (state disc.new) self.old.segments
+            self.new.segments bytes }
+=======
+        ensures disc { Asks result (state disc.old)
+            (state disc.new) self.old.segments self.new.segments bytes }
+>>>>>>> f27529f36c9332d5ab669f46220cdae92322740b
     {
         reserve_one(&mut self.blocks)?;
         let number = obtain(&mut self.segs, disc, alloc, bytes)?;

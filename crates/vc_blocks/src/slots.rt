@@ -18,7 +18,7 @@ impl Keeps for Occupied<'_> {
 }
 
 /// Whether a slot is in the segment of that number.
-fn is_occupied(slots: &[Slot], number: u32) -> bool
+pub fn is_occupied(slots: &[Slot], number: u32) -> bool
     ensures { result ≡ has_slot slots.now number }
 {
     for slot in slots {
@@ -74,7 +74,8 @@ fn position_of(slots: &[Slot], seg: u32, off: u32) -> Option<usize>
 /// Gives the slot at a place another size, and answers the one that it had. There is one.
 pub(crate) fn set_size(slots: &mut Vec<Slot>, seg: u32, off: u32, size: u32) -> u32
     requires { Contains (map place_of_slot slots.old.items) (seg, off) }
-    ensures before { option_map (λ s. s.size) (find (is_slot_at (seg, off)) slots.old.items) ≡ Some result }
+    ensures before { option_map (λ s. s.size) (find (is_slot_at (seg, off)) slots.old.items)
+        ≡ Some result }
     ensures slots { slots.new.items ≡ resize_slot (seg, off) size slots.old.items }
 {
     match position_of(slots, seg, off) {

@@ -12,7 +12,8 @@ impl Layout {
     /// The size in bytes of the block at that address.
     pub fn size(&self, a: Addr) -> u32
         requires { HasBlock self.now.blocks a.0 }
-        ensures { option_map (λ b. b.size) (find_block (place_of a.0) self.now.blocks) ≡ Some result }
+        ensures { option_map (λ b. b.size) (find_block (place_of a.0) self.now.blocks)
+            ≡ Some result }
     {
         match find_slot(&self.blocks, a.seg(), a.off()) {
             Some(slot) => slot.size,
@@ -23,7 +24,8 @@ impl Layout {
     /// The tag of the block at that address.
     pub fn tag(&self, a: Addr) -> u32
         requires { HasBlock self.now.blocks a.0 }
-        ensures { option_map (λ b. b.label) (find_block (place_of a.0) self.now.blocks) ≡ Some result }
+        ensures { option_map (λ b. b.label) (find_block (place_of a.0) self.now.blocks)
+            ≡ Some result }
     {
         match find_slot(&self.blocks, a.seg(), a.off()) {
             Some(slot) => slot.tag,
@@ -35,7 +37,8 @@ impl Layout {
     pub fn read(&self, a: Addr, off: u32, len: u32) -> &[u8]
         requires block { HasBlock self.now.blocks a.0 }
         requires range { HasRange self.now.blocks a.0 off len }
-        ensures { option_map (λ b. take len (drop off b.bytes)) (find_block (place_of a.0) self.now.blocks)
+        ensures { option_map (λ b. take len (drop off b.bytes))
+            (find_block (place_of a.0) self.now.blocks)
             ≡ Some result.now }
     {
         bytes_in(&self.segs, a.seg(), a.off() + off, len)

@@ -19,7 +19,13 @@ pub(crate) fn slot_at(slots: &[Slot], seg: u32, off: u32) -> Option<Slot>
 
 /// The lesser of the least address so far and one more, where that is above another.
 fn consider(least: Option<u32>, after: u32, address: u32) -> Option<u32>
-    ensures { result ≡ fold (lesser_by (λ a. a)) least (filter (λ a. nat_lt after a) (address ∷ [])) }
+<<<<<<< HEAD
+    ensures { result
+        ≡ fold (lesser_by (λ a. a)) least (filter (λ a. nat_lt after a) (address ∷ [])) }
+=======
+    ensures { result ≡ fold (lesser_by (λ a. a)) least (filter (λ a. nat_lt after a)
+        (address ∷ [])) }
+>>>>>>> f27529f36c9332d5ab669f46220cdae92322740b
 {
     if address <= after {
         return least;

@@ -35,7 +35,8 @@ pub fn order_rows()
     ensures beside_a { order_of Shape.Fold (codes "@") (codes "`") ≡ Ordering.Less }
     ensures beside_z { order_of Shape.Fold (codes "[") (codes "{") ≡ Ordering.Less }
     ensures reversed { order_of Shape.Reverse (codes "a") (codes "b") ≡ Ordering.Greater }
-    ensures reversed_front { order_of Shape.Reverse (codes "pea") (codes "pear") ≡ Ordering.Greater }
+    ensures reversed_front { order_of Shape.Reverse (codes "pea") (codes "pear")
+        ≡ Ordering.Greater }
 {}
 
 /// Hashes of keys, the longer two beyond 2^64.

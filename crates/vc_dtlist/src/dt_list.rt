@@ -33,7 +33,8 @@ impl DtList {
     /// Puts a holder at the front. It has at least 33 bytes and isn't in the list.
     pub fn push_front<C: Cells>(&mut self, cells: &mut C, at: Addr)
         requires { CanAdd self.old (C.blocks cells.old) at.0 }
-        ensures list { Turns at.0 self.old (C.blocks cells.old) self.new (C.blocks cells.new) (λ xs. at.0 ∷ xs) }
+        ensures list { Turns at.0 self.old (C.blocks cells.old) self.new (C.blocks cells.new)
+            (λ xs. at.0 ∷ xs) }
         ensures rest { C.RestStays cells.old cells.new }
     {
         let first = self.first;
@@ -43,7 +44,8 @@ impl DtList {
     /// Puts a holder at the end. It has at least 33 bytes and isn't in the list.
     pub fn push_back<C: Cells>(&mut self, cells: &mut C, at: Addr)
         requires { CanAdd self.old (C.blocks cells.old) at.0 }
-        ensures list { Turns at.0 self.old (C.blocks cells.old) self.new (C.blocks cells.new) (λ xs. xs ++ at.0 ∷ []) }
+        ensures list { Turns at.0 self.old (C.blocks cells.old) self.new (C.blocks cells.new)
+            (λ xs. xs ++ at.0 ∷ []) }
         ensures rest { C.RestStays cells.old cells.new }
     {
         let last = self.last;
@@ -53,7 +55,8 @@ impl DtList {
     // Puts a holder between two neighbours, either of which may be none.
     fn link<C: Cells>(&mut self, cells: &mut C, before: Addr, at: Addr, behind: Addr)
         requires { CanPlace self.old (C.blocks cells.old) before.0 at.0 behind.0 }
-        ensures list { Links before.0 at.0 behind.0 self.old (C.blocks cells.old) self.new (C.blocks cells.new) }
+        ensures list { Links before.0 at.0 behind.0 self.old (C.blocks cells.old) self.new
+            (C.blocks cells.new) }
         ensures rest { C.RestStays cells.old cells.new }
     {
         set_node(cells, at, before, behind);
@@ -66,7 +69,8 @@ impl DtList {
     /// Takes a holder of the list out. It keeps its bytes behind the words.
     pub fn unlink<C: Cells>(&mut self, cells: &mut C, at: Addr)
         requires { IsIn self.old (C.blocks cells.old) at.0 }
-        ensures list { Turns at.0 self.old (C.blocks cells.old) self.new (C.blocks cells.new) (without at.0) }
+        ensures list { Turns at.0 self.old (C.blocks cells.old) self.new (C.blocks cells.new)
+            (without at.0) }
         ensures rest { C.RestStays cells.old cells.new }
     {
         let before = neighbour(cells, at, 0);

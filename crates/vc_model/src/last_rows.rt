@@ -26,7 +26,8 @@ pub fn last_segments()
     ensures asks { asked_place (last_alloc (rounds_to 4096) last_of_two 3 5000 false)
         ≡ Some ((2, 32), Some (2, 8192)) }
     ensures newest { newest (last_with last_of_two 3 5000) ≡ Some (2, 8192) }
-    ensures behind { place_put (last_alloc (rounds_to 4096) (last_with last_of_two 3 5000) 4 1 false)
+    ensures behind { place_put
+        (last_alloc (rounds_to 4096) (last_with last_of_two 3 5000) 4 1 false)
         ≡ Some (2, 5056) }
     ensures need { last_need (rounds_to 4096) 4048 ≡ 4096 }
     ensures more { last_need (rounds_to 4096) 4049 ≡ 8192 }
@@ -39,7 +40,8 @@ pub fn last_resizing()
         ≡ Refused NotLast }
     ensures stays { place_put (last_resize (rounds_to 4096) last_of_one (1, 32) 20 false false)
         ≡ Some (1, 32) }
-    ensures to_the_end { place_put (last_resize (rounds_to 4096) last_of_two (1, 64) 4016 false false)
+    ensures to_the_end { place_put
+        (last_resize (rounds_to 4096) last_of_two (1, 64) 4016 false false)
         ≡ Some (1, 64) }
     ensures fixed { last_resize (rounds_to 4096) last_of_two (1, 64) 4017 false false
         ≡ Refused Fixed }

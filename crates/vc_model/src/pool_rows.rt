@@ -10,7 +10,8 @@ ghost use Rattle.vc_model.specs.Rows.{rounds_to};
 /// none.
 pub fn pool_cells()
     ensures first { place_put (pool_alloc (rounds_to 4096) pool_of_none 1 24 false) ≡ Some (1, 32) }
-    ensures second { place_put (pool_alloc (rounds_to 4096) (pool_with pool_of_none 1 24) 2 24 false)
+    ensures second { place_put
+        (pool_alloc (rounds_to 4096) (pool_with pool_of_none 1 24) 2 24 false)
         ≡ Some (1, 64) }
     ensures greater { pool_alloc (rounds_to 4096) pool_of_two 3 25 false ≡ Refused PoolSize }
     ensures smaller { place_put (pool_alloc (rounds_to 4096) pool_of_two 3 8 false) ≡ Some (1, 96) }
@@ -38,9 +39,11 @@ pub fn pool_element()
     ensures unset { pool_of_none.element ≡ None }
     ensures set { (pool_with pool_of_none 1 16).element ≡ Some 16 }
     ensures smaller { (pool_with (pool_with pool_of_none 1 16) 2 3).element ≡ Some 16 }
-    ensures cleared { pool_alloc (rounds_to 4096) (pool_clear (pool_with pool_of_none 1 16)) 2 17 false
+    ensures cleared { pool_alloc (rounds_to 4096)
+        (pool_clear (pool_with pool_of_none 1 16)) 2 17 false
         ≡ Refused PoolSize }
-    ensures carved_anew { place_put (pool_alloc (rounds_to 4096) (pool_clear pool_of_four) 7 24 false)
+    ensures carved_anew { place_put
+        (pool_alloc (rounds_to 4096) (pool_clear pool_of_four) 7 24 false)
         ≡ Some (1, 32) }
 {}
 

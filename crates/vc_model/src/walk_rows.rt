@@ -17,9 +17,12 @@ pub fn compacting()
 
 /// A block holds its first byte and its last, and no byte before or behind them.
 pub fn bytes_of_blocks()
-    ensures within { option_map {U = ℕ × ℕ} (λ f. (f.0.label, f.1)) (block_at (3, 1100) nine_blocks.blocks) ≡ Some (9, 76) }
-    ensures first { option_map {U = ℕ × ℕ} (λ f. (f.0.label, f.1)) (block_at (3, 1024) nine_blocks.blocks) ≡ Some (9, 0) }
-    ensures last { option_map {U = ℕ × ℕ} (λ f. (f.0.label, f.1)) (block_at (3, 2047) nine_blocks.blocks) ≡ Some (9, 1023) }
+    ensures within { option_map {U = ℕ × ℕ} (λ f. (f.0.label, f.1))
+        (block_at (3, 1100) nine_blocks.blocks) ≡ Some (9, 76) }
+    ensures first { option_map {U = ℕ × ℕ} (λ f. (f.0.label, f.1))
+        (block_at (3, 1024) nine_blocks.blocks) ≡ Some (9, 0) }
+    ensures last { option_map {U = ℕ × ℕ} (λ f. (f.0.label, f.1))
+        (block_at (3, 2047) nine_blocks.blocks) ≡ Some (9, 1023) }
     ensures before { block_at (3, 1023) nine_blocks.blocks ≡ None }
     ensures behind { block_at (3, 2048) nine_blocks.blocks ≡ None }
     ensures elsewhere { block_at (2, 1100) nine_blocks.blocks ≡ None }
@@ -45,8 +48,10 @@ pub fn walk_of_segments()
 /// Blocks are walked by address, from no address on, whatever their order in the list.
 pub fn walk_of_blocks()
     ensures first { option_map (λ b. b.label) (next_block 0 nine_blocks.blocks) ≡ Some 1 }
-    ensures second { option_map (λ b. b.label) (next_block (address (1, 32)) nine_blocks.blocks) ≡ Some 2 }
-    ensures across { option_map (λ b. b.label) (next_block (address (1, 1888)) nine_blocks.blocks) ≡ Some 7 }
+    ensures second { option_map (λ b. b.label) (next_block (address (1, 32)) nine_blocks.blocks)
+        ≡ Some 2 }
+    ensures across { option_map (λ b. b.label) (next_block (address (1, 1888)) nine_blocks.blocks)
+        ≡ Some 7 }
     ensures last { next_block (address (3, 1024)) nine_blocks.blocks ≡ None }
     ensures by_address { map {B = ℕ} (λ b. b.label) (by_address
         (zeros 1 8 (2, 32) ∷ zeros 2 8 (1, 64) ∷ zeros 3 8 (1, 32) ∷ [])) ≡ 3 ∷ 2 ∷ 1 ∷ [] }

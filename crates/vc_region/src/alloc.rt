@@ -21,7 +21,8 @@ impl Region {
         requires named { 1 ≤ length site.now }
         requires short { length site.now ≤ 32 }
 
-        ensures answer { Answers (region_alloc (disc_in state self.old).terms (region_of self.old) tag size)
+        ensures answer { Answers (region_alloc (disc_in state self.old).terms
+            (region_of self.old) tag size)
             result (region_of self.old) (region_of self.new) }
         ensures disc { Asks result (disc_in state self.old) (disc_in state self.new)
             (segments_in self.old) (segments_in self.new)
@@ -31,7 +32,8 @@ impl Region {
         ensures there { IfOk result (λ a. find_block (place_of a.0) (blocks_in self.new)
             ≡ Some (zeros tag size (place_of a.0))) }
         ensures fresh { IfOk result (λ a. ¬ HasBlock (blocks_in self.old) a.0) }
-        ensures others { IfOk result (λ a. without_block (place_of a.0) (blocks_in self.new) ≡ blocks_in self.old) }
+        ensures others { IfOk result (λ a. without_block (place_of a.0) (blocks_in self.new)
+            ≡ blocks_in self.old) }
     {
         let _ = site;
         match self {
@@ -56,7 +58,8 @@ impl Region {
         requires named { 1 ≤ length site.now }
         requires short { length site.now ≤ 32 }
 
-        ensures answer { Answers (region_align (disc_in state self.old).terms (region_of self.old) tag size align)
+        ensures answer { Answers (region_align (disc_in state self.old).terms
+            (region_of self.old) tag size align)
             result (region_of self.old) (region_of self.new) }
         ensures disc { Asks result (disc_in state self.old) (disc_in state self.new)
             (segments_in self.old) (segments_in self.new)
@@ -66,7 +69,8 @@ impl Region {
         ensures there { IfOk result (λ a. find_block (place_of a.0) (blocks_in self.new)
             ≡ Some (zeros tag size (place_of a.0))) }
         ensures fresh { IfOk result (λ a. ¬ HasBlock (blocks_in self.old) a.0) }
-        ensures others { IfOk result (λ a. without_block (place_of a.0) (blocks_in self.new) ≡ blocks_in self.old) }
+        ensures others { IfOk result (λ a. without_block (place_of a.0) (blocks_in self.new)
+            ≡ blocks_in self.old) }
     {
         let _ = site;
         match self {

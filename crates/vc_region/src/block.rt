@@ -14,7 +14,8 @@ impl Region {
     /// The size in bytes of the block at that address, from 1 to 16,777,264.
     pub fn size(&self, a: Addr) -> u32
         requires { HasBlock (blocks_in self.now) a.0 }
-        ensures { option_map (λ b. b.size) (find_block (place_of a.0) (blocks_in self.now)) ≡ Some result }
+        ensures { option_map (λ b. b.size) (find_block (place_of a.0) (blocks_in self.now))
+            ≡ Some result }
     {
         match self {
             Region::Best(best) => best.size(a),
@@ -24,7 +25,8 @@ impl Region {
     /// The tag of the block at that address.
     pub fn tag(&self, a: Addr) -> u32
         requires { HasBlock (blocks_in self.now) a.0 }
-        ensures { option_map (λ b. b.label) (find_block (place_of a.0) (blocks_in self.now)) ≡ Some result }
+        ensures { option_map (λ b. b.label) (find_block (place_of a.0) (blocks_in self.now))
+            ≡ Some result }
     {
         match self {
             Region::Best(best) => best.tag(a),
@@ -35,7 +37,8 @@ impl Region {
     pub fn read(&self, a: Addr, off: u32, len: u32) -> &[u8]
         requires block { HasBlock (blocks_in self.now) a.0 }
         requires range { HasRange (blocks_in self.now) a.0 off len }
-        ensures { option_map (λ b. take len (drop off b.bytes)) (find_block (place_of a.0) (blocks_in self.now))
+        ensures { option_map (λ b. take len (drop off b.bytes))
+            (find_block (place_of a.0) (blocks_in self.now))
             ≡ Some result.now }
     {
         match self {
@@ -47,7 +50,8 @@ impl Region {
     pub fn write(&mut self, a: Addr, off: u32, src: &[u8])
         requires block { HasBlock (blocks_in self.old) a.0 }
         requires range { HasRange (blocks_in self.old) a.0 off (length src.now) }
-        ensures region { region_of self.new ≡ region_write (region_of self.old) (place_of a.0) off src.now }
+        ensures region { region_of self.new
+            ≡ region_write (region_of self.old) (place_of a.0) off src.now }
         ensures disc { disc_in state self.new ≡ disc_in state self.old }
         ensures others { without_block (place_of a.0) (blocks_in self.new)
             ≡ without_block (place_of a.0) (blocks_in self.old) }

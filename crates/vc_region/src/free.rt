@@ -34,7 +34,8 @@ impl Region {
         ensures disc { disc_in state self.new ≡ disc_in state self.old }
 
         // It is the one block at that address that goes.
-        ensures one_less { OnOk result (length (blocks_in self.new) + 1 ≡ length (blocks_in self.old)) }
+        ensures one_less { OnOk result (length (blocks_in self.new) + 1
+            ≡ length (blocks_in self.old)) }
         ensures freed { OnOk result ((i : ℕ) → i < length (blocks_in self.old)
             → HoldsAt (λ b. address_of b ≡ a.0) (blocks_in self.old) i
             → blocks_in self.new ≡ remove (blocks_in self.old) i) }

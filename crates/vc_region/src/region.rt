@@ -28,7 +28,8 @@ impl Region {
         disc: Box<dyn SegDisc>,
     ) -> Result<Region, (OutOfMemory, Box<dyn SegDisc>)>
         requires { IsSome (opened {L = ℕ} method) }
-        ensures ok { IfOk result (λ r. (opened method ≡ Some (region_of r)) × (state (disc_of r) ≡ state disc)) }
+        ensures ok { IfOk result (λ r. (opened method ≡ Some (region_of r))
+            × (state (disc_of r) ≡ state disc)) }
         ensures err { IfErr result (λ e. state e.1 ≡ state disc) }
     {
         let _ = method;

@@ -30,7 +30,8 @@ impl Region {
             (λ b. stays_in (region_of self.old) size b ≡ false) × IsTrue may_move }
 
         // The block keeps its tag, and the others stay.
-        ensures there { IfOk result (λ to. option_map (λ b. b.label) (find_block (place_of to.0) (blocks_in self.new))
+        ensures there { IfOk result (λ to. option_map (λ b. b.label)
+            (find_block (place_of to.0) (blocks_in self.new))
             ≡ option_map (λ b. b.label) (find_block (place_of a.0) (blocks_in self.old))) }
         ensures others { IfOk result (λ to. without_block (place_of to.0) (blocks_in self.new)
             ≡ without_block (place_of a.0) (blocks_in self.old)) }

@@ -15,7 +15,8 @@ impl Region {
     /// does.
     pub fn block_at(&self, seg: u32, off: u32) -> Option<(Addr, u32)>
         ensures value { option_map {U = ℕ × ℕ} (λ f. (f.0.0, f.1)) result
-            ≡ option_map {U = ℕ × ℕ} (λ f. (address_of f.0, f.1)) (block_at (seg, off) (blocks_in self.now)) }
+            ≡ option_map {U = ℕ × ℕ} (λ f. (address_of f.0, f.1))
+            (block_at (seg, off) (blocks_in self.now)) }
         ensures live { IfSome result (λ f. HasBlock (blocks_in self.now) f.0.0) }
     {
         match self {
@@ -44,7 +45,8 @@ impl Region {
     /// The block behind one in order of addresses. A walk begins with `Addr::NONE`, and ends with None.
     pub fn next_block(&self, after: Addr) -> Option<Addr>
         requires { (after.0 ≡ 0) ⊎ HasBlock (blocks_in self.now) after.0 }
-        ensures value { option_map (λ a. a.0) result ≡ option_map address_of (next_block after.0 (blocks_in self.now)) }
+        ensures value { option_map (λ a. a.0) result
+            ≡ option_map address_of (next_block after.0 (blocks_in self.now)) }
         ensures live { IfSome result (λ a. HasBlock (blocks_in self.now) a.0) }
     {
         match self {

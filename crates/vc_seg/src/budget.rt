@@ -85,11 +85,13 @@ impl SegDisc for BudgetDisc {
         ensures refuses { IsErrOf result LendFault.Refused ↔ (room_of self.old < size) }
         ensures spent { OnOk result (room_of self.new + size ≡ room_of self.old) }
         ensures budget { self.new.budget ≡ self.old.budget }
-        ensures fault { IsErrOf result LendFault.Refused → self.new.faults ≡ next_count self.old.faults }
+        ensures fault { IsErrOf result LendFault.Refused → self.new.faults
+            ≡ next_count self.old.faults }
 
         // The trait's clauses.
         ensures segment { IfOk result (λ segment. segment ≡ zeroed number size) }
-        ensures lent { OnOk result (Lent (discipline_of self.old) (discipline_of self.new) number size) }
+        ensures lent { OnOk result (Lent
+            (discipline_of self.old) (discipline_of self.new) number size) }
         ensures refused { IsErrOf result LendFault.Refused
             → Unserved (discipline_of self.old) (discipline_of self.new) size }
         ensures no_memory { IsErrOf result LendFault.OutOfMemory → self.new ≡ self.old }

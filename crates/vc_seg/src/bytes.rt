@@ -36,7 +36,8 @@ impl Segment {
     pub fn shift(&mut self, from: u32, to: u32, len: u32)
         requires from { from + len ≤ length self.old.bytes }
         requires to { to + len ≤ length self.old.bytes }
-        ensures bytes { self.new.bytes ≡ with_bytes to (take len (drop from self.old.bytes)) self.old.bytes }
+        ensures bytes { self.new.bytes ≡ with_bytes to (take len (drop from self.old.bytes))
+            self.old.bytes }
         ensures number { self.new.number ≡ self.old.number }
     {
         let start = from as usize;
@@ -48,7 +49,8 @@ impl Segment {
     pub fn carry(&mut self, to: u32, src: &Segment, from: u32, len: u32)
         requires from { from + len ≤ length src.now.bytes }
         requires to { to + len ≤ length self.old.bytes }
-        ensures bytes { self.new.bytes ≡ with_bytes to (take len (drop from src.now.bytes)) self.old.bytes }
+        ensures bytes { self.new.bytes ≡ with_bytes to (take len (drop from src.now.bytes))
+            self.old.bytes }
         ensures number { self.new.number ≡ self.old.number }
     {
         self.put(to, src.bytes(from, len));

@@ -33,8 +33,10 @@ pub trait SegDisc: Drop {
         ensures lent { OnOk result (Lent (state self.old) (state self.new) number size) }
 
         // Refused comes only where the faults rose, and where the room is told, exactly where the size is above it.
-        ensures refused { IsErrOf result LendFault.Refused → Unserved (state self.old) (state self.new) size }
-        ensures no_memory { IsErrOf result LendFault.OutOfMemory → state self.new ≡ state self.old };
+        ensures refused { IsErrOf result LendFault.Refused
+            → Unserved (state self.old) (state self.new) size }
+        ensures no_memory { IsErrOf result LendFault.OutOfMemory → state self.new
+            ≡ state self.old };
 
     /// Takes a segment back that is out: the last pair of that number and size. It cannot fail.
     fn take_back(&mut self, seg: Segment)

@@ -42,7 +42,8 @@ impl FuseDisc {
     /// 32 to 65,536.
     pub fn new(round: u32, fails: Vec<u64>) -> FuseDisc
         requires { IsRound round }
-        ensures meaning { result.discipline ≡ record { out = []; faults = 0; terms = record { round = round }; room = None } }
+        ensures meaning { result.discipline
+            ≡ record { out = []; faults = 0; terms = record { round = round }; room = None } }
         ensures fails { result.fails ≡ fails.items }
         ensures calls { result.calls ≡ 0 }
     {
@@ -80,16 +81,20 @@ impl SegDisc for FuseDisc {
         requires size { IsSegmentSize size }
         requires multiple { size % self.old.discipline.terms.round ≡ 0 }
 
-        ensures refuses { IsErrOf result LendFault.Refused ↔ Contains self.old.fails (next_count self.old.calls) }
+        ensures refuses { IsErrOf result LendFault.Refused
+            ↔ Contains self.old.fails (next_count self.old.calls) }
         ensures counts { self.new.calls ≡ next_count self.old.calls }
         ensures fails { self.new.fails ≡ self.old.fails }
-        ensures fault { IsErrOf result LendFault.Refused → self.new.discipline.faults ≡ next_count self.old.discipline.faults }
+        ensures fault { IsErrOf result LendFault.Refused → self.new.discipline.faults
+            ≡ next_count self.old.discipline.faults }
 
         // The trait's clauses.
         ensures segment { IfOk result (λ segment. segment ≡ zeroed number size) }
         ensures lent { OnOk result (Lent self.old.discipline self.new.discipline number size) }
-        ensures refused { IsErrOf result LendFault.Refused → Unserved self.old.discipline self.new.discipline size }
-        ensures no_memory { IsErrOf result LendFault.OutOfMemory → self.new.discipline ≡ self.old.discipline }
+        ensures refused { IsErrOf result LendFault.Refused
+            → Unserved self.old.discipline self.new.discipline size }
+        ensures no_memory { IsErrOf result LendFault.OutOfMemory → self.new.discipline
+            ≡ self.old.discipline }
     {
         self.calls = one_more(self.calls);
         if self.fails.contains(&self.calls) {

@@ -22,7 +22,12 @@ impl Model for HeapDisc {
 
     ghost Value = { Discipline };
 
-    ghost view = { λ d. record { out = d.lent; faults = 0; terms = record { round = d.unit }; room = None } };
+    ghost view = { λ d. record {
+      out = d.lent;
+      faults = 0;
+      terms = record { round = d.unit };
+      room = None;
+    } };
 
     ghost invariant = { λ d. IsRound d.unit };
 }
@@ -31,7 +36,12 @@ impl HeapDisc {
     /// A discipline that rounds sizes up to a multiple of `round` bytes, a multiple of 32 from 32 to 65,536.
     pub fn new(round: u32) -> HeapDisc
         requires { IsRound round }
-        ensures { result ≡ record { out = []; faults = 0; terms = record { round = round }; room = None } }
+        ensures { result ≡ record {
+          out = [];
+          faults = 0;
+          terms = record { round = round };
+          room = None;
+        } }
     {
         HeapDisc {
             lent: OutList::new(),

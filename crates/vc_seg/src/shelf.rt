@@ -47,8 +47,10 @@ impl Shelf {
         requires { vec_len self.old.slots < 4294967295 }
         ensures number { IfOk result (λ n. n ≡ vec_len self.new.slots) }
         ensures len { OnOk result (vec_len self.new.slots ≡ vec_len self.old.slots + 1) }
-        ensures place { IfOk result (λ n. place_at (slots_of state self.new.slots.items) n ≡ ShelfPlace.Here) }
-        ensures ok { OnOk result (slots_of state self.new.slots.items ≡ slots_of state self.old.slots.items ++ Some (state disc) ∷ []) }
+        ensures place { IfOk result (λ n. place_at (slots_of state self.new.slots.items) n
+            ≡ ShelfPlace.Here) }
+        ensures ok { OnOk result (slots_of state self.new.slots.items
+            ≡ slots_of state self.old.slots.items ++ Some (state disc) ∷ []) }
         ensures err { OnErr result (self.new.slots.items ≡ self.old.slots.items) }
         ensures returned { IfErr result (λ e. state e.1 ≡ state disc) }
     {
@@ -76,10 +78,14 @@ impl Shelf {
 
     /// Takes the discipline that stands at this number. Its number stays free for it.
     pub fn take(&mut self, n: u32) -> Option<Box<dyn SegDisc>>
-        ensures here { IsSome result ↔ (place_at (slots_of state self.old.slots.items) n ≡ ShelfPlace.Here) }
-        ensures taken { IfSome result (λ disc. slot_at (slots_of state self.old.slots.items) n ≡ Some (Some (state disc))) }
-        ensures emptied { OnSome result (slots_of state self.new.slots.items ≡ slice_set (slots_of state self.old.slots.items) (n - 1) None) }
-        ensures place { OnSome result (place_at (slots_of state self.new.slots.items) n ≡ ShelfPlace.Taken) }
+        ensures here { IsSome result ↔ (place_at (slots_of state self.old.slots.items) n
+            ≡ ShelfPlace.Here) }
+        ensures taken { IfSome result (λ disc. slot_at (slots_of state self.old.slots.items) n
+            ≡ Some (Some (state disc))) }
+        ensures emptied { OnSome result (slots_of state self.new.slots.items
+            ≡ slice_set (slots_of state self.old.slots.items) (n - 1) None) }
+        ensures place { OnSome result (place_at (slots_of state self.new.slots.items) n
+            ≡ ShelfPlace.Taken) }
         ensures none { IfNone result (self.new.slots.items ≡ self.old.slots.items) }
     {
         if n == 0 || n > self.len() {
@@ -91,7 +97,8 @@ impl Shelf {
     /// Puts a discipline back at a number whose discipline was taken.
     pub fn give_back(&mut self, n: u32, disc: Box<dyn SegDisc>)
         requires { place_at (slots_of state self.old.slots.items) n ≡ ShelfPlace.Taken }
-        ensures filled { slots_of state self.new.slots.items ≡ slice_set (slots_of state self.old.slots.items) (n - 1) (Some (state disc)) }
+        ensures filled { slots_of state self.new.slots.items
+            ≡ slice_set (slots_of state self.old.slots.items) (n - 1) (Some (state disc)) }
         ensures place { place_at (slots_of state self.new.slots.items) n ≡ ShelfPlace.Here }
     {
         self.slots[n as usize - 1] = Some(disc);

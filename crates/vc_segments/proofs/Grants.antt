@@ -1,5 +1,5 @@
 -- One more segment under a number that none has.
-use Rattle.std.proofs.Common.{◌≡◌, ℕ, zero, suc, ◌+◌, ◌<◌, ◌≤◌, ◌≢◌, List, [], ◌∷◌, ◌++◌, false, length, get_or, map, subst, sym, eqb, arith}
+use Rattle.std.proofs.Common.{◌≡◌, ℕ, zero, suc, ◌<◌, ◌≤◌, ◌≢◌, List, [], ◌∷◌, ◌++◌, false, length, get_or, map, subst, sym, eqb, arith}
 use Rattle.std.proofs.lemmas.Bool.{or_parts, eqb-false}
 use Rattle.std.proofs.lemmas.List.{length_push, length-replicate}
 use Rattle.std.proofs.lemmas.List.Elements.{All-push}

@@ -32,7 +32,13 @@ impl Keeps for KeepsNone {
 
 /// Where the segment of that number is among these.
 pub(crate) fn find_number(segs: &[Segment], number: u32) -> Option<usize>
-    ensures found { IfSome result (λ i. (i < length segs.now) × HoldsAt (λ b. b.number ≡ number) segs.now i) }
+<<<<<<< HEAD
+    ensures found { IfSome result (λ i. (i < length segs.now)
+        × HoldsAt (λ b. b.number ≡ number) segs.now i) }
+=======
+    ensures found { IfSome result (λ i. (i < length segs.now) × HoldsAt (λ b. b.number
+        ≡ number) segs.now i) }
+>>>>>>> f27529f36c9332d5ab669f46220cdae92322740b
     ensures first { IfSome result (λ i. All (λ b. b.number ≢ number) (take i segs.now)) }
     ensures none { IfNone result (All (λ b. b.number ≢ number) segs.now) }
 {

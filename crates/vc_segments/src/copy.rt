@@ -12,7 +12,8 @@ fn copy_between(segs: &mut [Segment], source: usize, from: u32, target: usize, t
     requires target { target < length segs.old }
     requires from { HoldsAt (λ s. from + len ≤ length s.bytes) segs.old source }
     requires to { HoldsAt (λ s. to + len ≤ length s.bytes) segs.old target }
-    ensures { (d : Bytes) → segs.new ≡ slice_set segs.old target (copied (slice_index_or segs.old source d) from len to (slice_index_or segs.old target d)) }
+    ensures { (d : Bytes) → segs.new ≡ slice_set segs.old target
+        (copied (slice_index_or segs.old source d) from len to (slice_index_or segs.old target d)) }
 {
     if source == target {
         segs[target].shift(from, to, len);
@@ -31,7 +32,8 @@ pub fn copy_in(segs: &mut [Segment], number: u32, from: u32, target: u32, to: u3
     requires target { 0 < length (bytes_of_number target segs.old) }
     requires from { from + len ≤ length (bytes_of_number number segs.old) }
     requires to { to + len ≤ length (bytes_of_number target segs.old) }
-    ensures { segs.new ≡ write_segment target to (take len (drop from (bytes_of_number number segs.old))) segs.old }
+    ensures { segs.new
+        ≡ write_segment target to (take len (drop from (bytes_of_number number segs.old))) segs.old }
 {
     match find_number(segs, number) {
         Some(source) => match find_number(segs, target) {

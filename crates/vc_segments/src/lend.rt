@@ -31,7 +31,8 @@ fn lend_segment(
     ensures lent { OnOk result (Lent (state disc.old) (state disc.new) number bytes) }
 
     ensures only { IfErr result (λ e. (e ≡ RegionFault.NoSegment) ⊎ (e ≡ RegionFault.OutOfMemory)) }
-    ensures refused { IsErrOf result RegionFault.NoSegment → Unserved (state disc.old) (state disc.new) bytes }
+    ensures refused { IsErrOf result RegionFault.NoSegment
+        → Unserved (state disc.old) (state disc.new) bytes }
     ensures no_memory { IsErrOf result RegionFault.OutOfMemory → state disc.new ≡ state disc.old }
 {
     match disc.lend(alloc, number, bytes) {
@@ -62,7 +63,8 @@ pub fn obtain(
     requires bytes { IsSegmentSize bytes }
     requires multiple { bytes % (state disc.old).terms.round ≡ 0 }
 
-    ensures granted { IfOk result (λ n. ask bytes (map pair_of segs.old.items) false ≡ Granted n bytes) }
+    ensures granted { IfOk result (λ n. ask bytes (map pair_of segs.old.items) false
+        ≡ Granted n bytes) }
     ensures pushed { IfOk result (λ n. segs.new.items ≡ segs.old.items ++ zeroed n bytes ∷ []) }
     ensures number { IfOk result (λ n. (1 ≤ n) × (n ≤ 1023)) }
     ensures fresh { IfOk result (λ n. All (λ s. s.number ≢ n) segs.old.items) }

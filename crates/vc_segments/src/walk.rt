@@ -19,7 +19,8 @@ pub fn segment_at(segs: &[Segment], seg: u32, off: u32) -> Option<u32>
 
 /// The lesser by number of the least segment so far and one more, as number and size, where that is above a number.
 fn consider(least: Option<(u32, u32)>, after: u32, number: u32, bytes: u32) -> Option<(u32, u32)>
-    ensures { result ≡ fold (lesser_by (λ s. s.0)) least (filter (λ s. nat_lt after s.0) ((number, bytes) ∷ [])) }
+    ensures { result ≡ fold (lesser_by (λ s. s.0)) least
+        (filter (λ s. nat_lt after s.0) ((number, bytes) ∷ [])) }
 {
     if number <= after {
         return least;

@@ -17,7 +17,7 @@ use Rattle.vc_script.specs.declared.refusal.Refusal.TheVariants as why
 use Rattle.vc_session.specs.declared.labels.Labels.{Labels}
 use Rattle.vc_session.specs.Account.{Held, IsChange, IsNamed}
 use Rattle.vc_session.specs.Blocks.{fault_of, refusal_of}
-use Rattle.vc_session.specs.State.{Changed, Home, unchanged}
+use Rattle.vc_session.specs.State.{Changed, Home, Label, changed_to, unchanged}
 use Rattle.vc_session.specs.Step.{Gives, is_for_block}
 use Rattle.vc_session.proofs.Closing.{front-out}
 
@@ -141,3 +141,7 @@ gives-unchanged h c w e = record { region_after = ap (λ (k : Changed). k.region
 pub change-same : (h : Held) (labels : Labels) → HasOut h.disc (segments_of h.region) → IsNamed h.region labels → IsChange h (record { name = h.name; place = h.place; disc = h.disc; region = h.region; labels = labels })
 change-same h labels has names =
     changed-by h h.disc h.region labels has (kept-same h.disc h.disc refl) (out-same h.disc h.disc (segments_of h.region) (segments_of h.region) refl refl) names
+
+-- what is told leaves the region
+pub gives-changed : (region : Region Label) (c : Changed) (told : Reply) → c ≡ changed_to region told → Gives c region told
+gives-changed region c told e = record { region_after = ap (λ (k : Changed). k.region) e; replied = ap (λ (k : Changed). k.reply) e }

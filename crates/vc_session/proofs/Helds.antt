@@ -25,6 +25,17 @@ swapped x y =
     (λ e. e ∙ sym (⊎_elim (λ f. absurd (other_bytes x y e (sym (same_bytes y x f)))) (λ f. f) (cases_Bool (bytes_eq y x))))
     (cases_Bool (bytes_eq x y))
 
+-- what stands at an index of a list
+pub slice-or : {A : Type 0} (xs : List A) (i : ℕ) (x : A) → i < length xs → x ≡ get_or xs i x → slice_get xs i ≡ Some x
+slice-or [] i x within is = absurd (omega (arith, within))
+slice-or (y ∷ ys) zero x within is = ap (λ z. Some z) (sym is)
+slice-or (y ∷ ys) (suc i) x within is = slice-or ys i x (omega (arith, within)) is
+
+pub some-at : {A : Type 0} (xs : List A) (i : ℕ) → i < length xs → (x : A) × (slice_get xs i ≡ Some x)
+some-at [] i within = absurd (omega (arith, within))
+some-at (y ∷ ys) zero within = (y, refl)
+some-at (y ∷ ys) (suc i) within = some-at ys i (omega (arith, within))
+
 module _ {I : Type 0} {V : I → Type 0} (meaning : (x : I) × V x → Discipline) where
   abbrev Homes : Type 0
   Homes = List (List ℕ × HomeEntry I V)
@@ -110,6 +121,11 @@ module _ {I : Type 0} {V : I → Type 0} (meaning : (x : I) × V x → Disciplin
   held-new [] (k ∷ ks) r h l same = absurd (omega (arith, same))
   held-new (e ∷ es) [] r h l same = absurd (omega (arith, same))
   held-new (e ∷ es) (k ∷ ks) r h l same = ap (λ hs. held_of meaning e.0 e.1 k ∷ hs) (held-new es ks r h l (omega (arith, same)))
+
+  pub length-held : (homes : Homes) (labels : List Labels) → length labels ≡ length homes → length (held_all meaning homes labels) ≡ length homes
+  length-held [] labels same = refl
+  length-held (e ∷ es) [] same = absurd (omega (arith, same))
+  length-held (e ∷ es) (k ∷ ks) same = ap suc (length-held es ks (omega (arith, same)))
 
   -- one is taken out
   pub held-remove : (homes : Homes) (labels : List Labels) (i : ℕ) → length labels ≡ length homes → held_all meaning (remove homes i) (remove labels i) ≡ remove (held_all meaning homes labels) i

@@ -105,10 +105,12 @@ module _ (h : Held) (x : List ℕ) (legal : Bool) (names : IsNamed h.region h.la
     where
       go : (bs : List (Block ℕ)) → AllByRecursion (λ b. 1 ≤ b.label → IsLive mid b) bs → AllByRecursion (λ b. name_with mid tag x b.label ≡ name_of mid b.label) bs
       go [] all = tt
-      go (b ∷ bs) all =
-          (with-other b.label (λ e.
-          let l = all.0 (subst (λ t. 1 ≤ t) (sym e) first) in
-          none-some l.label (sym vacant ∙ (ap (label_at mid) (sym e) ∙ l.here))), go bs all.1)
+      go (b ∷ bs) all = (
+        with-other b.label (λ e.
+            let l = all.0 (subst (λ t. 1 ≤ t) (sym e) first) in
+            none-some l.label (sym vacant ∙ (ap (label_at mid) (sym e) ∙ l.here))),
+        go bs all.1,
+      )
 
   -- a fault leaves the region and its names
   back : new ≡ mid → region ≡ h.region → relabelled (name_of new) region ≡ (home_of h).region

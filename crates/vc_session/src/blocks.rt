@@ -212,11 +212,7 @@ impl HomeEntry {
     }
 
     // Frees the block of that name.
-    pub(crate) fn free(
-        &mut self,
-        labels: &mut Labels,
-        name: &Name,
-    ) -> Result<Reply, OutOfMemory>
+    pub(crate) fn free(&mut self, labels: &mut Labels, name: &Name) -> Result<Reply, OutOfMemory>
         requires names { IsNamed (region_of self.old.region) labels.old }
         requires lent { HasOut (disc_in state self.old.region)
             (segments_in self.old.region) }

@@ -66,7 +66,9 @@ impl HomeEntry {
             Command::Compact(name) => Ok(self.compact(*name)),
             Command::Alloc(_, block, size, _) => self.allocate(labels, *block, *size),
             Command::Align(_, block, size, align) => self.align(labels, *block, *size, *align),
-            Command::Resize(_, block, size, may_move) => self.resize(labels, block, *size, *may_move),
+            Command::Resize(_, block, size, may_move) => self.resize(
+                labels, block, *size, *may_move,
+            ),
             Command::Free(_, block) => self.free(labels, block),
             Command::WriteBlock(_, block, off, bytes) => Ok(self.write(
                 labels,

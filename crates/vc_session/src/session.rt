@@ -64,11 +64,7 @@ impl Session {
     }
 
     // Runs a command that works in no region that is open.
-    fn run_on_shelf(
-        &mut self,
-        shelf: &mut Shelf,
-        command: &Command,
-    ) -> Result<Reply, OutOfMemory>
+    fn run_on_shelf(&mut self, shelf: &mut Shelf, command: &Command) -> Result<Reply, OutOfMemory>
         requires { IsSessionOver state shelf.old self.old }
         ensures step { IfOk result (λ reply. shelf_step
             (state_over state shelf.old self.old) command.now

@@ -1,7 +1,7 @@
-use Rattle.std.proofs.Common.{ℕ, Bool, filter, map, sym, subst, ◌∙◌, ap}
+use Rattle.std.proofs.Common.{filter, map, sym, subst, ◌∙◌, ap}
 use Rattle.std.proofs.lemmas.List.Elements.{filter_passes}
 use Rattle.std.proofs.lemmas.List.Kept.{AllPairs-filter}
-use Rattle.vc_seg.specs.Segment.{Bytes, pair_of}
+use Rattle.vc_seg.specs.Segment.{pair_of}
 use Rattle.vc_segments.specs.Back.{is_kept, stays_from}
 use Rattle.vc_segments.specs.Memory.{AreSegments}
 use Rattle.vc_segments.proofs.Bytes.{Apart}

@@ -6,14 +6,6 @@ use Rattle.vc_region.specs.Parts.{disc_in, segments_in}
 use Rattle.vc_session.specs.Account.{account, accounts}
 use Rattle.vc_session.specs.Homes.{slots_on}
 use Rattle.vc_session.proofs.Closing.{account-closed, elsewhere, taken-at}
-use Rattle.vc_session.proofs.Putting.{step-put}
-use Rattle.vc_session.proofs.Resizing.{gives-resized}
-use Rattle.vc_session.proofs.Gone.{gives-freed}
-use Rattle.vc_session.proofs.Touching.{named-written}
-use Rattle.vc_session.proofs.Grants.{plain-region}
-use Rattle.vc_session.proofs.Helds.{held-remove}
-use Rattle.vc_session.proofs.Opening.{settled-open}
-use Rattle.vc_session.proofs.Changing.{step-change}
 use Rattle.vc_session.proofs.close.close_region.Given as given
 use Rattle.vc_session.proofs.close.close_region.Goals as goal
 

@@ -1,4 +1,4 @@
-use Rattle.std.proofs.Common.{◌≡◌, ℕ, refl, sym, ◌∙◌, map, subst, Contains}
+use Rattle.std.proofs.Common.{◌≡◌, refl, sym, ◌∙◌, map}
 use Rattle.std.specs.Prelude.{option_map}
 use Rattle.vc_model.specs.Layout.{address_of}
 use Rattle.vc_model.specs.Walk.{next_block}

@@ -1,11 +1,13 @@
-use Rattle.std.proofs.Common.{◌≡◌, ℕ, false, ap, sym, subst}
+use Rattle.std.proofs.Common.{◌≡◌, ◌≢◌, ℕ, All, false, ap, sym, subst}
+use Rattle.std.proofs.lemmas.List.Elements.{All-map}
+use Rattle.vc_seg.specs.Segment.{pair_of}
 use Rattle.vc_model.specs.Addr.{place_of}
 use Rattle.vc_model.specs.Layout.{Layout, with_segment}
 use Rattle.vc_model.specs.Segments.{Granted, ask}
 use Rattle.vc_segments.specs.Memory.{AreSegments}
 use Rattle.vc_blocks.specs.Layout.{IsLayout, layout_of}
 use Rattle.vc_blocks.specs.Put.{IsAddress, with_zeros}
-use Rattle.vc_blocks.proofs.Puts.{IsLayout-new, layout_of-new}
+use Rattle.vc_blocks.proofs.Puts.{HaveOwnNumbers-segments, IsLayout-new, layout_of-new}
 use Rattle.vc_blocks.proofs.layout.Layout.put_in_new.Goals as goal
 use Rattle.vc_blocks.proofs.layout.Layout.put_in_new.Goals.{After-put_among}
 use Rattle.vc_blocks.proofs.layout.Layout.put_in_new.Given.{Over}
@@ -29,4 +31,7 @@ returns-clause-ok g c =
       layout = subst (λ (m : ℕ). new ≡ with_zeros c.args.order (with_segment c.args.self.now (m, c.args.bytes)) c.args.tag c.args.size (m, 32)) (sym number)
           (rw (← c.self.view_is, c.put_among.ensures, c.in_ok-number.ensures.pushed, c.in_ok-reserve_one.ensures.items)
           (layout_of-new c.self.inside.segs.items c.self.inside.blocks.items c.in_ok-number.number c.args.bytes c.args.size c.args.tag c.self.invariant (subst AreSegments c.in_ok-number.ensures.pushed c.in_ok-number.ensures.segments) c.in_ok-number.ensures.fresh c.requires.some c.requires.most c.requires.room c.args.order));
+      fresh = subst (λ (m : ℕ). All (λ (q : ℕ × ℕ). q.0 ≢ m) c.args.self.now.segments) (sym number)
+          (rw (← c.self.view_is) (All-map (λ (q : ℕ × ℕ). q.0 ≢ c.in_ok-number.number) pair_of c.self.inside.segs.items c.in_ok-number.ensures.fresh));
+      numbered = HaveOwnNumbers-segments c.obtain.new.segs.items c.in_ok-number.ensures.segments;
     }

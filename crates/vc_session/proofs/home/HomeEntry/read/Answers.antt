@@ -12,6 +12,7 @@ use Rattle.vc_session.proofs.Found.{on_block-none, the_block}
 use Rattle.vc_session.proofs.Touching.{b, bytes-told, gives-read, range-beyond, range-many, range-none, range-within, read-range, size-told}
 use Rattle.vc_session.proofs.home.HomeEntry.read.Given as given
 use Rattle.vc_session.proofs.home.HomeEntry.read.Goals as goal
+use Rattle.vc_session.proofs.home.HomeEntry.read.Goals.{then-len-eq0-via-then-len-eq0, then-len-eq0-via-else-len-eq0+then-len-gt4096, then-len-eq0-via-else-len-eq0+else-len-gt4096+then-off-len}
 
 abbrev meaning : (g : given.Over) → (x : g.dyn-1.0.I) × (g.dyn-1.0.entry x).0.Denot → Discipline
 meaning g p = (g.dyn-1.0.entry p.0).1.state p.1

@@ -1,0 +1,12 @@
+pub mod Carvings
+pub mod Times
+pub mod Apart
+pub mod Keeping
+pub mod Allocs
+pub mod Soundness
+pub mod Fitting
+pub mod Standing
+pub mod Compacting
+pub mod Written
+pub mod Counts
+pub mod Numbers

@@ -1,0 +1,10 @@
+pub use Rattle.vc_model.specs.Addr
+pub use Rattle.vc_model.specs.Compact
+pub use Rattle.vc_model.specs.Discipline
+pub use Rattle.vc_model.specs.Layout
+pub use Rattle.vc_model.specs.Pool
+pub use Rattle.vc_model.specs.Touch
+pub use Rattle.vc_model.specs.Walk
+pub use Rattle.vc_seg.specs.Answer
+pub mod Cells
+pub mod Stat

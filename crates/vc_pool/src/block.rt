@@ -1,0 +1,52 @@
+ghost use Rattle.std.specs.Prelude.{◌≡◌, Some, length, take, drop, option_map};
+ghost use Rattle.vc_model.specs.Addr.{place_of};
+ghost use Rattle.vc_model.specs.Pool.{IsPoolSound};
+ghost use Rattle.vc_model.specs.Touch.{HasBlock, HasRange, find_block, with_bytes_at};
+
+use crate::pool::Pool;
+use vc_base::Addr;
+
+/// The calls on one block. They can't fail, and take no memory.
+impl Pool {
+    /// The size in bytes of the block at that address, from 1 to 16,777,216.
+    pub fn size(&self, a: Addr) -> u32
+        requires { HasBlock self.now.cells.layout.blocks a.0 }
+        ensures { option_map (λ b. b.size) (find_block (place_of a.0) self.now.cells.layout.blocks)
+            ≡ Some result }
+    {
+        self.cells.layout().size(a)
+    }
+
+    /// The tag of the block at that address.
+    pub fn tag(&self, a: Addr) -> u32
+        requires { HasBlock self.now.cells.layout.blocks a.0 }
+        ensures { option_map (λ b. b.label) (find_block (place_of a.0) self.now.cells.layout.blocks)
+            ≡ Some result }
+    {
+        self.cells.layout().tag(a)
+    }
+
+    /// The bytes of a range of the block at that address. The range lies in the block.
+    pub fn read(&self, a: Addr, off: u32, len: u32) -> &[u8]
+        requires block { HasBlock self.now.cells.layout.blocks a.0 }
+        requires range { HasRange self.now.cells.layout.blocks a.0 off len }
+        ensures { option_map (λ b. take len (drop off b.bytes))
+            (find_block (place_of a.0) self.now.cells.layout.blocks) ≡ Some result.now }
+    {
+        self.cells.layout().read(a, off, len)
+    }
+
+    /// Puts bytes into the block at that address, from an offset on. They lie in the block.
+    pub fn write(&mut self, a: Addr, off: u32, src: &[u8])
+        requires block { HasBlock self.old.cells.layout.blocks a.0 }
+        requires range { HasRange self.old.cells.layout.blocks a.0 off (length src.now) }
+        ensures pool { self.new.cells ≡ record self.old.cells {
+          layout = with_bytes_at self.old.cells.layout (place_of a.0) off src.now;
+        } }
+        ensures disc { state self.new.disc ≡ state self.old.disc }
+        ensures sound { IsPoolSound self.new.cells }
+    {
+        self.cells.write(a, off, src);
+        self.cells.look();
+    }
+}

@@ -1,0 +1,176 @@
+ghost use Rattle.std.specs.Prelude.{◌≡◌, ℕ, ◌≤◌, [], None, IfErr, IfOk, IfSome, OnErr, OnOk, length, option_map};
+ghost use Rattle.vc_model.specs.Addr.{place_of};
+ghost use Rattle.vc_model.specs.Compact.{compact_count};
+ghost use Rattle.vc_model.specs.Discipline.{HasOut, TookBack};
+ghost use Rattle.vc_model.specs.Layout.{address_of};
+ghost use Rattle.vc_model.specs.Outcome.{Done};
+ghost use Rattle.vc_model.specs.Pool.{IsPoolSound, empty_pool, pool_alloc, pool_clear, pool_compact, pool_free, pool_need, pool_resize};
+ghost use Rattle.vc_model.specs.Touch.{HasBlock};
+ghost use Rattle.vc_model.specs.Walk.{block_at, next_block, next_segment, segment_at};
+ghost use Rattle.vc_pool.specs.Stat.{pool_stat};
+ghost use Rattle.vc_seg.specs.Answer.{Answers, Asks, IsRefusal};
+
+use crate::cells::Cells;
+use std::alloc::Global;
+use vc_base::{Addr, OutOfMemory};
+use vc_seg::{RegionFault, SegDisc, Stat};
+
+/// A region of cells of one size over the segments of a discipline, after Vmalloc's `Vmpool`. The first block that is
+/// granted sets the element size, which stays until `close`. Sizes and offsets are in bytes.
+#[derive(Drop)]
+pub struct Pool {
+    /// Its segments, its blocks and its cells.
+    pub cells: Cells,
+    /// The discipline that lends its segments.
+    pub disc: Box<dyn SegDisc>,
+    /// Where the memory of its segments and lists comes from.
+    pub alloc: Global,
+}
+
+impl Pool {
+    /// A region with no segment and no element size. It takes no segment before the first block.
+    pub fn open(
+        alloc: Global,
+        disc: Box<dyn SegDisc>,
+    ) -> Result<Pool, (OutOfMemory, Box<dyn SegDisc>)>
+        ensures ok { IfOk result (λ p. (p.cells ≡ empty_pool) × (state p.disc ≡ state disc)) }
+        ensures err { IfErr result (λ e. state e.1 ≡ state disc) }
+    {
+        Ok(Pool {
+            cells: Cells::new(alloc),
+            disc,
+            alloc,
+        })
+    }
+
+    /// A block of zeros: 1 to 16,777,216 bytes, in the cell freed last, else in the lowest uncarved cell of the first
+    /// segment that has one. Where there is none, a segment is asked for. `PoolSize` comes exactly where the size is
+    /// above the element size.
+    pub fn alloc(&mut self, size: u32, tag: u32) -> Result<Addr, RegionFault>
+        requires some { 1 ≤ size }
+        requires most { size ≤ 16777216 }
+        ensures answer { Answers (pool_alloc (state self.old.disc).terms self.old.cells tag size) result
+            self.old.cells self.new.cells }
+        ensures disc { Asks result (state self.old.disc) (state self.new.disc)
+            self.old.cells.layout.segments self.new.cells.layout.segments
+            (pool_need (state self.old.disc).terms self.old.cells size) }
+        ensures sound { IsPoolSound self.new.cells }
+    {
+        let answer = self.cells.alloc(&mut self.disc, self.alloc, size, tag);
+        self.cells.look();
+        answer
+    }
+
+    /// Gives the block at that address another size, from 1 to 16,777,216 bytes, where it is. The first bytes of both
+    /// sizes are kept, and the others are zero. `PoolSize` comes exactly where the size is above the element size.
+    pub fn resize(&mut self, a: Addr, size: u32) -> Result<(), RegionFault>
+        requires block { HasBlock self.old.cells.layout.blocks a.0 }
+        requires some { 1 ≤ size }
+        requires most { size ≤ 16777216 }
+        ensures ok { OnOk result (pool_resize self.old.cells (place_of a.0) size
+            ≡ Done (record { at = place_of a.0; region = self.new.cells; granted = None })) }
+        ensures err { IfErr result (IsRefusal (λ _. pool_resize self.old.cells
+            (place_of a.0) size)) }
+        ensures same { OnErr result (self.new.cells ≡ self.old.cells) }
+        ensures disc { state self.new.disc ≡ state self.old.disc }
+        ensures sound { IsPoolSound self.new.cells }
+    {
+        let answer = self.cells.resize(a, size);
+        self.cells.look();
+        answer
+    }
+
+    /// Frees the block at that address. Its cell is the one freed last.
+    pub fn free(&mut self, a: Addr)
+        requires { HasBlock self.old.cells.layout.blocks a.0 }
+        ensures pool { self.new.cells ≡ pool_free self.old.cells (place_of a.0) }
+        ensures disc { state self.new.disc ≡ state self.old.disc }
+        ensures sound { IsPoolSound self.new.cells }
+    {
+        self.cells.free(a);
+        self.cells.look();
+    }
+
+    /// Frees all its blocks, and keeps its segments and the element size. Every cell is uncarved.
+    pub fn clear(&mut self)
+        ensures pool { self.new.cells ≡ pool_clear self.old.cells }
+        ensures disc { state self.new.disc ≡ state self.old.disc }
+        ensures sound { IsPoolSound self.new.cells }
+    {
+        self.cells.clear();
+        self.cells.look();
+    }
+
+    /// Gives back each segment without a block, in ascending order of number, and answers how many those were. The cells
+    /// of those segments are freed no more, and the order of the others stays.
+    pub fn compact(&mut self) -> u32
+        requires { HasOut (state self.old.disc) self.old.cells.layout.segments }
+        ensures pool { self.new.cells ≡ pool_compact self.old.cells }
+        ensures count { result ≡ compact_count self.old.cells.layout }
+        ensures disc { TookBack (state self.old.disc) (state self.new.disc)
+            self.old.cells.layout.segments self.new.cells.layout.segments }
+        ensures sound { IsPoolSound self.new.cells }
+    {
+        let count = self.cells.compact(&mut self.disc);
+        self.cells.look();
+        count
+    }
+
+    /// Its numbers of blocks, cells and segments, and their sizes in bytes: `free` counts the cells that no block is in,
+    /// and `mfree` is the cell, or 0 with no such cell.
+    pub fn stat(&self) -> Stat
+        ensures { result ≡ pool_stat self.now.cells }
+    {
+        self.cells.stat()
+    }
+
+    /// Gives all its segments back, in ascending order of number, and answers with the discipline and how many there
+    /// were.
+    pub fn close(self) -> (Box<dyn SegDisc>, u32)
+        requires { HasOut (state self.disc) self.cells.layout.segments }
+        ensures disc { TookBack (state self.disc) (state result.0) self.cells.layout.segments [] }
+        ensures count { result.1 ≡ length self.cells.layout.segments }
+    {
+        let Pool {
+            cells,
+            mut disc,
+            alloc: _,
+        } = self;
+        let count = cells.close(&mut disc);
+        (disc, count)
+    }
+
+    /// The block whose bytes hold the byte at an offset of a segment, and the offset in the block. None where no block
+    /// does.
+    pub fn block_at(&self, seg: u32, off: u32) -> Option<(Addr, u32)>
+        ensures value { option_map {U = ℕ × ℕ} (λ f. (f.0.0, f.1)) result
+            ≡ option_map {U = ℕ × ℕ} (λ f. (address_of f.0, f.1))
+            (block_at (seg, off) self.now.cells.layout.blocks) }
+        ensures live { IfSome result (λ f. HasBlock self.now.cells.layout.blocks f.0.0) }
+    {
+        self.cells.layout().block_at(seg, off)
+    }
+
+    /// The size of the segment of that number, where it has a byte at that offset, else None.
+    pub fn segment_at(&self, seg: u32, off: u32) -> Option<u32>
+        ensures { result ≡ segment_at (seg, off) self.now.cells.layout.segments }
+    {
+        self.cells.layout().segment_at(seg, off)
+    }
+
+    /// The segment with the least number above one, as number and size. A walk begins with 0, and ends with None.
+    pub fn next_segment(&self, after: u32) -> Option<(u32, u32)>
+        ensures { result ≡ next_segment after self.now.cells.layout.segments }
+    {
+        self.cells.layout().next_segment(after)
+    }
+
+    /// The block behind one in order of addresses. A walk begins with `Addr::NONE`, and ends with None.
+    pub fn next_block(&self, after: Addr) -> Option<Addr>
+        ensures value { option_map (λ a. a.0) result
+            ≡ option_map address_of (next_block after.0 self.now.cells.layout.blocks) }
+        ensures live { IfSome result (λ a. HasBlock self.now.cells.layout.blocks a.0) }
+    {
+        self.cells.layout().next_block(after)
+    }
+}

@@ -1,0 +1,110 @@
+use Rattle.std.proofs.Common.{◌≡◌, ◌-◌, Some, IfSome, set, length, arith, ap, ◌∙◌, subst, sym}
+use Rattle.std.specs.Prelude.{remove}
+use Rattle.vc_model.specs.Discipline.{Discipline}
+use Rattle.vc_model.specs.Region.{segments_of}
+use Rattle.vc_seg.specs.Shelf.{place_of}
+use Rattle.vc_session.specs.Account.{Held, IsSession, account_after, accounts, settled}
+use Rattle.vc_session.specs.Homes.{accounts_on, held_all, held_in, held_of, slots_on}
+use Rattle.vc_session.proofs.Closing.{session-close, settled-close}
+use Rattle.vc_session.proofs.Helds.{held-entry, held-remove, slice-or}
+use Rattle.vc_session.proofs.Sessions.{held-at}
+use Rattle.vc_session.proofs.session.Session.close_at.Given as given
+use Rattle.vc_session.proofs.session.Session.close_at.Goals as goal
+
+abbrev meaning : (g : given.Over) → (x : g.dyn-1.0.I) × (g.dyn-1.0.entry x).0.Denot → Discipline
+meaning g p = (g.dyn-1.0.entry p.0).1.state p.1
+
+pub close_region-requires-clause-taken : goal.close_region-requires-clause-taken
+close_region-requires-clause-taken g c =
+    let M = meaning g in
+    let slots = slots_on M c.args.shelf.now in
+    let helds = held_in M c.args.self.now in
+    let entries = c.args.self.now.homes.entries in
+    let labels = c.args.self.now.labels.items in
+    let own = slice-or labels c.args.i c.remove.result (omega (arith, c.requires.session.named, c.requires.within)) c.remove.ensures.value in
+    let h = held_of M c.in-Some.field-0-0 c.in-Some.home c.remove.result in
+    let at = held-entry M entries labels c.args.i (c.in-Some.field-0-0, c.in-Some.home) c.remove.result (sym c.in-Some.ensures.entry) own in
+    ap place_of (held-at slots helds c.args.i h at c.requires.session.held).place
+
+pub close_region-requires-clause-lent : goal.close_region-requires-clause-lent
+close_region-requires-clause-lent g c =
+    let M = meaning g in
+    let slots = slots_on M c.args.shelf.now in
+    let helds = held_in M c.args.self.now in
+    let entries = c.args.self.now.homes.entries in
+    let labels = c.args.self.now.labels.items in
+    let own = slice-or labels c.args.i c.remove.result (omega (arith, c.requires.session.named, c.requires.within)) c.remove.ensures.value in
+    let h = held_of M c.in-Some.field-0-0 c.in-Some.home c.remove.result in
+    let at = held-entry M entries labels c.args.i (c.in-Some.field-0-0, c.in-Some.home) c.remove.result (sym c.in-Some.ensures.entry) own in
+    (held-at slots helds c.args.i h at c.requires.session.held).lent
+
+pub returns-clause-count : goal.returns-clause-count
+returns-clause-count g c =
+    let M = meaning g in
+    let slots = slots_on M c.args.shelf.now in
+    let helds = held_in M c.args.self.now in
+    let entries = c.args.self.now.homes.entries in
+    let labels = c.args.self.now.labels.items in
+    let own = slice-or labels c.args.i c.remove.result (omega (arith, c.requires.session.named, c.requires.within)) c.remove.ensures.value in
+    let h = held_of M c.in-Some.field-0-0 c.in-Some.home c.remove.result in
+    let at = held-entry M entries labels c.args.i (c.in-Some.field-0-0, c.in-Some.home) c.remove.result (sym c.in-Some.ensures.entry) own in
+    subst (λ o. IfSome o (λ (k : Held). c.close_region.result ≡ length (segments_of k.region))) (sym at) c.close_region.ensures.count
+
+pub returns-clause-here : goal.returns-clause-here
+returns-clause-here g c =
+    let M = meaning g in
+    let slots = slots_on M c.args.shelf.now in
+    let helds = held_in M c.args.self.now in
+    let entries = c.args.self.now.homes.entries in
+    let labels = c.args.self.now.labels.items in
+    let own = slice-or labels c.args.i c.remove.result (omega (arith, c.requires.session.named, c.requires.within)) c.remove.ensures.value in
+    let h = held_of M c.in-Some.field-0-0 c.in-Some.home c.remove.result in
+    let at = held-entry M entries labels c.args.i (c.in-Some.field-0-0, c.in-Some.home) c.remove.result (sym c.in-Some.ensures.entry) own in
+    subst (λ o. IfSome o (λ (k : Held). accounts_on M c.close_region.new.shelf ≡ set (accounts slots) (k.place - 1) (Some (account_after k)))) (sym at) c.close_region.ensures.here
+
+pub returns-clause-others : goal.returns-clause-others
+returns-clause-others g c =
+    let M = meaning g in
+    let slots = slots_on M c.args.shelf.now in
+    let helds = held_in M c.args.self.now in
+    let entries = c.args.self.now.homes.entries in
+    let labels = c.args.self.now.labels.items in
+    let rest : held_all M c.shift_remove_index.new.self.entries c.remove.new.self.items ≡ remove helds c.args.i =
+    ap (λ es. held_all M es c.remove.new.self.items) c.shift_remove_index.ensures.entries
+    ∙ (ap (λ ls. held_all M (remove entries c.args.i) ls) c.remove.ensures.items ∙ held-remove M entries labels c.args.i c.requires.session.named) in
+    rest
+
+pub returns-clause-session : goal.returns-clause-session
+returns-clause-session g c =
+    let M = meaning g in
+    let slots = slots_on M c.args.shelf.now in
+    let helds = held_in M c.args.self.now in
+    let entries = c.args.self.now.homes.entries in
+    let labels = c.args.self.now.labels.items in
+    let own = slice-or labels c.args.i c.remove.result (omega (arith, c.requires.session.named, c.requires.within)) c.remove.ensures.value in
+    let h = held_of M c.in-Some.field-0-0 c.in-Some.home c.remove.result in
+    let at = held-entry M entries labels c.args.i (c.in-Some.field-0-0, c.in-Some.home) c.remove.result (sym c.in-Some.ensures.entry) own in
+    let rest : held_all M c.shift_remove_index.new.self.entries c.remove.new.self.items ≡ remove helds c.args.i =
+    ap (λ es. held_all M es c.remove.new.self.items) c.shift_remove_index.ensures.entries
+    ∙ (ap (λ ls. held_all M (remove entries c.args.i) ls) c.remove.ensures.items ∙ held-remove M entries labels c.args.i c.requires.session.named) in
+    let slots' = slots_on M c.close_region.new.shelf in
+    record {
+      named = omega (arith, c.requires.session.named, c.remove.ensures.len, c.shift_remove_index.ensures.len);
+      held = subst (λ hs. IsSession slots' hs) (sym rest) (session-close slots slots' helds c.args.i h at c.requires.session.held c.close_region.ensures.here c.close_region.ensures.elsewhere);
+    }
+
+pub returns-clause-settled : goal.returns-clause-settled
+returns-clause-settled g c =
+    let M = meaning g in
+    let slots = slots_on M c.args.shelf.now in
+    let helds = held_in M c.args.self.now in
+    let entries = c.args.self.now.homes.entries in
+    let labels = c.args.self.now.labels.items in
+    let own = slice-or labels c.args.i c.remove.result (omega (arith, c.requires.session.named, c.requires.within)) c.remove.ensures.value in
+    let h = held_of M c.in-Some.field-0-0 c.in-Some.home c.remove.result in
+    let at = held-entry M entries labels c.args.i (c.in-Some.field-0-0, c.in-Some.home) c.remove.result (sym c.in-Some.ensures.entry) own in
+    let rest : held_all M c.shift_remove_index.new.self.entries c.remove.new.self.items ≡ remove helds c.args.i =
+    ap (λ es. held_all M es c.remove.new.self.items) c.shift_remove_index.ensures.entries
+    ∙ (ap (λ ls. held_all M (remove entries c.args.i) ls) c.remove.ensures.items ∙ held-remove M entries labels c.args.i c.requires.session.named) in
+    let slots' = slots_on M c.close_region.new.shelf in
+    ap (λ hs. settled (accounts slots') hs) rest ∙ settled-close slots slots' helds c.args.i h at c.requires.session.held c.close_region.ensures.here
