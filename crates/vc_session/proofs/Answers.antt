@@ -145,3 +145,7 @@ change-same h labels has names =
 -- what is told leaves the region
 pub gives-changed : (region : Region Label) (c : Changed) (told : Reply) → c ≡ changed_to region told → Gives c region told
 gives-changed region c told e = record { region_after = ap (λ (k : Changed). k.region) e; replied = ap (λ (k : Changed). k.reply) e }
+
+pub if_ok-map : {E : Type 0} (result : Result Reply E) (P Q : Reply → Type 0) → ((told : Reply) → P told → Q told) → IfOk result P → IfOk result Q
+if_ok-map (Ok told) P Q f all = f told all
+if_ok-map (Err e) P Q f all = tt

@@ -1,5 +1,5 @@
 -- Open regions, by their names and as they stand for lists.
-use Rattle.std.proofs.Common.{◌≡◌, ℕ, ◌||◌, ◌<◌, zero, suc, false, cond, is_some, List, [], ◌∷◌, ◌++◌, Option, Some, None, length, get_or, map, set, take, refl, sym, ap, ◌∙◌, subst, ⊎_elim, arith}
+use Rattle.std.proofs.Common.{◌≡◌, ℕ, ◌+◌, ◌||◌, ◌<◌, zero, suc, false, cond, is_some, List, [], ◌∷◌, ◌++◌, Option, Some, None, length, get_or, map, set, take, refl, sym, ap, ◌∙◌, subst, ⊎_elim, arith}
 use Rattle.std.specs.Prelude.{remove, slice_get}
 use Rattle.std.specs.List.{list_any, position}
 use Rattle.std.specs.Str.{bytes_eq}
@@ -35,6 +35,11 @@ pub some-at : {A : Type 0} (xs : List A) (i : ℕ) → i < length xs → (x : A)
 some-at [] i within = absurd (omega (arith, within))
 some-at (y ∷ ys) zero within = (y, refl)
 some-at (y ∷ ys) (suc i) within = some-at ys i (omega (arith, within))
+
+pub length-remove : {A : Type 0} (xs : List A) (i : ℕ) → i < length xs → length (remove xs i) + 1 ≡ length xs
+length-remove [] i within = absurd (omega (arith, within))
+length-remove (y ∷ ys) zero within = omega arith
+length-remove (y ∷ ys) (suc i) within = omega (arith, length-remove ys i (omega (arith, within)))
 
 module _ {I : Type 0} {V : I → Type 0} (meaning : (x : I) × V x → Discipline) where
   abbrev Homes : Type 0
@@ -121,6 +126,10 @@ module _ {I : Type 0} {V : I → Type 0} (meaning : (x : I) × V x → Disciplin
   held-new [] (k ∷ ks) r h l same = absurd (omega (arith, same))
   held-new (e ∷ es) [] r h l same = absurd (omega (arith, same))
   held-new (e ∷ es) (k ∷ ks) r h l same = ap (λ hs. held_of meaning e.0 e.1 k ∷ hs) (held-new es ks r h l (omega (arith, same)))
+
+  pub held-none : (homes : Homes) (labels : List Labels) → length homes ≡ 0 → held_all meaning homes labels ≡ []
+  held-none [] labels none = refl
+  held-none (e ∷ es) labels none = absurd (omega (arith, none))
 
   pub length-held : (homes : Homes) (labels : List Labels) → length labels ≡ length homes → length (held_all meaning homes labels) ≡ length homes
   length-held [] labels same = refl

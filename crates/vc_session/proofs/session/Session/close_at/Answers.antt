@@ -6,7 +6,7 @@ use Rattle.vc_seg.specs.Shelf.{place_of}
 use Rattle.vc_session.specs.Account.{Held, IsSession, account_after, accounts, settled}
 use Rattle.vc_session.specs.Homes.{accounts_on, held_all, held_in, held_of, slots_on}
 use Rattle.vc_session.proofs.Closing.{session-close, settled-close}
-use Rattle.vc_session.proofs.Helds.{held-entry, held-remove, slice-or}
+use Rattle.vc_session.proofs.Helds.{held-entry, held-remove, length-remove, slice-or}
 use Rattle.vc_session.proofs.Sessions.{held-at}
 use Rattle.vc_session.proofs.session.Session.close_at.Given as given
 use Rattle.vc_session.proofs.session.Session.close_at.Goals as goal
@@ -88,8 +88,16 @@ returns-clause-session g c =
     ap (λ es. held_all M es c.remove.new.self.items) c.shift_remove_index.ensures.entries
     ∙ (ap (λ ls. held_all M (remove entries c.args.i) ls) c.remove.ensures.items ∙ held-remove M entries labels c.args.i c.requires.session.named) in
     let slots' = slots_on M c.close_region.new.shelf in
+    let named : length c.remove.new.self.items ≡ length c.shift_remove_index.new.self.entries = omega (
+      arith,
+      ap length c.remove.ensures.items,
+      ap length c.shift_remove_index.ensures.entries,
+      length-remove labels c.args.i (omega (arith, c.requires.session.named, c.requires.within)),
+      length-remove entries c.args.i c.requires.within,
+      c.requires.session.named,
+    ) in
     record {
-      named = omega (arith, c.requires.session.named, c.remove.ensures.len, c.shift_remove_index.ensures.len);
+      named = named;
       held = subst (λ hs. IsSession slots' hs) (sym rest) (session-close slots slots' helds c.args.i h at c.requires.session.held c.close_region.ensures.here c.close_region.ensures.elsewhere);
     }
 
