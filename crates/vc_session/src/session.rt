@@ -160,7 +160,10 @@ impl Session {
             return Err(OutOfMemory);
         }
         match self.run_command(shelf, line, command) {
-            Ok(reply) => Ok(reply),
+            Ok(reply) => {
+                self.is_spent = false;
+                Ok(reply)
+            }
             Err(_) => {
                 self.is_spent = true;
                 Err(OutOfMemory)
