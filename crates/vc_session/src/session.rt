@@ -162,10 +162,7 @@ impl Session {
             return Err(OutOfMemory);
         }
         match self.run_command(shelf, line, command) {
-            Ok(reply) => {
-                self.is_spent = false;
-                Ok(reply)
-            }
+            Ok(reply) => Ok(reply),
             Err(_) => {
                 self.is_spent = true;
                 Err(OutOfMemory)
