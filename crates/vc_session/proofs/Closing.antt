@@ -15,7 +15,7 @@ use Rattle.vc_session.specs.Account.{Account, Held, IsSession, account, accounts
 use Rattle.vc_session.proofs.Cells.{all-remove, at_number-from_one, at_number-zero, at_number_some, map-remove, slice_get-set_other}
 use Rattle.vc_session.proofs.Firsts.{IsFirst, find-first, or-false}
 use Rattle.vc_session.proofs.Settle.{IsApart, away-at, low-at}
-use Rattle.vc_seg.specs.Shelf.{place_at, place_of}
+use Rattle.vc_seg.specs.Shelf.{place_at, standing}
 use Rattle.vc_seg.specs.declared.shelf.ShelfPlace.TheVariants.{Taken}
 use Rattle.vc_session.proofs.Sessions.{Slots, apart-session}
 
@@ -58,7 +58,7 @@ pub first-rest : {A : Type 0} (xs : List A) (x : A) → slice_get xs 0 ≡ Some 
 first-rest [] x at = absurd (none-some x at)
 first-rest (y ∷ ys) x at = ap (λ z. z ∷ ys) (same_Some y x at)
 
-taken_of : (o : Option (Option Discipline)) → place_of o ≡ Taken → o ≡ Some None
+taken_of : (o : Option (Option Discipline)) → standing o ≡ Taken → o ≡ Some None
 taken_of None e = absurd cc
 taken_of (Some None) e = refl
 taken_of (Some (Some d)) e = absurd cc

@@ -120,6 +120,14 @@ module _ {I : Type 0} {V : I → Type 0} (meaning : (x : I) × V x → Disciplin
   held-set (e ∷ es) (k ∷ ks) zero r h l same name = ap (λ n. held_of meaning n h l ∷ held_all meaning es ks) (same_Some e.0 r name)
   held-set (e ∷ es) (k ∷ ks) (suc i) r h l same name = ap (λ hs. held_of meaning e.0 e.1 k ∷ hs) (held-set es ks i r h l (omega (arith, same)) name)
 
+  pub length-set : (homes : Homes) (labels : List Labels) (i : ℕ) (h : HomeEntry I V) (l : Labels) → length labels ≡ length homes → length (set labels i l) ≡ length (set_value_at homes i h)
+  length-set [] [] zero h l same = refl
+  length-set [] [] (suc i) h l same = refl
+  length-set [] (k ∷ ks) i h l same = absurd (omega (arith, same))
+  length-set (e ∷ es) [] i h l same = absurd (omega (arith, same))
+  length-set (e ∷ es) (k ∷ ks) zero h l same = same
+  length-set (e ∷ es) (k ∷ ks) (suc i) h l same = ap suc (length-set es ks i h l (omega (arith, same)))
+
   -- a new name goes last
   pub held-new : (homes : Homes) (labels : List Labels) (r : List ℕ) (h : HomeEntry I V) (l : Labels) → length labels ≡ length homes → held_all meaning (homes ++ (r, h) ∷ []) (labels ++ l ∷ []) ≡ held_all meaning homes labels ++ held_of meaning r h l ∷ []
   held-new [] [] r h l same = refl

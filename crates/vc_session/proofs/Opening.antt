@@ -12,7 +12,7 @@ use Rattle.vc_model.specs.Sound.{HaveOwnPlaces}
 use Rattle.vc_seg.specs.Stat.{opened}
 use Rattle.vc_seg.specs.declared.method.Method.{Method}
 use Rattle.vc_seg.specs.declared.method.Method.TheVariants.{VmBest, VmPool, VmLast, VmDebug, VmProfile}
-use Rattle.vc_seg.specs.Shelf.{place_at, place_of}
+use Rattle.vc_seg.specs.Shelf.{place_at, standing}
 use Rattle.vc_seg.specs.declared.shelf.ShelfPlace.TheVariants.{Here}
 use Rattle.vc_script.specs.declared.reply.Reply.TheVariants.{Opened}
 use Rattle.vc_script.specs.declared.refusal.Refusal.TheVariants.{NotYet, RegionExists}
@@ -141,7 +141,7 @@ open_step-named s name m n r is named =
     ap (opened_as s name n) is
     ∙ ap (λ b. cond b (refused s RegionExists) (opened_over s name n r (at_number s.shelf n))) named
 
-opened_over-not_here : (s : State) (name : List ℕ) (n : ℕ) (r : Region Label) (o : Option (Option Discipline)) → (place_of o ≡ Here → ⊥) → opened_over s name n r (option_map (option_map (λ d. d.terms)) o) ≡ refused s (why_not (place_of o))
+opened_over-not_here : (s : State) (name : List ℕ) (n : ℕ) (r : Region Label) (o : Option (Option Discipline)) → (standing o ≡ Here → ⊥) → opened_over s name n r (option_map (option_map (λ d. d.terms)) o) ≡ refused s (why_not (standing o))
 opened_over-not_here s name n r None not_here = refl
 opened_over-not_here s name n r (Some None) not_here = refl
 opened_over-not_here s name n r (Some (Some d)) not_here = absurd (not_here refl)

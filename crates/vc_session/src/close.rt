@@ -52,6 +52,7 @@ impl Session {
         ensures session { IsSessionOver state shelf.new self.new }
         ensures settled { settled_over state shelf.new self.new
             ≡ settled_over state shelf.old self.old }
+        ensures spent { self.new.is_spent ≡ self.old.is_spent }
     {
         let _ = self.labels.remove(i);
         match self.homes.shift_remove_index(i) {
@@ -68,6 +69,7 @@ impl Session {
         ensures session { IsSessionOver state shelf.new self.new }
         ensures settled { settled_over state shelf.new self.new
             ≡ settled_over state shelf.old self.old }
+        ensures spent { self.new.is_spent ≡ self.old.is_spent }
     {
         match self.homes.get_index_of(name) {
             None => Reply::Refused(Refusal::NoRegion),

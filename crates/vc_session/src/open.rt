@@ -45,6 +45,7 @@ impl Session {
         ensures session { IsSessionOver state shelf.new self.new }
         ensures settled { settled_over state shelf.new self.new
             ≡ settled_over state shelf.old self.old }
+        ensures spent { self.new.is_spent ≡ self.old.is_spent }
         ensures err { OnErr result
             (state_over state shelf.new self.new
             ≡ state_over state shelf.old self.old) }

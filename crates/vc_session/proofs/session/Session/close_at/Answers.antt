@@ -2,7 +2,7 @@ use Rattle.std.proofs.Common.{◌≡◌, ◌-◌, Some, IfSome, set, length, ari
 use Rattle.std.specs.Prelude.{remove}
 use Rattle.vc_model.specs.Discipline.{Discipline}
 use Rattle.vc_model.specs.Region.{segments_of}
-use Rattle.vc_seg.specs.Shelf.{place_of}
+use Rattle.vc_seg.specs.Shelf.{standing}
 use Rattle.vc_session.specs.Account.{Held, IsSession, account_after, accounts, settled}
 use Rattle.vc_session.specs.Homes.{accounts_on, held_all, held_in, held_of, slots_on}
 use Rattle.vc_session.proofs.Closing.{session-close, settled-close}
@@ -24,7 +24,7 @@ close_region-requires-clause-taken g c =
     let own = slice-or labels c.args.i c.remove.result (omega (arith, c.requires.session.named, c.requires.within)) c.remove.ensures.value in
     let h = held_of M c.in-Some.field-0-0 c.in-Some.home c.remove.result in
     let at = held-entry M entries labels c.args.i (c.in-Some.field-0-0, c.in-Some.home) c.remove.result (sym c.in-Some.ensures.entry) own in
-    ap place_of (held-at slots helds c.args.i h at c.requires.session.held).place
+    ap standing (held-at slots helds c.args.i h at c.requires.session.held).place
 
 pub close_region-requires-clause-lent : goal.close_region-requires-clause-lent
 close_region-requires-clause-lent g c =
