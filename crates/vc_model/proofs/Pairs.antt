@@ -1,7 +1,6 @@
 -- Lists whose items hold something pairwise.
-use Rattle.std.proofs.Common.{ℕ, suc, List, [], ◌∷◌, All, AllPairs, arith}
+use Rattle.std.proofs.Common.{suc, List, ◌∷◌, All, AllPairs, arith}
 use Rattle.std.specs.List.{AllByRecursion}
-use Rattle.std.proofs.lemmas.List.Elements.{All-head, All-tail}
 use Rattle.std.proofs.lemmas.List.Elements.{recursion_from_All}
 
 pub AllPairs-head : {A : Type 0} (R : A → A → Type 0) (x : A) (xs : List A) → AllPairs R (x ∷ xs) → All (R x) xs

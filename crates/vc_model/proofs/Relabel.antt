@@ -1,21 +1,20 @@
 -- Every call of a region commutes with a change of its labels.
 use Rattle.std.proofs.Common.{◌≡◌, ℕ, ◌-◌, Bool, true, false, ◌&&◌, ◌||◌, cond, List, [], ◌∷◌, Option, Some, None, length, map, filter, option_map, refl, sym, ap, ◌∙◌, take, eqb}
-use Rattle.std.specs.Prelude.{not, find, sum, nat_lt}
-use Rattle.std.specs.List.{AllByRecursion, list_all, list_any}
-use Rattle.vc_model.specs.Addr.{address}
-use Rattle.vc_model.specs.Best.{best_alloc, best_need, put, put_at, put_in_new, put_or_ask, place_in, without_block_at, zeros}
-use Rattle.vc_model.specs.Compact.{cleared, compact_count, compacted, is_occupied}
+use Rattle.std.specs.Prelude.{not, find, nat_lt}
+use Rattle.std.specs.List.{AllByRecursion, list_all}
+use Rattle.vc_model.specs.Best.{best_alloc, best_need, put, put_at, put_in_new, put_or_ask, place_in, zeros}
+use Rattle.vc_model.specs.Compact.{compact_count, compacted, is_occupied}
 use Rattle.vc_model.specs.Discipline.{Terms}
 use Rattle.vc_model.specs.Layout.{Block, Layout, address_of, footprint, footprints, is_at, lies_before, with_block, with_segment, without_block}
-use Rattle.vc_model.specs.Order.{put_by, sorted_by}
+use Rattle.vc_model.specs.Order.{put_by}
 use Rattle.vc_model.specs.Outcome.{Outcome, Done, Refused, Put, Fixed, outcome_as}
 use Rattle.vc_model.specs.Gap.{gaps}
 use Rattle.vc_model.specs.Numbers.{block_sizes, gaps_of}
 use Rattle.vc_model.specs.Place.{place}
 use Rattle.vc_model.specs.Region.{OfBest, Region, blocks_of, region_align, region_alloc, region_clear, region_compact, region_compact_count, region_free, region_resize, region_write, relabel_block, relabel_layout, relabelled, segments_of}
-use Rattle.vc_model.specs.Resize.{best_resize, can_stay, is_usable, meets, moved, resize_block, resize_found, resize_there, sized, stays}
+use Rattle.vc_model.specs.Resize.{best_resize, can_stay, is_usable, meets, moved, resize_block, resize_found, sized, stays}
 use Rattle.vc_model.specs.Segments.{Asked, Granted, TooMany, NotLent, ask}
-use Rattle.vc_model.specs.Touch.{change_block, find_block, rewritten, with_bytes_at}
+use Rattle.vc_model.specs.Touch.{change_block, find_block, rewritten}
 use Rattle.vc_model.specs.Walk.{block_at, by_address, holds_byte}
 
 module _ {L M : Type 0} (f : L → M) where

@@ -1,5 +1,5 @@
 -- Lists by a key: the walk from an item to the one with the next key passes them all.
-use Rattle.std.proofs.Common.{◌≡◌, ◌≢◌, ℕ, ◌≤◌, All, AllPairs, Bool, true, false, cond, List, [], ◌∷◌, Option, Some, None, filter, fold, ltb, refl, sym, ap, ◌∙◌, subst, ⊎_elim, arith}
+use Rattle.std.proofs.Common.{◌≡◌, ◌≢◌, ℕ, ◌≤◌, AllPairs, Bool, true, false, cond, List, [], ◌∷◌, Option, Some, None, filter, fold, ltb, refl, sym, ap, ◌∙◌, subst, ⊎_elim, arith}
 use Rattle.std.specs.Prelude.{⊤, find, nat_lt}
 use Rattle.std.specs.List.{AllByRecursion}
 use Rattle.std.proofs.lemmas.Bool.{cases_Bool, lt-ltb, ltb-false}

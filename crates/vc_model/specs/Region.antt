@@ -1,7 +1,7 @@
 -- A region by its method, and each call of it by cases on the method.
 use Rattle.std.specs.Prelude.{ℕ, List, Bool, map}
 use Rattle.vc_model.specs.Discipline.{Terms}
-use Rattle.vc_model.specs.Layout.{Block, Layout, empty_layout}
+use Rattle.vc_model.specs.Layout.{Block, Layout}
 use Rattle.vc_model.specs.Outcome.{Outcome, Done, Put, outcome_as}
 use Rattle.vc_model.specs.Best.{best_alloc, best_need, without_block_at}
 use Rattle.vc_model.specs.Resize.{best_resize, can_stay}

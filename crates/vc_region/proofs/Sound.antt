@@ -1,10 +1,8 @@
 -- Every region has blocks at places of their own, in segments with numbers of their own.
-use Rattle.std.proofs.Common.{ℕ}
 use Rattle.std.proofs.Math.Bridge.{le_prop}
 use Rattle.std.proofs.Math.Nat.{ℕ_set}
 use Rattle.std.proofs.Math.Logic.{∥∥₁_elim}
-use Rattle.vc_model.specs.Layout.{Layout}
-use Rattle.vc_model.specs.Sound.{HaveOwnNumbers, HaveOwnPlaces, IsSound}
+use Rattle.vc_model.specs.Sound.{HaveOwnNumbers, HaveOwnPlaces}
 use Rattle.vc_model.proofs.Places.{own-places}
 use Rattle.vc_region.specs.declared.region.Region.{Region}
 use Rattle.vc_region.specs.declared.region.Region.TheVariants.{Best}

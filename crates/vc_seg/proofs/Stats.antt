@@ -1,5 +1,5 @@
 -- The numbers of a region say nothing of the labels of its blocks.
-use Rattle.std.proofs.Common.{◌≡◌, ℕ, List, length, map, refl, ap, ◌∙◌}
+use Rattle.std.proofs.Common.{◌≡◌, ℕ, List, length, map, ap, ◌∙◌}
 use Rattle.std.specs.Prelude.{sum}
 use Rattle.std.proofs.lemmas.List.{length-map}
 use Rattle.vc_model.specs.Gap.{Run, bytes_of}

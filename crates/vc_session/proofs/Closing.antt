@@ -4,7 +4,7 @@ use Rattle.std.specs.Prelude.{remove, slice_get}
 use Rattle.std.specs.List.{AllByRecursion, list_any}
 use Rattle.std.proofs.lemmas.List.{append-nil, length-append, map-set, set_comm, take_at}
 use Rattle.std.proofs.lemmas.Option.{none-some, same_Some, slice_get-map}
-use Rattle.vc_model.specs.Discipline.{Discipline, Terms, TookBack, HasOut}
+use Rattle.vc_model.specs.Discipline.{Discipline, TookBack, HasOut}
 use Rattle.vc_model.specs.Region.{segments_of}
 use Rattle.vc_model.specs.Numbered.{at_number}
 use Rattle.vc_script.specs.declared.reply.Reply.TheVariants.{Closed}

@@ -3,14 +3,12 @@ use Rattle.std.proofs.Common.{◌≡◌, ℕ, Bool, List, Option, Some, None, If
 use Rattle.std.proofs.lemmas.Option.{none-some, same_Some}
 use Rattle.vc_base.specs.declared.addr.Addr.{Addr}
 use Rattle.vc_model.specs.Addr.{place_of}
-use Rattle.vc_model.specs.Layout.{Block, without_block}
-use Rattle.vc_model.specs.Outcome as model
+use Rattle.vc_model.specs.Layout.{without_block}
 use Rattle.vc_model.specs.Outcome.{Outcome, Done, Refused}
 use Rattle.vc_model.specs.Region.{OfBest, Region, blocks_of, region_free, relabelled, segments_of}
 use Rattle.vc_model.proofs.Relabel.{free-relabelled, relabel_freed}
 use Rattle.vc_script.specs.declared.reply.Reply.{Reply}
 use Rattle.vc_script.specs.declared.reply.Reply.TheVariants.{Freed}
-use Rattle.vc_session.specs.State as state
 use Rattle.vc_session.specs.State.{changed_to, unchanged}
 use Rattle.vc_session.specs.Account.{Held, IsNamed, home_of}
 use Rattle.vc_session.specs.Blocks.{free_block, free_in, freed}

@@ -7,7 +7,7 @@ use Rattle.vc_model.specs.Outcome.{Fault, Outcome, Done, Put, Refused}
 use Rattle.vc_model.specs.Region.{Region, OfBest, blocks_of, region_align, region_alloc, region_free, region_resize, segments_of}
 use Rattle.vc_model.specs.Walk.{block_at, segment_at}
 use Rattle.vc_script.specs.declared.command.Command.{Command}
-use Rattle.vc_script.specs.declared.command.Command.TheVariants.{ClearRegion, Compact, Alloc, Align, Resize, Free, WriteBlock, ReadBlock, SizeOf, AddrOf, SegmentOf, StatOf, Segments, Blocks}
+use Rattle.vc_script.specs.declared.command.Command.TheVariants.{Alloc, Align, Resize, Free, WriteBlock, ReadBlock, SizeOf, AddrOf, SegmentOf}
 use Rattle.vc_script.specs.declared.place.Place.{Place}
 use Rattle.vc_script.specs.declared.reply.Reply.{Reply}
 use Rattle.vc_script.specs.declared.reply.Reply.TheVariants as reply
@@ -15,7 +15,7 @@ use Rattle.vc_script.specs.declared.refusal.Refusal.{Refusal}
 use Rattle.vc_script.specs.declared.refusal.Refusal.TheVariants as why
 use Rattle.vc_script.specs.Needs.{Need}
 use Rattle.vc_session.specs.State.{Changed, Home, Label, unchanged}
-use Rattle.vc_session.specs.Blocks.{alloc_in, align_in, free_block, free_in, freed, has_label, is_align, is_block, is_size, label_count, label_limit, put_in, put_new, read_block, read_in, refusal_of, resize_block, resize_in, size_in, with_named, write_block, write_in}
+use Rattle.vc_session.specs.Blocks.{free_block, free_in, freed, has_label, is_align, is_block, is_size, label_count, label_limit, put_in, put_new, read_block, read_in, resize_block, resize_in, size_in, with_named, write_block, write_in}
 use Rattle.vc_session.specs.Step.{in_region, is_for_block}
 use Rattle.vc_session.specs.Whole.{addr_in, addr_reply, segment_in, segment_reply}
 

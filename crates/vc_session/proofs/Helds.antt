@@ -14,7 +14,7 @@ use Rattle.vc_session.specs.declared.home.HomeEntry.{HomeEntry}
 use Rattle.vc_session.specs.declared.labels.Labels.{Labels}
 use Rattle.vc_session.specs.State.{Home, is_home}
 use Rattle.vc_session.specs.Account.{home_of}
-use Rattle.vc_session.specs.Homes.{held_of, held_entry, held_all}
+use Rattle.vc_session.specs.Homes.{held_of, held_all}
 use Rattle.vc_session.proofs.Firsts.{IsFirst, first-unmap}
 use Rattle.vc_session.proofs.Names.{other_bytes, same_bytes}
 

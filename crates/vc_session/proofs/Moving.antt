@@ -1,6 +1,6 @@
 -- The names of a region stay in step with its blocks as one is put, moves or goes.
-use Rattle.std.proofs.Common.{◌≡◌, ◌≢◌, ℕ, ◌+◌, ◌≤◌, zero, suc, Bool, true, false, ◌||◌, ◌⊎◌, cond, is_some, List, [], ◌∷◌, Option, Some, None, refl, sym, ap, ◌∙◌, subst, ⊎_elim, inl, inr, arith}
-use Rattle.std.specs.Prelude.{count_by, nat_lt}
+use Rattle.std.proofs.Common.{◌≡◌, ◌≢◌, ℕ, ◌+◌, ◌≤◌, zero, suc, true, false, ◌||◌, ◌⊎◌, cond, is_some, List, [], ◌∷◌, Some, None, refl, sym, ap, ◌∙◌, subst, ⊎_elim, inl, inr, arith}
+use Rattle.std.specs.Prelude.{nat_lt}
 use Rattle.std.specs.List.{AllByRecursion, list_any}
 use Rattle.std.specs.Str.{bytes_eq}
 use Rattle.std.proofs.lemmas.Bool.{cases_Bool, cases_eq}
@@ -13,13 +13,13 @@ use Rattle.vc_model.specs.Region.{Region, blocks_of, relabelled}
 use Rattle.vc_model.specs.Sound.{HaveOwnPlaces}
 use Rattle.vc_model.specs.Touch.{find_block}
 use Rattle.vc_model.proofs.Relabel.{relabelled-alike}
-use Rattle.vc_session.specs.Blocks.{has_label, is_name_of}
+use Rattle.vc_session.specs.Blocks.{is_name_of}
 use Rattle.vc_session.specs.declared.labels.Label.{Label}
 use Rattle.vc_session.specs.declared.labels.Labels.{Labels}
-use Rattle.vc_session.specs.Labels.{AreLabels, MovesLabel, SameLabels, WithLabel, WithoutLabel, label_at, name_of, tag_of}
+use Rattle.vc_session.specs.Labels.{AreLabels, MovesLabel, WithLabel, WithoutLabel, label_at, name_of, tag_of}
 use Rattle.vc_session.specs.Account.{IsLive, IsNamed, tag_count}
 use Rattle.vc_session.proofs.Found.{TheBlock}
-use Rattle.vc_session.proofs.Lists.{all-join, all-map, all-without, any-alike, any-split, count-split, others-apart}
+use Rattle.vc_session.proofs.Lists.{all-join, all-without, any-alike, any-split, count-split, others-apart}
 use Rattle.vc_session.proofs.Names.{has-label-any, name-alike, name-here, name-none, named_by, other_bytes, same_bytes}
 
 zero-or : (n : ℕ) → (n ≡ 0) ⊎ (1 ≤ n)

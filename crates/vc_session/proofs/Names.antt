@@ -1,11 +1,11 @@
 -- The names of a region's blocks.
-use Rattle.std.proofs.Common.{◌≡◌, ◌≢◌, ℕ, ◌+◌, ◌≤◌, zero, suc, Bool, true, false, ◌⊎◌, cond, is_some, List, [], ◌∷◌, Some, None, map, option_map, refl, sym, ap, ◌∙◌, subst, ⊎_elim, inl, inr, arith}
+use Rattle.std.proofs.Common.{◌≡◌, ◌≢◌, ℕ, ◌+◌, ◌≤◌, zero, suc, Bool, true, false, ◌⊎◌, cond, is_some, List, [], ◌∷◌, Some, None, map, option_map, refl, sym, ap, ◌∙◌, ⊎_elim, inl, inr, arith}
 use Rattle.std.specs.Prelude.{count_by, nat_lt, ◌==◌}
 use Rattle.std.specs.List.{AllByRecursion, list_any}
 use Rattle.std.specs.Str.{bytes_eq}
-use Rattle.std.proofs.lemmas.Bool.{cases_Bool, cases_eq, eq-eqb, false≢true}
+use Rattle.std.proofs.lemmas.Bool.{false≢true}
 use Rattle.std.proofs.lemmas.Bool.Decides.{nat_tests}
-use Rattle.std.proofs.lemmas.Option.{same_Some, none-some}
+use Rattle.std.proofs.lemmas.Option.{none-some}
 use Rattle.std.proofs.lemmas.Slice.Eq.{bytes_eq-Decides}
 use Rattle.vc_model.specs.Layout.{Block}
 use Rattle.vc_model.specs.Region.{Region, blocks_of, relabel_block, relabelled}
@@ -14,7 +14,7 @@ use Rattle.vc_session.specs.State as state
 use Rattle.vc_session.specs.Blocks.{has_label, is_block, is_name_of, label_count}
 use Rattle.vc_session.specs.declared.labels.Label.{Label}
 use Rattle.vc_session.specs.declared.labels.Labels.{Labels}
-use Rattle.vc_session.specs.Labels.{AreLabels, SameLabels, label_at, name_of, tag_of}
+use Rattle.vc_session.specs.Labels.{AreLabels, SameLabels, label_at, name_of}
 use Rattle.vc_session.specs.Account.{IsLive, IsNamed, tag_count}
 use Rattle.vc_session.proofs.Firsts.{any-unmap}
 use Rattle.vc_session.proofs.Lists.{count-cons}

@@ -2,12 +2,10 @@
 use Rattle.std.proofs.Common.{◌≡◌, ℕ, Bool, true, false, cond, eqb, List, [], ◌∷◌, Option, Some, None, Result, Ok, Err, IfOk, option_map, refl, sym, ap, ◌∙◌, subst, ⊎_elim}
 use Rattle.std.proofs.lemmas.Bool.{cases_Bool, and_parts, eqb-true}
 use Rattle.std.proofs.lemmas.Option.{same_Some, none-some}
-use Rattle.vc_base.specs.declared.addr.Addr.{Addr}
 use Rattle.vc_model.specs.Addr.{address, place_of}
-use Rattle.vc_model.specs.Discipline.{Discipline, HasOut, Unserved}
-use Rattle.vc_model.specs.Layout.{Block, address_of, is_at, without_block}
-use Rattle.vc_model.specs.Outcome.{Outcome, Put, Refused, outcome_as}
-use Rattle.vc_model.specs.Region.{Region, blocks_of, region_resize, relabelled, segments_of}
+use Rattle.vc_model.specs.Layout.{Block, is_at, without_block}
+use Rattle.vc_model.specs.Outcome.{Outcome, Put, outcome_as}
+use Rattle.vc_model.specs.Region.{Region, blocks_of, region_resize, relabelled}
 use Rattle.vc_model.specs.Sound.{HaveOwnPlaces}
 use Rattle.vc_model.specs.Touch.{find_block}
 use Rattle.vc_model.proofs.Relabel.{resize-relabelled}
@@ -21,7 +19,7 @@ use Rattle.vc_script.specs.Needs.{need_shown}
 use Rattle.vc_script.specs.declared.refusal.Refusal.TheVariants as why
 use Rattle.vc_script.specs.declared.reply.Reply.{Reply}
 use Rattle.vc_session.specs.State.{Changed, Home, unchanged}
-use Rattle.vc_session.specs.Account.{Held, IsChange, IsNamed, home_of}
+use Rattle.vc_session.specs.Account.{Held, IsNamed, home_of}
 use Rattle.vc_session.specs.Blocks.{at_place, is_size, put_in, resize_block, resize_in}
 use Rattle.vc_session.specs.Labels.{AreLabels, MovesLabel, label_at, name_of, tag_of}
 use Rattle.vc_session.specs.Step.{Gives, is_for_block}

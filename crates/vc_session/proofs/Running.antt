@@ -25,9 +25,9 @@ use Rattle.vc_session.specs.ProperState.{IsProperState}
 use Rattle.vc_session.specs.Replay.{IsRun, Told, run_by}
 use Rattle.vc_session.specs.Run.{Ran, command_then, commands, fault_in, fault_then, lines_of, listed, nothing_ran, refusal_at, run, text_of}
 use Rattle.vc_session.specs.SoFar.{Found, Running}
-use Rattle.vc_session.specs.State.{State, Stepped}
-use Rattle.vc_session.specs.Step.{StepsTo, step}
-use Rattle.vc_session.proofs.ProperSteps.{IsProperStep, proper-step}
+use Rattle.vc_session.specs.State.{Stepped}
+use Rattle.vc_session.specs.Step.{step}
+use Rattle.vc_session.proofs.ProperSteps.{proper-step}
 use Rattle.vc_session.proofs.Runs.{one_more, run-push, step_after}
 use Rattle.vc_session.proofs.Settling.{settles-same, settles-trans}
 

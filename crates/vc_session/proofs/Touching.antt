@@ -1,10 +1,10 @@
 -- What is done with the bytes of the block of a name.
-use Rattle.std.proofs.Common.{◌≡◌, ℕ, ◌+◌, ◌<◌, ◌≤◌, Bool, true, false, cond, ◌&&◌, List, Option, Some, None, IfSome, length, option_map, take, drop, refl, sym, ap, ◌∙◌, subst, arith}
+use Rattle.std.proofs.Common.{◌≡◌, ℕ, ◌+◌, ◌<◌, ◌≤◌, Bool, true, false, cond, ◌&&◌, List, Some, None, IfSome, length, option_map, take, drop, refl, sym, ap, ◌∙◌, subst, arith}
 use Rattle.std.specs.Prelude.{nat_le}
 use Rattle.std.proofs.lemmas.Bool.Decides.{nat_tests}
 use Rattle.std.proofs.lemmas.Option.{same_Some}
 use Rattle.vc_model.specs.Addr.{place_of}
-use Rattle.vc_model.specs.Layout.{Block, is_at, without_block}
+use Rattle.vc_model.specs.Layout.{Block, without_block}
 use Rattle.vc_model.specs.Region.{OfBest, Region, blocks_of, region_write, relabelled}
 use Rattle.vc_model.specs.Sound.{HaveOwnPlaces}
 use Rattle.vc_model.specs.Touch.{change_block, find_block, rewritten}
@@ -17,7 +17,6 @@ use Rattle.vc_session.specs.Blocks.{read_block, read_in, size_in, write_block, w
 use Rattle.vc_session.specs.Labels.{MovesLabel, label_at, name_of, tag_of}
 use Rattle.vc_session.specs.Step.{Gives}
 use Rattle.vc_session.specs.declared.labels.Label.{Label}
-use Rattle.vc_session.specs.declared.labels.Labels.{Labels}
 use Rattle.vc_session.proofs.Found.{TheBlock, on_block-there, the_block}
 use Rattle.vc_session.proofs.Lists.{find-changed}
 use Rattle.vc_session.proofs.Moving.{named-moved}

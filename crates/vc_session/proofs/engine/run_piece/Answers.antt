@@ -1,10 +1,10 @@
-use Rattle.std.proofs.Common.{◌+◌, sym, ap, ◌∙◌, refl, subst, arith, None, []}
+use Rattle.std.proofs.Common.{◌+◌, sym, ap, ◌∙◌, refl, subst, arith, None}
 use Rattle.std.specs.Prelude.{IsTrue}
 use Rattle.std.proofs.lemmas.List.{length-drop, take_rest}
 use Rattle.vc_script.specs.Answer.{answer}
 use Rattle.vc_session.specs.SoFar.{Ends}
 use Rattle.vc_session.proofs.Running.{line-keeps}
-use Rattle.vc_session.proofs.Settling.{settles-same, settles-trans}
+use Rattle.vc_session.proofs.Settling.{settles-same}
 use Rattle.vc_session.proofs.SoFar.{fed-is, more-kept, ok-some, so_far-bad_cut, so_far-bad_line, so_far-line, so_far-more, so_far-none, whole-kept}
 use Rattle.vc_session.proofs.engine.run_piece.Goals as goal
 

@@ -1,4 +1,4 @@
-use Rattle.std.proofs.Common.{◌+◌, ◌≤◌, [], Some, None, length}
+use Rattle.std.proofs.Common.{◌+◌, ◌≤◌, Some, None, length}
 use Rattle.std.specs.Prelude.{IsTrue}
 use Rattle.vc_script.specs.Cutting.{IsCutting}
 use Rattle.vc_session.specs.Homes.{IsSessionOver}

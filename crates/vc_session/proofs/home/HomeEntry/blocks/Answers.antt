@@ -1,4 +1,4 @@
-use Rattle.std.proofs.Common.{◌≡◌, ℕ, Option, List, ◌++◌, [], ◌∷◌, length, inr, sym, ap, ◌∙◌, append_assoc, append-nil, arith}
+use Rattle.std.proofs.Common.{◌≡◌, ◌++◌, [], ◌∷◌, length, inr, sym, ap, ◌∙◌, append_assoc, append-nil, arith}
 use Rattle.vc_model.specs.Layout.{address_of}
 use Rattle.vc_model.specs.Walk.{by_address, next_block}
 use Rattle.vc_region.proofs.Sound.{own_places}
@@ -7,8 +7,7 @@ use Rattle.vc_region.specs.Parts.{blocks_in, region_of}
 use Rattle.vc_script.specs.declared.reply.Reply.TheVariants.{BlockList}
 use Rattle.vc_session.specs.Labels.{name_of}
 use Rattle.vc_session.specs.State.{changed_to}
-use Rattle.vc_session.specs.Whole.{item_of}
-use Rattle.vc_session.proofs.Listing.{FromSome, NextBlock, blocks-all, blocks-end, blocks-next, blocks_above, from_none, from_some, items_of, list-items, next-told}
+use Rattle.vc_session.proofs.Listing.{blocks-all, blocks-end, blocks-next, blocks_above, from_none, from_some, items_of, list-items, next-told}
 use Rattle.vc_session.proofs.home.HomeEntry.blocks.Goals as goal
 
 pub loop-block-smaller : goal.loop-block-smaller

@@ -1,4 +1,4 @@
-use Rattle.std.proofs.Common.{[], sym, ap, ◌∙◌}
+use Rattle.std.proofs.Common.{sym, ap, ◌∙◌}
 use Rattle.vc_model.proofs.Clearing.{cleared-blocks, cleared-segments}
 use Rattle.vc_model.specs.Region.{blocks_of, relabelled, segments_of}
 use Rattle.vc_region.proofs.Sound.{own_places}

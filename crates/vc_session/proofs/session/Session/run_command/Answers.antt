@@ -1,4 +1,4 @@
-use Rattle.std.proofs.Common.{◌≡◌, ◌<◌, ℕ, List, [], Err, Ok, OnErr, Result, length, set, arith, ap, ◌∙◌, subst, sym}
+use Rattle.std.proofs.Common.{◌<◌, ℕ, List, [], Err, Ok, OnErr, Result, length, set, arith, ap, ◌∙◌, subst, sym}
 use Rattle.std.proofs.lemmas.List.{length-map}
 use Rattle.vc_model.specs.Discipline.{Discipline}
 use Rattle.vc_script.specs.Needs.{need_shown}
@@ -8,7 +8,7 @@ use Rattle.vc_session.specs.Account.{home_of}
 use Rattle.vc_session.specs.Homes.{held_in, held_of, slots_on}
 use Rattle.vc_session.specs.Run.{refusal_at}
 use Rattle.vc_session.specs.State.{is_home}
-use Rattle.vc_session.specs.Step.{StepsTo, block_asked, in_region, region_of}
+use Rattle.vc_session.specs.Step.{StepsTo, block_asked, region_of}
 use Rattle.vc_session.proofs.Changing.{found-change, lacks-change, session-change, settles-none, settles-reply, state-same, step-change, step-none}
 use Rattle.vc_session.proofs.Firsts.{find-none}
 use Rattle.vc_session.proofs.Grants.{IsPlain, plain-region}
