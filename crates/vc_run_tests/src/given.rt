@@ -1,5 +1,5 @@
 // What a script through the top call is given, and what comes out.
-ghost use Rattle.std.specs.Prelude.{◌≤◌};
+ghost use Rattle.std.specs.Prelude.{◌≡◌, ◌≤◌};
 
 use itoa::Buffer;
 use std::alloc::{AllocError, Global};
@@ -21,7 +21,9 @@ pub(crate) struct Given<'a> {
 }
 
 // With no failing call, and ample room.
-pub(crate) fn ample(script: &[u8], piece: usize) -> Given {
+pub(crate) fn ample(script: &[u8], piece: usize) -> Given
+    ensures { result.piece ≡ piece }
+{
     Given {
         script,
         piece,
@@ -40,17 +42,6 @@ pub(crate) struct Expected<'a> {
     pub err: &'a [u8],
 }
 
-// A shelf of two disciplines that round to 4,096 bytes and refuse these lends.
-pub(crate) fn shelf_of(rt: &impl Abort, alloc: Global, lends: &[u64]) -> Result<Shelf, AllocError> {
-    let mut shelf = Shelf::new(alloc);
-    for _ in 0..2 {
-        assert!(rt; shelf.len() < 2);
-        let disc = FuseDisc::new(4096, lends.to_vec(alloc)?);
-        assert!(rt; shelf.put(Box::new(alloc, disc)?).is_ok());
-    }
-    Ok(shelf)
-}
-
 fn sink(alloc: Global, room: usize, piece: usize, fails: &[u64]) -> Result<MemSink, AllocError>
     requires { 1 ≤ piece }
 {
@@ -60,15 +51,18 @@ fn sink(alloc: Global, room: usize, piece: usize, fails: &[u64]) -> Result<MemSi
     }
 }
 
-// Runs the script of what is given, and looks at what comes out.
-pub(crate) fn comes(
-    rt: &impl Abort,
-    alloc: Global,
-    shelf: &mut Shelf,
-    given: Given,
-    expected: Expected,
-) -> Result<(), AllocError> {
-    assert!(rt; 1 <= given.piece);
+// What came out.
+#[derive(Drop)]
+pub(crate) struct Ran {
+    pub status: Status,
+    pub out: Vec<u8>,
+    pub err: Vec<u8>,
+}
+
+// Runs the script of what is given.
+pub(crate) fn run(alloc: Global, shelf: &mut Shelf, given: Given) -> Result<Ran, AllocError>
+    requires { 1 ≤ given.piece }
+{
     let mut source = MemSource::new(
         given.script.to_vec(alloc)?,
         given.piece,
@@ -85,17 +79,24 @@ pub(crate) fn comes(
         &mut out,
         &mut err,
     );
-    assert_eq!(rt; status, expected.status);
-    assert_eq!(rt; out.bytes(), expected.out);
-    assert_eq!(rt; err.bytes(), expected.err);
-    Ok(())
+    Ok(Ran {
+        status,
+        out: out.bytes().to_vec(alloc)?,
+        err: err.bytes().to_vec(alloc)?,
+    })
+}
+
+pub(crate) fn is_run(rt: &impl Abort, ran: &Ran, expected: Expected) {
+    assert_eq!(rt; ran.status, expected.status);
+    assert_eq!(rt; ran.out.as_slice(), expected.out);
+    assert_eq!(rt; ran.err.as_slice(), expected.err);
 }
 
 pub(crate) fn put_number(text: &mut Vec<u8>, number: u32) -> Result<(), AllocError> {
     text.extend_from_slice(Buffer::new().format(number).as_bytes())
 }
 
-// A script with no failing call, in pieces of seven bytes and whole.
+// A script with no failing call, over two disciplines that round to 4,096 bytes and refuse these lends, in pieces of seven bytes and whole.
 pub(crate) fn replies(
     rt: &impl Abort,
     alloc: Global,
@@ -104,8 +105,14 @@ pub(crate) fn replies(
     expected: Expected,
 ) -> Result<(), AllocError> {
     for piece in [7, 4096] {
-        let mut shelf = shelf_of(rt, alloc, lends)?;
-        comes(rt, alloc, &mut shelf, ample(script, piece), expected)?;
+        let mut shelf = Shelf::new(alloc);
+        for _ in 0..2 {
+            assert!(rt; shelf.len() < 2);
+            let disc = FuseDisc::new(4096, lends.to_vec(alloc)?);
+            assert!(rt; shelf.put(Box::new(alloc, disc)?).is_ok());
+        }
+        let ran = run(alloc, &mut shelf, ample(script, piece))?;
+        is_run(rt, &ran, expected);
     }
     Ok(())
 }

@@ -5,7 +5,7 @@ ghost use Rattle.vc_seg.specs.Budget.{discipline_of};
 ghost use Rattle.vc_seg.specs.Lend.{Returned};
 ghost use Rattle.vc_seg.specs.Segment.{pair_of, zeroed};
 
-use crate::given::{ample, comes, fine};
+use crate::given::{ample, fine, is_run, run};
 use std::alloc::Global;
 use std::cell::Cell;
 use std::rc::Rc;
@@ -105,7 +105,7 @@ fn order(rt: HostRuntime) -> Result<(), Fail> {
     for piece in [1, 4096] {
         let notes = Rc::new(alloc, Cell::new(0))?;
         let mut shelf = Shelf::new(alloc);
-        for digit in 1..3 {
+        for digit in [1, 2] {
             assert!(rt; shelf.len() < 2);
             let disc = Noting {
                 inner: BudgetDisc::new(4096, 16_384),
@@ -114,7 +114,8 @@ fn order(rt: HostRuntime) -> Result<(), Fail> {
             };
             assert!(rt; shelf.put(Box::new(alloc, disc)?).is_ok());
         }
-        comes(&rt, alloc, &mut shelf, ample(SCRIPT, piece), fine(REPLIES))?;
+        let ran = run(alloc, &mut shelf, ample(SCRIPT, piece))?;
+        is_run(&rt, &ran, fine(REPLIES));
         assert_eq!(rt; notes.get(), 111_321_222_311_121_421_222_324);
     }
     Ok(())

@@ -1,8 +1,8 @@
 // Scripts whose reads and writes fail, and lines at their limit.
-use crate::given::{Expected, Given, ample, comes, fine, shelf_of};
+use crate::given::{Expected, Given, ample, fine, is_run, run};
 use std::test::Fail;
 use vc_base::{MemSink, MemSource, Sink, Source};
-use vc_seg::Shelf;
+use vc_seg::{HeapDisc, Shelf};
 use vc_session::{Status, replay};
 
 const ROW: &[u8] = b"open r best 1\nalloc r a 100\n";
@@ -178,7 +178,9 @@ const ROWS: &[Row] = &[
 fn faults(rt: HostRuntime) -> Result<(), Fail> {
     let alloc = rt.alloc();
     for row in ROWS {
-        let mut shelf = shelf_of(&rt, alloc, &[])?;
+        assert!(rt; 1 <= row.piece);
+        let mut shelf = Shelf::new(alloc);
+        assert!(rt; shelf.put(Box::new(alloc, HeapDisc::new(4096))?).is_ok());
         let given = Given {
             script: row.script,
             piece: row.piece,
@@ -192,10 +194,12 @@ fn faults(rt: HostRuntime) -> Result<(), Fail> {
             out: row.out,
             err: row.err,
         };
-        comes(&rt, alloc, &mut shelf, given, expected)?;
+        let ran = run(alloc, &mut shelf, given)?;
+        is_run(&rt, &ran, expected);
 
         // Every segment is back: the next script is lent the first again.
-        comes(&rt, alloc, &mut shelf, ample(ROW, 4096), fine(REPLIES))?;
+        let ran = run(alloc, &mut shelf, ample(ROW, 4096))?;
+        is_run(&rt, &ran, fine(REPLIES));
     }
     Ok(())
 }
@@ -205,7 +209,8 @@ fn faults(rt: HostRuntime) -> Result<(), Fail> {
 #[test]
 fn each_call(rt: HostRuntime) -> Result<(), Fail> {
     let alloc = rt.alloc();
-    let mut shelf = shelf_of(&rt, alloc, &[])?;
+    let mut shelf = Shelf::new(alloc);
+    assert!(rt; shelf.put(Box::new(alloc, HeapDisc::new(4096))?).is_ok());
     for (first, behind, out) in [
         (1, 15, b"".as_slice()),
         (15, 29, b"r open\n".as_slice()),
@@ -221,11 +226,13 @@ fn each_call(rt: HostRuntime) -> Result<(), Fail> {
                 out,
                 err: READ_FAILED,
             };
-            comes(&rt, alloc, &mut shelf, given, expected)?;
+            let ran = run(alloc, &mut shelf, given)?;
+            is_run(&rt, &ran, expected);
         }
     }
     for room in 0..14 {
         for piece in [1, 6, 7, 8, 4096] {
+            assert!(rt; 1 <= piece);
             let given = Given {
                 room,
                 ..ample(ROW, piece)
@@ -235,7 +242,8 @@ fn each_call(rt: HostRuntime) -> Result<(), Fail> {
                 out: &REPLIES[..room],
                 err: WRITE_FAILED,
             };
-            comes(&rt, alloc, &mut shelf, given, expected)?;
+            let ran = run(alloc, &mut shelf, given)?;
+            is_run(&rt, &ran, expected);
         }
     }
     Ok(())
@@ -247,7 +255,8 @@ fn each_call(rt: HostRuntime) -> Result<(), Fail> {
 #[test]
 fn gathered(rt: HostRuntime) -> Result<(), Fail> {
     let alloc = rt.alloc();
-    let mut shelf = shelf_of(&rt, alloc, &[])?;
+    let mut shelf = Shelf::new(alloc);
+    assert!(rt; shelf.put(Box::new(alloc, HeapDisc::new(4096))?).is_ok());
     let mut script = b"open r best 1 \n\n".to_vec(alloc)?;
     let mut out = b"r open\n".to_vec(alloc)?;
     script.extend_from_slice(b"alloc r a 1   \n\n")?;
@@ -282,7 +291,8 @@ fn gathered(rt: HostRuntime) -> Result<(), Fail> {
                 WRITE_FAILED
             },
         };
-        comes(&rt, alloc, &mut shelf, given, expected)?;
+        let ran = run(alloc, &mut shelf, given)?;
+        is_run(&rt, &ran, expected);
     }
     Ok(())
 }
@@ -322,7 +332,8 @@ fn long_lines(rt: HostRuntime) -> Result<(), Fail> {
             out: b"",
             err: err.as_slice(),
         };
-        comes(&rt, alloc, &mut shelf, given, expected)?;
+        let ran = run(alloc, &mut shelf, given)?;
+        is_run(&rt, &ran, expected);
     }
     Ok(())
 }
