@@ -44,7 +44,7 @@ impl Pool {
     }
 
     /// A block of zeros: 1 to 16,777,216 bytes, in the cell freed last, else in the lowest uncarved cell of the first
-    /// segment that has one. Where there is none, a segment is asked for. `PoolSize` comes exactly where the size is
+    /// segment that has one. Where there is none, a segment is asked for. `PoolSize` comes only where the size is
     /// above the element size.
     pub fn alloc(&mut self, size: u32, tag: u32) -> Result<Addr, RegionFault>
         requires some { 1 ≤ size }
@@ -63,7 +63,7 @@ impl Pool {
     }
 
     /// Gives the block at that address another size, from 1 to 16,777,216 bytes, where it is. The first bytes of both
-    /// sizes are kept, and the others are zero. `PoolSize` comes exactly where the size is above the element size.
+    /// sizes are kept, and the others are zero. `PoolSize` comes only where the size is above the element size.
     pub fn resize(&mut self, a: Addr, size: u32) -> Result<(), RegionFault>
         requires block { HasBlock self.old.cells.layout.blocks a.0 }
         requires some { 1 ≤ size }

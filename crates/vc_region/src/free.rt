@@ -1,4 +1,4 @@
-ghost use Rattle.std.specs.Prelude.{◌≡◌, ℕ, ◌+◌, ◌<◌, ◌≤◌, OnOk, length};
+ghost use Rattle.std.specs.Prelude.{◌≡◌, ℕ, ◌+◌, ◌<◌, ◌≤◌, IsErrOf, OnOk, length};
 ghost use Rattle.std.specs.List.{HoldsAt, remove};
 ghost use Rattle.vc_model.specs.Addr.{place_of};
 ghost use Rattle.vc_model.specs.Compact.{cleared};
@@ -32,6 +32,7 @@ impl Region {
         ensures answer { Frees (region_free (region_of self.old) (place_of a.0)) result
             (region_of self.old) (region_of self.new) }
         ensures disc { disc_in state self.new ≡ disc_in state self.old }
+        ensures memory { ¬ IsErrOf result RegionFault.OutOfMemory }
 
         // It is the one block at that address that goes.
         ensures one_less { OnOk result (length (blocks_in self.new) + 1

@@ -32,7 +32,7 @@ pub trait SegDisc: Drop {
         ensures segment { IfOk result (λ segment. segment ≡ zeroed number size) }
         ensures lent { OnOk result (Lent (state self.old) (state self.new) number size) }
 
-        // Refused comes only where the faults rose, and where the room is told, exactly where the size is above it.
+        // Refused comes only where the faults rose, and where the room is told, only where the size is above it.
         ensures refused { IsErrOf result LendFault.Refused
             → Unserved (state self.old) (state self.new) size }
         ensures no_memory { IsErrOf result LendFault.OutOfMemory → state self.new

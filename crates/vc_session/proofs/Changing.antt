@@ -15,7 +15,7 @@ use Rattle.vc_script.specs.declared.refusal.Refusal.TheVariants.{NoRegion, NoSeg
 use Rattle.vc_script.specs.Needs.{NoNeed, need_shown}
 use Rattle.vc_session.specs.State.{State, Stepped, Home, changed, home_named, is_home, refused, stepped, with_region}
 use Rattle.vc_session.specs.Step.{Gives, StepsTo, in_region, region_of, region_step, shelf_step, step, step_of}
-use Rattle.vc_session.specs.Run.{refusal_at, place_named, place_of}
+use Rattle.vc_session.specs.Run.{refusal_at, place_named, home_place}
 use Rattle.vc_session.proofs.Firsts.{IsFirst, first-unmap}
 use Rattle.vc_session.specs.Account.{Held, Lacks, LacksSegment, held_named, IsChange, IsHeld, IsSession, RoseBy, Settles, account, accounts, account_after, home_of, settled, state_of, without_faults}
 use Rattle.vc_session.proofs.Cells.{at_number-from_one, at_number_some, map-set_alike}
@@ -86,7 +86,7 @@ module _ (slots : Slots) (hs : List Held) (i : ℕ) (h g : Held) (at : slice_get
   pub settles-reply : (r : List ℕ) (command : Command) (reply : Reply) → region_of command ≡ Some r → home_named r (state_of slots hs).homes ≡ Some (home_of h) → (reply ≡ Refused NoSegment → Rose h.disc.faults g.disc.faults) → (reply ≡ Refused NoSegmentForTable → ⊥) → (reply ≡ Refused NoSegmentForObject → ⊥) → Settles (settled (accounts slots) hs) (settled (accounts slots) (set hs i g)) (refusal_at (state_of slots hs) command reply)
   settles-reply r command (Refused NoSegment) works found rose no_table no_object =
       subst (λ o. Settles (settled (accounts slots) hs) (settled (accounts slots) (set hs i g)) (place_named (state_of slots hs) o)) (sym works)
-      (subst (λ o. Settles (settled (accounts slots) hs) (settled (accounts slots) (set hs i g)) (place_of o)) (sym found)
+      (subst (λ o. Settles (settled (accounts slots) hs) (settled (accounts slots) (set hs i g)) (home_place o)) (sym found)
       (settles-change 1 (h.place ∷ []) (rose-by_one h.disc.faults g.disc.faults (rose refl)) (one_refusal h.place)))
   settles-reply r command (Refused NoSegmentForTable) works found rose no_table no_object = absurd (no_table refl)
   settles-reply r command (Refused NoSegmentForObject) works found rose no_table no_object = absurd (no_object refl)

@@ -63,13 +63,13 @@ pub record Ran : Type 0 where
   pub told : List (ℕ × List ℕ)
   pub granted : List (ℕ × ℕ)
 
-abbrev pub place_of : Option Home → List ℕ
-place_of None = []
-place_of (Some h) = h.place ∷ []
+abbrev pub home_place : Option Home → List ℕ
+home_place None = []
+home_place (Some h) = h.place ∷ []
 
 abbrev pub place_named : State → Option (List ℕ) → List ℕ
 place_named s None = []
-place_named s (Some r) = place_of (home_named r s.homes)
+place_named s (Some r) = home_place (home_named r s.homes)
 
 -- the place of the discipline that refused a segment in a step, where one did
 abbrev pub refusal_at : State → Command → Reply → List ℕ

@@ -127,8 +127,8 @@ pub fn replay<S: Source, O: Sink, E: Sink>(
         (at_rest state shelf.old (O.written out.old))
         (at_rest state shelf.new (O.written out.new)) input None (S.left source.new)) }
 
-    // The replies of the lines before the fault were written, and the fault's line. At most 4,096 bytes were read behind
-    // the bad line.
+    // The replies of the lines before the fault were written, and the fault's line. What was read shows no fault, but for
+    // its last 4,096 bytes or fewer.
     ensures script { result ≡ Status.Script → (length words.now ≡ 0) × ((bad : ℕ × LineFault)
         × Told (E.written err.old) (E.written err.new) (err_line Vmreplay bad)
         × IfSome (S.left source.old) (λ input. IsReplay Vmreplay
