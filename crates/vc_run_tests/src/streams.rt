@@ -249,32 +249,32 @@ fn each_call(rt: HostRuntime) -> Result<(), Fail> {
     Ok(())
 }
 
-// The first read gives 256 times 16 bytes, whose replies have 1,030 bytes, and the second the rest, whose replies have 184.
-// Each is one write: the first may fail, or the second, and there is no third. Of room there is as much as one byte less
-// than the replies to what was read, as much as them, and one byte more.
+// The first read gives 2,000 lines in 4,096 bytes, 1,739 of them empty, whose replies have 1,050 bytes, and the second the
+// other 44 lines, whose replies have 176. Each is one write: the first may fail, or the second, and there is no third. Of
+// room there is as much as one byte less than the replies to what was read, as much as them, and one byte more.
 #[test]
 fn gathered(rt: HostRuntime) -> Result<(), Fail> {
     let alloc = rt.alloc();
     let mut shelf = Shelf::new(alloc);
     assert!(rt; shelf.put(Box::new(alloc, HeapDisc::new(4096))?).is_ok());
-    let mut script = b"open r best 1 \n\n".to_vec(alloc)?;
-    let mut out = b"r open\n".to_vec(alloc)?;
-    script.extend_from_slice(b"alloc r a 1   \n\n")?;
-    out.extend_from_slice(b"a 1:32\n")?;
-    for _ in 0..300 {
-        script.extend_from_slice(b"size r a       \n")?;
+    let mut script = b"open r best 1\nalloc r a 1\n".to_vec(alloc)?;
+    let mut out = REPLIES.to_vec(alloc)?;
+    let blank = Vec::from_elem(alloc, b'\n', 1739)?;
+    script.extend_from_slice(blank.as_slice())?;
+    for _ in 0..303 {
+        script.extend_from_slice(b"size r a\n")?;
         out.extend_from_slice(b"a 1\n")?;
     }
     let whole = out.len();
     for (writes, room, status, len) in [
         ([1].as_slice(), 10_000, Status::Write, 0),
-        (&[2], 10_000, Status::Write, 1030),
-        (&[], 1029, Status::Write, 1029),
-        (&[], 1030, Status::Write, 1030),
-        (&[], 1031, Status::Write, 1031),
-        (&[], 1213, Status::Write, 1213),
-        (&[], 1214, Status::Ok, 1214),
-        (&[3], 1215, Status::Ok, 1214),
+        (&[2], 10_000, Status::Write, 1050),
+        (&[], 1049, Status::Write, 1049),
+        (&[], 1050, Status::Write, 1050),
+        (&[], 1051, Status::Write, 1051),
+        (&[], 1225, Status::Write, 1225),
+        (&[], 1226, Status::Ok, 1226),
+        (&[3], 1227, Status::Ok, 1226),
     ] {
         assert!(rt; len <= whole);
         let given = Given {
