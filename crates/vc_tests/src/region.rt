@@ -55,7 +55,30 @@ fn changed(rt: HostRuntime) -> Result<(), Fail> {
             let large = region.alloc(5000, 2, b"-");
             assert_eq!(rt; large, Ok(Addr::new(2, 32)));
             region.clear();
-            assert_eq!(rt; region.compact(), 2);
+            assert_eq!(rt; region.next_block(Addr::NONE), None);
+        }
+        Err(_) => assert!(rt; false),
+    }
+    Ok(())
+}
+
+#[test]
+fn given_back(rt: HostRuntime) -> Result<(), Fail> {
+    let alloc = rt.alloc();
+    let disc = Box::new(alloc, HeapDisc::new(4096))?;
+    match Region::open(alloc, Method::VmBest, disc) {
+        Ok(mut region) => assert_eq!(rt; region.compact(), 0),
+        Err(_) => assert!(rt; false),
+    }
+    Ok(())
+}
+
+#[test]
+fn closed(rt: HostRuntime) -> Result<(), Fail> {
+    let alloc = rt.alloc();
+    let disc = Box::new(alloc, HeapDisc::new(4096))?;
+    match Region::open(alloc, Method::VmBest, disc) {
+        Ok(region) => {
             let (disc, count) = region.close();
             assert_eq!(rt; (disc.round(), count), (4096, 0));
         }
