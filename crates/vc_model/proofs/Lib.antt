@@ -3,4 +3,3 @@ pub mod Walking
 pub mod Sorting
 pub mod Places
 pub mod Relabel
-pub mod Clearing

@@ -1,17 +1,16 @@
--- Every call of a region commutes with a change of its labels.
+-- Every call of a layout commutes with a change of its labels.
 use Rattle.std.proofs.Common.{◌≡◌, ℕ, ◌-◌, Bool, true, false, ◌&&◌, ◌||◌, cond, List, [], ◌∷◌, Option, Some, None, length, map, filter, option_map, refl, sym, ap, ◌∙◌, take, eqb}
 use Rattle.std.specs.Prelude.{not, find, nat_lt}
 use Rattle.std.specs.List.{AllByRecursion, list_all}
 use Rattle.vc_model.specs.Best.{best_alloc, best_need, put, put_at, put_in_new, put_or_ask, place_in, zeros}
 use Rattle.vc_model.specs.Compact.{compact_count, compacted, is_occupied}
 use Rattle.vc_model.specs.Discipline.{Terms}
-use Rattle.vc_model.specs.Layout.{Block, Layout, address_of, footprint, footprints, is_at, lies_before, with_block, with_segment, without_block}
+use Rattle.vc_model.specs.Layout.{Block, Layout, address_of, footprint, footprints, is_at, lies_before, relabel_block, relabel_layout, with_block, with_segment, without_block}
 use Rattle.vc_model.specs.Order.{put_by}
 use Rattle.vc_model.specs.Outcome.{Outcome, Done, Refused, Put, Fixed, outcome_as}
 use Rattle.vc_model.specs.Gap.{gaps}
 use Rattle.vc_model.specs.Numbers.{block_sizes, gaps_of}
 use Rattle.vc_model.specs.Place.{place}
-use Rattle.vc_model.specs.Region.{OfBest, Region, blocks_of, region_align, region_alloc, region_clear, region_compact, region_compact_count, region_free, region_resize, region_write, relabel_block, relabel_layout, relabelled, segments_of}
 use Rattle.vc_model.specs.Resize.{best_resize, can_stay, is_usable, meets, moved, resize_block, resize_found, sized, stays}
 use Rattle.vc_model.specs.Segments.{Asked, Granted, TooMany, NotLent, ask}
 use Rattle.vc_model.specs.Touch.{change_block, find_block, rewritten}
@@ -140,10 +139,10 @@ module _ {L M : Type 0} (f : L → M) where
       ap (λ v. cond v (s ∷ rest) rest) (is_occupied-relabel s.0 bs)
       ∙ ap (λ ts. cond (is_occupied bs s.0) (s ∷ ts) ts) (occupied-relabel bs ss)
 
-  compacted-relabel : (r : Layout L) → compacted (relabel_layout f r) ≡ relabel_layout f (compacted r)
+  pub compacted-relabel : (r : Layout L) → compacted (relabel_layout f r) ≡ relabel_layout f (compacted r)
   compacted-relabel r = ap (λ ss. layout ss (map (relabel_block f) r.blocks)) (occupied-relabel r.blocks r.segments)
 
-  compact_count-relabel : (r : Layout L) → compact_count (relabel_layout f r) ≡ compact_count r
+  pub compact_count-relabel : (r : Layout L) → compact_count (relabel_layout f r) ≡ compact_count r
   compact_count-relabel r = ap (λ ss. length r.segments - length ss) (occupied-relabel r.blocks r.segments)
 
   put_by-relabel : (b : Block L) (cs : List (Block L)) → map (relabel_block f) (put_by address_of b cs) ≡ put_by address_of (relabel_block f b) (map (relabel_block f) cs)
@@ -165,58 +164,12 @@ module _ {L M : Type 0} (f : L → M) where
       holds None = refl
       holds (Some b) = refl
 
-  -- the calls of a region by its method
-  as_best : (o : Outcome (Put (Layout L))) → outcome_as OfBest (relabel_outcome o) ≡ outcome_as (relabelled f) (outcome_as OfBest o)
-  as_best (Done p) = refl
-  as_best (Refused why) = refl
-
-  pub segments-relabelled : (r : Region L) → segments_of (relabelled f r) ≡ segments_of r
-  segments-relabelled (OfBest l) = refl
-
-  pub blocks-relabelled : (r : Region L) → blocks_of (relabelled f r) ≡ map (relabel_block f) (blocks_of r)
-  blocks-relabelled (OfBest l) = refl
-
-  pub alloc-relabelled : (terms : Terms) (r : Region L) (label : L) (size : ℕ) (refused : Bool) → region_alloc terms (relabelled f r) (f label) size refused ≡ outcome_as (relabelled f) (region_alloc terms r label size refused)
-  alloc-relabelled terms (OfBest l) label size refused =
-      ap (outcome_as OfBest) (best_alloc-relabel terms l label size 32 refused) ∙ as_best (best_alloc terms l label size 32 refused)
-
-  pub align-relabelled : (terms : Terms) (r : Region L) (label : L) (size align : ℕ) (refused : Bool) → region_align terms (relabelled f r) (f label) size align refused ≡ outcome_as (relabelled f) (region_align terms r label size align refused)
-  align-relabelled terms (OfBest l) label size align refused =
-      ap (outcome_as OfBest) (best_alloc-relabel terms l label size align refused) ∙ as_best (best_alloc terms l label size align refused)
-
-  pub resize-relabelled : (terms : Terms) (r : Region L) (at : ℕ × ℕ) (size : ℕ) (may_move refused : Bool) → region_resize terms (relabelled f r) at size may_move refused ≡ outcome_as (relabelled f) (region_resize terms r at size may_move refused)
-  resize-relabelled terms (OfBest l) at size may_move refused =
-      ap (outcome_as OfBest) (best_resize-relabel terms l at size may_move refused) ∙ as_best (best_resize terms l at size may_move refused)
-
-  -- what freeing gives, with other labels
-  abbrev pub relabel_freed : Outcome (Region L) → Outcome (Region M)
-  relabel_freed (Done r) = Done (relabelled f r)
-  relabel_freed (Refused why) = Refused why
-
-  pub free-relabelled : (r : Region L) (at : ℕ × ℕ) → region_free (relabelled f r) at ≡ relabel_freed (region_free r at)
-  free-relabelled (OfBest l) at = ap (λ bs. Done (OfBest (layout l.segments bs))) (sym (without_block-relabel at l.blocks))
-
-  pub write-relabelled : (r : Region L) (at : ℕ × ℕ) (off : ℕ) (src : List ℕ) → region_write (relabelled f r) at off src ≡ relabelled f (region_write r at off src)
-  write-relabelled (OfBest l) at off src = ap (λ bs. OfBest (layout l.segments bs)) (sym (change_block-relabel (rewritten off src) (rewritten off src) (λ c. refl) at l.blocks))
-
-  pub clear-relabelled : (r : Region L) → region_clear (relabelled f r) ≡ relabelled f (region_clear r)
-  clear-relabelled (OfBest l) = refl
-
-  pub compact-relabelled : (r : Region L) → region_compact (relabelled f r) ≡ relabelled f (region_compact r)
-  compact-relabelled (OfBest l) = ap (λ q. OfBest q) (compacted-relabel l)
-
-  pub compact_count-relabelled : (r : Region L) → region_compact_count (relabelled f r) ≡ region_compact_count r
-  compact_count-relabelled (OfBest l) = compact_count-relabel l
-
 -- labels that are the same on the blocks
 pub relabel-alike : {L M : Type 0} (f g : L → M) (bs : List (Block L)) → AllByRecursion (λ b. f b.label ≡ g b.label) bs → map (relabel_block f) bs ≡ map (relabel_block g) bs
 relabel-alike {L = L} {M = M} f g [] same = refl
 relabel-alike {L = L} {M = M} f g (b ∷ bs) same =
     ap (λ n. (let c : Block M = record { label = n; seg = b.seg; off = b.off; size = b.size; bytes = b.bytes } in c) ∷ map (relabel_block f) bs) same.0
     ∙ ap (λ cs. relabel_block g b ∷ cs) (relabel-alike f g bs same.1)
-
-pub relabelled-alike : {L M : Type 0} (f g : L → M) (r : Region L) → AllByRecursion (λ b. f b.label ≡ g b.label) (blocks_of r) → relabelled f r ≡ relabelled g r
-relabelled-alike f g (OfBest l) same = ap (λ bs. OfBest (record { segments = l.segments; blocks = bs })) (relabel-alike f g l.blocks same)
 
 -- the sizes and the gaps of blocks say nothing of their labels
 pub block_sizes-relabel : {L M : Type 0} (f : L → M) (r : Layout L) → block_sizes (relabel_layout f r) ≡ block_sizes r

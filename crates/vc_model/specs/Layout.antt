@@ -56,3 +56,10 @@ is_at at b = (b.seg == at.0) && (b.off == at.1)
 abbrev pub without_block : {L : Type 0} → ℕ × ℕ → List (Block L) → List (Block L)
 without_block at [] = []
 without_block at (b ∷ bs) = if is_at at b then bs else b ∷ without_block at bs
+
+-- the same with other labels
+abbrev pub relabel_block : {L M : Type 0} → (L → M) → Block L → Block M
+relabel_block name b = record { label = name b.label; seg = b.seg; off = b.off; size = b.size; bytes = b.bytes }
+
+abbrev pub relabel_layout : {L M : Type 0} → (L → M) → Layout L → Layout M
+relabel_layout name r = record { segments = r.segments; blocks = map (relabel_block name) r.blocks }

@@ -19,6 +19,5 @@ pub mod Compact
 pub mod Walk
 pub mod Pool
 pub mod Last
-pub mod Region
 pub mod Rows
 pub mod PoolRows

@@ -5,11 +5,11 @@ pub use Rattle.vc_model.specs.Discipline
 pub use Rattle.vc_model.specs.Layout
 pub use Rattle.vc_model.specs.Outcome
 pub use Rattle.vc_model.specs.Place
-pub use Rattle.vc_model.specs.Region
 pub use Rattle.vc_model.specs.Resize
 pub use Rattle.vc_model.specs.Sound
 pub use Rattle.vc_model.specs.Touch
 pub use Rattle.vc_model.specs.Walk
 pub use Rattle.vc_seg.specs.Answer
-pub use Rattle.vc_seg.specs.Stat
+pub mod Region
+pub mod Stat
 pub mod Parts

@@ -1,7 +1,7 @@
 ghost use Rattle.std.specs.Prelude.{◌≡◌, Some, length, take, drop, option_map};
 ghost use Rattle.vc_model.specs.Addr.{place_of};
 ghost use Rattle.vc_model.specs.Layout.{without_block};
-ghost use Rattle.vc_model.specs.Region.{region_write};
+ghost use Rattle.vc_region.specs.Region.{region_write};
 ghost use Rattle.vc_model.specs.Touch.{HasBlock, HasRange, find_block};
 ghost use Rattle.vc_region.specs.Parts.{blocks_in, disc_in, region_of};
 

@@ -4,7 +4,7 @@ ghost use Rattle.vc_model.specs.Addr.{place_of};
 ghost use Rattle.vc_model.specs.Compact.{cleared};
 ghost use Rattle.vc_model.specs.Discipline.{HasOut, TookBack};
 ghost use Rattle.vc_model.specs.Layout.{address_of};
-ghost use Rattle.vc_model.specs.Region.{region_clear, region_compact, region_compact_count, region_free};
+ghost use Rattle.vc_region.specs.Region.{region_clear, region_compact, region_compact_count, region_free};
 ghost use Rattle.vc_model.specs.Touch.{HasBlock};
 ghost use Rattle.vc_seg.specs.Answer.{Frees};
 ghost use Rattle.vc_region.specs.Parts.{blocks_in, boxed, disc_in, region_of, segments_in};

@@ -1,6 +1,6 @@
 ghost use Rattle.std.specs.Prelude.{◌≡◌, ℕ, [], Some, IsSome, IfOk, IfErr, length};
 ghost use Rattle.vc_model.specs.Discipline.{HasOut, TookBack};
-ghost use Rattle.vc_seg.specs.Stat.{method_of, opened};
+ghost use Rattle.vc_region.specs.Stat.{method_of, opened};
 ghost use Rattle.vc_region.specs.Parts.{disc_of, region_of, segments_in};
 
 use std::alloc::Global;

@@ -1,7 +1,7 @@
 ghost use Rattle.std.specs.Prelude.{◌≡◌, ◌≤◌, IfOk, IfSome, IsErrOf, IsTrue, false, option_map};
 ghost use Rattle.vc_model.specs.Addr.{place_of};
 ghost use Rattle.vc_model.specs.Layout.{without_block};
-ghost use Rattle.vc_model.specs.Region.{region_need, region_resize, stays_in};
+ghost use Rattle.vc_region.specs.Region.{region_need, region_resize, stays_in};
 ghost use Rattle.vc_model.specs.Touch.{HasBlock, find_block};
 ghost use Rattle.vc_seg.specs.Answer.{Answers, Asks};
 ghost use Rattle.vc_region.specs.Parts.{blocks_in, disc_in, region_of, segments_in};

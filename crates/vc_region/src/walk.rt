@@ -2,7 +2,7 @@ ghost use Rattle.std.specs.Prelude.{◌≡◌, ℕ, ◌⊎◌, IfSome, option_ma
 ghost use Rattle.vc_model.specs.Layout.{address_of};
 ghost use Rattle.vc_model.specs.Touch.{HasBlock};
 ghost use Rattle.vc_model.specs.Walk.{block_at, next_block, next_segment, segment_at};
-ghost use Rattle.vc_seg.specs.Stat.{stat_of};
+ghost use Rattle.vc_region.specs.Stat.{stat_of};
 ghost use Rattle.vc_region.specs.Parts.{blocks_in, region_of, segments_in};
 
 use crate::region::Region;

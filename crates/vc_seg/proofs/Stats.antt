@@ -3,11 +3,10 @@ use Rattle.std.proofs.Common.{◌≡◌, ℕ, List, length, map, ap, ◌∙◌}
 use Rattle.std.specs.Prelude.{sum}
 use Rattle.std.proofs.lemmas.List.{length-map}
 use Rattle.vc_model.specs.Gap.{Run, bytes_of}
-use Rattle.vc_model.specs.Layout.{Layout}
+use Rattle.vc_model.specs.Layout.{Layout, relabel_block, relabel_layout}
 use Rattle.vc_model.specs.Numbers.{block_sizes, gaps_of, greatest, segment_bytes, segment_count}
-use Rattle.vc_model.specs.Region.{OfBest, Region, relabel_block, relabel_layout, relabelled}
 use Rattle.vc_model.proofs.Relabel.{block_sizes-relabel, gaps_of-relabel}
-use Rattle.vc_seg.specs.Stat.{layout_stat, stat_of}
+use Rattle.vc_seg.specs.Stat.{layout_stat}
 use Rattle.vc_seg.specs.declared.stat.Stat.{Stat}
 
 -- the numbers by those of the segments, the number of blocks, their sizes and the gaps
@@ -24,13 +23,10 @@ numbers segs extent busy sizes gaps =
       extent = extent;
     }
 
-layout_stat-relabel : {L M : Type 0} (f : L → M) (r : Layout L) → layout_stat (relabel_layout f r) ≡ layout_stat r
+pub layout_stat-relabel : {L M : Type 0} (f : L → M) (r : Layout L) → layout_stat (relabel_layout f r) ≡ layout_stat r
 unfolding numbers
 layout_stat-relabel f r =
     let with = numbers (segment_count r) (segment_bytes r) in
     ap (λ n. with n (block_sizes (relabel_layout f r)) (gaps_of (relabel_layout f r))) (length-map r.blocks (relabel_block f))
     ∙ (ap (λ sizes. with (length r.blocks) sizes (gaps_of (relabel_layout f r))) (block_sizes-relabel f r)
     ∙ ap (λ gaps. with (length r.blocks) (block_sizes r) gaps) (gaps_of-relabel f r))
-
-pub stat-relabelled : {L M : Type 0} (f : L → M) (r : Region L) → stat_of (relabelled f r) ≡ stat_of r
-stat-relabelled f (OfBest layout) = layout_stat-relabel f layout

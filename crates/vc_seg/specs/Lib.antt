@@ -2,7 +2,6 @@ pub use Rattle.vc_model.specs.Addr
 pub use Rattle.vc_model.specs.Count
 pub use Rattle.vc_model.specs.Discipline
 pub use Rattle.vc_model.specs.Outcome
-pub use Rattle.vc_model.specs.Region
 pub use Rattle.vc_model.specs.Segments
 pub mod Segment
 pub mod Lend

@@ -5,7 +5,7 @@ use Rattle.vc_base.specs.declared.addr.Addr.{Addr}
 use Rattle.vc_model.specs.Discipline.{Discipline, HasOut, Kept, Served, TookBack, Unserved}
 use Rattle.vc_model.specs.Outcome as model
 use Rattle.vc_model.specs.Outcome.{Fault, Outcome, Put, Refused}
-use Rattle.vc_model.specs.Region.{Region, segments_of}
+use Rattle.vc_region.specs.Region.{Region, segments_of}
 use Rattle.vc_seg.specs.Answer.{Answers, Asks, IsRefusal}
 use Rattle.vc_seg.specs.declared.fault.RegionFault.{RegionFault}
 use Rattle.vc_seg.specs.declared.fault.RegionFault.TheVariants as code

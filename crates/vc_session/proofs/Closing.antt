@@ -5,10 +5,10 @@ use Rattle.std.specs.List.{AllByRecursion, list_any}
 use Rattle.std.proofs.lemmas.List.{append-nil, length-append, map-set, set_comm, take_at}
 use Rattle.std.proofs.lemmas.Option.{none-some, same_Some, slice_get-map}
 use Rattle.vc_model.specs.Discipline.{Discipline, TookBack, HasOut}
-use Rattle.vc_model.specs.Region.{segments_of}
+use Rattle.vc_region.specs.Region.{segments_of}
 use Rattle.vc_model.specs.Numbered.{at_number}
 use Rattle.vc_script.specs.declared.reply.Reply.TheVariants.{Closed}
-use Rattle.vc_model.proofs.Relabel.{segments-relabelled}
+use Rattle.vc_region.proofs.Relabel.{segments-relabelled}
 use Rattle.vc_session.specs.Labels.{name_of}
 use Rattle.vc_session.specs.State.{Home, stepped, close_home, close_step, home_named, is_home, without_home}
 use Rattle.vc_session.specs.Account.{Account, Held, IsSession, account, accounts, account_after, account_back, home_of, settled, state_of}

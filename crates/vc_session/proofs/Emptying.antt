@@ -1,13 +1,14 @@
 -- What clearing and compacting an open region answer, and how they change the region.
+use Rattle.vc_model.specs.Layout.{relabel_block}
 use Rattle.std.proofs.Common.{◌≡◌, ℕ, ◌-◌, ◌≤◌, List, [], ◌++◌, None, length, map, is_some, take, refl, sym, ap, ◌∙◌, subst, arith}
 use Rattle.std.specs.List.{AllByRecursion, list_any}
 use Rattle.std.proofs.lemmas.List.{length-append, take-append-le, take_all}
 use Rattle.slab.specs.Slab.{slab_len}
 use Rattle.vc_model.specs.Discipline.{Discipline, HasOut, TookBack}
-use Rattle.vc_model.specs.Region.{Region, blocks_of, region_clear, relabel_block, relabelled, segments_of}
+use Rattle.vc_region.specs.Region.{Region, blocks_of, region_clear, relabelled, segments_of}
 use Rattle.vc_model.specs.Sound.{HaveOwnPlaces}
-use Rattle.vc_model.proofs.Clearing.{cleared-blocks}
-use Rattle.vc_model.proofs.Relabel.{blocks-relabelled, clear-relabelled, relabelled-alike}
+use Rattle.vc_region.proofs.Clearing.{cleared-blocks}
+use Rattle.vc_region.proofs.Relabel.{blocks-relabelled, clear-relabelled, relabelled-alike}
 use Rattle.vc_session.specs.declared.labels.Labels.{Labels}
 use Rattle.vc_session.specs.Labels.{AreLabels, name_of, tag_of}
 use Rattle.vc_session.specs.Blocks.{is_block}

@@ -4,7 +4,7 @@ use Rattle.std.specs.Prelude.{find, slice_get}
 use Rattle.std.specs.List.{list_any}
 use Rattle.std.proofs.lemmas.List.{take-map}
 use Rattle.std.proofs.lemmas.Option.{same_Some, none-some}
-use Rattle.vc_model.specs.Region.{Region}
+use Rattle.vc_region.specs.Region.{Region}
 use Rattle.vc_session.specs.State.{Home, Label, is_home, with_region}
 
 -- the first place of a list that passes a test

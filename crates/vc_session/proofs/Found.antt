@@ -6,12 +6,13 @@ use Rattle.std.specs.Str.{bytes_eq}
 use Rattle.std.proofs.lemmas.Bool.{cases_Bool, eqb-true, false≢true}
 use Rattle.std.proofs.lemmas.Option.{same_Some}
 use Rattle.vc_model.specs.Addr.{place_of}
-use Rattle.vc_model.specs.Layout.{Block, address_of}
-use Rattle.vc_model.specs.Region.{Region, blocks_of, relabel_block, relabelled}
+use Rattle.vc_model.specs.Layout.{Block, address_of, relabel_block}
+use Rattle.vc_region.specs.Region.{Region, blocks_of, relabelled}
 use Rattle.vc_model.specs.Place.{IsAlign}
 use Rattle.vc_model.specs.Touch.{find_block}
 use Rattle.vc_model.proofs.Places.{Among, among-all, among-find, found-there, place-of}
-use Rattle.vc_model.proofs.Relabel.{blocks-relabelled, find-relabel}
+use Rattle.vc_model.proofs.Relabel.{find-relabel}
+use Rattle.vc_region.proofs.Relabel.{blocks-relabelled}
 use Rattle.vc_script.specs.declared.refusal.Refusal.TheVariants as why
 use Rattle.vc_session.specs.State as state
 use Rattle.vc_session.specs.State.{Changed, Home, unchanged}

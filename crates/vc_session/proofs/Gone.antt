@@ -5,8 +5,8 @@ use Rattle.vc_base.specs.declared.addr.Addr.{Addr}
 use Rattle.vc_model.specs.Addr.{place_of}
 use Rattle.vc_model.specs.Layout.{without_block}
 use Rattle.vc_model.specs.Outcome.{Outcome, Done, Refused}
-use Rattle.vc_model.specs.Region.{OfBest, Region, blocks_of, region_free, relabelled, segments_of}
-use Rattle.vc_model.proofs.Relabel.{free-relabelled, relabel_freed}
+use Rattle.vc_region.specs.Region.{OfBest, Region, blocks_of, region_free, relabelled, segments_of}
+use Rattle.vc_region.proofs.Relabel.{free-relabelled, relabel_freed}
 use Rattle.vc_script.specs.declared.reply.Reply.{Reply}
 use Rattle.vc_script.specs.declared.reply.Reply.TheVariants.{Freed}
 use Rattle.vc_session.specs.State.{changed_to, unchanged}

@@ -4,7 +4,7 @@ use Rattle.std.specs.Prelude.{find, length, nat_le, nat_lt}
 use Rattle.vc_model.specs.Layout.{Block}
 use Rattle.vc_model.specs.Outcome as model
 use Rattle.vc_model.specs.Outcome.{Fault, Outcome, Done, Put, Refused}
-use Rattle.vc_model.specs.Region.{Region, OfBest, blocks_of, region_align, region_alloc, region_free, region_resize, segments_of}
+use Rattle.vc_region.specs.Region.{Region, OfBest, blocks_of, region_align, region_alloc, region_free, region_resize, segments_of}
 use Rattle.vc_model.specs.Walk.{block_at, segment_at}
 use Rattle.vc_script.specs.declared.command.Command.{Command}
 use Rattle.vc_script.specs.declared.command.Command.TheVariants.{Alloc, Align, Resize, Free, WriteBlock, ReadBlock, SizeOf, AddrOf, SegmentOf}

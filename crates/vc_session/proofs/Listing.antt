@@ -3,14 +3,15 @@ use Rattle.std.proofs.Common.{◌≡◌, ℕ, ◌≤◌, List, [], ◌∷◌, Op
 use Rattle.std.specs.Prelude.{find, ◌-◌}
 use Rattle.std.proofs.lemmas.Option.{same_Some, none-some}
 use Rattle.vc_model.specs.Addr.{place_of}
-use Rattle.vc_model.specs.Layout.{Block, address_of}
-use Rattle.vc_model.specs.Region.{Region, blocks_of, relabel_block, relabelled}
+use Rattle.vc_model.specs.Layout.{Block, address_of, relabel_block}
+use Rattle.vc_region.specs.Region.{Region, blocks_of, relabelled}
 use Rattle.vc_model.specs.Sound.{HaveOwnNumbers, HaveOwnPlaces}
 use Rattle.vc_model.specs.Touch.{find_block}
 use Rattle.vc_model.specs.Walk.{block_at, by_address, by_number, holds_byte, next_block, next_segment}
 use Rattle.vc_model.proofs.Pairs.{all-recursion}
 use Rattle.vc_model.proofs.Places.{among-above, among-find, found-there, place-of}
-use Rattle.vc_model.proofs.Relabel.{block_at-relabel, blocks-relabelled, by_address-relabel}
+use Rattle.vc_model.proofs.Relabel.{block_at-relabel, by_address-relabel}
+use Rattle.vc_region.proofs.Relabel.{blocks-relabelled}
 use Rattle.vc_model.proofs.Sorting as sorting
 use Rattle.vc_script.specs.declared.place.Place.{Place}
 use Rattle.vc_script.specs.declared.reply.Reply.TheVariants.{AddrIn, AddrNone}

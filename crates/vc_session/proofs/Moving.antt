@@ -9,10 +9,10 @@ use Rattle.std.proofs.lemmas.Option.{same_Some, none-some}
 use Rattle.vc_model.specs.Addr.{address, place_of}
 use Rattle.vc_model.specs.Best.{zeros}
 use Rattle.vc_model.specs.Layout.{Block, address_of, without_block}
-use Rattle.vc_model.specs.Region.{Region, blocks_of, relabelled}
+use Rattle.vc_region.specs.Region.{Region, blocks_of, relabelled}
 use Rattle.vc_model.specs.Sound.{HaveOwnPlaces}
 use Rattle.vc_model.specs.Touch.{find_block}
-use Rattle.vc_model.proofs.Relabel.{relabelled-alike}
+use Rattle.vc_region.proofs.Relabel.{relabelled-alike}
 use Rattle.vc_session.specs.Blocks.{is_name_of}
 use Rattle.vc_session.specs.declared.labels.Label.{Label}
 use Rattle.vc_session.specs.declared.labels.Labels.{Labels}

@@ -7,9 +7,9 @@ use Rattle.std.proofs.lemmas.Bool.{false≢true}
 use Rattle.std.proofs.lemmas.Bool.Decides.{nat_tests}
 use Rattle.std.proofs.lemmas.Option.{none-some}
 use Rattle.std.proofs.lemmas.Slice.Eq.{bytes_eq-Decides}
-use Rattle.vc_model.specs.Layout.{Block}
-use Rattle.vc_model.specs.Region.{Region, blocks_of, relabel_block, relabelled}
-use Rattle.vc_model.proofs.Relabel.{blocks-relabelled, relabelled-alike}
+use Rattle.vc_model.specs.Layout.{Block, relabel_block}
+use Rattle.vc_region.specs.Region.{Region, blocks_of, relabelled}
+use Rattle.vc_region.proofs.Relabel.{blocks-relabelled, relabelled-alike}
 use Rattle.vc_session.specs.State as state
 use Rattle.vc_session.specs.Blocks.{has_label, is_block, is_name_of, label_count}
 use Rattle.vc_session.specs.declared.labels.Label.{Label}

@@ -7,9 +7,9 @@ use Rattle.std.proofs.lemmas.Option.{none-some, same_Some, slice_get-map}
 use Rattle.vc_model.specs.Numbered.{at_number}
 use Rattle.vc_model.specs.Discipline.{Discipline}
 use Rattle.vc_model.specs.Layout.{Block, empty_layout}
-use Rattle.vc_model.specs.Region.{OfBest, Region, blocks_of, relabelled, segments_of}
+use Rattle.vc_region.specs.Region.{OfBest, Region, blocks_of, relabelled, segments_of}
 use Rattle.vc_model.specs.Sound.{HaveOwnPlaces}
-use Rattle.vc_seg.specs.Stat.{opened}
+use Rattle.vc_region.specs.Stat.{opened}
 use Rattle.vc_seg.specs.declared.method.Method.{Method}
 use Rattle.vc_seg.specs.declared.method.Method.TheVariants.{VmBest, VmPool, VmLast, VmDebug, VmProfile}
 use Rattle.vc_seg.specs.Shelf.{place_at, standing}

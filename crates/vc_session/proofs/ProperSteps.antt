@@ -3,14 +3,15 @@ use Rattle.std.proofs.Common.{◌≡◌, ℕ, ◌+◌, List, [], ◌∷◌, ◌+
 use Rattle.std.specs.Prelude.{IfSome, find, nat_le, nat_lt}
 use Rattle.std.specs.List.{AllByRecursion, list_any}
 use Rattle.vc_model.specs.Discipline.{Terms}
-use Rattle.vc_model.specs.Layout.{Block}
+use Rattle.vc_model.specs.Layout.{Block, relabel_block}
 use Rattle.vc_model.specs.Outcome.{Outcome, Done, Refused, Put, outcome_as}
-use Rattle.vc_model.specs.Region.{Region, blocks_of, region_align, region_alloc, region_clear, region_compact, region_free, region_resize, region_write, relabel_block, relabelled}
+use Rattle.vc_region.specs.Region.{Region, blocks_of, region_align, region_alloc, region_clear, region_compact, region_free, region_resize, region_write, relabelled}
 use Rattle.vc_model.specs.Numbered.{at_number}
 use Rattle.vc_model.specs.Walk.{block_at, by_address, segment_at}
-use Rattle.vc_model.specs.Region.{segments_of}
-use Rattle.vc_model.proofs.Relabel.{align-relabelled, alloc-relabelled, block_at-relabel, blocks-relabelled, by_address-relabel, clear-relabelled, compact-relabelled, free-relabelled, relabel_freed, resize-relabelled, write-relabelled}
-use Rattle.vc_seg.specs.Stat.{opened}
+use Rattle.vc_region.specs.Region.{segments_of}
+use Rattle.vc_model.proofs.Relabel.{block_at-relabel, by_address-relabel}
+use Rattle.vc_region.proofs.Relabel.{align-relabelled, alloc-relabelled, blocks-relabelled, clear-relabelled, compact-relabelled, free-relabelled, relabel_freed, resize-relabelled, write-relabelled}
+use Rattle.vc_region.specs.Stat.{opened}
 use Rattle.vc_seg.specs.declared.method.Method.{Method}
 use Rattle.vc_seg.specs.declared.method.Method.TheVariants.{VmBest}
 use Rattle.vc_script.specs.declared.command.Command.{Command}

@@ -11,10 +11,10 @@ use Rattle.vc_model.specs.Best.{zeros}
 use Rattle.vc_model.specs.Discipline.{Discipline, HasOut, Unserved}
 use Rattle.vc_model.specs.Layout.{Block, without_block}
 use Rattle.vc_model.specs.Outcome.{Outcome, Done, Put, Refused, outcome_as}
-use Rattle.vc_model.specs.Region.{Region, blocks_of, region_align, region_alloc, relabelled, segments_of}
+use Rattle.vc_region.specs.Region.{Region, blocks_of, region_align, region_alloc, relabelled, segments_of}
 use Rattle.vc_model.specs.Sound.{HaveOwnPlaces}
 use Rattle.vc_model.specs.Touch.{find_block}
-use Rattle.vc_model.proofs.Relabel.{align-relabelled, alloc-relabelled, relabelled-alike}
+use Rattle.vc_region.proofs.Relabel.{align-relabelled, alloc-relabelled, relabelled-alike}
 use Rattle.slab.specs.Slab.{slab_len}
 use Rattle.vc_seg.specs.Answer.{Answers, Asks, IsPut}
 use Rattle.vc_seg.specs.declared.fault.RegionFault.{RegionFault}

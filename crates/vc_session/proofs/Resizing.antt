@@ -5,10 +5,10 @@ use Rattle.std.proofs.lemmas.Option.{same_Some, none-some}
 use Rattle.vc_model.specs.Addr.{address, place_of}
 use Rattle.vc_model.specs.Layout.{Block, is_at, without_block}
 use Rattle.vc_model.specs.Outcome.{Outcome, Put, outcome_as}
-use Rattle.vc_model.specs.Region.{Region, blocks_of, region_resize, relabelled}
+use Rattle.vc_region.specs.Region.{Region, blocks_of, region_resize, relabelled}
 use Rattle.vc_model.specs.Sound.{HaveOwnPlaces}
 use Rattle.vc_model.specs.Touch.{find_block}
-use Rattle.vc_model.proofs.Relabel.{resize-relabelled}
+use Rattle.vc_region.proofs.Relabel.{resize-relabelled}
 use Rattle.vc_seg.specs.Answer.{IsPut, IsRefusal}
 use Rattle.vc_seg.specs.declared.fault.RegionFault.{RegionFault}
 use Rattle.vc_script.specs.declared.place.Place.{Place}

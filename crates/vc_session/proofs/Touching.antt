@@ -5,10 +5,10 @@ use Rattle.std.proofs.lemmas.Bool.Decides.{nat_tests}
 use Rattle.std.proofs.lemmas.Option.{same_Some}
 use Rattle.vc_model.specs.Addr.{place_of}
 use Rattle.vc_model.specs.Layout.{Block, without_block}
-use Rattle.vc_model.specs.Region.{OfBest, Region, blocks_of, region_write, relabelled}
+use Rattle.vc_region.specs.Region.{OfBest, Region, blocks_of, region_write, relabelled}
 use Rattle.vc_model.specs.Sound.{HaveOwnPlaces}
 use Rattle.vc_model.specs.Touch.{change_block, find_block, rewritten}
-use Rattle.vc_model.proofs.Relabel.{write-relabelled}
+use Rattle.vc_region.proofs.Relabel.{write-relabelled}
 use Rattle.vc_script.specs.declared.refusal.Refusal.TheVariants as why
 use Rattle.vc_script.specs.declared.reply.Reply.TheVariants.{Written, Hex, Size}
 use Rattle.vc_session.specs.State.{changed_to, told, unchanged}

@@ -7,7 +7,7 @@ use Rattle.vc_model.specs.Discipline.{Discipline, HasOut, Kept, Terms, Unserved}
 use Rattle.vc_model.specs.Layout.{Block, address_of, place_of_block}
 use Rattle.vc_model.specs.Addr.{place_of}
 use Rattle.vc_model.specs.Numbered.{at_number}
-use Rattle.vc_model.specs.Region.{Region, blocks_of, region_need, relabelled, segments_of}
+use Rattle.vc_region.specs.Region.{Region, blocks_of, region_need, relabelled, segments_of}
 use Rattle.vc_model.specs.Sound.{HaveOwnPlaces}
 use Rattle.slab.specs.Slab.{slab_len}
 use Rattle.vc_session.specs.declared.labels.Label.{Label}

@@ -2,7 +2,7 @@
 use Rattle.std.specs.Prelude.{◌≡◌, ℕ, List, [], Option, length, map}
 use Rattle.std.specs.List.{zip}
 use Rattle.vc_model.specs.Discipline.{Discipline}
-use Rattle.vc_model.specs.Region.{Region, relabelled}
+use Rattle.vc_region.specs.Region.{Region, relabelled}
 use Rattle.vc_seg.specs.Shelf.{slots_of}
 use Rattle.vc_seg.specs.declared.shelf.Shelf.{Shelf}
 use Rattle.vc_seg.specs.declared.shelf.ShelfPlace.{ShelfPlace}

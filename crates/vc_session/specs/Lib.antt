@@ -5,7 +5,7 @@ pub use Rattle.vc_base.specs.Name
 pub use Rattle.vc_model.specs.Addr
 pub use Rattle.vc_model.specs.Layout
 pub use Rattle.vc_model.specs.Outcome
-pub use Rattle.vc_model.specs.Region
+pub use Rattle.vc_region.specs.Region
 pub use Rattle.vc_model.specs.Sound
 pub use Rattle.vc_region.specs.Parts
 pub mod Labels

@@ -1,7 +1,7 @@
 -- States whose blocks are labelled by names or not at all.
 use Rattle.std.specs.Prelude.{◌≡◌, Some, None, if◌then◌else◌}
 use Rattle.std.specs.List.{AllByRecursion}
-use Rattle.vc_model.specs.Region.{Region, relabelled}
+use Rattle.vc_region.specs.Region.{Region, relabelled}
 use Rattle.vc_script.specs.Words.{is_name}
 use Rattle.vc_session.specs.State.{Label, State}
 

@@ -2,7 +2,7 @@
 use Rattle.std.specs.Prelude.{ℕ, ◌-◌, List, [], ◌∷◌, ◌++◌, Some, None, codes, length, replicate}
 use Rattle.vc_model.specs.Discipline.{Terms}
 use Rattle.vc_model.specs.Layout.{Block}
-use Rattle.vc_model.specs.Region.{OfBest}
+use Rattle.vc_region.specs.Region.{OfBest}
 use Rattle.vc_session.specs.State.{Label, State}
 
 -- of a discipline that rounds to 4,096 bytes

@@ -4,8 +4,8 @@ use Rattle.std.specs.List.{list_any}
 use Rattle.std.specs.Str.{bytes_eq}
 use Rattle.vc_model.specs.Discipline.{Terms}
 use Rattle.vc_model.specs.Numbered.{at_number}
-use Rattle.vc_model.specs.Region.{Region, segments_of}
-use Rattle.vc_seg.specs.Stat.{opened}
+use Rattle.vc_region.specs.Region.{Region, segments_of}
+use Rattle.vc_region.specs.Stat.{opened}
 use Rattle.vc_seg.specs.declared.method.Method.{Method}
 use Rattle.vc_script.specs.declared.reply.Reply.{Reply}
 use Rattle.vc_script.specs.declared.reply.Reply.TheVariants.{Opened, Closed, Refused}

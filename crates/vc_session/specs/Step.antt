@@ -5,7 +5,7 @@ use Rattle.vc_script.specs.declared.command.Command.TheVariants.{OpenRegion, Clo
 use Rattle.vc_script.specs.declared.refusal.Refusal.TheVariants as why
 use Rattle.vc_script.specs.Needs.{Need, NoNeed, ForBlock, ForTable, ForObject, need_shown}
 use Rattle.vc_script.specs.declared.reply.Reply.{Reply}
-use Rattle.vc_model.specs.Region.{Region}
+use Rattle.vc_region.specs.Region.{Region}
 use Rattle.vc_session.specs.State.{Changed, Home, Label, State, Stepped, changed, close_step, home_named, open_step, refused, unchanged}
 use Rattle.vc_session.specs.Blocks.{align_in, alloc_in, free_in, read_in, resize_in, size_in, write_in}
 use Rattle.vc_session.specs.Whole.{addr_in, clear_in, compact_in, list_blocks, list_segments, segment_in, stat_in}

@@ -1,9 +1,9 @@
 -- The commands on a whole region, and those that tell what is in it.
 use Rattle.std.specs.Prelude.{ℕ, List, Option, Some, None, map}
 use Rattle.vc_model.specs.Layout.{Block}
-use Rattle.vc_model.specs.Region.{blocks_of, region_clear, region_compact, region_compact_count, segments_of}
+use Rattle.vc_region.specs.Region.{blocks_of, region_clear, region_compact, region_compact_count, segments_of}
 use Rattle.vc_model.specs.Walk.{block_at, by_address, by_number, segment_at}
-use Rattle.vc_seg.specs.Stat.{stat_of}
+use Rattle.vc_region.specs.Stat.{stat_of}
 use Rattle.vc_script.specs.declared.place.Place.{Place}
 use Rattle.vc_script.specs.declared.reply.Reply.{Reply}
 use Rattle.vc_script.specs.declared.reply.Reply.TheVariants.{Cleared, Compacted, AddrIn, AddrNone, SegmentIs, SegmentNone, Stats, SegmentList, BlockList}

@@ -2,7 +2,7 @@
 ghost use Rattle.std.specs.Prelude.{◌≡◌, ◌≢◌, ℕ, ◌+◌, ◌-◌, ◌<◌, [], Some, IfSome, length, remove, slice_get, slice_set};
 ghost use Rattle.vc_model.specs.Discipline.{HasOut};
 ghost use Rattle.vc_model.specs.Numbered.{at_number};
-ghost use Rattle.vc_model.specs.Region.{segments_of};
+ghost use Rattle.vc_region.specs.Region.{segments_of};
 ghost use Rattle.vc_seg.specs.Shelf.{place_at};
 ghost use Rattle.vc_region.specs.Parts.{disc_in, segments_in};
 ghost use Rattle.vc_session.specs.Account.{account_after, account_back};

@@ -1,6 +1,6 @@
 // The opening of regions.
 ghost use Rattle.std.specs.Prelude.{◌≡◌, ℕ, IfOk, OnErr, is_some};
-ghost use Rattle.vc_seg.specs.Stat.{opened};
+ghost use Rattle.vc_region.specs.Stat.{opened};
 ghost use Rattle.vc_session.specs.Homes.{IsSessionOver, not_here, settled_over, state_over};
 ghost use Rattle.vc_session.specs.State.{open_step, stepped};
 

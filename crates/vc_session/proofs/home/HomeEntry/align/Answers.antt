@@ -1,6 +1,6 @@
 use Rattle.std.proofs.Common.{◌≡◌, [], Some, None, ◌&&◌, sym, ap, ◌∙◌, subst}
 use Rattle.vc_model.specs.Discipline.{Discipline}
-use Rattle.vc_model.specs.Region.{region_align, region_need}
+use Rattle.vc_region.specs.Region.{region_align, region_need}
 use Rattle.vc_region.specs.Parts.{disc_in, region_of}
 use Rattle.vc_region.proofs.Sound.{own_places}
 use Rattle.vc_session.specs.Account.{home_of}

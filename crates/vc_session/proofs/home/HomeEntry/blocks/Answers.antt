@@ -2,7 +2,7 @@ use Rattle.std.proofs.Common.{◌≡◌, ◌++◌, [], ◌∷◌, length, inr, s
 use Rattle.vc_model.specs.Layout.{address_of}
 use Rattle.vc_model.specs.Walk.{by_address, next_block}
 use Rattle.vc_region.proofs.Sound.{own_places}
-use Rattle.vc_model.specs.Region.{relabelled}
+use Rattle.vc_region.specs.Region.{relabelled}
 use Rattle.vc_region.specs.Parts.{blocks_in, region_of}
 use Rattle.vc_script.specs.declared.reply.Reply.TheVariants.{BlockList}
 use Rattle.vc_session.specs.Labels.{name_of}

@@ -1,6 +1,6 @@
 use Rattle.std.proofs.Common.{sym, ap, ◌∙◌}
-use Rattle.vc_model.proofs.Clearing.{cleared-blocks, cleared-segments}
-use Rattle.vc_model.specs.Region.{blocks_of, relabelled, segments_of}
+use Rattle.vc_region.proofs.Clearing.{cleared-blocks, cleared-segments}
+use Rattle.vc_region.specs.Region.{blocks_of, relabelled, segments_of}
 use Rattle.vc_region.proofs.Sound.{own_places}
 use Rattle.vc_region.specs.Parts.{region_of}
 use Rattle.vc_script.specs.declared.reply.Reply.TheVariants.{Cleared}

@@ -1,7 +1,7 @@
 use Rattle.std.proofs.Common.{sym, ap, ◌∙◌}
-use Rattle.vc_model.proofs.Clearing.{compacted-blocks}
-use Rattle.vc_model.proofs.Relabel.{compact-relabelled, compact_count-relabelled}
-use Rattle.vc_model.specs.Region.{blocks_of, region_compact_count, relabelled}
+use Rattle.vc_region.proofs.Clearing.{compacted-blocks}
+use Rattle.vc_region.proofs.Relabel.{compact-relabelled, compact_count-relabelled}
+use Rattle.vc_region.specs.Region.{blocks_of, region_compact_count, relabelled}
 use Rattle.vc_region.specs.Parts.{region_of}
 use Rattle.vc_script.specs.declared.reply.Reply.TheVariants.{Compacted}
 use Rattle.vc_session.specs.Labels.{name_of}

@@ -2,7 +2,7 @@ use Rattle.std.proofs.Common.{◌≡◌, refl, ap, ◌∙◌}
 use Rattle.vc_model.specs.Addr.{place_of}
 use Rattle.vc_model.specs.Discipline.{Discipline}
 use Rattle.vc_model.specs.Layout.{address_of, without_block}
-use Rattle.vc_model.specs.Region.{blocks_of, segments_of}
+use Rattle.vc_region.specs.Region.{blocks_of, segments_of}
 use Rattle.vc_region.specs.Parts.{disc_in, region_of}
 use Rattle.vc_region.proofs.Sound.{own_places}
 use Rattle.vc_script.specs.declared.refusal.Refusal.TheVariants as why

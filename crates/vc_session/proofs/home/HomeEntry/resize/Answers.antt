@@ -1,6 +1,6 @@
 use Rattle.std.proofs.Common.{◌≡◌, true, false, Ok, Err, IfSome, refl, sym, subst}
 use Rattle.vc_model.specs.Discipline.{Discipline}
-use Rattle.vc_model.specs.Region.{region_need, relabelled, segments_of}
+use Rattle.vc_region.specs.Region.{region_need, relabelled, segments_of}
 use Rattle.vc_region.specs.Parts.{disc_in, region_of}
 use Rattle.vc_region.proofs.Sound.{own_places}
 use Rattle.vc_script.specs.declared.refusal.Refusal.TheVariants as why

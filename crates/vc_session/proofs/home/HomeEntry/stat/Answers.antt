@@ -1,8 +1,8 @@
 use Rattle.std.proofs.Common.{sym, ap, ◌∙◌}
-use Rattle.vc_model.specs.Region.{relabelled}
+use Rattle.vc_region.specs.Region.{relabelled}
 use Rattle.vc_region.specs.Parts.{region_of}
 use Rattle.vc_script.specs.declared.reply.Reply.TheVariants.{Stats}
-use Rattle.vc_seg.proofs.Stats.{stat-relabelled}
+use Rattle.vc_region.proofs.Relabel.{stat-relabelled}
 use Rattle.vc_session.specs.Labels.{name_of}
 use Rattle.vc_session.specs.State.{changed_to}
 use Rattle.vc_session.proofs.home.HomeEntry.stat.Goals as goal

@@ -1,7 +1,7 @@
 use Rattle.std.proofs.Common.{◌≡◌, ◌-◌, Some, IfSome, set, length, arith, ap, ◌∙◌, subst, sym}
 use Rattle.std.specs.Prelude.{remove}
 use Rattle.vc_model.specs.Discipline.{Discipline}
-use Rattle.vc_model.specs.Region.{segments_of}
+use Rattle.vc_region.specs.Region.{segments_of}
 use Rattle.vc_seg.specs.Shelf.{standing}
 use Rattle.vc_session.specs.Account.{Held, IsSession, account_after, accounts, settled}
 use Rattle.vc_session.specs.Homes.{accounts_on, held_all, held_in, held_of, slots_on}

@@ -1,7 +1,7 @@
 use Rattle.std.proofs.Common.{◌≡◌, ◌<◌, ◌-◌, ℕ, List, Some, IfSome, length, set, arith, ap, ◌∙◌, subst, sym}
 use Rattle.std.proofs.lemmas.List.{length-map}
 use Rattle.vc_model.specs.Discipline.{Discipline}
-use Rattle.vc_model.specs.Region.{segments_of}
+use Rattle.vc_region.specs.Region.{segments_of}
 use Rattle.vc_script.specs.declared.reply.Reply.TheVariants.{Closed}
 use Rattle.vc_session.specs.declared.home.HomeEntry.{HomeEntry}
 use Rattle.vc_session.specs.Account.{Held, account_after, accounts, state_of}

@@ -1,7 +1,7 @@
 -- A region by its method, and each call of it by cases on the method.
-use Rattle.std.specs.Prelude.{ℕ, List, Bool, map}
+use Rattle.std.specs.Prelude.{ℕ, List, Bool}
 use Rattle.vc_model.specs.Discipline.{Terms}
-use Rattle.vc_model.specs.Layout.{Block, Layout}
+use Rattle.vc_model.specs.Layout.{Block, Layout, relabel_layout}
 use Rattle.vc_model.specs.Outcome.{Outcome, Done, Put, outcome_as}
 use Rattle.vc_model.specs.Best.{best_alloc, best_need, without_block_at}
 use Rattle.vc_model.specs.Resize.{best_resize, can_stay}
@@ -69,11 +69,5 @@ abbrev pub region_compact_count : {L : Type 0} → Region L → ℕ
 region_compact_count r = compact_count (layout_in r)
 
 -- the same with other labels
-abbrev pub relabel_block : {L M : Type 0} → (L → M) → Block L → Block M
-relabel_block name b = record { label = name b.label; seg = b.seg; off = b.off; size = b.size; bytes = b.bytes }
-
-abbrev pub relabel_layout : {L M : Type 0} → (L → M) → Layout L → Layout M
-relabel_layout name r = record { segments = r.segments; blocks = map (relabel_block name) r.blocks }
-
 abbrev pub relabelled : {L M : Type 0} → (L → M) → Region L → Region M
 relabelled name (OfBest layout) = OfBest (relabel_layout name layout)

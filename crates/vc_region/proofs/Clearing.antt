@@ -1,6 +1,6 @@
 -- What clearing, compacting and writing keep of a region, by its method.
 use Rattle.std.proofs.Common.{◌≡◌, ℕ, List, [], refl}
-use Rattle.vc_model.specs.Region.{OfBest, Region, blocks_of, region_clear, region_compact, region_write, segments_of}
+use Rattle.vc_region.specs.Region.{OfBest, Region, blocks_of, region_clear, region_compact, region_write, segments_of}
 
 pub cleared-blocks : {L : Type 0} (r : Region L) → blocks_of (region_clear r) ≡ []
 cleared-blocks (OfBest layout) = refl

@@ -1,0 +1,66 @@
+-- Every call of a region commutes with a change of its labels.
+use Rattle.std.proofs.Common.{◌≡◌, ℕ, Bool, List, map, refl, sym, ap, ◌∙◌}
+use Rattle.std.specs.List.{AllByRecursion}
+use Rattle.vc_model.specs.Best.{best_alloc}
+use Rattle.vc_model.specs.Discipline.{Terms}
+use Rattle.vc_model.specs.Layout.{Block, Layout, relabel_block}
+use Rattle.vc_model.specs.Outcome.{Outcome, Done, Refused, Put, outcome_as}
+use Rattle.vc_model.specs.Resize.{best_resize}
+use Rattle.vc_model.specs.Touch.{rewritten}
+use Rattle.vc_model.proofs.Relabel.{best_alloc-relabel, best_resize-relabel, change_block-relabel, compact_count-relabel, compacted-relabel, relabel-alike, relabel_outcome, without_block-relabel}
+use Rattle.vc_seg.proofs.Stats.{layout_stat-relabel}
+use Rattle.vc_region.specs.Region.{OfBest, Region, blocks_of, region_align, region_alloc, region_clear, region_compact, region_compact_count, region_free, region_resize, region_write, relabelled, segments_of}
+use Rattle.vc_region.specs.Stat.{stat_of}
+
+module _ {L M : Type 0} (f : L → M) where
+  abbrev layout : List (ℕ × ℕ) → List (Block M) → Layout M
+  layout segments blocks = record { segments = segments; blocks = blocks }
+
+  as_best : (o : Outcome (Put (Layout L))) → outcome_as OfBest (relabel_outcome f o) ≡ outcome_as (relabelled f) (outcome_as OfBest o)
+  as_best (Done p) = refl
+  as_best (Refused why) = refl
+
+  pub segments-relabelled : (r : Region L) → segments_of (relabelled f r) ≡ segments_of r
+  segments-relabelled (OfBest l) = refl
+
+  pub blocks-relabelled : (r : Region L) → blocks_of (relabelled f r) ≡ map (relabel_block f) (blocks_of r)
+  blocks-relabelled (OfBest l) = refl
+
+  pub alloc-relabelled : (terms : Terms) (r : Region L) (label : L) (size : ℕ) (refused : Bool) → region_alloc terms (relabelled f r) (f label) size refused ≡ outcome_as (relabelled f) (region_alloc terms r label size refused)
+  alloc-relabelled terms (OfBest l) label size refused =
+      ap (outcome_as OfBest) (best_alloc-relabel f terms l label size 32 refused) ∙ as_best (best_alloc terms l label size 32 refused)
+
+  pub align-relabelled : (terms : Terms) (r : Region L) (label : L) (size align : ℕ) (refused : Bool) → region_align terms (relabelled f r) (f label) size align refused ≡ outcome_as (relabelled f) (region_align terms r label size align refused)
+  align-relabelled terms (OfBest l) label size align refused =
+      ap (outcome_as OfBest) (best_alloc-relabel f terms l label size align refused) ∙ as_best (best_alloc terms l label size align refused)
+
+  pub resize-relabelled : (terms : Terms) (r : Region L) (at : ℕ × ℕ) (size : ℕ) (may_move refused : Bool) → region_resize terms (relabelled f r) at size may_move refused ≡ outcome_as (relabelled f) (region_resize terms r at size may_move refused)
+  resize-relabelled terms (OfBest l) at size may_move refused =
+      ap (outcome_as OfBest) (best_resize-relabel f terms l at size may_move refused) ∙ as_best (best_resize terms l at size may_move refused)
+
+  -- what freeing gives, with other labels
+  abbrev pub relabel_freed : Outcome (Region L) → Outcome (Region M)
+  relabel_freed (Done r) = Done (relabelled f r)
+  relabel_freed (Refused why) = Refused why
+
+  pub free-relabelled : (r : Region L) (at : ℕ × ℕ) → region_free (relabelled f r) at ≡ relabel_freed (region_free r at)
+  free-relabelled (OfBest l) at = ap (λ bs. Done (OfBest (layout l.segments bs))) (sym (without_block-relabel f at l.blocks))
+
+  pub write-relabelled : (r : Region L) (at : ℕ × ℕ) (off : ℕ) (src : List ℕ) → region_write (relabelled f r) at off src ≡ relabelled f (region_write r at off src)
+  write-relabelled (OfBest l) at off src = ap (λ bs. OfBest (layout l.segments bs)) (sym (change_block-relabel f (rewritten off src) (rewritten off src) (λ c. refl) at l.blocks))
+
+  pub clear-relabelled : (r : Region L) → region_clear (relabelled f r) ≡ relabelled f (region_clear r)
+  clear-relabelled (OfBest l) = refl
+
+  pub compact-relabelled : (r : Region L) → region_compact (relabelled f r) ≡ relabelled f (region_compact r)
+  compact-relabelled (OfBest l) = ap (λ q. OfBest q) (compacted-relabel f l)
+
+  pub compact_count-relabelled : (r : Region L) → region_compact_count (relabelled f r) ≡ region_compact_count r
+  compact_count-relabelled (OfBest l) = compact_count-relabel f l
+
+pub relabelled-alike : {L M : Type 0} (f g : L → M) (r : Region L) → AllByRecursion (λ b. f b.label ≡ g b.label) (blocks_of r) → relabelled f r ≡ relabelled g r
+relabelled-alike f g (OfBest l) same = ap (λ bs. OfBest (record { segments = l.segments; blocks = bs })) (relabel-alike f g l.blocks same)
+
+-- the numbers of a region say nothing of the labels of its blocks
+pub stat-relabelled : {L M : Type 0} (f : L → M) (r : Region L) → stat_of (relabelled f r) ≡ stat_of r
+stat-relabelled f (OfBest layout) = layout_stat-relabel f layout

@@ -1,0 +1,20 @@
+-- The numbers of a region, its method, and a new region, by the method.
+use Rattle.std.specs.Prelude.{Option, Some, None}
+use Rattle.vc_model.specs.Layout.{empty_layout}
+use Rattle.vc_region.specs.Region.{Region, OfBest}
+use Rattle.vc_seg.specs.Stat.{layout_stat}
+use Rattle.vc_seg.specs.declared.method.Method.{Method}
+use Rattle.vc_seg.specs.declared.method.Method.TheVariants.{VmBest}
+use Rattle.vc_seg.specs.declared.stat.Stat.{Stat}
+
+abbrev pub stat_of : {L : Type 0} → Region L → Stat
+stat_of (OfBest layout) = layout_stat layout
+
+-- the method of a region
+abbrev pub method_of : {L : Type 0} → Region L → Method
+method_of (OfBest layout) = VmBest
+
+-- a region of a method with no segment and no block; a method that is not built has none
+abbrev pub opened : {L : Type 0} → Method → Option (Region L)
+opened VmBest = Some (OfBest empty_layout)
+opened method = None
