@@ -4,9 +4,9 @@ use Rattle.vc_model.specs.Layout.{Layout}
 use Rattle.vc_pool.specs.Cells.{AreCells}
 use Rattle.vc_pool.proofs.Fitting.{AreCells-set, length-with, reused-fits, reused-free, reused-multiple}
 use Rattle.vc_pool.proofs.Keeping.{AreCells-reused}
-use Rattle.vc_pool.proofs.cells.Cells.alloc.Goals as goal
-use Rattle.vc_pool.proofs.cells.Cells.alloc.Goals.{After-pop}
-use Rattle.vc_pool.proofs.cells.Cells.alloc.Given.{Over}
+use Rattle.vc_pool.proofs.cells.Cells.alloc_cell.Goals as goal
+use Rattle.vc_pool.proofs.cells.Cells.alloc_cell.Goals.{After-pop}
+use Rattle.vc_pool.proofs.cells.Cells.alloc_cell.Given.{Over}
 
 -- the cells with the element size set, of which one was freed last
 cells : (g : Over) (c : After-pop g) (at : ℕ × ℕ) → c.self.inside.freed.items ≡ c.pop.new.self.items ++ at ∷ [] → AreCells c.self.inside.layout c.element_with-element.result (c.pop.new.self.items ++ at ∷ []) c.self.inside.carved.items
