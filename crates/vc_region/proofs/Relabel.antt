@@ -4,9 +4,9 @@ use Rattle.std.specs.List.{AllByRecursion}
 use Rattle.vc_model.specs.Best.{best_alloc}
 use Rattle.vc_model.specs.Discipline.{Terms}
 use Rattle.vc_model.specs.Last.{last_alloc, last_free, last_resize}
-use Rattle.vc_model.specs.Layout.{Block, Layout, relabel_block, relabel_layout}
+use Rattle.vc_model.specs.Layout.{Block, Layout, relabel_block}
 use Rattle.vc_model.specs.Outcome.{Outcome, Done, Refused, Put, done_as, outcome_as}
-use Rattle.vc_model.specs.Pool.{Pool, pool_alloc, pool_resize, relabel_pool}
+use Rattle.vc_model.specs.Pool.{Pool, pool_alloc, pool_resize}
 use Rattle.vc_model.specs.Resize.{best_resize}
 use Rattle.vc_model.specs.Touch.{rewritten}
 use Rattle.vc_model.proofs.LastRelabel.{last_alloc-relabel, last_free-relabel, last_resize-relabel, relabel_rest}
