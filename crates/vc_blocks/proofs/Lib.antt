@@ -11,3 +11,5 @@ pub mod Sizes
 pub mod Moves
 pub mod Puts
 pub mod Tallies
+pub mod Changes
+pub mod Owned
