@@ -1,8 +1,8 @@
 -- The place behind the blocks of the newest segment.
 use Rattle.std.proofs.Common.{◌≡◌, ◌≢◌, ℕ, ◌+◌, ◌%◌, ◌<◌, ◌≤◌, List, [], ◌∷◌, ◌++◌, Option, None, Some, true, false, All, Any, filter, fold, length, get_or, map, refl, ap, sym, ◌∙◌, subst, inr, ⊎_elim, eqb, leb, arith}
-use Rattle.std.specs.Prelude.{IfOk, Ok, Err, max}
+use Rattle.std.specs.Prelude.{IfOk, OnErr, OnOk, Ok, Err, max}
 use Rattle.std.specs.declared.result.Result.{Result}
-use Rattle.std.proofs.lemmas.Bool.{cases_Bool, eqb-true, eqb-false, leb-true}
+use Rattle.std.proofs.lemmas.Bool.{cases_Bool, eqb-true, eqb-false, le-leb, leb-true, lt-leb}
 use Rattle.std.proofs.lemmas.Option.{same_Some, none-some}
 use Rattle.std.proofs.lemmas.List.{length_push}
 use Rattle.std.proofs.lemmas.List.Elements.{All-head, All-tail, All-nil, All-cons}
@@ -18,7 +18,8 @@ use Rattle.vc_seg.specs.declared.fault.RegionFault.{RegionFault}
 use Rattle.vc_blocks.specs.declared.order.Order.TheVariants.{ByAllocation}
 use Rattle.vc_blocks.specs.declared.slot.Slot.{Slot}
 use Rattle.vc_blocks.specs.Layout.{slot_of_block}
-use Rattle.vc_blocks.specs.Put.{FitsAt, IsAddress, IsFreeAt, body, body_at, with_zeros}
+use Rattle.vc_blocks.specs.Slot.{IsSlot}
+use Rattle.vc_blocks.specs.Put.{FitsAt, IsAddress, IsFreeAt, IsPutInNew, body, body_at, with_zeros}
 use Rattle.vc_blocks.proofs.Apart.{apart_by_seg}
 use Rattle.vc_last.specs.Row.{EndsFirst, IsRow}
 use Rattle.vc_last.specs.Runs.{next_behind}
@@ -51,12 +52,27 @@ fold-least : (m : ℕ) (ns : List ℕ) → m ≤ fold max m ns
 fold-least m [] = omega arith
 fold-least m (n ∷ ns) = let rest = fold-least (max m n) ns in omega (arith, rest)
 
-pub fold-most : (m most : ℕ) (ns : List ℕ) → m ≤ most → All (λ n. n ≤ most) ns → fold max m ns ≤ most
+fold-most : (m most : ℕ) (ns : List ℕ) → m ≤ most → All (λ n. n ≤ most) ns → fold max m ns ≤ most
 fold-most m most [] low h = low
 fold-most m most (n ∷ ns) low h =
     let P : ℕ → Type 0 = λ k. k ≤ most in
     let here : n ≤ most = All-head P n ns h in
     fold-most (max m n) most ns (omega (arith, low, here)) (All-tail P n ns h)
+
+slot-ends : (number : ℕ) (slots : List Slot) → All IsSlot slots → All (λ n. n ≤ 50331744) (map (λ s. s.off + span s.size) (filter (λ s. eqb s.seg number) slots))
+slot-ends number [] h = All-nil (λ (n : ℕ). n ≤ 50331744)
+slot-ends number (s ∷ ss) h =
+    let rest = slot-ends number ss (All-tail IsSlot s ss h) in
+    let here = All-head IsSlot s ss h in
+    let last = here.last in
+    let most = here.most in
+    ⊎_elim
+    (λ (t : eqb s.seg number ≡ true). rw t (All-cons (λ (n : ℕ). n ≤ 50331744) (s.off + span s.size) (map (λ (r : Slot). r.off + span r.size) (filter (λ (r : Slot). eqb r.seg number) ss)) (omega (arith, last, most)) rest))
+    (λ (t : eqb s.seg number ≡ false). rw t rest)
+    (cases_Bool (eqb s.seg number))
+
+pub next_behind-most : (number : ℕ) (slots : List Slot) → All IsSlot slots → next_behind number slots ≤ 50331744
+next_behind-most number slots h = fold-most 32 50331744 (map (λ (s : Slot). s.off + span s.size) (filter (λ (s : Slot). eqb s.seg number) slots)) (omega arith) (slot-ends number slots h)
 
 fold-multiple : (m : ℕ) (ns : List ℕ) → m % 32 ≡ 0 → All (λ n. n % 32 ≡ 0) ns → fold max m ns % 32 ≡ 0
 fold-multiple m [] low h = low
@@ -196,3 +212,35 @@ module _ (r : Layout ℕ) (size : ℕ) (at : ℕ × ℕ) (some : 1 ≤ size) (p 
 pub fresh-put : (result : Result Addr RegionFault) (r : Layout ℕ) (size : ℕ) (at : ℕ × ℕ) → 1 ≤ size → IsPlace r size at → IsRow r → IfOk result (λ a. IsAddress a.0 at) → IfOk result (λ a. ¬ HasBlock r.blocks a.0)
 fresh-put (Ok a) r size at some p h address = place-fresh r size at some p h a.0 address.1
 fresh-put (Err e) r size at some p h address = tt
+
+-- the place by the newest segment
+pub place-some : (r : Layout ℕ) (size off : ℕ) (s : ℕ × ℕ) → newest r ≡ Some s → off ≡ next_offset s.0 r.blocks → off + span size ≤ s.1 → Some (s.0, off) ≡ last_place r size
+place-some r size off s is at fits =
+    sym (ap (place_behind r.blocks size) is ∙ (rw (← at) (rw (le-leb (off + span size) s.1 fits) refl)))
+
+pub place-none : (r : Layout ℕ) (size off : ℕ) (s : ℕ × ℕ) → newest r ≡ Some s → off ≡ next_offset s.0 r.blocks → s.1 < off + span size → None ≡ last_place r size
+place-none r size off s is at over =
+    sym (ap (place_behind r.blocks size) is ∙ (rw (← at) (rw (lt-leb (off + span size) s.1 over) refl)))
+
+-- what putting a block leaves
+pub row-put : (result : Result Addr RegionFault) (r new : Layout ℕ) (size tag : ℕ) (at : ℕ × ℕ) → 1 ≤ size → IsPlace r size at → IsRow r → IfOk result (λ a. IsAddress a.0 at) → OnOk result (new ≡ with_zeros ByAllocation r tag size at) → OnErr result (new ≡ r) → IsRow new
+row-put (Ok a) r new size tag at some p h own ok err =
+    let exact : place_of (address at) ≡ at = ap place_of (sym own.0) ∙ own.1 in
+    subst IsRow (sym ok) (IsRow-put r size at some p h tag exact)
+row-put (Err e) r new size tag at some p h own ok err = subst IsRow (sym err) h
+
+pub row-new : (result : Result Addr RegionFault) (r new : Layout ℕ) (size tag bytes : ℕ) → 1 ≤ size → 32 + span size ≤ bytes → IsRow r → IfOk result (λ a. IsPutInNew ByAllocation r new tag size bytes a.0) → OnErr result (new ≡ r) → IsRow new
+row-new (Ok a) r new size tag bytes some room h ok err =
+    let n : ℕ = (place_of a.0).0 in
+    let mid = with_segment r (n, bytes) in
+    let numbered : HaveOwnNumbers mid.segments = subst (λ (q : Layout ℕ). HaveOwnNumbers q.segments) ok.layout ok.numbered in
+    let exact : place_of (address (n, 32)) ≡ (n, 32) = ap place_of (sym ok.address.0) ∙ ok.address.1 in
+    subst IsRow (sym ok.layout) (IsRow-put mid size (n, 32) some (place-new r n bytes size h ok.fresh room) (IsRow-segment r (n, bytes) h numbered) tag exact)
+row-new (Err e) r new size tag bytes some room h ok err = subst IsRow (sym err) h
+
+pub fresh-new : (result : Result Addr RegionFault) (r new : Layout ℕ) (size tag bytes : ℕ) → 1 ≤ size → 32 + span size ≤ bytes → IsRow r → IfOk result (λ a. IsPutInNew ByAllocation r new tag size bytes a.0) → IfOk result (λ a. ¬ HasBlock r.blocks a.0)
+fresh-new (Ok a) r new size tag bytes some room h ok =
+    let n : ℕ = (place_of a.0).0 in
+    let p = place-new r n bytes size h ok.fresh room in
+    none-there r.blocks a.0 h.exact (subst (λ (q : ℕ × ℕ). AreElsewhere q r.blocks) (sym ok.address.1) (place-elsewhere (with_segment r (n, bytes)) size (n, 32) some p))
+fresh-new (Err e) r new size tag bytes some room h ok = tt

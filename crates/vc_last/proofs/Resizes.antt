@@ -71,6 +71,9 @@ module _ (r : Layout ℕ) (at : ℕ × ℕ) (l : IsLatestAt r at) where
   pub can_end-latest : (size : ℕ) (can : Bool) → option_map (can_end r size) (latest r) ≡ Some can → can_end r size l.block ≡ can
   can_end-latest size can e = same_Some (can_end r size l.block) can (sym (ap (option_map (can_end r size)) l.is) ∙ e)
 
+  pub there-latest : (size : ℕ) (can : Bool) → option_map (can_end r size) (latest r) ≡ Some can → IfSome (find_block at r.blocks) (λ b. (latest r ≡ Some b) × (can_end r size b ≡ can))
+  there-latest size can e = subst (λ (o : Option (Block ℕ)). IfSome o (λ b. (latest r ≡ Some b) × (can_end r size b ≡ can))) (sym found-latest) (l.is, can_end-latest size can e)
+
   -- where it can end where it is
   module _ (size : ℕ) (h : IsRow r) (can : can_end r size l.block ≡ true) where
     usable : IsUsable r.segments (footprint (sized size l.block))
@@ -114,14 +117,7 @@ module _ (r : Layout ℕ) (at : ℕ × ℕ) (l : IsLatestAt r at) where
         (IsRow-push r.segments l.front (sized size l.block) front l.behind usable (All-last (λ (b : Block ℕ). place_of (address_of b) ≡ (b.seg, b.off)) l.front l.block exact))
 
 -- it moves to where a block was put
-module _ (terms : Terms) (r mid new : Layout ℕ) (a to tag size : ℕ) (l : IsLatestAt r (place_of a)) (n : IsNew r tag size to mid) (fresh : ¬ HasBlock r.blocks to) where
-  -- the bytes that it keeps
-  src : List ℕ
-  src = take size l.block.bytes
-
-  moved-to : Layout ℕ
-  moved-to = without_block_at (with_bytes_at mid (place_of to) 0 (take size l.block.bytes)) (place_of a)
-
+module _ (r mid new : Layout ℕ) (a to tag size : ℕ) (l : IsLatestAt r (place_of a)) (n : IsNew r tag size to mid) (fresh : ¬ HasBlock r.blocks to) where
   both : mid.blocks ≡ (l.front ++ l.block ∷ []) ++ zeros tag size (place_of to) ∷ []
   both = n.blocks ∙ ap (λ (bs : List (Block ℕ)). bs ++ zeros tag size (place_of to) ∷ []) l.split
 

@@ -1,4 +1,4 @@
-ghost use Rattle.std.specs.Prelude.{◌≡◌, ◌<◌, All, map};
+ghost use Rattle.std.specs.Prelude.{◌≡◌, All, map};
 ghost use Rattle.vc_model.specs.Resize.{is_usable};
 ghost use Rattle.vc_blocks.specs.Slot.{IsSlot};
 ghost use Rattle.vc_seg.specs.Segment.{pair_of};
@@ -11,8 +11,7 @@ use vc_segments::span_of;
 /// Where the next block begins in the segment of that number, behind these slots.
 pub(crate) fn next_offset(slots: &[Slot], number: u32) -> u32
     requires { All IsSlot slots.now }
-    ensures value { result ≡ next_behind number slots.now }
-    ensures most { result < 67108864 }
+    ensures { result ≡ next_behind number slots.now }
 {
     let mut end = 32;
     for slot in slots {

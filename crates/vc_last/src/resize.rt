@@ -20,7 +20,9 @@ impl Row {
         requires latest { is_latest self.now (place_of a.0) ≡ true }
         requires some { 1 ≤ size }
         requires most { size ≤ 16777216 }
-        ensures { option_map (can_end self.now size) (latest self.now) ≡ Some result }
+        ensures value { option_map (can_end self.now size) (latest self.now) ≡ Some result }
+        ensures there { IfSome (find_block (place_of a.0) self.now.blocks)
+            (λ b. (latest self.now ≡ Some b) × (can_end self.now size b ≡ result)) }
     {
         match self.latest() {
             Some(slot) => is_usable(self.layout.segments(), Slot { size, ..slot }),
