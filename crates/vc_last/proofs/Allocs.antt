@@ -37,11 +37,11 @@ module _ (terms : Terms) (r new : Layout ℕ) (tag size : ℕ) where
       subst (λ (o : Option (ℕ × ℕ)). IsPut (put_or_lend terms r tag size false o) a.0 new) (sym place) done
   Answers-put (Err e) at place address ok err only = subst (λ (w : RegionFault). Answers (last_alloc terms r tag size) (Err w) r new) (sym only) (tt, err)
 
-  pub Answers-new : (result : Result Addr RegionFault) (bytes : ℕ) → bytes ≡ last_need terms size → last_place r size ≡ None → IfOk result (λ a. IsPutInNew ByAllocation r new tag size bytes a.0) → OnErr result (new ≡ r) →
+  pub Answers-new : (result : Result Addr RegionFault) (bytes : ℕ) → bytes ≡ last_need terms size → last_place r size ≡ None → IfOk result (λ a. IsPutInNew ByAllocation r new tag size bytes 32 a.0) → OnErr result (new ≡ r) →
       IfErr result (IsNoGrant bytes r.segments) → Answers (last_alloc terms r tag size) result r new
   Answers-new (Ok a) bytes is none ok err fault =
       let need : ℕ = last_need terms size in
-      let put : IsPutInNew ByAllocation r new tag size need a.0 = subst (λ (n : ℕ). IsPutInNew ByAllocation r new tag size n a.0) is ok in
+      let put : IsPutInNew ByAllocation r new tag size need 32 a.0 = subst (λ (n : ℕ). IsPutInNew ByAllocation r new tag size n 32 a.0) is ok in
       let done : IsPut (put_in_newest r tag size (Granted (place_of a.0).0 need)) a.0 new = (put.address.0, sym put.address.1, put.layout) in
       subst (λ (o : Option (ℕ × ℕ)). IsPut (put_or_lend terms r tag size false o) a.0 new) (sym none)
       (subst (λ (k : Asked). IsPut (put_in_newest r tag size k) a.0 new) (sym put.granted) done)

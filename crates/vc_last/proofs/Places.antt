@@ -229,7 +229,7 @@ row-put (Ok a) r new size tag at some p h own ok err =
     subst IsRow (sym ok) (IsRow-put r size at some p h tag exact)
 row-put (Err e) r new size tag at some p h own ok err = subst IsRow (sym err) h
 
-pub row-new : (result : Result Addr RegionFault) (r new : Layout ℕ) (size tag bytes : ℕ) → 1 ≤ size → 32 + span size ≤ bytes → IsRow r → IfOk result (λ a. IsPutInNew ByAllocation r new tag size bytes a.0) → OnErr result (new ≡ r) → IsRow new
+pub row-new : (result : Result Addr RegionFault) (r new : Layout ℕ) (size tag bytes : ℕ) → 1 ≤ size → 32 + span size ≤ bytes → IsRow r → IfOk result (λ a. IsPutInNew ByAllocation r new tag size bytes 32 a.0) → OnErr result (new ≡ r) → IsRow new
 row-new (Ok a) r new size tag bytes some room h ok err =
     let n : ℕ = (place_of a.0).0 in
     let mid = with_segment r (n, bytes) in
@@ -238,7 +238,7 @@ row-new (Ok a) r new size tag bytes some room h ok err =
     subst IsRow (sym ok.layout) (IsRow-put mid size (n, 32) some (place-new r n bytes size h ok.fresh room) (IsRow-segment r (n, bytes) h numbered) tag exact)
 row-new (Err e) r new size tag bytes some room h ok err = subst IsRow (sym err) h
 
-pub fresh-new : (result : Result Addr RegionFault) (r new : Layout ℕ) (size tag bytes : ℕ) → 1 ≤ size → 32 + span size ≤ bytes → IsRow r → IfOk result (λ a. IsPutInNew ByAllocation r new tag size bytes a.0) → IfOk result (λ a. ¬ HasBlock r.blocks a.0)
+pub fresh-new : (result : Result Addr RegionFault) (r new : Layout ℕ) (size tag bytes : ℕ) → 1 ≤ size → 32 + span size ≤ bytes → IsRow r → IfOk result (λ a. IsPutInNew ByAllocation r new tag size bytes 32 a.0) → IfOk result (λ a. ¬ HasBlock r.blocks a.0)
 fresh-new (Ok a) r new size tag bytes some room h ok =
     let n : ℕ = (place_of a.0).0 in
     let p = place-new r n bytes size h ok.fresh room in

@@ -103,7 +103,7 @@ impl Row {
             None => {
                 let bytes = rounded_up(span_of(size) + 32, round_of(disc));
                 self.layout
-                    .put_in_new(Order::ByAllocation, disc, alloc, bytes, size, tag)
+                    .put_in_new(Order::ByAllocation, disc, alloc, bytes, 32, size, tag)
             }
         }
     }
