@@ -85,14 +85,14 @@ Any-filter {A = A} P test (x ∷ xs) h =
     let Q : A → Type 0 = λ y. (test y ≡ true) × P y in
     elim h.0 as (λ k. k < suc (length xs) → get_or (x ∷ xs) k h.1 ≡ h.1 → Any P (filter test (x ∷ xs))) [
       | zero ↦ λ lt at.
-        let it : test x ≡ true = ap test at ∙ h.4.0 in
-        rw it (0, h.1, omega arith, at, h.4.1)
+          let it : test x ≡ true = ap test at ∙ h.4.0 in
+          rw it (0, h.1, omega arith, at, h.4.1)
       | suc k ↦ λ lt at.
-        let rest : Any P (filter test xs) = Any-filter P test xs (k, h.1, omega (arith, lt), at, h.4) in
-        ⊎_elim
-        (λ e. rw e (suc rest.0, rest.1, omega (arith, rest.2), rest.3, rest.4))
-        (λ e. rw e rest)
-        (cases_Bool (test x))
+          let rest : Any P (filter test xs) = Any-filter P test xs (k, h.1, omega (arith, lt), at, h.4) in
+          ⊎_elim
+          (λ e. rw e (suc rest.0, rest.1, omega (arith, rest.2), rest.3, rest.4))
+          (λ e. rw e rest)
+          (cases_Bool (test x))
     ] h.2 h.3
 
 -- the segments without a block go

@@ -15,3 +15,4 @@ pub mod Resizes
 pub mod Others
 pub mod There
 pub mod Stays
+pub mod Walks

@@ -1,11 +1,12 @@
 -- Blocks by address leave gaps that need no sorting.
-use Rattle.std.proofs.Common.{◌≡◌, ℕ, ◌-◌, ◌<◌, ◌≤◌, List, [], ◌∷◌, ◌++◌, Bool, All, AllPairs, length, get_or, filter, refl, ap, ◌∙◌, ⊎_elim, eqb, arith}
-use Rattle.std.proofs.lemmas.Bool.{lt-ltb, eqb-true}
-use Rattle.std.proofs.lemmas.List.Elements.{All-head, All-map, All-filter, filter_passes}
+use Rattle.std.proofs.Common.{◌≡◌, ℕ, ◌-◌, ◌<◌, ◌≤◌, List, [], ◌∷◌, ◌++◌, Bool, Some, All, AllPairs, length, get_or, filter, fold, refl, ap, ◌∙◌, ⊎_elim, eqb, ltb, arith}
+use Rattle.std.specs.Prelude.{find}
+use Rattle.std.proofs.lemmas.Bool.{cases_Bool, le-ltb, lt-ltb, eqb-true}
+use Rattle.std.proofs.lemmas.List.Elements.{All-head, All-tail, All-map, All-filter, filter_passes}
 use Rattle.std.proofs.lemmas.List.Kept.{AllPairs-filter}
 use Rattle.vc_model.specs.Gap.{Run, gaps, gaps_between, runs_in}
 use Rattle.vc_model.specs.Layout.{Block, footprint, footprints}
-use Rattle.vc_model.specs.Order.{put_by, sorted_by}
+use Rattle.vc_model.specs.Order.{least_above, lesser_by, put_by, sorted_by}
 use Rattle.vc_model.specs.Place.{best_gap, holds, least}
 use Rattle.vc_model.specs.Segments.{span}
 use Rattle.vc_model.specs.Sound.{EndsBefore}
@@ -15,7 +16,7 @@ use Rattle.vc_best.proofs.Apart.{Before, span-least}
 
 module _ {A : Type 0} (key : A → ℕ) where
   -- one key is below another
-  abbrev Less : A → A → Type 0
+  abbrev pub Less : A → A → Type 0
   Less x y = key x < key y
 
   put_by-first : (x : A) (xs : List A) → All (Less x) xs → put_by key x xs ≡ x ∷ xs
@@ -27,6 +28,22 @@ module _ {A : Type 0} (key : A → ℕ) where
   sorted_by-ascending [] h = refl
   sorted_by-ascending (x ∷ xs) h =
       ap (put_by key x) (sorted_by-ascending xs (AllPairs-tail Less x xs h)) ∙ put_by-first x xs (AllPairs-head Less x xs h)
+
+  lesser_by-keeps : (x : A) (xs : List A) → All (Less x) xs → fold (lesser_by key) (Some x) xs ≡ Some x
+  lesser_by-keeps x [] h = refl
+  lesser_by-keeps x (y ∷ ys) h =
+      let low : key x < key y = All-head (Less x) y ys h in
+      rw (le-ltb (key y) (key x) (omega (arith, low))) (lesser_by-keeps x ys (All-tail (Less x) y ys h))
+
+  -- the item with the least key above one is the first that has a key above it
+  pub least_above-first : (after : ℕ) (xs : List A) → AllPairs Less xs → least_above key after xs ≡ find (λ x. ltb after (key x)) xs
+  least_above-first after [] h = refl
+  least_above-first after (x ∷ xs) h =
+      let test : A → Bool = λ y. ltb after (key y) in
+      ⊎_elim
+      (λ e. rw e (lesser_by-keeps x (filter test xs) (All-filter test (Less x) xs (AllPairs-head Less x xs h))))
+      (λ e. rw e (least_above-first after xs (AllPairs-tail Less x xs h)))
+      (cases_Bool (ltb after (key x)))
 
 -- the footprints of blocks by address are sorted already
 runs_in-left : (n : ℕ) (bs : List (Block ℕ)) → AllPairs Before bs → runs_in n (footprints bs) ≡ filter (λ f. eqb f.seg n) (footprints bs)

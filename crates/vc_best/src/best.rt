@@ -165,7 +165,7 @@ impl Best {
             ≡ option_map address_of (next_block after.0 self.now.layout.blocks) }
         ensures live { IfSome result (λ a. HasBlock self.now.layout.blocks a.0) }
     {
-        self.layout.held().next_block(after)
+        self.layout.next_block(after)
     }
 
     /// Its numbers of blocks, gaps and segments, and their sizes in bytes.

@@ -9,12 +9,14 @@ ghost use Rattle.vc_model.specs.Place.{IsAlign};
 ghost use Rattle.vc_model.specs.Resize.{can_stay, resize_there};
 ghost use Rattle.vc_model.specs.Sound.{IsSound};
 ghost use Rattle.vc_model.specs.Touch.{HasBlock, HasRange, find_block, with_bytes_at};
+ghost use Rattle.vc_model.specs.Walk.{next_block};
 ghost use Rattle.vc_seg.specs.Answer.{Answers, Asks, IsPut};
 ghost use Rattle.vc_seg.specs.Stat.{layout_stat};
 
 use crate::fit::best_gap;
 use crate::stat::tally_gaps;
 use crate::stay::fits_in;
+use crate::walk::next_address;
 use std::alloc::Global;
 use std::marker::Model;
 use vc_base::Addr;
@@ -194,6 +196,16 @@ impl Layout {
         ensures sound { IsSound self.new }
     {
         self.held.take_over(a, to, size);
+    }
+
+    /// The first block behind an address.
+    pub(crate) fn next_block(&self, after: Addr) -> Option<Addr>
+        ensures value { option_map (λ a. a.0) result
+            ≡ option_map address_of (next_block after.0 self.now.blocks) }
+        ensures live { IfSome result (λ a. HasBlock self.now.blocks a.0) }
+    {
+        let address = next_address(self.held.slots(), after.0)?;
+        Some(Addr(address))
     }
 
     /// Its numbers of blocks, gaps and segments, and their sizes in bytes.

@@ -9,6 +9,7 @@ mod layout;
 mod resize;
 mod stat;
 mod stay;
+mod walk;
 
 pub use best::Best;
 pub use layout::Layout;

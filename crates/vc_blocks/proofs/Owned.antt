@@ -1,5 +1,5 @@
 -- Segments with numbers of their own.
-use Rattle.std.proofs.Common.{◌≡◌, ◌≢◌, ℕ, ◌<◌, List, [], ◌∷◌, true, false, All, AllPairs, get_or, ap, sym, ◌∙◌, subst, ⊎_elim, eqb, ltb, arith}
+use Rattle.std.proofs.Common.{◌≡◌, ◌≢◌, ℕ, List, [], ◌∷◌, true, false, All, AllPairs, get_or, ap, sym, ◌∙◌, subst, ⊎_elim, eqb, ltb, arith}
 use Rattle.std.specs.List.{Any}
 use Rattle.std.proofs.lemmas.Bool.{cases_Bool, eqb-true, eqb-false, ltb-true, ltb-false}
 use Rattle.std.proofs.lemmas.List.{get_or_default}
