@@ -26,6 +26,7 @@ left r (Done q) = q
 left r (Refused why) = r
 
 pub free-keeps : (r : Region ℕ) (at : ℕ × ℕ) (r' : Region ℕ) → region_free r at ≡ Done r' → keeps_freed r' ≡ keeps_freed r
+unfolding left
 free-keeps (OfBest l) at r' is = sym (ap (λ o. keeps_freed (left r' o)) is)
 
 pub write-keeps : (r : Region ℕ) (at : ℕ × ℕ) (off : ℕ) (src : List ℕ) → keeps_freed (region_write r at off src) ≡ keeps_freed r

@@ -30,14 +30,14 @@ has_label x r = list_any (is_block x) (blocks_of r)
 abbrev pub label_count : Region Label → ℕ
 label_count r = count_by (λ b. is_some b.label) (blocks_of r)
 
--- where no block has the name: the line of its free, where the name is kept
-abbrev pub no_block : Home → Option ℕ → Changed
-no_block h None = unchanged h why.NoBlock
-no_block h (Some line) = unchanged h (why.FreedAt line)
+-- the refusal where no block has the name, by the line with which the name is kept
+abbrev pub no_block : Option ℕ → Refusal
+no_block None = why.NoBlock
+no_block (Some line) = why.FreedAt line
 
 -- what is done with the block of that name
 abbrev pub with_named : Home → List ℕ → Option (Block Label) → (Block Label → Changed) → Changed
-with_named h x None act = no_block h (line_of x h.kept)
+with_named h x None act = unchanged h (no_block (line_of x h.kept))
 with_named h x (Some b) act = act b
 
 abbrev pub on_block : Home → List ℕ → (Block Label → Changed) → Changed

@@ -18,7 +18,7 @@ abbrev pub one_region : List ℕ → List (ℕ × ℕ) → List (Block Label) �
 one_region name segments blocks =
     record {
       shelf = None ∷ [];
-      homes = record { name = name; place = 1; terms = terms; region = OfBest (record { segments = segments; blocks = blocks }) } ∷ [];
+      homes = record { name = name; place = 1; terms = terms; region = OfBest (record { segments = segments; blocks = blocks }); kept = [] } ∷ [];
     }
 
 -- a block with these bytes first and zeros behind them
