@@ -1,31 +1,48 @@
--- The tags and the names of live blocks agree as a block is put.
-use Rattle.std.proofs.Common.{◌≡◌, ℕ, ◌+◌, ◌-◌, ◌≤◌, List, Some, None, Result, Ok, Err, IsOk, OnOk, sym, ap, ◌∙◌, inl, inr, arith}
+-- The tags and the names of live blocks agree as a block is put, or taken out.
+use Rattle.std.proofs.Common.{◌≡◌, ◌≢◌, ℕ, ◌+◌, ◌-◌, ◌≤◌, ◌⊎◌, cond, is_some, length, List, Option, Some, None, Result, Ok, Err, IfOk, IsOk, OnOk, refl, sym, ap, ◌∙◌, subst, inl, inr, arith}
+use Rattle.std.specs.Prelude.{IsSome}
 use Rattle.std.specs.HashMap as names
 use Rattle.std.specs.Str.{bytes_eq}
-use Rattle.std.proofs.lemmas.Bool.{cases_eq, cases_Bool, false_from_ne_true}
+use Rattle.std.proofs.lemmas.Bool.{cases_eq, cases_Bool, false_from_ne_true, false≢true}
+use Rattle.std.proofs.lemmas.Option.{none-some, same_Some}
 use Rattle.std.proofs.lemmas.Slice.Eq.{bytes_eq-Decides}
-use Rattle.slab.specs.Slab.{get, Updates}
+use Rattle.slab.specs.Slab.{get, slab_len, Updates}
 use Rattle.vc_session.specs.declared.labels.Label.{Label}
 use Rattle.vc_session.specs.declared.labels.Labels.{Labels}
-use Rattle.vc_session.specs.Labels.{label_at, tag_of, AreLabels, MovesLabel}
+use Rattle.vc_session.specs.declared.labels.Known.{Known}
+use Rattle.vc_session.specs.declared.labels.Known.TheVariants.{Live, Freed}
+use Rattle.vc_session.specs.Kept.{line_of, without_name}
+use Rattle.vc_session.specs.Labels.{kept_among, kept_of, known_of, label_at, line_in, tag_in, tag_of, AreLabels, FreesNames, MovesLabel, SameLabels, WithoutLabel}
+use Rattle.vc_session.proofs.Keeping.{by-name-among, kept-other, length-without, line-among}
 
 -- what holds on success, at a result that is one
 pub from_ok : {T E P : Type 0} (r : Result T E) → IsOk r → OnOk r P → P
 from_ok (Ok v) succeeds holds = holds
 from_ok (Err e) succeeds holds = absurd (cc)
 
-module _ (old new : Labels) (key : ℕ) (label : Label) (agree : AreLabels old) (fresh : tag_of old label.name ≡ None) (vacant : get old.by_tag key ≡ None) (by_tag : Updates old.by_tag new.by_tag key (Some label)) (by_name : names.Updates bytes_eq old.tags new.tags label.name (Some (key + 1))) where
+-- two facts of a result that is one
+pub both_ok : {T E : Type 0} (r : Result T E) (P Q : T → Type 0) → IsOk r → IfOk r P → IfOk r Q → (x : T) × P x × Q x
+both_ok (Ok v) P Q succeeds p q = (v, p, q)
+both_ok (Err e) P Q succeeds p q = absurd (cc)
+
+-- how many names there are once one is put that no block has
+pub all-put : (n m s s' k k' : ℕ) (known : Option Known) → tag_in known ≡ None → m ≡ n + cond (is_some known) 0 1 → s' ≡ s + 1 → cond (is_some (line_in known)) 1 0 + k' ≡ k → n ≡ s + k → m ≡ s' + k'
+all-put n m s s' k k' None none more one left all = omega (arith, more, one, left, all)
+all-put n m s s' k k' (Some (Live tag)) none more one left all = absurd (none-some tag (sym none))
+all-put n m s s' k k' (Some (Freed line)) none more one left all = omega (arith, more, one, left, all)
+
+module _ (old new : Labels) (key : ℕ) (label : Label) (agree : AreLabels old) (fresh : tag_of old label.name ≡ None) (vacant : get old.by_tag key ≡ None) (by_tag : Updates old.by_tag new.by_tag key (Some label)) (by_name : names.Updates bytes_eq old.tags new.tags label.name (Some (Live (key + 1)))) where
   tagged-put : (x : List ℕ) (tag : ℕ) → tag_of new x ≡ Some tag → (1 ≤ tag) × ((l : Label) × (label_at new tag ≡ Some l) × (l.name ≡ x))
   tagged-put x tag found =
       elim (cases_Bool (bytes_eq label.name x)) [
         | inl same ↦
-            let at = by_name.0 x in
-            let known : Some (key + 1) ≡ Some tag = rw (same, found) at (sym at) in
+            let at : known_of new x ≡ Some (Live (key + 1)) = by_name.0 x ∙ ap (λ b. cond b (Some (Live (key + 1))) (known_of old x)) same in
+            let known : Some (key + 1) ≡ Some tag = sym (ap tag_in at) ∙ found in
             let is : key + 1 ≡ tag = cc in
             let place : tag - 1 ≡ key = omega (arith, is) in
             (omega (arith, is), (label, ap (get new.by_tag) place ∙ by_tag.changed, (bytes_eq-Decides label.name x).0 same))
         | inr other ↦
-            let was = agree.tagged x tag (sym (by_name.2 x other) ∙ found) in
+            let was = agree.tagged x tag (sym (ap tag_in (by_name.2 x other)) ∙ found) in
             (was.0, (was.1.0, by_tag.others (tag - 1) (λ same. absurd (cc (ap (get old.by_tag) same, was.1.1))) ∙ was.1.1, was.1.2))
       ]
 
@@ -36,20 +53,108 @@ module _ (old new : Labels) (key : ℕ) (label : Label) (agree : AreLabels old) 
             let known : Some label ≡ Some l = sym by_tag.changed ∙ (ap (get new.by_tag) (sym same) ∙ found) in
             let is : label ≡ l = cc in
             let last : key + 1 ≡ tag = omega (arith, same, first) in
-            ap (λ k. tag_of new k.name) (sym is) ∙ (by_name.1 ∙ ap (λ n. Some n) last)
+            ap (λ k. tag_of new k.name) (sym is) ∙ (ap tag_in by_name.1 ∙ ap (λ n. Some n) last)
         | inr apart ↦
             let was : tag_of old l.name ≡ Some tag = agree.named tag l first (sym (by_tag.others (tag - 1) apart) ∙ found) in
             let other = false_from_ne_true (bytes_eq label.name l.name) (λ same. absurd (cc (ap (tag_of old) ((bytes_eq-Decides label.name l.name).0 same), was))) in
-            by_name.2 l.name other ∙ was
+            ap tag_in (by_name.2 l.name other) ∙ was
       ]
 
+  pub kept-put : kept_of new ≡ without_name label.name (kept_of old)
+  kept-put = kept-other old.tags.entries new.tags.entries label.name (Some (Live (key + 1))) refl by_name.0
+
   -- a block is put under a new name and a vacant key
-  pub agree-put : AreLabels new
-  agree-put = record { tagged = tagged-put; named = named-put }
+  pub agree-put : length new.tags.entries ≡ length old.tags.entries + cond (is_some (known_of old label.name)) 0 1 → slab_len new.by_tag ≡ slab_len old.by_tag + 1 → AreLabels new
+  agree-put more one = record {
+    tagged = tagged-put;
+    named = named-put;
+    all =
+        all-put (length old.tags.entries) (length new.tags.entries) (slab_len old.by_tag) (slab_len new.by_tag) (length (kept_of old)) (length (kept_of new)) (known_of old label.name) fresh more one
+        (ap (λ o. cond (is_some o) 1 0 + length (kept_of new)) (sym (line-among label.name old.tags.entries))
+        ∙ (ap (λ k. cond (is_some (line_of label.name (kept_of old))) 1 0 + length k) kept-put
+        ∙ length-without label.name (kept_of old) (by-name-among old.tags.entries)))
+        agree.all;
+  }
+
+-- the same tags and names, and so many names
+pub agree-same : (old new : Labels) → SameLabels old new → length new.tags.entries ≡ length old.tags.entries → AreLabels old → AreLabels new
+agree-same old new same many agree = record {
+  tagged = λ x t found.
+      let was = agree.tagged x t (sym (same.by_name x) ∙ found) in
+      (was.0, (was.1.0, same.by_tag t ∙ was.1.1, was.1.2));
+  named = λ t l first found. same.by_name l.name ∙ agree.named t l first (sym (same.by_tag t) ∙ found);
+  all = many ∙ (agree.all ∙ (ap (λ s. s + length (kept_of old)) (sym same.count) ∙ ap (λ k. slab_len new.by_tag + length k) (sym same.kept)));
+}
+
+-- the block of a name is taken out, with what is known of the name then
+module _ (old new : Labels) (x : List ℕ) (tag : ℕ) (label : Label) (after : Option Known) (gone : tag_in after ≡ None) (agree : AreLabels old) (named : tag_of old x ≡ Some tag) (was : get old.by_tag (tag - 1) ≡ Some label) (by_tag : Updates old.by_tag new.by_tag (tag - 1) None) (by_name : names.UpdatesBy bytes_eq (bytes_eq x) old.tags new.tags after) (one : slab_len new.by_tag + 1 ≡ slab_len old.by_tag) where
+  tagged : (1 ≤ tag) × ((l : Label) × (label_at old tag ≡ Some l) × (l.name ≡ x))
+  tagged = agree.tagged x tag named
+
+  own : label.name ≡ x
+  own = ap (λ (l : Label). l.name) (same_Some label tagged.1.0 (sym was ∙ tagged.1.1)) ∙ tagged.1.2
+
+  pub known-gone : known_of new x ≡ after
+  known-gone = by_name.1
+
+  pub known-other : (y : List ℕ) → y ≢ x → known_of new y ≡ known_of old y
+  known-other y other = by_name.2 y (false_from_ne_true (bytes_eq x y) (λ same. other (sym ((bytes_eq-Decides x y).0 same))))
+
+  pub without-label : WithoutLabel old new tag (record { name = x; at = label.at })
+  without-label =
+      let is : label ≡ record { name = x; at = label.at } = ap (λ n. let l : Label = record { name = n; at = label.at } in l) own in
+      record {
+        first = tagged.0;
+        was_at = was ∙ ap (λ l. Some l) is;
+        was_named = named;
+        gone = by_tag.changed;
+        other_tags = λ other first differs. by_tag.others (other - 1) (λ e. differs (omega (arith, e, first, tagged.0)));
+        name_gone = ap tag_in known-gone ∙ gone;
+        other_names = λ y other. ap tag_in (known-other y other);
+        count = one;
+      }
+
+-- those that are left agree
+pub agree-left : (old new : Labels) (tag : ℕ) (label : Label) → AreLabels old → WithoutLabel old new tag label → length new.tags.entries ≡ slab_len new.by_tag + length (kept_of new) → AreLabels new
+agree-left old new tag label agree w all = record {
+  tagged = λ x t found.
+      elim (cases_Bool (bytes_eq label.name x)) [
+        | inl same ↦ absurd (none-some t (sym (ap (tag_of new) (sym ((bytes_eq-Decides label.name x).0 same)) ∙ w.name_gone) ∙ found))
+        | inr other ↦
+            let before = agree.tagged x t (sym (w.other_names x (λ e. false≢true (sym other ∙ (bytes_eq-Decides label.name x).1 (sym e)))) ∙ found) in
+            let differs : t ≢ tag = λ e.
+                let two : Some before.1.0 ≡ Some label = sym before.1.1 ∙ (ap (label_at old) e ∙ w.was_at) in
+                let is : before.1.0 ≡ label = cc in
+                false≢true (sym other ∙ (bytes_eq-Decides label.name x).1 (sym (ap (λ (l : Label). l.name) is) ∙ before.1.2)) in
+            (before.0, (before.1.0, w.other_tags t before.0 differs ∙ before.1.1, before.1.2))
+      ];
+  named = λ t l first found.
+      let differs : t ≢ tag = λ e. none-some l (sym (ap (label_at new) e ∙ w.gone) ∙ found) in
+      let was : tag_of old l.name ≡ Some t = agree.named t l first (sym (w.other_tags t first differs) ∙ found) in
+      w.other_names l.name (λ same.
+          let two : Some t ≡ Some tag = sym was ∙ (ap (tag_of old) same ∙ w.was_named) in
+          let is : t ≡ tag = cc in
+          differs is)
+      ∙ was;
+  all = all;
+}
+
+-- frees at one line, one after another
+pub frees-trans : (a b c : Labels) (line : ℕ) → FreesNames a b line → FreesNames b c line → FreesNames a c line
+frees-trans a b c line f g = λ x. both x (f x) (g x)
+  where
+    both : (x : List ℕ) → (known_of b x ≡ known_of a x) ⊎ (IsSome (tag_of a x) × (known_of b x ≡ Some (Freed line))) → (known_of c x ≡ known_of b x) ⊎ (IsSome (tag_of b x) × (known_of c x ≡ Some (Freed line))) → (known_of c x ≡ known_of a x) ⊎ (IsSome (tag_of a x) × (known_of c x ≡ Some (Freed line)))
+    both x (inl p) (inl q) = inl (q ∙ p)
+    both x (inl p) (inr q) = inr (subst (λ o. IsSome (tag_in o)) p q.0, q.1)
+    both x (inr p) (inl q) = inr (p.0, q ∙ p.1)
+    both x (inr p) (inr q) = absurd (subst (λ o. IsSome (tag_in o)) p.1 q.0)
+
+pub frees-none : (a : Labels) (line : ℕ) → FreesNames a a line
+frees-none a line = λ x. inl refl
 
 -- a block that has another address keeps its name and its tag
-pub agree-moved : (old new : Labels) (tag : ℕ) (label : Label) → AreLabels old → tag_of old label.name ≡ Some tag → MovesLabel old new tag label → AreLabels new
-agree-moved old new tag label agree named m =
+pub agree-moved : (old new : Labels) (tag : ℕ) (label : Label) → AreLabels old → tag_of old label.name ≡ Some tag → MovesLabel old new tag label → new.tags ≡ old.tags → AreLabels new
+agree-moved old new tag label agree named m tags =
     let before = agree.tagged label.name tag named in
     record {
       tagged = λ x t found.
@@ -69,4 +174,5 @@ agree-moved old new tag label agree named m =
                 ap (λ (k : Label). tag_of new k.name) (sym is) ∙ (m.names label.name ∙ (named ∙ ap (λ n. Some n) (sym same)))
             | inr other ↦ m.names l.name ∙ agree.named t l first (sym (m.other_tags t first other) ∙ found)
           ];
+      all = ap (λ m. length m.entries) tags ∙ (agree.all ∙ (ap (λ n. n + length (kept_of old)) (sym m.count) ∙ ap (λ es. slab_len new.by_tag + length (kept_among es.entries)) (sym tags)));
     }

@@ -22,4 +22,4 @@ with_line x line kept = put by_name x line kept
 
 -- a name is kept no more
 abbrev pub without_name : List ℕ → Kept → Kept
-without_name x kept = where_key (λ y. not (eq_by_cmp by_name x y)) kept
+without_name x kept = where_key by_name (λ y. not (eq_by_cmp by_name x y)) kept
