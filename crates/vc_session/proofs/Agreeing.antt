@@ -1,5 +1,5 @@
 -- The tags and the names of live blocks agree as a block is put, or taken out.
-use Rattle.std.proofs.Common.{◌≡◌, ◌≢◌, ℕ, ◌+◌, ◌-◌, ◌≤◌, ◌⊎◌, cond, is_some, length, List, Option, Some, None, Result, Ok, Err, IfOk, IsOk, OnOk, refl, sym, ap, ◌∙◌, subst, inl, inr, arith}
+use Rattle.std.proofs.Common.{◌≡◌, ◌≢◌, ℕ, ◌+◌, ◌-◌, ◌≤◌, ◌⊎◌, true, cond, is_some, length, List, Option, Some, None, Result, Ok, Err, IfOk, IsOk, OnErr, OnOk, refl, sym, ap, ◌∙◌, subst, inl, inr, arith}
 use Rattle.std.specs.Prelude.{IsSome}
 use Rattle.std.specs.HashMap as names
 use Rattle.std.specs.Str.{bytes_eq}
@@ -11,9 +11,9 @@ use Rattle.vc_session.specs.declared.labels.Label.{Label}
 use Rattle.vc_session.specs.declared.labels.Labels.{Labels}
 use Rattle.vc_session.specs.declared.labels.Known.{Known}
 use Rattle.vc_session.specs.declared.labels.Known.TheVariants.{Live, Freed}
-use Rattle.vc_session.specs.Kept.{line_of, without_name}
+use Rattle.vc_session.specs.Kept.{line_of, with_line, without_name}
 use Rattle.vc_session.specs.Labels.{kept_among, kept_of, known_of, label_at, line_in, tag_in, tag_of, AreLabels, FreesNames, MovesLabel, SameLabels, WithoutLabel}
-use Rattle.vc_session.proofs.Keeping.{by-name-among, kept-other, length-without, line-among}
+use Rattle.vc_session.proofs.Keeping.{by-name-among, kept-other, length-with, length-without, line-among, without-absent}
 
 -- what holds on success, at a result that is one
 pub from_ok : {T E P : Type 0} (r : Result T E) → IsOk r → OnOk r P → P
@@ -139,6 +139,43 @@ agree-left old new tag label agree w all = record {
   all = all;
 }
 
+-- a name with a block is known, and isn't kept
+pub known-some : (o : Option Known) (tag : ℕ) → tag_in o ≡ Some tag → is_some o ≡ true
+known-some None tag e = absurd (none-some tag e)
+known-some (Some known) tag e = refl
+
+pub known-line : (o : Option Known) (tag : ℕ) → tag_in o ≡ Some tag → line_in o ≡ None
+known-line None tag e = refl
+known-line (Some (Live t)) tag e = refl
+known-line (Some (Freed line)) tag e = absurd (none-some tag e)
+
+-- so what it is known as changes without a new place
+pub there-ok : {T E : Type 0} (r : Result T E) (o : Option Known) (tag : ℕ) → OnErr r (o ≡ None) → tag_in o ≡ Some tag → IsOk r
+there-ok (Ok v) o tag absent e = refl
+there-ok (Err x) o tag absent e = absurd (none-some tag (sym (ap tag_in absent) ∙ e))
+
+pub line-none : (old : Labels) (x : List ℕ) (tag : ℕ) → tag_of old x ≡ Some tag → line_of x (kept_of old) ≡ None
+line-none old x tag named = line-among x old.tags.entries ∙ known-line (known_of old x) tag named
+
+-- the count of names once a block is taken out, and its name kept
+pub all-kept : (old new : Labels) (x : List ℕ) (tag line : ℕ) → AreLabels old → tag_of old x ≡ Some tag → kept_of new ≡ with_line x line (kept_of old) → length new.tags.entries ≡ length old.tags.entries + cond (is_some (known_of old x)) 0 1 → slab_len new.by_tag + 1 ≡ slab_len old.by_tag → length new.tags.entries ≡ slab_len new.by_tag + length (kept_of new)
+all-kept old new x tag line agree named kept many one =
+    let more : length (kept_of new) ≡ length (kept_of old) + 1 = ap length kept ∙ length-with x line (kept_of old) (by-name-among old.tags.entries) (line-none old x tag named) in
+    let same : length new.tags.entries ≡ length old.tags.entries + 0 = many ∙ ap (λ b. length old.tags.entries + cond b 0 1) (known-some (known_of old x) tag named) in
+    omega (arith, more, same, one, agree.all)
+
+-- and forgotten
+pub all-forgotten : (old new : Labels) (x : List ℕ) (tag : ℕ) (was : Option Known) → AreLabels old → was ≡ known_of old x → tag_of old x ≡ Some tag → kept_of new ≡ kept_of old → length new.tags.entries + cond (is_some was) 1 0 ≡ length old.tags.entries → slab_len new.by_tag + 1 ≡ slab_len old.by_tag → length new.tags.entries ≡ slab_len new.by_tag + length (kept_of new)
+all-forgotten old new x tag was agree is named kept many one =
+    let same : length (kept_of new) ≡ length (kept_of old) = ap length kept in
+    let fewer : length new.tags.entries + 1 ≡ length old.tags.entries = ap (λ b. length new.tags.entries + cond b 1 0) (sym (ap is_some is ∙ known-some (known_of old x) tag named)) ∙ many in
+    omega (arith, same, fewer, one, agree.all)
+
+pub kept-forgotten : (old new : Labels) (x : List ℕ) (tag : ℕ) → tag_of old x ≡ Some tag → ((q : List ℕ) → known_of new q ≡ cond (bytes_eq x q) None (known_of old q)) → kept_of new ≡ kept_of old
+kept-forgotten old new x tag named same =
+    kept-other old.tags.entries new.tags.entries x None refl same
+    ∙ without-absent x (kept_of old) (by-name-among old.tags.entries) (line-none old x tag named)
+
 -- frees at one line, one after another
 pub frees-trans : (a b c : Labels) (line : ℕ) → FreesNames a b line → FreesNames b c line → FreesNames a c line
 frees-trans a b c line f g = λ x. both x (f x) (g x)
@@ -147,7 +184,7 @@ frees-trans a b c line f g = λ x. both x (f x) (g x)
     both x (inl p) (inl q) = inl (q ∙ p)
     both x (inl p) (inr q) = inr (subst (λ o. IsSome (tag_in o)) p q.0, q.1)
     both x (inr p) (inl q) = inr (p.0, q ∙ p.1)
-    both x (inr p) (inr q) = absurd (subst (λ o. IsSome (tag_in o)) p.1 q.0)
+    both x (inr p) (inr q) = absurd (false≢true (subst (λ o. IsSome (tag_in o)) p.1 q.0))
 
 pub frees-none : (a : Labels) (line : ℕ) → FreesNames a a line
 frees-none a line = λ x. inl refl

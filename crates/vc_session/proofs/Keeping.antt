@@ -50,7 +50,7 @@ pub by-name-among : (es : List (List ℕ × Known)) → IsByName (kept_among es)
 by-name-among [] = tt
 by-name-among (e ∷ es) = by-name-by e.0 e.1 (kept_among es) (by-name-among es)
 
-swapped : (x y : List ℕ) → bytes_eq x y ≡ bytes_eq y x
+pub swapped : (x y : List ℕ) → bytes_eq x y ≡ bytes_eq y x
 swapped x y =
     ⊎_elim
     (λ e. ap (λ z. bytes_eq x z) (sym (same_bytes x y e)) ∙ ap (λ z. bytes_eq z x) (same_bytes x y e))

@@ -220,7 +220,8 @@ impl Labels {
     fn put_at(&mut self, tag: u32, label: Label)
         requires first { 1 ≤ tag }
         requires used { IsSome (label_at self.old tag) }
-        ensures { MovesLabel self.old self.new tag label }
+        ensures moves { MovesLabel self.old self.new tag label }
+        ensures tags { self.new.tags ≡ self.old.tags }
     {
         let _ = self.by_tag.remove(tag as usize - 1);
         let _ = self.by_tag.insert_reserved(label);
