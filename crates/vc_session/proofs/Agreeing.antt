@@ -1,6 +1,8 @@
 -- The tags and the names of live blocks agree as a block is put, or taken out.
-use Rattle.std.proofs.Common.{◌≡◌, ◌≢◌, ℕ, ◌+◌, ◌-◌, ◌≤◌, ◌⊎◌, true, cond, is_some, length, List, Option, Some, None, Result, Ok, Err, IfOk, IsOk, OnErr, OnOk, refl, sym, ap, ◌∙◌, subst, inl, inr, arith}
-use Rattle.std.specs.Prelude.{IsSome}
+use Rattle.std.proofs.Common.{◌≡◌, ◌≢◌, ℕ, zero, suc, [], ◌∷◌, IfSome, IfNone, ◌+◌, ◌-◌, ◌≤◌, ◌⊎◌, true, cond, is_some, length, List, Option, Some, None, Result, Ok, Err, IfOk, IsOk, OnErr, OnOk, refl, sym, ap, ◌∙◌, subst, inl, inr, arith}
+use Rattle.std.specs.Prelude.{IsSome, count_by, slice_index_or}
+use Rattle.vc_base.specs.declared.addr.Addr.{Addr}
+use Rattle.vc_session.proofs.Lists.{count-cons}
 use Rattle.std.specs.HashMap as names
 use Rattle.std.specs.Str.{bytes_eq}
 use Rattle.std.proofs.lemmas.Bool.{cases_eq, cases_Bool, false_from_ne_true, false≢true}
@@ -12,7 +14,7 @@ use Rattle.vc_session.specs.declared.labels.Labels.{Labels}
 use Rattle.vc_session.specs.declared.labels.Known.{Known}
 use Rattle.vc_session.specs.declared.labels.Known.TheVariants.{Live, Freed}
 use Rattle.vc_session.specs.Kept.{line_of, with_line, without_name}
-use Rattle.vc_session.specs.Labels.{kept_among, kept_of, known_of, label_at, line_in, tag_in, tag_of, AreLabels, FreesNames, MovesLabel, SameLabels, WithoutLabel}
+use Rattle.vc_session.specs.Labels.{kept_among, kept_of, known_of, label_at, line_in, line_left, tag_in, tag_of, AreLabels, FreesNames, MovesLabel, SameLabels, WithoutLabel}
 use Rattle.vc_session.proofs.Keeping.{by-name-among, kept-other, length-with, length-without, line-among, without-absent}
 
 -- what holds on success, at a result that is one
@@ -123,18 +125,18 @@ agree-left old new tag label agree w all = record {
         | inr other ↦
             let before = agree.tagged x t (sym (w.other_names x (λ e. false≢true (sym other ∙ (bytes_eq-Decides label.name x).1 (sym e)))) ∙ found) in
             let differs : t ≢ tag = λ e.
-                let two : Some before.1.0 ≡ Some label = sym before.1.1 ∙ (ap (label_at old) e ∙ w.was_at) in
-                let is : before.1.0 ≡ label = cc in
-                false≢true (sym other ∙ (bytes_eq-Decides label.name x).1 (sym (ap (λ (l : Label). l.name) is) ∙ before.1.2)) in
+            let two : Some before.1.0 ≡ Some label = sym before.1.1 ∙ (ap (label_at old) e ∙ w.was_at) in
+            let is : before.1.0 ≡ label = cc in
+            false≢true (sym other ∙ (bytes_eq-Decides label.name x).1 (sym (ap (λ (l : Label). l.name) is) ∙ before.1.2)) in
             (before.0, (before.1.0, w.other_tags t before.0 differs ∙ before.1.1, before.1.2))
       ];
   named = λ t l first found.
       let differs : t ≢ tag = λ e. none-some l (sym (ap (label_at new) e ∙ w.gone) ∙ found) in
       let was : tag_of old l.name ≡ Some t = agree.named t l first (sym (w.other_tags t first differs) ∙ found) in
       w.other_names l.name (λ same.
-          let two : Some t ≡ Some tag = sym was ∙ (ap (tag_of old) same ∙ w.was_named) in
-          let is : t ≡ tag = cc in
-          differs is)
+      let two : Some t ≡ Some tag = sym was ∙ (ap (tag_of old) same ∙ w.was_named) in
+      let is : t ≡ tag = cc in
+      differs is)
       ∙ was;
   all = all;
 }
@@ -176,6 +178,13 @@ kept-forgotten old new x tag named same =
     kept-other old.tags.entries new.tags.entries x None refl same
     ∙ without-absent x (kept_of old) (by-name-among old.tags.entries) (line-none old x tag named)
 
+-- every other tag stays where the block of a name is taken out
+pub others-stay : (old new : Labels) (x : List ℕ) (tag : ℕ) → tag_of old x ≡ Some tag → (o : Option Addr) → IfSome o (λ at. (t : ℕ) × WithoutLabel old new t (record { name = x; at = at })) → IfNone o ((tag_of old x ≡ None) × SameLabels old new) → (other : ℕ) → 1 ≤ other → other ≢ tag → label_at new other ≡ label_at old other
+others-stay old new x tag named None some none other first differs = absurd (none-some tag (sym none.0 ∙ named))
+others-stay old new x tag named (Some a) some none other first differs =
+    let same : some.0 ≡ tag = same_Some some.0 tag (sym some.1.was_named ∙ named) in
+    some.1.other_tags other first (λ e. differs (e ∙ same))
+
 -- frees at one line, one after another
 pub frees-trans : (a b c : Labels) (line : ℕ) → FreesNames a b line → FreesNames b c line → FreesNames a c line
 frees-trans a b c line f g = λ x. both x (f x) (g x)
@@ -213,3 +222,38 @@ agree-moved old new tag label agree named m tags =
           ];
       all = ap (λ m. length m.entries) tags ∙ (agree.all ∙ (ap (λ n. n + length (kept_of old)) (sym m.count) ∙ ap (λ es. slab_len new.by_tag + length (kept_among es.entries)) (sym tags)));
     }
+
+count-none : (slots : List (Option Label)) → ((k : ℕ) → slice_index_or slots k None ≡ None) → count_by (λ (o : Option Label). is_some o) slots ≡ 0
+count-none [] none = refl
+count-none (o ∷ os) none =
+    count-cons (λ (p : Option Label). is_some p) o os
+    ∙ (ap (λ p. cond (is_some p) 1 0 + count_by (λ (q : Option Label). is_some q) os) (none 0)
+    ∙ ap (λ n. 0 + n) (count-none os (λ k. none (suc k))))
+
+-- without a tag in use there is no block
+pub no-labels : (labels : Labels) → ((tag : ℕ) → label_at labels tag ≡ None) → slab_len labels.by_tag ≡ 0
+no-labels labels none = count-none labels.by_tag.slots (λ k. let e : suc k - 1 ≡ k = omega arith in ap (λ n. slice_index_or labels.by_tag.slots n None) (sym e) ∙ none (suc k))
+
+pub no-names : (labels : Labels) → AreLabels labels → ((tag : ℕ) → label_at labels tag ≡ None) → (x : List ℕ) → tag_of labels x ≡ None
+no-names labels agree none x = by (tag_of labels x) refl
+  where
+    by : (o : Option ℕ) → tag_of labels x ≡ o → tag_of labels x ≡ None
+    by None e = e
+    by (Some tag) e = let l = (agree.tagged x tag e).1 in absurd (none-some l.0 (sym (none tag) ∙ l.1))
+
+-- past the last slot there is no block
+pub past-none : (slots : List (Option Label)) (k : ℕ) → length slots ≤ k → slice_index_or slots k None ≡ None
+past-none [] k past = refl
+past-none (o ∷ os) zero past = absurd (omega (arith, past))
+past-none (o ∷ os) (suc k) past = past-none os k (omega (arith, past))
+
+-- the line of each name once all blocks were freed
+pub lines-left : (old new : Labels) (line : ℕ) → ((x : List ℕ) → tag_of new x ≡ None) → FreesNames old new line → (x : List ℕ) → line_of x (kept_of new) ≡ line_left old true line x
+lines-left old new line none frees x = line-among x new.tags.entries ∙ by (frees x)
+  where
+    by : (known_of new x ≡ known_of old x) ⊎ (IsSome (tag_of old x) × (known_of new x ≡ Some (Freed line))) → line_in (known_of new x) ≡ line_left old true line x
+    by (inl same) =
+        ap line_in same
+        ∙ (sym (line-among x old.tags.entries)
+        ∙ sym (ap (λ o. cond (is_some o) (Some line) (line_of x (kept_of old))) (sym (ap tag_in same) ∙ none x)))
+    by (inr freed) = ap line_in freed.1 ∙ sym (ap (λ b. cond b (Some line) (line_of x (kept_of old))) freed.0)

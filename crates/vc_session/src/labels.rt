@@ -264,7 +264,8 @@ impl Labels {
         ensures no_tags { (tag : ℕ) → label_at self.new tag ≡ None }
         ensures frees { FreesNames self.old self.new line }
     {
-        for key in 0..self.by_tag.capacity() {
+        let end = self.by_tag.capacity();
+        for key in 0..end {
             self.keep_at(key, line);
         }
     }
