@@ -15,7 +15,7 @@ use Rattle.vc_session.specs.declared.labels.Known.{Known}
 use Rattle.vc_session.specs.declared.labels.Known.TheVariants.{Live, Freed}
 use Rattle.vc_session.specs.Kept.{line_of, with_line, without_name}
 use Rattle.vc_session.specs.Labels.{kept_among, kept_of, known_of, label_at, line_in, line_left, tag_in, tag_of, AreLabels, FreesNames, MovesLabel, SameLabels, WithoutLabel}
-use Rattle.vc_session.proofs.Keeping.{by-name-among, kept-other, length-with, length-without, line-among, without-absent}
+use Rattle.vc_session.proofs.Keeping.{by-name-among, kept-alike, kept-other, length-with, length-without, line-among, without-absent}
 
 -- what holds on success, at a result that is one
 pub from_ok : {T E P : Type 0} (r : Result T E) → IsOk r → OnOk r P → P
@@ -86,6 +86,15 @@ agree-same old new same many agree = record {
       (was.0, (was.1.0, same.by_tag t ∙ was.1.1, was.1.2));
   named = λ t l first found. same.by_name l.name ∙ agree.named t l first (sym (same.by_tag t) ∙ found);
   all = many ∙ (agree.all ∙ (ap (λ s. s + length (kept_of old)) (sym same.count) ∙ ap (λ k. slab_len new.by_tag + length k) (sym same.kept)));
+}
+
+-- more room changes nothing
+pub same-reserved : (old new : Labels) → new.by_tag.slots ≡ old.by_tag.slots → ((x : List ℕ) → known_of new x ≡ known_of old x) → SameLabels old new
+same-reserved old new slots known = record {
+  by_tag = λ tag. ap (λ s. slice_index_or s (tag - 1) None) slots;
+  by_name = λ x. ap tag_in (known x);
+  kept = kept-alike old.tags.entries new.tags.entries known;
+  count = ap (λ s. count_by (λ (o : Option Label). is_some o) s) slots;
 }
 
 -- the block of a name is taken out, with what is known of the name then
