@@ -155,7 +155,7 @@ pub both-same : {A B : Type 0} (a a' : A) (b b' : B) → a ≡ a' → b ≡ b' �
 both-same a a' b b' p q = λ i. (p i, q i)
 
 -- a refusal, where no block has the name, is of no segment
-pub none-no_segment : {E : Type 0} (refusal : Refusal) → (refusal ≡ why.NoSegment → ⊥) → Ok {E = E} (reply.Refused refusal) ≡ Ok (reply.Refused why.NoSegment) → ⊥
+pub none-no_segment : {E : Type 0} (refusal : Refusal) → (refusal ≡ why.NoSegment → ⊥) → (let told : Result Reply E = Ok (reply.Refused refusal) in told) ≡ Ok (reply.Refused why.NoSegment) → ⊥
 none-no_segment refusal other e = other (ap (λ r. refusal_in (get_ok (reply.Refused refusal) r)) e)
   where
     refusal_in : Reply → Refusal

@@ -14,9 +14,6 @@ use Rattle.vc_session.proofs.home.HomeEntry.clear.Goals as goal
 abbrev meaning : (g : given.Over) → (x : g.dyn-1.0.I) × (g.dyn-1.0.entry x).0.Denot → Discipline
 meaning g p = (g.dyn-1.0.entry p.0).1.state p.1
 
-pub clear-requires : goal.clear-requires
-clear-requires g c = c.requires.names.agree
-
 pub returns-clause-step : goal.returns-clause-step
 returns-clause-step g c = λ r.
     let h = held_of (meaning g) r c.args.self.now c.args.labels.now in

@@ -30,8 +30,8 @@ returns-in_default-clause-step g c = λ r.
 pub returns-in_default-clause-granted : goal.returns-in_default-clause-granted
 returns-in_default-clause-granted g c = λ e. none-no_segment c.no_block.result c.no_block.ensures.granted e
 
-pub watch_line-requires : goal.watch_line-requires
-watch_line-requires g c =
+pub watch_line-watch-requires : goal.watch_line-watch-requires
+watch_line-watch-requires g c =
     let label : Label = record { name = c.args.name.now; at = c.in-Some.at } in
     let f = c.in-Some.ensures.some in
     (the_block (region_of c.args.self.now.region) c.args.labels.now c.args.name.now f.0 label c.requires.names refl f.1 f.2).there
@@ -51,10 +51,10 @@ returns-in-Ok-clause-step g c = λ r.
     let i = index (place_of label.at.0) b.block (blocks_of h.region) b.found in
     let left : blocks_of (region_of c.free.new.self) ≡ without_block (place_of label.at.0) (blocks_of h.region) =
     c.in-Ok.ensures.freed i.at i.within (λ d. ap address_of (i.is d) ∙ b.address) ∙ i.gone in
-    let w = removed-label h.labels c.free-2.new.self c.args.name.now f.0 label f.1 f.2 c.free-2.result c.free-2.ensures.some c.free-2.ensures.none in
-    let keeps = kept-after h c.args.name.now c.args.line f.0 label c.requires.names refl f.1 f.2 c.free-2.new.self c.keeps_freed.result c.keeps_freed.ensures
-    (removed-so h.labels c.free-2.new.self c.args.name.now f.0 _ f.1 c.free-2.result c.free-2.ensures.kept c.free-2.ensures.none) in
-    gives-freed h c.args.name.now c.args.line f.0 label c.requires.names refl f.1 f.2 c.free-2.new.self w (region_of c.free.new.self) c.in-Ok.ensures.answer left keeps c.watch_line.result c.watch_line.ensures
+    let w = removed-label h.labels c.free-in-Ok.new.self c.args.name.now f.0 label f.1 f.2 c.free-in-Ok.result c.free-in-Ok.ensures.some c.free-in-Ok.ensures.none in
+    let keeps = kept-after h c.args.name.now c.args.line f.0 label c.requires.names refl f.1 f.2 c.free-in-Ok.new.self c.keeps_freed-keeps.result c.keeps_freed-keeps.ensures
+    (removed-so h.labels c.free-in-Ok.new.self c.args.name.now f.0 _ f.1 c.free-in-Ok.result c.free-in-Ok.ensures.kept c.free-in-Ok.ensures.none) in
+    gives-freed h c.args.name.now c.args.line f.0 label c.requires.names refl f.1 f.2 c.free-in-Ok.new.self w (region_of c.free.new.self) c.in-Ok.ensures.answer left keeps c.watch_line-watch.result c.watch_line-watch.ensures
 
 pub returns-in-Ok-clause-change : goal.returns-in-Ok-clause-change
 returns-in-Ok-clause-change g c = λ r.
@@ -67,10 +67,10 @@ returns-in-Ok-clause-change g c = λ r.
     let disc = disc_in (meaning g) c.free.new.self in
     let left : blocks_of new ≡ without_block (place_of label.at.0) (blocks_of h.region) =
     c.in-Ok.ensures.freed i.at i.within (λ d. ap address_of (i.is d) ∙ b.address) ∙ i.gone in
-    let w = removed-label h.labels c.free-2.new.self c.args.name.now f.0 label f.1 f.2 c.free-2.result c.free-2.ensures.some c.free-2.ensures.none in
-    let keeps = kept-after h c.args.name.now c.args.line f.0 label c.requires.names refl f.1 f.2 c.free-2.new.self c.keeps_freed.result c.keeps_freed.ensures
-    (removed-so h.labels c.free-2.new.self c.args.name.now f.0 _ f.1 c.free-2.result c.free-2.ensures.kept c.free-2.ensures.none) in
+    let w = removed-label h.labels c.free-in-Ok.new.self c.args.name.now f.0 label f.1 f.2 c.free-in-Ok.result c.free-in-Ok.ensures.some c.free-in-Ok.ensures.none in
+    let keeps = kept-after h c.args.name.now c.args.line f.0 label c.requires.names refl f.1 f.2 c.free-in-Ok.new.self c.keeps_freed-keeps.result c.keeps_freed-keeps.ensures
+    (removed-so h.labels c.free-in-Ok.new.self c.args.name.now f.0 _ f.1 c.free-in-Ok.result c.free-in-Ok.ensures.kept c.free-in-Ok.ensures.none) in
     let segments : segments_of new ≡ segments_of h.region = free-segments h.region new (place_of label.at.0) c.in-Ok.ensures.answer in
-    changed-by h disc new c.free-2.new.self c.requires.lent (kept-same h.disc disc c.free.ensures.disc) (out-same h.disc disc (segments_of h.region) (segments_of new) c.free.ensures.disc segments)
-    (named-left h.labels h.region c.requires.names c.args.name.now f.0 label f.2 b c.free-2.new.self w refl new left c.free-2.ensures.agree (own_places c.free.new.self)
-    (none-after h c.args.name.now c.args.line f.0 label c.requires.names refl f.1 f.2 c.free-2.new.self keeps new c.in-Ok.ensures.answer))
+    changed-by h disc new c.free-in-Ok.new.self c.requires.lent (kept-same h.disc disc c.free.ensures.disc) (out-same h.disc disc (segments_of h.region) (segments_of new) c.free.ensures.disc segments)
+    (named-left h.labels h.region c.requires.names c.args.name.now f.0 label f.2 b c.free-in-Ok.new.self w refl new left c.free-in-Ok.ensures.agree (own_places c.free.new.self)
+    (none-after h c.args.name.now c.args.line f.0 label c.requires.names refl f.1 f.2 c.free-in-Ok.new.self keeps new c.in-Ok.ensures.answer))

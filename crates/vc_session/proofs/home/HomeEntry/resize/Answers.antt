@@ -6,6 +6,9 @@ use Rattle.vc_region.proofs.Sound.{own_places}
 use Rattle.vc_script.specs.declared.refusal.Refusal.TheVariants as why
 use Rattle.vc_session.specs.Account.{IsNamed, home_of}
 use Rattle.vc_session.specs.Blocks.{is_size, resize_block, resize_in}
+use Rattle.vc_script.specs.Needs.{need_shown}
+use Rattle.vc_script.specs.declared.reply.Reply.TheVariants.{Refused}
+use Rattle.vc_session.specs.Step.{is_for_block}
 use Rattle.vc_session.specs.Homes.{held_of}
 use Rattle.vc_session.specs.Labels.{MovesLabel, kept_of, name_of}
 use Rattle.vc_session.specs.State.{unchanged}
@@ -22,8 +25,9 @@ meaning g p = (g.dyn-1.0.entry p.0).1.state p.1
 pub returns-in_default-clause-step : goal.returns-in_default-clause-step
 returns-in_default-clause-step g c = λ r.
     let h = held_of (meaning g) r c.args.self.now c.args.labels.now in
-    gives-unchanged (home_of h) (resize_in (home_of h) c.args.name.now c.args.size c.args.may_move false) c.no_block.result
-    (on_block-none h c.args.name.now (resize_block (home_of h) c.args.name.now c.args.size c.args.may_move false) c.requires.names c.in_default.ensures.none ∙ ap (unchanged (home_of h)) (sym c.no_block.ensures.value))
+    let u = is_for_block (need_shown (Refused c.no_block.result)) in
+    gives-unchanged (home_of h) (resize_in (home_of h) c.args.name.now c.args.size c.args.may_move u) c.no_block.result
+    (on_block-none h c.args.name.now (resize_block (home_of h) c.args.name.now c.args.size c.args.may_move u) c.requires.names c.in_default.ensures.none ∙ ap (unchanged (home_of h)) (sym c.no_block.ensures.value))
 
 pub returns-then-not-is_size-clause-step : goal.returns-then-not-is_size-clause-step
 returns-then-not-is_size-clause-step g c = λ r.
@@ -36,8 +40,8 @@ returns-then-not-is_size-clause-step g c = λ r.
 pub returns-in_default-clause-unserved : goal.returns-in_default-clause-unserved
 returns-in_default-clause-unserved g c = λ e. absurd (none-no_segment c.no_block.result c.no_block.ensures.granted e)
 
-pub watch_line-requires : goal.watch_line-requires
-watch_line-requires g c =
+pub watch_line-watch-requires : goal.watch_line-watch-requires
+watch_line-watch-requires g c =
     let label : Label = record { name = c.args.name.now; at = c.in-Some.at } in
     let f = c.in-Some.ensures.some in
     (the_block (region_of c.args.self.now.region) c.args.labels.now c.args.name.now f.0 label c.requires.names refl f.1 f.2).there
@@ -55,8 +59,8 @@ returns-in-Ok-clause-step g c = λ r.
     let to : Label = record { name = c.args.name.now; at = c.in-Ok.to } in
     let f = c.in-Some.ensures.some in
     let moved = subst (λ o. IfSome o (λ t. MovesLabel h.labels c.move_to.new.self t to)) f.1 c.move_to.ensures.moved in
-    gives-place (resize_in (home_of h) c.args.name.now c.args.size c.args.may_move false) (relabelled (name_of c.move_to.new.self) (region_of c.resize.new.self), kept_of c.move_to.new.self) c.args.name.now c.in-Ok.to.0 c.place_of.result c.watch_line.result c.place_of.ensures.seg c.place_of.ensures.off
-    (gives-resized h c.args.name.now f.0 label c.requires.names refl f.1 f.2 c.args.size c.args.may_move (sym c.if-not-is_size.ensures) c.move_to.new.self to moved refl c.move_to.ensures.kept (region_of c.resize.new.self) c.in-Ok.ensures.answer c.watch_line.result c.watch_line.ensures)
+    gives-place (resize_in (home_of h) c.args.name.now c.args.size c.args.may_move false) (relabelled (name_of c.move_to.new.self) (region_of c.resize.new.self), kept_of c.move_to.new.self) c.args.name.now c.in-Ok.to.0 c.place_of.result c.watch_line-watch.result c.place_of.ensures.seg c.place_of.ensures.off
+    (gives-resized h c.args.name.now f.0 label c.requires.names refl f.1 f.2 c.args.size c.args.may_move (sym c.if-not-is_size.ensures) c.move_to.new.self to moved refl c.move_to.ensures.kept (region_of c.resize.new.self) c.in-Ok.ensures.answer c.watch_line-watch.result c.watch_line-watch.ensures)
 
 pub returns-in-Ok-clause-change : goal.returns-in-Ok-clause-change
 returns-in-Ok-clause-change g c = λ r.

@@ -27,8 +27,8 @@ size-requires g c =
     let f = c.in-Some.ensures.some in
     (the_block (region_of c.args.self.now.region) c.args.labels.now c.args.name.now f.0 label c.requires.names refl f.1 f.2).there
 
-pub watch_line-requires : goal.watch_line-requires
-watch_line-requires g c =
+pub watch_line-watch-requires : goal.watch_line-watch-requires
+watch_line-watch-requires g c =
     let label : Label = record { name = c.args.name.now; at = c.in-Some.at } in
     let f = c.in-Some.ensures.some in
     (the_block (region_of c.args.self.now.region) c.args.labels.now c.args.name.now f.0 label c.requires.names refl f.1 f.2).there
@@ -64,7 +64,7 @@ returns-else-off-bytes-clause-step g c = λ r.
     let last = c.args.off + length c.args.bytes.now in
     let size = size-told h c.args.name.now f.0 label c.requires.names refl f.1 f.2 c.size.result c.size.ensures in
     gives-written h c.args.name.now f.0 label c.requires.names refl f.1 f.2 c.args.off c.args.bytes.now (region_of c.write.new.self)
-    (ap (nat_le last) size ∙ le-within last c.size.result (omega arith)) c.write.ensures.region c.watch_line.result c.watch_line.ensures
+    (ap (nat_le last) size ∙ le-within last c.size.result (omega arith)) c.write.ensures.region c.watch_line-watch.result c.watch_line-watch.ensures
 
 pub returns-else-off-bytes-clause-change : goal.returns-else-off-bytes-clause-change
 returns-else-off-bytes-clause-change g c = λ r.
