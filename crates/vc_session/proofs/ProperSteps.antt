@@ -4,7 +4,7 @@ use Rattle.std.specs.Ordering.{eq_by_cmp}
 use Rattle.std.specs.declared.cmp.Ordering.{Ordering}
 use Rattle.std.specs.declared.cmp.Ordering.TheVariants.{Less, Equal, Greater}
 use Rattle.std.specs.FinMap.Entries.{by_order}
-use Rattle.std.specs.Prelude.{not, IfSome, find, nat_le, nat_lt}
+use Rattle.std.specs.Prelude.{not, IfSome, find, nat_le}
 use Rattle.std.specs.List.{AllByRecursion, list_any}
 use Rattle.vc_model.specs.Discipline.{Terms}
 use Rattle.vc_model.specs.Layout.{Block, relabel_block}

@@ -1,8 +1,6 @@
 use Rattle.std.proofs.Common.{sym, ap}
 use Rattle.vc_region.proofs.Sound.{own_places}
-use Rattle.vc_region.specs.Region.{relabelled}
 use Rattle.vc_region.specs.Parts.{region_of}
-use Rattle.vc_session.specs.Labels.{name_of}
 use Rattle.vc_session.specs.State.{told}
 use Rattle.vc_session.proofs.Listing.{addr-none, addr-some}
 use Rattle.vc_model.specs.Discipline.{Discipline}

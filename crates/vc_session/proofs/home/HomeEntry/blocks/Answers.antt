@@ -2,10 +2,8 @@ use Rattle.std.proofs.Common.{◌≡◌, ◌++◌, [], ◌∷◌, length, inr, s
 use Rattle.vc_model.specs.Layout.{address_of}
 use Rattle.vc_model.specs.Walk.{by_address, next_block}
 use Rattle.vc_region.proofs.Sound.{own_places}
-use Rattle.vc_region.specs.Region.{relabelled}
 use Rattle.vc_region.specs.Parts.{blocks_in, region_of}
 use Rattle.vc_script.specs.declared.reply.Reply.TheVariants.{BlockList}
-use Rattle.vc_session.specs.Labels.{name_of}
 use Rattle.vc_session.specs.State.{told}
 use Rattle.vc_session.proofs.Listing.{blocks-all, blocks-end, blocks-next, blocks_above, from_none, from_some, items_of, list-items, next-told}
 use Rattle.vc_model.specs.Discipline.{Discipline}

@@ -1,7 +1,6 @@
 use Rattle.std.proofs.Common.{sym, ap, ◌∙◌}
 use Rattle.vc_region.proofs.Relabel.{segments-relabelled}
 use Rattle.vc_model.specs.Walk.{segment_at}
-use Rattle.vc_region.specs.Region.{relabelled}
 use Rattle.vc_region.specs.Parts.{region_of}
 use Rattle.vc_session.specs.Labels.{name_of}
 use Rattle.vc_session.specs.State.{told}

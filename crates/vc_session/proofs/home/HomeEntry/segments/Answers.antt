@@ -2,7 +2,6 @@ use Rattle.std.proofs.Common.{◌≡◌, ◌++◌, [], ◌∷◌, length, sym, a
 use Rattle.vc_region.proofs.Relabel.{segments-relabelled}
 use Rattle.vc_model.specs.Walk.{by_number}
 use Rattle.vc_region.proofs.Sound.{own_numbers}
-use Rattle.vc_region.specs.Region.{relabelled}
 use Rattle.vc_region.specs.Parts.{region_of, segments_in}
 use Rattle.vc_script.specs.declared.reply.Reply.TheVariants.{SegmentList}
 use Rattle.vc_session.specs.Labels.{name_of}
