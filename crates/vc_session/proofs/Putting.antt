@@ -1,5 +1,5 @@
 -- What allocating a block under a name answers, and how it changes the region.
-use Rattle.std.proofs.Common.{◌≡◌, ◌≢◌, ℕ, ◌≤◌, Bool, true, false, cond, is_some, List, [], ◌∷◌, Option, Some, None, Result, Ok, Err, IfOk, OnErr, refl, sym, ap, ◌∙◌, subst, arith}
+use Rattle.std.proofs.Common.{◌≡◌, ◌≢◌, ℕ, ◌+◌, ◌≤◌, ◌||◌, length, Bool, true, false, cond, is_some, List, [], ◌∷◌, Option, Some, None, Result, Ok, Err, IfOk, OnErr, refl, sym, ap, ◌∙◌, subst, arith}
 use Rattle.std.specs.Prelude.{nat_lt, ◌==◌}
 use Rattle.std.specs.List.{AllByRecursion}
 use Rattle.std.proofs.lemmas.Bool.{eq-eqb}
@@ -11,11 +11,10 @@ use Rattle.vc_model.specs.Best.{zeros}
 use Rattle.vc_model.specs.Discipline.{Discipline, HasOut, Unserved}
 use Rattle.vc_model.specs.Layout.{Block, without_block}
 use Rattle.vc_model.specs.Outcome.{Outcome, Done, Put, Refused, outcome_as}
-use Rattle.vc_region.specs.Region.{Region, blocks_of, region_align, region_alloc, relabelled, segments_of}
+use Rattle.vc_region.specs.Region.{Region, blocks_of, keeps_freed, region_align, region_alloc, relabelled, segments_of}
 use Rattle.vc_model.specs.Sound.{HaveOwnPlaces}
 use Rattle.vc_model.specs.Touch.{find_block}
 use Rattle.vc_region.proofs.Relabel.{align-relabelled, alloc-relabelled, relabelled-alike}
-use Rattle.slab.specs.Slab.{slab_len}
 use Rattle.vc_seg.specs.Answer.{Answers, Asks, IsPut}
 use Rattle.vc_seg.specs.declared.fault.RegionFault.{RegionFault}
 use Rattle.vc_script.specs.Needs.{need_shown}
@@ -26,21 +25,22 @@ use Rattle.vc_script.specs.declared.reply.Reply.TheVariants as reply
 use Rattle.vc_session.specs.State as state
 use Rattle.vc_session.specs.State.{Changed, Home, unchanged}
 use Rattle.vc_session.specs.Account.{Held, IsChange, IsLive, IsNamed, home_of}
-use Rattle.vc_session.specs.Blocks.{at_place, has_label, label_count, label_limit, put_in, put_new}
-use Rattle.vc_session.specs.Labels.{AreLabels, SameLabels, WithLabel, label_at, name_of, tag_of}
+use Rattle.vc_session.specs.Blocks.{at_place, has_label, has_room, label_count, label_limit, put_in, put_new}
+use Rattle.vc_session.specs.Kept.{Kept, line_of, without_name}
+use Rattle.vc_session.specs.Labels.{AreLabels, SameLabels, WithLabel, kept_of, label_at, name_of, tag_of}
 use Rattle.vc_session.specs.Naming.{NamesPut, new_refused}
 use Rattle.vc_session.specs.Step.{Gives, is_for_block}
 use Rattle.vc_session.specs.declared.labels.Label.{Label}
 use Rattle.vc_session.specs.declared.labels.Labels.{Labels}
-use Rattle.vc_session.proofs.Answers.{IsAn, NotNoSegment, Told, asks-kept, asks-out, asks-unserved, changed-by, fault-no_segment, fault-told, get_ok}
+use Rattle.vc_session.proofs.Answers.{IsAn, NotNoSegment, Told, asks-kept, asks-out, asks-unserved, both-same, changed-by, fault-no_segment, fault-told, get_ok}
 use Rattle.vc_session.proofs.Moving.{name-new, named-put, region-more}
 use Rattle.vc_session.proofs.Names.{isnamed-same, label-count, relabelled-same}
 
 abbrev pub put_unless : Home → List ℕ → Option Refusal → Outcome (Put (Region state.Label)) → Changed
 put_unless h x (Some why) outcome = unchanged h why
-put_unless h x None outcome = put_in h x outcome
+put_unless h x None outcome = put_in h x (without_name x h.kept) None outcome
 
-unless : (h : Home) (x : List ℕ) (outcome : Outcome (Put (Region state.Label))) (named legal few : Bool) → cond named (unchanged h why.BlockExists) (cond legal (cond few (put_in h x outcome) (unchanged h why.TooManyBlocks)) (unchanged h why.Size)) ≡ put_unless h x (cond named (Some why.BlockExists) (cond legal (cond few None (Some why.TooManyBlocks)) (Some why.Size))) outcome
+unless : (h : Home) (x : List ℕ) (outcome : Outcome (Put (Region state.Label))) (named legal few : Bool) → cond named (unchanged h why.BlockExists) (cond legal (cond few (put_in h x (without_name x h.kept) None outcome) (unchanged h why.TooManyBlocks)) (unchanged h why.Size)) ≡ put_unless h x (cond named (Some why.BlockExists) (cond legal (cond few None (Some why.TooManyBlocks)) (Some why.Size))) outcome
 unless h x outcome true legal few = refl
 unless h x outcome false false few = refl
 unless h x outcome false true true = refl
@@ -50,14 +50,17 @@ unless h x outcome false true false = refl
 pub put_new-by : (h : Held) (x : List ℕ) (legal : Bool) (outcome : Outcome (Put (Region state.Label))) → IsNamed h.region h.labels → put_new (home_of h) x legal outcome ≡ put_unless (home_of h) x (new_refused h.labels x legal) outcome
 put_new-by h x legal outcome names =
     let k = home_of h in
-    unless k x outcome (has_label x k.region) legal (nat_lt (label_count k.region) label_limit)
-    ∙ (ap (λ b. put_unless k x (cond b (Some why.BlockExists) (cond legal (cond (nat_lt (label_count k.region) label_limit) None (Some why.TooManyBlocks)) (Some why.Size))) outcome) (sym (names.known x))
-    ∙ ap (λ n. put_unless k x (cond (is_some (tag_of h.labels x)) (Some why.BlockExists) (cond legal (cond (nat_lt n label_limit) None (Some why.TooManyBlocks)) (Some why.Size))) outcome) (label-count h.region h.labels names ∙ names.count))
+    let kept = is_some (line_of x (kept_of h.labels)) in
+    let many : label_count k.region + length (kept_of h.labels) ≡ length h.labels.tags.entries =
+    ap (λ n. n + length (kept_of h.labels)) (label-count h.region h.labels names ∙ names.count) ∙ sym names.agree.all in
+    unless k x outcome (has_label x k.region) legal (has_room k x)
+    ∙ (ap (λ b. put_unless k x (cond b (Some why.BlockExists) (cond legal (cond (has_room k x) None (Some why.TooManyBlocks)) (Some why.Size))) outcome) (sym (names.known x))
+    ∙ ap (λ n. put_unless k x (cond (is_some (tag_of h.labels x)) (Some why.BlockExists) (cond legal (cond (kept || nat_lt n label_limit) None (Some why.TooManyBlocks)) (Some why.Size))) outcome) many)
 
 pub put_new-refused : (h : Held) (x : List ℕ) (legal : Bool) (outcome : Outcome (Put (Region state.Label))) (refusal : Refusal) → IsNamed h.region h.labels → new_refused h.labels x legal ≡ Some refusal → put_new (home_of h) x legal outcome ≡ unchanged (home_of h) refusal
 put_new-refused h x legal outcome refusal names is = put_new-by h x legal outcome names ∙ ap (λ o. put_unless (home_of h) x o outcome) is
 
-pub put_new-none : (h : Held) (x : List ℕ) (legal : Bool) (outcome : Outcome (Put (Region state.Label))) → IsNamed h.region h.labels → new_refused h.labels x legal ≡ None → put_new (home_of h) x legal outcome ≡ put_in (home_of h) x outcome
+pub put_new-none : (h : Held) (x : List ℕ) (legal : Bool) (outcome : Outcome (Put (Region state.Label))) → IsNamed h.region h.labels → new_refused h.labels x legal ≡ None → put_new (home_of h) x legal outcome ≡ put_in (home_of h) x (without_name x (kept_of h.labels)) None outcome
 put_new-none h x legal outcome names is = put_new-by h x legal outcome names ∙ ap (λ o. put_unless (home_of h) x o outcome) is
 
 unless-new : (named legal few : Bool) → cond named (Some why.BlockExists) (cond legal (cond few None (Some why.TooManyBlocks)) (Some why.Size)) ≡ None → named ≡ false
@@ -70,11 +73,11 @@ none-of-some (Some x) e = absurd cc
 
 -- a block that isn't refused has a new name
 pub new-name : (labels : Labels) (x : List ℕ) (legal : Bool) → new_refused labels x legal ≡ None → tag_of labels x ≡ None
-new-name labels x legal is = none-of-some (tag_of labels x) (unless-new (is_some (tag_of labels x)) legal (nat_lt (slab_len labels.by_tag) label_limit) is)
+new-name labels x legal is = none-of-some (tag_of labels x) (unless-new (is_some (tag_of labels x)) legal (is_some (line_of x (kept_of labels)) || nat_lt (length labels.tags.entries) label_limit) is)
 
-pub gives-put : (h : Home) (x : List ℕ) (f : ℕ → state.Label) (o : Outcome (Put (Region ℕ))) (a : ℕ) (r' : Region ℕ) → IsPut o a r' → Gives (put_in h x (outcome_as (relabelled f) o)) (relabelled f r') (at_place x (place_of a))
-gives-put h x f (Done p) a r' is = record { region_after = ap (relabelled f) (sym is.2); replied = ap (at_place x) is.1 }
-gives-put h x f (Refused why) a r' is = absurd is
+pub gives-put : (h : Home) (x : List ℕ) (kept : Kept) (watch : Option ℕ) (f : ℕ → state.Label) (o : Outcome (Put (Region ℕ))) (a : ℕ) (r' : Region ℕ) → IsPut o a r' → Gives (put_in h x kept watch (outcome_as (relabelled f) o)) (relabelled f r', kept) (at_place x (place_of a) watch)
+gives-put h x kept watch f (Done p) a r' is = record { region_after = ap (relabelled f) (sym is.2); kept_after = refl; replied = ap (λ q. at_place x q watch) is.1 }
+gives-put h x kept watch f (Refused why) a r' is = absurd is
 
 pub put-address : (o : Outcome (Put (Region ℕ))) (a : ℕ) (r' : Region ℕ) → IsPut o a r' → a ≡ address (place_of a)
 put-address (Done p) a r' is = is.0 ∙ ap address is.1
@@ -85,7 +88,7 @@ abbrev name_with : Labels → ℕ → List ℕ → ℕ → state.Label
 name_with labels tag x t = cond (t == tag) (Some x) (name_of labels t)
 
 -- the labels with room for one more, and the region and the labels after the call, which is that of the tags and that of the names
-module _ (h : Held) (x : List ℕ) (legal : Bool) (names : IsNamed h.region h.labels) (allowed : new_refused h.labels x legal ≡ None) (mid : Labels) (same : SameLabels h.labels mid) (mid_agree : AreLabels mid) (tag : ℕ) (first : 1 ≤ tag) (vacant : label_at mid tag ≡ None) (call : Bool → Outcome (Put (Region ℕ))) (called : Bool → Outcome (Put (Region state.Label))) (commutes : (f : ℕ → state.Label) → f tag ≡ Some x → relabelled f h.region ≡ (home_of h).region → (refused : Bool) → called refused ≡ outcome_as (relabelled f) (call refused)) (region : Region ℕ) (new : Labels) where
+module _ (h : Held) (x : List ℕ) (legal : Bool) (names : IsNamed h.region h.labels) (allowed : new_refused h.labels x legal ≡ None) (mid : Labels) (same : SameLabels h.labels mid) (mid_agree : AreLabels mid) (tag : ℕ) (first : 1 ≤ tag) (vacant : label_at mid tag ≡ None) (call : Bool → Outcome (Put (Region ℕ))) (called : Bool → Outcome (Put (Region state.Label))) (commutes : (f : ℕ → state.Label) → f tag ≡ Some x → relabelled f h.region ≡ (home_of h).region → (refused : Bool) → called refused ≡ outcome_as (relabelled f) (call refused)) (stays : (a : ℕ) (r' : Region ℕ) → IsPut (call false) a r' → keeps_freed r' ≡ keeps_freed h.region) (region : Region ℕ) (new : Labels) where
   mid-names : IsNamed h.region mid
   mid-names = isnamed-same h.region h.labels mid same mid_agree names
 
@@ -118,43 +121,49 @@ module _ (h : Held) (x : List ℕ) (legal : Bool) (names : IsNamed h.region h.la
       ap (λ l. relabelled (name_of l) region) labels_same
       ∙ (ap (relabelled (name_of mid)) region_same ∙ relabelled-same h.labels mid h.region same)
 
-  gives-new : (a : Addr) → WithLabel mid new tag (record { name = x; at = a }) → IsPut (call false) a.0 region → Gives (put_new (home_of h) x legal (called false)) (relabelled (name_of new) region) (at_place x (place_of a.0))
-  gives-new a w is =
+  taken : kept_of new ≡ without_name x (kept_of mid) → kept_of new ≡ without_name x (kept_of h.labels)
+  taken e = e ∙ ap (without_name x) same.kept
+
+  gives-new : (a : Addr) → WithLabel mid new tag (record { name = x; at = a }) → kept_of new ≡ without_name x (kept_of mid) → IsPut (call false) a.0 region → Gives (put_new (home_of h) x legal (called false)) (relabelled (name_of new) region, kept_of new) (at_place x (place_of a.0) None)
+  gives-new a w keeps is =
       let k = home_of h in
       let label : Label = record { name = x; at = a } in
       let f = name_of new in
       let old : relabelled f h.region ≡ k.region = region-more mid new tag label w vacant h.region mid-names ∙ relabelled-same h.labels mid h.region same in
-      let eq : put_new k x legal (called false) ≡ put_in k x (outcome_as (relabelled f) (call false)) =
-      put_new-none h x legal (called false) names allowed ∙ ap (put_in k x) (commutes f (name-new mid new tag label w vacant) old false) in
-      subst (λ c. Gives c (relabelled f region) (at_place x (place_of a.0))) (sym eq) (gives-put k x f (call false) a.0 region is)
+      let kept = without_name x (kept_of h.labels) in
+      let eq : put_new k x legal (called false) ≡ put_in k x kept None (outcome_as (relabelled f) (call false)) =
+      put_new-none h x legal (called false) names allowed ∙ ap (put_in k x kept None) (commutes f (name-new mid new tag label w vacant) old false) in
+      subst (λ c. Gives c (relabelled f region, kept_of new) (at_place x (place_of a.0) None)) (sym eq)
+      (subst (λ q. Gives (put_in k x kept None (outcome_as (relabelled f) (call false))) (relabelled f region, q) (at_place x (place_of a.0) None)) (sym (taken keeps))
+      (gives-put k x kept None f (call false) a.0 region is))
 
-  gives-refused : (told : Reply) → Told call told → new ≡ mid → region ≡ h.region → Gives (put_new (home_of h) x legal (called (is_for_block (need_shown told)))) (relabelled (name_of new) region) told
+  gives-refused : (told : Reply) → Told call told → new ≡ mid → region ≡ h.region → Gives (put_new (home_of h) x legal (called (is_for_block (need_shown told)))) (relabelled (name_of new) region, kept_of new) told
   gives-refused told t labels_same region_same =
       let k = home_of h in
       let u = is_for_block (need_shown told) in
       let f = name_with mid tag x in
-      let eq : put_new k x legal (called u) ≡ put_in k x (outcome_as (relabelled f) (Refused t.fault)) =
-      put_new-none h x legal (called u) names allowed ∙ ap (put_in k x) (commutes f with-new with-old u ∙ ap (outcome_as (relabelled f)) t.refused) in
-      subst (λ c. Gives c (relabelled (name_of new) region) told) (sym eq) (record { region_after = sym (back labels_same region_same); replied = t.is })
+      let eq : put_new k x legal (called u) ≡ put_in k x (without_name x (kept_of h.labels)) None (outcome_as (relabelled f) (Refused t.fault)) =
+      put_new-none h x legal (called u) names allowed ∙ ap (put_in k x (without_name x (kept_of h.labels)) None) (commutes f with-new with-old u ∙ ap (outcome_as (relabelled f)) t.refused) in
+      subst (λ c. Gives c (relabelled (name_of new) region, kept_of new) told) (sym eq) (record { region_after = sym (back labels_same region_same); kept_after = sym (ap kept_of labels_same ∙ same.kept); replied = t.is })
 
   -- the reply is that of the definitions
-  pub step-put : {E : Type 0} (put : Result Addr RegionFault) (result : Result Reply E) → NamesPut tag x put mid new result → Answers call put h.region region → IfOk result (λ told. Gives (put_new (home_of h) x legal (called (is_for_block (need_shown told)))) (relabelled (name_of new) region) told)
+  pub step-put : {E : Type 0} (put : Result Addr RegionFault) (result : Result Reply E) → NamesPut tag x put mid new result → Answers call put h.region region → IfOk result (λ told. Gives (put_new (home_of h) x legal (called (is_for_block (need_shown told)))) (relabelled (name_of new) region, kept_of new) told)
   step-put (Ok a) (Ok told) named answers =
-      let is : told ≡ at_place x (place_of a.0) = ap (get_ok told) named.0 in
-      subst (λ t. Gives (put_new (home_of h) x legal (called (is_for_block (need_shown t)))) (relabelled (name_of new) region) t) (sym is) (gives-new a named.1 answers)
+      let is : told ≡ at_place x (place_of a.0) None = ap (get_ok told) named.0 in
+      subst (λ t. Gives (put_new (home_of h) x legal (called (is_for_block (need_shown t)))) (relabelled (name_of new) region, kept_of new) t) (sym is) (gives-new a named.1 named.3 answers)
   step-put (Err fault) (Ok told) named answers = gives-refused told (fault-told call fault told named.0 answers.0) named.1 answers.1
   step-put put (Err e) named answers = tt
 
   -- with no memory the region stays
-  pub err-put : {E : Type 0} (put : Result Addr RegionFault) (result : Result Reply E) → NamesPut tag x put mid new result → Answers call put h.region region → OnErr result (relabelled (name_of new) region ≡ (home_of h).region)
+  pub err-put : {E : Type 0} (put : Result Addr RegionFault) (result : Result Reply E) → NamesPut tag x put mid new result → Answers call put h.region region → OnErr result ((let p : Region state.Label × Kept = (relabelled (name_of new) region, kept_of new) in p) ≡ ((home_of h).region, (home_of h).kept))
   err-put (Ok a) (Err e) named answers = absurd (subst IsAn (sym named.0) tt)
-  err-put (Err fault) (Err e) named answers = back named.1 answers.1
+  err-put (Err fault) (Err e) named answers = both-same (relabelled (name_of new) region) (home_of h).region (kept_of new) (home_of h).kept (back named.1 answers.1) (ap kept_of named.1 ∙ same.kept)
   err-put put (Ok told) named answers = tt
 
   module _ (disc : Discipline) (need size : ℕ) where
     names-put : {E : Type 0} (put : Result Addr RegionFault) (result : Result Reply E) → NamesPut tag x put mid new result → Answers call put h.region region → IfOk put (λ a. find_block (place_of a.0) (blocks_of region) ≡ Some (zeros tag size (place_of a.0))) → IfOk put (λ a. without_block (place_of a.0) (blocks_of region) ≡ blocks_of h.region) → HaveOwnPlaces (blocks_of region) → IsNamed region new
     names-put (Ok a) result named answers there others places =
-        named-put mid new tag (record { name = x; at = a }) named.1 vacant h.region region size there others (put-address (call false) a.0 region answers) named.2 places mid-names
+        named-put mid new tag (record { name = x; at = a }) named.1 vacant h.region region size there others (put-address (call false) a.0 region answers) named.2 places (λ e. taken named.3 ∙ ap (without_name x) (names.none (sym (stays a.0 region answers) ∙ e))) mid-names
     names-put (Err fault) result named answers there others places =
         subst (λ l. IsNamed region l) (sym named.1) (subst (λ r. IsNamed r mid) (sym answers.1) mid-names)
 
@@ -167,7 +176,7 @@ module _ (h : Held) (x : List ℕ) (legal : Bool) (names : IsNamed h.region h.la
 
     pub unserved-put : {E : Type 0} (put : Result Addr RegionFault) (result : Result Reply E) → NamesPut tag x put mid new result → Asks put h.disc disc (segments_of h.region) (segments_of region) need → result ≡ Ok (reply.Refused why.NoSegment) → Unserved h.disc disc need
     unserved-put (Ok a) result named asks is =
-        absurd (subst NotNoSegment (ap (get_ok (at_place x (place_of a.0))) (sym named.0 ∙ is)) tt)
+        absurd (subst NotNoSegment (ap (get_ok (at_place x (place_of a.0) None)) (sym named.0 ∙ is)) tt)
     unserved-put (Err fault) (Ok told) named asks is =
         asks-unserved fault h.disc disc (segments_of h.region) (segments_of region) need (fault-no_segment fault told named.0 (ap (get_ok told) is)) asks
     unserved-put (Err fault) (Err e) named asks is = absurd (subst IsAn (sym is) tt)
@@ -190,4 +199,4 @@ unless-legal false false few e = absurd cc
 
 -- nor is its size or alignment refused
 pub new-legal : (labels : Labels) (x : List ℕ) (legal : Bool) → new_refused labels x legal ≡ None → legal ≡ true
-new-legal labels x legal is = unless-legal (is_some (tag_of labels x)) legal (nat_lt (slab_len labels.by_tag) label_limit) is
+new-legal labels x legal is = unless-legal (is_some (tag_of labels x)) legal (is_some (line_of x (kept_of labels)) || nat_lt (length labels.tags.entries) label_limit) is

@@ -6,13 +6,15 @@ ghost use Rattle.vc_model.specs.Discipline.{HasOut};
 ghost use Rattle.vc_region.specs.Parts.{disc_in, region_of, segments_in};
 ghost use Rattle.vc_script.specs.Needs.{need_shown};
 ghost use Rattle.vc_session.specs.Account.{IsNamed, LacksSegment};
-ghost use Rattle.vc_session.specs.Blocks.{align_in, alloc_in, fault_of, free_in, is_align, is_size, refusal_of, resize_in};
-ghost use Rattle.vc_session.specs.Labels.{AreLabels, tag_of};
+ghost use Rattle.vc_session.specs.Blocks.{align_in, alloc_in, fault_of, free_in, is_align, is_size, no_block, refusal_of, resize_in};
+ghost use Rattle.vc_session.specs.Kept.{line_of};
+ghost use Rattle.vc_session.specs.Labels.{AreLabels, kept_of, tag_of};
 ghost use Rattle.vc_session.specs.Naming.{NamesPut, TellsFault, new_refused};
 ghost use Rattle.vc_session.specs.Step.{is_for_block};
 
 use crate::home::{HomeEntry, place_of};
 use crate::labels::Labels;
+use crate::marks::{keeps_freed, watch_line};
 use vc_base::{Addr, Name, OutOfMemory};
 use vc_script::{Refusal, Reply};
 use vc_seg::{BoxedDisc, RegionFault, SegDisc};
@@ -73,10 +75,21 @@ fn new_refused(labels: &Labels, name: &Name, is_legal: bool) -> Option<Refusal>
     if !is_legal {
         return Some(Refusal::Size);
     }
-    if labels.len() >= LABEL_LIMIT {
+    if labels.len() >= LABEL_LIMIT && labels.freed(name).is_none() {
         return Some(Refusal::TooManyBlocks);
     }
     None
+}
+
+// Why there is no block of that name: it was freed at a line, or the name isn't kept.
+pub(crate) fn no_block(labels: &Labels, name: &Name) -> Refusal
+    ensures value { result ≡ no_block (line_of name.now (kept_of labels.now)) }
+    ensures granted { result ≡ Refusal.NoSegment → ⊥ }
+{
+    match labels.freed(name) {
+        Some(line) => Refusal::FreedAt(line),
+        None => Refusal::NoBlock,
+    }
 }
 
 // Names the block that was put, and tells its place; or tells why none was put.
@@ -197,28 +210,34 @@ impl HomeEntry {
             (size, 32) }
     {
         let Some(at) = labels.find(name) else {
-            return Ok(Reply::Refused(Refusal::NoBlock));
+            return Ok(Reply::Refused(no_block(labels, name)));
         };
         if !is_size(size) {
             return Ok(Reply::Refused(Refusal::Size));
         }
+        let watch = watch_line(&self.region, at);
         match self.region.resize(at, size, may_move) {
             Ok(to) => {
                 labels.move_to(name, to);
-                Ok(Reply::At(*name, place_of(to), None))
+                Ok(Reply::At(*name, place_of(to), watch))
             }
             Err(fault) => refused(fault),
         }
     }
 
-    // Frees the block of that name.
-    pub(crate) fn free(&mut self, labels: &mut Labels, name: &Name) -> Result<Reply, OutOfMemory>
+    // Frees the block of that name, at a line.
+    pub(crate) fn free(
+        &mut self,
+        labels: &mut Labels,
+        name: &Name,
+        line: u32,
+    ) -> Result<Reply, OutOfMemory>
         requires names { IsNamed (region_of self.old.region) labels.old }
         requires lent { HasOut (disc_in state self.old.region)
             (segments_in self.old.region) }
 
         ensures step { IfOk result (λ reply. Runs state
-            (λ h. free_in h name.now)
+            (λ h. free_in h name.now line)
             self.old labels.old (region_with self.new labels.new) reply) }
         ensures err { OnErr result (region_with self.new labels.new
             ≡ region_with self.old labels.old) }
@@ -227,12 +246,14 @@ impl HomeEntry {
         ensures granted { result ≡ Ok (Reply.Refused Refusal.NoSegment) → ⊥ }
     {
         let Some(at) = labels.find(name) else {
-            return Ok(Reply::Refused(Refusal::NoBlock));
+            return Ok(Reply::Refused(no_block(labels, name)));
         };
+        let watch = watch_line(&self.region, at);
+        let keeps = keeps_freed(&self.region);
         match self.region.free(at) {
             Ok(()) => {
-                let _ = labels.remove(name);
-                Ok(Reply::Freed(*name, None))
+                let _ = labels.free(name, keeps, line);
+                Ok(Reply::Freed(*name, watch))
             }
             Err(fault) => refused(fault),
         }

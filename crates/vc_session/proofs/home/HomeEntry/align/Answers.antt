@@ -1,7 +1,8 @@
-use Rattle.std.proofs.Common.{◌≡◌, [], Some, None, ◌&&◌, sym, ap, ◌∙◌, subst}
+use Rattle.std.proofs.Common.{◌≡◌, false, [], Some, None, ◌&&◌, sym, ap, ◌∙◌, subst}
 use Rattle.vc_model.specs.Discipline.{Discipline}
 use Rattle.vc_region.specs.Region.{region_align, region_need}
 use Rattle.vc_region.specs.Parts.{disc_in, region_of}
+use Rattle.vc_region.proofs.Keeps.{align-keeps}
 use Rattle.vc_region.proofs.Sound.{own_places}
 use Rattle.vc_session.specs.Account.{home_of}
 use Rattle.vc_script.specs.Needs.{need_shown}
@@ -37,7 +38,7 @@ returns-in_ok-tag-in-None-clause-step g c =
     let named = subst (λ t. NamesPut t c.args.name c.align.result c.reserve.new.self c.name_put.new.labels c.name_put.result) (sym ok.0) c.name_put.ensures in
     step-put h c.args.name (is_size c.args.size && is_align c.args.align) c.requires.names is c.reserve.new.self c.reserve.ensures.same c.reserve.ensures.agree tag ok.1 ok.2
     (λ u. region_align h.disc.terms h.region tag c.args.size c.args.align u) (λ u. region_align h.disc.terms (home_of h).region (Some c.args.name) c.args.size c.args.align u)
-    (align-commutes h c.args.name tag c.args.size c.args.align) (region_of c.align.new.self) c.name_put.new.labels c.align.result c.name_put.result named c.align.ensures.answer)
+    (align-commutes h c.args.name tag c.args.size c.args.align) (λ a r'. align-keeps h.disc.terms h.region tag c.args.size c.args.align false a r') (region_of c.align.new.self) c.name_put.new.labels c.align.result c.name_put.result named c.align.ensures.answer)
 
 pub returns-in_ok-tag-in-None-clause-err : goal.returns-in_ok-tag-in-None-clause-err
 returns-in_ok-tag-in-None-clause-err g c =
@@ -48,7 +49,7 @@ returns-in_ok-tag-in-None-clause-err g c =
     let named = subst (λ t. NamesPut t c.args.name c.align.result c.reserve.new.self c.name_put.new.labels c.name_put.result) (sym ok.0) c.name_put.ensures in
     err-put h c.args.name (is_size c.args.size && is_align c.args.align) c.requires.names is c.reserve.new.self c.reserve.ensures.same c.reserve.ensures.agree tag ok.1 ok.2
     (λ u. region_align h.disc.terms h.region tag c.args.size c.args.align u) (λ u. region_align h.disc.terms (home_of h).region (Some c.args.name) c.args.size c.args.align u)
-    (align-commutes h c.args.name tag c.args.size c.args.align) (region_of c.align.new.self) c.name_put.new.labels c.align.result c.name_put.result named c.align.ensures.answer
+    (align-commutes h c.args.name tag c.args.size c.args.align) (λ a r'. align-keeps h.disc.terms h.region tag c.args.size c.args.align false a r') (region_of c.align.new.self) c.name_put.new.labels c.align.result c.name_put.result named c.align.ensures.answer
 
 pub returns-in_ok-tag-in-None-clause-change : goal.returns-in_ok-tag-in-None-clause-change
 returns-in_ok-tag-in-None-clause-change g c = λ r.
@@ -59,7 +60,7 @@ returns-in_ok-tag-in-None-clause-change g c = λ r.
     let named = subst (λ t. NamesPut t c.args.name c.align.result c.reserve.new.self c.name_put.new.labels c.name_put.result) (sym ok.0) c.name_put.ensures in
     change-put h c.args.name (is_size c.args.size && is_align c.args.align) c.requires.names is c.reserve.new.self c.reserve.ensures.same c.reserve.ensures.agree tag ok.1 ok.2
     (λ u. region_align h.disc.terms h.region tag c.args.size c.args.align u) (λ u. region_align h.disc.terms (home_of h).region (Some c.args.name) c.args.size c.args.align u)
-    (align-commutes h c.args.name tag c.args.size c.args.align) (region_of c.align.new.self) c.name_put.new.labels
+    (align-commutes h c.args.name tag c.args.size c.args.align) (λ a r'. align-keeps h.disc.terms h.region tag c.args.size c.args.align false a r') (region_of c.align.new.self) c.name_put.new.labels
     (disc_in (meaning g) c.align.new.self) (region_need h.disc.terms h.region c.args.size c.args.align) c.args.size c.align.result c.name_put.result named c.align.ensures.answer c.align.ensures.disc c.align.ensures.there c.align.ensures.others (own_places c.align.new.self) c.requires.lent
 
 pub align-requires-clause-align : goal.align-requires-clause-align

@@ -1,7 +1,8 @@
-use Rattle.std.proofs.Common.{◌≡◌, [], Some, None, sym, ap, ◌∙◌, subst}
+use Rattle.std.proofs.Common.{◌≡◌, false, [], Some, None, sym, ap, ◌∙◌, subst}
 use Rattle.vc_model.specs.Discipline.{Discipline}
 use Rattle.vc_region.specs.Region.{region_alloc, region_need}
 use Rattle.vc_region.specs.Parts.{disc_in, region_of}
+use Rattle.vc_region.proofs.Keeps.{alloc-keeps}
 use Rattle.vc_region.proofs.Sound.{own_places}
 use Rattle.vc_session.specs.Account.{home_of}
 use Rattle.vc_script.specs.Needs.{need_shown}
@@ -36,7 +37,7 @@ returns-in_ok-tag-in-None-clause-step g c =
     let named = subst (λ t. NamesPut t c.args.name c.alloc.result c.reserve.new.self c.name_put.new.labels c.name_put.result) (sym ok.0) c.name_put.ensures in
     step-put h c.args.name (is_size c.args.size) c.requires.names is c.reserve.new.self c.reserve.ensures.same c.reserve.ensures.agree tag ok.1 ok.2
     (λ u. region_alloc h.disc.terms h.region tag c.args.size u) (λ u. region_alloc h.disc.terms (home_of h).region (Some c.args.name) c.args.size u)
-    (alloc-commutes h c.args.name tag c.args.size) (region_of c.alloc.new.self) c.name_put.new.labels c.alloc.result c.name_put.result named c.alloc.ensures.answer)
+    (alloc-commutes h c.args.name tag c.args.size) (λ a r'. alloc-keeps h.disc.terms h.region tag c.args.size false a r') (region_of c.alloc.new.self) c.name_put.new.labels c.alloc.result c.name_put.result named c.alloc.ensures.answer)
 
 pub returns-in_ok-tag-in-None-clause-err : goal.returns-in_ok-tag-in-None-clause-err
 returns-in_ok-tag-in-None-clause-err g c =
@@ -47,7 +48,7 @@ returns-in_ok-tag-in-None-clause-err g c =
     let named = subst (λ t. NamesPut t c.args.name c.alloc.result c.reserve.new.self c.name_put.new.labels c.name_put.result) (sym ok.0) c.name_put.ensures in
     err-put h c.args.name (is_size c.args.size) c.requires.names is c.reserve.new.self c.reserve.ensures.same c.reserve.ensures.agree tag ok.1 ok.2
     (λ u. region_alloc h.disc.terms h.region tag c.args.size u) (λ u. region_alloc h.disc.terms (home_of h).region (Some c.args.name) c.args.size u)
-    (alloc-commutes h c.args.name tag c.args.size) (region_of c.alloc.new.self) c.name_put.new.labels c.alloc.result c.name_put.result named c.alloc.ensures.answer
+    (alloc-commutes h c.args.name tag c.args.size) (λ a r'. alloc-keeps h.disc.terms h.region tag c.args.size false a r') (region_of c.alloc.new.self) c.name_put.new.labels c.alloc.result c.name_put.result named c.alloc.ensures.answer
 
 pub returns-in_ok-tag-in-None-clause-change : goal.returns-in_ok-tag-in-None-clause-change
 returns-in_ok-tag-in-None-clause-change g c = λ r.
@@ -58,7 +59,7 @@ returns-in_ok-tag-in-None-clause-change g c = λ r.
     let named = subst (λ t. NamesPut t c.args.name c.alloc.result c.reserve.new.self c.name_put.new.labels c.name_put.result) (sym ok.0) c.name_put.ensures in
     change-put h c.args.name (is_size c.args.size) c.requires.names is c.reserve.new.self c.reserve.ensures.same c.reserve.ensures.agree tag ok.1 ok.2
     (λ u. region_alloc h.disc.terms h.region tag c.args.size u) (λ u. region_alloc h.disc.terms (home_of h).region (Some c.args.name) c.args.size u)
-    (alloc-commutes h c.args.name tag c.args.size) (region_of c.alloc.new.self) c.name_put.new.labels
+    (alloc-commutes h c.args.name tag c.args.size) (λ a r'. alloc-keeps h.disc.terms h.region tag c.args.size false a r') (region_of c.alloc.new.self) c.name_put.new.labels
     (disc_in (meaning g) c.alloc.new.self) (region_need h.disc.terms h.region c.args.size 32) c.args.size c.alloc.result c.name_put.result named c.alloc.ensures.answer c.alloc.ensures.disc c.alloc.ensures.there c.alloc.ensures.others (own_places c.alloc.new.self) c.requires.lent
 
 pub returns-in_err-tag-in-None-clause-change : goal.returns-in_err-tag-in-None-clause-change
