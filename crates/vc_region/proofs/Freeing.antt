@@ -1,5 +1,5 @@
 -- What freeing gives, by its method: the region without the block, or the refusal of a last region.
-use Rattle.std.proofs.Common.{◌≡◌, ℕ, ◌⊎◌, Bool, true, false, cond, List, Option, Some, None, inl, inr, refl, sym, ap, ◌∙◌}
+use Rattle.std.proofs.Common.{◌≡◌, ℕ, ◌⊎◌, true, false, cond, Option, Some, None, inl, inr, refl, sym, ap, ◌∙◌}
 use Rattle.vc_model.specs.Best.{without_block_at}
 use Rattle.vc_model.specs.Last.{if_latest, latest}
 use Rattle.vc_model.specs.Layout.{Block, Layout, is_at}
@@ -8,23 +8,21 @@ use Rattle.vc_model.specs.Pool.{pool_free}
 use Rattle.vc_region.specs.Region.{OfBest, OfPool, OfLast, Region, keeps_freed, region_free, segments_of}
 
 -- the region without the block at a place
-pub without_block_in : {L : Type 0} → Region L → ℕ × ℕ → Region L
+abbrev pub without_block_in : {L : Type 0} → Region L → ℕ × ℕ → Region L
 without_block_in (OfBest l) at = OfBest (without_block_at l at)
 without_block_in (OfPool p) at = OfPool (pool_free p at)
 without_block_in (OfLast l) at = OfLast (without_block_at l at)
 
-FreedOrNot : {L : Type 0} → Outcome (Region L) → Region L → Type 0
+abbrev FreedOrNot : {L : Type 0} → Outcome (Region L) → Region L → Type 0
 FreedOrNot o r = (o ≡ Done r) ⊎ (o ≡ Refused NotLast)
 
 latest-freed : {L : Type 0} (l : Layout L) (at : ℕ × ℕ) (o : Option (Block L)) → FreedOrNot (done_as OfLast (if_latest at (λ b. Done (without_block_at l at)) o)) (OfLast (without_block_at l at))
-unfolding FreedOrNot
 latest-freed l at None = inr refl
 latest-freed l at (Some b) =
     elim (is_at at b) as (λ v. FreedOrNot (done_as OfLast (cond v (Done (without_block_at l at)) (Refused NotLast))) (OfLast (without_block_at l at)))
     [ true ↦ inl refl | false ↦ inr refl ]
 
 freed-or-not : {L : Type 0} (r : Region L) (at : ℕ × ℕ) → FreedOrNot (region_free r at) (without_block_in r at)
-unfolding FreedOrNot, without_block_in
 freed-or-not (OfBest l) at = inl refl
 freed-or-not (OfPool p) at = inl refl
 freed-or-not (OfLast l) at = latest-freed l at (latest l)
@@ -34,11 +32,10 @@ pub free-granted : {L : Type 0} (r : Region L) (at : ℕ × ℕ) → region_free
 free-granted {L = L} r at e = by (freed-or-not r at)
   where
     by : FreedOrNot (region_free r at) (without_block_in r at) → ⊥
-    unfolding FreedOrNot
     by (inl done) = absurd cc
     by (inr refused) = absurd cc
 
-done-region : {L : Type 0} → Region L → Outcome (Region L) → Region L
+abbrev done-region : {L : Type 0} → Region L → Outcome (Region L) → Region L
 done-region r (Done q) = q
 done-region r (Refused why) = r
 
@@ -47,18 +44,15 @@ pub freed-region : {L : Type 0} (r : Region L) (at : ℕ × ℕ) (r' : Region L)
 freed-region {L = L} r at r' e = by (freed-or-not r at)
   where
     by : FreedOrNot (region_free r at) (without_block_in r at) → r' ≡ without_block_in r at
-    unfolding FreedOrNot, done-region
     by (inl done) = ap (done-region r) (sym e ∙ done)
     by (inr refused) = absurd cc
 
 without-segments : {L : Type 0} (r : Region L) (at : ℕ × ℕ) → segments_of (without_block_in r at) ≡ segments_of r
-unfolding without_block_in
 without-segments (OfBest l) at = refl
 without-segments (OfPool p) at = refl
 without-segments (OfLast l) at = refl
 
 without-keeps : {L : Type 0} (r : Region L) (at : ℕ × ℕ) → keeps_freed (without_block_in r at) ≡ keeps_freed r
-unfolding without_block_in
 without-keeps (OfBest l) at = refl
 without-keeps (OfPool p) at = refl
 without-keeps (OfLast l) at = refl
