@@ -5,7 +5,7 @@ use Rattle.vc_model.specs.Layout.{Block}
 use Rattle.vc_model.specs.Outcome as model
 use Rattle.vc_model.specs.Outcome.{Fault, Outcome, Done, Put, Refused}
 use Rattle.vc_region.proofs.Freeing.{free-granted}
-use Rattle.vc_region.specs.Region.{Region, aligns, blocks_of, region_align, region_alloc, region_free, region_resize, segments_of, watch_at}
+use Rattle.vc_region.specs.Region.{Region, blocks_of, region_align, region_alloc, region_free, region_resize, segments_of, watch_at}
 use Rattle.vc_model.specs.Walk.{block_at, segment_at}
 use Rattle.vc_script.specs.declared.command.Command.{Command}
 use Rattle.vc_script.specs.declared.command.Command.TheVariants.{Alloc, Align, Resize, Free, WriteBlock, ReadBlock, SizeOf, AddrOf, SegmentOf}
@@ -17,7 +17,7 @@ use Rattle.vc_script.specs.declared.refusal.Refusal.TheVariants as why
 use Rattle.vc_script.specs.Needs.{Need}
 use Rattle.vc_session.specs.Kept.{Kept, line_of, without_name}
 use Rattle.vc_session.specs.State.{Changed, Home, Label, unchanged}
-use Rattle.vc_session.specs.Blocks.{free_block, free_in, freed, has_label, has_room, is_align, is_block, is_size, kept_freed, no_block, put_in, put_new, read_block, read_in, resize_block, resize_in, size_in, with_named, write_block, write_in, align_new, no_site, not_aligned, site_named}
+use Rattle.vc_session.specs.Blocks.{free_block, free_in, freed, has_label, has_room, is_align, is_block, is_size, kept_freed, no_block, put_in, put_new, read_block, read_in, resize_block, resize_in, size_in, with_named, write_block, write_in}
 use Rattle.vc_session.specs.Step.{in_region, is_for_block}
 use Rattle.vc_session.specs.Whole.{addr_in, addr_reply, segment_in, segment_reply}
 
@@ -123,11 +123,8 @@ plain-granted told g = tt
 
 -- a command in a region tells of no table and no object
 pub plain-region : (h : Home) (line : ℕ) (command : Command) (need : Need) → IsPlain (in_region h line command need).reply
-plain-region h line (Alloc r x size site) need = plain-new h x (is_size size) (region_alloc h.terms h.region (Some x) (site_named site) size (is_for_block need))
-plain-region h line (Align r x size align) need =
-    holds-if IsPlain (aligns h.region) (align_new h x size align (is_for_block need)) (not_aligned h x)
-    (plain-new h x (is_size size && is_align align) (region_align h.terms h.region (Some x) no_site size align (is_for_block need)))
-    (holds-if IsPlain (has_label x h.region) (unchanged h why.BlockExists) (unchanged h why.WrongMethod) tt tt)
+plain-region h line (Alloc r x size site) need = plain-new h x (is_size size) (region_alloc h.terms h.region (Some x) size (is_for_block need))
+plain-region h line (Align r x size align) need = plain-new h x (is_size size && is_align align) (region_align h.terms h.region (Some x) size align (is_for_block need))
 plain-region h line (Resize r x size may_move) need = plain-resize h x size may_move (is_for_block need)
 plain-region h line (Free r x) need = plain-granted (free_in h x line).reply (granted-free h x line)
 plain-region h line (WriteBlock r x off bytes) need = plain-granted (write_in h x off bytes).reply (granted-write h x off bytes)

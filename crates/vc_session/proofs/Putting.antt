@@ -182,15 +182,15 @@ module _ (h : Held) (x : List ℕ) (legal : Bool) (names : IsNamed h.region h.la
     unserved-put (Err fault) (Err e) named asks is = absurd (subst IsAn (sym is) tt)
 
 -- the calls that put a block are those of the names
-pub alloc-commutes : (h : Held) (x : List ℕ) (tag : ℕ) (site : List ℕ) (size : ℕ) (f : ℕ → state.Label) → f tag ≡ Some x → relabelled f h.region ≡ (home_of h).region → (u : Bool) → region_alloc h.disc.terms (home_of h).region (Some x) site size u ≡ outcome_as (relabelled f) (region_alloc h.disc.terms h.region tag site size u)
-alloc-commutes h x tag site size f new same u =
-    ap (λ r. region_alloc h.disc.terms r (Some x) site size u) (sym same)
-    ∙ (ap (λ l. region_alloc h.disc.terms (relabelled f h.region) l site size u) (sym new) ∙ alloc-relabelled f h.disc.terms h.region tag site size u)
+pub alloc-commutes : (h : Held) (x : List ℕ) (tag size : ℕ) (f : ℕ → state.Label) → f tag ≡ Some x → relabelled f h.region ≡ (home_of h).region → (u : Bool) → region_alloc h.disc.terms (home_of h).region (Some x) size u ≡ outcome_as (relabelled f) (region_alloc h.disc.terms h.region tag size u)
+alloc-commutes h x tag size f new same u =
+    ap (λ r. region_alloc h.disc.terms r (Some x) size u) (sym same)
+    ∙ (ap (λ l. region_alloc h.disc.terms (relabelled f h.region) l size u) (sym new) ∙ alloc-relabelled f h.disc.terms h.region tag size u)
 
-pub align-commutes : (h : Held) (x : List ℕ) (tag : ℕ) (site : List ℕ) (size align : ℕ) (f : ℕ → state.Label) → f tag ≡ Some x → relabelled f h.region ≡ (home_of h).region → (u : Bool) → region_align h.disc.terms (home_of h).region (Some x) site size align u ≡ outcome_as (relabelled f) (region_align h.disc.terms h.region tag site size align u)
-align-commutes h x tag site size align f new same u =
-    ap (λ r. region_align h.disc.terms r (Some x) site size align u) (sym same)
-    ∙ (ap (λ l. region_align h.disc.terms (relabelled f h.region) l site size align u) (sym new) ∙ align-relabelled f h.disc.terms h.region tag site size align u)
+pub align-commutes : (h : Held) (x : List ℕ) (tag size align : ℕ) (f : ℕ → state.Label) → f tag ≡ Some x → relabelled f h.region ≡ (home_of h).region → (u : Bool) → region_align h.disc.terms (home_of h).region (Some x) size align u ≡ outcome_as (relabelled f) (region_align h.disc.terms h.region tag size align u)
+align-commutes h x tag size align f new same u =
+    ap (λ r. region_align h.disc.terms r (Some x) size align u) (sym same)
+    ∙ (ap (λ l. region_align h.disc.terms (relabelled f h.region) l size align u) (sym new) ∙ align-relabelled f h.disc.terms h.region tag size align u)
 
 unless-legal : (named legal few : Bool) → cond named (Some why.BlockExists) (cond legal (cond few None (Some why.TooManyBlocks)) (Some why.Size)) ≡ None → legal ≡ true
 unless-legal true legal few e = absurd cc

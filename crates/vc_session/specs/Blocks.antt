@@ -1,11 +1,11 @@
 -- The commands on the blocks of a region: each gives the first refusal that applies, else the region after it and the reply.
-use Rattle.std.specs.Prelude.{ℕ, ◌+◌, List, [], ◌∷◌, Option, Some, None, Bool, false, count_by, find, is_some, length, take, drop, nat_lt, nat_le, unwrap_or, ◌==◌, ◌&&◌, ◌||◌, if◌then◌else◌}
+use Rattle.std.specs.Prelude.{ℕ, ◌+◌, List, [], ◌∷◌, Option, Some, None, Bool, false, count_by, find, is_some, length, take, drop, nat_lt, nat_le, ◌==◌, ◌&&◌, ◌||◌, if◌then◌else◌}
 use Rattle.std.specs.List.{list_any}
 use Rattle.std.specs.Str.{bytes_eq}
 use Rattle.vc_model.specs.Layout.{Block}
 use Rattle.vc_model.specs.Outcome as model
 use Rattle.vc_model.specs.Outcome.{Fault, Outcome, Done, Refused, Put}
-use Rattle.vc_region.specs.Region.{Region, aligns, blocks_of, region_align, region_alloc, region_free, region_resize, region_write, keeps_freed, watch_at}
+use Rattle.vc_region.specs.Region.{Region, blocks_of, region_align, region_alloc, region_free, region_resize, region_write, keeps_freed, watch_at}
 use Rattle.vc_seg.specs.declared.fault.RegionFault.{RegionFault}
 use Rattle.vc_seg.specs.declared.fault.RegionFault.TheVariants as code
 use Rattle.vc_script.specs.declared.reply.Reply.{Reply}
@@ -95,28 +95,14 @@ put_new h x is_legal outcome =
     then (if has_room h x then put_in h x (without_name x h.kept) None outcome else unchanged h why.TooManyBlocks)
     else unchanged h why.Size)
 
--- the site of a block for which none is named: a hyphen
-abbrev pub no_site : List ℕ
-no_site = 45 ∷ []
-
-abbrev pub site_named : Option (List ℕ) → List ℕ
-site_named site = unwrap_or site no_site
-
--- a block is allocated for a site; whether a segment is refused is the one free choice
-abbrev pub alloc_in : Home → List ℕ → List ℕ → ℕ → Bool → Changed
-alloc_in h x site size not_lent = put_new h x (is_size size) (region_alloc h.terms h.region (Some x) site size not_lent)
+-- a block is allocated; whether a segment is refused is the one free choice
+abbrev pub alloc_in : Home → List ℕ → ℕ → Bool → Changed
+alloc_in h x size not_lent = put_new h x (is_size size) (region_alloc h.terms h.region (Some x) size not_lent)
 
 -- and at an offset that the alignment divides
-abbrev pub align_new : Home → List ℕ → ℕ → ℕ → Bool → Changed
-align_new h x size align not_lent =
-    put_new h x (is_size size && is_align align) (region_align h.terms h.region (Some x) no_site size align not_lent)
-
--- where the method aligns no blocks, a name that no block has is refused so
-abbrev pub not_aligned : Home → List ℕ → Changed
-not_aligned h x = if has_label x h.region then unchanged h why.BlockExists else unchanged h why.WrongMethod
-
 abbrev pub align_in : Home → List ℕ → ℕ → ℕ → Bool → Changed
-align_in h x size align not_lent = if aligns h.region then align_new h x size align not_lent else not_aligned h x
+align_in h x size align not_lent =
+    put_new h x (is_size size && is_align align) (region_align h.terms h.region (Some x) size align not_lent)
 
 -- the names that are kept once a block of that name is freed at a line
 abbrev pub kept_freed : Home → List ℕ → ℕ → Kept

@@ -8,7 +8,7 @@ use Rattle.vc_script.specs.declared.reply.Reply.{Reply}
 use Rattle.vc_region.specs.Region.{Region}
 use Rattle.vc_session.specs.Kept.{Kept}
 use Rattle.vc_session.specs.State.{Changed, Home, Label, State, Stepped, changed, close_step, home_named, open_step, refused, unchanged}
-use Rattle.vc_session.specs.Blocks.{align_in, alloc_in, site_named, free_in, read_in, resize_in, size_in, write_in}
+use Rattle.vc_session.specs.Blocks.{align_in, alloc_in, free_in, read_in, resize_in, size_in, write_in}
 use Rattle.vc_session.specs.Whole.{addr_in, clear_in, compact_in, list_blocks, list_segments, segment_in, stat_in}
 
 abbrev pub is_for_block : Need → Bool
@@ -39,7 +39,7 @@ region_of command = None
 abbrev pub in_region : Home → ℕ → Command → Need → Changed
 in_region h line (ClearRegion r) need = clear_in h r line
 in_region h line (Compact r) need = compact_in h r
-in_region h line (Alloc r x size site) need = alloc_in h x (site_named site) size (is_for_block need)
+in_region h line (Alloc r x size site) need = alloc_in h x size (is_for_block need)
 in_region h line (Align r x size align) need = align_in h x size align (is_for_block need)
 in_region h line (Resize r x size may_move) need = resize_in h x size may_move (is_for_block need)
 in_region h line (Free r x) need = free_in h x line

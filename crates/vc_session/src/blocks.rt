@@ -1,12 +1,12 @@
 // The commands that put, move and free blocks.
-ghost use Rattle.std.specs.Prelude.{◌≡◌, ◌<◌, ◌≤◌, ◌+◌, ◌^◌, ◌&&◌, [], Some, None, Ok, IfOk, OnErr, is_some, length, option_map, if◌then◌else◌};
+ghost use Rattle.std.specs.Prelude.{◌≡◌, ◌<◌, ◌+◌, ◌^◌, ◌&&◌, [], Some, None, Ok, IfOk, OnErr, option_map};
 ghost use Rattle.std.specs.HashMap.{spare};
 ghost use Rattle.slab.specs.Slab.{HasRoomFor, slab_len};
 ghost use Rattle.vc_model.specs.Discipline.{HasOut};
 ghost use Rattle.vc_region.specs.Parts.{disc_in, region_of, segments_in};
 ghost use Rattle.vc_script.specs.Needs.{need_shown};
 ghost use Rattle.vc_session.specs.Account.{IsNamed, LacksSegment};
-ghost use Rattle.vc_session.specs.Blocks.{align_in, align_new, alloc_in, fault_of, free_in, is_align, is_size, no_block, refusal_of, resize_in};
+ghost use Rattle.vc_session.specs.Blocks.{align_in, alloc_in, fault_of, free_in, is_align, is_size, no_block, refusal_of, resize_in};
 ghost use Rattle.vc_session.specs.Kept.{line_of};
 ghost use Rattle.vc_session.specs.Labels.{AreLabels, kept_of, tag_of};
 ghost use Rattle.vc_session.specs.Naming.{NamesPut, TellsFault, new_refused};
@@ -14,7 +14,7 @@ ghost use Rattle.vc_session.specs.Step.{is_for_block};
 
 use crate::home::{HomeEntry, place_of};
 use crate::labels::Labels;
-use crate::marks::{aligns, keeps_freed, watch_line};
+use crate::marks::{keeps_freed, watch_line};
 use vc_base::{Addr, Name, OutOfMemory};
 use vc_script::{Refusal, Reply};
 use vc_seg::{BoxedDisc, RegionFault, SegDisc};
@@ -81,18 +81,6 @@ fn new_refused(labels: &Labels, name: &Name, is_legal: bool) -> Option<Refusal>
     None
 }
 
-// Why no block of that name is aligned where the method aligns none.
-fn not_aligned(labels: &Labels, name: &Name) -> Refusal
-    ensures { result ≡ (if is_some (tag_of labels.now name.now) then Refusal.BlockExists
-        else Refusal.WrongMethod) }
-{
-    if labels.has(name) {
-        Refusal::BlockExists
-    } else {
-        Refusal::WrongMethod
-    }
-}
-
 // Why there is no block of that name: it was freed at a line, or the name isn't kept.
 pub(crate) fn no_block(labels: &Labels, name: &Name) -> Refusal
     ensures value { result ≡ no_block (line_of name.now (kept_of labels.now)) }
@@ -129,22 +117,19 @@ fn name_put(
 impl HomeEntry {
     ghost use Rattle.vc_session.specs.Homes.{Changes, Runs, held_of, region_with};
 
-    // Allocates a block under a name, for a site.
+    // Allocates a block under a name.
     pub(crate) fn allocate(
         &mut self,
         labels: &mut Labels,
         name: Name,
-        site: &[u8],
         size: u32,
     ) -> Result<Reply, OutOfMemory>
-        requires named { 1 ≤ length site.now }
-        requires short { length site.now ≤ 32 }
         requires names { IsNamed (region_of self.old.region) labels.old }
         requires lent { HasOut (disc_in state self.old.region)
             (segments_in self.old.region) }
 
         ensures step { IfOk result (λ reply. Runs state
-            (λ h. alloc_in h name site.now size (is_for_block (need_shown reply)))
+            (λ h. alloc_in h name size (is_for_block (need_shown reply)))
             self.old labels.old (region_with self.new labels.new) reply) }
         ensures err { OnErr result (region_with self.new labels.new
             ≡ region_with self.old labels.old) }
@@ -160,41 +145,7 @@ impl HomeEntry {
             Some(why) => Ok(Reply::Refused(why)),
             None => {
                 let tag = labels.reserve()?;
-                name_put(labels, name, self.region.alloc(size, tag, site))
-            }
-        }
-    }
-
-    // Allocates a block under a name, at an offset that the alignment divides, where the method aligns blocks.
-    fn align_new(
-        &mut self,
-        labels: &mut Labels,
-        name: Name,
-        size: u32,
-        align: u32,
-    ) -> Result<Reply, OutOfMemory>
-        requires names { IsNamed (region_of self.old.region) labels.old }
-        requires lent { HasOut (disc_in state self.old.region)
-            (segments_in self.old.region) }
-
-        ensures step { IfOk result (λ reply. Runs state
-            (λ h. align_new h name size align (is_for_block (need_shown reply)))
-            self.old labels.old (region_with self.new labels.new) reply) }
-        ensures err { OnErr result (region_with self.new labels.new
-            ≡ region_with self.old labels.old) }
-        ensures change { Changes state
-            self.old labels.old self.new labels.new }
-        ensures unserved { result ≡ Ok (Reply.Refused Refusal.NoSegment)
-            → LacksSegment
-            (held_of state [] self.old labels.old)
-            (held_of state [] self.new labels.new)
-            (size, align) }
-    {
-        match new_refused(labels, &name, are_legal(size, align)) {
-            Some(why) => Ok(Reply::Refused(why)),
-            None => {
-                let tag = labels.reserve()?;
-                name_put(labels, name, self.region.align(size, align, tag, b"-"))
+                name_put(labels, name, self.region.alloc(size, tag, b"-"))
             }
         }
     }
@@ -224,10 +175,12 @@ impl HomeEntry {
             (held_of state [] self.new labels.new)
             (size, align) }
     {
-        if aligns(&self.region) {
-            self.align_new(labels, name, size, align)
-        } else {
-            Ok(Reply::Refused(not_aligned(labels, &name)))
+        match new_refused(labels, &name, are_legal(size, align)) {
+            Some(why) => Ok(Reply::Refused(why)),
+            None => {
+                let tag = labels.reserve()?;
+                name_put(labels, name, self.region.align(size, align, tag, b"-"))
+            }
         }
     }
 

@@ -8,7 +8,6 @@ ghost use Rattle.vc_session.specs.Account.{IsNamed, LacksSegment};
 ghost use Rattle.vc_session.specs.Step.{block_asked, in_region};
 
 use crate::labels::Labels;
-use crate::marks::site_named;
 use std::alloc::Global;
 use vc_base::{Addr, OutOfMemory};
 use vc_region::Region;
@@ -66,9 +65,7 @@ impl HomeEntry {
         match command {
             Command::ClearRegion(name) => Ok(self.clear(labels, *name, line)),
             Command::Compact(name) => Ok(self.compact(*name)),
-            Command::Alloc(_, block, size, site) => {
-                self.allocate(labels, *block, site_named(site), *size)
-            }
+            Command::Alloc(_, block, size, _) => self.allocate(labels, *block, *size),
             Command::Align(_, block, size, align) => self.align(labels, *block, *size, *align),
             Command::Resize(_, block, size, may_move) => self.resize(
                 labels, block, *size, *may_move,

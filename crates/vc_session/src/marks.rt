@@ -1,12 +1,11 @@
-// What a region does by its method: aligning, freed names and watches; and the sites of commands.
-ghost use Rattle.std.specs.Prelude.{◌≡◌, ◌≤◌, length};
+// What a region keeps of its blocks besides themselves: freed names and watches.
+ghost use Rattle.std.specs.Prelude.{◌≡◌};
 ghost use Rattle.vc_model.specs.Addr.{place_of};
 ghost use Rattle.vc_model.specs.Touch.{HasBlock};
 ghost use Rattle.vc_region.specs.Parts.{blocks_in, region_of};
-ghost use Rattle.vc_region.specs.Region.{aligns, keeps_freed, watch_at};
-ghost use Rattle.vc_session.specs.Blocks.{site_named};
+ghost use Rattle.vc_region.specs.Region.{keeps_freed, watch_at};
 
-use vc_base::{Addr, Name};
+use vc_base::Addr;
 use vc_region::Region;
 
 // Whether the names of freed blocks are kept.
@@ -15,28 +14,6 @@ pub(crate) fn keeps_freed(region: &Region) -> bool
 {
     match region {
         Region::Best(_) | Region::Pool(_) | Region::Last(_) => false,
-    }
-}
-
-// Whether its method aligns blocks.
-pub(crate) fn aligns(region: &Region) -> bool
-    ensures { result ≡ aligns (region_of region.now) }
-{
-    match region {
-        Region::Best(_) => true,
-        Region::Pool(_) | Region::Last(_) => false,
-    }
-}
-
-// The site that a command names, or a hyphen where it names none.
-pub(crate) fn site_named(site: &Option<Name>) -> &[u8]
-    ensures value { result.now ≡ site_named site.now }
-    ensures named { 1 ≤ length result.now }
-    ensures short { length result.now ≤ 32 }
-{
-    match site {
-        Some(name) => name.bytes(),
-        None => b"-",
     }
 }
 

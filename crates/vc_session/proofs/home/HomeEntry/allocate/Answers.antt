@@ -24,7 +24,7 @@ pub returns-in-Some-clause-step : goal.returns-in-Some-clause-step
 returns-in-Some-clause-step g c = λ r.
     let h = held_of (meaning g) r c.args.self.now c.args.labels.now in
     let is : new_refused c.args.labels.now c.args.name (is_size c.args.size) ≡ Some c.in-Some.why = ap (λ b. new_refused c.args.labels.now c.args.name b) (sym c.is_size.ensures) ∙ (sym c.new_refused.ensures ∙ c.in-Some.is) in
-    let outcome = region_alloc h.disc.terms (home_of h).region (Some c.args.name) c.args.site.now c.args.size (is_for_block (need_shown (Refused c.in-Some.why))) in
+    let outcome = region_alloc h.disc.terms (home_of h).region (Some c.args.name) c.args.size (is_for_block (need_shown (Refused c.in-Some.why))) in
     gives-unchanged (home_of h) (put_new (home_of h) c.args.name (is_size c.args.size) outcome) c.in-Some.why (put_new-refused h c.args.name (is_size c.args.size) outcome c.in-Some.why c.requires.names is)
 
 pub returns-in_ok-tag-in-None-clause-step : goal.returns-in_ok-tag-in-None-clause-step
@@ -36,8 +36,8 @@ returns-in_ok-tag-in-None-clause-step g c =
     let is : new_refused h.labels c.args.name (is_size c.args.size) ≡ None = ap (λ b. new_refused c.args.labels.now c.args.name b) (sym c.is_size.ensures) ∙ (sym c.new_refused.ensures ∙ c.in-None.is) in
     let named = subst (λ t. NamesPut t c.args.name c.alloc.result c.reserve.new.self c.name_put.new.labels c.name_put.result) (sym ok.0) c.name_put.ensures in
     step-put h c.args.name (is_size c.args.size) c.requires.names is c.reserve.new.self c.reserve.ensures.same c.reserve.ensures.agree tag ok.1 ok.2
-    (λ u. region_alloc h.disc.terms h.region tag c.args.site.now c.args.size u) (λ u. region_alloc h.disc.terms (home_of h).region (Some c.args.name) c.args.site.now c.args.size u)
-    (alloc-commutes h c.args.name tag c.args.site.now c.args.size) (λ a r'. alloc-keeps h.disc.terms h.region tag c.args.site.now c.args.size false a r') (region_of c.alloc.new.self) c.name_put.new.labels c.alloc.result c.name_put.result named c.alloc.ensures.answer)
+    (λ u. region_alloc h.disc.terms h.region tag c.args.size u) (λ u. region_alloc h.disc.terms (home_of h).region (Some c.args.name) c.args.size u)
+    (alloc-commutes h c.args.name tag c.args.size) (λ a r'. alloc-keeps h.disc.terms h.region tag c.args.size false a r') (region_of c.alloc.new.self) c.name_put.new.labels c.alloc.result c.name_put.result named c.alloc.ensures.answer)
 
 pub returns-in_ok-tag-in-None-clause-err : goal.returns-in_ok-tag-in-None-clause-err
 returns-in_ok-tag-in-None-clause-err g c =
@@ -47,8 +47,8 @@ returns-in_ok-tag-in-None-clause-err g c =
     let is : new_refused h.labels c.args.name (is_size c.args.size) ≡ None = ap (λ b. new_refused c.args.labels.now c.args.name b) (sym c.is_size.ensures) ∙ (sym c.new_refused.ensures ∙ c.in-None.is) in
     let named = subst (λ t. NamesPut t c.args.name c.alloc.result c.reserve.new.self c.name_put.new.labels c.name_put.result) (sym ok.0) c.name_put.ensures in
     err-put h c.args.name (is_size c.args.size) c.requires.names is c.reserve.new.self c.reserve.ensures.same c.reserve.ensures.agree tag ok.1 ok.2
-    (λ u. region_alloc h.disc.terms h.region tag c.args.site.now c.args.size u) (λ u. region_alloc h.disc.terms (home_of h).region (Some c.args.name) c.args.site.now c.args.size u)
-    (alloc-commutes h c.args.name tag c.args.site.now c.args.size) (λ a r'. alloc-keeps h.disc.terms h.region tag c.args.site.now c.args.size false a r') (region_of c.alloc.new.self) c.name_put.new.labels c.alloc.result c.name_put.result named c.alloc.ensures.answer
+    (λ u. region_alloc h.disc.terms h.region tag c.args.size u) (λ u. region_alloc h.disc.terms (home_of h).region (Some c.args.name) c.args.size u)
+    (alloc-commutes h c.args.name tag c.args.size) (λ a r'. alloc-keeps h.disc.terms h.region tag c.args.size false a r') (region_of c.alloc.new.self) c.name_put.new.labels c.alloc.result c.name_put.result named c.alloc.ensures.answer
 
 pub returns-in_ok-tag-in-None-clause-change : goal.returns-in_ok-tag-in-None-clause-change
 returns-in_ok-tag-in-None-clause-change g c = λ r.
@@ -58,8 +58,8 @@ returns-in_ok-tag-in-None-clause-change g c = λ r.
     let is : new_refused h.labels c.args.name (is_size c.args.size) ≡ None = ap (λ b. new_refused c.args.labels.now c.args.name b) (sym c.is_size.ensures) ∙ (sym c.new_refused.ensures ∙ c.in-None.is) in
     let named = subst (λ t. NamesPut t c.args.name c.alloc.result c.reserve.new.self c.name_put.new.labels c.name_put.result) (sym ok.0) c.name_put.ensures in
     change-put h c.args.name (is_size c.args.size) c.requires.names is c.reserve.new.self c.reserve.ensures.same c.reserve.ensures.agree tag ok.1 ok.2
-    (λ u. region_alloc h.disc.terms h.region tag c.args.site.now c.args.size u) (λ u. region_alloc h.disc.terms (home_of h).region (Some c.args.name) c.args.site.now c.args.size u)
-    (alloc-commutes h c.args.name tag c.args.site.now c.args.size) (λ a r'. alloc-keeps h.disc.terms h.region tag c.args.site.now c.args.size false a r') (region_of c.alloc.new.self) c.name_put.new.labels
+    (λ u. region_alloc h.disc.terms h.region tag c.args.size u) (λ u. region_alloc h.disc.terms (home_of h).region (Some c.args.name) c.args.size u)
+    (alloc-commutes h c.args.name tag c.args.size) (λ a r'. alloc-keeps h.disc.terms h.region tag c.args.size false a r') (region_of c.alloc.new.self) c.name_put.new.labels
     (disc_in (meaning g) c.alloc.new.self) (region_need h.disc.terms h.region c.args.size 32) c.args.size c.alloc.result c.name_put.result named c.alloc.ensures.answer c.alloc.ensures.disc c.alloc.ensures.there c.alloc.ensures.others (own_places c.alloc.new.self) c.requires.lent
 
 pub returns-in_err-tag-in-None-clause-change : goal.returns-in_err-tag-in-None-clause-change

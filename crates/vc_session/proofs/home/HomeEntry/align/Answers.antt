@@ -7,7 +7,7 @@ use Rattle.vc_region.proofs.Sound.{own_places}
 use Rattle.vc_session.specs.Account.{home_of}
 use Rattle.vc_script.specs.Needs.{need_shown}
 use Rattle.vc_script.specs.declared.reply.Reply.TheVariants.{Refused}
-use Rattle.vc_session.specs.Blocks.{is_align, is_size, no_site, put_new}
+use Rattle.vc_session.specs.Blocks.{is_align, is_size, put_new}
 use Rattle.vc_session.specs.Step.{is_for_block}
 use Rattle.vc_session.specs.Homes.{held_of}
 use Rattle.vc_session.specs.Naming.{NamesPut, new_refused}
@@ -15,8 +15,8 @@ use Rattle.vc_session.proofs.Answers.{change-same, gives-unchanged, if_ok-all}
 use Rattle.vc_session.proofs.Found.{align-in, both-parts}
 use Rattle.vc_session.proofs.Names.{isnamed-same}
 use Rattle.vc_session.proofs.Putting.{align-commutes, change-put, err-put, new-legal, put_new-refused, step-put}
-use Rattle.vc_session.proofs.home.HomeEntry.align_new.Given as given
-use Rattle.vc_session.proofs.home.HomeEntry.align_new.Goals as goal
+use Rattle.vc_session.proofs.home.HomeEntry.align.Given as given
+use Rattle.vc_session.proofs.home.HomeEntry.align.Goals as goal
 
 abbrev meaning : (g : given.Over) → (x : g.dyn-1.0.I) × (g.dyn-1.0.entry x).0.Denot → Discipline
 meaning g p = (g.dyn-1.0.entry p.0).1.state p.1
@@ -25,7 +25,7 @@ pub returns-in-Some-clause-step : goal.returns-in-Some-clause-step
 returns-in-Some-clause-step g c = λ r.
     let h = held_of (meaning g) r c.args.self.now c.args.labels.now in
     let is : new_refused c.args.labels.now c.args.name (is_size c.args.size && is_align c.args.align) ≡ Some c.in-Some.why = ap (λ b. new_refused c.args.labels.now c.args.name b) (sym c.are_legal.ensures) ∙ (sym c.new_refused.ensures ∙ c.in-Some.is) in
-    let outcome = region_align h.disc.terms (home_of h).region (Some c.args.name) no_site c.args.size c.args.align (is_for_block (need_shown (Refused c.in-Some.why))) in
+    let outcome = region_align h.disc.terms (home_of h).region (Some c.args.name) c.args.size c.args.align (is_for_block (need_shown (Refused c.in-Some.why))) in
     gives-unchanged (home_of h) (put_new (home_of h) c.args.name (is_size c.args.size && is_align c.args.align) outcome) c.in-Some.why (put_new-refused h c.args.name (is_size c.args.size && is_align c.args.align) outcome c.in-Some.why c.requires.names is)
 
 pub returns-in_ok-tag-in-None-clause-step : goal.returns-in_ok-tag-in-None-clause-step
@@ -37,8 +37,8 @@ returns-in_ok-tag-in-None-clause-step g c =
     let is : new_refused h.labels c.args.name (is_size c.args.size && is_align c.args.align) ≡ None = ap (λ b. new_refused c.args.labels.now c.args.name b) (sym c.are_legal.ensures) ∙ (sym c.new_refused.ensures ∙ c.in-None.is) in
     let named = subst (λ t. NamesPut t c.args.name c.align.result c.reserve.new.self c.name_put.new.labels c.name_put.result) (sym ok.0) c.name_put.ensures in
     step-put h c.args.name (is_size c.args.size && is_align c.args.align) c.requires.names is c.reserve.new.self c.reserve.ensures.same c.reserve.ensures.agree tag ok.1 ok.2
-    (λ u. region_align h.disc.terms h.region tag no_site c.args.size c.args.align u) (λ u. region_align h.disc.terms (home_of h).region (Some c.args.name) no_site c.args.size c.args.align u)
-    (align-commutes h c.args.name tag no_site c.args.size c.args.align) (λ a r'. align-keeps h.disc.terms h.region tag no_site c.args.size c.args.align false a r') (region_of c.align.new.self) c.name_put.new.labels c.align.result c.name_put.result named c.align.ensures.answer)
+    (λ u. region_align h.disc.terms h.region tag c.args.size c.args.align u) (λ u. region_align h.disc.terms (home_of h).region (Some c.args.name) c.args.size c.args.align u)
+    (align-commutes h c.args.name tag c.args.size c.args.align) (λ a r'. align-keeps h.disc.terms h.region tag c.args.size c.args.align false a r') (region_of c.align.new.self) c.name_put.new.labels c.align.result c.name_put.result named c.align.ensures.answer)
 
 pub returns-in_ok-tag-in-None-clause-err : goal.returns-in_ok-tag-in-None-clause-err
 returns-in_ok-tag-in-None-clause-err g c =
@@ -48,8 +48,8 @@ returns-in_ok-tag-in-None-clause-err g c =
     let is : new_refused h.labels c.args.name (is_size c.args.size && is_align c.args.align) ≡ None = ap (λ b. new_refused c.args.labels.now c.args.name b) (sym c.are_legal.ensures) ∙ (sym c.new_refused.ensures ∙ c.in-None.is) in
     let named = subst (λ t. NamesPut t c.args.name c.align.result c.reserve.new.self c.name_put.new.labels c.name_put.result) (sym ok.0) c.name_put.ensures in
     err-put h c.args.name (is_size c.args.size && is_align c.args.align) c.requires.names is c.reserve.new.self c.reserve.ensures.same c.reserve.ensures.agree tag ok.1 ok.2
-    (λ u. region_align h.disc.terms h.region tag no_site c.args.size c.args.align u) (λ u. region_align h.disc.terms (home_of h).region (Some c.args.name) no_site c.args.size c.args.align u)
-    (align-commutes h c.args.name tag no_site c.args.size c.args.align) (λ a r'. align-keeps h.disc.terms h.region tag no_site c.args.size c.args.align false a r') (region_of c.align.new.self) c.name_put.new.labels c.align.result c.name_put.result named c.align.ensures.answer
+    (λ u. region_align h.disc.terms h.region tag c.args.size c.args.align u) (λ u. region_align h.disc.terms (home_of h).region (Some c.args.name) c.args.size c.args.align u)
+    (align-commutes h c.args.name tag c.args.size c.args.align) (λ a r'. align-keeps h.disc.terms h.region tag c.args.size c.args.align false a r') (region_of c.align.new.self) c.name_put.new.labels c.align.result c.name_put.result named c.align.ensures.answer
 
 pub returns-in_ok-tag-in-None-clause-change : goal.returns-in_ok-tag-in-None-clause-change
 returns-in_ok-tag-in-None-clause-change g c = λ r.
@@ -59,8 +59,8 @@ returns-in_ok-tag-in-None-clause-change g c = λ r.
     let is : new_refused h.labels c.args.name (is_size c.args.size && is_align c.args.align) ≡ None = ap (λ b. new_refused c.args.labels.now c.args.name b) (sym c.are_legal.ensures) ∙ (sym c.new_refused.ensures ∙ c.in-None.is) in
     let named = subst (λ t. NamesPut t c.args.name c.align.result c.reserve.new.self c.name_put.new.labels c.name_put.result) (sym ok.0) c.name_put.ensures in
     change-put h c.args.name (is_size c.args.size && is_align c.args.align) c.requires.names is c.reserve.new.self c.reserve.ensures.same c.reserve.ensures.agree tag ok.1 ok.2
-    (λ u. region_align h.disc.terms h.region tag no_site c.args.size c.args.align u) (λ u. region_align h.disc.terms (home_of h).region (Some c.args.name) no_site c.args.size c.args.align u)
-    (align-commutes h c.args.name tag no_site c.args.size c.args.align) (λ a r'. align-keeps h.disc.terms h.region tag no_site c.args.size c.args.align false a r') (region_of c.align.new.self) c.name_put.new.labels
+    (λ u. region_align h.disc.terms h.region tag c.args.size c.args.align u) (λ u. region_align h.disc.terms (home_of h).region (Some c.args.name) c.args.size c.args.align u)
+    (align-commutes h c.args.name tag c.args.size c.args.align) (λ a r'. align-keeps h.disc.terms h.region tag c.args.size c.args.align false a r') (region_of c.align.new.self) c.name_put.new.labels
     (disc_in (meaning g) c.align.new.self) (region_need h.disc.terms h.region c.args.size c.args.align) c.args.size c.align.result c.name_put.result named c.align.ensures.answer c.align.ensures.disc c.align.ensures.there c.align.ensures.others (own_places c.align.new.self) c.requires.lent
 
 pub align-requires-clause-align : goal.align-requires-clause-align
