@@ -12,11 +12,11 @@ put-keeps : {B : Type 0} (make : B → Region ℕ) (keeps : Bool) → ((x : B) �
 put-keeps make keeps all (Done p) a r is = ap keeps_freed is.2 ∙ all p.region
 put-keeps make keeps all (Refused why) a r is = absurd is
 
-pub alloc-keeps : (terms : Terms) (r : Region ℕ) (tag size : ℕ) (refused : Bool) (a : ℕ) (r' : Region ℕ) → IsPut (region_alloc terms r tag size refused) a r' → keeps_freed r' ≡ keeps_freed r
-alloc-keeps terms (OfBest l) tag size refused a r' is = put-keeps OfBest false (λ q. refl) (best_alloc terms l tag size 32 refused) a r' is
+pub alloc-keeps : (terms : Terms) (r : Region ℕ) (tag : ℕ) (site : List ℕ) (size : ℕ) (refused : Bool) (a : ℕ) (r' : Region ℕ) → IsPut (region_alloc terms r tag site size refused) a r' → keeps_freed r' ≡ keeps_freed r
+alloc-keeps terms (OfBest l) tag site size refused a r' is = put-keeps OfBest false (λ q. refl) (best_alloc terms l tag size 32 refused) a r' is
 
-pub align-keeps : (terms : Terms) (r : Region ℕ) (tag size align : ℕ) (refused : Bool) (a : ℕ) (r' : Region ℕ) → IsPut (region_align terms r tag size align refused) a r' → keeps_freed r' ≡ keeps_freed r
-align-keeps terms (OfBest l) tag size align refused a r' is = put-keeps OfBest false (λ q. refl) (best_alloc terms l tag size align refused) a r' is
+pub align-keeps : (terms : Terms) (r : Region ℕ) (tag : ℕ) (site : List ℕ) (size align : ℕ) (refused : Bool) (a : ℕ) (r' : Region ℕ) → IsPut (region_align terms r tag site size align refused) a r' → keeps_freed r' ≡ keeps_freed r
+align-keeps terms (OfBest l) tag site size align refused a r' is = put-keeps OfBest false (λ q. refl) (best_alloc terms l tag size align refused) a r' is
 
 pub resize-keeps : (terms : Terms) (r : Region ℕ) (at : ℕ × ℕ) (size : ℕ) (may_move refused : Bool) (a : ℕ) (r' : Region ℕ) → IsPut (region_resize terms r at size may_move refused) a r' → keeps_freed r' ≡ keeps_freed r
 resize-keeps terms (OfBest l) at size may_move refused a r' is = put-keeps OfBest false (λ q. refl) (best_resize terms l at size may_move refused) a r' is

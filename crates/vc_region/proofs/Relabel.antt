@@ -9,7 +9,7 @@ use Rattle.vc_model.specs.Resize.{best_resize}
 use Rattle.vc_model.specs.Touch.{rewritten}
 use Rattle.vc_model.proofs.Relabel.{best_alloc-relabel, best_resize-relabel, change_block-relabel, compact_count-relabel, compacted-relabel, relabel-alike, relabel_outcome, without_block-relabel}
 use Rattle.vc_seg.proofs.Stats.{layout_stat-relabel}
-use Rattle.vc_region.specs.Region.{OfBest, Region, blocks_of, region_align, region_alloc, region_clear, region_compact, region_compact_count, region_free, region_resize, region_write, relabelled, keeps_freed, segments_of, watch_at}
+use Rattle.vc_region.specs.Region.{OfBest, Region, blocks_of, region_align, region_alloc, region_clear, region_compact, region_compact_count, region_free, region_resize, region_write, relabelled, aligns, keeps_freed, segments_of, watch_at}
 use Rattle.vc_region.specs.Stat.{stat_of}
 
 module _ {L M : Type 0} (f : L → M) where
@@ -26,12 +26,12 @@ module _ {L M : Type 0} (f : L → M) where
   pub blocks-relabelled : (r : Region L) → blocks_of (relabelled f r) ≡ map (relabel_block f) (blocks_of r)
   blocks-relabelled (OfBest l) = refl
 
-  pub alloc-relabelled : (terms : Terms) (r : Region L) (label : L) (size : ℕ) (refused : Bool) → region_alloc terms (relabelled f r) (f label) size refused ≡ outcome_as (relabelled f) (region_alloc terms r label size refused)
-  alloc-relabelled terms (OfBest l) label size refused =
+  pub alloc-relabelled : (terms : Terms) (r : Region L) (label : L) (site : List ℕ) (size : ℕ) (refused : Bool) → region_alloc terms (relabelled f r) (f label) site size refused ≡ outcome_as (relabelled f) (region_alloc terms r label site size refused)
+  alloc-relabelled terms (OfBest l) label site size refused =
       ap (outcome_as OfBest) (best_alloc-relabel f terms l label size 32 refused) ∙ as_best (best_alloc terms l label size 32 refused)
 
-  pub align-relabelled : (terms : Terms) (r : Region L) (label : L) (size align : ℕ) (refused : Bool) → region_align terms (relabelled f r) (f label) size align refused ≡ outcome_as (relabelled f) (region_align terms r label size align refused)
-  align-relabelled terms (OfBest l) label size align refused =
+  pub align-relabelled : (terms : Terms) (r : Region L) (label : L) (site : List ℕ) (size align : ℕ) (refused : Bool) → region_align terms (relabelled f r) (f label) site size align refused ≡ outcome_as (relabelled f) (region_align terms r label site size align refused)
+  align-relabelled terms (OfBest l) label site size align refused =
       ap (outcome_as OfBest) (best_alloc-relabel f terms l label size align refused) ∙ as_best (best_alloc terms l label size align refused)
 
   pub resize-relabelled : (terms : Terms) (r : Region L) (at : ℕ × ℕ) (size : ℕ) (may_move refused : Bool) → region_resize terms (relabelled f r) at size may_move refused ≡ outcome_as (relabelled f) (region_resize terms r at size may_move refused)
@@ -54,6 +54,9 @@ module _ {L M : Type 0} (f : L → M) where
 
   pub compact-relabelled : (r : Region L) → region_compact (relabelled f r) ≡ relabelled f (region_compact r)
   compact-relabelled (OfBest l) = ap (λ q. OfBest q) (compacted-relabel f l)
+
+  pub aligns-relabelled : (r : Region L) → aligns (relabelled f r) ≡ aligns r
+  aligns-relabelled (OfBest l) = refl
 
   pub keeps-relabelled : (r : Region L) → keeps_freed (relabelled f r) ≡ keeps_freed r
   keeps-relabelled (OfBest l) = refl

@@ -1,5 +1,5 @@
 -- A region by its method, and each call of it by cases on the method.
-use Rattle.std.specs.Prelude.{ℕ, List, Bool, false, Option, None}
+use Rattle.std.specs.Prelude.{ℕ, List, Bool, true, false, Option, None}
 use Rattle.vc_model.specs.Discipline.{Terms}
 use Rattle.vc_model.specs.Layout.{Block, Layout, relabel_layout}
 use Rattle.vc_model.specs.Outcome.{Outcome, Done, Put, outcome_as}
@@ -27,12 +27,12 @@ abbrev pub with_layout : {L : Type 0} → Region L → Layout L → Region L
 with_layout (OfBest layout) other = OfBest other
 
 -- a block is put, at an offset that 32 divides
-abbrev pub region_alloc : {L : Type 0} → Terms → Region L → L → ℕ → Bool → Outcome (Put (Region L))
-region_alloc terms (OfBest layout) label size refused = outcome_as OfBest (best_alloc terms layout label size 32 refused)
+abbrev pub region_alloc : {L : Type 0} → Terms → Region L → L → List ℕ → ℕ → Bool → Outcome (Put (Region L))
+region_alloc terms (OfBest layout) label site size refused = outcome_as OfBest (best_alloc terms layout label size 32 refused)
 
 -- a block is put, at an offset that the alignment divides
-abbrev pub region_align : {L : Type 0} → Terms → Region L → L → ℕ → ℕ → Bool → Outcome (Put (Region L))
-region_align terms (OfBest layout) label size align refused =
+abbrev pub region_align : {L : Type 0} → Terms → Region L → L → List ℕ → ℕ → ℕ → Bool → Outcome (Put (Region L))
+region_align terms (OfBest layout) label site size align refused =
     outcome_as OfBest (best_alloc terms layout label size align refused)
 
 -- the block at a place gets another size
@@ -67,6 +67,10 @@ region_compact (OfBest layout) = OfBest (compacted layout)
 -- how many segments go by that
 abbrev pub region_compact_count : {L : Type 0} → Region L → ℕ
 region_compact_count r = compact_count (layout_in r)
+
+-- whether its method aligns blocks
+abbrev pub aligns : {L : Type 0} → Region L → Bool
+aligns (OfBest layout) = true
 
 -- whether the names of freed blocks are kept: in a debug region
 abbrev pub keeps_freed : {L : Type 0} → Region L → Bool

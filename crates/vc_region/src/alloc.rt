@@ -22,7 +22,7 @@ impl Region {
         requires short { length site.now ≤ 32 }
 
         ensures answer { Answers (region_alloc (disc_in state self.old).terms
-            (region_of self.old) tag size)
+            (region_of self.old) tag site.now size)
             result (region_of self.old) (region_of self.new) }
         ensures disc { Asks result (disc_in state self.old) (disc_in state self.new)
             (segments_in self.old) (segments_in self.new)
@@ -59,7 +59,7 @@ impl Region {
         requires short { length site.now ≤ 32 }
 
         ensures answer { Answers (region_align (disc_in state self.old).terms
-            (region_of self.old) tag size align)
+            (region_of self.old) tag site.now size align)
             result (region_of self.old) (region_of self.new) }
         ensures disc { Asks result (disc_in state self.old) (disc_in state self.new)
             (segments_in self.old) (segments_in self.new)
