@@ -1,6 +1,6 @@
 -- What allocating a block under a name answers, and how it changes the region.
 use Rattle.std.proofs.Common.{◌≡◌, ◌≢◌, ℕ, ◌+◌, ◌≤◌, ◌||◌, ◌&&◌, length, Bool, true, false, cond, is_some, List, [], ◌∷◌, Option, Some, None, Result, Ok, Err, IfOk, OnErr, refl, sym, ap, ◌∙◌, subst, arith}
-use Rattle.std.specs.Prelude.{nat_le, nat_lt, ◌==◌}
+use Rattle.std.specs.Prelude.{IfSome, nat_le, nat_lt, ◌==◌}
 use Rattle.std.specs.List.{AllByRecursion}
 use Rattle.std.proofs.lemmas.Bool.{eq-eqb, false≢true}
 use Rattle.std.proofs.lemmas.Bool.Decides.{nat_tests}
@@ -243,3 +243,23 @@ size-range size e =
   where
     le-told : (a b : ℕ) → nat_le a b ≡ true → a ≤ b
     le-told a b e = grind (arith, nat_tests, e)
+
+abbrev IsOther : Refusal → Type 0
+IsOther why.NoSegment = ⊥
+IsOther w = Unit {0}
+
+all-other : (named few aligned legal : Bool) → IfSome (let o : Option Refusal = cond named (Some why.BlockExists) (words_or (cond aligned (cond legal None (Some why.Size)) (Some why.WrongMethod)) few) in o) IsOther
+all-other true few aligned legal = tt
+all-other false few false legal = tt
+all-other false few true false = tt
+all-other false true true true = tt
+all-other false false true true = tt
+
+-- no new block is refused as for want of a segment before a place is looked for
+pub refused-other : (labels : Labels) (x : List ℕ) (r : Region ℕ) (size align : ℕ) (w : Refusal) → new_refused labels x (align_refused r size align) ≡ Some w → w ≡ why.NoSegment → ⊥
+refused-other labels x r size align w is wanted =
+    let few = is_some (line_of x (kept_of labels)) || nat_lt (length labels.tags.entries) label_limit in
+    let named = is_some (tag_of labels x) in
+    let words = align_refused r size align in
+    let same : cond named (Some why.BlockExists) (words_or words few) ≡ Some w = ap (λ o. cond named (Some why.BlockExists) o) (sym (refused-by labels x words)) ∙ is in
+    subst IsOther wanted (subst (λ o. IfSome o IsOther) same (all-other named few (aligns r) (is_size size && is_align align)))

@@ -11,10 +11,10 @@ use Rattle.vc_session.specs.Blocks.{align_refused, is_align, is_size, put_new}
 use Rattle.vc_session.specs.Step.{is_for_block}
 use Rattle.vc_session.specs.Homes.{held_of}
 use Rattle.vc_session.specs.Naming.{NamesPut, new_refused}
-use Rattle.vc_session.proofs.Answers.{change-same, gives-unchanged, if_ok-all}
+use Rattle.vc_session.proofs.Answers.{change-same, gives-unchanged, if_ok-all, none-no_segment}
 use Rattle.vc_session.proofs.Found.{align-in, both-parts}
 use Rattle.vc_session.proofs.Names.{isnamed-same}
-use Rattle.vc_session.proofs.Putting.{align-commutes, align-legal, align-words, change-put, err-put, new-words, put_new-refused, size-range, step-put}
+use Rattle.vc_session.proofs.Putting.{align-commutes, align-legal, align-words, change-put, err-put, new-words, put_new-refused, refused-other, size-range, step-put}
 use Rattle.vc_session.proofs.home.HomeEntry.align.Given as given
 use Rattle.vc_session.proofs.home.HomeEntry.align.Goals as goal
 
@@ -27,6 +27,11 @@ returns-in-Some-clause-step g c = λ r.
     let is : new_refused c.args.labels.now c.args.name (align_refused (home_of h).region c.args.size c.args.align) ≡ Some c.in-Some.why = ap (λ b. new_refused c.args.labels.now c.args.name b) (align-words h c.args.size c.args.align ∙ sym c.align_refused-words.ensures) ∙ (sym c.new_refused.ensures ∙ c.in-Some.is) in
     let outcome = region_align h.disc.terms (home_of h).region (Some c.args.name) (45 ∷ []) c.args.size c.args.align (is_for_block (need_shown (Refused c.in-Some.why))) in
     gives-unchanged (home_of h) (put_new (home_of h) c.args.name (align_refused (home_of h).region c.args.size c.args.align) outcome) c.in-Some.why (put_new-refused h c.args.name (align_refused (home_of h).region c.args.size c.args.align) outcome c.in-Some.why c.requires.names is)
+
+pub returns-in-Some-clause-unserved : goal.returns-in-Some-clause-unserved
+returns-in-Some-clause-unserved g c = λ e.
+    let is : new_refused c.args.labels.now c.args.name (align_refused (region_of c.args.self.now.region) c.args.size c.args.align) ≡ Some c.in-Some.why = ap (λ b. new_refused c.args.labels.now c.args.name b) (sym c.align_refused-words.ensures) ∙ (sym c.new_refused.ensures ∙ c.in-Some.is) in
+    absurd (none-no_segment c.in-Some.why (refused-other c.args.labels.now c.args.name (region_of c.args.self.now.region) c.args.size c.args.align c.in-Some.why is) e)
 
 pub returns-in_ok-tag-in-None-clause-step : goal.returns-in_ok-tag-in-None-clause-step
 returns-in_ok-tag-in-None-clause-step g c =
