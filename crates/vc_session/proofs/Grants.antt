@@ -1,11 +1,11 @@
 -- Which replies tell that a segment was refused.
-use Rattle.std.proofs.Common.{◌≡◌, ℕ, ◌+◌, Bool, true, false, cond, ◌&&◌, List, Option, Some, None, refl, ◌∙◌, subst}
-use Rattle.std.specs.Prelude.{find, length, nat_le, nat_lt}
+use Rattle.std.proofs.Common.{◌≡◌, ℕ, ◌+◌, Bool, true, false, cond, ◌&&◌, List, Option, Some, None, refl, ◌∙◌, subst, [], ◌∷◌}
+use Rattle.std.specs.Prelude.{find, length, nat_le, nat_lt, IfSome}
 use Rattle.vc_model.specs.Layout.{Block}
 use Rattle.vc_model.specs.Outcome as model
 use Rattle.vc_model.specs.Outcome.{Fault, Outcome, Done, Put, Refused}
 use Rattle.vc_region.proofs.Freeing.{free-granted}
-use Rattle.vc_region.specs.Region.{Region, blocks_of, region_align, region_alloc, region_free, region_resize, segments_of, watch_at}
+use Rattle.vc_region.specs.Region.{Region, blocks_of, region_align, region_alloc, region_free, region_resize, segments_of, watch_at, aligns}
 use Rattle.vc_model.specs.Walk.{block_at, segment_at}
 use Rattle.vc_script.specs.declared.command.Command.{Command}
 use Rattle.vc_script.specs.declared.command.Command.TheVariants.{Alloc, Align, Resize, Free, WriteBlock, ReadBlock, SizeOf, AddrOf, SegmentOf}
@@ -17,7 +17,7 @@ use Rattle.vc_script.specs.declared.refusal.Refusal.TheVariants as why
 use Rattle.vc_script.specs.Needs.{Need}
 use Rattle.vc_session.specs.Kept.{Kept, line_of, without_name}
 use Rattle.vc_session.specs.State.{Changed, Home, Label, unchanged}
-use Rattle.vc_session.specs.Blocks.{free_block, free_in, freed, has_label, has_room, is_align, is_block, is_size, kept_freed, no_block, put_in, put_new, read_block, read_in, resize_block, resize_in, size_in, with_named, write_block, write_in}
+use Rattle.vc_session.specs.Blocks.{free_block, free_in, freed, has_label, has_room, is_align, is_block, is_size, kept_freed, no_block, align_refused, put_by, put_in, put_new, site_of, size_refused, read_block, read_in, resize_block, resize_in, size_in, with_named, write_block, write_in}
 use Rattle.vc_session.specs.Step.{in_region, is_for_block}
 use Rattle.vc_session.specs.Whole.{addr_in, addr_reply, segment_in, segment_reply}
 
@@ -100,12 +100,22 @@ plain-put h x kept watch (Refused model.PoolSize) = tt
 plain-put h x kept watch (Refused model.NotLast) = tt
 plain-put h x kept watch (Refused model.WrongMethod) = tt
 
-plain-new : (h : Home) (x : List ℕ) (legal : Bool) (o : Outcome (Put (Region Label))) → IsPlain (put_new h x legal o).reply
-plain-new h x legal o =
-    holds-if IsPlain (has_label x h.region) (unchanged h why.BlockExists) _ tt
-    (holds-if IsPlain legal _ (unchanged h why.Size)
-    (holds-if IsPlain (has_room h x) (put_in h x (without_name x h.kept) None o) (unchanged h why.TooManyBlocks) (plain-put h x (without_name x h.kept) None o) tt)
-    tt)
+plain-sized : (legal : Bool) → IfSome (let o : Option Refusal = cond legal None (Some why.Size) in o) (λ w. IsPlain (reply.Refused w))
+plain-sized true = tt
+plain-sized false = tt
+
+plain-aligned : (aligned legal : Bool) → IfSome (let o : Option Refusal = cond aligned (cond legal None (Some why.Size)) (Some why.WrongMethod) in o) (λ w. IsPlain (reply.Refused w))
+plain-aligned true legal = plain-sized legal
+plain-aligned false legal = tt
+
+plain-by : (h : Home) (x : List ℕ) (words : Option Refusal) (o : Outcome (Put (Region Label))) → IfSome words (λ w. IsPlain (reply.Refused w)) → IsPlain (put_by h x words o).reply
+plain-by h x (Some refusal) o plain = plain
+plain-by h x None o plain =
+    holds-if IsPlain (has_room h x) (put_in h x (without_name x h.kept) None o) (unchanged h why.TooManyBlocks) (plain-put h x (without_name x h.kept) None o) tt
+
+plain-new : (h : Home) (x : List ℕ) (words : Option Refusal) (o : Outcome (Put (Region Label))) → IfSome words (λ w. IsPlain (reply.Refused w)) → IsPlain (put_new h x words o).reply
+plain-new h x words o plain =
+    holds-if IsPlain (has_label x h.region) (unchanged h why.BlockExists) (put_by h x words o) tt (plain-by h x words o plain)
 
 plain-resize : (h : Home) (x : List ℕ) (size : ℕ) (may_move refused : Bool) → IsPlain (resize_in h x size may_move refused).reply
 plain-resize h x size may_move refused =
@@ -123,8 +133,8 @@ plain-granted told g = tt
 
 -- a command in a region tells of no table and no object
 pub plain-region : (h : Home) (line : ℕ) (command : Command) (need : Need) → IsPlain (in_region h line command need).reply
-plain-region h line (Alloc r x size site) need = plain-new h x (is_size size) (region_alloc h.terms h.region (Some x) size (is_for_block need))
-plain-region h line (Align r x size align) need = plain-new h x (is_size size && is_align align) (region_align h.terms h.region (Some x) size align (is_for_block need))
+plain-region h line (Alloc r x size site) need = plain-new h x (size_refused size) (region_alloc h.terms h.region (Some x) (site_of site) size (is_for_block need)) (plain-sized (is_size size))
+plain-region h line (Align r x size align) need = plain-new h x (align_refused h.region size align) (region_align h.terms h.region (Some x) (45 ∷ []) size align (is_for_block need)) (plain-aligned (aligns h.region) (is_size size && is_align align))
 plain-region h line (Resize r x size may_move) need = plain-resize h x size may_move (is_for_block need)
 plain-region h line (Free r x) need = plain-granted (free_in h x line).reply (granted-free h x line)
 plain-region h line (WriteBlock r x off bytes) need = plain-granted (write_in h x off bytes).reply (granted-write h x off bytes)

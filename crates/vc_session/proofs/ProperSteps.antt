@@ -9,7 +9,7 @@ use Rattle.std.specs.List.{AllByRecursion, list_any}
 use Rattle.vc_model.specs.Discipline.{Terms}
 use Rattle.vc_model.specs.Layout.{Block, relabel_block}
 use Rattle.vc_model.specs.Outcome.{Outcome, Done, Refused, Put, outcome_as}
-use Rattle.vc_region.specs.Region.{Region, blocks_of, region_align, region_alloc, region_clear, region_compact, region_free, region_resize, region_write, keeps_freed, relabelled, watch_at}
+use Rattle.vc_region.specs.Region.{Region, blocks_of, region_align, region_alloc, region_clear, region_compact, region_free, region_resize, region_write, aligns, keeps_freed, relabelled, watch_at}
 use Rattle.vc_model.specs.Numbered.{at_number}
 use Rattle.vc_model.specs.Walk.{block_at, by_address, segment_at}
 use Rattle.vc_region.specs.Region.{segments_of}
@@ -20,6 +20,7 @@ use Rattle.vc_seg.specs.declared.method.Method.{Method}
 use Rattle.vc_seg.specs.declared.method.Method.TheVariants.{VmBest, VmPool, VmLast}
 use Rattle.vc_script.specs.declared.command.Command.{Command}
 use Rattle.vc_script.specs.declared.command.Command.TheVariants.{OpenRegion, CloseRegion, ClearRegion, Compact, Alloc, Align, Resize, Free, WriteBlock, ReadBlock, SizeOf, AddrOf, SegmentOf, StatOf, Segments, Blocks}
+use Rattle.vc_script.specs.declared.refusal.Refusal.{Refusal}
 use Rattle.vc_script.specs.declared.refusal.Refusal.TheVariants as why
 use Rattle.vc_script.specs.declared.reply.Reply.TheVariants as reply
 use Rattle.vc_script.specs.declared.reply.Reply.TheVariants.{Hex, Size, Written}
@@ -28,7 +29,7 @@ use Rattle.vc_script.specs.Proper.{IsName, IsProperCommand, IsSite}
 use Rattle.vc_script.specs.ProperReply.{IsProperReply}
 use Rattle.vc_script.specs.Words.{is_name}
 use Rattle.vc_session.specs.State.{Changed, Home, Label, State, Stepped, changed_to, close_home, home_named, is_home, opened_as, opened_over, refused, told, unchanged, with_region, without_home}
-use Rattle.vc_session.specs.Blocks.{freed, free_block, has_label, has_room, is_align, is_block, is_size, kept_freed, no_block, put_in, put_new, read_block, resize_block, with_named, write_block}
+use Rattle.vc_session.specs.Blocks.{freed, free_block, has_label, has_room, is_align, is_block, is_size, kept_freed, no_block, align_refused, put_by, site_of, size_refused, put_in, put_new, read_block, resize_block, with_named, write_block}
 use Rattle.vc_session.specs.Whole.{addr_reply, item_of, kept_cleared, segment_reply, with_label, with_labels}
 use Rattle.vc_session.specs.Kept.{Kept, by_name, line_of, with_line, without_name}
 use Rattle.vc_session.specs.Step.{in_region, is_for_block, region_of, region_step, shelf_step, step, step_of}
@@ -59,17 +60,17 @@ proper-outcome : (o : Outcome (Put (Region Label))) → o ≡ outcome_as (relabe
 proper-outcome (Done p) same = sym (ap (region_in p.region) same)
 proper-outcome (Refused why) same = tt
 
-proper-alloc : (terms : Terms) (r : Region Label) (x : List ℕ) (size : ℕ) (refused : Bool) → IsName x → IsProperRegion r → IsProperOutcome (region_alloc terms r (Some x) size refused)
-proper-alloc terms r x size refused name proper =
-    proper-outcome (region_alloc terms r (Some x) size refused)
-    (sym (ap (λ q. region_alloc terms q (name_or_none (Some x)) size refused) proper ∙ ap (λ l. region_alloc terms r l size refused) (name-stays x name))
-    ∙ alloc-relabelled name_or_none terms r (Some x) size refused)
+proper-alloc : (terms : Terms) (r : Region Label) (x site : List ℕ) (size : ℕ) (refused : Bool) → IsName x → IsProperRegion r → IsProperOutcome (region_alloc terms r (Some x) site size refused)
+proper-alloc terms r x site size refused name proper =
+    proper-outcome (region_alloc terms r (Some x) site size refused)
+    (sym (ap (λ q. region_alloc terms q (name_or_none (Some x)) site size refused) proper ∙ ap (λ l. region_alloc terms r l site size refused) (name-stays x name))
+    ∙ alloc-relabelled name_or_none terms r (Some x) site size refused)
 
-proper-align : (terms : Terms) (r : Region Label) (x : List ℕ) (size align : ℕ) (refused : Bool) → IsName x → IsProperRegion r → IsProperOutcome (region_align terms r (Some x) size align refused)
-proper-align terms r x size align refused name proper =
-    proper-outcome (region_align terms r (Some x) size align refused)
-    (sym (ap (λ q. region_align terms q (name_or_none (Some x)) size align refused) proper ∙ ap (λ l. region_align terms r l size align refused) (name-stays x name))
-    ∙ align-relabelled name_or_none terms r (Some x) size align refused)
+proper-align : (terms : Terms) (r : Region Label) (x site : List ℕ) (size align : ℕ) (refused : Bool) → IsName x → IsProperRegion r → IsProperOutcome (region_align terms r (Some x) site size align refused)
+proper-align terms r x site size align refused name proper =
+    proper-outcome (region_align terms r (Some x) site size align refused)
+    (sym (ap (λ q. region_align terms q (name_or_none (Some x)) site size align refused) proper ∙ ap (λ l. region_align terms r l site size align refused) (name-stays x name))
+    ∙ align-relabelled name_or_none terms r (Some x) site size align refused)
 
 proper-resize : (terms : Terms) (r : Region Label) (at : ℕ × ℕ) (size : ℕ) (may_move refused : Bool) → IsProperRegion r → IsProperOutcome (region_resize terms r at size may_move refused)
 proper-resize terms r at size may_move refused proper =
@@ -135,15 +136,23 @@ proper-put : (h : Home) (x : List ℕ) (kept : Kept) (watch : Option ℕ) (o : O
 proper-put h x kept watch (Done p) name all names there = (name, there, names)
 proper-put h x kept watch (Refused fault) name all names there = (tt, all.0, all.1)
 
-proper-put_new : (h : Home) (x : List ℕ) (legal : Bool) (o : Outcome (Put (Region Label))) → IsName x → IsProperHome h → IsProperOutcome o → IsProperChange (put_new h x legal o)
-proper-put_new h x legal o name all there =
-    let few = has_room h x in
+proper-put_by : (h : Home) (x : List ℕ) (words : Option Refusal) (o : Outcome (Put (Region Label))) → IsName x → IsProperHome h → IfSome words (λ w. IsProperReply (reply.Refused w)) → IsProperOutcome o → IsProperChange (put_by h x words o)
+proper-put_by h x (Some refusal) o name all proper there = (proper, all.0, all.1)
+proper-put_by h x None o name all proper there =
     let left = without_name x h.kept in
-    let within = cond few (put_in h x left None o) (unchanged h why.TooManyBlocks) in
-    change-cond (has_label x h.region) (unchanged h why.BlockExists) (cond legal within (unchanged h why.Size)) (tt, all.0, all.1)
-    (change-cond legal within (unchanged h why.Size)
-    (change-cond few (put_in h x left None o) (unchanged h why.TooManyBlocks) (proper-put h x left None o name all (proper-without x h.kept all.1) there) (tt, all.0, all.1))
-    (tt, all.0, all.1))
+    change-cond (has_room h x) (put_in h x left None o) (unchanged h why.TooManyBlocks) (proper-put h x left None o name all (proper-without x h.kept all.1) there) (tt, all.0, all.1)
+
+proper-put_new : (h : Home) (x : List ℕ) (words : Option Refusal) (o : Outcome (Put (Region Label))) → IsName x → IsProperHome h → IfSome words (λ w. IsProperReply (reply.Refused w)) → IsProperOutcome o → IsProperChange (put_new h x words o)
+proper-put_new h x words o name all proper there =
+    change-cond (has_label x h.region) (unchanged h why.BlockExists) (put_by h x words o) (tt, all.0, all.1) (proper-put_by h x words o name all proper there)
+
+proper-sized : (legal : Bool) → IfSome (let o : Option Refusal = cond legal None (Some why.Size) in o) (λ w. IsProperReply (reply.Refused w))
+proper-sized true = tt
+proper-sized false = tt
+
+proper-aligned : (aligned legal : Bool) → IfSome (let o : Option Refusal = cond aligned (cond legal None (Some why.Size)) (Some why.WrongMethod) in o) (λ w. IsProperReply (reply.Refused w))
+proper-aligned true legal = proper-sized legal
+proper-aligned false legal = tt
 
 proper-free_block : (h : Home) (x : List ℕ) (kept : Kept) (watch : Option ℕ) (o : Outcome (Region Label)) → IsName x → IsProperHome h → AreProperNames kept → IsProperFreed o → IsProperChange (freed h x kept watch o)
 proper-free_block h x kept watch (Done r) name all names there = (name, there, names)
@@ -204,9 +213,9 @@ proper-in_region h line (ClearRegion r) need proper all =
 proper-in_region h line (Compact r) need proper all =
     (proper, sym (compact-relabelled name_or_none h.region) ∙ ap (λ q. region_compact q) all.0, all.1)
 proper-in_region h line (Alloc r x size site) need proper all =
-    proper-put_new h x (is_size size) (region_alloc h.terms h.region (Some x) size (is_for_block need)) proper.1 all (proper-alloc h.terms h.region x size (is_for_block need) proper.1 all.0)
+    proper-put_new h x (size_refused size) (region_alloc h.terms h.region (Some x) (site_of site) size (is_for_block need)) proper.1 all (proper-sized (is_size size)) (proper-alloc h.terms h.region x (site_of site) size (is_for_block need) proper.1 all.0)
 proper-in_region h line (Align r x size align) need proper all =
-    proper-put_new h x (is_size size && is_align align) (region_align h.terms h.region (Some x) size align (is_for_block need)) proper.1 all (proper-align h.terms h.region x size align (is_for_block need) proper.1 all.0)
+    proper-put_new h x (align_refused h.region size align) (region_align h.terms h.region (Some x) (45 ∷ []) size align (is_for_block need)) proper.1 all (proper-aligned (aligns h.region) (is_size size && is_align align)) (proper-align h.terms h.region x (45 ∷ []) size align (is_for_block need) proper.1 all.0)
 proper-in_region h line (Resize r x size may_move) need proper all =
     proper-with_named h x (find (is_block x) (blocks_of h.region)) (resize_block h x size may_move (is_for_block need)) all (λ b. proper-resize_block h x size may_move (is_for_block need) b proper.1 all)
 proper-in_region h line (Free r x) need proper all =

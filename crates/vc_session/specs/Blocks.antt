@@ -5,7 +5,7 @@ use Rattle.std.specs.Str.{bytes_eq}
 use Rattle.vc_model.specs.Layout.{Block}
 use Rattle.vc_model.specs.Outcome as model
 use Rattle.vc_model.specs.Outcome.{Fault, Outcome, Done, Refused, Put}
-use Rattle.vc_region.specs.Region.{Region, blocks_of, region_align, region_alloc, region_free, region_resize, region_write, keeps_freed, watch_at}
+use Rattle.vc_region.specs.Region.{Region, blocks_of, region_align, region_alloc, region_free, region_resize, region_write, aligns, keeps_freed, watch_at}
 use Rattle.vc_seg.specs.declared.fault.RegionFault.{RegionFault}
 use Rattle.vc_seg.specs.declared.fault.RegionFault.TheVariants as code
 use Rattle.vc_script.specs.declared.reply.Reply.{Reply}
@@ -87,22 +87,39 @@ abbrev pub put_in : Home → List ℕ → Kept → Option ℕ → Outcome (Put (
 put_in h x kept watch (Done p) = record { region = p.region; kept = kept; reply = at_place x p.at watch; granted = p.granted }
 put_in h x kept watch (Refused fault) = unchanged h (refusal_of fault)
 
--- a new block needs a name that no block has, a size and an alignment that a script can have, and room for the name; the name is kept as freed no more
-abbrev pub put_new : Home → List ℕ → Bool → Outcome (Put (Region Label)) → Changed
-put_new h x is_legal outcome =
-    if has_label x h.region then unchanged h why.BlockExists
-    else (if is_legal
-    then (if has_room h x then put_in h x (without_name x h.kept) None outcome else unchanged h why.TooManyBlocks)
-    else unchanged h why.Size)
+-- a new block whose name no block has
+abbrev pub put_by : Home → List ℕ → Option Refusal → Outcome (Put (Region Label)) → Changed
+put_by h x (Some refusal) outcome = unchanged h refusal
+put_by h x None outcome =
+    if has_room h x then put_in h x (without_name x h.kept) None outcome else unchanged h why.TooManyBlocks
+
+-- a new block needs a name that no block has, words that are not refused, and room for the name; the name is kept as freed no more
+abbrev pub put_new : Home → List ℕ → Option Refusal → Outcome (Put (Region Label)) → Changed
+put_new h x words outcome = if has_label x h.region then unchanged h why.BlockExists else put_by h x words outcome
+
+-- the refusal of the size of a new block
+abbrev pub size_refused : ℕ → Option Refusal
+size_refused size = if is_size size then None else Some why.Size
+
+-- and of an alignment besides, in a region whose method aligns blocks
+abbrev pub align_refused : {L : Type 0} → Region L → ℕ → ℕ → Option Refusal
+align_refused r size align =
+    if aligns r then (if is_size size && is_align align then None else Some why.Size) else Some why.WrongMethod
+
+-- the site of an allocation; a hyphen where the command has none
+abbrev pub site_of : Option (List ℕ) → List ℕ
+site_of None = 45 ∷ []
+site_of (Some site) = site
 
 -- a block is allocated; whether a segment is refused is the one free choice
-abbrev pub alloc_in : Home → List ℕ → ℕ → Bool → Changed
-alloc_in h x size not_lent = put_new h x (is_size size) (region_alloc h.terms h.region (Some x) size not_lent)
+abbrev pub alloc_in : Home → List ℕ → Option (List ℕ) → ℕ → Bool → Changed
+alloc_in h x site size not_lent =
+    put_new h x (size_refused size) (region_alloc h.terms h.region (Some x) (site_of site) size not_lent)
 
 -- and at an offset that the alignment divides
 abbrev pub align_in : Home → List ℕ → ℕ → ℕ → Bool → Changed
 align_in h x size align not_lent =
-    put_new h x (is_size size && is_align align) (region_align h.terms h.region (Some x) size align not_lent)
+    put_new h x (align_refused h.region size align) (region_align h.terms h.region (Some x) (45 ∷ []) size align not_lent)
 
 -- the names that are kept once a block of that name is freed at a line
 abbrev pub kept_freed : Home → List ℕ → ℕ → Kept

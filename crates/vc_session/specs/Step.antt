@@ -39,7 +39,7 @@ region_of command = None
 abbrev pub in_region : Home → ℕ → Command → Need → Changed
 in_region h line (ClearRegion r) need = clear_in h r line
 in_region h line (Compact r) need = compact_in h r
-in_region h line (Alloc r x size site) need = alloc_in h x size (is_for_block need)
+in_region h line (Alloc r x size site) need = alloc_in h x site size (is_for_block need)
 in_region h line (Align r x size align) need = align_in h x size align (is_for_block need)
 in_region h line (Resize r x size may_move) need = resize_in h x size may_move (is_for_block need)
 in_region h line (Free r x) need = free_in h x line

@@ -65,7 +65,7 @@ impl HomeEntry {
         match command {
             Command::ClearRegion(name) => Ok(self.clear(labels, *name, line)),
             Command::Compact(name) => Ok(self.compact(*name)),
-            Command::Alloc(_, block, size, _) => self.allocate(labels, *block, *size),
+            Command::Alloc(_, block, size, site) => self.allocate(labels, *block, *site, *size),
             Command::Align(_, block, size, align) => self.align(labels, *block, *size, *align),
             Command::Resize(_, block, size, may_move) => self.resize(
                 labels, block, *size, *may_move,

@@ -1,12 +1,22 @@
-// What a region keeps of its blocks besides themselves: freed names and watches.
+// What a region's method allows, and what the region keeps of its blocks besides themselves: freed names and watches.
 ghost use Rattle.std.specs.Prelude.{◌≡◌};
 ghost use Rattle.vc_model.specs.Addr.{place_of};
 ghost use Rattle.vc_model.specs.Touch.{HasBlock};
 ghost use Rattle.vc_region.specs.Parts.{blocks_in, region_of};
-ghost use Rattle.vc_region.specs.Region.{keeps_freed, watch_at};
+ghost use Rattle.vc_region.specs.Region.{aligns, keeps_freed, watch_at};
 
 use vc_base::Addr;
 use vc_region::Region;
+
+// Whether its method aligns blocks.
+pub(crate) fn aligns(region: &Region) -> bool
+    ensures { result ≡ aligns (region_of region.now) }
+{
+    match region {
+        Region::Best(_) => true,
+        Region::Pool(_) | Region::Last(_) => false,
+    }
+}
 
 // Whether the names of freed blocks are kept.
 pub(crate) fn keeps_freed(region: &Region) -> bool

@@ -178,10 +178,12 @@ pub fn kept_name()
 
 /// Kept names stand by name. A second free takes the new line, and all names of a region are kept with one line.
 pub fn names_kept()
-    ensures put { with_line (codes "a") 7 ((codes "b", 3) ∷ []) ≡ (codes "a", 7) ∷ (codes "b", 3) ∷ [] }
+    ensures put { with_line (codes "a") 7 ((codes "b", 3) ∷ [])
+        ≡ (codes "a", 7) ∷ (codes "b", 3) ∷ [] }
     ensures again { with_line (codes "b") 7 ((codes "b", 3) ∷ []) ≡ (codes "b", 7) ∷ [] }
     ensures taken { without_name (codes "b") ((codes "b", 3) ∷ []) ≡ [] }
-    ensures all { with_labels (block_with (codes "c") 1 32 1 [] ∷ block_with (codes "a") 1 64 1 [] ∷ [])
+    ensures all { with_labels
+        (block_with (codes "c") 1 32 1 [] ∷ block_with (codes "a") 1 64 1 [] ∷ [])
         9 ((codes "b", 3) ∷ [])
         ≡ (codes "a", 9) ∷ (codes "b", 3) ∷ (codes "c", 9) ∷ [] }
 {}
