@@ -6,7 +6,7 @@ ghost use Rattle.vc_model.specs.Compact.{cleared, compact_count, compacted};
 ghost use Rattle.vc_model.specs.Discipline.{HasOut, TookBack};
 ghost use Rattle.vc_model.specs.Layout.{address_of, empty_layout};
 ghost use Rattle.vc_model.specs.Place.{IsAlign};
-ghost use Rattle.vc_model.specs.Sound.{IsSound};
+ghost use Rattle.vc_model.specs.Sound.{HasWholeBlocks, IsSound};
 ghost use Rattle.vc_model.specs.Touch.{HasBlock};
 ghost use Rattle.vc_model.specs.Walk.{block_at, next_block, next_segment, segment_at};
 ghost use Rattle.vc_seg.specs.Answer.{Answers, Asks, IsPut};
@@ -61,6 +61,7 @@ impl Layout {
     pub(crate) fn new(alloc: Global) -> Layout
         ensures value { result ≡ empty_layout }
         ensures sound { IsSound result }
+        ensures whole { HasWholeBlocks result }
     {
         Layout {
             segs: Vec::new(alloc),
@@ -97,6 +98,7 @@ impl Layout {
         ensures only { IfErr result (λ e. e ≡ RegionFault.OutOfMemory) }
         ensures fresh { IfOk result (λ a. ¬ HasBlock self.old.blocks a.0) }
         ensures sound { IsSound self.new }
+        ensures whole { HasWholeBlocks self.new }
     {
         reserve_one(&mut self.blocks)?;
         fill_in(&mut self.segs, seg, off, size, 0);
@@ -130,6 +132,7 @@ impl Layout {
             self.old.segments self.new.segments (best_need (state disc.old).terms size align) }
         ensures fresh { IfOk result (λ a. ¬ HasBlock self.old.blocks a.0) }
         ensures sound { IsSound self.new }
+        ensures whole { HasWholeBlocks self.new }
     {
         if self.segs.len() >= 1023 {
             return Err(RegionFault::TooManySegments);
@@ -160,6 +163,7 @@ impl Layout {
             → self.new.blocks ≡ remove self.old.blocks i }
         ensures none_left { ¬ HasBlock self.new.blocks a.0 }
         ensures sound { IsSound self.new }
+        ensures whole { HasWholeBlocks self.new }
     {
         take_out(&mut self.blocks, a.seg(), a.off());
     }
@@ -222,6 +226,7 @@ impl Layout {
     pub(crate) fn clear(&mut self)
         ensures value { self.new ≡ cleared self.old }
         ensures sound { IsSound self.new }
+        ensures whole { HasWholeBlocks self.new }
     {
         self.blocks.clear();
     }
@@ -234,6 +239,7 @@ impl Layout {
         ensures disc { TookBack (state disc.old) (state disc.new)
             self.old.segments self.new.segments }
         ensures sound { IsSound self.new }
+        ensures whole { HasWholeBlocks self.new }
     {
         let before = self.segs.len();
         give_back_empty(&mut self.segs, &self.blocks, disc);

@@ -2,7 +2,7 @@ ghost use Rattle.std.specs.Prelude.{◌≡◌, ◌≤◌, IfSome, map, take};
 ghost use Rattle.vc_model.specs.Addr.{place_of};
 ghost use Rattle.vc_model.specs.Best.{without_block_at};
 ghost use Rattle.vc_model.specs.Layout.{address_of};
-ghost use Rattle.vc_model.specs.Sound.{IsSound};
+ghost use Rattle.vc_model.specs.Sound.{HasWholeBlocks, IsSound};
 ghost use Rattle.vc_model.specs.Touch.{HasBlock, find_block, with_bytes_at};
 
 use crate::copy::copy_in;
@@ -35,6 +35,7 @@ impl Layout {
             (λ b. self.new ≡ without_block_at
             (with_bytes_at self.old (place_of to.0) 0 (take size b.bytes)) (place_of a.0)) }
         ensures sound { IsSound self.new }
+        ensures whole { HasWholeBlocks self.new }
     {
         self.copy_front(a, to, size);
         self.free(a);

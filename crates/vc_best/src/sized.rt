@@ -2,7 +2,7 @@ ghost use Rattle.std.specs.Prelude.{◌≡◌, ◌≤◌, Some, IfSome, option_m
 ghost use Rattle.std.specs.List.{find};
 ghost use Rattle.vc_model.specs.Addr.{place_of};
 ghost use Rattle.vc_model.specs.Resize.{can_stay, resize_there};
-ghost use Rattle.vc_model.specs.Sound.{IsSound};
+ghost use Rattle.vc_model.specs.Sound.{HasWholeBlocks, IsSound};
 ghost use Rattle.vc_model.specs.Touch.{HasBlock, find_block};
 ghost use Rattle.vc_best.specs.Slot.{HasSlotAt, is_slot_at};
 ghost use Rattle.vc_best.specs.Stay.{resize_slot};
@@ -64,6 +64,7 @@ impl Layout {
             (λ b. can_stay self.old size b ≡ true) }
         ensures value { self.new ≡ resize_there self.old (place_of a.0) size }
         ensures sound { IsSound self.new }
+        ensures whole { HasWholeBlocks self.new }
     {
         let before = set_size(&mut self.blocks, a.seg(), a.off(), size);
         let kept = before.min(size);

@@ -1,7 +1,7 @@
 ghost use Rattle.std.specs.Prelude.{◌≡◌, ◌+◌, Some, length, take, drop, option_map, replicate};
 ghost use Rattle.std.specs.List.{find};
 ghost use Rattle.vc_model.specs.Addr.{place_of};
-ghost use Rattle.vc_model.specs.Sound.{IsSound};
+ghost use Rattle.vc_model.specs.Sound.{HasWholeBlocks, IsSound};
 ghost use Rattle.vc_model.specs.Touch.{HasBlock, HasRange, find_block, with_bytes_at};
 ghost use Rattle.vc_best.specs.Slot.{is_slot_at};
 
@@ -61,6 +61,7 @@ impl Layout {
         requires range { HasRange self.old.blocks a.0 off (length src.now) }
         ensures value { self.new ≡ with_bytes_at self.old (place_of a.0) off src.now }
         ensures sound { IsSound self.new }
+        ensures whole { HasWholeBlocks self.new }
     {
         put_in(&mut self.segs, a.seg(), a.off() + off, src);
     }
@@ -71,6 +72,7 @@ impl Layout {
         requires range { HasRange self.old.blocks a.0 off len }
         ensures value { self.new ≡ with_bytes_at self.old (place_of a.0) off (replicate len byte) }
         ensures sound { IsSound self.new }
+        ensures whole { HasWholeBlocks self.new }
     {
         fill_in(&mut self.segs, a.seg(), a.off() + off, len, byte);
     }

@@ -6,7 +6,7 @@ use Rattle.vc_best.specs.Slot.{run_of_slot}
 use Rattle.vc_best.proofs.Allocs.{IsAskedFor, IsLayout-lent, best_alloc-lent, clear-lent, best_gap-none}
 use Rattle.vc_best.proofs.Rounding.{IsAligned-from_IsAlign, IsSegmentSize-asked}
 use Rattle.vc_best.proofs.Blocks.{no_block_at}
-use Rattle.vc_best.proofs.Sounds.{IsSound-layout}
+use Rattle.vc_best.proofs.Sounds.{HasWholeBlocks-layout, IsSound-layout}
 use Rattle.vc_best.proofs.layout.Layout.alloc_in_new.Goals as goal
 use Rattle.vc_best.proofs.layout.Layout.alloc_in_new.Goals.{After-put_among}
 use Rattle.vc_best.proofs.layout.Layout.alloc_in_new.Given.{Over}
@@ -69,17 +69,35 @@ returns-clause-fresh g c =
 pub returns-clause-sound : goal.returns-clause-sound
 returns-clause-sound g c = IsSound-layout c.push_reserved.new.self.items c.put_among.new.slots.items (whole g (goal.at.returns-clause-sound g c).After-put_among)
 
+pub returns-clause-whole : goal.returns-clause-whole
+returns-clause-whole g c = HasWholeBlocks-layout c.push_reserved.new.self.items c.put_among.new.slots.items (whole g (goal.at.returns-clause-whole g c).After-put_among)
+
 pub returns-then-len-ge1023-clause-sound : goal.returns-then-len-ge1023-clause-sound
 returns-then-len-ge1023-clause-sound g c = rw (← c.self.view_is) (IsSound-layout c.self.inside.segs.items c.self.inside.blocks.items c.self.invariant)
+
+pub returns-then-len-ge1023-clause-whole : goal.returns-then-len-ge1023-clause-whole
+returns-then-len-ge1023-clause-whole g c = rw (← c.self.view_is) (HasWholeBlocks-layout c.self.inside.segs.items c.self.inside.blocks.items c.self.invariant)
 
 pub returns-in_err-reserve_one-clause-sound : goal.returns-in_err-reserve_one-clause-sound
 returns-in_err-reserve_one-clause-sound g c =
     rw c.in_err-reserve_one.ensures.items (IsSound-layout c.self.inside.segs.items c.self.inside.blocks.items c.self.invariant)
 
+pub returns-in_err-reserve_one-clause-whole : goal.returns-in_err-reserve_one-clause-whole
+returns-in_err-reserve_one-clause-whole g c =
+    rw c.in_err-reserve_one.ensures.items (HasWholeBlocks-layout c.self.inside.segs.items c.self.inside.blocks.items c.self.invariant)
+
 pub returns-in_err-reserve_one-2-clause-sound : goal.returns-in_err-reserve_one-2-clause-sound
 returns-in_err-reserve_one-2-clause-sound g c =
     rw (c.in_ok-reserve_one.ensures.items, c.in_err-reserve_one-2.ensures.items) (IsSound-layout c.self.inside.segs.items c.self.inside.blocks.items c.self.invariant)
 
+pub returns-in_err-reserve_one-2-clause-whole : goal.returns-in_err-reserve_one-2-clause-whole
+returns-in_err-reserve_one-2-clause-whole g c =
+    rw (c.in_ok-reserve_one.ensures.items, c.in_err-reserve_one-2.ensures.items) (HasWholeBlocks-layout c.self.inside.segs.items c.self.inside.blocks.items c.self.invariant)
+
 pub returns-in_err-segment-clause-sound : goal.returns-in_err-segment-clause-sound
 returns-in_err-segment-clause-sound g c =
     rw (c.in_ok-reserve_one.ensures.items, c.in_ok-reserve_one-2.ensures.items) (IsSound-layout c.self.inside.segs.items c.self.inside.blocks.items c.self.invariant)
+
+pub returns-in_err-segment-clause-whole : goal.returns-in_err-segment-clause-whole
+returns-in_err-segment-clause-whole g c =
+    rw (c.in_ok-reserve_one.ensures.items, c.in_ok-reserve_one-2.ensures.items) (HasWholeBlocks-layout c.self.inside.segs.items c.self.inside.blocks.items c.self.invariant)

@@ -1,6 +1,6 @@
 use Rattle.std.proofs.Common.{◌≡◌, length, ap, ◌∙◌, arith}
 use Rattle.vc_best.proofs.Compacts.{IsLayout-occupied, occupied, occupied-most, layout_of-occupied, compact_count-lengths}
-use Rattle.vc_best.proofs.Sounds.{IsSound-layout}
+use Rattle.vc_best.proofs.Sounds.{HasWholeBlocks-layout, IsSound-layout}
 use Rattle.vc_best.proofs.layout.Layout.compact.Goals as goal
 use Rattle.vc_best.proofs.layout.Layout.compact.Goals.{After-give_back_empty}
 use Rattle.vc_best.proofs.layout.Layout.compact.Given.{Over}
@@ -32,3 +32,8 @@ pub returns-clause-sound : goal.returns-clause-sound
 returns-clause-sound g c =
     rw (c.give_back_empty.ensures.segments, c.deref.ensures.value)
     (IsSound-layout _ c.self.inside.blocks.items (IsLayout-occupied c.self.inside.segs.items c.self.inside.blocks.items c.self.invariant))
+
+pub returns-clause-whole : goal.returns-clause-whole
+returns-clause-whole g c =
+    rw (c.give_back_empty.ensures.segments, c.deref.ensures.value)
+    (HasWholeBlocks-layout _ c.self.inside.blocks.items (IsLayout-occupied c.self.inside.segs.items c.self.inside.blocks.items c.self.invariant))

@@ -2,7 +2,7 @@ use Rattle.vc_model.specs.Addr.{place_of}
 use Rattle.vc_best.proofs.Frees.{Contains-place, IsLayout-without_slot, layout_of-without_slot}
 use Rattle.vc_best.proofs.Blocks.{no_block_left}
 use Rattle.vc_best.proofs.Places.{freed-remove}
-use Rattle.vc_best.proofs.Sounds.{IsSound-layout}
+use Rattle.vc_best.proofs.Sounds.{HasWholeBlocks-layout, IsSound-layout}
 use Rattle.vc_best.proofs.layout.Layout.free.Goals as goal
 
 pub take_out-requires : goal.take_out-requires
@@ -34,3 +34,8 @@ pub returns-clause-sound : goal.returns-clause-sound
 returns-clause-sound c =
     rw (c.take_out.ensures.slots, c.seg.ensures, c.off.ensures)
     (IsSound-layout c.self.inside.segs.items _ (IsLayout-without_slot c.self.inside.segs.items (place_of c.args.a.0) c.self.inside.blocks.items c.self.invariant))
+
+pub returns-clause-whole : goal.returns-clause-whole
+returns-clause-whole c =
+    rw (c.take_out.ensures.slots, c.seg.ensures, c.off.ensures)
+    (HasWholeBlocks-layout c.self.inside.segs.items _ (IsLayout-without_slot c.self.inside.segs.items (place_of c.args.a.0) c.self.inside.blocks.items c.self.invariant))

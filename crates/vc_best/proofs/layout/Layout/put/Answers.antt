@@ -10,7 +10,7 @@ use Rattle.vc_best.proofs.Allocs.{slot_at, IsSlotAt-place, clear-place}
 use Rattle.vc_best.proofs.Regions.{IsSlotAt, stands}
 use Rattle.vc_best.proofs.Writes.{put-within, IsLayout-put, layout_of-put}
 use Rattle.vc_best.proofs.Blocks.{no_block_at}
-use Rattle.vc_best.proofs.Sounds.{IsSound-layout}
+use Rattle.vc_best.proofs.Sounds.{HasWholeBlocks-layout, IsSound-layout}
 use Rattle.vc_best.proofs.layout.Layout.put.Goals as goal
 use Rattle.vc_best.proofs.layout.Layout.put.Goals.{After-put_among}
 
@@ -82,5 +82,12 @@ pub returns-in_err-reserve_one-clause-sound : goal.returns-in_err-reserve_one-cl
 returns-in_err-reserve_one-clause-sound c =
     rw c.in_err-reserve_one.ensures.items (IsSound-layout c.self.inside.segs.items c.self.inside.blocks.items c.self.invariant)
 
+pub returns-in_err-reserve_one-clause-whole : goal.returns-in_err-reserve_one-clause-whole
+returns-in_err-reserve_one-clause-whole c =
+    rw c.in_err-reserve_one.ensures.items (HasWholeBlocks-layout c.self.inside.segs.items c.self.inside.blocks.items c.self.invariant)
+
 pub returns-clause-sound : goal.returns-clause-sound
 returns-clause-sound c = IsSound-layout _ c.put_among.new.slots.items (whole (goal.at.returns-clause-sound c).After-put_among)
+
+pub returns-clause-whole : goal.returns-clause-whole
+returns-clause-whole c = HasWholeBlocks-layout _ c.put_among.new.slots.items (whole (goal.at.returns-clause-whole c).After-put_among)

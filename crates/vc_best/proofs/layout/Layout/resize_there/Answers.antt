@@ -10,7 +10,7 @@ use Rattle.vc_best.specs.Write.{write_segment}
 use Rattle.vc_best.specs.Parts.{IsLayout, layout_of}
 use Rattle.vc_best.proofs.Frees.{Contains-place}
 use Rattle.vc_best.proofs.Stays.{sized-some, sized-within, sized-layout, sized-region}
-use Rattle.vc_best.proofs.Sounds.{IsSound-layout}
+use Rattle.vc_best.proofs.Sounds.{HasWholeBlocks-layout, IsSound-layout}
 use Rattle.vc_best.proofs.layout.Layout.resize_there.Goals as goal
 use Rattle.vc_best.proofs.layout.Layout.resize_there.Goals.{After-off-2, After-fill_in}
 
@@ -62,3 +62,6 @@ returns-clause-value c =
 
 pub returns-clause-sound : goal.returns-clause-sound
 returns-clause-sound c = IsSound-layout _ c.set_size-before.new.slots.items (whole (goal.at.returns-clause-sound c).After-fill_in)
+
+pub returns-clause-whole : goal.returns-clause-whole
+returns-clause-whole c = HasWholeBlocks-layout _ c.set_size-before.new.slots.items (whole (goal.at.returns-clause-whole c).After-fill_in)

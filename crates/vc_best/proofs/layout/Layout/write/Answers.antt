@@ -5,7 +5,7 @@ use Rattle.vc_model.specs.Addr.{place_of}
 use Rattle.vc_best.specs.Parts.{IsLayout, layout_of}
 use Rattle.vc_best.specs.Write.{write_segment}
 use Rattle.vc_best.proofs.Found.{InBlock, IsLive, some-range, within-range, below-range, IsLayout-range, layout_of-range}
-use Rattle.vc_best.proofs.Sounds.{IsSound-layout}
+use Rattle.vc_best.proofs.Sounds.{HasWholeBlocks-layout, IsSound-layout}
 use Rattle.vc_best.proofs.layout.Layout.write.Goals as goal
 use Rattle.vc_best.proofs.layout.Layout.write.Goals.{After-off, After-put_in}
 
@@ -53,3 +53,6 @@ returns-clause-value c =
 
 pub returns-clause-sound : goal.returns-clause-sound
 returns-clause-sound c = IsSound-layout _ c.self.inside.blocks.items (whole (goal.at.returns-clause-sound c).After-put_in)
+
+pub returns-clause-whole : goal.returns-clause-whole
+returns-clause-whole c = HasWholeBlocks-layout _ c.self.inside.blocks.items (whole (goal.at.returns-clause-whole c).After-put_in)
