@@ -143,21 +143,21 @@ impl Best {
             (block_at (seg, off) self.now.layout.blocks) }
         ensures live { IfSome result (λ f. HasBlock self.now.layout.blocks f.0.0) }
     {
-        self.layout.block_at(seg, off)
+        self.layout.held().block_at(seg, off)
     }
 
     /// The size of the segment of that number, where it has a byte at that offset, else None.
     pub fn segment_at(&self, seg: u32, off: u32) -> Option<u32>
         ensures { result ≡ segment_at (seg, off) self.now.layout.segments }
     {
-        self.layout.segment_at(seg, off)
+        self.layout.held().segment_at(seg, off)
     }
 
     /// The segment with the least number above one, as number and size. A walk begins with 0, and ends with None.
     pub fn next_segment(&self, after: u32) -> Option<(u32, u32)>
         ensures { result ≡ next_segment after self.now.layout.segments }
     {
-        self.layout.next_segment(after)
+        self.layout.held().next_segment(after)
     }
 
     /// The block behind one in order of addresses. A walk begins with `Addr::NONE`, and ends with None.

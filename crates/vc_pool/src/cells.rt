@@ -126,7 +126,7 @@ impl Cells {
                 let bytes = rounded_up(32 + cell, round_of(disc));
                 match self
                     .layout
-                    .put_in_new(Order::ByAddress, disc, alloc, bytes, size, tag)
+                    .put_in_new(Order::ByAddress, disc, alloc, bytes, 32, size, tag)
                 {
                     Ok(a) => {
                         carve_one(&mut self.carved, a.seg());

@@ -11,7 +11,7 @@ use Rattle.vc_model.proofs.Owned.{found-below, found-first}
 use Rattle.vc_model.proofs.Places.{own-places}
 use Rattle.vc_region.specs.Cells.{StaysButCells, cell_bytes, cells_in, is_unlabelled}
 use Rattle.vc_region.specs.declared.region.Region.{Region}
-use Rattle.vc_region.specs.declared.region.Region.TheVariants.{Best}
+use Rattle.vc_region.specs.declared.region.Region.TheVariants.{Best, Pool, Last}
 
 -- the block that shows bytes as a cell
 pub cell-of : (o : Option (Block ℕ)) → IsSome (cell_bytes o) → (b : Block ℕ) × (o ≡ Some b) × (is_unlabelled b ≡ true)
@@ -29,6 +29,8 @@ cells-addresses (Best best) a h =
       some = ∥∥₁_elim best.sound (le_prop) (λ s. found-first a best.layout.blocks c.0 c.1 (own-places best.layout s).first);
       fits = ∥∥₁_elim best.whole (le_prop) (λ s. found-below a (2 ^ 32) best.layout.blocks c.0 c.1 s.fits);
     }
+cells-addresses (Pool pool) a h = absurd (true≢false (sym h))
+cells-addresses (Last last) a h = absurd (true≢false (sym h))
 
 pub stays-same : {I : Type 0} {V : I → Type 0} (r : Region I V) → StaysButCells r r
 stays-same r = record { region = refl; disc = refl }

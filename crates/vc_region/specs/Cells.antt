@@ -33,13 +33,21 @@ emptied b = if is_unlabelled b then record b { bytes = [] } else b
 abbrev pub emptied_layout : Layout ℕ → Layout ℕ
 emptied_layout r = record { segments = r.segments; blocks = map emptied r.blocks }
 
+-- no cell
+abbrev pub no_cells : Blocks
+no_cells = λ a. None
+
 -- the cells of a region, by its method
 abbrev pub region_cells : model.Region ℕ → Blocks
 region_cells (model.OfBest layout) = cells_of layout.blocks
+region_cells (model.OfPool pool) = no_cells
+region_cells (model.OfLast layout) = no_cells
 
 -- a region but for the bytes in its cells
 abbrev pub rest_of : model.Region ℕ → model.Region ℕ
 rest_of (model.OfBest layout) = model.OfBest (emptied_layout layout)
+rest_of (model.OfPool pool) = model.OfPool pool
+rest_of (model.OfLast layout) = model.OfLast layout
 
 -- its cells
 abbrev pub cells_in : {I : Type 0} {V : I → Type 0} → Region I V → Blocks

@@ -1,11 +1,13 @@
 -- What freeing the block of a name answers, and how it changes the region.
-use Rattle.std.proofs.Common.{◌≡◌, ℕ, Bool, List, Option, Some, None, IfSome, IfNone, refl, sym, ap, ◌∙◌, subst}
+use Rattle.std.proofs.Common.{◌≡◌, ℕ, Bool, true, false, cond, List, Option, Some, None, IfSome, IfNone, refl, sym, ap, ◌∙◌, subst}
 use Rattle.std.proofs.lemmas.Option.{none-some, same_Some}
 use Rattle.vc_base.specs.declared.addr.Addr.{Addr}
+use Rattle.vc_model.specs.Best.{without_block_at}
+use Rattle.vc_model.specs.Last.{if_latest, latest}
 use Rattle.vc_model.specs.Addr.{place_of}
-use Rattle.vc_model.specs.Layout.{without_block}
-use Rattle.vc_model.specs.Outcome.{Outcome, Done, Refused}
-use Rattle.vc_region.specs.Region.{OfBest, Region, blocks_of, region_free, relabelled, segments_of}
+use Rattle.vc_model.specs.Layout.{Block, is_at, without_block}
+use Rattle.vc_model.specs.Outcome.{Outcome, Done, NotLast, Refused, done_as}
+use Rattle.vc_region.specs.Region.{OfBest, OfPool, OfLast, Region, blocks_of, region_free, relabelled, segments_of}
 use Rattle.vc_region.proofs.Relabel.{free-relabelled, relabel_freed}
 use Rattle.vc_script.specs.declared.reply.Reply.{Reply}
 use Rattle.vc_script.specs.declared.reply.Reply.TheVariants.{Freed}
@@ -22,11 +24,25 @@ use Rattle.vc_session.proofs.Moving.{region-less}
 
 -- it leaves the segments
 pub free-segments : (r r' : Region ℕ) (at : ℕ × ℕ) → region_free r at ≡ Done r' → segments_of r' ≡ segments_of r
-free-segments (OfBest l) r' at e = sym (ap (λ o. segments_of (done r' o)) e)
+free-segments r r' at e = sym (ap (λ o. segments_of (done r' o)) e) ∙ kept r at r' e
   where
     done : Region ℕ → Outcome (Region ℕ) → Region ℕ
     done d (Done q) = q
     done d (Refused why) = d
+
+    -- where the block goes, whatever stands for a refusal
+    kept : (r : Region ℕ) (at : ℕ × ℕ) (d : Region ℕ) → region_free r at ≡ Done d → segments_of (done d (region_free r at)) ≡ segments_of r
+    kept (OfBest l) at d e = refl
+    kept (OfPool p) at d e = refl
+    kept (OfLast l) at d e = latest_kept (latest l) e
+      where
+        latest_kept : (o : Option (Block ℕ)) → done_as OfLast (if_latest at (λ b. Done (without_block_at l at)) o) ≡ Done d → segments_of (done d (done_as OfLast (if_latest at (λ b. Done (without_block_at l at)) o))) ≡ l.segments
+        latest_kept None e = absurd cc
+        latest_kept (Some b) e = chosen (is_at at b) e
+          where
+            chosen : (v : Bool) → done_as OfLast (cond v (Done (without_block_at l at)) (Refused NotLast)) ≡ Done d → segments_of (done d (done_as OfLast (cond v (Done (without_block_at l at)) (Refused NotLast)))) ≡ l.segments
+            chosen true e = refl
+            chosen false e = absurd cc
 
 module _ (h : Held) (x : List ℕ) (tag : ℕ) (label : Label) (names : IsNamed h.region h.labels) (is_named : label.name ≡ x) (was_named : tag_of h.labels x ≡ Some tag) (was_at : label_at h.labels tag ≡ Some label) where
   abbrev b : TheBlock h.region h.labels x tag label.at.0

@@ -1,10 +1,12 @@
 -- Which replies tell that a segment was refused.
 use Rattle.std.proofs.Common.{◌≡◌, ℕ, ◌+◌, Bool, true, false, cond, ◌&&◌, List, Option, Some, None, refl, ◌∙◌, subst}
 use Rattle.std.specs.Prelude.{find, length, nat_le, nat_lt}
-use Rattle.vc_model.specs.Layout.{Block}
+use Rattle.vc_model.specs.Best.{without_block_at}
+use Rattle.vc_model.specs.Last.{if_latest, latest}
+use Rattle.vc_model.specs.Layout.{Block, is_at}
 use Rattle.vc_model.specs.Outcome as model
-use Rattle.vc_model.specs.Outcome.{Fault, Outcome, Done, Put, Refused}
-use Rattle.vc_region.specs.Region.{Region, OfBest, blocks_of, region_align, region_alloc, region_free, region_resize, segments_of}
+use Rattle.vc_model.specs.Outcome.{Fault, Outcome, Done, Put, Refused, done_as}
+use Rattle.vc_region.specs.Region.{Region, OfBest, OfPool, OfLast, blocks_of, region_align, region_alloc, region_free, region_resize, segments_of}
 use Rattle.vc_model.specs.Walk.{block_at, segment_at}
 use Rattle.vc_script.specs.declared.command.Command.{Command}
 use Rattle.vc_script.specs.declared.command.Command.TheVariants.{Alloc, Align, Resize, Free, WriteBlock, ReadBlock, SizeOf, AddrOf, SegmentOf}
@@ -65,6 +67,16 @@ granted-freed h x (Refused model.WrongMethod) none = tt
 -- freeing asks for no segment
 pub free-granted : {L : Type 0} (r : Region L) (at : ℕ × ℕ) → region_free r at ≡ Refused model.NoSegment → ⊥
 free-granted (OfBest l) at e = absurd cc
+free-granted (OfPool p) at e = absurd cc
+free-granted (OfLast l) at e = none (latest l) e
+  where
+    none : (o : Option (Block L)) → done_as OfLast (if_latest at (λ b. Done (without_block_at l at)) o) ≡ Refused model.NoSegment → ⊥
+    none None e = absurd cc
+    none (Some b) e = kept (is_at at b) e
+      where
+        kept : (v : Bool) → done_as OfLast (cond v (Done (without_block_at l at)) (Refused model.NotLast)) ≡ Refused model.NoSegment → ⊥
+        kept true e = absurd cc
+        kept false e = absurd cc
 
 pub granted-free : (h : Home) (x : List ℕ) → IsGranted (free_in h x).reply
 granted-free h x =

@@ -7,7 +7,8 @@ use Rattle.std.proofs.lemmas.Option.{none-some, same_Some, slice_get-map}
 use Rattle.vc_model.specs.Numbered.{at_number}
 use Rattle.vc_model.specs.Discipline.{Discipline}
 use Rattle.vc_model.specs.Layout.{Block, empty_layout}
-use Rattle.vc_region.specs.Region.{OfBest, Region, blocks_of, relabelled, segments_of}
+use Rattle.vc_model.specs.Pool.{empty_pool}
+use Rattle.vc_region.specs.Region.{OfBest, OfPool, OfLast, Region, blocks_of, relabelled, segments_of}
 use Rattle.vc_model.specs.Sound.{HaveOwnPlaces}
 use Rattle.vc_region.specs.Stat.{opened}
 use Rattle.vc_seg.specs.declared.method.Method.{Method}
@@ -31,36 +32,36 @@ use Rattle.vc_session.proofs.Sessions.{Slots, apart-session, away-session, sessi
 -- a method that is built has an empty region, whatever its labels are
 pub built-region : (m : Method) → is_some (opened {L = ℕ} m) ≡ true → (r : Region Label) × (opened m ≡ Some r)
 built-region VmBest e = (OfBest empty_layout, refl)
-built-region VmPool e = absurd cc
-built-region VmLast e = absurd cc
+built-region VmPool e = (OfPool empty_pool, refl)
+built-region VmLast e = (OfLast empty_layout, refl)
 built-region VmDebug e = absurd cc
 built-region VmProfile e = absurd cc
 
 pub built-none : (m : Method) → is_some (opened {L = ℕ} m) ≡ false → opened {L = Label} m ≡ None
 built-none VmBest e = absurd cc
-built-none VmPool e = refl
-built-none VmLast e = refl
+built-none VmPool e = absurd cc
+built-none VmLast e = absurd cc
 built-none VmDebug e = refl
 built-none VmProfile e = refl
 
 pub opened-relabelled : (f : ℕ → Label) (m : Method) (r : Region ℕ) → opened m ≡ Some r → opened m ≡ Some (relabelled f r)
 opened-relabelled f VmBest r e = ap (λ q. Some (relabelled f q)) (same_Some (OfBest empty_layout) r e)
-opened-relabelled f VmPool r e = absurd (none-some r e)
-opened-relabelled f VmLast r e = absurd (none-some r e)
+opened-relabelled f VmPool r e = ap (λ q. Some (relabelled f q)) (same_Some (OfPool empty_pool) r e)
+opened-relabelled f VmLast r e = ap (λ q. Some (relabelled f q)) (same_Some (OfLast empty_layout) r e)
 opened-relabelled f VmDebug r e = absurd (none-some r e)
 opened-relabelled f VmProfile r e = absurd (none-some r e)
 
 pub opened-segments : (m : Method) (r : Region ℕ) → opened m ≡ Some r → segments_of r ≡ []
 opened-segments VmBest r e = sym (ap (λ q. segments_of q) (same_Some (OfBest empty_layout) r e))
-opened-segments VmPool r e = absurd (none-some r e)
-opened-segments VmLast r e = absurd (none-some r e)
+opened-segments VmPool r e = sym (ap (λ q. segments_of q) (same_Some (OfPool empty_pool) r e))
+opened-segments VmLast r e = sym (ap (λ q. segments_of q) (same_Some (OfLast empty_layout) r e))
 opened-segments VmDebug r e = absurd (none-some r e)
 opened-segments VmProfile r e = absurd (none-some r e)
 
 pub opened-blocks : (m : Method) (r : Region ℕ) → opened m ≡ Some r → blocks_of r ≡ []
 opened-blocks VmBest r e = sym (ap (λ q. blocks_of q) (same_Some (OfBest empty_layout) r e))
-opened-blocks VmPool r e = absurd (none-some r e)
-opened-blocks VmLast r e = absurd (none-some r e)
+opened-blocks VmPool r e = sym (ap (λ q. blocks_of q) (same_Some (OfPool empty_pool) r e))
+opened-blocks VmLast r e = sym (ap (λ q. blocks_of q) (same_Some (OfLast empty_layout) r e))
 opened-blocks VmDebug r e = absurd (none-some r e)
 opened-blocks VmProfile r e = absurd (none-some r e)
 

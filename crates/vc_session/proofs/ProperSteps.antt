@@ -13,7 +13,7 @@ use Rattle.vc_model.proofs.Relabel.{block_at-relabel, by_address-relabel}
 use Rattle.vc_region.proofs.Relabel.{align-relabelled, alloc-relabelled, blocks-relabelled, clear-relabelled, compact-relabelled, free-relabelled, relabel_freed, resize-relabelled, write-relabelled}
 use Rattle.vc_region.specs.Stat.{opened}
 use Rattle.vc_seg.specs.declared.method.Method.{Method}
-use Rattle.vc_seg.specs.declared.method.Method.TheVariants.{VmBest}
+use Rattle.vc_seg.specs.declared.method.Method.TheVariants.{VmBest, VmPool, VmLast}
 use Rattle.vc_script.specs.declared.command.Command.{Command}
 use Rattle.vc_script.specs.declared.command.Command.TheVariants.{OpenRegion, CloseRegion, ClearRegion, Compact, Alloc, Align, Resize, Free, WriteBlock, ReadBlock, SizeOf, AddrOf, SegmentOf, StatOf, Segments, Blocks}
 use Rattle.vc_script.specs.declared.refusal.Refusal.TheVariants as why
@@ -235,6 +235,8 @@ proper-opened_over s r n region (Some (Some terms)) name here all =
 -- a region that is opened has no labels
 proper-new : (method : Method) → IfSome (opened {L = Label} method) IsProperRegion
 proper-new VmBest = refl
+proper-new VmPool = refl
+proper-new VmLast = refl
 proper-new method = tt
 
 proper-opened_as : (s : State) (r : List ℕ) (n : ℕ) (o : Option (Region Label)) → IsName r → IfSome o IsProperRegion → IsProperState s → IsProperStep (opened_as s r n o)

@@ -5,7 +5,7 @@ use Rattle.std.proofs.lemmas.Bool.Decides.{nat_tests}
 use Rattle.std.proofs.lemmas.Option.{same_Some}
 use Rattle.vc_model.specs.Addr.{place_of}
 use Rattle.vc_model.specs.Layout.{Block, without_block}
-use Rattle.vc_region.specs.Region.{OfBest, Region, blocks_of, region_write, relabelled}
+use Rattle.vc_region.specs.Region.{OfBest, OfPool, OfLast, Region, blocks_of, region_write, relabelled}
 use Rattle.vc_model.specs.Sound.{HaveOwnPlaces}
 use Rattle.vc_model.specs.Touch.{change_block, find_block, rewritten}
 use Rattle.vc_region.proofs.Relabel.{write-relabelled}
@@ -24,6 +24,8 @@ use Rattle.vc_session.proofs.Moving.{named-moved}
 -- writing changes the bytes of the block at a place
 written-blocks : (r : Region ℕ) (at : ℕ × ℕ) (off : ℕ) (src : List ℕ) → blocks_of (region_write r at off src) ≡ change_block (rewritten off src) at (blocks_of r)
 written-blocks (OfBest l) at off src = refl
+written-blocks (OfPool p) at off src = refl
+written-blocks (OfLast l) at off src = refl
 
 pub le-beyond : (a b : ℕ) → b < a → nat_le a b ≡ false
 le-beyond a b over = grind (arith, nat_tests)

@@ -7,6 +7,7 @@ mod close;
 mod engine;
 mod home;
 mod labels;
+pub mod method_rows;
 mod open;
 pub mod run_rows;
 mod session;
