@@ -34,8 +34,9 @@ pub record HaveOwnPlaces {L : Type 0} (blocks : List (Block L)) : Type 0 where
   pub first : All (λ b. 1 ≤ b.seg) blocks
   pub exact : All (λ b. place_of (address_of b) ≡ (b.seg, b.off)) blocks
 
--- each block has as many bytes as its size, at most 16,777,264, and its address is a u32
+-- each block has as many bytes as its size, at most 16,777,264, and its address is a u32; no segment has more than 33,554,432 bytes
 pub record HasWholeBlocks {L : Type 0} (r : Layout L) : Type 0 where
   pub bytes : All (λ b. length b.bytes ≡ b.size) r.blocks
   pub most : All (λ b. b.size ≤ 16777264) r.blocks
   pub fits : All (λ b. address_of b < 2 ^ 32) r.blocks
+  pub short : All (λ s. s.1 ≤ 33554432) r.segments
