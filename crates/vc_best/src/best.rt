@@ -6,7 +6,7 @@ ghost use Rattle.vc_model.specs.Compact.{cleared, compact_count, compacted};
 ghost use Rattle.vc_model.specs.Discipline.{HasOut, TookBack};
 ghost use Rattle.vc_model.specs.Layout.{address_of, empty_layout, without_block};
 ghost use Rattle.vc_model.specs.Place.{IsAlign};
-ghost use Rattle.vc_model.specs.Sound.{IsSound};
+ghost use Rattle.vc_model.specs.Sound.{HasWholeBlocks, IsSound};
 ghost use Rattle.vc_model.specs.Touch.{HasBlock, find_block};
 ghost use Rattle.vc_model.specs.Walk.{block_at, next_block, next_segment, segment_at};
 ghost use Rattle.vc_seg.specs.Answer.{Answers, Asks};
@@ -29,6 +29,9 @@ pub struct Best {
     pub alloc: Global,
     /// No two blocks overlap, each lies in the usable part of a segment, and segments have numbers of their own.
     pub ghost sound: { ∥ IsSound layout ∥₁ },
+    /// Each block has as many bytes as its size, at most 16,777,264, its address is a u32, and no segment has more than
+    /// 33,554,432 bytes.
+    pub ghost whole: { ∥ HasWholeBlocks layout ∥₁ },
 }
 
 impl Best {

@@ -45,6 +45,7 @@ impl Best {
         ensures others { without_block (place_of a.0) self.new.layout.blocks
             ≡ without_block (place_of a.0) self.old.layout.blocks }
         ensures disc { state self.new.disc ≡ state self.old.disc }
+        ensures same_disc { self.new.disc ≡ self.old.disc }
     {
         self.layout.write(a, off, src);
     }

@@ -7,7 +7,7 @@ ghost use Rattle.vc_model.specs.Discipline.{HasOut, TookBack};
 ghost use Rattle.vc_model.specs.Layout.{address_of, empty_layout};
 ghost use Rattle.vc_model.specs.Place.{IsAlign};
 ghost use Rattle.vc_model.specs.Resize.{can_stay, resize_there};
-ghost use Rattle.vc_model.specs.Sound.{IsSound};
+ghost use Rattle.vc_model.specs.Sound.{HasWholeBlocks, IsSound};
 ghost use Rattle.vc_model.specs.Touch.{HasBlock, HasRange, find_block, with_bytes_at};
 ghost use Rattle.vc_model.specs.Walk.{next_block};
 ghost use Rattle.vc_seg.specs.Answer.{Answers, Asks, IsPut};
@@ -48,10 +48,11 @@ impl Layout {
     pub(crate) fn new(alloc: Global) -> Layout
         ensures value { result ≡ empty_layout }
         ensures sound { IsSound result }
+        ensures whole { HasWholeBlocks result }
     {
-        Layout {
-            held: Blocks::new(alloc),
-        }
+        let held = Blocks::new(alloc);
+        held.look();
+        Layout { held }
     }
 
     /// Its segments and blocks, for calls that change nothing.
@@ -90,8 +91,11 @@ impl Layout {
         ensures only { IfErr result (λ e. e ≡ RegionFault.OutOfMemory) }
         ensures fresh { IfOk result (λ a. ¬ HasBlock self.old.blocks a.0) }
         ensures sound { IsSound self.new }
+        ensures whole { HasWholeBlocks self.new }
     {
-        self.held.put(Order::ByAddress, seg, off, size, tag)
+        let answer = self.held.put(Order::ByAddress, seg, off, size, tag);
+        self.held.look();
+        answer
     }
 
     /// A block of zeros, which has no place, in a segment that the discipline lends for it.
@@ -113,10 +117,14 @@ impl Layout {
             self.old.segments self.new.segments (best_need (state disc.old).terms size align) }
         ensures fresh { IfOk result (λ a. ¬ HasBlock self.old.blocks a.0) }
         ensures sound { IsSound self.new }
+        ensures whole { HasWholeBlocks self.new }
     {
         let bytes = rounded_up(span_of(size) + align, round_of(disc));
-        self.held
-            .put_in_new(Order::ByAddress, disc, alloc, bytes, align, size, tag)
+        let answer = self
+            .held
+            .put_in_new(Order::ByAddress, disc, alloc, bytes, align, size, tag);
+        self.held.look();
+        answer
     }
 
     /// Frees the block at that address.
@@ -129,8 +137,10 @@ impl Layout {
             → self.new.blocks ≡ remove self.old.blocks i }
         ensures none_left { ¬ HasBlock self.new.blocks a.0 }
         ensures sound { IsSound self.new }
+        ensures whole { HasWholeBlocks self.new }
     {
         self.held.remove(a);
+        self.held.look();
     }
 
     /// Puts bytes into the block at that address, from an offset on.
@@ -139,8 +149,10 @@ impl Layout {
         requires range { HasRange self.old.blocks a.0 off (length src.now) }
         ensures value { self.new ≡ with_bytes_at self.old (place_of a.0) off src.now }
         ensures sound { IsSound self.new }
+        ensures whole { HasWholeBlocks self.new }
     {
         self.held.write(a, off, src);
+        self.held.look();
     }
 
     /// Fills a range of the block at that address with one byte.
@@ -149,8 +161,10 @@ impl Layout {
         requires range { HasRange self.old.blocks a.0 off len }
         ensures value { self.new ≡ with_bytes_at self.old (place_of a.0) off (replicate len byte) }
         ensures sound { IsSound self.new }
+        ensures whole { HasWholeBlocks self.new }
     {
         self.held.fill(a, off, len, byte);
+        self.held.look();
     }
 
     /// Whether the block at that address can have another size where it is.
@@ -179,8 +193,10 @@ impl Layout {
             (λ b. can_stay self.old size b ≡ true) }
         ensures value { self.new ≡ resize_there self.old (place_of a.0) size }
         ensures sound { IsSound self.new }
+        ensures whole { HasWholeBlocks self.new }
     {
         self.held.resize_there(a, size);
+        self.held.look();
     }
 
     /// Moves the bytes of a block, up to a number of them, into the front of another, which has room for them, and frees
@@ -194,8 +210,10 @@ impl Layout {
             (λ b. self.new ≡ without_block_at
             (with_bytes_at self.old (place_of to.0) 0 (take size b.bytes)) (place_of a.0)) }
         ensures sound { IsSound self.new }
+        ensures whole { HasWholeBlocks self.new }
     {
         self.held.take_over(a, to, size);
+        self.held.look();
     }
 
     /// The first block behind an address.
@@ -231,8 +249,10 @@ impl Layout {
     pub(crate) fn clear(&mut self)
         ensures value { self.new ≡ cleared self.old }
         ensures sound { IsSound self.new }
+        ensures whole { HasWholeBlocks self.new }
     {
         self.held.clear();
+        self.held.look();
     }
 
     /// The discipline takes back each segment without a block, in ascending order of number, and they are counted.
@@ -243,8 +263,11 @@ impl Layout {
         ensures disc { TookBack (state disc.old) (state disc.new)
             self.old.segments self.new.segments }
         ensures sound { IsSound self.new }
+        ensures whole { HasWholeBlocks self.new }
     {
-        self.held.compact(disc)
+        let count = self.held.compact(disc);
+        self.held.look();
+        count
     }
 
     /// The discipline takes all its segments back, in ascending order of number, and they are counted.

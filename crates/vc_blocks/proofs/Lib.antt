@@ -13,3 +13,4 @@ pub mod Puts
 pub mod Tallies
 pub mod Changes
 pub mod Owned
+pub mod Whole

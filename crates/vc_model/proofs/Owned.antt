@@ -1,7 +1,8 @@
 -- What one call does to blocks with places of their own.
-use Rattle.std.proofs.Common.{◌≡◌, ◌≢◌, ℕ, zero, suc, ◌+◌, ◌<◌, List, [], ◌∷◌, true, false, cond, All, AllPairs, Some, get_or, length, option_map, refl, sym, ap, ◌∙◌, subst, inl, inr, ⊎_elim, eqb, arith}
+use Rattle.std.proofs.Common.{◌≡◌, ◌≢◌, ℕ, zero, suc, ◌+◌, ◌<◌, ◌≤◌, List, [], ◌∷◌, true, false, cond, All, AllPairs, Some, get_or, length, option_map, refl, sym, ap, ◌∙◌, subst, inl, inr, ⊎_elim, eqb, arith}
 use Rattle.std.specs.List.{HoldsAt, remove}
 use Rattle.std.proofs.lemmas.Bool.{cases_Bool, and_from, and_parts, eq-eqb, eqb-true}
+use Rattle.std.proofs.lemmas.Option.{same_Some, none-some}
 use Rattle.std.proofs.lemmas.List.{length-map, get_or-map}
 use Rattle.std.proofs.lemmas.List.Elements.{All-head, All-tail, All-nil, All-cons}
 use Rattle.vc_model.specs.Addr.{address, place_of}
@@ -28,23 +29,23 @@ module _ {L : Type 0} where
   Exact b = place_of (address_of b) ≡ (b.seg, b.off)
 
   -- a block at a place has its address
-  at-address : (a : ℕ) (b : Block L) → is_at (place_of a) b ≡ true → address_of b ≡ a
+  pub at-address : (a : ℕ) (b : Block L) → is_at (place_of a) b ≡ true → address_of b ≡ a
   at-address a b e =
       let both = and_parts (eqb b.seg (place_of a).0) (eqb b.off (place_of a).1) e in
       ap (λ s. address (s, b.off)) (eqb-true b.seg (place_of a).0 both.0)
       ∙ (ap (λ o. address ((place_of a).0, o)) (eqb-true b.off (place_of a).1 both.1) ∙ address-place_of a)
 
   -- and the other way round
-  is-there : (a : ℕ) (b : Block L) → Exact b → address_of b ≡ a → is_at (place_of a) b ≡ true
+  pub is-there : (a : ℕ) (b : Block L) → Exact b → address_of b ≡ a → is_at (place_of a) b ≡ true
   is-there a b exact e =
       let same : (b.seg, b.off) ≡ place_of a = sym exact ∙ ap place_of e in
       and_from (eqb b.seg (place_of a).0) (eqb b.off (place_of a).1) (eq-eqb b.seg (place_of a).0 (ap (λ (p : ℕ × ℕ). p.0) same)) (eq-eqb b.off (place_of a).1 (ap (λ (p : ℕ × ℕ). p.1) same))
 
-  not-there : (a : ℕ) (b : Block L) → Elsewhere a b → is_at (place_of a) b ≡ false
+  pub not-there : (a : ℕ) (b : Block L) → Elsewhere a b → is_at (place_of a) b ≡ false
   not-there a b other = ⊎_elim (λ t. absurd (other (at-address a b t))) (λ t. t) (cases_Bool (is_at (place_of a) b))
 
   -- no block stands at an address that none has
-  none-has : (a : ℕ) (bs : List (Block L)) → All (Elsewhere a) bs → ¬ HasBlock bs a
+  pub none-has : (a : ℕ) (bs : List (Block L)) → All (Elsewhere a) bs → ¬ HasBlock bs a
   none-has a [] h has = let within : has.0 < 0 = has.1 in omega (arith, within)
   none-has a (b ∷ bs) h has =
       let within : has.0 < length (b ∷ bs) = omega (arith, has.1, length-map (b ∷ bs) address_of) in
@@ -117,7 +118,7 @@ module _ {L : Type 0} where
       let rest = less-at a bs (AllPairs-tail Differs b bs distinct) (All-tail Exact b bs exact) i d (omega (arith, lt)) e in
       rw (not-there a b other) (omega (arith, rest))
 
-  left-elsewhere : (a : ℕ) (bs : List (Block L)) → AllPairs Differs bs → All Exact bs → All (Elsewhere a) (without_block (place_of a) bs)
+  pub left-elsewhere : (a : ℕ) (bs : List (Block L)) → AllPairs Differs bs → All Exact bs → All (Elsewhere a) (without_block (place_of a) bs)
   left-elsewhere a [] distinct exact = All-nil (Elsewhere a)
   left-elsewhere a (b ∷ bs) distinct exact =
       ⊎_elim
@@ -169,3 +170,38 @@ module _ {L : Type 0} where
       (λ (t : is_at at b ≡ true). rw t (rw t refl))
       (λ (t : is_at at b ≡ false). rw t (rw t (sized-there size at bs)))
       (cases_Bool (is_at at b))
+
+  -- a block that is found: it is at that place, and what holds of all blocks holds of it
+  pub found-is : (P : Block L → Type 0) (at : ℕ × ℕ) (bs : List (Block L)) (b : Block L) → find_block at bs ≡ Some b → All P bs → (is_at at b ≡ true) × P b
+  found-is P at [] b e all = absurd (none-some b e)
+  found-is P at (c ∷ cs) b e all =
+      ⊎_elim
+      (λ (t : is_at at c ≡ true).
+      let same : c ≡ b = same_Some c b (sym (ap (λ v. cond v (Some c) (find_block at cs)) t) ∙ e) in
+      (subst (λ (d : Block L). is_at at d ≡ true) same t, subst P same (All-head P c cs all)))
+      (λ (t : is_at at c ≡ false). found-is P at cs b (sym (ap (λ v. cond v (Some c) (find_block at cs)) t) ∙ e) (All-tail P c cs all))
+      (cases_Bool (is_at at c))
+
+  -- and it stands at its address
+  pub found-has : (a : ℕ) (bs : List (Block L)) (b : Block L) → find_block (place_of a) bs ≡ Some b → HasBlock bs a
+  found-has a [] b e = absurd (none-some b e)
+  found-has a (c ∷ cs) b e =
+      ⊎_elim
+      (λ (t : is_at (place_of a) c ≡ true). (0, omega arith, at-address a c t))
+      (λ (t : is_at (place_of a) c ≡ false).
+      let rest = found-has a cs b (sym (ap (λ v. cond v (Some c) (find_block (place_of a) cs)) t) ∙ e) in
+      let within = rest.1 in
+      (suc rest.0, omega (arith, within), rest.2))
+      (cases_Bool (is_at (place_of a) c))
+
+  -- its address is none before the first segment, and one that all addresses stay below
+  pub found-first : (a : ℕ) (bs : List (Block L)) (b : Block L) → find_block (place_of a) bs ≡ Some b → All (λ c. 1 ≤ c.seg) bs → 1 ≤ a
+  found-first a bs b e all =
+      let h = found-is (λ c. 1 ≤ c.seg) (place_of a) bs b e all in
+      let least = h.1 in
+      omega (arith, least, at-address a b h.0)
+
+  pub found-below : (a most : ℕ) (bs : List (Block L)) (b : Block L) → find_block (place_of a) bs ≡ Some b → All (λ c. address_of c < most) bs → a < most
+  found-below a most bs b e all =
+      let h = found-is (λ c. address_of c < most) (place_of a) bs b e all in
+      subst (λ (n : ℕ). n < most) (at-address a b h.0) h.1

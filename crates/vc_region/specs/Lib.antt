@@ -15,3 +15,6 @@ pub use Rattle.vc_seg.specs.Answer
 pub mod Region
 pub mod Stat
 pub mod Parts
+pub mod Cells
+pub mod CellLaws
+pub mod CellRows

@@ -8,7 +8,7 @@ use Rattle.vc_best.proofs.Asking.{Answers-new, new-fresh, new-heads}
 use Rattle.vc_best.proofs.Heads.{IsSound-heads}
 use Rattle.vc_best.proofs.Rounding.{IsAligned, IsAligned-from_IsAlign, IsSegmentSize-need}
 use Rattle.vc_best.proofs.layout.Layout.alloc_in_new.Goals as goal
-use Rattle.vc_best.proofs.layout.Layout.alloc_in_new.Goals.{After-rounded_up-bytes, After-put_in_new}
+use Rattle.vc_best.proofs.layout.Layout.alloc_in_new.Goals.{After-rounded_up-bytes, After-put_in_new-answer}
 use Rattle.vc_best.proofs.layout.Layout.alloc_in_new.Given.{Over}
 
 aligned : (g : Over) (c : After-rounded_up-bytes g) → IsAligned c.args.align
@@ -30,40 +30,40 @@ terms g c = ((goal.SegDisc-dyn g (c.args.disc.now.vtable, c.args.disc.now.value)
 need : (g : Over) (c : After-rounded_up-bytes g) → c.rounded_up-bytes.result ≡ best_need (terms g c) c.args.size c.args.align
 need g c = is g c ∙ ap (round_up (span c.args.size + c.args.align)) c.round_of.ensures.value
 
-pub put_in_new-requires-clause-bytes : goal.put_in_new-requires-clause-bytes
-put_in_new-requires-clause-bytes g c = legal g (goal.at.put_in_new-requires-clause-bytes g c).After-rounded_up-bytes
+pub put_in_new-answer-requires-clause-bytes : goal.put_in_new-answer-requires-clause-bytes
+put_in_new-answer-requires-clause-bytes g c = legal g (goal.at.put_in_new-answer-requires-clause-bytes g c).After-rounded_up-bytes
 
-pub put_in_new-requires-clause-first : goal.put_in_new-requires-clause-first
-put_in_new-requires-clause-first g c = (aligned g (goal.at.put_in_new-requires-clause-first g c).After-rounded_up-bytes).least
+pub put_in_new-answer-requires-clause-first : goal.put_in_new-answer-requires-clause-first
+put_in_new-answer-requires-clause-first g c = (aligned g (goal.at.put_in_new-answer-requires-clause-first g c).After-rounded_up-bytes).least
 
-pub put_in_new-requires-clause-offset : goal.put_in_new-requires-clause-offset
-put_in_new-requires-clause-offset g c = (aligned g (goal.at.put_in_new-requires-clause-offset g c).After-rounded_up-bytes).multiple
+pub put_in_new-answer-requires-clause-offset : goal.put_in_new-answer-requires-clause-offset
+put_in_new-answer-requires-clause-offset g c = (aligned g (goal.at.put_in_new-answer-requires-clause-offset g c).After-rounded_up-bytes).multiple
 
-pub put_in_new-requires-clause-room : goal.put_in_new-requires-clause-room
-put_in_new-requires-clause-room g c = let room = fits g (goal.at.put_in_new-requires-clause-room g c).After-rounded_up-bytes in omega (arith, room, span-least c.args.size)
+pub put_in_new-answer-requires-clause-room : goal.put_in_new-answer-requires-clause-room
+put_in_new-answer-requires-clause-room g c = let room = fits g (goal.at.put_in_new-answer-requires-clause-room g c).After-rounded_up-bytes in omega (arith, room, span-least c.args.size)
 
 pub invariant_of-self : goal.invariant_of-self
 invariant_of-self g c =
     let b = (goal.at.invariant_of-self g c).After-rounded_up-bytes in
-    new-heads c.self.inside.held c.put_in_new.new.self (terms g b) c.args.tag c.args.size c.args.align c.rounded_up-bytes.result c.self.invariant (rw (← c.self.view_is) at c.requires.none) (need g b) (aligned g b) c.requires.some c.requires.most (legal g b) (fits g b) c.put_in_new.result c.put_in_new.ensures.ok c.put_in_new.ensures.err
+    new-heads c.self.inside.held c.put_in_new-answer.new.self (terms g b) c.args.tag c.args.size c.args.align c.rounded_up-bytes.result c.self.invariant (rw (← c.self.view_is) at c.requires.none) (need g b) (aligned g b) c.requires.some c.requires.most (legal g b) (fits g b) c.put_in_new-answer.result c.put_in_new-answer.ensures.ok c.put_in_new-answer.ensures.err
 
 pub returns-clause-answer : goal.returns-clause-answer
 returns-clause-answer g c =
     let b = (goal.at.returns-clause-answer g c).After-rounded_up-bytes in
     rw (← c.self.view_is)
-    (Answers-new c.self.inside.held c.put_in_new.new.self (terms g b) c.args.tag c.args.size c.args.align c.rounded_up-bytes.result c.self.invariant (rw (← c.self.view_is) at c.requires.none) (need g b) (aligned g b) c.requires.some c.requires.most (legal g b) (fits g b) c.put_in_new.result c.put_in_new.ensures.ok c.put_in_new.ensures.fault c.put_in_new.ensures.err)
+    (Answers-new c.self.inside.held c.put_in_new-answer.new.self (terms g b) c.args.tag c.args.size c.args.align c.rounded_up-bytes.result c.self.invariant (rw (← c.self.view_is) at c.requires.none) (need g b) (aligned g b) c.requires.some c.requires.most (legal g b) (fits g b) c.put_in_new-answer.result c.put_in_new-answer.ensures.ok c.put_in_new-answer.ensures.fault c.put_in_new-answer.ensures.err)
 
 pub returns-clause-disc : goal.returns-clause-disc
-returns-clause-disc g c = rw (← c.self.view_is, ← need g (goal.at.returns-clause-disc g c).After-rounded_up-bytes) c.put_in_new.ensures.disc
+returns-clause-disc g c = rw (← c.self.view_is, ← need g (goal.at.returns-clause-disc g c).After-rounded_up-bytes) c.put_in_new-answer.ensures.disc
 
 pub returns-clause-fresh : goal.returns-clause-fresh
 returns-clause-fresh g c =
     let b = (goal.at.returns-clause-fresh g c).After-rounded_up-bytes in
     rw (← c.self.view_is)
-    (new-fresh c.self.inside.held c.put_in_new.new.self (terms g b) c.args.tag c.args.size c.args.align c.rounded_up-bytes.result c.self.invariant (rw (← c.self.view_is) at c.requires.none) (need g b) (aligned g b) c.requires.some c.requires.most (legal g b) (fits g b) c.put_in_new.result c.put_in_new.ensures.ok)
+    (new-fresh c.self.inside.held c.put_in_new-answer.new.self (terms g b) c.args.tag c.args.size c.args.align c.rounded_up-bytes.result c.self.invariant (rw (← c.self.view_is) at c.requires.none) (need g b) (aligned g b) c.requires.some c.requires.most (legal g b) (fits g b) c.put_in_new-answer.result c.put_in_new-answer.ensures.ok)
 
 pub returns-clause-sound : goal.returns-clause-sound
 returns-clause-sound g c =
     let b = (goal.at.returns-clause-sound g c).After-rounded_up-bytes in
-    IsSound-heads c.put_in_new.new.self
-    (new-heads c.self.inside.held c.put_in_new.new.self (terms g b) c.args.tag c.args.size c.args.align c.rounded_up-bytes.result c.self.invariant (rw (← c.self.view_is) at c.requires.none) (need g b) (aligned g b) c.requires.some c.requires.most (legal g b) (fits g b) c.put_in_new.result c.put_in_new.ensures.ok c.put_in_new.ensures.err)
+    IsSound-heads c.put_in_new-answer.new.self
+    (new-heads c.self.inside.held c.put_in_new-answer.new.self (terms g b) c.args.tag c.args.size c.args.align c.rounded_up-bytes.result c.self.invariant (rw (← c.self.view_is) at c.requires.none) (need g b) (aligned g b) c.requires.some c.requires.most (legal g b) (fits g b) c.put_in_new-answer.result c.put_in_new-answer.ensures.ok c.put_in_new-answer.ensures.err)
