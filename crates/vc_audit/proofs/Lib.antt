@@ -4,5 +4,8 @@ pub mod ProfileBare
 pub mod ProfileCounts
 pub mod ProfileRows
 pub mod ProfileHeld
+pub mod ProfilePuts
 pub mod ProfileSound
 pub mod ProfileFree
+pub mod ProfileAlloc
+pub mod ProfileResize

@@ -58,10 +58,14 @@ impl Profile {
             .reserve()
             .map_err(|_| RegionFault::OutOfMemory)?;
         let mut steps = Steps::<Uncounted>::new(self.best.alloc);
-        let a = self.best.alloc(size, align, tag, &mut steps)?;
-        self.sites.put(a, site);
-        let bytes = row.bytes + size as u64;
-        put_row(&mut self.rows, site, row.with(row.blocks + 1, bytes));
-        Ok(a)
+        match self.best.alloc(size, align, tag, &mut steps) {
+            Ok(a) => {
+                self.sites.put(a, site);
+                let bytes = row.bytes + size as u64;
+                put_row(&mut self.rows, site, row.with(row.blocks + 1, bytes));
+                Ok(a)
+            }
+            Err(fault) => Err(fault),
+        }
     }
 }

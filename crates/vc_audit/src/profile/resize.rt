@@ -48,11 +48,15 @@ impl Profile {
         };
         let row = row_for(&self.rows, &site);
         let mut steps = Steps::<Uncounted>::new(self.best.alloc);
-        let to = self.best.resize(a, size, may_move, &mut steps)?;
-        let after = self.best.size(to);
-        self.sites.move_to(a, to, site);
-        let bytes = row.bytes - before as u64 + after as u64;
-        put_row(&mut self.rows, site, row.with(row.blocks, bytes));
-        Ok(to)
+        match self.best.resize(a, size, may_move, &mut steps) {
+            Ok(to) => {
+                let after = self.best.size(to);
+                self.sites.move_to(a, to, site);
+                let bytes = row.bytes - before as u64 + after as u64;
+                put_row(&mut self.rows, site, row.with(row.blocks, bytes));
+                Ok(to)
+            }
+            Err(fault) => Err(fault),
+        }
     }
 }
