@@ -9,3 +9,6 @@ pub mod ProfileSound
 pub mod ProfileFree
 pub mod ProfileAlloc
 pub mod ProfileResize
+pub mod ProfileStays
+pub mod ProfileClear
+pub mod ProfileRelabel

@@ -1,5 +1,5 @@
 -- What a profile region keeps beside its blocks: the site of each by its address, and a row of running sums for each site.
-use Rattle.std.specs.Prelude.{◌≡◌, ℕ, ◌≤◌, List, [], IsSome, map, unwrap_or}
+use Rattle.std.specs.Prelude.{◌≡◌, ℕ, zero, suc, ◌≤◌, List, [], ◌∷◌, IsSome, map, unwrap_or}
 use Rattle.std.specs.List.{AllByRecursion}
 use Rattle.std.specs.Map.{lookup}
 use Rattle.std.specs.Str.{bytes_eq}
@@ -21,9 +21,18 @@ new_row = record { blocks = 0; bytes = 0; peak = 0 }
 abbrev pub row_for : List ℕ → Rows → Row
 row_for site rows = unwrap_or (lookup (bytes_eq site) rows) new_row
 
--- the rows without blocks
+-- a row without blocks
+abbrev pub emptied : List ℕ × Row → List ℕ × Row
+emptied e = (e.0, record { blocks = 0; bytes = 0; peak = e.1.peak })
+
+-- the rows with the one of that index emptied, and with every one
+abbrev pub clear_at : ℕ → Rows → Rows
+clear_at i [] = []
+clear_at zero (e ∷ es) = emptied e ∷ es
+clear_at (suc i) (e ∷ es) = e ∷ clear_at i es
+
 abbrev pub cleared_rows : Rows → Rows
-cleared_rows rows = map (λ e. (e.0, record { blocks = 0; bytes = 0; peak = e.1.peak })) rows
+cleared_rows rows = map emptied rows
 
 -- the site that is kept for a block, and the block with it
 abbrev pub site_of : List Sited → Block ℕ → List ℕ

@@ -1,7 +1,7 @@
-ghost use Rattle.std.specs.Prelude.{◌≡◌, ◌+◌, ◌-◌, ◌<◌, ◌≤◌, ◌⊎◌, IsSome, max};
+ghost use Rattle.std.specs.Prelude.{◌≡◌, ◌+◌, ◌-◌, ◌<◌, ◌≤◌, ◌⊎◌, IsSome, length, max};
 ghost use Rattle.std.specs.Str.{bytes_eq};
 ghost use Rattle.indexmap.specs.IndexMap.{IsUnique, get, insert_entry, spare};
-ghost use Rattle.vc_audit.specs.ProfileSums.{cleared_rows, row_for};
+ghost use Rattle.vc_audit.specs.ProfileSums.{clear_at, cleared_rows, row_for};
 
 use indexmap::IndexMap;
 use vc_base::Name;
@@ -53,16 +53,24 @@ pub(crate) fn put_row(rows: &mut IndexMap<Name, Row>, site: Name, row: Row)
     let _ = rows.insert(site, row);
 }
 
+// Leaves no blocks and no bytes in the row of that index.
+fn clear_row(rows: &mut IndexMap<Name, Row>, i: usize)
+    requires { i < length rows.old.entries }
+    ensures entries { rows.new.entries ≡ clear_at i rows.old.entries }
+    ensures len { length rows.new.entries ≡ length rows.old.entries }
+{
+    rows[i] = Row {
+        blocks: 0,
+        bytes: 0,
+        peak: rows[i].peak,
+    };
+}
+
 // Leaves no blocks and no bytes in any row.
 pub(crate) fn clear_rows(rows: &mut IndexMap<Name, Row>)
     ensures { rows.new.entries ≡ cleared_rows rows.old.entries }
 {
     for i in 0..rows.len() {
-        let peak = rows[i].peak;
-        rows[i] = Row {
-            blocks: 0,
-            bytes: 0,
-            peak,
-        };
+        clear_row(rows, i);
     }
 }
