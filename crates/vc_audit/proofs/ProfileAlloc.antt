@@ -1,5 +1,5 @@
 -- What a profile region counts when a block is put.
-use Rattle.std.proofs.Common.{◌≡◌, ◌≢◌, ℕ, zero, suc, ◌+◌, ◌*◌, ◌<◌, ◌≤◌, eqb, true, false, Bool, cond, List, [], ◌∷◌, Some, IsSome, Option, None, is_some, length, map, max, refl, sym, ap, ◌∙◌, subst, arith}
+use Rattle.std.proofs.Common.{◌≡◌, ◌≢◌, ℕ, suc, ◌+◌, ◌*◌, ◌<◌, ◌≤◌, eqb, false, Bool, cond, List, [], ◌∷◌, Some, IsSome, Option, None, is_some, map, max, refl, sym, ap, ◌∙◌, subst, arith}
 use Rattle.std.specs.Prelude.{unwrap_or}
 use Rattle.std.specs.List.{AllByRecursion, IsDistinct}
 use Rattle.std.specs.Map.{keys_of, lookup}
@@ -7,26 +7,25 @@ use Rattle.std.specs.Str.{bytes_eq}
 use Rattle.std.proofs.lemmas.Bool.{eq-eqb}
 use Rattle.std.proofs.lemmas.Bool.Decides.{nat_tests}
 use Rattle.indexmap.specs.IndexMap.{insert_entry}
-use Rattle.vc_model.specs.Addr.{address, place_of}
 use Rattle.vc_model.specs.Best.{best_alloc, zeros}
 use Rattle.vc_model.specs.Discipline.{Terms}
-use Rattle.vc_model.specs.Layout.{Block, Layout, address_of, relabel_block, relabel_layout, with_block}
+use Rattle.vc_model.specs.Layout.{Block, Layout, address_of, relabel_block, with_block}
 use Rattle.vc_model.specs.Outcome.{Outcome, Put}
 use Rattle.vc_model.specs.Touch.{HasBlock}
 use Rattle.vc_model.proofs.Relabel.{best_alloc-relabel, relabel_outcome}
 use Rattle.vc_seg.specs.Answer.{IsPut, IsRefusal}
 use Rattle.vc_seg.specs.declared.fault.RegionFault.{RegionFault}
-use Rattle.vc_audit.specs.Profile.{Profile, peaked, profile_after, profile_alloc, site_blocks, site_bytes, with_site}
+use Rattle.vc_audit.specs.Profile.{Profile, profile_after, profile_alloc, site_blocks, site_bytes, with_site}
 use Rattle.vc_audit.specs.ProfileSites.{site_at}
-use Rattle.vc_audit.specs.ProfileSums.{IsCounted, IsHeld, IsRow, Rows, peaks_of, row_for, site_of, sited, with_its_site}
+use Rattle.vc_audit.specs.ProfileSums.{IsCounted, IsHeld, IsRow, Rows, peaks_of, row_for, sited, with_its_site}
 use Rattle.vc_audit.specs.declared.profile.rows.Row.{Row}
 use Rattle.vc_audit.specs.declared.profile.sites.Sited.{Sited}
-use Rattle.vc_audit.proofs.ProfileBare.{IsKept, bare, bare-layout, kept-layout, layout}
+use Rattle.vc_audit.proofs.ProfileBare.{IsKept, bare, bare-layout, kept-layout}
 use Rattle.vc_audit.proofs.ProfileCounts.{blocks-total, bytes-few, bytes-total, one, size_at, total-with}
 use Rattle.vc_audit.proofs.ProfileFree.{profile}
-use Rattle.vc_audit.proofs.ProfileHeld.{address-place, held-put, other-site, row-any}
+use Rattle.vc_audit.proofs.ProfileHeld.{held-put, other-site, row-any}
 use Rattle.vc_audit.proofs.ProfileLists.{all-both, all-map, all-weaken, all-with}
-use Rattle.vc_audit.proofs.ProfilePuts.{HasOneMore, OnDone, WithSites, alloc-blocks, put-profile, refusal-with, with-sites}
+use Rattle.vc_audit.proofs.ProfilePuts.{HasOneMore, WithSites, alloc-blocks, put-profile, refusal-with, with-sites}
 use Rattle.vc_audit.proofs.ProfileRows.{own_site, peaks-put, put-own, rows-put}
 
 pub some-of : {A : Type 0} (o : Option A) (d : A) → IsSome o → o ≡ Some (unwrap_or o d)

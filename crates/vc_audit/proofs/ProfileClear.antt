@@ -1,12 +1,12 @@
 -- A profile region whose blocks all go, and its rows.
-use Rattle.std.proofs.Common.{◌≡◌, ℕ, zero, suc, ◌+◌, ◌<◌, ◌≤◌, List, [], ◌∷◌, Option, Some, None, length, map, max, slice_get, option_map, refl, sym, ap, ◌∙◌, subst, arith}
+use Rattle.std.proofs.Common.{◌≡◌, ℕ, zero, suc, ◌+◌, ◌≤◌, List, [], ◌∷◌, Option, Some, length, map, slice_get, option_map, refl, sym, ap, ◌∙◌, arith}
 use Rattle.std.specs.List.{AllByRecursion}
-use Rattle.std.proofs.lemmas.Option.{none-some, same_Some, slice_get-map}
+use Rattle.std.proofs.lemmas.Option.{same_Some, slice_get-map}
 use Rattle.vc_model.specs.Compact.{cleared}
 use Rattle.vc_model.specs.Layout.{Block, Layout}
 use Rattle.vc_seg.specs.declared.profile_row.ProfileRow.{ProfileRow}
-use Rattle.vc_audit.specs.Profile.{Profile, peaked, profile_clear, row_of, site_blocks, site_bytes}
-use Rattle.vc_audit.specs.ProfileSums.{IsCounted, IsRow, Rows, clear_at, cleared_rows, emptied, peaks_of, sited}
+use Rattle.vc_audit.specs.Profile.{Profile, peaked, profile_clear, row_of, site_blocks}
+use Rattle.vc_audit.specs.ProfileSums.{IsCounted, IsRow, Rows, clear_at, cleared_rows, emptied, peaks_of}
 use Rattle.vc_audit.specs.declared.profile.rows.Row.{Row}
 use Rattle.vc_audit.specs.declared.profile.sites.Sited.{Sited}
 use Rattle.vc_audit.proofs.ProfileBare.{layout}

@@ -1,5 +1,5 @@
 -- What a profile region counts when a block goes.
-use Rattle.std.proofs.Common.{◌≡◌, ◌≢◌, ℕ, ◌+◌, ◌-◌, ◌≤◌, true, false, cond, List, [], Some, IsSome, map, max, option_map, refl, sym, ap, ◌∙◌, subst, arith}
+use Rattle.std.proofs.Common.{◌≡◌, ◌≢◌, ℕ, ◌+◌, ◌-◌, ◌≤◌, false, cond, List, [], Some, IsSome, map, max, option_map, sym, ap, ◌∙◌, subst, arith}
 use Rattle.std.specs.Prelude.{unwrap_or}
 use Rattle.std.specs.List.{AllByRecursion, IsDistinct}
 use Rattle.std.specs.Map.{keys_of, lookup}
@@ -10,13 +10,13 @@ use Rattle.vc_model.specs.Best.{without_block_at}
 use Rattle.vc_model.specs.Layout.{Block, Layout, address_of, without_block}
 use Rattle.vc_model.specs.Sound.{HaveOwnPlaces}
 use Rattle.vc_model.specs.Touch.{find_block}
-use Rattle.vc_audit.specs.Profile.{Profile, has_site, peaked, profile_free, site_blocks, site_bytes}
+use Rattle.vc_audit.specs.Profile.{Profile, peaked, profile_free, site_blocks, site_bytes}
 use Rattle.vc_audit.specs.ProfileSites.{site_at}
 use Rattle.vc_audit.specs.ProfileSums.{IsCounted, IsHeld, IsRow, Rows, peaks_of, row_for, site_of, sited, with_its_site}
 use Rattle.vc_audit.specs.declared.profile.rows.Row.{Row}
 use Rattle.vc_audit.specs.declared.profile.sites.Sited.{Sited}
 use Rattle.vc_audit.proofs.ProfileBare.{layout, sited-alike, sited-find, sited-without}
-use Rattle.vc_audit.proofs.ProfileCounts.{blocks-total, bytes-total, one, size_at, total, total-without}
+use Rattle.vc_audit.proofs.ProfileCounts.{blocks-total, bytes-total, one, size_at, total-without}
 use Rattle.vc_audit.proofs.ProfileHeld.{TheBlock, held-put, other-site, row-any}
 use Rattle.vc_audit.proofs.ProfileLists.{all-both, all-found, all-weaken, all-without, others-apart}
 use Rattle.vc_audit.proofs.ProfileRows.{own_site, peaks-put, rows-put, site-there}

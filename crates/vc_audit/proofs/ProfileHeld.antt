@@ -1,5 +1,5 @@
 -- Blocks whose sites are kept, and the row of any site.
-use Rattle.std.proofs.Common.{◌≡◌, ◌≢◌, ℕ, ◌+◌, ◌≤◌, eqb, Bool, true, false, cond, is_some, IsSome, List, [], ◌∷◌, Option, Some, None, map, option_map, refl, sym, ap, ◌∙◌, subst, ⊎_elim, arith}
+use Rattle.std.proofs.Common.{◌≡◌, ℕ, ◌+◌, eqb, true, false, cond, IsSome, List, [], ◌∷◌, Option, Some, None, map, option_map, refl, sym, ap, ◌∙◌, subst, ⊎_elim, arith}
 use Rattle.std.specs.Prelude.{unwrap_or}
 use Rattle.std.specs.List.{AllByRecursion}
 use Rattle.std.specs.Map.{lookup}
@@ -10,7 +10,7 @@ use Rattle.indexmap.specs.IndexMap.{insert_entry}
 use Rattle.vc_model.specs.Addr.{address, place_of}
 use Rattle.vc_model.specs.Layout.{Block, address_of, is_at}
 use Rattle.vc_model.specs.Touch.{find_block}
-use Rattle.vc_audit.specs.Profile.{has_site, site_blocks, site_bytes}
+use Rattle.vc_audit.specs.Profile.{has_site}
 use Rattle.vc_audit.specs.ProfileSites.{site_at}
 use Rattle.vc_audit.specs.ProfileSums.{IsHeld, IsRow, Rows, new_row, row_for, site_of, with_its_site}
 use Rattle.vc_audit.specs.declared.profile.rows.Row.{Row}

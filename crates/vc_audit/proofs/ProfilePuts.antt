@@ -1,9 +1,9 @@
 -- What puts and resizes make of blocks with any labels, and of the region without their sites.
-use Rattle.std.proofs.Common.{◌≡◌, ℕ, ◌≤◌, Bool, true, false, cond, List, Option, Some, None, refl, sym, ap, ◌∙◌, subst}
+use Rattle.std.proofs.Common.{◌≡◌, ℕ, Bool, true, false, cond, List, Option, Some, None, refl, sym, ap, ◌∙◌, subst}
 use Rattle.std.specs.Prelude.{take}
 use Rattle.std.specs.List.{AllByRecursion}
 use Rattle.vc_model.specs.Addr.{address, place_of}
-use Rattle.vc_model.specs.Best.{best_alloc, best_need, place_in, put, put_at, put_in_new, put_or_ask, zeros}
+use Rattle.vc_model.specs.Best.{best_alloc, best_need, place_in, put, put_in_new, put_or_ask, zeros}
 use Rattle.vc_model.specs.Discipline.{Terms}
 use Rattle.vc_model.specs.Layout.{Block, Layout, relabel_layout, with_block, with_segment}
 use Rattle.vc_model.specs.Outcome.{Fault, Fixed, Outcome, Done, Put, Refused, outcome_as}

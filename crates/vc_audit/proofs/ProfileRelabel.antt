@@ -5,15 +5,15 @@ use Rattle.std.specs.List.{AllByRecursion}
 use Rattle.vc_model.specs.Best.{best_alloc, without_block_at}
 use Rattle.vc_model.specs.Compact.{cleared, compact_count, compacted}
 use Rattle.vc_model.specs.Discipline.{Terms}
-use Rattle.vc_model.specs.Layout.{Block, Layout, relabel_block, relabel_layout, without_block}
+use Rattle.vc_model.specs.Layout.{Block, Layout, relabel_block, relabel_layout}
 use Rattle.vc_model.specs.Outcome.{Outcome, Done, Refused, Put, outcome_as}
 use Rattle.vc_model.specs.Resize.{best_resize}
-use Rattle.vc_model.specs.Touch.{change_block, rewritten, with_bytes_at}
+use Rattle.vc_model.specs.Touch.{rewritten, with_bytes_at}
 use Rattle.vc_model.proofs.Relabel.{best_alloc-relabel, best_resize-relabel, change_block-relabel, compacted-relabel, compact_count-relabel, relabel-alike, relabel_outcome, without_block-relabel}
 use Rattle.vc_seg.proofs.Stats.{layout_stat-relabel}
 use Rattle.vc_seg.specs.Stat.{layout_stat}
 use Rattle.vc_seg.specs.declared.profile_row.ProfileRow.{ProfileRow}
-use Rattle.vc_audit.specs.Profile.{Profile, bare_layout, has_site, peaked, profile_after, profile_alloc, profile_clear, profile_compact, profile_free, profile_resize, profile_rows, profile_write, relabel_profile, row_at, row_of, site_blocks, site_bytes, site_sizes, with_site}
+use Rattle.vc_audit.specs.Profile.{Profile, bare_layout, has_site, peaked, profile_after, profile_alloc, profile_clear, profile_compact, profile_free, profile_resize, profile_rows, profile_write, relabel_profile, row_of, site_bytes, site_sizes, with_site}
 
 module _ {L M : Type 0} (f : L → M) where
   -- the same of labels with sites

@@ -1,16 +1,15 @@
 -- What a profile region counts when a block gets another size.
-use Rattle.std.proofs.Common.{◌≡◌, ◌≢◌, ℕ, zero, suc, ◌+◌, ◌-◌, ◌≤◌, true, false, Bool, cond, List, [], ◌∷◌, Some, IsSome, Option, None, is_some, length, map, max, option_map, refl, sym, ap, ◌∙◌, subst, ⊎_elim, arith}
-use Rattle.std.specs.Prelude.{Contains, unwrap_or}
+use Rattle.std.proofs.Common.{◌≡◌, ◌≢◌, ℕ, suc, ◌+◌, ◌-◌, ◌≤◌, false, Bool, cond, List, [], ◌∷◌, Some, IsSome, is_some, map, max, option_map, sym, ap, ◌∙◌, subst, ⊎_elim, arith}
+use Rattle.std.specs.Prelude.{unwrap_or}
 use Rattle.std.specs.List.{AllByRecursion, IsDistinct}
 use Rattle.std.specs.Map.{keys_of, lookup}
 use Rattle.std.specs.Str.{bytes_eq}
 use Rattle.std.proofs.lemmas.Bool.{cases_Bool}
 use Rattle.std.proofs.lemmas.Option.{none-some}
 use Rattle.indexmap.specs.IndexMap.{insert_entry}
-use Rattle.vc_model.specs.Addr.{address, place_of}
-use Rattle.vc_model.specs.Best.{zeros}
+use Rattle.vc_model.specs.Addr.{place_of}
 use Rattle.vc_model.specs.Discipline.{Terms}
-use Rattle.vc_model.specs.Layout.{Block, Layout, address_of, is_at, relabel_block, relabel_layout, without_block}
+use Rattle.vc_model.specs.Layout.{Block, Layout, address_of, is_at, relabel_block, without_block}
 use Rattle.vc_model.specs.Outcome.{Outcome, Put}
 use Rattle.vc_model.specs.Resize.{best_resize}
 use Rattle.vc_model.specs.Sound.{HaveOwnPlaces}
@@ -18,19 +17,19 @@ use Rattle.vc_model.specs.Touch.{HasBlock, find_block}
 use Rattle.vc_model.proofs.Relabel.{best_resize-relabel, relabel_outcome}
 use Rattle.vc_seg.specs.Answer.{IsPut, IsRefusal}
 use Rattle.vc_seg.specs.declared.fault.RegionFault.{RegionFault}
-use Rattle.vc_audit.specs.Profile.{Profile, peaked, profile_after, profile_resize, site_blocks, site_bytes, with_site}
+use Rattle.vc_audit.specs.Profile.{Profile, peaked, profile_after, profile_resize, site_blocks, site_bytes}
 use Rattle.vc_audit.specs.ProfileSites.{site_at}
 use Rattle.vc_audit.specs.ProfileSums.{IsCounted, IsHeld, IsRow, Rows, peaks_of, row_for, site_of, sited, with_its_site}
 use Rattle.vc_audit.specs.declared.profile.rows.Row.{Row}
 use Rattle.vc_audit.specs.declared.profile.sites.Sited.{Sited}
 use Rattle.vc_audit.proofs.ProfileAlloc.{some-of}
-use Rattle.vc_audit.proofs.ProfileBare.{IsKept, bare, bare-layout, kept-layout, layout, sited-alike, sited-find, sited-without}
+use Rattle.vc_audit.proofs.ProfileBare.{IsKept, bare, bare-layout, kept-layout, sited-alike, sited-find, sited-without}
 use Rattle.vc_audit.proofs.ProfileCounts.{blocks-total, bytes-total, one, size_at, total-without}
 use Rattle.vc_audit.proofs.ProfileFree as free
 use Rattle.vc_audit.proofs.ProfileFree.{profile}
 use Rattle.vc_audit.proofs.ProfileHeld.{TheBlock, held-put, other-site}
 use Rattle.vc_audit.proofs.ProfileLists.{all-both, all-found, all-join, all-map, all-unmap, all-weaken, all-without, others-apart, first_at, later_at}
-use Rattle.vc_audit.proofs.ProfilePuts.{Keeps, OnDone, WithSites, put-profile, refusal-with, resize-all, with-sites}
+use Rattle.vc_audit.proofs.ProfilePuts.{Keeps, WithSites, put-profile, refusal-with, resize-all, with-sites}
 use Rattle.vc_audit.proofs.ProfileRows.{own_site, peaks-put, put-own, rows-put, site-there}
 
 -- the block that is found stands there
@@ -180,9 +179,10 @@ module _ (r : Layout ℕ) (t : List Sited) (es : Rows) (counted : IsCounted r t 
   same : (x : List ℕ) → bytes_eq site x ≡ false → (site_blocks x S' ≡ site_blocks x S) × (site_bytes x S' ≡ site_bytes x S)
   same x e =
       let none : one x own ≡ 0 = ap (λ v. cond v 1 0) (ap (bytes_eq x) own-is ∙ other-site site x e) in
-      let no_size : size_at x own ≡ 0 = ap (λ v. cond v nb.block.size 0) (ap (bytes_eq x) own-is ∙ other-site site x e) in
-      (omega (arith, blocks-now x, none, free.blocks-split r t es counted places a b site at x, free.other-one r t es counted places a b site at x e),
-        omega (arith, bytes-now x, no_size, free.bytes-split r t es counted places a b site at x, free.other-size r t es counted places a b site at x e))
+      let no_size : size_at x own ≡ 0 = ap (λ v. cond v nb.block.size 0) (ap (bytes_eq x) own-is ∙ other-site site x e) in (
+        omega (arith, blocks-now x, none, free.blocks-split r t es counted places a b site at x, free.other-one r t es counted places a b site at x e),
+        omega (arith, bytes-now x, no_size, free.bytes-split r t es counted places a b site at x, free.other-size r t es counted places a b site at x e),
+      )
 
   module _ (w : Row) (w_blocks : w.blocks ≡ (row_for site es).blocks) (w_bytes : w.bytes ≡ (row_for site es).bytes - b.block.size + nb.block.size) (w_peak : w.peak ≡ max (row_for site es).peak w.bytes) where
     abbrev es' : Rows

@@ -1,13 +1,13 @@
 -- Calls that leave every site's sums: bytes are written, and segments go.
-use Rattle.std.proofs.Common.{◌≡◌, ℕ, ◌≤◌, List, [], map, refl, sym, ap, ◌∙◌, subst}
+use Rattle.std.proofs.Common.{◌≡◌, ℕ, List, [], map, refl, sym, ap, ◌∙◌, subst}
 use Rattle.std.specs.List.{AllByRecursion}
-use Rattle.vc_model.specs.Compact.{compact_count, compacted, is_occupied}
-use Rattle.vc_model.specs.Layout.{Block, Layout, address_of, relabel_block, relabel_layout}
+use Rattle.vc_model.specs.Compact.{compacted}
+use Rattle.vc_model.specs.Layout.{Block, Layout, address_of}
 use Rattle.vc_model.specs.Touch.{change_block, rewritten, with_bytes_at}
 use Rattle.vc_model.proofs.Relabel.{change_block-relabel, compacted-relabel}
-use Rattle.vc_audit.specs.Profile.{Profile, peaked, profile_compact, profile_write, site_blocks, site_bytes}
+use Rattle.vc_audit.specs.Profile.{Profile, profile_compact, profile_write, site_blocks, site_bytes}
 use Rattle.vc_audit.specs.ProfileSites.{site_at}
-use Rattle.vc_audit.specs.ProfileSums.{IsCounted, IsHeld, IsRow, Rows, peaks_of, site_of, sited, with_its_site}
+use Rattle.vc_audit.specs.ProfileSums.{IsCounted, IsHeld, IsRow, Rows, peaks_of, sited, with_its_site}
 use Rattle.vc_audit.specs.declared.profile.sites.Sited.{Sited}
 use Rattle.vc_audit.proofs.ProfileAlloc.{some-of}
 use Rattle.vc_audit.proofs.ProfileBare.{IsKept, bare, bare-layout, kept-layout, layout}

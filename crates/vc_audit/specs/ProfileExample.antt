@@ -3,7 +3,7 @@ use Rattle.std.specs.Prelude.{ℕ, List, [], ◌∷◌, Option, Some, None, fals
 use Rattle.vc_model.specs.Discipline.{Terms}
 use Rattle.vc_model.specs.Outcome.{Outcome, Done, Put, Refused}
 use Rattle.vc_seg.specs.declared.profile_row.ProfileRow.{ProfileRow}
-use Rattle.vc_audit.specs.Profile.{Profile, empty_profile, profile_alloc, profile_clear, profile_free, profile_resize, profile_rows}
+use Rattle.vc_audit.specs.Profile.{Profile, empty_profile, profile_alloc, profile_free, profile_resize}
 
 abbrev pub terms : Terms
 terms = record { round = 4096 }

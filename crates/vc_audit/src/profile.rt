@@ -7,7 +7,9 @@ mod rows;
 mod sites;
 mod walk;
 
+ghost use Rattle.std.specs.Prelude.{◌≡◌, ◌≤◌, IfErr, IfOk};
 ghost use Rattle.std.proofs.Props.{props};
+ghost use Rattle.vc_model.specs.Layout.{empty_layout};
 ghost use Rattle.vc_audit.specs.ProfileSums.{IsCounted};
 
 use indexmap::IndexMap;
@@ -31,12 +33,23 @@ pub struct Profile {
     pub(crate) rows: IndexMap<Name, Row>,
     // The site of each block.
     pub(crate) sites: Sites,
-    ghost counted: { IsCounted best.layout sites.items.items rows.entries }
-        by { Prim.hlevel props },
+    ghost counted: { IsCounted best.layout sites.items.items rows.entries } by { Prim.hlevel props },
+}
+
+// A best region with no segment. The condition always holds.
+fn open_best(
+    alloc: Global,
+    disc: Box<dyn SegDisc>,
+) -> Result<Best, (OutOfMemory, Box<dyn SegDisc>)>
+    requires { 0 ≤ 0 }
+    ensures ok { IfOk result (λ b. (b.layout ≡ empty_layout) × (state b.disc ≡ state disc)) }
+    ensures err { IfErr result (λ e. state e.1 ≡ state disc) }
+{
+    Best::open(alloc, disc)
 }
 
 impl Profile {
-    ghost use Rattle.std.specs.Prelude.{◌≡◌, [], IfOk, IfErr, length};
+    ghost use Rattle.std.specs.Prelude.{[], length};
     ghost use Rattle.vc_model.specs.Discipline.{HasOut, TookBack};
     ghost use Rattle.vc_audit.specs.Profile.{empty_profile};
     ghost use Rattle.vc_audit.specs.ProfileParts.{profile_of, segments_in};
@@ -51,12 +64,14 @@ impl Profile {
             × (state p.best.disc ≡ state disc)) }
         ensures err { IfErr result (λ e. state e.1 ≡ state disc) }
     {
-        let best = Best::open(alloc, disc)?;
-        Ok(Profile {
-            best,
-            rows: IndexMap::new(alloc),
-            sites: Sites::new(alloc),
-        })
+        match open_best(alloc, disc) {
+            Ok(best) => Ok(Profile {
+                best,
+                rows: IndexMap::new(alloc),
+                sites: Sites::new(alloc),
+            }),
+            Err(failed) => Err(failed),
+        }
     }
 
     /// Gives all its segments back, in ascending order of number, and answers with the discipline and how many there

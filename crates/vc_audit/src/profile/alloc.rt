@@ -51,12 +51,8 @@ impl Profile {
         if row.blocks >= 4_294_967_295 {
             return Err(RegionFault::OutOfMemory);
         }
-        self.rows
-            .reserve(1)
-            .map_err(|_| RegionFault::OutOfMemory)?;
-        self.sites
-            .reserve()
-            .map_err(|_| RegionFault::OutOfMemory)?;
+        self.rows.reserve(1).map_err(|_| RegionFault::OutOfMemory)?;
+        self.sites.reserve().map_err(|_| RegionFault::OutOfMemory)?;
         let mut steps = Steps::<Uncounted>::new(self.best.alloc);
         match self.best.alloc(size, align, tag, &mut steps) {
             Ok(a) => {

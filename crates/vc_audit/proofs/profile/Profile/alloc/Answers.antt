@@ -1,12 +1,10 @@
-use Rattle.std.proofs.Common.{◌≡◌, ℕ, ◌+◌, ◌*◌, ◌<◌, ◌≤◌, false, List, Some, cond, eqb, max, refl, sym, ap, ◌∙◌, subst, arith}
+use Rattle.std.proofs.Common.{◌≡◌, ℕ, ◌+◌, ◌*◌, ◌<◌, ◌≤◌, Some, cond, eqb, max, sym, ap, ◌∙◌, subst, arith}
 use Rattle.std.specs.Str.{bytes_eq}
 use Rattle.indexmap.specs.IndexMap.{insert_entry}
 use Rattle.vc_model.specs.Addr.{place_of}
 use Rattle.vc_model.specs.Best.{zeros}
 use Rattle.vc_model.specs.Layout.{without_block}
 use Rattle.vc_model.specs.Touch.{HasBlock, find_block}
-use Rattle.vc_seg.specs.Answer.{IsPut, IsRefusal}
-use Rattle.vc_audit.specs.Profile.{profile_alloc}
 use Rattle.vc_audit.specs.ProfileSites.{site_at}
 use Rattle.vc_audit.specs.ProfileSums.{IsCounted, row_for}
 use Rattle.vc_audit.specs.declared.profile.rows.Row.{Row}
@@ -61,8 +59,9 @@ returns-in-Ok-clause-others g c =
 pub returns-clause-answer : goal.returns-clause-answer
 returns-clause-answer g c =
     let me = c.args.self.now in
-    let refused = alloc-refused me.sites.items.items me.best.layout me.rows.entries _ c.args.tag c.new-site.result c.args.size c.args.align c.in-Err.fault c.args.site.now c.new-site.ensures c.in-Err.ensures.answer.0 in
-    (refused,
+    let refused = alloc-refused me.sites.items.items me.best.layout me.rows.entries _ c.args.tag c.new-site.result c.args.size c.args.align c.in-Err.fault c.args.site.now c.new-site.ensures c.in-Err.ensures.answer.0 in (
+      refused,
       ap (λ ss. profile ss c.alloc.new.self.layout c.reserve.new.self.entries) c.reserve-2.ensures.same
-      ∙ (ap (λ l. profile me.sites.items.items l c.reserve.new.self.entries) c.in-Err.ensures.answer.1
-      ∙ ap (profile me.sites.items.items me.best.layout) c.reserve.ensures.entries))
+          ∙ (ap (λ l. profile me.sites.items.items l c.reserve.new.self.entries) c.in-Err.ensures.answer.1
+          ∙ ap (profile me.sites.items.items me.best.layout) c.reserve.ensures.entries),
+    )

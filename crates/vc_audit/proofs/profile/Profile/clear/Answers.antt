@@ -1,4 +1,4 @@
-use Rattle.std.proofs.Common.{◌≡◌, ℕ, List, [], sym, ap, ◌∙◌, subst}
+use Rattle.std.proofs.Common.{ℕ, [], sym, ap, ◌∙◌, subst}
 use Rattle.vc_model.specs.Compact.{cleared}
 use Rattle.vc_model.specs.Layout.{Layout}
 use Rattle.vc_audit.specs.ProfileSums.{IsCounted}

@@ -1,4 +1,4 @@
-use Rattle.std.proofs.Common.{◌≡◌, ℕ, ◌<◌, List, ◌-◌, ◌≤◌, length, is_some, Some, max, inr, refl, sym, ap, ◌∙◌, subst, arith}
+use Rattle.std.proofs.Common.{◌≡◌, ℕ, ◌<◌, ◌-◌, ◌≤◌, length, is_some, Some, max, inr, sym, ap, ◌∙◌, subst, arith}
 use Rattle.std.proofs.lemmas.Bool.{false≢true}
 use Rattle.std.specs.List.{HoldsAt, remove}
 use Rattle.std.specs.Str.{bytes_eq}
@@ -10,7 +10,7 @@ use Rattle.vc_audit.specs.declared.profile.rows.Row.{Row}
 use Rattle.vc_audit.specs.ProfileSites.{site_at}
 use Rattle.vc_audit.proofs.ProfileBare.{from-best, from-both, to-best}
 use Rattle.vc_audit.proofs.ProfileFree.{counted-freed, enough-blocks, enough-bytes, has-row, profile, profile-freed}
-use Rattle.vc_audit.proofs.ProfileHeld.{TheBlock, told-block, told-is}
+use Rattle.vc_audit.proofs.ProfileHeld.{told-block, told-is}
 use Rattle.vc_audit.proofs.ProfileLists.{all-found}
 use Rattle.vc_audit.proofs.ProfileSound.{best_places}
 use Rattle.vc_audit.proofs.profile.Profile.free.Goals as goal
@@ -64,8 +64,10 @@ invariant_of-self g c =
     let at : site_at c.args.a.0 me.sites.items.items ≡ Some c.in-Some.site = sym c.find.ensures ∙ c.in-Some.is in
     let size : b.block.size ≡ c.size-size.result = told-is (λ (x : Block ℕ). x.size) r.blocks c.args.a.0 c.size-size.result b c.size-size.ensures in
     let row : c.row_for-row.result ≡ row_for c.in-Some.site me.rows.entries = c.row_for-row.ensures.row in
-    record { counted = subst (λ es. IsCounted c.free.new.self.layout c.take.new.self.items.items es) (sym c.put_row.ensures) (subst (λ l. IsCounted l c.take.new.self.items.items (insert_entry bytes_eq me.rows.entries c.in-Some.site c.with.result)) (sym c.free.ensures.layout)
-      (counted-freed r me.sites.items.items me.rows.entries me.counted (best_places me.best) c.args.a.0 b c.in-Some.site at c.take.new.self.items.items c.take.ensures.others c.with.result (c.with.ensures.blocks ∙ ap (λ v. v.blocks - 1) row) (c.with.ensures.bytes ∙ (ap (λ v. v.bytes - c.size-size.result) row ∙ ap (λ n. (row_for c.in-Some.site me.rows.entries).bytes - n) (sym size))) (c.with.ensures.peak ∙ (ap (λ n. max c.row_for-row.result.peak n) (sym c.with.ensures.bytes) ∙ ap (λ v. max v.peak c.with.result.bytes) row)) c.row_for-row.ensures.distinct)) }
+    record {
+      counted = subst (λ es. IsCounted c.free.new.self.layout c.take.new.self.items.items es) (sym c.put_row.ensures) (subst (λ l. IsCounted l c.take.new.self.items.items (insert_entry bytes_eq me.rows.entries c.in-Some.site c.with.result)) (sym c.free.ensures.layout)
+          (counted-freed r me.sites.items.items me.rows.entries me.counted (best_places me.best) c.args.a.0 b c.in-Some.site at c.take.new.self.items.items c.take.ensures.others c.with.result (c.with.ensures.blocks ∙ ap (λ v. v.blocks - 1) row) (c.with.ensures.bytes ∙ (ap (λ v. v.bytes - c.size-size.result) row ∙ ap (λ n. (row_for c.in-Some.site me.rows.entries).bytes - n) (sym size))) (c.with.ensures.peak ∙ (ap (λ n. max c.row_for-row.result.peak n) (sym c.with.ensures.bytes) ∙ ap (λ v. max v.peak c.with.result.bytes) row)) c.row_for-row.ensures.distinct));
+    }
 
 pub returns-clause-profile : goal.returns-clause-profile
 returns-clause-profile g c =

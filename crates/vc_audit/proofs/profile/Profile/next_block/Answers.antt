@@ -1,5 +1,5 @@
-use Rattle.std.proofs.Common.{◌≡◌, ℕ, ◌⊎◌, IfSome, option_map}
-use Rattle.vc_model.specs.Layout.{Block, address_of}
+use Rattle.std.proofs.Common.{◌≡◌, ◌⊎◌, IfSome, option_map}
+use Rattle.vc_model.specs.Layout.{address_of}
 use Rattle.vc_model.specs.Touch.{HasBlock}
 use Rattle.vc_model.specs.Walk.{next_block}
 use Rattle.vc_audit.proofs.ProfileBare.{from-best, to-best}

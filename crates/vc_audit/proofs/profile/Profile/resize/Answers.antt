@@ -1,7 +1,5 @@
-use Rattle.std.proofs.Common.{◌≡◌, ℕ, ◌+◌, ◌-◌, ◌*◌, ◌≤◌, List, Some, IfSome, IsTrue, is_some, false, max, option_map, inr, sym, ap, ◌∙◌, subst, arith}
-use Rattle.std.specs.Str.{bytes_eq}
+use Rattle.std.proofs.Common.{◌≡◌, ℕ, ◌+◌, ◌-◌, ◌*◌, ◌≤◌, Some, IfSome, IsTrue, is_some, false, max, option_map, inr, sym, ap, ◌∙◌, subst, arith}
 use Rattle.std.proofs.lemmas.Bool.{false≢true}
-use Rattle.indexmap.specs.IndexMap.{insert_entry}
 use Rattle.vc_model.specs.Addr.{place_of}
 use Rattle.vc_model.specs.Layout.{Block, Layout, without_block}
 use Rattle.vc_model.specs.Resize.{can_stay}
@@ -10,9 +8,9 @@ use Rattle.vc_audit.specs.ProfileSites.{site_at}
 use Rattle.vc_audit.specs.ProfileSums.{IsCounted, IsHeld, row_for}
 use Rattle.vc_audit.specs.declared.profile.rows.Row.{Row}
 use Rattle.vc_audit.proofs.ProfileAlloc.{few-bytes}
-use Rattle.vc_audit.proofs.ProfileBare.{bare-layout, from-best, from-both, to-best}
+use Rattle.vc_audit.proofs.ProfileBare.{bare-layout, from-both, to-best}
 use Rattle.vc_audit.proofs.ProfileFree.{enough-bytes, has-row, profile}
-use Rattle.vc_audit.proofs.ProfileHeld.{TheBlock, told-block, told-is}
+use Rattle.vc_audit.proofs.ProfileHeld.{told-block, told-is}
 use Rattle.vc_audit.proofs.ProfileLists.{all-found}
 use Rattle.vc_audit.proofs.ProfileResize.{counted-resized, has-block, profile-resized, resize-refused}
 use Rattle.vc_audit.proofs.ProfileSound.{best_places}
@@ -72,9 +70,11 @@ invariant_of-self g c =
     let bytes : c.with.result.bytes ≡ (row_for c.in-Some.site me.rows.entries).bytes - b.block.size + nb.block.size =
     c.with.ensures.bytes ∙ (ap (λ (v : Row). v.bytes - c.size-before.result + c.size-after.result) row
     ∙ (ap (λ n. (row_for c.in-Some.site me.rows.entries).bytes - n + c.size-after.result) (sym size) ∙ ap (λ n. (row_for c.in-Some.site me.rows.entries).bytes - b.block.size + n) (sym after))) in
-    record { counted = subst (IsCounted c.resize.new.self.layout c.move_to.new.self.items.items) (sym c.put_row.ensures)
-      (counted-resized me.best.layout me.sites.items.items me.rows.entries me.counted (best_places me.best) c.args.a.0 b c.in-Some.site at c.row_for-row.ensures.distinct _ c.args.size c.args.may_move c.requires.most c.in-Ok.to.0 c.resize.new.self.layout c.in-Ok.ensures.answer nb c.in-Ok.ensures.others (best_places c.resize.new.self) c.move_to.new.self.items.items c.move_to.ensures.there c.move_to.ensures.others
-      c.with.result (c.with.ensures.blocks ∙ ap (λ (v : Row). v.blocks) row) bytes (c.with.ensures.peak ∙ (ap (λ n. max c.row_for-row.result.peak n) (sym c.with.ensures.bytes) ∙ ap (λ (v : Row). max v.peak c.with.result.bytes) row))) }
+    record {
+      counted = subst (IsCounted c.resize.new.self.layout c.move_to.new.self.items.items) (sym c.put_row.ensures)
+          (counted-resized me.best.layout me.sites.items.items me.rows.entries me.counted (best_places me.best) c.args.a.0 b c.in-Some.site at c.row_for-row.ensures.distinct _ c.args.size c.args.may_move c.requires.most c.in-Ok.to.0 c.resize.new.self.layout c.in-Ok.ensures.answer nb c.in-Ok.ensures.others (best_places c.resize.new.self) c.move_to.new.self.items.items c.move_to.ensures.there c.move_to.ensures.others
+          c.with.result (c.with.ensures.blocks ∙ ap (λ (v : Row). v.blocks) row) bytes (c.with.ensures.peak ∙ (ap (λ n. max c.row_for-row.result.peak n) (sym c.with.ensures.bytes) ∙ ap (λ (v : Row). max v.peak c.with.result.bytes) row)));
+    }
 
 pub returns-in-Ok-clause-answer : goal.returns-in-Ok-clause-answer
 returns-in-Ok-clause-answer g c =
@@ -89,7 +89,7 @@ returns-in-Ok-clause-answer g c =
     c.with.ensures.bytes ∙ (ap (λ (v : Row). v.bytes - c.size-before.result + c.size-after.result) row
     ∙ (ap (λ n. (row_for c.in-Some.site me.rows.entries).bytes - n + c.size-after.result) (sym size) ∙ ap (λ n. (row_for c.in-Some.site me.rows.entries).bytes - b.block.size + n) (sym after))) in
     profile-resized me.best.layout me.sites.items.items me.rows.entries me.counted (best_places me.best) c.args.a.0 b c.in-Some.site at c.row_for-row.ensures.distinct _ c.args.size c.args.may_move c.requires.most c.in-Ok.to.0 c.resize.new.self.layout c.in-Ok.ensures.answer nb c.in-Ok.ensures.others (best_places c.resize.new.self) c.move_to.new.self.items.items c.move_to.ensures.there c.move_to.ensures.others
-      c.with.result (c.with.ensures.blocks ∙ ap (λ (v : Row). v.blocks) row) bytes (c.with.ensures.peak ∙ (ap (λ n. max c.row_for-row.result.peak n) (sym c.with.ensures.bytes) ∙ ap (λ (v : Row). max v.peak c.with.result.bytes) row)) c.put_row.new.rows.entries c.put_row.ensures
+    c.with.result (c.with.ensures.blocks ∙ ap (λ (v : Row). v.blocks) row) bytes (c.with.ensures.peak ∙ (ap (λ n. max c.row_for-row.result.peak n) (sym c.with.ensures.bytes) ∙ ap (λ (v : Row). max v.peak c.with.result.bytes) row)) c.put_row.new.rows.entries c.put_row.ensures
 
 pub returns-in-Ok-clause-there : goal.returns-in-Ok-clause-there
 returns-in-Ok-clause-there g c =
@@ -103,12 +103,12 @@ returns-in-Ok-clause-others g c =
 
 pub returns-clause-answer : goal.returns-clause-answer
 returns-clause-answer g c =
-    let me = c.args.self.now in
-    (resize-refused me.sites.items.items me.best.layout me.rows.entries _ (place_of c.args.a.0) c.args.size c.args.may_move c.in-Err.fault c.in-Err.ensures.answer.0,
-      ap (λ l. profile me.sites.items.items l me.rows.entries) c.in-Err.ensures.answer.1)
+    let me = c.args.self.now in (
+      resize-refused me.sites.items.items me.best.layout me.rows.entries _ (place_of c.args.a.0) c.args.size c.args.may_move c.in-Err.fault c.in-Err.ensures.answer.0,
+      ap (λ l. profile me.sites.items.items l me.rows.entries) c.in-Err.ensures.answer.1,
+    )
 
 pub returns-clause-no_memory : goal.returns-clause-no_memory
 returns-clause-no_memory g c =
     let me = c.args.self.now in
     λ e. subst (λ (l : Layout ℕ). IfSome (find_block (place_of c.args.a.0) l.blocks) (λ b. can_stay l c.args.size b ≡ false) × IsTrue c.args.may_move) (sym (bare-layout me.sites.items.items me.best.layout)) (c.in-Err.ensures.no_memory e)
-

@@ -1,6 +1,6 @@
-use Rattle.std.proofs.Common.{◌≡◌, ℕ, List, length, sym, ap, ◌∙◌, subst}
+use Rattle.std.proofs.Common.{◌≡◌, ℕ, length, sym, ap, ◌∙◌, subst}
 use Rattle.vc_model.specs.Addr.{place_of}
-use Rattle.vc_model.specs.Layout.{Block, Layout, without_block}
+use Rattle.vc_model.specs.Layout.{Layout, without_block}
 use Rattle.vc_model.specs.Touch.{HasBlock, HasRange}
 use Rattle.vc_audit.specs.ProfileSums.{IsCounted}
 use Rattle.vc_audit.proofs.ProfileBare.{from-both, to-best}

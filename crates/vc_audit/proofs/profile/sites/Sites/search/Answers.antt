@@ -1,6 +1,5 @@
-use Rattle.std.proofs.Common.{rules, subst}
+use Rattle.std.proofs.Common.{rules}
 use Rattle.std.proofs.lemmas.List.Sorted.{answers_always}
-use Rattle.vc_audit.specs.ProfileSites.{IsAscending}
 use Rattle.vc_audit.proofs.ProfileSites.{searched}
 use Rattle.vc_audit.proofs.profile.sites.Sites.search.Goals as goal
 
