@@ -1,0 +1,14 @@
+pub mod ProfileSites
+pub mod ProfileLists
+pub mod ProfileBare
+pub mod ProfileCounts
+pub mod ProfileRows
+pub mod ProfileHeld
+pub mod ProfilePuts
+pub mod ProfileSound
+pub mod ProfileFree
+pub mod ProfileAlloc
+pub mod ProfileResize
+pub mod ProfileStays
+pub mod ProfileClear
+pub mod ProfileRelabel
