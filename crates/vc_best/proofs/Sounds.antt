@@ -27,4 +27,5 @@ module _ (segs : List Bytes) (slots : List Slot) (l : IsLayout segs slots) where
         usable = IsUsable-blocks segs slots l.blocks;
         exact = All-map (λ (b : Block ℕ). place_of (address_of b) ≡ (b.seg, b.off)) (block_in segs) slots (λ k d lt. let slot = (l.blocks k d lt).slot in place_of-address (get_or slots k d).seg (get_or slots k d).off slot.last slot.multiple);
         numbered = HaveOwnNumbers-segments;
+        short = All-map (λ (s : ℕ × ℕ). s.1 ≤ 33554432) pair_of segs (λ k d lt. (l.segments k d lt).size.most);
       }
