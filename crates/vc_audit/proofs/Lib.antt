@@ -1,0 +1,2 @@
+pub mod DebugMarks
+pub mod DebugBlocks

@@ -1,0 +1,6 @@
+//! A memory region by exact best fit that finds damage around its blocks.
+#![tactic(auto)]
+
+mod debug;
+
+pub use debug::Debug;
