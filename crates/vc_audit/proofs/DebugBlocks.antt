@@ -82,10 +82,10 @@ user_place-next a below =
 long-span : (size : ℕ) → 49 ≤ size → 96 ≤ span size
 long-span size some = omega arith
 
-module _ (r : Layout ℕ) (guards : HasGuards r.blocks) where
-  none : Block ℕ
-  none = record { label = 0; seg = 0; off = 0; size = 0; bytes = [] }
+none : Block ℕ
+none = record { label = 0; seg = 0; off = 0; size = 0; bytes = [] }
 
+module _ (r : Layout ℕ) (guards : HasGuards r.blocks) where
   below-sound : IsSound r → (a : ℕ) → HasBlock r.blocks a → (place_of a).1 + 33 ≤ 33554432
   below-sound s a live =
       let k : ℕ = live.0 in
@@ -107,19 +107,44 @@ module _ (r : Layout ℕ) (guards : HasGuards r.blocks) where
   pub below-end : ∥ IsSound r ∥₁ → (a : ℕ) → HasBlock r.blocks a → (place_of a).1 + 33 ≤ 33554432
   below-end sound a live = ∥∥₁_elim sound (le_prop) (λ s. below-sound s a live)
 
-  -- the address of a user's block
-  pub record IsUser (a : ℕ) : Type 0 where
-    pub first : 1 ≤ a
-    pub live : HasBlock r.blocks (a - 1)
-    pub place : place_of a ≡ user_place (place_of (a - 1))
+-- a user's block stands at the first of these addresses, and the block with guards in which it is at the second
+pub record UserAt (r : Layout ℕ) (a x : ℕ) : Type 0 where
+  pub next : a ≡ x + 1
+  pub live : HasBlock r.blocks x
+  pub place : place_of a ≡ user_place (place_of x)
 
-  pub is_user : ∥ IsSound r ∥₁ → (a : ℕ) → HasBlock (map user_block r.blocks) a → IsUser a
-  is_user sound a live =
-      let down = live-down r.blocks a live in
-      let first : 1 ≤ a = down.0 in
-      let same : a - 1 + 1 ≡ a = omega (arith, first) in
-      record {
-        first = first;
-        live = down.1;
-        place = ap place_of (sym same) ∙ user_place-next (a - 1) (below-end sound (a - 1) down.1);
-      }
+pub user_at : (r : Layout ℕ) → ∥ IsSound r ∥₁ → HasGuards r.blocks → (a x : ℕ) → x ≡ a - 1 → HasBlock (map user_block r.blocks) a → UserAt r a x
+user_at r sound guards a x e live =
+    let down = live-down r.blocks a live in
+    let first : 1 ≤ a = down.0 in
+    let next : a ≡ x + 1 = omega (arith, first, e) in
+    let among : HasBlock r.blocks x = subst (HasBlock r.blocks) (sym e) down.1 in
+    record {
+      next = next;
+      live = among;
+      place = ap place_of next ∙ user_place-next x (below-end r guards sound x among);
+    }
+
+-- the same where a block with guards is known
+pub at_user : (r : Layout ℕ) → ∥ IsSound r ∥₁ → HasGuards r.blocks → (a x : ℕ) → a ≡ x + 1 → HasBlock r.blocks x → UserAt r a x
+at_user r sound guards a x next live = record { next = next; live = live; place = ap place_of next ∙ user_place-next x (below-end r guards sound x live) }
+
+module _ (r : Layout ℕ) (a x : ℕ) (u : UserAt r a x) where
+  pub found-at : (bs : List (Block ℕ)) → find_block (place_of a) (map user_block bs) ≡ option_map user_block (find_block (place_of x) bs)
+  found-at bs = ap (λ p. find_block p (map user_block bs)) u.place ∙ find-user (place_of x) bs
+
+  pub without-at : (bs : List (Block ℕ)) → without_block (place_of a) (map user_block bs) ≡ map user_block (without_block (place_of x) bs)
+  without-at bs = ap (λ p. without_block p (map user_block bs)) u.place ∙ without-user (place_of x) bs
+
+  pub guarded-at : guarded_place (place_of a) ≡ place_of x
+  guarded-at =
+      let pair : ℕ → ℕ → ℕ × ℕ = λ m n. (m, n) in
+      let back : (place_of x).1 + 32 - 32 ≡ (place_of x).1 = omega arith in
+      ap guarded_place u.place ∙ ap (pair (place_of x).0) back
+
+  pub live-at : HasBlock (map user_block r.blocks) a
+  live-at = subst (HasBlock (map user_block r.blocks)) (sym u.next) (live-up r.blocks x u.live)
+
+  -- the other blocks stay where they stay in the region with guards
+  pub others-at : (bs cs : List (Block ℕ)) → without_block (place_of x) bs ≡ without_block (place_of x) cs → without_block (place_of a) (map user_block bs) ≡ without_block (place_of a) (map user_block cs)
+  others-at bs cs same = without-at bs ∙ (ap (map user_block) same ∙ sym (without-at cs))

@@ -1,2 +1,5 @@
 pub mod DebugMarks
 pub mod DebugBlocks
+pub mod DebugFills
+pub mod DebugPuts
+pub mod DebugFrees
