@@ -1,15 +1,15 @@
 -- What freeing a block with guards leaves of the user's blocks.
-use Rattle.std.proofs.Common.{◌≡◌, ℕ, suc, zero, ◌+◌, ◌-◌, ◌<◌, List, [], ◌∷◌, get_or, length, map, refl, sym, ap, ◌∙◌, arith}
+use Rattle.std.proofs.Common.{◌≡◌, ℕ, suc, zero, ◌+◌, ◌-◌, ◌<◌, List, [], ◌∷◌, ◌++◌, drop, get_or, length, map, refl, sym, ap, ◌∙◌, take, arith}
 use Rattle.std.specs.List.{HoldsAt, remove}
-use Rattle.std.proofs.lemmas.List.{get_or-map, length-map}
+use Rattle.std.proofs.lemmas.List.{drop-map, get_or-map, length-map, map-append, take-map}
 use Rattle.vc_model.specs.Layout.{Block, address_of}
 use Rattle.vc_audit.specs.Debug.{user_block}
 use Rattle.vc_audit.proofs.DebugBlocks.{address-user}
 
 remove-map : {A B : Type 0} (f : A → B) (xs : List A) (i : ℕ) → remove (map f xs) i ≡ map f (remove xs i)
-remove-map f [] i = refl
-remove-map f (x ∷ xs) zero = refl
-remove-map f (x ∷ xs) (suc i) = ap (λ ys. f x ∷ ys) (remove-map f xs i)
+remove-map f xs i =
+    ap (λ ys. ys ++ drop (suc i) (map f xs)) (take-map f i xs)
+    ∙ (ap (λ ys. map f (take i xs) ++ ys) (drop-map f (suc i) xs) ∙ sym (map-append f (take i xs) (drop (suc i) xs)))
 
 -- the one user's block at an address goes
 pub freed-user : (bs cs : List (Block ℕ)) (a x : ℕ) → a ≡ x + 1 → ((i : ℕ) → i < length bs → HoldsAt (λ b. address_of b ≡ x) bs i → cs ≡ remove bs i) →

@@ -94,7 +94,7 @@ between front rest back size long le =
     let kept : List ℕ = take size rest in
     let one : take (32 + size) (front ++ rest) ≡ front ++ kept = ap (λ n. take (n + size) (front ++ rest)) (sym long) ∙ take-append-add front rest size in
     let cut : drop 32 (front ++ (kept ++ back)) ≡ kept ++ back = drop_at front (kept ++ back) 32 long in
-    let most : size ≤ length kept = omega (arith, length-take size rest, le) in
+    let most : size ≤ length kept = omega (arith, length-take {A = ℕ} size rest, le) in
     ap (λ ys. take size (drop 32 (ys ++ back))) one
     ∙ (ap (λ ys. take size (drop 32 ys)) (append_assoc front kept back)
     ∙ (ap (take size) cut
@@ -105,12 +105,12 @@ user-zeros size =
     let front : List ℕ = replicate 32 165 in
     let long : length front ≡ 32 = length-replicate {A = ℕ} 32 165 in
     let rest : List ℕ = drop (0 + length front) (replicate (size + 48) 0) in
-    let back : List ℕ = replicate 16 165 ++ drop (32 + size + length (replicate 16 165)) (with_bytes 0 front (replicate (size + 48) 0)) in
+    let back : List ℕ = replicate 16 165 ++ drop (32 + size + length {A = ℕ} (replicate 16 165)) (with_bytes 0 front (replicate (size + 48) 0)) in
     let same : size + 48 - 48 ≡ size = omega arith in
     let is : rest ≡ replicate (size + 48 - 32) 0 = ap (λ n. drop n (replicate (size + 48) 0)) long ∙ drop-replicate 32 (size + 48) 0 in
     let enough : size ≤ length rest = omega (arith, ap length is, length-replicate {A = ℕ} (size + 48 - 32) 0) in
     ap (λ n. take n (drop 32 (with_bytes (32 + size) (replicate 16 165) (with_bytes 0 front (replicate (size + 48) 0))))) same
-    ∙ (ap (λ ys. take size (drop 32 ys)) (append_assoc (take (32 + size) (front ++ rest)) (replicate 16 165) (drop (32 + size + length (replicate 16 165)) (with_bytes 0 front (replicate (size + 48) 0))))
+    ∙ (ap (λ ys. take size (drop 32 ys)) (append_assoc (take (32 + size) (front ++ rest)) (replicate 16 165) (drop (32 + size + length {A = ℕ} (replicate 16 165)) (with_bytes 0 front (replicate (size + 48) 0))))
     ∙ (between front rest back size long enough
     ∙ (ap (take size) is ∙ take-replicate size (size + 48 - 32) 0 (omega arith))))
 

@@ -3,3 +3,5 @@ pub mod DebugBlocks
 pub mod DebugFills
 pub mod DebugPuts
 pub mod DebugFrees
+pub mod DebugPokes
+pub mod DebugWalks

@@ -2,13 +2,22 @@ ghost use Rattle.std.specs.Prelude.{◌≡◌, ◌+◌, Some, IfSome, length, ta
 ghost use Rattle.vc_model.specs.Addr.{place_of};
 ghost use Rattle.vc_model.specs.Layout.{without_block};
 ghost use Rattle.vc_model.specs.Touch.{HasBlock, HasRange, find_block};
-ghost use Rattle.vc_audit.specs.Debug.{debug_write, poked};
+ghost use Rattle.vc_audit.specs.Debug.{debug_write, guarded_offset, poked};
 ghost use Rattle.vc_audit.specs.DebugParts.{blocks_in, debug_of, disc_in};
 
 use crate::debug::Debug;
 use crate::debug::guard::guarded_addr;
 use vc_base::Addr;
 use vc_seg::{BoxedDisc, SegDisc};
+
+// The place in a block with guards of an offset from the user's bytes on.
+fn guarded_off(off: i64) -> u32
+    requires first { negsuc 31 ≤ℤ off }
+    requires last { off <ℤ pos 16777232 }
+    ensures { result ≡ guarded_offset off }
+{
+    (off + 32) as u32
+}
 
 /// The calls on one block. They can't fail, and take no memory.
 impl Debug {
@@ -67,6 +76,6 @@ impl Debug {
         ensures others { without_block (place_of a.0) (blocks_in self.new)
             ≡ without_block (place_of a.0) (blocks_in self.old) }
     {
-        self.best.fill(guarded_addr(a), (off + 32) as u32, 1, byte);
+        self.best.fill(guarded_addr(a), guarded_off(off), 1, byte);
     }
 }

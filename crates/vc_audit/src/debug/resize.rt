@@ -42,12 +42,17 @@ impl Debug {
     {
         let kept = self.size(a).min(size);
         let mut steps = Steps::<Uncounted>::new(self.best.alloc);
-        let at = self
+        match self
             .best
-            .resize(guarded_addr(a), size + 48, may_move, &mut steps)?;
-        write_zeros(&mut self.best, at, kept, size);
-        let to = user_addr(at);
-        move_mark(&mut self.marks, a, to);
-        Ok(to)
+            .resize(guarded_addr(a), size + 48, may_move, &mut steps)
+        {
+            Ok(at) => {
+                write_zeros(&mut self.best, at, kept, size);
+                let to = user_addr(at);
+                move_mark(&mut self.marks, a, to);
+                Ok(to)
+            }
+            Err(fault) => Err(fault),
+        }
     }
 }

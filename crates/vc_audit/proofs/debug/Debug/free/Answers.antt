@@ -15,7 +15,7 @@ pub guarded_addr-requires : goal.guarded_addr-requires
 guarded_addr-requires g c = (live-down c.args.self.now.best.layout.blocks c.args.a.0 c.requires).0
 
 pub free-requires : goal.free-requires
-free-requires g c = (user_at c.args.self.now.best.layout c.args.self.now.best.sound c.args.self.now.guarded c.args.a.0 c.guarded_addr.result.0 c.guarded_addr.ensures c.requires).live
+free-requires g c = record { block = (user_at c.args.self.now.best.layout c.args.self.now.best.sound c.args.self.now.guarded c.args.a.0 c.guarded_addr.result.0 c.guarded_addr.ensures c.requires).live }
 
 pub invariant_of-self : goal.invariant_of-self
 invariant_of-self g c = record { guarded = rw c.free.ensures.layout (guards-without (place_of c.guarded_addr.result.0) c.args.self.now.best.layout.blocks c.args.self.now.guarded) }
