@@ -5,3 +5,5 @@ pub mod DebugPuts
 pub mod DebugFrees
 pub mod DebugPokes
 pub mod DebugWalks
+pub mod DebugSizes
+pub mod DebugChecks

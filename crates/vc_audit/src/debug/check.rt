@@ -1,8 +1,8 @@
-ghost use Rattle.std.specs.Prelude.{◌≡◌, ℕ, ℤ, ◌⊎◌, Some, IfSome, length, option_map, position};
+ghost use Rattle.std.specs.Prelude.{◌≡◌, ℕ, ◌≤◌, ℤ, pos, ◌-ℤ◌, ◌⊎◌, Some, IfSome, length, option_map, position};
 ghost use Rattle.vc_model.specs.Addr.{place_of};
 ghost use Rattle.vc_model.specs.Layout.{address_of};
 ghost use Rattle.vc_model.specs.Touch.{HasBlock, find_block};
-ghost use Rattle.vc_audit.specs.Debug.{damage, is_damaged, next_damaged};
+ghost use Rattle.vc_audit.specs.Debug.{damage, damaged_place, is_damaged, next_damaged};
 ghost use Rattle.vc_audit.specs.DebugParts.{blocks_in, debug_of};
 
 use crate::debug::Debug;
@@ -10,26 +10,49 @@ use crate::debug::guard::{guarded_after, user_addr};
 use vc_base::Addr;
 
 // The place of the first byte that isn't what guards are made of.
-fn first_damaged(bytes: &[u8]) -> Option<usize>
+fn first_damaged(bytes: &[u8]) -> Option<u32>
+    requires { length bytes.now ≤ 32 }
     ensures { result ≡ position is_damaged bytes.now }
 {
-    bytes.iter().position(|byte| *byte != 0xA5)
+    match bytes.iter().position(|byte| *byte != 0xA5) {
+        Some(n) => Some(n as u32),
+        None => None,
+    }
+}
+
+// The offset from the user's bytes on of a place in a block with guards.
+fn offset_of(place: u32) -> i64
+    ensures { result ≡ pos place -ℤ pos 32 }
+{
+    i64::from(place) - 32
 }
 
 /// What a check finds.
 impl Debug {
+    // The place in the block with guards at an address of the first damaged byte of its guards.
+    fn damaged_place(&self, at: Addr) -> Option<u32>
+        requires { HasBlock self.now.best.layout.blocks at.0 }
+        ensures { option_map damaged_place (find_block (place_of at.0) self.now.best.layout.blocks)
+            ≡ Some result }
+    {
+        if let Some(n) = first_damaged(self.best.read(at, 0, 32)) {
+            return Some(n);
+        }
+        let back = self.best.size(at) - 16;
+        match first_damaged(self.best.read(at, back, 16)) {
+            Some(n) => Some(back + n),
+            None => None,
+        }
+    }
+
     // The least offset from the user's bytes on of a damaged byte in the guards of the block with guards at an address.
     fn damage_at(&self, at: Addr) -> Option<i64>
         requires { HasBlock self.now.best.layout.blocks at.0 }
         ensures { option_map damage (find_block (place_of at.0) self.now.best.layout.blocks)
             ≡ Some result }
     {
-        if let Some(n) = first_damaged(self.best.read(at, 0, 32)) {
-            return Some(n as i64 - 32);
-        }
-        let back = self.best.size(at) - 16;
-        match first_damaged(self.best.read(at, back, 16)) {
-            Some(n) => Some(back as i64 + n as i64 - 32),
+        match self.damaged_place(at) {
+            Some(n) => Some(offset_of(n)),
             None => None,
         }
     }

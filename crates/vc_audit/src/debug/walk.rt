@@ -1,4 +1,4 @@
-ghost use Rattle.std.specs.Prelude.{◌≡◌, ℕ, ◌⊎◌, IfSome, option_map};
+ghost use Rattle.std.specs.Prelude.{◌≡◌, ℕ, ◌-◌, ◌*◌, ◌≤◌, ◌&&◌, ◌⊎◌, IfSome, nat_le, nat_lt, option_map};
 ghost use Rattle.vc_model.specs.Layout.{address_of};
 ghost use Rattle.vc_model.specs.Touch.{HasBlock};
 ghost use Rattle.vc_model.specs.Walk.{block_at, next_block, next_segment, segment_at};
@@ -10,6 +10,33 @@ use crate::debug::guard::{guarded_after, user_addr};
 use vc_base::Addr;
 use vc_seg::Stat;
 
+// The numbers with each block's size less its guards.
+fn without_guards(stat: Stat) -> Stat
+    requires { 48 * stat.busy ≤ stat.sbusy }
+    ensures { result ≡ record stat {
+        sbusy = stat.sbusy - 48 * stat.busy;
+        mbusy = stat.mbusy - 48 } }
+{
+    Stat {
+        busy: stat.busy,
+        free: stat.free,
+        sbusy: stat.sbusy - 48 * stat.busy,
+        sfree: stat.sfree,
+        mbusy: stat.mbusy.saturating_sub(48),
+        mfree: stat.mfree,
+        segs: stat.segs,
+        extent: stat.extent,
+    }
+}
+
+// Whether an offset in a block with guards of that size is that of a byte of the user.
+fn is_users(inner: u32, size: u32) -> bool
+    requires { 16 ≤ size }
+    ensures { result ≡ (nat_le 32 inner && nat_lt inner (size - 16)) }
+{
+    inner >= 32 && inner < size - 16
+}
+
 /// What it holds, by place and in order. These calls can't fail, and take no memory.
 impl Debug {
     /// The block whose bytes hold the byte at an offset of a segment, and the offset in the block. None where no block
@@ -20,11 +47,15 @@ impl Debug {
             (block_at (seg, off) (blocks_in self.now)) }
         ensures live { IfSome result (λ f. HasBlock (blocks_in self.now) f.0.0) }
     {
-        let (at, inner) = self.best.block_at(seg, off)?;
-        if inner < 32 || inner >= self.best.size(at) - 16 {
-            return None;
+        match self.best.block_at(seg, off) {
+            Some((at, inner)) => {
+                if !is_users(inner, self.best.size(at)) {
+                    return None;
+                }
+                Some((user_addr(at), inner - 32))
+            }
+            None => None,
         }
-        Some((user_addr(at), inner - 32))
     }
 
     /// The size of the segment of that number, where it has a byte at that offset, else None.
@@ -58,9 +89,6 @@ impl Debug {
     pub fn stat(&self) -> Stat
         ensures { result ≡ debug_stat (debug_of self.now) }
     {
-        let mut stat = self.best.stat();
-        stat.sbusy -= 48 * stat.busy;
-        stat.mbusy = stat.mbusy.saturating_sub(48);
-        stat
+        without_guards(self.best.stat())
     }
 }

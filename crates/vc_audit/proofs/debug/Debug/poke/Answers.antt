@@ -1,5 +1,7 @@
 use Rattle.std.proofs.Common.{◌≡◌, ℕ, ◌+◌, ◌-◌, ◌≤◌, Option, IfSome, [], ◌∷◌, option_map, sym, ap, ◌∙◌, subst, replicate}
-use Rattle.std.specs.Prelude.{pos, ◌<ℤ◌}
+use Rattle.std.specs.Prelude.{ℤ, pos, ◌<ℤ◌}
+use Rattle.std.specs.Int.{w64}
+use Rattle.std.proofs.lemmas.Int.{to_z-of_z}
 use Rattle.vc_model.specs.Addr.{place_of}
 use Rattle.vc_model.specs.Layout.{Block, Layout}
 use Rattle.vc_model.specs.Touch.{find_block, with_bytes_at}
@@ -18,7 +20,8 @@ guarded_off-requires-clause-last g c =
     let x = c.guarded_addr.result.0 in
     let u = user_at c.args.self.now.best.layout c.args.self.now.best.sound c.args.self.now.guarded c.args.a.0 c.guarded_addr.result.0 c.guarded_addr.ensures c.requires.block in
     let range : IfSome (option_map user_block (find_block (place_of x) r.blocks)) (λ b. c.args.off <ℤ pos (b.size + 16)) = subst (λ (o : Option (Block ℕ)). IfSome o (λ b. c.args.off <ℤ pos (b.size + 16))) (found-at r c.args.a.0 x u r.blocks) c.requires.last in
-    poke-below (find_block (place_of x) r.blocks) c.args.off (λ b found. guards-found r.blocks (place_of x) b c.args.self.now.guarded found) (found-live r c.args.self.now.best.sound x u.live) range
+    subst (λ (z : ℤ). z <ℤ pos 16777232) (sym (to_z-of_z w64 c.args.off c.ranges.off))
+    (poke-below (find_block (place_of x) r.blocks) c.args.off (λ b found. guards-found r.blocks (place_of x) b c.args.self.now.guarded found) (found-live r c.args.self.now.best.sound x u.live) range)
 
 pub fill-requires-clause-block : goal.fill-requires-clause-block
 fill-requires-clause-block g c = (user_at c.args.self.now.best.layout c.args.self.now.best.sound c.args.self.now.guarded c.args.a.0 c.guarded_addr.result.0 c.guarded_addr.ensures c.requires.block).live
@@ -29,7 +32,7 @@ fill-requires-clause-range g c =
     let x = c.guarded_addr.result.0 in
     let u = user_at c.args.self.now.best.layout c.args.self.now.best.sound c.args.self.now.guarded c.args.a.0 c.guarded_addr.result.0 c.guarded_addr.ensures c.requires.block in
     let range : IfSome (option_map user_block (find_block (place_of x) r.blocks)) (λ b. c.args.off <ℤ pos (b.size + 16)) = subst (λ (o : Option (Block ℕ)). IfSome o (λ b. c.args.off <ℤ pos (b.size + 16))) (found-at r c.args.a.0 x u r.blocks) c.requires.last in
-    subst (λ n. IfSome (find_block (place_of x) r.blocks) (λ b. n + 1 ≤ b.size)) (sym c.guarded_off.ensures) (poke-range (find_block (place_of x) r.blocks) c.args.off (λ b found. guards-found r.blocks (place_of x) b c.args.self.now.guarded found) range)
+    subst (λ n. IfSome (find_block (place_of x) r.blocks) (λ b. n + 1 ≤ b.size)) (sym (c.guarded_off.ensures ∙ ap guarded_offset (to_z-of_z w64 c.args.off c.ranges.off))) (poke-range (find_block (place_of x) r.blocks) c.args.off (λ b found. guards-found r.blocks (place_of x) b c.args.self.now.guarded found) range)
 
 pub invariant_of-self : goal.invariant_of-self
 invariant_of-self g c = record { guarded = rw c.fill.ensures.layout (guards-written c.guarded_off.result (replicate 1 c.args.byte) (place_of c.guarded_addr.result.0) c.args.self.now.best.layout.blocks c.args.self.now.guarded) }
@@ -40,7 +43,7 @@ returns-clause-debug g c =
     let x = c.guarded_addr.result.0 in
     let u = user_at c.args.self.now.best.layout c.args.self.now.best.sound c.args.self.now.guarded c.args.a.0 c.guarded_addr.result.0 c.guarded_addr.ensures c.requires.block in
     let D : Layout ℕ → Debug ℕ = λ l. record { best = l; marks = c.args.self.now.marks.items } in
-    ap D (c.fill.ensures.layout ∙ (ap (λ n. with_bytes_at r (place_of x) n (c.args.byte ∷ [])) c.guarded_off.ensures ∙ ap (λ p. with_bytes_at r p (guarded_offset c.args.off) (c.args.byte ∷ [])) (sym (guarded-at r c.args.a.0 x u))))
+    ap D (c.fill.ensures.layout ∙ (ap (λ n. with_bytes_at r (place_of x) n (c.args.byte ∷ [])) (c.guarded_off.ensures ∙ ap guarded_offset (to_z-of_z w64 c.args.off c.ranges.off)) ∙ ap (λ p. with_bytes_at r p (guarded_offset c.args.off) (c.args.byte ∷ [])) (sym (guarded-at r c.args.a.0 x u))))
 
 pub returns-clause-others : goal.returns-clause-others
 returns-clause-others g c =
