@@ -82,7 +82,8 @@ user_place-next a below =
 long-span : (size : ℕ) → 49 ≤ size → 96 ≤ span size
 long-span size some = omega arith
 
-none : Block ℕ
+-- a block of nothing, as a default
+pub none : Block ℕ
 none = record { label = 0; seg = 0; off = 0; size = 0; bytes = [] }
 
 module _ (r : Layout ℕ) (guards : HasGuards r.blocks) where

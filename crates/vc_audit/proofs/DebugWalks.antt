@@ -98,10 +98,10 @@ holds-out at b h =
     inside off o size h = grind (arith, nat_tests)
 
 -- what holding a byte means
-record Holds (at : ℕ × ℕ) (b : Block ℕ) : Type 0 where
-  seg : b.seg ≡ at.0
-  from : b.off ≤ at.1
-  to : at.1 < b.off + b.size
+pub record Holds (at : ℕ × ℕ) (b : Block ℕ) : Type 0 where
+  pub seg : b.seg ≡ at.0
+  pub from : b.off ≤ at.1
+  pub to : at.1 < b.off + b.size
 
 from-true : (off o size : ℕ) → (nat_le off o && nat_lt o (off + size)) ≡ true → (off ≤ o) × (o < off + size)
 from-true off o size h = (grind (arith, nat_tests), grind (arith, nat_tests))

@@ -7,3 +7,5 @@ pub mod DebugPokes
 pub mod DebugWalks
 pub mod DebugSizes
 pub mod DebugChecks
+pub mod DebugSound
+pub mod DebugRelabel

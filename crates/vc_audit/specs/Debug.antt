@@ -3,7 +3,7 @@ use Rattle.std.specs.Prelude.{ℕ, ◌+◌, ◌-◌, ℤ, pos, negsuc, ◌-ℤ�
 use Rattle.std.specs.List.{filter_map}
 use Rattle.vc_model.specs.Addr.{address}
 use Rattle.vc_model.specs.Discipline.{Terms}
-use Rattle.vc_model.specs.Layout.{Block, Layout, address_of, empty_layout}
+use Rattle.vc_model.specs.Layout.{Block, Layout, address_of, empty_layout, relabel_layout}
 use Rattle.vc_model.specs.Outcome.{Outcome, Done, Refused, Put}
 use Rattle.vc_model.specs.Best.{best_alloc, best_need, without_block_at}
 use Rattle.vc_model.specs.Resize.{best_resize, can_stay}
@@ -167,3 +167,7 @@ watched_at d at = line_at (address at) d.marks
 -- the block at a place is watched with a line
 abbrev pub with_watch : {L : Type 0} → Debug L → ℕ × ℕ → ℕ → Debug L
 with_watch d at line = record { best = d.best; marks = with_mark (address at) line d.marks }
+
+-- the same with other labels
+abbrev pub relabel_debug : {L M : Type 0} → (L → M) → Debug L → Debug M
+relabel_debug name d = record { best = relabel_layout name d.best; marks = d.marks }

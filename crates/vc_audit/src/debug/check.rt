@@ -10,11 +10,18 @@ use crate::debug::guard::{guarded_after, user_addr};
 use vc_base::Addr;
 
 // The place of the first byte that isn't what guards are made of.
+fn first_place(bytes: &[u8]) -> Option<usize>
+    ensures { result ≡ position is_damaged bytes.now }
+{
+    bytes.iter().position(|byte| *byte != 0xA5)
+}
+
+// The same of the bytes of a guard, of which there are at most 32.
 fn first_damaged(bytes: &[u8]) -> Option<u32>
     requires { length bytes.now ≤ 32 }
     ensures { result ≡ position is_damaged bytes.now }
 {
-    match bytes.iter().position(|byte| *byte != 0xA5) {
+    match first_place(bytes) {
         Some(n) => Some(n as u32),
         None => None,
     }

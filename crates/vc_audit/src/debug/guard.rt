@@ -1,4 +1,4 @@
-ghost use Rattle.std.specs.Prelude.{◌≡◌, ◌+◌, ◌-◌, ◌<◌, ◌≤◌, ◌^◌};
+ghost use Rattle.std.specs.Prelude.{◌≡◌, ◌+◌, ◌-◌, ◌≤◌};
 ghost use Rattle.vc_model.specs.Addr.{place_of};
 ghost use Rattle.vc_model.specs.Layout.{without_block};
 ghost use Rattle.vc_model.specs.Touch.{HasBlock, HasRange};
@@ -29,7 +29,7 @@ pub(super) fn guarded_after(after: Addr) -> Addr
 
 /// The address of the user's bytes in the block with guards at an address.
 pub(super) fn user_addr(a: Addr) -> Addr
-    requires { a.0 + 1 < 2 ^ 32 }
+    requires { (place_of a.0).1 + 33 ≤ 33554432 }
     ensures { result.0 ≡ a.0 + 1 }
 {
     Addr(a.0 + 1)

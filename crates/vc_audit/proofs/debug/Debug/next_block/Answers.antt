@@ -11,7 +11,7 @@ pub next_block-requires : goal.next_block-requires
 next_block-requires g c = from-before c.args.self.now.best.layout.blocks c.args.after.0 c.guarded_after.result.0 c.guarded_after.ensures c.requires
 
 pub user_addr-requires : goal.user_addr-requires
-user_addr-requires g c = let low = below-end c.args.self.now.best.layout c.args.self.now.guarded c.args.self.now.best.sound c.in-Some.at.0 c.in-Some.ensures.live in omega (arith, low)
+user_addr-requires g c = below-end c.args.self.now.best.layout c.args.self.now.guarded c.args.self.now.best.sound c.in-Some.at.0 c.in-Some.ensures.live
 
 pub returns-in-Some-clause-value : goal.returns-in-Some-clause-value
 returns-in-Some-clause-value g c =
