@@ -112,6 +112,18 @@ from-none bs k e = by (next_block k bs) e
     by None t = refl
     by (Some b) t = absurd (none-some (address_of b) t)
 
+-- what a check answers
+pub check-told : (d : Debug ℕ) (after k n a : ℕ) (off : ℤ) (h : NextIs d.best.blocks k n (Some off)) → a ≡ n + 1 → next_damaged after d ≡ damaged_above k d.best.blocks →
+    Some (a, off) ≡ option_map {U = ℕ × ℤ} (λ f. (address_of f.0, f.1)) (next_damaged after d)
+check-told d after k n a off h next same =
+    let with : ℕ → Option (ℕ × ℤ) = λ m. Some (m, off) in
+    ap with (next ∙ (ap (λ m. m + 1) (sym h.address) ∙ sym (address-user h.block)))
+    ∙ sym (ap (option_map {U = ℕ × ℤ} (λ f. (address_of f.0, f.1))) (same ∙ check-finds d.best.blocks k n off h))
+
+pub check-over : (d : Debug ℕ) (after k : ℕ) → HaveOwnPlaces d.best.blocks → None ≡ option_map address_of (next_block k d.best.blocks) → next_damaged after d ≡ damaged_above k d.best.blocks →
+    None ≡ option_map {U = ℕ × ℤ} (λ f. (address_of f.0, f.1)) (next_damaged after d)
+check-over d after k places ended same = sym (ap (option_map {U = ℕ × ℤ} (λ f. (address_of f.0, f.1))) (same ∙ check-ends d.best.blocks k places (from-none d.best.blocks k ended)))
+
 -- the guards of a block lie in it
 long-front : (o : Option (Block ℕ)) → ((b : Block ℕ) → o ≡ Some b → (49 ≤ b.size) × (b.size ≤ 16777264)) → IfSome o (λ b. 0 + 32 ≤ b.size)
 long-front None bounds = tt

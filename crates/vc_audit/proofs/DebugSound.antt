@@ -16,22 +16,22 @@ pub own_places : {I : Type 0} {V : I → Type 0} (d : Debug I V) → HaveOwnPlac
 own_places d =
     record {
       distinct = λ i j e lt within same.
-      let inside : j < length bs = omega (arith, within, long) in
-      let one : address_of (user_block (get_or bs i none)) ≡ address_of (user_block (get_or bs j none)) = sym (ap address_of (it i e (omega (arith, lt, inside)))) ∙ (same ∙ ap address_of (it j e inside)) in
-      let down : address_of (get_or bs i none) ≡ address_of (get_or bs j none) = omega (arith, sym (address-user (get_or bs i none)) ∙ (one ∙ address-user (get_or bs j none))) in
-      places.distinct i j none lt inside down;
+          let inside : j < length bs = omega (arith, within, long) in
+          let one : address_of (user_block (get_or bs i none)) ≡ address_of (user_block (get_or bs j none)) = sym (ap address_of (it i e (omega (arith, lt, inside)))) ∙ (same ∙ ap address_of (it j e inside)) in
+          let down : address_of (get_or bs i none) ≡ address_of (get_or bs j none) = omega (arith, sym (address-user (get_or bs i none)) ∙ (one ∙ address-user (get_or bs j none))) in
+          places.distinct i j none lt inside down;
       first = λ i e within.
-      let inside : i < length bs = omega (arith, within, long) in
-      let here : 1 ≤ (get_or bs i none).seg = places.first i none inside in
-      omega (arith, here, ap (λ (b : Block ℕ). b.seg) (it i e inside));
+          let inside : i < length bs = omega (arith, within, long) in
+          let here : 1 ≤ (get_or bs i none).seg = places.first i none inside in
+          omega (arith, here, ap (λ (b : Block ℕ). b.seg) (it i e inside));
       exact = λ i e within.
-      let inside : i < length bs = omega (arith, within, long) in
-      let b : Block ℕ = get_or bs i none in
-      let low : (place_of (address_of b)).1 + 33 ≤ 33554432 = below-end d.best.layout d.guarded d.best.sound (address_of b) (i, omega (arith, inside, length-map bs (address_of {L = ℕ})), get_or-map address_of bs i none (address_of b) inside) in
-      ap (λ (c : Block ℕ). place_of (address_of c)) (it i e inside)
-      ∙ (ap place_of (address-user b)
-      ∙ (user_place-next (address_of b) low
-      ∙ (ap user_place (places.exact i none inside) ∙ sym (ap (λ (c : Block ℕ). (c.seg, c.off)) (it i e inside)))));
+          let inside : i < length bs = omega (arith, within, long) in
+          let b : Block ℕ = get_or bs i none in
+          let low : (place_of (address_of b)).1 + 33 ≤ 33554432 = below-end d.best.layout d.guarded d.best.sound (address_of b) (i, omega (arith, inside, length-map bs (address_of {L = ℕ})), get_or-map address_of bs i none (address_of b) inside) in
+          ap (λ (c : Block ℕ). place_of (address_of c)) (it i e inside)
+          ∙ (ap place_of (address-user b)
+          ∙ (user_place-next (address_of b) low
+          ∙ (ap user_place (places.exact i none inside) ∙ sym (ap (λ (c : Block ℕ). (c.seg, c.off)) (it i e inside)))));
     }
   where
     bs : List (Block ℕ)

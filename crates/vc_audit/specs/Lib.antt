@@ -16,3 +16,4 @@ pub mod Debug
 pub mod DebugStat
 pub mod DebugGuard
 pub mod DebugParts
+pub mod DebugRows

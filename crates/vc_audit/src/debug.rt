@@ -8,10 +8,12 @@ mod guard;
 mod mark;
 mod open;
 mod resize;
+mod rows;
 mod walk;
 mod watch;
 
 use mark::Mark;
+pub use rows::{debug_damage, debug_marks, debug_places, debug_resizing};
 use vc_best::Best;
 
 /// Marks a counter of steps that no one reads.

@@ -3,4 +3,4 @@
 
 mod debug;
 
-pub use debug::Debug;
+pub use debug::{Debug, debug_damage, debug_marks, debug_places, debug_resizing};

@@ -49,7 +49,10 @@ fn moved(mark: Mark, from: Addr, to: Addr) -> Mark
     ensures { result ≡ moved_mark from.0 to.0 mark }
 {
     if mark.at.0 == from.0 {
-        return Mark { at: to, line: mark.line };
+        return Mark {
+            at: to,
+            line: mark.line,
+        };
     }
     mark
 }

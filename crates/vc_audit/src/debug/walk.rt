@@ -14,8 +14,9 @@ use vc_seg::Stat;
 fn without_guards(stat: Stat) -> Stat
     requires { 48 * stat.busy ≤ stat.sbusy }
     ensures { result ≡ record stat {
-        sbusy = stat.sbusy - 48 * stat.busy;
-        mbusy = stat.mbusy - 48 } }
+      sbusy = stat.sbusy - 48 * stat.busy;
+      mbusy = stat.mbusy - 48;
+    } }
 {
     Stat {
         busy: stat.busy,

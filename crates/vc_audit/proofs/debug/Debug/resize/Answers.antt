@@ -18,13 +18,29 @@ pub write_zeros-requires-clause-block : goal.write_zeros-requires-clause-block
 write_zeros-requires-clause-block g c = live-sized c.resize.new.self.layout.blocks c.in-Ok.at.0 (c.args.size + 48) _ refl c.in-Ok.ensures.sized
 
 pub invariant_of-self : goal.invariant_of-self
-invariant_of-self g c = record { guarded = guards-resized c.args.self.now.best.layout c.resize.new.self.layout c.write_zeros.new.best.layout c.args.size c.min-kept.result c.guarded_addr.result.0 c.in-Ok.at.0 (record {
-  some = c.requires.some; most = c.requires.most; guards = c.args.self.now.guarded; sized = c.in-Ok.ensures.sized; there = c.in-Ok.ensures.there; others = c.in-Ok.ensures.others; written = c.write_zeros.ensures.layout; sound = c.write_zeros.new.best.sound;
-}) }
+invariant_of-self g c = record {
+  guarded = guards-resized c.args.self.now.best.layout c.resize.new.self.layout c.write_zeros.new.best.layout c.args.size c.min-kept.result c.guarded_addr.result.0 c.in-Ok.at.0 (record {
+    some = c.requires.some;
+    most = c.requires.most;
+    guards = c.args.self.now.guarded;
+    sized = c.in-Ok.ensures.sized;
+    there = c.in-Ok.ensures.there;
+    others = c.in-Ok.ensures.others;
+    written = c.write_zeros.ensures.layout;
+    sound = c.write_zeros.new.best.sound;
+  });
+}
 
 pub user_addr-to-requires : goal.user_addr-to-requires
 user_addr-to-requires g c = let low = below-resized c.args.self.now.best.layout c.resize.new.self.layout c.write_zeros.new.best.layout c.args.size c.min-kept.result c.guarded_addr.result.0 c.in-Ok.at.0 (record {
-  some = c.requires.some; most = c.requires.most; guards = c.args.self.now.guarded; sized = c.in-Ok.ensures.sized; there = c.in-Ok.ensures.there; others = c.in-Ok.ensures.others; written = c.write_zeros.ensures.layout; sound = c.write_zeros.new.best.sound;
+  some = c.requires.some;
+  most = c.requires.most;
+  guards = c.args.self.now.guarded;
+  sized = c.in-Ok.ensures.sized;
+  there = c.in-Ok.ensures.there;
+  others = c.in-Ok.ensures.others;
+  written = c.write_zeros.ensures.layout;
+  sound = c.write_zeros.new.best.sound;
 }) in omega (arith, low)
 
 pub returns-clause-answer : goal.returns-clause-answer
@@ -43,15 +59,36 @@ returns-clause-no_memory g c = λ e.
 pub returns-in-Ok-clause-answer : goal.returns-in-Ok-clause-answer
 returns-in-Ok-clause-answer g c =
     answer-resized c.args.self.now.best.layout c.resize.new.self.layout c.write_zeros.new.best.layout c.args.size c.min-kept.result c.guarded_addr.result.0 c.in-Ok.at.0 (record {
-  some = c.requires.some; most = c.requires.most; guards = c.args.self.now.guarded; sized = c.in-Ok.ensures.sized; there = c.in-Ok.ensures.there; others = c.in-Ok.ensures.others; written = c.write_zeros.ensures.layout; sound = c.write_zeros.new.best.sound;
-}) c.args.a.0 c.user_addr-to.result.0 (user_at c.args.self.now.best.layout c.args.self.now.best.sound c.args.self.now.guarded c.args.a.0 c.guarded_addr.result.0 c.guarded_addr.ensures c.requires.block) c.user_addr-to.ensures _ c.args.self.now.marks.items c.move_mark.new.marks.items c.args.may_move (ap (λ o. min (unwrap_or o 0) c.args.size) c.size.ensures ∙ sym c.min-kept.ensures) c.move_mark.ensures c.in-Ok.ensures.answer
+      some = c.requires.some;
+      most = c.requires.most;
+      guards = c.args.self.now.guarded;
+      sized = c.in-Ok.ensures.sized;
+      there = c.in-Ok.ensures.there;
+      others = c.in-Ok.ensures.others;
+      written = c.write_zeros.ensures.layout;
+      sound = c.write_zeros.new.best.sound;
+    }) c.args.a.0 c.user_addr-to.result.0 (user_at c.args.self.now.best.layout c.args.self.now.best.sound c.args.self.now.guarded c.args.a.0 c.guarded_addr.result.0 c.guarded_addr.ensures c.requires.block) c.user_addr-to.ensures _ c.args.self.now.marks.items c.move_mark.new.marks.items c.args.may_move (ap (λ o. min (unwrap_or o 0) c.args.size) c.size.ensures ∙ sym c.min-kept.ensures) c.move_mark.ensures c.in-Ok.ensures.answer
 
 pub returns-in-Ok-clause-there : goal.returns-in-Ok-clause-there
 returns-in-Ok-clause-there g c = there-resized c.args.self.now.best.layout c.resize.new.self.layout c.write_zeros.new.best.layout c.args.size c.min-kept.result c.guarded_addr.result.0 c.in-Ok.at.0 (record {
-  some = c.requires.some; most = c.requires.most; guards = c.args.self.now.guarded; sized = c.in-Ok.ensures.sized; there = c.in-Ok.ensures.there; others = c.in-Ok.ensures.others; written = c.write_zeros.ensures.layout; sound = c.write_zeros.new.best.sound;
+  some = c.requires.some;
+  most = c.requires.most;
+  guards = c.args.self.now.guarded;
+  sized = c.in-Ok.ensures.sized;
+  there = c.in-Ok.ensures.there;
+  others = c.in-Ok.ensures.others;
+  written = c.write_zeros.ensures.layout;
+  sound = c.write_zeros.new.best.sound;
 }) c.args.a.0 c.user_addr-to.result.0 (user_at c.args.self.now.best.layout c.args.self.now.best.sound c.args.self.now.guarded c.args.a.0 c.guarded_addr.result.0 c.guarded_addr.ensures c.requires.block) c.user_addr-to.ensures
 
 pub returns-in-Ok-clause-others : goal.returns-in-Ok-clause-others
 returns-in-Ok-clause-others g c = others-resized c.args.self.now.best.layout c.resize.new.self.layout c.write_zeros.new.best.layout c.args.size c.min-kept.result c.guarded_addr.result.0 c.in-Ok.at.0 (record {
-  some = c.requires.some; most = c.requires.most; guards = c.args.self.now.guarded; sized = c.in-Ok.ensures.sized; there = c.in-Ok.ensures.there; others = c.in-Ok.ensures.others; written = c.write_zeros.ensures.layout; sound = c.write_zeros.new.best.sound;
+  some = c.requires.some;
+  most = c.requires.most;
+  guards = c.args.self.now.guarded;
+  sized = c.in-Ok.ensures.sized;
+  there = c.in-Ok.ensures.there;
+  others = c.in-Ok.ensures.others;
+  written = c.write_zeros.ensures.layout;
+  sound = c.write_zeros.new.best.sound;
 }) c.args.a.0 c.user_addr-to.result.0 (user_at c.args.self.now.best.layout c.args.self.now.best.sound c.args.self.now.guarded c.args.a.0 c.guarded_addr.result.0 c.guarded_addr.ensures c.requires.block) c.user_addr-to.ensures c.write_zeros.ensures.others
