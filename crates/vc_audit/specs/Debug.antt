@@ -10,13 +10,12 @@ use Rattle.vc_model.specs.Resize.{best_resize, can_stay}
 use Rattle.vc_model.specs.Touch.{find_block, with_bytes_at}
 use Rattle.vc_model.specs.Compact.{cleared, compact_count, compacted}
 use Rattle.vc_model.specs.Walk.{by_address}
-use Rattle.vc_audit.specs.declared.debug.mark.Mark.{Mark}
 use Rattle.vc_audit.specs.DebugMark.{line_at, moved_marks, with_mark, without_mark}
 
 -- its best region, whose blocks hold 32 bytes of front guard, the user's bytes, and 16 bytes of back guard; and its marks
 pub record Debug (L : Type 0) : Type 0 where
   pub best : Layout L
-  pub marks : List Mark
+  pub marks : List (ℕ × ℕ)
 
 -- with no segment, no block and no mark
 abbrev pub empty_debug : {L : Type 0} → Debug L
@@ -66,7 +65,7 @@ outcome_by f (Done p) = Done (f p)
 outcome_by f (Refused why) = Refused why
 
 -- a block was put: its guards are written
-abbrev pub guarded : {L : Type 0} → List Mark → ℕ → Put (Layout L) → Put (Debug L)
+abbrev pub guarded : {L : Type 0} → List (ℕ × ℕ) → ℕ → Put (Layout L) → Put (Debug L)
 guarded marks size p =
     record { at = user_place p.at; region = record { best = with_guards p.region p.at size; marks = marks }; granted = p.granted }
 
@@ -83,7 +82,7 @@ abbrev pub user_size : {L : Type 0} → Debug L → ℕ × ℕ → ℕ
 user_size d at = unwrap_or (option_map (λ b. b.size) (find_block at (user_blocks d))) 0
 
 -- the block at a place got another size, there or elsewhere: its mark goes along
-abbrev pub resized : {L : Type 0} → List Mark → ℕ × ℕ → ℕ → ℕ → Put (Layout L) → Put (Debug L)
+abbrev pub resized : {L : Type 0} → List (ℕ × ℕ) → ℕ × ℕ → ℕ → ℕ → Put (Layout L) → Put (Debug L)
 resized marks at kept size p =
     record {
       at = user_place p.at;

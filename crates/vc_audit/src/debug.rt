@@ -12,7 +12,6 @@ mod rows;
 mod walk;
 mod watch;
 
-use mark::Mark;
 pub use rows::{debug_damage, debug_marks, debug_places, debug_resizing};
 use vc_best::Best;
 
@@ -25,8 +24,8 @@ struct Uncounted;
 pub struct Debug {
     /// The region whose blocks hold the guards and the user's bytes.
     pub best: Best,
-    /// The marks of the blocks that are watched.
-    marks: Vec<Mark>,
+    /// The marks of the blocks that are watched: the address of the user's bytes and the line.
+    marks: Vec<(u32, u32)>,
     /// Each block has room for its guards.
     pub ghost guarded: { HasGuards best.layout.blocks },
 }

@@ -1,17 +1,29 @@
-ghost use Rattle.std.specs.Prelude.{◌≡◌, ℕ, ◌+◌, ◌<◌, length};
+ghost use Rattle.std.specs.Prelude.{◌≡◌, ℕ, ◌+◌, ◌<◌, ◌≤◌, length};
 ghost use Rattle.std.specs.List.{HoldsAt, remove};
 ghost use Rattle.vc_model.specs.Addr.{place_of};
+ghost use Rattle.vc_model.specs.Compact.{cleared};
 ghost use Rattle.vc_model.specs.Discipline.{HasOut, TookBack};
 ghost use Rattle.vc_model.specs.Layout.{address_of};
 ghost use Rattle.vc_model.specs.Touch.{HasBlock};
 ghost use Rattle.vc_audit.specs.Debug.{debug_clear, debug_compact, debug_compact_count, debug_free};
-ghost use Rattle.vc_audit.specs.DebugParts.{blocks_in, debug_of, disc_in, segments_in};
+ghost use Rattle.vc_audit.specs.DebugParts.{blocks_in, boxed, debug_of, disc_in, segments_in};
 
 use crate::debug::guard::guarded_addr;
 use crate::debug::mark::drop_mark;
 use crate::debug::{Debug, Uncounted};
 use vc_base::{Addr, Steps};
+use vc_best::Best;
 use vc_seg::{BoxedDisc, SegDisc};
+
+// Frees all blocks of a best region. The condition always holds.
+fn clear_best(best: &mut Best)
+    requires { 0 ≤ 0 }
+    ensures layout { best.new.layout ≡ cleared best.old.layout }
+    ensures disc { boxed state best.new.disc ≡ boxed state best.old.disc }
+{
+    let mut steps = Steps::<Uncounted>::new(best.alloc);
+    best.clear(&mut steps);
+}
 
 /// The calls that make room. They can't fail, and take no memory.
 impl Debug {
@@ -38,8 +50,7 @@ impl Debug {
         ensures debug { debug_of self.new ≡ debug_clear (debug_of self.old) }
         ensures disc { disc_in state self.new ≡ disc_in state self.old }
     {
-        let mut steps = Steps::<Uncounted>::new(self.best.alloc);
-        self.best.clear(&mut steps);
+        clear_best(&mut self.best);
         self.marks.clear();
     }
 

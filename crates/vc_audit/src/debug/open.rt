@@ -1,5 +1,6 @@
-ghost use Rattle.std.specs.Prelude.{◌≡◌, [], IfOk, IfErr, length};
+ghost use Rattle.std.specs.Prelude.{◌≡◌, ◌≤◌, [], IfOk, IfErr, length};
 ghost use Rattle.vc_model.specs.Discipline.{HasOut, TookBack};
+ghost use Rattle.vc_model.specs.Layout.{empty_layout};
 ghost use Rattle.vc_audit.specs.Debug.{empty_debug};
 ghost use Rattle.vc_audit.specs.DebugParts.{debug_of, segments_in};
 
@@ -8,6 +9,15 @@ use std::alloc::Global;
 use vc_base::OutOfMemory;
 use vc_best::Best;
 use vc_seg::{BoxedDisc, SegDisc};
+
+// A best region with no segment. The condition always holds.
+fn open_best(alloc: Global, disc: Box<dyn SegDisc>) -> Result<Best, (OutOfMemory, Box<dyn SegDisc>)>
+    requires { 0 ≤ 0 }
+    ensures ok { IfOk result (λ b. (b.layout ≡ empty_layout) × (state b.disc ≡ state disc)) }
+    ensures err { IfErr result (λ e. state e.1 ≡ state disc) }
+{
+    Best::open(alloc, disc)
+}
 
 impl Debug {
     /// A region with no segment. It takes none before the first block. With no memory the discipline comes back.
@@ -19,7 +29,7 @@ impl Debug {
             × (state d.best.disc ≡ state disc)) }
         ensures err { IfErr result (λ e. state e.1 ≡ state disc) }
     {
-        match Best::open(alloc, disc) {
+        match open_best(alloc, disc) {
             Ok(best) => Ok(Debug {
                 best,
                 marks: Vec::new(alloc),

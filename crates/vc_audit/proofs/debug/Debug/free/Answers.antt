@@ -3,7 +3,6 @@ use Rattle.vc_model.specs.Addr.{place_of}
 use Rattle.vc_model.specs.Best.{without_block_at}
 use Rattle.vc_model.specs.Layout.{Layout}
 use Rattle.vc_model.specs.Touch.{HasBlock}
-use Rattle.vc_audit.specs.declared.debug.mark.Mark.{Mark}
 use Rattle.vc_audit.specs.DebugMark.{without_mark}
 use Rattle.vc_audit.specs.Debug.{Debug, guarded_place}
 use Rattle.vc_audit.proofs.DebugBlocks.{address-place_of, guarded-at, live-down, user_at}
@@ -26,7 +25,7 @@ returns-clause-debug g c =
     let a = c.args.a.0 in
     let marks = c.args.self.now.marks.items in
     let u = user_at c.args.self.now.best.layout c.args.self.now.best.sound c.args.self.now.guarded c.args.a.0 c.guarded_addr.result.0 c.guarded_addr.ensures c.requires in
-    let D : Layout ℕ → List Mark → Debug ℕ = λ l ms. record { best = l; marks = ms } in
+    let D : Layout ℕ → List (ℕ × ℕ) → Debug ℕ = λ l ms. record { best = l; marks = ms } in
     ap (λ l. D l c.drop_mark.new.marks.items) (c.free.ensures.layout ∙ ap (without_block_at r) (sym (guarded-at r a c.guarded_addr.result.0 u)))
     ∙ ap (D (without_block_at r (guarded_place (place_of a)))) (c.drop_mark.ensures.items ∙ ap (λ n. without_mark n marks) (sym (address-place_of a)))
 
