@@ -1,3 +1,14 @@
+pub mod DebugMarks
+pub mod DebugBlocks
+pub mod DebugFills
+pub mod DebugPuts
+pub mod DebugFrees
+pub mod DebugPokes
+pub mod DebugWalks
+pub mod DebugSizes
+pub mod DebugChecks
+pub mod DebugSound
+pub mod DebugRelabel
 pub mod ProfileSites
 pub mod ProfileLists
 pub mod ProfileBare

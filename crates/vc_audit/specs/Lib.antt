@@ -5,6 +5,7 @@ pub use Rattle.vc_model.specs.Discipline
 pub use Rattle.vc_model.specs.Layout
 pub use Rattle.vc_model.specs.Outcome
 pub use Rattle.vc_model.specs.Place
+pub use Rattle.vc_model.specs.Numbers
 pub use Rattle.vc_model.specs.Resize
 pub use Rattle.vc_model.specs.Sound
 pub use Rattle.vc_model.specs.Touch
@@ -16,3 +17,9 @@ pub mod ProfileExample
 pub mod ProfileSites
 pub mod ProfileSums
 pub mod ProfileParts
+pub mod DebugMark
+pub mod Debug
+pub mod DebugStat
+pub mod DebugGuard
+pub mod DebugParts
+pub mod DebugRows
