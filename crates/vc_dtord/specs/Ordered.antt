@@ -38,11 +38,15 @@ pub record OrdFor (rules : Rules) (ord : DtOrd) (blocks : Blocks) (holders : Lis
   pub list : StandsFor (list_of ord) blocks holders
   pub sorted : IsSorted rules blocks holders
 
--- it stands for some holders in order of some kind's keys
-pub record IsOrd (ord : DtOrd) (blocks : Blocks) : Type 0 where
-  pub rules : Rules
+-- it stands for some holders
+pub record IsOrd (rules : Rules) (ord : DtOrd) (blocks : Blocks) : Type 0 where
   pub holders : List ℕ
   pub stands : OrdFor rules ord blocks holders
+
+-- it does so by some kind's rules
+pub record IsOrdered (ord : DtOrd) (blocks : Blocks) : Type 0 where
+  pub rules : Rules
+  pub is : IsOrd rules ord blocks
 
 -- it stands for some holders, and this one may join them
 pub record CanLink (rules : Rules) (ord : DtOrd) (blocks : Blocks) (at : ℕ) : Type 0 where
@@ -51,7 +55,7 @@ pub record CanLink (rules : Rules) (ord : DtOrd) (blocks : Blocks) (at : ℕ) : 
   pub apart : contains holders at ≡ false
   pub holder : IsHolder blocks at
 
--- it stands for some holders, and this is one of them
+-- it stands for some holders by some kind's rules, and this is one of them
 pub record IsLinked (ord : DtOrd) (blocks : Blocks) (at : ℕ) : Type 0 where
   pub rules : Rules
   pub holders : List ℕ

@@ -6,7 +6,7 @@ ghost use Rattle.vc_base.specs.Holders.{first_in, last_in, next_in, previous_in,
 ghost use Rattle.vc_dtdisc.specs.Rules.{Rules};
 ghost use Rattle.vc_dtlist.specs.Linked.{CanAdd, Finds, StandsFor, Turned, number_of};
 ghost use Rattle.vc_dtlist.specs.Sought.{Seeks, stands_so};
-ghost use Rattle.vc_dtord.specs.Ordered.{CanLink, IsLinked, IsMark, IsOrd, OrdFor, OrdTurned, list_of, inserted_at, placed};
+ghost use Rattle.vc_dtord.specs.Ordered.{CanLink, IsLinked, IsMark, IsOrd, IsOrdered, OrdFor, OrdTurned, list_of, inserted_at, placed};
 
 use vc_base::{Addr, Cells, Steps};
 use vc_dtdisc::DictDisc;
@@ -105,12 +105,15 @@ impl DtOrd {
         key: &[u8],
         steps: &mut Steps<L>,
     ) -> Option<Addr>
-        requires { IsOrd self.old (C.blocks cells.old) }
-        ensures found { (holders : List ℕ) → StandsFor (list_of self.old) (C.blocks cells.old) holders
+        requires { IsOrd (D.rules kind.now) self.old (C.blocks cells.old) }
+        ensures found { (holders : List ℕ)
+            → OrdFor (D.rules kind.now) self.old (C.blocks cells.old) holders
             → Finds (D.rules kind.now) (C.blocks cells.old) key.now holders result
             steps.old steps.new }
-        ensures list { (rules : Rules) (holders : List ℕ) → OrdFor rules self.old (C.blocks cells.old) holders
-            → OrdTurned rules holders (C.blocks cells.old) self.new (C.blocks cells.new) holders }
+        ensures list { (holders : List ℕ)
+            → OrdFor (D.rules kind.now) self.old (C.blocks cells.old) holders
+            → OrdTurned (D.rules kind.now) holders (C.blocks cells.old) self.new
+            (C.blocks cells.new) holders }
         ensures rest { C.RestStays cells.old cells.new }
     {
         self.list().find(cells, kind, key, steps)
@@ -124,12 +127,15 @@ impl DtOrd {
         key: &[u8],
         steps: &mut Steps<L>,
     ) -> Option<Addr>
-        requires { IsOrd self.old (C.blocks cells.old) }
-        ensures found { (holders : List ℕ) → StandsFor (list_of self.old) (C.blocks cells.old) holders
+        requires { IsOrd (D.rules kind.now) self.old (C.blocks cells.old) }
+        ensures found { (holders : List ℕ)
+            → OrdFor (D.rules kind.now) self.old (C.blocks cells.old) holders
             → Seeks (stands_so Sought.NotLess (D.rules kind.now) (C.blocks cells.old) key.now) holders result
             steps.old steps.new }
-        ensures list { (rules : Rules) (holders : List ℕ) → OrdFor rules self.old (C.blocks cells.old) holders
-            → OrdTurned rules holders (C.blocks cells.old) self.new (C.blocks cells.new) holders }
+        ensures list { (holders : List ℕ)
+            → OrdFor (D.rules kind.now) self.old (C.blocks cells.old) holders
+            → OrdTurned (D.rules kind.now) holders (C.blocks cells.old) self.new
+            (C.blocks cells.new) holders }
         ensures rest { C.RestStays cells.old cells.new }
     {
         self.list().seek(cells, kind, key, Sought::NotLess, steps)
@@ -137,7 +143,7 @@ impl DtOrd {
 
     /// The first holder.
     pub fn first<C: Cells>(&self, cells: &C) -> Option<Addr>
-        requires { IsOrd self.now (C.blocks cells.now) }
+        requires { IsOrdered self.now (C.blocks cells.now) }
         ensures { (rules : Rules) (holders : List ℕ) → OrdFor rules self.now (C.blocks cells.now) holders
             → option_map number_of result ≡ first_in holders }
     {
@@ -146,7 +152,7 @@ impl DtOrd {
 
     /// The last holder.
     pub fn last<C: Cells>(&self, cells: &C) -> Option<Addr>
-        requires { IsOrd self.now (C.blocks cells.now) }
+        requires { IsOrdered self.now (C.blocks cells.now) }
         ensures { (rules : Rules) (holders : List ℕ) → OrdFor rules self.now (C.blocks cells.now) holders
             → option_map number_of result ≡ last_in holders }
     {
