@@ -1,0 +1,4 @@
+pub mod Methods
+pub mod Changes
+pub mod Orders
+pub mod Stands

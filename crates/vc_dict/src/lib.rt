@@ -1,0 +1,11 @@
+//! Dictionaries of holders by seven methods: sets and bags, ordered sets and bags, lists, stacks and queues.
+#![tactic(auto)]
+
+mod dict;
+mod method;
+mod places;
+mod rows;
+
+pub use dict::Dict;
+pub use rows::{list_rows, remove_rows, table_rows};
+pub use vc_base::DictMethod;
