@@ -1,2 +1,4 @@
 pub mod LengthLemmas
 pub mod DictLemmas
+pub mod PassLemmas
+pub mod WeedLemmas

@@ -2,3 +2,4 @@ pub mod Methods
 pub mod Changes
 pub mod Orders
 pub mod Stands
+pub mod Passes

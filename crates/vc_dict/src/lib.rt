@@ -3,6 +3,7 @@
 
 mod dict;
 mod method;
+mod pass;
 mod places;
 mod rows;
 

@@ -18,7 +18,7 @@ use Rattle.vc_dtord.specs.Ordered.{IsSorted, inserted_at, is_less, placed}
 use Rattle.vc_dtord.proofs.AnyLemmas.{any-cons, any-head, any-less, any-tail, any-without}
 
 -- an order of the objects is the same over blocks with the same objects
-less-same : (rules : Rules) (b b' : Blocks) (x y : ℕ) → object_at b' x ≡ object_at b x → object_at b' y ≡ object_at b y → is_less rules b' x y ≡ is_less rules b x y
+pub less-same : (rules : Rules) (b b' : Blocks) (x y : ℕ) → object_at b' x ≡ object_at b x → object_at b' y ≡ object_at b y → is_less rules b' x y ≡ is_less rules b x y
 less-same rules b b' x y e f =
     ap (λ o. is_gt (rules.compare (rules.key o) (rules.key (object_at b' x)))) f ∙ ap (λ o. is_gt (rules.compare (rules.key (object_at b y)) (rules.key o))) e
 
