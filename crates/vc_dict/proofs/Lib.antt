@@ -2,3 +2,4 @@ pub mod LengthLemmas
 pub mod DictLemmas
 pub mod PassLemmas
 pub mod WeedLemmas
+pub mod TurnedLemmas

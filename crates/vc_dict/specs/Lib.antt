@@ -3,3 +3,4 @@ pub mod Changes
 pub mod Orders
 pub mod Stands
 pub mod Passes
+pub mod Turned

@@ -1,6 +1,6 @@
-ghost use Rattle.std.specs.Prelude.{◌≡◌, ◌≢◌, ℕ, ◌+◌, ◌<◌, List, [], ◌∷◌, ◌++◌, None, Some, true, false, Bool, length, if◌then◌else◌};
+ghost use Rattle.std.specs.Prelude.{◌≡◌, ◌≢◌, ℕ, ◌+◌, ◌<◌, List, [], ◌∷◌, ◌++◌, None, Some, true, false, Bool, length, ◌&&◌, if◌then◌else◌};
 ghost use Rattle.std.specs.Option.{option_map};
-ghost use Rattle.vc_base.specs.Cells.{Blocks};
+ghost use Rattle.vc_base.specs.Cells.{Blocks, IsHolder};
 ghost use Rattle.vc_base.specs.Holders.{contains, first_in, last_in, next_in, previous_in, without};
 ghost use Rattle.vc_dtdisc.specs.Finds.{find_key};
 ghost use Rattle.vc_dtdisc.specs.Rules.{Rules};
@@ -8,9 +8,11 @@ ghost use Rattle.vc_dtlist.specs.Linked.{Finds, number_of};
 ghost use Rattle.vc_dtord.specs.Ordered.{placed};
 ghost use Rattle.vc_dict.specs.Methods.{has_table, is_ordered, slots_between, wanted_by};
 ghost use Rattle.vc_dict.specs.Changes.{before_current, behind_current, current_without, inserted, linked, removed};
+ghost use Rattle.vc_dict.specs.Turned.{CanRemethod, Remethoded, Unchanged, behind_dropped};
 ghost use Rattle.vc_dict.specs.Stands.{Adopted, Became, CanAdopt, CanLink, IsDict, IsIn, IsKept, IsMember, Stands, hash_of, list_of, ord_of};
 
 use crate::method::{has_table, is_ordered};
+use crate::pass::{order_by, weed_by};
 use crate::places::put_linked;
 use vc_base::{Addr, Cells, DictMethod, Steps};
 use vc_dtdisc::DictDisc;
@@ -34,6 +36,15 @@ pub struct Dict {
     last: Addr,
     table: Addr,
     slots: u32,
+}
+
+/// What a change of method leaves over.
+#[derive(Clone, Copy, Debug, PartialEq, Eq)]
+pub struct Dropped {
+    /// The first of the holders that were dropped, or `Addr::NONE`; `after_dropped` tells the others.
+    pub first: Addr,
+    /// The table that is no longer used, or `Addr::NONE`.
+    pub table: Addr,
 }
 
 impl Dict {
@@ -454,4 +465,116 @@ impl Dict {
         self.remove(cells, kind, found);
         found
     }
+
+    /// The slots of the table that a change to a method needs, by the count before any is dropped; none where that method
+    /// is neither set nor bag, or the present one is.
+    pub fn table_for(&self, method: DictMethod) -> Option<u32>
+        ensures { result ≡ slots_between self.now.method method self.now.count }
+    {
+        if has_table(method) && !has_table(self.method) {
+            DtHash::new().wants_table(self.count)
+        } else {
+            None
+        }
+    }
+
+    // Takes that list and method, and the table that was brought, unless its own stays. Answers its own where it needs none.
+    fn turn(
+        &mut self,
+        method: DictMethod,
+        list: DtList,
+        count: u64,
+        table: Addr,
+        slots: u32,
+    ) -> Addr
+        ensures left { result.0 ≡ (if has_table method then 0 else self.old.table.0) }
+        ensures table { self.new.table
+            ≡ (if has_table method && has_table self.old.method then self.old.table else table) }
+        ensures slots { self.new.slots
+            ≡ (if has_table method && has_table self.old.method then self.old.slots else slots) }
+        ensures same { self.new ≡ record {
+            method = method;
+            kind = self.old.kind;
+            count = count;
+            current = record { 0 = 0 };
+            first = list.first;
+            last = list.last;
+            table = self.new.table;
+            slots = self.new.slots;
+        } }
+    {
+        let keeps = has_table(method) && has_table(self.method);
+        let left = if has_table(method) { Addr::NONE } else { self.table };
+        self.table = if keeps { self.table } else { table };
+        self.slots = if keeps { self.slots } else { slots };
+        self.method = method;
+        self.first = list.first;
+        self.last = list.last;
+        self.count = count;
+        self.current = Addr::NONE;
+        left
+    }
+
+    // Turns it to another method.
+    fn change<C: Cells, D: DictDisc, L>(
+        &mut self,
+        cells: &mut C,
+        kind: &D,
+        method: DictMethod,
+        table: Addr,
+        slots: u32,
+        steps: &mut Steps<L>,
+    ) -> Dropped
+        requires { CanRemethod (D.rules kind.now) self.old (C.blocks cells.old) method table.0 slots }
+        ensures dict { (holders : List ℕ) → Stands (D.rules kind.now) self.old (C.blocks cells.old) holders
+            → Remethoded (D.rules kind.now) method table.0 slots holders self.old (C.blocks cells.old)
+            self.new (C.blocks cells.new) result }
+        ensures rest { C.RestStays cells.old cells.new }
+    {
+        let ordered = order_by(self.list(), self.count, method, cells, kind, steps);
+        let weeded = weed_by(ordered, self.count, method, cells, kind, steps);
+        let left = self.turn(method, weeded.kept, weeded.count, table, slots);
+        Dropped {
+            first: weeded.dropped.first,
+            table: left,
+        }
+    }
+
+    /// Turns the dictionary to a method, unless it is the present one. Ordered methods order the objects by key, stably,
+    /// and sets then drop each object that matches an earlier one; else the order stays. No object is current then. A
+    /// change for which `table_for` is a number takes a table of so many slots, and any other none, with no slots.
+    pub fn remethod<C: Cells, D: DictDisc, L>(
+        &mut self,
+        cells: &mut C,
+        kind: &D,
+        method: DictMethod,
+        table: Addr,
+        slots: u32,
+        steps: &mut Steps<L>,
+    ) -> Dropped
+        requires { CanRemethod (D.rules kind.now) self.old (C.blocks cells.old) method table.0 slots }
+        ensures dict { method ≢ self.old.method → (holders : List ℕ)
+            → Stands (D.rules kind.now) self.old (C.blocks cells.old) holders
+            → Remethoded (D.rules kind.now) method table.0 slots holders self.old (C.blocks cells.old)
+            self.new (C.blocks cells.new) result }
+        ensures same { method ≡ self.old.method
+            → Unchanged self.old (C.blocks cells.old) self.new (C.blocks cells.new) result }
+        ensures rest { C.RestStays cells.old cells.new }
+    {
+        if method == self.method {
+            return Dropped {
+                first: Addr::NONE,
+                table: Addr::NONE,
+            };
+        }
+        self.change(cells, kind, method, table, slots, steps)
+    }
+}
+
+/// The holder that was dropped behind one, or `Addr::NONE` behind the last.
+pub fn after_dropped<C: Cells>(cells: &C, a: Addr) -> Addr
+    requires { IsHolder (C.blocks cells.now) a.0 }
+    ensures { result.0 ≡ behind_dropped (C.blocks cells.now) a.0 }
+{
+    Addr((cells.load(a, 1) % 4_294_967_296) as u32)
 }

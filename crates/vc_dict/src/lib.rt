@@ -7,6 +7,6 @@ mod pass;
 mod places;
 mod rows;
 
-pub use dict::Dict;
+pub use dict::{Dict, Dropped, after_dropped};
 pub use rows::{list_rows, remove_rows, table_rows};
 pub use vc_base::DictMethod;
