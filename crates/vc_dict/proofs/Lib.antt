@@ -3,3 +3,4 @@ pub mod DictLemmas
 pub mod PassLemmas
 pub mod WeedLemmas
 pub mod TurnedLemmas
+pub mod RemethodLemmas

@@ -1,7 +1,6 @@
 -- One step of the pass that drops what matches.
-use Rattle.std.proofs.Common.{◌≡◌, ◌≢◌, ℕ, ◌+◌, ◌<◌, ◌≤◌, List, [], ◌∷◌, ◌++◌, Bool, true, false, Option, Some, None, length, length-append, is_some, refl, sym, ap, ◌∙◌, subst, arith, append_assoc, append-nil}
+use Rattle.std.proofs.Common.{◌≡◌, ◌≢◌, ℕ, ◌+◌, ◌≤◌, List, [], ◌∷◌, ◌++◌, Bool, true, false, Option, Some, None, length, length-append, is_some, refl, sym, ap, ◌∙◌, subst, arith, append_assoc, append-nil}
 use Rattle.std.specs.Prelude.{if◌then◌else◌}
-use Rattle.std.specs.List.{find}
 use Rattle.std.specs.Option.{option_map}
 use Rattle.std.specs.Ordering.{is_eq}
 use Rattle.vc_base.specs.declared.addr.Addr.{Addr}
@@ -12,10 +11,10 @@ use Rattle.vc_dtdisc.specs.Rules.{Rules}
 use Rattle.vc_dtlist.specs.declared.dt_list.DtList.{DtList}
 use Rattle.vc_dtlist.specs.Linked.{StandsFor, Turned, number_of}
 use Rattle.vc_dtlist.proofs.HolderLemmas.{apart-append, apart-cons, apart-front, apart-head, apart-rest, apart-tail}
-use Rattle.vc_dtlist.proofs.KeptLemmas.{StandsFor-kept, within-head, within-tail}
+use Rattle.vc_dtlist.proofs.KeptLemmas.{StandsFor-kept, within-tail}
 use Rattle.vc_dict.specs.declared.pass.Weeded.{Weeded}
 use Rattle.vc_dict.specs.Orders.{dropped, has_match, kept}
-use Rattle.vc_dict.specs.Passes.{Added, AreApart, AreWeeded, IsWithin, Parts, Taken, Weeding}
+use Rattle.vc_dict.specs.Passes.{Added, AreApart, AreWeeded, Parts, Taken, Weeding}
 use Rattle.vc_dict.proofs.PassLemmas.{KeepsBut-step, apart_back, differs, tail_distinct}
 
 -- parts over blocks that a call on another list left

@@ -471,7 +471,9 @@ impl Dict {
     pub fn table_for(&self, method: DictMethod) -> Option<u32>
         ensures { result ≡ slots_between self.now.method method self.now.count }
     {
-        if has_table(method) && !has_table(self.method) {
+        if has_table(self.method) {
+            None
+        } else if has_table(method) {
             DtHash::new().wants_table(self.count)
         } else {
             None
