@@ -128,7 +128,7 @@ Weeding-next rules start holders passed at left left' w w' b b1 b2 t s k e add =
       done_within = λ a h. other_apart t s.done at a (s.done_within a h) (apart-head at k.tail a (out a h));
       gone_within = λ a h. either_apart t s.gone at a (s.gone_within a h) (apart-head at k.tail a (out a h));
       keeps = KeepsBut-step holders (at ∷ (s.done ++ s.gone)) start b1 b2 middle add.keeps
-      (λ a h. apart-cons at (s.done ++ s.gone) a (apart-head at k.tail a (out a h)) (apart-append s.done s.gone a (s.done_within a h) (s.gone_within a h)));
+          (λ a h. apart-cons at (s.done ++ s.gone) a (apart-head at k.tail a (out a h)) (apart-append s.done s.gone a (s.done_within a h) (s.gone_within a h)));
     }
 
 pub Weeding-start : (rules : Rules) (list done gone : DtList) (b : Blocks) (holders : List ℕ) → StandsFor list b holders → StandsFor done b [] → StandsFor gone b [] → Weeding rules b holders 0 list (record { kept = done; dropped = gone; count = 0 }) b

@@ -4,3 +4,4 @@ pub mod Orders
 pub mod Stands
 pub mod Passes
 pub mod Turned
+pub mod Rows

@@ -495,18 +495,22 @@ impl Dict {
         ensures slots { self.new.slots
             ≡ (if has_table method && has_table self.old.method then self.old.slots else slots) }
         ensures same { self.new ≡ record {
-            method = method;
-            kind = self.old.kind;
-            count = count;
-            current = record { 0 = 0 };
-            first = list.first;
-            last = list.last;
-            table = self.new.table;
-            slots = self.new.slots;
+          method = method;
+          kind = self.old.kind;
+          count = count;
+          current = record { 0 = 0 };
+          first = list.first;
+          last = list.last;
+          table = self.new.table;
+          slots = self.new.slots;
         } }
     {
         let keeps = has_table(method) && has_table(self.method);
-        let left = if has_table(method) { Addr::NONE } else { self.table };
+        let left = if has_table(method) {
+            Addr::NONE
+        } else {
+            self.table
+        };
         self.table = if keeps { self.table } else { table };
         self.slots = if keeps { self.slots } else { slots };
         self.method = method;

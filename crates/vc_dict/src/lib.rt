@@ -8,5 +8,5 @@ mod places;
 mod rows;
 
 pub use dict::{Dict, Dropped, after_dropped};
-pub use rows::{list_rows, remove_rows, table_rows};
+pub use rows::{insert_rows, list_rows, order_rows, remove_rows, table_rows};
 pub use vc_base::DictMethod;

@@ -139,6 +139,7 @@ Seeks-all_passed test list b holders passed at before now s w end =
 -- the test of the holder there is the answer of these calls
 pub test-is : (sought : Sought) (rules : Rules) (b : Blocks) (key : List ℕ) (at : ℕ) (object k : List ℕ) (o : Ordering) (r : Bool) → object ≡ object_at b at → k ≡ rules.key object → o ≡ rules.compare k key → r ≡ is_sought sought o → stands_so sought rules b key at ≡ r
 test-is sought rules b key at object k o r e f g h = sym (h ∙ ap (is_sought sought) (g ∙ ap (λ z. rules.compare z key) (f ∙ ap rules.key e)))
+
 -- one more holder was passed
 pub walk_on : (test : ℕ → Bool) (list : DtList) (b : Blocks) (holders : List ℕ) (passed at next before now after : ℕ) → StandsFor list b holders → Walked test holders passed at before now → at ≢ 0 → test at ≡ false → next ≡ word_at b at 1 → after ≡ now + 1 → Walked test holders (passed + 1) next before after
 walk_on test list b holders passed at next before now after s w some t n step =

@@ -61,7 +61,7 @@ placed_by rules b at x xs true order t s rest =
     let key : ℕ → List ℕ = λ a. rules.key (object_at b a) in
     rw t (
       any-cons (λ y. is_less rules b y at) x xs back
-        (any-less (λ y. is_less rules b y x) (λ y. is_less rules b y at) xs (λ a w h. upto order (key at) (key x) (key a) back h) s.0),
+          (any-less (λ y. is_less rules b y x) (λ y. is_less rules b y at) xs (λ a w h. upto order (key at) (key x) (key a) back h) s.0),
       s,
     )
 placed_by rules b at x xs false order t s rest =

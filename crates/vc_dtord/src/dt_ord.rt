@@ -77,7 +77,13 @@ impl DtOrd {
         ensures rest { C.RestStays cells.old cells.new }
     {
         let mut list = self.list();
-        let mark = list.seek(cells, kind, kind.key(cells.body(at)), Sought::Greater, steps);
+        let mark = list.seek(
+            cells,
+            kind,
+            kind.key(cells.body(at)),
+            Sought::Greater,
+            steps,
+        );
         put_before(&mut list, cells, mark, at);
         self.first = list.first;
         self.last = list.last;
