@@ -214,7 +214,7 @@ fn best(rt: HostRuntime) -> Result<(), Fail> {
 }
 
 #[test]
-fn script(rt: HostRuntime) -> Result<(), Fail> {
+fn cutter(rt: HostRuntime) -> Result<(), Fail> {
     let alloc = rt.alloc();
     let mut cutter = LineCutter::new(alloc)?;
     assert_eq!(rt; cutter.feed(b"open r best 1\r\nalloc"), (Cut::Whole, 15));
@@ -223,10 +223,22 @@ fn script(rt: HostRuntime) -> Result<(), Fail> {
     assert_eq!(rt; cutter.feed(b"alloc"), (Cut::More, 5));
     assert_eq!(rt; cutter.end(), Cut::Whole);
     assert_eq!(rt; (cutter.line(), cutter.number()), (b"alloc".as_slice(), 2));
+    Ok(())
+}
+
+#[test]
+fn line(rt: HostRuntime) -> Result<(), Fail> {
+    let alloc = rt.alloc();
     let answer = read_line(alloc, Tool::Vmreplay, b"write r a 7 %41b")?;
     let bytes = Bytes::from_vec(b"Ab".to_vec(alloc)?);
     let command = Command::WriteBlock(Name::new(b"r"), Name::new(b"a"), 7, bytes);
     assert!(rt; answer == LineAnswer::Is(command));
+    Ok(())
+}
+
+#[test]
+fn reply(rt: HostRuntime) -> Result<(), Fail> {
+    let alloc = rt.alloc();
     let line = print_reply(alloc, &Reply::Closed(Name::new(b"r"), 3))?;
     assert_eq!(rt; line.as_slice(), b"r closed 3\n".as_slice());
     Ok(())
