@@ -9,14 +9,13 @@ use Rattle.vc_model.specs.Gap.{Run, bytes_of, run_of, gaps, gaps_between, runs_i
 use Rattle.vc_model.specs.Layout.{Block, Layout, footprint, footprints}
 use Rattle.vc_model.specs.Numbers.{gap_sizes}
 use Rattle.vc_model.specs.Order.{put_by, sorted_by}
-use Rattle.vc_model.specs.Sound.{IsUsable}
 use Rattle.vc_seg.specs.Segment.{Bytes, pair_of}
 use Rattle.vc_segments.specs.Memory.{AreSegments}
 use Rattle.vc_blocks.specs.declared.slot.Slot.{Slot}
 use Rattle.vc_blocks.specs.Layout.{slot_of_block}
 use Rattle.vc_blocks.specs.Tally.{HasRoom, tally_of}
 use Rattle.vc_blocks.proofs.Apart.{AllPairs-head, AllPairs-map, AllPairs-tail}
-use Rattle.vc_last.specs.Row.{EndsFirst, IsRow}
+use Rattle.vc_last.specs.Row.{IsRow}
 use Rattle.vc_last.specs.Runs.{gaps_left_in, gaps_left, runs_of}
 
 -- the sizes of the gaps that these slots leave of a segment from one offset to another

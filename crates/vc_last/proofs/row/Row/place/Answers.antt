@@ -1,4 +1,4 @@
-use Rattle.std.proofs.Common.{◌≡◌, ℕ, Some, map, ap, sym, ◌∙◌, arith}
+use Rattle.std.proofs.Common.{◌≡◌, Some, ap, sym, ◌∙◌, arith}
 use Rattle.vc_model.specs.Last.{newest, next_offset}
 use Rattle.vc_last.specs.Runs.{next_behind}
 use Rattle.vc_last.proofs.Places.{next_behind-blocks, next_behind-most, place-none, place-some}
