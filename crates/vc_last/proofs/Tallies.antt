@@ -199,9 +199,6 @@ module _ (r : Layout ℕ) (h : IsRow r) where
       let here : All HasByte (own n) = All-filter test HasByte (footprints r.blocks) some in
       sorted-ascending (own n) (λ i j d lt within. let order : (get_or (own n) i d).from < (get_or (own n) i d).to = here i d (omega (arith, lt, within)) in let le = own-ends n i j d lt within in omega (arith, order, le))
     where
-      Less : Run → Run → Type 0
-      Less f g = f.from < g.from
-
       put-first : (x : Run) (xs : List Run) → All (λ y. x.from < y.from) xs → put_by (λ f. f.from) x xs ≡ x ∷ xs
       put-first x [] h = refl
       put-first x (y ∷ ys) h = rw (lt-ltb x.from y.from (All-head (λ (z : Run). x.from < z.from) y ys h)) refl
