@@ -1,8 +1,8 @@
 -- What putting a block behind the others answers, and makes of them.
-use Rattle.std.proofs.Common.{◌≡◌, ◌≢◌, ℕ, suc, ◌+◌, ◌<◌, ◌≤◌, List, [], ◌∷◌, ◌++◌, Bool, true, false, Option, None, Some, All, IfSome, length, get_or, map, refl, ap, sym, ◌∙◌, subst, arith}
-use Rattle.std.specs.Prelude.{IfOk, IfErr, OnOk, OnErr, Ok, Err}
+use Rattle.std.proofs.Common.{◌≡◌, ℕ, ◌<◌, ◌≤◌, List, [], ◌∷◌, ◌++◌, true, false, Option, None, Some, IfSome, length, refl, ap, sym, ◌∙◌, subst, arith}
+use Rattle.std.specs.Prelude.{IfOk, Ok, Err}
 use Rattle.std.specs.declared.result.Result.{Result}
-use Rattle.std.proofs.lemmas.List.{append-nil, length-map, length_push, get_or-map, get_or_append_left}
+use Rattle.std.proofs.lemmas.List.{length-map, length_push, get_or-map, get_or_append_left}
 use Rattle.vc_model.specs.Addr.{address, place_of}
 use Rattle.vc_model.specs.Best.{zeros}
 use Rattle.vc_model.specs.Discipline.{Terms}
@@ -12,40 +12,9 @@ use Rattle.vc_model.specs.Segments.{Asked, Granted, TooMany, NotLent, ask}
 use Rattle.vc_model.specs.Touch.{HasBlock, find_block}
 use Rattle.vc_base.specs.declared.addr.Addr.{Addr}
 use Rattle.vc_seg.specs.declared.fault.RegionFault.{RegionFault}
-use Rattle.vc_seg.specs.declared.fault.RegionFault.TheVariants as code
-use Rattle.vc_seg.specs.Answer.{Answers, IsPut, IsRefusal}
-use Rattle.vc_segments.specs.Lend.{IsNoGrant}
-use Rattle.vc_blocks.specs.declared.order.Order.TheVariants.{ByAllocation}
-use Rattle.vc_blocks.specs.Put.{IsAddress, IsPutInNew, with_zeros}
+use Rattle.vc_seg.specs.Answer.{Answers, IsPut}
 use Rattle.vc_last.proofs.Lists.{get_or-last}
 use Rattle.vc_last.proofs.Latest.{AreElsewhere, at-own, find-last, none-at, without-latest}
-
-module _ (terms : Terms) (r new : Layout ℕ) (tag size : ℕ) where
-  refused : (why : RegionFault) → last_place r size ≡ None → IsNoGrant (last_need terms size) r.segments why → IsRefusal (last_alloc terms r tag size) why
-  refused code.TooManySegments none h = ap (put_or_lend terms r tag size false) none ∙ ap (put_in_newest r tag size) h
-  refused code.NoSegment none h = ap (put_or_lend terms r tag size true) none ∙ ap (put_in_newest r tag size) h
-  refused code.OutOfMemory none h = tt
-  refused code.Fixed none h = absurd h
-  refused code.PoolSize none h = absurd h
-  refused code.NotLast none h = absurd h
-  refused code.WrongMethod none h = absurd h
-
-  pub Answers-put : (result : Result Addr RegionFault) (at : ℕ × ℕ) → last_place r size ≡ Some at → IfOk result (λ a. IsAddress a.0 at) → OnOk result (new ≡ with_zeros ByAllocation r tag size at) → OnErr result (new ≡ r) →
-      IfErr result (λ e. e ≡ code.OutOfMemory) → Answers (last_alloc terms r tag size) result r new
-  Answers-put (Ok a) at place address ok err only =
-      let done : IsPut (put_latest r tag size None at) a.0 new = (address.0, sym address.1, ok) in
-      subst (λ (o : Option (ℕ × ℕ)). IsPut (put_or_lend terms r tag size false o) a.0 new) (sym place) done
-  Answers-put (Err e) at place address ok err only = subst (λ (w : RegionFault). Answers (last_alloc terms r tag size) (Err w) r new) (sym only) (tt, err)
-
-  pub Answers-new : (result : Result Addr RegionFault) (bytes : ℕ) → bytes ≡ last_need terms size → last_place r size ≡ None → IfOk result (λ a. IsPutInNew ByAllocation r new tag size bytes 32 a.0) → OnErr result (new ≡ r) →
-      IfErr result (IsNoGrant bytes r.segments) → Answers (last_alloc terms r tag size) result r new
-  Answers-new (Ok a) bytes is none ok err fault =
-      let need : ℕ = last_need terms size in
-      let put : IsPutInNew ByAllocation r new tag size need 32 a.0 = subst (λ (n : ℕ). IsPutInNew ByAllocation r new tag size n 32 a.0) is ok in
-      let done : IsPut (put_in_newest r tag size (Granted (place_of a.0).0 need)) a.0 new = (put.address.0, sym put.address.1, put.layout) in
-      subst (λ (o : Option (ℕ × ℕ)). IsPut (put_or_lend terms r tag size false o) a.0 new) (sym none)
-      (subst (λ (k : Asked). IsPut (put_in_newest r tag size k) a.0 new) (sym put.granted) done)
-  Answers-new (Err e) bytes is none ok err fault = (refused e none (subst (λ (n : ℕ). IsNoGrant n r.segments e) is fault), err)
 
 -- what a block that was put makes of the region
 pub record IsNew (r : Layout ℕ) (tag size to : ℕ) (mid : Layout ℕ) : Type 0 where

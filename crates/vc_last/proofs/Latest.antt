@@ -1,5 +1,5 @@
 -- The latest block is the last, and no other is at its place.
-use Rattle.std.proofs.Common.{◌≡◌, ℕ, ◌+◌, ◌<◌, ◌≤◌, List, [], ◌∷◌, ◌++◌, Option, None, Some, true, false, All, Contains, length, get_or, map, refl, ap, sym, ◌∙◌, subst, ⊎_elim, eqb, ltb, arith}
+use Rattle.std.proofs.Common.{◌≡◌, ℕ, ◌<◌, ◌≤◌, List, [], ◌∷◌, ◌++◌, Option, None, Some, true, false, All, length, get_or, refl, ap, sym, ◌∙◌, subst, ⊎_elim, eqb, ltb, arith}
 use Rattle.std.specs.List.{HoldsAt, remove}
 use Rattle.std.proofs.lemmas.Bool.{cases_Bool, and_from, and_parts, eq-eqb, eqb-true, ltb-true, ltb-false}
 use Rattle.std.proofs.lemmas.List.{length-map, length_push, get_or-map, get_or_append_left}

@@ -6,3 +6,4 @@ pub mod Places
 pub mod Allocs
 pub mod Slots
 pub mod Resizes
+pub mod Behind

@@ -1,13 +1,12 @@
 -- Lists by their last item.
-use Rattle.std.proofs.Common.{◌≡◌, ℕ, zero, suc, ◌+◌, ◌-◌, ◌<◌, ◌≤◌, List, [], ◌∷◌, ◌++◌, Option, None, Some, All, AllPairs, length, get_or, map, refl, ap, sym, ◌∙◌, subst, arith}
+use Rattle.std.proofs.Common.{◌≡◌, ◌-◌, List, [], ◌∷◌, ◌++◌, Option, None, Some, All, AllPairs, length, get_or, map, refl, ap, ◌∙◌, subst, arith}
 use Rattle.std.specs.List.{last_or, remove, slice_get}
 use Rattle.std.specs.Prelude.{option_map}
 use Rattle.std.proofs.lemmas.Option.{same_Some, none-some}
 use Rattle.std.proofs.lemmas.List.{length_push, get_or_append_left}
 use Rattle.std.proofs.lemmas.List.Elements.{All-head, All-tail, All-nil, All-cons}
-use Rattle.std.proofs.lemmas.List.Kept.{AllPairs-cons}
 use Rattle.vc_model.specs.Last.{last_of}
-use Rattle.vc_blocks.proofs.Apart.{AllPairs-head, AllPairs-nil, AllPairs-tail}
+use Rattle.vc_blocks.proofs.Apart.{AllPairs-head, AllPairs-tail}
 
 pub All-front : {A : Type 0} (P : A → Type 0) (xs : List A) (x : A) → All P (xs ++ x ∷ []) → All P xs
 All-front P xs x h = λ k d lt. subst P (get_or_append_left xs (x ∷ []) d k lt) (h k d (omega (arith, lt, length_push xs x)))
@@ -16,12 +15,7 @@ pub All-last : {A : Type 0} (P : A → Type 0) (xs : List A) (x : A) → All P (
 All-last P [] x h = All-head P x [] h
 All-last P (y ∷ ys) x h = All-last P ys x (All-tail P y (ys ++ x ∷ []) h)
 
--- what holds of each two holds of those before the last, and of each of them and the last
-pub AllPairs-front : {A : Type 0} (R : A → A → Type 0) (xs : List A) (x : A) → AllPairs R (xs ++ x ∷ []) → AllPairs R xs
-AllPairs-front R [] x h = AllPairs-nil R
-AllPairs-front R (y ∷ ys) x h =
-    AllPairs-cons R y ys (All-front (R y) ys x (AllPairs-head R y (ys ++ x ∷ []) h)) (AllPairs-front R ys x (AllPairs-tail R y (ys ++ x ∷ []) h))
-
+-- what holds of each two holds of each before the last, and the last
 pub AllPairs-last : {A : Type 0} (R : A → A → Type 0) (xs : List A) (x : A) → AllPairs R (xs ++ x ∷ []) → All (λ y. R y x) xs
 AllPairs-last {A = A} R [] x h = All-nil (λ (y : A). R y x)
 AllPairs-last {A = A} R (y ∷ ys) x h =
@@ -35,13 +29,6 @@ last_or-split y (z ∷ zs) x e = let rest = last_or-split z zs x e in (y ∷ res
 pub last_of-split : {A : Type 0} (xs : List A) (x : A) → last_of xs ≡ Some x → (front : List A) × (xs ≡ front ++ x ∷ [])
 last_of-split [] x e = absurd (none-some x e)
 last_of-split (y ∷ ys) x e = last_or-split y ys x e
-
-last_or-push : {A : Type 0} (o : Option A) (xs : List A) (x : A) → last_or o (xs ++ x ∷ []) ≡ Some x
-last_or-push o [] x = refl
-last_or-push o (y ∷ ys) x = last_or-push (Some y) ys x
-
-pub last_of-push : {A : Type 0} (xs : List A) (x : A) → last_of (xs ++ x ∷ []) ≡ Some x
-last_of-push xs x = last_or-push None xs x
 
 slice_get-cons : {A : Type 0} (x : A) (xs : List A) → slice_get (x ∷ xs) (length xs) ≡ last_or (Some x) xs
 slice_get-cons x [] = refl

@@ -8,8 +8,8 @@ use Rattle.std.proofs.lemmas.List.{length_push}
 use Rattle.std.proofs.lemmas.List.Elements.{All-head, All-tail, All-nil, All-cons}
 use Rattle.vc_model.specs.Addr.{address, place_of}
 use Rattle.vc_model.specs.Best.{zeros}
-use Rattle.vc_model.specs.Last.{last_of, last_place, newest, next_offset, place_behind}
-use Rattle.vc_model.specs.Layout.{Block, Layout, footprint, is_at, with_segment}
+use Rattle.vc_model.specs.Last.{last_place, newest, next_offset, place_behind}
+use Rattle.vc_model.specs.Layout.{Block, Layout, is_at, with_segment}
 use Rattle.vc_model.specs.Segments.{span}
 use Rattle.vc_model.specs.Sound.{HaveOwnNumbers}
 use Rattle.vc_model.specs.Touch.{HasBlock}
@@ -21,11 +21,11 @@ use Rattle.vc_blocks.specs.Layout.{slot_of_block}
 use Rattle.vc_blocks.specs.Slot.{IsSlot}
 use Rattle.vc_blocks.specs.Put.{FitsAt, IsAddress, IsFreeAt, IsPutInNew, body, body_at, with_zeros}
 use Rattle.vc_blocks.proofs.Apart.{apart_by_seg}
-use Rattle.vc_last.specs.Row.{EndsFirst, IsRow}
+use Rattle.vc_last.specs.Row.{IsRow}
 use Rattle.vc_last.specs.Runs.{next_behind}
 use Rattle.vc_last.proofs.Lists.{get_or-last, last_of-split}
 use Rattle.vc_last.proofs.Latest.{AreElsewhere, at-place, none-there, span-some}
-use Rattle.vc_last.proofs.Rows.{Fits, IsExact, IsRow-push, IsRow-segment}
+use Rattle.vc_last.proofs.Rows.{IsExact, IsRow-push, IsRow-segment}
 
 pub span-least : (size : ℕ) → size + 16 ≤ span size
 span-least size = omega arith

@@ -1,7 +1,6 @@
 -- What resizing the latest block answers, and makes of the others.
-use Rattle.std.proofs.Common.{◌≡◌, ℕ, suc, ◌+◌, ◌<◌, ◌≤◌, List, [], ◌∷◌, ◌++◌, Bool, true, false, Option, None, Some, All, IfSome, length, get_or, take, refl, ap, sym, ◌∙◌, subst, inl, inr, ⊎_elim, ◌⊎◌, eqb, leb, arith}
+use Rattle.std.proofs.Common.{◌≡◌, ℕ, suc, ◌+◌, List, [], ◌∷◌, ◌++◌, Bool, true, false, Option, Some, All, IfSome, get_or, take, refl, ap, sym, ◌∙◌, subst, inl, inr, ⊎_elim, ◌⊎◌, eqb, leb, arith}
 use Rattle.std.specs.Prelude.{◌&&◌, ◌==◌, option_map}
-use Rattle.std.specs.List.{list_any}
 use Rattle.std.proofs.lemmas.Bool.{and_parts, cases_Bool, eqb-true, eqb-false, leb-true, or_cases}
 use Rattle.std.proofs.lemmas.Option.{same_Some}
 use Rattle.std.proofs.lemmas.List.Elements.{All-push}
@@ -18,7 +17,7 @@ use Rattle.vc_model.specs.Touch.{HasBlock, change_block, find_block, rewritten, 
 use Rattle.vc_seg.specs.Answer.{IsPut}
 use Rattle.vc_blocks.specs.Put.{FitsAt, IsFreeBut, body, body_at}
 use Rattle.vc_blocks.proofs.Apart.{apart_by_seg}
-use Rattle.vc_last.specs.Row.{EndsFirst, IsRow}
+use Rattle.vc_last.specs.Row.{IsRow}
 use Rattle.vc_last.proofs.Allocs.{IsNew, new-elsewhere}
 use Rattle.vc_last.proofs.Latest.{AreElsewhere, IsLatestAt, at-own, at-place, call-latest, change-last, find-before, find-last, without-last, without-latest}
 use Rattle.vc_last.proofs.Lists.{All-front, All-last}

@@ -1,5 +1,5 @@
 -- The last slot is that of the latest block, and the last segment the newest.
-use Rattle.std.proofs.Common.{◌≡◌, ℕ, ◌-◌, List, Option, None, Some, length, map, refl, ap, sym, ◌∙◌, eqb}
+use Rattle.std.proofs.Common.{◌≡◌, ℕ, ◌-◌, List, Option, None, Some, length, map, ap, sym, ◌∙◌}
 use Rattle.std.specs.List.{slice_get}
 use Rattle.std.specs.Prelude.{option_map, ◌==◌, ◌&&◌}
 use Rattle.vc_model.specs.Last.{can_end, last_of, latest, newest}

@@ -9,14 +9,13 @@ use Rattle.vc_model.specs.Gap.{Run, bytes_of, run_of, gaps, gaps_between, runs_i
 use Rattle.vc_model.specs.Layout.{Block, Layout, footprint, footprints}
 use Rattle.vc_model.specs.Numbers.{gap_sizes}
 use Rattle.vc_model.specs.Order.{put_by, sorted_by}
-use Rattle.vc_model.specs.Sound.{IsUsable}
 use Rattle.vc_seg.specs.Segment.{Bytes, pair_of}
 use Rattle.vc_segments.specs.Memory.{AreSegments}
 use Rattle.vc_blocks.specs.declared.slot.Slot.{Slot}
 use Rattle.vc_blocks.specs.Layout.{slot_of_block}
 use Rattle.vc_blocks.specs.Tally.{HasRoom, tally_of}
 use Rattle.vc_blocks.proofs.Apart.{AllPairs-head, AllPairs-map, AllPairs-tail}
-use Rattle.vc_last.specs.Row.{EndsFirst, IsRow}
+use Rattle.vc_last.specs.Row.{IsRow}
 use Rattle.vc_last.specs.Runs.{gaps_left_in, gaps_left, runs_of}
 
 -- the sizes of the gaps that these slots leave of a segment from one offset to another
@@ -200,9 +199,6 @@ module _ (r : Layout ℕ) (h : IsRow r) where
       let here : All HasByte (own n) = All-filter test HasByte (footprints r.blocks) some in
       sorted-ascending (own n) (λ i j d lt within. let order : (get_or (own n) i d).from < (get_or (own n) i d).to = here i d (omega (arith, lt, within)) in let le = own-ends n i j d lt within in omega (arith, order, le))
     where
-      Less : Run → Run → Type 0
-      Less f g = f.from < g.from
-
       put-first : (x : Run) (xs : List Run) → All (λ y. x.from < y.from) xs → put_by (λ f. f.from) x xs ≡ x ∷ xs
       put-first x [] h = refl
       put-first x (y ∷ ys) h = rw (lt-ltb x.from y.from (All-head (λ (z : Run). x.from < z.from) y ys h)) refl

@@ -1,5 +1,5 @@
 -- What slots take of their segments, and what they leave.
-use Rattle.std.specs.Prelude.{ℕ, ◌+◌, ◌-◌, List, [], ◌∷◌, filter, fold, map, max, nat_lt, ◌==◌, if◌then◌else◌}
+use Rattle.std.specs.Prelude.{◌≡◌, ℕ, ◌+◌, ◌-◌, ◌≤◌, List, [], ◌∷◌, filter, fold, map, max, nat_lt, ◌==◌, if◌then◌else◌}
 use Rattle.std.specs.List.{flat_map}
 use Rattle.vc_model.specs.Gap.{Run, gaps_between}
 use Rattle.vc_model.specs.Segments.{span}
@@ -11,6 +11,10 @@ run_of_slot s = record { seg = s.seg; from = s.off - 16; to = s.off - 16 + span 
 
 abbrev pub runs_of : List Slot → List Run
 runs_of slots = map run_of_slot slots
+
+-- where two slots are in one segment, the first ends before the second begins
+abbrev pub SlotEndsFirst : Slot → Slot → Type 0
+SlotEndsFirst s t = s.seg ≡ t.seg → (run_of_slot s).to ≤ (run_of_slot t).from
 
 -- where the next block begins in the segment of that number, behind the slots there
 abbrev pub next_behind : ℕ → List Slot → ℕ

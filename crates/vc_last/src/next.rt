@@ -1,25 +1,29 @@
-ghost use Rattle.std.specs.Prelude.{◌≡◌, All, map};
+ghost use Rattle.std.specs.Prelude.{◌≡◌, All, AllPairs, map};
 ghost use Rattle.vc_model.specs.Resize.{is_usable};
 ghost use Rattle.vc_blocks.specs.Slot.{IsSlot};
 ghost use Rattle.vc_seg.specs.Segment.{pair_of};
-ghost use Rattle.vc_last.specs.Runs.{next_behind, run_of_slot};
+ghost use Rattle.vc_last.specs.Runs.{SlotEndsFirst, next_behind, run_of_slot};
 
 use vc_blocks::Slot;
 use vc_seg::Segment;
 use vc_segments::span_of;
 
-/// Where the next block begins in the segment of that number, behind these slots.
+/// Where the next block begins in the segment of that number, behind these slots, of which the last one there ends
+/// last.
 pub(crate) fn next_offset(slots: &[Slot], number: u32) -> u32
-    requires { All IsSlot slots.now }
+    requires slots { All IsSlot slots.now }
+    requires ordered { AllPairs SlotEndsFirst slots.now }
     ensures { result ≡ next_behind number slots.now }
 {
-    let mut end = 32;
-    for slot in slots {
+    let mut left = slots.len();
+    while left > 0 {
+        left -= 1;
+        let slot = slots[left];
         if slot.seg == number {
-            end = end.max(slot.off + span_of(slot.size));
+            return slot.off + span_of(slot.size);
         }
     }
-    end
+    32
 }
 
 /// Whether what a slot takes lies in the usable part of one of these segments.

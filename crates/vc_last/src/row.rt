@@ -97,9 +97,7 @@ impl Row {
         ensures fresh { IfOk result (λ a. ¬ HasBlock self.old.blocks a.0) }
     {
         match self.place(size) {
-            Some(at) => self
-                .layout
-                .put(Order::ByAllocation, at.0, at.1, size, tag),
+            Some(at) => self.layout.put(Order::ByAllocation, at.0, at.1, size, tag),
             None => {
                 let bytes = rounded_up(span_of(size) + 32, round_of(disc));
                 self.layout

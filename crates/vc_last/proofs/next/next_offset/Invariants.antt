@@ -1,9 +1,14 @@
-use Rattle.std.proofs.Common.{◌≡◌, ◌+◌, drop, eqb, filter, fold, map}
-use Rattle.std.specs.Prelude.{max}
-use Rattle.vc_model.specs.Segments.{span}
+use Rattle.std.proofs.Common.{◌≡◌, ◌≤◌, length, take}
 use Rattle.vc_last.specs.Runs.{next_behind}
 use Rattle.vc_last.proofs.next.next_offset.Given as goal
 
--- the end so far, taken on over the slots that are left, is the result
-abbrev pub invariant-loop-slot : goal.invariant-loop-slot
-invariant-loop-slot l = fold max l.end (map (λ s. s.off + span s.size) (filter (λ s. eqb s.seg l.number) (drop l.slot-index l.slots))) ≡ next_behind l.number l.slots
+-- none of the slots so far is in the segment
+abbrev pub invariant-loop-left : goal.invariant-loop-left
+invariant-loop-left l =
+    record {
+      within : l.left ≤ length l.slots;
+      same : next_behind l.number (take l.left l.slots) ≡ next_behind l.number l.slots;
+    }
+
+abbrev pub decreases-loop-left : goal.decreases-loop-left
+decreases-loop-left l = l.left

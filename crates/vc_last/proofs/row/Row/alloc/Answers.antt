@@ -1,4 +1,4 @@
-use Rattle.std.proofs.Common.{◌≡◌, ℕ, ◌+◌, ◌≤◌, Some, sym, ◌∙◌, subst, arith}
+use Rattle.std.proofs.Common.{◌≡◌, ℕ, ◌+◌, ◌≤◌, Some, sym, ◌∙◌, arith}
 use Rattle.vc_model.specs.Segments.{span}
 use Rattle.vc_segments.proofs.Rounding.{IsSegmentSize-asked, round_up-least}
 use Rattle.vc_last.proofs.Places.{IsPlace, fresh-new, fresh-put, place-fits, place-free, place-last, row-new, row-put}

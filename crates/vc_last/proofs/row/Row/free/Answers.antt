@@ -1,8 +1,7 @@
-use Rattle.std.proofs.Common.{◌≡◌, ℕ, List, true, length, ap, sym, ◌∙◌, subst, arith}
+use Rattle.std.proofs.Common.{◌≡◌, ℕ, length, ap, sym, ◌∙◌, arith}
 use Rattle.std.proofs.lemmas.List.{length_push}
 use Rattle.vc_model.specs.Addr.{place_of}
-use Rattle.vc_model.specs.Layout.{Block, Layout, without_block}
-use Rattle.vc_model.specs.Touch.{HasBlock}
+use Rattle.vc_model.specs.Layout.{Layout, without_block}
 use Rattle.vc_last.proofs.Latest.{IsExact-front, IsLatestAt, freed-latest, latest-at, none-there, without-latest}
 use Rattle.vc_last.proofs.Rows.{IsRow-without}
 use Rattle.vc_last.proofs.row.Row.free.Goals as goal

@@ -1,10 +1,6 @@
-use Rattle.std.proofs.Common.{◌≡◌, ℕ, List, Some, false, map, take, ap, sym, ◌∙◌, subst}
-use Rattle.std.specs.Prelude.{option_map}
+use Rattle.std.proofs.Common.{false, take}
 use Rattle.vc_model.specs.Addr.{place_of}
-use Rattle.vc_model.specs.Discipline.{Served}
-use Rattle.vc_model.specs.Last.{can_end, last_resize}
-use Rattle.vc_model.specs.Layout.{Block, Layout, without_block}
-use Rattle.vc_model.specs.Touch.{HasBlock, find_block}
+use Rattle.vc_model.specs.Touch.{HasBlock}
 use Rattle.vc_last.proofs.Allocs.{IsNew, alloc-new, new-among, new-room, old-among}
 use Rattle.vc_last.proofs.Latest.{IsLatestAt, latest-at}
 use Rattle.vc_last.proofs.Resizes.{can_end-latest, moved-is, moved-others, moved-there, resize-moves}

@@ -1,7 +1,7 @@
-use Rattle.std.proofs.Common.{◌≡◌, ℕ, List, Option, Some, ap, sym, ◌∙◌}
+use Rattle.std.proofs.Common.{ℕ, ap, sym, ◌∙◌}
 use Rattle.std.specs.Prelude.{option_map}
 use Rattle.std.specs.Option.{option_copied}
-use Rattle.vc_seg.specs.Segment.{Bytes, pair_of}
+use Rattle.vc_seg.specs.Segment.{pair_of}
 use Rattle.vc_last.proofs.Slots.{pair-newest}
 use Rattle.vc_last.proofs.row.Row.newest.Goals as goal
 

@@ -1,6 +1,9 @@
-use Rattle.std.proofs.Common.{◌≡◌, ℕ, Some, map, ap, sym, ◌∙◌, arith}
+use Rattle.std.proofs.Common.{◌≡◌, Some, ap, sym, ◌∙◌, arith, List, AllPairs, subst}
 use Rattle.vc_model.specs.Last.{newest, next_offset}
-use Rattle.vc_last.specs.Runs.{next_behind}
+use Rattle.vc_blocks.specs.declared.slot.Slot.{Slot}
+use Rattle.vc_blocks.specs.Layout.{slot_of_block}
+use Rattle.vc_blocks.proofs.Apart.{AllPairs-map}
+use Rattle.vc_last.specs.Runs.{SlotEndsFirst, next_behind}
 use Rattle.vc_last.proofs.Places.{next_behind-blocks, next_behind-most, place-none, place-some}
 use Rattle.vc_last.proofs.row.Row.place.Goals as goal
 use Rattle.vc_last.proofs.row.Row.place.Goals.{After-span_of}
@@ -28,3 +31,7 @@ overflow_add-off c =
     let most = next_behind-most c.in_ok-newest.newest.0 c.slots.result.now c.slots.ensures.legal in
     let size = c.requires in
     omega (arith, most, size, c.next_offset-off.ensures, c.span_of.ensures)
+
+pub next_offset-off-requires-clause-ordered : goal.next_offset-off-requires-clause-ordered
+next_offset-off-requires-clause-ordered c =
+    subst (λ (slots : List Slot). AllPairs SlotEndsFirst slots) (sym c.slots.ensures.blocks) (AllPairs-map SlotEndsFirst slot_of_block c.self.inside.layout.blocks c.self.invariant.ordered)

@@ -1,7 +1,7 @@
-use Rattle.std.proofs.Common.{◌≡◌, ℕ, Some, false, ap, sym, ◌∙◌}
+use Rattle.std.proofs.Common.{ℕ, ap, ◌∙◌}
 use Rattle.std.specs.Prelude.{option_map}
 use Rattle.vc_model.specs.Addr.{place_of}
-use Rattle.vc_model.specs.Layout.{Block, Layout, without_block}
+use Rattle.vc_model.specs.Layout.{Layout, without_block}
 use Rattle.vc_model.specs.Touch.{find_block}
 use Rattle.vc_last.proofs.Resizes.{others-sized, there-sized}
 use Rattle.vc_last.proofs.row.Row.resize.Goals as goal

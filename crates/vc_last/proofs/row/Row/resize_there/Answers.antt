@@ -1,7 +1,6 @@
-use Rattle.std.proofs.Common.{◌≡◌, true}
+use Rattle.std.proofs.Common.{true}
 use Rattle.vc_model.specs.Addr.{place_of}
-use Rattle.vc_model.specs.Last.{can_end}
-use Rattle.vc_last.proofs.Latest.{IsLatestAt, latest-at}
+use Rattle.vc_last.proofs.Latest.{latest-at}
 use Rattle.vc_last.proofs.Resizes.{IsRow-sized, can_end-latest, sized-fits, sized-free}
 use Rattle.vc_last.proofs.row.Row.resize_there.Goals as goal
 

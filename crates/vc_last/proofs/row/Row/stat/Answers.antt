@@ -1,4 +1,4 @@
-use Rattle.std.proofs.Common.{◌≡◌, ℕ, List, length, map, refl, ap, ◌∙◌}
+use Rattle.std.proofs.Common.{◌≡◌, ℕ, List, refl, ap, ◌∙◌}
 use Rattle.std.proofs.lemmas.List.{length-map}
 use Rattle.vc_model.specs.Gap.{bytes_of}
 use Rattle.vc_model.specs.Numbers.{gap_bytes, gap_count, gap_sizes, gaps_of, greatest_gap}
