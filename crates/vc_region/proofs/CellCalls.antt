@@ -155,6 +155,8 @@ emptied-segments : (r : model.Region ℕ) → model.segments_of (rest_of r) ≡ 
 emptied-segments (model.OfBest layout) = refl
 emptied-segments (model.OfPool pool) = refl
 emptied-segments (model.OfLast layout) = refl
+emptied-segments (model.OfDebug debug) = refl
+emptied-segments (model.OfProfile profile) = refl
 
 pub stays-segments : {I : Type 0} {V : I → Type 0} (old new : Region I V) → StaysButCells old new → segments_in new ≡ segments_in old
 stays-segments old new s =

@@ -5,13 +5,17 @@ use Rattle.vc_model.specs.Last.{if_latest, latest}
 use Rattle.vc_model.specs.Layout.{Block, Layout, is_at}
 use Rattle.vc_model.specs.Outcome.{Outcome, Done, Refused, NoSegment, NotLast, done_as}
 use Rattle.vc_model.specs.Pool.{pool_free}
-use Rattle.vc_region.specs.Region.{OfBest, OfPool, OfLast, Region, keeps_freed, region_free, segments_of}
+use Rattle.vc_audit.specs.Debug.{debug_free}
+use Rattle.vc_audit.specs.Profile.{profile_free}
+use Rattle.vc_region.specs.Region.{OfBest, OfPool, OfLast, OfDebug, OfProfile, Region, keeps_freed, region_free, segments_of}
 
 -- the region without the block at a place
 abbrev pub without_block_in : {L : Type 0} → Region L → ℕ × ℕ → Region L
 without_block_in (OfBest l) at = OfBest (without_block_at l at)
 without_block_in (OfPool p) at = OfPool (pool_free p at)
 without_block_in (OfLast l) at = OfLast (without_block_at l at)
+without_block_in (OfDebug d) at = OfDebug (debug_free d at)
+without_block_in (OfProfile p) at = OfProfile (profile_free p at)
 
 abbrev FreedOrNot : {L : Type 0} → Outcome (Region L) → Region L → Type 0
 FreedOrNot o r = (o ≡ Done r) ⊎ (o ≡ Refused NotLast)
@@ -26,6 +30,8 @@ freed-or-not : {L : Type 0} (r : Region L) (at : ℕ × ℕ) → FreedOrNot (reg
 freed-or-not (OfBest l) at = inl refl
 freed-or-not (OfPool p) at = inl refl
 freed-or-not (OfLast l) at = latest-freed l at (latest l)
+freed-or-not (OfDebug d) at = inl refl
+freed-or-not (OfProfile p) at = inl refl
 
 -- freeing asks for no segment
 pub free-granted : {L : Type 0} (r : Region L) (at : ℕ × ℕ) → region_free r at ≡ Refused NoSegment → ⊥
@@ -51,11 +57,15 @@ without-segments : {L : Type 0} (r : Region L) (at : ℕ × ℕ) → segments_of
 without-segments (OfBest l) at = refl
 without-segments (OfPool p) at = refl
 without-segments (OfLast l) at = refl
+without-segments (OfDebug d) at = refl
+without-segments (OfProfile p) at = refl
 
 without-keeps : {L : Type 0} (r : Region L) (at : ℕ × ℕ) → keeps_freed (without_block_in r at) ≡ keeps_freed r
 without-keeps (OfBest l) at = refl
 without-keeps (OfPool p) at = refl
 without-keeps (OfLast l) at = refl
+without-keeps (OfDebug d) at = refl
+without-keeps (OfProfile p) at = refl
 
 -- the segments stay
 pub free-segments : {L : Type 0} (r r' : Region L) (at : ℕ × ℕ) → region_free r at ≡ Done r' → segments_of r' ≡ segments_of r

@@ -5,8 +5,10 @@ use Rattle.std.proofs.Math.Logic.{∥∥₁_elim}
 use Rattle.vc_model.specs.Sound.{HaveOwnNumbers, HaveOwnPlaces}
 use Rattle.vc_model.proofs.Places.{own-places}
 use Rattle.vc_pool.proofs.Sound as pool
+use Rattle.vc_audit.proofs.DebugSound as debug
+use Rattle.vc_audit.proofs.ProfileSound as profile
 use Rattle.vc_region.specs.declared.region.Region.{Region}
-use Rattle.vc_region.specs.declared.region.Region.TheVariants.{Best, Pool, Last}
+use Rattle.vc_region.specs.declared.region.Region.TheVariants.{Best, Pool, Last, Debug, Profile}
 use Rattle.vc_region.specs.Parts.{blocks_in, segments_in}
 
 pub own_places : {I : Type 0} {V : I → Type 0} (r : Region I V) → HaveOwnPlaces (blocks_in r)
@@ -23,6 +25,8 @@ own_places (Last l) =
       first = λ i d within. ∥∥₁_elim l.sound (le_prop) (λ s. (own-places l.layout s).first i d within);
       exact = λ i d within. ∥∥₁_elim l.sound (hlevel (ℕ_set)) (λ s. s.exact i d within);
     }
+own_places (Debug d) = debug.own_places d
+own_places (Profile p) = profile.own_places p
 
 pub own_numbers : {I : Type 0} {V : I → Type 0} (r : Region I V) → HaveOwnNumbers (segments_in r)
 own_numbers (Best b) =
@@ -36,3 +40,5 @@ own_numbers (Last l) =
       first = λ i d within. ∥∥₁_elim l.sound (le_prop) (λ s. s.numbered.first i d within);
       distinct = λ i j d lt within e. ∥∥₁_elim l.sound (hlevel) (λ s. s.numbered.distinct i j d lt within e);
     }
+own_numbers (Debug d) = debug.own_numbers d
+own_numbers (Profile p) = profile.own_numbers p

@@ -11,7 +11,7 @@ use Rattle.vc_model.proofs.Owned.{found-below, found-first}
 use Rattle.vc_model.proofs.Places.{own-places}
 use Rattle.vc_region.specs.Cells.{StaysButCells, cell_bytes, cells_in, is_unlabelled}
 use Rattle.vc_region.specs.declared.region.Region.{Region}
-use Rattle.vc_region.specs.declared.region.Region.TheVariants.{Best, Pool, Last}
+use Rattle.vc_region.specs.declared.region.Region.TheVariants.{Best, Pool, Last, Debug, Profile}
 
 -- the block that shows bytes as a cell
 pub cell-of : (o : Option (Block ℕ)) → IsSome (cell_bytes o) → (b : Block ℕ) × (o ≡ Some b) × (is_unlabelled b ≡ true)
@@ -31,6 +31,8 @@ cells-addresses (Best best) a h =
     }
 cells-addresses (Pool pool) a h = absurd (true≢false (sym h))
 cells-addresses (Last last) a h = absurd (true≢false (sym h))
+cells-addresses (Debug debug) a h = absurd (true≢false (sym h))
+cells-addresses (Profile profile) a h = absurd (true≢false (sym h))
 
 pub stays-same : {I : Type 0} {V : I → Type 0} (r : Region I V) → StaysButCells r r
 stays-same r = record { region = refl; disc = refl }

@@ -42,12 +42,16 @@ abbrev pub region_cells : model.Region ℕ → Blocks
 region_cells (model.OfBest layout) = cells_of layout.blocks
 region_cells (model.OfPool pool) = no_cells
 region_cells (model.OfLast layout) = no_cells
+region_cells (model.OfDebug debug) = no_cells
+region_cells (model.OfProfile profile) = no_cells
 
 -- a region but for the bytes in its cells
 abbrev pub rest_of : model.Region ℕ → model.Region ℕ
 rest_of (model.OfBest layout) = model.OfBest (emptied_layout layout)
 rest_of (model.OfPool pool) = model.OfPool pool
 rest_of (model.OfLast layout) = model.OfLast layout
+rest_of (model.OfDebug debug) = model.OfDebug debug
+rest_of (model.OfProfile profile) = model.OfProfile profile
 
 -- its cells
 abbrev pub cells_in : {I : Type 0} {V : I → Type 0} → Region I V → Blocks

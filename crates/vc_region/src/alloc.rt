@@ -15,7 +15,7 @@ use vc_seg::{BoxedDisc, RegionFault, SegDisc};
 impl Region {
     /// A block of zeros: 1 to 16,777,216 bytes at an offset that 32 divides, where the method puts it. Where there is no
     /// place for it, a segment is asked for. `PoolSize` comes exactly in a pool, where the size is above the element
-    /// size. The site, of 1 to 32 bytes, is not used.
+    /// size. The site, of 1 to 32 bytes, is used in a profile region alone.
     pub fn alloc(&mut self, size: u32, tag: u32, site: &[u8]) -> Result<Addr, RegionFault>
         requires some { 1 ≤ size }
         requires most { size ≤ 16777216 }
@@ -36,7 +36,6 @@ impl Region {
         ensures others { IfOk result (λ a. without_block (place_of a.0) (blocks_in self.new)
             ≡ blocks_in self.old) }
     {
-        let _ = site;
         match self {
             Region::Best(best) => {
                 let mut steps = Steps::<Uncounted>::new(best.alloc);
@@ -44,11 +43,13 @@ impl Region {
             }
             Region::Pool(pool) => pool.alloc(size, tag),
             Region::Last(last) => last.alloc(size, tag),
+            Region::Debug(debug) => debug.alloc(size, tag),
+            Region::Profile(profile) => profile.alloc(size, 32, tag, site),
         }
     }
 
     /// A block as `alloc` gives it, at an offset that the alignment divides, a power of two from 32 to 4,096.
-    /// `WrongMethod` comes exactly in a pool and in a last region.
+    /// `WrongMethod` comes exactly in a pool, in a last region and in a debug region.
     pub fn align(
         &mut self,
         size: u32,
@@ -76,13 +77,13 @@ impl Region {
         ensures others { IfOk result (λ a. without_block (place_of a.0) (blocks_in self.new)
             ≡ blocks_in self.old) }
     {
-        let _ = site;
         match self {
             Region::Best(best) => {
                 let mut steps = Steps::<Uncounted>::new(best.alloc);
                 best.alloc(size, align, tag, &mut steps)
             }
-            Region::Pool(_) | Region::Last(_) => Err(RegionFault::WrongMethod),
+            Region::Profile(profile) => profile.alloc(size, align, tag, site),
+            Region::Pool(_) | Region::Last(_) | Region::Debug(_) => Err(RegionFault::WrongMethod),
         }
     }
 }

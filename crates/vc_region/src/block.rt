@@ -21,6 +21,8 @@ impl Region {
             Region::Best(best) => best.size(a),
             Region::Pool(pool) => pool.size(a),
             Region::Last(last) => last.size(a),
+            Region::Debug(debug) => debug.size(a),
+            Region::Profile(profile) => profile.size(a),
         }
     }
 
@@ -34,6 +36,8 @@ impl Region {
             Region::Best(best) => best.tag(a),
             Region::Pool(pool) => pool.tag(a),
             Region::Last(last) => last.tag(a),
+            Region::Debug(debug) => debug.tag(a),
+            Region::Profile(profile) => profile.tag(a),
         }
     }
 
@@ -49,6 +53,8 @@ impl Region {
             Region::Best(best) => best.read(a, off, len),
             Region::Pool(pool) => pool.read(a, off, len),
             Region::Last(last) => last.read(a, off, len),
+            Region::Debug(debug) => debug.read(a, off, len),
+            Region::Profile(profile) => profile.read(a, off, len),
         }
     }
 
@@ -66,6 +72,8 @@ impl Region {
             Region::Best(best) => best.write(a, off, src),
             Region::Pool(pool) => pool.write(a, off, src),
             Region::Last(last) => last.write(a, off, src),
+            Region::Debug(debug) => debug.write(a, off, src),
+            Region::Profile(profile) => profile.write(a, off, src),
         }
     }
 }

@@ -58,42 +58,42 @@ impl Cells for Region {
     fn load(&self, at: Addr, k: u32) -> u64 {
         match self {
             Region::Best(best) => word_in(best, at, k),
-            Region::Pool(_) | Region::Last(_) => 0,
+            _ => 0,
         }
     }
 
     fn store(&mut self, at: Addr, k: u32, v: u64) {
         match self {
             Region::Best(best) => set_word(best, at, k, v),
-            Region::Pool(_) | Region::Last(_) => {}
+            _ => {}
         }
     }
 
     fn slot(&self, at: Addr, k: u32) -> u64 {
         match self {
             Region::Best(best) => word_in(best, at, k),
-            Region::Pool(_) | Region::Last(_) => 0,
+            _ => 0,
         }
     }
 
     fn set_slot(&mut self, at: Addr, k: u32, v: u64) {
         match self {
             Region::Best(best) => set_word(best, at, k, v),
-            Region::Pool(_) | Region::Last(_) => {}
+            _ => {}
         }
     }
 
     fn body(&self, at: Addr) -> &[u8] {
         match self {
             Region::Best(best) => body_in(best, at),
-            Region::Pool(_) | Region::Last(_) => &[],
+            _ => &[],
         }
     }
 
     fn set_body(&mut self, at: Addr, bytes: &[u8]) {
         match self {
             Region::Best(best) => set_body_in(best, at, bytes),
-            Region::Pool(_) | Region::Last(_) => {}
+            _ => {}
         }
     }
 

@@ -5,6 +5,10 @@ ghost use Rattle.vc_model.specs.Compact.{cleared};
 ghost use Rattle.vc_model.specs.Discipline.{HasOut, TookBack};
 ghost use Rattle.vc_model.specs.Layout.{address_of};
 ghost use Rattle.vc_model.specs.Pool.{pool_clear};
+ghost use Rattle.vc_audit.specs.Debug.{debug_clear};
+ghost use Rattle.vc_audit.specs.DebugParts.{debug_of};
+ghost use Rattle.vc_audit.specs.Profile.{profile_clear};
+ghost use Rattle.vc_audit.specs.ProfileParts.{profile_of};
 ghost use Rattle.vc_region.specs.Region.{region_clear, region_compact, region_compact_count, region_free};
 ghost use Rattle.vc_model.specs.Touch.{HasBlock};
 ghost use Rattle.vc_seg.specs.Answer.{Frees};
@@ -12,6 +16,7 @@ ghost use Rattle.vc_region.specs.Parts.{blocks_in, boxed, disc_in, region_of, se
 
 use crate::region::{Region, Uncounted};
 use vc_base::{Addr, Steps};
+use vc_audit::{Debug, Profile};
 use vc_best::Best;
 use vc_last::Last;
 use vc_pool::Pool;
@@ -45,6 +50,24 @@ fn clear_last(last: &mut Last)
     last.clear();
 }
 
+// The same of a debug region.
+fn clear_debug(debug: &mut Debug)
+    requires { 0 ≤ 0 }
+    ensures debug { debug_of debug.new ≡ debug_clear (debug_of debug.old) }
+    ensures disc { boxed state debug.new.best.disc ≡ boxed state debug.old.best.disc }
+{
+    debug.clear();
+}
+
+// The same of a profile region.
+fn clear_profile(profile: &mut Profile)
+    requires { 0 ≤ 0 }
+    ensures profile { profile_of profile.new ≡ profile_clear (profile_of profile.old) }
+    ensures disc { boxed state profile.new.best.disc ≡ boxed state profile.old.best.disc }
+{
+    profile.clear();
+}
+
 /// The calls that make room. None takes memory.
 impl Region {
     /// Frees the block at that address. `NotLast` comes exactly in a last region, where the block isn't the one allocated
@@ -75,6 +98,14 @@ impl Region {
                 Ok(())
             }
             Region::Last(last) => last.free(a),
+            Region::Debug(debug) => {
+                debug.free(a);
+                Ok(())
+            }
+            Region::Profile(profile) => {
+                profile.free(a);
+                Ok(())
+            }
         }
     }
 
@@ -87,6 +118,8 @@ impl Region {
             Region::Best(best) => clear_best(best),
             Region::Pool(pool) => clear_pool(pool),
             Region::Last(last) => clear_last(last),
+            Region::Debug(debug) => clear_debug(debug),
+            Region::Profile(profile) => clear_profile(profile),
         }
     }
 
@@ -105,6 +138,8 @@ impl Region {
             }
             Region::Pool(pool) => pool.compact(),
             Region::Last(last) => last.compact(),
+            Region::Debug(debug) => debug.compact(),
+            Region::Profile(profile) => profile.compact(),
         }
     }
 }

@@ -2,6 +2,7 @@
 #![tactic(auto)]
 
 mod alloc;
+mod audit;
 mod block;
 mod cell_rows;
 mod cells;

@@ -1,10 +1,11 @@
-ghost use Rattle.std.specs.Prelude.{◌≡◌, ℕ, [], Some, IsSome, IfOk, IfErr, length};
+ghost use Rattle.std.specs.Prelude.{◌≡◌, ◌≤◌, [], IfOk, IfErr, length};
 ghost use Rattle.vc_model.specs.Discipline.{HasOut, TookBack};
 ghost use Rattle.vc_region.specs.Stat.{method_of, opened};
 ghost use Rattle.vc_region.specs.Parts.{disc_of, region_of, segments_in};
 
 use std::alloc::Global;
 use vc_base::OutOfMemory;
+use vc_audit::{Debug, Profile};
 use vc_best::Best;
 use vc_last::Last;
 use vc_pool::Pool;
@@ -23,35 +24,60 @@ pub enum Region {
     Pool(Pool),
     /// Of the method `VmLast`.
     Last(Last),
+    /// Of the method `VmDebug`.
+    Debug(Debug),
+    /// Of the method `VmProfile`.
+    Profile(Profile),
+}
+
+// A region of that method. The condition always holds.
+fn open_by(
+    alloc: Global,
+    method: Method,
+    disc: Box<dyn SegDisc>,
+) -> Result<Region, (OutOfMemory, Box<dyn SegDisc>)>
+    requires { 0 ≤ 0 }
+    ensures ok { IfOk result (λ r. (region_of r ≡ opened method)
+        × (state (disc_of r) ≡ state disc)) }
+    ensures err { IfErr result (λ e. state e.1 ≡ state disc) }
+{
+    match method {
+        Method::VmPool => match Pool::open(alloc, disc) {
+            Ok(pool) => Ok(Region::Pool(pool)),
+            Err(failed) => Err(failed),
+        },
+        Method::VmLast => match Last::open(alloc, disc) {
+            Ok(last) => Ok(Region::Last(last)),
+            Err(failed) => Err(failed),
+        },
+        Method::VmDebug => match Debug::open(alloc, disc) {
+            Ok(debug) => Ok(Region::Debug(debug)),
+            Err(failed) => Err(failed),
+        },
+        Method::VmProfile => match Profile::open(alloc, disc) {
+            Ok(profile) => Ok(Region::Profile(profile)),
+            Err(failed) => Err(failed),
+        },
+        Method::VmBest => match Best::open(alloc, disc) {
+            Ok(best) => Ok(Region::Best(best)),
+            Err(failed) => Err(failed),
+        },
+    }
 }
 
 impl Region {
-    /// A region of that method, with no segment. It takes none before the first block. The method is `VmBest`. With no
-    /// memory the discipline comes back.
+    /// A region of that method, with no segment. It takes none before the first block. With no memory the discipline
+    /// comes back.
     pub fn open(
         alloc: Global,
         method: Method,
         disc: Box<dyn SegDisc>,
     ) -> Result<Region, (OutOfMemory, Box<dyn SegDisc>)>
-        requires { IsSome (opened {L = ℕ} method) }
-        ensures ok { IfOk result (λ r. (opened method ≡ Some (region_of r))
+        ensures ok { IfOk result (λ r. (region_of r ≡ opened method)
             × (state (disc_of r) ≡ state disc)) }
         ensures err { IfErr result (λ e. state e.1 ≡ state disc) }
     {
-        match method {
-            Method::VmPool => match Pool::open(alloc, disc) {
-                Ok(pool) => Ok(Region::Pool(pool)),
-                Err(failed) => Err(failed),
-            },
-            Method::VmLast => match Last::open(alloc, disc) {
-                Ok(last) => Ok(Region::Last(last)),
-                Err(failed) => Err(failed),
-            },
-            _ => match Best::open(alloc, disc) {
-                Ok(best) => Ok(Region::Best(best)),
-                Err(failed) => Err(failed),
-            },
-        }
+        open_by(alloc, method, disc)
     }
 
     /// Its method.
@@ -62,6 +88,8 @@ impl Region {
             Region::Best(_) => Method::VmBest,
             Region::Pool(_) => Method::VmPool,
             Region::Last(_) => Method::VmLast,
+            Region::Debug(_) => Method::VmDebug,
+            Region::Profile(_) => Method::VmProfile,
         }
     }
 
@@ -76,6 +104,8 @@ impl Region {
             Region::Best(best) => best.close(),
             Region::Pool(pool) => pool.close(),
             Region::Last(last) => last.close(),
+            Region::Debug(debug) => debug.close(),
+            Region::Profile(profile) => profile.close(),
         }
     }
 }

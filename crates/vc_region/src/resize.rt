@@ -70,6 +70,8 @@ impl Region {
             }
             Region::Pool(pool) => resize_in_pool(pool, a, size),
             Region::Last(last) => last.resize(a, size, may_move),
+            Region::Debug(debug) => debug.resize(a, size, may_move),
+            Region::Profile(profile) => profile.resize(a, size, may_move),
         }
     }
 }

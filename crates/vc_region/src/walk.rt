@@ -23,6 +23,8 @@ impl Region {
             Region::Best(best) => best.block_at(seg, off),
             Region::Pool(pool) => pool.block_at(seg, off),
             Region::Last(last) => last.block_at(seg, off),
+            Region::Debug(debug) => debug.block_at(seg, off),
+            Region::Profile(profile) => profile.block_at(seg, off),
         }
     }
 
@@ -34,6 +36,8 @@ impl Region {
             Region::Best(best) => best.segment_at(seg, off),
             Region::Pool(pool) => pool.segment_at(seg, off),
             Region::Last(last) => last.segment_at(seg, off),
+            Region::Debug(debug) => debug.segment_at(seg, off),
+            Region::Profile(profile) => profile.segment_at(seg, off),
         }
     }
 
@@ -45,6 +49,8 @@ impl Region {
             Region::Best(best) => best.next_segment(after),
             Region::Pool(pool) => pool.next_segment(after),
             Region::Last(last) => last.next_segment(after),
+            Region::Debug(debug) => debug.next_segment(after),
+            Region::Profile(profile) => profile.next_segment(after),
         }
     }
 
@@ -59,6 +65,8 @@ impl Region {
             Region::Best(best) => best.next_block(after),
             Region::Pool(pool) => pool.next_block(after),
             Region::Last(last) => last.next_block(after),
+            Region::Debug(debug) => debug.next_block(after),
+            Region::Profile(profile) => profile.next_block(after),
         }
     }
 
@@ -70,6 +78,8 @@ impl Region {
             Region::Best(best) => best.stat(),
             Region::Pool(pool) => pool.stat(),
             Region::Last(last) => last.stat(),
+            Region::Debug(debug) => debug.stat(),
+            Region::Profile(profile) => profile.stat(),
         }
     }
 }

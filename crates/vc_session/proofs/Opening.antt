@@ -17,7 +17,7 @@ use Rattle.vc_seg.specs.Shelf.{place_at, standing}
 use Rattle.vc_seg.specs.declared.shelf.ShelfPlace.TheVariants.{Here}
 use Rattle.vc_script.specs.declared.reply.Reply.TheVariants.{Opened}
 use Rattle.vc_script.specs.declared.refusal.Refusal.TheVariants.{NotYet, RegionExists}
-use Rattle.vc_session.specs.State.{Home, Label, State, is_home, open_step, opened_as, opened_over, refused, stepped}
+use Rattle.vc_session.specs.State.{Home, Label, State, is_home, open_step, opened_over, refused, stepped}
 use Rattle.slab.specs.Slab.{slab_len}
 use Rattle.vc_session.specs.declared.labels.Labels.{Labels}
 use Rattle.vc_session.specs.Labels.{AreLabels, kept_of, name_of, tag_of}
@@ -29,41 +29,27 @@ use Rattle.vc_session.proofs.Names.{has-label-any, named_by}
 use Rattle.vc_session.proofs.Settle.{settled-push, settled-set, settled-keeps, off-apart, Off}
 use Rattle.vc_session.proofs.Sessions.{Slots, apart-session, away-session, session-push}
 
--- a method that is built has an empty region, whatever its labels are
-pub built-region : (m : Method) → is_some (opened {L = ℕ} m) ≡ true → (r : Region Label) × (opened m ≡ Some r)
-built-region VmBest e = (OfBest empty_layout, refl)
-built-region VmPool e = (OfPool empty_pool, refl)
-built-region VmLast e = (OfLast empty_layout, refl)
-built-region VmDebug e = absurd cc
-built-region VmProfile e = absurd cc
+-- a new region has no labels, no segments and no blocks
+pub opened-relabelled : (f : ℕ → Label) (m : Method) → relabelled f (opened m) ≡ opened m
+opened-relabelled f VmBest = refl
+opened-relabelled f VmPool = refl
+opened-relabelled f VmLast = refl
+opened-relabelled f VmDebug = refl
+opened-relabelled f VmProfile = refl
 
-pub built-none : (m : Method) → is_some (opened {L = ℕ} m) ≡ false → opened {L = Label} m ≡ None
-built-none VmBest e = absurd cc
-built-none VmPool e = absurd cc
-built-none VmLast e = absurd cc
-built-none VmDebug e = refl
-built-none VmProfile e = refl
+pub opened-segments : (m : Method) → segments_of {L = ℕ} (opened m) ≡ []
+opened-segments VmBest = refl
+opened-segments VmPool = refl
+opened-segments VmLast = refl
+opened-segments VmDebug = refl
+opened-segments VmProfile = refl
 
-pub opened-relabelled : (f : ℕ → Label) (m : Method) (r : Region ℕ) → opened m ≡ Some r → opened m ≡ Some (relabelled f r)
-opened-relabelled f VmBest r e = ap (λ q. Some (relabelled f q)) (same_Some (OfBest empty_layout) r e)
-opened-relabelled f VmPool r e = ap (λ q. Some (relabelled f q)) (same_Some (OfPool empty_pool) r e)
-opened-relabelled f VmLast r e = ap (λ q. Some (relabelled f q)) (same_Some (OfLast empty_layout) r e)
-opened-relabelled f VmDebug r e = absurd (none-some r e)
-opened-relabelled f VmProfile r e = absurd (none-some r e)
-
-pub opened-segments : (m : Method) (r : Region ℕ) → opened m ≡ Some r → segments_of r ≡ []
-opened-segments VmBest r e = sym (ap (λ q. segments_of q) (same_Some (OfBest empty_layout) r e))
-opened-segments VmPool r e = sym (ap (λ q. segments_of q) (same_Some (OfPool empty_pool) r e))
-opened-segments VmLast r e = sym (ap (λ q. segments_of q) (same_Some (OfLast empty_layout) r e))
-opened-segments VmDebug r e = absurd (none-some r e)
-opened-segments VmProfile r e = absurd (none-some r e)
-
-pub opened-blocks : (m : Method) (r : Region ℕ) → opened m ≡ Some r → blocks_of r ≡ []
-opened-blocks VmBest r e = sym (ap (λ q. blocks_of q) (same_Some (OfBest empty_layout) r e))
-opened-blocks VmPool r e = sym (ap (λ q. blocks_of q) (same_Some (OfPool empty_pool) r e))
-opened-blocks VmLast r e = sym (ap (λ q. blocks_of q) (same_Some (OfLast empty_layout) r e))
-opened-blocks VmDebug r e = absurd (none-some r e)
-opened-blocks VmProfile r e = absurd (none-some r e)
+pub opened-blocks : (m : Method) → blocks_of {L = ℕ} (opened m) ≡ []
+opened-blocks VmBest = refl
+opened-blocks VmPool = refl
+opened-blocks VmLast = refl
+opened-blocks VmDebug = refl
+opened-blocks VmProfile = refl
 
 -- labels with no name
 pub record AreNone (labels : Labels) : Type 0 where
@@ -97,14 +83,18 @@ none-named r labels none e =
 abbrev pub fresh : List ℕ → ℕ → Discipline → Region ℕ → Labels → Held
 fresh name n d region labels = record { name = name; place = n; disc = d; region = region; labels = labels }
 
-module _ (slots : Slots) (hs : List Held) (name : List ℕ) (n : ℕ) (d : Discipline) (m : Method) (region : Region ℕ) (is : opened m ≡ Some region) (labels : Labels) (none : AreNone labels) (at : at_number slots n ≡ Some (Some d)) (session : IsSession slots hs) where
+module _ (slots : Slots) (hs : List Held) (name : List ℕ) (n : ℕ) (d : Discipline) (m : Method) (region : Region ℕ) (is : region ≡ opened m) (labels : Labels) (none : AreNone labels) (at : at_number slots n ≡ Some (Some d)) (session : IsSession slots hs) where
+  segments : segments_of region ≡ []
+  segments = ap (λ r. segments_of r) is ∙ opened-segments m
+
   there : slice_get slots (n - 1) ≡ Some (Some d)
   there = (at_number_some slots n (Some d) at).1
 
   pub open_step-ok : list_any (is_home name) (map home_of hs) ≡ false → open_step (state_of slots hs) name m n ≡ stepped (state_of (set slots (n - 1) None) (hs ++ fresh name n d region labels ∷ [])) (Opened name)
   open_step-ok new =
       let r : Region Label = relabelled (name_of labels) region in
-      ap (opened_as (state_of slots hs) name n) (opened-relabelled (name_of labels) m region is)
+      let same : r ≡ opened m = ap (relabelled (name_of labels)) is ∙ opened-relabelled (name_of labels) m in
+      ap (λ q. cond (list_any (is_home name) (map home_of hs)) (refused (state_of slots hs) RegionExists) (opened_over (state_of slots hs) name n q (at_number (state_of slots hs).shelf n))) (sym same)
       ∙ (ap (λ b. cond b (refused (state_of slots hs) RegionExists) (opened_over (state_of slots hs) name n r (at_number (state_of slots hs).shelf n))) new
       ∙ (ap (opened_over (state_of slots hs) name n r) (at_number-map (option_map (λ e. e.terms)) slots n ∙ ap (option_map (option_map (λ e. e.terms))) at)
       ∙ (ap (λ kept. stepped (record { shelf = set (state_of slots hs).shelf (n - 1) None; homes = map home_of hs ++ (let b : Home = record { name = name; place = n; terms = d.terms; region = r; kept = kept } in b) ∷ [] }) (Opened name)) (sym none.kept)
@@ -117,8 +107,8 @@ module _ (slots : Slots) (hs : List Held) (name : List ℕ) (n : ℕ) (d : Disci
       session-push slots (n - 1) (Some d) hs (fresh name n d region labels) there session (away-session slots n d hs at session)
       (record {
         place = at_number-from_one (set slots (n - 1) None) n low ∙ slice_get-set_same slots (n - 1) (Some d) None there;
-        lent = (d.out, sym (append-nil d.out) ∙ ap (λ s. d.out ++ s) (sym (opened-segments m region is)));
-        names = none-named region labels none (opened-blocks m region is);
+        lent = (d.out, sym (append-nil d.out) ∙ ap (λ s. d.out ++ s) (sym segments));
+        names = none-named region labels none (ap (λ r. blocks_of r) is ∙ opened-blocks m);
       })
 
   pub settled-open : settled (accounts (set slots (n - 1) None)) (hs ++ fresh name n d region labels ∷ []) ≡ settled (accounts slots) hs
@@ -126,7 +116,7 @@ module _ (slots : Slots) (hs : List Held) (name : List ℕ) (n : ℕ) (d : Disci
       let low = (at_number_some slots n (Some d) at).0 in
       let off : Off (n - 1) hs = off-apart n hs low (away-session slots n d hs at session) (apart-session slots hs session) in
       let all : take (length d.out - length (segments_of region)) d.out ≡ d.out =
-      front-out d.out (segments_of region) d.out (sym (append-nil d.out) ∙ ap (λ s. d.out ++ s) (sym (opened-segments m region is))) in
+      front-out d.out (segments_of region) d.out (sym (append-nil d.out) ∙ ap (λ s. d.out ++ s) (sym segments)) in
       let account_is : account_after (fresh name n d region labels) ≡ account d = ap (λ out. let a : Account = record { out = out; terms = d.terms; faults = d.faults } in a) all in
       let kept : slice_get (settled (accounts slots) hs) (n - 1) ≡ Some (Some (account_after (fresh name n d region labels))) =
       settled-keeps (accounts slots) (n - 1) hs off ∙ (slice_get-map (option_map account) slots (n - 1) ∙ (ap (option_map (option_map account)) there ∙ ap (λ a. Some (Some a)) (sym account_is))) in
@@ -136,14 +126,9 @@ module _ (slots : Slots) (hs : List Held) (name : List ℕ) (n : ℕ) (d : Disci
       ∙ (set-set (settled (accounts slots) hs) (n - 1) None (Some (account_after (fresh name n d region labels)))
       ∙ set_same (settled (accounts slots) hs) (n - 1) (Some (account_after (fresh name n d region labels))) kept)))
 
--- a method that is not built
-pub open_step-none : (s : State) (name : List ℕ) (m : Method) (n : ℕ) → opened {L = Label} m ≡ None → open_step s name m n ≡ refused s NotYet
-open_step-none s name m n none = ap (opened_as s name n) none
-
-pub open_step-named : (s : State) (name : List ℕ) (m : Method) (n : ℕ) (r : Region Label) → opened m ≡ Some r → list_any (is_home name) s.homes ≡ true → open_step s name m n ≡ refused s RegionExists
-open_step-named s name m n r is named =
-    ap (opened_as s name n) is
-    ∙ ap (λ b. cond b (refused s RegionExists) (opened_over s name n r (at_number s.shelf n))) named
+pub open_step-named : (s : State) (name : List ℕ) (m : Method) (n : ℕ) → list_any (is_home name) s.homes ≡ true → open_step s name m n ≡ refused s RegionExists
+open_step-named s name m n named =
+    ap (λ b. cond b (refused s RegionExists) (opened_over s name n (opened m) (at_number s.shelf n))) named
 
 opened_over-not_here : (s : State) (name : List ℕ) (n : ℕ) (r : Region Label) (o : Option (Option Discipline)) → (standing o ≡ Here → ⊥) → opened_over s name n r (option_map (option_map (λ d. d.terms)) o) ≡ refused s (why_not (standing o))
 opened_over-not_here s name n r None not_here = refl
@@ -151,8 +136,8 @@ opened_over-not_here s name n r (Some None) not_here = refl
 opened_over-not_here s name n r (Some (Some d)) not_here = absurd (not_here refl)
 
 -- no discipline is here at the number
-pub open_step-not_here : (slots : Slots) (hs : List Held) (name : List ℕ) (m : Method) (n : ℕ) (r : Region Label) → opened m ≡ Some r → list_any (is_home name) (map home_of hs) ≡ false → (place_at slots n ≡ Here → ⊥) → open_step (state_of slots hs) name m n ≡ refused (state_of slots hs) (why_not (place_at slots n))
-open_step-not_here slots hs name m n r is new not_here =
-    ap (opened_as (state_of slots hs) name n) is
-    ∙ (ap (λ b. cond b (refused (state_of slots hs) RegionExists) (opened_over (state_of slots hs) name n r (at_number (state_of slots hs).shelf n))) new
-    ∙ (ap (opened_over (state_of slots hs) name n r) (at_number-map (option_map (λ e. e.terms)) slots n) ∙ opened_over-not_here (state_of slots hs) name n r (at_number slots n) not_here))
+pub open_step-not_here : (slots : Slots) (hs : List Held) (name : List ℕ) (m : Method) (n : ℕ) → list_any (is_home name) (map home_of hs) ≡ false → (place_at slots n ≡ Here → ⊥) → open_step (state_of slots hs) name m n ≡ refused (state_of slots hs) (why_not (place_at slots n))
+open_step-not_here slots hs name m n new not_here =
+    let r : Region Label = opened m in
+    ap (λ b. cond b (refused (state_of slots hs) RegionExists) (opened_over (state_of slots hs) name n r (at_number (state_of slots hs).shelf n))) new
+    ∙ (ap (opened_over (state_of slots hs) name n r) (at_number-map (option_map (λ e. e.terms)) slots n) ∙ opened_over-not_here (state_of slots hs) name n r (at_number slots n) not_here)

@@ -17,7 +17,7 @@ use Rattle.vc_model.proofs.Relabel.{block_at-relabel, by_address-relabel}
 use Rattle.vc_region.proofs.Relabel.{align-relabelled, alloc-relabelled, blocks-relabelled, clear-relabelled, compact-relabelled, free-relabelled, relabel_freed, resize-relabelled, write-relabelled}
 use Rattle.vc_region.specs.Stat.{opened}
 use Rattle.vc_seg.specs.declared.method.Method.{Method}
-use Rattle.vc_seg.specs.declared.method.Method.TheVariants.{VmBest, VmPool, VmLast}
+use Rattle.vc_seg.specs.declared.method.Method.TheVariants.{VmBest, VmPool, VmLast, VmDebug, VmProfile}
 use Rattle.vc_script.specs.declared.command.Command.{Command}
 use Rattle.vc_script.specs.declared.command.Command.TheVariants.{OpenRegion, CloseRegion, ClearRegion, Compact, Alloc, Align, Resize, Free, WriteBlock, ReadBlock, SizeOf, AddrOf, SegmentOf, StatOf, Segments, Blocks}
 use Rattle.vc_script.specs.declared.refusal.Refusal.{Refusal}
@@ -292,19 +292,17 @@ proper-opened_over s r n region (Some (Some terms)) name here all =
     (name, proper-home_push s.homes (record { name = r; place = n; terms = terms; region = region; kept = [] }) all (here, tt))
 
 -- a region that is opened has no labels
-proper-new : (method : Method) → IfSome (opened {L = Label} method) IsProperRegion
+proper-new : (method : Method) → IsProperRegion (opened method)
 proper-new VmBest = refl
 proper-new VmPool = refl
 proper-new VmLast = refl
-proper-new method = tt
-
-proper-opened_as : (s : State) (r : List ℕ) (n : ℕ) (o : Option (Region Label)) → IsName r → IfSome o IsProperRegion → IsProperState s → IsProperStep (opened_as s r n o)
-proper-opened_as s r n None name here all = (tt, all)
-proper-opened_as s r n (Some region) name here all =
-    step-cond (list_any (is_home r) s.homes) (refused s why.RegionExists) (opened_over s r n region (at_number s.shelf n)) (tt, all) (proper-opened_over s r n region (at_number s.shelf n) name here all)
+proper-new VmDebug = refl
+proper-new VmProfile = refl
 
 proper-on_shelf : (s : State) (c : Command) → IsProperCommand c → IsProperState s → IsProperStep (shelf_step s c)
-proper-on_shelf s (OpenRegion r method n) proper all = proper-opened_as s r n (opened method) proper.0 (proper-new method) all
+proper-on_shelf s (OpenRegion r method n) proper all =
+    let over = opened_over s r n (opened method) (at_number s.shelf n) in
+    step-cond (list_any (is_home r) s.homes) (refused s why.RegionExists) over (tt, all) (proper-opened_over s r n (opened method) (at_number s.shelf n) proper.0 (proper-new method) all)
 proper-on_shelf s (CloseRegion r) proper all = proper-closed s r (home_named r s.homes) proper all
 proper-on_shelf s command proper all = (tt, all)
 

@@ -22,12 +22,6 @@ use Rattle.vc_session.proofs.Found.{TheBlock, on_block-there, the_block}
 use Rattle.vc_session.proofs.Lists.{find-changed}
 use Rattle.vc_session.proofs.Moving.{named-moved}
 
--- writing changes the bytes of the block at a place
-written-blocks : (r : Region ℕ) (at : ℕ × ℕ) (off : ℕ) (src : List ℕ) → blocks_of (region_write r at off src) ≡ change_block (rewritten off src) at (blocks_of r)
-written-blocks (OfBest l) at off src = refl
-written-blocks (OfPool p) at off src = refl
-written-blocks (OfLast l) at off src = refl
-
 pub le-beyond : (a b : ℕ) → b < a → nat_le a b ≡ false
 le-beyond a b over = grind (arith, nat_tests)
 
@@ -111,8 +105,11 @@ module _ (h : Held) (x : List ℕ) (tag : ℕ) (label : Label) (names : IsNamed 
         let p = place_of label.at.0 in
         let first : 1 ≤ tag = subst (λ t. 1 ≤ t) b.is_tag b.first in
         let still : MovesLabel h.labels h.labels tag label = record { first = first; at = was_at; other_tags = λ other low differs. refl; names = λ y. refl; count = refl } in
-        let there : find_block p (blocks_of region) ≡ Some (rewritten off bytes b.block) =
-        ap (find_block p) (ap blocks_of is ∙ written-blocks h.region p off bytes)
-        ∙ find-changed (rewritten off bytes) (λ c q. refl) p b.block (blocks_of h.region) b.found in
-        named-moved h.labels h.region names x tag label was_at b h.labels label still refl region (rewritten off bytes b.block) there refl (sym b.address) b.place others names.agree places
+        let told : option_map (λ (c : Block ℕ). c.label) (find_block p (blocks_of region)) ≡ Some b.block.label =
+        ap (λ r. option_map (λ (c : Block ℕ). c.label) (find_block p (blocks_of r))) is
+        ∙ (write-labels h.region p p off bytes ∙ ap (option_map (λ (c : Block ℕ). c.label)) b.found) in
+        let found = from_some (λ (c : Block ℕ). c.label) (find_block p (blocks_of region)) b.block.label told in
+        let place : p ≡ (found.from.seg, found.from.off) = found-place p found.from (blocks_of region) found.was in
+        let address : label.at.0 ≡ address_of found.from = sym (address-place_of label.at.0) ∙ ap address place in
+        named-moved h.labels h.region names x tag label was_at b h.labels label still refl region found.from found.was found.to address place others names.agree places
         (λ e. names.none (sym (ap keeps_freed is ∙ write-keeps h.region p off bytes) ∙ e))

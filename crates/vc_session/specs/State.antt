@@ -66,15 +66,11 @@ opened_over s r n region None = refused s why.NoSuchDiscipline
 opened_over s r n region (Some None) = refused s why.DisciplineInUse
 opened_over s r n region (Some (Some terms)) = opened_with s r n region terms
 
--- a region of a method that is not built is not opened
-abbrev pub opened_as : State → List ℕ → ℕ → Option (Region Label) → Stepped
-opened_as s r n None = refused s why.NotYet
-opened_as s r n (Some region) =
-    if list_any (is_home r) s.homes then refused s why.RegionExists
-    else opened_over s r n region (at_number s.shelf n)
-
+-- a region of that method is opened, unless one has the name or no discipline is at the place
 abbrev pub open_step : State → List ℕ → Method → ℕ → Stepped
-open_step s r method n = opened_as s r n (opened method)
+open_step s r method n =
+    if list_any (is_home r) s.homes then refused s why.RegionExists
+    else opened_over s r n (opened method) (at_number s.shelf n)
 
 -- the regions without the one of that name
 abbrev pub without_home : List ℕ → List Home → List Home

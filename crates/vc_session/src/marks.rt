@@ -13,8 +13,8 @@ pub(crate) fn aligns(region: &Region) -> bool
     ensures { result ≡ aligns (region_of region.now) }
 {
     match region {
-        Region::Best(_) => true,
-        Region::Pool(_) | Region::Last(_) => false,
+        Region::Best(_) | Region::Profile(_) => true,
+        Region::Pool(_) | Region::Last(_) | Region::Debug(_) => false,
     }
 }
 
@@ -23,7 +23,8 @@ pub(crate) fn keeps_freed(region: &Region) -> bool
     ensures { result ≡ keeps_freed (region_of region.now) }
 {
     match region {
-        Region::Best(_) | Region::Pool(_) | Region::Last(_) => false,
+        Region::Debug(_) => true,
+        _ => false,
     }
 }
 
@@ -32,8 +33,8 @@ pub(crate) fn watch_line(region: &Region, a: Addr) -> Option<u32>
     requires { HasBlock (blocks_in region.now) a.0 }
     ensures { result ≡ watch_at (region_of region.now) (place_of a.0) }
 {
-    let _ = a;
     match region {
-        Region::Best(_) | Region::Pool(_) | Region::Last(_) => None,
+        Region::Debug(_) => region.watched(a),
+        _ => None,
     }
 }

@@ -1,6 +1,5 @@
 // The opening of regions.
-ghost use Rattle.std.specs.Prelude.{◌≡◌, ℕ, IfOk, OnErr, is_some};
-ghost use Rattle.vc_region.specs.Stat.{opened};
+ghost use Rattle.std.specs.Prelude.{◌≡◌, IfOk, OnErr};
 ghost use Rattle.vc_session.specs.Homes.{IsSessionOver, not_here, settled_over, state_over};
 ghost use Rattle.vc_session.specs.State.{open_step, stepped};
 
@@ -11,13 +10,6 @@ use vc_base::{Name, OutOfMemory};
 use vc_region::Region;
 use vc_script::{Refusal, Reply};
 use vc_seg::{BoxedDisc, Method, SegDisc, Shelf, ShelfPlace};
-
-// Whether regions of that method are built.
-fn is_built(method: Method) -> bool
-    ensures { result ≡ is_some (opened {L = ℕ} method) }
-{
-    matches!(method, Method::VmBest | Method::VmPool | Method::VmLast)
-}
 
 // Why no discipline is taken from a place of the shelf.
 fn not_here(place: ShelfPlace) -> Refusal
@@ -50,9 +42,6 @@ impl Session {
             (state_over state shelf.new self.new
             ≡ state_over state shelf.old self.old) }
     {
-        if !is_built(method) {
-            return Ok(Reply::Refused(Refusal::NotYet));
-        }
         if self.homes.contains_key(&name) {
             return Ok(Reply::Refused(Refusal::RegionExists));
         }

@@ -15,7 +15,7 @@ use Rattle.vc_session.specs.State.{stepped}
 use Rattle.vc_session.proofs.Agreeing.{from_ok}
 use Rattle.vc_session.proofs.Cells.{at_number_some, set_same}
 use Rattle.vc_session.proofs.Helds.{any-named, held-new, none_of}
-use Rattle.vc_session.proofs.Opening.{AreNone, built-region, fresh, open_step-ok, open_step-named, open_step-not_here, session-open, settled-open}
+use Rattle.vc_session.proofs.Opening.{AreNone, fresh, open_step-ok, open_step-named, open_step-not_here, session-open, settled-open}
 use Rattle.vc_session.proofs.session.Session.open_region.Given as given
 use Rattle.vc_session.proofs.session.Session.open_region.Goals as goal
 
@@ -26,8 +26,7 @@ pub returns-then-contains_key-clause-step : goal.returns-then-contains_key-claus
 returns-then-contains_key-clause-step g c =
     let slots = slots_on (meaning g) c.args.shelf.now in
     let helds = held_in (meaning g) c.args.self.now in
-    let built = built-region c.args.method (sym c.if-not-is_built.ensures) in
-    open_step-named (state_of slots helds) c.args.name c.args.method c.args.n built.0 built.1
+    open_step-named (state_of slots helds) c.args.name c.args.method c.args.n
     (any-named (meaning g) c.args.self.now.homes.entries c.args.self.now.labels.items c.args.name c.requires.named ∙ sym c.if-contains_key.ensures)
 
 pub returns-in_default-clause-step : goal.returns-in_default-clause-step
@@ -37,13 +36,12 @@ returns-in_default-clause-step g c =
     let helds = held_in M c.args.self.now in
     let entries = c.args.self.now.homes.entries in
     let labels = c.args.self.now.labels.items in
-    let built = built-region c.args.method (sym c.if-not-is_built.ensures) in
     let absent : is_some (lookup (bytes_eq c.args.name) entries) ≡ false = sym c.if-contains_key.ensures in
     let same : slots_on M c.take.new.self ≡ slots = ap (slots_of (boxed M)) c.in_default.ensures.none in
     let why : c.not_here.result ≡ not_here (place_at slots c.args.n) = c.not_here.ensures ∙ ap not_here (c.place.ensures ∙ ap (λ s. place_at s c.args.n) same) in
     let held : held_all M c.reserve.new.self.entries c.reserve-2.new.self.items ≡ helds =
     ap (λ es. held_all M es c.reserve-2.new.self.items) c.reserve.ensures.entries ∙ ap (λ ls. held_all M entries ls) c.reserve-2.ensures.items in
-    open_step-not_here slots helds c.args.name c.args.method c.args.n built.0 built.1 (any-named M entries labels c.args.name c.requires.named ∙ absent) (λ e. false≢true (c.in_default.ensures.here.1 e))
+    open_step-not_here slots helds c.args.name c.args.method c.args.n (any-named M entries labels c.args.name c.requires.named ∙ absent) (λ e. false≢true (c.in_default.ensures.here.1 e))
     ∙ (ap (λ w. stepped (state_of slots helds) (Refused w)) (sym why)
     ∙ (ap (λ hs. stepped (state_of slots hs) (Refused c.not_here.result)) (sym held)
     ∙ ap (λ s. stepped (state_of s (held_all M c.reserve.new.self.entries c.reserve-2.new.self.items)) (Refused c.not_here.result)) (sym same)))
