@@ -1,8 +1,7 @@
 -- The damaged blocks in order.
-use Rattle.std.proofs.Common.{◌≡◌, ℕ, ◌+◌, ◌-◌, ◌<◌, ◌≤◌, Bool, true, false, cond, List, [], ◌∷◌, Option, Some, None, IfSome, filter, length, map, option_map, refl, sym, ap, ◌∙◌, subst, ⊎_elim, drop, take, length-take, arith}
-use Rattle.std.specs.Prelude.{ℤ, find, nat_lt, position}
+use Rattle.std.proofs.Common.{◌≡◌, ℕ, ◌+◌, ◌-◌, ◌<◌, ◌≤◌, Bool, true, false, cond, List, [], ◌∷◌, Option, Some, None, IfSome, filter, length, option_map, refl, sym, ap, ◌∙◌, drop, take, length-take, arith}
+use Rattle.std.specs.Prelude.{ℤ, find, nat_lt}
 use Rattle.std.specs.List.{AllByRecursion, cons_option, filter_map}
-use Rattle.std.proofs.lemmas.Bool.{cases_Bool}
 use Rattle.std.proofs.lemmas.Option.{none-some, same_Some}
 use Rattle.vc_model.specs.Addr.{place_of}
 use Rattle.vc_model.specs.Layout.{Block, address_of}

@@ -1,5 +1,5 @@
 -- Bytes that are written into a block with guards leave its size and all addresses, and sizes have room for guards.
-use Rattle.std.proofs.Common.{◌≡◌, ℕ, ◌+◌, ◌-◌, ◌<◌, ◌≤◌, Bool, true, false, All, List, [], ◌∷◌, Option, Some, None, IfSome, Contains, drop, length, get_or, map, option_map, refl, sym, ap, ◌∙◌, subst, take, ⊎_elim, eqb, arith}
+use Rattle.std.proofs.Common.{◌≡◌, ℕ, ◌+◌, ◌-◌, ◌<◌, ◌≤◌, true, false, List, [], ◌∷◌, Option, Some, None, IfSome, Contains, drop, map, option_map, refl, sym, ap, ◌∙◌, subst, take, ⊎_elim, eqb, arith}
 use Rattle.std.specs.List.{AllByRecursion}
 use Rattle.std.proofs.lemmas.Bool.{and_from, cases_Bool, eq-eqb}
 use Rattle.std.proofs.lemmas.Map.Made.{Contains-tail}

@@ -1,11 +1,11 @@
 -- Every call of a debug region commutes with a change of its labels.
-use Rattle.std.proofs.Common.{◌≡◌, ℕ, ◌+◌, ◌-◌, Bool, true, false, cond, List, [], ◌∷◌, Option, Some, None, length, map, min, option_map, refl, replicate, sym, ap, ◌∙◌}
+use Rattle.std.proofs.Common.{◌≡◌, ℕ, ◌+◌, ◌-◌, Bool, true, false, cond, List, [], ◌∷◌, Option, Some, None, map, min, option_map, refl, replicate, sym, ap, ◌∙◌}
 use Rattle.std.specs.Prelude.{ℤ, find, nat_lt, sum, unwrap_or}
 use Rattle.std.specs.List.{AllByRecursion, cons_option, filter_map}
-use Rattle.vc_model.specs.Best.{best_alloc, without_block_at}
+use Rattle.vc_model.specs.Best.{best_alloc}
 use Rattle.vc_model.specs.Discipline.{Terms}
 use Rattle.vc_model.specs.Layout.{Block, Layout, address_of, relabel_block, relabel_layout}
-use Rattle.vc_model.specs.Numbers.{block_sizes, greatest}
+use Rattle.vc_model.specs.Numbers.{greatest}
 use Rattle.vc_model.specs.Outcome.{Outcome, Done, Refused, Put, outcome_as}
 use Rattle.vc_model.specs.Resize.{best_resize}
 use Rattle.vc_model.specs.Touch.{find_block, rewritten, with_bytes_at}
@@ -14,7 +14,7 @@ use Rattle.vc_model.proofs.Relabel.{best_alloc-relabel, best_resize-relabel, by_
 use Rattle.vc_seg.proofs.Stats.{layout_stat-relabel}
 use Rattle.vc_seg.specs.Stat.{layout_stat}
 use Rattle.vc_seg.specs.declared.stat.Stat.{Stat}
-use Rattle.vc_audit.specs.Debug.{Debug, damage, damage_of, damaged, debug_alloc, debug_clear, debug_compact, debug_compact_count, debug_free, debug_resize, debug_write, guarded, guarded_offset, guarded_place, next_damaged, outcome_by, poked, relabel_debug, resized, stays_debug, user_block, user_blocks, user_size, with_back_guard, with_guards, with_watch, with_zeros, watched_at}
+use Rattle.vc_audit.specs.Debug.{Debug, damage, damage_of, damaged, debug_alloc, debug_clear, debug_compact, debug_compact_count, debug_free, debug_resize, debug_write, guarded, guarded_offset, guarded_place, next_damaged, outcome_by, poked, relabel_debug, resized, stays_debug, user_block, user_blocks, user_size, with_back_guard, with_watch, watched_at}
 use Rattle.vc_audit.specs.DebugStat.{debug_stat}
 
 module _ {L M : Type 0} (f : L → M) where

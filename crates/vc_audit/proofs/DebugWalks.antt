@@ -1,5 +1,5 @@
 -- The user's blocks in order, and the one that holds a byte.
-use Rattle.std.proofs.Common.{◌≡◌, ◌≢◌, ℕ, suc, ◌+◌, ◌-◌, ◌<◌, ◌≤◌, AllPairs, Bool, true, false, ◌&&◌, ◌⊎◌, cond, List, [], ◌∷◌, Option, Some, None, filter, fold, get_or, map, option_map, refl, sym, ap, ◌∙◌, subst, inl, inr, ⊎_elim, eqb, ltb, arith}
+use Rattle.std.proofs.Common.{◌≡◌, ℕ, ◌+◌, ◌-◌, ◌<◌, ◌≤◌, AllPairs, Bool, true, false, ◌&&◌, ◌⊎◌, cond, List, [], ◌∷◌, Option, Some, None, filter, fold, get_or, map, option_map, refl, sym, ap, ◌∙◌, subst, inl, inr, ⊎_elim, eqb, ltb, arith}
 use Rattle.std.specs.Prelude.{find, nat_lt, nat_le}
 use Rattle.std.specs.List.{AllByRecursion}
 use Rattle.std.proofs.lemmas.Bool.{and_from, and_parts, cases_Bool, eq-eqb, eqb-true}
@@ -10,9 +10,9 @@ use Rattle.std.proofs.Math.Nat.{ℕ_set}
 use Rattle.std.proofs.Math.Logic.{∥∥₁_elim}
 use Rattle.vc_model.specs.Addr.{place_of}
 use Rattle.vc_model.specs.Layout.{Block, Layout, address_of, footprint}
-use Rattle.vc_model.specs.Order.{least_above, lesser_by}
+use Rattle.vc_model.specs.Order.{lesser_by}
 use Rattle.vc_model.specs.Segments.{span}
-use Rattle.vc_model.specs.Sound.{EndsBefore, HaveOwnPlaces, IsApart, IsSound}
+use Rattle.vc_model.specs.Sound.{EndsBefore, HaveOwnPlaces, IsSound}
 use Rattle.vc_model.specs.Touch.{HasBlock, find_block}
 use Rattle.vc_model.specs.Walk.{block_at, holds_byte, next_block}
 use Rattle.vc_model.proofs.Pairs.{AllPairs-head, AllPairs-tail, all-recursion}

@@ -9,3 +9,4 @@ pub mod DebugSizes
 pub mod DebugChecks
 pub mod DebugSound
 pub mod DebugRelabel
+pub mod DebugDamaged

@@ -1,5 +1,5 @@
 -- Blocks that have room for their guards.
-use Rattle.std.specs.Prelude.{ℕ, ◌≤◌, List, All}
+use Rattle.std.specs.Prelude.{◌≤◌, List, All}
 use Rattle.vc_model.specs.Layout.{Block}
 
 -- each block holds guards of 48 bytes and 1 to 16,777,216 bytes of the user

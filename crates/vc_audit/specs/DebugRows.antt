@@ -1,5 +1,5 @@
 -- Debug regions of one segment of 4,096 bytes, for worked rows.
-use Rattle.std.specs.Prelude.{ℕ, ℤ, List, [], ◌∷◌, Bool, false, map}
+use Rattle.std.specs.Prelude.{ℕ, ℤ, List, [], Bool, false, map}
 use Rattle.vc_model.specs.Layout.{place_of_block}
 use Rattle.vc_model.specs.Outcome.{Outcome, Done, Put, Refused}
 use Rattle.vc_model.specs.Rows.{over_one_segment, rounds_to}

@@ -1,10 +1,7 @@
-use Rattle.std.proofs.Common.{◌≡◌, ◌≤◌, ℕ, ◌-◌, ◌+◌, sym, ap, arith}
-use Rattle.vc_model.specs.Addr.{place_of}
-use Rattle.vc_model.specs.Best.{best_alloc}
+use Rattle.std.proofs.Common.{ℕ, arith}
 use Rattle.vc_model.specs.Layout.{Layout}
-use Rattle.vc_seg.specs.Answer.{IsPut}
-use Rattle.vc_audit.specs.Debug.{Debug, debug_alloc, with_guards}
-use Rattle.vc_audit.proofs.DebugPuts.{IsGuarded, below-guarded, fresh-guarded, guards-guarded, live-found, others-guarded, put-by, there-guarded, user-guarded}
+use Rattle.vc_audit.specs.Debug.{Debug, with_guards}
+use Rattle.vc_audit.proofs.DebugPuts.{below-guarded, fresh-guarded, guards-guarded, live-found, others-guarded, put-by, there-guarded, user-guarded}
 use Rattle.vc_audit.proofs.debug.Debug.alloc.Goals as goal
 
 pub write_guards-requires-clause-block : goal.write_guards-requires-clause-block

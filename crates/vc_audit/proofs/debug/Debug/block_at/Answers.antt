@@ -1,4 +1,4 @@
-use Rattle.std.proofs.Common.{◌≡◌, ℕ, ◌+◌, sym, ap, ◌∙◌, subst, arith}
+use Rattle.std.proofs.Common.{sym, ◌∙◌, subst, arith}
 use Rattle.vc_model.specs.Addr.{place_of}
 use Rattle.vc_model.specs.Touch.{HasBlock}
 use Rattle.vc_audit.proofs.DebugBlocks.{below-end, live-up}

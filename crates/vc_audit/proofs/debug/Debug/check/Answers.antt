@@ -1,9 +1,8 @@
-use Rattle.std.proofs.Common.{◌≡◌, ℕ, ◌+◌, Option, None, Some, option_map, inr, rules, sym, ap, ◌∙◌, subst}
+use Rattle.std.proofs.Common.{ℕ, Option, None, Some, inr, rules, sym, ap, ◌∙◌, subst}
 use Rattle.std.specs.Prelude.{ℤ}
 use Rattle.std.specs.Int.{w64}
 use Rattle.std.proofs.lemmas.Int.{to_z-of_z}
 use Rattle.std.proofs.Common.{SFits}
-use Rattle.vc_model.specs.Layout.{address_of}
 use Rattle.vc_model.specs.Touch.{HasBlock}
 use Rattle.vc_audit.specs.Debug.{Debug}
 use Rattle.vc_audit.proofs.DebugBlocks.{below-end, live-up}

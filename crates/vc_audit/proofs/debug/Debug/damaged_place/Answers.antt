@@ -1,4 +1,4 @@
-use Rattle.std.proofs.Common.{◌≡◌, ℕ, ◌+◌, ◌-◌, ◌≤◌, arith}
+use Rattle.std.proofs.Common.{arith}
 use Rattle.vc_model.specs.Addr.{place_of}
 use Rattle.vc_model.specs.Touch.{find_block}
 use Rattle.vc_audit.proofs.DebugFills.{guards-size}

@@ -1,4 +1,4 @@
-use Rattle.std.proofs.Common.{◌≡◌, ◌≤◌, ℕ, ◌-◌, ◌+◌, List, sym, ap, ◌∙◌, subst, arith}
+use Rattle.std.proofs.Common.{ℕ, List, sym, ap, ◌∙◌, subst}
 use Rattle.vc_model.specs.Addr.{place_of}
 use Rattle.vc_model.specs.Best.{without_block_at}
 use Rattle.vc_model.specs.Layout.{Layout}

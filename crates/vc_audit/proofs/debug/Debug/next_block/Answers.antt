@@ -1,8 +1,7 @@
-use Rattle.std.proofs.Common.{◌≡◌, ℕ, ◌+◌, ◌-◌, Option, Some, None, option_map, sym, ap, ◌∙◌, subst, arith}
+use Rattle.std.proofs.Common.{◌+◌, Some, option_map, sym, ap, ◌∙◌, subst}
 use Rattle.vc_model.specs.Layout.{address_of}
 use Rattle.vc_model.specs.Touch.{HasBlock}
 use Rattle.vc_model.specs.Walk.{next_block}
-use Rattle.vc_audit.specs.Debug.{user_block}
 use Rattle.vc_audit.proofs.DebugBlocks.{below-end, live-up}
 use Rattle.vc_audit.proofs.DebugWalks.{address-told, from-before, next-user, own-best}
 use Rattle.vc_audit.proofs.debug.Debug.next_block.Goals as goal

@@ -1,11 +1,11 @@
-use Rattle.std.proofs.Common.{◌≡◌, ℕ, ◌+◌, ◌-◌, ◌≤◌, Option, IfSome, [], ◌∷◌, option_map, sym, ap, ◌∙◌, subst, replicate}
+use Rattle.std.proofs.Common.{ℕ, ◌+◌, ◌≤◌, Option, IfSome, [], ◌∷◌, option_map, sym, ap, ◌∙◌, subst, replicate}
 use Rattle.std.specs.Prelude.{ℤ, pos, ◌<ℤ◌}
 use Rattle.std.specs.Int.{w64}
 use Rattle.std.proofs.lemmas.Int.{to_z-of_z}
 use Rattle.vc_model.specs.Addr.{place_of}
 use Rattle.vc_model.specs.Layout.{Block, Layout}
 use Rattle.vc_model.specs.Touch.{find_block, with_bytes_at}
-use Rattle.vc_audit.specs.Debug.{Debug, guarded_offset, guarded_place, user_block}
+use Rattle.vc_audit.specs.Debug.{Debug, guarded_offset, user_block}
 use Rattle.vc_audit.proofs.DebugBlocks.{found-at, guarded-at, live-down, others-at, user_at}
 use Rattle.vc_audit.proofs.DebugFills.{found-live, guards-found, guards-written}
 use Rattle.vc_audit.proofs.DebugPokes.{poke-below, poke-range}

@@ -1,10 +1,10 @@
-use Rattle.std.proofs.Common.{◌≡◌, ◌≤◌, ℕ, ◌-◌, ◌+◌, Option, Some, None, IfSome, drop, length, option_map, take, sym, ap, ◌∙◌, subst, arith}
+use Rattle.std.proofs.Common.{◌≤◌, ℕ, ◌+◌, Option, IfSome, drop, option_map, take, ap, ◌∙◌, subst, arith}
 use Rattle.vc_model.specs.Addr.{place_of}
-use Rattle.vc_model.specs.Layout.{Block, Layout}
-use Rattle.vc_model.specs.Touch.{HasBlock, HasRange, find_block, with_bytes_at}
+use Rattle.vc_model.specs.Layout.{Block}
+use Rattle.vc_model.specs.Touch.{find_block}
 use Rattle.vc_audit.specs.Debug.{user_block}
-use Rattle.vc_audit.proofs.DebugBlocks.{UserAt, found-at, guarded-at, live-down, others-at, user_at}
-use Rattle.vc_audit.proofs.DebugFills.{found-live, guards-size, guards-written, label-user, range-below, range-user, read-user, size-user}
+use Rattle.vc_audit.proofs.DebugBlocks.{found-at, live-down, user_at}
+use Rattle.vc_audit.proofs.DebugFills.{found-live, range-below, range-user, read-user}
 use Rattle.vc_audit.proofs.debug.Debug.read.Goals as goal
 
 pub guarded_addr-requires : goal.guarded_addr-requires

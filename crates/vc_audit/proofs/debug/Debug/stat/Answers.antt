@@ -1,4 +1,4 @@
-use Rattle.std.proofs.Common.{◌≡◌, ℕ, ◌-◌, ◌*◌, ◌≤◌, sym, ap, ◌∙◌, subst}
+use Rattle.std.proofs.Common.{ℕ, ◌-◌, ◌*◌, ◌≤◌, sym, ap, ◌∙◌, subst}
 use Rattle.vc_seg.specs.declared.stat.Stat.{Stat}
 use Rattle.vc_audit.specs.Debug.{Debug}
 use Rattle.vc_audit.proofs.DebugSizes.{room-user, stat-user}

@@ -1,4 +1,4 @@
-use Rattle.std.proofs.Common.{◌+◌, ◌-◌, replicate, arith}
+use Rattle.std.proofs.Common.{◌+◌, replicate, arith}
 use Rattle.vc_model.specs.Addr.{place_of}
 use Rattle.vc_audit.proofs.DebugFills.{live-written, range-written}
 use Rattle.vc_audit.proofs.debug.guard.write_guards.Goals as goal

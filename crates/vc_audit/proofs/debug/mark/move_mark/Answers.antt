@@ -1,4 +1,3 @@
-use Rattle.std.proofs.Common.{arith}
 use Rattle.vc_audit.specs.DebugMark.{moved_mark}
 use Rattle.vc_audit.proofs.DebugMarks.{done-more, rest-more}
 use Rattle.vc_audit.proofs.debug.mark.move_mark.Goals as goal
