@@ -10,3 +10,17 @@ pub mod DebugChecks
 pub mod DebugSound
 pub mod DebugRelabel
 pub mod DebugDamaged
+pub mod ProfileSites
+pub mod ProfileLists
+pub mod ProfileBare
+pub mod ProfileCounts
+pub mod ProfileRows
+pub mod ProfileHeld
+pub mod ProfilePuts
+pub mod ProfileSound
+pub mod ProfileFree
+pub mod ProfileAlloc
+pub mod ProfileResize
+pub mod ProfileStays
+pub mod ProfileClear
+pub mod ProfileRelabel

@@ -1,45 +1,47 @@
--- Slots that don't overlap.
-use Rattle.std.proofs.Common.{◌≡◌, ℕ, suc, ◌+◌, ◌<◌, ◌≤◌, ◌⊎◌, List, [], ◌∷◌, true, false, All, AllPairs, map, sym, ◌∙◌, inl, inr, ⊎_elim, eqb, ltb, arith}
+-- Blocks with heads that don't overlap.
+use Rattle.std.proofs.Common.{◌≡◌, ℕ, ◌+◌, ◌<◌, ◌≤◌, ◌⊎◌, List, [], ◌∷◌, true, false, All, AllPairs, map, refl, ap, sym, ◌∙◌, inl, inr, ⊎_elim, eqb, ltb, arith}
 use Rattle.std.specs.Prelude.{◌==◌, ◌&&◌}
 use Rattle.std.proofs.lemmas.Bool.{cases_Bool, or_cases, or_parts, and_parts, and_from, eqb-true, eq-eqb, ltb-true, ltb-false, lt-ltb}
-use Rattle.std.proofs.lemmas.List.Elements.{All-head, All-tail, All-nil, All-cons, All-map, All-weaker}
+use Rattle.std.proofs.lemmas.List.Elements.{All-head, All-tail, All-nil, All-weaker, All-cons}
 use Rattle.std.proofs.lemmas.List.Kept.{AllPairs-cons}
+use Rattle.vc_model.specs.Layout.{Block, footprint, footprints, lies_before, with_block}
 use Rattle.vc_model.specs.Segments.{span}
 use Rattle.vc_model.specs.Sound.{EndsBefore, IsApart}
-use Rattle.vc_best.specs.declared.slot.Slot.{Slot}
-use Rattle.vc_best.specs.Slot.{IsSlot, run_of_slot, lies_before_slot, with_slot}
-use Rattle.vc_best.proofs.Rounding.{round_up-least}
+use Rattle.vc_segments.proofs.Rounding.{round_up-least}
+use Rattle.vc_blocks.specs.Layout.{slot_of_block}
+use Rattle.vc_blocks.specs.Put.{body, body_at}
+use Rattle.vc_blocks.proofs.Apart.{AllPairs-head, AllPairs-tail}
+use Rattle.vc_blocks.proofs.Changes.{All-with}
+use Rattle.vc_best.specs.Heads.{footprint_at, runs_of}
 
 pub span-least : (size : ℕ) → size + 16 ≤ span size
 span-least size = round_up-least (size + 16) 32 (omega arith)
 
-pub AllPairs-nil : {A : Type 0} (R : A → A → Type 0) → AllPairs R []
-AllPairs-nil R = λ i j d lt within. absurd (omega arith)
+-- what slots take is what their blocks take
+pub runs_of-blocks : (bs : List (Block ℕ)) → runs_of (map slot_of_block bs) ≡ footprints bs
+runs_of-blocks [] = refl
+runs_of-blocks (b ∷ bs) = ap (λ rs. footprint b ∷ rs) (runs_of-blocks bs)
 
-pub AllPairs-head : {A : Type 0} (R : A → A → Type 0) (x : A) (xs : List A) → AllPairs R (x ∷ xs) → All (R x) xs
-AllPairs-head R x xs h = λ k d lt. h 0 (suc k) d (omega arith) (omega arith)
+-- what has no byte of a head or of a block has none of a block
+pub apart-bodies : (size : ℕ) (at : ℕ × ℕ) (b : Block ℕ) → 16 ≤ at.1 → 16 ≤ b.off → IsApart (footprint_at size at) (footprint b) → IsApart (body_at size at) (body b)
+apart-bodies size at b first its apart =
+    let mine = span-least size in
+    let other = span-least b.size in
+    ⊎_elim
+    (λ u. ⊎_elim (λ v. inl (inl v)) (λ v. let le = v.1 in inl (inr (v.0, omega (arith, le, mine, first, its)))) u)
+    (λ u. ⊎_elim (λ v. inr (inl v)) (λ v. let le = v.1 in inr (inr (v.0, omega (arith, le, other, first, its)))) u)
+    apart
 
-pub AllPairs-tail : {A : Type 0} (R : A → A → Type 0) (x : A) (xs : List A) → AllPairs R (x ∷ xs) → AllPairs R xs
-AllPairs-tail R x xs h = λ i j d lt within. h (suc i) (suc j) d (omega arith) (omega arith)
+-- one block stands before another and doesn't overlap it
+abbrev pub Before : Block ℕ → Block ℕ → Type 0
+Before a b = EndsBefore (footprint a) (footprint b)
 
-pub AllPairs-map : {A B : Type 0} (R : B → B → Type 0) (f : A → B) (xs : List A) → AllPairs (λ x y. R (f x) (f y)) xs → AllPairs R (map f xs)
-AllPairs-map {A = A} R f [] h = AllPairs-nil R
-AllPairs-map {A = A} R f (x ∷ xs) h =
-    let S : A → A → Type 0 = λ x y. R (f x) (f y) in
-    AllPairs-cons R (f x) (map f xs) (All-map (R (f x)) f xs (AllPairs-head S x xs h)) (AllPairs-map R f xs (AllPairs-tail S x xs h))
-
--- one slot stands before another and doesn't overlap it
-abbrev pub Before : Slot → Slot → Type 0
-Before a b = EndsBefore (run_of_slot a) (run_of_slot b)
-
-Before-trans : (a b c : Slot) → Before a b → Before b c → Before a c
+Before-trans : (a b c : Block ℕ) → Before a b → Before b c → Before a c
 Before-trans a b c p q = grind arith
 
--- a slot is before one that it doesn't overlap and whose address is greater
-Before-lower : (s t : Slot) → IsSlot s → IsSlot t → IsApart (run_of_slot s) (run_of_slot t) → lies_before_slot s.seg s.off t ≡ true → Before s t
-Before-lower s t p q apart e =
-    let one : 32 ≤ s.off = p.first in
-    let two : 32 ≤ t.off = q.first in
+-- a block is before one that it doesn't overlap and whose address is greater
+Before-lower : (s t : Block ℕ) → 32 ≤ s.off → 32 ≤ t.off → IsApart (footprint s) (footprint t) → lies_before s t ≡ true → Before s t
+Before-lower s t one two apart e =
     let some = span-least t.size in
     let order : (s.seg < t.seg) ⊎ ((s.seg ≡ t.seg) × (s.off < t.off)) =
     ⊎_elim
@@ -54,10 +56,8 @@ Before-lower s t p q apart e =
     u)
     apart
 
-Before-not_lower : (s t : Slot) → IsSlot s → IsSlot t → IsApart (run_of_slot s) (run_of_slot t) → lies_before_slot s.seg s.off t ≡ false → Before t s
-Before-not_lower s t p q apart e =
-    let one : 32 ≤ s.off = p.first in
-    let two : 32 ≤ t.off = q.first in
+Before-not_lower : (s t : Block ℕ) → 32 ≤ s.off → 32 ≤ t.off → IsApart (footprint s) (footprint t) → lies_before s t ≡ false → Before t s
+Before-not_lower s t one two apart e =
     let some = span-least s.size in
     let parts = or_parts (ltb s.seg t.seg) ((s.seg == t.seg) && ltb s.off t.off) e in
     let segs : t.seg ≤ s.seg = ltb-false s.seg t.seg parts.0 in
@@ -70,21 +70,14 @@ Before-not_lower s t p q apart e =
     (λ u. u)
     apart
 
-pub All-with_slot : (P : Slot → Type 0) (s : Slot) (slots : List Slot) → P s → All P slots → All P (with_slot s slots)
-All-with_slot P s [] here h = All-cons P s [] here h
-All-with_slot P s (t ∷ ts) here h =
-    ⊎_elim
-    (λ e. rw e (All-cons P s (t ∷ ts) here h))
-    (λ e. rw e (All-cons P t (with_slot s ts) (All-head P t ts h) (All-with_slot P s ts here (All-tail P t ts h))))
-    (cases_Bool (lies_before_slot s.seg s.off t))
-
--- a slot that overlaps none is put among them
-pub Before-with_slot : (s : Slot) (slots : List Slot) → IsSlot s → All IsSlot slots → All (λ t. IsApart (run_of_slot s) (run_of_slot t)) slots → AllPairs Before slots → AllPairs Before (with_slot s slots)
-Before-with_slot s [] here h apart pairs = AllPairs-cons Before s [] (All-nil (Before s)) pairs
-Before-with_slot s (t ∷ ts) here h apart pairs =
-    let P : Slot → Type 0 = λ u. IsApart (run_of_slot s) (run_of_slot u) in
+-- a block that overlaps none is put among them
+pub Before-with : (s : Block ℕ) (bs : List (Block ℕ)) → 32 ≤ s.off → All (λ t. 32 ≤ t.off) bs → All (λ t. IsApart (footprint s) (footprint t)) bs → AllPairs Before bs → AllPairs Before (with_block s bs)
+Before-with s [] here h apart pairs = AllPairs-cons Before s [] (All-nil (Before s)) pairs
+Before-with s (t ∷ ts) here h apart pairs =
+    let P : Block ℕ → Type 0 = λ u. IsApart (footprint s) (footprint u) in
+    let Q : Block ℕ → Type 0 = λ u. 32 ≤ u.off in
     let from_t = AllPairs-head Before t ts pairs in
-    let head_t = All-head IsSlot t ts h in
+    let head_t = All-head Q t ts h in
     let apart_t = All-head P t ts apart in
     ⊎_elim
     (λ e.
@@ -92,5 +85,5 @@ Before-with_slot s (t ∷ ts) here h apart pairs =
     rw e (AllPairs-cons Before s (t ∷ ts) (All-cons (Before s) t ts low (All-weaker (Before t) (Before s) (λ u q. Before-trans s t u low q) ts from_t)) pairs))
     (λ e.
     let low : Before t s = Before-not_lower s t here head_t apart_t e in
-    rw e (AllPairs-cons Before t (with_slot s ts) (All-with_slot (Before t) s ts low from_t) (Before-with_slot s ts here (All-tail IsSlot t ts h) (All-tail P t ts apart) (AllPairs-tail Before t ts pairs))))
-    (cases_Bool (lies_before_slot s.seg s.off t))
+    rw e (AllPairs-cons Before t (with_block s ts) (All-with (Before t) s ts low from_t) (Before-with s ts here (All-tail Q t ts h) (All-tail P t ts apart) (AllPairs-tail Before t ts pairs))))
+    (cases_Bool (lies_before s t))

@@ -1,19 +1,30 @@
 -- What a call that may ask for a segment answers, and leaves of the discipline.
-use Rattle.std.proofs.Common.{◌≡◌, ℕ, List, [], ◌∷◌, ◌++◌, true, false, Option, None, Some, length, refl, ap, sym, ◌∙◌, subst, ⊎_elim, ◌⊎◌, append_assoc, arith}
-use Rattle.std.specs.Prelude.{IfOk, IfErr, OnErr, Result, Ok, Err}
-use Rattle.std.proofs.lemmas.List.{length_push}
-use Rattle.vc_model.specs.Discipline.{Discipline, Lent, Served, Terms, Unserved}
+use Rattle.std.proofs.Common.{◌≡◌, ℕ, ◌+◌, ◌≤◌, List, ◌++◌, true, false, Option, None, Some, refl, ap, sym, ◌∙◌, subst}
+use Rattle.std.specs.Prelude.{IfOk, IfErr, OnErr, OnOk, Result, Ok, Err}
+use Rattle.vc_model.specs.Addr.{place_of}
+use Rattle.vc_model.specs.Best.{best_alloc, best_need, place_in, put_at, put_or_ask}
+use Rattle.vc_model.specs.Discipline.{Discipline, IsSegmentSize, Served, Terms}
 use Rattle.vc_model.specs.Layout.{Layout}
-use Rattle.vc_model.specs.Outcome.{Refused, NoSegment}
-use Rattle.vc_model.specs.Best.{best_alloc, place_in, put_at, put_or_ask}
+use Rattle.vc_model.specs.Outcome.{Outcome, Put}
+use Rattle.vc_model.specs.Segments.{Granted, NotLent, TooMany, ask, span}
+use Rattle.vc_model.specs.Sound.{HaveOwnNumbers}
+use Rattle.vc_model.specs.Touch.{HasBlock}
 use Rattle.vc_base.specs.declared.addr.Addr.{Addr}
 use Rattle.vc_seg.specs.declared.fault.RegionFault.{RegionFault}
 use Rattle.vc_seg.specs.declared.fault.RegionFault.TheVariants as code
 use Rattle.vc_seg.specs.Answer.{Answers, Asks, IsPut}
+use Rattle.vc_segments.specs.Lend.{IsNoGrant}
+use Rattle.vc_blocks.specs.declared.order.Order.TheVariants.{ByAddress}
+use Rattle.vc_blocks.specs.Put.{IsAddress, IsPutInNew, with_zeros}
+use Rattle.vc_best.specs.Heads.{HaveHeads}
+use Rattle.vc_best.proofs.Allocs.{alloc-granted, alloc-not_lent, alloc-too_many}
+use Rattle.vc_best.proofs.Placed.{HaveHeads-new, HaveHeads-place, IsPlace, new-clear}
+use Rattle.vc_best.proofs.Rounding.{IsAligned}
+use Rattle.vc_best.proofs.Stands.{none-at-clear}
 
 -- nothing was asked for
-pub Served-same : (d : Discipline) (segments segments' : List (ℕ × ℕ)) (size : ℕ) → segments' ≡ segments → Served d d segments segments' size
-Served-same d segments segments' size same =
+pub Served-unasked : (d : Discipline) (segments segments' : List (ℕ × ℕ)) (size : ℕ) → segments' ≡ segments → Served d d segments segments' size
+Served-unasked d segments segments' size same =
     record {
       terms = refl;
       faults = refl;
@@ -22,51 +33,68 @@ Served-same d segments segments' size same =
       same = λ e. refl;
     }
 
--- a segment was lent
-pub Served-lent : (old new : Discipline) (segments : List (ℕ × ℕ)) (n size : ℕ) → Lent old new n size → Served old new segments (segments ++ (n, size) ∷ []) size
-Served-lent old new segments n size lent =
-    record {
-      terms = lent.terms;
-      faults = lent.faults;
-      out = λ rest e. lent.out ∙ (ap (λ (ss : List (ℕ × ℕ)). ss ++ (n, size) ∷ []) e ∙ append_assoc rest segments ((n, size) ∷ []));
-      room = λ other. lent.room;
-      same = λ e. absurd (omega (arith, length_push segments (n, size), ap length e));
-    }
-
-module _ (old new : Layout ℕ) (terms : Terms) (label size align : ℕ) where
-  -- a block was put at its place, or there was no memory for it
-  pub Answers-put : (result : Result Addr RegionFault) (at : ℕ × ℕ) → place_in old size align ≡ Some at → IfOk result (λ a. IsPut (put_at old label size None at) a.0 new) → OnErr result (new ≡ old) →
-      IfErr result (λ e. e ≡ code.OutOfMemory) → Answers (best_alloc terms old label size align) result old new
-  Answers-put (Ok a) at place ok err only = subst (λ (o : Option (ℕ × ℕ)). IsPut (put_or_ask terms old label size align false o) a.0 new) (sym place) ok
-  Answers-put (Err e) at place ok err only = subst (λ (w : RegionFault). Answers (best_alloc terms old label size align) (Err w) old new) (sym only) (tt, err)
-
-  -- no segment was lent
-  pub Answers-unlent : (e : RegionFault) → (e ≡ code.NoSegment) ⊎ (e ≡ code.OutOfMemory) → best_alloc terms old label size align true ≡ Refused NoSegment → new ≡ old → Answers (best_alloc terms old label size align) (Err e) old new
-  Answers-unlent e only refused same =
-      let P : RegionFault → Type 0 = λ w. Answers (best_alloc terms old label size align) (Err w) old new in
-      ⊎_elim (λ u. subst P (sym u) (refused, same)) (λ u. subst P (sym u) (tt, same)) only
-
-pub Asks-put : (d : Discipline) (old new : Layout ℕ) (label size need : ℕ) (result : Result Addr RegionFault) (at : ℕ × ℕ) → IfOk result (λ a. IsPut (put_at old label size None at) a.0 new) → OnErr result (new ≡ old) →
-    IfErr result (λ e. e ≡ code.OutOfMemory) → Asks result d d old.segments new.segments need
-Asks-put d old new label size need (Ok a) at ok err only = Served-same d old.segments new.segments need (ap (λ (r : Layout ℕ). r.segments) ok.2)
-Asks-put d old new label size need (Err e) at ok err only =
-    subst (λ (w : RegionFault). Asks (Err w) d d old.segments new.segments need) (sym only) (Served-same d old.segments new.segments need (ap (λ (r : Layout ℕ). r.segments) err))
-
--- there was no memory before a segment was asked for
-pub Asks-no_memory : (d : Discipline) (segments segments' : List (ℕ × ℕ)) (need : ℕ) (e : RegionFault) → e ≡ code.OutOfMemory → segments' ≡ segments → Asks (Err e) d d segments segments' need
-Asks-no_memory d segments segments' need e only same = subst (λ (w : RegionFault). Asks (Err w) d d segments segments' need) (sym only) (Served-same d segments segments' need same)
-
-pub Answers-no_memory : (old new : Layout ℕ) (terms : Terms) (label size align : ℕ) (e : RegionFault) → e ≡ code.OutOfMemory → new ≡ old → Answers (best_alloc terms old label size align) (Err e) old new
-Answers-no_memory old new terms label size align e only same = subst (λ (w : RegionFault). Answers (best_alloc terms old label size align) (Err w) old new) (sym only) (tt, same)
-
-pub Asks-unlent : (old new : Discipline) (segments segments' : List (ℕ × ℕ)) (need : ℕ) (e : RegionFault) → (e ≡ code.NoSegment) ⊎ (e ≡ code.OutOfMemory) → (e ≡ code.NoSegment → Unserved old new need) →
-    (e ≡ code.OutOfMemory → new ≡ old) → segments' ≡ segments → Asks (Err e) old new segments segments' need
-Asks-unlent old new segments segments' need e only refused memory same =
-    ⊎_elim
-    (λ u. subst (λ (w : RegionFault). Asks (Err w) old new segments segments' need) (sym u) (refused u))
-    (λ u. subst (λ (w : RegionFault). Asks (Err w) old new segments segments' need) (sym u) (subst (λ (d : Discipline). Served old d segments segments' need) (sym (memory u)) (Served-same old segments segments' need same)))
-    only
-
 -- later the segments are the same
 pub Served-later : (old new : Discipline) (segments mid later : List (ℕ × ℕ)) (need : ℕ) → later ≡ mid → Served old new segments mid need → Served old new segments later need
 Served-later old new segments mid later need same h = subst (λ (ss : List (ℕ × ℕ)). Served old new segments ss need) (sym same) h
+
+-- a block was put at its place, or there was no memory for it
+module _ (old new : Layout ℕ) (label size align : ℕ) (at : ℕ × ℕ) where
+  pub put-ok : (result : Result Addr RegionFault) → IfOk result (λ a. IsAddress a.0 at) → OnOk result (new ≡ with_zeros ByAddress old label size at) → IfOk result (λ a. IsPut (put_at old label size None at) a.0 new)
+  put-ok (Ok a) is ok = (is.0, sym is.1, ok)
+  put-ok (Err e) is ok = tt
+
+  pub put-heads : (result : Result Addr RegionFault) → HaveHeads old → IsPlace old label size at → OnOk result (new ≡ with_zeros ByAddress old label size at) → OnErr result (new ≡ old) → HaveHeads new
+  put-heads (Ok a) h p ok err = subst HaveHeads (sym ok) (HaveHeads-place old label size at h p)
+  put-heads (Err e) h p ok err = subst HaveHeads (sym err) h
+
+  pub put-fresh : (result : Result Addr RegionFault) → HaveHeads old → IsPlace old label size at → IfOk result (λ a. IsAddress a.0 at) → IfOk result (λ a. ¬ HasBlock old.blocks a.0)
+  put-fresh (Ok a) h p is = none-at-clear old a.0 h size at is.1 p.clear
+  put-fresh (Err e) h p is = tt
+
+  pub Answers-put : (terms : Terms) (result : Result Addr RegionFault) → place_in old size align ≡ Some at → IfOk result (λ a. IsPut (put_at old label size None at) a.0 new) → OnErr result (new ≡ old) →
+      IfErr result (λ e. e ≡ code.OutOfMemory) → Answers (best_alloc terms old label size align) result old new
+  Answers-put terms (Ok a) place ok err only = subst (λ (o : Option (ℕ × ℕ)). IsPut (put_or_ask terms old label size align false o) a.0 new) (sym place) ok
+  Answers-put terms (Err e) place ok err only = subst (λ (w : RegionFault). Answers (best_alloc terms old label size align) (Err w) old new) (sym only) (tt, err)
+
+  pub Asks-put : (d : Discipline) (need : ℕ) (result : Result Addr RegionFault) → IfOk result (λ a. IsPut (put_at old label size None at) a.0 new) → OnErr result (new ≡ old) →
+      IfErr result (λ e. e ≡ code.OutOfMemory) → Asks result d d old.segments new.segments need
+  Asks-put d need (Ok a) ok err only = Served-unasked d old.segments new.segments need (ap (λ (r : Layout ℕ). r.segments) ok.2)
+  Asks-put d need (Err e) ok err only =
+      subst (λ (w : RegionFault). Asks (Err w) d d old.segments new.segments need) (sym only) (Served-unasked d old.segments new.segments need (ap (λ (r : Layout ℕ). r.segments) err))
+
+-- a segment was asked for, where the block had no place
+module _ (old new : Layout ℕ) (terms : Terms) (label size align bytes : ℕ) (h : HaveHeads old) (none : place_in old size align ≡ None) (need : bytes ≡ best_need terms size align) (a : IsAligned align) (some : 1 ≤ size) (most : size ≤ 16777264)
+    (legal : IsSegmentSize bytes) (fits : span size + align ≤ bytes) where
+  new-put : (to : ℕ) → IsPutInNew ByAddress old new label size bytes align to → IsPut (best_alloc terms old label size align false) to new
+  new-put to p =
+      let n : ℕ = (place_of to).0 in
+      let granted : ask (best_need terms size align) old.segments false ≡ Granted n bytes = subst (λ (k : ℕ). ask k old.segments false ≡ Granted n bytes) need p.granted in
+      subst (λ (o : Outcome (Put (Layout ℕ))). IsPut o to new) (sym (alloc-granted old terms label size align h none n bytes a some most legal fits p.fresh false granted))
+      (p.address.0, sym p.address.1, p.layout)
+
+  new-fault : (e : RegionFault) → IsNoGrant bytes old.segments e → new ≡ old → Answers (best_alloc terms old label size align) (Err e) old new
+  new-fault code.TooManySegments why same = (alloc-too_many old terms label size align h none false (subst (λ (k : ℕ). ask k old.segments false ≡ TooMany) need why), same)
+  new-fault code.NoSegment why same = (alloc-not_lent old terms label size align h none true (subst (λ (k : ℕ). ask k old.segments true ≡ NotLent) need why), same)
+  new-fault code.OutOfMemory why same = (tt, same)
+  new-fault code.Fixed why same = absurd why
+  new-fault code.PoolSize why same = absurd why
+  new-fault code.NotLast why same = absurd why
+  new-fault code.WrongMethod why same = absurd why
+
+  pub Answers-new : (result : Result Addr RegionFault) → IfOk result (λ to. IsPutInNew ByAddress old new label size bytes align to.0) → IfErr result (IsNoGrant bytes old.segments) → OnErr result (new ≡ old) →
+      Answers (best_alloc terms old label size align) result old new
+  Answers-new (Ok to) ok fault err = new-put to.0 ok
+  Answers-new (Err e) ok fault err = new-fault e fault err
+
+  pub new-heads : (result : Result Addr RegionFault) → IfOk result (λ to. IsPutInNew ByAddress old new label size bytes align to.0) → OnErr result (new ≡ old) → HaveHeads new
+  new-heads (Ok to) ok err =
+      let n : ℕ = (place_of to.0).0 in
+      let numbered = subst (λ (r : Layout ℕ). HaveOwnNumbers r.segments) ok.layout ok.numbered in
+      subst HaveHeads (sym ok.layout) (HaveHeads-new old label size align n bytes h a some most legal fits ok.fresh numbered)
+  new-heads (Err e) ok err = subst HaveHeads (sym err) h
+
+  pub new-fresh : (result : Result Addr RegionFault) → IfOk result (λ to. IsPutInNew ByAddress old new label size bytes align to.0) → IfOk result (λ to. ¬ HasBlock old.blocks to.0)
+  new-fresh (Ok to) ok =
+      let n : ℕ = (place_of to.0).0 in
+      none-at-clear old to.0 h size (n, align) ok.address.1 (new-clear old label size align n bytes h a some most legal fits ok.fresh)
+  new-fresh (Err e) ok = tt

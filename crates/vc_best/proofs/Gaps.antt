@@ -1,79 +1,92 @@
--- What is true of each gap of a layout, and so of the least that holds a block.
-use Rattle.std.proofs.Common.{◌≡◌, ℕ, ◌+◌, ◌-◌, ◌≤◌, List, [], ◌∷◌, true, Option, None, Some, All, AllPairs, length, map, filter, fold, refl, ap, subst, ⊎_elim, eqb, ltb, arith}
-use Rattle.std.proofs.lemmas.Bool.{cases_Bool, eqb-true}
-use Rattle.std.proofs.lemmas.List.Elements.{All-head, All-tail, All-nil, All-cons, All-append, All-filter, filter_passes}
-use Rattle.vc_model.specs.Segments.{span}
+-- What is true of each gap of blocks with heads, and so of the least that holds a block.
+use Rattle.std.proofs.Common.{◌≡◌, ℕ, ◌+◌, ◌-◌, ◌<◌, ◌≤◌, List, [], ◌∷◌, true, Bool, Option, None, Some, All, length, get_or, filter, fold, refl, sym, subst, ⊎_elim, eqb, ltb, arith}
+use Rattle.std.specs.List.{flat_map}
+use Rattle.std.proofs.lemmas.Bool.{cases_Bool, eqb-true, ltb-true}
+use Rattle.std.proofs.lemmas.List.{get_or_default}
+use Rattle.std.proofs.lemmas.List.Elements.{All-head, All-tail, All-nil, All-cons, All-append, All-filter, All-map, All-weaker, filter_passes}
 use Rattle.vc_model.specs.Gap.{Run, run_of, gaps_between, comes_before}
+use Rattle.vc_model.specs.Layout.{Block, Layout, footprint, footprints}
 use Rattle.vc_model.specs.Place.{holds, least, lesser}
-use Rattle.vc_seg.specs.Segment.{Bytes, pair_of}
-use Rattle.vc_best.specs.declared.slot.Slot.{Slot}
-use Rattle.vc_best.specs.Slot.{run_of_slot, runs_of}
-use Rattle.vc_best.specs.Parts.{bytes_of_number, IsRegionSegment, IsSlotIn, IsLayout}
-use Rattle.vc_best.specs.Gaps.{gaps_left_in, gaps_left, best_left}
-use Rattle.vc_best.proofs.Bytes.{Apart, bytes_of_number-at}
+use Rattle.vc_model.specs.Segments.{span}
+use Rattle.vc_model.specs.Sound.{IsUsable}
+use Rattle.vc_blocks.proofs.Owned.{only-one}
+use Rattle.vc_best.specs.Gaps.{best_left, gaps_left, gaps_left_in}
+use Rattle.vc_best.specs.Heads.{HaveHeads}
+use Rattle.vc_best.proofs.Apart.{span-least}
 
--- a gap lies behind the first bytes of a segment of these, and before its last
-pub record IsGapIn (segs : List Bytes) (g : Run) : Type 0 where
-  pub first : 1 ≤ g.seg
-  pub last : g.seg ≤ 1023
-  pub behind : 16 ≤ g.from
-  pub before : g.to + 16 ≤ length (bytes_of_number g.seg segs)
+-- a run of the usable part of a segment
+pub record IsOf (s : ℕ × ℕ) (f : Run) : Type 0 where
+  pub seg : f.seg ≡ s.0
+  pub some : f.from < f.to
+  pub first : 16 ≤ f.from
+  pub before : f.to + 16 ≤ s.1
 
--- so does what a slot takes of a segment of that size
-record IsTaken (size : ℕ) (f : Run) : Type 0 where
-  before : f.from + 16 ≤ size
-  behind : 16 ≤ f.to
-
-module _ (segs : List Bytes) (n : ℕ) (first : 1 ≤ n) (last : n ≤ 1023) where
-  IsGapIn-run_of : (from to : ℕ) → 16 ≤ from → to + 16 ≤ length (bytes_of_number n segs) → All (IsGapIn segs) (run_of n from to)
-  IsGapIn-run_of from to behind before =
-      ⊎_elim
-      (λ e. rw e (All-cons (IsGapIn segs) (record { seg = n; from = from; to = to }) [] (record { first = first; last = last; behind = behind; before = before }) (All-nil (IsGapIn segs))))
-      (λ e. rw e (All-nil (IsGapIn segs)))
-      (cases_Bool (ltb from to))
-
-  IsGapIn-gaps_between : (end : ℕ) → end + 16 ≤ length (bytes_of_number n segs) → (fs : List Run) → All (IsTaken (length (bytes_of_number n segs))) fs → (from : ℕ) → 16 ≤ from → All (IsGapIn segs) (gaps_between n from end fs)
-  IsGapIn-gaps_between end before [] taken from behind = IsGapIn-run_of from end behind before
-  IsGapIn-gaps_between end before (f ∷ fs) taken from behind =
-      let t = All-head (IsTaken (length (bytes_of_number n segs))) f fs taken in
-      All-append (IsGapIn segs) (run_of n from f.from) (gaps_between n f.to end fs)
-      (IsGapIn-run_of from f.from behind t.before)
-      (IsGapIn-gaps_between end before fs (All-tail (IsTaken (length (bytes_of_number n segs))) f fs taken) f.to t.behind)
-
--- what the slots of a segment take of it
-IsTaken-runs_of : (segs : List Bytes) (n : ℕ) (slots : List Slot) → All (IsSlotIn segs) slots → All (IsTaken (length (bytes_of_number n segs))) (filter (λ f. eqb f.seg n) (runs_of slots))
-IsTaken-runs_of segs n [] h = All-nil (IsTaken (length (bytes_of_number n segs)))
-IsTaken-runs_of segs n (s ∷ ss) h =
-    let rest = IsTaken-runs_of segs n ss (All-tail (IsSlotIn segs) s ss h) in
+pub run_of-All : (P : Run → Type 0) (n from to : ℕ) → (from < to → P (record { seg = n; from = from; to = to })) → All P (run_of n from to)
+run_of-All P n from to h =
     ⊎_elim
-    (λ e.
-    let here = All-head (IsSlotIn segs) s ss h in
-    let within : (run_of_slot s).to + 16 ≤ length (bytes_of_number n segs) = subst (λ m. (run_of_slot s).to + 16 ≤ length (bytes_of_number m segs)) (eqb-true s.seg n e) here.within in
-    let first : 32 ≤ s.off = here.slot.first in
-    rw e (All-cons (IsTaken (length (bytes_of_number n segs))) (run_of_slot s) _ (record { before = omega arith; behind = omega arith }) rest))
-    (λ e. rw e rest)
-    (cases_Bool (eqb s.seg n))
+    (λ e. rw e (All-cons P (record { seg = n; from = from; to = to }) [] (h (ltb-true from to e)) (All-nil P)))
+    (λ e. rw e (All-nil P))
+    (cases_Bool (ltb from to))
 
--- a segment of these, which is the one of its number
-record IsOneOf (segs : List Bytes) (b : Bytes) : Type 0 where
-  segment : IsRegionSegment b
-  bytes : bytes_of_number b.number segs ≡ b.bytes
+-- what such runs leave are such runs
+IsOf-between : (s : ℕ × ℕ) (end : ℕ) → end + 16 ≤ s.1 → (fs : List Run) → All (IsOf s) fs → (from : ℕ) → 16 ≤ from → All (IsOf s) (gaps_between s.0 from end fs)
+IsOf-between s end within [] of from behind = run_of-All (IsOf s) s.0 from end (λ lt. record { seg = refl; some = lt; first = behind; before = within })
+IsOf-between s end within (f ∷ fs) of from behind =
+    let here = All-head (IsOf s) f fs of in
+    let some = here.some in
+    let first = here.first in
+    let before = here.before in
+    All-append (IsOf s) (run_of s.0 from f.from) (gaps_between s.0 f.to end fs)
+    (run_of-All (IsOf s) s.0 from f.from (λ lt. record { seg = refl; some = lt; first = behind; before = omega (arith, some, before) }))
+    (IsOf-between s end within fs (All-tail (IsOf s) f fs of) f.to (omega (arith, some, first)))
 
-IsOneOf-all : (segs : List Bytes) → AllPairs Apart segs → All IsRegionSegment segs → All (IsOneOf segs) segs
-IsOneOf-all segs apart h = λ k d lt. record { segment = h k d lt; bytes = bytes_of_number-at segs k d apart lt }
+module _ (r : Layout ℕ) (h : HaveHeads r) (k : ℕ) (d : ℕ × ℕ) (lt : k < length r.segments) where
+  -- the footprints that have the number of a segment are such runs
+  pub IsOf-footprints : All (IsOf (get_or r.segments k d)) (filter (λ f. eqb f.seg (get_or r.segments k d).0) (footprints r.blocks))
+  IsOf-footprints =
+      let n : ℕ = (get_or r.segments k d).0 in
+      let test : Run → Bool = λ f. eqb f.seg n in
+      let P : Run → Type 0 = λ f. (f.from < f.to) × (16 ≤ f.from) × (f.seg ≡ n → f.to + 16 ≤ (get_or r.segments k d).1) in
+      let all : All P (footprints r.blocks) =
+      All-map P footprint r.blocks
+      (λ i c within.
+      let b : Block ℕ = get_or r.blocks i c in
+      let here = h.blocks i c within in
+      let low = span-least b.size in
+      let first = here.slot.first in
+      let u = here.usable in
+      let end : All (λ q. q.0 ≡ b.seg → (footprint b).to + 16 ≤ q.1) r.segments =
+      only-one r.segments b.seg (λ q. (footprint b).to + 16 ≤ q.1) h.numbered.distinct (u.0, u.1, u.2, u.3, (sym u.4.0, u.4.2)) in
+      (omega (arith, low), omega (arith, first), λ own. end k d lt (sym own))) in
+      λ i c within.
+      let f : Run = get_or (filter test (footprints r.blocks)) i c in
+      let own : f.seg ≡ n = eqb-true f.seg n (filter_passes test (footprints r.blocks) i c within) in
+      let here = All-filter test P (footprints r.blocks) all i c within in
+      record { seg = own; some = here.0; first = here.1; before = here.2 own }
 
-IsGapIn-flat_map : (segs : List Bytes) (slots : List Slot) → All (IsSlotIn segs) slots → (bs : List Bytes) → All (IsOneOf segs) bs → All (IsGapIn segs) (gaps_left (map pair_of bs) (runs_of slots))
-IsGapIn-flat_map segs slots h [] o = All-nil (IsGapIn segs)
-IsGapIn-flat_map segs slots h (b ∷ bs) o =
-    let here = All-head (IsOneOf segs) b bs o in
-    let len : length (bytes_of_number b.number segs) ≡ length b.bytes = ap length here.bytes in
-    let least : 64 ≤ length b.bytes = here.segment.size.least in
-    All-append (IsGapIn segs) (gaps_left_in (runs_of slots) (pair_of b)) (gaps_left (map pair_of bs) (runs_of slots))
-    (IsGapIn-gaps_between segs b.number here.segment.first here.segment.last (length b.bytes - 16) (omega arith) _ (IsTaken-runs_of segs b.number slots h) 16 (omega arith))
-    (IsGapIn-flat_map segs slots h bs (All-tail (IsOneOf segs) b bs o))
+All-flat_map : {A B : Type 0} (P : B → Type 0) (f : A → List B) (xs : List A) → All (λ x. All P (f x)) xs → All P (flat_map f xs)
+All-flat_map P f [] h = All-nil P
+All-flat_map {A = A} P f (x ∷ xs) h =
+    let Q : A → Type 0 = λ y. All P (f y) in
+    All-append P (f x) (flat_map f xs) (All-head Q x xs h) (All-flat_map P f xs (All-tail Q x xs h))
 
-pub IsGapIn-gaps : (segs : List Bytes) (slots : List Slot) → IsLayout segs slots → All (IsGapIn segs) (gaps_left (map pair_of segs) (runs_of slots))
-IsGapIn-gaps segs slots l = IsGapIn-flat_map segs slots l.blocks segs (IsOneOf-all segs l.distinct l.segments)
+-- so are its gaps
+pub IsOf-gaps : (r : Layout ℕ) → HaveHeads r → (k : ℕ) (d : ℕ × ℕ) → k < length r.segments → All (IsOf (get_or r.segments k d)) (gaps_left_in (footprints r.blocks) (get_or r.segments k d))
+IsOf-gaps r h k d lt =
+    let s : ℕ × ℕ = get_or r.segments k d in
+    let least = (h.sizes k d lt).least in
+    IsOf-between s (s.1 - 16) (omega (arith, least)) (filter (λ f. eqb f.seg s.0) (footprints r.blocks)) (IsOf-footprints r h k d lt) 16 (omega arith)
+
+-- what is true of the gaps of each segment is true of all
+pub gaps-All : (P : Run → Type 0) (r : Layout ℕ) → HaveHeads r → ((k : ℕ) (d : ℕ × ℕ) → k < length r.segments → (f : Run) → IsOf (get_or r.segments k d) f → P f) → All P (gaps_left r.segments (footprints r.blocks))
+gaps-All P r h each =
+    All-flat_map P (gaps_left_in (footprints r.blocks)) r.segments
+    (λ k d lt. All-weaker (IsOf (get_or r.segments k d)) P (each k d lt) (gaps_left_in (footprints r.blocks) (get_or r.segments k d)) (IsOf-gaps r h k d lt))
+
+pub usable-gaps : (r : Layout ℕ) → HaveHeads r → All (IsUsable r.segments) (gaps_left r.segments (footprints r.blocks))
+usable-gaps r h =
+    gaps-All (IsUsable r.segments) r h
+    (λ k d lt f of. let s : ℕ × ℕ = get_or r.segments k d in (k, s, lt, get_or_default r.segments k s d lt, (of.seg, of.first, of.before)))
 
 lesser-keeps : (P : Run → Type 0) (best : Option Run) (x b : Run) → ((c : Run) → best ≡ Some c → P c) → P x → lesser best x ≡ Some b → P b
 lesser-keeps P None x b h p e = let q : x ≡ b = cc in subst P q p
@@ -84,24 +97,23 @@ lesser-keeps P (Some l) x b h p e =
     (cases_Bool (comes_before x l))
 
 -- what is true of each gap is true of the least
-pub least-All : (P : Run → Type 0) (best : Option Run) (gs : List Run) (g : Run) → ((c : Run) → best ≡ Some c → P c) → All P gs → fold lesser best gs ≡ Some g → P g
-least-All P best [] g h all e = h g e
-least-All P best (x ∷ xs) g h all e =
-    least-All P (lesser best x) xs g (λ b q. lesser-keeps P best x b h (All-head P x xs all) q) (All-tail P x xs all) e
+least-from : (P : Run → Type 0) (best : Option Run) (gs : List Run) (g : Run) → ((c : Run) → best ≡ Some c → P c) → All P gs → fold lesser best gs ≡ Some g → P g
+least-from P best [] g h all e = h g e
+least-from P best (x ∷ xs) g h all e =
+    least-from P (lesser best x) xs g (λ b q. lesser-keeps P best x b h (All-head P x xs all) q) (All-tail P x xs all) e
 
--- the least gap that holds a block of that size and alignment
-pub record IsBestGap (segs : List Bytes) (size align : ℕ) (g : Run) : Type 0 where
-  pub gap : IsGapIn segs g
-  pub holds : holds (span size) align g ≡ true
-
-pub best_gap-IsBestGap : (segs : List Bytes) (slots : List Slot) (size align : ℕ) (g : Run) → IsLayout segs slots → best_left (map pair_of segs) (runs_of slots) size align ≡ Some g → IsBestGap segs size align g
-best_gap-IsBestGap segs slots size align g l e =
-    let all = gaps_left (map pair_of segs) (runs_of slots) in
+-- the least gap that holds a block of that size and alignment does so, and what is true of each gap is true of it
+pub best_left-holds : (segments : List (ℕ × ℕ)) (runs : List Run) (size align : ℕ) (g : Run) → best_left segments runs size align ≡ Some g → holds (span size) align g ≡ true
+best_left-holds segments runs size align g e =
     let test = holds (span size) align in
-    record {
-      gap = least-All (IsGapIn segs) None (filter test all) g (λ c q. absurd (cc)) (All-filter test (IsGapIn segs) all (IsGapIn-gaps segs slots l)) e;
-      holds = least-All (λ x. test x ≡ true) None (filter test all) g (λ c q. absurd (cc)) (filter_passes test all) e;
-    }
+    let all = gaps_left segments runs in
+    least-from (λ x. test x ≡ true) None (filter test all) g (λ c q. absurd (cc)) (filter_passes test all) e
+
+pub best_left-All : (P : Run → Type 0) (segments : List (ℕ × ℕ)) (runs : List Run) (size align : ℕ) (g : Run) → All P (gaps_left segments runs) → best_left segments runs size align ≡ Some g → P g
+best_left-All P segments runs size align g h e =
+    let test = holds (span size) align in
+    let all = gaps_left segments runs in
+    least-from P None (filter test all) g (λ c q. absurd (cc)) (All-filter test P all h) e
 
 fold-lesser-Some : (best : Run) (gs : List Run) → fold lesser (Some best) gs ≡ None → ⊥
 fold-lesser-Some best [] e = cc

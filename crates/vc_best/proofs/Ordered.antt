@@ -1,18 +1,18 @@
--- Lists in ascending order of a key.
+-- Blocks by address leave gaps that need no sorting.
 use Rattle.std.proofs.Common.{◌≡◌, ℕ, ◌-◌, ◌<◌, ◌≤◌, List, [], ◌∷◌, ◌++◌, Bool, Some, All, AllPairs, length, get_or, filter, fold, refl, ap, ◌∙◌, ⊎_elim, eqb, ltb, arith}
 use Rattle.std.specs.Prelude.{find}
-use Rattle.std.proofs.lemmas.Bool.{cases_Bool, eqb-true, lt-ltb, le-ltb}
-use Rattle.std.proofs.lemmas.List.Elements.{All-head, All-tail, All-filter, All-map, filter_passes}
+use Rattle.std.proofs.lemmas.Bool.{cases_Bool, le-ltb, lt-ltb, eqb-true}
+use Rattle.std.proofs.lemmas.List.Elements.{All-head, All-tail, All-map, All-filter, filter_passes}
 use Rattle.std.proofs.lemmas.List.Kept.{AllPairs-filter}
-use Rattle.vc_model.specs.Order.{least_above, lesser_by, put_by, sorted_by}
 use Rattle.vc_model.specs.Gap.{Run, gaps, gaps_between, runs_in}
+use Rattle.vc_model.specs.Layout.{Block, footprint, footprints}
+use Rattle.vc_model.specs.Order.{least_above, lesser_by, put_by, sorted_by}
 use Rattle.vc_model.specs.Place.{best_gap, holds, least}
 use Rattle.vc_model.specs.Segments.{span}
 use Rattle.vc_model.specs.Sound.{EndsBefore}
-use Rattle.vc_best.specs.declared.slot.Slot.{Slot}
-use Rattle.vc_best.specs.Slot.{run_of_slot, runs_of}
-use Rattle.vc_best.specs.Gaps.{gaps_left_in, gaps_left, best_left}
-use Rattle.vc_best.proofs.Apart.{AllPairs-head, AllPairs-tail, AllPairs-map, Before, span-least}
+use Rattle.vc_blocks.proofs.Apart.{AllPairs-head, AllPairs-map, AllPairs-tail}
+use Rattle.vc_best.specs.Gaps.{best_left, gaps_left, gaps_left_in}
+use Rattle.vc_best.proofs.Apart.{Before, span-least}
 
 module _ {A : Type 0} (key : A → ℕ) where
   -- one key is below another
@@ -24,7 +24,7 @@ module _ {A : Type 0} (key : A → ℕ) where
   put_by-first x (y ∷ ys) h = rw (lt-ltb (key x) (key y) (All-head (Less x) y ys h)) refl
 
   -- such a list is sorted already
-  pub sorted_by-ascending : (xs : List A) → AllPairs Less xs → sorted_by key xs ≡ xs
+  sorted_by-ascending : (xs : List A) → AllPairs Less xs → sorted_by key xs ≡ xs
   sorted_by-ascending [] h = refl
   sorted_by-ascending (x ∷ xs) h =
       ap (put_by key x) (sorted_by-ascending xs (AllPairs-tail Less x xs h)) ∙ put_by-first x xs (AllPairs-head Less x xs h)
@@ -45,21 +45,21 @@ module _ {A : Type 0} (key : A → ℕ) where
       (λ e. rw e (least_above-first after xs (AllPairs-tail Less x xs h)))
       (cases_Bool (ltb after (key x)))
 
--- the runs of slots by address are sorted already
-runs_in-left : (n : ℕ) (slots : List Slot) → AllPairs Before slots → runs_in n (runs_of slots) ≡ filter (λ f. eqb f.seg n) (runs_of slots)
-runs_in-left n slots h =
+-- the footprints of blocks by address are sorted already
+runs_in-left : (n : ℕ) (bs : List (Block ℕ)) → AllPairs Before bs → runs_in n (footprints bs) ≡ filter (λ f. eqb f.seg n) (footprints bs)
+runs_in-left n bs h =
     let test : Run → Bool = λ f. eqb f.seg n in
-    let own : List Run = filter test (runs_of slots) in
+    let own : List Run = filter test (footprints bs) in
     let P : Run → Type 0 = λ f. f.from < f.to in
-    let some : All P own = All-filter test P (runs_of slots) (All-map P run_of_slot slots (λ k d lt. let low = span-least (get_or slots k d).size in omega (arith, low))) in
-    let pairs = AllPairs-filter EndsBefore test (runs_of slots) (AllPairs-map EndsBefore run_of_slot slots h) in
+    let some : All P own = All-filter test P (footprints bs) (All-map P footprint bs (λ k d lt. let low = span-least (get_or bs k d).size in omega (arith, low))) in
+    let pairs = AllPairs-filter EndsBefore test (footprints bs) (AllPairs-map EndsBefore footprint bs h) in
     sorted_by-ascending (λ (f : Run). f.from) own
     (λ i j d lt within.
     let first : i < length own = omega (arith, lt, within) in
     let x : Run = get_or own i d in
     let y : Run = get_or own j d in
-    let one : x.seg ≡ n = eqb-true x.seg n (filter_passes test (runs_of slots) i d first) in
-    let two : y.seg ≡ n = eqb-true y.seg n (filter_passes test (runs_of slots) j d within) in
+    let one : x.seg ≡ n = eqb-true x.seg n (filter_passes test (footprints bs) i d first) in
+    let two : y.seg ≡ n = eqb-true y.seg n (filter_passes test (footprints bs) j d within) in
     let order : x.from < x.to = some i d first in
     ⊎_elim
     (λ u. absurd (omega (arith, u, one, two)))
@@ -67,11 +67,11 @@ runs_in-left n slots h =
     (pairs i j d lt within))
 
 -- so their gaps are those that they leave
-pub gaps-left : (segments : List (ℕ × ℕ)) (slots : List Slot) → AllPairs Before slots → gaps segments (runs_of slots) ≡ gaps_left segments (runs_of slots)
-gaps-left [] slots h = refl
-gaps-left (s ∷ ss) slots h =
-    ap (λ fs. gaps_between s.0 16 (s.1 - 16) fs ++ gaps ss (runs_of slots)) (runs_in-left s.0 slots h)
-    ∙ ap (λ gs. gaps_left_in (runs_of slots) s ++ gs) (gaps-left ss slots h)
+pub gaps-left : (segments : List (ℕ × ℕ)) (bs : List (Block ℕ)) → AllPairs Before bs → gaps segments (footprints bs) ≡ gaps_left segments (footprints bs)
+gaps-left [] bs h = refl
+gaps-left (s ∷ ss) bs h =
+    ap (λ fs. gaps_between s.0 16 (s.1 - 16) fs ++ gaps ss (footprints bs)) (runs_in-left s.0 bs h)
+    ∙ ap (λ gs. gaps_left_in (footprints bs) s ++ gs) (gaps-left ss bs h)
 
-pub best_gap-left : (segments : List (ℕ × ℕ)) (slots : List Slot) (size align : ℕ) → AllPairs Before slots → best_gap segments (runs_of slots) size align ≡ best_left segments (runs_of slots) size align
-best_gap-left segments slots size align h = ap (λ gs. least (filter (holds (span size) align) gs)) (gaps-left segments slots h)
+pub best_gap-left : (segments : List (ℕ × ℕ)) (bs : List (Block ℕ)) (size align : ℕ) → AllPairs Before bs → best_gap segments (footprints bs) size align ≡ best_left segments (footprints bs) size align
+best_gap-left segments bs size align h = ap (λ gs. least (filter (holds (span size) align) gs)) (gaps-left segments bs h)

@@ -1,27 +1,10 @@
--- Numbers that are rounded up, and the legal alignments and sizes.
-use Rattle.std.proofs.Common.{◌≡◌, ℕ, ◌+◌, ◌-◌, ◌*◌, ◌/◌, ◌%◌, ◌<◌, ◌≤◌, List, [], ◌∷◌, refl, ap, sym, ◌∙◌, arith}
-use Rattle.std.proofs.Math.Nat.{mul-mod_right}
-use Rattle.std.proofs.lemmas.Nat.{mul-mod_first}
+-- The legal alignments, and the size of the segment that a block is asked for.
+use Rattle.std.proofs.Common.{◌≡◌, ℕ, ◌+◌, ◌%◌, ◌≤◌, List, [], ◌∷◌, refl, arith}
 use Rattle.std.proofs.lemmas.List.Elements.{All-from_recursion, All-contains}
 use Rattle.vc_model.specs.Discipline.{IsRound, IsSegmentSize}
-use Rattle.vc_model.specs.Segments.{round_up, span}
 use Rattle.vc_model.specs.Place.{IsAlign}
-
-pub round_up-least : (n unit : ℕ) → 1 ≤ unit → n ≤ round_up n unit
-round_up-least n unit h = omega arith
-
-pub round_up-most : (n unit : ℕ) → 1 ≤ unit → round_up n unit < n + unit
-round_up-most n unit h = omega arith
-
--- a multiple of 32 to whose multiple it is rounded up
-pub round_up-mod_32 : (n unit : ℕ) → unit % 32 ≡ 0 → round_up n unit % 32 ≡ 0
-round_up-mod_32 n unit h =
-    let q = (n + unit - 1) / unit in
-    let zero : 0 * q ≡ 0 = omega arith in
-    sym (mul-mod_first unit q 32) ∙ (ap (λ r. (r * q) % 32) h ∙ ap (λ r. r % 32) zero)
-
-pub round_up-mod_unit : (n unit : ℕ) → round_up n unit % unit ≡ 0
-round_up-mod_unit n unit = mul-mod_right unit ((n + unit - 1) / unit)
+use Rattle.vc_model.specs.Segments.{round_up, span}
+use Rattle.vc_segments.proofs.Rounding.{IsSegmentSize-asked, round_up-least, round_up-most}
 
 -- what an alignment is
 pub record IsAligned (align : ℕ) : Type 0 where
@@ -62,13 +45,10 @@ IsAligned-from_IsAlign align h =
     ))
     h
 
--- the size of the segment that is asked for
-pub IsSegmentSize-asked : (round size align : ℕ) → IsRound round → size ≤ 16777264 → IsAligned align → IsSegmentSize (round_up (span size + align) round)
-IsSegmentSize-asked round size align r most a =
-    let one : 1 ≤ round = omega arith in
-    let low = round_up-least (span size + align) round one in
-    let high = round_up-most (span size + align) round one in
-    let span_low : size + 16 ≤ span size = round_up-least (size + 16) 32 (omega arith) in
-    let span_high : span size < size + 16 + 32 = round_up-most (size + 16) 32 (omega arith) in
-    let multiple : span size % 32 ≡ 0 = round_up-mod_unit (size + 16) 32 in
-    record { least = omega arith; most = omega arith; multiple = round_up-mod_32 (span size + align) round r.multiple }
+pub IsSegmentSize-need : (round size align : ℕ) → IsRound round → 1 ≤ size → size ≤ 16777264 → IsAligned align → IsSegmentSize (round_up (span size + align) round)
+IsSegmentSize-need round size align r some most a =
+    let low = round_up-least (size + 16) 32 (omega arith) in
+    let high = round_up-most (size + 16) 32 (omega arith) in
+    let first = a.least in
+    let last = a.most in
+    IsSegmentSize-asked round (span size + align) r (omega (arith, low, first, some)) (omega (arith, high, last, most))

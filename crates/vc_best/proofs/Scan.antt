@@ -3,8 +3,8 @@ use Rattle.std.proofs.Common.{ℕ, List, Option, map, filter, fold, eqb}
 use Rattle.vc_model.specs.Gap.{Run, gaps_between}
 use Rattle.vc_model.specs.Place.{holds, lesser}
 use Rattle.vc_seg.specs.Segment.{Bytes, pair_of}
-use Rattle.vc_best.specs.declared.slot.Slot.{Slot}
-use Rattle.vc_best.specs.Slot.{runs_of}
+use Rattle.vc_blocks.specs.declared.slot.Slot.{Slot}
+use Rattle.vc_best.specs.Heads.{runs_of}
 use Rattle.vc_best.specs.Gaps.{gaps_left}
 
 -- the least of the gap so far and of those that these slots leave of a segment from an offset on

@@ -1,5 +1,5 @@
 -- The gaps that runs by address leave. They are those of the region, where the runs are sorted first.
-use Rattle.std.specs.Prelude.{ℕ, ◌-◌, List, Option, filter, ◌==◌}
+use Rattle.std.specs.Prelude.{ℕ, ◌-◌, List, [], ◌∷◌, Option, filter, nat_lt, ◌==◌, if◌then◌else◌}
 use Rattle.std.specs.List.{flat_map}
 use Rattle.vc_model.specs.Gap.{Run, gaps_between}
 use Rattle.vc_model.specs.Place.{holds, least}
@@ -16,3 +16,7 @@ gaps_left segments runs = flat_map (gaps_left_in runs) segments
 -- the least gap that holds a block of that size and alignment
 abbrev pub best_left : List (ℕ × ℕ) → List Run → ℕ → ℕ → Option Run
 best_left segments runs size align = least (filter (holds (span size) align) (gaps_left segments runs))
+
+-- the size of the run from one offset to another, where it has a byte
+abbrev pub run_sizes : ℕ → ℕ → List ℕ
+run_sizes from to = if nat_lt from to then (to - from) ∷ [] else []

@@ -15,11 +15,6 @@ pub use Rattle.vc_model.specs.Walk
 pub use Rattle.vc_model.specs.Addr
 pub use Rattle.vc_seg.specs.Answer
 pub use Rattle.vc_seg.specs.Stat
-pub mod Slot
-pub mod Apart
+pub mod Heads
 pub mod Gaps
-pub mod Parts
-pub mod Write
 pub mod Stay
-pub mod Close
-pub mod Tally

@@ -6,7 +6,7 @@ ghost use Rattle.vc_model.specs.Compact.{cleared, compact_count, compacted};
 ghost use Rattle.vc_model.specs.Discipline.{HasOut, TookBack};
 ghost use Rattle.vc_model.specs.Layout.{address_of, empty_layout, without_block};
 ghost use Rattle.vc_model.specs.Place.{IsAlign};
-ghost use Rattle.vc_model.specs.Sound.{IsSound};
+ghost use Rattle.vc_model.specs.Sound.{HasWholeBlocks, IsSound};
 ghost use Rattle.vc_model.specs.Touch.{HasBlock, find_block};
 ghost use Rattle.vc_model.specs.Walk.{block_at, next_block, next_segment, segment_at};
 ghost use Rattle.vc_seg.specs.Answer.{Answers, Asks};
@@ -29,6 +29,9 @@ pub struct Best {
     pub alloc: Global,
     /// No two blocks overlap, each lies in the usable part of a segment, and segments have numbers of their own.
     pub ghost sound: { ∥ IsSound layout ∥₁ },
+    /// Each block has as many bytes as its size, at most 16,777,264, its address is a u32, and no segment has more than
+    /// 33,554,432 bytes.
+    pub ghost whole: { ∥ HasWholeBlocks layout ∥₁ },
 }
 
 impl Best {
@@ -141,21 +144,21 @@ impl Best {
             (block_at (seg, off) self.now.layout.blocks) }
         ensures live { IfSome result (λ f. HasBlock self.now.layout.blocks f.0.0) }
     {
-        self.layout.block_at(seg, off)
+        self.layout.held().block_at(seg, off)
     }
 
     /// The size of the segment of that number, where it has a byte at that offset, else None.
     pub fn segment_at(&self, seg: u32, off: u32) -> Option<u32>
         ensures { result ≡ segment_at (seg, off) self.now.layout.segments }
     {
-        self.layout.segment_at(seg, off)
+        self.layout.held().segment_at(seg, off)
     }
 
     /// The segment with the least number above one, as number and size. A walk begins with 0, and ends with None.
     pub fn next_segment(&self, after: u32) -> Option<(u32, u32)>
         ensures { result ≡ next_segment after self.now.layout.segments }
     {
-        self.layout.next_segment(after)
+        self.layout.held().next_segment(after)
     }
 
     /// The block behind one in order of addresses. A walk begins with `Addr::NONE`, and ends with None.

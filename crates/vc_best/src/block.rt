@@ -14,7 +14,7 @@ impl Best {
         ensures { option_map (λ b. b.size) (find_block (place_of a.0) self.now.layout.blocks)
             ≡ Some result }
     {
-        self.layout.size(a)
+        self.layout.held().size(a)
     }
 
     /// The tag of the block at that address.
@@ -23,7 +23,7 @@ impl Best {
         ensures { option_map (λ b. b.label) (find_block (place_of a.0) self.now.layout.blocks)
             ≡ Some result }
     {
-        self.layout.tag(a)
+        self.layout.held().tag(a)
     }
 
     /// The bytes of a range of the block at that address. The range lies in the block.
@@ -33,7 +33,7 @@ impl Best {
         ensures { option_map (λ b. take len (drop off b.bytes))
             (find_block (place_of a.0) self.now.layout.blocks) ≡ Some result.now }
     {
-        self.layout.read(a, off, len)
+        self.layout.held().read(a, off, len)
     }
 
     /// Puts bytes into the block at that address, from an offset on. They lie in the block.
@@ -45,6 +45,7 @@ impl Best {
         ensures others { without_block (place_of a.0) self.new.layout.blocks
             ≡ without_block (place_of a.0) self.old.layout.blocks }
         ensures disc { state self.new.disc ≡ state self.old.disc }
+        ensures same_disc { self.new.disc ≡ self.old.disc }
     {
         self.layout.write(a, off, src);
     }

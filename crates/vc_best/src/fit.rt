@@ -2,12 +2,14 @@ ghost use Rattle.std.specs.Prelude.{◌≡◌, ℕ, ◌+◌, ◌≤◌, All, Opt
 ghost use Rattle.vc_model.specs.Discipline.{IsSegmentSize};
 ghost use Rattle.vc_model.specs.Place.{holds, lesser};
 ghost use Rattle.vc_seg.specs.Segment.{pair_of};
-ghost use Rattle.vc_best.specs.Slot.{IsSlot, runs_of};
+ghost use Rattle.vc_blocks.specs.Slot.{IsSlot};
+ghost use Rattle.vc_best.specs.Heads.{runs_of};
 ghost use Rattle.vc_best.specs.Gaps.{gaps_left_in, best_left};
 
-use crate::gap::{Gap, consider, span_of};
-use crate::slot::Slot;
+use crate::gap::{Gap, consider};
+use vc_blocks::Slot;
 use vc_seg::Segment;
+use vc_segments::span_of;
 
 /// The least gap so far that holds a block of that span and alignment, or one of this segment where it is a lesser one.
 fn best_in_segment(

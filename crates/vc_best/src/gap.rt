@@ -1,9 +1,9 @@
 ghost use Rattle.std.specs.Prelude.{◌≡◌, ℕ, ◌+◌, ◌≤◌, Option, filter, fold};
-ghost use Rattle.vc_model.specs.Segments.{span, round_up};
 ghost use Rattle.vc_model.specs.Gap.{Run, comes_before, run_of};
 ghost use Rattle.vc_model.specs.Place.{holds, lesser, lowest_offset};
 
 use std::marker::Model;
+use vc_segments::rounded_up;
 
 /// A run of free bytes of a segment, up to but not including `to`.
 #[derive(Clone, Copy)]
@@ -24,23 +24,6 @@ impl Model for Gap {
     ghost inverse = { λ r. record { seg = r.seg; from = r.from; to = r.to } };
 
     ghost invariant = { λ g. (g.from < g.to) × (g.to ≤ 33554432) };
-}
-
-/// The number, rounded up to a multiple of the unit.
-pub(crate) fn rounded_up(number: u32, unit: u32) -> u32
-    requires unit { 1 ≤ unit }
-    requires fits { number + unit ≤ 4294967296 }
-    ensures { result ≡ round_up number unit }
-{
-    unit * ((number + (unit - 1)) / unit)
-}
-
-/// The bytes that a block of this size takes with its head.
-pub(crate) fn span_of(size: u32) -> u32
-    requires { size ≤ 16777264 }
-    ensures { result ≡ span size }
-{
-    rounded_up(size + 16, 32)
 }
 
 impl Gap {

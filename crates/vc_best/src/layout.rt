@@ -1,4 +1,4 @@
-ghost use Rattle.std.specs.Prelude.{◌≡◌, ℕ, ◌+◌, ◌<◌, ◌≤◌, [], None, Some, option_map, length, vec_len, vec_capacity, IfOk, IfErr, IfSome, OnErr, OnOk};
+ghost use Rattle.std.specs.Prelude.{◌≡◌, ℕ, ◌+◌, ◌<◌, ◌≤◌, [], None, Some, option_map, length, replicate, take, true, IfOk, IfErr, IfSome, OnErr};
 ghost use Rattle.std.specs.List.{HoldsAt, remove};
 ghost use Rattle.vc_model.specs.Addr.{place_of};
 ghost use Rattle.vc_model.specs.Best.{best_alloc, best_need, place_in, put_at, without_block_at};
@@ -6,32 +6,28 @@ ghost use Rattle.vc_model.specs.Compact.{cleared, compact_count, compacted};
 ghost use Rattle.vc_model.specs.Discipline.{HasOut, TookBack};
 ghost use Rattle.vc_model.specs.Layout.{address_of, empty_layout};
 ghost use Rattle.vc_model.specs.Place.{IsAlign};
-ghost use Rattle.vc_model.specs.Sound.{IsSound};
-ghost use Rattle.vc_model.specs.Touch.{HasBlock};
-ghost use Rattle.vc_model.specs.Walk.{block_at, next_block, next_segment, segment_at};
+ghost use Rattle.vc_model.specs.Resize.{can_stay, resize_there};
+ghost use Rattle.vc_model.specs.Sound.{HasWholeBlocks, IsSound};
+ghost use Rattle.vc_model.specs.Touch.{HasBlock, HasRange, find_block, with_bytes_at};
+ghost use Rattle.vc_model.specs.Walk.{next_block};
 ghost use Rattle.vc_seg.specs.Answer.{Answers, Asks, IsPut};
 ghost use Rattle.vc_seg.specs.Stat.{layout_stat};
 
 use crate::fit::best_gap;
-use crate::free::take_out;
-use crate::gap::{rounded_up, span_of};
-use crate::give_back::give_back_empty;
-use crate::lend::{lend_segment, round_of};
-use crate::number::lowest_unused;
-use crate::range::fill_in;
-use crate::slot::Slot;
-use crate::stat::{tally_gaps, tally_segments, tally_slots};
-use crate::walk::{next_segment, next_slot, segment_at, slot_at};
+use crate::stat::tally_gaps;
+use crate::stay::fits_in;
+use crate::walk::next_address;
 use std::alloc::Global;
 use std::marker::Model;
 use vc_base::Addr;
-use vc_seg::{RegionFault, SegDisc, Segment, Stat};
+use vc_blocks::{Layout as Blocks, Order, Slot};
+use vc_seg::{RegionFault, SegDisc, Stat};
+use vc_segments::{round_of, rounded_up, span_of};
 
-/// The segments in order of lending and the blocks by address.
+/// The segments in order of lending and the blocks, with heads, by address.
 #[derive(Drop)]
 pub struct Layout {
-    pub(crate) segs: Vec<Segment>,
-    pub(crate) blocks: Vec<Slot>,
+    held: Blocks,
 }
 
 impl Model for Layout {
@@ -40,20 +36,11 @@ impl Model for Layout {
 
     ghost Value = { Layout ℕ };
 
-    ghost use Rattle.vc_best.specs.Parts.{layout_of, IsLayout};
+    ghost use Rattle.vc_best.specs.Heads.{HaveHeads};
 
-    ghost view = { λ l. layout_of l.segs.items l.blocks.items };
+    ghost view = { λ l. l.held };
 
-    ghost invariant = { λ l. IsLayout l.segs.items l.blocks.items };
-}
-
-/// Room for one more.
-fn reserve_one<T>(list: &mut Vec<T>) -> Result<(), RegionFault>
-    ensures items { list.new.items ≡ list.old.items }
-    ensures ok { OnOk result (vec_len list.new < vec_capacity list.new) }
-    ensures only { IfErr result (λ e. e ≡ RegionFault.OutOfMemory) }
-{
-    list.reserve(1).map_err(|_| RegionFault::OutOfMemory)
+    ghost invariant = { λ l. HaveHeads l.held };
 }
 
 impl Layout {
@@ -61,11 +48,18 @@ impl Layout {
     pub(crate) fn new(alloc: Global) -> Layout
         ensures value { result ≡ empty_layout }
         ensures sound { IsSound result }
+        ensures whole { HasWholeBlocks result }
     {
-        Layout {
-            segs: Vec::new(alloc),
-            blocks: Vec::new(alloc),
-        }
+        let held = Blocks::new(alloc);
+        held.look();
+        Layout { held }
+    }
+
+    /// Its segments and blocks, for calls that change nothing.
+    pub(crate) fn held(&self) -> &Blocks
+        ensures { result.now ≡ self.now }
+    {
+        &self.held
     }
 
     /// The place for a block, as segment and offset.
@@ -74,7 +68,7 @@ impl Layout {
         requires align { IsAlign align }
         ensures { result ≡ place_in self.now size align }
     {
-        let gap = best_gap(&self.segs, &self.blocks, size, align)?;
+        let gap = best_gap(self.held.segments(), self.held.slots(), size, align)?;
         Some((gap.seg, gap.lowest_offset(align)))
     }
 
@@ -97,17 +91,11 @@ impl Layout {
         ensures only { IfErr result (λ e. e ≡ RegionFault.OutOfMemory) }
         ensures fresh { IfOk result (λ a. ¬ HasBlock self.old.blocks a.0) }
         ensures sound { IsSound self.new }
+        ensures whole { HasWholeBlocks self.new }
     {
-        reserve_one(&mut self.blocks)?;
-        fill_in(&mut self.segs, seg, off, size, 0);
-        Slot {
-            seg,
-            off,
-            size,
-            tag,
-        }
-        .put_among(&mut self.blocks);
-        Ok(Addr::new(seg, off))
+        let answer = self.held.put(Order::ByAddress, seg, off, size, tag);
+        self.held.look();
+        answer
     }
 
     /// A block of zeros, which has no place, in a segment that the discipline lends for it.
@@ -123,31 +111,20 @@ impl Layout {
         requires most { size ≤ 16777264 }
         requires align { IsAlign align }
         requires none { place_in self.old size align ≡ None }
-
         ensures answer { Answers (best_alloc (state disc.old).terms self.old tag size align)
             result self.old self.new }
         ensures disc { Asks result (state disc.old) (state disc.new)
             self.old.segments self.new.segments (best_need (state disc.old).terms size align) }
         ensures fresh { IfOk result (λ a. ¬ HasBlock self.old.blocks a.0) }
         ensures sound { IsSound self.new }
+        ensures whole { HasWholeBlocks self.new }
     {
-        if self.segs.len() >= 1023 {
-            return Err(RegionFault::TooManySegments);
-        }
-        reserve_one(&mut self.segs)?;
-        reserve_one(&mut self.blocks)?;
-        let number = lowest_unused(&self.segs);
         let bytes = rounded_up(span_of(size) + align, round_of(disc));
-        let segment = lend_segment(disc, alloc, number, bytes)?;
-        self.segs.push_reserved(segment);
-        Slot {
-            seg: number,
-            off: align,
-            size,
-            tag,
-        }
-        .put_among(&mut self.blocks);
-        Ok(Addr::new(number, align))
+        let answer = self
+            .held
+            .put_in_new(Order::ByAddress, disc, alloc, bytes, align, size, tag);
+        self.held.look();
+        answer
     }
 
     /// Frees the block at that address.
@@ -160,33 +137,83 @@ impl Layout {
             → self.new.blocks ≡ remove self.old.blocks i }
         ensures none_left { ¬ HasBlock self.new.blocks a.0 }
         ensures sound { IsSound self.new }
+        ensures whole { HasWholeBlocks self.new }
     {
-        take_out(&mut self.blocks, a.seg(), a.off());
+        self.held.remove(a);
+        self.held.look();
     }
 
-    /// The block whose bytes hold the byte at an offset of a segment, and the offset in it.
-    pub(crate) fn block_at(&self, seg: u32, off: u32) -> Option<(Addr, u32)>
-        ensures value { option_map {U = ℕ × ℕ} (λ f. (f.0.0, f.1)) result
-            ≡ option_map {U = ℕ × ℕ} (λ f. (address_of f.0, f.1))
-            (block_at (seg, off) self.now.blocks) }
-        ensures live { IfSome result (λ f. HasBlock self.now.blocks f.0.0) }
+    /// Puts bytes into the block at that address, from an offset on.
+    pub(crate) fn write(&mut self, a: Addr, off: u32, src: &[u8])
+        requires block { HasBlock self.old.blocks a.0 }
+        requires range { HasRange self.old.blocks a.0 off (length src.now) }
+        ensures value { self.new ≡ with_bytes_at self.old (place_of a.0) off src.now }
+        ensures sound { IsSound self.new }
+        ensures whole { HasWholeBlocks self.new }
     {
-        let slot = slot_at(&self.blocks, seg, off)?;
-        Some((Addr::new(slot.seg, slot.off), off - slot.off))
+        self.held.write(a, off, src);
+        self.held.look();
     }
 
-    /// The size of the segment of that number, where the offset is below it.
-    pub(crate) fn segment_at(&self, seg: u32, off: u32) -> Option<u32>
-        ensures { result ≡ segment_at (seg, off) self.now.segments }
+    /// Fills a range of the block at that address with one byte.
+    pub(crate) fn fill(&mut self, a: Addr, off: u32, len: u32, byte: u8)
+        requires block { HasBlock self.old.blocks a.0 }
+        requires range { HasRange self.old.blocks a.0 off len }
+        ensures value { self.new ≡ with_bytes_at self.old (place_of a.0) off (replicate len byte) }
+        ensures sound { IsSound self.new }
+        ensures whole { HasWholeBlocks self.new }
     {
-        segment_at(&self.segs, seg, off)
+        self.held.fill(a, off, len, byte);
+        self.held.look();
     }
 
-    /// The segment with the least number above one, as number and size.
-    pub(crate) fn next_segment(&self, after: u32) -> Option<(u32, u32)>
-        ensures { result ≡ next_segment after self.now.segments }
+    /// Whether the block at that address can have another size where it is.
+    pub(crate) fn can_stay(&self, a: Addr, size: u32) -> bool
+        requires block { HasBlock self.now.blocks a.0 }
+        requires some { 1 ≤ size }
+        requires most { size ≤ 16777264 }
+        ensures { option_map (can_stay self.now size) (find_block (place_of a.0) self.now.blocks)
+            ≡ Some result }
     {
-        next_segment(&self.segs, after)
+        let slot = Slot {
+            seg: a.seg(),
+            off: a.off(),
+            size,
+            tag: 0,
+        };
+        fits_in(self.held.segments(), self.held.slots(), slot)
+    }
+
+    /// Gives the block at that address another size where it is. What is new in it is zero.
+    pub(crate) fn resize_there(&mut self, a: Addr, size: u32)
+        requires block { HasBlock self.old.blocks a.0 }
+        requires some { 1 ≤ size }
+        requires most { size ≤ 16777264 }
+        requires stays { IfSome (find_block (place_of a.0) self.old.blocks)
+            (λ b. can_stay self.old size b ≡ true) }
+        ensures value { self.new ≡ resize_there self.old (place_of a.0) size }
+        ensures sound { IsSound self.new }
+        ensures whole { HasWholeBlocks self.new }
+    {
+        self.held.resize_there(a, size);
+        self.held.look();
+    }
+
+    /// Moves the bytes of a block, up to a number of them, into the front of another, which has room for them, and frees
+    /// it.
+    pub(crate) fn take_over(&mut self, a: Addr, to: Addr, size: u32)
+        requires block { HasBlock self.old.blocks a.0 }
+        requires to { HasBlock self.old.blocks to.0 }
+        requires room { IfSome (find_block (place_of to.0) self.old.blocks) (λ b. size ≤ b.size) }
+        ensures segments { self.new.segments ≡ self.old.segments }
+        ensures moved { IfSome (find_block (place_of a.0) self.old.blocks)
+            (λ b. self.new ≡ without_block_at
+            (with_bytes_at self.old (place_of to.0) 0 (take size b.bytes)) (place_of a.0)) }
+        ensures sound { IsSound self.new }
+        ensures whole { HasWholeBlocks self.new }
+    {
+        self.held.take_over(a, to, size);
+        self.held.look();
     }
 
     /// The first block behind an address.
@@ -195,17 +222,17 @@ impl Layout {
             ≡ option_map address_of (next_block after.0 self.now.blocks) }
         ensures live { IfSome result (λ a. HasBlock self.now.blocks a.0) }
     {
-        let slot = next_slot(&self.blocks, after.seg(), after.off())?;
-        Some(Addr::new(slot.seg, slot.off))
+        let address = next_address(self.held.slots(), after.0)?;
+        Some(Addr(address))
     }
 
     /// Its numbers of blocks, gaps and segments, and their sizes in bytes.
     pub(crate) fn stat(&self) -> Stat
         ensures { result ≡ layout_stat self.now }
     {
-        let blocks = tally_slots(&self.blocks);
-        let gaps = tally_gaps(&self.segs, &self.blocks);
-        let segments = tally_segments(&self.segs);
+        let blocks = self.held.tally_blocks();
+        let gaps = tally_gaps(self.held.segments(), self.held.slots());
+        let segments = self.held.tally_segments();
         Stat {
             busy: blocks.count,
             free: gaps.count,
@@ -213,7 +240,7 @@ impl Layout {
             sfree: gaps.bytes,
             mbusy: blocks.most,
             mfree: gaps.most,
-            segs: self.segs.len() as u32,
+            segs: segments.count as u32,
             extent: segments.bytes,
         }
     }
@@ -222,8 +249,10 @@ impl Layout {
     pub(crate) fn clear(&mut self)
         ensures value { self.new ≡ cleared self.old }
         ensures sound { IsSound self.new }
+        ensures whole { HasWholeBlocks self.new }
     {
-        self.blocks.clear();
+        self.held.clear();
+        self.held.look();
     }
 
     /// The discipline takes back each segment without a block, in ascending order of number, and they are counted.
@@ -234,10 +263,11 @@ impl Layout {
         ensures disc { TookBack (state disc.old) (state disc.new)
             self.old.segments self.new.segments }
         ensures sound { IsSound self.new }
+        ensures whole { HasWholeBlocks self.new }
     {
-        let before = self.segs.len();
-        give_back_empty(&mut self.segs, &self.blocks, disc);
-        (before - self.segs.len()) as u32
+        let count = self.held.compact(disc);
+        self.held.look();
+        count
     }
 
     /// The discipline takes all its segments back, in ascending order of number, and they are counted.
@@ -246,12 +276,7 @@ impl Layout {
         ensures count { result ≡ length self.segments }
         ensures disc { TookBack (state disc.old) (state disc.new) self.segments [] }
     {
-        let Layout {
-            mut segs,
-            blocks: _,
-        } = self;
-        let count = segs.len() as u32;
-        give_back_empty(&mut segs, &[], disc);
-        count
+        let Layout { held } = self;
+        held.close(disc)
     }
 }

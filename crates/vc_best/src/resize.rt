@@ -54,7 +54,7 @@ impl Best {
         if !may_move {
             return Err(RegionFault::Fixed);
         }
-        let tag = self.layout.tag(a);
+        let tag = self.layout.held().tag(a);
         match self.alloc(size, 32, tag, steps) {
             Ok(to) => {
                 self.layout.take_over(a, to, size);

@@ -2,37 +2,25 @@ ghost use Rattle.std.specs.Prelude.{◌≡◌, [], All, map};
 ghost use Rattle.vc_model.specs.Discipline.{IsSegmentSize};
 ghost use Rattle.vc_model.specs.Gap.{bytes_of};
 ghost use Rattle.vc_seg.specs.Segment.{pair_of};
-ghost use Rattle.vc_best.specs.Slot.{IsSlot, runs_of};
-ghost use Rattle.vc_best.specs.Tally.{HasRoom, tallied_all, tally_of};
-ghost use Rattle.vc_best.specs.Gaps.{gaps_left, gaps_left_in};
+ghost use Rattle.vc_blocks.specs.Slot.{IsSlot};
+ghost use Rattle.vc_blocks.specs.Tally.{HasRoom, tallied_all, tally_of};
+ghost use Rattle.vc_best.specs.Gaps.{gaps_left, gaps_left_in, run_sizes};
+ghost use Rattle.vc_best.specs.Heads.{runs_of};
 
-use crate::gap::span_of;
-use crate::slot::Slot;
-use crate::tally::Tally;
+use vc_blocks::{Slot, Tally};
 use vc_seg::Segment;
+use vc_segments::span_of;
 
-/// The sizes of these blocks.
-pub(crate) fn tally_slots(slots: &[Slot]) -> Tally
-    requires { HasRoom (tally_of []) (map (λ s. s.size) slots.now) }
-    ensures { result ≡ tally_of (map (λ s. s.size) slots.now) }
+/// The tally with the run from one offset to another, where it has a byte.
+fn with_run(tally: Tally, from: u32, to: u32) -> Tally
+    requires { HasRoom tally (run_sizes from to) }
+    ensures { result ≡ tallied_all tally (run_sizes from to) }
 {
-    let mut tally = Tally::new();
-    for slot in slots {
-        tally = tally.with(slot.size);
+    if from < to {
+        tally.with(to - from)
+    } else {
+        tally
     }
-    tally
-}
-
-/// The sizes of these segments.
-pub(crate) fn tally_segments(segs: &[Segment]) -> Tally
-    requires { HasRoom (tally_of []) (map (λ s. s.1) (map pair_of segs.now)) }
-    ensures { result ≡ tally_of (map (λ s. s.1) (map pair_of segs.now)) }
-{
-    let mut tally = Tally::new();
-    for segment in segs {
-        tally = tally.with(segment.size());
-    }
-    tally
 }
 
 /// The tally so far with the gaps that these slots leave in a segment.
@@ -48,11 +36,11 @@ fn tally_gaps_in(tally: Tally, seg: u32, bytes: u32, slots: &[Slot]) -> Tally
     for slot in slots {
         if slot.seg == seg {
             let to = slot.off - 16;
-            tally = tally.with_run(from, to);
+            tally = with_run(tally, from, to);
             from = to + span_of(slot.size);
         }
     }
-    tally.with_run(from, bytes - 16)
+    with_run(tally, from, bytes - 16)
 }
 
 /// The gaps that these slots leave in these segments.

@@ -1,12 +1,13 @@
 ghost use Rattle.std.specs.Prelude.{◌≡◌, ℕ, All, map};
 ghost use Rattle.vc_model.specs.Resize.{is_usable, meets};
 ghost use Rattle.vc_seg.specs.Segment.{pair_of};
-ghost use Rattle.vc_best.specs.Slot.{IsSlot, run_of_slot};
+ghost use Rattle.vc_blocks.specs.Slot.{IsSlot};
+ghost use Rattle.vc_best.specs.Heads.{run_of_slot};
 ghost use Rattle.vc_best.specs.Stay.{fits_in, is_clear};
 
-use crate::gap::span_of;
-use crate::slot::Slot;
+use vc_blocks::Slot;
 use vc_seg::Segment;
+use vc_segments::span_of;
 
 /// Whether what a slot takes is in the usable part of one of these segments.
 fn is_usable(segs: &[Segment], slot: Slot) -> bool

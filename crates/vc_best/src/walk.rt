@@ -1,75 +1,19 @@
-ghost use Rattle.std.specs.Prelude.{◌≡◌, [], ◌∷◌, find, filter, fold, map, nat_lt};
-ghost use Rattle.vc_model.specs.Order.{lesser_by};
-ghost use Rattle.vc_model.specs.Walk.{next_segment, segment_at};
-ghost use Rattle.vc_seg.specs.Segment.{pair_of};
-ghost use Rattle.vc_best.specs.Slot.{lies_before_slot, slot_holds_byte};
+ghost use Rattle.std.specs.Prelude.{◌≡◌, All, find, map, nat_lt};
+ghost use Rattle.vc_blocks.specs.Slot.{HasNumber, IsSlot, address_of_slot};
 
-use crate::slot::Slot;
-use vc_seg::Segment;
+use vc_blocks::Slot;
 
-/// The slot whose block holds the byte at an offset of a segment.
-pub(crate) fn slot_at(slots: &[Slot], seg: u32, off: u32) -> Option<Slot>
-    ensures { result ≡ find (slot_holds_byte (seg, off)) slots.now }
+/// The first address of these slots that is above one.
+pub(crate) fn next_address(slots: &[Slot], after: u32) -> Option<u32>
+    requires slots { All IsSlot slots.now }
+    requires numbers { All HasNumber slots.now }
+    ensures { result ≡ find (λ a. nat_lt after a) (map address_of_slot slots.now) }
 {
     for slot in slots {
-        if slot.seg == seg && slot.off <= off && off - slot.off < slot.size {
-            return Some(*slot);
+        let address = slot.address();
+        if after < address {
+            return Some(address);
         }
     }
     None
-}
-
-/// The first slot behind an offset of a segment.
-pub(crate) fn next_slot(slots: &[Slot], seg: u32, off: u32) -> Option<Slot>
-    ensures { result ≡ find (lies_before_slot seg off) slots.now }
-{
-    for slot in slots {
-        if seg < slot.seg || (seg == slot.seg && off < slot.off) {
-            return Some(*slot);
-        }
-    }
-    None
-}
-
-/// The size of the segment of that number, where the offset is below it.
-pub(crate) fn segment_at(segs: &[Segment], seg: u32, off: u32) -> Option<u32>
-    ensures { result ≡ segment_at (seg, off) (map pair_of segs.now) }
-{
-    for segment in segs {
-        if segment.number() == seg && off < segment.size() {
-            return Some(segment.size());
-        }
-    }
-    None
-}
-
-/// The lesser by number of the least segment so far and one more, as number and size, where that is above a number.
-fn consider(least: Option<(u32, u32)>, after: u32, number: u32, bytes: u32) -> Option<(u32, u32)>
-    ensures { result ≡ fold (lesser_by (λ s. s.0)) least
-        (filter (λ s. nat_lt after s.0) ((number, bytes) ∷ [])) }
-{
-    if number <= after {
-        return least;
-    }
-    match least {
-        Some(pair) => {
-            if number < pair.0 {
-                Some((number, bytes))
-            } else {
-                least
-            }
-        }
-        None => Some((number, bytes)),
-    }
-}
-
-/// The segment with the least number above one, as number and size.
-pub(crate) fn next_segment(segs: &[Segment], after: u32) -> Option<(u32, u32)>
-    ensures { result ≡ next_segment after (map pair_of segs.now) }
-{
-    let mut least = None;
-    for segment in segs {
-        least = consider(least, after, segment.number(), segment.size());
-    }
-    least
 }

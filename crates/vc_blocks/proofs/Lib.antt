@@ -11,3 +11,6 @@ pub mod Sizes
 pub mod Moves
 pub mod Puts
 pub mod Tallies
+pub mod Changes
+pub mod Owned
+pub mod Whole

@@ -1,5 +1,5 @@
 -- What putting a block leaves.
-use Rattle.std.proofs.Common.{◌≡◌, ◌≢◌, ℕ, ◌+◌, ◌<◌, ◌≤◌, List, [], ◌∷◌, ◌++◌, false, All, length, get_or, map, replicate, refl, ap, sym, ◌∙◌, subst, eqb, append_assoc, arith}
+use Rattle.std.proofs.Common.{◌≡◌, ◌≢◌, ℕ, ◌+◌, ◌%◌, ◌<◌, ◌≤◌, List, [], ◌∷◌, ◌++◌, false, All, length, get_or, map, replicate, refl, ap, sym, ◌∙◌, subst, eqb, append_assoc, arith}
 use Rattle.std.specs.Prelude.{Err}
 use Rattle.std.proofs.lemmas.Bool.{ne_eqb, or_from}
 use Rattle.std.proofs.lemmas.List.{length_push, length-replicate, map_push}
@@ -37,42 +37,42 @@ among-none n (s ∷ ss) h =
     or_from (eqb s.number n) (is_among n (numbers (map pair_of ss))) (ne_eqb s.number n (All-head P s ss h)) (among-none n ss (All-tail P s ss h))
 
 -- a block in a new segment, under a number that no other has
-module _ (segs : List Bytes) (slots : List Slot) (n bytes size tag : ℕ) (l : IsLayout segs slots) (legal : AreSegments (segs ++ zeroed n bytes ∷ [])) (fresh : All (λ s. s.number ≢ n) segs) (some : 1 ≤ size) (most : size ≤ 16777264)
-    (room : 32 + size ≤ bytes) where
+module _ (segs : List Bytes) (slots : List Slot) (n bytes off size tag : ℕ) (l : IsLayout segs slots) (legal : AreSegments (segs ++ zeroed n bytes ∷ [])) (fresh : All (λ s. s.number ≢ n) segs) (some : 1 ≤ size) (most : size ≤ 16777264)
+    (small : bytes ≤ 33554432) (first : 32 ≤ off) (multiple : off % 32 ≡ 0) (room : off + size ≤ bytes) where
   own : bytes_of_number n (segs ++ zeroed n bytes ∷ []) ≡ replicate bytes 0
   own = bytes_of_number-push (zeroed n bytes) segs (among-none n segs fresh)
 
-  pub IsSlotIn-new : IsSlotIn (segs ++ zeroed n bytes ∷ []) (slot_at tag size (n, 32))
+  pub IsSlotIn-new : IsSlotIn (segs ++ zeroed n bytes ∷ []) (slot_at tag size (n, off))
   IsSlotIn-new =
       let all : length (bytes_of_number n (segs ++ zeroed n bytes ∷ [])) ≡ bytes = ap length own ∙ length-replicate {A = ℕ} bytes 0 in
-      record { slot = record { first = omega arith; last = omega arith; multiple = refl; some = some; most = most }; within = omega (arith, all, room) }
+      record { slot = record { first = first; last = omega arith; multiple = multiple; some = some; most = most }; within = omega (arith, all, room) }
 
-  beside-new : All (Beside (slot_at tag size (n, 32))) slots
+  beside-new : All (Beside (slot_at tag size (n, off))) slots
   beside-new =
       λ k d lt.
       let t : Slot = get_or slots k d in
-      apart_by_seg (body_of (slot_at tag size (n, 32))) (body_of t)
+      apart_by_seg (body_of (slot_at tag size (n, off))) (body_of t)
       (λ q.
       let here : 0 < length (bytes_of_number t.seg segs) = stands segs t (l.blocks k d lt) in
       let there : 0 < length (bytes_of_number n segs) = subst (λ (m : ℕ). 0 < length (bytes_of_number m segs)) (sym q) here in
       omega (arith, there, ap length (bytes_of_number-none n segs fresh)))
 
-  pub IsLayout-new : (order : Order) → IsLayout (segs ++ zeroed n bytes ∷ []) (placed_slot order (slot_at tag size (n, 32)) slots)
-  IsLayout-new order = IsLayout-placed order (segs ++ zeroed n bytes ∷ []) (slot_at tag size (n, 32)) slots (IsLayout-push segs (zeroed n bytes) slots l legal) IsSlotIn-new beside-new
+  pub IsLayout-new : (order : Order) → IsLayout (segs ++ zeroed n bytes ∷ []) (placed_slot order (slot_at tag size (n, off)) slots)
+  IsLayout-new order = IsLayout-placed order (segs ++ zeroed n bytes ∷ []) (slot_at tag size (n, off)) slots (IsLayout-push segs (zeroed n bytes) slots l legal) IsSlotIn-new beside-new
 
   pub pairs-new : map pair_of (segs ++ zeroed n bytes ∷ []) ≡ map pair_of segs ++ (n, bytes) ∷ []
   pairs-new = map_push pair_of segs (zeroed n bytes) ∙ ap (λ k. map pair_of segs ++ (n, k) ∷ []) (length-replicate {A = ℕ} bytes 0)
 
-  pub layout_of-new : (order : Order) → layout_of (segs ++ zeroed n bytes ∷ []) (placed_slot order (slot_at tag size (n, 32)) slots) ≡ with_zeros order (with_segment (layout_of segs slots) (n, bytes)) tag size (n, 32)
+  pub layout_of-new : (order : Order) → layout_of (segs ++ zeroed n bytes ∷ []) (placed_slot order (slot_at tag size (n, off)) slots) ≡ with_zeros order (with_segment (layout_of segs slots) (n, bytes)) tag size (n, off)
   layout_of-new order =
-      let s = slot_at tag size (n, 32) in
+      let s = slot_at tag size (n, off) in
       let all = segs ++ zeroed n bytes ∷ [] in
       let region : List (ℕ × ℕ) → List (Block ℕ) → Layout ℕ = λ ss bs. record { segments = ss; blocks = bs } in
       ap (λ ss. region ss (map (block_in all) (placed_slot order s slots))) pairs-new
       ∙ ap (region (map pair_of segs ++ (n, bytes) ∷ []))
       (blocks-placed order all s slots
       ∙ (ap (λ b. placed order b (map (block_in all) slots)) (block_in-zeros all s bytes own room)
-      ∙ ap (placed order (zeros tag size (n, 32))) (blocks-push segs (zeroed n bytes) slots l.blocks)))
+      ∙ ap (placed order (zeros tag size (n, off))) (blocks-push segs (zeroed n bytes) slots l.blocks)))
 
 -- a discipline that was asked for nothing
 pub Served-same : (d : Discipline) (segments : List (ℕ × ℕ)) (bytes : ℕ) → Served d d segments segments bytes

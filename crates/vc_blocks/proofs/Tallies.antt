@@ -90,7 +90,7 @@ slots-few segs slots l =
     let all = length-le_from_distinct_below (map address_of_slot slots) 1073741824 (IsDistinct-from_AllPairs Decides-eqb (map address_of_slot slots) (own-addresses segs slots l.blocks l.apart)) (below-all 1073741824 (map address_of_slot slots) below) in
     omega (arith, all, length-map slots address_of_slot)
 
-sizes-most : (most : ℕ) (ns : List ℕ) → All (λ n. n ≤ most) ns → sum ns ≤ length ns * most
+pub sizes-most : (most : ℕ) (ns : List ℕ) → All (λ n. n ≤ most) ns → sum ns ≤ length ns * most
 sizes-most most [] h = omega arith
 sizes-most most (n ∷ ns) h =
     let here : n ≤ most = All-head (λ (m : ℕ). m ≤ most) n ns h in

@@ -135,7 +135,7 @@ fold-key : {A : Type 0} (key : A → ℕ) (o : Option A) (xs : List A) → optio
 fold-key key o [] = refl
 fold-key key o (x ∷ xs) = fold-key key (lesser_by key o x) xs ∙ ap (λ (p : Option ℕ). fold (lesser_by (λ a. a)) p (map key xs)) (lesser-key key o x)
 
-least_above-key : {A : Type 0} (key : A → ℕ) (after : ℕ) (xs : List A) → option_map key (least_above key after xs) ≡ least_above (λ a. a) after (map key xs)
+pub least_above-key : {A : Type 0} (key : A → ℕ) (after : ℕ) (xs : List A) → option_map key (least_above key after xs) ≡ least_above (λ a. a) after (map key xs)
 least_above-key key after xs =
     fold-key key None (filter (λ x. ltb after (key x)) xs)
     ∙ ap (fold (lesser_by (λ a. a)) None) (sym (filter-map key (λ a. ltb after a) xs))

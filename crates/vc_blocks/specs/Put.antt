@@ -42,10 +42,10 @@ with_zeros order r tag size at = record { segments = r.segments; blocks = placed
 abbrev pub IsAddress : ℕ → ℕ × ℕ → Type 0
 IsAddress a at = (a ≡ address at) × (place_of a ≡ at)
 
--- a segment of that many bytes was granted under a number that no other has, and a block of zeros put at its offset 32
-pub record IsPutInNew (order : Order) (old new : Layout ℕ) (tag size bytes a : ℕ) : Type 0 where
+-- a segment of that many bytes was granted under a number that no other has, and a block of zeros put at that offset in it
+pub record IsPutInNew (order : Order) (old new : Layout ℕ) (tag size bytes off a : ℕ) : Type 0 where
   pub granted : ask bytes old.segments false ≡ Granted (place_of a).0 bytes
-  pub address : IsAddress a ((place_of a).0, 32)
-  pub layout : new ≡ with_zeros order (with_segment old ((place_of a).0, bytes)) tag size ((place_of a).0, 32)
+  pub address : IsAddress a ((place_of a).0, off)
+  pub layout : new ≡ with_zeros order (with_segment old ((place_of a).0, bytes)) tag size ((place_of a).0, off)
   pub fresh : All (λ s. s.0 ≢ (place_of a).0) old.segments
   pub numbered : HaveOwnNumbers new.segments

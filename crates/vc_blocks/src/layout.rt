@@ -2,6 +2,7 @@ ghost use Rattle.std.specs.Prelude.{◌≡◌, ℕ, All, [], IfSome, length, map
 ghost use Rattle.vc_model.specs.Compact.{cleared, compact_count, compacted};
 ghost use Rattle.vc_model.specs.Discipline.{HasOut, TookBack};
 ghost use Rattle.vc_model.specs.Layout.{address_of, empty_layout};
+ghost use Rattle.vc_model.specs.Sound.{HasWholeBlocks};
 ghost use Rattle.vc_model.specs.Touch.{HasBlock};
 ghost use Rattle.vc_model.specs.Walk.{block_at, next_block, next_segment, segment_at};
 ghost use Rattle.vc_seg.specs.Segment.{pair_of};
@@ -64,6 +65,13 @@ impl Layout {
         ensures numbers { All HasNumber result.now }
     {
         &self.blocks
+    }
+
+    /// What is always true of its blocks: each has as many bytes as its size, and its address is a u32.
+    pub fn look(&self)
+        ensures { HasWholeBlocks self.now }
+    {
+        let _ = &self.blocks;
     }
 
     /// The block whose bytes hold the byte at an offset of a segment, and the offset in it. None where no block does.

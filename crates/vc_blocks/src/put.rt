@@ -58,7 +58,7 @@ impl Layout {
         Ok(Addr::new(seg, off))
     }
 
-    /// A block of zeros at offset 32 of a segment of that many bytes, which the discipline lends for it, in that order
+    /// A block of zeros at an offset of a segment of that many bytes, which the discipline lends for it, in that order
     /// among the others.
     pub fn put_in_new(
         &mut self,
@@ -66,6 +66,7 @@ impl Layout {
         disc: &mut Box<dyn SegDisc>,
         alloc: Global,
         bytes: u32,
+        off: u32,
         size: u32,
         tag: u32,
     ) -> Result<Addr, RegionFault>
@@ -73,8 +74,10 @@ impl Layout {
         requires most { size ≤ 16777264 }
         requires bytes { IsSegmentSize bytes }
         requires multiple { bytes % (state disc.old).terms.round ≡ 0 }
-        requires room { 32 + size ≤ bytes }
-        ensures ok { IfOk result (λ a. IsPutInNew order self.old self.new tag size bytes a.0) }
+        requires first { 32 ≤ off }
+        requires offset { off % 32 ≡ 0 }
+        requires room { off + size ≤ bytes }
+        ensures ok { IfOk result (λ a. IsPutInNew order self.old self.new tag size bytes off a.0) }
         ensures fault { IfErr result (IsNoGrant bytes self.old.segments) }
         ensures err { OnErr result (self.new ≡ self.old) }
         ensures disc { Asks result (state disc.old) (state disc.new) self.old.segments
@@ -84,12 +87,12 @@ impl Layout {
         let number = obtain(&mut self.segs, disc, alloc, bytes)?;
         Slot {
             seg: number,
-            off: 32,
+            off,
             size,
             tag,
         }
         .put_among(order, &mut self.blocks);
-        Ok(Addr::new(number, 32))
+        Ok(Addr::new(number, off))
     }
 
     /// Frees the block at that address.

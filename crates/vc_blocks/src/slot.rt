@@ -19,7 +19,7 @@ impl Slot {
     ghost use Rattle.vc_blocks.specs.Slot.{HasNumber, IsSlot, address_of_slot, placed_slot, with_slot};
 
     /// Its address, as a number.
-    pub(crate) fn address(self) -> u32
+    pub fn address(self) -> u32
         requires slot { IsSlot self }
         requires number { HasNumber self }
         ensures { result ≡ address_of_slot self }

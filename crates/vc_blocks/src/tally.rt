@@ -14,7 +14,7 @@ pub struct Tally {
 
 impl Tally {
     /// Of no size.
-    pub(crate) fn new() -> Tally
+    pub fn new() -> Tally
         ensures { result ≡ tally_of [] }
     {
         Tally {
@@ -25,7 +25,7 @@ impl Tally {
     }
 
     /// With one more size.
-    pub(crate) fn with(self, size: u32) -> Tally
+    pub fn with(self, size: u32) -> Tally
         requires { HasRoom self (size ∷ []) }
         ensures { result ≡ tallied self size }
     {

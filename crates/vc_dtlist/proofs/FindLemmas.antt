@@ -2,7 +2,6 @@
 use Rattle.std.proofs.Common.{◌≡◌, ◌≢◌, ℕ, ◌+◌, ◌<◌, ◌≤◌, ◌^◌, List, [], ◌∷◌, ◌++◌, Bool, true, false, Some, None, length, refl, sym, ap, ◌∙◌, arith, subst, cond, append_assoc, length-append, inl, inr}
 use Rattle.std.specs.List.{find, list_any, AllByRecursion, IsDistinct}
 use Rattle.std.proofs.Math.Dec.{eqb}
-use Rattle.std.specs.Ordering.{is_eq}
 use Rattle.std.specs.declared.cmp.Ordering.{Ordering}
 use Rattle.std.proofs.lemmas.Bool.{true≢false, ne_eqb}
 use Rattle.std.proofs.lemmas.Bool.Decides.{eqb_tells}
@@ -10,10 +9,12 @@ use Rattle.std.proofs.lemmas.Map.Steps.{length-le_from_distinct_below}
 use Rattle.vc_base.specs.declared.addr.Addr.{Addr}
 use Rattle.vc_base.specs.Cells.{Blocks, HasBytes, word_at}
 use Rattle.vc_base.specs.Holders.{AreDistinct, contains, first_of, last_of}
-use Rattle.vc_dtdisc.specs.Finds.{find_key, has_key, object_at}
+use Rattle.vc_dtdisc.specs.Finds.{object_at}
 use Rattle.vc_dtdisc.specs.Rules.{Rules}
 use Rattle.vc_dtlist.specs.declared.dt_list.DtList.{DtList}
-use Rattle.vc_dtlist.specs.Linked.{Chain, Finds, StandsFor}
+use Rattle.vc_dtlist.specs.declared.sought.Sought.{Sought}
+use Rattle.vc_dtlist.specs.Sought.{Seeks, is_sought, stands_so}
+use Rattle.vc_dtlist.specs.Linked.{Chain, StandsFor}
 use Rattle.vc_dtlist.proofs.HolderLemmas.{apart-head, apart-tail}
 use Rattle.vc_dtlist.proofs.ChainLemmas.{Chain-none, Chain-rest}
 use Rattle.vc_dtlist.proofs.TurnLemmas.{first_fits, fewer}
@@ -84,19 +85,19 @@ short_none test [] e = refl
 short_none test (y ∷ ys) e = absurd (omega arith)
 
 -- nothing was found
-nothing : (rules : Rules) (b : Blocks) (key holders : List ℕ) (passed at before now : ℕ) → Walked (has_key rules b key) holders passed at before now → find_key rules b key holders ≡ None → Finds rules b key holders None before now
-nothing rules b key holders passed at before now w e =
+nothing : (test : ℕ → Bool) (holders : List ℕ) (passed at before now : ℕ) → Walked test holders passed at before now → find test holders ≡ None → Seeks test holders None before now
+nothing test holders passed at before now w e =
     let long : length holders ≡ length w.front + length w.rest = ap length w.whole ∙ length-append w.front w.rest in
     record { first = sym e; steps = omega (arith, w.count, w.steps) }
 
-pub Finds-none : (rules : Rules) (list : DtList) (b : Blocks) (key holders : List ℕ) (passed at before now : ℕ) → StandsFor list b holders → Walked (has_key rules b key) holders passed at before now → at ≡ 0 → Finds rules b key holders None before now
-Finds-none rules list b key holders passed at before now s w e =
+pub Seeks-none : (test : ℕ → Bool) (list : DtList) (b : Blocks) (holders : List ℕ) (passed at before now : ℕ) → StandsFor list b holders → Walked test holders passed at before now → at ≡ 0 → Seeks test holders None before now
+Seeks-none test list b holders passed at before now s w e =
     let rest = Chain-rest b 0 w.front w.rest 0 (subst (λ z. Chain b 0 z 0) w.whole s.chain) in
-    nothing rules b key holders passed at before now w (w.none ∙ end_none b (last_of 0 w.front) (has_key rules b key) w.rest rest (sym e ∙ w.next))
+    nothing test holders passed at before now w (w.none ∙ end_none b (last_of 0 w.front) test w.rest rest (sym e ∙ w.next))
 
-pub Finds-some : (rules : Rules) (list : DtList) (b : Blocks) (key holders : List ℕ) (passed before now after : ℕ) (at : Addr) → StandsFor list b holders → Walked (has_key rules b key) holders passed at.0 before now → at.0 ≢ 0 → has_key rules b key at.0 ≡ true → after ≡ now + 1 → Finds rules b key holders (Some at) before after
-Finds-some rules list b key holders passed before now after at s w some t step =
-    let n = walk_next (has_key rules b key) list b holders passed at.0 before now s w some in
+pub Seeks-some : (test : ℕ → Bool) (list : DtList) (b : Blocks) (holders : List ℕ) (passed before now after : ℕ) (at : Addr) → StandsFor list b holders → Walked test holders passed at.0 before now → at.0 ≢ 0 → test at.0 ≡ true → after ≡ now + 1 → Seeks test holders (Some at) before after
+Seeks-some test list b holders passed before now after at s w some t step =
+    let n = walk_next test list b holders passed at.0 before now s w some in
     record { first = sym (n.found t); steps = omega (arith, n.room, w.steps) }
 
 -- a list has fewer than 2^32 holders: each has an address of its own, and none has 0
@@ -128,16 +129,16 @@ fewer_holders list b xs s =
     let h : length (0 ∷ xs) ≤ 2 ^ 32 = length-le_from_distinct_below (0 ∷ xs) (2 ^ 32) (distinct_all (0 ∷ xs) d) (λ q. below_or_0 b 0 xs 0 q s.chain) in
     omega arith
 
-pub Finds-all_passed : (rules : Rules) (list : DtList) (b : Blocks) (key holders : List ℕ) (passed at before now : ℕ) → StandsFor list b holders → Walked (has_key rules b key) holders passed at before now → 2 ^ 32 ≤ passed + 1 → Finds rules b key holders None before now
-Finds-all_passed rules list b key holders passed at before now s w end =
+pub Seeks-all_passed : (test : ℕ → Bool) (list : DtList) (b : Blocks) (holders : List ℕ) (passed at before now : ℕ) → StandsFor list b holders → Walked test holders passed at before now → 2 ^ 32 ≤ passed + 1 → Seeks test holders None before now
+Seeks-all_passed test list b holders passed at before now s w end =
     let few = fewer_holders list b holders s in
     let long : length holders ≡ length w.front + length w.rest = ap length w.whole ∙ length-append w.front w.rest in
     let short : length w.rest ≡ 0 = omega (arith, w.count) in
-    nothing rules b key holders passed at before now w (w.none ∙ short_none (has_key rules b key) w.rest short)
+    nothing test holders passed at before now w (w.none ∙ short_none test w.rest short)
 
 -- the test of the holder there is the answer of these calls
-pub test-is : (rules : Rules) (b : Blocks) (key : List ℕ) (at : ℕ) (object k : List ℕ) (o : Ordering) (r : Bool) → object ≡ object_at b at → k ≡ rules.key object → o ≡ rules.compare k key → r ≡ is_eq o → has_key rules b key at ≡ r
-test-is rules b key at object k o r e f g h = sym (h ∙ ap is_eq (g ∙ ap (λ z. rules.compare z key) (f ∙ ap rules.key e)))
+pub test-is : (sought : Sought) (rules : Rules) (b : Blocks) (key : List ℕ) (at : ℕ) (object k : List ℕ) (o : Ordering) (r : Bool) → object ≡ object_at b at → k ≡ rules.key object → o ≡ rules.compare k key → r ≡ is_sought sought o → stands_so sought rules b key at ≡ r
+test-is sought rules b key at object k o r e f g h = sym (h ∙ ap (is_sought sought) (g ∙ ap (λ z. rules.compare z key) (f ∙ ap rules.key e)))
 
 -- one more holder was passed
 pub walk_on : (test : ℕ → Bool) (list : DtList) (b : Blocks) (holders : List ℕ) (passed at next before now after : ℕ) → StandsFor list b holders → Walked test holders passed at before now → at ≢ 0 → test at ≡ false → next ≡ word_at b at 1 → after ≡ now + 1 → Walked test holders (passed + 1) next before after

@@ -1,5 +1,5 @@
 -- Lists of addresses: which hold one, and which hold none twice.
-use Rattle.std.proofs.Common.{◌≡◌, ◌≢◌, ℕ, inl, inr, List, [], ◌∷◌, ◌++◌, true, false, Some, None, refl, sym, ap}
+use Rattle.std.proofs.Common.{◌≡◌, ◌≢◌, ℕ, ◌+◌, length, arith, inl, inr, List, [], ◌∷◌, ◌++◌, true, false, Some, None, refl, sym, ap}
 use Rattle.std.proofs.lemmas.Bool.{eq-eqb, ne_eqb, true≢false}
 use Rattle.std.proofs.lemmas.Bool.Decides.{eqb_tells}
 use Rattle.vc_base.specs.Holders.{AreDistinct, contains, first_of, inserted_after, first_in, inserted_before, last_in, last_of, next_in, previous_in, some_address, without}
@@ -141,3 +141,18 @@ some-first (x ∷ xs) h = rw (ne_eqb x 0 (apart-head x xs 0 h)) refl
 pub some-last : (xs : List ℕ) → contains xs 0 ≡ false → some_address (last_of 0 xs) ≡ last_in xs
 some-last [] h = refl
 some-last (x ∷ xs) h = rw (ne_eqb (last_of x xs) 0 (λ e. last-differs 0 x xs h (sym e))) refl
+
+-- without an address that is in a list it is one shorter, and holds no other than before
+pub length-without : (xs : List ℕ) (at : ℕ) → contains xs at ≡ true → length (without at xs) + 1 ≡ length xs
+length-without [] at h = absurd (true≢false (sym h))
+length-without (x ∷ xs) at h = elim (eqb_tells x at) as (λ _. length (without at (x ∷ xs)) + 1 ≡ length (x ∷ xs)) [
+  | inl same ↦ rw same.0 (omega arith)
+  | inr apart ↦ let rest = length-without xs at (rw apart.0 at h) in rw apart.0 (omega arith)
+]
+
+pub apart-without : (xs : List ℕ) (at a : ℕ) → contains xs a ≡ false → contains (without at xs) a ≡ false
+apart-without [] at a h = refl
+apart-without (x ∷ xs) at a h = elim (eqb_tells x at) as (λ _. contains (without at (x ∷ xs)) a ≡ false) [
+  | inl same ↦ rw same.0 (apart-tail x xs a h)
+  | inr apart ↦ rw apart.0 (apart-cons x (without at xs) a (apart-head x xs a h) (apart-without xs at a (apart-tail x xs a h)))
+]

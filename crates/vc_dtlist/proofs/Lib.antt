@@ -4,3 +4,4 @@ pub mod ChainLemmas
 pub mod LinkLemmas
 pub mod TurnLemmas
 pub mod FindLemmas
+pub mod KeptLemmas

@@ -3,7 +3,9 @@ ghost use Rattle.std.specs.Option.{option_map};
 ghost use Rattle.vc_base.specs.Cells.{Blocks};
 ghost use Rattle.vc_base.specs.Holders.{first_in, inserted_after, inserted_before, last_in, next_in, previous_in, without};
 ghost use Rattle.vc_dtlist.specs.Linked.{CanAdd, CanPlace, Finds, IsIn, IsList, Links, StandsFor, Turns, number_of};
+ghost use Rattle.vc_dtlist.specs.Sought.{Seeks, stands_so};
 
+use crate::Sought;
 use crate::words::{end_of, found, neighbour, set_link, set_node};
 use vc_base::{Addr, Cells, Steps};
 use vc_dtdisc::DictDisc;
@@ -118,13 +120,30 @@ impl DtList {
             → Finds (D.rules kind.now) (C.blocks cells.now) key.now holders result
             steps.old steps.new }
     {
+        self.seek(cells, kind, key, Sought::Equal, steps)
+    }
+
+    /// The first holder whose object's key stands so to that one, by at most as many compares as the list has holders.
+    pub fn seek<C: Cells, D: DictDisc, L>(
+        &self,
+        cells: &C,
+        kind: &D,
+        key: &[u8],
+        sought: Sought,
+        steps: &mut Steps<L>,
+    ) -> Option<Addr>
+        requires { IsList self.now (C.blocks cells.now) }
+        ensures { (holders : List ℕ) → StandsFor self.now (C.blocks cells.now) holders
+            → Seeks (stands_so sought (D.rules kind.now) (C.blocks cells.now) key.now) holders
+            result steps.old steps.new }
+    {
         let mut at = self.first;
         // A list has fewer than 2^32 holders, since each has an address of its own.
         for _passed in 0..u32::MAX {
             if at == Addr::NONE {
                 return None;
             }
-            if kind.compare(kind.key(cells.body(at)), key, steps).is_eq() {
+            if sought.is_in(kind.compare(kind.key(cells.body(at)), key, steps)) {
                 return Some(at);
             }
             at = neighbour(cells, at, 1);

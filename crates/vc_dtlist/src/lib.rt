@@ -2,6 +2,8 @@
 #![tactic(auto)]
 
 mod dt_list;
+mod sought;
 mod words;
 
 pub use dt_list::DtList;
+pub use sought::Sought;

@@ -94,11 +94,11 @@ module _ {L M : Type 0} (f : L → M) where
   pub can_stay-relabel : (r : Layout L) (size : ℕ) (b : Block L) → can_stay (relabel_layout f r) size (relabel_block f b) ≡ can_stay r size b
   can_stay-relabel r size b = ap (λ v. is_usable r.segments (footprint (sized size b)) && v) (is_clear-relabel size b r.blocks)
 
-  stays-relabel : (r : Layout L) (size : ℕ) (b : Block L) → stays (relabel_layout f r) size (relabel_block f b) ≡ relabel_outcome (stays r size b)
+  pub stays-relabel : (r : Layout L) (size : ℕ) (b : Block L) → stays (relabel_layout f r) size (relabel_block f b) ≡ relabel_outcome (stays r size b)
   stays-relabel r size b =
       ap (λ bs. Done (record { at = (b.seg, b.off); region = layout r.segments bs; granted = None })) (sym (change_block-relabel (sized size) (sized size) (λ c. refl) (b.seg, b.off) r.blocks))
 
-  moved-relabel : (size : ℕ) (b : Block L) (to : Outcome (Put (Layout L))) → moved size (relabel_block f b) (relabel_outcome to) ≡ relabel_outcome (moved size b to)
+  pub moved-relabel : (size : ℕ) (b : Block L) (to : Outcome (Put (Layout L))) → moved size (relabel_block f b) (relabel_outcome to) ≡ relabel_outcome (moved size b to)
   moved-relabel size b (Done p) =
       let src = take size b.bytes in
       ap (λ bs. Done (record { at = p.at; region = layout p.region.segments bs; granted = p.granted }))
@@ -128,11 +128,11 @@ module _ {L M : Type 0} (f : L → M) where
       ap (resize_found terms (relabel_layout f r) size may_move refused) (find_block-relabel at r.blocks)
       ∙ resize_found-relabel terms r size may_move refused (find_block at r.blocks)
 
-  is_occupied-relabel : (number : ℕ) (bs : List (Block L)) → is_occupied (map (relabel_block f) bs) number ≡ is_occupied bs number
+  pub is_occupied-relabel : (number : ℕ) (bs : List (Block L)) → is_occupied (map (relabel_block f) bs) number ≡ is_occupied bs number
   is_occupied-relabel number [] = refl
   is_occupied-relabel number (b ∷ bs) = ap (λ v. eqb b.seg number || v) (is_occupied-relabel number bs)
 
-  occupied-relabel : (bs : List (Block L)) (ss : List (ℕ × ℕ)) → filter (λ s. is_occupied (map (relabel_block f) bs) s.0) ss ≡ filter (λ s. is_occupied bs s.0) ss
+  pub occupied-relabel : (bs : List (Block L)) (ss : List (ℕ × ℕ)) → filter (λ s. is_occupied (map (relabel_block f) bs) s.0) ss ≡ filter (λ s. is_occupied bs s.0) ss
   occupied-relabel bs [] = refl
   occupied-relabel bs (s ∷ ss) =
       let rest = filter (λ (t : ℕ × ℕ). is_occupied (map (relabel_block f) bs) t.0) ss in

@@ -28,3 +28,8 @@ put_as form p = record { at = p.at; region = form p.region; granted = p.granted 
 abbrev pub outcome_as : {R S : Type 0} → (R → S) → Outcome (Put R) → Outcome (Put S)
 outcome_as form (Done p) = Done (put_as form p)
 outcome_as form (Refused why) = Refused why
+
+-- what a call gives, of another form of what it answers
+abbrev pub done_as : {A B : Type 0} → (A → B) → Outcome A → Outcome B
+done_as form (Done answer) = Done (form answer)
+done_as form (Refused why) = Refused why

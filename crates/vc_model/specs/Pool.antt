@@ -5,8 +5,8 @@ use Rattle.std.specs.Option.{option_map_or}
 use Rattle.vc_model.specs.Discipline.{Terms}
 use Rattle.vc_model.specs.Segments.{Asked, Granted, TooMany, NotLent, ask, round_up}
 use Rattle.vc_model.specs.Gap.{Run}
-use Rattle.vc_model.specs.Layout.{Block, Layout, empty_layout, with_block, with_segment}
-use Rattle.vc_model.specs.Sound.{HaveOwnNumbers, IsApart}
+use Rattle.vc_model.specs.Layout.{Block, Layout, empty_layout, relabel_layout, with_block, with_segment}
+use Rattle.vc_model.specs.Sound.{HaveOwnNumbers, HaveOwnPlaces, IsApart}
 use Rattle.vc_model.specs.Outcome.{Outcome, Done, Refused, Put, TooManySegments, NoSegment, PoolSize}
 use Rattle.vc_model.specs.Best.{zeros, without_block_at}
 use Rattle.vc_model.specs.Resize.{resize_there}
@@ -19,6 +19,10 @@ pub record Pool (L : Type 0) : Type 0 where
   pub element : Option ℕ
   pub freed : List (ℕ × ℕ)
   pub carved : List (ℕ × ℕ)
+
+-- the same with other labels
+abbrev pub relabel_pool : {L M : Type 0} → (L → M) → Pool L → Pool M
+relabel_pool name p = record { layout = relabel_layout name p.layout; element = p.element; freed = p.freed; carved = p.carved }
 
 -- with no segment and no element size
 abbrev pub empty_pool : {L : Type 0} → Pool L
@@ -143,9 +147,10 @@ cell_run cell b = record { seg = b.seg; from = b.off; to = b.off + cell }
 abbrev pub IsInside : List (ℕ × ℕ) → Run → Type 0
 IsInside segments f = Any (λ s. (f.seg ≡ s.0) × (32 ≤ f.from) × (f.to ≤ s.1)) segments
 
--- no two cells with a block overlap, each lies in a segment, each block fits its cell, and segments have numbers of their own
+-- no two cells with a block overlap, each lies in a segment, each block fits its cell, and blocks have places and segments numbers of their own
 pub record IsPoolSound {L : Type 0} (p : Pool L) : Type 0 where
   pub apart : AllPairs (λ a b. IsApart (cell_run (cell_of p) a) (cell_run (cell_of p) b)) p.layout.blocks
   pub inside : All (λ b. IsInside p.layout.segments (cell_run (cell_of p) b)) p.layout.blocks
   pub fits : All (λ b. b.size ≤ cell_of p) p.layout.blocks
+  pub places : HaveOwnPlaces p.layout.blocks
   pub numbered : HaveOwnNumbers p.layout.segments

@@ -1,5 +1,5 @@
 -- Blocks that don't overlap, and that lie in their segments.
-use Rattle.std.specs.Prelude.{◌≡◌, ◌≢◌, ℕ, ◌+◌, ◌<◌, ◌≤◌, ◌⊎◌, List, All, AllPairs, Any}
+use Rattle.std.specs.Prelude.{◌≡◌, ◌≢◌, ℕ, ◌+◌, ◌<◌, ◌≤◌, ◌^◌, ◌⊎◌, List, All, AllPairs, Any, length}
 use Rattle.vc_model.specs.Addr.{place_of}
 use Rattle.vc_model.specs.Gap.{Run}
 use Rattle.vc_model.specs.Layout.{Block, Layout, address_of, footprint}
@@ -34,3 +34,10 @@ pub record HaveOwnPlaces {L : Type 0} (blocks : List (Block L)) : Type 0 where
   pub distinct : AllPairs (λ a b. address_of a ≢ address_of b) blocks
   pub first : All (λ b. 1 ≤ b.seg) blocks
   pub exact : All (λ b. place_of (address_of b) ≡ (b.seg, b.off)) blocks
+
+-- each block has as many bytes as its size, at most 16,777,264, and its address is a u32; no segment has more than 33,554,432 bytes
+pub record HasWholeBlocks {L : Type 0} (r : Layout L) : Type 0 where
+  pub bytes : All (λ b. length b.bytes ≡ b.size) r.blocks
+  pub most : All (λ b. b.size ≤ 16777264) r.blocks
+  pub fits : All (λ b. address_of b < 2 ^ 32) r.blocks
+  pub short : All (λ s. s.1 ≤ 33554432) r.segments

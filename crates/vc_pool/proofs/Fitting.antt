@@ -14,6 +14,7 @@ use Rattle.vc_blocks.specs.declared.order.Order.TheVariants.{ByAddress}
 use Rattle.vc_model.specs.Pool.{carve, carved_in, cell_for, cell_offset, element_with, has_uncarved, uncarved}
 use Rattle.vc_model.specs.Sound.{HaveOwnNumbers}
 use Rattle.vc_blocks.specs.Put.{FitsAt, IsFreeAt, with_zeros}
+use Rattle.vc_blocks.proofs.Owned.{only-one}
 use Rattle.vc_pool.specs.Cells.{AreCells, IsCarved, IsInCell, pool_of, times}
 use Rattle.vc_pool.proofs.Apart.{IsCarved-inside, IsCarved-multiple, cell_for-least, free-at}
 use Rattle.vc_pool.proofs.Carvings.{carved_in-carve}
@@ -77,28 +78,6 @@ uncarved-found cell carved ss (Some s) at e =
     let same : pair ≡ at = cc in
     let seg : s.0 ≡ at.0 = ap (λ (p : ℕ × ℕ). p.0) same in
     (s, refl, seg, sym (ap (λ (p : ℕ × ℕ). p.1) same) ∙ ap (λ n. cell_offset cell (carved_in n carved)) seg)
-
--- of segments with numbers of their own, one alone has a number
-only-one : (ss : List (ℕ × ℕ)) (n : ℕ) (P : ℕ × ℕ → Type 0) → AllPairs (λ s t. s.0 ≢ t.0) ss → Any (λ s. (s.0 ≡ n) × P s) ss → All (λ s. s.0 ≡ n → P s) ss
-only-one [] n P h any = absurd (omega (arith, any.2))
-only-one (s ∷ ss) n P h any = λ k d lt own.
-    let all = s ∷ ss in
-    let q : ℕ × ℕ = get_or all k d in
-    let i : ℕ = any.0 in
-    let there : get_or all i any.1 ≡ any.1 = any.3 in
-    ⊎_elim
-    (λ (t : eqb i k ≡ true).
-    let same : get_or all k any.1 ≡ any.1 = subst (λ (j : ℕ). get_or all j any.1 ≡ any.1) (eqb-true i k t) there in
-    let at : q ≡ any.1 = get_or_default all k d any.1 lt ∙ same in
-    subst P (sym at) any.4.1)
-    (λ (t : eqb i k ≡ false).
-    let other = eqb-false i k t in
-    let mine : (get_or all i d).0 ≡ n = ap (λ (x : ℕ × ℕ). x.0) (get_or_default all i d any.1 any.2 ∙ there) ∙ any.4.0 in
-    ⊎_elim
-    (λ (u : ltb i k ≡ true). absurd (h i k d (ltb-true i k u) lt (mine ∙ sym own)))
-    (λ (u : ltb i k ≡ false). let le = ltb-false i k u in absurd (h k i d (omega (arith, le, other)) any.2 (own ∙ sym mine)))
-    (cases_Bool (ltb i k)))
-    (cases_Bool (eqb i k))
 
 -- the lowest uncarved cell of a segment
 pub record IsLowest (r : Layout ℕ) (cell : ℕ) (carved : List (ℕ × ℕ)) (at : ℕ × ℕ) : Type 0 where

@@ -11,28 +11,12 @@ use Rattle.vc_model.specs.Layout.{Block, Layout, lies_before, is_at, place_of_bl
 use Rattle.vc_model.specs.Pool.{carve, carved_in, cell_for, cell_offset}
 use Rattle.vc_model.specs.Sound.{HaveOwnNumbers}
 use Rattle.vc_blocks.specs.Put.{with_zeros}
+use Rattle.vc_blocks.proofs.Changes.{All-with, All-without}
 use Rattle.vc_blocks.specs.declared.order.Order.TheVariants.{ByAddress}
 use Rattle.vc_pool.specs.Cells.{AreCells, IsCarved, IsInCell, times}
 use Rattle.vc_pool.proofs.Carvings.{carved_in-carve, carved_in-other, carved_in-grows}
 use Rattle.vc_pool.proofs.Apart.{steps}
 use Rattle.vc_pool.proofs.Times.{one, same_pair-is, same_pair-self, times-append, times-none, times-with, times-without}
-
-All-with : (P : Block ℕ → Type 0) (b : Block ℕ) (bs : List (Block ℕ)) → P b → All P bs → All P (with_block b bs)
-All-with P b [] here h = All-cons P b [] here h
-All-with P b (c ∷ cs) here h =
-    ⊎_elim
-    (λ (t : lies_before b c ≡ true). rw t (All-cons P b (c ∷ cs) here h))
-    (λ (t : lies_before b c ≡ false). rw t (All-cons P c (with_block b cs) (All-head P c cs h) (All-with P b cs here (All-tail P c cs h))))
-    (cases_Bool (lies_before b c))
-
-All-without : (P : Block ℕ → Type 0) (at : ℕ × ℕ) (bs : List (Block ℕ)) → All P bs → All P (without_block at bs)
-All-without P at [] h = h
-All-without P at (b ∷ bs) h =
-    let rest = All-tail P b bs h in
-    ⊎_elim
-    (λ (t : is_at at b ≡ true). rw t rest)
-    (λ (t : is_at at b ≡ false). rw t (All-cons P b (without_block at bs) (All-head P b bs h) (All-without P at bs rest)))
-    (cases_Bool (is_at at b))
 
 All-front : {A : Type 0} (P : A → Type 0) (xs : List A) (x : A) → All P (xs ++ x ∷ []) → All P xs
 All-front P xs x h = λ k d lt. subst P (get_or_append_left xs (x ∷ []) d k lt) (h k d (omega (arith, lt, length_push xs x)))

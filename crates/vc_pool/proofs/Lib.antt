@@ -3,6 +3,7 @@ pub mod Times
 pub mod Apart
 pub mod Keeping
 pub mod Allocs
+pub mod Places
 pub mod Soundness
 pub mod Fitting
 pub mod Standing
@@ -10,3 +11,6 @@ pub mod Compacting
 pub mod Written
 pub mod Counts
 pub mod Numbers
+pub mod Answers
+pub mod Sound
+pub mod Relabel

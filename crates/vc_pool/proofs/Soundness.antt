@@ -1,31 +1,19 @@
 -- Cells of which each is carved once don't overlap, and compacting keeps that.
-use Rattle.std.proofs.Common.{◌≡◌, ◌≢◌, ℕ, ◌+◌, ◌≤◌, List, [], ◌∷◌, Bool, true, false, Option, Some, All, reverse, AllPairs, filter, length, get_or, map, refl, ap, sym, ◌∙◌, subst, ⊎_elim, eqb, arith}
+use Rattle.std.proofs.Common.{◌≡◌, ◌≢◌, ℕ, ◌≤◌, List, [], ◌∷◌, Bool, true, false, Option, Some, All, reverse, filter, length, get_or, refl, ap, sym, ◌∙◌, subst, ⊎_elim, eqb, arith}
 use Rattle.std.proofs.lemmas.Bool.{cases_Bool, eq-eqb, eqb-true, eqb-false}
 use Rattle.std.proofs.lemmas.List.Elements.{All-head, All-tail, All-nil, All-cons, All-filter, filter_passes}
 use Rattle.std.proofs.lemmas.List.Folds.{list_any_at}
-use Rattle.std.proofs.lemmas.List.Kept.{AllPairs-cons, AllPairs-filter}
+use Rattle.std.proofs.lemmas.List.Kept.{AllPairs-filter}
 use Rattle.vc_model.specs.Compact.{compacted, is_occupied}
-use Rattle.vc_model.specs.Layout.{Block, Layout, place_of_block}
+use Rattle.vc_model.specs.Layout.{Block, Layout}
 use Rattle.vc_model.specs.Pool.{IsPoolSound, Pool, carved_in, cell_for, cell_offset}
 use Rattle.vc_model.specs.Sound.{HaveOwnNumbers}
-use Rattle.vc_blocks.proofs.Apart.{AllPairs-nil}
-use Rattle.vc_pool.specs.Cells.{AreCells, IsCarved, pool_of, times}
+use Rattle.vc_pool.specs.Cells.{AreCells, IsCarved, pool_of}
 use Rattle.vc_pool.proofs.Allocs.{element_of-some}
 use Rattle.vc_pool.proofs.Apart.{IsCarved-apart, IsCarved-inside, cell_for-least}
 use Rattle.vc_pool.proofs.Carvings.{carved_in-kept, carved_in-gone}
-use Rattle.vc_pool.proofs.Times.{none-times, same_pair-self, times-filter}
-
--- two blocks are at two places
-abbrev pub Elsewhere : Block ℕ → Block ℕ → Type 0
-Elsewhere a b = let p : ℕ × ℕ = (a.seg, a.off) in p ≢ (b.seg, b.off)
-
--- blocks of which each place has one alone
-pub pairs-times : (bs : List (Block ℕ)) → ((at : ℕ × ℕ) → times at (map place_of_block bs) ≤ 1) → AllPairs Elsewhere bs
-pairs-times [] h = AllPairs-nil Elsewhere
-pairs-times (b ∷ bs) h =
-    let at : ℕ × ℕ = (b.seg, b.off) in
-    let all : 1 + times at (map place_of_block bs) ≤ 1 = rw (same_pair-self at) at (h at) in
-    AllPairs-cons Elsewhere b bs (none-times at bs (omega (arith, all))) (pairs-times bs (λ p. let more = h p in omega (arith, more)))
+use Rattle.vc_pool.proofs.Places.{HaveOwnPlaces-cells, pairs-times}
+use Rattle.vc_pool.proofs.Times.{times-filter}
 
 sound-set : (r : Layout ℕ) (element : ℕ) (freed carved freed' : List (ℕ × ℕ)) → AreCells r element freed carved → IsPoolSound (record { layout = r; element = Some element; freed = freed'; carved = carved })
 sound-set r element freed carved freed' h =
@@ -38,6 +26,7 @@ sound-set r element freed carved freed' h =
           IsCarved-apart cell carved (b.seg, b.off) (c.seg, c.off) cell cell (h.blocks i d (omega (arith, lt, within))).cell (h.blocks j d within).cell (omega arith) (omega arith) (pairs i j d lt within);
       inside = λ k d lt. let b : Block ℕ = get_or r.blocks k d in IsCarved-inside cell cell carved r.segments (b.seg, b.off) h.known h.within (h.blocks k d lt).cell (omega arith);
       fits = λ k d lt. let size = (h.blocks k d lt).size in omega (arith, size, cell_for-least element);
+      places = HaveOwnPlaces-cells r element freed carved h;
       numbered = h.numbered;
     }
 
@@ -47,6 +36,11 @@ sound-unset p none numbered =
       apart = λ i j d lt within. absurd (omega (arith, within, ap length none));
       inside = λ k d lt. absurd (omega (arith, lt, ap length none));
       fits = λ k d lt. absurd (omega (arith, lt, ap length none));
+      places = record {
+        distinct = λ i j d lt within e. omega (arith, within, ap length none);
+        first = λ k d lt. absurd (omega (arith, lt, ap length none));
+        exact = λ k d lt. absurd (omega (arith, lt, ap length none));
+      };
       numbered = numbered;
     }
 

@@ -10,6 +10,7 @@ use Rattle.vc_model.specs.Pool.{cell_for, element_with, pool_resize}
 use Rattle.vc_model.specs.Resize.{resize_there, sized}
 use Rattle.vc_model.specs.Touch.{HasBlock, change_block}
 use Rattle.vc_blocks.specs.Put.{FitsAt, IsFreeBut}
+use Rattle.vc_blocks.proofs.Changes.{All-change}
 use Rattle.vc_blocks.proofs.Frees.{place_of-address}
 use Rattle.vc_pool.specs.Cells.{AreCells, IsCarved, IsInCell, pool_of, times}
 use Rattle.vc_pool.proofs.Apart.{IsCarved-apart, IsCarved-inside, IsCarved-multiple, cell_for-least, cell_for-some}
@@ -77,23 +78,12 @@ places-change size at (b ∷ bs) =
 pub length-change : (size : ℕ) (at : ℕ × ℕ) (bs : List (Block ℕ)) → length (change_block (sized size) at bs) ≡ length bs
 length-change size at bs = sym (length-map (change_block (sized size) at bs) place_of_block) ∙ (ap length (places-change size at bs) ∙ length-map bs place_of_block)
 
-All-change : (element size : ℕ) (carved : List (ℕ × ℕ)) (at : ℕ × ℕ) (bs : List (Block ℕ)) → size ≤ element → All (IsInCell element carved) bs → All (IsInCell element carved) (change_block (sized size) at bs)
-All-change element size carved at [] fits h = h
-All-change element size carved at (b ∷ bs) fits h =
-    let P : Block ℕ → Type 0 = IsInCell element carved in
-    let here = All-head P b bs h in
-    let rest = All-tail P b bs h in
-    ⊎_elim
-    (λ (t : is_at at b ≡ true). rw t (All-cons P (sized size b) bs (record { cell = here.cell; size = fits }) rest))
-    (λ (t : is_at at b ≡ false). rw t (All-cons P b (change_block (sized size) at bs) here (All-change element size carved at bs fits rest)))
-    (cases_Bool (is_at at b))
-
 pub AreCells-sized : (r : Layout ℕ) (element : ℕ) (freed carved : List (ℕ × ℕ)) (at : ℕ × ℕ) (size : ℕ) → AreCells r element freed carved → size ≤ element → 1 ≤ element → AreCells (resize_there r at size) element freed carved
 AreCells-sized r element freed carved at size h fits set =
     record {
       most = h.most;
       unset = λ e. absurd (omega (arith, e, set));
-      blocks = All-change element size carved at r.blocks fits h.blocks;
+      blocks = All-change (IsInCell element carved) (sized size) (λ b c. record { cell = c.cell; size = fits }) at r.blocks h.blocks;
       free = h.free;
       alone = λ p. let before = h.alone p in omega (arith, before, ap (times p) (places-change size at r.blocks));
       within = h.within;

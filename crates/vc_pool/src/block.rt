@@ -1,5 +1,6 @@
 ghost use Rattle.std.specs.Prelude.{◌≡◌, Some, length, take, drop, option_map};
 ghost use Rattle.vc_model.specs.Addr.{place_of};
+ghost use Rattle.vc_model.specs.Layout.{without_block};
 ghost use Rattle.vc_model.specs.Pool.{IsPoolSound};
 ghost use Rattle.vc_model.specs.Touch.{HasBlock, HasRange, find_block, with_bytes_at};
 
@@ -44,9 +45,10 @@ impl Pool {
           layout = with_bytes_at self.old.cells.layout (place_of a.0) off src.now;
         } }
         ensures disc { state self.new.disc ≡ state self.old.disc }
+        ensures others { without_block (place_of a.0) self.new.cells.layout.blocks
+            ≡ without_block (place_of a.0) self.old.cells.layout.blocks }
         ensures sound { IsPoolSound self.new.cells }
     {
         self.cells.write(a, off, src);
-        self.cells.look();
     }
 }

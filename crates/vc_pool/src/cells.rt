@@ -1,9 +1,10 @@
-ghost use Rattle.std.specs.Prelude.{◌≡◌, ℕ, ◌+◌, ◌<◌, ◌≤◌, [], None, filter, IfErr, OnErr, OnOk, length, vec_len, vec_capacity};
+ghost use Rattle.std.specs.Prelude.{◌≡◌, ℕ, ◌+◌, ◌<◌, ◌≤◌, [], None, filter, IfErr, IsErrOf, OnErr, OnOk, length, vec_len, vec_capacity};
 ghost use Rattle.vc_model.specs.Compact.{compact_count};
 ghost use Rattle.vc_model.specs.Discipline.{HasOut, TookBack};
 ghost use Rattle.vc_model.specs.Pool.{IsPoolSound, empty_pool, element_with, pool_alloc, pool_clear, pool_compact, pool_free, pool_need, pool_resize};
 ghost use Rattle.vc_model.specs.Addr.{place_of};
 ghost use Rattle.vc_model.specs.Outcome.{Done};
+ghost use Rattle.vc_model.specs.Resize.{resize_there};
 ghost use Rattle.vc_model.specs.Touch.{HasBlock, HasRange, with_bytes_at};
 ghost use Rattle.vc_blocks.specs.Slot.{has_slot};
 ghost use Rattle.vc_pool.specs.Stat.{pool_stat};
@@ -125,7 +126,7 @@ impl Cells {
                 let bytes = rounded_up(32 + cell, round_of(disc));
                 match self
                     .layout
-                    .put_in_new(Order::ByAddress, disc, alloc, bytes, size, tag)
+                    .put_in_new(Order::ByAddress, disc, alloc, bytes, 32, size, tag)
                 {
                     Ok(a) => {
                         carve_one(&mut self.carved, a.seg());
@@ -139,7 +140,7 @@ impl Cells {
     }
 
     /// A block of zeros in the cell freed last, else in the lowest uncarved cell, else in a segment that is asked for.
-    pub(crate) fn alloc(
+    fn alloc_cell(
         &mut self,
         disc: &mut Box<dyn SegDisc>,
         alloc: Global,
@@ -173,6 +174,28 @@ impl Cells {
         }
     }
 
+    /// The same, with what is always true of a pool.
+    pub(crate) fn alloc(
+        &mut self,
+        disc: &mut Box<dyn SegDisc>,
+        alloc: Global,
+        size: u32,
+        tag: u32,
+    ) -> Result<Addr, RegionFault>
+        requires some { 1 ≤ size }
+        requires most { size ≤ 16777216 }
+        ensures answer { Answers (pool_alloc
+            (state disc.old).terms self.old tag size) result self.old self.new }
+        ensures disc { Asks result (state disc.old) (state disc.new)
+            self.old.layout.segments self.new.layout.segments
+            (pool_need (state disc.old).terms self.old size) }
+        ensures sound { IsPoolSound self.new }
+    {
+        let answer = self.alloc_cell(disc, alloc, size, tag);
+        self.look();
+        answer
+    }
+
     /// Gives the block at that address another size where it is, up to the element size.
     pub(crate) fn resize(&mut self, a: Addr, size: u32) -> Result<(), RegionFault>
         requires block { HasBlock self.old.layout.blocks a.0 }
@@ -182,30 +205,40 @@ impl Cells {
             ≡ Done (record { at = place_of a.0; region = self.new; granted = None })) }
         ensures err { IfErr result (IsRefusal (λ _. pool_resize self.old (place_of a.0) size)) }
         ensures same { OnErr result (self.new ≡ self.old) }
+        ensures memory { ¬ IsErrOf result RegionFault.OutOfMemory }
+        ensures there { OnOk result (self.new.layout
+            ≡ resize_there self.old.layout (place_of a.0) size) }
+        ensures sound { IsPoolSound self.new }
     {
         if size > self.element {
+            self.look();
             return Err(RegionFault::PoolSize);
         }
         self.layout.resize_there(a, size);
+        self.look();
         Ok(())
     }
 
     /// Frees the block at that address. Its cell is the one freed last.
     pub(crate) fn free(&mut self, a: Addr)
         requires { HasBlock self.old.layout.blocks a.0 }
-        ensures { self.new ≡ pool_free self.old (place_of a.0) }
+        ensures pool { self.new ≡ pool_free self.old (place_of a.0) }
+        ensures sound { IsPoolSound self.new }
     {
         self.layout.remove(a);
         self.freed.push_reserved((a.seg(), a.off()));
+        self.look();
     }
 
     /// Frees all blocks. Every cell is uncarved, and the element size stays.
     pub(crate) fn clear(&mut self)
-        ensures { self.new ≡ pool_clear self.old }
+        ensures pool { self.new ≡ pool_clear self.old }
+        ensures sound { IsPoolSound self.new }
     {
         self.layout.clear();
         self.freed.clear();
         self.carved.clear();
+        self.look();
     }
 
     /// Gives back each segment without a block, in ascending order of number, with its cells, and counts them.
@@ -215,10 +248,13 @@ impl Cells {
         ensures count { result ≡ compact_count self.old.layout }
         ensures disc { TookBack (state disc.old) (state disc.new)
             self.old.layout.segments self.new.layout.segments }
+        ensures sound { IsPoolSound self.new }
     {
         keep_occupied(&mut self.freed, self.layout.slots());
         keep_occupied(&mut self.carved, self.layout.slots());
-        self.layout.compact(disc)
+        let count = self.layout.compact(disc);
+        self.look();
+        count
     }
 
     /// Gives all its segments back, in ascending order of number, and counts them.
@@ -247,12 +283,14 @@ impl Cells {
     pub(crate) fn write(&mut self, a: Addr, off: u32, src: &[u8])
         requires block { HasBlock self.old.layout.blocks a.0 }
         requires range { HasRange self.old.layout.blocks a.0 off (length src.now) }
-        ensures { self.new ≡ record self.old {
+        ensures pool { self.new ≡ record self.old {
           layout = with_bytes_at self.old.layout
               (place_of a.0) off src.now;
         } }
+        ensures sound { IsPoolSound self.new }
     {
         self.layout.write(a, off, src);
+        self.look();
     }
 
     /// What is always true of a pool: no two cells with a block overlap, and each lies in a segment.

@@ -1,11 +1,13 @@
-ghost use Rattle.std.specs.Prelude.{◌≡◌, ℕ, ◌≤◌, [], None, IfErr, IfOk, IfSome, OnErr, OnOk, length, option_map};
+ghost use Rattle.std.specs.Prelude.{◌≡◌, ℕ, ◌+◌, ◌<◌, ◌≤◌, [], None, Some, IfErr, IfOk, IfSome, IsErrOf, OnErr, OnOk, length, option_map};
+ghost use Rattle.std.specs.List.{HoldsAt, remove};
 ghost use Rattle.vc_model.specs.Addr.{place_of};
+ghost use Rattle.vc_model.specs.Best.{zeros};
 ghost use Rattle.vc_model.specs.Compact.{compact_count};
 ghost use Rattle.vc_model.specs.Discipline.{HasOut, TookBack};
-ghost use Rattle.vc_model.specs.Layout.{address_of};
+ghost use Rattle.vc_model.specs.Layout.{address_of, without_block};
 ghost use Rattle.vc_model.specs.Outcome.{Done};
 ghost use Rattle.vc_model.specs.Pool.{IsPoolSound, empty_pool, pool_alloc, pool_clear, pool_compact, pool_free, pool_need, pool_resize};
-ghost use Rattle.vc_model.specs.Touch.{HasBlock};
+ghost use Rattle.vc_model.specs.Touch.{HasBlock, find_block};
 ghost use Rattle.vc_model.specs.Walk.{block_at, next_block, next_segment, segment_at};
 ghost use Rattle.vc_pool.specs.Stat.{pool_stat};
 ghost use Rattle.vc_seg.specs.Answer.{Answers, Asks, IsRefusal};
@@ -25,6 +27,9 @@ pub struct Pool {
     pub disc: Box<dyn SegDisc>,
     /// Where the memory of its segments and lists comes from.
     pub alloc: Global,
+    /// No two cells with a block overlap, each lies in a segment, each block fits its cell, and blocks have places and
+    /// segments numbers of their own.
+    pub ghost sound: { ∥ IsPoolSound cells ∥₁ },
 }
 
 impl Pool {
@@ -36,11 +41,9 @@ impl Pool {
         ensures ok { IfOk result (λ p. (p.cells ≡ empty_pool) × (state p.disc ≡ state disc)) }
         ensures err { IfErr result (λ e. state e.1 ≡ state disc) }
     {
-        Ok(Pool {
-            cells: Cells::new(alloc),
-            disc,
-            alloc,
-        })
+        let cells = Cells::new(alloc);
+        cells.look();
+        Ok(Pool { cells, disc, alloc })
     }
 
     /// A block of zeros: 1 to 16,777,216 bytes, in the cell freed last, else in the lowest uncarved cell of the first
@@ -55,11 +58,16 @@ impl Pool {
         ensures disc { Asks result (state self.old.disc) (state self.new.disc)
             self.old.cells.layout.segments self.new.cells.layout.segments
             (pool_need (state self.old.disc).terms self.old.cells size) }
+
+        // The block stands there, at an address of its own, and the others stay.
+        ensures there { IfOk result (λ a. find_block (place_of a.0) self.new.cells.layout.blocks
+            ≡ Some (zeros tag size (place_of a.0))) }
+        ensures fresh { IfOk result (λ a. ¬ HasBlock self.old.cells.layout.blocks a.0) }
+        ensures others { IfOk result (λ a. without_block (place_of a.0)
+            self.new.cells.layout.blocks ≡ self.old.cells.layout.blocks) }
         ensures sound { IsPoolSound self.new.cells }
     {
-        let answer = self.cells.alloc(&mut self.disc, self.alloc, size, tag);
-        self.cells.look();
-        answer
+        self.cells.alloc(&mut self.disc, self.alloc, size, tag)
     }
 
     /// Gives the block at that address another size, from 1 to 16,777,216 bytes, where it is. The first bytes of both
@@ -74,11 +82,17 @@ impl Pool {
             (place_of a.0) size)) }
         ensures same { OnErr result (self.new.cells ≡ self.old.cells) }
         ensures disc { state self.new.disc ≡ state self.old.disc }
+        ensures memory { ¬ IsErrOf result RegionFault.OutOfMemory }
+
+        // The block keeps its tag, and the others stay.
+        ensures there { OnOk result (option_map (λ b. b.label)
+            (find_block (place_of a.0) self.new.cells.layout.blocks)
+            ≡ option_map (λ b. b.label) (find_block (place_of a.0) self.old.cells.layout.blocks)) }
+        ensures others { OnOk result (without_block (place_of a.0) self.new.cells.layout.blocks
+            ≡ without_block (place_of a.0) self.old.cells.layout.blocks) }
         ensures sound { IsPoolSound self.new.cells }
     {
-        let answer = self.cells.resize(a, size);
-        self.cells.look();
-        answer
+        self.cells.resize(a, size)
     }
 
     /// Frees the block at that address. Its cell is the one freed last.
@@ -86,10 +100,18 @@ impl Pool {
         requires { HasBlock self.old.cells.layout.blocks a.0 }
         ensures pool { self.new.cells ≡ pool_free self.old.cells (place_of a.0) }
         ensures disc { state self.new.disc ≡ state self.old.disc }
+
+        // It is the one block at that address that goes.
+        ensures one_less { length self.new.cells.layout.blocks + 1
+            ≡ length self.old.cells.layout.blocks }
+        ensures freed { (i : ℕ) → i < length self.old.cells.layout.blocks
+            → HoldsAt (λ b. address_of b ≡ a.0) self.old.cells.layout.blocks i
+            → self.new.cells.layout.blocks ≡ remove self.old.cells.layout.blocks i }
+        ensures none_left { ¬ HasBlock self.new.cells.layout.blocks a.0 }
         ensures sound { IsPoolSound self.new.cells }
     {
-        self.cells.free(a);
         self.cells.look();
+        self.cells.free(a);
     }
 
     /// Frees all its blocks, and keeps its segments and the element size. Every cell is uncarved.
@@ -99,7 +121,6 @@ impl Pool {
         ensures sound { IsPoolSound self.new.cells }
     {
         self.cells.clear();
-        self.cells.look();
     }
 
     /// Gives back each segment without a block, in ascending order of number, and answers how many those were. The cells
@@ -112,9 +133,7 @@ impl Pool {
             self.old.cells.layout.segments self.new.cells.layout.segments }
         ensures sound { IsPoolSound self.new.cells }
     {
-        let count = self.cells.compact(&mut self.disc);
-        self.cells.look();
-        count
+        self.cells.compact(&mut self.disc)
     }
 
     /// Its numbers of blocks, cells and segments, and their sizes in bytes: `free` counts the cells that no block is in,

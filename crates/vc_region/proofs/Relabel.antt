@@ -3,13 +3,18 @@ use Rattle.std.proofs.Common.{◌≡◌, ℕ, Bool, List, map, refl, sym, ap, �
 use Rattle.std.specs.List.{AllByRecursion}
 use Rattle.vc_model.specs.Best.{best_alloc}
 use Rattle.vc_model.specs.Discipline.{Terms}
+use Rattle.vc_model.specs.Last.{last_alloc, last_free, last_resize}
 use Rattle.vc_model.specs.Layout.{Block, Layout, relabel_block}
-use Rattle.vc_model.specs.Outcome.{Outcome, Done, Refused, Put, outcome_as}
+use Rattle.vc_model.specs.Outcome.{Outcome, Done, Refused, Put, done_as, outcome_as}
+use Rattle.vc_model.specs.Pool.{Pool, pool_alloc, pool_resize}
 use Rattle.vc_model.specs.Resize.{best_resize}
 use Rattle.vc_model.specs.Touch.{rewritten}
+use Rattle.vc_model.proofs.LastRelabel.{last_alloc-relabel, last_free-relabel, last_resize-relabel, relabel_rest}
+use Rattle.vc_model.proofs.PoolRelabel.{pool_alloc-relabel, pool_compact-relabel, pool_free-relabel, pool_resize-relabel, pool_write-relabel, relabel_pools}
 use Rattle.vc_model.proofs.Relabel.{best_alloc-relabel, best_resize-relabel, change_block-relabel, compact_count-relabel, compacted-relabel, relabel-alike, relabel_outcome, without_block-relabel}
+use Rattle.vc_pool.proofs.Relabel.{pool_stat-relabel}
 use Rattle.vc_seg.proofs.Stats.{layout_stat-relabel}
-use Rattle.vc_region.specs.Region.{OfBest, Region, blocks_of, region_align, region_alloc, region_clear, region_compact, region_compact_count, region_free, region_resize, region_write, relabelled, segments_of}
+use Rattle.vc_region.specs.Region.{OfBest, OfPool, OfLast, Region, aligns, blocks_of, region_align, region_alloc, region_clear, region_compact, region_compact_count, region_free, region_resize, region_write, relabelled, segments_of, keeps_freed, watch_at}
 use Rattle.vc_region.specs.Stat.{stat_of}
 
 module _ {L M : Type 0} (f : L → M) where
@@ -20,47 +25,103 @@ module _ {L M : Type 0} (f : L → M) where
   as_best (Done p) = refl
   as_best (Refused why) = refl
 
+  as_pool : (o : Outcome (Put (Pool L))) → outcome_as OfPool (relabel_pools f o) ≡ outcome_as (relabelled f) (outcome_as OfPool o)
+  as_pool (Done p) = refl
+  as_pool (Refused why) = refl
+
+  as_last : (o : Outcome (Put (Layout L))) → outcome_as OfLast (relabel_outcome f o) ≡ outcome_as (relabelled f) (outcome_as OfLast o)
+  as_last (Done p) = refl
+  as_last (Refused why) = refl
+
   pub segments-relabelled : (r : Region L) → segments_of (relabelled f r) ≡ segments_of r
   segments-relabelled (OfBest l) = refl
+  segments-relabelled (OfPool p) = refl
+  segments-relabelled (OfLast l) = refl
 
   pub blocks-relabelled : (r : Region L) → blocks_of (relabelled f r) ≡ map (relabel_block f) (blocks_of r)
   blocks-relabelled (OfBest l) = refl
+  blocks-relabelled (OfPool p) = refl
+  blocks-relabelled (OfLast l) = refl
 
-  pub alloc-relabelled : (terms : Terms) (r : Region L) (label : L) (size : ℕ) (refused : Bool) → region_alloc terms (relabelled f r) (f label) size refused ≡ outcome_as (relabelled f) (region_alloc terms r label size refused)
-  alloc-relabelled terms (OfBest l) label size refused =
+  pub alloc-relabelled : (terms : Terms) (r : Region L) (label : L) (site : List ℕ) (size : ℕ) (refused : Bool) → region_alloc terms (relabelled f r) (f label) site size refused ≡ outcome_as (relabelled f) (region_alloc terms r label site size refused)
+  alloc-relabelled terms (OfBest l) label site size refused =
       ap (outcome_as OfBest) (best_alloc-relabel f terms l label size 32 refused) ∙ as_best (best_alloc terms l label size 32 refused)
+  alloc-relabelled terms (OfPool p) label site size refused =
+      ap (outcome_as OfPool) (pool_alloc-relabel f terms p label size refused) ∙ as_pool (pool_alloc terms p label size refused)
+  alloc-relabelled terms (OfLast l) label site size refused =
+      ap (outcome_as OfLast) (last_alloc-relabel f terms l label size refused) ∙ as_last (last_alloc terms l label size refused)
 
-  pub align-relabelled : (terms : Terms) (r : Region L) (label : L) (size align : ℕ) (refused : Bool) → region_align terms (relabelled f r) (f label) size align refused ≡ outcome_as (relabelled f) (region_align terms r label size align refused)
-  align-relabelled terms (OfBest l) label size align refused =
+  pub aligns-relabelled : (r : Region L) → aligns (relabelled f r) ≡ aligns r
+  aligns-relabelled (OfBest l) = refl
+  aligns-relabelled (OfPool p) = refl
+  aligns-relabelled (OfLast l) = refl
+
+  pub align-relabelled : (terms : Terms) (r : Region L) (label : L) (site : List ℕ) (size align : ℕ) (refused : Bool) → region_align terms (relabelled f r) (f label) site size align refused ≡ outcome_as (relabelled f) (region_align terms r label site size align refused)
+  align-relabelled terms (OfBest l) label site size align refused =
       ap (outcome_as OfBest) (best_alloc-relabel f terms l label size align refused) ∙ as_best (best_alloc terms l label size align refused)
+  align-relabelled terms (OfPool p) label site size align refused = refl
+  align-relabelled terms (OfLast l) label site size align refused = refl
 
   pub resize-relabelled : (terms : Terms) (r : Region L) (at : ℕ × ℕ) (size : ℕ) (may_move refused : Bool) → region_resize terms (relabelled f r) at size may_move refused ≡ outcome_as (relabelled f) (region_resize terms r at size may_move refused)
   resize-relabelled terms (OfBest l) at size may_move refused =
       ap (outcome_as OfBest) (best_resize-relabel f terms l at size may_move refused) ∙ as_best (best_resize terms l at size may_move refused)
+  resize-relabelled terms (OfPool p) at size may_move refused =
+      ap (outcome_as OfPool) (pool_resize-relabel f p at size) ∙ as_pool (pool_resize p at size)
+  resize-relabelled terms (OfLast l) at size may_move refused =
+      ap (outcome_as OfLast) (last_resize-relabel f terms l at size may_move refused) ∙ as_last (last_resize terms l at size may_move refused)
 
   -- what freeing gives, with other labels
   abbrev pub relabel_freed : Outcome (Region L) → Outcome (Region M)
   relabel_freed (Done r) = Done (relabelled f r)
   relabel_freed (Refused why) = Refused why
 
+  freed_last : (o : Outcome (Layout L)) → done_as OfLast (relabel_rest f o) ≡ relabel_freed (done_as OfLast o)
+  freed_last (Done l) = refl
+  freed_last (Refused why) = refl
+
   pub free-relabelled : (r : Region L) (at : ℕ × ℕ) → region_free (relabelled f r) at ≡ relabel_freed (region_free r at)
   free-relabelled (OfBest l) at = ap (λ bs. Done (OfBest (layout l.segments bs))) (sym (without_block-relabel f at l.blocks))
+  free-relabelled (OfPool p) at = ap (λ q. Done (OfPool q)) (pool_free-relabel f p at)
+  free-relabelled (OfLast l) at = ap (done_as OfLast) (last_free-relabel f l at) ∙ freed_last (last_free l at)
 
   pub write-relabelled : (r : Region L) (at : ℕ × ℕ) (off : ℕ) (src : List ℕ) → region_write (relabelled f r) at off src ≡ relabelled f (region_write r at off src)
   write-relabelled (OfBest l) at off src = ap (λ bs. OfBest (layout l.segments bs)) (sym (change_block-relabel f (rewritten off src) (rewritten off src) (λ c. refl) at l.blocks))
+  write-relabelled (OfPool p) at off src = ap (λ q. OfPool q) (pool_write-relabel f p at off src)
+  write-relabelled (OfLast l) at off src = ap (λ bs. OfLast (layout l.segments bs)) (sym (change_block-relabel f (rewritten off src) (rewritten off src) (λ c. refl) at l.blocks))
 
   pub clear-relabelled : (r : Region L) → region_clear (relabelled f r) ≡ relabelled f (region_clear r)
   clear-relabelled (OfBest l) = refl
+  clear-relabelled (OfPool p) = refl
+  clear-relabelled (OfLast l) = refl
 
   pub compact-relabelled : (r : Region L) → region_compact (relabelled f r) ≡ relabelled f (region_compact r)
   compact-relabelled (OfBest l) = ap (λ q. OfBest q) (compacted-relabel f l)
+  compact-relabelled (OfPool p) = ap (λ q. OfPool q) (pool_compact-relabel f p)
+  compact-relabelled (OfLast l) = ap (λ q. OfLast q) (compacted-relabel f l)
+
+  pub keeps-relabelled : (r : Region L) → keeps_freed (relabelled f r) ≡ keeps_freed r
+  keeps-relabelled (OfBest l) = refl
+  keeps-relabelled (OfPool p) = refl
+  keeps-relabelled (OfLast l) = refl
+
+  pub watch-relabelled : (r : Region L) (at : ℕ × ℕ) → watch_at (relabelled f r) at ≡ watch_at r at
+  watch-relabelled (OfBest l) at = refl
+  watch-relabelled (OfPool p) at = refl
+  watch-relabelled (OfLast l) at = refl
 
   pub compact_count-relabelled : (r : Region L) → region_compact_count (relabelled f r) ≡ region_compact_count r
   compact_count-relabelled (OfBest l) = compact_count-relabel f l
+  compact_count-relabelled (OfPool p) = compact_count-relabel f p.layout
+  compact_count-relabelled (OfLast l) = compact_count-relabel f l
 
 pub relabelled-alike : {L M : Type 0} (f g : L → M) (r : Region L) → AllByRecursion (λ b. f b.label ≡ g b.label) (blocks_of r) → relabelled f r ≡ relabelled g r
 relabelled-alike f g (OfBest l) same = ap (λ bs. OfBest (record { segments = l.segments; blocks = bs })) (relabel-alike f g l.blocks same)
+relabelled-alike f g (OfPool p) same =
+    ap (λ bs. OfPool (record { layout = record { segments = p.layout.segments; blocks = bs }; element = p.element; freed = p.freed; carved = p.carved })) (relabel-alike f g p.layout.blocks same)
+relabelled-alike f g (OfLast l) same = ap (λ bs. OfLast (record { segments = l.segments; blocks = bs })) (relabel-alike f g l.blocks same)
 
 -- the numbers of a region say nothing of the labels of its blocks
 pub stat-relabelled : {L M : Type 0} (f : L → M) (r : Region L) → stat_of (relabelled f r) ≡ stat_of r
 stat-relabelled f (OfBest layout) = layout_stat-relabel f layout
+stat-relabelled f (OfPool pool) = pool_stat-relabel f pool
+stat-relabelled f (OfLast layout) = layout_stat-relabel f layout

@@ -4,8 +4,9 @@ use Rattle.std.proofs.Math.Nat.{ℕ_set}
 use Rattle.std.proofs.Math.Logic.{∥∥₁_elim}
 use Rattle.vc_model.specs.Sound.{HaveOwnNumbers, HaveOwnPlaces}
 use Rattle.vc_model.proofs.Places.{own-places}
+use Rattle.vc_pool.proofs.Sound as pool
 use Rattle.vc_region.specs.declared.region.Region.{Region}
-use Rattle.vc_region.specs.declared.region.Region.TheVariants.{Best}
+use Rattle.vc_region.specs.declared.region.Region.TheVariants.{Best, Pool, Last}
 use Rattle.vc_region.specs.Parts.{blocks_in, segments_in}
 
 pub own_places : {I : Type 0} {V : I → Type 0} (r : Region I V) → HaveOwnPlaces (blocks_in r)
@@ -15,10 +16,23 @@ own_places (Best b) =
       first = λ i d within. ∥∥₁_elim b.sound (le_prop) (λ s. (own-places b.layout s).first i d within);
       exact = λ i d within. ∥∥₁_elim b.sound (hlevel (ℕ_set)) (λ s. s.exact i d within);
     }
+own_places (Pool p) = pool.own_places p
+own_places (Last l) =
+    record {
+      distinct = λ i j d lt within e. ∥∥₁_elim l.sound (hlevel) (λ s. (own-places l.layout s).distinct i j d lt within e);
+      first = λ i d within. ∥∥₁_elim l.sound (le_prop) (λ s. (own-places l.layout s).first i d within);
+      exact = λ i d within. ∥∥₁_elim l.sound (hlevel (ℕ_set)) (λ s. s.exact i d within);
+    }
 
 pub own_numbers : {I : Type 0} {V : I → Type 0} (r : Region I V) → HaveOwnNumbers (segments_in r)
 own_numbers (Best b) =
     record {
       first = λ i d within. ∥∥₁_elim b.sound (le_prop) (λ s. s.numbered.first i d within);
       distinct = λ i j d lt within e. ∥∥₁_elim b.sound (hlevel) (λ s. s.numbered.distinct i j d lt within e);
+    }
+own_numbers (Pool p) = pool.own_numbers p
+own_numbers (Last l) =
+    record {
+      first = λ i d within. ∥∥₁_elim l.sound (le_prop) (λ s. s.numbered.first i d within);
+      distinct = λ i j d lt within e. ∥∥₁_elim l.sound (hlevel) (λ s. s.numbered.distinct i j d lt within e);
     }

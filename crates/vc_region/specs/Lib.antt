@@ -3,8 +3,10 @@ pub use Rattle.vc_model.specs.Best
 pub use Rattle.vc_model.specs.Count
 pub use Rattle.vc_model.specs.Discipline
 pub use Rattle.vc_model.specs.Layout
+pub use Rattle.vc_model.specs.Last
 pub use Rattle.vc_model.specs.Outcome
 pub use Rattle.vc_model.specs.Place
+pub use Rattle.vc_model.specs.Pool
 pub use Rattle.vc_model.specs.Resize
 pub use Rattle.vc_model.specs.Sound
 pub use Rattle.vc_model.specs.Touch
@@ -13,3 +15,6 @@ pub use Rattle.vc_seg.specs.Answer
 pub mod Region
 pub mod Stat
 pub mod Parts
+pub mod Cells
+pub mod CellLaws
+pub mod CellRows

@@ -13,8 +13,9 @@ use vc_base::{Addr, Steps};
 use vc_seg::{BoxedDisc, RegionFault, SegDisc};
 
 impl Region {
-    /// A block of zeros: 1 to 16,777,216 bytes at an offset that 32 divides. Where no gap holds it, a segment is asked
-    /// for. The site, of 1 to 32 bytes, is not used in a best region.
+    /// A block of zeros: 1 to 16,777,216 bytes at an offset that 32 divides, where the method puts it. Where there is no
+    /// place for it, a segment is asked for. `PoolSize` comes exactly in a pool, where the size is above the element
+    /// size. The site, of 1 to 32 bytes, is not used.
     pub fn alloc(&mut self, size: u32, tag: u32, site: &[u8]) -> Result<Addr, RegionFault>
         requires some { 1 ≤ size }
         requires most { size ≤ 16777216 }
@@ -22,7 +23,7 @@ impl Region {
         requires short { length site.now ≤ 32 }
 
         ensures answer { Answers (region_alloc (disc_in state self.old).terms
-            (region_of self.old) tag size)
+            (region_of self.old) tag site.now size)
             result (region_of self.old) (region_of self.new) }
         ensures disc { Asks result (disc_in state self.old) (disc_in state self.new)
             (segments_in self.old) (segments_in self.new)
@@ -41,10 +42,13 @@ impl Region {
                 let mut steps = Steps::<Uncounted>::new(best.alloc);
                 best.alloc(size, 32, tag, &mut steps)
             }
+            Region::Pool(pool) => pool.alloc(size, tag),
+            Region::Last(last) => last.alloc(size, tag),
         }
     }
 
     /// A block as `alloc` gives it, at an offset that the alignment divides, a power of two from 32 to 4,096.
+    /// `WrongMethod` comes exactly in a pool and in a last region.
     pub fn align(
         &mut self,
         size: u32,
@@ -59,7 +63,7 @@ impl Region {
         requires short { length site.now ≤ 32 }
 
         ensures answer { Answers (region_align (disc_in state self.old).terms
-            (region_of self.old) tag size align)
+            (region_of self.old) tag site.now size align)
             result (region_of self.old) (region_of self.new) }
         ensures disc { Asks result (disc_in state self.old) (disc_in state self.new)
             (segments_in self.old) (segments_in self.new)
@@ -78,6 +82,7 @@ impl Region {
                 let mut steps = Steps::<Uncounted>::new(best.alloc);
                 best.alloc(size, align, tag, &mut steps)
             }
+            Region::Pool(_) | Region::Last(_) => Err(RegionFault::WrongMethod),
         }
     }
 }

@@ -19,6 +19,8 @@ impl Region {
     {
         match self {
             Region::Best(best) => best.size(a),
+            Region::Pool(pool) => pool.size(a),
+            Region::Last(last) => last.size(a),
         }
     }
 
@@ -30,6 +32,8 @@ impl Region {
     {
         match self {
             Region::Best(best) => best.tag(a),
+            Region::Pool(pool) => pool.tag(a),
+            Region::Last(last) => last.tag(a),
         }
     }
 
@@ -43,6 +47,8 @@ impl Region {
     {
         match self {
             Region::Best(best) => best.read(a, off, len),
+            Region::Pool(pool) => pool.read(a, off, len),
+            Region::Last(last) => last.read(a, off, len),
         }
     }
 
@@ -58,6 +64,8 @@ impl Region {
     {
         match self {
             Region::Best(best) => best.write(a, off, src),
+            Region::Pool(pool) => pool.write(a, off, src),
+            Region::Last(last) => last.write(a, off, src),
         }
     }
 }

@@ -4,6 +4,7 @@ ghost use Rattle.vc_model.specs.Addr.{place_of};
 ghost use Rattle.vc_model.specs.Compact.{cleared};
 ghost use Rattle.vc_model.specs.Discipline.{HasOut, TookBack};
 ghost use Rattle.vc_model.specs.Layout.{address_of};
+ghost use Rattle.vc_model.specs.Pool.{pool_clear};
 ghost use Rattle.vc_region.specs.Region.{region_clear, region_compact, region_compact_count, region_free};
 ghost use Rattle.vc_model.specs.Touch.{HasBlock};
 ghost use Rattle.vc_seg.specs.Answer.{Frees};
@@ -12,6 +13,8 @@ ghost use Rattle.vc_region.specs.Parts.{blocks_in, boxed, disc_in, region_of, se
 use crate::region::{Region, Uncounted};
 use vc_base::{Addr, Steps};
 use vc_best::Best;
+use vc_last::Last;
+use vc_pool::Pool;
 use vc_seg::{BoxedDisc, RegionFault, SegDisc};
 
 // Frees all blocks of a best region. The condition always holds.
@@ -24,9 +27,28 @@ fn clear_best(best: &mut Best)
     best.clear(&mut steps);
 }
 
+// The same of a pool.
+fn clear_pool(pool: &mut Pool)
+    requires { 0 ≤ 0 }
+    ensures pool { pool.new.cells ≡ pool_clear pool.old.cells }
+    ensures disc { boxed state pool.new.disc ≡ boxed state pool.old.disc }
+{
+    pool.clear();
+}
+
+// The same of a last region.
+fn clear_last(last: &mut Last)
+    requires { 0 ≤ 0 }
+    ensures layout { last.new.layout ≡ cleared last.old.layout }
+    ensures disc { boxed state last.new.disc ≡ boxed state last.old.disc }
+{
+    last.clear();
+}
+
 /// The calls that make room. None takes memory.
 impl Region {
-    /// Frees the block at that address. In a best region no block is refused.
+    /// Frees the block at that address. `NotLast` comes exactly in a last region, where the block isn't the one allocated
+    /// latest.
     pub fn free(&mut self, a: Addr) -> Result<(), RegionFault>
         requires { HasBlock (blocks_in self.old) a.0 }
         ensures answer { Frees (region_free (region_of self.old) (place_of a.0)) result
@@ -46,9 +68,14 @@ impl Region {
             Region::Best(best) => {
                 let mut steps = Steps::<Uncounted>::new(best.alloc);
                 best.free(a, &mut steps);
+                Ok(())
             }
+            Region::Pool(pool) => {
+                pool.free(a);
+                Ok(())
+            }
+            Region::Last(last) => last.free(a),
         }
-        Ok(())
     }
 
     /// Frees all its blocks, and keeps its segments.
@@ -58,6 +85,8 @@ impl Region {
     {
         match self {
             Region::Best(best) => clear_best(best),
+            Region::Pool(pool) => clear_pool(pool),
+            Region::Last(last) => clear_last(last),
         }
     }
 
@@ -74,6 +103,8 @@ impl Region {
                 let mut steps = Steps::<Uncounted>::new(best.alloc);
                 best.compact(&mut steps)
             }
+            Region::Pool(pool) => pool.compact(),
+            Region::Last(last) => last.compact(),
         }
     }
 }

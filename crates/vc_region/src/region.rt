@@ -6,6 +6,8 @@ ghost use Rattle.vc_region.specs.Parts.{disc_of, region_of, segments_in};
 use std::alloc::Global;
 use vc_base::OutOfMemory;
 use vc_best::Best;
+use vc_last::Last;
+use vc_pool::Pool;
 use vc_seg::{BoxedDisc, Method, SegDisc};
 
 /// Marks a counter of steps that no one reads.
@@ -17,6 +19,10 @@ pub(crate) struct Uncounted;
 pub enum Region {
     /// Of the method `VmBest`.
     Best(Best),
+    /// Of the method `VmPool`.
+    Pool(Pool),
+    /// Of the method `VmLast`.
+    Last(Last),
 }
 
 impl Region {
@@ -32,10 +38,19 @@ impl Region {
             × (state (disc_of r) ≡ state disc)) }
         ensures err { IfErr result (λ e. state e.1 ≡ state disc) }
     {
-        let _ = method;
-        match Best::open(alloc, disc) {
-            Ok(best) => Ok(Region::Best(best)),
-            Err(failed) => Err(failed),
+        match method {
+            Method::VmPool => match Pool::open(alloc, disc) {
+                Ok(pool) => Ok(Region::Pool(pool)),
+                Err(failed) => Err(failed),
+            },
+            Method::VmLast => match Last::open(alloc, disc) {
+                Ok(last) => Ok(Region::Last(last)),
+                Err(failed) => Err(failed),
+            },
+            _ => match Best::open(alloc, disc) {
+                Ok(best) => Ok(Region::Best(best)),
+                Err(failed) => Err(failed),
+            },
         }
     }
 
@@ -45,6 +60,8 @@ impl Region {
     {
         match self {
             Region::Best(_) => Method::VmBest,
+            Region::Pool(_) => Method::VmPool,
+            Region::Last(_) => Method::VmLast,
         }
     }
 
@@ -57,6 +74,8 @@ impl Region {
     {
         match self {
             Region::Best(best) => best.close(),
+            Region::Pool(pool) => pool.close(),
+            Region::Last(last) => last.close(),
         }
     }
 }

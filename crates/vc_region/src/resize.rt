@@ -1,19 +1,45 @@
 ghost use Rattle.std.specs.Prelude.{◌≡◌, ◌≤◌, IfOk, IfSome, IsErrOf, IsTrue, false, option_map};
 ghost use Rattle.vc_model.specs.Addr.{place_of};
 ghost use Rattle.vc_model.specs.Layout.{without_block};
+ghost use Rattle.vc_model.specs.Pool.{pool_resize};
 ghost use Rattle.vc_region.specs.Region.{region_need, region_resize, stays_in};
 ghost use Rattle.vc_model.specs.Touch.{HasBlock, find_block};
 ghost use Rattle.vc_seg.specs.Answer.{Answers, Asks};
-ghost use Rattle.vc_region.specs.Parts.{blocks_in, disc_in, region_of, segments_in};
+ghost use Rattle.vc_region.specs.Parts.{blocks_in, boxed, disc_in, region_of, segments_in};
 
 use crate::region::{Region, Uncounted};
 use vc_base::{Addr, Steps};
+use vc_pool::Pool;
 use vc_seg::{BoxedDisc, RegionFault, SegDisc};
+
+// A block of a pool gets another size where it is.
+fn resize_in_pool(pool: &mut Pool, a: Addr, size: u32) -> Result<Addr, RegionFault>
+    requires block { HasBlock pool.old.cells.layout.blocks a.0 }
+    requires some { 1 ≤ size }
+    requires most { size ≤ 16777216 }
+    ensures answer { Answers (λ _. pool_resize pool.old.cells (place_of a.0) size) result
+        pool.old.cells pool.new.cells }
+    ensures disc { boxed state pool.new.disc ≡ boxed state pool.old.disc }
+    ensures memory { ¬ IsErrOf result RegionFault.OutOfMemory }
+    ensures address { IfOk result (λ to. to ≡ a) }
+    ensures there { IfOk result (λ _. option_map (λ b. b.label)
+        (find_block (place_of a.0) pool.new.cells.layout.blocks)
+        ≡ option_map (λ b. b.label) (find_block (place_of a.0) pool.old.cells.layout.blocks)) }
+    ensures others { IfOk result (λ _. without_block (place_of a.0) pool.new.cells.layout.blocks
+        ≡ without_block (place_of a.0) pool.old.cells.layout.blocks) }
+{
+    match pool.resize(a, size) {
+        Ok(()) => Ok(a),
+        Err(why) => Err(why),
+    }
+}
 
 impl Region {
     /// Gives a block another size, from 1 to 16,777,216 bytes, and answers its address. It stays where it is if it can,
-    /// and else moves if it may. The first bytes of both sizes are kept, and the others are zero. `Fixed` comes where it
-    /// can't stay and may not move; the other faults are those of `alloc`, and come only where it moves.
+    /// and else moves if it may. The first bytes of both sizes are kept, and the others are zero. In a pool `PoolSize`
+    /// comes where the size is above the element size, and nothing else. In a last region `NotLast` comes where the block
+    /// isn't the one allocated latest. `Fixed` comes where it can't stay and may not move; the other faults are those of
+    /// `alloc`, and come only where it moves.
     pub fn resize(&mut self, a: Addr, size: u32, may_move: bool) -> Result<Addr, RegionFault>
         requires block { HasBlock (blocks_in self.old) a.0 }
         requires some { 1 ≤ size }
@@ -42,6 +68,8 @@ impl Region {
                 let mut steps = Steps::<Uncounted>::new(best.alloc);
                 best.resize(a, size, may_move, &mut steps)
             }
+            Region::Pool(pool) => resize_in_pool(pool, a, size),
+            Region::Last(last) => last.resize(a, size, may_move),
         }
     }
 }

@@ -21,6 +21,8 @@ impl Region {
     {
         match self {
             Region::Best(best) => best.block_at(seg, off),
+            Region::Pool(pool) => pool.block_at(seg, off),
+            Region::Last(last) => last.block_at(seg, off),
         }
     }
 
@@ -30,6 +32,8 @@ impl Region {
     {
         match self {
             Region::Best(best) => best.segment_at(seg, off),
+            Region::Pool(pool) => pool.segment_at(seg, off),
+            Region::Last(last) => last.segment_at(seg, off),
         }
     }
 
@@ -39,6 +43,8 @@ impl Region {
     {
         match self {
             Region::Best(best) => best.next_segment(after),
+            Region::Pool(pool) => pool.next_segment(after),
+            Region::Last(last) => last.next_segment(after),
         }
     }
 
@@ -51,6 +57,8 @@ impl Region {
     {
         match self {
             Region::Best(best) => best.next_block(after),
+            Region::Pool(pool) => pool.next_block(after),
+            Region::Last(last) => last.next_block(after),
         }
     }
 
@@ -60,6 +68,8 @@ impl Region {
     {
         match self {
             Region::Best(best) => best.stat(),
+            Region::Pool(pool) => pool.stat(),
+            Region::Last(last) => last.stat(),
         }
     }
 }

@@ -8,6 +8,8 @@ mod given;
 #[cfg(test)]
 mod long;
 #[cfg(test)]
+mod methods;
+#[cfg(test)]
 mod order;
 #[cfg(test)]
 mod rows;

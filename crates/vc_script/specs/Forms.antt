@@ -25,6 +25,10 @@ abbrev pub site_of : List ℕ → Result (List ℕ) LineFault
 site_of [] = Err BadName
 site_of (b ∷ bs) = if b == 64 then name_of bs else Err BadName
 
+-- the site of a last word that may be missing
+abbrev pub some_site_of : List ℕ → Result (Option (List ℕ)) LineFault
+some_site_of word = site_of word >>= λ site. Ok (Some site)
+
 abbrev pub number_of : List ℕ → Result ℕ LineFault
 number_of word = if is_number word then Ok (digits_value word) else Err BadNumber
 

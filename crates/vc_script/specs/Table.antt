@@ -96,14 +96,21 @@ Values [] None = Unit {0}
 Values [] (Some form) = Option (Value form)
 Values (form ∷ forms) last = Value form × Values forms last
 
+-- a value, and those behind it; the first fault ends the reading
+abbrev pub before : {A B : Type 0} → Result A LineFault → Result B LineFault → Result (A × B) LineFault
+before first behind = first >>= λ value. (behind >>= λ values. Ok (value, values))
+
+abbrev pub no_more : Result (Unit {0}) LineFault
+no_more = Ok tt
+
 -- the values of words by their forms, from the left; the first word that isn't of its form gives the fault
 abbrev pub values_of : (forms : List Form) (last : Option Form) → List (List ℕ) → Result (Values forms last) LineFault
-values_of [] None others = Ok tt
+values_of [] None others = no_more
 values_of [] (Some form) [] = Ok None
 values_of [] (Some form) (word ∷ others) = value_of form word >>= λ value. Ok (Some value)
 values_of (form ∷ forms) last [] = Err WordCount
 values_of (form ∷ forms) last (word ∷ others) =
-    value_of form word >>= λ value. (values_of forms last others >>= λ values. Ok (value, values))
+    before (value_of form word) (values_of forms last others)
 
 -- the number of the words is judged before their forms
 abbrev pub read_words : (forms : List Form) (last : Option Form) → List (List ℕ) → Result (Values forms last) LineFault

@@ -6,6 +6,7 @@ ghost use Rattle.vc_script.specs.Forms as form;
 ghost use Rattle.vc_script.specs.Table.{read_words};
 
 use crate::form::{decoded, escaped_of, name_of, number_of};
+use crate::in_turn::two;
 use crate::{Bytes, LineFault};
 use std::alloc::Global;
 use vc_base::{Name, OutOfMemory};
@@ -16,7 +17,7 @@ fn object_word_in<'a>(others: &[&'a [u8]]) -> Result<(Name, &'a [u8]), LineFault
         ≡ read_words (form.Name ∷ form.Bytes ∷ []) None (map (λ w. w.now) others.now) }
 {
     match others {
-        [dict, object] => Ok((name_of(dict)?, escaped_of(object)?)),
+        [dict, object] => two(name_of(dict), escaped_of(object)),
         _ => Err(LineFault::WordCount),
     }
 }

@@ -4,7 +4,7 @@ use vc_seg::Method;
 
 /// A command of the script language. Its fields are the words behind the first, in order. R and X are names of a region
 /// and of a block, D and E of dictionaries.
-#[derive(Debug, Drop, PartialEq, Eq)]
+#[derive(Drop, PartialEq, Eq)]
 pub enum Command {
     /// `open R METHOD N`: opens R over the discipline of place N.
     OpenRegion(Name, Method, u32),

@@ -51,9 +51,9 @@ fn search_command(
     } else if first == b"match".as_slice() {
         Ok(object_in(alloc, others)?.map(|(dict, key)| Command::MatchKey(dict, key)))
     } else if first == b"first".as_slice() {
-        Ok(name_in(others).map(|dict| Command::First(dict)))
+        Ok(name_in(others).map(Command::First))
     } else if first == b"last".as_slice() {
-        Ok(name_in(others).map(|dict| Command::Last(dict)))
+        Ok(name_in(others).map(Command::Last))
     } else if first == b"next".as_slice() {
         Ok(object_in(alloc, others)?.map(|(dict, object)| Command::Next(dict, object)))
     } else if first == b"prev".as_slice() {
@@ -69,17 +69,17 @@ fn whole_command(first: &[u8], others: &[&[u8]]) -> Result<Result<Command, LineF
         read ≡ command_in (drop 12 dictionary_rows) first.now (map (λ w. w.now) others.now)) }
 {
     if first == b"walk".as_slice() {
-        Ok(name_in(others).map(|dict| Command::Walk(dict)))
+        Ok(name_in(others).map(Command::Walk))
     } else if first == b"count".as_slice() {
-        Ok(name_in(others).map(|dict| Command::Count(dict)))
+        Ok(name_in(others).map(Command::Count))
     } else if first == b"view".as_slice() {
         Ok(view_in(others).map(|(dict, viewed)| Command::View(dict, viewed)))
     } else if first == b"method".as_slice() {
         Ok(method_in(others).map(|(dict, method)| Command::Remethod(dict, method)))
     } else if first == b"empty".as_slice() {
-        Ok(name_in(others).map(|dict| Command::Empty(dict)))
+        Ok(name_in(others).map(Command::Empty))
     } else if first == b"shut".as_slice() {
-        Ok(name_in(others).map(|dict| Command::Shut(dict)))
+        Ok(name_in(others).map(Command::Shut))
     } else {
         Ok(Err(LineFault::UnknownCommand))
     }

@@ -2,7 +2,7 @@
 ghost use Rattle.std.specs.Prelude.{◌≡◌, IfOk};
 ghost use Rattle.std.specs.Result.{result_map_both};
 ghost use Rattle.percent_encoding.specs.Percent.{percent_decode};
-ghost use Rattle.vc_script.specs.Forms.{address_of, address_of_parts, bytes_of, dict_method_of, method_of, mode_of, name_of, name_or_dash_of, number_of, signed_of, site_of};
+ghost use Rattle.vc_script.specs.Forms.{address_of, address_of_parts, bytes_of, dict_method_of, method_of, mode_of, name_of, name_or_dash_of, number_of, signed_of, site_of, some_site_of};
 
 use crate::word::{is_escaped, is_name, is_number, value_of};
 use crate::{Bytes, LineFault, Place};
@@ -29,6 +29,13 @@ pub(crate) fn site_of(word: &[u8]) -> Result<Name, LineFault>
         Some((b'@', rest)) => name_of(rest),
         _ => Err(LineFault::BadName),
     }
+}
+
+// A site that stands there.
+pub(crate) fn some_site_of(word: &[u8]) -> Result<Option<Name>, LineFault>
+    ensures { result ≡ some_site_of word.now }
+{
+    Ok(Some(site_of(word)?))
 }
 
 pub(crate) fn number_of(word: &[u8]) -> Result<u32, LineFault>

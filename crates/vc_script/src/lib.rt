@@ -10,6 +10,7 @@ mod cutter;
 mod damage_items;
 mod dict_table;
 mod form;
+mod in_turn;
 mod line_answer;
 mod line_fault;
 pub mod line_rows;

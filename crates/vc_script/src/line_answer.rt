@@ -1,7 +1,7 @@
 use crate::{Command, LineFault};
 
 /// What a line asks for.
-#[derive(Debug, Drop, PartialEq, Eq)]
+#[derive(Drop, PartialEq, Eq)]
 pub enum LineAnswer {
     /// Nothing: the line has no word, or is a comment.
     Blank,

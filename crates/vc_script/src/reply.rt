@@ -3,7 +3,7 @@ use vc_base::{DictMethod, Name};
 use vc_seg::Stat;
 
 /// The reply to a command. An optional number at the end of one is the line of the block's watch.
-#[derive(Debug, Drop)]
+#[derive(Drop)]
 pub enum Reply {
     /// The region or dictionary is open.
     Opened(Name),

@@ -6,8 +6,9 @@ ghost use Rattle.vc_script.specs.Table.{read_words};
 
 use crate::form::{
     address_of, dict_method_of, method_of, mode_of, name_of, name_or_dash_of, number_of, signed_of,
-    site_of,
+    some_site_of,
 };
+use crate::in_turn::{four, three, two};
 use crate::{LineFault, Place};
 use vc_base::{DictMethod, Name};
 use vc_seg::Method;
@@ -29,7 +30,7 @@ pub(crate) fn block_in(others: &[&[u8]]) -> Result<(Name, Name), LineFault>
         ≡ read_words (form.Name ∷ form.Name ∷ []) None (map (λ w. w.now) others.now) }
 {
     match others {
-        [region, block] => Ok((name_of(region)?, name_of(block)?)),
+        [region, block] => two(name_of(region), name_of(block)),
         _ => Err(LineFault::WordCount),
     }
 }
@@ -40,7 +41,7 @@ pub(crate) fn address_in(others: &[&[u8]]) -> Result<(Name, Place), LineFault>
         ≡ read_words (form.Name ∷ form.Address ∷ []) None (map (λ w. w.now) others.now) }
 {
     match others {
-        [region, place] => Ok((name_of(region)?, address_of(place)?)),
+        [region, place] => two(name_of(region), address_of(place)),
         _ => Err(LineFault::WordCount),
     }
 }
@@ -52,7 +53,7 @@ pub(crate) fn open_in(others: &[&[u8]]) -> Result<(Name, Method, u32), LineFault
         (map (λ w. w.now) others.now) }
 {
     match others {
-        [region, method, place] => { Ok((name_of(region)?, method_of(method)?, number_of(place)?)) }
+        [region, method, place] => three(name_of(region), method_of(method), number_of(place)),
         _ => Err(LineFault::WordCount),
     }
 }
@@ -64,13 +65,13 @@ pub(crate) fn alloc_in(others: &[&[u8]]) -> Result<(Name, Name, u32, Option<Name
         (map (λ w. w.now) others.now) }
 {
     match others {
-        [region, block, size] => { Ok((name_of(region)?, name_of(block)?, number_of(size)?, None)) }
-        [region, block, size, site] => {
-            let region = name_of(region)?;
-            let block = name_of(block)?;
-            let size = number_of(size)?;
-            Ok((region, block, size, Some(site_of(site)?)))
-        }
+        [region, block, size] => four(name_of(region), name_of(block), number_of(size), Ok(None)),
+        [region, block, size, site] => four(
+            name_of(region),
+            name_of(block),
+            number_of(size),
+            some_site_of(site),
+        ),
         _ => Err(LineFault::WordCount),
     }
 }
@@ -82,13 +83,7 @@ pub(crate) fn numbers_in(others: &[&[u8]]) -> Result<(Name, Name, u32, u32), Lin
         (map (λ w. w.now) others.now) }
 {
     match others {
-        [region, block, n, m] => {
-            let region = name_of(region)?;
-            let block = name_of(block)?;
-            let n = number_of(n)?;
-            let m = number_of(m)?;
-            Ok((region, block, n, m))
-        }
+        [region, block, n, m] => four(name_of(region), name_of(block), number_of(n), number_of(m)),
         _ => Err(LineFault::WordCount),
     }
 }
@@ -100,13 +95,12 @@ pub(crate) fn resize_in(others: &[&[u8]]) -> Result<(Name, Name, u32, bool), Lin
         (map (λ w. w.now) others.now) }
 {
     match others {
-        [region, block, size, moves] => {
-            let region = name_of(region)?;
-            let block = name_of(block)?;
-            let size = number_of(size)?;
-            let moves = mode_of(moves)?;
-            Ok((region, block, size, moves))
-        }
+        [region, block, size, moves] => four(
+            name_of(region),
+            name_of(block),
+            number_of(size),
+            mode_of(moves),
+        ),
         _ => Err(LineFault::WordCount),
     }
 }
@@ -118,13 +112,12 @@ pub(crate) fn poke_in(others: &[&[u8]]) -> Result<(Name, Name, i64, u32), LineFa
         (map (λ w. w.now) others.now) }
 {
     match others {
-        [region, block, off, byte] => {
-            let region = name_of(region)?;
-            let block = name_of(block)?;
-            let off = signed_of(off)?;
-            let byte = number_of(byte)?;
-            Ok((region, block, off, byte))
-        }
+        [region, block, off, byte] => four(
+            name_of(region),
+            name_of(block),
+            signed_of(off),
+            number_of(byte),
+        ),
         _ => Err(LineFault::WordCount),
     }
 }
@@ -136,13 +129,12 @@ pub(crate) fn dict_in(others: &[&[u8]]) -> Result<(Name, DictMethod, Name, u32),
         (map (λ w. w.now) others.now) }
 {
     match others {
-        [dict, method, region, kind] => {
-            let dict = name_of(dict)?;
-            let method = dict_method_of(method)?;
-            let region = name_of(region)?;
-            let kind = number_of(kind)?;
-            Ok((dict, method, region, kind))
-        }
+        [dict, method, region, kind] => four(
+            name_of(dict),
+            dict_method_of(method),
+            name_of(region),
+            number_of(kind),
+        ),
         _ => Err(LineFault::WordCount),
     }
 }
@@ -153,7 +145,7 @@ pub(crate) fn view_in(others: &[&[u8]]) -> Result<(Name, Option<Name>), LineFaul
         ≡ read_words (form.Name ∷ form.NameOrDash ∷ []) None (map (λ w. w.now) others.now) }
 {
     match others {
-        [dict, viewed] => Ok((name_of(dict)?, name_or_dash_of(viewed)?)),
+        [dict, viewed] => two(name_of(dict), name_or_dash_of(viewed)),
         _ => Err(LineFault::WordCount),
     }
 }
@@ -164,7 +156,7 @@ pub(crate) fn method_in(others: &[&[u8]]) -> Result<(Name, DictMethod), LineFaul
         ≡ read_words (form.Name ∷ form.DictionaryMethod ∷ []) None (map (λ w. w.now) others.now) }
 {
     match others {
-        [dict, method] => Ok((name_of(dict)?, dict_method_of(method)?)),
+        [dict, method] => two(name_of(dict), dict_method_of(method)),
         _ => Err(LineFault::WordCount),
     }
 }

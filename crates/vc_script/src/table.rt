@@ -27,11 +27,11 @@ pub(crate) fn command_in(
             region, method, place,
         )))
     } else if first == b"close".as_slice() {
-        Ok(name_in(others).map(|region| Command::CloseRegion(region)))
+        Ok(name_in(others).map(Command::CloseRegion))
     } else if first == b"clear".as_slice() {
-        Ok(name_in(others).map(|region| Command::ClearRegion(region)))
+        Ok(name_in(others).map(Command::ClearRegion))
     } else if first == b"compact".as_slice() {
-        Ok(name_in(others).map(|region| Command::Compact(region)))
+        Ok(name_in(others).map(Command::Compact))
     } else if first == b"alloc".as_slice() {
         Ok(alloc_in(others).map(|(region, block, size, site)| Command::Alloc(
             region, block, size, site,
@@ -91,21 +91,21 @@ fn report_command(
         read ≡ command_in (drop 13 (table tool)) first.now (map (λ w. w.now) others.now)) }
 {
     if first == b"stat".as_slice() {
-        Ok(name_in(others).map(|region| Command::StatOf(region)))
+        Ok(name_in(others).map(Command::StatOf))
     } else if first == b"segments".as_slice() {
-        Ok(name_in(others).map(|region| Command::Segments(region)))
+        Ok(name_in(others).map(Command::Segments))
     } else if first == b"blocks".as_slice() {
-        Ok(name_in(others).map(|region| Command::Blocks(region)))
+        Ok(name_in(others).map(Command::Blocks))
     } else if first == b"poke".as_slice() {
         Ok(poke_in(others).map(|(region, block, off, byte)| Command::Poke(
             region, block, off, byte,
         )))
     } else if first == b"check".as_slice() {
-        Ok(name_in(others).map(|region| Command::Check(region)))
+        Ok(name_in(others).map(Command::Check))
     } else if first == b"watch".as_slice() {
         Ok(block_in(others).map(|(region, block)| Command::Watch(region, block)))
     } else if first == b"profile".as_slice() {
-        Ok(name_in(others).map(|region| Command::ProfileOf(region)))
+        Ok(name_in(others).map(Command::ProfileOf))
     } else {
         own_command(alloc, tool, first, others)
     }

@@ -7,7 +7,8 @@ use Rattle.std.proofs.lemmas.Option.{none-some, same_Some, slice_get-map}
 use Rattle.vc_model.specs.Numbered.{at_number}
 use Rattle.vc_model.specs.Discipline.{Discipline}
 use Rattle.vc_model.specs.Layout.{Block, empty_layout}
-use Rattle.vc_region.specs.Region.{OfBest, Region, blocks_of, relabelled, segments_of}
+use Rattle.vc_model.specs.Pool.{empty_pool}
+use Rattle.vc_region.specs.Region.{OfBest, OfPool, OfLast, Region, blocks_of, relabelled, segments_of}
 use Rattle.vc_model.specs.Sound.{HaveOwnPlaces}
 use Rattle.vc_region.specs.Stat.{opened}
 use Rattle.vc_seg.specs.declared.method.Method.{Method}
@@ -16,10 +17,10 @@ use Rattle.vc_seg.specs.Shelf.{place_at, standing}
 use Rattle.vc_seg.specs.declared.shelf.ShelfPlace.TheVariants.{Here}
 use Rattle.vc_script.specs.declared.reply.Reply.TheVariants.{Opened}
 use Rattle.vc_script.specs.declared.refusal.Refusal.TheVariants.{NotYet, RegionExists}
-use Rattle.vc_session.specs.State.{Label, State, is_home, open_step, opened_as, opened_over, refused, stepped}
+use Rattle.vc_session.specs.State.{Home, Label, State, is_home, open_step, opened_as, opened_over, refused, stepped}
 use Rattle.slab.specs.Slab.{slab_len}
 use Rattle.vc_session.specs.declared.labels.Labels.{Labels}
-use Rattle.vc_session.specs.Labels.{AreLabels, name_of, tag_of}
+use Rattle.vc_session.specs.Labels.{AreLabels, kept_of, name_of, tag_of}
 use Rattle.vc_session.specs.Account.{Account, Held, IsLive, IsNamed, IsSession, account, accounts, account_after, home_of, settled, state_of, tag_count}
 use Rattle.vc_session.specs.Homes.{not_here as why_not}
 use Rattle.vc_session.proofs.Cells.{at_number-from_one, at_number_some, slice_get-set_same, at_number-map, set_same}
@@ -31,36 +32,36 @@ use Rattle.vc_session.proofs.Sessions.{Slots, apart-session, away-session, sessi
 -- a method that is built has an empty region, whatever its labels are
 pub built-region : (m : Method) → is_some (opened {L = ℕ} m) ≡ true → (r : Region Label) × (opened m ≡ Some r)
 built-region VmBest e = (OfBest empty_layout, refl)
-built-region VmPool e = absurd cc
-built-region VmLast e = absurd cc
+built-region VmPool e = (OfPool empty_pool, refl)
+built-region VmLast e = (OfLast empty_layout, refl)
 built-region VmDebug e = absurd cc
 built-region VmProfile e = absurd cc
 
 pub built-none : (m : Method) → is_some (opened {L = ℕ} m) ≡ false → opened {L = Label} m ≡ None
 built-none VmBest e = absurd cc
-built-none VmPool e = refl
-built-none VmLast e = refl
+built-none VmPool e = absurd cc
+built-none VmLast e = absurd cc
 built-none VmDebug e = refl
 built-none VmProfile e = refl
 
 pub opened-relabelled : (f : ℕ → Label) (m : Method) (r : Region ℕ) → opened m ≡ Some r → opened m ≡ Some (relabelled f r)
 opened-relabelled f VmBest r e = ap (λ q. Some (relabelled f q)) (same_Some (OfBest empty_layout) r e)
-opened-relabelled f VmPool r e = absurd (none-some r e)
-opened-relabelled f VmLast r e = absurd (none-some r e)
+opened-relabelled f VmPool r e = ap (λ q. Some (relabelled f q)) (same_Some (OfPool empty_pool) r e)
+opened-relabelled f VmLast r e = ap (λ q. Some (relabelled f q)) (same_Some (OfLast empty_layout) r e)
 opened-relabelled f VmDebug r e = absurd (none-some r e)
 opened-relabelled f VmProfile r e = absurd (none-some r e)
 
 pub opened-segments : (m : Method) (r : Region ℕ) → opened m ≡ Some r → segments_of r ≡ []
 opened-segments VmBest r e = sym (ap (λ q. segments_of q) (same_Some (OfBest empty_layout) r e))
-opened-segments VmPool r e = absurd (none-some r e)
-opened-segments VmLast r e = absurd (none-some r e)
+opened-segments VmPool r e = sym (ap (λ q. segments_of q) (same_Some (OfPool empty_pool) r e))
+opened-segments VmLast r e = sym (ap (λ q. segments_of q) (same_Some (OfLast empty_layout) r e))
 opened-segments VmDebug r e = absurd (none-some r e)
 opened-segments VmProfile r e = absurd (none-some r e)
 
 pub opened-blocks : (m : Method) (r : Region ℕ) → opened m ≡ Some r → blocks_of r ≡ []
 opened-blocks VmBest r e = sym (ap (λ q. blocks_of q) (same_Some (OfBest empty_layout) r e))
-opened-blocks VmPool r e = absurd (none-some r e)
-opened-blocks VmLast r e = absurd (none-some r e)
+opened-blocks VmPool r e = sym (ap (λ q. blocks_of q) (same_Some (OfPool empty_pool) r e))
+opened-blocks VmLast r e = sym (ap (λ q. blocks_of q) (same_Some (OfLast empty_layout) r e))
 opened-blocks VmDebug r e = absurd (none-some r e)
 opened-blocks VmProfile r e = absurd (none-some r e)
 
@@ -69,6 +70,7 @@ pub record AreNone (labels : Labels) : Type 0 where
   pub agree : AreLabels labels
   pub names : (x : List ℕ) → tag_of labels x ≡ None
   pub count : slab_len labels.by_tag ≡ 0
+  pub kept : kept_of labels ≡ []
 
 none_places : (bs : List (Block ℕ)) → bs ≡ [] → HaveOwnPlaces bs
 none_places bs e =
@@ -88,6 +90,7 @@ none-named r labels none e =
       live = subst (AllByRecursion (λ b. 1 ≤ b.label → IsLive labels b)) (sym e) tt;
       known = λ x. ap is_some (none.names x) ∙ sym (has-label-any (name_of labels) x r ∙ ap (list_any (named_by (name_of labels) x)) e);
       places = none_places (blocks_of r) e;
+      none = λ keeps. none.kept;
     }
 
 -- a region that was just opened
@@ -104,8 +107,9 @@ module _ (slots : Slots) (hs : List Held) (name : List ℕ) (n : ℕ) (d : Disci
       ap (opened_as (state_of slots hs) name n) (opened-relabelled (name_of labels) m region is)
       ∙ (ap (λ b. cond b (refused (state_of slots hs) RegionExists) (opened_over (state_of slots hs) name n r (at_number (state_of slots hs).shelf n))) new
       ∙ (ap (opened_over (state_of slots hs) name n r) (at_number-map (option_map (λ e. e.terms)) slots n ∙ ap (option_map (option_map (λ e. e.terms))) at)
+      ∙ (ap (λ kept. stepped (record { shelf = set (state_of slots hs).shelf (n - 1) None; homes = map home_of hs ++ (let b : Home = record { name = name; place = n; terms = d.terms; region = r; kept = kept } in b) ∷ [] }) (Opened name)) (sym none.kept)
       ∙ (ap (λ shelf. stepped (record { shelf = shelf; homes = map home_of hs ++ home_of (fresh name n d region labels) ∷ [] }) (Opened name)) (sym (map-set (option_map (λ (e : Discipline). e.terms)) slots (n - 1) None))
-      ∙ ap (λ homes. stepped (record { shelf = map (option_map (λ e. e.terms)) (set slots (n - 1) None); homes = homes }) (Opened name)) (sym (map-append home_of hs (fresh name n d region labels ∷ []))))))
+      ∙ ap (λ homes. stepped (record { shelf = map (option_map (λ e. e.terms)) (set slots (n - 1) None); homes = homes }) (Opened name)) (sym (map-append home_of hs (fresh name n d region labels ∷ [])))))))
 
   pub session-open : IsSession (set slots (n - 1) None) (hs ++ fresh name n d region labels ∷ [])
   session-open =

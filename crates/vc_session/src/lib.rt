@@ -7,6 +7,8 @@ mod close;
 mod engine;
 mod home;
 mod labels;
+pub mod method_rows;
+mod marks;
 mod open;
 pub mod run_rows;
 mod session;

@@ -16,7 +16,7 @@ use vc_seg::{BoxedDisc, Method, SegDisc, Shelf, ShelfPlace};
 fn is_built(method: Method) -> bool
     ensures { result ≡ is_some (opened {L = ℕ} method) }
 {
-    matches!(method, Method::VmBest)
+    matches!(method, Method::VmBest | Method::VmPool | Method::VmLast)
 }
 
 // Why no discipline is taken from a place of the shelf.

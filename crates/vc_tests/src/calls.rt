@@ -20,11 +20,23 @@ fn base(rt: HostRuntime) -> Result<(), Fail> {
     assert_eq!(rt; one_more(u64::MAX), u64::MAX);
     let mut steps = Steps::<Mark>::new(alloc);
     steps.tick();
+    Ok(())
+}
+
+#[test]
+fn source(rt: HostRuntime) -> Result<(), Fail> {
+    let alloc = rt.alloc();
     let mut source = MemSource::new(b"abc".to_vec(alloc)?, 2, Vec::new(alloc));
     let mut buf = [0; 4];
     assert_eq!(rt; source.read(&mut buf), Ok(2));
     assert_eq!(rt; buf.as_slice(), b"ab\0\0".as_slice());
     assert_eq!(rt; source.faults(), 0);
+    Ok(())
+}
+
+#[test]
+fn sink(rt: HostRuntime) -> Result<(), Fail> {
+    let alloc = rt.alloc();
     let mut sink = MemSink::new(alloc, 3, 2, Vec::new(alloc))?;
     assert_eq!(rt; sink.write(b"abc"), Ok(2));
     assert_eq!(rt; sink.write(b"cd"), Ok(1));
@@ -35,7 +47,7 @@ fn base(rt: HostRuntime) -> Result<(), Fail> {
 }
 
 #[test]
-fn never_failing(rt: HostRuntime) -> Result<(), Fail> {
+fn never_failing_source(rt: HostRuntime) -> Result<(), Fail> {
     let alloc = rt.alloc();
     let mut source = NeverSource::new(b"abc".to_vec(alloc)?);
     let mut buf = [0; 2];
@@ -44,6 +56,11 @@ fn never_failing(rt: HostRuntime) -> Result<(), Fail> {
     assert_eq!(rt; buf.as_slice(), b"cb".as_slice());
     assert_eq!(rt; source.read(&mut buf), Ok(0));
     assert_eq!(rt; source.faults(), 0);
+    Ok(())
+}
+
+#[test]
+fn never_failing_sink(rt: HostRuntime) -> Result<(), Fail> {
     let mut sink = NeverSink::new();
     assert_eq!(rt; sink.write(b"abc"), Ok(3));
     assert_eq!(rt; sink.faults(), 0);
@@ -51,10 +68,16 @@ fn never_failing(rt: HostRuntime) -> Result<(), Fail> {
 }
 
 #[test]
-fn segments(rt: HostRuntime) -> Result<(), Fail> {
+fn segment(rt: HostRuntime) -> Result<(), Fail> {
     let alloc = rt.alloc();
     let segment = Segment::take(alloc, 7, 96)?;
     assert_eq!(rt; (segment.number(), segment.size()), (7, 96));
+    Ok(())
+}
+
+#[test]
+fn heap(rt: HostRuntime) -> Result<(), Fail> {
+    let alloc = rt.alloc();
     let mut heap = HeapDisc::new(64);
     assert_eq!(rt; (heap.round(), heap.faults(), heap.room()), (64, 0, None));
     match heap.lend(alloc, 1, 128) {
@@ -64,8 +87,13 @@ fn segments(rt: HostRuntime) -> Result<(), Fail> {
         }
         Err(_) => assert!(rt; false),
     }
-    let mut fails = Vec::new(alloc);
-    fails.push(1)?;
+    Ok(())
+}
+
+#[test]
+fn fuse(rt: HostRuntime) -> Result<(), Fail> {
+    let alloc = rt.alloc();
+    let fails = [1].to_vec(alloc)?;
     let mut fuse = FuseDisc::new(32, fails);
     assert!(rt; fuse.lend(alloc, 1, 64).is_err());
     assert_eq!(rt; (fuse.round(), fuse.faults(), fuse.room()), (32, 1, None));
@@ -86,7 +114,15 @@ fn segment_bytes(rt: HostRuntime) -> Result<(), Fail> {
     assert_eq!(rt; segment.bytes(1, 10), b"\0ababcdef\0".as_slice());
     segment.shift(4, 3, 6);
     assert_eq!(rt; segment.bytes(1, 10), b"\0aabcdeff\0".as_slice());
+    Ok(())
+}
+
+#[test]
+fn carried(rt: HostRuntime) -> Result<(), Fail> {
+    let alloc = rt.alloc();
+    let mut segment = Segment::take(alloc, 7, 64)?;
     segment.fill(3, 2, b'x');
+    segment.put(5, b"c");
     let mut other = Segment::take(alloc, 8, 64)?;
     other.carry(62, &segment, 4, 2);
     assert_eq!(rt; other.bytes(61, 3), b"\0xc".as_slice());
@@ -116,13 +152,18 @@ fn budget(rt: HostRuntime) -> Result<(), Fail> {
 }
 
 #[test]
-fn streams(rt: HostRuntime) -> Result<(), Fail> {
+fn reader(rt: HostRuntime) -> Result<(), Fail> {
     let mut source = StdSource::new(b"abc".as_slice());
     let mut buf = [0; 2];
     assert_eq!(rt; source.read(&mut buf), Ok(2));
     assert_eq!(rt; source.read(&mut buf), Ok(1));
     assert_eq!(rt; source.read(&mut buf), Ok(0));
     assert_eq!(rt; source.faults(), 0);
+    Ok(())
+}
+
+#[test]
+fn writer(rt: HostRuntime) -> Result<(), Fail> {
     let mut sink = StdSink::new(Vec::new(rt.alloc()));
     assert_eq!(rt; sink.write(b"abc"), Ok(3));
     assert_eq!(rt; sink.faults(), 0);
@@ -173,7 +214,7 @@ fn best(rt: HostRuntime) -> Result<(), Fail> {
 }
 
 #[test]
-fn script(rt: HostRuntime) -> Result<(), Fail> {
+fn cutter(rt: HostRuntime) -> Result<(), Fail> {
     let alloc = rt.alloc();
     let mut cutter = LineCutter::new(alloc)?;
     assert_eq!(rt; cutter.feed(b"open r best 1\r\nalloc"), (Cut::Whole, 15));
@@ -182,10 +223,22 @@ fn script(rt: HostRuntime) -> Result<(), Fail> {
     assert_eq!(rt; cutter.feed(b"alloc"), (Cut::More, 5));
     assert_eq!(rt; cutter.end(), Cut::Whole);
     assert_eq!(rt; (cutter.line(), cutter.number()), (b"alloc".as_slice(), 2));
+    Ok(())
+}
+
+#[test]
+fn line(rt: HostRuntime) -> Result<(), Fail> {
+    let alloc = rt.alloc();
     let answer = read_line(alloc, Tool::Vmreplay, b"write r a 7 %41b")?;
     let bytes = Bytes::from_vec(b"Ab".to_vec(alloc)?);
     let command = Command::WriteBlock(Name::new(b"r"), Name::new(b"a"), 7, bytes);
-    assert_eq!(rt; answer, LineAnswer::Is(command));
+    assert!(rt; answer == LineAnswer::Is(command));
+    Ok(())
+}
+
+#[test]
+fn reply(rt: HostRuntime) -> Result<(), Fail> {
+    let alloc = rt.alloc();
     let line = print_reply(alloc, &Reply::Closed(Name::new(b"r"), 3))?;
     assert_eq!(rt; line.as_slice(), b"r closed 3\n".as_slice());
     Ok(())

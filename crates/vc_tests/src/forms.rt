@@ -251,7 +251,7 @@ fn blank_lines(rt: HostRuntime) -> Result<(), Fail> {
     let alloc = rt.alloc();
     for line in ["", " \t", "#", "  # x", "\t#open r best 1"] {
         let answer = read_line(alloc, Tool::Dtrun, line.as_bytes())?;
-        assert_eq!(rt; answer, LineAnswer::Blank, "at {line}");
+        assert!(rt; answer == LineAnswer::Blank, "at {line}");
     }
     Ok(())
 }

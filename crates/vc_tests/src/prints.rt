@@ -22,6 +22,10 @@ fn all_print(rt: &impl Abort, alloc: Global, table: &[(Reply, &str)]) -> Result<
     Ok(())
 }
 
+fn bytes(rt: &impl Abort, alloc: Global, bytes: &[u8]) -> Bytes {
+    Bytes::from_vec(bytes.to_vec(alloc).expect(rt, "memory"))
+}
+
 #[test]
 fn regions(rt: HostRuntime) -> Result<(), Fail> {
     let alloc = rt.alloc();
@@ -62,8 +66,8 @@ fn blocks(rt: HostRuntime) -> Result<(), Fail> {
     let alloc = rt.alloc();
     let x = Name::new(b"x");
     let place = Place { seg: 1, off: 1888 };
-    let get = Bytes::from_vec(b"GET".to_vec(alloc)?);
-    let edges = Bytes::from_vec(b"\x00\x0a\xab\xff".to_vec(alloc)?);
+    let get = bytes(&rt, alloc, b"GET");
+    let edges = bytes(&rt, alloc, b"\x00\x0a\xab\xff");
     let table = [
         (Reply::At(x, place, None), "x 1:1888\n"),
         (Reply::At(x, place, Some(5)), "x 1:1888 watched 5\n"),
@@ -106,10 +110,14 @@ fn lists(rt: HostRuntime) -> Result<(), Fail> {
         bytes: 5,
         peak: 6,
     };
-    let segments = SegmentItems::from_vec([(1, 4096), (3, 33554432)].to_vec(alloc)?);
-    let blocks = BlockItems::from_vec([here, unlabelled].to_vec(alloc)?);
-    let damage = DamageItems::from_vec(damage.to_vec(alloc)?);
-    let rows = RowItems::from_vec([main, other].to_vec(alloc)?);
+    let segments = SegmentItems::from_vec(
+        [(1, 4096), (3, 33554432)]
+            .to_vec(alloc)
+            .expect(&rt, "memory"),
+    );
+    let blocks = BlockItems::from_vec([here, unlabelled].to_vec(alloc).expect(&rt, "memory"));
+    let damage = DamageItems::from_vec(damage.to_vec(alloc).expect(&rt, "memory"));
+    let rows = RowItems::from_vec([main, other].to_vec(alloc).expect(&rt, "memory"));
     let table = [
         (
             Reply::SegmentList(segments),
@@ -138,17 +146,22 @@ fn lists(rt: HostRuntime) -> Result<(), Fail> {
     all_print(&rt, alloc, &table)
 }
 
+fn two(rt: &impl Abort, alloc: Global, first: &[u8], second: &[u8]) -> ObjectItems {
+    let mut items = Vec::new(alloc);
+    items.push(bytes(rt, alloc, first)).expect(rt, "memory");
+    items.push(bytes(rt, alloc, second)).expect(rt, "memory");
+    ObjectItems::from_vec(items)
+}
+
 #[test]
 fn objects(rt: HostRuntime) -> Result<(), Fail> {
     let alloc = rt.alloc();
-    let plain = Bytes::from_vec(b"AZaz09-._~".to_vec(alloc)?);
-    let escaped = Bytes::from_vec(b"a b%\x00\n\xab\xff".to_vec(alloc)?);
-    let gone = Bytes::from_vec(b"b".to_vec(alloc)?);
-    let out = Bytes::from_vec(b"-".to_vec(alloc)?);
-    let found = Bytes::from_vec(b"key1-up".to_vec(alloc)?);
-    let mut items = Vec::new(alloc);
-    items.push(Bytes::from_vec(b"apple".to_vec(alloc)?))?;
-    items.push(Bytes::from_vec(b"pear/1".to_vec(alloc)?))?;
+    let plain = bytes(&rt, alloc, b"AZaz09-._~");
+    let escaped = bytes(&rt, alloc, b"a b%\x00\n\xab\xff");
+    let gone = bytes(&rt, alloc, b"b");
+    let out = bytes(&rt, alloc, b"-");
+    let found = bytes(&rt, alloc, b"key1-up");
+    let items = two(&rt, alloc, b"apple", b"pear/1");
     let table = [
         (Reply::New(plain), "new AZaz09-._~\n"),
         (Reply::Old(escaped), "old a%20b%25%00%0A%AB%FF\n"),
@@ -156,10 +169,7 @@ fn objects(rt: HostRuntime) -> Result<(), Fail> {
         (Reply::Out(out), "out -\n"),
         (Reply::Found(found), "found key1-up\n"),
         (Reply::Nothing, "none\n"),
-        (
-            Reply::Objects(ObjectItems::from_vec(items)),
-            "2 apple pear%2F1\n",
-        ),
+        (Reply::Objects(items), "2 apple pear%2F1\n"),
         (
             Reply::Objects(ObjectItems::from_vec(Vec::new(alloc))),
             "0\n",
@@ -190,53 +200,55 @@ fn dictionaries(rt: HostRuntime) -> Result<(), Fail> {
     all_print(&rt, alloc, &table)
 }
 
+const REFUSALS: &[(Refusal, &str)] = &[
+    (Refusal::NoRegion, "refused: no region\n"),
+    (Refusal::RegionExists, "refused: region exists\n"),
+    (Refusal::NoSuchDiscipline, "refused: no such discipline\n"),
+    (Refusal::DisciplineInUse, "refused: discipline in use\n"),
+    (Refusal::NoBlock, "refused: no block\n"),
+    (Refusal::BlockExists, "refused: block exists\n"),
+    (Refusal::FreedAt(1), "refused: freed at line 1\n"),
+    (
+        Refusal::FreedAt(2147483647),
+        "refused: freed at line 2147483647\n",
+    ),
+    (Refusal::NoDictionary, "refused: no dictionary\n"),
+    (Refusal::DictionaryExists, "refused: dictionary exists\n"),
+    (Refusal::NoSuchKind, "refused: no such kind\n"),
+    (Refusal::WrongMethod, "refused: wrong method\n"),
+    (Refusal::Size, "refused: size\n"),
+    (Refusal::Range, "refused: range\n"),
+    (Refusal::TooManyBlocks, "refused: too many blocks\n"),
+    (
+        Refusal::TooManyDictionaries,
+        "refused: too many dictionaries\n",
+    ),
+    (Refusal::PoolSize, "refused: pool size\n"),
+    (Refusal::NotLast, "refused: not last\n"),
+    (Refusal::CannotGrow, "refused: cannot grow here\n"),
+    (Refusal::Busy, "refused: busy\n"),
+    (Refusal::Viewed, "refused: viewed\n"),
+    (Refusal::ViewDiffers, "refused: view differs\n"),
+    (Refusal::ViewCycle, "refused: view cycle\n"),
+    (Refusal::ViewTooDeep, "refused: view too deep\n"),
+    (Refusal::TooManySegments, "refused: too many segments\n"),
+    (Refusal::NoSegment, "refused: no segment\n"),
+    (
+        Refusal::NoSegmentForTable,
+        "refused: no segment for table\n",
+    ),
+    (
+        Refusal::NoSegmentForObject,
+        "refused: no segment for object\n",
+    ),
+    (Refusal::NotYet, "refused: not built\n"),
+];
+
 #[test]
 fn refusals(rt: HostRuntime) -> Result<(), Fail> {
     let alloc = rt.alloc();
-    for (why, line) in [
-        (Refusal::NoRegion, "refused: no region\n"),
-        (Refusal::RegionExists, "refused: region exists\n"),
-        (Refusal::NoSuchDiscipline, "refused: no such discipline\n"),
-        (Refusal::DisciplineInUse, "refused: discipline in use\n"),
-        (Refusal::NoBlock, "refused: no block\n"),
-        (Refusal::BlockExists, "refused: block exists\n"),
-        (Refusal::FreedAt(1), "refused: freed at line 1\n"),
-        (
-            Refusal::FreedAt(2147483647),
-            "refused: freed at line 2147483647\n",
-        ),
-        (Refusal::NoDictionary, "refused: no dictionary\n"),
-        (Refusal::DictionaryExists, "refused: dictionary exists\n"),
-        (Refusal::NoSuchKind, "refused: no such kind\n"),
-        (Refusal::WrongMethod, "refused: wrong method\n"),
-        (Refusal::Size, "refused: size\n"),
-        (Refusal::Range, "refused: range\n"),
-        (Refusal::TooManyBlocks, "refused: too many blocks\n"),
-        (
-            Refusal::TooManyDictionaries,
-            "refused: too many dictionaries\n",
-        ),
-        (Refusal::PoolSize, "refused: pool size\n"),
-        (Refusal::NotLast, "refused: not last\n"),
-        (Refusal::CannotGrow, "refused: cannot grow here\n"),
-        (Refusal::Busy, "refused: busy\n"),
-        (Refusal::Viewed, "refused: viewed\n"),
-        (Refusal::ViewDiffers, "refused: view differs\n"),
-        (Refusal::ViewCycle, "refused: view cycle\n"),
-        (Refusal::ViewTooDeep, "refused: view too deep\n"),
-        (Refusal::TooManySegments, "refused: too many segments\n"),
-        (Refusal::NoSegment, "refused: no segment\n"),
-        (
-            Refusal::NoSegmentForTable,
-            "refused: no segment for table\n",
-        ),
-        (
-            Refusal::NoSegmentForObject,
-            "refused: no segment for object\n",
-        ),
-        (Refusal::NotYet, "refused: not built\n"),
-    ] {
-        let printed = print_reply(alloc, &Reply::Refused(why))?;
+    for (why, line) in REFUSALS {
+        let printed = print_reply(alloc, &Reply::Refused(*why))?;
         assert_eq!(rt; printed.as_slice(), line.as_bytes());
     }
     Ok(())

@@ -52,6 +52,20 @@ fn changed(rt: HostRuntime) -> Result<(), Fail> {
                 }
                 Err(_) => assert!(rt; false),
             }
+        }
+        Err(_) => assert!(rt; false),
+    }
+    Ok(())
+}
+
+#[test]
+fn cleared(rt: HostRuntime) -> Result<(), Fail> {
+    let alloc = rt.alloc();
+    let disc = Box::new(alloc, HeapDisc::new(4096))?;
+    match Region::open(alloc, Method::VmBest, disc) {
+        Ok(mut region) => {
+            let small = region.alloc(6, 1, b"-");
+            assert_eq!(rt; small, Ok(Addr::new(1, 32)));
             let large = region.alloc(5000, 2, b"-");
             assert_eq!(rt; large, Ok(Addr::new(2, 32)));
             region.clear();

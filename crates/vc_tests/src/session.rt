@@ -1,15 +1,30 @@
 // A session used by itself: commands and their replies over a shelf, with no script.
+ghost use Rattle.vc_session.specs.Homes.{IsSessionOver};
+
 use crate::prints::prints;
 use std::alloc::Global;
 use std::process::Abort;
 use std::test::Fail;
-use vc_base::{Name, OutOfMemory};
-use vc_script::{Command, Reply, Tool};
-use vc_seg::{HeapDisc, Method, Shelf, ShelfPlace};
+use vc_base::Name;
+use vc_script::{Command, Tool};
+use vc_seg::{BoxedDisc, HeapDisc, Method, SegDisc, Shelf, ShelfPlace};
 use vc_session::Session;
 
-fn answers(rt: &impl Abort, alloc: Global, answer: Result<Reply, OutOfMemory>, line: &[u8]) {
-    prints(rt, alloc, answer.expect(rt, "memory"), line);
+// A step whose reply prints as that line.
+fn step(
+    rt: &impl Abort,
+    alloc: Global,
+    session: &mut Session,
+    shelf: &mut Shelf,
+    number: u32,
+    command: &Command,
+    line: &[u8],
+)
+    requires { IsSessionOver state shelf.old session.old }
+    ensures { IsSessionOver state shelf.new session.new }
+{
+    let reply = session.step(shelf, number, command).expect(rt, "memory");
+    prints(rt, alloc, reply, line);
 }
 
 #[test]
@@ -24,17 +39,24 @@ fn session(rt: HostRuntime) -> Result<(), Fail> {
     let mut shelf = Shelf::new(alloc);
     assert!(rt; shelf.put(Box::new(alloc, HeapDisc::new(4096))?).is_ok());
     let mut session = Session::new(alloc, Tool::Vmreplay).expect(&rt, "memory");
-    answers(&rt, alloc, session.step(&mut shelf, 1, &open), b"r open\n");
+    step(&rt, alloc, &mut session, &mut shelf, 1, &open, b"r open\n");
     assert_eq!(rt; shelf.place(1), ShelfPlace::Taken);
-    answers(&rt, alloc, session.step(&mut shelf, 2, &place), b"a 1:32\n");
-    answers(&rt, alloc, session.step(&mut shelf, 3, &free), b"a freed\n");
-    let again = session.step(&mut shelf, 4, &free);
-    answers(&rt, alloc, again, b"refused: no block\n");
-    let closed = session.step(&mut shelf, 5, &close);
-    answers(&rt, alloc, closed, b"r closed 1\n");
+    step(&rt, alloc, &mut session, &mut shelf, 2, &place, b"a 1:32\n");
+    step(&rt, alloc, &mut session, &mut shelf, 3, &free, b"a freed\n");
+    let again = b"refused: no block\n";
+    step(&rt, alloc, &mut session, &mut shelf, 4, &free, again);
+    step(
+        &rt,
+        alloc,
+        &mut session,
+        &mut shelf,
+        5,
+        &close,
+        b"r closed 1\n",
+    );
     assert_eq!(rt; shelf.place(1), ShelfPlace::Here);
-    answers(&rt, alloc, session.step(&mut shelf, 6, &open), b"r open\n");
-    answers(&rt, alloc, session.step(&mut shelf, 7, &place), b"a 1:32\n");
+    step(&rt, alloc, &mut session, &mut shelf, 6, &open, b"r open\n");
+    step(&rt, alloc, &mut session, &mut shelf, 7, &place, b"a 1:32\n");
     session.end(&mut shelf);
     assert_eq!(rt; shelf.place(1), ShelfPlace::Here);
     Ok(())

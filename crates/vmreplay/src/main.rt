@@ -10,7 +10,7 @@ use std::env::{self, Env};
 use std::io::ErrorKind;
 use std::process::ExitCode;
 use vc_base::{StdSink, StdSource};
-use vc_seg::{HeapDisc, Shelf};
+use vc_seg::{BudgetDisc, HeapDisc, Shelf};
 use vc_session::{Status, replay};
 
 // The words behind the program's name. Where one isn't UTF-8 there's no list, and an empty word is refused in its place.
@@ -35,7 +35,8 @@ fn exit(status: Status) -> ExitCode
     ExitCode::from(status.number())
 }
 
-// Disciplines 1 to 8 round to 4,096 bytes, 9 to 12 to 65,536. With no memory for them, nothing is read or written.
+// Disciplines 1 to 8 round to 4,096 bytes, 9 to 12 to 65,536, and 13 to 16 to 4,096 with a budget of 1,048,576 bytes each.
+// With no memory for them, nothing is read or written.
 fn main(rt: HostRuntime) -> ExitCode {
     let alloc = rt.alloc();
     let Ok(words) = words_of(&rt) else {
@@ -45,6 +46,14 @@ fn main(rt: HostRuntime) -> ExitCode {
     for i in 0..12u32 {
         let round = if i < 8 { 4096 } else { 65536 };
         let Ok(disc) = Box::new(alloc, HeapDisc::new(round)) else {
+            return exit(Status::Memory);
+        };
+        if shelf.put(disc).is_err() {
+            return exit(Status::Memory);
+        }
+    }
+    for _budgeted in 0..4u32 {
+        let Ok(disc) = Box::new(alloc, BudgetDisc::new(4096, 1_048_576)) else {
             return exit(Status::Memory);
         };
         if shelf.put(disc).is_err() {

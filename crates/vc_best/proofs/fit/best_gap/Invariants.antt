@@ -1,5 +1,5 @@
 use Rattle.std.proofs.Common.{◌≡◌, None, drop}
-use Rattle.vc_best.specs.Slot.{runs_of}
+use Rattle.vc_best.specs.Heads.{runs_of}
 use Rattle.vc_best.proofs.Scan.{scan_all}
 use Rattle.vc_best.proofs.fit.best_gap.Given as goal
 

@@ -1,10 +1,11 @@
 use Rattle.std.proofs.Common.{◌≡◌, ◌++◌, suc, drop, map, ap, sym, subst, ◌∙◌, add-one}
 use Rattle.vc_model.specs.Gap.{bytes_of}
 use Rattle.vc_seg.specs.Segment.{Bytes, pair_of}
-use Rattle.vc_best.specs.Slot.{runs_of}
-use Rattle.vc_best.specs.Tally.{HasRoom, tallied_all}
+use Rattle.vc_best.specs.Heads.{runs_of}
+use Rattle.vc_blocks.specs.Tally.{HasRoom, tallied_all}
 use Rattle.vc_best.specs.Gaps.{gaps_left_in}
-use Rattle.vc_best.proofs.Tallies.{HasRoom-rest, sizes_in, sizes_in-next, tallied_all-append}
+use Rattle.vc_blocks.proofs.Tallies.{HasRoom-rest, tallied_all-append}
+use Rattle.vc_best.proofs.Tallies.{sizes_in, sizes_in-next}
 use Rattle.vc_best.proofs.stat.tally_gaps.Goals as goal
 
 pub loop-segment-preserved : goal.loop-segment-preserved

@@ -1,5 +1,5 @@
 use Rattle.std.proofs.Common.{◌≡◌, drop}
-use Rattle.vc_best.specs.Tally.{HasRoom, tallied_all, tally_of}
+use Rattle.vc_blocks.specs.Tally.{HasRoom, tallied_all, tally_of}
 use Rattle.vc_best.proofs.Tallies.{sizes_in}
 use Rattle.vc_best.proofs.stat.tally_gaps.Given as goal
 

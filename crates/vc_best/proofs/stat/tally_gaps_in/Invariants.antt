@@ -1,7 +1,7 @@
 use Rattle.std.proofs.Common.{◌≡◌, ◌-◌, drop, map}
 use Rattle.vc_model.specs.Gap.{bytes_of}
-use Rattle.vc_best.specs.Slot.{runs_of}
-use Rattle.vc_best.specs.Tally.{HasRoom, tallied_all}
+use Rattle.vc_best.specs.Heads.{runs_of}
+use Rattle.vc_blocks.specs.Tally.{HasRoom, tallied_all}
 use Rattle.vc_best.specs.Gaps.{gaps_left_in}
 use Rattle.vc_best.proofs.Tallies.{sizes_between}
 use Rattle.vc_best.proofs.stat.tally_gaps_in.Given as goal

@@ -1,7 +1,7 @@
 use Rattle.std.proofs.Common.{◌≡◌, drop, map}
 use Rattle.vc_model.specs.Resize.{is_usable}
 use Rattle.vc_seg.specs.Segment.{pair_of}
-use Rattle.vc_best.specs.Slot.{run_of_slot}
+use Rattle.vc_best.specs.Heads.{run_of_slot}
 use Rattle.vc_best.proofs.stay.is_usable.Given as goal
 
 -- it is usable in none of the segments so far

@@ -6,11 +6,11 @@ use Rattle.vc_best.proofs.best.Best.alloc.Goals as goal
 
 pub returns-in-Some-clause-answer : goal.returns-in-Some-clause-answer
 returns-in-Some-clause-answer g c =
-    Answers-put c.args.self.now.layout c.put.new.self _ c.args.tag c.args.size c.args.align c.put.result (c.in-Some.seg, c.in-Some.off) (sym c.place.ensures ∙ c.in-Some.is) c.put.ensures.ok c.put.ensures.err c.put.ensures.only
+    Answers-put c.args.self.now.layout c.put.new.self c.args.tag c.args.size c.args.align (c.in-Some.seg, c.in-Some.off) _ c.put.result (sym c.place.ensures ∙ c.in-Some.is) c.put.ensures.ok c.put.ensures.err c.put.ensures.only
 
 pub returns-in-Some-clause-disc : goal.returns-in-Some-clause-disc
 returns-in-Some-clause-disc g c =
-    Asks-put _ c.args.self.now.layout c.put.new.self c.args.tag c.args.size _ c.put.result (c.in-Some.seg, c.in-Some.off) c.put.ensures.ok c.put.ensures.err c.put.ensures.only
+    Asks-put c.args.self.now.layout c.put.new.self c.args.tag c.args.size c.args.align (c.in-Some.seg, c.in-Some.off) _ _ c.put.result c.put.ensures.ok c.put.ensures.err c.put.ensures.only
 
 pub returns-in-Some-clause-others : goal.returns-in-Some-clause-others
 returns-in-Some-clause-others g c = others-if_put c.put.result c.args.self.now.layout c.put.new.self c.args.tag c.args.size (c.in-Some.seg, c.in-Some.off) c.put.ensures.ok c.put.ensures.fresh
@@ -22,7 +22,7 @@ returns-in-None-clause-others g c =
 pub returns-in-Some-clause-there : goal.returns-in-Some-clause-there
 returns-in-Some-clause-there g c =
     there-alloc c.put.result c.args.self.now.layout c.put.new.self (record { round = 32 }) c.args.tag c.args.size c.args.align
-    (Answers-put c.args.self.now.layout c.put.new.self (record { round = 32 }) c.args.tag c.args.size c.args.align c.put.result (c.in-Some.seg, c.in-Some.off) (sym c.place.ensures ∙ c.in-Some.is) c.put.ensures.ok c.put.ensures.err c.put.ensures.only)
+    (Answers-put c.args.self.now.layout c.put.new.self c.args.tag c.args.size c.args.align (c.in-Some.seg, c.in-Some.off) (record { round = 32 }) c.put.result (sym c.place.ensures ∙ c.in-Some.is) c.put.ensures.ok c.put.ensures.err c.put.ensures.only)
     c.put.ensures.fresh
 
 pub returns-in-None-clause-there : goal.returns-in-None-clause-there

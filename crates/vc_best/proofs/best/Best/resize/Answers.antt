@@ -2,7 +2,7 @@ use Rattle.std.proofs.Common.{ℕ, option_map, Some, false, refl, ap, ◌∙◌}
 use Rattle.vc_model.specs.Addr.{place_of}
 use Rattle.vc_model.specs.Layout.{Layout, without_block}
 use Rattle.vc_model.specs.Touch.{find_block}
-use Rattle.vc_best.proofs.Asking.{Served-later, Served-same}
+use Rattle.vc_best.proofs.Asking.{Served-later, Served-unasked}
 use Rattle.vc_best.proofs.Others.{others-moved, others-sized}
 use Rattle.vc_best.proofs.Resizes.{resize-stays, resize-fixed, resize-moves, resize-refused, new-among, new-room, old-among, old-found, none-stays}
 use Rattle.vc_best.proofs.There.{size-moved, size-sized, there-moved, there-sized}
@@ -29,15 +29,15 @@ pub returns-in-Ok-clause-answer : goal.returns-in-Ok-clause-answer
 returns-in-Ok-clause-answer g c =
     let same = old-found _ c.args.self.now.layout c.tag-tag.result c.args.size 32 c.in-Ok.to.0 false c.alloc.new.self.layout c.in-Ok.ensures.answer c.in-Ok.ensures.fresh c.args.a.0 c.requires.block in
     let can = c.can_stay.ensures ∙ ap Some c.if-can_stay.false in
-    resize-moves _ c.args.self.now.layout c.args.a.0 c.args.size c.tag-tag.result c.args.may_move c.if-not-may_move.false c.in-Ok.to.0 c.alloc.new.self.layout c.take_over.new.self same can c.tag-tag.ensures c.in-Ok.ensures.answer c.take_over.ensures.moved
+    resize-moves _ c.args.self.now.layout c.args.a.0 c.args.size c.tag-tag.result c.args.may_move c.if-not-may_move.false c.in-Ok.to.0 c.alloc.new.self.layout c.take_over.new.self same can (rw c.held.ensures at c.tag-tag.ensures) c.in-Ok.ensures.answer c.take_over.ensures.moved
 
 pub returns-in-Err-clause-answer : goal.returns-in-Err-clause-answer
 returns-in-Err-clause-answer g c =
     let can = c.can_stay.ensures ∙ ap Some c.if-can_stay.false in
-    (resize-refused _ c.args.self.now.layout c.args.a.0 c.args.size c.tag-tag.result c.args.may_move c.if-not-may_move.false c.in-Err.fault can c.tag-tag.ensures c.in-Err.ensures.answer.0, c.in-Err.ensures.answer.1)
+    (resize-refused _ c.args.self.now.layout c.args.a.0 c.args.size c.tag-tag.result c.args.may_move c.if-not-may_move.false c.in-Err.fault can (rw c.held.ensures at c.tag-tag.ensures) c.in-Err.ensures.answer.0, c.in-Err.ensures.answer.1)
 
 pub returns-then-can_stay-clause-disc : goal.returns-then-can_stay-clause-disc
-returns-then-can_stay-clause-disc g c = Served-same _ _ _ _ (ap (λ (r : Layout ℕ). r.segments) c.resize_there.ensures.value)
+returns-then-can_stay-clause-disc g c = Served-unasked _ _ _ _ (ap (λ (r : Layout ℕ). r.segments) c.resize_there.ensures.value)
 
 pub returns-in-Ok-clause-disc : goal.returns-in-Ok-clause-disc
 returns-in-Ok-clause-disc g c = Served-later _ _ _ _ _ _ c.take_over.ensures.segments c.in-Ok.ensures.disc
@@ -53,7 +53,7 @@ returns-then-can_stay-clause-others g c =
 pub returns-in-Ok-clause-others : goal.returns-in-Ok-clause-others
 returns-in-Ok-clause-others g c =
     let same = old-found _ c.args.self.now.layout c.tag-tag.result c.args.size 32 c.in-Ok.to.0 false c.alloc.new.self.layout c.in-Ok.ensures.answer c.in-Ok.ensures.fresh c.args.a.0 c.requires.block in
-    others-moved c.alloc.new.self.layout c.take_over.new.self c.args.self.now.layout (place_of c.args.a.0) (place_of c.in-Ok.to.0) c.args.size c.tag-tag.result same c.tag-tag.ensures c.take_over.ensures.moved c.in-Ok.ensures.others
+    others-moved c.alloc.new.self.layout c.take_over.new.self c.args.self.now.layout (place_of c.args.a.0) (place_of c.in-Ok.to.0) c.args.size c.tag-tag.result same (rw c.held.ensures at c.tag-tag.ensures) c.take_over.ensures.moved c.in-Ok.ensures.others
 
 pub returns-then-can_stay-clause-there : goal.returns-then-can_stay-clause-there
 returns-then-can_stay-clause-there g c =
@@ -63,7 +63,7 @@ returns-then-can_stay-clause-there g c =
 pub returns-in-Ok-clause-there : goal.returns-in-Ok-clause-there
 returns-in-Ok-clause-there g c =
     let same = old-found _ c.args.self.now.layout c.tag-tag.result c.args.size 32 c.in-Ok.to.0 false c.alloc.new.self.layout c.in-Ok.ensures.answer c.in-Ok.ensures.fresh c.args.a.0 c.requires.block in
-    there-moved c.alloc.new.self.layout c.take_over.new.self c.args.self.now.layout c.args.a.0 c.in-Ok.to.0 c.args.size c.tag-tag.result c.requires.block c.in-Ok.ensures.fresh same c.tag-tag.ensures c.take_over.ensures.moved c.in-Ok.ensures.there
+    there-moved c.alloc.new.self.layout c.take_over.new.self c.args.self.now.layout c.args.a.0 c.in-Ok.to.0 c.args.size c.tag-tag.result c.requires.block c.in-Ok.ensures.fresh same (rw c.held.ensures at c.tag-tag.ensures) c.take_over.ensures.moved c.in-Ok.ensures.there
 
 pub returns-then-can_stay-clause-sized : goal.returns-then-can_stay-clause-sized
 returns-then-can_stay-clause-sized g c =
@@ -73,4 +73,4 @@ returns-then-can_stay-clause-sized g c =
 pub returns-in-Ok-clause-sized : goal.returns-in-Ok-clause-sized
 returns-in-Ok-clause-sized g c =
     let same = old-found _ c.args.self.now.layout c.tag-tag.result c.args.size 32 c.in-Ok.to.0 false c.alloc.new.self.layout c.in-Ok.ensures.answer c.in-Ok.ensures.fresh c.args.a.0 c.requires.block in
-    size-moved c.alloc.new.self.layout c.take_over.new.self c.args.self.now.layout c.args.a.0 c.in-Ok.to.0 c.args.size c.tag-tag.result c.requires.block c.in-Ok.ensures.fresh same c.tag-tag.ensures c.take_over.ensures.moved c.in-Ok.ensures.there
+    size-moved c.alloc.new.self.layout c.take_over.new.self c.args.self.now.layout c.args.a.0 c.in-Ok.to.0 c.args.size c.tag-tag.result c.requires.block c.in-Ok.ensures.fresh same (rw c.held.ensures at c.tag-tag.ensures) c.take_over.ensures.moved c.in-Ok.ensures.there

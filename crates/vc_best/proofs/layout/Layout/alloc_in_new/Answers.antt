@@ -1,85 +1,69 @@
-use Rattle.std.proofs.Common.{◌<◌, All, length, ap, sym, ◌∙◌, refl, subst, arith}
-use Rattle.vc_best.specs.Apart.{footprint_at}
-use Rattle.vc_model.specs.Discipline.{IsRound, Terms}
-use Rattle.vc_best.specs.Parts.{IsLayout}
-use Rattle.vc_best.specs.Slot.{run_of_slot}
-use Rattle.vc_best.proofs.Allocs.{IsAskedFor, IsLayout-lent, best_alloc-lent, clear-lent, best_gap-none}
-use Rattle.vc_best.proofs.Rounding.{IsAligned-from_IsAlign, IsSegmentSize-asked}
-use Rattle.vc_best.proofs.Blocks.{no_block_at}
-use Rattle.vc_best.proofs.Sounds.{IsSound-layout}
+use Rattle.std.proofs.Common.{◌≡◌, ◌+◌, ◌≤◌, ap, ◌∙◌, arith}
+use Rattle.vc_model.specs.Best.{best_need}
+use Rattle.vc_model.specs.Discipline.{IsSegmentSize, Terms}
+use Rattle.vc_model.specs.Segments.{round_up, span}
+use Rattle.vc_segments.proofs.Rounding.{round_up-least}
+use Rattle.vc_best.proofs.Apart.{span-least}
+use Rattle.vc_best.proofs.Asking.{Answers-new, new-fresh, new-heads}
+use Rattle.vc_best.proofs.Heads.{IsSound-heads}
+use Rattle.vc_best.proofs.Rounding.{IsAligned, IsAligned-from_IsAlign, IsSegmentSize-need}
 use Rattle.vc_best.proofs.layout.Layout.alloc_in_new.Goals as goal
-use Rattle.vc_best.proofs.layout.Layout.alloc_in_new.Goals.{After-put_among}
+use Rattle.vc_best.proofs.layout.Layout.alloc_in_new.Goals.{After-rounded_up-bytes, After-put_in_new-answer}
 use Rattle.vc_best.proofs.layout.Layout.alloc_in_new.Given.{Over}
-use Rattle.vc_model.specs.Sound.{IsApart}
 
-pub lend_segment-requires-clause-bytes : goal.lend_segment-requires-clause-bytes
-lend_segment-requires-clause-bytes g c =
-    rw (c.rounded_up-bytes.ensures, c.span_of.ensures)
-    (IsSegmentSize-asked c.round_of.result c.args.size c.args.align c.round_of.ensures.legal c.requires.most (IsAligned-from_IsAlign c.args.align c.requires.align))
+aligned : (g : Over) (c : After-rounded_up-bytes g) → IsAligned c.args.align
+aligned g c = IsAligned-from_IsAlign c.args.align c.requires.align
 
-few : (g : Over) (c : After-put_among g) → length c.self.inside.segs.items < 1023
-few g c = omega (arith, ap length c.in_ok-reserve_one.ensures.items)
+is : (g : Over) (c : After-rounded_up-bytes g) → c.rounded_up-bytes.result ≡ round_up (span c.args.size + c.args.align) c.round_of.result
+is g c = rw (← c.span_of.ensures) c.rounded_up-bytes.ensures
+
+legal : (g : Over) (c : After-rounded_up-bytes g) → IsSegmentSize c.rounded_up-bytes.result
+legal g c = rw (is g c) (IsSegmentSize-need c.round_of.result c.args.size c.args.align c.round_of.ensures.legal c.requires.some c.requires.most (aligned g c))
+
+fits : (g : Over) (c : After-rounded_up-bytes g) → span c.args.size + c.args.align ≤ c.rounded_up-bytes.result
+fits g c = rw (is g c) (round_up-least (span c.args.size + c.args.align) c.round_of.result (let least = c.round_of.ensures.legal.least in omega (arith, least)))
 
 -- the terms of the discipline
-abbrev terms : (g : Over) (c : After-put_among g) → Terms
+abbrev terms : (g : Over) (c : After-rounded_up-bytes g) → Terms
 terms g c = ((goal.SegDisc-dyn g (c.args.disc.now.vtable, c.args.disc.now.value)).state c.args.disc.now.value).terms
 
-legal : (g : Over) (c : After-put_among g) → IsRound (terms g c).round
-legal g c = subst IsRound c.round_of.ensures.value c.round_of.ensures.legal
+need : (g : Over) (c : After-rounded_up-bytes g) → c.rounded_up-bytes.result ≡ best_need (terms g c) c.args.size c.args.align
+need g c = is g c ∙ ap (round_up (span c.args.size + c.args.align)) c.round_of.ensures.value
 
-asked : (g : Over) (c : After-put_among g) → IsAskedFor c.self.inside.segs.items (terms g c) c.args.size c.args.align c.lowest_unused-number.result c.rounded_up-bytes.result
-asked g c =
-    let segs = c.deref.ensures.value ∙ c.in_ok-reserve_one.ensures.items in
-    let long = ap length segs in
-    let bound = few g c in
-    record {
-      number = rw (← segs) c.lowest_unused-number.ensures.value;
-      first = c.lowest_unused-number.ensures.first;
-      last = omega arith;
-      bytes_are = rw (← c.span_of.ensures, ← c.round_of.ensures.value) c.rounded_up-bytes.ensures;
-    }
+pub put_in_new-answer-requires-clause-bytes : goal.put_in_new-answer-requires-clause-bytes
+put_in_new-answer-requires-clause-bytes g c = legal g (goal.at.put_in_new-answer-requires-clause-bytes g c).After-rounded_up-bytes
 
-whole : (g : Over) (c : After-put_among g) → IsLayout c.push_reserved.new.self.items c.put_among.new.slots.items
-whole g c =
-    rw (c.put_among.ensures, c.push_reserved.ensures.items, c.in_ok-segment.ensures.segment, c.in_ok-reserve_one.ensures.items, c.in_ok-reserve_one-2.ensures.items)
-    (IsLayout-lent c.self.inside.segs.items c.self.inside.blocks.items (terms g c) c.args.size c.args.align c.lowest_unused-number.result c.rounded_up-bytes.result c.self.invariant (few g c) (asked g c) (legal g c) (IsAligned-from_IsAlign c.args.align c.requires.align) c.requires.some c.requires.most c.args.tag)
+pub put_in_new-answer-requires-clause-first : goal.put_in_new-answer-requires-clause-first
+put_in_new-answer-requires-clause-first g c = (aligned g (goal.at.put_in_new-answer-requires-clause-first g c).After-rounded_up-bytes).least
 
--- it overlaps no slot
-clear : (g : Over) (c : After-put_among g) → All (λ t. IsApart (footprint_at c.args.size (c.lowest_unused-number.result, c.args.align)) (run_of_slot t)) c.self.inside.blocks.items
-clear g c = clear-lent c.self.inside.segs.items c.self.inside.blocks.items (terms g c) c.args.size c.args.align c.lowest_unused-number.result c.rounded_up-bytes.result c.self.invariant (few g c) (asked g c) (legal g c) (IsAligned-from_IsAlign c.args.align c.requires.align) c.requires.some c.requires.most
+pub put_in_new-answer-requires-clause-offset : goal.put_in_new-answer-requires-clause-offset
+put_in_new-answer-requires-clause-offset g c = (aligned g (goal.at.put_in_new-answer-requires-clause-offset g c).After-rounded_up-bytes).multiple
 
-pub invariant_of-self-2 : goal.invariant_of-self-2
-invariant_of-self-2 g c = whole g (goal.at.invariant_of-self-2 g c).After-put_among
+pub put_in_new-answer-requires-clause-room : goal.put_in_new-answer-requires-clause-room
+put_in_new-answer-requires-clause-room g c = let room = fits g (goal.at.put_in_new-answer-requires-clause-room g c).After-rounded_up-bytes in omega (arith, room, span-least c.args.size)
+
+pub invariant_of-self : goal.invariant_of-self
+invariant_of-self g c =
+    let b = (goal.at.invariant_of-self g c).After-rounded_up-bytes in
+    new-heads c.self.inside.held c.put_in_new-answer.new.self (terms g b) c.args.tag c.args.size c.args.align c.rounded_up-bytes.result c.self.invariant (rw (← c.self.view_is) at c.requires.none) (need g b) (aligned g b) c.requires.some c.requires.most (legal g b) (fits g b) c.put_in_new-answer.result c.put_in_new-answer.ensures.ok c.put_in_new-answer.ensures.err
 
 pub returns-clause-answer : goal.returns-clause-answer
 returns-clause-answer g c =
-    let at = (goal.at.returns-clause-answer g c).After-put_among in
-    let segs = c.self.inside.segs.items in
-    let blocks = c.self.inside.blocks.items in
-    let none = best_gap-none segs blocks c.args.size c.args.align c.self.invariant.apart (rw (← c.self.view_is) at c.requires.none) in
-    let placed = best_alloc-lent segs blocks (terms g at) c.args.size c.args.align c.lowest_unused-number.result c.rounded_up-bytes.result c.self.invariant (few g at) (asked g at) (legal g at) (IsAligned-from_IsAlign c.args.align c.requires.align) c.requires.some c.requires.most c.args.tag none in
-    rw (← c.self.view_is, placed)
-    (c.new.ensures.value, sym c.new.ensures.place, rw (c.put_among.ensures, c.push_reserved.ensures.items, c.in_ok-segment.ensures.segment, c.in_ok-reserve_one.ensures.items, c.in_ok-reserve_one-2.ensures.items) refl)
+    let b = (goal.at.returns-clause-answer g c).After-rounded_up-bytes in
+    rw (← c.self.view_is)
+    (Answers-new c.self.inside.held c.put_in_new-answer.new.self (terms g b) c.args.tag c.args.size c.args.align c.rounded_up-bytes.result c.self.invariant (rw (← c.self.view_is) at c.requires.none) (need g b) (aligned g b) c.requires.some c.requires.most (legal g b) (fits g b) c.put_in_new-answer.result c.put_in_new-answer.ensures.ok c.put_in_new-answer.ensures.fault c.put_in_new-answer.ensures.err)
+
+pub returns-clause-disc : goal.returns-clause-disc
+returns-clause-disc g c = rw (← c.self.view_is, ← need g (goal.at.returns-clause-disc g c).After-rounded_up-bytes) c.put_in_new-answer.ensures.disc
 
 pub returns-clause-fresh : goal.returns-clause-fresh
 returns-clause-fresh g c =
+    let b = (goal.at.returns-clause-fresh g c).After-rounded_up-bytes in
     rw (← c.self.view_is)
-    (no_block_at c.self.inside.segs.items c.self.inside.blocks.items c.args.size c.new.result.0 (c.lowest_unused-number.result, c.args.align) c.new.ensures.place c.self.invariant.blocks (clear g (goal.at.returns-clause-fresh g c).After-put_among))
+    (new-fresh c.self.inside.held c.put_in_new-answer.new.self (terms g b) c.args.tag c.args.size c.args.align c.rounded_up-bytes.result c.self.invariant (rw (← c.self.view_is) at c.requires.none) (need g b) (aligned g b) c.requires.some c.requires.most (legal g b) (fits g b) c.put_in_new-answer.result c.put_in_new-answer.ensures.ok)
 
 pub returns-clause-sound : goal.returns-clause-sound
-returns-clause-sound g c = IsSound-layout c.push_reserved.new.self.items c.put_among.new.slots.items (whole g (goal.at.returns-clause-sound g c).After-put_among)
-
-pub returns-then-len-ge1023-clause-sound : goal.returns-then-len-ge1023-clause-sound
-returns-then-len-ge1023-clause-sound g c = rw (← c.self.view_is) (IsSound-layout c.self.inside.segs.items c.self.inside.blocks.items c.self.invariant)
-
-pub returns-in_err-reserve_one-clause-sound : goal.returns-in_err-reserve_one-clause-sound
-returns-in_err-reserve_one-clause-sound g c =
-    rw c.in_err-reserve_one.ensures.items (IsSound-layout c.self.inside.segs.items c.self.inside.blocks.items c.self.invariant)
-
-pub returns-in_err-reserve_one-2-clause-sound : goal.returns-in_err-reserve_one-2-clause-sound
-returns-in_err-reserve_one-2-clause-sound g c =
-    rw (c.in_ok-reserve_one.ensures.items, c.in_err-reserve_one-2.ensures.items) (IsSound-layout c.self.inside.segs.items c.self.inside.blocks.items c.self.invariant)
-
-pub returns-in_err-segment-clause-sound : goal.returns-in_err-segment-clause-sound
-returns-in_err-segment-clause-sound g c =
-    rw (c.in_ok-reserve_one.ensures.items, c.in_ok-reserve_one-2.ensures.items) (IsSound-layout c.self.inside.segs.items c.self.inside.blocks.items c.self.invariant)
+returns-clause-sound g c =
+    let b = (goal.at.returns-clause-sound g c).After-rounded_up-bytes in
+    IsSound-heads c.put_in_new-answer.new.self
+    (new-heads c.self.inside.held c.put_in_new-answer.new.self (terms g b) c.args.tag c.args.size c.args.align c.rounded_up-bytes.result c.self.invariant (rw (← c.self.view_is) at c.requires.none) (need g b) (aligned g b) c.requires.some c.requires.most (legal g b) (fits g b) c.put_in_new-answer.result c.put_in_new-answer.ensures.ok c.put_in_new-answer.ensures.err)

@@ -1,36 +1,24 @@
 use Rattle.vc_model.specs.Addr.{place_of}
-use Rattle.vc_best.proofs.Frees.{Contains-place, IsLayout-without_slot, layout_of-without_slot}
-use Rattle.vc_best.proofs.Blocks.{no_block_left}
-use Rattle.vc_best.proofs.Places.{freed-remove}
-use Rattle.vc_best.proofs.Sounds.{IsSound-layout}
+use Rattle.vc_best.specs.Heads.{HaveHeads}
+use Rattle.vc_best.proofs.Heads.{HaveHeads-without, IsSound-heads}
+use Rattle.vc_best.proofs.Stands.{none-there, one-less, stands-removed}
 use Rattle.vc_best.proofs.layout.Layout.free.Goals as goal
+use Rattle.vc_best.proofs.layout.Layout.free.Goals.{After-remove}
 
-pub take_out-requires : goal.take_out-requires
-take_out-requires c =
-    rw (c.seg.ensures, c.off.ensures)
-    (Contains-place c.self.inside.segs.items c.self.inside.blocks.items c.args.a.0 c.self.invariant.blocks (rw (← c.self.view_is) at c.requires))
+whole : (c : After-remove) → HaveHeads c.remove.new.self
+whole c = rw c.remove.ensures (HaveHeads-without c.self.inside.held (place_of c.args.a.0) c.self.invariant)
 
 pub invariant_of-self : goal.invariant_of-self
-invariant_of-self c =
-    rw (c.take_out.ensures.slots, c.seg.ensures, c.off.ensures)
-    (IsLayout-without_slot c.self.inside.segs.items (place_of c.args.a.0) c.self.inside.blocks.items c.self.invariant)
-
-pub returns-clause-value : goal.returns-clause-value
-returns-clause-value c =
-    rw (c.take_out.ensures.slots, c.seg.ensures, c.off.ensures, ← c.self.view_is)
-    (layout_of-without_slot c.self.inside.segs.items (place_of c.args.a.0) c.self.inside.blocks.items)
-
-pub returns-clause-none_left : goal.returns-clause-none_left
-returns-clause-none_left c =
-    rw (c.take_out.ensures.slots, c.seg.ensures, c.off.ensures)
-    (no_block_left c.self.inside.segs.items c.self.inside.blocks.items c.args.a.0 c.self.invariant)
-
-pub returns-clause-freed : goal.returns-clause-freed
-returns-clause-freed c =
-    rw (c.take_out.ensures.slots, c.seg.ensures, c.off.ensures, ← c.self.view_is)
-    (λ i lt here. freed-remove c.self.inside.segs.items c.self.inside.blocks.items c.args.a.0 i c.self.invariant lt here)
+invariant_of-self c = whole (goal.at.invariant_of-self c).After-remove
 
 pub returns-clause-sound : goal.returns-clause-sound
-returns-clause-sound c =
-    rw (c.take_out.ensures.slots, c.seg.ensures, c.off.ensures)
-    (IsSound-layout c.self.inside.segs.items _ (IsLayout-without_slot c.self.inside.segs.items (place_of c.args.a.0) c.self.inside.blocks.items c.self.invariant))
+returns-clause-sound c = IsSound-heads c.remove.new.self (whole (goal.at.returns-clause-sound c).After-remove)
+
+pub returns-clause-one_less : goal.returns-clause-one_less
+returns-clause-one_less c = rw (c.remove.ensures, ← c.self.view_is) (one-less c.self.inside.held c.args.a.0 c.self.invariant (rw (← c.self.view_is) at c.requires))
+
+pub returns-clause-freed : goal.returns-clause-freed
+returns-clause-freed c = rw (c.remove.ensures, ← c.self.view_is) (stands-removed c.self.inside.held c.args.a.0 c.self.invariant)
+
+pub returns-clause-none_left : goal.returns-clause-none_left
+returns-clause-none_left c = rw c.remove.ensures (none-there c.self.inside.held c.args.a.0 c.self.invariant)

@@ -1,48 +1,40 @@
-use Rattle.std.proofs.Common.{◌≡◌, ℕ, List, map, ap, ◌∙◌, arith}
+use Rattle.std.proofs.Common.{◌≡◌, ℕ, List, [], length, map, ap, subst, sym, refl, ◌∙◌, arith}
 use Rattle.std.proofs.lemmas.List.{length-map}
-use Rattle.vc_model.specs.Gap.{bytes_of}
-use Rattle.vc_model.specs.Layout.{Block}
-use Rattle.vc_model.specs.Numbers.{block_sizes, gap_sizes, gaps_of}
+use Rattle.vc_model.specs.Gap.{Run, bytes_of}
+use Rattle.vc_model.specs.Layout.{footprints}
+use Rattle.vc_model.specs.Numbers.{gap_sizes, gaps_of}
 use Rattle.vc_seg.specs.Segment.{pair_of}
-use Rattle.vc_best.specs.declared.tally.Tally.{Tally}
-use Rattle.vc_best.specs.Tally.{tally_of}
-use Rattle.vc_best.proofs.Tallies.{HasRoom-slots, HasRoom-gaps, HasRoom-segments, block_sizes-slots, gap_sizes-slots, tally_of-count, tally_of-bytes, tally_of-most, stat-same}
+use Rattle.vc_blocks.specs.declared.tally.Tally.{Tally}
+use Rattle.vc_blocks.specs.Tally.{HasRoom, tally_of}
+use Rattle.vc_blocks.proofs.Tallies.{tally_of-count, tally_of-bytes, tally_of-most}
+use Rattle.vc_best.specs.Gaps.{gaps_left}
+use Rattle.vc_best.specs.Heads.{runs_of}
+use Rattle.vc_best.proofs.Apart.{runs_of-blocks}
+use Rattle.vc_best.proofs.Ordered.{gaps-left}
+use Rattle.vc_best.proofs.Sizes.{HasRoom-gaps}
 use Rattle.vc_best.proofs.layout.Layout.stat.Goals as goal
-use Rattle.vc_best.proofs.layout.Layout.stat.Goals.{After-tally_slots-blocks, After-tally_gaps-gaps}
+use Rattle.vc_best.proofs.layout.Layout.stat.Goals.{After-slots}
 
-pub tally_slots-blocks-requires : goal.tally_slots-blocks-requires
-tally_slots-blocks-requires c = rw c.deref.ensures.value (HasRoom-slots c.self.inside.segs.items c.self.inside.blocks.items c.self.invariant)
+-- the gaps that the slots leave are those of the blocks
+left : (c : After-slots) → gaps_left (map pair_of c.segments.result.now) (runs_of c.slots.result.now) ≡ gaps_left c.self.inside.held.segments (footprints c.self.inside.held.blocks)
+left c =
+    ap (λ (ss : List (ℕ × ℕ)). gaps_left ss (runs_of c.slots.result.now)) c.segments.ensures.pairs
+    ∙ ap (gaps_left c.self.inside.held.segments) (ap runs_of c.slots.ensures.blocks ∙ runs_of-blocks c.self.inside.held.blocks)
 
 pub tally_gaps-gaps-requires-clause-room : goal.tally_gaps-gaps-requires-clause-room
-tally_gaps-gaps-requires-clause-room c = rw (c.deref-2.ensures.value, c.deref-3.ensures.value) (HasRoom-gaps c.self.inside.segs.items c.self.inside.blocks.items c.self.invariant)
-
-pub tally_segments-segments-requires : goal.tally_segments-segments-requires
-tally_segments-segments-requires c = rw c.deref-4.ensures.value (HasRoom-segments c.self.inside.segs.items c.self.inside.blocks.items c.self.invariant)
-
--- the tallies are those of the region's blocks and gaps
-blocks : (c : After-tally_slots-blocks) → c.tally_slots-blocks.result ≡ tally_of (block_sizes c.args.self.now)
-blocks c =
-    rw (c.tally_slots-blocks.ensures, c.deref.ensures.value, ← c.self.view_is)
-    (ap tally_of (block_sizes-slots c.self.inside.segs.items c.self.inside.blocks.items))
-
-gaps : (c : After-tally_gaps-gaps) → c.tally_gaps-gaps.result ≡ tally_of (gap_sizes c.args.self.now)
-gaps c =
-    rw (c.tally_gaps-gaps.ensures, c.deref-2.ensures.value, c.deref-3.ensures.value, ← c.self.view_is)
-    (ap tally_of (gap_sizes-slots c.self.inside.segs.items c.self.inside.blocks.items c.self.invariant))
+tally_gaps-gaps-requires-clause-room c =
+    let few = c.segments.ensures.legal.few in
+    let long = ap length c.segments.ensures.pairs in
+    subst (λ (gs : List Run). HasRoom (tally_of []) (map bytes_of gs)) (sym (left (goal.at.tally_gaps-gaps-requires-clause-room c).After-slots))
+    (HasRoom-gaps c.self.inside.held c.self.invariant (omega (arith, few, long, length-map c.segments.result.now pair_of)))
 
 pub returns : goal.returns
 returns c =
-    let at = goal.at.returns c in
-    let all : List ℕ = block_sizes c.args.self.now in
-    let left : List ℕ = gap_sizes c.args.self.now in
-    let of_blocks = blocks at.After-tally_slots-blocks in
-    let of_gaps = gaps at.After-tally_gaps-gaps in
-    stat-same c.args.self.now _ _ _ _ _ _ _ _
-    (ap (λ (t : Tally). t.count) of_blocks ∙ (tally_of-count all ∙ length-map c.args.self.now.blocks (λ (b : Block ℕ). b.size)))
-    (ap (λ (t : Tally). t.count) of_gaps ∙ (tally_of-count left ∙ length-map (gaps_of c.args.self.now) bytes_of))
-    (ap (λ (t : Tally). t.bytes) of_blocks ∙ tally_of-bytes all)
-    (ap (λ (t : Tally). t.bytes) of_gaps ∙ tally_of-bytes left)
-    (ap (λ (t : Tally). t.most) of_blocks ∙ tally_of-most all)
-    (ap (λ (t : Tally). t.most) of_gaps ∙ tally_of-most left)
-    (rw (c.len.ensures, ← c.self.view_is) (omega (arith, length-map c.self.inside.segs.items pair_of)))
-    (rw (c.tally_segments-segments.ensures, c.deref-4.ensures.value, ← c.self.view_is) (tally_of-bytes (map (λ (s : ℕ × ℕ). s.1) (map pair_of c.self.inside.segs.items))))
+    let r = c.self.inside.held in
+    let all : List ℕ = gap_sizes r in
+    let gaps : c.tally_gaps-gaps.result ≡ tally_of all =
+    c.tally_gaps-gaps.ensures ∙ ap (λ (gs : List Run). tally_of (map bytes_of gs)) (left (goal.at.returns c).After-slots ∙ sym (gaps-left r.segments r.blocks c.self.invariant.apart)) in
+    let count = ap (λ (t : Tally). t.count) gaps ∙ (tally_of-count all ∙ length-map (gaps_of r) bytes_of) in
+    let bytes = ap (λ (t : Tally). t.bytes) gaps ∙ tally_of-bytes all in
+    let most = ap (λ (t : Tally). t.most) gaps ∙ tally_of-most all in
+    rw (← c.self.view_is, c.tally_blocks-blocks.ensures.count, c.tally_blocks-blocks.ensures.bytes, c.tally_blocks-blocks.ensures.most, c.tally_segments-segments.ensures.count, c.tally_segments-segments.ensures.bytes, count, bytes, most) refl

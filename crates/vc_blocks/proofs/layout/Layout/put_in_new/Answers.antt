@@ -15,7 +15,7 @@ use Rattle.vc_blocks.proofs.layout.Layout.put_in_new.Given.{Over}
 whole : (g : Over) (c : After-put_among g) → IsLayout c.obtain.new.segs.items c.put_among.new.slots.items
 whole g c =
     rw (c.put_among.ensures, c.in_ok-number.ensures.pushed, c.in_ok-reserve_one.ensures.items)
-    (IsLayout-new c.self.inside.segs.items c.self.inside.blocks.items c.in_ok-number.number c.args.bytes c.args.size c.args.tag c.self.invariant (subst AreSegments c.in_ok-number.ensures.pushed c.in_ok-number.ensures.segments) c.in_ok-number.ensures.fresh c.requires.some c.requires.most c.requires.room c.args.order)
+    (IsLayout-new c.self.inside.segs.items c.self.inside.blocks.items c.in_ok-number.number c.args.bytes c.args.off c.args.size c.args.tag c.self.invariant (subst AreSegments c.in_ok-number.ensures.pushed c.in_ok-number.ensures.segments) c.in_ok-number.ensures.fresh c.requires.some c.requires.most c.requires.bytes.most c.requires.first c.requires.offset c.requires.room c.args.order)
 
 pub invariant_of-self-2 : goal.invariant_of-self-2
 invariant_of-self-2 g c = whole g (goal.at.invariant_of-self-2 g c).After-put_among
@@ -27,10 +27,10 @@ returns-clause-ok g c =
     let new : Layout ℕ = layout_of c.obtain.new.segs.items c.put_among.new.slots.items in
     record {
       granted = subst (λ (m : ℕ). ask c.args.bytes c.args.self.now.segments false ≡ Granted m c.args.bytes) (sym number) (rw (← c.self.view_is) c.in_ok-number.ensures.granted);
-      address = subst (λ (m : ℕ). IsAddress c.new.result.0 (m, 32)) (sym number) (c.new.ensures.value, place);
-      layout = subst (λ (m : ℕ). new ≡ with_zeros c.args.order (with_segment c.args.self.now (m, c.args.bytes)) c.args.tag c.args.size (m, 32)) (sym number)
+      address = subst (λ (m : ℕ). IsAddress c.new.result.0 (m, c.args.off)) (sym number) (c.new.ensures.value, place);
+      layout = subst (λ (m : ℕ). new ≡ with_zeros c.args.order (with_segment c.args.self.now (m, c.args.bytes)) c.args.tag c.args.size (m, c.args.off)) (sym number)
           (rw (← c.self.view_is, c.put_among.ensures, c.in_ok-number.ensures.pushed, c.in_ok-reserve_one.ensures.items)
-          (layout_of-new c.self.inside.segs.items c.self.inside.blocks.items c.in_ok-number.number c.args.bytes c.args.size c.args.tag c.self.invariant (subst AreSegments c.in_ok-number.ensures.pushed c.in_ok-number.ensures.segments) c.in_ok-number.ensures.fresh c.requires.some c.requires.most c.requires.room c.args.order));
+          (layout_of-new c.self.inside.segs.items c.self.inside.blocks.items c.in_ok-number.number c.args.bytes c.args.off c.args.size c.args.tag c.self.invariant (subst AreSegments c.in_ok-number.ensures.pushed c.in_ok-number.ensures.segments) c.in_ok-number.ensures.fresh c.requires.some c.requires.most c.requires.bytes.most c.requires.first c.requires.offset c.requires.room c.args.order));
       fresh = subst (λ (m : ℕ). All (λ (q : ℕ × ℕ). q.0 ≢ m) c.args.self.now.segments) (sym number)
           (rw (← c.self.view_is) (All-map (λ (q : ℕ × ℕ). q.0 ≢ c.in_ok-number.number) pair_of c.self.inside.segs.items c.in_ok-number.ensures.fresh));
       numbered = HaveOwnNumbers-segments c.obtain.new.segs.items c.in_ok-number.ensures.segments;

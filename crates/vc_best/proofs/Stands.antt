@@ -1,0 +1,137 @@
+-- Of blocks that don't overlap, one alone stands at each place.
+use Rattle.std.proofs.Common.{◌≡◌, ℕ, zero, suc, ◌+◌, ◌<◌, List, [], ◌∷◌, true, false, Some, All, length, get_or, refl, ap, sym, ◌∙◌, subst, ⊎_elim, eqb, arith}
+use Rattle.std.specs.List.{remove, HoldsAt}
+use Rattle.std.proofs.lemmas.Bool.{cases_Bool, and_parts, and_from, eqb-true, eq-eqb}
+use Rattle.std.proofs.lemmas.List.{get_or_default, length-map, get_or-map}
+use Rattle.std.proofs.lemmas.List.Edits.{length-remove}
+use Rattle.std.proofs.lemmas.List.Elements.{All-cons}
+use Rattle.vc_model.specs.Addr.{place_of}
+use Rattle.vc_model.specs.Layout.{Block, Layout, address_of, footprint, is_at, without_block}
+use Rattle.vc_model.specs.Sound.{IsApart}
+use Rattle.vc_model.specs.Touch.{HasBlock, find_block}
+use Rattle.vc_blocks.proofs.Apart.{AllPairs-head, AllPairs-tail}
+use Rattle.vc_blocks.proofs.Changes.{All-without}
+use Rattle.vc_blocks.proofs.Frees.{place_of-address}
+use Rattle.vc_best.specs.Heads.{AreApart, HasHead, HaveHeads, footprint_at}
+use Rattle.vc_best.proofs.Apart.{Before, span-least}
+
+here : (b : Block ℕ) → is_at (b.seg, b.off) b ≡ true
+here b = and_from (eqb b.seg b.seg) (eqb b.off b.off) (eq-eqb b.seg b.seg refl) (eq-eqb b.off b.off refl)
+
+-- two blocks that don't overlap are at two places
+not_at : (b c : Block ℕ) (at : ℕ × ℕ) → Before b c → is_at at b ≡ true → is_at at c ≡ true → ⊥
+not_at b c at before e u =
+    let one = and_parts (eqb b.seg at.0) (eqb b.off at.1) e in
+    let two = and_parts (eqb c.seg at.0) (eqb c.off at.1) u in
+    let seg : b.seg ≡ c.seg = eqb-true b.seg at.0 one.0 ∙ sym (eqb-true c.seg at.0 two.0) in
+    let off : b.off ≡ c.off = eqb-true b.off at.1 one.1 ∙ sym (eqb-true c.off at.1 two.1) in
+    let some = span-least b.size in
+    ⊎_elim (λ v. omega (arith, v, seg)) (λ v. let le = v.1 in omega (arith, le, off, some)) before
+
+-- of blocks that don't overlap, the one at a place is found there
+find_block-at : (bs : List (Block ℕ)) (i : ℕ) (d : Block ℕ) → AreApart bs → i < length bs → find_block ((get_or bs i d).seg, (get_or bs i d).off) bs ≡ Some (get_or bs i d)
+find_block-at [] i d h lt = absurd (omega (arith, lt))
+find_block-at (b ∷ bs) zero d h lt = rw (here b) refl
+find_block-at (b ∷ bs) (suc i) d h lt =
+    let c : Block ℕ = get_or bs i d in
+    let within : i < length bs = omega (arith, lt) in
+    ⊎_elim
+    (λ e. absurd (not_at b c (c.seg, c.off) (AllPairs-head Before b bs h i d within) e (here c)))
+    (λ e. rw e (find_block-at bs i d (AllPairs-tail Before b bs h) within))
+    (cases_Bool (is_at (c.seg, c.off) b))
+
+-- and is the one that goes
+without_block-remove : (bs : List (Block ℕ)) (i : ℕ) (d : Block ℕ) → AreApart bs → i < length bs → without_block ((get_or bs i d).seg, (get_or bs i d).off) bs ≡ remove bs i
+without_block-remove [] i d h lt = absurd (omega (arith, lt))
+without_block-remove (b ∷ bs) zero d h lt = rw (here b) refl
+without_block-remove (b ∷ bs) (suc i) d h lt =
+    let c : Block ℕ = get_or bs i d in
+    let within : i < length bs = omega (arith, lt) in
+    ⊎_elim
+    (λ e. absurd (not_at b c (c.seg, c.off) (AllPairs-head Before b bs h i d within) e (here c)))
+    (λ e. rw e (ap (λ cs. b ∷ cs) (without_block-remove bs i d (AllPairs-tail Before b bs h) within)))
+    (cases_Bool (is_at (c.seg, c.off) b))
+
+-- then none is left there
+none-left : (at : ℕ × ℕ) (bs : List (Block ℕ)) → AreApart bs → All (λ c. is_at at c ≡ false) (without_block at bs)
+none-left at [] h = λ k d lt. absurd (omega (arith, lt))
+none-left at (b ∷ bs) h =
+    let P : Block ℕ → Type 0 = λ c. is_at at c ≡ false in
+    ⊎_elim
+    (λ e.
+    rw e (λ k d lt.
+    let c : Block ℕ = get_or bs k d in
+    ⊎_elim (λ u. absurd (not_at b c at (AllPairs-head Before b bs h k d lt) e u)) (λ u. u) (cases_Bool (is_at at c))))
+    (λ e. rw e (All-cons P b (without_block at bs) e (none-left at bs (AllPairs-tail Before b bs h))))
+    (cases_Bool (is_at at b))
+
+-- the block at an address, which tells its place
+pub record Stands (segments : List (ℕ × ℕ)) (bs : List (Block ℕ)) (a : ℕ) : Type 0 where
+  pub index : ℕ
+  pub block : Block ℕ
+  pub within : index < length bs
+  pub at : get_or bs index block ≡ block
+  pub place : (block.seg, block.off) ≡ place_of a
+  pub head : HasHead segments block
+
+pub stands : (segments : List (ℕ × ℕ)) (bs : List (Block ℕ)) (a : ℕ) → All (HasHead segments) bs → HasBlock bs a → Stands segments bs a
+stands segments bs a h live =
+    let none : Block ℕ = record { label = 0; seg = 0; off = 0; size = 0; bytes = [] } in
+    let k : ℕ = live.0 in
+    let within : k < length bs = omega (arith, live.1, length-map bs address_of) in
+    let b : Block ℕ = get_or bs k none in
+    let head : HasHead segments b = h k none within in
+    let own : address_of b ≡ a = sym (get_or-map address_of bs k none a within) ∙ live.2 in
+    record {
+      index = k;
+      block = b;
+      within = within;
+      at = get_or_default bs k b none within;
+      place = sym (place_of-address b.seg b.off head.slot.last head.slot.multiple) ∙ ap place_of own;
+      head = head;
+    }
+
+module _ (r : Layout ℕ) (a : ℕ) (h : HaveHeads r) where
+  -- it is found
+  pub stands-found : (s : Stands r.segments r.blocks a) → find_block (place_of a) r.blocks ≡ Some s.block
+  stands-found s =
+      subst (λ (p : ℕ × ℕ). find_block p r.blocks ≡ Some s.block) s.place
+      (subst (λ (b : Block ℕ). find_block (b.seg, b.off) r.blocks ≡ Some b) s.at (find_block-at r.blocks s.index s.block h.apart s.within))
+
+  -- and the one that goes with its place
+  pub stands-removed : (i : ℕ) → i < length r.blocks → HoldsAt (λ b. address_of b ≡ a) r.blocks i → without_block (place_of a) r.blocks ≡ remove r.blocks i
+  stands-removed i lt at =
+      let none : Block ℕ = record { label = 0; seg = 0; off = 0; size = 0; bytes = [] } in
+      let b : Block ℕ = get_or r.blocks i none in
+      let head = (h.blocks i none lt).slot in
+      let place : place_of a ≡ (b.seg, b.off) = ap place_of (sym (at none)) ∙ place_of-address b.seg b.off head.last head.multiple in
+      ap (λ (p : ℕ × ℕ). without_block p r.blocks) place ∙ without_block-remove r.blocks i none h.apart lt
+
+  pub one-less : HasBlock r.blocks a → length (without_block (place_of a) r.blocks) + 1 ≡ length r.blocks
+  one-less live =
+      let within : live.0 < length r.blocks = omega (arith, live.1, length-map r.blocks address_of) in
+      ap (λ (bs : List (Block ℕ)). length bs + 1) (stands-removed live.0 within (λ d. sym (get_or-map address_of r.blocks live.0 d a within) ∙ live.2))
+      ∙ length-remove r.blocks live.0 within
+
+  pub none-there : ¬ HasBlock (without_block (place_of a) r.blocks) a
+  none-there live =
+      let s = stands r.segments (without_block (place_of a) r.blocks) a (All-without (HasHead r.segments) (place_of a) r.blocks h.blocks) live in
+      let other : is_at (place_of a) s.block ≡ false = subst (λ (b : Block ℕ). is_at (place_of a) b ≡ false) s.at (none-left (place_of a) r.blocks h.apart s.index s.block s.within) in
+      let own : is_at (place_of a) s.block ≡ true = subst (λ (p : ℕ × ℕ). is_at p s.block ≡ true) s.place (here s.block) in
+      let no : true ≡ false = sym own ∙ other in
+      cc
+
+  -- no block is at an address whose place overlaps none
+  pub none-at-clear : (size : ℕ) (at : ℕ × ℕ) → place_of a ≡ at → All (λ b. IsApart (footprint_at size at) (footprint b)) r.blocks → ¬ HasBlock r.blocks a
+  none-at-clear size at e clear live =
+      let s = stands r.segments r.blocks a h.blocks live in
+      let P : Block ℕ → Type 0 = λ b. IsApart (footprint_at size at) (footprint b) in
+      let place : (s.block.seg, s.block.off) ≡ at = s.place ∙ e in
+      let seg : s.block.seg ≡ at.0 = ap (λ (p : ℕ × ℕ). p.0) place in
+      let off : s.block.off ≡ at.1 = ap (λ (p : ℕ × ℕ). p.1) place in
+      let mine = span-least size in
+      let its = span-least s.block.size in
+      ⊎_elim
+      (λ u. ⊎_elim (λ v. omega (arith, v, seg)) (λ v. let le = v.1 in omega (arith, le, mine, off)) u)
+      (λ u. ⊎_elim (λ v. omega (arith, v, seg)) (λ v. let le = v.1 in omega (arith, le, its, off)) u)
+      (subst P s.at (clear s.index s.block s.within))

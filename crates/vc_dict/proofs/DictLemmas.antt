@@ -1,0 +1,157 @@
+-- A dictionary after its list, its hash or its ordered one changed.
+use Rattle.std.proofs.Common.{◌≡◌, ℕ, ◌<◌, ◌^◌, List, [], ◌∷◌, true, false, Option, Some, None, unwrap_or, length, refl, sym, ap, ◌∙◌, subst, arith}
+use Rattle.std.specs.Option.{option_map}
+use Rattle.std.proofs.lemmas.Bool.{true≢false}
+use Rattle.vc_base.specs.declared.addr.Addr.{Addr}
+use Rattle.vc_base.specs.declared.dict_method.DictMethod.{DictMethod}
+use Rattle.vc_base.specs.declared.dict_method.DictMethod.TheVariants.{DtSet, DtBag, DtOset, DtObag, DtList, DtStack, DtQueue}
+use Rattle.vc_base.specs.Cells.{Blocks}
+use Rattle.vc_base.specs.Holders.{KeepsBut, contains}
+use Rattle.vc_dtdisc.specs.Rules.{Rules}
+use Rattle.vc_dtlist.specs.Kept.{KeepsTables}
+use Rattle.vc_dtlist.specs.Linked.{StandsFor, number_of}
+use Rattle.vc_dtlist.proofs.FindLemmas.{fewer_holders}
+use Rattle.vc_dtlist.proofs.HolderLemmas.{apart-cons}
+use Rattle.vc_dtlist.proofs.KeptLemmas.{KeepsTables-but}
+use Rattle.vc_dtlist.proofs.TurnLemmas.{StandsFor-unique}
+use Rattle.vc_dthash.specs.declared.dt_hash.DtHash.{DtHash}
+use Rattle.vc_dthash.specs.Hashed.{HasTable, HashTurned}
+use Rattle.vc_dtord.specs.Ordered.{IsSorted}
+use Rattle.vc_dict.specs.declared.dict.Dict.{Dict}
+use Rattle.vc_dict.specs.Methods.{has_table, is_ordered}
+use Rattle.vc_dict.specs.Stands.{Became, IsMember, Stands, hash_of, list_of}
+
+pub table_unordered : (method : DictMethod) → has_table method ≡ true → is_ordered method ≡ false
+table_unordered DtSet h = refl
+table_unordered DtBag h = refl
+table_unordered DtOset h = absurd (true≢false (sym h))
+table_unordered DtObag h = absurd (true≢false (sym h))
+table_unordered DtList h = refl
+table_unordered DtStack h = refl
+table_unordered DtQueue h = refl
+
+pub ordered_plain : (method : DictMethod) → is_ordered method ≡ true → has_table method ≡ false
+ordered_plain DtSet h = absurd (true≢false (sym h))
+ordered_plain DtBag h = absurd (true≢false (sym h))
+ordered_plain DtOset h = refl
+ordered_plain DtObag h = refl
+ordered_plain DtList h = refl
+ordered_plain DtStack h = refl
+ordered_plain DtQueue h = refl
+
+-- it counts fewer than 2^32 holders, and stands for one list alone
+pub few : (rules : Rules) (d : Dict) (b : Blocks) (xs : List ℕ) → Stands rules d b xs → d.count < 2 ^ 32
+few rules d b xs s = let h = fewer_holders (list_of d) b xs s.list in omega (arith, s.count)
+
+pub Stands-unique : (rules rules' : Rules) (d : Dict) (b : Blocks) (xs ys : List ℕ) → Stands rules d b xs → Stands rules' d b ys → xs ≡ ys
+Stands-unique rules rules' d b xs ys s t = StandsFor-unique (list_of d) b xs ys s.list t.list
+
+-- without a table none is kept
+no_table : (b b' : Blocks) (xs ys : List ℕ) (table slots : ℕ) → table ≡ 0 → HasTable b xs table slots → HasTable b' ys table slots
+no_table b b' xs ys table slots e t = record { none = t.none; some = λ ne. absurd (ne e) }
+
+-- a hash changed
+pub Became-hash : (rules : Rules) (d : Dict) (hash : DtHash) (b b' : Blocks) (at : ℕ) (xs ys : List ℕ) → has_table d.method ≡ true → HashTurned at xs (hash_of d) b hash b' ys → Became rules (at ∷ xs) d b (record d { first = hash.first; last = hash.last; count = hash.count }) b' ys d.current.0
+Became-hash rules d hash b b' at xs ys h t = record {
+  stands = record {
+    list = t.stands.list;
+    count = t.stands.count;
+    sorted = λ e. absurd (true≢false (sym e ∙ table_unordered d.method h));
+    table = subst (λ z. HasTable b' ys z.0 d.slots) t.table (subst (λ z. HasTable b' ys hash.table.0 z) t.slots t.stands.table);
+    plain = λ e. absurd (true≢false (sym h ∙ e));
+  };
+  current = refl;
+  method = refl;
+  kind = refl;
+  table = refl;
+  slots = refl;
+  keeps = t.keeps;
+}
+
+-- a list or an ordered one changed
+pub Became-plain : (rules : Rules) (d : Dict) (first last : Addr) (n : ℕ) (b b' : Blocks) (written xs ys : List ℕ) → has_table d.method ≡ false → Stands rules d b xs → StandsFor (record { first = first; last = last }) b' ys → n ≡ length ys → (is_ordered d.method ≡ true → IsSorted rules b' ys) → KeepsBut written b b' → Became rules written d b (record d { first = first; last = last; count = n }) b' ys d.current.0
+Became-plain rules d first last n b b' written xs ys h s list count sorted keeps = record {
+  stands = record {
+    list = list;
+    count = count;
+    sorted = sorted;
+    table = no_table b b' xs ys d.table.0 d.slots (s.plain h) s.table;
+    plain = s.plain;
+  };
+  current = refl;
+  method = refl;
+  kind = refl;
+  table = refl;
+  slots = refl;
+  keeps = KeepsTables-but (d.table.0 ∷ []) written b b' keeps;
+}
+
+-- one of the holders needs no naming beside them
+pub KeepsTables-within : (tables xs : List ℕ) (at : ℕ) (b b' : Blocks) → contains xs at ≡ true → KeepsTables tables (at ∷ xs) b b' → KeepsTables tables xs b b'
+KeepsTables-within tables xs at b b' w k = record {
+  there = k.there;
+  sizes = k.sizes;
+  bodies = k.bodies;
+  others = λ a t h. k.others a t (apart-cons at xs a (λ e. true≢false (sym (subst (λ z. contains xs z ≡ true) e w) ∙ h)) h);
+}
+
+pub Became-within : (rules : Rules) (xs : List ℕ) (at : ℕ) (d d' : Dict) (b b' : Blocks) (ys : List ℕ) (current : ℕ) → contains xs at ≡ true → Became rules (at ∷ xs) d b d' b' ys current → Became rules xs d b d' b' ys current
+Became-within rules xs at d d' b b' ys current w t = record {
+  stands = t.stands;
+  current = t.current;
+  method = t.method;
+  kind = t.kind;
+  table = t.table;
+  slots = t.slots;
+  keeps = KeepsTables-within (d.table.0 ∷ []) xs at b b' w t.keeps;
+}
+
+-- the members of one list
+pub member : (rules : Rules) (d : Dict) (b : Blocks) (at : ℕ) (xs : List ℕ) → IsMember rules d b at → Stands rules d b xs → contains xs at ≡ true
+member rules d b at xs m s = subst (λ z. contains z at ≡ true) (Stands-unique rules rules d b m.holders xs m.stands s) m.within
+
+-- one change after another, of which the first left the list
+pub KeepsTables-trans : (tables xs : List ℕ) (a b c : Blocks) → KeepsTables tables xs a b → KeepsTables tables xs b c → KeepsTables tables xs a c
+KeepsTables-trans tables xs a b c j k = record {
+  there = λ x. k.there x ∙ j.there x;
+  sizes = λ x. k.sizes x ∙ j.sizes x;
+  bodies = λ x t. k.bodies x t ∙ j.bodies x t;
+  others = λ x t h. k.others x t h ∙ j.others x t h;
+}
+
+pub Became-trans : (rules : Rules) (xs : List ℕ) (d e f : Dict) (a b c : Blocks) (ys zs : List ℕ) (current current' : ℕ) → Became rules xs d a e b ys current → Became rules xs e b f c zs current' → Became rules xs d a f c zs current'
+Became-trans rules xs d e f a b c ys zs current current' t u = record {
+  stands = u.stands;
+  current = u.current;
+  method = u.method ∙ t.method;
+  kind = u.kind ∙ t.kind;
+  table = u.table ∙ t.table;
+  slots = u.slots ∙ t.slots;
+  keeps = KeepsTables-trans (d.table.0 ∷ []) xs a b c t.keeps (subst (λ z. KeepsTables (z.0 ∷ []) xs b c) t.table u.keeps);
+}
+
+-- the current one is another
+pub Became-current : (rules : Rules) (written : List ℕ) (d : Dict) (at : Addr) (b b' : Blocks) (d' : Dict) (ys : List ℕ) → Became rules written (record d { current = at }) b d' b' ys at.0 → Became rules written d b d' b' ys at.0
+Became-current rules written d at b b' d' ys t = record {
+  stands = t.stands;
+  current = t.current;
+  method = t.method;
+  kind = t.kind;
+  table = t.table;
+  slots = t.slots;
+  keeps = t.keeps;
+}
+
+pub Stands-current : (rules : Rules) (d : Dict) (at : Addr) (b : Blocks) (xs : List ℕ) → Stands rules d b xs → Stands rules (record d { current = at }) b xs
+Stands-current rules d at b xs s = record {
+  list = s.list;
+  count = s.count;
+  sorted = s.sorted;
+  table = s.table;
+  plain = s.plain;
+}
+
+-- an address that may be none
+pub or_none : (o : Option Addr) (other : Addr) (p : Option ℕ) → option_map number_of o ≡ p → other.0 ≡ 0 → (unwrap_or o other).0 ≡ unwrap_or p 0
+or_none None other p e z = z ∙ ap (λ q. unwrap_or q 0) e
+or_none (Some a) other p e z = ap (λ q. unwrap_or q 0) e

@@ -1,0 +1,586 @@
+ghost use Rattle.std.specs.Prelude.{◌≡◌, ◌≢◌, ℕ, ◌+◌, ◌<◌, List, [], ◌∷◌, ◌++◌, None, Some, true, false, Bool, length, ◌&&◌, if◌then◌else◌};
+ghost use Rattle.std.specs.Option.{option_map};
+ghost use Rattle.vc_base.specs.Cells.{Blocks, IsHolder};
+ghost use Rattle.vc_base.specs.Holders.{contains, first_in, last_in, next_in, previous_in, without};
+ghost use Rattle.vc_dtdisc.specs.Finds.{find_key};
+ghost use Rattle.vc_dtdisc.specs.Rules.{Rules};
+ghost use Rattle.vc_dtlist.specs.Linked.{Finds, number_of};
+ghost use Rattle.vc_dtord.specs.Ordered.{placed};
+ghost use Rattle.vc_dict.specs.Methods.{has_table, is_ordered, slots_between, wanted_by};
+ghost use Rattle.vc_dict.specs.Changes.{before_current, behind_current, current_without, inserted, linked, removed};
+ghost use Rattle.vc_dict.specs.Turned.{CanRemethod, Remethoded, Unchanged, behind_dropped};
+ghost use Rattle.vc_dict.specs.Stands.{Adopted, Became, CanAdopt, CanLink, IsDict, IsIn, IsKept, IsMember, Stands, hash_of, list_of, ord_of};
+
+use crate::method::{has_table, is_ordered};
+use crate::pass::{order_by, weed_by};
+use crate::places::put_linked;
+use vc_base::{Addr, Cells, DictMethod, Steps};
+use vc_dtdisc::DictDisc;
+use vc_dthash::DtHash;
+use vc_dtlist::DtList;
+use vc_dtord::DtOrd;
+
+/// A dictionary of holders by one of seven methods, and which of them is current. It allocates nothing, and none of its
+/// calls can fail. After Cdt.
+#[derive(Debug, Drop)]
+pub struct Dict {
+    /// Its method.
+    pub method: DictMethod,
+    /// The number of its kind.
+    pub kind: u32,
+    /// How many holders there are.
+    pub count: u64,
+    /// The current holder, or `Addr::NONE`.
+    pub current: Addr,
+    first: Addr,
+    last: Addr,
+    table: Addr,
+    slots: u32,
+}
+
+/// What a change of method leaves over.
+#[derive(Clone, Copy, Debug, PartialEq, Eq)]
+pub struct Dropped {
+    /// The first of the holders that were dropped, or `Addr::NONE`; `after_dropped` tells the others.
+    pub first: Addr,
+    /// The table that is no longer used, or `Addr::NONE`.
+    pub table: Addr,
+}
+
+impl Dict {
+    /// A dictionary of no holders, with no current one and no table.
+    pub fn new(method: DictMethod, kind: u32) -> Dict
+        ensures dict { (rules : Rules) (blocks : Blocks) → Stands rules result blocks [] }
+        ensures method { result.method ≡ method }
+        ensures kind { result.kind ≡ kind }
+        ensures current { result.current.0 ≡ 0 }
+    {
+        Dict {
+            method,
+            kind,
+            count: 0,
+            current: Addr::NONE,
+            first: Addr::NONE,
+            last: Addr::NONE,
+            table: Addr::NONE,
+            slots: 0,
+        }
+    }
+
+    // Its holders as a list.
+    pub(crate) fn list(&self) -> DtList
+        ensures { result ≡ list_of self.now }
+    {
+        DtList {
+            first: self.first,
+            last: self.last,
+        }
+    }
+
+    // As a set or bag with a table.
+    fn hash(&self) -> DtHash
+        ensures { result ≡ hash_of self.now }
+    {
+        DtHash {
+            first: self.first,
+            last: self.last,
+            table: self.table,
+            slots: self.slots,
+            count: self.count,
+        }
+    }
+
+    // As an ordered set or bag.
+    fn ord(&self) -> DtOrd
+        ensures { result ≡ ord_of self.now }
+    {
+        DtOrd {
+            first: self.first,
+            last: self.last,
+        }
+    }
+
+    /// How many slots the table has, or 0 without one, as in every method but sets and bags.
+    pub fn slots(&self) -> u32
+        ensures { result ≡ self.now.slots }
+    {
+        self.hash().slots()
+    }
+
+    /// The table, or `Addr::NONE` without one, as in every method but sets and bags.
+    pub fn table(&self) -> Addr
+        ensures { result ≡ self.now.table }
+    {
+        self.hash().table()
+    }
+
+    /// The slots wanted before so many more objects are added, or none where those that are there are enough, or the
+    /// method has no table.
+    pub fn wants_table(&self, more: u64) -> Option<u32>
+        ensures { result ≡ wanted_by self.now.method self.now.slots self.now.count more }
+    {
+        if has_table(self.method) {
+            self.hash().wants_table(more)
+        } else {
+            None
+        }
+    }
+
+    /// Takes a block as the table of a set or bag, and answers the table before, or `Addr::NONE` where there was none.
+    /// The block has 8 bytes for each slot and is neither a holder nor the table; there are 16 slots, doubled at most
+    /// 17 times, and at most two objects for each, unless there are 2,097,152.
+    pub fn adopt_table<C: Cells, D: DictDisc>(
+        &mut self,
+        cells: &mut C,
+        kind: &D,
+        table: Addr,
+        slots: u32,
+    ) -> Addr
+        requires { CanAdopt (D.rules kind.now) self.old (C.blocks cells.old) table.0 slots }
+        ensures old { result ≡ self.old.table }
+        ensures dict { (holders : List ℕ) → Stands (D.rules kind.now) self.old (C.blocks cells.old) holders
+            → Adopted (D.rules kind.now) table.0 slots holders self.old (C.blocks cells.old)
+            self.new (C.blocks cells.new) }
+        ensures rest { C.RestStays cells.old cells.new }
+    {
+        let mut hash = self.hash();
+        let old = hash.adopt_table(cells, kind, table, slots);
+        self.table = hash.table;
+        self.slots = hash.slots;
+        old
+    }
+
+    // Puts a holder into a set or bag.
+    fn link_hash<C: Cells, D: DictDisc>(&mut self, cells: &mut C, kind: &D, at: Addr)
+        requires dict { CanLink (D.rules kind.now) self.old (C.blocks cells.old) at.0 false }
+        requires method { has_table self.old.method ≡ true }
+        ensures dict { (holders : List ℕ) → Stands (D.rules kind.now) self.old (C.blocks cells.old) holders
+            → Became (D.rules kind.now) (at.0 ∷ holders) self.old (C.blocks cells.old) self.new
+            (C.blocks cells.new) (holders ++ at.0 ∷ []) self.old.current.0 }
+        ensures rest { C.RestStays cells.old cells.new }
+    {
+        let mut hash = self.hash();
+        hash.link(cells, kind, at);
+        self.first = hash.first;
+        self.last = hash.last;
+        self.count = hash.count;
+    }
+
+    // Puts a holder into an ordered set or bag.
+    fn link_ord<C: Cells, D: DictDisc, L>(
+        &mut self,
+        cells: &mut C,
+        kind: &D,
+        at: Addr,
+        steps: &mut Steps<L>,
+    )
+        requires dict { CanLink (D.rules kind.now) self.old (C.blocks cells.old) at.0 false }
+        requires method { is_ordered self.old.method ≡ true }
+        ensures dict { (holders : List ℕ) → Stands (D.rules kind.now) self.old (C.blocks cells.old) holders
+            → Became (D.rules kind.now) (at.0 ∷ holders) self.old (C.blocks cells.old) self.new
+            (C.blocks cells.new) (placed (D.rules kind.now) (C.blocks cells.old) at.0 holders)
+            self.old.current.0 }
+        ensures rest { C.RestStays cells.old cells.new }
+    {
+        let mut ord = self.ord();
+        ord.link(cells, kind, at, steps);
+        self.first = ord.first;
+        self.last = ord.last;
+        self.count += 1;
+    }
+
+    // Puts a holder into a list, stack or queue.
+    fn link_list<C: Cells, D: DictDisc>(&mut self, cells: &mut C, kind: &D, at: Addr, append: bool)
+        requires dict { CanLink (D.rules kind.now) self.old (C.blocks cells.old) at.0 append }
+        requires plain { has_table self.old.method ≡ false }
+        requires method { is_ordered self.old.method ≡ false }
+        ensures dict { (holders : List ℕ) → Stands (D.rules kind.now) self.old (C.blocks cells.old) holders
+            → Became (D.rules kind.now) (at.0 ∷ holders) self.old (C.blocks cells.old) self.new
+            (C.blocks cells.new)
+            (linked append self.old.method (D.rules kind.now) (C.blocks cells.old) self.old.current.0 at.0 holders)
+            self.old.current.0 }
+        ensures rest { C.RestStays cells.old cells.new }
+    {
+        let mut list = self.list();
+        put_linked(&mut list, cells, append, self.method, self.current, at);
+        self.first = list.first;
+        self.last = list.last;
+        self.count += 1;
+    }
+
+    // Puts a holder where `insert` or `append` does, and leaves the current one.
+    fn link_heads<C: Cells, D: DictDisc, L>(
+        &mut self,
+        cells: &mut C,
+        kind: &D,
+        at: Addr,
+        append: bool,
+        steps: &mut Steps<L>,
+    )
+        requires { CanLink (D.rules kind.now) self.old (C.blocks cells.old) at.0 append }
+        ensures dict { (holders : List ℕ) → Stands (D.rules kind.now) self.old (C.blocks cells.old) holders
+            → Became (D.rules kind.now) (at.0 ∷ holders) self.old (C.blocks cells.old) self.new
+            (C.blocks cells.new)
+            (linked append self.old.method (D.rules kind.now) (C.blocks cells.old) self.old.current.0 at.0 holders)
+            self.old.current.0 }
+        ensures rest { C.RestStays cells.old cells.new }
+    {
+        if has_table(self.method) {
+            self.link_hash(cells, kind, at);
+        } else if is_ordered(self.method) {
+            self.link_ord(cells, kind, at, steps);
+        } else {
+            self.link_list(cells, kind, at, append);
+        }
+    }
+
+    /// Puts a holder where `insert` does, or `append`, which is for lists, and makes it current. It has at least 33
+    /// bytes and is neither in the dictionary nor its table; the current one is none or in it. A set or bag has a table,
+    /// and `wants_table(1)` is none; in a set or ordered set no object matches.
+    pub fn link<C: Cells, D: DictDisc, L>(
+        &mut self,
+        cells: &mut C,
+        kind: &D,
+        at: Addr,
+        append: bool,
+        steps: &mut Steps<L>,
+    )
+        requires { CanLink (D.rules kind.now) self.old (C.blocks cells.old) at.0 append }
+        ensures dict { (holders : List ℕ) → Stands (D.rules kind.now) self.old (C.blocks cells.old) holders
+            → Became (D.rules kind.now) (at.0 ∷ holders) self.old (C.blocks cells.old) self.new
+            (C.blocks cells.new)
+            (linked append self.old.method (D.rules kind.now) (C.blocks cells.old) self.old.current.0 at.0 holders)
+            at.0 }
+        ensures rest { C.RestStays cells.old cells.new }
+    {
+        self.link_heads(cells, kind, at, append, steps);
+        self.current = at;
+    }
+
+    // Finds in an ordered set or bag.
+    fn find_ord<C: Cells, D: DictDisc, L>(
+        &mut self,
+        cells: &mut C,
+        kind: &D,
+        key: &[u8],
+        steps: &mut Steps<L>,
+    ) -> Option<Addr>
+        requires dict { IsDict (D.rules kind.now) self.old (C.blocks cells.old) }
+        requires method { is_ordered self.old.method ≡ true }
+        ensures found { (holders : List ℕ) → Stands (D.rules kind.now) self.old (C.blocks cells.old) holders
+            → Finds (D.rules kind.now) (C.blocks cells.old) key.now holders result
+            steps.old steps.new }
+        ensures dict { (holders : List ℕ) → Stands (D.rules kind.now) self.old (C.blocks cells.old) holders
+            → Became (D.rules kind.now) holders self.old (C.blocks cells.old) self.new
+            (C.blocks cells.new) holders self.old.current.0 }
+        ensures rest { C.RestStays cells.old cells.new }
+    {
+        let mut ord = self.ord();
+        let found = ord.find(cells, kind, key, steps);
+        self.first = ord.first;
+        self.last = ord.last;
+        found
+    }
+
+    /// The first holder whose object has that key, by at most as many compares as there are holders.
+    pub fn find<C: Cells, D: DictDisc, L>(
+        &mut self,
+        cells: &mut C,
+        kind: &D,
+        key: &[u8],
+        steps: &mut Steps<L>,
+    ) -> Option<Addr>
+        requires { IsDict (D.rules kind.now) self.old (C.blocks cells.old) }
+        ensures found { (holders : List ℕ) → Stands (D.rules kind.now) self.old (C.blocks cells.old) holders
+            → Finds (D.rules kind.now) (C.blocks cells.old) key.now holders result
+            steps.old steps.new }
+        ensures dict { (holders : List ℕ) → Stands (D.rules kind.now) self.old (C.blocks cells.old) holders
+            → Became (D.rules kind.now) holders self.old (C.blocks cells.old) self.new
+            (C.blocks cells.new) holders self.old.current.0 }
+        ensures rest { C.RestStays cells.old cells.new }
+    {
+        if has_table(self.method) {
+            self.hash().find(cells, kind, key, steps)
+        } else if is_ordered(self.method) {
+            self.find_ord(cells, kind, key, steps)
+        } else {
+            self.list().find(cells, kind, key, steps)
+        }
+    }
+
+    /// The first holder.
+    pub fn first<C: Cells>(&self, cells: &C) -> Option<Addr>
+        requires { IsKept self.now (C.blocks cells.now) }
+        ensures { (rules : Rules) (holders : List ℕ) → Stands rules self.now (C.blocks cells.now) holders
+            → option_map number_of result ≡ first_in holders }
+    {
+        if has_table(self.method) {
+            self.hash().first()
+        } else if is_ordered(self.method) {
+            self.ord().first(cells)
+        } else {
+            self.list().first()
+        }
+    }
+
+    /// The last holder.
+    pub fn last<C: Cells>(&self, cells: &C) -> Option<Addr>
+        requires { IsKept self.now (C.blocks cells.now) }
+        ensures { (rules : Rules) (holders : List ℕ) → Stands rules self.now (C.blocks cells.now) holders
+            → option_map number_of result ≡ last_in holders }
+    {
+        if has_table(self.method) {
+            self.hash().last()
+        } else if is_ordered(self.method) {
+            self.ord().last(cells)
+        } else {
+            self.list().last()
+        }
+    }
+
+    /// The holder behind one of the dictionary.
+    pub fn next<C: Cells>(&self, cells: &C, at: Addr) -> Option<Addr>
+        requires { IsIn self.now (C.blocks cells.now) at.0 }
+        ensures { (rules : Rules) (holders : List ℕ) → Stands rules self.now (C.blocks cells.now) holders
+            → option_map number_of result ≡ next_in at.0 holders }
+    {
+        if has_table(self.method) {
+            self.hash().next(cells, at)
+        } else if is_ordered(self.method) {
+            self.ord().next(cells, at)
+        } else {
+            self.list().next(cells, at)
+        }
+    }
+
+    /// The holder before one of the dictionary.
+    pub fn prev<C: Cells>(&self, cells: &C, at: Addr) -> Option<Addr>
+        requires { IsIn self.now (C.blocks cells.now) at.0 }
+        ensures { (rules : Rules) (holders : List ℕ) → Stands rules self.now (C.blocks cells.now) holders
+            → option_map number_of result ≡ previous_in None at.0 holders }
+    {
+        if has_table(self.method) {
+            self.hash().prev(cells, at)
+        } else if is_ordered(self.method) {
+            self.ord().prev(cells, at)
+        } else {
+            self.list().prev(cells, at)
+        }
+    }
+
+    // Makes the one behind a holder current, or none, where that holder is.
+    fn leave<C: Cells>(&mut self, cells: &C, at: Addr)
+        requires { IsIn self.old (C.blocks cells.now) at.0 }
+        ensures current { (rules : Rules) (holders : List ℕ) → Stands rules self.old (C.blocks cells.now) holders
+            → self.new.current.0 ≡ current_without (Some at.0) self.old.current.0 holders }
+        ensures same { self.new ≡ record self.old { current = self.new.current } }
+    {
+        if self.current == at {
+            self.current = self.next(cells, at).unwrap_or(Addr::NONE);
+        }
+    }
+
+    // Takes a holder out, and leaves the current one.
+    fn unlink_heads<C: Cells, D: DictDisc>(&mut self, cells: &mut C, kind: &D, at: Addr)
+        requires { IsMember (D.rules kind.now) self.old (C.blocks cells.old) at.0 }
+        ensures dict { (holders : List ℕ) → Stands (D.rules kind.now) self.old (C.blocks cells.old) holders
+            → Became (D.rules kind.now) holders self.old (C.blocks cells.old) self.new
+            (C.blocks cells.new) (without at.0 holders) self.old.current.0 }
+        ensures rest { C.RestStays cells.old cells.new }
+    {
+        if has_table(self.method) {
+            let mut hash = self.hash();
+            hash.unlink(cells, kind, at);
+            self.first = hash.first;
+            self.last = hash.last;
+            self.count = hash.count;
+        } else if is_ordered(self.method) {
+            let mut ord = self.ord();
+            ord.unlink(cells, at);
+            self.first = ord.first;
+            self.last = ord.last;
+            self.count -= 1;
+        } else {
+            let mut list = self.list();
+            list.unlink(cells, at);
+            self.first = list.first;
+            self.last = list.last;
+            self.count -= 1;
+        }
+    }
+
+    // Takes out the holder that was found, if any.
+    fn remove<C: Cells, D: DictDisc>(&mut self, cells: &mut C, kind: &D, found: Option<Addr>)
+        requires dict { IsDict (D.rules kind.now) self.old (C.blocks cells.old) }
+        requires found { (at : ℕ) → option_map number_of found ≡ Some at
+            → IsMember (D.rules kind.now) self.old (C.blocks cells.old) at }
+        ensures dict { (holders : List ℕ) → Stands (D.rules kind.now) self.old (C.blocks cells.old) holders
+            → Became (D.rules kind.now) holders self.old (C.blocks cells.old) self.new
+            (C.blocks cells.new) (removed (option_map number_of found) holders)
+            (current_without (option_map number_of found) self.old.current.0 holders) }
+        ensures rest { C.RestStays cells.old cells.new }
+    {
+        if let Some(at) = found {
+            self.leave(cells, at);
+            self.unlink_heads(cells, kind, at);
+        }
+    }
+
+    /// Takes out the first holder whose object has that key, and answers it. Where it was current, the one behind it is,
+    /// or none. It keeps its bytes behind the words.
+    pub fn unlink<C: Cells, D: DictDisc, L>(
+        &mut self,
+        cells: &mut C,
+        kind: &D,
+        key: &[u8],
+        steps: &mut Steps<L>,
+    ) -> Option<Addr>
+        requires { IsDict (D.rules kind.now) self.old (C.blocks cells.old) }
+        ensures found { (holders : List ℕ) → Stands (D.rules kind.now) self.old (C.blocks cells.old) holders
+            → Finds (D.rules kind.now) (C.blocks cells.old) key.now holders result
+            steps.old steps.new }
+        ensures dict { (holders : List ℕ) → Stands (D.rules kind.now) self.old (C.blocks cells.old) holders
+            → Became (D.rules kind.now) holders self.old (C.blocks cells.old) self.new
+            (C.blocks cells.new) (removed (option_map number_of result) holders)
+            (current_without (option_map number_of result) self.old.current.0 holders) }
+        ensures rest { C.RestStays cells.old cells.new }
+    {
+        let found = self.find(cells, kind, key, steps);
+        self.remove(cells, kind, found);
+        found
+    }
+
+    /// Takes out the first holder in every method, and answers it. Where it was current, the one behind it is, or none.
+    pub fn take_first<C: Cells, D: DictDisc>(&mut self, cells: &mut C, kind: &D) -> Option<Addr>
+        requires { IsDict (D.rules kind.now) self.old (C.blocks cells.old) }
+        ensures first { (holders : List ℕ) → Stands (D.rules kind.now) self.old (C.blocks cells.old) holders
+            → option_map number_of result ≡ first_in holders }
+        ensures dict { (holders : List ℕ) → Stands (D.rules kind.now) self.old (C.blocks cells.old) holders
+            → Became (D.rules kind.now) holders self.old (C.blocks cells.old) self.new
+            (C.blocks cells.new) (removed (option_map number_of result) holders)
+            (current_without (option_map number_of result) self.old.current.0 holders) }
+        ensures rest { C.RestStays cells.old cells.new }
+    {
+        let found = self.first(cells);
+        self.remove(cells, kind, found);
+        found
+    }
+
+    /// The slots of the table that a change to a method needs, by the count before any is dropped; none where that method
+    /// is neither set nor bag, or the present one is.
+    pub fn table_for(&self, method: DictMethod) -> Option<u32>
+        ensures { result ≡ slots_between self.now.method method self.now.count }
+    {
+        if has_table(self.method) {
+            None
+        } else if has_table(method) {
+            DtHash::new().wants_table(self.count)
+        } else {
+            None
+        }
+    }
+
+    // Takes that list and method, and the table that was brought, unless its own stays. Answers its own where it needs none.
+    fn turn(
+        &mut self,
+        method: DictMethod,
+        list: DtList,
+        count: u64,
+        table: Addr,
+        slots: u32,
+    ) -> Addr
+        ensures left { result.0 ≡ (if has_table method then 0 else self.old.table.0) }
+        ensures table { self.new.table
+            ≡ (if has_table method && has_table self.old.method then self.old.table else table) }
+        ensures slots { self.new.slots
+            ≡ (if has_table method && has_table self.old.method then self.old.slots else slots) }
+        ensures same { self.new ≡ record {
+          method = method;
+          kind = self.old.kind;
+          count = count;
+          current = record { 0 = 0 };
+          first = list.first;
+          last = list.last;
+          table = self.new.table;
+          slots = self.new.slots;
+        } }
+    {
+        let keeps = has_table(method) && has_table(self.method);
+        let left = if has_table(method) {
+            Addr::NONE
+        } else {
+            self.table
+        };
+        self.table = if keeps { self.table } else { table };
+        self.slots = if keeps { self.slots } else { slots };
+        self.method = method;
+        self.first = list.first;
+        self.last = list.last;
+        self.count = count;
+        self.current = Addr::NONE;
+        left
+    }
+
+    // Turns it to another method.
+    fn change<C: Cells, D: DictDisc, L>(
+        &mut self,
+        cells: &mut C,
+        kind: &D,
+        method: DictMethod,
+        table: Addr,
+        slots: u32,
+        steps: &mut Steps<L>,
+    ) -> Dropped
+        requires { CanRemethod (D.rules kind.now) self.old (C.blocks cells.old) method table.0 slots }
+        ensures dict { (holders : List ℕ) → Stands (D.rules kind.now) self.old (C.blocks cells.old) holders
+            → Remethoded (D.rules kind.now) method table.0 slots holders self.old (C.blocks cells.old)
+            self.new (C.blocks cells.new) result }
+        ensures rest { C.RestStays cells.old cells.new }
+    {
+        let ordered = order_by(self.list(), self.count, method, cells, kind, steps);
+        let weeded = weed_by(ordered, self.count, method, cells, kind, steps);
+        let left = self.turn(method, weeded.kept, weeded.count, table, slots);
+        Dropped {
+            first: weeded.dropped.first,
+            table: left,
+        }
+    }
+
+    /// Turns the dictionary to a method, unless it is the present one. Ordered methods order the objects by key, stably,
+    /// and sets then drop each object that matches an earlier one; else the order stays. No object is current then. A
+    /// change for which `table_for` is a number takes a table of so many slots, and any other none, with no slots.
+    pub fn remethod<C: Cells, D: DictDisc, L>(
+        &mut self,
+        cells: &mut C,
+        kind: &D,
+        method: DictMethod,
+        table: Addr,
+        slots: u32,
+        steps: &mut Steps<L>,
+    ) -> Dropped
+        requires { CanRemethod (D.rules kind.now) self.old (C.blocks cells.old) method table.0 slots }
+        ensures dict { method ≢ self.old.method → (holders : List ℕ)
+            → Stands (D.rules kind.now) self.old (C.blocks cells.old) holders
+            → Remethoded (D.rules kind.now) method table.0 slots holders self.old (C.blocks cells.old)
+            self.new (C.blocks cells.new) result }
+        ensures same { method ≡ self.old.method
+            → Unchanged self.old (C.blocks cells.old) self.new (C.blocks cells.new) result }
+        ensures rest { C.RestStays cells.old cells.new }
+    {
+        if method == self.method {
+            return Dropped {
+                first: Addr::NONE,
+                table: Addr::NONE,
+            };
+        }
+        self.change(cells, kind, method, table, slots, steps)
+    }
+}
+
+/// The holder that was dropped behind one, or `Addr::NONE` behind the last.
+pub fn after_dropped<C: Cells>(cells: &C, a: Addr) -> Addr
+    requires { IsHolder (C.blocks cells.now) a.0 }
+    ensures { result.0 ≡ behind_dropped (C.blocks cells.now) a.0 }
+{
+    Addr((cells.load(a, 1) % 4_294_967_296) as u32)
+}

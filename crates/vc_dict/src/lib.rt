@@ -1,0 +1,12 @@
+//! Dictionaries of holders by seven methods: sets and bags, ordered sets and bags, lists, stacks and queues.
+#![tactic(auto)]
+
+mod dict;
+mod method;
+mod pass;
+mod places;
+mod rows;
+
+pub use dict::{Dict, Dropped, after_dropped};
+pub use rows::{insert_rows, list_rows, order_rows, remove_rows, table_rows};
+pub use vc_base::DictMethod;

@@ -1,0 +1,67 @@
+-- A list over blocks of which none of its holders changed, as those that a call on another list left.
+use Rattle.std.proofs.Common.{◌≡◌, ℕ, List, [], ◌∷◌, inl, inr, true, false, unwrap_or, is_some, length, refl, ap, ◌∙◌}
+use Rattle.std.proofs.lemmas.Bool.{eq-eqb}
+use Rattle.std.proofs.lemmas.Bool.Decides.{eqb_tells}
+use Rattle.vc_base.specs.Cells.{Blocks, HasBytes, word}
+use Rattle.vc_base.specs.Holders.{KeepsBut, contains, first_of}
+use Rattle.vc_dtlist.specs.declared.dt_list.DtList.{DtList}
+use Rattle.vc_dtlist.specs.Kept.{KeepsTables}
+use Rattle.vc_dtlist.specs.Linked.{Chain, Node, StandsFor}
+
+-- the first of a list is in it, and so is one of the rest
+pub within-head : (x : ℕ) (xs : List ℕ) → contains (x ∷ xs) x ≡ true
+within-head x xs = rw (eq-eqb x x refl) refl
+
+pub within-tail : (x : ℕ) (xs : List ℕ) (a : ℕ) → contains xs a ≡ true → contains (x ∷ xs) a ≡ true
+within-tail x xs a h = elim (eqb_tells x a) as (λ _. contains (x ∷ xs) a ≡ true) [
+  | inl same ↦ rw same.0 refl
+  | inr apart ↦ rw apart.0 h
+]
+
+-- the bytes of one block stay
+pub HasBytes-same : (old new : Blocks) (a n : ℕ) → new a ≡ old a → HasBytes old a n → HasBytes new a n
+HasBytes-same old new a n e h = record {
+  there = ap is_some e ∙ h.there;
+  enough = rw (ap (λ o. length (unwrap_or o [])) e) h.enough;
+}
+
+Node-same : (old new : Blocks) (x p n : ℕ) → new x ≡ old x → Node old x p n → Node new x p n
+Node-same old new x p n e node = record {
+  address = node.address;
+  holder = HasBytes-same old new x 33 e node.holder;
+  previous = ap (λ o. word 0 (unwrap_or o [])) e ∙ node.previous;
+  next = ap (λ o. word 1 (unwrap_or o [])) e ∙ node.next;
+  third = ap (λ o. word 2 (unwrap_or o [])) e ∙ node.third;
+  fourth = ap (λ o. word 3 (unwrap_or o [])) e ∙ node.fourth;
+}
+
+pub Chain-same : (old new : Blocks) (p : ℕ) (xs : List ℕ) (n : ℕ) → ((a : ℕ) → contains xs a ≡ true → new a ≡ old a) → Chain old p xs n → Chain new p xs n
+Chain-same old new p [] n e c = tt
+Chain-same old new p (x ∷ xs) n e c =
+    (Node-same old new x p (first_of xs n) (e x (within-head x xs)) c.0, Chain-same old new x xs n (λ a h. e a (within-tail x xs a h)) c.1)
+
+-- a list whose holders stay stands for them still
+pub StandsFor-same : (list : DtList) (old new : Blocks) (xs : List ℕ) → ((a : ℕ) → contains xs a ≡ true → new a ≡ old a) → StandsFor list old xs → StandsFor list new xs
+StandsFor-same list old new xs e s = record {
+  first = s.first;
+  last = s.last;
+  chain = Chain-same old new 0 xs 0 e s.chain;
+  distinct = s.distinct;
+}
+
+-- so does one that is apart from a list on which a call worked
+pub StandsFor-kept : (list : DtList) (old new : Blocks) (xs others : List ℕ) → KeepsBut others old new → ((a : ℕ) → contains xs a ≡ true → contains others a ≡ false) → StandsFor list old xs → StandsFor list new xs
+StandsFor-kept list old new xs others k apart s = StandsFor-same list old new xs (λ a h. k.others a (apart a h)) s
+
+-- what keeps all but the holders keeps all but them and tables
+pub KeepsTables-but : (tables holders : List ℕ) (old new : Blocks) → KeepsBut holders old new → KeepsTables tables holders old new
+KeepsTables-but tables holders old new k = record {
+  there = k.there;
+  sizes = k.sizes;
+  bodies = λ a h. k.bodies a;
+  others = λ a h j. k.others a j;
+}
+
+-- where nothing was done, all is kept
+pub KeepsBut-none : (holders : List ℕ) (b : Blocks) → KeepsBut holders b b
+KeepsBut-none holders b = record { there = λ a. refl; sizes = λ a. refl; bodies = λ a. refl; others = λ a h. refl }

@@ -1,0 +1,56 @@
+-- Lists by their last item.
+use Rattle.std.proofs.Common.{◌≡◌, ◌-◌, List, [], ◌∷◌, ◌++◌, Option, None, Some, All, AllPairs, length, get_or, map, refl, ap, ◌∙◌, subst, arith}
+use Rattle.std.specs.List.{last_or, remove, slice_get}
+use Rattle.std.specs.Prelude.{option_map}
+use Rattle.std.proofs.lemmas.Option.{same_Some, none-some}
+use Rattle.std.proofs.lemmas.List.{length_push, get_or_append_left}
+use Rattle.std.proofs.lemmas.List.Elements.{All-head, All-tail, All-nil, All-cons}
+use Rattle.vc_model.specs.Last.{last_of}
+use Rattle.vc_blocks.proofs.Apart.{AllPairs-head, AllPairs-tail}
+
+pub All-front : {A : Type 0} (P : A → Type 0) (xs : List A) (x : A) → All P (xs ++ x ∷ []) → All P xs
+All-front P xs x h = λ k d lt. subst P (get_or_append_left xs (x ∷ []) d k lt) (h k d (omega (arith, lt, length_push xs x)))
+
+pub All-last : {A : Type 0} (P : A → Type 0) (xs : List A) (x : A) → All P (xs ++ x ∷ []) → P x
+All-last P [] x h = All-head P x [] h
+All-last P (y ∷ ys) x h = All-last P ys x (All-tail P y (ys ++ x ∷ []) h)
+
+-- what holds of each two holds of each before the last, and the last
+pub AllPairs-last : {A : Type 0} (R : A → A → Type 0) (xs : List A) (x : A) → AllPairs R (xs ++ x ∷ []) → All (λ y. R y x) xs
+AllPairs-last {A = A} R [] x h = All-nil (λ (y : A). R y x)
+AllPairs-last {A = A} R (y ∷ ys) x h =
+    All-cons (λ (z : A). R z x) y ys (All-last (R y) ys x (AllPairs-head R y (ys ++ x ∷ []) h)) (AllPairs-last R ys x (AllPairs-tail R y (ys ++ x ∷ []) h))
+
+last_or-split : {A : Type 0} (y : A) (ys : List A) (x : A) → last_or (Some y) ys ≡ Some x → (front : List A) × (y ∷ ys ≡ front ++ x ∷ [])
+last_or-split y [] x e = ([], ap (λ z. z ∷ []) (same_Some y x e))
+last_or-split y (z ∷ zs) x e = let rest = last_or-split z zs x e in (y ∷ rest.0, ap (λ ws. y ∷ ws) rest.1)
+
+-- a list with a last item is that behind the others
+pub last_of-split : {A : Type 0} (xs : List A) (x : A) → last_of xs ≡ Some x → (front : List A) × (xs ≡ front ++ x ∷ [])
+last_of-split [] x e = absurd (none-some x e)
+last_of-split (y ∷ ys) x e = last_or-split y ys x e
+
+slice_get-cons : {A : Type 0} (x : A) (xs : List A) → slice_get (x ∷ xs) (length xs) ≡ last_or (Some x) xs
+slice_get-cons x [] = refl
+slice_get-cons x (y ∷ ys) = slice_get-cons y ys
+
+pub slice_get-last : {A : Type 0} (xs : List A) → slice_get xs (length xs - 1) ≡ last_of xs
+slice_get-last [] = refl
+slice_get-last (x ∷ xs) =
+    let before : length (x ∷ xs) - 1 ≡ length xs = omega arith in
+    ap (slice_get (x ∷ xs)) before ∙ slice_get-cons x xs
+
+last_or-map : {A B : Type 0} (f : A → B) (o : Option A) (xs : List A) → last_or (option_map f o) (map f xs) ≡ option_map f (last_or o xs)
+last_or-map f o [] = refl
+last_or-map f o (x ∷ xs) = last_or-map f (Some x) xs
+
+pub last_of-map : {A B : Type 0} (f : A → B) (xs : List A) → last_of (map f xs) ≡ option_map f (last_of xs)
+last_of-map f xs = last_or-map f None xs
+
+pub remove-last : {A : Type 0} (xs : List A) (x : A) → remove (xs ++ x ∷ []) (length xs) ≡ xs
+remove-last [] x = refl
+remove-last (y ∷ ys) x = ap (λ zs. y ∷ zs) (remove-last ys x)
+
+pub get_or-last : {A : Type 0} (xs : List A) (x d : A) → get_or (xs ++ x ∷ []) (length xs) d ≡ x
+get_or-last [] x d = refl
+get_or-last (y ∷ ys) x d = get_or-last ys x d

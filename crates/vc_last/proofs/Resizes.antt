@@ -1,0 +1,171 @@
+-- What resizing the latest block answers, and makes of the others.
+use Rattle.std.proofs.Common.{◌≡◌, ℕ, suc, ◌+◌, List, [], ◌∷◌, ◌++◌, Bool, true, false, Option, Some, All, IfSome, get_or, take, refl, ap, sym, ◌∙◌, subst, inl, inr, ⊎_elim, ◌⊎◌, eqb, leb, arith}
+use Rattle.std.specs.Prelude.{◌&&◌, ◌==◌, option_map}
+use Rattle.std.proofs.lemmas.Bool.{and_parts, cases_Bool, eqb-true, eqb-false, leb-true, or_cases}
+use Rattle.std.proofs.lemmas.Option.{same_Some}
+use Rattle.std.proofs.lemmas.List.Elements.{All-push}
+use Rattle.vc_model.specs.Addr.{place_of}
+use Rattle.vc_model.specs.Best.{without_block_at, zeros}
+use Rattle.vc_model.specs.Discipline.{Terms}
+use Rattle.vc_model.specs.Gap.{Run}
+use Rattle.vc_model.specs.Last.{can_end, last_alloc, last_resize, latest, resize_latest}
+use Rattle.vc_model.specs.Layout.{Block, Layout, address_of, footprint, is_at, without_block}
+use Rattle.vc_model.specs.Outcome.{Done, Outcome, Put, Refused}
+use Rattle.vc_model.specs.Resize.{is_usable, moved, resize_there, sized}
+use Rattle.vc_model.specs.Sound.{IsApart, IsUsable}
+use Rattle.vc_model.specs.Touch.{HasBlock, change_block, find_block, rewritten, with_bytes_at}
+use Rattle.vc_seg.specs.Answer.{IsPut}
+use Rattle.vc_blocks.specs.Put.{FitsAt, IsFreeBut, body, body_at}
+use Rattle.vc_blocks.proofs.Apart.{apart_by_seg}
+use Rattle.vc_last.specs.Row.{IsRow}
+use Rattle.vc_last.proofs.Allocs.{IsNew, new-elsewhere}
+use Rattle.vc_last.proofs.Latest.{AreElsewhere, IsLatestAt, at-own, at-place, call-latest, change-last, find-before, find-last, without-last, without-latest}
+use Rattle.vc_last.proofs.Lists.{All-front, All-last}
+use Rattle.vc_last.proofs.Places.{span-least}
+use Rattle.vc_last.proofs.Rows.{IsRow-push, IsRow-without, row}
+
+-- a run that is usable by the test is so
+usable-any : (f : Run) (segments : List (ℕ × ℕ)) → is_usable segments f ≡ true → IsUsable segments f
+usable-any f [] e = absurd (cc)
+usable-any f (s ∷ ss) e =
+    ⊎_elim
+    (λ u.
+    let one = and_parts (eqb f.seg s.0) (leb 16 f.from && leb (f.to + 16) s.1) u in
+    let two = and_parts (leb 16 f.from) (leb (f.to + 16) s.1) one.1 in
+    (0, s, omega arith, refl, (eqb-true f.seg s.0 one.0, leb-true 16 f.from two.0, leb-true (f.to + 16) s.1 two.1)))
+    (λ u. let rest = usable-any f ss u in let within = rest.2 in (suc rest.0, rest.1, omega (arith, within), rest.3, rest.4))
+    (or_cases ((f.seg == s.0) && (leb 16 f.from && leb (f.to + 16) s.1)) (is_usable ss f) e)
+
+-- a change of a block that keeps its place, and its label
+module _ (f : Block ℕ → Block ℕ) (same : (at : ℕ × ℕ) (b : Block ℕ) → is_at at (f b) ≡ is_at at b) where
+  changed-others : (at : ℕ × ℕ) (bs : List (Block ℕ)) → without_block at (change_block f at bs) ≡ without_block at bs
+  changed-others at [] = refl
+  changed-others at (b ∷ bs) =
+      ⊎_elim
+      (λ (e : is_at at b ≡ true). rw e (rw (same at b ∙ e) refl))
+      (λ (e : is_at at b ≡ false). rw e (rw e (ap (λ cs. b ∷ cs) (changed-others at bs))))
+      (cases_Bool (is_at at b))
+
+  changed-label : ((b : Block ℕ) → (f b).label ≡ b.label) → (at : ℕ × ℕ) (bs : List (Block ℕ)) → option_map (λ b. b.label) (find_block at (change_block f at bs)) ≡ option_map (λ b. b.label) (find_block at bs)
+  changed-label label at [] = refl
+  changed-label label at (b ∷ bs) =
+      ⊎_elim
+      (λ (e : is_at at b ≡ true). rw e (rw (same at b ∙ e) (ap Some (label b))))
+      (λ (e : is_at at b ≡ false). rw e (rw e (changed-label label at bs)))
+      (cases_Bool (is_at at b))
+
+pub others-written : (off : ℕ) (src : List ℕ) (at : ℕ × ℕ) (bs : List (Block ℕ)) → without_block at (change_block (rewritten off src) at bs) ≡ without_block at bs
+others-written off src at bs = changed-others (rewritten off src) (λ p b. refl) at bs
+
+pub others-sized : (size : ℕ) (at : ℕ × ℕ) (bs : List (Block ℕ)) → without_block at (change_block (sized size) at bs) ≡ without_block at bs
+others-sized size at bs = changed-others (sized size) (λ p b. refl) at bs
+
+pub there-sized : (size : ℕ) (at : ℕ × ℕ) (bs : List (Block ℕ)) → option_map (λ b. b.label) (find_block at (change_block (sized size) at bs)) ≡ option_map (λ b. b.label) (find_block at bs)
+there-sized size at bs = changed-label (sized size) (λ p b. refl) (λ b. refl) at bs
+
+module _ (r : Layout ℕ) (at : ℕ × ℕ) (l : IsLatestAt r at) where
+  pub found-latest : find_block at r.blocks ≡ Some l.block
+  found-latest = ap (find_block at) l.split ∙ find-last at l.block l.here l.front l.elsewhere
+
+  pub can_end-latest : (size : ℕ) (can : Bool) → option_map (can_end r size) (latest r) ≡ Some can → can_end r size l.block ≡ can
+  can_end-latest size can e = same_Some (can_end r size l.block) can (sym (ap (option_map (can_end r size)) l.is) ∙ e)
+
+  pub there-latest : (size : ℕ) (can : Bool) → option_map (can_end r size) (latest r) ≡ Some can → IfSome (find_block at r.blocks) (λ b. (latest r ≡ Some b) × (can_end r size b ≡ can))
+  there-latest size can e = subst (λ (o : Option (Block ℕ)). IfSome o (λ b. (latest r ≡ Some b) × (can_end r size b ≡ can))) (sym found-latest) (l.is, can_end-latest size can e)
+
+  -- where it can end where it is
+  module _ (size : ℕ) (h : IsRow r) (can : can_end r size l.block ≡ true) where
+    usable : IsUsable r.segments (footprint (sized size l.block))
+    usable = usable-any (footprint (sized size l.block)) r.segments can
+
+    pub sized-fits : FitsAt r size at
+    sized-fits =
+        let u = usable in
+        let first = u.4.1 in
+        let end = u.4.2 in
+        let place : FitsAt r size (l.block.seg, l.block.off) = (u.0, u.1, u.2, u.3, (u.4.0, omega (arith, first), omega (arith, first, end, span-least size))) in
+        subst (FitsAt r size) (at-place at l.block l.here) place
+
+    beside : All (λ c. (is_at at c ≡ true) ⊎ IsApart (body_at size at) (body c)) l.front
+    beside =
+        λ k d lt.
+        let c : Block ℕ = get_or l.front k d in
+        let place : ℕ × ℕ = (l.block.seg, l.block.off) in
+        let apart : IsApart (body_at size place) (body c) =
+        ⊎_elim
+        (λ (t : eqb c.seg l.block.seg ≡ true).
+        let same : c.seg ≡ l.block.seg = eqb-true c.seg l.block.seg t in
+        let before = l.behind k d lt same in
+        let first = usable.4.1 in
+        inr (inr (same, omega (arith, before, first, span-least c.size))))
+        (λ (t : eqb c.seg l.block.seg ≡ false). apart_by_seg (body_at size place) (body c) (λ q. eqb-false c.seg l.block.seg t (sym q)))
+        (cases_Bool (eqb c.seg l.block.seg)) in
+        inr (subst (λ (p : ℕ × ℕ). IsApart (body_at size p) (body c)) (at-place at l.block l.here) apart)
+
+    pub sized-free : IsFreeBut r.blocks size at
+    sized-free =
+        let P : Block ℕ → Type 0 = λ c. (is_at at c ≡ true) ⊎ IsApart (body_at size at) (body c) in
+        subst (All P) (sym l.split) (All-push P l.front l.block beside (inl l.here))
+
+    pub IsRow-sized : IsRow (resize_there r at size)
+    IsRow-sized =
+        let all : IsRow (row r.segments (l.front ++ l.block ∷ [])) = subst (λ (bs : List (Block ℕ)). IsRow (row r.segments bs)) l.split h in
+        let front : IsRow (row r.segments l.front) = subst (λ (bs : List (Block ℕ)). IsRow (row r.segments bs)) (without-latest at l.block l.here l.front l.elsewhere) (IsRow-without (row r.segments (l.front ++ l.block ∷ [])) at all) in
+        let exact = all.exact in
+        subst (λ (bs : List (Block ℕ)). IsRow (row r.segments bs)) (sym (ap (change_block (sized size) at) l.split ∙ change-last at l.block l.here (sized size) l.front l.elsewhere))
+        (IsRow-push r.segments l.front (sized size l.block) front l.behind usable (All-last (λ (b : Block ℕ). place_of (address_of b) ≡ (b.seg, b.off)) l.front l.block exact))
+
+-- it moves to where a block was put
+module _ (r mid new : Layout ℕ) (a to tag size : ℕ) (l : IsLatestAt r (place_of a)) (n : IsNew r tag size to mid) (fresh : ¬ HasBlock r.blocks to) where
+  both : mid.blocks ≡ (l.front ++ l.block ∷ []) ++ zeros tag size (place_of to) ∷ []
+  both = n.blocks ∙ ap (λ (bs : List (Block ℕ)). bs ++ zeros tag size (place_of to) ∷ []) l.split
+
+  pub found-before : find_block (place_of a) mid.blocks ≡ Some l.block
+  found-before = ap (find_block (place_of a)) both ∙ find-before (place_of a) l.block l.here l.front (zeros tag size (place_of to) ∷ []) l.elsewhere
+
+  module _ (own : IfSome (find_block (place_of a) mid.blocks) (λ b. new ≡ without_block_at (with_bytes_at mid (place_of to) 0 (take size b.bytes)) (place_of a))) where
+    pub moved-is : new ≡ without_block_at (with_bytes_at mid (place_of to) 0 (take size l.block.bytes)) (place_of a)
+    moved-is = subst (λ (o : Option (Block ℕ)). IfSome o (λ b. new ≡ without_block_at (with_bytes_at mid (place_of to) 0 (take size b.bytes)) (place_of a))) found-before own
+
+    moved-blocks : new.blocks ≡ l.front ++ rewritten 0 (take size l.block.bytes) (zeros tag size (place_of to)) ∷ []
+    moved-blocks =
+        let z : Block ℕ = zeros tag size (place_of to) in
+        let f : Block ℕ → Block ℕ = rewritten 0 (take size l.block.bytes) in
+        let written : change_block f (place_of to) mid.blocks ≡ r.blocks ++ f z ∷ [] = ap (change_block f (place_of to)) n.blocks ∙ change-last (place_of to) z (at-own (place_of to) z refl) f r.blocks (new-elsewhere r tag size to mid n fresh) in
+        ap (λ (q : Layout ℕ). q.blocks) moved-is
+        ∙ (ap (without_block (place_of a)) (written ∙ ap (λ (bs : List (Block ℕ)). bs ++ f z ∷ []) l.split)
+        ∙ without-last (place_of a) l.block l.here l.front (f z ∷ []) l.elsewhere)
+
+    front-elsewhere : AreElsewhere (place_of to) l.front
+    front-elsewhere = All-front (λ (c : Block ℕ). is_at (place_of to) c ≡ false) l.front l.block (subst (AreElsewhere (place_of to)) l.split (new-elsewhere r tag size to mid n fresh))
+
+    pub moved-others : without_block (place_of to) new.blocks ≡ without_block (place_of a) r.blocks
+    moved-others =
+        let z : Block ℕ = zeros tag size (place_of to) in
+        let f : Block ℕ → Block ℕ = rewritten 0 (take size l.block.bytes) in
+        ap (without_block (place_of to)) moved-blocks
+        ∙ (without-latest (place_of to) (f z) (at-own (place_of to) z refl) l.front front-elsewhere
+        ∙ sym (ap (without_block (place_of a)) l.split ∙ without-latest (place_of a) l.block l.here l.front l.elsewhere))
+
+    pub moved-there : option_map (λ b. b.label) (find_block (place_of a) r.blocks) ≡ Some tag → option_map (λ b. b.label) (find_block (place_of to) new.blocks) ≡ option_map (λ b. b.label) (find_block (place_of a) r.blocks)
+    moved-there label =
+        let z : Block ℕ = zeros tag size (place_of to) in
+        let f : Block ℕ → Block ℕ = rewritten 0 (take size l.block.bytes) in
+        ap (λ (bs : List (Block ℕ)). option_map (λ b. b.label) (find_block (place_of to) bs)) moved-blocks
+        ∙ (ap (option_map (λ (b : Block ℕ). b.label)) (find-last (place_of to) (f z) (at-own (place_of to) z refl) l.front front-elsewhere)
+        ∙ sym label)
+
+moved-put : (size to : ℕ) (b : Block ℕ) (x : Outcome (Put (Layout ℕ))) (mid new : Layout ℕ) → IsPut x to mid → new ≡ without_block_at (with_bytes_at mid (place_of to) 0 (take size b.bytes)) (b.seg, b.off) → IsPut (moved size b x) to new
+moved-put size to b (Done p) mid new h e =
+    (h.0, h.1, e ∙ (ap (λ (at : ℕ × ℕ). without_block_at (with_bytes_at mid at 0 (take size b.bytes)) (b.seg, b.off)) (sym h.1) ∙ ap (λ (q : Layout ℕ). without_block_at (with_bytes_at q p.at 0 (take size b.bytes)) (b.seg, b.off)) h.2))
+moved-put size to b (Refused why) mid new h e = absurd h
+
+pub resize-moves : (terms : Terms) (r mid new : Layout ℕ) (a to tag size : ℕ) (l : IsLatestAt r (place_of a)) → can_end r size l.block ≡ false → option_map (λ b. b.label) (find_block (place_of a) r.blocks) ≡ Some tag → IsPut (last_alloc terms r tag size false) to mid →
+    new ≡ without_block_at (with_bytes_at mid (place_of to) 0 (take size l.block.bytes)) (place_of a) → IsPut (last_resize terms r (place_of a) size true false) to new
+resize-moves terms r mid new a to tag size l can label placed is =
+    let own : Some l.block.label ≡ Some tag = sym (ap (option_map (λ (b : Block ℕ). b.label)) (found-latest r (place_of a) l)) ∙ label in
+    let same : tag ≡ l.block.label = sym (same_Some l.block.label tag own) in
+    let put : IsPut (last_alloc terms r l.block.label size false) to mid = subst (λ (k : ℕ). IsPut (last_alloc terms r k size false) to mid) same placed in
+    let to_new = moved-put size to l.block (last_alloc terms r l.block.label size false) mid new put (is ∙ ap (without_block_at (with_bytes_at mid (place_of to) 0 (take size l.block.bytes))) (sym (at-place (place_of a) l.block l.here))) in
+    let call : resize_latest terms r size true false l.block ≡ moved size l.block (last_alloc terms r l.block.label size false) = rw can refl in
+    subst (λ (o : Outcome (Put (Layout ℕ))). IsPut o to new) (sym (call-latest r (place_of a) (resize_latest terms r size true false) l ∙ call)) to_new

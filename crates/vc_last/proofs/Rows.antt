@@ -1,0 +1,163 @@
+-- What each change leaves of blocks one behind another.
+use Rattle.std.proofs.Common.{◌≡◌, ◌≢◌, ℕ, zero, suc, ◌+◌, ◌<◌, ◌≤◌, List, [], ◌∷◌, ◌++◌, Bool, true, false, All, AllPairs, Any, filter, length, get_or, refl, ap, sym, ◌∙◌, subst, inl, inr, ⊎_elim, eqb, arith}
+use Rattle.std.proofs.lemmas.Bool.{cases_Bool, eq-eqb, eqb-true, eqb-false}
+use Rattle.std.proofs.lemmas.List.{length_push, get_or_append_left}
+use Rattle.std.proofs.lemmas.List.Elements.{All-head, All-tail, All-nil, All-cons, All-filter, All-push}
+use Rattle.std.proofs.lemmas.List.Folds.{list_any_at}
+use Rattle.std.proofs.lemmas.List.Kept.{AllPairs-cons, AllPairs-filter}
+use Rattle.std.proofs.lemmas.List.Quantifiers.{all_pairs_push}
+use Rattle.vc_model.specs.Addr.{place_of}
+use Rattle.vc_model.specs.Best.{without_block_at}
+use Rattle.vc_model.specs.Compact.{cleared, compacted, is_occupied}
+use Rattle.vc_model.specs.Gap.{Run}
+use Rattle.vc_model.specs.Layout.{Block, Layout, address_of, footprint, is_at, with_segment, without_block}
+use Rattle.vc_model.specs.Sound.{HasWholeBlocks, HaveOwnNumbers, IsApart, IsSound, IsUsable}
+use Rattle.vc_model.specs.Touch.{change_block, rewritten, with_bytes_at}
+use Rattle.vc_blocks.proofs.Apart.{AllPairs-head, AllPairs-nil, AllPairs-tail, apart_by_seg}
+use Rattle.vc_last.specs.Row.{EndsFirst, IsRow}
+
+apart-ordered : (a b : Block ℕ) → EndsFirst a b → IsApart (footprint a) (footprint b)
+apart-ordered a b h =
+    ⊎_elim
+    (λ (t : eqb a.seg b.seg ≡ true). let same = eqb-true a.seg b.seg t in inl (inr (same, h same)))
+    (λ (t : eqb a.seg b.seg ≡ false). apart_by_seg (footprint a) (footprint b) (eqb-false a.seg b.seg t))
+    (cases_Bool (eqb a.seg b.seg))
+
+pub IsSound-row : (r : Layout ℕ) → IsRow r → HasWholeBlocks r → IsSound r
+IsSound-row r h whole =
+    record {
+      apart = λ i j d lt within. apart-ordered (get_or r.blocks i d) (get_or r.blocks j d) (h.ordered i j d lt within);
+      usable = h.usable;
+      exact = h.exact;
+      numbered = h.numbered;
+      short = whole.short;
+    }
+
+-- a layout of these
+abbrev pub row : List (ℕ × ℕ) → List (Block ℕ) → Layout ℕ
+row segments blocks = record { segments = segments; blocks = blocks }
+
+-- a block's address tells its place
+abbrev pub IsExact : Block ℕ → Type 0
+IsExact b = place_of (address_of b) ≡ (b.seg, b.off)
+
+module _ (segments : List (ℕ × ℕ)) where
+  -- it lies in the usable part of one of these segments
+  abbrev pub Fits : Block ℕ → Type 0
+  Fits b = IsUsable segments (footprint b)
+
+  pub IsRow-push : (blocks : List (Block ℕ)) (b : Block ℕ) → IsRow (row segments blocks) → All (λ c. EndsFirst c b) blocks → Fits b → IsExact b → IsRow (row segments (blocks ++ b ∷ []))
+  IsRow-push blocks b h behind fits exact =
+      record {
+        ordered = all_pairs_push EndsFirst blocks b h.ordered behind;
+        usable = All-push Fits blocks b h.usable fits;
+        exact = All-push IsExact blocks b h.exact exact;
+        numbered = h.numbered;
+      }
+
+usable-push : (segments : List (ℕ × ℕ)) (s : ℕ × ℕ) (f : Run) → IsUsable segments f → IsUsable (segments ++ s ∷ []) f
+usable-push segments s f u =
+    let within = u.2 in
+    (u.0, u.1, omega (arith, within, length_push segments s), get_or_append_left segments (s ∷ []) u.1 u.0 within ∙ u.3, u.4)
+
+pub IsRow-segment : (r : Layout ℕ) (s : ℕ × ℕ) → IsRow r → HaveOwnNumbers (r.segments ++ s ∷ []) → IsRow (with_segment r s)
+IsRow-segment r s h numbered =
+    record {
+      ordered = h.ordered;
+      usable = λ k d lt. usable-push r.segments s (footprint (get_or r.blocks k d)) (h.usable k d lt);
+      exact = h.exact;
+      numbered = numbered;
+    }
+
+pub IsRow-cleared : (r : Layout ℕ) → IsRow r → IsRow (cleared r)
+IsRow-cleared r h = record { ordered = AllPairs-nil EndsFirst; usable = All-nil (Fits r.segments); exact = All-nil IsExact; numbered = h.numbered }
+
+module _ (P : ℕ × ℕ → Type 0) (test : ℕ × ℕ → Bool) (pass : (s : ℕ × ℕ) → P s → test s ≡ true) where
+  any-filter : (ss : List (ℕ × ℕ)) (k : ℕ) (s : ℕ × ℕ) → k < length ss → get_or ss k s ≡ s → P s → Any P (filter test ss)
+  any-filter [] k s lt at p = absurd (omega (arith, lt))
+  any-filter (q ∷ ss) zero s lt at p = let here : test q ≡ true = pass q (subst P (sym at) p) in rw here (0, s, omega arith, at, p)
+  any-filter (q ∷ ss) (suc k) s lt at p =
+      let rest = any-filter ss k s (omega (arith, lt)) at p in
+      let within = rest.2 in
+      ⊎_elim
+      (λ (t : test q ≡ true). rw t (suc rest.0, rest.1, omega (arith, within), rest.3, rest.4))
+      (λ (t : test q ≡ false). rw t rest)
+      (cases_Bool (test q))
+
+-- a segment that a block lies in stays
+usable-kept : (r : Layout ℕ) (b : Block ℕ) → is_occupied r.blocks b.seg ≡ true → IsUsable r.segments (footprint b) → IsUsable (compacted r).segments (footprint b)
+usable-kept r b occupied u =
+    any-filter (λ s. (b.seg ≡ s.0) × (16 ≤ (footprint b).from) × ((footprint b).to + 16 ≤ s.1)) (λ s. is_occupied r.blocks s.0) (λ s p. ap (is_occupied r.blocks) (sym p.0) ∙ occupied) r.segments u.0 u.1 u.2 u.3 u.4
+
+pub IsRow-compacted : (r : Layout ℕ) → IsRow r → IsRow (compacted r)
+IsRow-compacted r h =
+    let keeps : ℕ × ℕ → Bool = λ s. is_occupied r.blocks s.0 in
+    record {
+      ordered = h.ordered;
+      usable = λ k d lt.
+          let b : Block ℕ = get_or r.blocks k d in
+          let here : is_occupied r.blocks b.seg ≡ true = list_any_at (λ (c : Block ℕ). eqb c.seg b.seg) r.blocks k d lt (eq-eqb b.seg b.seg refl) in
+          usable-kept r b here (h.usable k d lt);
+      exact = h.exact;
+      numbered = record {
+        first = All-filter keeps (λ (s : ℕ × ℕ). 1 ≤ s.0) r.segments h.numbered.first;
+        distinct = AllPairs-filter (λ (s t : ℕ × ℕ). s.0 ≢ t.0) keeps r.segments h.numbered.distinct;
+      };
+    }
+
+-- a change that keeps what is true of each block, and of each two
+All-change : (P : Block ℕ → Type 0) (f : Block ℕ → Block ℕ) → ((b : Block ℕ) → P b → P (f b)) → (at : ℕ × ℕ) (bs : List (Block ℕ)) → All P bs → All P (change_block f at bs)
+All-change P f keeps at [] h = h
+All-change P f keeps at (b ∷ bs) h =
+    let here = All-head P b bs h in
+    let rest = All-tail P b bs h in
+    ⊎_elim
+    (λ (t : is_at at b ≡ true). rw t (All-cons P (f b) bs (keeps b here) rest))
+    (λ (t : is_at at b ≡ false). rw t (All-cons P b (change_block f at bs) here (All-change P f keeps at bs rest)))
+    (cases_Bool (is_at at b))
+
+AllPairs-change : (R : Block ℕ → Block ℕ → Type 0) (f : Block ℕ → Block ℕ) → ((a b : Block ℕ) → R a b → R (f a) b) → ((a b : Block ℕ) → R a b → R a (f b)) → (at : ℕ × ℕ) (bs : List (Block ℕ)) → AllPairs R bs → AllPairs R (change_block f at bs)
+AllPairs-change R f left right at [] h = h
+AllPairs-change R f left right at (b ∷ bs) h =
+    let first = AllPairs-head R b bs h in
+    let rest = AllPairs-tail R b bs h in
+    ⊎_elim
+    (λ (t : is_at at b ≡ true). rw t (AllPairs-cons R (f b) bs (λ k d lt. left b (get_or bs k d) (first k d lt)) rest))
+    (λ (t : is_at at b ≡ false). rw t (AllPairs-cons R b (change_block f at bs) (All-change (R b) f (right b) at bs first) (AllPairs-change R f left right at bs rest)))
+    (cases_Bool (is_at at b))
+
+pub IsRow-written : (r : Layout ℕ) (at : ℕ × ℕ) (off : ℕ) (src : List ℕ) → IsRow r → IsRow (with_bytes_at r at off src)
+IsRow-written r at off src h =
+    record {
+      ordered = AllPairs-change EndsFirst (rewritten off src) (λ a b e. e) (λ a b e. e) at r.blocks h.ordered;
+      usable = All-change (Fits r.segments) (rewritten off src) (λ b e. e) at r.blocks h.usable;
+      exact = All-change IsExact (rewritten off src) (λ b e. e) at r.blocks h.exact;
+      numbered = h.numbered;
+    }
+
+All-without : (P : Block ℕ → Type 0) (at : ℕ × ℕ) (bs : List (Block ℕ)) → All P bs → All P (without_block at bs)
+All-without P at [] h = h
+All-without P at (b ∷ bs) h =
+    let rest = All-tail P b bs h in
+    ⊎_elim
+    (λ (t : is_at at b ≡ true). rw t rest)
+    (λ (t : is_at at b ≡ false). rw t (All-cons P b (without_block at bs) (All-head P b bs h) (All-without P at bs rest)))
+    (cases_Bool (is_at at b))
+
+AllPairs-without : (R : Block ℕ → Block ℕ → Type 0) (at : ℕ × ℕ) (bs : List (Block ℕ)) → AllPairs R bs → AllPairs R (without_block at bs)
+AllPairs-without R at [] h = h
+AllPairs-without R at (b ∷ bs) h =
+    let rest = AllPairs-tail R b bs h in
+    ⊎_elim
+    (λ (t : is_at at b ≡ true). rw t rest)
+    (λ (t : is_at at b ≡ false). rw t (AllPairs-cons R b (without_block at bs) (All-without (R b) at bs (AllPairs-head R b bs h)) (AllPairs-without R at bs rest)))
+    (cases_Bool (is_at at b))
+
+pub IsRow-without : (r : Layout ℕ) (at : ℕ × ℕ) → IsRow r → IsRow (without_block_at r at)
+IsRow-without r at h =
+    record {
+      ordered = AllPairs-without EndsFirst at r.blocks h.ordered;
+      usable = All-without (Fits r.segments) at r.blocks h.usable;
+      exact = All-without IsExact at r.blocks h.exact;
+      numbered = h.numbered;
+    }

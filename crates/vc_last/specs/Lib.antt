@@ -1,0 +1,14 @@
+pub use Rattle.vc_model.specs.Addr
+pub use Rattle.vc_model.specs.Best
+pub use Rattle.vc_model.specs.Compact
+pub use Rattle.vc_model.specs.Discipline
+pub use Rattle.vc_model.specs.Last
+pub use Rattle.vc_model.specs.Layout
+pub use Rattle.vc_model.specs.Resize
+pub use Rattle.vc_model.specs.Sound
+pub use Rattle.vc_model.specs.Touch
+pub use Rattle.vc_model.specs.Walk
+pub use Rattle.vc_seg.specs.Answer
+pub use Rattle.vc_seg.specs.Stat
+pub mod Row
+pub mod Runs

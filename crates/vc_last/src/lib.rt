@@ -1,0 +1,12 @@
+//! A region of blocks one behind another over the segments of a discipline. Only the latest block is freed or resized.
+#![tactic(auto)]
+
+mod block;
+mod gaps;
+mod last;
+mod next;
+mod resize;
+mod row;
+
+pub use last::Last;
+pub use row::Row;

@@ -1,0 +1,75 @@
+-- What a call that puts a block in a cell leaves of the blocks.
+use Rattle.std.proofs.Common.{◌≡◌, ℕ, Bool, true, false, cond, List, [], ◌∷◌, Option, Some, None, refl, ap, ◌∙◌, subst, ⊎_elim}
+use Rattle.std.specs.Prelude.{IfOk, OnOk, Ok, Err, nat_lt, option_map}
+use Rattle.std.specs.declared.result.Result.{Result}
+use Rattle.std.proofs.lemmas.Bool.{cases_Bool}
+use Rattle.vc_base.specs.declared.addr.Addr.{Addr}
+use Rattle.vc_model.specs.Addr.{place_of}
+use Rattle.vc_model.specs.Best.{zeros}
+use Rattle.vc_model.specs.Discipline.{Terms}
+use Rattle.vc_model.specs.Layout.{Layout, with_block, with_segment, without_block}
+use Rattle.vc_model.specs.Outcome.{Refused, PoolSize}
+use Rattle.vc_model.specs.Pool.{IsPoolSound, Pool, cell_for, element_with, pool_alloc, pool_need, put_asked, put_carving, put_cell, put_free, uncarved}
+use Rattle.vc_model.specs.Segments.{Asked, Granted, TooMany, NotLent, ask}
+use Rattle.vc_model.specs.Touch.{HasBlock, find_block}
+use Rattle.vc_model.proofs.Owned.{put-fresh, put-others, put-there, sized-others, sized-there}
+use Rattle.vc_model.specs.Resize.{resize_there}
+use Rattle.vc_seg.specs.Answer.{Answers, IsPut}
+use Rattle.vc_seg.specs.declared.fault.RegionFault.{RegionFault}
+
+-- one block more, at the address that is answered
+abbrev HasMore : Pool ℕ → Pool ℕ → ℕ → ℕ → ℕ → Type 0
+HasMore old new tag size a = new.layout.blocks ≡ with_block (zeros tag size (place_of a)) old.layout.blocks
+
+module _ (p new : Pool ℕ) (tag size a : ℕ) where
+  put_cell-more : (granted : Option (ℕ × ℕ)) (at : ℕ × ℕ) (r : Layout ℕ) (freed carved : List (ℕ × ℕ)) → r.blocks ≡ p.layout.blocks → IsPut (put_cell p tag size granted at r freed carved) a new → HasMore p new tag size a
+  put_cell-more granted at r freed carved same placed =
+      ap (λ (q : Pool ℕ). q.layout.blocks) placed.2
+      ∙ (ap (λ q. with_block (zeros tag size q) r.blocks) placed.1 ∙ ap (with_block (zeros tag size (place_of a))) same)
+
+  put_asked-more : (asked : Asked) → IsPut (put_asked p tag size asked) a new → HasMore p new tag size a
+  put_asked-more (Granted number bytes) placed = put_cell-more (Some (number, bytes)) (number, 32) (with_segment p.layout (number, bytes)) p.freed _ refl placed
+  put_asked-more TooMany placed = absurd placed
+  put_asked-more NotLent placed = absurd placed
+
+  put_carving-more : (terms : Terms) (refused : Bool) (at : Option (ℕ × ℕ)) → IsPut (put_carving terms p tag size refused at) a new → HasMore p new tag size a
+  put_carving-more terms refused (Some at) placed = put_cell-more None at p.layout p.freed _ refl placed
+  put_carving-more terms refused None placed = put_asked-more (ask (pool_need terms p size) p.layout.segments refused) placed
+
+  put_free-more : (terms : Terms) (refused : Bool) (freed : List (ℕ × ℕ)) → IsPut (put_free terms p tag size refused freed) a new → HasMore p new tag size a
+  put_free-more terms refused (at ∷ freed) placed = put_cell-more None at p.layout freed p.carved refl placed
+  put_free-more terms refused [] placed = put_carving-more terms refused (uncarved (cell_for (element_with p size)) p.carved p.layout.segments) placed
+
+  pool_alloc-more : (terms : Terms) (refused : Bool) → IsPut (pool_alloc terms p tag size refused) a new → HasMore p new tag size a
+  pool_alloc-more terms refused placed =
+      ⊎_elim
+      (λ (t : nat_lt (element_with p size) size ≡ true). let no : ⊥ = subst (λ v. IsPut (cond v (Refused PoolSize) (put_free terms p tag size refused p.freed)) a new) t placed in absurd no)
+      (λ (t : nat_lt (element_with p size) size ≡ false). put_free-more terms refused p.freed (subst (λ v. IsPut (cond v (Refused PoolSize) (put_free terms p tag size refused p.freed)) a new) t placed))
+      (cases_Bool (nat_lt (element_with p size) size))
+
+-- where a block was put
+pub alloc-there : (result : Result Addr RegionFault) (p new : Pool ℕ) (terms : Terms) (tag size : ℕ) → Answers (pool_alloc terms p tag size) result p new → IsPoolSound new →
+    IfOk result (λ a. find_block (place_of a.0) new.layout.blocks ≡ Some (zeros tag size (place_of a.0)))
+alloc-there (Ok a) p new terms tag size answer sound = put-there a.0 tag size p.layout.blocks new.layout.blocks (pool_alloc-more p new tag size a.0 terms false answer) sound.places
+alloc-there (Err e) p new terms tag size answer sound = tt
+
+pub alloc-fresh : (result : Result Addr RegionFault) (p new : Pool ℕ) (terms : Terms) (tag size : ℕ) → Answers (pool_alloc terms p tag size) result p new → IsPoolSound new →
+    IfOk result (λ a. ¬ HasBlock p.layout.blocks a.0)
+alloc-fresh (Ok a) p new terms tag size answer sound = put-fresh a.0 tag size p.layout.blocks new.layout.blocks (pool_alloc-more p new tag size a.0 terms false answer) sound.places
+alloc-fresh (Err e) p new terms tag size answer sound = tt
+
+pub alloc-others : (result : Result Addr RegionFault) (p new : Pool ℕ) (terms : Terms) (tag size : ℕ) → Answers (pool_alloc terms p tag size) result p new → IsPoolSound new →
+    IfOk result (λ a. without_block (place_of a.0) new.layout.blocks ≡ p.layout.blocks)
+alloc-others (Ok a) p new terms tag size answer sound = put-others a.0 tag size p.layout.blocks new.layout.blocks (pool_alloc-more p new tag size a.0 terms false answer) sound.places
+alloc-others (Err e) p new terms tag size answer sound = tt
+
+-- where a block got another size
+pub resize-there : (result : Result Unit RegionFault) (old new : Layout ℕ) (a size : ℕ) → OnOk result (new ≡ resize_there old (place_of a) size) →
+    OnOk result (option_map (λ b. b.label) (find_block (place_of a) new.blocks) ≡ option_map (λ b. b.label) (find_block (place_of a) old.blocks))
+resize-there (Ok done) old new a size is = ap (λ (r : Layout ℕ). option_map (λ b. b.label) (find_block (place_of a) r.blocks)) is ∙ sized-there size (place_of a) old.blocks
+resize-there (Err e) old new a size is = tt
+
+pub resize-others : (result : Result Unit RegionFault) (old new : Layout ℕ) (a size : ℕ) → OnOk result (new ≡ resize_there old (place_of a) size) →
+    OnOk result (without_block (place_of a) new.blocks ≡ without_block (place_of a) old.blocks)
+resize-others (Ok done) old new a size is = ap (λ (r : Layout ℕ). without_block (place_of a) r.blocks) is ∙ sized-others size (place_of a) old.blocks
+resize-others (Err e) old new a size is = tt
