@@ -9,6 +9,7 @@ pub mod DebugSizes
 pub mod DebugChecks
 pub mod DebugSound
 pub mod DebugRelabel
+pub mod DebugDamaged
 pub mod ProfileSites
 pub mod ProfileLists
 pub mod ProfileBare
