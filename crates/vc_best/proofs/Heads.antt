@@ -28,6 +28,7 @@ IsSound-heads r h =
       usable = λ k d lt. (h.blocks k d lt).usable;
       exact = λ k d lt. let slot = (h.blocks k d lt).slot in place_of-address (get_or r.blocks k d).seg (get_or r.blocks k d).off slot.last slot.multiple;
       numbered = h.numbered;
+      short = λ k d lt. (h.sizes k d lt).most;
     }
 
 pub HaveHeads-empty : HaveHeads empty_layout

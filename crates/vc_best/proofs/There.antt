@@ -65,3 +65,39 @@ pub there-moved : (mid new old : Layout ℕ) (a to size tag : ℕ) → HasBlock 
 there-moved mid new old a to size tag live fresh same label own there =
     let differ : place_of a ≢ place_of to = λ e. fresh (subst (HasBlock old.blocks) (sym (address-place_of a) ∙ (ap address e ∙ address-place_of to)) live) in
     own-moved mid new (place_of a) (place_of to) size tag differ (find_block (place_of a) mid.blocks) (ap label_of same ∙ label) own (ap label_of there) ∙ sym label
+
+-- a block that got another size where it is
+pub size-sized : {X : Type 0} (f : Block ℕ → X) (x : X) (size : ℕ) (at : ℕ × ℕ) (bs : List (Block ℕ)) → option_map f (find_block at bs) ≡ Some x → option_map (λ b. b.size) (find_block at (change_block (sized size) at bs)) ≡ Some size
+size-sized f x size at [] some = absurd (cc)
+size-sized f x size at (b ∷ bs) some =
+    ⊎_elim
+    (λ (e : is_at at b ≡ true). rw e (rw e refl))
+    (λ (e : is_at at b ≡ false). let rest : option_map f (find_block at bs) ≡ Some x = rw e at some in rw e (rw e (size-sized f x size at bs rest)))
+    (cases_Bool (is_at at b))
+
+-- other bytes leave the sizes
+size-rewritten : (src : List ℕ) (at : ℕ × ℕ) (bs : List (Block ℕ)) → option_map (λ b. b.size) (find_block at (change_block (rewritten 0 src) at bs)) ≡ option_map (λ b. b.size) (find_block at bs)
+size-rewritten src at [] = refl
+size-rewritten src at (b ∷ bs) =
+    ⊎_elim
+    (λ (e : is_at at b ≡ true). rw e (rw e refl))
+    (λ (e : is_at at b ≡ false). rw e (rw e (size-rewritten src at bs)))
+    (cases_Bool (is_at at b))
+
+size-gone : (mid new : Layout ℕ) (a to : ℕ × ℕ) (size tag : ℕ) → a ≢ to → (o : Option (Block ℕ)) → label_of o ≡ Some tag → IfSome o (λ b. new ≡ without_block_at (with_bytes_at mid to 0 (take size b.bytes)) a) →
+    find_block to mid.blocks ≡ Some (zeros tag size to) → option_map (λ b. b.size) (find_block to new.blocks) ≡ Some size
+size-gone mid new a to size tag differ None label own there = absurd (cc)
+size-gone mid new a to size tag differ (Some b) label own there =
+    let src = take size b.bytes in
+    let sizes : Option (Block ℕ) → Option ℕ = λ o. option_map (λ c. c.size) o in
+    ap (λ (r : Layout ℕ). sizes (find_block to r.blocks)) own
+    ∙ (ap sizes (find-without a to differ (change_block (rewritten 0 src) to mid.blocks))
+    ∙ (size-rewritten src to mid.blocks ∙ ap sizes there))
+
+-- a block that moved to where one was put has the size of that one
+pub size-moved : (mid new old : Layout ℕ) (a to size tag : ℕ) → HasBlock old.blocks a → ¬ HasBlock old.blocks to → find_block (place_of a) mid.blocks ≡ find_block (place_of a) old.blocks → label_of (find_block (place_of a) old.blocks) ≡ Some tag →
+    IfSome (find_block (place_of a) mid.blocks) (λ b. new ≡ without_block_at (with_bytes_at mid (place_of to) 0 (take size b.bytes)) (place_of a)) → find_block (place_of to) mid.blocks ≡ Some (zeros tag size (place_of to)) →
+    option_map (λ b. b.size) (find_block (place_of to) new.blocks) ≡ Some size
+size-moved mid new old a to size tag live fresh same label own there =
+    let differ : place_of a ≢ place_of to = λ e. fresh (subst (HasBlock old.blocks) (sym (address-place_of a) ∙ (ap address e ∙ address-place_of to)) live) in
+    size-gone mid new (place_of a) (place_of to) size tag differ (find_block (place_of a) mid.blocks) (ap label_of same ∙ label) own there

@@ -29,7 +29,8 @@ pub struct Best {
     pub alloc: Global,
     /// No two blocks overlap, each lies in the usable part of a segment, and segments have numbers of their own.
     pub ghost sound: { ∥ IsSound layout ∥₁ },
-    /// Each block has as many bytes as its size, at most 16,777,264, and its address is a u32.
+    /// Each block has as many bytes as its size, at most 16,777,264, its address is a u32, and no segment has more than
+    /// 33,554,432 bytes.
     pub ghost whole: { ∥ HasWholeBlocks layout ∥₁ },
 }
 

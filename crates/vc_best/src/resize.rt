@@ -1,4 +1,4 @@
-ghost use Rattle.std.specs.Prelude.{◌≡◌, ◌≤◌, IfOk, IfSome, IsErrOf, IsTrue, false, option_map};
+ghost use Rattle.std.specs.Prelude.{◌≡◌, ◌≤◌, Some, IfOk, IfSome, IsErrOf, IsTrue, false, option_map};
 ghost use Rattle.vc_model.specs.Addr.{place_of};
 ghost use Rattle.vc_model.specs.Best.{best_need};
 ghost use Rattle.vc_model.specs.Layout.{without_block};
@@ -35,7 +35,9 @@ impl Best {
             → IfSome (find_block (place_of a.0) self.old.layout.blocks)
             (λ b. can_stay self.old.layout size b ≡ false) × IsTrue may_move }
 
-        // The block keeps its tag, and the others stay.
+        // The block has that size and keeps its tag, and the others stay.
+        ensures sized { IfOk result (λ to. option_map (λ b. b.size)
+            (find_block (place_of to.0) self.new.layout.blocks) ≡ Some size) }
         ensures there { IfOk result (λ to.
             option_map (λ b. b.label) (find_block (place_of to.0) self.new.layout.blocks)
             ≡ option_map (λ b. b.label) (find_block (place_of a.0) self.old.layout.blocks)) }

@@ -1,10 +1,10 @@
--- The blocks of a layout have all their bytes, at addresses that are u32s.
+-- The blocks of a layout have all their bytes, at addresses that are u32s, in segments of bounded sizes.
 use Rattle.std.proofs.Common.{◌≡◌, ℕ, ◌<◌, ◌≤◌, ◌^◌, List, drop, get_or, length, length-drop, arith}
 use Rattle.std.proofs.lemmas.List.{length-take-le}
 use Rattle.std.proofs.lemmas.List.Elements.{All-map}
 use Rattle.vc_model.specs.Layout.{Block, address_of}
 use Rattle.vc_model.specs.Sound.{HasWholeBlocks}
-use Rattle.vc_seg.specs.Segment.{Bytes}
+use Rattle.vc_seg.specs.Segment.{Bytes, pair_of}
 use Rattle.vc_segments.specs.Memory.{bytes_of_number}
 use Rattle.vc_blocks.specs.declared.slot.Slot.{Slot}
 use Rattle.vc_blocks.specs.Layout.{IsLayout, block_in, layout_of}
@@ -25,4 +25,5 @@ HasWholeBlocks-layout segs slots l =
           let seg = (HasNumber-slot segs s l.segments.legal (l.blocks k d lt)).last in
           let off = (l.blocks k d lt).slot.last in
           omega (arith, seg, off));
+      short = All-map (λ (s : ℕ × ℕ). s.1 ≤ 33554432) pair_of segs (λ k d lt. (l.segments.legal k d lt).size.most);
     }

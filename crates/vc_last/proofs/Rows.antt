@@ -11,7 +11,7 @@ use Rattle.vc_model.specs.Best.{without_block_at}
 use Rattle.vc_model.specs.Compact.{cleared, compacted, is_occupied}
 use Rattle.vc_model.specs.Gap.{Run}
 use Rattle.vc_model.specs.Layout.{Block, Layout, address_of, footprint, is_at, with_segment, without_block}
-use Rattle.vc_model.specs.Sound.{HaveOwnNumbers, IsApart, IsSound, IsUsable}
+use Rattle.vc_model.specs.Sound.{HasWholeBlocks, HaveOwnNumbers, IsApart, IsSound, IsUsable}
 use Rattle.vc_model.specs.Touch.{change_block, rewritten, with_bytes_at}
 use Rattle.vc_blocks.proofs.Apart.{AllPairs-head, AllPairs-nil, AllPairs-tail, apart_by_seg}
 use Rattle.vc_last.specs.Row.{EndsFirst, IsRow}
@@ -23,13 +23,14 @@ apart-ordered a b h =
     (λ (t : eqb a.seg b.seg ≡ false). apart_by_seg (footprint a) (footprint b) (eqb-false a.seg b.seg t))
     (cases_Bool (eqb a.seg b.seg))
 
-pub IsSound-row : (r : Layout ℕ) → IsRow r → IsSound r
-IsSound-row r h =
+pub IsSound-row : (r : Layout ℕ) → IsRow r → HasWholeBlocks r → IsSound r
+IsSound-row r h whole =
     record {
       apart = λ i j d lt within. apart-ordered (get_or r.blocks i d) (get_or r.blocks j d) (h.ordered i j d lt within);
       usable = h.usable;
       exact = h.exact;
       numbered = h.numbered;
+      short = whole.short;
     }
 
 -- a layout of these

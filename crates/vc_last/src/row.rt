@@ -184,6 +184,6 @@ impl Row {
     pub(crate) fn look(&self)
         ensures { IsSound self.now }
     {
-        let _ = &self.layout;
+        self.layout.look();
     }
 }

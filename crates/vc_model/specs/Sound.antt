@@ -21,12 +21,13 @@ pub record HaveOwnNumbers (segments : List (ℕ × ℕ)) : Type 0 where
   pub first : All (λ s. 1 ≤ s.0) segments
   pub distinct : AllPairs (λ s t. s.0 ≢ t.0) segments
 
--- blocks with heads: no two overlap, each lies in the usable part of a segment, its address tells its place, and segments have numbers of their own
+-- blocks with heads: no two overlap, each lies in the usable part of a segment, its address tells its place, and segments have numbers of their own and at most 33,554,432 bytes
 pub record IsSound {L : Type 0} (r : Layout L) : Type 0 where
   pub apart : AllPairs (λ a b. IsApart (footprint a) (footprint b)) r.blocks
   pub usable : All (λ b. IsUsable r.segments (footprint b)) r.blocks
   pub exact : All (λ b. place_of (address_of b) ≡ (b.seg, b.off)) r.blocks
   pub numbered : HaveOwnNumbers r.segments
+  pub short : All (λ s. s.1 ≤ 33554432) r.segments
 
 -- no two blocks stand at one address, each stands in a segment whose number is from 1 on, and its address tells its place
 pub record HaveOwnPlaces {L : Type 0} (blocks : List (Block L)) : Type 0 where
@@ -34,8 +35,9 @@ pub record HaveOwnPlaces {L : Type 0} (blocks : List (Block L)) : Type 0 where
   pub first : All (λ b. 1 ≤ b.seg) blocks
   pub exact : All (λ b. place_of (address_of b) ≡ (b.seg, b.off)) blocks
 
--- each block has as many bytes as its size, at most 16,777,264, and its address is a u32
+-- each block has as many bytes as its size, at most 16,777,264, and its address is a u32; no segment has more than 33,554,432 bytes
 pub record HasWholeBlocks {L : Type 0} (r : Layout L) : Type 0 where
   pub bytes : All (λ b. length b.bytes ≡ b.size) r.blocks
   pub most : All (λ b. b.size ≤ 16777264) r.blocks
   pub fits : All (λ b. address_of b < 2 ^ 32) r.blocks
+  pub short : All (λ s. s.1 ≤ 33554432) r.segments

@@ -14,7 +14,7 @@ use Rattle.vc_model.proofs.PoolRelabel.{pool_alloc-relabel, pool_compact-relabel
 use Rattle.vc_model.proofs.Relabel.{best_alloc-relabel, best_resize-relabel, change_block-relabel, compact_count-relabel, compacted-relabel, relabel-alike, relabel_outcome, without_block-relabel}
 use Rattle.vc_pool.proofs.Relabel.{pool_stat-relabel}
 use Rattle.vc_seg.proofs.Stats.{layout_stat-relabel}
-use Rattle.vc_region.specs.Region.{OfBest, OfPool, OfLast, Region, aligns, blocks_of, region_align, region_alloc, region_clear, region_compact, region_compact_count, region_free, region_resize, region_write, relabelled, segments_of}
+use Rattle.vc_region.specs.Region.{OfBest, OfPool, OfLast, Region, aligns, blocks_of, region_align, region_alloc, region_clear, region_compact, region_compact_count, region_free, region_resize, region_write, relabelled, segments_of, keeps_freed, watch_at}
 use Rattle.vc_region.specs.Stat.{stat_of}
 
 module _ {L M : Type 0} (f : L → M) where
@@ -98,6 +98,16 @@ module _ {L M : Type 0} (f : L → M) where
   compact-relabelled (OfBest l) = ap (λ q. OfBest q) (compacted-relabel f l)
   compact-relabelled (OfPool p) = ap (λ q. OfPool q) (pool_compact-relabel f p)
   compact-relabelled (OfLast l) = ap (λ q. OfLast q) (compacted-relabel f l)
+
+  pub keeps-relabelled : (r : Region L) → keeps_freed (relabelled f r) ≡ keeps_freed r
+  keeps-relabelled (OfBest l) = refl
+  keeps-relabelled (OfPool p) = refl
+  keeps-relabelled (OfLast l) = refl
+
+  pub watch-relabelled : (r : Region L) (at : ℕ × ℕ) → watch_at (relabelled f r) at ≡ watch_at r at
+  watch-relabelled (OfBest l) at = refl
+  watch-relabelled (OfPool p) at = refl
+  watch-relabelled (OfLast l) at = refl
 
   pub compact_count-relabelled : (r : Region L) → region_compact_count (relabelled f r) ≡ region_compact_count r
   compact_count-relabelled (OfBest l) = compact_count-relabel f l

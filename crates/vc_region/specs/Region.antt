@@ -1,5 +1,5 @@
 -- A region by its method, and each call of it by cases on the method.
-use Rattle.std.specs.Prelude.{ℕ, List, Bool, true, false, nat_le}
+use Rattle.std.specs.Prelude.{ℕ, List, Bool, true, false, nat_le, Option, None}
 use Rattle.vc_model.specs.Discipline.{Terms}
 use Rattle.vc_model.specs.Layout.{Block, Layout, relabel_layout}
 use Rattle.vc_model.specs.Outcome.{Outcome, Done, Refused, Put, WrongMethod, done_as, outcome_as}
@@ -98,6 +98,18 @@ region_compact (OfLast layout) = OfLast (compacted layout)
 -- how many segments go by that
 abbrev pub region_compact_count : {L : Type 0} → Region L → ℕ
 region_compact_count r = compact_count (layout_in r)
+
+-- whether the names of freed blocks are kept: in a debug region
+abbrev pub keeps_freed : {L : Type 0} → Region L → Bool
+keeps_freed (OfBest layout) = false
+keeps_freed (OfPool pool) = false
+keeps_freed (OfLast layout) = false
+
+-- the line of the watch on the block at a place
+abbrev pub watch_at : {L : Type 0} → Region L → ℕ × ℕ → Option ℕ
+watch_at (OfBest layout) at = None
+watch_at (OfPool pool) at = None
+watch_at (OfLast layout) at = None
 
 -- the same with other labels
 abbrev pub relabelled : {L M : Type 0} → (L → M) → Region L → Region M

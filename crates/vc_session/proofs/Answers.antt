@@ -134,8 +134,8 @@ if_ok-all (Ok told) P all = all
 if_ok-all (Err e) P all = tt
 
 -- a refusal leaves the region
-pub gives-unchanged : (h : Home) (c : Changed) (w : Refusal) → c ≡ unchanged h w → Gives c h.region (reply.Refused w)
-gives-unchanged h c w e = record { region_after = ap (λ (k : Changed). k.region) e; replied = ap (λ (k : Changed). k.reply) e }
+pub gives-unchanged : (h : Home) (c : Changed) (w : Refusal) → c ≡ unchanged h w → Gives c (h.region, h.kept) (reply.Refused w)
+gives-unchanged h c w e = record { region_after = ap (λ (k : Changed). k.region) e; kept_after = ap (λ (k : Changed). k.kept) e; replied = ap (λ (k : Changed). k.reply) e }
 
 -- a region whose discipline and lists stay
 pub change-same : (h : Held) (labels : Labels) → HasOut h.disc (segments_of h.region) → IsNamed h.region labels → IsChange h (record { name = h.name; place = h.place; disc = h.disc; region = h.region; labels = labels })
@@ -143,9 +143,21 @@ change-same h labels has names =
     changed-by h h.disc h.region labels has (kept-same h.disc h.disc refl) (out-same h.disc h.disc (segments_of h.region) (segments_of h.region) refl refl) names
 
 -- what is told leaves the region
-pub gives-changed : (region : Region Label) (c : Changed) (told : Reply) → c ≡ changed_to region told → Gives c region told
-gives-changed region c told e = record { region_after = ap (λ (k : Changed). k.region) e; replied = ap (λ (k : Changed). k.reply) e }
+pub gives-changed : (h : Home) (region : Region Label) (c : Changed) (told : Reply) → c ≡ changed_to h region told → Gives c (region, h.kept) told
+gives-changed h region c told e = record { region_after = ap (λ (k : Changed). k.region) e; kept_after = ap (λ (k : Changed). k.kept) e; replied = ap (λ (k : Changed). k.reply) e }
 
 pub if_ok-map : {E : Type 0} (result : Result Reply E) (P Q : Reply → Type 0) → ((told : Reply) → P told → Q told) → IfOk result P → IfOk result Q
 if_ok-map (Ok told) P Q f all = f told all
 if_ok-map (Err e) P Q f all = tt
+
+-- a region and the names that it keeps are the same
+pub both-same : {A B : Type 0} (a a' : A) (b b' : B) → a ≡ a' → b ≡ b' → (let p : A × B = (a, b) in p) ≡ (a', b')
+both-same a a' b b' p q = λ i. (p i, q i)
+
+-- a refusal, where no block has the name, is of no segment
+pub none-no_segment : {E : Type 0} (refusal : Refusal) → (refusal ≡ why.NoSegment → ⊥) → (let told : Result Reply E = Ok (reply.Refused refusal) in told) ≡ Ok (reply.Refused why.NoSegment) → ⊥
+none-no_segment refusal other e = other (ap (λ r. refusal_in (get_ok (reply.Refused refusal) r)) e)
+  where
+    refusal_in : Reply → Refusal
+    refusal_in (reply.Refused w) = w
+    refusal_in told = why.NoRegion

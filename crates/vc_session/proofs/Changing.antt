@@ -13,7 +13,9 @@ use Rattle.vc_script.specs.declared.reply.Reply.{Reply}
 use Rattle.vc_script.specs.declared.reply.Reply.TheVariants.{Refused}
 use Rattle.vc_script.specs.declared.refusal.Refusal.TheVariants.{NoRegion, NoSegment, NoSegmentForTable, NoSegmentForObject}
 use Rattle.vc_script.specs.Needs.{NoNeed, need_shown}
-use Rattle.vc_session.specs.State.{State, Stepped, Home, changed, home_named, is_home, refused, stepped, with_region}
+use Rattle.vc_session.specs.State.{Label, State, Stepped, Home, changed, home_named, is_home, refused, stepped, with_region}
+use Rattle.vc_region.specs.Region.{Region}
+use Rattle.vc_session.specs.Kept.{Kept}
 use Rattle.vc_session.specs.Step.{Gives, StepsTo, in_region, region_of, region_step, shelf_step, step, step_of}
 use Rattle.vc_session.specs.Run.{refusal_at, place_named, home_place}
 use Rattle.vc_session.proofs.Firsts.{IsFirst, first-unmap}
@@ -44,13 +46,13 @@ rose-by_one a b (inr last) = inr (omega (arith, last))
 -- a command that works in no region
 pub step-shelf : (s : State) (line : ℕ) (command : Command) (reply : Reply) (after : State) → region_of command ≡ None → shelf_step s command ≡ stepped after reply → StepsTo s line command reply after
 step-shelf s line command reply after none is =
-    let eq : step s line command (need_shown reply) ≡ stepped after reply = ap (step_of s command (need_shown reply)) none ∙ is in
+    let eq : step s line command (need_shown reply) ≡ stepped after reply = ap (step_of s line command (need_shown reply)) none ∙ is in
     record { replied = ap (λ (t : Stepped). t.reply) eq; state_after = ap (λ (t : Stepped). t.state) eq }
 
 -- a command in a region that isn't open
 pub step-none : (s : State) (line : ℕ) (command : Command) (r : List ℕ) → region_of command ≡ Some r → home_named r s.homes ≡ None → StepsTo s line command (Refused NoRegion) s
 step-none s line command r works none =
-    let eq : step s line command NoNeed ≡ refused s NoRegion = ap (step_of s command NoNeed) works ∙ ap (region_step s r command NoNeed) none in
+    let eq : step s line command NoNeed ≡ refused s NoRegion = ap (step_of s line command NoNeed) works ∙ ap (region_step s r line command NoNeed) none in
     record { replied = ap (λ (t : Stepped). t.reply) eq; state_after = ap (λ (t : Stepped). t.state) eq }
 
 module _ (slots : Slots) (hs : List Held) (i : ℕ) (h g : Held) (at : slice_get hs i ≡ Some h) (session : IsSession slots hs) (change : IsChange h g) where
@@ -92,17 +94,17 @@ module _ (slots : Slots) (hs : List Held) (i : ℕ) (h g : Held) (at : slice_get
   settles-reply r command (Refused NoSegmentForObject) works found rose no_table no_object = absurd (no_object refl)
   settles-reply r command reply works found rose no_table no_object = quiet
 
-  same_home : (let k : Home = record (home_of h) { region = (home_of g).region } in k) ≡ home_of g
+  same_home : (let k : Home = record (home_of h) { region = (home_of g).region; kept = (home_of g).kept } in k) ≡ home_of g
   same_home =
-      ap (λ n. let k : Home = record { name = n; place = h.place; terms = h.disc.terms; region = (home_of g).region } in k) (sym change.name)
-      ∙ (ap (λ p. let k : Home = record { name = g.name; place = p; terms = h.disc.terms; region = (home_of g).region } in k) (sym change.place)
-      ∙ ap (λ r. let k : Home = record { name = g.name; place = g.place; terms = r; region = (home_of g).region } in k) (sym change.kept.terms))
+      ap (λ n. let k : Home = record { name = n; place = h.place; terms = h.disc.terms; region = (home_of g).region; kept = (home_of g).kept } in k) (sym change.name)
+      ∙ (ap (λ p. let k : Home = record { name = g.name; place = p; terms = h.disc.terms; region = (home_of g).region; kept = (home_of g).kept } in k) (sym change.place)
+      ∙ ap (λ r. let k : Home = record { name = g.name; place = g.place; terms = r; region = (home_of g).region; kept = (home_of g).kept } in k) (sym change.kept.terms))
 
-  homes-change : (r : List ℕ) → IsFirst (is_home r) (map home_of hs) i → with_region r (home_of g).region (map home_of hs) ≡ map home_of (set hs i g)
+  homes-change : (r : List ℕ) → IsFirst (is_home r) (map home_of hs) i → with_region r (home_of g).region (home_of g).kept (map home_of hs) ≡ map home_of (set hs i g)
   homes-change r first =
       let item : first.item ≡ home_of h = same_Some first.item (home_of h) (sym first.at ∙ (slice_get-map home_of hs i ∙ ap (option_map home_of) at)) in
-      with_region-first r (home_of g).region (map home_of hs) i first
-      ∙ (ap (λ (k : Home). set (map home_of hs) i (record k { region = (home_of g).region })) item
+      with_region-first r (home_of g).region (home_of g).kept (map home_of hs) i first
+      ∙ (ap (λ (k : Home). set (map home_of hs) i (record k { region = (home_of g).region; kept = (home_of g).kept })) item
       ∙ (ap (set (map home_of hs) i) same_home ∙ sym (map-set home_of hs i g)))
 
   pub found-change : (r : List ℕ) → IsFirst (is_home r) (map home_of hs) i → home_named r (map home_of hs) ≡ Some (home_of h)
@@ -110,18 +112,19 @@ module _ (slots : Slots) (hs : List Held) (i : ℕ) (h g : Held) (at : slice_get
       let item : first.item ≡ home_of h = same_Some first.item (home_of h) (sym first.at ∙ (slice_get-map home_of hs i ∙ ap (option_map home_of) at)) in
       find-first (is_home r) (map home_of hs) i first ∙ ap (λ k. Some k) item
 
-  pub step-change : (r : List ℕ) (line : ℕ) (command : Command) (reply : Reply) → region_of command ≡ Some r → IsFirst (is_home r) (map home_of hs) i → Gives (in_region (home_of h) command (need_shown reply)) (home_of g).region reply → StepsTo (state_of slots hs) line command reply (state_of slots (set hs i g))
+  pub step-change : (r : List ℕ) (line : ℕ) (command : Command) (reply : Reply) → region_of command ≡ Some r → IsFirst (is_home r) (map home_of hs) i → Gives (in_region (home_of h) line command (need_shown reply)) ((home_of g).region, (home_of g).kept) reply → StepsTo (state_of slots hs) line command reply (state_of slots (set hs i g))
   step-change r line command reply works first gives =
       let s = state_of slots hs in
       let need = need_shown reply in
-      let is : step s line command need ≡ changed s r (in_region (home_of h) command need) =
-      ap (step_of s command need) works ∙ ap (region_step s r command need) (found-change r first) in
+      let is : step s line command need ≡ changed s r (in_region (home_of h) line command need) =
+      ap (step_of s line command need) works ∙ ap (region_step s r line command need) (found-change r first) in
       record {
         replied = ap (λ (t : Stepped). t.reply) is ∙ gives.replied;
         state_after =
             ap (λ (t : Stepped). t.state) is
-            ∙ (ap (λ q. let u : State = record { shelf = s.shelf; homes = with_region r q s.homes } in u) gives.region_after
-            ∙ ap (λ homes. let u : State = record { shelf = s.shelf; homes = homes } in u) (homes-change r first));
+            ∙ (ap (λ q. let u : State = record { shelf = s.shelf; homes = with_region r q (in_region (home_of h) line command need).kept s.homes } in u) gives.region_after
+            ∙ (ap (λ q. let u : State = record { shelf = s.shelf; homes = with_region r (home_of g).region q s.homes } in u) gives.kept_after
+            ∙ ap (λ homes. let u : State = record { shelf = s.shelf; homes = homes } in u) (homes-change r first)));
       }
 
   -- the region that a command works in, before and after it
@@ -134,7 +137,7 @@ module _ (slots : Slots) (hs : List Held) (i : ℕ) (h g : Held) (at : slice_get
       (subst (λ o. Lacks (Some h) o asked) (sym (find-set (λ k. bytes_eq k.name r) hs i h g at here.before passes)) lacks)
 
   -- with the lists as before the state is the same
-  pub state-same : (home_of g).region ≡ (home_of h).region → state_of slots (set hs i g) ≡ state_of slots hs
+  pub state-same : (let p : Region Label × Kept = ((home_of g).region, (home_of g).kept) in p) ≡ ((home_of h).region, (home_of h).kept) → state_of slots (set hs i g) ≡ state_of slots hs
   state-same same =
-      let home : home_of g ≡ home_of h = sym same_home ∙ ap (λ r. let k : Home = record (home_of h) { region = r } in k) same in
+      let home : home_of g ≡ home_of h = sym same_home ∙ ap (λ (q : Region Label × Kept). let k : Home = record (home_of h) { region = q.0; kept = q.1 } in k) same in
       ap (λ homes. let s : State = record { shelf = (state_of slots hs).shelf; homes = homes } in s) (map-set_alike home_of hs i h g at home)

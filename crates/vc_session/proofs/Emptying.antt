@@ -1,18 +1,22 @@
 -- What clearing and compacting an open region answer, and how they change the region.
-use Rattle.vc_model.specs.Layout.{relabel_block}
-use Rattle.std.proofs.Common.{◌≡◌, ℕ, ◌-◌, ◌≤◌, List, [], ◌++◌, None, length, map, is_some, take, refl, sym, ap, ◌∙◌, subst, arith}
+use Rattle.vc_model.specs.Layout.{Block, relabel_block}
+use Rattle.std.proofs.Common.{◌≡◌, ℕ, ◌-◌, ◌≤◌, ◌||◌, Bool, true, false, cond, List, [], ◌∷◌, ◌++◌, Option, Some, None, length, map, is_some, take, refl, sym, ap, ◌∙◌, subst, arith}
 use Rattle.std.specs.List.{AllByRecursion, list_any}
 use Rattle.std.proofs.lemmas.List.{length-append, take-append-le, take_all}
 use Rattle.slab.specs.Slab.{slab_len}
 use Rattle.vc_model.specs.Discipline.{Discipline, HasOut, TookBack}
-use Rattle.vc_region.specs.Region.{Region, blocks_of, region_clear, relabelled, segments_of}
+use Rattle.vc_region.specs.Region.{Region, blocks_of, keeps_freed, region_clear, relabelled, segments_of}
 use Rattle.vc_model.specs.Sound.{HaveOwnPlaces}
 use Rattle.vc_region.proofs.Clearing.{cleared-blocks}
-use Rattle.vc_region.proofs.Relabel.{blocks-relabelled, clear-relabelled, relabelled-alike}
+use Rattle.vc_region.proofs.Relabel.{blocks-relabelled, clear-relabelled, keeps-relabelled, relabelled-alike}
 use Rattle.vc_session.specs.declared.labels.Labels.{Labels}
-use Rattle.vc_session.specs.Labels.{AreLabels, name_of, tag_of}
-use Rattle.vc_session.specs.Blocks.{is_block}
-use Rattle.vc_session.specs.Account.{Held, IsChange, IsLive, IsNamed, tag_count}
+use Rattle.vc_session.specs.Kept.{Kept, line_of}
+use Rattle.vc_session.specs.State.{Label}
+use Rattle.vc_session.specs.Whole.{kept_cleared, with_label, with_labels}
+use Rattle.vc_session.specs.Labels.{AreLabels, kept_of, line_left, name_of, tag_of}
+use Rattle.vc_session.specs.Blocks.{is_block, is_name_of}
+use Rattle.vc_session.proofs.Keeping.{IsByName, by-name-among, by-name-with, line-with, same-kept, swapped}
+use Rattle.vc_session.specs.Account.{Held, IsChange, IsLive, IsNamed, home_of, tag_count}
 
 -- a region without blocks is the same under all names
 pub cleared-names : (labels labels' : Labels) (r : Region ℕ) → region_clear (relabelled (name_of labels) r) ≡ relabelled (name_of labels') (region_clear r)
@@ -57,19 +61,20 @@ change-back h disc region labels took lent names =
       names = names;
     }
 
-pub named-cleared : (r : Region ℕ) (labels : Labels) → AreLabels labels → ((x : List ℕ) → tag_of labels x ≡ None) → slab_len labels.by_tag ≡ 0 → HaveOwnPlaces (blocks_of r) → blocks_of r ≡ [] → IsNamed r labels
-named-cleared r labels agree none count places empty =
+pub named-cleared : (r : Region ℕ) (labels : Labels) → AreLabels labels → ((x : List ℕ) → tag_of labels x ≡ None) → slab_len labels.by_tag ≡ 0 → HaveOwnPlaces (blocks_of r) → blocks_of r ≡ [] → (keeps_freed r ≡ false → kept_of labels ≡ []) → IsNamed r labels
+named-cleared r labels agree none count places empty forgets =
     record {
       agree = agree;
       count = ap tag_count empty ∙ sym count;
       live = subst (AllByRecursion (λ b. 1 ≤ b.label → IsLive labels b)) (sym empty) tt;
       known = λ x. ap is_some (none x) ∙ sym (ap (list_any (is_block x)) (blocks-relabelled (name_of labels) r ∙ ap (map (relabel_block (name_of labels))) empty));
       places = places;
+      none = forgets;
     }
 
 -- names of a region with the same blocks
-pub named-blocks : (r r' : Region ℕ) (labels : Labels) → blocks_of r' ≡ blocks_of r → IsNamed r labels → IsNamed r' labels
-named-blocks r r' labels same n =
+pub named-blocks : (r r' : Region ℕ) (labels : Labels) → blocks_of r' ≡ blocks_of r → keeps_freed r' ≡ keeps_freed r → IsNamed r labels → IsNamed r' labels
+named-blocks r r' labels same keeps n =
     record {
       agree = n.agree;
       count = ap tag_count same ∙ n.count;
@@ -79,4 +84,49 @@ named-blocks r r' labels same n =
           ∙ ap (list_any (is_block x))
           (blocks-relabelled (name_of labels) r ∙ (ap (map (relabel_block (name_of labels))) (sym same) ∙ sym (blocks-relabelled (name_of labels) r')));
       places = subst HaveOwnPlaces (sym same) n.places;
+      none = λ e. n.none (sym keeps ∙ e);
     }
+
+line-label : (x : List ℕ) (l : Label) (line : ℕ) (k : Kept) → line_of x (with_label l line k) ≡ cond (is_name_of x l) (Some line) (line_of x k)
+line-label x None line k = refl
+line-label x (Some y) line k = line-with x y line k ∙ ap (λ b. cond b (Some line) (line_of x k)) (swapped x y)
+
+either : (a b : Bool) (line : ℕ) (o : Option ℕ) → cond a (Some line) (cond b (Some line) o) ≡ cond (a || b) (Some line) o
+either true b line o = refl
+either false b line o = refl
+
+-- the line of each name once the names of these blocks are kept with one
+line-labels : (x : List ℕ) (bs : List (Block Label)) (line : ℕ) (k : Kept) → line_of x (with_labels bs line k) ≡ cond (list_any (is_block x) bs) (Some line) (line_of x k)
+line-labels x [] line k = refl
+line-labels x (b ∷ bs) line k =
+    line-label x b.label line (with_labels bs line k)
+    ∙ (ap (λ o. cond (is_name_of x b.label) (Some line) o) (line-labels x bs line k)
+    ∙ either (is_name_of x b.label) (list_any (is_block x) bs) line (line_of x k))
+
+by-name-label : (l : Label) (line : ℕ) (k : Kept) → IsByName k → IsByName (with_label l line k)
+by-name-label None line k s = s
+by-name-label (Some x) line k s = by-name-with x line k s
+
+by-name-labels : (bs : List (Block Label)) (line : ℕ) (k : Kept) → IsByName k → IsByName (with_labels bs line k)
+by-name-labels [] line k s = s
+by-name-labels (b ∷ bs) line k s = by-name-label b.label line (with_labels bs line k) (by-name-labels bs line k s)
+
+-- no name is kept where the region keeps none
+pub none-cleared : (old new : Labels) (keeps : Bool) (line : ℕ) → ((x : List ℕ) → line_of x (kept_of new) ≡ line_left old keeps line x) → keeps ≡ false → kept_of new ≡ []
+none-cleared old new keeps line lines e =
+    same-kept (kept_of new) [] (by-name-among new.tags.entries) tt
+    (λ x. lines x ∙ ap (λ b. line_left old b line x) e)
+
+-- the names that are kept after a region was cleared
+pub kept-cleared : (h : Held) (line : ℕ) (new : Labels) (keeps : Bool) → keeps ≡ keeps_freed h.region → IsNamed h.region h.labels → ((x : List ℕ) → line_of x (kept_of new) ≡ line_left h.labels keeps line x) → kept_cleared (home_of h) line ≡ kept_of new
+kept-cleared h line new keeps is names lines =
+    ap (λ b. cond b (with_labels (blocks_of (home_of h).region) line (kept_of h.labels)) (kept_of h.labels)) (keeps-relabelled (name_of h.labels) h.region ∙ sym is)
+    ∙ by keeps is lines
+  where
+    by : (b : Bool) → b ≡ keeps_freed h.region → ((x : List ℕ) → line_of x (kept_of new) ≡ line_left h.labels b line x) → cond b (with_labels (blocks_of (home_of h).region) line (kept_of h.labels)) (kept_of h.labels) ≡ kept_of new
+    by true e l =
+        same-kept (with_labels (blocks_of (home_of h).region) line (kept_of h.labels)) (kept_of new) (by-name-labels (blocks_of (home_of h).region) line (kept_of h.labels) (by-name-among h.labels.tags.entries)) (by-name-among new.tags.entries)
+        (λ x.
+        line-labels x (blocks_of (home_of h).region) line (kept_of h.labels)
+        ∙ (ap (λ v. cond v (Some line) (line_of x (kept_of h.labels))) (sym (names.known x)) ∙ sym (l x)))
+    by false e l = names.none (sym e) ∙ sym (none-cleared h.labels new false line l refl)

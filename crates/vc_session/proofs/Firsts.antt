@@ -5,6 +5,7 @@ use Rattle.std.specs.List.{list_any}
 use Rattle.std.proofs.lemmas.List.{take-map}
 use Rattle.std.proofs.lemmas.Option.{same_Some, none-some}
 use Rattle.vc_region.specs.Region.{Region}
+use Rattle.vc_session.specs.Kept.{Kept}
 use Rattle.vc_session.specs.State.{Home, Label, is_home, with_region}
 
 -- the first place of a list that passes a test
@@ -72,21 +73,21 @@ first-unmap test f xs i first =
 pub none-unmap : {A B : Type 0} (test : B → Bool) (f : A → B) (xs : List A) → list_any test (map f xs) ≡ false → list_any (λ x. test (f x)) xs ≡ false
 none-unmap test f xs none = sym (any-unmap test f xs) ∙ none
 
-with_region-at : (r : List ℕ) (region : Region Label) (hs : List Home) (i : ℕ) (h : Home) → slice_get hs i ≡ Some h → is_home r h ≡ true → list_any (is_home r) (take i hs) ≡ false → with_region r region hs ≡ set hs i (record h { region = region })
-with_region-at r region [] i h at passes none = absurd (none-some h at)
-with_region-at r region (g ∷ hs) zero h at passes none =
+with_region-at : (r : List ℕ) (region : Region Label) (kept : Kept) (hs : List Home) (i : ℕ) (h : Home) → slice_get hs i ≡ Some h → is_home r h ≡ true → list_any (is_home r) (take i hs) ≡ false → with_region r region kept hs ≡ set hs i (record h { region = region; kept = kept })
+with_region-at r region kept [] i h at passes none = absurd (none-some h at)
+with_region-at r region kept (g ∷ hs) zero h at passes none =
     let same : g ≡ h = same_Some g h at in
     let named_r : is_home r g ≡ true = ap (is_home r) same ∙ passes in
-    ap (λ b. cond b ((record g { region = region }) ∷ hs) (g ∷ with_region r region hs)) named_r
-    ∙ ap (λ (k : Home). (record k { region = region }) ∷ hs) same
-with_region-at r region (g ∷ hs) (suc i) h at passes none =
+    ap (λ b. cond b ((record g { region = region; kept = kept }) ∷ hs) (g ∷ with_region r region kept hs)) named_r
+    ∙ ap (λ (k : Home). (record k { region = region; kept = kept }) ∷ hs) same
+with_region-at r region kept (g ∷ hs) (suc i) h at passes none =
     let parts = or-false (is_home r g) (list_any (is_home r) (take i hs)) none in
-    ap (λ b. cond b ((record g { region = region }) ∷ hs) (g ∷ with_region r region hs)) parts.0
-    ∙ ap (λ ks. g ∷ ks) (with_region-at r region hs i h at passes parts.1)
+    ap (λ b. cond b ((record g { region = region; kept = kept }) ∷ hs) (g ∷ with_region r region kept hs)) parts.0
+    ∙ ap (λ ks. g ∷ ks) (with_region-at r region kept hs i h at passes parts.1)
 
 -- the region of a name is the first of that name
-pub with_region-first : (r : List ℕ) (region : Region Label) (hs : List Home) (i : ℕ) (f : IsFirst (is_home r) hs i) → with_region r region hs ≡ set hs i (record f.item { region = region })
-with_region-first r region hs i f = with_region-at r region hs i f.item f.at f.passes f.before
+pub with_region-first : (r : List ℕ) (region : Region Label) (kept : Kept) (hs : List Home) (i : ℕ) (f : IsFirst (is_home r) hs i) → with_region r region kept hs ≡ set hs i (record f.item { region = region; kept = kept })
+with_region-first r region kept hs i f = with_region-at r region kept hs i f.item f.at f.passes f.before
 
 or-true : (b : Bool) → (b || true) ≡ true
 or-true true = refl

@@ -13,22 +13,22 @@ use Rattle.vc_model.specs.Touch.{find_block}
 use Rattle.vc_model.proofs.Places.{Among, among-all, among-find, found-there, place-of}
 use Rattle.vc_model.proofs.Relabel.{find-relabel}
 use Rattle.vc_region.proofs.Relabel.{blocks-relabelled}
-use Rattle.vc_script.specs.declared.refusal.Refusal.TheVariants as why
 use Rattle.vc_session.specs.State as state
 use Rattle.vc_session.specs.State.{Changed, Home, unchanged}
-use Rattle.vc_session.specs.Blocks.{is_align, is_block, is_name_of, on_block, with_named}
+use Rattle.vc_session.specs.Blocks.{is_align, is_block, is_name_of, no_block, on_block, with_named}
+use Rattle.vc_session.specs.Kept.{line_of}
 use Rattle.vc_session.specs.declared.labels.Label.{Label}
 use Rattle.vc_session.specs.declared.labels.Labels.{Labels}
-use Rattle.vc_session.specs.Labels.{label_at, name_of, tag_of}
+use Rattle.vc_session.specs.Labels.{kept_of, label_at, name_of, tag_of}
 use Rattle.vc_session.specs.Account.{Held, IsLive, IsNamed, home_of}
 use Rattle.vc_session.proofs.Firsts.{find-none}
 use Rattle.vc_session.proofs.Lists.{Passes, contains-among, found-any}
 use Rattle.vc_session.proofs.Names.{has-label-any, name-first, name-here, named_by, same_bytes}
 
 -- no block has the name
-pub on_block-none : (h : Held) (x : List ℕ) (act : Block state.Label → Changed) → IsNamed h.region h.labels → tag_of h.labels x ≡ None → on_block (home_of h) x act ≡ unchanged (home_of h) why.NoBlock
+pub on_block-none : (h : Held) (x : List ℕ) (act : Block state.Label → Changed) → IsNamed h.region h.labels → tag_of h.labels x ≡ None → on_block (home_of h) x act ≡ unchanged (home_of h) (no_block (line_of x (kept_of h.labels)))
 on_block-none h x act names none =
-    ap (λ o. with_named (home_of h) o act) (find-none (is_block x) (blocks_of (home_of h).region) (sym (names.known x) ∙ ap is_some none))
+    ap (λ o. with_named (home_of h) x o act) (find-none (is_block x) (blocks_of (home_of h).region) (sym (names.known x) ∙ ap is_some none))
 
 name-some : (x : List ℕ) (o : state.Label) → is_name_of x o ≡ true → (y : List ℕ) × (o ≡ Some y) × (bytes_eq y x ≡ true)
 name-some x None e = absurd cc
@@ -79,7 +79,7 @@ module _ (r : Region ℕ) (labels : Labels) (x : List ℕ) (tag : ℕ) (label : 
 
 -- what is done with it
 pub on_block-there : (h : Held) (x : List ℕ) (tag a : ℕ) (b : TheBlock h.region h.labels x tag a) (act : Block state.Label → Changed) → on_block (home_of h) x act ≡ act (relabel_block (name_of h.labels) b.block)
-on_block-there h x tag a b act = ap (λ o. with_named (home_of h) o act) b.named
+on_block-there h x tag a b act = ap (λ o. with_named (home_of h) x o act) b.named
 
 -- a script's alignment is one of a region
 pub align-in : (align : ℕ) → is_align align ≡ true → IsAlign align

@@ -11,6 +11,7 @@ pub mod Gone
 pub mod Grants
 pub mod Helds
 pub mod Listing
+pub mod Keeping
 pub mod Lists
 pub mod Moving
 pub mod Names

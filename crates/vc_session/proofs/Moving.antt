@@ -9,14 +9,14 @@ use Rattle.std.proofs.lemmas.Option.{same_Some, none-some}
 use Rattle.vc_model.specs.Addr.{address, place_of}
 use Rattle.vc_model.specs.Best.{zeros}
 use Rattle.vc_model.specs.Layout.{Block, address_of, without_block}
-use Rattle.vc_region.specs.Region.{Region, blocks_of, relabelled}
+use Rattle.vc_region.specs.Region.{Region, blocks_of, keeps_freed, relabelled}
 use Rattle.vc_model.specs.Sound.{HaveOwnPlaces}
 use Rattle.vc_model.specs.Touch.{find_block}
 use Rattle.vc_region.proofs.Relabel.{relabelled-alike}
 use Rattle.vc_session.specs.Blocks.{is_name_of}
 use Rattle.vc_session.specs.declared.labels.Label.{Label}
 use Rattle.vc_session.specs.declared.labels.Labels.{Labels}
-use Rattle.vc_session.specs.Labels.{AreLabels, MovesLabel, WithLabel, WithoutLabel, label_at, name_of, tag_of}
+use Rattle.vc_session.specs.Labels.{AreLabels, MovesLabel, WithLabel, WithoutLabel, kept_of, label_at, name_of, tag_of}
 use Rattle.vc_session.specs.Account.{IsLive, IsNamed, tag_count}
 use Rattle.vc_session.proofs.Found.{TheBlock}
 use Rattle.vc_session.proofs.Lists.{all-join, all-without, any-alike, any-split, count-split, others-apart}
@@ -80,8 +80,8 @@ module _ (old new : Labels) (tag : ℕ) (label : Label) (w : WithLabel old new t
       (λ e. ap is_some (w.other_names y (λ same. other_bytes label.name y e (sym same))) ∙ sym (ap (λ b. b || is_some (tag_of old y)) e))
       (cases_Bool (bytes_eq label.name y))
 
-  pub named-put : (r r' : Region ℕ) (size : ℕ) → find_block (place_of label.at.0) (blocks_of r') ≡ Some (zeros tag size (place_of label.at.0)) → without_block (place_of label.at.0) (blocks_of r') ≡ blocks_of r → label.at.0 ≡ address (place_of label.at.0) → AreLabels new → HaveOwnPlaces (blocks_of r') → IsNamed r old → IsNamed r' new
-  named-put r r' size there others at agree places n =
+  pub named-put : (r r' : Region ℕ) (size : ℕ) → find_block (place_of label.at.0) (blocks_of r') ≡ Some (zeros tag size (place_of label.at.0)) → without_block (place_of label.at.0) (blocks_of r') ≡ blocks_of r → label.at.0 ≡ address (place_of label.at.0) → AreLabels new → HaveOwnPlaces (blocks_of r') → (keeps_freed r' ≡ false → kept_of new ≡ []) → IsNamed r old → IsNamed r' new
+  named-put r r' size there others at agree places none n =
       let p = place_of label.at.0 in
       let z : Block ℕ = zeros tag size p in
       let stays : AllByRecursion (Stays old new) (without_block p (blocks_of r')) = subst (AllByRecursion (Stays old new)) (sym others) (stay-new (blocks_of r) n.live) in
@@ -103,6 +103,7 @@ module _ (old new : Labels) (tag : ℕ) (label : Label) (w : WithLabel old new t
             (ap (list_any (named_by (name_of new) y)) others
             ∙ any-alike (named_by (name_of new) y) (named_by (name_of old) y) (blocks_of r) (tests-stay old new y (blocks_of r) (names-stay old new (blocks_of r) (stay-new (blocks_of r) n.live)))))))));
         places = places;
+        none = none;
       }
 
 -- blocks that stand elsewhere than the one of a name have other tags
@@ -140,8 +141,8 @@ module _ (old : Labels) (r : Region ℕ) (names : IsNamed r old) (x : List ℕ) 
         other-name zero other = name-none new 0 refl ∙ sym (name-none old 0 refl)
         other-name (suc u) other = name-alike old new (suc u) (m.other_tags (suc u) (omega arith) other)
 
-    pub named-moved : (r' : Region ℕ) (b' : Block ℕ) → find_block (place_of to.at.0) (blocks_of r') ≡ Some b' → b'.label ≡ b.block.label → to.at.0 ≡ address_of b' → place_of to.at.0 ≡ (b'.seg, b'.off) → without_block (place_of to.at.0) (blocks_of r') ≡ without_block (place_of label.at.0) (blocks_of r) → AreLabels new → HaveOwnPlaces (blocks_of r') → IsNamed r' new
-    named-moved r' b' there tagged at place others agree places =
+    pub named-moved : (r' : Region ℕ) (b' : Block ℕ) → find_block (place_of to.at.0) (blocks_of r') ≡ Some b' → b'.label ≡ b.block.label → to.at.0 ≡ address_of b' → place_of to.at.0 ≡ (b'.seg, b'.off) → without_block (place_of to.at.0) (blocks_of r') ≡ without_block (place_of label.at.0) (blocks_of r) → AreLabels new → HaveOwnPlaces (blocks_of r') → (keeps_freed r' ≡ false → kept_of new ≡ []) → IsNamed r' new
+    named-moved r' b' there tagged at place others agree places none =
         let p = place_of label.at.0 in
         let q = place_of to.at.0 in
         let f = name_of old in
@@ -169,6 +170,7 @@ module _ (old : Labels) (r : Region ℕ) (names : IsNamed r old) (x : List ℕ) 
               (ap (list_any (named_by (name_of new) y)) others
               ∙ any-alike (named_by (name_of new) y) (named_by f y) (without_block p (blocks_of r)) (tests-stay old new y (without_block p (blocks_of r)) (names-stay old new (without_block p (blocks_of r)) (rest-stays new m.other_tags))))))))));
           places = places;
+          none = none;
         }
 
   -- the block goes, and its name
@@ -195,8 +197,8 @@ module _ (old : Labels) (r : Region ℕ) (names : IsNamed r old) (x : List ℕ) 
             (cases_Bool (bytes_eq l.label.name y)))
             (zero-or c.label)
 
-    pub named-left : (r' : Region ℕ) → blocks_of r' ≡ without_block (place_of label.at.0) (blocks_of r) → AreLabels new → HaveOwnPlaces (blocks_of r') → IsNamed r' new
-    named-left r' left agree places =
+    pub named-left : (r' : Region ℕ) → blocks_of r' ≡ without_block (place_of label.at.0) (blocks_of r) → AreLabels new → HaveOwnPlaces (blocks_of r') → (keeps_freed r' ≡ false → kept_of new ≡ []) → IsNamed r' new
+    named-left r' left agree places none =
         let p = place_of label.at.0 in
         let f = name_of old in
         let stays : AllByRecursion (Stays old new) (blocks_of r') = subst (AllByRecursion (Stays old new)) (sym left) (rest-stays new w.other_tags) in
@@ -227,4 +229,5 @@ module _ (old : Labels) (r : Region ℕ) (names : IsNamed r old) (x : List ℕ) 
               ∙ sym (has-label-any (name_of new) y r')))))))))
               (cases_Bool (bytes_eq x y));
           places = places;
+          none = none;
         }

@@ -77,6 +77,7 @@ isnamed-same r old new same agree n =
       live = live-same old new (blocks_of r) same n.live;
       known = λ x. ap is_some (same.by_name x) ∙ (n.known x ∙ ap (has_label x) (sym (relabelled-same old new r same)));
       places = n.places;
+      none = λ keeps. same.kept ∙ n.none keeps;
     }
 
 -- as many blocks have a name as have a tag

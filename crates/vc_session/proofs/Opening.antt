@@ -17,10 +17,10 @@ use Rattle.vc_seg.specs.Shelf.{place_at, standing}
 use Rattle.vc_seg.specs.declared.shelf.ShelfPlace.TheVariants.{Here}
 use Rattle.vc_script.specs.declared.reply.Reply.TheVariants.{Opened}
 use Rattle.vc_script.specs.declared.refusal.Refusal.TheVariants.{NotYet, RegionExists}
-use Rattle.vc_session.specs.State.{Label, State, is_home, open_step, opened_as, opened_over, refused, stepped}
+use Rattle.vc_session.specs.State.{Home, Label, State, is_home, open_step, opened_as, opened_over, refused, stepped}
 use Rattle.slab.specs.Slab.{slab_len}
 use Rattle.vc_session.specs.declared.labels.Labels.{Labels}
-use Rattle.vc_session.specs.Labels.{AreLabels, name_of, tag_of}
+use Rattle.vc_session.specs.Labels.{AreLabels, kept_of, name_of, tag_of}
 use Rattle.vc_session.specs.Account.{Account, Held, IsLive, IsNamed, IsSession, account, accounts, account_after, home_of, settled, state_of, tag_count}
 use Rattle.vc_session.specs.Homes.{not_here as why_not}
 use Rattle.vc_session.proofs.Cells.{at_number-from_one, at_number_some, slice_get-set_same, at_number-map, set_same}
@@ -70,6 +70,7 @@ pub record AreNone (labels : Labels) : Type 0 where
   pub agree : AreLabels labels
   pub names : (x : List ℕ) → tag_of labels x ≡ None
   pub count : slab_len labels.by_tag ≡ 0
+  pub kept : kept_of labels ≡ []
 
 none_places : (bs : List (Block ℕ)) → bs ≡ [] → HaveOwnPlaces bs
 none_places bs e =
@@ -89,6 +90,7 @@ none-named r labels none e =
       live = subst (AllByRecursion (λ b. 1 ≤ b.label → IsLive labels b)) (sym e) tt;
       known = λ x. ap is_some (none.names x) ∙ sym (has-label-any (name_of labels) x r ∙ ap (list_any (named_by (name_of labels) x)) e);
       places = none_places (blocks_of r) e;
+      none = λ keeps. none.kept;
     }
 
 -- a region that was just opened
@@ -105,8 +107,9 @@ module _ (slots : Slots) (hs : List Held) (name : List ℕ) (n : ℕ) (d : Disci
       ap (opened_as (state_of slots hs) name n) (opened-relabelled (name_of labels) m region is)
       ∙ (ap (λ b. cond b (refused (state_of slots hs) RegionExists) (opened_over (state_of slots hs) name n r (at_number (state_of slots hs).shelf n))) new
       ∙ (ap (opened_over (state_of slots hs) name n r) (at_number-map (option_map (λ e. e.terms)) slots n ∙ ap (option_map (option_map (λ e. e.terms))) at)
+      ∙ (ap (λ kept. stepped (record { shelf = set (state_of slots hs).shelf (n - 1) None; homes = map home_of hs ++ (let b : Home = record { name = name; place = n; terms = d.terms; region = r; kept = kept } in b) ∷ [] }) (Opened name)) (sym none.kept)
       ∙ (ap (λ shelf. stepped (record { shelf = shelf; homes = map home_of hs ++ home_of (fresh name n d region labels) ∷ [] }) (Opened name)) (sym (map-set (option_map (λ (e : Discipline). e.terms)) slots (n - 1) None))
-      ∙ ap (λ homes. stepped (record { shelf = map (option_map (λ e. e.terms)) (set slots (n - 1) None); homes = homes }) (Opened name)) (sym (map-append home_of hs (fresh name n d region labels ∷ []))))))
+      ∙ ap (λ homes. stepped (record { shelf = map (option_map (λ e. e.terms)) (set slots (n - 1) None); homes = homes }) (Opened name)) (sym (map-append home_of hs (fresh name n d region labels ∷ [])))))))
 
   pub session-open : IsSession (set slots (n - 1) None) (hs ++ fresh name n d region labels ∷ [])
   session-open =

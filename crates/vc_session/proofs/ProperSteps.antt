@@ -1,11 +1,15 @@
 -- A step of a command whose names are names replies with names, and leaves a state with names.
 use Rattle.std.proofs.Common.{◌≡◌, ℕ, ◌+◌, List, [], ◌∷◌, ◌++◌, Option, Some, None, option_map, map, length, take, drop, Bool, true, false, cond, ◌&&◌, refl, sym, ap, ◌∙◌, subst}
-use Rattle.std.specs.Prelude.{IfSome, find, nat_le, nat_lt}
+use Rattle.std.specs.Ordering.{eq_by_cmp}
+use Rattle.std.specs.declared.cmp.Ordering.{Ordering}
+use Rattle.std.specs.declared.cmp.Ordering.TheVariants.{Less, Equal, Greater}
+use Rattle.std.specs.FinMap.Entries.{by_order}
+use Rattle.std.specs.Prelude.{not, IfSome, find, nat_le}
 use Rattle.std.specs.List.{AllByRecursion, list_any}
 use Rattle.vc_model.specs.Discipline.{Terms}
 use Rattle.vc_model.specs.Layout.{Block, relabel_block}
 use Rattle.vc_model.specs.Outcome.{Outcome, Done, Refused, Put, outcome_as}
-use Rattle.vc_region.specs.Region.{Region, blocks_of, region_align, region_alloc, region_clear, region_compact, region_free, region_resize, region_write, relabelled}
+use Rattle.vc_region.specs.Region.{Region, blocks_of, region_align, region_alloc, region_clear, region_compact, region_free, region_resize, region_write, aligns, keeps_freed, relabelled, watch_at}
 use Rattle.vc_model.specs.Numbered.{at_number}
 use Rattle.vc_model.specs.Walk.{block_at, by_address, segment_at}
 use Rattle.vc_region.specs.Region.{segments_of}
@@ -16,17 +20,20 @@ use Rattle.vc_seg.specs.declared.method.Method.{Method}
 use Rattle.vc_seg.specs.declared.method.Method.TheVariants.{VmBest, VmPool, VmLast}
 use Rattle.vc_script.specs.declared.command.Command.{Command}
 use Rattle.vc_script.specs.declared.command.Command.TheVariants.{OpenRegion, CloseRegion, ClearRegion, Compact, Alloc, Align, Resize, Free, WriteBlock, ReadBlock, SizeOf, AddrOf, SegmentOf, StatOf, Segments, Blocks}
+use Rattle.vc_script.specs.declared.refusal.Refusal.{Refusal}
 use Rattle.vc_script.specs.declared.refusal.Refusal.TheVariants as why
+use Rattle.vc_script.specs.declared.reply.Reply.TheVariants as reply
 use Rattle.vc_script.specs.declared.reply.Reply.TheVariants.{Hex, Size, Written}
 use Rattle.vc_script.specs.Needs.{Need}
 use Rattle.vc_script.specs.Proper.{IsName, IsProperCommand, IsSite}
 use Rattle.vc_script.specs.ProperReply.{IsProperReply}
 use Rattle.vc_script.specs.Words.{is_name}
 use Rattle.vc_session.specs.State.{Changed, Home, Label, State, Stepped, changed_to, close_home, home_named, is_home, opened_as, opened_over, refused, told, unchanged, with_region, without_home}
-use Rattle.vc_session.specs.Blocks.{freed, free_block, has_label, is_align, is_block, is_size, label_count, label_limit, put_in, put_new, read_block, resize_block, with_named, write_block}
-use Rattle.vc_session.specs.Whole.{addr_reply, item_of, segment_reply}
+use Rattle.vc_session.specs.Blocks.{freed, free_block, has_label, has_room, is_align, is_block, is_size, kept_freed, no_block, align_refused, put_by, site_of, size_refused, put_in, put_new, read_block, resize_block, with_named, write_block}
+use Rattle.vc_session.specs.Whole.{addr_reply, item_of, kept_cleared, segment_reply, with_label, with_labels}
+use Rattle.vc_session.specs.Kept.{Kept, by_name, line_of, with_line, without_name}
 use Rattle.vc_session.specs.Step.{in_region, is_for_block, region_of, region_step, shelf_step, step, step_of}
-use Rattle.vc_session.specs.ProperState.{IsProperRegion, IsProperState, name_or_none}
+use Rattle.vc_session.specs.ProperState.{AreProperNames, IsProperHome, IsProperRegion, IsProperState, name_or_none}
 
 -- a name stays, and what stays is a name
 name-stays : (x : List ℕ) → IsName x → name_or_none (Some x) ≡ Some x
@@ -39,9 +46,6 @@ site-cond false x name = tt
 site-of : (l : Label) → IsSite (name_or_none l)
 site-of None = tt
 site-of (Some x) = site-cond (is_name x) x refl
-
-abbrev kept : Region Label → Region Label
-kept r = relabelled name_or_none r
 
 -- the region that a call gives is as proper as the one that it is given
 abbrev IsProperOutcome : Outcome (Put (Region Label)) → Type 0
@@ -56,17 +60,17 @@ proper-outcome : (o : Outcome (Put (Region Label))) → o ≡ outcome_as (relabe
 proper-outcome (Done p) same = sym (ap (region_in p.region) same)
 proper-outcome (Refused why) same = tt
 
-proper-alloc : (terms : Terms) (r : Region Label) (x : List ℕ) (size : ℕ) (refused : Bool) → IsName x → IsProperRegion r → IsProperOutcome (region_alloc terms r (Some x) size refused)
-proper-alloc terms r x size refused name proper =
-    proper-outcome (region_alloc terms r (Some x) size refused)
-    (sym (ap (λ q. region_alloc terms q (name_or_none (Some x)) size refused) proper ∙ ap (λ l. region_alloc terms r l size refused) (name-stays x name))
-    ∙ alloc-relabelled name_or_none terms r (Some x) size refused)
+proper-alloc : (terms : Terms) (r : Region Label) (x site : List ℕ) (size : ℕ) (refused : Bool) → IsName x → IsProperRegion r → IsProperOutcome (region_alloc terms r (Some x) site size refused)
+proper-alloc terms r x site size refused name proper =
+    proper-outcome (region_alloc terms r (Some x) site size refused)
+    (sym (ap (λ q. region_alloc terms q (name_or_none (Some x)) site size refused) proper ∙ ap (λ l. region_alloc terms r l site size refused) (name-stays x name))
+    ∙ alloc-relabelled name_or_none terms r (Some x) site size refused)
 
-proper-align : (terms : Terms) (r : Region Label) (x : List ℕ) (size align : ℕ) (refused : Bool) → IsName x → IsProperRegion r → IsProperOutcome (region_align terms r (Some x) size align refused)
-proper-align terms r x size align refused name proper =
-    proper-outcome (region_align terms r (Some x) size align refused)
-    (sym (ap (λ q. region_align terms q (name_or_none (Some x)) size align refused) proper ∙ ap (λ l. region_align terms r l size align refused) (name-stays x name))
-    ∙ align-relabelled name_or_none terms r (Some x) size align refused)
+proper-align : (terms : Terms) (r : Region Label) (x site : List ℕ) (size align : ℕ) (refused : Bool) → IsName x → IsProperRegion r → IsProperOutcome (region_align terms r (Some x) site size align refused)
+proper-align terms r x site size align refused name proper =
+    proper-outcome (region_align terms r (Some x) site size align refused)
+    (sym (ap (λ q. region_align terms q (name_or_none (Some x)) site size align refused) proper ∙ ap (λ l. region_align terms r l site size align refused) (name-stays x name))
+    ∙ align-relabelled name_or_none terms r (Some x) site size align refused)
 
 proper-resize : (terms : Terms) (r : Region Label) (at : ℕ × ℕ) (size : ℕ) (may_move refused : Bool) → IsProperRegion r → IsProperOutcome (region_resize terms r at size may_move refused)
 proper-resize terms r at size may_move refused proper =
@@ -90,49 +94,96 @@ proper-free : (r : Region Label) (at : ℕ × ℕ) → IsProperRegion r → IsPr
 proper-free r at proper =
     proper-freed (region_free r at) (sym (ap (λ q. region_free q at) proper) ∙ free-relabelled name_or_none r at)
 
--- the names in a reply, and the labels in the region with it, are names
+-- what is kept besides names is names
+order-names : (o : Ordering) (a b c : Kept) → AreProperNames a → AreProperNames b → AreProperNames c → AreProperNames (by_order o a b c)
+order-names Less a b c p q r = p
+order-names Equal a b c p q r = q
+order-names Greater a b c p q r = r
+
+proper-with : (x : List ℕ) (line : ℕ) (k : Kept) → IsName x → AreProperNames k → AreProperNames (with_line x line k)
+proper-with x line [] name all = (name, tt)
+proper-with x line (e ∷ es) name all =
+    order-names (by_name x e.0) ((x, line) ∷ e ∷ es) ((e.0, line) ∷ es) (e ∷ with_line x line es) (name, all) (all.0, all.1) (all.0, proper-with x line es name all.1)
+
+names-cond : (t : Bool) (a b : Kept) → AreProperNames a → AreProperNames b → AreProperNames (cond t a b)
+names-cond true a b p q = p
+names-cond false a b p q = q
+
+proper-without : (x : List ℕ) (k : Kept) → AreProperNames k → AreProperNames (without_name x k)
+proper-without x [] all = tt
+proper-without x (e ∷ es) all =
+    let rest = proper-without x es all.1 in
+    names-cond (not (eq_by_cmp by_name x e.0)) (e ∷ without_name x es) (without_name x es) (all.0, rest) rest
+
+proper-with_label : (l : Label) (line : ℕ) (k : Kept) → IsSite l → AreProperNames k → AreProperNames (with_label l line k)
+proper-with_label None line k name all = all
+proper-with_label (Some x) line k name all = proper-with x line k name all
+
+proper-with_labels : (bs : List (Block Label)) (line : ℕ) (k : Kept) → AreProperNames k → AreProperNames (with_labels (map (relabel_block name_or_none) bs) line k)
+proper-with_labels [] line k all = all
+proper-with_labels (b ∷ bs) line k all =
+    proper-with_label (name_or_none b.label) line (with_labels (map (relabel_block name_or_none) bs) line k) (site-of b.label) (proper-with_labels bs line k all)
+
+-- the names in a reply, the labels in the region with it, and the names that it keeps, are names
 abbrev IsProperChange : Changed → Type 0
-IsProperChange c = IsProperReply c.reply × IsProperRegion c.region
+IsProperChange c = IsProperReply c.reply × IsProperRegion c.region × AreProperNames c.kept
 
 change-cond : (t : Bool) (a b : Changed) → IsProperChange a → IsProperChange b → IsProperChange (cond t a b)
 change-cond true a b p q = p
 change-cond false a b p q = q
 
-proper-put : (h : Home) (x : List ℕ) (o : Outcome (Put (Region Label))) → IsName x → IsProperRegion h.region → IsProperOutcome o → IsProperChange (put_in h x o)
-proper-put h x (Done p) name all there = (name, there)
-proper-put h x (Refused fault) name all there = (tt, all)
+proper-put : (h : Home) (x : List ℕ) (kept : Kept) (watch : Option ℕ) (o : Outcome (Put (Region Label))) → IsName x → IsProperHome h → AreProperNames kept → IsProperOutcome o → IsProperChange (put_in h x kept watch o)
+proper-put h x kept watch (Done p) name all names there = (name, there, names)
+proper-put h x kept watch (Refused fault) name all names there = (tt, all.0, all.1)
 
-proper-put_new : (h : Home) (x : List ℕ) (legal : Bool) (o : Outcome (Put (Region Label))) → IsName x → IsProperRegion h.region → IsProperOutcome o → IsProperChange (put_new h x legal o)
-proper-put_new h x legal o name all there =
-    let few = nat_lt (label_count h.region) label_limit in
-    let within = cond few (put_in h x o) (unchanged h why.TooManyBlocks) in
-    change-cond (has_label x h.region) (unchanged h why.BlockExists) (cond legal within (unchanged h why.Size)) (tt, all)
-    (change-cond legal within (unchanged h why.Size)
-    (change-cond few (put_in h x o) (unchanged h why.TooManyBlocks) (proper-put h x o name all there) (tt, all))
-    (tt, all))
+proper-put_by : (h : Home) (x : List ℕ) (words : Option Refusal) (o : Outcome (Put (Region Label))) → IsName x → IsProperHome h → IfSome words (λ w. IsProperReply (reply.Refused w)) → IsProperOutcome o → IsProperChange (put_by h x words o)
+proper-put_by h x (Some refusal) o name all proper there = (proper, all.0, all.1)
+proper-put_by h x None o name all proper there =
+    let left = without_name x h.kept in
+    change-cond (has_room h x) (put_in h x left None o) (unchanged h why.TooManyBlocks) (proper-put h x left None o name all (proper-without x h.kept all.1) there) (tt, all.0, all.1)
 
-proper-free_block : (h : Home) (x : List ℕ) (o : Outcome (Region Label)) → IsName x → IsProperRegion h.region → IsProperFreed o → IsProperChange (freed h x o)
-proper-free_block h x (Done r) name all there = (name, there)
-proper-free_block h x (Refused fault) name all there = (tt, all)
+proper-put_new : (h : Home) (x : List ℕ) (words : Option Refusal) (o : Outcome (Put (Region Label))) → IsName x → IsProperHome h → IfSome words (λ w. IsProperReply (reply.Refused w)) → IsProperOutcome o → IsProperChange (put_new h x words o)
+proper-put_new h x words o name all proper there =
+    change-cond (has_label x h.region) (unchanged h why.BlockExists) (put_by h x words o) (tt, all.0, all.1) (proper-put_by h x words o name all proper there)
 
-proper-with_named : (h : Home) (o : Option (Block Label)) (act : Block Label → Changed) → IsProperRegion h.region → ((b : Block Label) → IsProperChange (act b)) → IsProperChange (with_named h o act)
-proper-with_named h None act all each = (tt, all)
-proper-with_named h (Some b) act all each = each b
+proper-sized : (legal : Bool) → IfSome (let o : Option Refusal = cond legal None (Some why.Size) in o) (λ w. IsProperReply (reply.Refused w))
+proper-sized true = tt
+proper-sized false = tt
 
-proper-resize_block : (h : Home) (x : List ℕ) (size : ℕ) (may_move not_lent : Bool) (b : Block Label) → IsName x → IsProperRegion h.region → IsProperChange (resize_block h x size may_move not_lent b)
+proper-aligned : (aligned legal : Bool) → IfSome (let o : Option Refusal = cond aligned (cond legal None (Some why.Size)) (Some why.WrongMethod) in o) (λ w. IsProperReply (reply.Refused w))
+proper-aligned true legal = proper-sized legal
+proper-aligned false legal = tt
+
+proper-free_block : (h : Home) (x : List ℕ) (kept : Kept) (watch : Option ℕ) (o : Outcome (Region Label)) → IsName x → IsProperHome h → AreProperNames kept → IsProperFreed o → IsProperChange (freed h x kept watch o)
+proper-free_block h x kept watch (Done r) name all names there = (name, there, names)
+proper-free_block h x kept watch (Refused fault) name all names there = (tt, all.0, all.1)
+
+proper-kept_freed : (h : Home) (x : List ℕ) (line : ℕ) → IsName x → AreProperNames h.kept → AreProperNames (kept_freed h x line)
+proper-kept_freed h x line name all = names-cond (keeps_freed h.region) (with_line x line h.kept) h.kept (proper-with x line h.kept name all) all
+
+proper-none : (line : Option ℕ) → IsProperReply (reply.Refused (no_block line))
+proper-none None = tt
+proper-none (Some line) = tt
+
+proper-with_named : (h : Home) (x : List ℕ) (o : Option (Block Label)) (act : Block Label → Changed) → IsProperHome h → ((b : Block Label) → IsProperChange (act b)) → IsProperChange (with_named h x o act)
+proper-with_named h x None act all each = (proper-none (line_of x h.kept), all.0, all.1)
+proper-with_named h x (Some b) act all each = each b
+
+proper-resize_block : (h : Home) (x : List ℕ) (size : ℕ) (may_move not_lent : Bool) (b : Block Label) → IsName x → IsProperHome h → IsProperChange (resize_block h x size may_move not_lent b)
 proper-resize_block h x size may_move not_lent b name all =
     let o = region_resize h.terms h.region (b.seg, b.off) size may_move not_lent in
-    change-cond (is_size size) (put_in h x o) (unchanged h why.Size)
-    (proper-put h x o name all (proper-resize h.terms h.region (b.seg, b.off) size may_move not_lent all)) (tt, all)
+    let watch = watch_at h.region (b.seg, b.off) in
+    change-cond (is_size size) (put_in h x h.kept watch o) (unchanged h why.Size)
+    (proper-put h x h.kept watch o name all all.1 (proper-resize h.terms h.region (b.seg, b.off) size may_move not_lent all.0)) (tt, all.0, all.1)
 
-proper-write_block : (h : Home) (x : List ℕ) (off : ℕ) (bytes : List ℕ) (b : Block Label) → IsName x → IsProperRegion h.region → IsProperChange (write_block h x off bytes b)
+proper-write_block : (h : Home) (x : List ℕ) (off : ℕ) (bytes : List ℕ) (b : Block Label) → IsName x → IsProperHome h → IsProperChange (write_block h x off bytes b)
 proper-write_block h x off bytes b name all =
-    change-cond (nat_le (off + length bytes) b.size) (changed_to (region_write h.region (b.seg, b.off) off bytes) (Written x (length bytes) None)) (unchanged h why.Range)
-    (name, sym (write-relabelled name_or_none h.region (b.seg, b.off) off bytes) ∙ ap (λ q. region_write q (b.seg, b.off) off bytes) all) (tt, all)
+    change-cond (nat_le (off + length bytes) b.size) (changed_to h (region_write h.region (b.seg, b.off) off bytes) (Written x (length bytes) (watch_at h.region (b.seg, b.off)))) (unchanged h why.Range)
+    (name, sym (write-relabelled name_or_none h.region (b.seg, b.off) off bytes) ∙ ap (λ q. region_write q (b.seg, b.off) off bytes) all.0, all.1) (tt, all.0, all.1)
 
-proper-read_block : (h : Home) (x : List ℕ) (off len : ℕ) (b : Block Label) → IsName x → IsProperRegion h.region → IsProperChange (read_block h x off len b)
+proper-read_block : (h : Home) (x : List ℕ) (off len : ℕ) (b : Block Label) → IsName x → IsProperHome h → IsProperChange (read_block h x off len b)
 proper-read_block h x off len b name all =
-    change-cond ((nat_le 1 len && nat_le len 4096) && nat_le (off + len) b.size) (told h (Hex x (take len (drop off b.bytes)))) (unchanged h why.Range) (name, all) (tt, all)
+    change-cond ((nat_le 1 len && nat_le len 4096) && nat_le (off + len) b.size) (told h (Hex x (take len (drop off b.bytes)))) (unchanged h why.Range) (name, all.0, all.1) (tt, all.0, all.1)
 
 -- the blocks of a proper region are labelled by names
 relabelled-blocks : (r : Region Label) → IsProperRegion r → blocks_of r ≡ map (relabel_block name_or_none) (blocks_of r)
@@ -150,50 +201,58 @@ proper-items : (blocks : List (Block Label)) → AllByRecursion (λ b. IsSite b.
 proper-items [] = tt
 proper-items (b ∷ bs) = (site-of b.label, proper-items bs)
 
-proper-in_region : (h : Home) (c : Command) (need : Need) → IsProperCommand c → IsProperRegion h.region → IsProperChange (in_region h c need)
-proper-in_region h (ClearRegion r) need proper all =
-    (proper, sym (clear-relabelled name_or_none h.region) ∙ ap (λ q. region_clear q) all)
-proper-in_region h (Compact r) need proper all =
-    (proper, sym (compact-relabelled name_or_none h.region) ∙ ap (λ q. region_compact q) all)
-proper-in_region h (Alloc r x size site) need proper all =
-    proper-put_new h x (is_size size) (region_alloc h.terms h.region (Some x) size (is_for_block need)) proper.1 all (proper-alloc h.terms h.region x size (is_for_block need) proper.1 all)
-proper-in_region h (Align r x size align) need proper all =
-    proper-put_new h x (is_size size && is_align align) (region_align h.terms h.region (Some x) size align (is_for_block need)) proper.1 all (proper-align h.terms h.region x size align (is_for_block need) proper.1 all)
-proper-in_region h (Resize r x size may_move) need proper all =
-    proper-with_named h (find (is_block x) (blocks_of h.region)) (resize_block h x size may_move (is_for_block need)) all (λ b. proper-resize_block h x size may_move (is_for_block need) b proper.1 all)
-proper-in_region h (Free r x) need proper all =
-    proper-with_named h (find (is_block x) (blocks_of h.region)) (free_block h x) all (λ b. proper-free_block h x (region_free h.region (b.seg, b.off)) proper.1 all (proper-free h.region (b.seg, b.off) all))
-proper-in_region h (WriteBlock r x off bytes) need proper all =
-    proper-with_named h (find (is_block x) (blocks_of h.region)) (write_block h x off bytes) all (λ b. proper-write_block h x off bytes b proper.1 all)
-proper-in_region h (ReadBlock r x off len) need proper all =
-    proper-with_named h (find (is_block x) (blocks_of h.region)) (read_block h x off len) all (λ b. proper-read_block h x off len b proper.1 all)
-proper-in_region h (SizeOf r x) need proper all =
-    proper-with_named h (find (is_block x) (blocks_of h.region)) (λ b. told h (Size x b.size)) all (λ b. (proper.1, all))
-proper-in_region h (AddrOf r at) need proper all = (
+proper-cleared : (h : Home) (line : ℕ) → IsProperHome h → AreProperNames (kept_cleared h line)
+proper-cleared h line all =
+    names-cond (keeps_freed h.region) (with_labels (blocks_of h.region) line h.kept) h.kept
+    (subst (λ bs. AreProperNames (with_labels bs line h.kept)) (sym (relabelled-blocks h.region all.0)) (proper-with_labels (blocks_of h.region) line h.kept all.1))
+    all.1
+
+proper-in_region : (h : Home) (line : ℕ) (c : Command) (need : Need) → IsProperCommand c → IsProperHome h → IsProperChange (in_region h line c need)
+proper-in_region h line (ClearRegion r) need proper all =
+    (proper, sym (clear-relabelled name_or_none h.region) ∙ ap (λ q. region_clear q) all.0, proper-cleared h line all)
+proper-in_region h line (Compact r) need proper all =
+    (proper, sym (compact-relabelled name_or_none h.region) ∙ ap (λ q. region_compact q) all.0, all.1)
+proper-in_region h line (Alloc r x size site) need proper all =
+    proper-put_new h x (size_refused size) (region_alloc h.terms h.region (Some x) (site_of site) size (is_for_block need)) proper.1 all (proper-sized (is_size size)) (proper-alloc h.terms h.region x (site_of site) size (is_for_block need) proper.1 all.0)
+proper-in_region h line (Align r x size align) need proper all =
+    proper-put_new h x (align_refused h.region size align) (region_align h.terms h.region (Some x) (45 ∷ []) size align (is_for_block need)) proper.1 all (proper-aligned (aligns h.region) (is_size size && is_align align)) (proper-align h.terms h.region x (45 ∷ []) size align (is_for_block need) proper.1 all.0)
+proper-in_region h line (Resize r x size may_move) need proper all =
+    proper-with_named h x (find (is_block x) (blocks_of h.region)) (resize_block h x size may_move (is_for_block need)) all (λ b. proper-resize_block h x size may_move (is_for_block need) b proper.1 all)
+proper-in_region h line (Free r x) need proper all =
+    proper-with_named h x (find (is_block x) (blocks_of h.region)) (free_block h x line) all (λ b. proper-free_block h x (kept_freed h x line) (watch_at h.region (b.seg, b.off)) (region_free h.region (b.seg, b.off)) proper.1 all (proper-kept_freed h x line proper.1 all.1) (proper-free h.region (b.seg, b.off) all.0))
+proper-in_region h line (WriteBlock r x off bytes) need proper all =
+    proper-with_named h x (find (is_block x) (blocks_of h.region)) (write_block h x off bytes) all (λ b. proper-write_block h x off bytes b proper.1 all)
+proper-in_region h line (ReadBlock r x off len) need proper all =
+    proper-with_named h x (find (is_block x) (blocks_of h.region)) (read_block h x off len) all (λ b. proper-read_block h x off len b proper.1 all)
+proper-in_region h line (SizeOf r x) need proper all =
+    proper-with_named h x (find (is_block x) (blocks_of h.region)) (λ b. told h (Size x b.size)) all (λ b. (proper.1, all.0, all.1))
+proper-in_region h line (AddrOf r at) need proper all = (
   subst (λ o. IsProperReply (addr_reply o))
-      (sym (ap (λ bs. block_at (at.seg, at.off) bs) (relabelled-blocks h.region all) ∙ block_at-relabel name_or_none (at.seg, at.off) (blocks_of h.region)))
+      (sym (ap (λ bs. block_at (at.seg, at.off) bs) (relabelled-blocks h.region all.0) ∙ block_at-relabel name_or_none (at.seg, at.off) (blocks_of h.region)))
       (proper-addr (block_at (at.seg, at.off) (blocks_of h.region))),
-  all,
+  all.0,
+  all.1,
 )
-proper-in_region h (SegmentOf r at) need proper all = (proper-segment at.seg (segment_at (at.seg, at.off) (segments_of h.region)), all)
-proper-in_region h (StatOf r) need proper all = (tt, all)
-proper-in_region h (Segments r) need proper all = (tt, all)
-proper-in_region h (Blocks r) need proper all = (
+proper-in_region h line (SegmentOf r at) need proper all = (proper-segment at.seg (segment_at (at.seg, at.off) (segments_of h.region)), all.0, all.1)
+proper-in_region h line (StatOf r) need proper all = (tt, all.0, all.1)
+proper-in_region h line (Segments r) need proper all = (tt, all.0, all.1)
+proper-in_region h line (Blocks r) need proper all = (
   subst (λ bs. AllByRecursion (λ b. IsSite b.0) (map item_of bs))
-      (sym (ap (λ bs. by_address bs) (relabelled-blocks h.region all) ∙ by_address-relabel name_or_none (blocks_of h.region)))
+      (sym (ap (λ bs. by_address bs) (relabelled-blocks h.region all.0) ∙ by_address-relabel name_or_none (blocks_of h.region)))
       (proper-items (by_address (blocks_of h.region))),
-  all,
+  all.0,
+  all.1,
 )
-proper-in_region h command need proper all = (tt, all)
+proper-in_region h line command need proper all = (tt, all.0, all.1)
 
 abbrev AreProperHomes : List Home → Type 0
-AreProperHomes homes = AllByRecursion (λ h. IsProperRegion h.region) homes
+AreProperHomes homes = AllByRecursion IsProperHome homes
 
-some-cond : (t : Bool) (h : Home) (o : Option Home) → IsProperRegion h.region → IfSome o (λ g. IsProperRegion g.region) → IfSome (cond t (Some h) o) (λ g. IsProperRegion g.region)
+some-cond : (t : Bool) (h : Home) (o : Option Home) → IsProperHome h → IfSome o IsProperHome → IfSome (cond t (Some h) o) IsProperHome
 some-cond true h o here rest = here
 some-cond false h o here rest = rest
 
-proper-home_named : (r : List ℕ) (homes : List Home) → AreProperHomes homes → IfSome (home_named r homes) (λ h. IsProperRegion h.region)
+proper-home_named : (r : List ℕ) (homes : List Home) → AreProperHomes homes → IfSome (home_named r homes) IsProperHome
 proper-home_named r [] all = tt
 proper-home_named r (h ∷ hs) all = some-cond (is_home r h) h (home_named r hs) all.0 (proper-home_named r hs all.1)
 
@@ -201,16 +260,16 @@ homes-cond : (t : Bool) (a b : List Home) → AreProperHomes a → AreProperHome
 homes-cond true a b p q = p
 homes-cond false a b p q = q
 
-proper-with_region : (r : List ℕ) (region : Region Label) (homes : List Home) → IsProperRegion region → AreProperHomes homes → AreProperHomes (with_region r region homes)
-proper-with_region r region [] here all = tt
-proper-with_region r region (h ∷ hs) here all =
-    homes-cond (is_home r h) ((record h { region = region }) ∷ hs) (h ∷ with_region r region hs) (here, all.1) (all.0, proper-with_region r region hs here all.1)
+proper-with_region : (r : List ℕ) (region : Region Label) (kept : Kept) (homes : List Home) → IsProperRegion region → AreProperNames kept → AreProperHomes homes → AreProperHomes (with_region r region kept homes)
+proper-with_region r region kept [] here names all = tt
+proper-with_region r region kept (h ∷ hs) here names all =
+    homes-cond (is_home r h) ((record h { region = region; kept = kept }) ∷ hs) (h ∷ with_region r region kept hs) ((here, names), all.1) (all.0, proper-with_region r region kept hs here names all.1)
 
 proper-without_home : (r : List ℕ) (homes : List Home) → AreProperHomes homes → AreProperHomes (without_home r homes)
 proper-without_home r [] all = tt
 proper-without_home r (h ∷ hs) all = homes-cond (is_home r h) hs (h ∷ without_home r hs) all.1 (all.0, proper-without_home r hs all.1)
 
-proper-home_push : (homes : List Home) (h : Home) → AreProperHomes homes → IsProperRegion h.region → AreProperHomes (homes ++ h ∷ [])
+proper-home_push : (homes : List Home) (h : Home) → AreProperHomes homes → IsProperHome h → AreProperHomes (homes ++ h ∷ [])
 proper-home_push [] h all here = (here, tt)
 proper-home_push (g ∷ gs) h all here = (all.0, proper-home_push gs h all.1 here)
 
@@ -230,7 +289,7 @@ proper-opened_over : (s : State) (r : List ℕ) (n : ℕ) (region : Region Label
 proper-opened_over s r n region None name here all = (tt, all)
 proper-opened_over s r n region (Some None) name here all = (tt, all)
 proper-opened_over s r n region (Some (Some terms)) name here all =
-    (name, proper-home_push s.homes (record { name = r; place = n; terms = terms; region = region }) all here)
+    (name, proper-home_push s.homes (record { name = r; place = n; terms = terms; region = region; kept = [] }) all (here, tt))
 
 -- a region that is opened has no labels
 proper-new : (method : Method) → IfSome (opened {L = Label} method) IsProperRegion
@@ -249,16 +308,16 @@ proper-on_shelf s (OpenRegion r method n) proper all = proper-opened_as s r n (o
 proper-on_shelf s (CloseRegion r) proper all = proper-closed s r (home_named r s.homes) proper all
 proper-on_shelf s command proper all = (tt, all)
 
-proper-at : (s : State) (r : List ℕ) (c : Command) (need : Need) (o : Option Home) → IsProperCommand c → IsProperState s → IfSome o (λ h. IsProperRegion h.region) → IsProperStep (region_step s r c need o)
-proper-at s r c need None proper all here = (tt, all)
-proper-at s r c need (Some h) proper all here =
-    let done = proper-in_region h c need proper here in
-    (done.0, proper-with_region r (in_region h c need).region s.homes done.1 all)
+proper-at : (s : State) (r : List ℕ) (line : ℕ) (c : Command) (need : Need) (o : Option Home) → IsProperCommand c → IsProperState s → IfSome o IsProperHome → IsProperStep (region_step s r line c need o)
+proper-at s r line c need None proper all here = (tt, all)
+proper-at s r line c need (Some h) proper all here =
+    let done = proper-in_region h line c need proper here in
+    (done.0, proper-with_region r (in_region h line c need).region (in_region h line c need).kept s.homes done.1 done.2 all)
 
-proper-of : (s : State) (c : Command) (need : Need) (o : Option (List ℕ)) → IsProperCommand c → IsProperState s → IsProperStep (step_of s c need o)
-proper-of s c need None proper all = proper-on_shelf s c proper all
-proper-of s c need (Some r) proper all = proper-at s r c need (home_named r s.homes) proper all (proper-home_named r s.homes all)
+proper-of : (s : State) (line : ℕ) (c : Command) (need : Need) (o : Option (List ℕ)) → IsProperCommand c → IsProperState s → IsProperStep (step_of s line c need o)
+proper-of s line c need None proper all = proper-on_shelf s c proper all
+proper-of s line c need (Some r) proper all = proper-at s r line c need (home_named r s.homes) proper all (proper-home_named r s.homes all)
 
 -- a step of a command whose names are names, in a state whose labels are
 pub proper-step : (s : State) (n : ℕ) (c : Command) (need : Need) → IsProperCommand c → IsProperState s → IsProperStep (step s n c need)
-proper-step s n c need proper all = proper-of s c need (region_of c) proper all
+proper-step s n c need proper all = proper-of s n c need (region_of c) proper all

@@ -5,10 +5,11 @@ use Rattle.std.proofs.lemmas.Option.{same_Some, none-some}
 use Rattle.vc_model.specs.Addr.{address, place_of}
 use Rattle.vc_model.specs.Layout.{Block, is_at, without_block}
 use Rattle.vc_model.specs.Outcome.{Outcome, Put, outcome_as}
-use Rattle.vc_region.specs.Region.{Region, blocks_of, region_resize, relabelled}
+use Rattle.vc_region.specs.Region.{Region, blocks_of, region_resize, relabelled, watch_at}
+use Rattle.vc_region.proofs.Keeps.{resize-keeps}
 use Rattle.vc_model.specs.Sound.{HaveOwnPlaces}
 use Rattle.vc_model.specs.Touch.{find_block}
-use Rattle.vc_region.proofs.Relabel.{resize-relabelled}
+use Rattle.vc_region.proofs.Relabel.{resize-relabelled, watch-relabelled}
 use Rattle.vc_seg.specs.Answer.{IsPut, IsRefusal}
 use Rattle.vc_seg.specs.declared.fault.RegionFault.{RegionFault}
 use Rattle.vc_script.specs.declared.place.Place.{Place}
@@ -21,7 +22,8 @@ use Rattle.vc_script.specs.declared.reply.Reply.{Reply}
 use Rattle.vc_session.specs.State.{Changed, Home, unchanged}
 use Rattle.vc_session.specs.Account.{Held, IsNamed, home_of}
 use Rattle.vc_session.specs.Blocks.{at_place, is_size, put_in, resize_block, resize_in}
-use Rattle.vc_session.specs.Labels.{AreLabels, MovesLabel, label_at, name_of, tag_of}
+use Rattle.vc_session.specs.Labels.{AreLabels, MovesLabel, kept_of, label_at, name_of, tag_of}
+use Rattle.vc_session.specs.Kept.{Kept}
 use Rattle.vc_session.specs.Step.{Gives, is_for_block}
 use Rattle.vc_session.specs.declared.labels.Label.{Label}
 use Rattle.vc_session.specs.declared.labels.Labels.{Labels}
@@ -69,35 +71,39 @@ module _ (h : Held) (x : List ℕ) (tag : ℕ) (label : Label) (names : IsNamed 
   resize-size u sized =
       let k = home_of h in
       on_block-there h x tag label.at.0 b (resize_block k x size may_move u)
-      ∙ ap (λ v. cond v (put_in k x (region_resize k.terms k.region (b.block.seg, b.block.off) size may_move u)) (unchanged k why.Size)) sized
+      ∙ ap (λ v. cond v (put_in k x k.kept (watch_at k.region (b.block.seg, b.block.off)) (region_resize k.terms k.region (b.block.seg, b.block.off) size may_move u)) (unchanged k why.Size)) sized
 
   module _ (sized : is_size size ≡ true) where
-    resize-named : (u : Bool) → resize_in (home_of h) x size may_move u ≡ put_in (home_of h) x (outcome_as (relabelled (name_of h.labels)) (call u))
+    resize-named : (u : Bool) → resize_in (home_of h) x size may_move u ≡ put_in (home_of h) x (kept_of h.labels) (watch_at h.region (place_of label.at.0)) (outcome_as (relabelled (name_of h.labels)) (call u))
     resize-named u =
         let k = home_of h in
         on_block-there h x tag label.at.0 b (resize_block k x size may_move u)
-        ∙ (ap (λ v. cond v (put_in k x (region_resize k.terms k.region (b.block.seg, b.block.off) size may_move u)) (unchanged k why.Size)) sized
-        ∙ (ap (λ p. put_in k x (region_resize k.terms k.region p size may_move u)) (sym b.place)
-        ∙ ap (put_in k x) (resize-relabelled (name_of h.labels) h.disc.terms h.region (place_of label.at.0) size may_move u)))
+        ∙ (ap (λ v. cond v (put_in k x k.kept (watch_at k.region (b.block.seg, b.block.off)) (region_resize k.terms k.region (b.block.seg, b.block.off) size may_move u)) (unchanged k why.Size)) sized
+        ∙ (ap (λ p. put_in k x k.kept (watch_at k.region p) (region_resize k.terms k.region p size may_move u)) (sym b.place)
+        ∙ (ap (λ w. put_in k x k.kept w (region_resize k.terms k.region (place_of label.at.0) size may_move u)) (watch-relabelled (name_of h.labels) h.region (place_of label.at.0))
+        ∙ ap (put_in k x k.kept (watch_at h.region (place_of label.at.0))) (resize-relabelled (name_of h.labels) h.disc.terms h.region (place_of label.at.0) size may_move u))))
 
     -- a fault leaves the region and its names
-    pub gives-fault : (told : Reply) → Told call told → (region : Region ℕ) → region ≡ h.region → Gives (resize_in (home_of h) x size may_move (is_for_block (need_shown told))) (relabelled (name_of h.labels) region) told
+    pub gives-fault : (told : Reply) → Told call told → (region : Region ℕ) → region ≡ h.region → Gives (resize_in (home_of h) x size may_move (is_for_block (need_shown told))) (relabelled (name_of h.labels) region, kept_of h.labels) told
     gives-fault told t region same =
         let k = home_of h in
         let u = is_for_block (need_shown told) in
         let f = name_of h.labels in
-        let eq : resize_in k x size may_move u ≡ unchanged k _ = resize-named u ∙ ap (λ o. put_in k x (outcome_as (relabelled f) o)) t.refused in
-        subst (λ c. Gives c (relabelled f region) told) (sym eq) (record { region_after = ap (relabelled f) (sym same); replied = t.is })
+        let eq : resize_in k x size may_move u ≡ unchanged k _ = resize-named u ∙ ap (λ o. put_in k x (kept_of h.labels) (watch_at h.region (place_of label.at.0)) (outcome_as (relabelled f) o)) t.refused in
+        subst (λ c. Gives c (relabelled f region, kept_of h.labels) told) (sym eq) (record { region_after = ap (relabelled f) (sym same); kept_after = refl; replied = t.is })
 
-    module _ (new : Labels) (to : Label) (m : MovesLabel h.labels new tag to) (same_name : to.name ≡ label.name) (region : Region ℕ) (is : IsPut (call false) to.at.0 region) where
-      pub gives-resized : Gives (resize_in (home_of h) x size may_move false) (relabelled (name_of new) region) (at_place x (place_of to.at.0))
-      gives-resized =
+    module _ (new : Labels) (to : Label) (m : MovesLabel h.labels new tag to) (same_name : to.name ≡ label.name) (same_kept : kept_of new ≡ kept_of h.labels) (region : Region ℕ) (is : IsPut (call false) to.at.0 region) where
+      pub gives-resized : (watch : Option ℕ) → watch ≡ watch_at h.region (place_of label.at.0) → Gives (resize_in (home_of h) x size may_move false) (relabelled (name_of new) region, kept_of new) (at_place x (place_of to.at.0) watch)
+      gives-resized watch watched =
           let k = home_of h in
           let f = name_of h.labels in
           let moved : relabelled (name_of new) region ≡ relabelled f region = relabelled-names h.labels new region (name-moved h.labels h.region names x tag label was_at b new to m same_name) in
-          subst (λ c. Gives c (relabelled (name_of new) region) (at_place x (place_of to.at.0))) (sym (resize-named false))
-          (subst (λ r. Gives (put_in k x (outcome_as (relabelled f) (call false))) r (at_place x (place_of to.at.0))) (sym moved)
-          (gives-put k x f (call false) to.at.0 region is))
+          let there = watch_at h.region (place_of label.at.0) in
+          subst (λ w. Gives (resize_in k x size may_move false) (relabelled (name_of new) region, kept_of new) (at_place x (place_of to.at.0) w)) (sym watched)
+          (subst (λ c. Gives c (relabelled (name_of new) region, kept_of new) (at_place x (place_of to.at.0) there)) (sym (resize-named false))
+          (subst (λ r. Gives (put_in k x (kept_of h.labels) there (outcome_as (relabelled f) (call false))) (r, kept_of new) (at_place x (place_of to.at.0) there)) (sym moved)
+          (subst (λ q. Gives (put_in k x (kept_of h.labels) there (outcome_as (relabelled f) (call false))) (relabelled f region, q) (at_place x (place_of to.at.0) there)) (sym same_kept)
+          (gives-put k x (kept_of h.labels) there f (call false) to.at.0 region is))))
 
       pub named-resized : option_map (λ c. c.label) (find_block (place_of to.at.0) (blocks_of region)) ≡ option_map (λ c. c.label) (find_block (place_of label.at.0) (blocks_of h.region)) → without_block (place_of to.at.0) (blocks_of region) ≡ without_block (place_of label.at.0) (blocks_of h.region) → AreLabels new → HaveOwnPlaces (blocks_of region) → IsNamed region new
       named-resized there others agree places =
@@ -105,15 +111,16 @@ module _ (h : Held) (x : List ℕ) (tag : ℕ) (label : Label) (names : IsNamed 
           let place : place_of to.at.0 ≡ (found.from.seg, found.from.off) = found-place (place_of to.at.0) found.from (blocks_of region) found.was in
           named-moved h.labels h.region names x tag label was_at b new to m same_name region found.from found.was found.to
           (put-address (call false) to.at.0 region is ∙ ap address place) place others agree places
+          (λ e. same_kept ∙ names.none (sym (resize-keeps h.disc.terms h.region (place_of label.at.0) size may_move false to.at.0 region is) ∙ e))
 
 -- a place by its parts
-pub gives-place : (c : Changed) (r : Region state.Label) (x : List ℕ) (a : ℕ) (place : Place) → place.seg ≡ (place_of a).0 → place.off ≡ (place_of a).1 → Gives c r (at_place x (place_of a)) → Gives c r (At x place None)
-gives-place c r x a place seg off gives =
-    subst (λ o. Gives c r (At x (record { seg = place.seg; off = o }) None)) (sym off)
-    (subst (λ s. Gives c r (At x (record { seg = s; off = (place_of a).1 }) None)) (sym seg) gives)
+pub gives-place : (c : Changed) (r : Region state.Label × Kept) (x : List ℕ) (a : ℕ) (place : Place) (watch : Option ℕ) → place.seg ≡ (place_of a).0 → place.off ≡ (place_of a).1 → Gives c r (at_place x (place_of a) watch) → Gives c r (At x place watch)
+gives-place c r x a place watch seg off gives =
+    subst (λ o. Gives c r (At x (record { seg = place.seg; off = o }) watch)) (sym off)
+    (subst (λ s. Gives c r (At x (record { seg = s; off = (place_of a).1 }) watch)) (sym seg) gives)
 
 module _ (h : Held) (x : List ℕ) (tag : ℕ) (label : Label) (names : IsNamed h.region h.labels) (is_named : label.name ≡ x) (was_named : tag_of h.labels x ≡ Some tag) (was_at : label_at h.labels tag ≡ Some label) (size : ℕ) (may_move : Bool) (sized : is_size size ≡ true) where
-  pub step-fault : {E : Type 0} (fault : RegionFault) (result : Result Reply E) → TellsFault fault result → IsRefusal (call h x tag label names is_named was_named was_at size may_move) fault → (region : Region ℕ) → region ≡ h.region → IfOk result (λ told. Gives (resize_in (home_of h) x size may_move (is_for_block (need_shown told))) (relabelled (name_of h.labels) region) told)
+  pub step-fault : {E : Type 0} (fault : RegionFault) (result : Result Reply E) → TellsFault fault result → IsRefusal (call h x tag label names is_named was_named was_at size may_move) fault → (region : Region ℕ) → region ≡ h.region → IfOk result (λ told. Gives (resize_in (home_of h) x size may_move (is_for_block (need_shown told))) (relabelled (name_of h.labels) region, kept_of h.labels) told)
   step-fault fault (Ok told) tells refusal region same =
       gives-fault h x tag label names is_named was_named was_at size may_move sized told (fault-told (call h x tag label names is_named was_named was_at size may_move) fault told tells refusal) region same
   step-fault fault (Err e) tells refusal region same = tt

@@ -1,20 +1,21 @@
 -- What is done with the bytes of the block of a name.
-use Rattle.std.proofs.Common.{◌≡◌, ℕ, ◌+◌, ◌<◌, ◌≤◌, Bool, true, false, cond, ◌&&◌, List, Some, None, IfSome, length, option_map, take, drop, refl, sym, ap, ◌∙◌, subst, arith}
+use Rattle.std.proofs.Common.{◌≡◌, ℕ, ◌+◌, ◌<◌, ◌≤◌, Bool, true, false, cond, ◌&&◌, List, Option, Some, IfSome, length, option_map, take, drop, refl, sym, ap, ◌∙◌, subst, arith}
 use Rattle.std.specs.Prelude.{nat_le}
 use Rattle.std.proofs.lemmas.Bool.Decides.{nat_tests}
 use Rattle.std.proofs.lemmas.Option.{same_Some}
 use Rattle.vc_model.specs.Addr.{place_of}
 use Rattle.vc_model.specs.Layout.{Block, without_block}
-use Rattle.vc_region.specs.Region.{OfBest, OfPool, OfLast, Region, blocks_of, region_write, relabelled}
+use Rattle.vc_region.specs.Region.{OfBest, OfPool, OfLast, Region, blocks_of, region_write, relabelled, keeps_freed, watch_at}
+use Rattle.vc_region.proofs.Keeps.{write-keeps}
 use Rattle.vc_model.specs.Sound.{HaveOwnPlaces}
 use Rattle.vc_model.specs.Touch.{change_block, find_block, rewritten}
-use Rattle.vc_region.proofs.Relabel.{write-relabelled}
+use Rattle.vc_region.proofs.Relabel.{watch-relabelled, write-relabelled}
 use Rattle.vc_script.specs.declared.refusal.Refusal.TheVariants as why
 use Rattle.vc_script.specs.declared.reply.Reply.TheVariants.{Written, Hex, Size}
 use Rattle.vc_session.specs.State.{changed_to, told, unchanged}
 use Rattle.vc_session.specs.Account.{Held, IsNamed, home_of}
 use Rattle.vc_session.specs.Blocks.{read_block, read_in, size_in, write_block, write_in}
-use Rattle.vc_session.specs.Labels.{MovesLabel, label_at, name_of, tag_of}
+use Rattle.vc_session.specs.Labels.{MovesLabel, kept_of, label_at, name_of, tag_of}
 use Rattle.vc_session.specs.Step.{Gives}
 use Rattle.vc_session.specs.declared.labels.Label.{Label}
 use Rattle.vc_session.proofs.Found.{TheBlock, on_block-there, the_block}
@@ -67,18 +68,18 @@ module _ (h : Held) (x : List ℕ) (tag : ℕ) (label : Label) (names : IsNamed 
   pub range-told : (off len : ℕ) → off + len ≤ b.block.size → IfSome (find_block (place_of label.at.0) (blocks_of h.region)) (λ c. off + len ≤ c.size)
   range-told off len within = subst (λ o. IfSome o (λ (c : Block ℕ). off + len ≤ c.size)) (sym b.found) within
 
-  pub gives-size : (size : ℕ) → b.block.size ≡ size → Gives (size_in (home_of h) x) (home_of h).region (Size x size)
+  pub gives-size : (size : ℕ) → b.block.size ≡ size → Gives (size_in (home_of h) x) ((home_of h).region, kept_of h.labels) (Size x size)
   gives-size size is =
-      subst (λ c. Gives c (home_of h).region (Size x size)) (sym (on_block-there h x tag label.at.0 b (λ c. told (home_of h) (Size x c.size))))
-      (record { region_after = refl; replied = ap (λ n. Size x n) is })
+      subst (λ c. Gives c ((home_of h).region, kept_of h.labels) (Size x size)) (sym (on_block-there h x tag label.at.0 b (λ c. told (home_of h) (Size x c.size))))
+      (record { region_after = refl; kept_after = refl; replied = ap (λ n. Size x n) is })
 
-  pub gives-read : (off len : ℕ) (bytes : List ℕ) → ((nat_le 1 len && nat_le len 4096) && nat_le (off + len) b.block.size) ≡ true → take len (drop off b.block.bytes) ≡ bytes → Gives (read_in (home_of h) x off len) (home_of h).region (Hex x bytes)
+  pub gives-read : (off len : ℕ) (bytes : List ℕ) → ((nat_le 1 len && nat_le len 4096) && nat_le (off + len) b.block.size) ≡ true → take len (drop off b.block.bytes) ≡ bytes → Gives (read_in (home_of h) x off len) ((home_of h).region, kept_of h.labels) (Hex x bytes)
   gives-read off len bytes passes is =
       let k = home_of h in
       let eq : read_in k x off len ≡ told k (Hex x (take len (drop off b.block.bytes))) =
       on_block-there h x tag label.at.0 b (read_block k x off len)
       ∙ ap (λ v. cond v (told k (Hex x (take len (drop off b.block.bytes)))) (unchanged k why.Range)) passes in
-      subst (λ c. Gives c k.region (Hex x bytes)) (sym eq) (record { region_after = refl; replied = ap (λ n. Hex x n) is })
+      subst (λ c. Gives c (k.region, kept_of h.labels) (Hex x bytes)) (sym eq) (record { region_after = refl; kept_after = refl; replied = ap (λ n. Hex x n) is })
 
   pub read-range : (off len : ℕ) → ((nat_le 1 len && nat_le len 4096) && nat_le (off + len) b.block.size) ≡ false → read_in (home_of h) x off len ≡ unchanged (home_of h) why.Range
   read-range off len fails =
@@ -91,19 +92,19 @@ module _ (h : Held) (x : List ℕ) (tag : ℕ) (label : Label) (names : IsNamed 
     write-range fails =
         let k = home_of h in
         on_block-there h x tag label.at.0 b (write_block k x off bytes)
-        ∙ ap (λ v. cond v (changed_to (region_write k.region (b.block.seg, b.block.off) off bytes) (Written x (length bytes) None)) (unchanged k why.Range)) fails
+        ∙ ap (λ v. cond v (changed_to k (region_write k.region (b.block.seg, b.block.off) off bytes) (Written x (length bytes) (watch_at k.region (b.block.seg, b.block.off)))) (unchanged k why.Range)) fails
 
-    pub gives-written : (region : Region ℕ) → nat_le (off + length bytes) b.block.size ≡ true → region ≡ region_write h.region (place_of label.at.0) off bytes → Gives (write_in (home_of h) x off bytes) (relabelled (name_of h.labels) region) (Written x (length bytes) None)
-    gives-written region passes is =
+    pub gives-written : (region : Region ℕ) → nat_le (off + length bytes) b.block.size ≡ true → region ≡ region_write h.region (place_of label.at.0) off bytes → (watch : Option ℕ) → watch ≡ watch_at h.region (place_of label.at.0) → Gives (write_in (home_of h) x off bytes) (relabelled (name_of h.labels) region, kept_of h.labels) (Written x (length bytes) watch)
+    gives-written region passes is watch watched =
         let k = home_of h in
         let f = name_of h.labels in
-        let eq : write_in k x off bytes ≡ changed_to (relabelled f region) (Written x (length bytes) None) =
+        let eq : write_in k x off bytes ≡ changed_to k (relabelled f region) (Written x (length bytes) watch) =
         on_block-there h x tag label.at.0 b (write_block k x off bytes)
-        ∙ (ap (λ v. cond v (changed_to (region_write k.region (b.block.seg, b.block.off) off bytes) (Written x (length bytes) None)) (unchanged k why.Range)) passes
-        ∙ ap (λ r. changed_to r (Written x (length bytes) None))
-        (ap (λ p. region_write k.region p off bytes) (sym b.place)
-        ∙ (write-relabelled f h.region (place_of label.at.0) off bytes ∙ ap (relabelled f) (sym is)))) in
-        subst (λ c. Gives c (relabelled f region) (Written x (length bytes) None)) (sym eq) (record { region_after = refl; replied = refl })
+        ∙ (ap (λ v. cond v (changed_to k (region_write k.region (b.block.seg, b.block.off) off bytes) (Written x (length bytes) (watch_at k.region (b.block.seg, b.block.off)))) (unchanged k why.Range)) passes
+        ∙ (ap (λ p. changed_to k (region_write k.region p off bytes) (Written x (length bytes) (watch_at k.region p))) (sym b.place)
+        ∙ (ap (λ w. changed_to k (region_write k.region (place_of label.at.0) off bytes) (Written x (length bytes) w)) (watch-relabelled f h.region (place_of label.at.0) ∙ sym watched)
+        ∙ ap (λ r. changed_to k r (Written x (length bytes) watch)) (write-relabelled f h.region (place_of label.at.0) off bytes ∙ ap (relabelled f) (sym is))))) in
+        subst (λ c. Gives c (relabelled f region, kept_of h.labels) (Written x (length bytes) watch)) (sym eq) (record { region_after = refl; kept_after = refl; replied = refl })
 
     pub named-written : (region : Region ℕ) → region ≡ region_write h.region (place_of label.at.0) off bytes → without_block (place_of label.at.0) (blocks_of region) ≡ without_block (place_of label.at.0) (blocks_of h.region) → HaveOwnPlaces (blocks_of region) → IsNamed region h.labels
     named-written region is others places =
@@ -114,3 +115,4 @@ module _ (h : Held) (x : List ℕ) (tag : ℕ) (label : Label) (names : IsNamed 
         ap (find_block p) (ap blocks_of is ∙ written-blocks h.region p off bytes)
         ∙ find-changed (rewritten off bytes) (λ c q. refl) p b.block (blocks_of h.region) b.found in
         named-moved h.labels h.region names x tag label was_at b h.labels label still refl region (rewritten off bytes b.block) there refl (sym b.address) b.place others names.agree places
+        (λ e. names.none (sym (ap keeps_freed is ∙ write-keeps h.region p off bytes) ∙ e))

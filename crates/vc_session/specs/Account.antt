@@ -1,5 +1,5 @@
 -- What lasts of the shelf through a run: the accounts of its disciplines.
-use Rattle.std.specs.Prelude.{◌≡◌, ◌≢◌, ℕ, ◌+◌, ◌-◌, ◌≤◌, ◌⊎◌, List, [], ◌∷◌, Option, Some, None, ⊤, find, length, map, option_map, take, slice_set, count_by, nat_lt, ◌==◌, is_some}
+use Rattle.std.specs.Prelude.{◌≡◌, ◌≢◌, ℕ, ◌+◌, ◌-◌, ◌≤◌, ◌⊎◌, List, [], ◌∷◌, Option, Some, None, ⊤, find, length, map, option_map, take, slice_set, count_by, nat_lt, ◌==◌, is_some, false}
 use Rattle.std.specs.List.{AllByRecursion}
 use Rattle.std.specs.Str.{bytes_eq}
 use Rattle.vc_model.specs.Count.{last_count}
@@ -7,12 +7,12 @@ use Rattle.vc_model.specs.Discipline.{Discipline, HasOut, Kept, Terms, Unserved}
 use Rattle.vc_model.specs.Layout.{Block, address_of, place_of_block}
 use Rattle.vc_model.specs.Addr.{place_of}
 use Rattle.vc_model.specs.Numbered.{at_number}
-use Rattle.vc_region.specs.Region.{Region, blocks_of, region_need, relabelled, segments_of}
+use Rattle.vc_region.specs.Region.{Region, blocks_of, keeps_freed, region_need, relabelled, segments_of}
 use Rattle.vc_model.specs.Sound.{HaveOwnPlaces}
 use Rattle.slab.specs.Slab.{slab_len}
 use Rattle.vc_session.specs.declared.labels.Label.{Label}
 use Rattle.vc_session.specs.declared.labels.Labels.{Labels}
-use Rattle.vc_session.specs.Labels.{AreLabels, label_at, name_of, tag_of}
+use Rattle.vc_session.specs.Labels.{AreLabels, kept_of, label_at, name_of, tag_of}
 use Rattle.vc_session.specs.State.{Home, State}
 use Rattle.vc_session.specs.Blocks.{has_label}
 use Rattle.vc_session.specs.Step.{block_asked, region_of}
@@ -40,7 +40,14 @@ pub record Held : Type 0 where
   pub labels : Labels
 
 abbrev pub home_of : Held → Home
-home_of h = record { name = h.name; place = h.place; terms = h.disc.terms; region = relabelled (name_of h.labels) h.region }
+home_of h =
+    record {
+      name = h.name;
+      place = h.place;
+      terms = h.disc.terms;
+      region = relabelled (name_of h.labels) h.region;
+      kept = kept_of h.labels;
+    }
 
 -- the state that a shelf and open regions stand for
 abbrev pub state_of : List (Option Discipline) → List Held → State
@@ -70,13 +77,14 @@ pub record IsLive (labels : Labels) (b : Block ℕ) : Type 0 where
 abbrev pub tag_count : List (Block ℕ) → ℕ
 tag_count blocks = count_by (λ b. nat_lt 0 b.label) blocks
 
--- the names are those of the blocks that have one, and each block has a place of its own
+-- the live names are those of the blocks that have one, and each block has a place of its own; none is kept as freed where the region keeps none
 pub record IsNamed (region : Region ℕ) (labels : Labels) : Type 0 where
   pub agree : AreLabels labels
   pub count : tag_count (blocks_of region) ≡ slab_len labels.by_tag
   pub live : AllByRecursion (λ b. 1 ≤ b.label → IsLive labels b) (blocks_of region)
   pub known : (x : List ℕ) → is_some (tag_of labels x) ≡ has_label x (relabelled (name_of labels) region)
   pub places : HaveOwnPlaces (blocks_of region)
+  pub none : keeps_freed region ≡ false → kept_of labels ≡ []
 
 -- a region's discipline is taken from its place, and the region's segments are the last that it lent
 pub record IsHeld (shelf : List (Option Discipline)) (h : Held) : Type 0 where

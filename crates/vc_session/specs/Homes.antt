@@ -13,7 +13,8 @@ use Rattle.vc_script.specs.declared.refusal.Refusal.TheVariants.{NoSuchDisciplin
 use Rattle.vc_script.specs.declared.reply.Reply.{Reply}
 use Rattle.vc_session.specs.State.{Changed, Home, Label, State}
 use Rattle.vc_session.specs.Account.{Account, Held, IsChange, IsSession, accounts, home_of, settled, state_of}
-use Rattle.vc_session.specs.Labels.{name_of}
+use Rattle.vc_session.specs.Kept.{Kept}
+use Rattle.vc_session.specs.Labels.{kept_of, name_of}
 use Rattle.vc_session.specs.Step.{Gives}
 use Rattle.vc_session.specs.declared.home.HomeEntry.{HomeEntry}
 use Rattle.vc_session.specs.declared.labels.Labels.{Labels}
@@ -24,12 +25,12 @@ abbrev pub held_of : {I : Type 0} {V : I → Type 0} → ((x : I) × V x → Dis
 held_of meaning name h labels =
     record { name = name; place = h.place; disc = disc_in meaning h.region; region = region_of h.region; labels = labels }
 
--- a region with names for its tags
-abbrev pub region_with : {I : Type 0} {V : I → Type 0} → HomeEntry I V → Labels → Region Label
-region_with h labels = relabelled (name_of labels) (region_of h.region)
+-- a region with names for its tags, and the names that it keeps as freed
+abbrev pub region_with : {I : Type 0} {V : I → Type 0} → HomeEntry I V → Labels → Region Label × Kept
+region_with h labels = (relabelled (name_of labels) (region_of h.region), kept_of labels)
 
 -- by a definition, a command on a region gives this reply and leaves the region so, whatever its name
-abbrev pub Runs : {I : Type 0} {V : I → Type 0} → ((x : I) × V x → Discipline) → (Home → Changed) → HomeEntry I V → Labels → Region Label → Reply → Type 0
+abbrev pub Runs : {I : Type 0} {V : I → Type 0} → ((x : I) × V x → Discipline) → (Home → Changed) → HomeEntry I V → Labels → Region Label × Kept → Reply → Type 0
 Runs meaning command h labels after reply = (name : List ℕ) → Gives (command (home_of (held_of meaning name h labels))) after reply
 
 -- a region and its names changed, whatever its name

@@ -8,6 +8,7 @@ pub use Rattle.vc_model.specs.Outcome
 pub use Rattle.vc_region.specs.Region
 pub use Rattle.vc_model.specs.Sound
 pub use Rattle.vc_region.specs.Parts
+pub mod Kept
 pub mod Labels
 pub mod State
 pub mod Blocks

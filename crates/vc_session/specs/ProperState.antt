@@ -1,9 +1,11 @@
--- States whose blocks are labelled by names or not at all.
+-- States whose blocks are labelled by names or not at all, and whose kept names are names.
 use Rattle.std.specs.Prelude.{◌≡◌, Some, None, if◌then◌else◌}
 use Rattle.std.specs.List.{AllByRecursion}
 use Rattle.vc_region.specs.Region.{Region, relabelled}
 use Rattle.vc_script.specs.Words.{is_name}
-use Rattle.vc_session.specs.State.{Label, State}
+use Rattle.vc_script.specs.Proper.{IsName}
+use Rattle.vc_session.specs.Kept.{Kept}
+use Rattle.vc_session.specs.State.{Home, Label, State}
 
 -- a label that is a name; none in place of any other
 abbrev pub name_or_none : Label → Label
@@ -14,6 +16,13 @@ name_or_none (Some x) = if is_name x then Some x else None
 abbrev pub IsProperRegion : Region Label → Type 0
 IsProperRegion r = relabelled name_or_none r ≡ r
 
--- the labels of every region are names
+-- what is kept as freed are names
+abbrev pub AreProperNames : Kept → Type 0
+AreProperNames kept = AllByRecursion (λ k. IsName k.0) kept
+
+abbrev pub IsProperHome : Home → Type 0
+IsProperHome h = IsProperRegion h.region × AreProperNames h.kept
+
+-- the labels of every region and the names that it keeps are names
 abbrev pub IsProperState : State → Type 0
-IsProperState s = AllByRecursion (λ h. IsProperRegion h.region) s.homes
+IsProperState s = AllByRecursion IsProperHome s.homes

@@ -18,12 +18,28 @@ abbrev pub one_region : List ℕ → List (ℕ × ℕ) → List (Block Label) �
 one_region name segments blocks =
     record {
       shelf = None ∷ [];
-      homes = record { name = name; place = 1; terms = terms; region = OfBest (record { segments = segments; blocks = blocks }) } ∷ [];
+      homes = record { name = name; place = 1; terms = terms; region = OfBest (record { segments = segments; blocks = blocks }); kept = [] } ∷ [];
     }
 
 -- a block with these bytes first and zeros behind them
 abbrev pub block_with : List ℕ → ℕ → ℕ → ℕ → List ℕ → Block Label
 block_with name seg off size first = record { label = Some name; seg = seg; off = off; size = size; bytes = first ++ replicate (size - length first) 0 }
+
+-- a block, and beside it a name that is kept as freed at line 3
+abbrev pub with_kept : State
+with_kept =
+    record {
+      shelf = None ∷ [];
+      homes =
+          record {
+            name = codes "r";
+            place = 1;
+            terms = terms;
+            region = OfBest (record { segments = (1, 4096) ∷ []; blocks = block_with (codes "a") 1 32 1 [] ∷ [] });
+            kept = (codes "b", 3) ∷ [];
+          }
+          ∷ [];
+    }
 
 -- a block between a block that was written and one that was freed
 abbrev pub gap_behind : State

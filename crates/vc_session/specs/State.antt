@@ -11,17 +11,19 @@ use Rattle.vc_script.specs.declared.reply.Reply.{Reply}
 use Rattle.vc_script.specs.declared.reply.Reply.TheVariants.{Opened, Closed, Refused}
 use Rattle.vc_script.specs.declared.refusal.Refusal.{Refusal}
 use Rattle.vc_script.specs.declared.refusal.Refusal.TheVariants as why
+use Rattle.vc_session.specs.Kept.{Kept}
 
 -- the label of a block in a session: its name, or none
 abbrev pub Label : Type 0
 Label = Option (List ℕ)
 
--- a region of the session: its name, the place of its discipline on the shelf, from 1 on, that discipline's terms, and what it is by its method
+-- a region of the session: its name, the place of its discipline on the shelf, from 1 on, that discipline's terms, what it is by its method, and the names that it keeps as freed
 pub record Home : Type 0 where
   pub name : List ℕ
   pub place : ℕ
   pub terms : Terms
   pub region : Region Label
+  pub kept : Kept
 
 -- for each place of the shelf the terms of the discipline that is here, None where it is taken; and the regions in order of opening
 pub record State : Type 0 where
@@ -55,7 +57,7 @@ opened_with s r n region terms =
     stepped
     (record {
       shelf = slice_set s.shelf (n - 1) None;
-      homes = s.homes ++ record { name = r; place = n; terms = terms; region = region } ∷ [];
+      homes = s.homes ++ record { name = r; place = n; terms = terms; region = region; kept = [] } ∷ [];
     })
     (Opened r)
 
@@ -90,33 +92,35 @@ close_home s r (Some h) =
 abbrev pub close_step : State → List ℕ → Stepped
 close_step s r = close_home s r (home_named r s.homes)
 
--- what a command on one region gives: the region after it, the reply, and the segment that was granted
+-- what a command on one region gives: the region and the names that it keeps after it, the reply, and the segment that was granted
 pub record Changed : Type 0 where
   pub region : Region Label
+  pub kept : Kept
   pub reply : Reply
   pub granted : Option (ℕ × ℕ)
 
--- a command that is granted no segment
-abbrev pub changed_to : Region Label → Reply → Changed
-changed_to region reply = record { region = region; reply = reply; granted = None }
+-- a command that is granted no segment, and neither frees a name nor takes one
+abbrev pub changed_to : Home → Region Label → Reply → Changed
+changed_to h region reply = record { region = region; kept = h.kept; reply = reply; granted = None }
 
 abbrev pub unchanged : Home → Refusal → Changed
-unchanged h why = changed_to h.region (Refused why)
+unchanged h why = changed_to h h.region (Refused why)
 
 -- a command that changes nothing tells something
 abbrev pub told : Home → Reply → Changed
-told h reply = changed_to h.region reply
+told h reply = changed_to h h.region reply
 
--- the regions, with another one of that name
-abbrev pub with_region : List ℕ → Region Label → List Home → List Home
-with_region r region [] = []
-with_region r region (h ∷ hs) = if is_home r h then (record h { region = region }) ∷ hs else h ∷ with_region r region hs
+-- the regions, with another one of that name, and the names that it keeps
+abbrev pub with_region : List ℕ → Region Label → Kept → List Home → List Home
+with_region r region kept [] = []
+with_region r region kept (h ∷ hs) =
+    if is_home r h then (record h { region = region; kept = kept }) ∷ hs else h ∷ with_region r region kept hs
 
 -- the state with the change of the region of that name
 abbrev pub changed : State → List ℕ → Changed → Stepped
 changed s r c =
     record {
-      state = record { shelf = s.shelf; homes = with_region r c.region s.homes };
+      state = record { shelf = s.shelf; homes = with_region r c.region c.kept s.homes };
       reply = c.reply;
       told = [];
       granted = c.granted;

@@ -6,6 +6,7 @@ use Rattle.vc_script.specs.declared.refusal.Refusal.TheVariants as why
 use Rattle.vc_script.specs.Needs.{Need, NoNeed, ForBlock, ForTable, ForObject, need_shown}
 use Rattle.vc_script.specs.declared.reply.Reply.{Reply}
 use Rattle.vc_region.specs.Region.{Region}
+use Rattle.vc_session.specs.Kept.{Kept}
 use Rattle.vc_session.specs.State.{Changed, Home, Label, State, Stepped, changed, close_step, home_named, open_step, refused, unchanged}
 use Rattle.vc_session.specs.Blocks.{align_in, alloc_in, free_in, read_in, resize_in, size_in, write_in}
 use Rattle.vc_session.specs.Whole.{addr_in, clear_in, compact_in, list_blocks, list_segments, segment_in, stat_in}
@@ -34,27 +35,27 @@ region_of (Segments r) = Some r
 region_of (Blocks r) = Some r
 region_of command = None
 
--- a command in its region; the need is the one free choice
-abbrev pub in_region : Home → Command → Need → Changed
-in_region h (ClearRegion r) need = clear_in h r
-in_region h (Compact r) need = compact_in h r
-in_region h (Alloc r x size site) need = alloc_in h x size (is_for_block need)
-in_region h (Align r x size align) need = align_in h x size align (is_for_block need)
-in_region h (Resize r x size may_move) need = resize_in h x size may_move (is_for_block need)
-in_region h (Free r x) need = free_in h x
-in_region h (WriteBlock r x off bytes) need = write_in h x off bytes
-in_region h (ReadBlock r x off len) need = read_in h x off len
-in_region h (SizeOf r x) need = size_in h x
-in_region h (AddrOf r at) need = addr_in h at
-in_region h (SegmentOf r at) need = segment_in h at
-in_region h (StatOf r) need = stat_in h
-in_region h (Segments r) need = list_segments h
-in_region h (Blocks r) need = list_blocks h
-in_region h command need = unchanged h why.NotYet
+-- a command at a line in its region; the need is the one free choice
+abbrev pub in_region : Home → ℕ → Command → Need → Changed
+in_region h line (ClearRegion r) need = clear_in h r line
+in_region h line (Compact r) need = compact_in h r
+in_region h line (Alloc r x size site) need = alloc_in h x site size (is_for_block need)
+in_region h line (Align r x size align) need = align_in h x size align (is_for_block need)
+in_region h line (Resize r x size may_move) need = resize_in h x size may_move (is_for_block need)
+in_region h line (Free r x) need = free_in h x line
+in_region h line (WriteBlock r x off bytes) need = write_in h x off bytes
+in_region h line (ReadBlock r x off len) need = read_in h x off len
+in_region h line (SizeOf r x) need = size_in h x
+in_region h line (AddrOf r at) need = addr_in h at
+in_region h line (SegmentOf r at) need = segment_in h at
+in_region h line (StatOf r) need = stat_in h
+in_region h line (Segments r) need = list_segments h
+in_region h line (Blocks r) need = list_blocks h
+in_region h line command need = unchanged h why.NotYet
 
-abbrev pub region_step : State → List ℕ → Command → Need → Option Home → Stepped
-region_step s r command need None = refused s why.NoRegion
-region_step s r command need (Some h) = changed s r (in_region h command need)
+abbrev pub region_step : State → List ℕ → ℕ → Command → Need → Option Home → Stepped
+region_step s r line command need None = refused s why.NoRegion
+region_step s r line command need (Some h) = changed s r (in_region h line command need)
 
 -- a command that opens or closes a region, or one that is not built
 abbrev pub shelf_step : State → Command → Stepped
@@ -62,17 +63,18 @@ shelf_step s (OpenRegion r method n) = open_step s r method n
 shelf_step s (CloseRegion r) = close_step s r
 shelf_step s command = refused s why.NotYet
 
-abbrev pub step_of : State → Command → Need → Option (List ℕ) → Stepped
-step_of s command need None = shelf_step s command
-step_of s command need (Some r) = region_step s r command need (home_named r s.homes)
+abbrev pub step_of : State → ℕ → Command → Need → Option (List ℕ) → Stepped
+step_of s line command need None = shelf_step s command
+step_of s line command need (Some r) = region_step s r line command need (home_named r s.homes)
 
 -- one step, of the command at a line: the first refusal that applies, else the state changed; the need is the one free choice
 abbrev pub step : State → ℕ → Command → Need → Stepped
-step s line command need = step_of s command need (region_of command)
+step s line command need = step_of s line command need (region_of command)
 
--- what a command on one region gives is this reply, and the region is this one after it
-pub record Gives (c : Changed) (region : Region Label) (reply : Reply) : Type 0 where
-  pub region_after : c.region ≡ region
+-- what a command on one region gives is this reply, and after it the region and the names that it keeps are these
+pub record Gives (c : Changed) (after : Region Label × Kept) (reply : Reply) : Type 0 where
+  pub region_after : c.region ≡ after.0
+  pub kept_after : c.kept ≡ after.1
   pub replied : c.reply ≡ reply
 
 -- for the need that a reply shows, the step of the command at a line gives that reply and leaves this state

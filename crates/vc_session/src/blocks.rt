@@ -1,19 +1,22 @@
 // The commands that put, move and free blocks.
-ghost use Rattle.std.specs.Prelude.{◌≡◌, ◌<◌, ◌+◌, ◌^◌, ◌&&◌, [], Some, None, Ok, IfOk, OnErr, option_map};
+ghost use Rattle.std.specs.Prelude.{◌≡◌, ◌<◌, ◌+◌, ◌^◌, ◌≤◌, length, [], Some, None, Ok, IfOk, OnErr, option_map};
 ghost use Rattle.std.specs.HashMap.{spare};
 ghost use Rattle.slab.specs.Slab.{HasRoomFor, slab_len};
 ghost use Rattle.vc_model.specs.Discipline.{HasOut};
 ghost use Rattle.vc_region.specs.Parts.{disc_in, region_of, segments_in};
 ghost use Rattle.vc_script.specs.Needs.{need_shown};
 ghost use Rattle.vc_session.specs.Account.{IsNamed, LacksSegment};
-ghost use Rattle.vc_session.specs.Blocks.{align_in, alloc_in, fault_of, free_in, is_align, is_size, refusal_of, resize_in};
-ghost use Rattle.vc_session.specs.Labels.{AreLabels, tag_of};
+ghost use Rattle.vc_session.specs.Blocks.{align_in, align_refused, alloc_in, fault_of, free_in, is_align, is_size, no_block, refusal_of, resize_in, site_of, size_refused};
+ghost use Rattle.vc_session.specs.Kept.{line_of};
+ghost use Rattle.vc_session.specs.Labels.{AreLabels, kept_of, tag_of};
 ghost use Rattle.vc_session.specs.Naming.{NamesPut, TellsFault, new_refused};
 ghost use Rattle.vc_session.specs.Step.{is_for_block};
 
 use crate::home::{HomeEntry, place_of};
 use crate::labels::Labels;
+use crate::marks::{aligns, keeps_freed, watch_line};
 use vc_base::{Addr, Name, OutOfMemory};
+use vc_region::Region;
 use vc_script::{Refusal, Reply};
 use vc_seg::{BoxedDisc, RegionFault, SegDisc};
 
@@ -32,10 +35,41 @@ fn is_align(align: u32) -> bool
     matches!(align, 32 | 64 | 128 | 256 | 512 | 1024 | 2048 | 4096)
 }
 
-fn are_legal(size: u32, align: u32) -> bool
-    ensures { result ≡ (is_size size && is_align align) }
+// The refusal of the size of a new block.
+fn size_refused(size: u32) -> Option<Refusal>
+    ensures { result ≡ size_refused size }
 {
-    is_size(size) && is_align(align)
+    if is_size(size) {
+        None
+    } else {
+        Some(Refusal::Size)
+    }
+}
+
+// And of an alignment besides, in a region whose method aligns blocks.
+fn align_refused(region: &Region, size: u32, align: u32) -> Option<Refusal>
+    ensures { result ≡ align_refused (region_of region.now) size align }
+{
+    if !aligns(region) {
+        return Some(Refusal::WrongMethod);
+    }
+    if is_size(size) && is_align(align) {
+        None
+    } else {
+        Some(Refusal::Size)
+    }
+}
+
+// The site of an allocation; a hyphen where the command has none.
+fn site_of(site: &Option<Name>) -> &[u8]
+    ensures value { result.now ≡ site_of site.now }
+    ensures least { 1 ≤ length result.now }
+    ensures most { length result.now ≤ 32 }
+{
+    match site {
+        Some(name) => name.bytes(),
+        None => b"-",
+    }
 }
 
 // The refusal for a region's fault; want of memory has none.
@@ -63,20 +97,33 @@ fn refused(fault: RegionFault) -> Result<Reply, OutOfMemory>
     }
 }
 
-// Why a new block of that name is refused before a place is looked for.
-fn new_refused(labels: &Labels, name: &Name, is_legal: bool) -> Option<Refusal>
-    ensures { result ≡ new_refused labels.now name.now is_legal }
+// Why a new block of that name is refused before a place is looked for, by the refusal of its words.
+fn new_refused(labels: &Labels, name: &Name, words: Option<Refusal>) -> Option<Refusal>
+    ensures { result ≡ new_refused labels.now name.now words }
 {
     if labels.has(name) {
         return Some(Refusal::BlockExists);
     }
-    if !is_legal {
-        return Some(Refusal::Size);
+    match words {
+        Some(why) => Some(why),
+        None => {
+            if labels.len() >= LABEL_LIMIT && labels.freed(name).is_none() {
+                return Some(Refusal::TooManyBlocks);
+            }
+            None
+        }
     }
-    if labels.len() >= LABEL_LIMIT {
-        return Some(Refusal::TooManyBlocks);
+}
+
+// Why there is no block of that name: it was freed at a line, or the name isn't kept.
+pub(crate) fn no_block(labels: &Labels, name: &Name) -> Refusal
+    ensures value { result ≡ no_block (line_of name.now (kept_of labels.now)) }
+    ensures granted { result ≡ Refusal.NoSegment → ⊥ }
+{
+    match labels.freed(name) {
+        Some(line) => Refusal::FreedAt(line),
+        None => Refusal::NoBlock,
     }
-    None
 }
 
 // Names the block that was put, and tells its place; or tells why none was put.
@@ -104,11 +151,12 @@ fn name_put(
 impl HomeEntry {
     ghost use Rattle.vc_session.specs.Homes.{Changes, Runs, held_of, region_with};
 
-    // Allocates a block under a name.
+    // Allocates a block under a name, at a site.
     pub(crate) fn allocate(
         &mut self,
         labels: &mut Labels,
         name: Name,
+        site: Option<Name>,
         size: u32,
     ) -> Result<Reply, OutOfMemory>
         requires names { IsNamed (region_of self.old.region) labels.old }
@@ -116,7 +164,7 @@ impl HomeEntry {
             (segments_in self.old.region) }
 
         ensures step { IfOk result (λ reply. Runs state
-            (λ h. alloc_in h name size (is_for_block (need_shown reply)))
+            (λ h. alloc_in h name site size (is_for_block (need_shown reply)))
             self.old labels.old (region_with self.new labels.new) reply) }
         ensures err { OnErr result (region_with self.new labels.new
             ≡ region_with self.old labels.old) }
@@ -128,11 +176,11 @@ impl HomeEntry {
             (held_of state [] self.new labels.new)
             (size, 32) }
     {
-        match new_refused(labels, &name, is_size(size)) {
+        match new_refused(labels, &name, size_refused(size)) {
             Some(why) => Ok(Reply::Refused(why)),
             None => {
                 let tag = labels.reserve()?;
-                name_put(labels, name, self.region.alloc(size, tag, b"-"))
+                name_put(labels, name, self.region.alloc(size, tag, site_of(&site)))
             }
         }
     }
@@ -162,7 +210,8 @@ impl HomeEntry {
             (held_of state [] self.new labels.new)
             (size, align) }
     {
-        match new_refused(labels, &name, are_legal(size, align)) {
+        let words = align_refused(&self.region, size, align);
+        match new_refused(labels, &name, words) {
             Some(why) => Ok(Reply::Refused(why)),
             None => {
                 let tag = labels.reserve()?;
@@ -197,28 +246,34 @@ impl HomeEntry {
             (size, 32) }
     {
         let Some(at) = labels.find(name) else {
-            return Ok(Reply::Refused(Refusal::NoBlock));
+            return Ok(Reply::Refused(no_block(labels, name)));
         };
         if !is_size(size) {
             return Ok(Reply::Refused(Refusal::Size));
         }
+        let watch = watch_line(&self.region, at);
         match self.region.resize(at, size, may_move) {
             Ok(to) => {
                 labels.move_to(name, to);
-                Ok(Reply::At(*name, place_of(to), None))
+                Ok(Reply::At(*name, place_of(to), watch))
             }
             Err(fault) => refused(fault),
         }
     }
 
-    // Frees the block of that name.
-    pub(crate) fn free(&mut self, labels: &mut Labels, name: &Name) -> Result<Reply, OutOfMemory>
+    // Frees the block of that name, at a line.
+    pub(crate) fn free(
+        &mut self,
+        labels: &mut Labels,
+        name: &Name,
+        line: u32,
+    ) -> Result<Reply, OutOfMemory>
         requires names { IsNamed (region_of self.old.region) labels.old }
         requires lent { HasOut (disc_in state self.old.region)
             (segments_in self.old.region) }
 
         ensures step { IfOk result (λ reply. Runs state
-            (λ h. free_in h name.now)
+            (λ h. free_in h name.now line)
             self.old labels.old (region_with self.new labels.new) reply) }
         ensures err { OnErr result (region_with self.new labels.new
             ≡ region_with self.old labels.old) }
@@ -227,12 +282,14 @@ impl HomeEntry {
         ensures granted { result ≡ Ok (Reply.Refused Refusal.NoSegment) → ⊥ }
     {
         let Some(at) = labels.find(name) else {
-            return Ok(Reply::Refused(Refusal::NoBlock));
+            return Ok(Reply::Refused(no_block(labels, name)));
         };
+        let watch = watch_line(&self.region, at);
+        let keeps = keeps_freed(&self.region);
         match self.region.free(at) {
             Ok(()) => {
-                let _ = labels.remove(name);
-                Ok(Reply::Freed(*name, None))
+                let _ = labels.free(name, keeps, line);
+                Ok(Reply::Freed(*name, watch))
             }
             Err(fault) => refused(fault),
         }

@@ -5,8 +5,10 @@ ghost use Rattle.vc_region.specs.Parts.{disc_in, region_of, segments_in};
 ghost use Rattle.vc_session.specs.Account.{IsNamed};
 ghost use Rattle.vc_session.specs.Blocks.{read_in, size_in, write_in};
 
+use crate::blocks::no_block;
 use crate::home::HomeEntry;
 use crate::labels::Labels;
+use crate::marks::watch_line;
 use std::alloc::Global;
 use vc_base::{Name, OutOfMemory};
 use vc_script::{Bytes, Refusal, Reply};
@@ -29,13 +31,14 @@ impl HomeEntry {
         ensures granted { result ≡ Reply.Refused Refusal.NoSegment → ⊥ }
     {
         match labels.find(name) {
-            None => Reply::Refused(Refusal::NoBlock),
+            None => Reply::Refused(no_block(labels, name)),
             Some(at) => {
                 if off as u64 + bytes.len() as u64 > self.region.size(at) as u64 {
                     return Reply::Refused(Refusal::Range);
                 }
+                let watch = watch_line(&self.region, at);
                 self.region.write(at, off, bytes);
-                Reply::Written(*name, bytes.len() as u32, None)
+                Reply::Written(*name, bytes.len() as u32, watch)
             }
         }
     }
@@ -55,7 +58,7 @@ impl HomeEntry {
             self.now labels.now (region_with self.now labels.now) reply) }
     {
         match labels.find(name) {
-            None => Ok(Reply::Refused(Refusal::NoBlock)),
+            None => Ok(Reply::Refused(no_block(labels, name))),
             Some(at) => {
                 if len == 0 || len > 4096 || off as u64 + len as u64 > self.region.size(at) as u64 {
                     return Ok(Reply::Refused(Refusal::Range));
@@ -74,7 +77,7 @@ impl HomeEntry {
             self.now labels.now (region_with self.now labels.now) result }
     {
         match labels.find(name) {
-            None => Reply::Refused(Refusal::NoBlock),
+            None => Reply::Refused(no_block(labels, name)),
             Some(at) => Reply::Size(*name, self.region.size(at)),
         }
     }

@@ -37,11 +37,12 @@ pub(crate) fn place_of(at: Addr) -> Place
 impl HomeEntry {
     ghost use Rattle.vc_session.specs.Homes.{Changes, Runs, held_of, region_with};
 
-    // Runs a command in the region, whose names these are.
+    // Runs the command of a line in the region, whose names these are.
     pub(crate) fn run(
         &mut self,
         alloc: Global,
         labels: &mut Labels,
+        line: u32,
         command: &Command,
     ) -> Result<Reply, OutOfMemory>
         requires names { IsNamed (region_of self.old.region) labels.old }
@@ -49,7 +50,7 @@ impl HomeEntry {
             (segments_in self.old.region) }
 
         ensures step { IfOk result (λ reply. Runs state
-            (λ h. in_region h command.now (need_shown reply))
+            (λ h. in_region h line command.now (need_shown reply))
             self.old labels.old (region_with self.new labels.new) reply) }
         ensures err { OnErr result (region_with self.new labels.new
             ≡ region_with self.old labels.old) }
@@ -62,14 +63,14 @@ impl HomeEntry {
             (block_asked command.now) }
     {
         match command {
-            Command::ClearRegion(name) => Ok(self.clear(labels, *name)),
+            Command::ClearRegion(name) => Ok(self.clear(labels, *name, line)),
             Command::Compact(name) => Ok(self.compact(*name)),
-            Command::Alloc(_, block, size, _) => self.allocate(labels, *block, *size),
+            Command::Alloc(_, block, size, site) => self.allocate(labels, *block, *site, *size),
             Command::Align(_, block, size, align) => self.align(labels, *block, *size, *align),
             Command::Resize(_, block, size, may_move) => self.resize(
                 labels, block, *size, *may_move,
             ),
-            Command::Free(_, block) => self.free(labels, block),
+            Command::Free(_, block) => self.free(labels, block, line),
             Command::WriteBlock(_, block, off, bytes) => Ok(self.write(
                 labels,
                 block,

@@ -8,6 +8,7 @@ mod engine;
 mod home;
 mod labels;
 pub mod method_rows;
+mod marks;
 mod open;
 pub mod run_rows;
 mod session;

@@ -2,7 +2,9 @@
 ghost use Rattle.std.specs.Prelude.{◌≡◌, ◌++◌, ℕ, [], ◌∷◌, Some, None, codes, List};
 ghost use Rattle.vc_script.specs.Needs.{ForBlock};
 ghost use Rattle.vc_session.specs.Run.{first_bad, run, script, text_of};
-ghost use Rattle.vc_session.specs.Rows.{at_first, gap_behind, moved, parsed};
+ghost use Rattle.vc_session.specs.Kept.{with_line, without_name};
+ghost use Rattle.vc_session.specs.Rows.{at_first, block_with, gap_behind, moved, parsed, with_kept};
+ghost use Rattle.vc_session.specs.Whole.{with_labels};
 ghost use Rattle.vc_script.specs.declared.tool.Tool.TheVariants.{Vmreplay};
 ghost use Rattle.vc_script.specs.declared.line_fault.LineFault.TheVariants.{UnknownCommand, LineTooLong};
 
@@ -164,4 +166,24 @@ pub fn buffer_moved()
         (codes "resize heap buf 3000 move\nalloc heap out 900\nalloc heap row1 64\n"
         ++ codes "alloc heap row2 64\n")) [])
         ≡ codes "buf 2:32\nout 1:864\nrow1 1:1792\nrow2 2:3072\n" }
+{}
+
+/// A name that is kept as freed is told with its line until a block takes it; a refused block leaves it kept.
+pub fn kept_name()
+    ensures { text_of (run with_kept (script Vmreplay
+        (codes "size r b\nalloc r b 0\nfree r b\nresize r c 1 move\nalloc r b 1\nsize r b\n")) [])
+        ≡ codes "refused: freed at line 3\nrefused: size\nrefused: freed at line 3\n"
+        ++ codes "refused: no block\nb 1:64\nb 1\n" }
+{}
+
+/// Kept names stand by name. A second free takes the new line, and all names of a region are kept with one line.
+pub fn names_kept()
+    ensures put { with_line (codes "a") 7 ((codes "b", 3) ∷ [])
+        ≡ (codes "a", 7) ∷ (codes "b", 3) ∷ [] }
+    ensures again { with_line (codes "b") 7 ((codes "b", 3) ∷ []) ≡ (codes "b", 7) ∷ [] }
+    ensures taken { without_name (codes "b") ((codes "b", 3) ∷ []) ≡ [] }
+    ensures all { with_labels
+        (block_with (codes "c") 1 32 1 [] ∷ block_with (codes "a") 1 64 1 [] ∷ [])
+        9 ((codes "b", 3) ∷ [])
+        ≡ (codes "a", 9) ∷ (codes "b", 3) ∷ (codes "c", 9) ∷ [] }
 {}

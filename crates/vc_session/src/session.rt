@@ -113,12 +113,11 @@ impl Session {
             → StepLacks (held_in state self.old)
             (held_in state self.new) command.now }
     {
-        let _ = line;
         match region_of(command) {
             None => self.run_on_shelf(shelf, command),
             Some(name) => match self.homes.get_index_of(&name) {
                 None => Ok(Reply::Refused(Refusal::NoRegion)),
-                Some(i) => Ok(self.homes[i].run(self.alloc, &mut self.labels[i], command)?),
+                Some(i) => Ok(self.homes[i].run(self.alloc, &mut self.labels[i], line, command)?),
             },
         }
     }

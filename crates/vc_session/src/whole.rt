@@ -8,26 +8,27 @@ ghost use Rattle.vc_session.specs.Whole.{clear_in, compact_in};
 
 use crate::home::HomeEntry;
 use crate::labels::Labels;
+use crate::marks::keeps_freed;
 use vc_base::Name;
 use vc_script::Reply;
 use vc_seg::{BoxedDisc, SegDisc};
 
 impl HomeEntry {
-    ghost use Rattle.vc_session.specs.Homes.{Changes, held_of, region_with};
+    ghost use Rattle.vc_session.specs.Homes.{Changes, Runs, held_of, region_with};
     ghost use Rattle.vc_session.specs.declared.labels.Labels.{Labels};
 
-    // Frees all blocks.
-    pub(crate) fn clear(&mut self, labels: &mut Labels, name: Name) -> Reply
+    // Frees all blocks, at a line.
+    pub(crate) fn clear(&mut self, labels: &mut Labels, name: Name, line: u32) -> Reply
         requires names { IsNamed (region_of self.old.region) labels.old }
         requires lent { HasOut (disc_in state self.old.region)
             (segments_in self.old.region) }
 
-        ensures step { (r : List ℕ) → clear_in (home_of (held_of state r self.old labels.old)) name
-            ≡ changed_to (region_with self.new labels.new) result }
+        ensures step { Runs state (λ h. clear_in h name line)
+            self.old labels.old (region_with self.new labels.new) result }
         ensures change { Changes state
             self.old labels.old self.new labels.new }
     {
-        labels.clear();
+        labels.clear(keeps_freed(&self.region), line);
         self.region.clear();
         Reply::Cleared(name)
     }
@@ -39,7 +40,8 @@ impl HomeEntry {
 
         ensures step { (labels : Labels) (r : List ℕ)
             → compact_in (home_of (held_of state r self.old labels)) name
-            ≡ changed_to (region_with self.new labels) result }
+            ≡ changed_to (home_of (held_of state r self.old labels))
+            (region_with self.new labels).0 result }
         ensures change { (labels : Labels) → IsNamed (region_of self.old.region) labels
             → Changes state
             self.old labels self.new labels }

@@ -5,7 +5,7 @@ use Rattle.vc_model.specs.Touch.{find_block}
 use Rattle.vc_best.proofs.Asking.{Served-later, Served-unasked}
 use Rattle.vc_best.proofs.Others.{others-moved, others-sized}
 use Rattle.vc_best.proofs.Resizes.{resize-stays, resize-fixed, resize-moves, resize-refused, new-among, new-room, old-among, old-found, none-stays}
-use Rattle.vc_best.proofs.There.{there-moved, there-sized}
+use Rattle.vc_best.proofs.There.{size-moved, size-sized, there-moved, there-sized}
 use Rattle.vc_best.proofs.best.Best.resize.Goals as goal
 
 pub returns-then-can_stay-clause-answer : goal.returns-then-can_stay-clause-answer
@@ -64,3 +64,13 @@ pub returns-in-Ok-clause-there : goal.returns-in-Ok-clause-there
 returns-in-Ok-clause-there g c =
     let same = old-found _ c.args.self.now.layout c.tag-tag.result c.args.size 32 c.in-Ok.to.0 false c.alloc.new.self.layout c.in-Ok.ensures.answer c.in-Ok.ensures.fresh c.args.a.0 c.requires.block in
     there-moved c.alloc.new.self.layout c.take_over.new.self c.args.self.now.layout c.args.a.0 c.in-Ok.to.0 c.args.size c.tag-tag.result c.requires.block c.in-Ok.ensures.fresh same (rw c.held.ensures at c.tag-tag.ensures) c.take_over.ensures.moved c.in-Ok.ensures.there
+
+pub returns-then-can_stay-clause-sized : goal.returns-then-can_stay-clause-sized
+returns-then-can_stay-clause-sized g c =
+    ap (λ (r : Layout ℕ). option_map (λ b. b.size) (find_block (place_of c.args.a.0) r.blocks)) c.resize_there.ensures.value
+    ∙ size-sized _ _ c.args.size (place_of c.args.a.0) c.args.self.now.layout.blocks c.can_stay.ensures
+
+pub returns-in-Ok-clause-sized : goal.returns-in-Ok-clause-sized
+returns-in-Ok-clause-sized g c =
+    let same = old-found _ c.args.self.now.layout c.tag-tag.result c.args.size 32 c.in-Ok.to.0 false c.alloc.new.self.layout c.in-Ok.ensures.answer c.in-Ok.ensures.fresh c.args.a.0 c.requires.block in
+    size-moved c.alloc.new.self.layout c.take_over.new.self c.args.self.now.layout c.args.a.0 c.in-Ok.to.0 c.args.size c.tag-tag.result c.requires.block c.in-Ok.ensures.fresh same (rw c.held.ensures at c.tag-tag.ensures) c.take_over.ensures.moved c.in-Ok.ensures.there

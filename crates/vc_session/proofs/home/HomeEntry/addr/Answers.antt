@@ -1,18 +1,23 @@
 use Rattle.std.proofs.Common.{sym, ap}
 use Rattle.vc_region.proofs.Sound.{own_places}
-use Rattle.vc_region.specs.Region.{relabelled}
 use Rattle.vc_region.specs.Parts.{region_of}
-use Rattle.vc_session.specs.Labels.{name_of}
-use Rattle.vc_session.specs.State.{changed_to}
+use Rattle.vc_session.specs.State.{told}
 use Rattle.vc_session.proofs.Listing.{addr-none, addr-some}
+use Rattle.vc_model.specs.Discipline.{Discipline}
+use Rattle.vc_session.specs.Account.{home_of}
+use Rattle.vc_session.specs.Homes.{held_of}
+use Rattle.vc_session.proofs.home.HomeEntry.addr.Given as given
 use Rattle.vc_session.proofs.home.HomeEntry.addr.Goals as goal
+
+abbrev meaning : (g : given.Over) → (x : g.dyn-1.0.I) × (g.dyn-1.0.entry x).0.Denot → Discipline
+meaning g p = (g.dyn-1.0.entry p.0).1.state p.1
 
 pub returns-in-None : goal.returns-in-None
 returns-in-None g c = λ r.
-    ap (changed_to (relabelled (name_of c.args.labels.now) (region_of c.args.self.now.region))) (addr-none (region_of c.args.self.now.region) c.args.labels.now (c.args.at.seg, c.args.at.off) (sym c.in-None.ensures.value))
+    ap (told (home_of (held_of (meaning g) r c.args.self.now c.args.labels.now))) (addr-none (region_of c.args.self.now.region) c.args.labels.now (c.args.at.seg, c.args.at.off) (sym c.in-None.ensures.value))
 
 pub returns-in-Some : goal.returns-in-Some
 returns-in-Some g c = λ r.
-    ap (changed_to (relabelled (name_of c.args.labels.now) (region_of c.args.self.now.region)))
+    ap (told (home_of (held_of (meaning g) r c.args.self.now c.args.labels.now)))
     (addr-some (region_of c.args.self.now.region) c.args.labels.now (c.args.at.seg, c.args.at.off) c.in-Some.block.0 c.in-Some.off c.tag.result c.name.result
     (own_places c.args.self.now.region) (sym c.in-Some.ensures.value) c.tag.ensures c.name.ensures)

@@ -2,13 +2,18 @@ use Rattle.std.proofs.Common.{◌≡◌, ◌++◌, [], ◌∷◌, length, inr, s
 use Rattle.vc_model.specs.Layout.{address_of}
 use Rattle.vc_model.specs.Walk.{by_address, next_block}
 use Rattle.vc_region.proofs.Sound.{own_places}
-use Rattle.vc_region.specs.Region.{relabelled}
 use Rattle.vc_region.specs.Parts.{blocks_in, region_of}
 use Rattle.vc_script.specs.declared.reply.Reply.TheVariants.{BlockList}
-use Rattle.vc_session.specs.Labels.{name_of}
-use Rattle.vc_session.specs.State.{changed_to}
+use Rattle.vc_session.specs.State.{told}
 use Rattle.vc_session.proofs.Listing.{blocks-all, blocks-end, blocks-next, blocks_above, from_none, from_some, items_of, list-items, next-told}
+use Rattle.vc_model.specs.Discipline.{Discipline}
+use Rattle.vc_session.specs.Account.{home_of}
+use Rattle.vc_session.specs.Homes.{held_of}
+use Rattle.vc_session.proofs.home.HomeEntry.blocks.Given as given
 use Rattle.vc_session.proofs.home.HomeEntry.blocks.Goals as goal
+
+abbrev meaning : (g : given.Over) → (x : g.dyn-1.0.I) × (g.dyn-1.0.entry x).0.Denot → Discipline
+meaning g p = (g.dyn-1.0.entry p.0).1.state p.1
 
 pub loop-block-smaller : goal.loop-block-smaller
 loop-block-smaller g c =
@@ -44,4 +49,4 @@ returns g c = λ r.
     ∙ (ap (λ is. c.loop-block.items.items ++ items_of labels is) (sym (blocks-end c.loop-block.after.0 bs places none))
     ∙ (c.loop-block.invariant.items
     ∙ ap (items_of labels) (blocks-all bs places)))) in
-    ap (λ is. changed_to (relabelled (name_of c.args.labels.now) (region_of c.args.self.now.region)) (BlockList is)) (list-items (region_of c.args.self.now.region) labels ∙ sym all)
+    ap (λ is. told (home_of (held_of (meaning g) r c.args.self.now c.args.labels.now)) (BlockList is)) (list-items (region_of c.args.self.now.region) labels ∙ sym all)

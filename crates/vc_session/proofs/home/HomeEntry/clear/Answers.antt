@@ -1,19 +1,29 @@
-use Rattle.std.proofs.Common.{sym, ap, ◌∙◌}
+use Rattle.std.proofs.Common.{refl, sym, ap, ◌∙◌}
 use Rattle.vc_region.proofs.Clearing.{cleared-blocks, cleared-segments}
-use Rattle.vc_region.specs.Region.{blocks_of, relabelled, segments_of}
+use Rattle.vc_region.proofs.Keeps.{clear-keeps}
+use Rattle.vc_region.specs.Region.{blocks_of, keeps_freed, relabelled, segments_of}
 use Rattle.vc_region.proofs.Sound.{own_places}
 use Rattle.vc_region.specs.Parts.{region_of}
-use Rattle.vc_script.specs.declared.reply.Reply.TheVariants.{Cleared}
+use Rattle.vc_model.specs.Discipline.{Discipline}
+use Rattle.vc_session.specs.Homes.{held_of}
 use Rattle.vc_session.specs.Labels.{name_of}
-use Rattle.vc_session.specs.State.{changed_to}
-use Rattle.vc_session.proofs.Emptying.{change-same, cleared-names, named-cleared}
+use Rattle.vc_session.proofs.Emptying.{change-same, cleared-names, kept-cleared, named-cleared, none-cleared}
+use Rattle.vc_session.proofs.home.HomeEntry.clear.Given as given
 use Rattle.vc_session.proofs.home.HomeEntry.clear.Goals as goal
+
+abbrev meaning : (g : given.Over) → (x : g.dyn-1.0.I) × (g.dyn-1.0.entry x).0.Denot → Discipline
+meaning g p = (g.dyn-1.0.entry p.0).1.state p.1
 
 pub returns-clause-step : goal.returns-clause-step
 returns-clause-step g c = λ r.
-    ap (λ q. changed_to q (Cleared c.args.name))
-    (cleared-names c.args.labels.now c.clear.new.self (region_of c.args.self.now.region)
-    ∙ ap (relabelled (name_of c.clear.new.self)) (sym c.clear-2.ensures.region))
+    let h = held_of (meaning g) r c.args.self.now c.args.labels.now in
+    record {
+      region_after =
+          cleared-names c.args.labels.now c.clear.new.self (region_of c.args.self.now.region)
+          ∙ ap (relabelled (name_of c.clear.new.self)) (sym c.clear-2.ensures.region);
+      kept_after = kept-cleared h c.args.line c.clear.new.self c.keeps_freed.result c.keeps_freed.ensures c.requires.names c.clear.ensures.kept;
+      replied = refl;
+    }
 
 pub returns-clause-change : goal.returns-clause-change
 returns-clause-change g c = λ r.
@@ -23,4 +33,5 @@ returns-clause-change g c = λ r.
     c.clear-2.ensures.disc
     (ap segments_of c.clear-2.ensures.region ∙ cleared-segments old)
     c.requires.lent
-    (named-cleared new c.clear.new.self c.clear.ensures.agree c.clear.ensures.no_names c.clear.ensures.count (own_places c.clear-2.new.self) (ap blocks_of c.clear-2.ensures.region ∙ cleared-blocks old))
+    (named-cleared new c.clear.new.self c.clear.ensures.agree c.clear.ensures.no_names c.clear.ensures.count (own_places c.clear-2.new.self) (ap blocks_of c.clear-2.ensures.region ∙ cleared-blocks old)
+    (λ e. none-cleared c.args.labels.now c.clear.new.self c.keeps_freed.result c.args.line c.clear.ensures.kept (c.keeps_freed.ensures ∙ (sym (ap keeps_freed c.clear-2.ensures.region ∙ clear-keeps old) ∙ e))))

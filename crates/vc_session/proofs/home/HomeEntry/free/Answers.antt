@@ -1,18 +1,19 @@
-use Rattle.std.proofs.Common.{◌≡◌, refl, ap, ◌∙◌}
+use Rattle.std.proofs.Common.{◌≡◌, refl, ap, ◌∙◌, sym}
 use Rattle.vc_model.specs.Addr.{place_of}
 use Rattle.vc_model.specs.Discipline.{Discipline}
 use Rattle.vc_model.specs.Layout.{address_of, without_block}
 use Rattle.vc_region.specs.Region.{blocks_of, segments_of}
 use Rattle.vc_region.specs.Parts.{disc_in, region_of}
 use Rattle.vc_region.proofs.Sound.{own_places}
-use Rattle.vc_script.specs.declared.refusal.Refusal.TheVariants as why
 use Rattle.vc_session.specs.Account.{home_of}
 use Rattle.vc_session.specs.Blocks.{free_block, free_in}
 use Rattle.vc_session.specs.Homes.{held_of}
+use Rattle.vc_session.specs.State.{unchanged}
 use Rattle.vc_session.specs.declared.labels.Label.{Label}
-use Rattle.vc_session.proofs.Answers.{changed-by, gives-unchanged, kept-same, out-same}
+use Rattle.vc_session.proofs.Answers.{changed-by, gives-unchanged, kept-same, none-no_segment, out-same}
 use Rattle.vc_session.proofs.Found.{on_block-none, the_block}
-use Rattle.vc_session.proofs.Gone.{free-segments, gives-freed, removed-label}
+use Rattle.vc_region.proofs.Freeing.{free-segments}
+use Rattle.vc_session.proofs.Gone.{gives-freed, kept-after, none-after, removed-label, removed-so}
 use Rattle.vc_session.proofs.Lists.{index}
 use Rattle.vc_session.proofs.Moving.{named-left}
 use Rattle.vc_session.proofs.home.HomeEntry.free.Given as given
@@ -24,8 +25,17 @@ meaning g p = (g.dyn-1.0.entry p.0).1.state p.1
 pub returns-in_default-clause-step : goal.returns-in_default-clause-step
 returns-in_default-clause-step g c = λ r.
     let h = held_of (meaning g) r c.args.self.now c.args.labels.now in
-    gives-unchanged (home_of h) (free_in (home_of h) c.args.name.now) why.NoBlock
-    (on_block-none h c.args.name.now (free_block (home_of h) c.args.name.now) c.requires.names c.in_default.ensures.none)
+    gives-unchanged (home_of h) (free_in (home_of h) c.args.name.now c.args.line) c.no_block.result
+    (on_block-none h c.args.name.now (free_block (home_of h) c.args.name.now c.args.line) c.requires.names c.in_default.ensures.none ∙ ap (unchanged (home_of h)) (sym c.no_block.ensures.value))
+
+pub returns-in_default-clause-granted : goal.returns-in_default-clause-granted
+returns-in_default-clause-granted g c = λ e. none-no_segment c.no_block.result c.no_block.ensures.granted e
+
+pub watch_line-watch-requires : goal.watch_line-watch-requires
+watch_line-watch-requires g c =
+    let label : Label = record { name = c.args.name.now; at = c.in-Some.at } in
+    let f = c.in-Some.ensures.some in
+    (the_block (region_of c.args.self.now.region) c.args.labels.now c.args.name.now f.0 label c.requires.names refl f.1 f.2).there
 
 pub free-requires : goal.free-requires
 free-requires g c =
@@ -42,8 +52,10 @@ returns-in-Ok-clause-step g c = λ r.
     let i = index (place_of label.at.0) b.block (blocks_of h.region) b.found in
     let left : blocks_of (region_of c.free.new.self) ≡ without_block (place_of label.at.0) (blocks_of h.region) =
     c.in-Ok.ensures.freed i.at i.within (λ d. ap address_of (i.is d) ∙ b.address) ∙ i.gone in
-    let w = removed-label h.labels c.remove.new.self c.args.name.now f.0 label f.1 f.2 c.remove.result c.remove.ensures.some c.remove.ensures.none in
-    gives-freed h c.args.name.now f.0 label c.requires.names refl f.1 f.2 c.remove.new.self w (region_of c.free.new.self) c.in-Ok.ensures.answer left
+    let w = removed-label h.labels c.free-in-Ok.new.self c.args.name.now f.0 label f.1 f.2 c.free-in-Ok.result c.free-in-Ok.ensures.some c.free-in-Ok.ensures.none in
+    let keeps = kept-after h c.args.name.now c.args.line f.0 label c.requires.names refl f.1 f.2 c.free-in-Ok.new.self c.keeps_freed-keeps.result c.keeps_freed-keeps.ensures
+    (removed-so h.labels c.free-in-Ok.new.self c.args.name.now f.0 _ f.1 c.free-in-Ok.result c.free-in-Ok.ensures.kept c.free-in-Ok.ensures.none) in
+    gives-freed h c.args.name.now c.args.line f.0 label c.requires.names refl f.1 f.2 c.free-in-Ok.new.self w (region_of c.free.new.self) c.in-Ok.ensures.answer left keeps c.watch_line-watch.result c.watch_line-watch.ensures
 
 pub returns-in-Ok-clause-change : goal.returns-in-Ok-clause-change
 returns-in-Ok-clause-change g c = λ r.
@@ -56,7 +68,10 @@ returns-in-Ok-clause-change g c = λ r.
     let disc = disc_in (meaning g) c.free.new.self in
     let left : blocks_of new ≡ without_block (place_of label.at.0) (blocks_of h.region) =
     c.in-Ok.ensures.freed i.at i.within (λ d. ap address_of (i.is d) ∙ b.address) ∙ i.gone in
-    let w = removed-label h.labels c.remove.new.self c.args.name.now f.0 label f.1 f.2 c.remove.result c.remove.ensures.some c.remove.ensures.none in
+    let w = removed-label h.labels c.free-in-Ok.new.self c.args.name.now f.0 label f.1 f.2 c.free-in-Ok.result c.free-in-Ok.ensures.some c.free-in-Ok.ensures.none in
+    let keeps = kept-after h c.args.name.now c.args.line f.0 label c.requires.names refl f.1 f.2 c.free-in-Ok.new.self c.keeps_freed-keeps.result c.keeps_freed-keeps.ensures
+    (removed-so h.labels c.free-in-Ok.new.self c.args.name.now f.0 _ f.1 c.free-in-Ok.result c.free-in-Ok.ensures.kept c.free-in-Ok.ensures.none) in
     let segments : segments_of new ≡ segments_of h.region = free-segments h.region new (place_of label.at.0) c.in-Ok.ensures.answer in
-    changed-by h disc new c.remove.new.self c.requires.lent (kept-same h.disc disc c.free.ensures.disc) (out-same h.disc disc (segments_of h.region) (segments_of new) c.free.ensures.disc segments)
-    (named-left h.labels h.region c.requires.names c.args.name.now f.0 label f.2 b c.remove.new.self w refl new left c.remove.ensures.agree (own_places c.free.new.self))
+    changed-by h disc new c.free-in-Ok.new.self c.requires.lent (kept-same h.disc disc c.free.ensures.disc) (out-same h.disc disc (segments_of h.region) (segments_of new) c.free.ensures.disc segments)
+    (named-left h.labels h.region c.requires.names c.args.name.now f.0 label f.2 b c.free-in-Ok.new.self w refl new left c.free-in-Ok.ensures.agree (own_places c.free.new.self)
+    (none-after h c.args.name.now c.args.line f.0 label c.requires.names refl f.1 f.2 c.free-in-Ok.new.self keeps new c.in-Ok.ensures.answer))

@@ -6,6 +6,7 @@ use Rattle.vc_script.specs.declared.refusal.Refusal.TheVariants as why
 use Rattle.vc_session.specs.Account.{home_of}
 use Rattle.vc_session.specs.Blocks.{read_block, read_in}
 use Rattle.vc_session.specs.Homes.{held_of}
+use Rattle.vc_session.specs.State.{unchanged}
 use Rattle.vc_session.specs.declared.labels.Label.{Label}
 use Rattle.vc_session.proofs.Answers.{gives-unchanged}
 use Rattle.vc_session.proofs.Found.{on_block-none, the_block}
@@ -32,8 +33,8 @@ read-requires-clause-block g c =
 pub returns-in-None : goal.returns-in-None
 returns-in-None g c = λ r.
     let h = held_of (meaning g) r c.args.self.now c.args.labels.now in
-    gives-unchanged (home_of h) (read_in (home_of h) c.args.name.now c.args.off c.args.len) why.NoBlock
-    (on_block-none h c.args.name.now (read_block (home_of h) c.args.name.now c.args.off c.args.len) c.requires.names c.in-None.ensures.none)
+    gives-unchanged (home_of h) (read_in (home_of h) c.args.name.now c.args.off c.args.len) c.no_block.result
+    (on_block-none h c.args.name.now (read_block (home_of h) c.args.name.now c.args.off c.args.len) c.requires.names c.in-None.ensures.none ∙ ap (unchanged (home_of h)) (sym c.no_block.ensures.value))
 
 pub returns-then-len-eq0 : goal.returns-then-len-eq0
 returns-then-len-eq0 g c = λ r.

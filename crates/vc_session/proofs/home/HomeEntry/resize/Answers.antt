@@ -1,4 +1,4 @@
-use Rattle.std.proofs.Common.{◌≡◌, true, false, Ok, Err, IfSome, refl, sym, subst}
+use Rattle.std.proofs.Common.{◌≡◌, true, false, Ok, Err, IfSome, refl, sym, subst, ap, ◌∙◌}
 use Rattle.vc_model.specs.Discipline.{Discipline}
 use Rattle.vc_region.specs.Region.{region_need, relabelled, segments_of}
 use Rattle.vc_region.specs.Parts.{disc_in, region_of}
@@ -6,10 +6,14 @@ use Rattle.vc_region.proofs.Sound.{own_places}
 use Rattle.vc_script.specs.declared.refusal.Refusal.TheVariants as why
 use Rattle.vc_session.specs.Account.{IsNamed, home_of}
 use Rattle.vc_session.specs.Blocks.{is_size, resize_block, resize_in}
+use Rattle.vc_script.specs.Needs.{need_shown}
+use Rattle.vc_script.specs.declared.reply.Reply.TheVariants.{Refused}
+use Rattle.vc_session.specs.Step.{is_for_block}
 use Rattle.vc_session.specs.Homes.{held_of}
-use Rattle.vc_session.specs.Labels.{MovesLabel, name_of}
+use Rattle.vc_session.specs.Labels.{MovesLabel, kept_of, name_of}
+use Rattle.vc_session.specs.State.{unchanged}
 use Rattle.vc_session.specs.declared.labels.Label.{Label}
-use Rattle.vc_session.proofs.Answers.{asks-kept, asks-out, changed-by, gives-unchanged, if_ok-all}
+use Rattle.vc_session.proofs.Answers.{asks-kept, asks-out, changed-by, gives-unchanged, if_ok-all, none-no_segment}
 use Rattle.vc_session.proofs.Found.{on_block-none, the_block}
 use Rattle.vc_session.proofs.Resizing.{call, gives-place, gives-resized, named-resized, resize-size, step-fault}
 use Rattle.vc_session.proofs.home.HomeEntry.resize.Given as given
@@ -21,8 +25,9 @@ meaning g p = (g.dyn-1.0.entry p.0).1.state p.1
 pub returns-in_default-clause-step : goal.returns-in_default-clause-step
 returns-in_default-clause-step g c = λ r.
     let h = held_of (meaning g) r c.args.self.now c.args.labels.now in
-    gives-unchanged (home_of h) (resize_in (home_of h) c.args.name.now c.args.size c.args.may_move false) why.NoBlock
-    (on_block-none h c.args.name.now (resize_block (home_of h) c.args.name.now c.args.size c.args.may_move false) c.requires.names c.in_default.ensures.none)
+    let u = is_for_block (need_shown (Refused c.no_block.result)) in
+    gives-unchanged (home_of h) (resize_in (home_of h) c.args.name.now c.args.size c.args.may_move u) c.no_block.result
+    (on_block-none h c.args.name.now (resize_block (home_of h) c.args.name.now c.args.size c.args.may_move u) c.requires.names c.in_default.ensures.none ∙ ap (unchanged (home_of h)) (sym c.no_block.ensures.value))
 
 pub returns-then-not-is_size-clause-step : goal.returns-then-not-is_size-clause-step
 returns-then-not-is_size-clause-step g c = λ r.
@@ -31,6 +36,15 @@ returns-then-not-is_size-clause-step g c = λ r.
     let f = c.in-Some.ensures.some in
     gives-unchanged (home_of h) (resize_in (home_of h) c.args.name.now c.args.size c.args.may_move false) why.Size
     (resize-size h c.args.name.now f.0 label c.requires.names refl f.1 f.2 c.args.size c.args.may_move false (sym c.if-not-is_size.ensures))
+
+pub returns-in_default-clause-unserved : goal.returns-in_default-clause-unserved
+returns-in_default-clause-unserved g c = λ e. absurd (none-no_segment c.no_block.result c.no_block.ensures.granted e)
+
+pub watch_line-watch-requires : goal.watch_line-watch-requires
+watch_line-watch-requires g c =
+    let label : Label = record { name = c.args.name.now; at = c.in-Some.at } in
+    let f = c.in-Some.ensures.some in
+    (the_block (region_of c.args.self.now.region) c.args.labels.now c.args.name.now f.0 label c.requires.names refl f.1 f.2).there
 
 pub resize-requires-clause-block : goal.resize-requires-clause-block
 resize-requires-clause-block g c =
@@ -45,8 +59,8 @@ returns-in-Ok-clause-step g c = λ r.
     let to : Label = record { name = c.args.name.now; at = c.in-Ok.to } in
     let f = c.in-Some.ensures.some in
     let moved = subst (λ o. IfSome o (λ t. MovesLabel h.labels c.move_to.new.self t to)) f.1 c.move_to.ensures.moved in
-    gives-place (resize_in (home_of h) c.args.name.now c.args.size c.args.may_move false) (relabelled (name_of c.move_to.new.self) (region_of c.resize.new.self)) c.args.name.now c.in-Ok.to.0 c.place_of.result c.place_of.ensures.seg c.place_of.ensures.off
-    (gives-resized h c.args.name.now f.0 label c.requires.names refl f.1 f.2 c.args.size c.args.may_move (sym c.if-not-is_size.ensures) c.move_to.new.self to moved refl (region_of c.resize.new.self) c.in-Ok.ensures.answer)
+    gives-place (resize_in (home_of h) c.args.name.now c.args.size c.args.may_move false) (relabelled (name_of c.move_to.new.self) (region_of c.resize.new.self), kept_of c.move_to.new.self) c.args.name.now c.in-Ok.to.0 c.place_of.result c.watch_line-watch.result c.place_of.ensures.seg c.place_of.ensures.off
+    (gives-resized h c.args.name.now f.0 label c.requires.names refl f.1 f.2 c.args.size c.args.may_move (sym c.if-not-is_size.ensures) c.move_to.new.self to moved refl c.move_to.ensures.kept (region_of c.resize.new.self) c.in-Ok.ensures.answer c.watch_line-watch.result c.watch_line-watch.ensures)
 
 pub returns-in-Ok-clause-change : goal.returns-in-Ok-clause-change
 returns-in-Ok-clause-change g c = λ r.
@@ -62,7 +76,7 @@ returns-in-Ok-clause-change g c = λ r.
     changed-by h disc new c.move_to.new.self c.requires.lent
     (asks-kept (Ok c.in-Ok.to) h.disc disc (segments_of h.region) (segments_of new) need c.in-Ok.ensures.disc)
     (asks-out (call h c.args.name.now f.0 label c.requires.names refl f.1 f.2 c.args.size c.args.may_move) h.region new h.disc disc need (Ok c.in-Ok.to) c.in-Ok.ensures.answer c.in-Ok.ensures.disc)
-    (named-resized h c.args.name.now f.0 label c.requires.names refl f.1 f.2 c.args.size c.args.may_move sized c.move_to.new.self to moved refl new c.in-Ok.ensures.answer c.in-Ok.ensures.there c.in-Ok.ensures.others c.move_to.ensures.agree (own_places c.resize.new.self))
+    (named-resized h c.args.name.now f.0 label c.requires.names refl f.1 f.2 c.args.size c.args.may_move sized c.move_to.new.self to moved refl c.move_to.ensures.kept new c.in-Ok.ensures.answer c.in-Ok.ensures.there c.in-Ok.ensures.others c.move_to.ensures.agree (own_places c.resize.new.self))
 
 pub returns-in-Err-clause-step : goal.returns-in-Err-clause-step
 returns-in-Err-clause-step g c =

@@ -17,17 +17,16 @@ abbrev meaning : (g : given.Over) → (x : g.dyn-1.0.I) × (g.dyn-1.0.entry x).0
 meaning g p = (g.dyn-1.0.entry p.0).1.state p.1
 
 pub returns-in-ClearRegion-clause-step : goal.returns-in-ClearRegion-clause-step
-returns-in-ClearRegion-clause-step g c = λ r.
-    rw c.in-ClearRegion.is (gives-changed _ _ c.clear.result (c.clear.ensures.step r))
+returns-in-ClearRegion-clause-step g c = rw c.in-ClearRegion.is c.clear.ensures.step
 
 pub returns-in-ClearRegion-clause-unserved : goal.returns-in-ClearRegion-clause-unserved
 returns-in-ClearRegion-clause-unserved g c = λ e.
     let k = home_of (held_of (meaning g) [] c.args.self.now c.args.labels.now) in
-    absurd (not_refused (clear_in k c.in-ClearRegion.name) c.clear.result (tt) (ap (λ (d : Changed). d.reply) (c.clear.ensures.step [])) (ap (get_ok c.clear.result) e))
+    absurd (not_refused (clear_in k c.in-ClearRegion.name c.args.line) c.clear.result (tt) ((c.clear.ensures.step []).replied) (ap (get_ok c.clear.result) e))
 
 pub returns-in-Compact-clause-step : goal.returns-in-Compact-clause-step
 returns-in-Compact-clause-step g c = λ r.
-    rw c.in-Compact.is (gives-changed _ _ c.compact.result (c.compact.ensures.step c.args.labels.now r))
+    rw c.in-Compact.is (gives-changed (home_of (held_of (meaning g) r c.args.self.now c.args.labels.now)) _ _ c.compact.result (c.compact.ensures.step c.args.labels.now r))
 
 pub returns-in-Compact-clause-unserved : goal.returns-in-Compact-clause-unserved
 returns-in-Compact-clause-unserved g c = λ e.
@@ -71,7 +70,7 @@ returns-in-SizeOf-clause-unserved g c = λ e.
 
 pub returns-in-AddrOf-clause-step : goal.returns-in-AddrOf-clause-step
 returns-in-AddrOf-clause-step g c = λ r.
-    rw c.in-AddrOf.is (gives-changed _ _ c.addr.result (c.addr.ensures r))
+    rw c.in-AddrOf.is (gives-changed (home_of (held_of (meaning g) r c.args.self.now c.args.labels.now)) _ _ c.addr.result (c.addr.ensures r))
 
 pub returns-in-AddrOf-clause-unserved : goal.returns-in-AddrOf-clause-unserved
 returns-in-AddrOf-clause-unserved g c = λ e.
@@ -80,7 +79,7 @@ returns-in-AddrOf-clause-unserved g c = λ e.
 
 pub returns-in-SegmentOf-clause-step : goal.returns-in-SegmentOf-clause-step
 returns-in-SegmentOf-clause-step g c = λ r.
-    rw c.in-SegmentOf.is (gives-changed _ _ c.segment.result (c.segment.ensures c.args.labels.now r))
+    rw c.in-SegmentOf.is (gives-changed (home_of (held_of (meaning g) r c.args.self.now c.args.labels.now)) _ _ c.segment.result (c.segment.ensures c.args.labels.now r))
 
 pub returns-in-SegmentOf-clause-unserved : goal.returns-in-SegmentOf-clause-unserved
 returns-in-SegmentOf-clause-unserved g c = λ e.
@@ -89,7 +88,7 @@ returns-in-SegmentOf-clause-unserved g c = λ e.
 
 pub returns-in-StatOf-clause-step : goal.returns-in-StatOf-clause-step
 returns-in-StatOf-clause-step g c = λ r.
-    rw c.in-StatOf.is (gives-changed _ _ c.stat.result (c.stat.ensures c.args.labels.now r))
+    rw c.in-StatOf.is (gives-changed (home_of (held_of (meaning g) r c.args.self.now c.args.labels.now)) _ _ c.stat.result (c.stat.ensures c.args.labels.now r))
 
 pub returns-in-StatOf-clause-unserved : goal.returns-in-StatOf-clause-unserved
 returns-in-StatOf-clause-unserved g c = λ e.
@@ -98,7 +97,7 @@ returns-in-StatOf-clause-unserved g c = λ e.
 
 pub returns-in-Segments-clause-step : goal.returns-in-Segments-clause-step
 returns-in-Segments-clause-step g c =
-    rw c.in-Segments.is (if_ok-map c.segments.result _ _ (λ told eq r. gives-changed _ _ told (eq c.args.labels.now r)) c.segments.ensures)
+    rw c.in-Segments.is (if_ok-map c.segments.result _ _ (λ told eq r. gives-changed (home_of (held_of (meaning g) r c.args.self.now c.args.labels.now)) _ _ told (eq c.args.labels.now r)) c.segments.ensures)
 
 pub returns-in-Segments-clause-unserved : goal.returns-in-Segments-clause-unserved
 returns-in-Segments-clause-unserved g c = λ e.
@@ -108,7 +107,7 @@ returns-in-Segments-clause-unserved g c = λ e.
 
 pub returns-in-Blocks-clause-step : goal.returns-in-Blocks-clause-step
 returns-in-Blocks-clause-step g c =
-    rw c.in-Blocks.is (if_ok-map c.blocks-in-Blocks.result _ _ (λ told eq r. gives-changed _ _ told (eq r)) c.blocks-in-Blocks.ensures)
+    rw c.in-Blocks.is (if_ok-map c.blocks-in-Blocks.result _ _ (λ told eq r. gives-changed (home_of (held_of (meaning g) r c.args.self.now c.args.labels.now)) _ _ told (eq r)) c.blocks-in-Blocks.ensures)
 
 pub returns-in-Blocks-clause-unserved : goal.returns-in-Blocks-clause-unserved
 returns-in-Blocks-clause-unserved g c = λ e.

@@ -2,13 +2,19 @@ use Rattle.std.proofs.Common.{◌≡◌, ◌++◌, [], ◌∷◌, length, sym, a
 use Rattle.vc_region.proofs.Relabel.{segments-relabelled}
 use Rattle.vc_model.specs.Walk.{by_number}
 use Rattle.vc_region.proofs.Sound.{own_numbers}
-use Rattle.vc_region.specs.Region.{relabelled}
 use Rattle.vc_region.specs.Parts.{region_of, segments_in}
 use Rattle.vc_script.specs.declared.reply.Reply.TheVariants.{SegmentList}
 use Rattle.vc_session.specs.Labels.{name_of}
-use Rattle.vc_session.specs.State.{changed_to}
+use Rattle.vc_session.specs.State.{told}
 use Rattle.vc_session.proofs.Listing.{segments-all, segments-end, segments-next, segments_above}
+use Rattle.vc_model.specs.Discipline.{Discipline}
+use Rattle.vc_session.specs.Account.{home_of}
+use Rattle.vc_session.specs.Homes.{held_of}
+use Rattle.vc_session.proofs.home.HomeEntry.segments.Given as given
 use Rattle.vc_session.proofs.home.HomeEntry.segments.Goals as goal
+
+abbrev meaning : (g : given.Over) → (x : g.dyn-1.0.I) × (g.dyn-1.0.entry x).0.Denot → Discipline
+meaning g p = (g.dyn-1.0.entry p.0).1.state p.1
 
 pub loop-segment-smaller : goal.loop-segment-smaller
 loop-segment-smaller g c =
@@ -34,4 +40,4 @@ returns g c = λ labels r.
     ∙ (ap (λ is. c.loop-segment.items.items ++ is) (sym (segments-end c.loop-segment.after ss numbers (sym c.in_default.ensures)))
     ∙ (c.loop-segment.invariant
     ∙ segments-all ss numbers))) in
-    ap (λ is. changed_to (relabelled (name_of labels) (region_of c.args.self.now.region)) (SegmentList is)) (ap by_number (segments-relabelled (name_of labels) (region_of c.args.self.now.region)) ∙ sym all)
+    ap (λ is. told (home_of (held_of (meaning g) r c.args.self.now labels)) (SegmentList is)) (ap by_number (segments-relabelled (name_of labels) (region_of c.args.self.now.region)) ∙ sym all)

@@ -1,12 +1,11 @@
-use Rattle.std.proofs.Common.{refl}
+use Rattle.std.proofs.Common.{refl, sym, ap, ◌∙◌}
 use Rattle.vc_model.specs.Discipline.{Discipline}
 use Rattle.vc_region.specs.Parts.{region_of}
-use Rattle.vc_script.specs.declared.refusal.Refusal.TheVariants as why
 use Rattle.vc_script.specs.declared.reply.Reply.TheVariants.{Size}
 use Rattle.vc_session.specs.Account.{home_of}
 use Rattle.vc_session.specs.Blocks.{size_in}
 use Rattle.vc_session.specs.Homes.{held_of}
-use Rattle.vc_session.specs.State.{told}
+use Rattle.vc_session.specs.State.{told, unchanged}
 use Rattle.vc_session.specs.declared.labels.Label.{Label}
 use Rattle.vc_session.proofs.Answers.{gives-unchanged}
 use Rattle.vc_session.proofs.Found.{on_block-none, the_block}
@@ -26,8 +25,8 @@ size-requires g c =
 pub returns-in-None : goal.returns-in-None
 returns-in-None g c = λ r.
     let h = held_of (meaning g) r c.args.self.now c.args.labels.now in
-    gives-unchanged (home_of h) (size_in (home_of h) c.args.name.now) why.NoBlock
-    (on_block-none h c.args.name.now (λ b. told (home_of h) (Size c.args.name.now b.size)) c.requires.names c.in-None.ensures.none)
+    gives-unchanged (home_of h) (size_in (home_of h) c.args.name.now) c.no_block.result
+    (on_block-none h c.args.name.now (λ b. told (home_of h) (Size c.args.name.now b.size)) c.requires.names c.in-None.ensures.none ∙ ap (unchanged (home_of h)) (sym c.no_block.ensures.value))
 
 pub returns-in-Some : goal.returns-in-Some
 returns-in-Some g c = λ r.

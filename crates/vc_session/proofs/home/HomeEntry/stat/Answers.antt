@@ -1,12 +1,18 @@
 use Rattle.std.proofs.Common.{sym, ap, ◌∙◌}
-use Rattle.vc_region.specs.Region.{relabelled}
 use Rattle.vc_region.specs.Parts.{region_of}
 use Rattle.vc_script.specs.declared.reply.Reply.TheVariants.{Stats}
 use Rattle.vc_region.proofs.Relabel.{stat-relabelled}
 use Rattle.vc_session.specs.Labels.{name_of}
-use Rattle.vc_session.specs.State.{changed_to}
+use Rattle.vc_session.specs.State.{told}
+use Rattle.vc_model.specs.Discipline.{Discipline}
+use Rattle.vc_session.specs.Account.{home_of}
+use Rattle.vc_session.specs.Homes.{held_of}
+use Rattle.vc_session.proofs.home.HomeEntry.stat.Given as given
 use Rattle.vc_session.proofs.home.HomeEntry.stat.Goals as goal
+
+abbrev meaning : (g : given.Over) → (x : g.dyn-1.0.I) × (g.dyn-1.0.entry x).0.Denot → Discipline
+meaning g p = (g.dyn-1.0.entry p.0).1.state p.1
 
 pub returns : goal.returns
 returns g c = λ labels r.
-    ap (λ s. changed_to (relabelled (name_of labels) (region_of c.args.self.now.region)) (Stats s)) (stat-relabelled (name_of labels) (region_of c.args.self.now.region) ∙ sym c.stat.ensures)
+    ap (λ s. told (home_of (held_of (meaning g) r c.args.self.now labels)) (Stats s)) (stat-relabelled (name_of labels) (region_of c.args.self.now.region) ∙ sym c.stat.ensures)

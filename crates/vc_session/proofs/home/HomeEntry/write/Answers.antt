@@ -1,4 +1,4 @@
-use Rattle.std.proofs.Common.{◌≡◌, ◌+◌, length, refl, ap, ◌∙◌, arith}
+use Rattle.std.proofs.Common.{◌≡◌, ◌+◌, length, refl, ap, ◌∙◌, arith, sym}
 use Rattle.std.specs.Prelude.{nat_le}
 use Rattle.vc_model.specs.Addr.{place_of}
 use Rattle.vc_model.specs.Discipline.{Discipline}
@@ -10,6 +10,7 @@ use Rattle.vc_script.specs.declared.refusal.Refusal.TheVariants as why
 use Rattle.vc_session.specs.Account.{home_of}
 use Rattle.vc_session.specs.Blocks.{write_block, write_in}
 use Rattle.vc_session.specs.Homes.{held_of}
+use Rattle.vc_session.specs.State.{unchanged}
 use Rattle.vc_session.specs.declared.labels.Label.{Label}
 use Rattle.vc_session.proofs.Answers.{changed-by, gives-unchanged, kept-same, out-same}
 use Rattle.vc_session.proofs.Found.{on_block-none, the_block}
@@ -26,6 +27,12 @@ size-requires g c =
     let f = c.in-Some.ensures.some in
     (the_block (region_of c.args.self.now.region) c.args.labels.now c.args.name.now f.0 label c.requires.names refl f.1 f.2).there
 
+pub watch_line-watch-requires : goal.watch_line-watch-requires
+watch_line-watch-requires g c =
+    let label : Label = record { name = c.args.name.now; at = c.in-Some.at } in
+    let f = c.in-Some.ensures.some in
+    (the_block (region_of c.args.self.now.region) c.args.labels.now c.args.name.now f.0 label c.requires.names refl f.1 f.2).there
+
 pub write-requires-clause-block : goal.write-requires-clause-block
 write-requires-clause-block g c =
     let label : Label = record { name = c.args.name.now; at = c.in-Some.at } in
@@ -35,8 +42,8 @@ write-requires-clause-block g c =
 pub returns-in-None-clause-step : goal.returns-in-None-clause-step
 returns-in-None-clause-step g c = λ r.
     let h = held_of (meaning g) r c.args.self.now c.args.labels.now in
-    gives-unchanged (home_of h) (write_in (home_of h) c.args.name.now c.args.off c.args.bytes.now) why.NoBlock
-    (on_block-none h c.args.name.now (write_block (home_of h) c.args.name.now c.args.off c.args.bytes.now) c.requires.names c.in-None.ensures.none)
+    gives-unchanged (home_of h) (write_in (home_of h) c.args.name.now c.args.off c.args.bytes.now) c.no_block.result
+    (on_block-none h c.args.name.now (write_block (home_of h) c.args.name.now c.args.off c.args.bytes.now) c.requires.names c.in-None.ensures.none ∙ ap (unchanged (home_of h)) (sym c.no_block.ensures.value))
 
 pub returns-then-off-bytes-clause-step : goal.returns-then-off-bytes-clause-step
 returns-then-off-bytes-clause-step g c = λ r.
@@ -57,7 +64,7 @@ returns-else-off-bytes-clause-step g c = λ r.
     let last = c.args.off + length c.args.bytes.now in
     let size = size-told h c.args.name.now f.0 label c.requires.names refl f.1 f.2 c.size.result c.size.ensures in
     gives-written h c.args.name.now f.0 label c.requires.names refl f.1 f.2 c.args.off c.args.bytes.now (region_of c.write.new.self)
-    (ap (nat_le last) size ∙ le-within last c.size.result (omega arith)) c.write.ensures.region
+    (ap (nat_le last) size ∙ le-within last c.size.result (omega arith)) c.write.ensures.region c.watch_line-watch.result c.watch_line-watch.ensures
 
 pub returns-else-off-bytes-clause-change : goal.returns-else-off-bytes-clause-change
 returns-else-off-bytes-clause-change g c = λ r.

@@ -57,7 +57,7 @@ returns-in-Ok-clause-step g c =
     let labels = c.args.self.now.labels.items in
     let absent : is_some (lookup (bytes_eq c.args.name) entries) ≡ false = sym c.if-contains_key.ensures in
     let home : HomeEntry _ _ = record { place = c.args.n; region = c.in-Ok.region } in
-    let none : AreNone c.new.result = record { agree = c.new.ensures.agree; names = c.new.ensures.no_names; count = c.new.ensures.count } in
+    let none : AreNone c.new.result = record { agree = c.new.ensures.agree; names = c.new.ensures.no_names; count = c.new.ensures.count; kept = c.new.ensures.kept } in
     let d = boxed M c.in-Some.disc in
     let r = region_of c.in-Ok.region in
     let new : held_of M c.args.name home c.new.result ≡ fresh c.args.name c.args.n d r c.new.result = ap (λ e. fresh c.args.name c.args.n e r c.new.result) c.in-Ok.ensures.ok.1 in
@@ -82,7 +82,7 @@ returns-in-Ok-clause-session g c =
     let labels = c.args.self.now.labels.items in
     let absent : is_some (lookup (bytes_eq c.args.name) entries) ≡ false = sym c.if-contains_key.ensures in
     let home : HomeEntry _ _ = record { place = c.args.n; region = c.in-Ok.region } in
-    let none : AreNone c.new.result = record { agree = c.new.ensures.agree; names = c.new.ensures.no_names; count = c.new.ensures.count } in
+    let none : AreNone c.new.result = record { agree = c.new.ensures.agree; names = c.new.ensures.no_names; count = c.new.ensures.count; kept = c.new.ensures.kept } in
     let d = boxed M c.in-Some.disc in
     let r = region_of c.in-Ok.region in
     let new : held_of M c.args.name home c.new.result ≡ fresh c.args.name c.args.n d r c.new.result = ap (λ e. fresh c.args.name c.args.n e r c.new.result) c.in-Ok.ensures.ok.1 in
@@ -112,7 +112,7 @@ returns-in-Ok-clause-settled g c =
     let labels = c.args.self.now.labels.items in
     let absent : is_some (lookup (bytes_eq c.args.name) entries) ≡ false = sym c.if-contains_key.ensures in
     let home : HomeEntry _ _ = record { place = c.args.n; region = c.in-Ok.region } in
-    let none : AreNone c.new.result = record { agree = c.new.ensures.agree; names = c.new.ensures.no_names; count = c.new.ensures.count } in
+    let none : AreNone c.new.result = record { agree = c.new.ensures.agree; names = c.new.ensures.no_names; count = c.new.ensures.count; kept = c.new.ensures.kept } in
     let d = boxed M c.in-Some.disc in
     let r = region_of c.in-Ok.region in
     let new : held_of M c.args.name home c.new.result ≡ fresh c.args.name c.args.n d r c.new.result = ap (λ e. fresh c.args.name c.args.n e r c.new.result) c.in-Ok.ensures.ok.1 in

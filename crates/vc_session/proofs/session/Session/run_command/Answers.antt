@@ -137,7 +137,7 @@ returns-in_ok-run-in-Some-get_index_of-clause-settles g c =
     let works = sym c.region_of.ensures ∙ c.in-Some.is in
     let reply = c.in_ok-run-in-Some-get_index_of.field-0 in
     let gives = c.in_ok-run-in-Some-get_index_of.ensures.step c.in-Some.name in
-    let plain = plain-region (home_of h) c.args.command.now (need_shown reply) in
+    let plain = plain-region (home_of h) c.args.line c.args.command.now (need_shown reply) in
     subst (λ hs. Settles (settled (accounts slots) helds) (settled (accounts slots) hs) (refusal_at (state_of slots helds) c.args.command.now reply)) (sym after)
     (settles-reply slots helds i h k at c.requires.held change c.in-Some.name c.args.command.now reply works
     (found-change slots helds i h k at c.requires.held change c.in-Some.name first)

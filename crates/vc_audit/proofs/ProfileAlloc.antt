@@ -1,0 +1,166 @@
+-- What a profile region counts when a block is put.
+use Rattle.std.proofs.Common.{◌≡◌, ◌≢◌, ℕ, suc, ◌+◌, ◌*◌, ◌<◌, ◌≤◌, eqb, false, Bool, cond, List, [], ◌∷◌, Some, IsSome, Option, None, is_some, map, max, refl, sym, ap, ◌∙◌, subst, arith}
+use Rattle.std.specs.Prelude.{unwrap_or}
+use Rattle.std.specs.List.{AllByRecursion, IsDistinct}
+use Rattle.std.specs.Map.{keys_of, lookup}
+use Rattle.std.specs.Str.{bytes_eq}
+use Rattle.std.proofs.lemmas.Bool.{eq-eqb}
+use Rattle.std.proofs.lemmas.Bool.Decides.{nat_tests}
+use Rattle.indexmap.specs.IndexMap.{insert_entry}
+use Rattle.vc_model.specs.Best.{best_alloc, zeros}
+use Rattle.vc_model.specs.Discipline.{Terms}
+use Rattle.vc_model.specs.Layout.{Block, Layout, address_of, relabel_block, with_block}
+use Rattle.vc_model.specs.Outcome.{Outcome, Put}
+use Rattle.vc_model.specs.Touch.{HasBlock}
+use Rattle.vc_model.proofs.Relabel.{best_alloc-relabel, relabel_outcome}
+use Rattle.vc_seg.specs.Answer.{IsPut, IsRefusal}
+use Rattle.vc_seg.specs.declared.fault.RegionFault.{RegionFault}
+use Rattle.vc_audit.specs.Profile.{Profile, profile_after, profile_alloc, site_blocks, site_bytes, with_site}
+use Rattle.vc_audit.specs.ProfileSites.{site_at}
+use Rattle.vc_audit.specs.ProfileSums.{IsCounted, IsHeld, IsRow, Rows, peaks_of, row_for, sited, with_its_site}
+use Rattle.vc_audit.specs.declared.profile.rows.Row.{Row}
+use Rattle.vc_audit.specs.declared.profile.sites.Sited.{Sited}
+use Rattle.vc_audit.proofs.ProfileBare.{IsKept, bare, bare-layout, kept-layout}
+use Rattle.vc_audit.proofs.ProfileCounts.{blocks-total, bytes-few, bytes-total, one, size_at, total-with}
+use Rattle.vc_audit.proofs.ProfileFree.{profile}
+use Rattle.vc_audit.proofs.ProfileHeld.{held-put, other-site, row-any}
+use Rattle.vc_audit.proofs.ProfileLists.{all-both, all-map, all-weaken, all-with}
+use Rattle.vc_audit.proofs.ProfilePuts.{HasOneMore, WithSites, alloc-blocks, put-profile, refusal-with, with-sites}
+use Rattle.vc_audit.proofs.ProfileRows.{own_site, peaks-put, put-own, rows-put}
+
+pub some-of : {A : Type 0} (o : Option A) (d : A) → IsSome o → o ≡ Some (unwrap_or o d)
+some-of None d h = absurd (cc)
+some-of (Some x) d h = refl
+
+-- no block stands at an address that none has
+pub all-elsewhere : (a : ℕ) (bs : List (Block ℕ)) → ¬ HasBlock bs a → AllByRecursion (λ b. address_of b ≢ a) bs
+all-elsewhere a [] fresh = tt
+all-elsewhere a (b ∷ bs) fresh = (λ e. fresh (0, omega arith, e), all-elsewhere a bs (λ h. fresh (suc h.0, omega (arith, h.1), h.2)))
+
+-- the call of the best region is that of the profile without its sites
+pub alloc-bare : (t : List Sited) (r : Layout ℕ) (terms : Terms) (tag : ℕ) (site : List ℕ) (size align : ℕ) (u : Bool) → best_alloc terms r tag size align u ≡ relabel_outcome bare (best_alloc terms (sited t r) (tag, site) size align u)
+alloc-bare t r terms tag site size align u =
+    ap (λ l. best_alloc terms l tag size align u) (sym (bare-layout t r)) ∙ best_alloc-relabel bare terms (sited t r) (tag, site) size align u
+
+pub alloc-refused : (t : List Sited) (r : Layout ℕ) (es : Rows) (terms : Terms) (tag : ℕ) (site : List ℕ) (size align : ℕ) (e : RegionFault) (name : List ℕ) → site ≡ name → IsRefusal (best_alloc terms r tag size align) e → IsRefusal (profile_alloc terms (profile t r es) tag name size align) e
+alloc-refused t r es terms tag site size align e name named h =
+    subst (λ x. IsRefusal (profile_alloc terms (profile t r es) tag x size align) e) named
+    (refusal-with (profile_after (with_site site (peaks_of es))) (best_alloc terms r tag size align) (best_alloc terms (sited t r) (tag, site) size align) (alloc-bare t r terms tag site size align) e h)
+
+-- the sums of the site have room for one more
+pub few-bytes : (r : Layout ℕ) (t : List Sited) (es : Rows) (site : List ℕ) → IsCounted r t es → (row_for site es).bytes ≤ 16777216 * 4294967295
+few-bytes r t es site counted =
+    let S = map (with_its_site t) r.blocks in
+    let row = row-any t es site r.blocks counted.held counted.counted in
+    let sizes : AllByRecursion (λ (b : Block (ℕ × List ℕ)). b.size ≤ 16777216) S = all-map (with_its_site t) (λ (b : Block (ℕ × List ℕ)). b.size ≤ 16777216) r.blocks (all-weaken (IsHeld t es) (λ b. b.size ≤ 16777216) r.blocks (λ b h. h.most) counted.held) in
+    omega (arith, bytes-few site S sizes, row.blocks_are, row.bytes_are, row.few)
+
+module _ (r : Layout ℕ) (t : List Sited) (es : Rows) (counted : IsCounted r t es) (distinct : IsDistinct bytes_eq (keys_of es)) (terms : Terms) (tag : ℕ) (site : List ℕ) (size align : ℕ) (most : size ≤ 16777216) (a : ℕ) (fresh : ¬ HasBlock r.blocks a) (r' : Layout ℕ) (placed : IsPut (best_alloc terms r tag size align false) a r')
+    (t' : List Sited) (kept : (q : ℕ) → site_at q t' ≡ cond (eqb a q) (Some site) (site_at q t))
+    (w : Row) (few : (row_for site es).blocks < 4294967295) (w_blocks : w.blocks ≡ (row_for site es).blocks + 1) (w_bytes : w.bytes ≡ (row_for site es).bytes + size) (w_peak : w.peak ≡ max (row_for site es).peak w.bytes) where
+  abbrev S : List (Block (ℕ × List ℕ))
+  S = map (with_its_site t) r.blocks
+
+  abbrev outcome : Outcome (Put (Layout (ℕ × List ℕ)))
+  outcome = best_alloc terms (sited t r) (tag, site) size align false
+
+  abbrev es' : Rows
+  es' = insert_entry bytes_eq es site w
+
+  put : WithSites outcome a r' (HasOneMore (sited t r) (tag, site) size)
+  put = with-sites outcome a r' (HasOneMore (sited t r) (tag, site) size) (subst (λ o. IsPut o a r') (alloc-bare t r terms tag site size align false) placed) (alloc-blocks terms (sited t r) (tag, site) size align false)
+
+  abbrev q : Layout (ℕ × List ℕ)
+  q = put.put.region
+
+  abbrev z : Block (ℕ × List ℕ)
+  z = zeros (tag, site) size put.put.at
+
+  z-at : address_of z ≡ a
+  z-at = sym put.address
+
+  kept-own : site_at a t' ≡ Some site
+  kept-own = kept a ∙ ap (λ v. cond v (Some site) (site_at a t)) (eq-eqb a a refl)
+
+  kept-other : (n : ℕ) → n ≢ a → site_at n t' ≡ site_at n t
+  kept-other n other =
+      let differs : eqb a n ≡ false = grind (arith, nat_tests, other) in
+      kept n ∙ ap (λ v. cond v (Some site) (site_at n t)) differs
+
+  z-kept : IsKept t' z
+  z-kept = ap (λ n. site_at n t') z-at ∙ kept-own
+
+  elsewhere : AllByRecursion (λ b. address_of b ≢ a) r.blocks
+  elsewhere = all-elsewhere a r.blocks fresh
+
+  old-kept : AllByRecursion (IsKept t') S
+  old-kept =
+      all-map (with_its_site t) (IsKept t') r.blocks
+      (all-both (IsHeld t es) (λ b. address_of b ≢ a) (λ b. IsKept t' (with_its_site t b)) r.blocks (λ b h other. kept-other (address_of b) other ∙ some-of (site_at (address_of b) t) [] h.kept) counted.held elsewhere)
+
+  all-kept : AllByRecursion (IsKept t') q.blocks
+  all-kept = subst (AllByRecursion (IsKept t')) (sym put.holds) (all-with (IsKept t') z S z-kept old-kept)
+
+  layout-is : sited t' r' ≡ q
+  layout-is = ap (sited t') put.layout ∙ kept-layout t' q all-kept
+
+  blocks-more : (x : List ℕ) → site_blocks x q.blocks ≡ one x z + site_blocks x S
+  blocks-more x = ap (site_blocks x) put.holds ∙ (blocks-total x (with_block z S) ∙ (total-with (one x) z S ∙ ap (λ n. one x z + n) (sym (blocks-total x S))))
+
+  bytes-more : (x : List ℕ) → site_bytes x q.blocks ≡ size_at x z + site_bytes x S
+  bytes-more x = ap (site_bytes x) put.holds ∙ (bytes-total x (with_block z S) ∙ (total-with (size_at x) z S ∙ ap (λ n. size_at x z + n) (sym (bytes-total x S))))
+
+  row-is : IsRow S (site, row_for site es)
+  row-is = row-any t es site r.blocks counted.held counted.counted
+
+  own-one : one site z ≡ 1
+  own-one = ap (λ v. cond v 1 0) (own_site site)
+
+  own-size : size_at site z ≡ size
+  own-size = ap (λ v. cond v size 0) (own_site site)
+
+  same : (x : List ℕ) → bytes_eq site x ≡ false → (site_blocks x q.blocks ≡ site_blocks x S) × (site_bytes x q.blocks ≡ site_bytes x S)
+  same x e =
+      let none : one x z ≡ 0 = ap (λ v. cond v 1 0) (other-site site x e) in
+      let no_size : size_at x z ≡ 0 = ap (λ v. cond v size 0) (other-site site x e) in
+      (omega (arith, blocks-more x, none), omega (arith, bytes-more x, no_size))
+
+  w-is : IsRow q.blocks (site, w)
+  w-is = record {
+    blocks_are = omega (arith, row-is.blocks_are, blocks-more site, own-one, w_blocks);
+    bytes_are = omega (arith, row-is.bytes_are, bytes-more site, own-size, w_bytes);
+    few = omega (arith, few, w_blocks);
+    peak = omega (arith, w_peak);
+  }
+
+  z-held : IsHeld t' es' (relabel_block bare z)
+  z-held = record {
+    kept = ap is_some z-kept;
+    row = subst (λ o. IsSome (lookup (bytes_eq (unwrap_or o [])) es')) (sym z-kept) (put-own site w es);
+    most = most;
+  }
+
+  old-held : AllByRecursion (λ (c : Block (ℕ × List ℕ)). IsHeld t' es' (relabel_block bare c)) S
+  old-held =
+      all-map (with_its_site t) (λ (c : Block (ℕ × List ℕ)). IsHeld t' es' (relabel_block bare c)) r.blocks
+      (all-both (IsHeld t es) (λ b. address_of b ≢ a) (IsHeld t' es') r.blocks (λ b h other. held-put t t' es site w b h (kept-other (address_of b) other)) counted.held elsewhere)
+
+  pub counted-put : IsCounted r' t' es'
+  counted-put = record {
+    held =
+        subst (λ (l : Layout ℕ). AllByRecursion (IsHeld t' es') l.blocks) (sym put.layout)
+        (all-map (relabel_block bare) (IsHeld t' es') q.blocks
+        (subst (AllByRecursion (λ (c : Block (ℕ × List ℕ)). IsHeld t' es' (relabel_block bare c))) (sym put.holds) (all-with (λ (c : Block (ℕ × List ℕ)). IsHeld t' es' (relabel_block bare c)) z S z-held old-held)));
+    counted = subst (λ (l : Layout (ℕ × List ℕ)). AllByRecursion (IsRow l.blocks) es') (sym layout-is) (rows-put S q.blocks site w w-is same es distinct counted.counted);
+  }
+
+  put-is : IsPut (profile_alloc terms (profile t r es) tag site size align false) a (profile t' r' es')
+  put-is =
+      let with : Layout (ℕ × List ℕ) → List (List ℕ × ℕ) → Profile ℕ = λ l ps. record { layout = l; peaks = ps } in
+      put-profile (with_site site (peaks_of es)) outcome a r' (HasOneMore (sited t r) (tag, site) size) put (profile t' r' es')
+      (ap (λ l. with l (peaks_of es')) layout-is ∙ ap (with q) (peaks-put S q.blocks site w w-is same es distinct counted.counted w_peak))
+
+  pub profile-put : (name : List ℕ) → site ≡ name → (rows : Rows) → rows ≡ es' → IsPut (profile_alloc terms (profile t r es) tag name size align false) a (profile t' r' rows)
+  profile-put name named rows is =
+      subst (λ x. IsPut (profile_alloc terms (profile t r es) tag x size align false) a (profile t' r' rows)) named
+      (subst (λ v. IsPut (profile_alloc terms (profile t r es) tag site size align false) a (profile t' r' v)) (sym is) put-is)

@@ -1,0 +1,31 @@
+ghost use Rattle.vc_audit.specs.DebugGuard.{HasGuards};
+
+mod alloc;
+mod block;
+mod check;
+mod free;
+mod guard;
+mod mark;
+mod open;
+mod resize;
+mod rows;
+mod walk;
+mod watch;
+
+pub use rows::{debug_damage, debug_marks, debug_places, debug_resizing};
+use vc_best::Best;
+
+/// Marks a counter of steps that no one reads.
+struct Uncounted;
+
+/// A region by exact best fit that finds damage around its blocks, after Vmalloc's `Vmdebug`. In front of the user's
+/// bytes of each block stand 32 bytes of guard, and 16 bytes behind them. Addresses, sizes and bytes are the user's.
+#[derive(Drop)]
+pub struct Debug {
+    /// The region whose blocks hold the guards and the user's bytes.
+    pub best: Best,
+    /// The marks of the blocks that are watched: the address of the user's bytes and the line.
+    marks: Vec<(u32, u32)>,
+    /// Each block has room for its guards.
+    pub ghost guarded: { HasGuards best.layout.blocks },
+}

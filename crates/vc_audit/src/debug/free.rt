@@ -1,0 +1,68 @@
+ghost use Rattle.std.specs.Prelude.{◌≡◌, ℕ, ◌+◌, ◌<◌, ◌≤◌, length};
+ghost use Rattle.std.specs.List.{HoldsAt, remove};
+ghost use Rattle.vc_model.specs.Addr.{place_of};
+ghost use Rattle.vc_model.specs.Compact.{cleared};
+ghost use Rattle.vc_model.specs.Discipline.{HasOut, TookBack};
+ghost use Rattle.vc_model.specs.Layout.{address_of};
+ghost use Rattle.vc_model.specs.Touch.{HasBlock};
+ghost use Rattle.vc_audit.specs.Debug.{debug_clear, debug_compact, debug_compact_count, debug_free};
+ghost use Rattle.vc_audit.specs.DebugParts.{blocks_in, boxed, debug_of, disc_in, segments_in};
+
+use crate::debug::guard::guarded_addr;
+use crate::debug::mark::drop_mark;
+use crate::debug::{Debug, Uncounted};
+use vc_base::{Addr, Steps};
+use vc_best::Best;
+use vc_seg::{BoxedDisc, SegDisc};
+
+// Frees all blocks of a best region. The condition always holds.
+fn clear_best(best: &mut Best)
+    requires { 0 ≤ 0 }
+    ensures layout { best.new.layout ≡ cleared best.old.layout }
+    ensures disc { boxed state best.new.disc ≡ boxed state best.old.disc }
+{
+    let mut steps = Steps::<Uncounted>::new(best.alloc);
+    best.clear(&mut steps);
+}
+
+/// The calls that make room. They can't fail, and take no memory.
+impl Debug {
+    /// Frees the block at that address, and ends its mark.
+    pub fn free(&mut self, a: Addr)
+        requires { HasBlock (blocks_in self.old) a.0 }
+        ensures debug { debug_of self.new ≡ debug_free (debug_of self.old) (place_of a.0) }
+        ensures disc { disc_in state self.new ≡ disc_in state self.old }
+
+        // It is the one block at that address that goes.
+        ensures one_less { length (blocks_in self.new) + 1 ≡ length (blocks_in self.old) }
+        ensures freed { (i : ℕ) → i < length (blocks_in self.old)
+            → HoldsAt (λ b. address_of b ≡ a.0) (blocks_in self.old) i
+            → blocks_in self.new ≡ remove (blocks_in self.old) i }
+        ensures none_left { ¬ HasBlock (blocks_in self.new) a.0 }
+    {
+        let mut steps = Steps::<Uncounted>::new(self.best.alloc);
+        self.best.free(guarded_addr(a), &mut steps);
+        drop_mark(&mut self.marks, a);
+    }
+
+    /// Frees all its blocks, ends all marks, and keeps its segments.
+    pub fn clear(&mut self)
+        ensures debug { debug_of self.new ≡ debug_clear (debug_of self.old) }
+        ensures disc { disc_in state self.new ≡ disc_in state self.old }
+    {
+        clear_best(&mut self.best);
+        self.marks.clear();
+    }
+
+    /// Gives back each segment without a block, in ascending order of number, and answers how many those were.
+    pub fn compact(&mut self) -> u32
+        requires { HasOut (disc_in state self.old) (segments_in self.old) }
+        ensures debug { debug_of self.new ≡ debug_compact (debug_of self.old) }
+        ensures count { result ≡ debug_compact_count (debug_of self.old) }
+        ensures disc { TookBack (disc_in state self.old) (disc_in state self.new)
+            (segments_in self.old) (segments_in self.new) }
+    {
+        let mut steps = Steps::<Uncounted>::new(self.best.alloc);
+        self.best.compact(&mut steps)
+    }
+}

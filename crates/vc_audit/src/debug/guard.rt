@@ -1,0 +1,78 @@
+ghost use Rattle.std.specs.Prelude.{◌≡◌, ◌+◌, ◌-◌, ◌≤◌};
+ghost use Rattle.vc_model.specs.Addr.{place_of};
+ghost use Rattle.vc_model.specs.Layout.{without_block};
+ghost use Rattle.vc_model.specs.Touch.{HasBlock, HasRange};
+ghost use Rattle.vc_audit.specs.DebugParts.{boxed};
+ghost use Rattle.vc_audit.specs.Debug.{with_back_guard, with_guards, with_zeros};
+
+use vc_base::Addr;
+use vc_best::Best;
+use vc_seg::{BoxedDisc, SegDisc};
+
+// The byte that guards are made of.
+const GUARD: u8 = 0xA5;
+
+/// The address of the block with guards around the user's bytes at an address.
+pub(super) fn guarded_addr(a: Addr) -> Addr
+    requires { 1 ≤ a.0 }
+    ensures { result.0 ≡ a.0 - 1 }
+{
+    Addr(a.0 - 1)
+}
+
+/// The same for the address that a walk goes on from, which may be none.
+pub(super) fn guarded_after(after: Addr) -> Addr
+    ensures { result.0 ≡ after.0 - 1 }
+{
+    Addr(after.0.saturating_sub(1))
+}
+
+/// The address of the user's bytes in the block with guards at an address.
+pub(super) fn user_addr(a: Addr) -> Addr
+    requires { (place_of a.0).1 + 33 ≤ 33554432 }
+    ensures { result.0 ≡ a.0 + 1 }
+{
+    Addr(a.0 + 1)
+}
+
+/// Writes the back guard of a block.
+fn write_back_guard(best: &mut Best, at: Addr, size: u32)
+    requires block { HasBlock best.old.layout.blocks at.0 }
+    requires range { HasRange best.old.layout.blocks at.0 (32 + size) 16 }
+    requires most { size ≤ 16777216 }
+    ensures layout { best.new.layout ≡ with_back_guard best.old.layout (place_of at.0) size }
+    ensures others { without_block (place_of at.0) best.new.layout.blocks
+        ≡ without_block (place_of at.0) best.old.layout.blocks }
+    ensures disc { boxed state best.new.disc ≡ boxed state best.old.disc }
+{
+    best.fill(at, 32 + size, 16, GUARD);
+}
+
+/// Writes both guards of a block.
+pub(super) fn write_guards(best: &mut Best, at: Addr, size: u32)
+    requires block { HasBlock best.old.layout.blocks at.0 }
+    requires range { HasRange best.old.layout.blocks at.0 0 (size + 48) }
+    requires most { size ≤ 16777216 }
+    ensures layout { best.new.layout ≡ with_guards best.old.layout (place_of at.0) size }
+    ensures others { without_block (place_of at.0) best.new.layout.blocks
+        ≡ without_block (place_of at.0) best.old.layout.blocks }
+    ensures disc { boxed state best.new.disc ≡ boxed state best.old.disc }
+{
+    best.fill(at, 0, 32, GUARD);
+    write_back_guard(best, at, size);
+}
+
+/// Writes zeros behind the user's bytes that are kept of a block, and the back guard.
+pub(super) fn write_zeros(best: &mut Best, at: Addr, kept: u32, size: u32)
+    requires block { HasBlock best.old.layout.blocks at.0 }
+    requires range { HasRange best.old.layout.blocks at.0 0 (size + 48) }
+    requires within { kept ≤ size }
+    requires most { size ≤ 16777216 }
+    ensures layout { best.new.layout ≡ with_zeros best.old.layout (place_of at.0) kept size }
+    ensures others { without_block (place_of at.0) best.new.layout.blocks
+        ≡ without_block (place_of at.0) best.old.layout.blocks }
+    ensures disc { boxed state best.new.disc ≡ boxed state best.old.disc }
+{
+    best.fill(at, 32 + kept, size - kept, 0);
+    write_back_guard(best, at, size);
+}

@@ -1,0 +1,67 @@
+ghost use Rattle.std.specs.Prelude.{◌≡◌, ◌≤◌, Some, IfOk, length};
+ghost use Rattle.vc_model.specs.Addr.{place_of};
+ghost use Rattle.vc_model.specs.Best.{best_need, zeros};
+ghost use Rattle.vc_model.specs.Layout.{without_block};
+ghost use Rattle.vc_model.specs.Place.{IsAlign};
+ghost use Rattle.vc_model.specs.Touch.{HasBlock, find_block};
+ghost use Rattle.vc_seg.specs.Answer.{Answers, Asks};
+ghost use Rattle.vc_audit.specs.Profile.{profile_alloc};
+ghost use Rattle.vc_audit.specs.ProfileParts.{blocks_in, disc_in, profile_of, segments_in};
+
+use crate::profile::rows::{put_row, row_for};
+use crate::profile::{Profile, Uncounted};
+use vc_base::{Addr, Name, Steps};
+use vc_seg::{BoxedDisc, RegionFault, SegDisc};
+
+impl Profile {
+    /// A block of zeros that has a site of 1 to 32 bytes: 1 to 16,777,216 bytes at an offset that the alignment divides,
+    /// a power of two from 32 to 4,096. Where no gap holds it, a segment is asked for. The site's row and the room to
+    /// keep the block's site are made before all else, and where there is no memory for them the answer is `OutOfMemory`;
+    /// so it is where the site has 4,294,967,295 blocks. Where the block is refused, no row is left.
+    pub fn alloc(
+        &mut self,
+        size: u32,
+        align: u32,
+        tag: u32,
+        site: &[u8],
+    ) -> Result<Addr, RegionFault>
+        requires some { 1 ≤ size }
+        requires most { size ≤ 16777216 }
+        requires align { IsAlign align }
+        requires named { 1 ≤ length site.now }
+        requires short { length site.now ≤ 32 }
+
+        ensures answer { Answers
+            (profile_alloc (disc_in state self.old).terms (profile_of self.old)
+            tag site.now size align)
+            result (profile_of self.old) (profile_of self.new) }
+        ensures disc { Asks result (disc_in state self.old) (disc_in state self.new)
+            (segments_in self.old) (segments_in self.new)
+            (best_need (disc_in state self.old).terms size align) }
+
+        // The block stands there, at an address of its own, and the others stay.
+        ensures there { IfOk result (λ a. find_block (place_of a.0) (blocks_in self.new)
+            ≡ Some (zeros tag size (place_of a.0))) }
+        ensures fresh { IfOk result (λ a. ¬ HasBlock (blocks_in self.old) a.0) }
+        ensures others { IfOk result (λ a. without_block (place_of a.0) (blocks_in self.new)
+            ≡ blocks_in self.old) }
+    {
+        let site = Name::new(site);
+        let row = row_for(&self.rows, &site);
+        if row.blocks >= 4_294_967_295 {
+            return Err(RegionFault::OutOfMemory);
+        }
+        self.rows.reserve(1).map_err(|_| RegionFault::OutOfMemory)?;
+        self.sites.reserve().map_err(|_| RegionFault::OutOfMemory)?;
+        let mut steps = Steps::<Uncounted>::new(self.best.alloc);
+        match self.best.alloc(size, align, tag, &mut steps) {
+            Ok(a) => {
+                self.sites.put(a, site);
+                let bytes = row.bytes + size as u64;
+                put_row(&mut self.rows, site, row.with(row.blocks + 1, bytes));
+                Ok(a)
+            }
+            Err(fault) => Err(fault),
+        }
+    }
+}

@@ -1,0 +1,77 @@
+ghost use Rattle.std.specs.Prelude.{◌≡◌, ℕ, ◌+◌, ◌<◌, ◌≤◌, length};
+ghost use Rattle.std.specs.List.{HoldsAt, remove};
+ghost use Rattle.vc_model.specs.Addr.{place_of};
+ghost use Rattle.vc_model.specs.Compact.{cleared, compact_count};
+ghost use Rattle.vc_model.specs.Discipline.{HasOut, TookBack};
+ghost use Rattle.vc_model.specs.Layout.{address_of};
+ghost use Rattle.vc_model.specs.Touch.{HasBlock};
+ghost use Rattle.vc_audit.specs.Profile.{profile_clear, profile_compact, profile_free};
+ghost use Rattle.vc_audit.specs.ProfileParts.{blocks_in, boxed, disc_in, layout_in, profile_of, segments_in};
+
+use crate::profile::rows::{clear_rows, put_row, row_for};
+use crate::profile::{Profile, Uncounted};
+use vc_base::{Addr, Steps};
+use vc_best::Best;
+use vc_seg::{BoxedDisc, SegDisc};
+
+// Frees all blocks of a best region. The condition always holds.
+fn clear_best(best: &mut Best)
+    requires { 0 ≤ 0 }
+    ensures layout { best.new.layout ≡ cleared best.old.layout }
+    ensures disc { boxed state best.new.disc ≡ boxed state best.old.disc }
+{
+    let mut steps = Steps::<Uncounted>::new(best.alloc);
+    best.clear(&mut steps);
+}
+
+/// The calls that make room. None takes memory.
+impl Profile {
+    /// Frees the block at that address. Its site keeps its row.
+    pub fn free(&mut self, a: Addr)
+        requires block { HasBlock (blocks_in self.old) a.0 }
+        ensures profile { profile_of self.new
+            ≡ profile_free (profile_of self.old) (place_of a.0) }
+        ensures disc { disc_in state self.new ≡ disc_in state self.old }
+
+        // It is the one block at that address that goes.
+        ensures one_less { length (blocks_in self.new) + 1 ≡ length (blocks_in self.old) }
+        ensures freed { (i : ℕ) → i < length (blocks_in self.old)
+            → HoldsAt (λ b. address_of b ≡ a.0) (blocks_in self.old) i
+            → blocks_in self.new ≡ remove (blocks_in self.old) i }
+        ensures none_left { ¬ HasBlock (blocks_in self.new) a.0 }
+    {
+        let size = self.best.size(a);
+        let site = match self.sites.find(a) {
+            Some(site) => site,
+            None => unreachable!(),
+        };
+        let row = row_for(&self.rows, &site);
+        let mut steps = Steps::<Uncounted>::new(self.best.alloc);
+        self.best.free(a, &mut steps);
+        self.sites.take(a);
+        let bytes = row.bytes - size as u64;
+        put_row(&mut self.rows, site, row.with(row.blocks - 1, bytes));
+    }
+
+    /// Frees all its blocks, and keeps its segments and the rows of its sites.
+    pub fn clear(&mut self)
+        ensures profile { profile_of self.new ≡ profile_clear (profile_of self.old) }
+        ensures disc { disc_in state self.new ≡ disc_in state self.old }
+    {
+        clear_best(&mut self.best);
+        self.sites.clear();
+        clear_rows(&mut self.rows);
+    }
+
+    /// Gives back each segment without a block, in ascending order of number, and answers how many those were.
+    pub fn compact(&mut self) -> u32
+        requires { HasOut (disc_in state self.old) (segments_in self.old) }
+        ensures profile { profile_of self.new ≡ profile_compact (profile_of self.old) }
+        ensures count { result ≡ compact_count (layout_in self.old) }
+        ensures disc { TookBack (disc_in state self.old) (disc_in state self.new)
+            (segments_in self.old) (segments_in self.new) }
+    {
+        let mut steps = Steps::<Uncounted>::new(self.best.alloc);
+        self.best.compact(&mut steps)
+    }
+}

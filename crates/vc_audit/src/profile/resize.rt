@@ -1,0 +1,62 @@
+ghost use Rattle.std.specs.Prelude.{◌≡◌, ◌≤◌, IfOk, IfSome, IsErrOf, IsTrue, false, option_map};
+ghost use Rattle.vc_model.specs.Addr.{place_of};
+ghost use Rattle.vc_model.specs.Best.{best_need};
+ghost use Rattle.vc_model.specs.Layout.{without_block};
+ghost use Rattle.vc_model.specs.Resize.{can_stay};
+ghost use Rattle.vc_model.specs.Touch.{HasBlock, find_block};
+ghost use Rattle.vc_seg.specs.Answer.{Answers, Asks};
+ghost use Rattle.vc_audit.specs.Profile.{profile_resize};
+ghost use Rattle.vc_audit.specs.ProfileParts.{blocks_in, disc_in, layout_in, profile_of, segments_in};
+
+use crate::profile::rows::{put_row, row_for};
+use crate::profile::{Profile, Uncounted};
+use vc_base::{Addr, Steps};
+use vc_seg::{BoxedDisc, RegionFault, SegDisc};
+
+impl Profile {
+    /// Gives a block another size, from 1 to 16,777,216 bytes, and answers its address. It stays where it is if it can,
+    /// and else moves if it may. The first bytes of both sizes are kept, and the others are zero. It keeps its site.
+    /// `Fixed` comes where it can't stay and may not move; the other faults are those of a best region, and come only
+    /// where it moves.
+    pub fn resize(&mut self, a: Addr, size: u32, may_move: bool) -> Result<Addr, RegionFault>
+        requires block { HasBlock (blocks_in self.old) a.0 }
+        requires some { 1 ≤ size }
+        requires most { size ≤ 16777216 }
+
+        ensures answer { Answers
+            (profile_resize (disc_in state self.old).terms
+            (profile_of self.old) (place_of a.0) size may_move)
+            result (profile_of self.old) (profile_of self.new) }
+        ensures disc { Asks result (disc_in state self.old) (disc_in state self.new)
+            (segments_in self.old) (segments_in self.new)
+            (best_need (disc_in state self.old).terms size 32) }
+        ensures no_memory { IsErrOf result RegionFault.OutOfMemory
+            → IfSome (find_block (place_of a.0) (blocks_in self.old))
+            (λ b. can_stay (layout_in self.old) size b ≡ false) × IsTrue may_move }
+
+        // The block keeps its tag, and the others stay.
+        ensures there { IfOk result (λ to. option_map (λ b. b.label)
+            (find_block (place_of to.0) (blocks_in self.new))
+            ≡ option_map (λ b. b.label) (find_block (place_of a.0) (blocks_in self.old))) }
+        ensures others { IfOk result (λ to. without_block (place_of to.0) (blocks_in self.new)
+            ≡ without_block (place_of a.0) (blocks_in self.old)) }
+    {
+        let before = self.best.size(a);
+        let site = match self.sites.find(a) {
+            Some(site) => site,
+            None => unreachable!(),
+        };
+        let row = row_for(&self.rows, &site);
+        let mut steps = Steps::<Uncounted>::new(self.best.alloc);
+        match self.best.resize(a, size, may_move, &mut steps) {
+            Ok(to) => {
+                let after = self.best.size(to);
+                self.sites.move_to(a, to, site);
+                let bytes = row.bytes - before as u64 + after as u64;
+                put_row(&mut self.rows, site, row.with(row.blocks, bytes));
+                Ok(to)
+            }
+            Err(fault) => Err(fault),
+        }
+    }
+}
