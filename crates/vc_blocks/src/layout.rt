@@ -67,7 +67,8 @@ impl Layout {
         &self.blocks
     }
 
-    /// What is always true of its blocks: each has as many bytes as its size, and its address is a u32.
+    /// What is always true of it: each block has as many bytes as its size, its address is a u32, and a segment has at
+    /// most 33,554,432 bytes.
     pub fn look(&self)
         ensures { HasWholeBlocks self.now }
     {

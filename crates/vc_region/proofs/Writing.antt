@@ -1,5 +1,5 @@
 -- Writing keeps the label of the block at each place, by the method.
-use Rattle.std.proofs.Common.{◌≡◌, ℕ, ℤ, List, [], ◌∷◌, Bool, true, false, Option, Some, cond, map, option_map, refl}
+use Rattle.std.proofs.Common.{◌≡◌, ℕ, ℤ, List, [], ◌∷◌, true, false, Option, Some, cond, map, option_map, refl, sym, ap, ◌∙◌, ◌+◌}
 use Rattle.vc_model.specs.Layout.{Block, is_at, relabel_block}
 use Rattle.vc_model.specs.Touch.{change_block, find_block, rewritten}
 use Rattle.vc_audit.specs.Debug.{guarded_offset, guarded_place, user_block}
