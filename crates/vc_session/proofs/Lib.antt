@@ -1,5 +1,6 @@
 pub mod Agreeing
 pub mod Answers
+pub mod Auditing
 pub mod Cells
 pub mod Changing
 pub mod Closing

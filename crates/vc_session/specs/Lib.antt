@@ -12,6 +12,7 @@ pub mod Kept
 pub mod Labels
 pub mod State
 pub mod Blocks
+pub mod Audit
 pub mod Whole
 pub mod Step
 pub mod ProperState

@@ -1,7 +1,7 @@
 -- One step of a session.
 use Rattle.std.specs.Prelude.{◌≡◌, ℕ, List, Option, Some, None, Bool, true, false}
 use Rattle.vc_script.specs.declared.command.Command.{Command}
-use Rattle.vc_script.specs.declared.command.Command.TheVariants.{OpenRegion, CloseRegion, ClearRegion, Compact, Alloc, Align, Resize, Free, WriteBlock, ReadBlock, SizeOf, AddrOf, SegmentOf, StatOf, Segments, Blocks}
+use Rattle.vc_script.specs.declared.command.Command.TheVariants.{OpenRegion, CloseRegion, ClearRegion, Compact, Alloc, Align, Resize, Free, WriteBlock, ReadBlock, SizeOf, AddrOf, SegmentOf, StatOf, Segments, Blocks, Poke, Check, Watch, ProfileOf}
 use Rattle.vc_script.specs.declared.refusal.Refusal.TheVariants as why
 use Rattle.vc_script.specs.Needs.{Need, NoNeed, ForBlock, ForTable, ForObject, need_shown}
 use Rattle.vc_script.specs.declared.reply.Reply.{Reply}
@@ -9,6 +9,7 @@ use Rattle.vc_region.specs.Region.{Region}
 use Rattle.vc_session.specs.Kept.{Kept}
 use Rattle.vc_session.specs.State.{Changed, Home, Label, State, Stepped, changed, close_step, home_named, open_step, refused, unchanged}
 use Rattle.vc_session.specs.Blocks.{align_in, alloc_in, free_in, read_in, resize_in, size_in, write_in}
+use Rattle.vc_session.specs.Audit.{check_in, poke_in, profile_in, watch_in}
 use Rattle.vc_session.specs.Whole.{addr_in, clear_in, compact_in, list_blocks, list_segments, segment_in, stat_in}
 
 abbrev pub is_for_block : Need → Bool
@@ -33,6 +34,10 @@ region_of (SegmentOf r at) = Some r
 region_of (StatOf r) = Some r
 region_of (Segments r) = Some r
 region_of (Blocks r) = Some r
+region_of (Poke r x off byte) = Some r
+region_of (Check r) = Some r
+region_of (Watch r x) = Some r
+region_of (ProfileOf r) = Some r
 region_of command = None
 
 -- a command at a line in its region; the need is the one free choice
@@ -51,6 +56,10 @@ in_region h line (SegmentOf r at) need = segment_in h at
 in_region h line (StatOf r) need = stat_in h
 in_region h line (Segments r) need = list_segments h
 in_region h line (Blocks r) need = list_blocks h
+in_region h line (Poke r x off byte) need = poke_in h x off byte
+in_region h line (Check r) need = check_in h
+in_region h line (Watch r x) need = watch_in h line x
+in_region h line (ProfileOf r) need = profile_in h
 in_region h line command need = unchanged h why.NotYet
 
 abbrev pub region_step : State → List ℕ → ℕ → Command → Need → Option Home → Stepped

@@ -84,6 +84,10 @@ impl HomeEntry {
             Command::StatOf(_) => Ok(self.stat()),
             Command::Segments(_) => self.segments(alloc),
             Command::Blocks(_) => self.blocks(labels, alloc),
+            Command::Poke(_, block, off, byte) => Ok(self.poke(labels, block, *off, *byte)),
+            Command::Check(_) => self.check(labels, alloc),
+            Command::Watch(_, block) => self.watch(labels, block, line),
+            Command::ProfileOf(_) => self.profile(alloc),
             _ => Ok(Reply::Refused(Refusal::NotYet)),
         }
     }

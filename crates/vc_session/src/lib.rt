@@ -1,6 +1,7 @@
 //! Runs scripts over regions.
 #![tactic(auto)]
 
+mod audit;
 mod blocks;
 mod bytes;
 mod close;

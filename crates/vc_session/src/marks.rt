@@ -3,7 +3,7 @@ ghost use Rattle.std.specs.Prelude.{◌≡◌};
 ghost use Rattle.vc_model.specs.Addr.{place_of};
 ghost use Rattle.vc_model.specs.Touch.{HasBlock};
 ghost use Rattle.vc_region.specs.Parts.{blocks_in, region_of};
-ghost use Rattle.vc_region.specs.Region.{aligns, keeps_freed, watch_at};
+ghost use Rattle.vc_region.specs.Region.{aligns, is_debug, is_profile, keeps_freed, watch_at};
 
 use vc_base::Addr;
 use vc_region::Region;
@@ -18,14 +18,31 @@ pub(crate) fn aligns(region: &Region) -> bool
     }
 }
 
-// Whether the names of freed blocks are kept.
-pub(crate) fn keeps_freed(region: &Region) -> bool
-    ensures { result ≡ keeps_freed (region_of region.now) }
+// Whether it is a debug region.
+pub(crate) fn is_debug(region: &Region) -> bool
+    ensures { result ≡ is_debug (region_of region.now) }
 {
     match region {
         Region::Debug(_) => true,
         _ => false,
     }
+}
+
+// Whether it is a profile region.
+pub(crate) fn is_profile(region: &Region) -> bool
+    ensures { result ≡ is_profile (region_of region.now) }
+{
+    match region {
+        Region::Profile(_) => true,
+        _ => false,
+    }
+}
+
+// Whether the names of freed blocks are kept.
+pub(crate) fn keeps_freed(region: &Region) -> bool
+    ensures { result ≡ keeps_freed (region_of region.now) }
+{
+    is_debug(region)
 }
 
 // The line of the watch on the block at that address, where it is watched.

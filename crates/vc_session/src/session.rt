@@ -32,7 +32,11 @@ fn region_of(command: &Command) -> Option<Name>
         | Command::SegmentOf(name, _)
         | Command::StatOf(name)
         | Command::Segments(name)
-        | Command::Blocks(name) => Some(*name),
+        | Command::Blocks(name)
+        | Command::Poke(name, _, _, _)
+        | Command::Check(name)
+        | Command::Watch(name, _)
+        | Command::ProfileOf(name) => Some(*name),
         _ => None,
     }
 }

@@ -1,0 +1,86 @@
+use Rattle.std.proofs.Common.{◌≡◌, not, false, true, refl, ap, ◌∙◌, sym}
+use Rattle.std.proofs.lemmas.Bool.{not-false, not-true}
+use Rattle.vc_model.specs.Addr.{place_of}
+use Rattle.vc_model.specs.Discipline.{Discipline}
+use Rattle.vc_region.specs.Region.{is_debug, segments_of}
+use Rattle.vc_region.specs.Parts.{disc_in, region_of}
+use Rattle.vc_region.proofs.Sound.{own_places}
+use Rattle.vc_script.specs.declared.refusal.Refusal.TheVariants as why
+use Rattle.vc_session.specs.Account.{home_of}
+use Rattle.vc_session.specs.Audit.{is_poke, poke_block, poke_in}
+use Rattle.vc_session.specs.Homes.{held_of}
+use Rattle.vc_session.specs.State.{unchanged}
+use Rattle.vc_session.specs.declared.labels.Label.{Label}
+use Rattle.vc_session.proofs.Answers.{changed-by, gives-unchanged, kept-same, out-same}
+use Rattle.vc_session.proofs.Auditing.{gives-poked, named-poked, poke-method, poke-range, poked-segments}
+use Rattle.vc_session.proofs.Found.{on_block-none, the_block}
+use Rattle.vc_session.proofs.Touching.{size-told}
+use Rattle.vc_session.proofs.home.HomeEntry.poke.Given as given
+use Rattle.vc_session.proofs.home.HomeEntry.poke.Goals as goal
+
+abbrev meaning : (g : given.Over) → (x : g.dyn-1.0.I) × (g.dyn-1.0.entry x).0.Denot → Discipline
+meaning g p = (g.dyn-1.0.entry p.0).1.state p.1
+
+pub size-requires : goal.size-requires
+size-requires g c =
+    let label : Label = record { name = c.args.name.now; at = c.in-Some.at } in
+    let f = c.in-Some.ensures.some in
+    (the_block (region_of c.args.self.now.region) c.args.labels.now c.args.name.now f.0 label c.requires.names refl f.1 f.2).there
+
+pub watched-watch-requires-clause-block : goal.watched-watch-requires-clause-block
+watched-watch-requires-clause-block g c =
+    let label : Label = record { name = c.args.name.now; at = c.in-Some.at } in
+    let f = c.in-Some.ensures.some in
+    (the_block (region_of c.args.self.now.region) c.args.labels.now c.args.name.now f.0 label c.requires.names refl f.1 f.2).there
+
+pub poke-requires-clause-block : goal.poke-requires-clause-block
+poke-requires-clause-block g c =
+    let label : Label = record { name = c.args.name.now; at = c.in-Some.at } in
+    let f = c.in-Some.ensures.some in
+    (the_block (region_of c.args.self.now.region) c.args.labels.now c.args.name.now f.0 label c.requires.names refl f.1 f.2).there
+
+pub returns-in_default-clause-step : goal.returns-in_default-clause-step
+returns-in_default-clause-step g c = λ r.
+    let h = held_of (meaning g) r c.args.self.now c.args.labels.now in
+    gives-unchanged (home_of h) (poke_in (home_of h) c.args.name.now c.args.off c.args.byte) c.no_block.result
+    (on_block-none h c.args.name.now (poke_block (home_of h) c.args.name.now c.args.off c.args.byte) c.requires.names c.in_default.ensures.none ∙ ap (unchanged (home_of h)) (sym c.no_block.ensures.value))
+
+pub returns-then-not-is_debug-clause-step : goal.returns-then-not-is_debug-clause-step
+returns-then-not-is_debug-clause-step g c = λ r.
+    let h = held_of (meaning g) r c.args.self.now c.args.labels.now in
+    let label : Label = record { name = c.args.name.now; at = c.in-Some.at } in
+    let f = c.in-Some.ensures.some in
+    gives-unchanged (home_of h) (poke_in (home_of h) c.args.name.now c.args.off c.args.byte) why.WrongMethod
+    (poke-method h c.args.name.now f.0 label c.requires.names refl f.1 f.2 c.args.off c.args.byte (sym c.is_debug.ensures ∙ not-true c.is_debug.result c.if-not-is_debug.true))
+
+pub returns-then-not-is_poke-clause-step : goal.returns-then-not-is_poke-clause-step
+returns-then-not-is_poke-clause-step g c = λ r.
+    let h = held_of (meaning g) r c.args.self.now c.args.labels.now in
+    let label : Label = record { name = c.args.name.now; at = c.in-Some.at } in
+    let f = c.in-Some.ensures.some in
+    let size = size-told h c.args.name.now f.0 label c.requires.names refl f.1 f.2 c.size.result c.size.ensures in
+    gives-unchanged (home_of h) (poke_in (home_of h) c.args.name.now c.args.off c.args.byte) why.Range
+    (poke-range h c.args.name.now f.0 label c.requires.names refl f.1 f.2 c.args.off c.args.byte (sym c.is_debug.ensures ∙ not-false c.is_debug.result c.if-not-is_debug.false)
+    (ap (λ n. is_poke n c.args.off c.args.byte) size ∙ (sym c.is_poke.ensures ∙ not-true c.is_poke.result c.if-not-is_poke.true)))
+
+pub returns-clause-step : goal.returns-clause-step
+returns-clause-step g c = λ r.
+    let h = held_of (meaning g) r c.args.self.now c.args.labels.now in
+    let label : Label = record { name = c.args.name.now; at = c.in-Some.at } in
+    let f = c.in-Some.ensures.some in
+    let size = size-told h c.args.name.now f.0 label c.requires.names refl f.1 f.2 c.size.result c.size.ensures in
+    gives-poked h c.args.name.now f.0 label c.requires.names refl f.1 f.2 c.args.off c.args.byte (region_of c.poke.new.self)
+    (sym c.is_debug.ensures ∙ not-false c.is_debug.result c.if-not-is_debug.false)
+    (ap (λ n. is_poke n c.args.off c.args.byte) size ∙ (sym c.is_poke.ensures ∙ not-false c.is_poke.result c.if-not-is_poke.false))
+    c.poke.ensures.region c.watched-watch.result c.watched-watch.ensures
+
+pub returns-clause-change : goal.returns-clause-change
+returns-clause-change g c = λ r.
+    let h = held_of (meaning g) r c.args.self.now c.args.labels.now in
+    let label : Label = record { name = c.args.name.now; at = c.in-Some.at } in
+    let f = c.in-Some.ensures.some in
+    let new = region_of c.poke.new.self in
+    let disc = disc_in (meaning g) c.poke.new.self in
+    let segments : segments_of new ≡ segments_of h.region = ap segments_of c.poke.ensures.region ∙ poked-segments h.region (place_of label.at.0) c.args.off c.args.byte in
+    changed-by h disc new h.labels c.requires.lent (kept-same h.disc disc c.poke.ensures.disc) (out-same h.disc disc (segments_of h.region) (segments_of new) c.poke.ensures.disc segments)
+    (named-poked h c.args.name.now f.0 label c.requires.names refl f.1 f.2 c.args.off c.args.byte new c.poke.ensures.region c.poke.ensures.others (own_places c.poke.new.self))

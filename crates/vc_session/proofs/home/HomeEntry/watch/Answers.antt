@@ -1,0 +1,47 @@
+use Rattle.std.proofs.Common.{◌≡◌, refl, ap, ◌∙◌, sym}
+use Rattle.std.proofs.lemmas.Bool.{not-false, not-true}
+use Rattle.vc_model.specs.Addr.{place_of}
+use Rattle.vc_model.specs.Discipline.{Discipline}
+use Rattle.vc_region.specs.Region.{segments_of}
+use Rattle.vc_region.specs.Parts.{disc_in, region_of}
+use Rattle.vc_region.proofs.Sound.{own_places}
+use Rattle.vc_script.specs.declared.refusal.Refusal.TheVariants as why
+use Rattle.vc_session.specs.Account.{home_of}
+use Rattle.vc_session.specs.Audit.{watch_block, watch_in}
+use Rattle.vc_session.specs.Homes.{held_of}
+use Rattle.vc_session.specs.State.{unchanged}
+use Rattle.vc_session.specs.declared.labels.Label.{Label}
+use Rattle.vc_session.proofs.Answers.{changed-by, gives-unchanged, kept-same, out-same}
+use Rattle.vc_session.proofs.Auditing.{gives-watched, named-watched, watch-method, watched-segments}
+use Rattle.vc_session.proofs.Found.{on_block-none, the_block}
+use Rattle.vc_session.proofs.home.HomeEntry.watch.Given as given
+use Rattle.vc_session.proofs.home.HomeEntry.watch.Goals as goal
+
+abbrev meaning : (g : given.Over) → (x : g.dyn-1.0.I) × (g.dyn-1.0.entry x).0.Denot → Discipline
+meaning g p = (g.dyn-1.0.entry p.0).1.state p.1
+
+pub watch-requires-clause-block : goal.watch-requires-clause-block
+watch-requires-clause-block g c =
+    let label : Label = record { name = c.args.name.now; at = c.in-Some.at } in
+    let f = c.in-Some.ensures.some in
+    (the_block (region_of c.args.self.now.region) c.args.labels.now c.args.name.now f.0 label c.requires.names refl f.1 f.2).there
+
+pub returns-in_default-clause-step : goal.returns-in_default-clause-step
+returns-in_default-clause-step g c = λ r.
+    let h = held_of (meaning g) r c.args.self.now c.args.labels.now in
+    gives-unchanged (home_of h) (watch_in (home_of h) c.args.line c.args.name.now) c.no_block.result
+    (on_block-none h c.args.name.now (watch_block (home_of h) c.args.line c.args.name.now) c.requires.names c.in_default.ensures.none ∙ ap (unchanged (home_of h)) (sym c.no_block.ensures.value))
+
+pub returns-then-not-is_debug-clause-step : goal.returns-then-not-is_debug-clause-step
+returns-then-not-is_debug-clause-step g c = λ r.
+    let h = held_of (meaning g) r c.args.self.now c.args.labels.now in
+    let label : Label = record { name = c.args.name.now; at = c.in-Some.at } in
+    let f = c.in-Some.ensures.some in
+    gives-unchanged (home_of h) (watch_in (home_of h) c.args.line c.args.name.now) why.WrongMethod
+    (watch-method h c.args.name.now f.0 label c.requires.names refl f.1 f.2 c.args.line (sym c.is_debug.ensures ∙ not-true c.is_debug.result c.if-not-is_debug.true))
+
+pub returns-clause-step : goal.returns-clause-step
+returns-clause-step g c = ?
+
+pub returns-clause-change : goal.returns-clause-change
+returns-clause-change g c = ?
