@@ -37,10 +37,7 @@ pub struct Profile {
 }
 
 // A best region with no segment. The condition always holds.
-fn open_best(
-    alloc: Global,
-    disc: Box<dyn SegDisc>,
-) -> Result<Best, (OutOfMemory, Box<dyn SegDisc>)>
+fn open_best(alloc: Global, disc: Box<dyn SegDisc>) -> Result<Best, (OutOfMemory, Box<dyn SegDisc>)>
     requires { 0 ≤ 0 }
     ensures ok { IfOk result (λ b. (b.layout ≡ empty_layout) × (state b.disc ≡ state disc)) }
     ensures err { IfErr result (λ e. state e.1 ≡ state disc) }

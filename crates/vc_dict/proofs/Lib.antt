@@ -4,3 +4,4 @@ pub mod PassLemmas
 pub mod WeedLemmas
 pub mod TurnedLemmas
 pub mod RemethodLemmas
+pub mod ApartLemmas

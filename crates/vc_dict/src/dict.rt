@@ -138,7 +138,8 @@ impl Dict {
     ) -> Addr
         requires { CanAdopt (D.rules kind.now) self.old (C.blocks cells.old) table.0 slots }
         ensures old { result ≡ self.old.table }
-        ensures dict { (holders : List ℕ) → Stands (D.rules kind.now) self.old (C.blocks cells.old) holders
+        ensures dict { (holders : List ℕ)
+            → Stands (D.rules kind.now) self.old (C.blocks cells.old) holders
             → Adopted (D.rules kind.now) table.0 slots holders self.old (C.blocks cells.old)
             self.new (C.blocks cells.new) }
         ensures rest { C.RestStays cells.old cells.new }
@@ -154,7 +155,8 @@ impl Dict {
     fn link_hash<C: Cells, D: DictDisc>(&mut self, cells: &mut C, kind: &D, at: Addr)
         requires dict { CanLink (D.rules kind.now) self.old (C.blocks cells.old) at.0 false }
         requires method { has_table self.old.method ≡ true }
-        ensures dict { (holders : List ℕ) → Stands (D.rules kind.now) self.old (C.blocks cells.old) holders
+        ensures dict { (holders : List ℕ)
+            → Stands (D.rules kind.now) self.old (C.blocks cells.old) holders
             → Became (D.rules kind.now) (at.0 ∷ holders) self.old (C.blocks cells.old) self.new
             (C.blocks cells.new) (holders ++ at.0 ∷ []) self.old.current.0 }
         ensures rest { C.RestStays cells.old cells.new }
@@ -176,7 +178,8 @@ impl Dict {
     )
         requires dict { CanLink (D.rules kind.now) self.old (C.blocks cells.old) at.0 false }
         requires method { is_ordered self.old.method ≡ true }
-        ensures dict { (holders : List ℕ) → Stands (D.rules kind.now) self.old (C.blocks cells.old) holders
+        ensures dict { (holders : List ℕ)
+            → Stands (D.rules kind.now) self.old (C.blocks cells.old) holders
             → Became (D.rules kind.now) (at.0 ∷ holders) self.old (C.blocks cells.old) self.new
             (C.blocks cells.new) (placed (D.rules kind.now) (C.blocks cells.old) at.0 holders)
             self.old.current.0 }
@@ -194,11 +197,12 @@ impl Dict {
         requires dict { CanLink (D.rules kind.now) self.old (C.blocks cells.old) at.0 append }
         requires plain { has_table self.old.method ≡ false }
         requires method { is_ordered self.old.method ≡ false }
-        ensures dict { (holders : List ℕ) → Stands (D.rules kind.now) self.old (C.blocks cells.old) holders
+        ensures dict { (holders : List ℕ)
+            → Stands (D.rules kind.now) self.old (C.blocks cells.old) holders
             → Became (D.rules kind.now) (at.0 ∷ holders) self.old (C.blocks cells.old) self.new
             (C.blocks cells.new)
-            (linked append self.old.method (D.rules kind.now) (C.blocks cells.old) self.old.current.0 at.0 holders)
-            self.old.current.0 }
+            (linked append self.old.method (D.rules kind.now) (C.blocks cells.old)
+            self.old.current.0 at.0 holders) self.old.current.0 }
         ensures rest { C.RestStays cells.old cells.new }
     {
         let mut list = self.list();
@@ -218,11 +222,12 @@ impl Dict {
         steps: &mut Steps<L>,
     )
         requires { CanLink (D.rules kind.now) self.old (C.blocks cells.old) at.0 append }
-        ensures dict { (holders : List ℕ) → Stands (D.rules kind.now) self.old (C.blocks cells.old) holders
+        ensures dict { (holders : List ℕ)
+            → Stands (D.rules kind.now) self.old (C.blocks cells.old) holders
             → Became (D.rules kind.now) (at.0 ∷ holders) self.old (C.blocks cells.old) self.new
             (C.blocks cells.new)
-            (linked append self.old.method (D.rules kind.now) (C.blocks cells.old) self.old.current.0 at.0 holders)
-            self.old.current.0 }
+            (linked append self.old.method (D.rules kind.now) (C.blocks cells.old)
+            self.old.current.0 at.0 holders) self.old.current.0 }
         ensures rest { C.RestStays cells.old cells.new }
     {
         if has_table(self.method) {
@@ -246,10 +251,12 @@ impl Dict {
         steps: &mut Steps<L>,
     )
         requires { CanLink (D.rules kind.now) self.old (C.blocks cells.old) at.0 append }
-        ensures dict { (holders : List ℕ) → Stands (D.rules kind.now) self.old (C.blocks cells.old) holders
+        ensures dict { (holders : List ℕ)
+            → Stands (D.rules kind.now) self.old (C.blocks cells.old) holders
             → Became (D.rules kind.now) (at.0 ∷ holders) self.old (C.blocks cells.old) self.new
             (C.blocks cells.new)
-            (linked append self.old.method (D.rules kind.now) (C.blocks cells.old) self.old.current.0 at.0 holders)
+            (linked append self.old.method (D.rules kind.now) (C.blocks cells.old)
+            self.old.current.0 at.0 holders)
             at.0 }
         ensures rest { C.RestStays cells.old cells.new }
     {
@@ -267,10 +274,12 @@ impl Dict {
     ) -> Option<Addr>
         requires dict { IsDict (D.rules kind.now) self.old (C.blocks cells.old) }
         requires method { is_ordered self.old.method ≡ true }
-        ensures found { (holders : List ℕ) → Stands (D.rules kind.now) self.old (C.blocks cells.old) holders
+        ensures found { (holders : List ℕ)
+            → Stands (D.rules kind.now) self.old (C.blocks cells.old) holders
             → Finds (D.rules kind.now) (C.blocks cells.old) key.now holders result
             steps.old steps.new }
-        ensures dict { (holders : List ℕ) → Stands (D.rules kind.now) self.old (C.blocks cells.old) holders
+        ensures dict { (holders : List ℕ)
+            → Stands (D.rules kind.now) self.old (C.blocks cells.old) holders
             → Became (D.rules kind.now) holders self.old (C.blocks cells.old) self.new
             (C.blocks cells.new) holders self.old.current.0 }
         ensures rest { C.RestStays cells.old cells.new }
@@ -291,10 +300,12 @@ impl Dict {
         steps: &mut Steps<L>,
     ) -> Option<Addr>
         requires { IsDict (D.rules kind.now) self.old (C.blocks cells.old) }
-        ensures found { (holders : List ℕ) → Stands (D.rules kind.now) self.old (C.blocks cells.old) holders
+        ensures found { (holders : List ℕ)
+            → Stands (D.rules kind.now) self.old (C.blocks cells.old) holders
             → Finds (D.rules kind.now) (C.blocks cells.old) key.now holders result
             steps.old steps.new }
-        ensures dict { (holders : List ℕ) → Stands (D.rules kind.now) self.old (C.blocks cells.old) holders
+        ensures dict { (holders : List ℕ)
+            → Stands (D.rules kind.now) self.old (C.blocks cells.old) holders
             → Became (D.rules kind.now) holders self.old (C.blocks cells.old) self.new
             (C.blocks cells.new) holders self.old.current.0 }
         ensures rest { C.RestStays cells.old cells.new }
@@ -311,7 +322,8 @@ impl Dict {
     /// The first holder.
     pub fn first<C: Cells>(&self, cells: &C) -> Option<Addr>
         requires { IsKept self.now (C.blocks cells.now) }
-        ensures { (rules : Rules) (holders : List ℕ) → Stands rules self.now (C.blocks cells.now) holders
+        ensures { (rules : Rules) (holders : List ℕ)
+            → Stands rules self.now (C.blocks cells.now) holders
             → option_map number_of result ≡ first_in holders }
     {
         if has_table(self.method) {
@@ -326,7 +338,8 @@ impl Dict {
     /// The last holder.
     pub fn last<C: Cells>(&self, cells: &C) -> Option<Addr>
         requires { IsKept self.now (C.blocks cells.now) }
-        ensures { (rules : Rules) (holders : List ℕ) → Stands rules self.now (C.blocks cells.now) holders
+        ensures { (rules : Rules) (holders : List ℕ)
+            → Stands rules self.now (C.blocks cells.now) holders
             → option_map number_of result ≡ last_in holders }
     {
         if has_table(self.method) {
@@ -341,7 +354,8 @@ impl Dict {
     /// The holder behind one of the dictionary.
     pub fn next<C: Cells>(&self, cells: &C, at: Addr) -> Option<Addr>
         requires { IsIn self.now (C.blocks cells.now) at.0 }
-        ensures { (rules : Rules) (holders : List ℕ) → Stands rules self.now (C.blocks cells.now) holders
+        ensures { (rules : Rules) (holders : List ℕ)
+            → Stands rules self.now (C.blocks cells.now) holders
             → option_map number_of result ≡ next_in at.0 holders }
     {
         if has_table(self.method) {
@@ -356,7 +370,8 @@ impl Dict {
     /// The holder before one of the dictionary.
     pub fn prev<C: Cells>(&self, cells: &C, at: Addr) -> Option<Addr>
         requires { IsIn self.now (C.blocks cells.now) at.0 }
-        ensures { (rules : Rules) (holders : List ℕ) → Stands rules self.now (C.blocks cells.now) holders
+        ensures { (rules : Rules) (holders : List ℕ)
+            → Stands rules self.now (C.blocks cells.now) holders
             → option_map number_of result ≡ previous_in None at.0 holders }
     {
         if has_table(self.method) {
@@ -371,7 +386,8 @@ impl Dict {
     // Makes the one behind a holder current, or none, where that holder is.
     fn leave<C: Cells>(&mut self, cells: &C, at: Addr)
         requires { IsIn self.old (C.blocks cells.now) at.0 }
-        ensures current { (rules : Rules) (holders : List ℕ) → Stands rules self.old (C.blocks cells.now) holders
+        ensures current { (rules : Rules) (holders : List ℕ)
+            → Stands rules self.old (C.blocks cells.now) holders
             → self.new.current.0 ≡ current_without (Some at.0) self.old.current.0 holders }
         ensures same { self.new ≡ record self.old { current = self.new.current } }
     {
@@ -383,7 +399,8 @@ impl Dict {
     // Takes a holder out, and leaves the current one.
     fn unlink_heads<C: Cells, D: DictDisc>(&mut self, cells: &mut C, kind: &D, at: Addr)
         requires { IsMember (D.rules kind.now) self.old (C.blocks cells.old) at.0 }
-        ensures dict { (holders : List ℕ) → Stands (D.rules kind.now) self.old (C.blocks cells.old) holders
+        ensures dict { (holders : List ℕ)
+            → Stands (D.rules kind.now) self.old (C.blocks cells.old) holders
             → Became (D.rules kind.now) holders self.old (C.blocks cells.old) self.new
             (C.blocks cells.new) (without at.0 holders) self.old.current.0 }
         ensures rest { C.RestStays cells.old cells.new }
@@ -414,7 +431,8 @@ impl Dict {
         requires dict { IsDict (D.rules kind.now) self.old (C.blocks cells.old) }
         requires found { (at : ℕ) → option_map number_of found ≡ Some at
             → IsMember (D.rules kind.now) self.old (C.blocks cells.old) at }
-        ensures dict { (holders : List ℕ) → Stands (D.rules kind.now) self.old (C.blocks cells.old) holders
+        ensures dict { (holders : List ℕ)
+            → Stands (D.rules kind.now) self.old (C.blocks cells.old) holders
             → Became (D.rules kind.now) holders self.old (C.blocks cells.old) self.new
             (C.blocks cells.new) (removed (option_map number_of found) holders)
             (current_without (option_map number_of found) self.old.current.0 holders) }
@@ -436,10 +454,12 @@ impl Dict {
         steps: &mut Steps<L>,
     ) -> Option<Addr>
         requires { IsDict (D.rules kind.now) self.old (C.blocks cells.old) }
-        ensures found { (holders : List ℕ) → Stands (D.rules kind.now) self.old (C.blocks cells.old) holders
+        ensures found { (holders : List ℕ)
+            → Stands (D.rules kind.now) self.old (C.blocks cells.old) holders
             → Finds (D.rules kind.now) (C.blocks cells.old) key.now holders result
             steps.old steps.new }
-        ensures dict { (holders : List ℕ) → Stands (D.rules kind.now) self.old (C.blocks cells.old) holders
+        ensures dict { (holders : List ℕ)
+            → Stands (D.rules kind.now) self.old (C.blocks cells.old) holders
             → Became (D.rules kind.now) holders self.old (C.blocks cells.old) self.new
             (C.blocks cells.new) (removed (option_map number_of result) holders)
             (current_without (option_map number_of result) self.old.current.0 holders) }
@@ -453,9 +473,11 @@ impl Dict {
     /// Takes out the first holder in every method, and answers it. Where it was current, the one behind it is, or none.
     pub fn take_first<C: Cells, D: DictDisc>(&mut self, cells: &mut C, kind: &D) -> Option<Addr>
         requires { IsDict (D.rules kind.now) self.old (C.blocks cells.old) }
-        ensures first { (holders : List ℕ) → Stands (D.rules kind.now) self.old (C.blocks cells.old) holders
+        ensures first { (holders : List ℕ)
+            → Stands (D.rules kind.now) self.old (C.blocks cells.old) holders
             → option_map number_of result ≡ first_in holders }
-        ensures dict { (holders : List ℕ) → Stands (D.rules kind.now) self.old (C.blocks cells.old) holders
+        ensures dict { (holders : List ℕ)
+            → Stands (D.rules kind.now) self.old (C.blocks cells.old) holders
             → Became (D.rules kind.now) holders self.old (C.blocks cells.old) self.new
             (C.blocks cells.new) (removed (option_map number_of result) holders)
             (current_without (option_map number_of result) self.old.current.0 holders) }
@@ -531,10 +553,12 @@ impl Dict {
         slots: u32,
         steps: &mut Steps<L>,
     ) -> Dropped
-        requires { CanRemethod (D.rules kind.now) self.old (C.blocks cells.old) method table.0 slots }
-        ensures dict { (holders : List ℕ) → Stands (D.rules kind.now) self.old (C.blocks cells.old) holders
-            → Remethoded (D.rules kind.now) method table.0 slots holders self.old (C.blocks cells.old)
-            self.new (C.blocks cells.new) result }
+        requires { CanRemethod (D.rules kind.now) self.old (C.blocks cells.old) method table.0
+            slots }
+        ensures dict { (holders : List ℕ)
+            → Stands (D.rules kind.now) self.old (C.blocks cells.old) holders
+            → Remethoded (D.rules kind.now) method table.0 slots holders self.old
+            (C.blocks cells.old) self.new (C.blocks cells.new) result }
         ensures rest { C.RestStays cells.old cells.new }
     {
         let ordered = order_by(self.list(), self.count, method, cells, kind, steps);
@@ -558,11 +582,12 @@ impl Dict {
         slots: u32,
         steps: &mut Steps<L>,
     ) -> Dropped
-        requires { CanRemethod (D.rules kind.now) self.old (C.blocks cells.old) method table.0 slots }
+        requires { CanRemethod (D.rules kind.now) self.old (C.blocks cells.old) method table.0
+            slots }
         ensures dict { method ≢ self.old.method → (holders : List ℕ)
             → Stands (D.rules kind.now) self.old (C.blocks cells.old) holders
-            → Remethoded (D.rules kind.now) method table.0 slots holders self.old (C.blocks cells.old)
-            self.new (C.blocks cells.new) result }
+            → Remethoded (D.rules kind.now) method table.0 slots holders self.old
+            (C.blocks cells.old) self.new (C.blocks cells.new) result }
         ensures same { method ≡ self.old.method
             → Unchanged self.old (C.blocks cells.old) self.new (C.blocks cells.new) result }
         ensures rest { C.RestStays cells.old cells.new }

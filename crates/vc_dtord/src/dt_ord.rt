@@ -26,7 +26,8 @@ pub struct DtOrd {
 fn put_before<C: Cells>(list: &mut DtList, cells: &mut C, mark: Option<Addr>, at: Addr)
     requires list { CanAdd list.old (C.blocks cells.old) at.0 }
     requires mark { IsMark list.old (C.blocks cells.old) (option_map number_of mark) }
-    ensures list { (test : ℕ → Bool) (holders : List ℕ) → StandsFor list.old (C.blocks cells.old) holders
+    ensures list { (test : ℕ → Bool) (holders : List ℕ)
+        → StandsFor list.old (C.blocks cells.old) holders
         → option_map number_of mark ≡ find test holders
         → Turned at.0 holders (C.blocks cells.old) list.new (C.blocks cells.new)
         (inserted_at test at.0 holders) }
@@ -69,10 +70,12 @@ impl DtOrd {
         steps: &mut Steps<L>,
     )
         requires { CanLink (D.rules kind.now) self.old (C.blocks cells.old) at.0 }
-        ensures list { (holders : List ℕ) → OrdFor (D.rules kind.now) self.old (C.blocks cells.old) holders
-            → OrdTurned (D.rules kind.now) (at.0 ∷ holders) (C.blocks cells.old) self.new (C.blocks cells.new)
-            (placed (D.rules kind.now) (C.blocks cells.old) at.0 holders) }
-        ensures steps { (holders : List ℕ) → OrdFor (D.rules kind.now) self.old (C.blocks cells.old) holders
+        ensures list { (holders : List ℕ)
+            → OrdFor (D.rules kind.now) self.old (C.blocks cells.old) holders
+            → OrdTurned (D.rules kind.now) (at.0 ∷ holders) (C.blocks cells.old) self.new
+            (C.blocks cells.new) (placed (D.rules kind.now) (C.blocks cells.old) at.0 holders) }
+        ensures steps { (holders : List ℕ)
+            → OrdFor (D.rules kind.now) self.old (C.blocks cells.old) holders
             → steps.new ≤ steps.old + length holders }
         ensures rest { C.RestStays cells.old cells.new }
     {
@@ -92,7 +95,8 @@ impl DtOrd {
     /// Takes a holder of the list out. It keeps its bytes behind the words.
     pub fn unlink<C: Cells>(&mut self, cells: &mut C, at: Addr)
         requires { IsLinked self.old (C.blocks cells.old) at.0 }
-        ensures list { (rules : Rules) (holders : List ℕ) → OrdFor rules self.old (C.blocks cells.old) holders
+        ensures list { (rules : Rules) (holders : List ℕ)
+            → OrdFor rules self.old (C.blocks cells.old) holders
             → OrdTurned rules holders (C.blocks cells.old) self.new (C.blocks cells.new)
             (without at.0 holders) }
         ensures rest { C.RestStays cells.old cells.new }
@@ -136,8 +140,8 @@ impl DtOrd {
         requires { IsOrd (D.rules kind.now) self.old (C.blocks cells.old) }
         ensures found { (holders : List ℕ)
             → OrdFor (D.rules kind.now) self.old (C.blocks cells.old) holders
-            → Seeks (stands_so Sought.NotLess (D.rules kind.now) (C.blocks cells.old) key.now) holders result
-            steps.old steps.new }
+            → Seeks (stands_so Sought.NotLess (D.rules kind.now) (C.blocks cells.old) key.now)
+            holders result steps.old steps.new }
         ensures list { (holders : List ℕ)
             → OrdFor (D.rules kind.now) self.old (C.blocks cells.old) holders
             → OrdTurned (D.rules kind.now) holders (C.blocks cells.old) self.new
@@ -150,7 +154,8 @@ impl DtOrd {
     /// The first holder.
     pub fn first<C: Cells>(&self, cells: &C) -> Option<Addr>
         requires { IsOrdered self.now (C.blocks cells.now) }
-        ensures { (rules : Rules) (holders : List ℕ) → OrdFor rules self.now (C.blocks cells.now) holders
+        ensures { (rules : Rules) (holders : List ℕ)
+            → OrdFor rules self.now (C.blocks cells.now) holders
             → option_map number_of result ≡ first_in holders }
     {
         self.list().first()
@@ -159,7 +164,8 @@ impl DtOrd {
     /// The last holder.
     pub fn last<C: Cells>(&self, cells: &C) -> Option<Addr>
         requires { IsOrdered self.now (C.blocks cells.now) }
-        ensures { (rules : Rules) (holders : List ℕ) → OrdFor rules self.now (C.blocks cells.now) holders
+        ensures { (rules : Rules) (holders : List ℕ)
+            → OrdFor rules self.now (C.blocks cells.now) holders
             → option_map number_of result ≡ last_in holders }
     {
         self.list().last()
@@ -168,7 +174,8 @@ impl DtOrd {
     /// The holder behind one of the list.
     pub fn next<C: Cells>(&self, cells: &C, at: Addr) -> Option<Addr>
         requires { IsLinked self.now (C.blocks cells.now) at.0 }
-        ensures { (rules : Rules) (holders : List ℕ) → OrdFor rules self.now (C.blocks cells.now) holders
+        ensures { (rules : Rules) (holders : List ℕ)
+            → OrdFor rules self.now (C.blocks cells.now) holders
             → option_map number_of result ≡ next_in at.0 holders }
     {
         self.list().next(cells, at)
@@ -177,7 +184,8 @@ impl DtOrd {
     /// The holder before one of the list.
     pub fn prev<C: Cells>(&self, cells: &C, at: Addr) -> Option<Addr>
         requires { IsLinked self.now (C.blocks cells.now) at.0 }
-        ensures { (rules : Rules) (holders : List ℕ) → OrdFor rules self.now (C.blocks cells.now) holders
+        ensures { (rules : Rules) (holders : List ℕ)
+            → OrdFor rules self.now (C.blocks cells.now) holders
             → option_map number_of result ≡ previous_in None at.0 holders }
     {
         self.list().prev(cells, at)

@@ -18,10 +18,11 @@ module _ {A : Type 0} (seen : Block A → Block ℕ) (off : ℕ) (src : List ℕ
   pub label-seen : (bs : List (Block A)) → label_at to (map seen (change_block (rewritten off src) at bs)) ≡ label_at to (map seen bs)
   label-seen [] = refl
   label-seen (b ∷ bs) =
-      elim (is_at at b) as (λ v. label_at to (map seen (cond v (rewritten off src b ∷ bs) (b ∷ change_block (rewritten off src) at bs))) ≡ label_at to (map seen (b ∷ bs)))
-      [ true ↦ same-first b bs
-      | false ↦ elim (is_at to (seen b)) as (λ v. option_map (λ c. c.label) (cond v (Some (seen b)) (find_block to (map seen (change_block (rewritten off src) at bs)))) ≡ option_map (λ c. c.label) (cond v (Some (seen b)) (find_block to (map seen bs))))
-        [ true ↦ refl | false ↦ label-seen bs ] ]
+      elim (is_at at b) as (λ v. label_at to (map seen (cond v (rewritten off src b ∷ bs) (b ∷ change_block (rewritten off src) at bs))) ≡ label_at to (map seen (b ∷ bs))) [
+        | true ↦ same-first b bs
+        | false ↦ elim (is_at to (seen b)) as (λ v. option_map (λ c. c.label) (cond v (Some (seen b)) (find_block to (map seen (change_block (rewritten off src) at bs)))) ≡ option_map (λ c. c.label) (cond v (Some (seen b)) (find_block to (map seen bs))))
+            [ true ↦ refl | false ↦ label-seen bs ]
+      ]
 
 as_it_is : Block ℕ → Block ℕ
 as_it_is b = b

@@ -15,8 +15,8 @@ ghost use Rattle.vc_seg.specs.Answer.{Frees};
 ghost use Rattle.vc_region.specs.Parts.{blocks_in, boxed, disc_in, region_of, segments_in};
 
 use crate::region::{Region, Uncounted};
-use vc_base::{Addr, Steps};
 use vc_audit::{Debug, Profile};
+use vc_base::{Addr, Steps};
 use vc_best::Best;
 use vc_last::Last;
 use vc_pool::Pool;

@@ -4,8 +4,8 @@ ghost use Rattle.vc_region.specs.Stat.{method_of, opened};
 ghost use Rattle.vc_region.specs.Parts.{disc_of, region_of, segments_in};
 
 use std::alloc::Global;
-use vc_base::OutOfMemory;
 use vc_audit::{Debug, Profile};
+use vc_base::OutOfMemory;
 use vc_best::Best;
 use vc_last::Last;
 use vc_pool::Pool;

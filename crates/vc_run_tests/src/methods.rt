@@ -1,5 +1,6 @@
-// Scripts over regions of the other methods than best fit.
-use crate::given::{ample, fine, is_run, run};
+// Scripts over regions of the other methods than best fit, and over a budget.
+use crate::given::{ample, fine, is_run, put_number, run};
+use std::alloc::AllocError;
 use std::test::Fail;
 use vc_seg::{BudgetDisc, Shelf};
 
@@ -50,10 +51,35 @@ const ROWS: &[Row] = &[
         script: b"open r last 1\nalloc r a 2000\nalloc r b 10\nwrite r b 0 hello\nresize r b 3000 move\nread r b 3 3\nstat r\nfree r b\nalloc r c 1\nblocks r\n",
         out: b"r open\na 1:32\nb 1:2048\nb written 5\nb 2:32\nb 6c6f00\nbusy 2 free 2 sbusy 5000 sfree 3072 mbusy 3000 mfree 2048 segs 2 extent 8192\nb freed\nc 2:32\nblocks 2 a@1:32+2000 c@2:32+1\n",
     },
+    // Damage in the guards is found, watched blocks say so, and a freed name is kept until it is used again.
+    Row {
+        script: b"open r debug 1\nalloc r x 100\nwrite r x 0 hi\ncheck r\nwatch r x\npoke r x 100 7\ncheck r\npoke r x -1 0\ncheck r\nfree r x\nfree r x\nalloc r x 1\n",
+        out: b"r open\nx 1:64\nx written 2\ncheck 0\nx watched\nx poked watched 5\ncheck 1 x:100\nx poked watched 5\ncheck 1 x:-1\nx freed watched 5\nrefused: freed at line 10\nx 1:64\n",
+    },
+    // Clearing frees all blocks at its line.
+    Row {
+        script: b"open r debug 1\nalloc r x 100\nalloc r y 8\npoke r y 8 0\npoke r x -32 1\ncheck r\nclear r\nfree r y\n",
+        out: b"r open\nx 1:64\ny 1:256\ny poked\nx poked\ncheck 2 x:-32 y:8\nr cleared\nrefused: freed at line 7\n",
+    },
+    // Sites count their blocks, the bytes of these, and the most bytes that they had.
+    Row {
+        script: b"open r profile 1\nalloc r a 10 @main\nalloc r b 20 @read\nalloc r c 30 @main\nfree r a\nalloc r d 5\nprofile r\nresize r d 50 move\nresize r d 6 fixed\nclear r\nprofile r\n",
+        out: b"r open\na 1:32\nb 1:64\nc 1:128\na freed\nd 1:32\nprofile 3 main=1,30,40 read=1,20,20 -=1,5,5\nd 1:192\nd 1:192\nr cleared\nprofile 3 main=0,0,40 read=0,0,20 -=0,0,50\n",
+    },
+    // A block in guards stays where it is; a watch goes along where it moves, and a second watch takes the new line.
+    Row {
+        script: b"open r debug 1\nalloc r x 10\nresize r x 64 fixed\nalloc r y 1\nwatch r x\npoke r x 64 1\nresize r x 200 move\ncheck r\nwatch r x\nwrite r x 199 z\nread r x 198 2\nblocks r\nstat r\naddr r 1:63\n",
+        out: b"r open\nx 1:64\nx 1:64\ny 1:192\nx watched\nx poked watched 5\nx 1:288 watched 5\ncheck 0\nx watched\nx written 1 watched 9\nx 007a\nblocks 2 y@1:192+1 x@1:288+200\nbusy 2 free 2 sbusy 201 sfree 3680 mbusy 200 mfree 3552 segs 1 extent 4096\naddr -1\n",
+    },
+    // The order of refusals over the methods.
+    Row {
+        script: b"open r debug 1\nopen p profile 2\nalloc r x 4\nalloc p x 4 @s\npoke r x -33 1\npoke r x 20 1\npoke r x 19 256\npoke p x 0 300\npoke p y 0 1\ncheck p\nprofile r\nwatch p x\nwatch p y\nalign r y 0 3\nalign p y 4 64\nfree r x\nalloc r x 0\nread r x 0 1\npoke r x 0 1\nprofile p\n",
+        out: b"r open\np open\nx 1:64\nx 1:32\nrefused: range\nrefused: range\nrefused: range\nrefused: wrong method\nrefused: no block\nrefused: wrong method\nrefused: wrong method\nrefused: wrong method\nrefused: no block\nrefused: wrong method\ny 1:64\nx freed\nrefused: size\nrefused: freed at line 16\nrefused: freed at line 16\nprofile 2 s=1,4,4 -=1,4,4\n",
+    },
     // The order of refusals.
     Row {
         script: b"open r pool 1\nopen s last 2\nalloc r a 1\nalloc s a 1\nalloc s b 1\nalign r a 0 3\nalign r x 0 3\nalign s x 1 32\nresize r a 0 move\nresize s a 0 move\nresize s a 1 fixed\nresize r x 2 move\nfree s a\nsize s a\nread r a 1 1\nopen t debug 3\n",
-        out: b"r open\ns open\na 1:32\na 1:32\nb 1:64\nrefused: block exists\nrefused: wrong method\nrefused: wrong method\nrefused: size\nrefused: size\nrefused: not last\nrefused: no block\nrefused: not last\na 1\nrefused: range\nrefused: not built\n",
+        out: b"r open\ns open\na 1:32\na 1:32\nb 1:64\nrefused: block exists\nrefused: wrong method\nrefused: wrong method\nrefused: size\nrefused: size\nrefused: not last\nrefused: no block\nrefused: not last\na 1\nrefused: range\nrefused: no such discipline\n",
     },
 ];
 
@@ -72,6 +98,58 @@ fn methods(rt: HostRuntime) -> Result<(), Fail> {
             let ran = run(alloc, &mut shelf, ample(row.script, piece))?;
             is_run(&rt, &ran, fine(row.out));
         }
+    }
+    Ok(())
+}
+
+fn put_signed(text: &mut Vec<u8>, number: i32) -> Result<(), AllocError> {
+    if number < 0 {
+        text.push(b'-')?;
+    }
+    put_number(text, number.unsigned_abs())
+}
+
+// A block is put, poked at one offset, and freed.
+fn put_round(script: &mut Vec<u8>, off: i32, byte: u32) -> Result<(), AllocError> {
+    script.extend_from_slice(b"alloc r x 100\npoke r x ")?;
+    put_signed(script, off)?;
+    script.push(b' ')?;
+    put_number(script, byte)?;
+    script.extend_from_slice(b"\ncheck r\nfree r x\n")
+}
+
+// Its replies, where the check finds that offset or nothing.
+fn put_replies(out: &mut Vec<u8>, off: i32, is_found: bool) -> Result<(), AllocError> {
+    out.extend_from_slice(b"x 1:64\nx poked\ncheck ")?;
+    if is_found {
+        out.extend_from_slice(b"1 x:")?;
+        put_signed(out, off)?;
+    } else {
+        out.push(b'0')?;
+    }
+    out.extend_from_slice(b"\nx freed\n")
+}
+
+// Every byte of the guards and of a block of 100 bytes is poked in turn: with another byte those of the guards are found,
+// and with the byte of guards none.
+#[test]
+fn damage(rt: HostRuntime) -> Result<(), Fail> {
+    let alloc = rt.alloc();
+    for byte in [7u32, 165] {
+        let mut script = b"open r debug 1\n".to_vec(alloc)?;
+        let mut out = b"r open\n".to_vec(alloc)?;
+        for off in -32i32..116 {
+            put_round(&mut script, off, byte)?;
+            put_replies(&mut out, off, byte == 7 && !(0..100).contains(&off))?;
+        }
+        let mut shelf = Shelf::new(alloc);
+        assert!(rt;
+            shelf
+                .put(Box::new(alloc, BudgetDisc::new(4096, 4096))?)
+                .is_ok()
+        );
+        let ran = run(alloc, &mut shelf, ample(script.as_slice(), 4096))?;
+        is_run(&rt, &ran, fine(out.as_slice()));
     }
     Ok(())
 }

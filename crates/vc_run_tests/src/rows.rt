@@ -80,7 +80,7 @@ const ROWS: &[Row] = &[
         lends: &[],
         script: b"open r best 3\nopen r best 1\nopen r best 1\nopen s best 1\nalloc r a 1\nalloc r a 0\nalloc r b 0\nalign r b 1 3\nsize r b\nread r a 0 2\nwrite r a 1 x\nresize r b 0 move\nresize r a 0 move\naddr r 1:32\naddr r 1:33\nsegment r 1:4096\nsegment r 1:4095\nsegments r\nblocks r\ncompact r\nclear r\ncompact r\npoke r a 0 1\n",
         status: Status::Ok,
-        out: b"refused: no such discipline\nr open\nrefused: region exists\nrefused: discipline in use\na 1:32\nrefused: block exists\nrefused: size\nrefused: size\nrefused: no block\nrefused: range\nrefused: range\nrefused: no block\nrefused: size\naddr a 0\naddr -1\nsegment -1\nsegment 1 4096\nsegments 1 1:4096\nblocks 1 a@1:32+1\nr compacted 0\nr cleared\nr compacted 1\nrefused: not built\n",
+        out: b"refused: no such discipline\nr open\nrefused: region exists\nrefused: discipline in use\na 1:32\nrefused: block exists\nrefused: size\nrefused: size\nrefused: no block\nrefused: range\nrefused: range\nrefused: no block\nrefused: size\naddr a 0\naddr -1\nsegment -1\nsegment 1 4096\nsegments 1 1:4096\nblocks 1 a@1:32+1\nr compacted 0\nr cleared\nr compacted 1\nrefused: no block\n",
         err: b"",
     },
     Row {
@@ -106,9 +106,9 @@ const ROWS: &[Row] = &[
     },
     Row {
         lends: &[],
-        script: b"open q pool 1\ncheck q\nopen r best 1\nalloc r a 1 @s\n",
+        script: b"open q pool 1\ncheck q\nopen r best 2\nalloc r a 1 @s\n",
         status: Status::Ok,
-        out: b"refused: not built\nrefused: not built\nr open\na 1:32\n",
+        out: b"q open\nrefused: wrong method\nr open\na 1:32\n",
         err: b"",
     },
     Row {

@@ -1,6 +1,8 @@
 -- Steps of the printers of replies.
-use Rattle.std.proofs.Common.{◌≡◌, ℕ, ◌<◌, ◌≤◌, Bool, true, false, not, cond, ◌||◌, List, [], ◌∷◌, ◌++◌, refl, sym, ap, ◌∙◌, arith, ⊎_elim}
+use Rattle.std.proofs.Common.{◌≡◌, ℕ, ◌+◌, ◌<◌, ◌≤◌, length, take, get_or, Bool, true, false, not, cond, ◌||◌, List, [], ◌∷◌, ◌++◌, refl, sym, ap, ◌∙◌, arith, ⊎_elim}
 use Rattle.std.specs.Char.{is_ascii}
+use Rattle.std.specs.List.{flat_map}
+use Rattle.std.proofs.lemmas.List.{flat_map_more, take_more}
 use Rattle.std.proofs.lemmas.Bool.{agree_below, agree_below_at, cases_lt}
 use Rattle.std.proofs.lemmas.Bool.Decides.{nat_tests}
 use Rattle.percent_encoding.specs.AsciiSet.{contains, should_percent_encode}
@@ -41,3 +43,15 @@ percent_encode-shown [] = refl
 percent_encode-shown (b ∷ bs) = ap (λ e. e ++ percent_encode ESCAPED bs) (encode_byte-shown b) ∙ ap (λ rest. shown_byte b ++ rest) (percent_encode-shown bs)
 
 pub ruleset shown_steps = (percent_encode-shown)
+
+-- one item more behind those that stand in a line
+pub one-more : {X : Type 0} (text : X → List ℕ) (begun : List ℕ) (items told : List X) (i : ℕ) (d : X) {line next : List ℕ}
+    → told ≡ items → i < length told → line ≡ begun ++ flat_map text (take i items) → next ≡ line ++ text (get_or told i d)
+    → next ≡ begun ++ flat_map text (take (i + 1) items)
+one-more text begun items told i d same within so_far put =
+    put
+    ∙ ap (λ t. t ++ text (get_or told i d)) so_far
+    ∙ ap (λ xs. (begun ++ flat_map text (take i xs)) ++ text (get_or told i d)) (sym same)
+    ∙ flat_map_more text begun (take i told) (get_or told i d)
+    ∙ ap (λ xs. begun ++ flat_map text xs) (sym (take_more told i d within))
+    ∙ ap (λ xs. begun ++ flat_map text (take (i + 1) xs)) same

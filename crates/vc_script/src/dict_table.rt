@@ -26,7 +26,21 @@ pub(crate) fn dictionary_command(
         Ok(object_in(alloc, others)?.map(|(dict, object)| Command::Insert(dict, object)))
     } else if first == b"append".as_slice() {
         Ok(object_in(alloc, others)?.map(|(dict, object)| Command::Append(dict, object)))
-    } else if first == b"attach".as_slice() {
+    } else {
+        object_command(alloc, first, others)
+    }
+}
+
+// From `attach` on.
+fn object_command(
+    alloc: Global,
+    first: &[u8],
+    others: &[&[u8]],
+) -> Result<Result<Command, LineFault>, OutOfMemory>
+    ensures { IfOk result (λ read.
+        read ≡ command_in (drop 3 dictionary_rows) first.now (map (λ w. w.now) others.now)) }
+{
+    if first == b"attach".as_slice() {
         Ok(object_in(alloc, others)?.map(|(dict, object)| Command::Attach(dict, object)))
     } else if first == b"delete".as_slice() {
         Ok(delete_in(alloc, others)?.map(|(dict, object)| Command::Delete(dict, object)))
@@ -52,7 +66,21 @@ fn search_command(
         Ok(object_in(alloc, others)?.map(|(dict, key)| Command::MatchKey(dict, key)))
     } else if first == b"first".as_slice() {
         Ok(name_in(others).map(Command::First))
-    } else if first == b"last".as_slice() {
+    } else {
+        neighbour_command(alloc, first, others)
+    }
+}
+
+// From `last` on.
+fn neighbour_command(
+    alloc: Global,
+    first: &[u8],
+    others: &[&[u8]],
+) -> Result<Result<Command, LineFault>, OutOfMemory>
+    ensures { IfOk result (λ read.
+        read ≡ command_in (drop 9 dictionary_rows) first.now (map (λ w. w.now) others.now)) }
+{
+    if first == b"last".as_slice() {
         Ok(name_in(others).map(Command::Last))
     } else if first == b"next".as_slice() {
         Ok(object_in(alloc, others)?.map(|(dict, object)| Command::Next(dict, object)))
@@ -74,7 +102,17 @@ fn whole_command(first: &[u8], others: &[&[u8]]) -> Result<Result<Command, LineF
         Ok(name_in(others).map(Command::Count))
     } else if first == b"view".as_slice() {
         Ok(view_in(others).map(|(dict, viewed)| Command::View(dict, viewed)))
-    } else if first == b"method".as_slice() {
+    } else {
+        method_command(first, others)
+    }
+}
+
+// From `method` on.
+fn method_command(first: &[u8], others: &[&[u8]]) -> Result<Result<Command, LineFault>, OutOfMemory>
+    ensures { IfOk result (λ read.
+        read ≡ command_in (drop 15 dictionary_rows) first.now (map (λ w. w.now) others.now)) }
+{
+    if first == b"method".as_slice() {
         Ok(method_in(others).map(|(dict, method)| Command::Remethod(dict, method)))
     } else if first == b"empty".as_slice() {
         Ok(name_in(others).map(Command::Empty))

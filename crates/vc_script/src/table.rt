@@ -32,7 +32,22 @@ pub(crate) fn command_in(
         Ok(name_in(others).map(Command::ClearRegion))
     } else if first == b"compact".as_slice() {
         Ok(name_in(others).map(Command::Compact))
-    } else if first == b"alloc".as_slice() {
+    } else {
+        placing_command(alloc, tool, first, others)
+    }
+}
+
+// From `alloc` on.
+fn placing_command(
+    alloc: Global,
+    tool: Tool,
+    first: &[u8],
+    others: &[&[u8]],
+) -> Result<Result<Command, LineFault>, OutOfMemory>
+    ensures { IfOk result (λ read.
+        read ≡ command_in (drop 4 (table tool)) first.now (map (λ w. w.now) others.now)) }
+{
+    if first == b"alloc".as_slice() {
         Ok(alloc_in(others).map(|(region, block, size, site)| Command::Alloc(
             region, block, size, site,
         )))
@@ -69,7 +84,22 @@ fn block_command(
         Ok(numbers_in(others).map(|(region, block, off, len)| Command::ReadBlock(
             region, block, off, len,
         )))
-    } else if first == b"size".as_slice() {
+    } else {
+        place_command(alloc, tool, first, others)
+    }
+}
+
+// From `size` on.
+fn place_command(
+    alloc: Global,
+    tool: Tool,
+    first: &[u8],
+    others: &[&[u8]],
+) -> Result<Result<Command, LineFault>, OutOfMemory>
+    ensures { IfOk result (λ read.
+        read ≡ command_in (drop 10 (table tool)) first.now (map (λ w. w.now) others.now)) }
+{
+    if first == b"size".as_slice() {
         Ok(block_in(others).map(|(region, block)| Command::SizeOf(region, block)))
     } else if first == b"addr".as_slice() {
         Ok(address_in(others).map(|(region, place)| Command::AddrOf(region, place)))
@@ -100,7 +130,22 @@ fn report_command(
         Ok(poke_in(others).map(|(region, block, off, byte)| Command::Poke(
             region, block, off, byte,
         )))
-    } else if first == b"check".as_slice() {
+    } else {
+        watch_command(alloc, tool, first, others)
+    }
+}
+
+// From `check` on.
+fn watch_command(
+    alloc: Global,
+    tool: Tool,
+    first: &[u8],
+    others: &[&[u8]],
+) -> Result<Result<Command, LineFault>, OutOfMemory>
+    ensures { IfOk result (λ read.
+        read ≡ command_in (drop 17 (table tool)) first.now (map (λ w. w.now) others.now)) }
+{
+    if first == b"check".as_slice() {
         Ok(name_in(others).map(Command::Check))
     } else if first == b"watch".as_slice() {
         Ok(block_in(others).map(|(region, block)| Command::Watch(region, block)))

@@ -1,6 +1,6 @@
 -- What freeing the block of a name answers, and how it changes the region.
 use Rattle.std.proofs.Common.{◌≡◌, ℕ, Bool, true, false, cond, List, Option, Some, None, IfSome, IfNone, refl, sym, ap, ◌∙◌, subst, []}
-use Rattle.std.specs.Prelude.{OnSome}
+use Rattle.std.specs.Prelude.{IfOk, Result, Ok, Err, OnSome}
 use Rattle.std.proofs.lemmas.Option.{none-some, same_Some}
 use Rattle.vc_base.specs.declared.addr.Addr.{Addr}
 use Rattle.vc_model.specs.Addr.{place_of}
@@ -16,10 +16,13 @@ use Rattle.vc_session.specs.Kept.{with_line}
 use Rattle.vc_session.specs.Account.{Held, IsNamed, home_of}
 use Rattle.vc_session.specs.Blocks.{free_block, free_in, freed, kept_freed}
 use Rattle.vc_session.specs.Labels.{SameLabels, WithoutLabel, kept_of, label_at, name_of, tag_of}
+use Rattle.vc_seg.specs.Answer.{IsRefusal}
+use Rattle.vc_seg.specs.declared.fault.RegionFault.{RegionFault}
+use Rattle.vc_session.specs.Naming.{TellsFault}
 use Rattle.vc_session.specs.Step.{Gives}
 use Rattle.vc_session.specs.declared.labels.Label.{Label}
 use Rattle.vc_session.specs.declared.labels.Labels.{Labels}
-use Rattle.vc_session.proofs.Answers.{Told}
+use Rattle.vc_session.proofs.Answers.{Told, fault-told}
 use Rattle.vc_session.proofs.Found.{TheBlock, on_block-there, the_block}
 use Rattle.vc_session.proofs.Moving.{region-less}
 
@@ -58,6 +61,10 @@ module _ (h : Held) (x : List ℕ) (line tag : ℕ) (label : Label) (names : IsN
       let f = name_of h.labels in
       let eq : free_in k x line ≡ unchanged k _ = free-named ∙ ap (λ o. freed k x (kept_freed k x line) (watch_at h.region (place_of label.at.0)) (relabel_freed f o)) t.refused in
       subst (λ c. Gives c (relabelled f region, kept_of h.labels) told) (sym eq) (record { region_after = ap (relabelled f) (sym same); kept_after = refl; replied = t.is })
+
+  pub step-kept : {E : Type 0} (fault : RegionFault) (result : Result Reply E) → TellsFault fault result → IsRefusal (λ (refused : Bool). region_free h.region (place_of label.at.0)) fault → (region : Region ℕ) → region ≡ h.region → IfOk result (λ told. Gives (free_in (home_of h) x line) (relabelled (name_of h.labels) region, kept_of h.labels) told)
+  step-kept fault (Ok told) tells refusal region same = gives-kept told (fault-told (λ (refused : Bool). region_free h.region (place_of label.at.0)) fault told tells refusal) region same
+  step-kept fault (Err e) tells refusal region same = tt
 
   -- the names that are kept then
   pub kept-after : (new : Labels) (keeps : Bool) → keeps ≡ keeps_freed h.region → kept_of new ≡ cond keeps (with_line x line (kept_of h.labels)) (kept_of h.labels) → kept_of new ≡ kept_freed (home_of h) x line

@@ -3,8 +3,8 @@ use Rattle.std.proofs.Common.{◌≡◌, ℕ, ◌+◌, ◌<◌, ◌≤◌, Bool,
 use Rattle.std.specs.Prelude.{nat_le}
 use Rattle.std.proofs.lemmas.Bool.Decides.{nat_tests}
 use Rattle.std.proofs.lemmas.Option.{same_Some}
-use Rattle.vc_model.specs.Addr.{place_of}
-use Rattle.vc_model.specs.Layout.{Block, without_block}
+use Rattle.vc_model.specs.Addr.{address, place_of}
+use Rattle.vc_model.specs.Layout.{Block, address_of, without_block}
 use Rattle.vc_region.specs.Region.{OfBest, OfPool, OfLast, Region, blocks_of, region_write, relabelled, keeps_freed, watch_at}
 use Rattle.vc_region.proofs.Keeps.{write-keeps}
 use Rattle.vc_model.specs.Sound.{HaveOwnPlaces}
@@ -20,6 +20,9 @@ use Rattle.vc_session.specs.Step.{Gives}
 use Rattle.vc_session.specs.declared.labels.Label.{Label}
 use Rattle.vc_session.proofs.Found.{TheBlock, on_block-there, the_block}
 use Rattle.vc_session.proofs.Lists.{find-changed}
+use Rattle.vc_model.proofs.Owned.{address-place_of}
+use Rattle.vc_region.proofs.Writing.{write-labels}
+use Rattle.vc_session.proofs.Resizing.{found-place, from_some}
 use Rattle.vc_session.proofs.Moving.{named-moved}
 
 pub le-beyond : (a b : ℕ) → b < a → nat_le a b ≡ false

@@ -205,6 +205,20 @@ fn best(rt: HostRuntime) -> Result<(), Fail> {
                 }
                 Err(_) => assert!(rt; false),
             }
+        }
+        Err(_) => assert!(rt; false),
+    }
+    Ok(())
+}
+
+#[test]
+fn best_closed(rt: HostRuntime) -> Result<(), Fail> {
+    let alloc = rt.alloc();
+    match Best::open(alloc, Box::new(alloc, HeapDisc::new(4096))?) {
+        Ok(mut region) => {
+            let mut steps = Steps::<Mark>::new(alloc);
+            let placed = region.alloc(100, 64, 1, &mut steps);
+            assert_eq!(rt; placed, Ok(Addr::new(1, 64)));
             let (disc, count) = region.close();
             assert_eq!(rt; (disc.round(), count), (4096, 1));
         }

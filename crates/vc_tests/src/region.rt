@@ -1,8 +1,21 @@
 // Each call of a region of one of the methods once, with ample memory.
+ghost use Rattle.std.specs.Prelude.{◌≤◌};
+
+use std::process::Abort;
 use std::test::Fail;
 use vc_base::Addr;
 use vc_region::Region;
 use vc_seg::{HeapDisc, Method, Stat};
+
+// Two blocks, the second at a multiple of 256.
+fn two_placed(rt: &impl Abort, region: &mut Region)
+    requires { 0 ≤ 0 }
+{
+    let first = region.alloc(100, 1, b"-");
+    assert_eq!(rt; first, Ok(Addr::new(1, 32)));
+    let second = region.align(100, 256, 2, b"x");
+    assert_eq!(rt; second, Ok(Addr::new(1, 256)));
+}
 
 #[test]
 fn told(rt: HostRuntime) -> Result<(), Fail> {
@@ -11,10 +24,7 @@ fn told(rt: HostRuntime) -> Result<(), Fail> {
     match Region::open(alloc, Method::VmBest, disc) {
         Ok(mut region) => {
             assert_eq!(rt; region.method(), Method::VmBest);
-            let first = region.alloc(100, 1, b"-");
-            assert_eq!(rt; first, Ok(Addr::new(1, 32)));
-            let second = region.align(100, 256, 2, b"x");
-            assert_eq!(rt; second, Ok(Addr::new(1, 256)));
+            two_placed(&rt, &mut region);
             let stat = Stat {
                 busy: 2,
                 free: 2,
@@ -26,6 +36,19 @@ fn told(rt: HostRuntime) -> Result<(), Fail> {
                 extent: 4096,
             };
             assert_eq!(rt; region.stat(), stat);
+        }
+        Err(_) => assert!(rt; false),
+    }
+    Ok(())
+}
+
+#[test]
+fn found(rt: HostRuntime) -> Result<(), Fail> {
+    let alloc = rt.alloc();
+    let disc = Box::new(alloc, HeapDisc::new(4096))?;
+    match Region::open(alloc, Method::VmBest, disc) {
+        Ok(mut region) => {
+            two_placed(&rt, &mut region);
             assert_eq!(rt; region.block_at(1, 355), Some((Addr::new(1, 256), 99)));
             assert_eq!(rt; region.segment_at(1, 4095), Some(4096));
             assert_eq!(rt; region.next_segment(0), Some((1, 4096)));
@@ -37,22 +60,35 @@ fn told(rt: HostRuntime) -> Result<(), Fail> {
 }
 
 #[test]
-fn changed(rt: HostRuntime) -> Result<(), Fail> {
+fn written(rt: HostRuntime) -> Result<(), Fail> {
     let alloc = rt.alloc();
     let disc = Box::new(alloc, HeapDisc::new(4096))?;
     match Region::open(alloc, Method::VmBest, disc) {
-        Ok(mut region) => {
-            match region.alloc(6, 1, b"-") {
-                Ok(at) => {
-                    region.write(at, 1, b"abc");
-                    assert_eq!(rt; (region.size(at), region.tag(at)), (6, 1));
-                    assert_eq!(rt; region.read(at, 0, 6), b"\0abc\0\0".as_slice());
-                    assert_eq!(rt; region.resize(at, 3, false), Ok(at));
-                    assert_eq!(rt; region.free(at), Ok(()));
-                }
-                Err(_) => assert!(rt; false),
+        Ok(mut region) => match region.alloc(6, 1, b"-") {
+            Ok(at) => {
+                region.write(at, 1, b"abc");
+                assert_eq!(rt; (region.size(at), region.tag(at)), (6, 1));
+                assert_eq!(rt; region.read(at, 0, 6), b"\0abc\0\0".as_slice());
             }
-        }
+            Err(_) => assert!(rt; false),
+        },
+        Err(_) => assert!(rt; false),
+    }
+    Ok(())
+}
+
+#[test]
+fn resized(rt: HostRuntime) -> Result<(), Fail> {
+    let alloc = rt.alloc();
+    let disc = Box::new(alloc, HeapDisc::new(4096))?;
+    match Region::open(alloc, Method::VmBest, disc) {
+        Ok(mut region) => match region.alloc(6, 1, b"-") {
+            Ok(at) => {
+                assert_eq!(rt; region.resize(at, 3, false), Ok(at));
+                assert_eq!(rt; region.free(at), Ok(()));
+            }
+            Err(_) => assert!(rt; false),
+        },
         Err(_) => assert!(rt; false),
     }
     Ok(())

@@ -27,36 +27,45 @@ fn step(
     prints(rt, alloc, reply, line);
 }
 
+// Steps one after the other, each with its number and the line of its reply.
+fn steps(
+    rt: &impl Abort,
+    alloc: Global,
+    session: &mut Session,
+    shelf: &mut Shelf,
+    rows: &[(u32, Command, &str)],
+)
+    requires { IsSessionOver state shelf.old session.old }
+    ensures { IsSessionOver state shelf.new session.new }
+{
+    for row in rows {
+        step(rt, alloc, session, shelf, row.0, &row.1, row.2.as_bytes());
+    }
+}
+
 #[test]
 fn session(rt: HostRuntime) -> Result<(), Fail> {
     let alloc = rt.alloc();
-    let r = Name::new(b"r");
-    let a = Name::new(b"a");
-    let open = Command::OpenRegion(r, Method::VmBest, 1);
-    let place = Command::Alloc(r, a, 100, None);
-    let free = Command::Free(r, a);
-    let close = Command::CloseRegion(r);
+    let (r, a) = (Name::new(b"r"), Name::new(b"a"));
+    let open = [(1, Command::OpenRegion(r, Method::VmBest, 1), "r open\n")];
+    let used = [
+        (2, Command::Alloc(r, a, 100, None), "a 1:32\n"),
+        (3, Command::Free(r, a), "a freed\n"),
+        (4, Command::Free(r, a), "refused: no block\n"),
+        (5, Command::CloseRegion(r), "r closed 1\n"),
+    ];
+    let again = [
+        (6, Command::OpenRegion(r, Method::VmBest, 1), "r open\n"),
+        (7, Command::Alloc(r, a, 100, None), "a 1:32\n"),
+    ];
     let mut shelf = Shelf::new(alloc);
     assert!(rt; shelf.put(Box::new(alloc, HeapDisc::new(4096))?).is_ok());
     let mut session = Session::new(alloc, Tool::Vmreplay).expect(&rt, "memory");
-    step(&rt, alloc, &mut session, &mut shelf, 1, &open, b"r open\n");
+    steps(&rt, alloc, &mut session, &mut shelf, &open);
     assert_eq!(rt; shelf.place(1), ShelfPlace::Taken);
-    step(&rt, alloc, &mut session, &mut shelf, 2, &place, b"a 1:32\n");
-    step(&rt, alloc, &mut session, &mut shelf, 3, &free, b"a freed\n");
-    let again = b"refused: no block\n";
-    step(&rt, alloc, &mut session, &mut shelf, 4, &free, again);
-    step(
-        &rt,
-        alloc,
-        &mut session,
-        &mut shelf,
-        5,
-        &close,
-        b"r closed 1\n",
-    );
+    steps(&rt, alloc, &mut session, &mut shelf, &used);
     assert_eq!(rt; shelf.place(1), ShelfPlace::Here);
-    step(&rt, alloc, &mut session, &mut shelf, 6, &open, b"r open\n");
-    step(&rt, alloc, &mut session, &mut shelf, 7, &place, b"a 1:32\n");
+    steps(&rt, alloc, &mut session, &mut shelf, &again);
     session.end(&mut shelf);
     assert_eq!(rt; shelf.place(1), ShelfPlace::Here);
     Ok(())

@@ -14,7 +14,7 @@ use Rattle.vc_session.specs.Naming.{NamesPut, new_refused}
 use Rattle.vc_session.proofs.Answers.{change-same, gives-unchanged, if_ok-all, none-no_segment}
 use Rattle.vc_session.proofs.Found.{align-in, both-parts}
 use Rattle.vc_session.proofs.Names.{isnamed-same}
-use Rattle.vc_session.proofs.Putting.{align-commutes, align-legal, align-words, change-put, err-put, new-words, put_new-refused, refused-other, size-range, step-put}
+use Rattle.vc_session.proofs.Putting.{align-commutes, new-name, align-legal, align-words, change-put, err-put, new-words, put_new-refused, refused-other, size-range, step-put}
 use Rattle.vc_session.proofs.home.HomeEntry.align.Given as given
 use Rattle.vc_session.proofs.home.HomeEntry.align.Goals as goal
 
@@ -90,3 +90,8 @@ pub returns-in_err-tag-in-None-clause-change : goal.returns-in_err-tag-in-None-c
 returns-in_err-tag-in-None-clause-change g c = λ r.
     let h = held_of (meaning g) r c.args.self.now c.args.labels.now in
     change-same h c.reserve.new.self c.requires.lent (isnamed-same h.region h.labels c.reserve.new.self c.reserve.ensures.same c.reserve.ensures.agree c.requires.names)
+
+pub name_put-requires-clause-new : goal.name_put-requires-clause-new
+name_put-requires-clause-new g c =
+    c.reserve.ensures.same.by_name c.args.name
+    ∙ new-name c.args.labels.now c.args.name c.align_refused-words.result (sym c.new_refused.ensures ∙ c.in-None.is)

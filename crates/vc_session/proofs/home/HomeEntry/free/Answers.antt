@@ -10,10 +10,10 @@ use Rattle.vc_session.specs.Blocks.{free_block, free_in}
 use Rattle.vc_session.specs.Homes.{held_of}
 use Rattle.vc_session.specs.State.{unchanged}
 use Rattle.vc_session.specs.declared.labels.Label.{Label}
-use Rattle.vc_session.proofs.Answers.{changed-by, gives-unchanged, kept-same, none-no_segment, out-same}
+use Rattle.vc_session.proofs.Answers.{changed-by, gives-unchanged, kept-same, none-no_segment, out-same, if_ok-all}
 use Rattle.vc_session.proofs.Found.{on_block-none, the_block}
 use Rattle.vc_region.proofs.Freeing.{free-segments}
-use Rattle.vc_session.proofs.Gone.{gives-freed, kept-after, none-after, removed-label, removed-so}
+use Rattle.vc_session.proofs.Gone.{gives-freed, step-kept, kept-after, none-after, removed-label, removed-so}
 use Rattle.vc_session.proofs.Lists.{index}
 use Rattle.vc_session.proofs.Moving.{named-left}
 use Rattle.vc_session.proofs.home.HomeEntry.free.Given as given
@@ -75,3 +75,11 @@ returns-in-Ok-clause-change g c = λ r.
     changed-by h disc new c.free-in-Ok.new.self c.requires.lent (kept-same h.disc disc c.free.ensures.disc) (out-same h.disc disc (segments_of h.region) (segments_of new) c.free.ensures.disc segments)
     (named-left h.labels h.region c.requires.names c.args.name.now f.0 label f.2 b c.free-in-Ok.new.self w refl new left c.free-in-Ok.ensures.agree (own_places c.free.new.self)
     (none-after h c.args.name.now c.args.line f.0 label c.requires.names refl f.1 f.2 c.free-in-Ok.new.self keeps new c.in-Ok.ensures.answer))
+
+pub returns-in-Err-clause-step : goal.returns-in-Err-clause-step
+returns-in-Err-clause-step g c =
+    if_ok-all c.refused.result _ (λ r.
+    let h = held_of (meaning g) r c.args.self.now c.args.labels.now in
+    let label : Label = record { name = c.args.name.now; at = c.in-Some.at } in
+    let f = c.in-Some.ensures.some in
+    step-kept h c.args.name.now c.args.line f.0 label c.requires.names refl f.1 f.2 c.in-Err.fault c.refused.result c.refused.ensures c.in-Err.ensures.answer.0 (region_of c.free.new.self) c.in-Err.ensures.answer.1)
