@@ -3,7 +3,7 @@ use Rattle.std.proofs.Common.{◌≡◌, ℕ, ◌+◌, ◌≤◌, ◌<◌, zero,
 use Rattle.std.specs.Prelude.{ℤ}
 use Rattle.std.specs.List.{AllByRecursion, cons_option, filter_map}
 use Rattle.std.proofs.lemmas.Option.{none-some, same_Some}
-use Rattle.vc_audit.specs.Debug.{Debug, damage, damage_of, user_block}
+use Rattle.vc_audit.specs.Debug.{damage, damage_of, user_block}
 use Rattle.vc_audit.specs.DebugParts.{debug_of}
 use Rattle.vc_audit.proofs.DebugDamaged.{address_in, all-pass, behind, next-passes, none-passes}
 use Rattle.vc_audit.proofs.DebugRelabel.{relabel_found}
@@ -12,6 +12,7 @@ use Rattle.vc_model.specs.Addr.{address, place_of}
 use Rattle.vc_model.specs.Layout.{Block, address_of, relabel_block, without_block}
 use Rattle.vc_model.specs.Sound.{HaveOwnPlaces}
 use Rattle.vc_model.specs.Touch.{find_block}
+use Rattle.vc_model.specs.Walk.{by_address}
 use Rattle.vc_model.proofs.Owned.{address-place_of}
 use Rattle.vc_model.proofs.Places.{Among, among-all, among-find, found-there}
 use Rattle.vc_model.proofs.Sorting as sorting
@@ -89,14 +90,14 @@ module _ (h : Held) (x : List ℕ) (tag : ℕ) (label : Label) (names : IsNamed 
     pub poke-range : is_debug h.region ≡ true → is_poke b.block.size off byte ≡ false → poke_in (home_of h) x off byte ≡ unchanged (home_of h) why.Range
     poke-range is fails =
         let k = home_of h in
-        let at = (b.block.seg, b.block.off) in
+        let at : ℕ × ℕ = (b.block.seg, b.block.off) in
         poke-there is ∙ ap (λ v. cond v (changed_to k (region_poke k.region at off byte) (Poked x (watch_at k.region at))) (unchanged k why.Range)) fails
 
     pub gives-poked : (region : Region ℕ) → is_debug h.region ≡ true → is_poke b.block.size off byte ≡ true → region ≡ region_poke h.region p off byte → (watch : Option ℕ) → watch ≡ watch_at h.region p → Gives (poke_in (home_of h) x off byte) (relabelled (name_of h.labels) region, kept_of h.labels) (Poked x watch)
     gives-poked region is passes put watch watched =
         let k = home_of h in
         let f = name_of h.labels in
-        let at = (b.block.seg, b.block.off) in
+        let at : ℕ × ℕ = (b.block.seg, b.block.off) in
         let eq : poke_in k x off byte ≡ changed_to k (relabelled f region) (Poked x watch) =
         poke-there is
         ∙ (ap (λ v. cond v (changed_to k (region_poke k.region at off byte) (Poked x (watch_at k.region at))) (unchanged k why.Range)) passes
@@ -114,7 +115,7 @@ module _ (h : Held) (x : List ℕ) (tag : ℕ) (label : Label) (names : IsNamed 
     pub watch-method : is_debug h.region ≡ false → watch_in (home_of h) line x ≡ unchanged (home_of h) why.WrongMethod
     watch-method other =
         let k = home_of h in
-        let at = (b.block.seg, b.block.off) in
+        let at : ℕ × ℕ = (b.block.seg, b.block.off) in
         on_block-there h x tag label.at.0 b (watch_block k line x)
         ∙ ap (λ v. cond v (changed_to k (region_watch k.region at line) (Watched x)) (unchanged k why.WrongMethod)) (debug-relabelled (name_of h.labels) h.region ∙ other)
 
@@ -122,7 +123,7 @@ module _ (h : Held) (x : List ℕ) (tag : ℕ) (label : Label) (names : IsNamed 
     gives-watched region is put =
         let k = home_of h in
         let f = name_of h.labels in
-        let at = (b.block.seg, b.block.off) in
+        let at : ℕ × ℕ = (b.block.seg, b.block.off) in
         let eq : watch_in k line x ≡ changed_to k (relabelled f region) (Watched x) =
         on_block-there h x tag label.at.0 b (watch_block k line x)
         ∙ (ap (λ v. cond v (changed_to k (region_watch k.region at line) (Watched x)) (unchanged k why.WrongMethod)) (debug-relabelled f h.region ∙ is)
@@ -144,10 +145,16 @@ row-is (OfLast l) i = refl
 row-is (OfDebug d) i = refl
 row-is (OfProfile p) i = refl
 
-pub row-next : (rows : List ProfileRow) (i : ℕ) (row : ProfileRow) → slice_get rows i ≡ Some row → drop i rows ≡ row ∷ drop (suc i) rows
-row-next [] i row e = absurd (none-some row e)
-row-next (r ∷ rs) zero row e = ap (λ q. q ∷ rs) (same_Some r row e)
-row-next (r ∷ rs) (suc i) row e = row-next rs i row e
+row-here : (rows : List ProfileRow) (i : ℕ) (row : ProfileRow) → slice_get rows i ≡ Some row → drop i rows ≡ row ∷ drop (suc i) rows
+row-here [] i row e = absurd (none-some row e)
+row-here (r ∷ rs) zero row e = ap (λ q. q ∷ rs) (same_Some r row e)
+row-here (r ∷ rs) (suc i) row e = row-here rs i row e
+
+next-index : (i : ℕ) → suc i ≡ i + 1
+next-index i = omega arith
+
+pub row-next : (rows : List ProfileRow) (i : ℕ) (row : ProfileRow) → slice_get rows i ≡ Some row → drop i rows ≡ row ∷ drop (i + 1) rows
+row-next rows i row e = row-here rows i row e ∙ ap (λ k. row ∷ drop k rows) (next-index i)
 
 pub row-end : (rows : List ProfileRow) (i : ℕ) → slice_get rows i ≡ None → drop i rows ≡ []
 row-end [] zero e = refl
@@ -198,7 +205,7 @@ module _ {I : Type 0} {V : I → Type 0} where
       let bs = d.best.layout.blocks in
       let all = map user_block bs in
       among-all (λ f. Among f.0 all) x (damaged_in (region_of (Debug d))) (among-find (behind after) (damaged_in (region_of (Debug d))) x e)
-      (found-among all (sorting.sorted_by address_of bs)
+      (found-among all (by_address bs)
       (sorting.all-sorted_by address_of (λ c. Among (user_block c) all) bs (each-among (λ c. Among (user_block c) all) bs (λ c m. among-map user_block c bs m))))
   damaged-among (Profile q) after x e = absurd (none-some x e)
 

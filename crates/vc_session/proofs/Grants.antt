@@ -1,14 +1,14 @@
 -- Which replies tell that a segment was refused.
 use Rattle.std.proofs.Common.{◌≡◌, ℕ, ◌+◌, Bool, true, false, cond, ◌&&◌, List, Option, Some, None, refl, ◌∙◌, subst, [], ◌∷◌}
-use Rattle.std.specs.Prelude.{find, length, nat_le, nat_lt, IfSome}
+use Rattle.std.specs.Prelude.{ℤ, find, length, nat_le, nat_lt, IfSome}
 use Rattle.vc_model.specs.Layout.{Block}
 use Rattle.vc_model.specs.Outcome as model
 use Rattle.vc_model.specs.Outcome.{Fault, Outcome, Done, Put, Refused}
 use Rattle.vc_region.proofs.Freeing.{free-granted}
-use Rattle.vc_region.specs.Region.{Region, blocks_of, region_align, region_alloc, region_free, region_resize, segments_of, watch_at, aligns}
+use Rattle.vc_region.specs.Region.{Region, blocks_of, region_align, region_alloc, region_free, region_resize, segments_of, watch_at, aligns, is_debug, is_profile}
 use Rattle.vc_model.specs.Walk.{block_at, segment_at}
 use Rattle.vc_script.specs.declared.command.Command.{Command}
-use Rattle.vc_script.specs.declared.command.Command.TheVariants.{Alloc, Align, Resize, Free, WriteBlock, ReadBlock, SizeOf, AddrOf, SegmentOf}
+use Rattle.vc_script.specs.declared.command.Command.TheVariants.{Alloc, Align, Resize, Free, WriteBlock, ReadBlock, SizeOf, AddrOf, SegmentOf, Poke, Check, Watch, ProfileOf}
 use Rattle.vc_script.specs.declared.place.Place.{Place}
 use Rattle.vc_script.specs.declared.reply.Reply.{Reply}
 use Rattle.vc_script.specs.declared.reply.Reply.TheVariants as reply
@@ -17,6 +17,7 @@ use Rattle.vc_script.specs.declared.refusal.Refusal.TheVariants as why
 use Rattle.vc_script.specs.Needs.{Need}
 use Rattle.vc_session.specs.Kept.{Kept, line_of, without_name}
 use Rattle.vc_session.specs.State.{Changed, Home, Label, unchanged}
+use Rattle.vc_session.specs.Audit.{check_in, is_poke, poke_block, poke_byte, poke_in, profile_in, watch_block, watch_in}
 use Rattle.vc_session.specs.Blocks.{free_block, free_in, freed, has_label, has_room, is_align, is_block, is_size, kept_freed, no_block, align_refused, put_by, put_in, put_new, site_of, size_refused, read_block, read_in, resize_block, resize_in, size_in, with_named, write_block, write_in}
 use Rattle.vc_session.specs.Step.{in_region, is_for_block}
 use Rattle.vc_session.specs.Whole.{addr_in, addr_reply, segment_in, segment_reply}
@@ -91,6 +92,25 @@ granted-segment_reply n (Some size) = tt
 pub granted-segment : (h : Home) (at : Place) → IsGranted (segment_in h at).reply
 granted-segment h at = granted-segment_reply at.seg (segment_at (at.seg, at.off) (segments_of h.region))
 
+granted-poke_byte : (h : Home) (x : List ℕ) (off : ℤ) (byte : ℕ) (b : Block Label) → IsGranted (poke_byte h x off byte b).reply
+granted-poke_byte h x off byte b = holds-if IsGranted (is_poke b.size off byte) _ (unchanged h why.Range) tt tt
+
+pub granted-poke : (h : Home) (x : List ℕ) (off : ℤ) (byte : ℕ) → IsGranted (poke_in h x off byte).reply
+granted-poke h x off byte =
+    holds-block IsGranted h x (find (is_block x) (blocks_of h.region)) (poke_block h x off byte) granted-none
+    (λ b. holds-if IsGranted (is_debug h.region) (poke_byte h x off byte b) (unchanged h why.WrongMethod) (granted-poke_byte h x off byte b) tt)
+
+pub granted-watch : (h : Home) (line : ℕ) (x : List ℕ) → IsGranted (watch_in h line x).reply
+granted-watch h line x =
+    holds-block IsGranted h x (find (is_block x) (blocks_of h.region)) (watch_block h line x) granted-none
+    (λ b. holds-if IsGranted (is_debug h.region) _ (unchanged h why.WrongMethod) tt tt)
+
+pub granted-check : (h : Home) → IsGranted (check_in h).reply
+granted-check h = holds-if IsGranted (is_debug h.region) _ (unchanged h why.WrongMethod) tt tt
+
+pub granted-profile : (h : Home) → IsGranted (profile_in h).reply
+granted-profile h = holds-if IsGranted (is_profile h.region) _ (unchanged h why.WrongMethod) tt tt
+
 plain-put : (h : Home) (x : List ℕ) (kept : Kept) (watch : Option ℕ) (o : Outcome (Put (Region Label))) → IsPlain (put_in h x kept watch o).reply
 plain-put h x kept watch (Done p) = tt
 plain-put h x kept watch (Refused model.TooManySegments) = tt
@@ -142,6 +162,10 @@ plain-region h line (ReadBlock r x off len) need = plain-granted (read_in h x of
 plain-region h line (SizeOf r x) need = plain-granted (size_in h x).reply (granted-size h x)
 plain-region h line (AddrOf r at) need = plain-granted (addr_in h at).reply (granted-addr h at)
 plain-region h line (SegmentOf r at) need = plain-granted (segment_in h at).reply (granted-segment h at)
+plain-region h line (Poke r x off byte) need = plain-granted (poke_in h x off byte).reply (granted-poke h x off byte)
+plain-region h line (Check r) need = plain-granted (check_in h).reply (granted-check h)
+plain-region h line (Watch r x) need = plain-granted (watch_in h line x).reply (granted-watch h line x)
+plain-region h line (ProfileOf r) need = plain-granted (profile_in h).reply (granted-profile h)
 plain-region h line command need = tt
 
 -- a reply that the definitions give is no refusal of a segment

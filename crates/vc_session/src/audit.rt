@@ -69,7 +69,10 @@ fn row_items(region: &Region, alloc: Global) -> Result<Vec<ProfileRow>, OutOfMem
     let mut i = 0u32;
     while let Some(row) = region.row(i) {
         items.push(row)?;
-        i = i.checked_add(1).ok_or(OutOfMemory)?;
+        if i == u32::MAX {
+            return Err(OutOfMemory);
+        }
+        i += 1;
     }
     Ok(items)
 }

@@ -1,8 +1,9 @@
-use Rattle.std.proofs.Common.{◌≡◌, not, false, true, refl, ap, ◌∙◌, sym}
-use Rattle.std.proofs.lemmas.Bool.{not-false, not-true}
+use Rattle.std.proofs.Common.{◌≡◌, refl, ap, ◌∙◌, sym}
+use Rattle.std.specs.Int.{w64}
+use Rattle.std.proofs.lemmas.Int.{to_z-of_z}
 use Rattle.vc_model.specs.Addr.{place_of}
 use Rattle.vc_model.specs.Discipline.{Discipline}
-use Rattle.vc_region.specs.Region.{is_debug, segments_of}
+use Rattle.vc_region.specs.Region.{region_poke, segments_of}
 use Rattle.vc_region.specs.Parts.{disc_in, region_of}
 use Rattle.vc_region.proofs.Sound.{own_places}
 use Rattle.vc_script.specs.declared.refusal.Refusal.TheVariants as why
@@ -51,7 +52,7 @@ returns-then-not-is_debug-clause-step g c = λ r.
     let label : Label = record { name = c.args.name.now; at = c.in-Some.at } in
     let f = c.in-Some.ensures.some in
     gives-unchanged (home_of h) (poke_in (home_of h) c.args.name.now c.args.off c.args.byte) why.WrongMethod
-    (poke-method h c.args.name.now f.0 label c.requires.names refl f.1 f.2 c.args.off c.args.byte (sym c.is_debug.ensures ∙ not-true c.is_debug.result c.if-not-is_debug.true))
+    (poke-method h c.args.name.now f.0 label c.requires.names refl f.1 f.2 c.args.off c.args.byte (sym c.is_debug.ensures ∙ c.if-not-is_debug.true))
 
 pub returns-then-not-is_poke-clause-step : goal.returns-then-not-is_poke-clause-step
 returns-then-not-is_poke-clause-step g c = λ r.
@@ -60,8 +61,8 @@ returns-then-not-is_poke-clause-step g c = λ r.
     let f = c.in-Some.ensures.some in
     let size = size-told h c.args.name.now f.0 label c.requires.names refl f.1 f.2 c.size.result c.size.ensures in
     gives-unchanged (home_of h) (poke_in (home_of h) c.args.name.now c.args.off c.args.byte) why.Range
-    (poke-range h c.args.name.now f.0 label c.requires.names refl f.1 f.2 c.args.off c.args.byte (sym c.is_debug.ensures ∙ not-false c.is_debug.result c.if-not-is_debug.false)
-    (ap (λ n. is_poke n c.args.off c.args.byte) size ∙ (sym c.is_poke.ensures ∙ not-true c.is_poke.result c.if-not-is_poke.true)))
+    (poke-range h c.args.name.now f.0 label c.requires.names refl f.1 f.2 c.args.off c.args.byte (sym c.is_debug.ensures ∙ c.if-not-is_debug.false)
+    (ap (λ n. is_poke n c.args.off c.args.byte) size ∙ (sym (ap (λ z. is_poke c.size.result z c.args.byte) (to_z-of_z w64 c.args.off c.ranges.off)) ∙ (sym c.is_poke.ensures ∙ c.if-not-is_poke.true))))
 
 pub returns-clause-step : goal.returns-clause-step
 returns-clause-step g c = λ r.
@@ -70,9 +71,9 @@ returns-clause-step g c = λ r.
     let f = c.in-Some.ensures.some in
     let size = size-told h c.args.name.now f.0 label c.requires.names refl f.1 f.2 c.size.result c.size.ensures in
     gives-poked h c.args.name.now f.0 label c.requires.names refl f.1 f.2 c.args.off c.args.byte (region_of c.poke.new.self)
-    (sym c.is_debug.ensures ∙ not-false c.is_debug.result c.if-not-is_debug.false)
-    (ap (λ n. is_poke n c.args.off c.args.byte) size ∙ (sym c.is_poke.ensures ∙ not-false c.is_poke.result c.if-not-is_poke.false))
-    c.poke.ensures.region c.watched-watch.result c.watched-watch.ensures
+    (sym c.is_debug.ensures ∙ c.if-not-is_debug.false)
+    (ap (λ n. is_poke n c.args.off c.args.byte) size ∙ (sym (ap (λ z. is_poke c.size.result z c.args.byte) (to_z-of_z w64 c.args.off c.ranges.off)) ∙ (sym c.is_poke.ensures ∙ c.if-not-is_poke.false)))
+    (c.poke.ensures.region ∙ ap (λ z. region_poke h.region (place_of label.at.0) z c.args.byte) (to_z-of_z w64 c.args.off c.ranges.off)) c.watched-watch.result c.watched-watch.ensures
 
 pub returns-clause-change : goal.returns-clause-change
 returns-clause-change g c = λ r.
@@ -81,6 +82,7 @@ returns-clause-change g c = λ r.
     let f = c.in-Some.ensures.some in
     let new = region_of c.poke.new.self in
     let disc = disc_in (meaning g) c.poke.new.self in
-    let segments : segments_of new ≡ segments_of h.region = ap segments_of c.poke.ensures.region ∙ poked-segments h.region (place_of label.at.0) c.args.off c.args.byte in
+    let put = c.poke.ensures.region ∙ ap (λ z. region_poke h.region (place_of label.at.0) z c.args.byte) (to_z-of_z w64 c.args.off c.ranges.off) in
+    let segments : segments_of new ≡ segments_of h.region = ap segments_of put ∙ poked-segments h.region (place_of label.at.0) c.args.off c.args.byte in
     changed-by h disc new h.labels c.requires.lent (kept-same h.disc disc c.poke.ensures.disc) (out-same h.disc disc (segments_of h.region) (segments_of new) c.poke.ensures.disc segments)
-    (named-poked h c.args.name.now f.0 label c.requires.names refl f.1 f.2 c.args.off c.args.byte new c.poke.ensures.region c.poke.ensures.others (own_places c.poke.new.self))
+    (named-poked h c.args.name.now f.0 label c.requires.names refl f.1 f.2 c.args.off c.args.byte new put c.poke.ensures.others (own_places c.poke.new.self))

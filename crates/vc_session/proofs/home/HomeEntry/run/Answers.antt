@@ -3,13 +3,14 @@ use Rattle.vc_model.specs.Discipline.{Discipline}
 use Rattle.vc_script.specs.declared.reply.Reply.TheVariants.{Refused}
 use Rattle.vc_script.specs.declared.refusal.Refusal.TheVariants.{NoSegment}
 use Rattle.vc_session.specs.Account.{home_of}
+use Rattle.vc_session.specs.Audit.{check_in, profile_in}
 use Rattle.vc_session.specs.Blocks.{read_in, size_in}
 use Rattle.vc_session.specs.Homes.{Runs, held_of, region_with}
 use Rattle.vc_session.specs.State.{Changed, told}
 use Rattle.vc_session.specs.declared.labels.Labels.{Labels}
 use Rattle.vc_session.specs.Whole.{addr_in, clear_in, compact_in, list_blocks, list_segments, segment_in, stat_in}
 use Rattle.vc_session.proofs.Answers.{gives-changed, get_ok, if_ok-map}
-use Rattle.vc_session.proofs.Grants.{granted-addr, granted-read, granted-segment, granted-size, not_refused}
+use Rattle.vc_session.proofs.Grants.{granted-addr, granted-check, granted-profile, granted-read, granted-segment, granted-size, not_refused}
 use Rattle.vc_session.proofs.home.HomeEntry.run.Given as given
 use Rattle.vc_session.proofs.home.HomeEntry.run.Goals as goal
 
@@ -114,3 +115,29 @@ returns-in-Blocks-clause-unserved g c = λ e.
     let k = home_of (held_of (meaning g) [] c.args.self.now c.args.labels.now) in
     let eq = subst (λ r. IfOk r (λ reply. (n : List ℕ) → list_blocks (home_of (held_of (meaning g) n c.args.self.now c.args.labels.now)) ≡ told (home_of (held_of (meaning g) n c.args.self.now c.args.labels.now)) reply)) e c.blocks-in-Blocks.ensures in
     absurd (not_refused (list_blocks k) (Refused NoSegment) tt (ap (λ (d : Changed). d.reply) (eq [])) refl)
+
+pub returns-in-Poke-clause-step : goal.returns-in-Poke-clause-step
+returns-in-Poke-clause-step g c = rw c.in-Poke.is c.poke.ensures.step
+
+pub returns-in-Check-clause-step : goal.returns-in-Check-clause-step
+returns-in-Check-clause-step g c =
+    rw c.in-Check.is (if_ok-map c.check.result _ _ (λ told eq r. gives-changed (home_of (held_of (meaning g) r c.args.self.now c.args.labels.now)) _ _ told (eq r)) c.check.ensures)
+
+pub returns-in-Check-clause-unserved : goal.returns-in-Check-clause-unserved
+returns-in-Check-clause-unserved g c = λ e.
+    let k = home_of (held_of (meaning g) [] c.args.self.now c.args.labels.now) in
+    let eq = subst (λ r. IfOk r (λ reply. (n : List ℕ) → check_in (home_of (held_of (meaning g) n c.args.self.now c.args.labels.now)) ≡ told (home_of (held_of (meaning g) n c.args.self.now c.args.labels.now)) reply)) e c.check.ensures in
+    absurd (not_refused (check_in k) (Refused NoSegment) (granted-check k) (ap (λ (d : Changed). d.reply) (eq [])) refl)
+
+pub returns-in-Watch-clause-step : goal.returns-in-Watch-clause-step
+returns-in-Watch-clause-step g c = rw c.in-Watch.is c.watch.ensures.step
+
+pub returns-in-ProfileOf-clause-step : goal.returns-in-ProfileOf-clause-step
+returns-in-ProfileOf-clause-step g c =
+    rw c.in-ProfileOf.is (if_ok-map c.profile.result _ _ (λ told eq r. gives-changed (home_of (held_of (meaning g) r c.args.self.now c.args.labels.now)) _ _ told (eq c.args.labels.now r)) c.profile.ensures)
+
+pub returns-in-ProfileOf-clause-unserved : goal.returns-in-ProfileOf-clause-unserved
+returns-in-ProfileOf-clause-unserved g c = λ e.
+    let k = home_of (held_of (meaning g) [] c.args.self.now c.args.labels.now) in
+    let eq = subst (λ r. IfOk r (λ reply. (labels : Labels) (n : List ℕ) → profile_in (home_of (held_of (meaning g) n c.args.self.now labels)) ≡ told (home_of (held_of (meaning g) n c.args.self.now labels)) reply)) e c.profile.ensures in
+    absurd (not_refused (profile_in k) (Refused NoSegment) (granted-profile k) (ap (λ (d : Changed). d.reply) (eq c.args.labels.now [])) refl)

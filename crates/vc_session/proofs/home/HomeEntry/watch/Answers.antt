@@ -1,5 +1,4 @@
 use Rattle.std.proofs.Common.{◌≡◌, refl, ap, ◌∙◌, sym}
-use Rattle.std.proofs.lemmas.Bool.{not-false, not-true}
 use Rattle.vc_model.specs.Addr.{place_of}
 use Rattle.vc_model.specs.Discipline.{Discipline}
 use Rattle.vc_region.specs.Region.{segments_of}
@@ -38,10 +37,24 @@ returns-then-not-is_debug-clause-step g c = λ r.
     let label : Label = record { name = c.args.name.now; at = c.in-Some.at } in
     let f = c.in-Some.ensures.some in
     gives-unchanged (home_of h) (watch_in (home_of h) c.args.line c.args.name.now) why.WrongMethod
-    (watch-method h c.args.name.now f.0 label c.requires.names refl f.1 f.2 c.args.line (sym c.is_debug.ensures ∙ not-true c.is_debug.result c.if-not-is_debug.true))
+    (watch-method h c.args.name.now f.0 label c.requires.names refl f.1 f.2 c.args.line (sym c.is_debug.ensures ∙ c.if-not-is_debug.true))
 
 pub returns-clause-step : goal.returns-clause-step
-returns-clause-step g c = ?
+returns-clause-step g c = λ r.
+    let h = held_of (meaning g) r c.args.self.now c.args.labels.now in
+    let label : Label = record { name = c.args.name.now; at = c.in-Some.at } in
+    let f = c.in-Some.ensures.some in
+    gives-watched h c.args.name.now f.0 label c.requires.names refl f.1 f.2 c.args.line (region_of c.watch.new.self)
+    (sym c.is_debug.ensures ∙ c.if-not-is_debug.false) c.in_ok-watch.ensures.ok
 
 pub returns-clause-change : goal.returns-clause-change
-returns-clause-change g c = ?
+returns-clause-change g c = λ r.
+    let h = held_of (meaning g) r c.args.self.now c.args.labels.now in
+    let label : Label = record { name = c.args.name.now; at = c.in-Some.at } in
+    let f = c.in-Some.ensures.some in
+    let new = region_of c.watch.new.self in
+    let disc = disc_in (meaning g) c.watch.new.self in
+    let put = c.in_ok-watch.ensures.ok in
+    let segments : segments_of new ≡ segments_of h.region = ap segments_of put ∙ watched-segments h.region (place_of label.at.0) c.args.line in
+    changed-by h disc new h.labels c.requires.lent (kept-same h.disc disc c.watch.ensures.disc) (out-same h.disc disc (segments_of h.region) (segments_of new) c.watch.ensures.disc segments)
+    (named-watched h c.args.name.now f.0 label c.requires.names refl f.1 f.2 c.args.line new put (own_places c.watch.new.self))
