@@ -17,6 +17,7 @@ pub mod Lists
 pub mod Moving
 pub mod Names
 pub mod Opening
+pub mod ProperSites
 pub mod ProperSteps
 pub mod Putting
 pub mod Resizing

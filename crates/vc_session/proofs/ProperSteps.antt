@@ -4,36 +4,39 @@ use Rattle.std.specs.Ordering.{eq_by_cmp}
 use Rattle.std.specs.declared.cmp.Ordering.{Ordering}
 use Rattle.std.specs.declared.cmp.Ordering.TheVariants.{Less, Equal, Greater}
 use Rattle.std.specs.FinMap.Entries.{by_order}
-use Rattle.std.specs.Prelude.{not, IfSome, find, nat_le}
-use Rattle.std.specs.List.{AllByRecursion, list_any}
+use Rattle.std.specs.Prelude.{ℤ, IsTrue, not, IfSome, find, nat_le}
+use Rattle.std.specs.List.{AllByRecursion, cons_option, filter_map, list_any}
 use Rattle.vc_model.specs.Discipline.{Terms}
 use Rattle.vc_model.specs.Layout.{Block, relabel_block}
 use Rattle.vc_model.specs.Outcome.{Outcome, Done, Refused, Put, outcome_as}
-use Rattle.vc_region.specs.Region.{Region, blocks_of, region_align, region_alloc, region_clear, region_compact, region_free, region_resize, region_write, aligns, keeps_freed, relabelled, watch_at}
+use Rattle.vc_region.specs.Region.{Region, blocks_of, region_align, region_alloc, region_clear, region_compact, region_free, region_resize, region_write, aligns, damaged_in, is_debug, is_profile, keeps_freed, region_poke, region_watch, relabelled, rows_in, watch_at}
 use Rattle.vc_model.specs.Numbered.{at_number}
 use Rattle.vc_model.specs.Walk.{block_at, by_address, segment_at}
 use Rattle.vc_region.specs.Region.{segments_of}
 use Rattle.vc_model.proofs.Relabel.{block_at-relabel, by_address-relabel}
-use Rattle.vc_region.proofs.Relabel.{align-relabelled, alloc-relabelled, blocks-relabelled, clear-relabelled, compact-relabelled, free-relabelled, relabel_freed, resize-relabelled, write-relabelled}
+use Rattle.vc_region.proofs.Relabel.{align-relabelled, alloc-relabelled, blocks-relabelled, clear-relabelled, compact-relabelled, damaged-relabelled, free-relabelled, marks-relabelled, poke-relabelled, relabel_freed, resize-relabelled, write-relabelled}
+use Rattle.vc_audit.proofs.DebugRelabel.{relabel_found}
 use Rattle.vc_region.specs.Stat.{opened}
 use Rattle.vc_seg.specs.declared.method.Method.{Method}
 use Rattle.vc_seg.specs.declared.method.Method.TheVariants.{VmBest, VmPool, VmLast, VmDebug, VmProfile}
 use Rattle.vc_script.specs.declared.command.Command.{Command}
-use Rattle.vc_script.specs.declared.command.Command.TheVariants.{OpenRegion, CloseRegion, ClearRegion, Compact, Alloc, Align, Resize, Free, WriteBlock, ReadBlock, SizeOf, AddrOf, SegmentOf, StatOf, Segments, Blocks}
+use Rattle.vc_script.specs.declared.command.Command.TheVariants.{OpenRegion, CloseRegion, ClearRegion, Compact, Alloc, Align, Resize, Free, WriteBlock, ReadBlock, SizeOf, AddrOf, SegmentOf, StatOf, Segments, Blocks, Poke, Check, Watch, ProfileOf}
 use Rattle.vc_script.specs.declared.refusal.Refusal.{Refusal}
 use Rattle.vc_script.specs.declared.refusal.Refusal.TheVariants as why
 use Rattle.vc_script.specs.declared.reply.Reply.TheVariants as reply
-use Rattle.vc_script.specs.declared.reply.Reply.TheVariants.{Hex, Size, Written}
+use Rattle.vc_script.specs.declared.reply.Reply.TheVariants.{Damaged, Hex, Poked, Rows, Size, Watched, Written}
 use Rattle.vc_script.specs.Needs.{Need}
 use Rattle.vc_script.specs.Proper.{IsName, IsProperCommand, IsSite}
-use Rattle.vc_script.specs.ProperReply.{IsProperReply}
+use Rattle.vc_script.specs.ProperReply.{IsProperReply, is_row_site}
 use Rattle.vc_script.specs.Words.{is_name}
 use Rattle.vc_session.specs.State.{Changed, Home, Label, State, Stepped, changed_to, close_home, home_named, is_home, opened_over, refused, told, unchanged, with_region, without_home}
 use Rattle.vc_session.specs.Blocks.{freed, free_block, has_label, has_room, is_align, is_block, is_size, kept_freed, no_block, align_refused, put_by, site_of, size_refused, put_in, put_new, read_block, resize_block, with_named, write_block}
 use Rattle.vc_session.specs.Whole.{addr_reply, item_of, kept_cleared, segment_reply, with_label, with_labels}
 use Rattle.vc_session.specs.Kept.{Kept, by_name, line_of, with_line, without_name}
 use Rattle.vc_session.specs.Step.{in_region, is_for_block, region_of, region_step, shelf_step, step, step_of}
-use Rattle.vc_session.specs.ProperState.{AreProperNames, IsProperHome, IsProperRegion, IsProperState, name_or_none}
+use Rattle.vc_session.specs.ProperState.{AreProperNames, HasProperSites, IsProperHome, IsProperRegion, IsProperState, name_or_none}
+use Rattle.vc_session.specs.Audit.{check_in, damage_item, is_poke, poke_block, poke_byte, profile_in, watch_block}
+use Rattle.vc_session.proofs.ProperSites.{HasSitesAfter, HasSitesFreed, clear-sites, compact-sites, free-sites, poke-sites, resize-sites, row-site_of, sites-align, sites-alloc, watch-sites, write-sites}
 
 -- a name stays, and what stays is a name
 name-stays : (x : List ℕ) → IsName x → name_or_none (Some x) ≡ Some x
@@ -49,50 +52,53 @@ site-of (Some x) = site-cond (is_name x) x refl
 
 -- the region that a call gives is as proper as the one that it is given
 abbrev IsProperOutcome : Outcome (Put (Region Label)) → Type 0
-IsProperOutcome (Done p) = IsProperRegion p.region
+IsProperOutcome (Done p) = IsProperRegion p.region × HasProperSites p.region
 IsProperOutcome (Refused why) = Unit {0}
 
 abbrev region_in : Region Label → Outcome (Put (Region Label)) → Region Label
 region_in r (Done p) = p.region
 region_in r (Refused why) = r
 
-proper-outcome : (o : Outcome (Put (Region Label))) → o ≡ outcome_as (relabelled name_or_none) o → IsProperOutcome o
-proper-outcome (Done p) same = sym (ap (region_in p.region) same)
-proper-outcome (Refused why) same = tt
+proper-outcome : (o : Outcome (Put (Region Label))) → o ≡ outcome_as (relabelled name_or_none) o → HasSitesAfter o → IsProperOutcome o
+proper-outcome (Done p) same sites = (sym (ap (region_in p.region) same), sites)
+proper-outcome (Refused why) same sites = tt
 
-proper-alloc : (terms : Terms) (r : Region Label) (x site : List ℕ) (size : ℕ) (refused : Bool) → IsName x → IsProperRegion r → IsProperOutcome (region_alloc terms r (Some x) site size refused)
-proper-alloc terms r x site size refused name proper =
+proper-alloc : (terms : Terms) (r : Region Label) (x site : List ℕ) (size : ℕ) (refused : Bool) → IsName x → IsProperRegion r → IsTrue (is_row_site site) → HasProperSites r → IsProperOutcome (region_alloc terms r (Some x) site size refused)
+proper-alloc terms r x site size refused name proper is sites =
     proper-outcome (region_alloc terms r (Some x) site size refused)
     (sym (ap (λ q. region_alloc terms q (name_or_none (Some x)) site size refused) proper ∙ ap (λ l. region_alloc terms r l site size refused) (name-stays x name))
     ∙ alloc-relabelled name_or_none terms r (Some x) site size refused)
+    (sites-alloc terms r (Some x) site size refused is sites)
 
-proper-align : (terms : Terms) (r : Region Label) (x site : List ℕ) (size align : ℕ) (refused : Bool) → IsName x → IsProperRegion r → IsProperOutcome (region_align terms r (Some x) site size align refused)
-proper-align terms r x site size align refused name proper =
+proper-align : (terms : Terms) (r : Region Label) (x site : List ℕ) (size align : ℕ) (refused : Bool) → IsName x → IsProperRegion r → IsTrue (is_row_site site) → HasProperSites r → IsProperOutcome (region_align terms r (Some x) site size align refused)
+proper-align terms r x site size align refused name proper is sites =
     proper-outcome (region_align terms r (Some x) site size align refused)
     (sym (ap (λ q. region_align terms q (name_or_none (Some x)) site size align refused) proper ∙ ap (λ l. region_align terms r l site size align refused) (name-stays x name))
     ∙ align-relabelled name_or_none terms r (Some x) site size align refused)
+    (sites-align terms r (Some x) site size align refused is sites)
 
-proper-resize : (terms : Terms) (r : Region Label) (at : ℕ × ℕ) (size : ℕ) (may_move refused : Bool) → IsProperRegion r → IsProperOutcome (region_resize terms r at size may_move refused)
-proper-resize terms r at size may_move refused proper =
+proper-resize : (terms : Terms) (r : Region Label) (at : ℕ × ℕ) (size : ℕ) (may_move refused : Bool) → IsProperRegion r → HasProperSites r → IsProperOutcome (region_resize terms r at size may_move refused)
+proper-resize terms r at size may_move refused proper sites =
     proper-outcome (region_resize terms r at size may_move refused)
     (sym (ap (λ q. region_resize terms q at size may_move refused) proper)
     ∙ resize-relabelled name_or_none terms r at size may_move refused)
+    (resize-sites terms r at size may_move refused sites)
 
 abbrev IsProperFreed : Outcome (Region Label) → Type 0
-IsProperFreed (Done r) = IsProperRegion r
+IsProperFreed (Done r) = IsProperRegion r × HasProperSites r
 IsProperFreed (Refused why) = Unit {0}
 
 abbrev region_left : Region Label → Outcome (Region Label) → Region Label
 region_left r (Done q) = q
 region_left r (Refused why) = r
 
-proper-freed : (o : Outcome (Region Label)) → o ≡ relabel_freed name_or_none o → IsProperFreed o
-proper-freed (Done r) same = sym (ap (region_left r) same)
-proper-freed (Refused why) same = tt
+proper-freed : (o : Outcome (Region Label)) → o ≡ relabel_freed name_or_none o → HasSitesFreed o → IsProperFreed o
+proper-freed (Done r) same sites = (sym (ap (region_left r) same), sites)
+proper-freed (Refused why) same sites = tt
 
-proper-free : (r : Region Label) (at : ℕ × ℕ) → IsProperRegion r → IsProperFreed (region_free r at)
-proper-free r at proper =
-    proper-freed (region_free r at) (sym (ap (λ q. region_free q at) proper) ∙ free-relabelled name_or_none r at)
+proper-free : (r : Region Label) (at : ℕ × ℕ) → IsProperRegion r → HasProperSites r → IsProperFreed (region_free r at)
+proper-free r at proper sites =
+    proper-freed (region_free r at) (sym (ap (λ q. region_free q at) proper) ∙ free-relabelled name_or_none r at) (free-sites r at sites)
 
 -- what is kept besides names is names
 order-names : (o : Ordering) (a b c : Kept) → AreProperNames a → AreProperNames b → AreProperNames c → AreProperNames (by_order o a b c)
@@ -124,27 +130,27 @@ proper-with_labels [] line k all = all
 proper-with_labels (b ∷ bs) line k all =
     proper-with_label (name_or_none b.label) line (with_labels (map (relabel_block name_or_none) bs) line k) (site-of b.label) (proper-with_labels bs line k all)
 
--- the names in a reply, the labels in the region with it, and the names that it keeps, are names
+-- the names in a reply, the labels in the region with it, and the names that it keeps, are names, and its sites are sites
 abbrev IsProperChange : Changed → Type 0
-IsProperChange c = IsProperReply c.reply × IsProperRegion c.region × AreProperNames c.kept
+IsProperChange c = IsProperReply c.reply × IsProperRegion c.region × AreProperNames c.kept × HasProperSites c.region
 
 change-cond : (t : Bool) (a b : Changed) → IsProperChange a → IsProperChange b → IsProperChange (cond t a b)
 change-cond true a b p q = p
 change-cond false a b p q = q
 
 proper-put : (h : Home) (x : List ℕ) (kept : Kept) (watch : Option ℕ) (o : Outcome (Put (Region Label))) → IsName x → IsProperHome h → AreProperNames kept → IsProperOutcome o → IsProperChange (put_in h x kept watch o)
-proper-put h x kept watch (Done p) name all names there = (name, there, names)
-proper-put h x kept watch (Refused fault) name all names there = (tt, all.0, all.1)
+proper-put h x kept watch (Done p) name all names there = (name, there.0, names, there.1)
+proper-put h x kept watch (Refused fault) name all names there = (tt, all.0, all.1, all.2)
 
 proper-put_by : (h : Home) (x : List ℕ) (words : Option Refusal) (o : Outcome (Put (Region Label))) → IsName x → IsProperHome h → IfSome words (λ w. IsProperReply (reply.Refused w)) → IsProperOutcome o → IsProperChange (put_by h x words o)
-proper-put_by h x (Some refusal) o name all proper there = (proper, all.0, all.1)
+proper-put_by h x (Some refusal) o name all proper there = (proper, all.0, all.1, all.2)
 proper-put_by h x None o name all proper there =
     let left = without_name x h.kept in
-    change-cond (has_room h x) (put_in h x left None o) (unchanged h why.TooManyBlocks) (proper-put h x left None o name all (proper-without x h.kept all.1) there) (tt, all.0, all.1)
+    change-cond (has_room h x) (put_in h x left None o) (unchanged h why.TooManyBlocks) (proper-put h x left None o name all (proper-without x h.kept all.1) there) (tt, all.0, all.1, all.2)
 
 proper-put_new : (h : Home) (x : List ℕ) (words : Option Refusal) (o : Outcome (Put (Region Label))) → IsName x → IsProperHome h → IfSome words (λ w. IsProperReply (reply.Refused w)) → IsProperOutcome o → IsProperChange (put_new h x words o)
 proper-put_new h x words o name all proper there =
-    change-cond (has_label x h.region) (unchanged h why.BlockExists) (put_by h x words o) (tt, all.0, all.1) (proper-put_by h x words o name all proper there)
+    change-cond (has_label x h.region) (unchanged h why.BlockExists) (put_by h x words o) (tt, all.0, all.1, all.2) (proper-put_by h x words o name all proper there)
 
 proper-sized : (legal : Bool) → IfSome (let o : Option Refusal = cond legal None (Some why.Size) in o) (λ w. IsProperReply (reply.Refused w))
 proper-sized true = tt
@@ -155,8 +161,8 @@ proper-aligned true legal = proper-sized legal
 proper-aligned false legal = tt
 
 proper-free_block : (h : Home) (x : List ℕ) (kept : Kept) (watch : Option ℕ) (o : Outcome (Region Label)) → IsName x → IsProperHome h → AreProperNames kept → IsProperFreed o → IsProperChange (freed h x kept watch o)
-proper-free_block h x kept watch (Done r) name all names there = (name, there, names)
-proper-free_block h x kept watch (Refused fault) name all names there = (tt, all.0, all.1)
+proper-free_block h x kept watch (Done r) name all names there = (name, there.0, names, there.1)
+proper-free_block h x kept watch (Refused fault) name all names there = (tt, all.0, all.1, all.2)
 
 proper-kept_freed : (h : Home) (x : List ℕ) (line : ℕ) → IsName x → AreProperNames h.kept → AreProperNames (kept_freed h x line)
 proper-kept_freed h x line name all = names-cond (keeps_freed h.region) (with_line x line h.kept) h.kept (proper-with x line h.kept name all) all
@@ -166,7 +172,7 @@ proper-none None = tt
 proper-none (Some line) = tt
 
 proper-with_named : (h : Home) (x : List ℕ) (o : Option (Block Label)) (act : Block Label → Changed) → IsProperHome h → ((b : Block Label) → IsProperChange (act b)) → IsProperChange (with_named h x o act)
-proper-with_named h x None act all each = (proper-none (line_of x h.kept), all.0, all.1)
+proper-with_named h x None act all each = (proper-none (line_of x h.kept), all.0, all.1, all.2)
 proper-with_named h x (Some b) act all each = each b
 
 proper-resize_block : (h : Home) (x : List ℕ) (size : ℕ) (may_move not_lent : Bool) (b : Block Label) → IsName x → IsProperHome h → IsProperChange (resize_block h x size may_move not_lent b)
@@ -174,16 +180,16 @@ proper-resize_block h x size may_move not_lent b name all =
     let o = region_resize h.terms h.region (b.seg, b.off) size may_move not_lent in
     let watch = watch_at h.region (b.seg, b.off) in
     change-cond (is_size size) (put_in h x h.kept watch o) (unchanged h why.Size)
-    (proper-put h x h.kept watch o name all all.1 (proper-resize h.terms h.region (b.seg, b.off) size may_move not_lent all.0)) (tt, all.0, all.1)
+    (proper-put h x h.kept watch o name all all.1 (proper-resize h.terms h.region (b.seg, b.off) size may_move not_lent all.0 all.2)) (tt, all.0, all.1, all.2)
 
 proper-write_block : (h : Home) (x : List ℕ) (off : ℕ) (bytes : List ℕ) (b : Block Label) → IsName x → IsProperHome h → IsProperChange (write_block h x off bytes b)
 proper-write_block h x off bytes b name all =
     change-cond (nat_le (off + length bytes) b.size) (changed_to h (region_write h.region (b.seg, b.off) off bytes) (Written x (length bytes) (watch_at h.region (b.seg, b.off)))) (unchanged h why.Range)
-    (name, sym (write-relabelled name_or_none h.region (b.seg, b.off) off bytes) ∙ ap (λ q. region_write q (b.seg, b.off) off bytes) all.0, all.1) (tt, all.0, all.1)
+    (name, sym (write-relabelled name_or_none h.region (b.seg, b.off) off bytes) ∙ ap (λ q. region_write q (b.seg, b.off) off bytes) all.0, all.1, write-sites h.region (b.seg, b.off) off bytes all.2) (tt, all.0, all.1, all.2)
 
 proper-read_block : (h : Home) (x : List ℕ) (off len : ℕ) (b : Block Label) → IsName x → IsProperHome h → IsProperChange (read_block h x off len b)
 proper-read_block h x off len b name all =
-    change-cond ((nat_le 1 len && nat_le len 4096) && nat_le (off + len) b.size) (told h (Hex x (take len (drop off b.bytes)))) (unchanged h why.Range) (name, all.0, all.1) (tt, all.0, all.1)
+    change-cond ((nat_le 1 len && nat_le len 4096) && nat_le (off + len) b.size) (told h (Hex x (take len (drop off b.bytes)))) (unchanged h why.Range) (name, all.0, all.1, all.2) (tt, all.0, all.1, all.2)
 
 -- the blocks of a proper region are labelled by names
 relabelled-blocks : (r : Region Label) → IsProperRegion r → blocks_of r ≡ map (relabel_block name_or_none) (blocks_of r)
@@ -207,43 +213,89 @@ proper-cleared h line all =
     (subst (λ bs. AreProperNames (with_labels bs line h.kept)) (sym (relabelled-blocks h.region all.0)) (proper-with_labels (blocks_of h.region) line h.kept all.1))
     all.1
 
+proper-poke_byte : (h : Home) (x : List ℕ) (off : ℤ) (byte : ℕ) (b : Block Label) → IsName x → IsProperHome h → IsProperChange (poke_byte h x off byte b)
+proper-poke_byte h x off byte b name all =
+    let at : ℕ × ℕ = (b.seg, b.off) in
+    change-cond (is_poke b.size off byte) (changed_to h (region_poke h.region at off byte) (Poked x (watch_at h.region at))) (unchanged h why.Range)
+    (name, sym (poke-relabelled name_or_none h.region at off byte) ∙ ap (λ q. region_poke q at off byte) all.0, all.1, poke-sites h.region at off byte all.2) (tt, all.0, all.1, all.2)
+
+proper-poke_block : (h : Home) (x : List ℕ) (off : ℤ) (byte : ℕ) (b : Block Label) → IsName x → IsProperHome h → IsProperChange (poke_block h x off byte b)
+proper-poke_block h x off byte b name all =
+    change-cond (is_debug h.region) (poke_byte h x off byte b) (unchanged h why.WrongMethod) (proper-poke_byte h x off byte b name all) (tt, all.0, all.1, all.2)
+
+proper-watch_block : (h : Home) (line : ℕ) (x : List ℕ) (b : Block Label) → IsName x → IsProperHome h → IsProperChange (watch_block h line x b)
+proper-watch_block h line x b name all =
+    let at : ℕ × ℕ = (b.seg, b.off) in
+    change-cond (is_debug h.region) (changed_to h (region_watch h.region at line) (Watched x)) (unchanged h why.WrongMethod)
+    (name, sym (marks-relabelled name_or_none h.region at line) ∙ ap (λ q. region_watch q at line) all.0, all.1, watch-sites h.region at line all.2) (tt, all.0, all.1, all.2)
+
+cons-named : (l : Label) (off : ℤ) (xs : List (List ℕ × ℤ)) → IsSite l → AllByRecursion (λ d. IsName d.0) xs → AllByRecursion (λ d. IsName d.0) (cons_option (option_map {U = List ℕ × ℤ} (λ x. (x, off)) l) xs)
+cons-named None off xs name rest = rest
+cons-named (Some x) off xs name rest = (name, rest)
+
+proper-found : (fs : List (Block Label × ℤ)) → AllByRecursion (λ d. IsName d.0) (filter_map damage_item (map (relabel_found name_or_none) fs))
+proper-found [] = tt
+proper-found (f ∷ fs) = cons-named (name_or_none f.0.label) f.1 (filter_map damage_item (map (relabel_found name_or_none) fs)) (site-of f.0.label) (proper-found fs)
+
+proper-damaged : (r : Region Label) → IsProperRegion r → AllByRecursion (λ d. IsName d.0) (filter_map damage_item (damaged_in r))
+proper-damaged r proper =
+    subst (λ fs. AllByRecursion (λ d. IsName d.0) (filter_map damage_item fs)) (sym (damaged-relabelled name_or_none r) ∙ ap (λ q. damaged_in q) proper) (proper-found (damaged_in r))
+
+proper-check : (h : Home) → IsProperHome h → IsProperChange (check_in h)
+proper-check h all =
+    change-cond (is_debug h.region) (told h (Damaged (filter_map damage_item (damaged_in h.region)))) (unchanged h why.WrongMethod)
+    (proper-damaged h.region all.0, all.0, all.1, all.2) (tt, all.0, all.1, all.2)
+
+proper-profile : (h : Home) → IsProperHome h → IsProperChange (profile_in h)
+proper-profile h all =
+    change-cond (is_profile h.region) (told h (Rows (rows_in h.region))) (unchanged h why.WrongMethod)
+    (all.2, all.0, all.1, all.2) (tt, all.0, all.1, all.2)
+
 proper-in_region : (h : Home) (line : ℕ) (c : Command) (need : Need) → IsProperCommand c → IsProperHome h → IsProperChange (in_region h line c need)
 proper-in_region h line (ClearRegion r) need proper all =
-    (proper, sym (clear-relabelled name_or_none h.region) ∙ ap (λ q. region_clear q) all.0, proper-cleared h line all)
+    (proper, sym (clear-relabelled name_or_none h.region) ∙ ap (λ q. region_clear q) all.0, proper-cleared h line all, clear-sites h.region all.2)
 proper-in_region h line (Compact r) need proper all =
-    (proper, sym (compact-relabelled name_or_none h.region) ∙ ap (λ q. region_compact q) all.0, all.1)
+    (proper, sym (compact-relabelled name_or_none h.region) ∙ ap (λ q. region_compact q) all.0, all.1, compact-sites h.region all.2)
 proper-in_region h line (Alloc r x size site) need proper all =
-    proper-put_new h x (size_refused size) (region_alloc h.terms h.region (Some x) (site_of site) size (is_for_block need)) proper.1 all (proper-sized (is_size size)) (proper-alloc h.terms h.region x (site_of site) size (is_for_block need) proper.1 all.0)
+    proper-put_new h x (size_refused size) (region_alloc h.terms h.region (Some x) (site_of site) size (is_for_block need)) proper.1 all (proper-sized (is_size size)) (proper-alloc h.terms h.region x (site_of site) size (is_for_block need) proper.1 all.0 (row-site_of site proper.3) all.2)
 proper-in_region h line (Align r x size align) need proper all =
-    proper-put_new h x (align_refused h.region size align) (region_align h.terms h.region (Some x) (45 ∷ []) size align (is_for_block need)) proper.1 all (proper-aligned (aligns h.region) (is_size size && is_align align)) (proper-align h.terms h.region x (45 ∷ []) size align (is_for_block need) proper.1 all.0)
+    proper-put_new h x (align_refused h.region size align) (region_align h.terms h.region (Some x) (45 ∷ []) size align (is_for_block need)) proper.1 all (proper-aligned (aligns h.region) (is_size size && is_align align)) (proper-align h.terms h.region x (45 ∷ []) size align (is_for_block need) proper.1 all.0 refl all.2)
 proper-in_region h line (Resize r x size may_move) need proper all =
     proper-with_named h x (find (is_block x) (blocks_of h.region)) (resize_block h x size may_move (is_for_block need)) all (λ b. proper-resize_block h x size may_move (is_for_block need) b proper.1 all)
 proper-in_region h line (Free r x) need proper all =
-    proper-with_named h x (find (is_block x) (blocks_of h.region)) (free_block h x line) all (λ b. proper-free_block h x (kept_freed h x line) (watch_at h.region (b.seg, b.off)) (region_free h.region (b.seg, b.off)) proper.1 all (proper-kept_freed h x line proper.1 all.1) (proper-free h.region (b.seg, b.off) all.0))
+    proper-with_named h x (find (is_block x) (blocks_of h.region)) (free_block h x line) all (λ b. proper-free_block h x (kept_freed h x line) (watch_at h.region (b.seg, b.off)) (region_free h.region (b.seg, b.off)) proper.1 all (proper-kept_freed h x line proper.1 all.1) (proper-free h.region (b.seg, b.off) all.0 all.2))
 proper-in_region h line (WriteBlock r x off bytes) need proper all =
     proper-with_named h x (find (is_block x) (blocks_of h.region)) (write_block h x off bytes) all (λ b. proper-write_block h x off bytes b proper.1 all)
 proper-in_region h line (ReadBlock r x off len) need proper all =
     proper-with_named h x (find (is_block x) (blocks_of h.region)) (read_block h x off len) all (λ b. proper-read_block h x off len b proper.1 all)
 proper-in_region h line (SizeOf r x) need proper all =
-    proper-with_named h x (find (is_block x) (blocks_of h.region)) (λ b. told h (Size x b.size)) all (λ b. (proper.1, all.0, all.1))
+    proper-with_named h x (find (is_block x) (blocks_of h.region)) (λ b. told h (Size x b.size)) all (λ b. (proper.1, all.0, all.1, all.2))
 proper-in_region h line (AddrOf r at) need proper all = (
   subst (λ o. IsProperReply (addr_reply o))
       (sym (ap (λ bs. block_at (at.seg, at.off) bs) (relabelled-blocks h.region all.0) ∙ block_at-relabel name_or_none (at.seg, at.off) (blocks_of h.region)))
       (proper-addr (block_at (at.seg, at.off) (blocks_of h.region))),
   all.0,
   all.1,
+  all.2,
 )
-proper-in_region h line (SegmentOf r at) need proper all = (proper-segment at.seg (segment_at (at.seg, at.off) (segments_of h.region)), all.0, all.1)
-proper-in_region h line (StatOf r) need proper all = (tt, all.0, all.1)
-proper-in_region h line (Segments r) need proper all = (tt, all.0, all.1)
+proper-in_region h line (SegmentOf r at) need proper all = (proper-segment at.seg (segment_at (at.seg, at.off) (segments_of h.region)), all.0, all.1, all.2)
+proper-in_region h line (StatOf r) need proper all = (tt, all.0, all.1, all.2)
+proper-in_region h line (Segments r) need proper all = (tt, all.0, all.1, all.2)
 proper-in_region h line (Blocks r) need proper all = (
   subst (λ bs. AllByRecursion (λ b. IsSite b.0) (map item_of bs))
       (sym (ap (λ bs. by_address bs) (relabelled-blocks h.region all.0) ∙ by_address-relabel name_or_none (blocks_of h.region)))
       (proper-items (by_address (blocks_of h.region))),
   all.0,
   all.1,
+  all.2,
 )
-proper-in_region h line command need proper all = (tt, all.0, all.1)
+proper-in_region h line (Poke r x off byte) need proper all =
+    proper-with_named h x (find (is_block x) (blocks_of h.region)) (poke_block h x off byte) all (λ b. proper-poke_block h x off byte b proper.1 all)
+proper-in_region h line (Check r) need proper all = proper-check h all
+proper-in_region h line (Watch r x) need proper all =
+    proper-with_named h x (find (is_block x) (blocks_of h.region)) (watch_block h line x) all (λ b. proper-watch_block h line x b proper.1 all)
+proper-in_region h line (ProfileOf r) need proper all = proper-profile h all
+proper-in_region h line command need proper all = (tt, all.0, all.1, all.2)
 
 abbrev AreProperHomes : List Home → Type 0
 AreProperHomes homes = AllByRecursion IsProperHome homes
@@ -260,10 +312,10 @@ homes-cond : (t : Bool) (a b : List Home) → AreProperHomes a → AreProperHome
 homes-cond true a b p q = p
 homes-cond false a b p q = q
 
-proper-with_region : (r : List ℕ) (region : Region Label) (kept : Kept) (homes : List Home) → IsProperRegion region → AreProperNames kept → AreProperHomes homes → AreProperHomes (with_region r region kept homes)
-proper-with_region r region kept [] here names all = tt
-proper-with_region r region kept (h ∷ hs) here names all =
-    homes-cond (is_home r h) ((record h { region = region; kept = kept }) ∷ hs) (h ∷ with_region r region kept hs) ((here, names), all.1) (all.0, proper-with_region r region kept hs here names all.1)
+proper-with_region : (r : List ℕ) (region : Region Label) (kept : Kept) (homes : List Home) → IsProperRegion region → AreProperNames kept → HasProperSites region → AreProperHomes homes → AreProperHomes (with_region r region kept homes)
+proper-with_region r region kept [] here names sites all = tt
+proper-with_region r region kept (h ∷ hs) here names sites all =
+    homes-cond (is_home r h) ((record h { region = region; kept = kept }) ∷ hs) (h ∷ with_region r region kept hs) ((here, names, sites), all.1) (all.0, proper-with_region r region kept hs here names sites all.1)
 
 proper-without_home : (r : List ℕ) (homes : List Home) → AreProperHomes homes → AreProperHomes (without_home r homes)
 proper-without_home r [] all = tt
@@ -285,11 +337,11 @@ proper-closed : (s : State) (r : List ℕ) (o : Option Home) → IsName r → Is
 proper-closed s r None name all = (tt, all)
 proper-closed s r (Some h) name all = (name, proper-without_home r s.homes all)
 
-proper-opened_over : (s : State) (r : List ℕ) (n : ℕ) (region : Region Label) (place : Option (Option Terms)) → IsName r → IsProperRegion region → IsProperState s → IsProperStep (opened_over s r n region place)
-proper-opened_over s r n region None name here all = (tt, all)
-proper-opened_over s r n region (Some None) name here all = (tt, all)
-proper-opened_over s r n region (Some (Some terms)) name here all =
-    (name, proper-home_push s.homes (record { name = r; place = n; terms = terms; region = region; kept = [] }) all (here, tt))
+proper-opened_over : (s : State) (r : List ℕ) (n : ℕ) (region : Region Label) (place : Option (Option Terms)) → IsName r → IsProperRegion region → HasProperSites region → IsProperState s → IsProperStep (opened_over s r n region place)
+proper-opened_over s r n region None name here sites all = (tt, all)
+proper-opened_over s r n region (Some None) name here sites all = (tt, all)
+proper-opened_over s r n region (Some (Some terms)) name here sites all =
+    (name, proper-home_push s.homes (record { name = r; place = n; terms = terms; region = region; kept = [] }) all (here, tt, sites))
 
 -- a region that is opened has no labels
 proper-new : (method : Method) → IsProperRegion (opened method)
@@ -299,10 +351,18 @@ proper-new VmLast = refl
 proper-new VmDebug = refl
 proper-new VmProfile = refl
 
+-- and no rows
+sites-new : (method : Method) → HasProperSites (opened method)
+sites-new VmBest = tt
+sites-new VmPool = tt
+sites-new VmLast = tt
+sites-new VmDebug = tt
+sites-new VmProfile = tt
+
 proper-on_shelf : (s : State) (c : Command) → IsProperCommand c → IsProperState s → IsProperStep (shelf_step s c)
 proper-on_shelf s (OpenRegion r method n) proper all =
     let over = opened_over s r n (opened method) (at_number s.shelf n) in
-    step-cond (list_any (is_home r) s.homes) (refused s why.RegionExists) over (tt, all) (proper-opened_over s r n (opened method) (at_number s.shelf n) proper.0 (proper-new method) all)
+    step-cond (list_any (is_home r) s.homes) (refused s why.RegionExists) over (tt, all) (proper-opened_over s r n (opened method) (at_number s.shelf n) proper.0 (proper-new method) (sites-new method) all)
 proper-on_shelf s (CloseRegion r) proper all = proper-closed s r (home_named r s.homes) proper all
 proper-on_shelf s command proper all = (tt, all)
 
@@ -310,7 +370,7 @@ proper-at : (s : State) (r : List ℕ) (line : ℕ) (c : Command) (need : Need) 
 proper-at s r line c need None proper all here = (tt, all)
 proper-at s r line c need (Some h) proper all here =
     let done = proper-in_region h line c need proper here in
-    (done.0, proper-with_region r (in_region h line c need).region (in_region h line c need).kept s.homes done.1 done.2 all)
+    (done.0, proper-with_region r (in_region h line c need).region (in_region h line c need).kept s.homes done.1 done.2 done.3 all)
 
 proper-of : (s : State) (line : ℕ) (c : Command) (need : Need) (o : Option (List ℕ)) → IsProperCommand c → IsProperState s → IsProperStep (step_of s line c need o)
 proper-of s line c need None proper all = proper-on_shelf s c proper all

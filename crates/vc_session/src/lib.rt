@@ -2,6 +2,7 @@
 #![tactic(auto)]
 
 mod audit;
+pub mod audit_rows;
 mod blocks;
 mod bytes;
 mod close;

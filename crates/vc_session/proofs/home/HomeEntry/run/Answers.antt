@@ -1,9 +1,11 @@
-use Rattle.std.proofs.Common.{◌≡◌, [], IfOk, List, ℕ, ap, refl, subst, sym}
+use Rattle.std.proofs.Common.{SFits, rules, ◌≡◌, [], IfOk, List, ℕ, ap, refl, subst, sym}
+use Rattle.std.specs.Int.{w64}
+use Rattle.std.proofs.lemmas.Int.{to_z-of_z}
 use Rattle.vc_model.specs.Discipline.{Discipline}
 use Rattle.vc_script.specs.declared.reply.Reply.TheVariants.{Refused}
 use Rattle.vc_script.specs.declared.refusal.Refusal.TheVariants.{NoSegment}
 use Rattle.vc_session.specs.Account.{home_of}
-use Rattle.vc_session.specs.Audit.{check_in, profile_in}
+use Rattle.vc_session.specs.Audit.{check_in, poke_in, profile_in}
 use Rattle.vc_session.specs.Blocks.{read_in, size_in}
 use Rattle.vc_session.specs.Homes.{Runs, held_of, region_with}
 use Rattle.vc_session.specs.State.{Changed, told}
@@ -117,7 +119,11 @@ returns-in-Blocks-clause-unserved g c = λ e.
     absurd (not_refused (list_blocks k) (Refused NoSegment) tt (ap (λ (d : Changed). d.reply) (eq [])) refl)
 
 pub returns-in-Poke-clause-step : goal.returns-in-Poke-clause-step
-returns-in-Poke-clause-step g c = rw c.in-Poke.is c.poke.ensures.step
+returns-in-Poke-clause-step g c =
+    let fits : SFits w64 c.in-Poke.off = search rules in
+    rw c.in-Poke.is
+    (subst (λ z. Runs (meaning g) (λ h. poke_in h c.in-Poke.block z c.in-Poke.byte) c.args.self.now c.args.labels.now (region_with c.poke.new.self c.args.labels.now) c.poke.result)
+    (to_z-of_z w64 c.in-Poke.off fits) c.poke.ensures.step)
 
 pub returns-in-Check-clause-step : goal.returns-in-Check-clause-step
 returns-in-Check-clause-step g c =
