@@ -28,7 +28,7 @@ use Rattle.vc_script.specs.Needs.{Need}
 use Rattle.vc_script.specs.Proper.{IsName, IsProperCommand, IsSite}
 use Rattle.vc_script.specs.ProperReply.{IsProperReply}
 use Rattle.vc_script.specs.Words.{is_name}
-use Rattle.vc_session.specs.State.{Changed, Home, Label, State, Stepped, changed_to, close_home, home_named, is_home, opened_as, opened_over, refused, told, unchanged, with_region, without_home}
+use Rattle.vc_session.specs.State.{Changed, Home, Label, State, Stepped, changed_to, close_home, home_named, is_home, opened_over, refused, told, unchanged, with_region, without_home}
 use Rattle.vc_session.specs.Blocks.{freed, free_block, has_label, has_room, is_align, is_block, is_size, kept_freed, no_block, align_refused, put_by, site_of, size_refused, put_in, put_new, read_block, resize_block, with_named, write_block}
 use Rattle.vc_session.specs.Whole.{addr_reply, item_of, kept_cleared, segment_reply, with_label, with_labels}
 use Rattle.vc_session.specs.Kept.{Kept, by_name, line_of, with_line, without_name}
