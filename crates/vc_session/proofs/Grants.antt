@@ -1,6 +1,6 @@
 -- Which replies tell that a segment was refused.
 use Rattle.std.proofs.Common.{◌≡◌, ℕ, ◌+◌, Bool, true, false, cond, ◌&&◌, List, Option, Some, None, refl, ◌∙◌, subst, [], ◌∷◌}
-use Rattle.std.specs.Prelude.{ℤ, find, length, nat_le, nat_lt, IfSome}
+use Rattle.std.specs.Prelude.{ℤ, find, length, nat_le, IfSome}
 use Rattle.vc_model.specs.Layout.{Block}
 use Rattle.vc_model.specs.Outcome as model
 use Rattle.vc_model.specs.Outcome.{Fault, Outcome, Done, Put, Refused}

@@ -3,12 +3,11 @@ use Rattle.std.proofs.Common.{◌≡◌, ℕ, ◌-◌, ◌≤◌, true, false, c
 use Rattle.std.specs.Prelude.{slice_get}
 use Rattle.std.specs.List.{AllByRecursion, list_any}
 use Rattle.std.proofs.lemmas.List.{append-nil, map-append, map-set, set-set}
-use Rattle.std.proofs.lemmas.Option.{none-some, same_Some, slice_get-map}
+use Rattle.std.proofs.lemmas.Option.{slice_get-map}
 use Rattle.vc_model.specs.Numbered.{at_number}
 use Rattle.vc_model.specs.Discipline.{Discipline}
-use Rattle.vc_model.specs.Layout.{Block, empty_layout}
-use Rattle.vc_model.specs.Pool.{empty_pool}
-use Rattle.vc_region.specs.Region.{OfBest, OfPool, OfLast, Region, blocks_of, relabelled, segments_of}
+use Rattle.vc_model.specs.Layout.{Block}
+use Rattle.vc_region.specs.Region.{Region, blocks_of, relabelled, segments_of}
 use Rattle.vc_model.specs.Sound.{HaveOwnPlaces}
 use Rattle.vc_region.specs.Stat.{opened}
 use Rattle.vc_seg.specs.declared.method.Method.{Method}
@@ -16,7 +15,7 @@ use Rattle.vc_seg.specs.declared.method.Method.TheVariants.{VmBest, VmPool, VmLa
 use Rattle.vc_seg.specs.Shelf.{place_at, standing}
 use Rattle.vc_seg.specs.declared.shelf.ShelfPlace.TheVariants.{Here}
 use Rattle.vc_script.specs.declared.reply.Reply.TheVariants.{Opened}
-use Rattle.vc_script.specs.declared.refusal.Refusal.TheVariants.{NotYet, RegionExists}
+use Rattle.vc_script.specs.declared.refusal.Refusal.TheVariants.{RegionExists}
 use Rattle.vc_session.specs.State.{Home, Label, State, is_home, open_step, opened_over, refused, stepped}
 use Rattle.slab.specs.Slab.{slab_len}
 use Rattle.vc_session.specs.declared.labels.Labels.{Labels}

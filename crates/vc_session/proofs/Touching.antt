@@ -5,10 +5,10 @@ use Rattle.std.proofs.lemmas.Bool.Decides.{nat_tests}
 use Rattle.std.proofs.lemmas.Option.{same_Some}
 use Rattle.vc_model.specs.Addr.{address, place_of}
 use Rattle.vc_model.specs.Layout.{Block, address_of, without_block}
-use Rattle.vc_region.specs.Region.{OfBest, OfPool, OfLast, Region, blocks_of, region_write, relabelled, keeps_freed, watch_at}
+use Rattle.vc_region.specs.Region.{Region, blocks_of, region_write, relabelled, keeps_freed, watch_at}
 use Rattle.vc_region.proofs.Keeps.{write-keeps}
 use Rattle.vc_model.specs.Sound.{HaveOwnPlaces}
-use Rattle.vc_model.specs.Touch.{change_block, find_block, rewritten}
+use Rattle.vc_model.specs.Touch.{find_block}
 use Rattle.vc_region.proofs.Relabel.{watch-relabelled, write-relabelled}
 use Rattle.vc_script.specs.declared.refusal.Refusal.TheVariants as why
 use Rattle.vc_script.specs.declared.reply.Reply.TheVariants.{Written, Hex, Size}
@@ -19,7 +19,6 @@ use Rattle.vc_session.specs.Labels.{MovesLabel, kept_of, label_at, name_of, tag_
 use Rattle.vc_session.specs.Step.{Gives}
 use Rattle.vc_session.specs.declared.labels.Label.{Label}
 use Rattle.vc_session.proofs.Found.{TheBlock, on_block-there, the_block}
-use Rattle.vc_session.proofs.Lists.{find-changed}
 use Rattle.vc_model.proofs.Owned.{address-place_of}
 use Rattle.vc_region.proofs.Writing.{write-labels}
 use Rattle.vc_session.proofs.Resizing.{found-place, from_some}

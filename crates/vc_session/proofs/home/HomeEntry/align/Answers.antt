@@ -1,4 +1,4 @@
-use Rattle.std.proofs.Common.{◌≡◌, false, ◌∷◌, [], Some, None, ◌&&◌, sym, ap, ◌∙◌, subst}
+use Rattle.std.proofs.Common.{◌≡◌, false, ◌∷◌, [], Some, None, sym, ap, ◌∙◌, subst}
 use Rattle.vc_model.specs.Discipline.{Discipline}
 use Rattle.vc_region.specs.Region.{region_align, region_need}
 use Rattle.vc_region.specs.Parts.{disc_in, region_of}
