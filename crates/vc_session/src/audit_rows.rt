@@ -4,20 +4,14 @@ ghost use Rattle.vc_script.specs.declared.tool.Tool.TheVariants.{Vmreplay};
 ghost use Rattle.vc_session.specs.Run.{run, script, text_of};
 ghost use Rattle.vc_session.specs.Rows.{at_first};
 
-/// A block that is written stays whole, and one that is poked behind its bytes is damaged there.
+/// A block that is written stays whole, a watch tells its line, and of damage the least offset is told.
 pub fn audited()
     ensures { text_of (run at_first (script Vmreplay
         (codes "open r debug 1\nalloc r x 100\nwrite r x 0 hi\ncheck r\nwatch r x\npoke r x 100 7\n"
-        ++ codes "check r\n")) [])
+        ++ codes "check r\npoke r x -1 0\ncheck r\nfree r x\nfree r x\nalloc r x 1\n")) [])
         ≡ codes "r open\nx 1:64\nx written 2\ncheck 0\nx watched\nx poked watched 5\n"
-        ++ codes "check 1 x:100\n" }
-{}
-
-/// The least damaged offset is told.
-pub fn least_damage()
-    ensures { text_of (run at_first (script Vmreplay
-        (codes "open r debug 1\nalloc r x 10\npoke r x 10 7\npoke r x -1 0\ncheck r\n")) [])
-        ≡ codes "r open\nx 1:64\nx poked\nx poked\ncheck 1 x:-1\n" }
+        ++ codes "check 1 x:100\nx poked watched 5\ncheck 1 x:-1\nx freed watched 5\n"
+        ++ codes "refused: freed at line 10\nx 1:64\n" }
 {}
 
 /// A watch tells its line until the block is freed, and a name that was freed tells the line of its free.
