@@ -14,7 +14,7 @@ use Rattle.vc_model.specs.Layout.{Block, Layout, is_at}
 use Rattle.vc_model.specs.Sound.{HasWholeBlocks}
 use Rattle.vc_model.specs.Touch.{HasBlock, HasRange, change_block, find_block, rewritten, with_bytes_at}
 use Rattle.vc_model.proofs.Owned.{at-address, found-has, found-is}
-use Rattle.vc_region.specs.Cells.{cell_bytes, cells_of, emptied, emptied_layout, is_unlabelled}
+use Rattle.vc_region.specs.Cells.{cell_bytes, cells_of, zeroed, zeroed_layout, is_unlabelled}
 use Rattle.vc_region.specs.CellLaws.{cell-of}
 
 -- cells that show the same bytes at each address are the same
@@ -78,7 +78,7 @@ module _ (off : ℕ) (src : List ℕ) (a : ℕ) where
       ])
 
   -- and nothing else
-  rest-written : (bs : List (Block ℕ)) (b : Block ℕ) → IsCell bs a b → map emptied (change_block (rewritten off src) (place_of a) bs) ≡ map emptied bs
+  rest-written : (bs : List (Block ℕ)) (b : Block ℕ) → IsCell bs a b → map zeroed (change_block (rewritten off src) (place_of a) bs) ≡ map zeroed bs
   rest-written [] b c = refl
   rest-written (d ∷ ds) b c =
       ⊎_elim
@@ -88,10 +88,10 @@ module _ (off : ℕ) (src : List ℕ) (a : ℕ) where
       rw t (rw plain refl))
       (λ (t : is_at (place_of a) d ≡ false).
       let rest : IsCell ds a b = record { found = sym (ap (λ v. cond v (Some d) (find_block (place_of a) ds)) t) ∙ c.found; plain = c.plain } in
-      rw t (ap (λ es. emptied d ∷ es) (rest-written ds b rest)))
+      rw t (ap (λ es. zeroed d ∷ es) (rest-written ds b rest)))
       (cases_Bool (is_at (place_of a) d))
 
-  pub layout-written : (r : Layout ℕ) (b : Block ℕ) → IsCell r.blocks a b → emptied_layout (with_bytes_at r (place_of a) off src) ≡ emptied_layout r
+  pub layout-written : (r : Layout ℕ) (b : Block ℕ) → IsCell r.blocks a b → zeroed_layout (with_bytes_at r (place_of a) off src) ≡ zeroed_layout r
   layout-written r b c =
       let other : List (Block ℕ) → Layout ℕ = λ bs. record { segments = r.segments; blocks = bs } in
       ap other (rest-written r.blocks b c)

@@ -19,8 +19,10 @@ use Rattle.vc_seg.specs.Answer.{IsPut}
 use Rattle.vc_region.specs.Region as model
 use Rattle.vc_region.specs.Parts.{boxed, disc_in, region_of, segments_in}
 use Rattle.vc_region.specs.declared.region.Region.{Region}
-use Rattle.vc_region.specs.Cells.{StaysButCells, emptied, rest_of, cell_bytes, cells_of, is_unlabelled, without_cell}
+use Rattle.vc_region.specs.Cells.{StaysButCells, zeroed, cell_bytes, cells_of, is_unlabelled, without_cell}
 use Rattle.vc_region.proofs.CellBytes.{cell-shows, find-written-other, same-cells}
+use Rattle.vc_region.proofs.Rest.{rest-segments}
+use Rattle.vc_region.proofs.RestBlocks.{find_block-zeroed, zeroed-labelled}
 
 -- a labelled block is no cell
 pub no-cell : (bs : List (Block ℕ)) (a label : ℕ) → option_map (λ b. b.label) (find_block (place_of a) bs) ≡ Some label → label ≢ 0 → cells_of bs a ≡ None
@@ -117,7 +119,7 @@ pub cells-resized-labelled : (a to : ℕ) (old new : List (Block ℕ)) → HaveO
 cells-resized-labelled a to old new own own' none none' others = sym (cells-kept to new own' none') ∙ (ap cells_of others ∙ cells-kept a old own none)
 
 -- bytes are written into a labelled block
-find-written : (off : ℕ) (src : List ℕ) (at : ℕ × ℕ) (bs : List (Block ℕ)) → find_block at (change_block (rewritten off src) at bs) ≡ option_map (rewritten off src) (find_block at bs)
+pub find-written : (off : ℕ) (src : List ℕ) (at : ℕ × ℕ) (bs : List (Block ℕ)) → find_block at (change_block (rewritten off src) at bs) ≡ option_map (rewritten off src) (find_block at bs)
 find-written off src at [] = refl
 find-written off src at (b ∷ bs) =
     ⊎_elim
@@ -151,43 +153,20 @@ cells-cleared r a = refl
 pub stays-disc : {I : Type 0} {V : I → Type 0} (meaning : (x : I) × V x → Discipline) (old new : Region I V) → StaysButCells old new → disc_in meaning new ≡ disc_in meaning old
 stays-disc meaning old new s = ap (boxed meaning) s.disc
 
-emptied-segments : (r : model.Region ℕ) → model.segments_of (rest_of r) ≡ model.segments_of r
-emptied-segments (model.OfBest layout) = refl
-emptied-segments (model.OfPool pool) = refl
-emptied-segments (model.OfLast layout) = refl
-emptied-segments (model.OfDebug debug) = refl
-emptied-segments (model.OfProfile profile) = refl
-
 pub stays-segments : {I : Type 0} {V : I → Type 0} (old new : Region I V) → StaysButCells old new → segments_in new ≡ segments_in old
 stays-segments old new s =
-    sym (emptied-segments (region_of new)) ∙ (ap (λ (r : model.Region ℕ). model.segments_of r) s.region ∙ emptied-segments (region_of old))
-
-is_at-emptied : (at : ℕ × ℕ) (b : Block ℕ) → is_at at (emptied b) ≡ is_at at b
-is_at-emptied at b = elim (is_unlabelled b) as (λ v. is_at at (cond v (record b { bytes = [] }) b) ≡ is_at at b) [ true ↦ refl | false ↦ refl ]
-
-find-emptied : (at : ℕ × ℕ) (bs : List (Block ℕ)) → find_block at (map emptied bs) ≡ option_map emptied (find_block at bs)
-find-emptied at [] = refl
-find-emptied at (b ∷ bs) =
-    ap (λ v. cond v (Some (emptied b)) (find_block at (map emptied bs))) (is_at-emptied at b)
-    ∙ elim (is_at at b) as (λ v. cond v (Some (emptied b)) (find_block at (map emptied bs)) ≡ option_map emptied (cond v (Some b) (find_block at bs)))
-    [ true ↦ refl | false ↦ find-emptied at bs ]
-
-label-emptied : (b : Block ℕ) → (emptied b).label ≡ b.label
-label-emptied b = elim (is_unlabelled b) as (λ v. (cond v (record b { bytes = [] }) b).label ≡ b.label) [ true ↦ refl | false ↦ refl ]
-
-labelled-emptied : (b : Block ℕ) → is_unlabelled b ≡ false → emptied b ≡ b
-labelled-emptied b h = ap (λ v. cond v (record b { bytes = [] }) b) h
+    sym (rest-segments (region_of new)) ∙ (ap (λ (r : model.Region ℕ). model.segments_of r) s.region ∙ rest-segments (region_of old))
 
 -- a block that is the same but for what it shows as a cell, where one of both is labelled
-labelled-same : (b : Block ℕ) (o : Option (Block ℕ)) → is_unlabelled b ≡ false → option_map emptied o ≡ Some (emptied b) → o ≡ Some b
-labelled-same b None h e = absurd (none-some (emptied b) e)
+labelled-same : (b : Block ℕ) (o : Option (Block ℕ)) → is_unlabelled b ≡ false → option_map zeroed o ≡ Some (zeroed b) → o ≡ Some b
+labelled-same b None h e = absurd (none-some (zeroed b) e)
 labelled-same b (Some c) h e =
-    let same : emptied c ≡ emptied b = same_Some (emptied c) (emptied b) e in
-    let label : c.label ≡ b.label = sym (label-emptied c) ∙ (ap (λ (d : Block ℕ). d.label) same ∙ label-emptied b) in
+    let same : zeroed c ≡ zeroed b = same_Some (zeroed c) (zeroed b) e in
+    let label : c.label ≡ b.label = ap (λ (d : Block ℕ). d.label) same in
     let plain : is_unlabelled c ≡ false = ap (λ n. eqb n 0) label ∙ h in
-    ap Some (sym (labelled-emptied c plain) ∙ (same ∙ labelled-emptied b h))
+    ap Some (sym (zeroed-labelled c plain) ∙ (same ∙ zeroed-labelled b h))
 
-pub emptied-labelled : (at : ℕ × ℕ) (old new : List (Block ℕ)) (b : Block ℕ) → map emptied new ≡ map emptied old → find_block at old ≡ Some b → b.label ≢ 0 → find_block at new ≡ Some b
-emptied-labelled at old new b same found labelled =
+pub same-labelled : (at : ℕ × ℕ) (old new : List (Block ℕ)) (b : Block ℕ) → map zeroed new ≡ map zeroed old → find_block at old ≡ Some b → b.label ≢ 0 → find_block at new ≡ Some b
+same-labelled at old new b same found labelled =
     labelled-same b (find_block at new) (ne_eqb b.label 0 labelled)
-    (sym (find-emptied at new) ∙ (ap (find_block at) same ∙ (find-emptied at old ∙ ap (option_map emptied) found)))
+    (sym (find_block-zeroed at new) ∙ (ap (find_block at) same ∙ (find_block-zeroed at old ∙ ap (option_map zeroed) found)))

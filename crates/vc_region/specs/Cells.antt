@@ -1,5 +1,5 @@
 -- The unlabelled blocks of a best region as cells: their bytes, by their addresses. A region of another method has none.
-use Rattle.std.specs.Prelude.{◌≡◌, ℕ, List, [], Option, Some, None, Bool, map, ◌==◌, if◌then◌else◌}
+use Rattle.std.specs.Prelude.{◌≡◌, ℕ, List, Option, Some, None, Bool, filter, map, nat_lt, replicate, ◌==◌, if◌then◌else◌}
 use Rattle.vc_base.specs.Cells.{Blocks}
 use Rattle.vc_model.specs.Addr.{place_of}
 use Rattle.vc_model.specs.Layout.{Block, Layout}
@@ -25,13 +25,13 @@ cells_of blocks = λ a. cell_bytes (find_block (place_of a) blocks)
 abbrev pub without_cell : ℕ → Blocks → Blocks
 without_cell at blocks = λ a. if a == at then None else blocks a
 
--- a block that shows no bytes where it is unlabelled
-abbrev pub emptied : Block ℕ → Block ℕ
-emptied b = if is_unlabelled b then record b { bytes = [] } else b
+-- a block that shows zeros where it is unlabelled
+abbrev pub zeroed : Block ℕ → Block ℕ
+zeroed b = record b { bytes = if is_unlabelled b then replicate b.size 0 else b.bytes }
 
 -- a layout but for the bytes of its unlabelled blocks
-abbrev pub emptied_layout : Layout ℕ → Layout ℕ
-emptied_layout r = record { segments = r.segments; blocks = map emptied r.blocks }
+abbrev pub zeroed_layout : Layout ℕ → Layout ℕ
+zeroed_layout r = record { segments = r.segments; blocks = map zeroed r.blocks }
 
 -- no cell
 abbrev pub no_cells : Blocks
@@ -47,17 +47,25 @@ region_cells (model.OfProfile profile) = no_cells
 
 -- a region but for the bytes in its cells
 abbrev pub rest_of : model.Region ℕ → model.Region ℕ
-rest_of (model.OfBest layout) = model.OfBest (emptied_layout layout)
+rest_of (model.OfBest layout) = model.OfBest (zeroed_layout layout)
 rest_of (model.OfPool pool) = model.OfPool pool
 rest_of (model.OfLast layout) = model.OfLast layout
 rest_of (model.OfDebug debug) = model.OfDebug debug
 rest_of (model.OfProfile profile) = model.OfProfile profile
 
+-- its labelled blocks, those of a tag from 1 on
+abbrev pub labelled : model.Region ℕ → List (Block ℕ)
+labelled r = filter (λ b. nat_lt 0 b.label) (model.blocks_of r)
+
 -- its cells
 abbrev pub cells_in : {I : Type 0} {V : I → Type 0} → Region I V → Blocks
 cells_in r = region_cells (region_of r)
 
+-- what it is but for the bytes in its cells
+abbrev pub rest_in : {I : Type 0} {V : I → Type 0} → Region I V → model.Region ℕ
+rest_in r = rest_of (region_of r)
+
 -- its method, its segments, its labelled blocks, the places and sizes of the unlabelled ones, and its discipline stayed
 pub record StaysButCells {I : Type 0} {V : I → Type 0} (old new : Region I V) : Type 0 where
-  pub region : rest_of (region_of new) ≡ rest_of (region_of old)
+  pub region : rest_in new ≡ rest_in old
   pub disc : disc_of new ≡ disc_of old

@@ -1,6 +1,6 @@
-ghost use Rattle.std.specs.Prelude.{◌≡◌, ℕ, ◌+◌, ◌*◌, length};
+ghost use Rattle.std.specs.Prelude.{◌≡◌, ℕ, ◌+◌, ◌*◌, ◌<◌, length};
 ghost use Rattle.vc_base.specs.Cells.{HasBytes, body_of, bytes_at, stored, with_body, word_at};
-ghost use Rattle.vc_region.specs.Cells.{StaysButCells, cells_in, cells_of, emptied_layout};
+ghost use Rattle.vc_region.specs.Cells.{StaysButCells, cells_in, cells_of, zeroed_layout};
 ghost use Rattle.vc_region.specs.CellLaws.{cells-addresses, stays-after, stays-same};
 
 use crate::region::Region;
@@ -22,7 +22,7 @@ fn set_word(best: &mut Best, at: Addr, k: u32, v: u64)
     requires { HasBytes (cells_of best.old.layout.blocks) at.0 (8 * k + 8) }
     ensures blocks { cells_of best.new.layout.blocks
         ≡ stored at.0 k v (cells_of best.old.layout.blocks) }
-    ensures rest { emptied_layout best.new.layout ≡ emptied_layout best.old.layout }
+    ensures rest { zeroed_layout best.new.layout ≡ zeroed_layout best.old.layout }
     ensures disc { best.new.disc ≡ best.old.disc }
 {
     best.write(at, 8 * k, &v.to_le_bytes());
@@ -43,7 +43,7 @@ fn set_body_in(best: &mut Best, at: Addr, bytes: &[u8])
         ≡ length (bytes_at (cells_of best.old.layout.blocks) at.0) }
     ensures blocks { cells_of best.new.layout.blocks
         ≡ with_body at.0 bytes.now (cells_of best.old.layout.blocks) }
-    ensures rest { emptied_layout best.new.layout ≡ emptied_layout best.old.layout }
+    ensures rest { zeroed_layout best.new.layout ≡ zeroed_layout best.old.layout }
     ensures disc { best.new.disc ≡ best.old.disc }
 {
     best.write(at, 32, bytes);
@@ -62,7 +62,12 @@ impl Cells for Region {
         }
     }
 
-    fn store(&mut self, at: Addr, k: u32, v: u64) {
+    fn store(&mut self, at: Addr, k: u32, v: u64)
+        requires word { k < 4 }
+        requires place { HasBytes (cells_in self.old) at.0 (8 * k + 8) }
+        ensures blocks { cells_in self.new ≡ stored at.0 k v (cells_in self.old) }
+        ensures rest { StaysButCells self.old self.new }
+    {
         match self {
             Region::Best(best) => set_word(best, at, k, v),
             _ => {}
@@ -76,7 +81,11 @@ impl Cells for Region {
         }
     }
 
-    fn set_slot(&mut self, at: Addr, k: u32, v: u64) {
+    fn set_slot(&mut self, at: Addr, k: u32, v: u64)
+        requires { HasBytes (cells_in self.old) at.0 (8 * k + 8) }
+        ensures blocks { cells_in self.new ≡ stored at.0 k v (cells_in self.old) }
+        ensures rest { StaysButCells self.old self.new }
+    {
         match self {
             Region::Best(best) => set_word(best, at, k, v),
             _ => {}
@@ -90,7 +99,12 @@ impl Cells for Region {
         }
     }
 
-    fn set_body(&mut self, at: Addr, bytes: &[u8]) {
+    fn set_body(&mut self, at: Addr, bytes: &[u8])
+        requires place { HasBytes (cells_in self.old) at.0 32 }
+        requires length { length bytes.now + 32 ≡ length (bytes_at (cells_in self.old) at.0) }
+        ensures blocks { cells_in self.new ≡ with_body at.0 bytes.now (cells_in self.old) }
+        ensures rest { StaysButCells self.old self.new }
+    {
         match self {
             Region::Best(best) => set_body_in(best, at, bytes),
             _ => {}

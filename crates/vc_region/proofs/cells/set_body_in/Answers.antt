@@ -1,6 +1,6 @@
 use Rattle.std.proofs.Common.{ℕ, length, ap, ◌∙◌, arith}
 use Rattle.vc_model.specs.Layout.{Layout}
-use Rattle.vc_region.specs.Cells.{cells_of, emptied_layout}
+use Rattle.vc_region.specs.Cells.{cells_of, zeroed_layout}
 use Rattle.vc_region.proofs.CellBytes.{cell, cell-block, cell-range, cells-written, layout-written}
 use Rattle.vc_region.proofs.cells.set_body_in.Goals as goal
 
@@ -19,5 +19,5 @@ returns-clause-blocks g c =
 pub returns-clause-rest : goal.returns-clause-rest
 returns-clause-rest g c =
     let block = cell c.args.best.now.layout c.args.best.now.whole c.args.at.0 32 c.requires.place in
-    ap emptied_layout c.write.ensures.layout
+    ap zeroed_layout c.write.ensures.layout
     ∙ layout-written 32 c.args.bytes.now c.args.at.0 c.args.best.now.layout block.0 block.1

@@ -2,7 +2,7 @@ use Rattle.std.proofs.Common.{ℕ, ◌+◌, ◌*◌, length, ap, ◌∙◌, arit
 use Rattle.vc_base.specs.Cells.{bytes_at, put, with_word}
 use Rattle.vc_model.specs.Bytes.{with_bytes}
 use Rattle.vc_model.specs.Layout.{Layout}
-use Rattle.vc_region.specs.Cells.{cells_of, emptied_layout}
+use Rattle.vc_region.specs.Cells.{cells_of, zeroed_layout}
 use Rattle.vc_region.proofs.CellBytes.{cell, cell-block, cell-most, cell-range, cells-written, layout-written}
 use Rattle.vc_region.proofs.cells.set_word.Goals as goal
 
@@ -30,5 +30,5 @@ returns-clause-blocks g c =
 pub returns-clause-rest : goal.returns-clause-rest
 returns-clause-rest g c =
     let block = cell c.args.best.now.layout c.args.best.now.whole c.args.at.0 (8 * c.args.k + 8) c.requires in
-    ap emptied_layout c.write.ensures.layout
+    ap zeroed_layout c.write.ensures.layout
     ∙ layout-written (8 * c.args.k) c.to_le_bytes.result c.args.at.0 c.args.best.now.layout block.0 block.1
