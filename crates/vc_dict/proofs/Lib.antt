@@ -5,3 +5,5 @@ pub mod WeedLemmas
 pub mod TurnedLemmas
 pub mod RemethodLemmas
 pub mod ApartLemmas
+pub mod OwnLemmas
+pub mod CurrentLemmas

@@ -5,3 +5,4 @@ pub mod Stands
 pub mod Passes
 pub mod Turned
 pub mod Rows
+pub mod Listed

@@ -1,4 +1,4 @@
-ghost use Rattle.std.specs.Prelude.{◌≡◌, ◌≢◌, ℕ, ◌+◌, ◌<◌, List, [], ◌∷◌, ◌++◌, None, Some, true, false, Bool, length, ◌&&◌, if◌then◌else◌};
+ghost use Rattle.std.specs.Prelude.{◌≡◌, ◌≢◌, ℕ, ◌+◌, ◌<◌, ◌≤◌, List, [], ◌∷◌, ◌++◌, None, Some, true, false, Bool, length, ◌&&◌, if◌then◌else◌};
 ghost use Rattle.std.specs.Option.{option_map};
 ghost use Rattle.vc_base.specs.Cells.{Blocks, IsHolder};
 ghost use Rattle.vc_base.specs.Holders.{contains, first_in, last_in, next_in, previous_in, without};
@@ -54,6 +54,8 @@ impl Dict {
         ensures method { result.method ≡ method }
         ensures kind { result.kind ≡ kind }
         ensures current { result.current.0 ≡ 0 }
+        ensures table { result.table.0 ≡ 0 }
+        ensures slots { result.slots ≡ 0 }
     {
         Dict {
             method,
@@ -183,6 +185,9 @@ impl Dict {
             → Became (D.rules kind.now) (at.0 ∷ holders) self.old (C.blocks cells.old) self.new
             (C.blocks cells.new) (placed (D.rules kind.now) (C.blocks cells.old) at.0 holders)
             self.old.current.0 }
+        ensures steps { (holders : List ℕ)
+            → Stands (D.rules kind.now) self.old (C.blocks cells.old) holders
+            → steps.new ≤ steps.old + length holders }
         ensures rest { C.RestStays cells.old cells.new }
     {
         let mut ord = self.ord();
@@ -228,6 +233,9 @@ impl Dict {
             (C.blocks cells.new)
             (linked append self.old.method (D.rules kind.now) (C.blocks cells.old)
             self.old.current.0 at.0 holders) self.old.current.0 }
+        ensures steps { (holders : List ℕ)
+            → Stands (D.rules kind.now) self.old (C.blocks cells.old) holders
+            → steps.new ≤ steps.old + length holders }
         ensures rest { C.RestStays cells.old cells.new }
     {
         if has_table(self.method) {
@@ -241,7 +249,8 @@ impl Dict {
 
     /// Puts a holder where `insert` does, or `append`, which is for lists, and makes it current. It has at least 33
     /// bytes and is neither in the dictionary nor its table; the current one is none or in it. A set or bag has a table,
-    /// and `wants_table(1)` is none; in a set or ordered set no object matches.
+    /// and `wants_table(1)` is none; in a set or ordered set no object matches. It compares at most as many times as there
+    /// are holders.
     pub fn link<C: Cells, D: DictDisc, L>(
         &mut self,
         cells: &mut C,
@@ -258,6 +267,9 @@ impl Dict {
             (linked append self.old.method (D.rules kind.now) (C.blocks cells.old)
             self.old.current.0 at.0 holders)
             at.0 }
+        ensures steps { (holders : List ℕ)
+            → Stands (D.rules kind.now) self.old (C.blocks cells.old) holders
+            → steps.new ≤ steps.old + length holders }
         ensures rest { C.RestStays cells.old cells.new }
     {
         self.link_heads(cells, kind, at, append, steps);
