@@ -1,1 +1,2 @@
-pub mod Holding
+pub mod ReadyLemmas
+pub mod ListLemmas

@@ -1,1 +1,3 @@
-pub mod Three
+pub mod Five
+pub mod Ready
+pub mod Sorted

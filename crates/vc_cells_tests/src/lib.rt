@@ -1,9 +1,19 @@
-//! Tests of the structures that stand on cells, over a memory of three blocks.
+//! Tests of the structures that stand on cells, over a memory of five blocks.
 #![tactic(auto)]
 
-mod three;
+mod five;
 
-pub use three::ThreeCells;
+pub use five::FiveCells;
 
 #[cfg(test)]
-mod tests;
+mod dicts;
+#[cfg(test)]
+mod drive;
+#[cfg(test)]
+mod given;
+#[cfg(test)]
+mod hashes;
+#[cfg(test)]
+mod lists;
+#[cfg(test)]
+mod orders;

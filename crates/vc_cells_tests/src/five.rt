@@ -1,23 +1,27 @@
 ghost use Rattle.std.specs.Prelude.{◌≡◌, ℕ, ◌+◌, ◌*◌, ◌≤◌, length, vec_len, drop};
 ghost use Rattle.vc_model.specs.Bytes.{with_bytes};
 ghost use Rattle.vc_base.specs.Cells.{with_word, word};
-ghost use Rattle.vc_cells_tests.specs.Three.{three, three-address};
+ghost use Rattle.vc_cells_tests.specs.Five.{five, five-address};
 
 use vc_base::{Addr, Cells};
 
-/// Three blocks of bytes, at the addresses 1, 2 and 3.
+/// Five blocks of bytes, at the addresses 1 to 5.
 #[derive(Debug, Drop)]
-pub struct ThreeCells {
+pub struct FiveCells {
     /// The block at 1.
     pub first: Vec<u8>,
     /// The block at 2.
     pub second: Vec<u8>,
     /// The block at 3.
     pub third: Vec<u8>,
+    /// The block at 4.
+    pub fourth: Vec<u8>,
+    /// The block at 5.
+    pub fifth: Vec<u8>,
 }
 
-impl Cells for ThreeCells {
-    ghost blocks = { λ s. three s.first.items s.second.items s.third.items };
+impl Cells for FiveCells {
+    ghost blocks = { λ s. five s.first.items s.second.items s.third.items s.fourth.items s.fifth.items };
 
     ghost RestStays = { λ s t. Unit {0} };
 
@@ -25,7 +29,9 @@ impl Cells for ThreeCells {
         match at.0 {
             1 => word_of(self.first.as_slice(), k),
             2 => word_of(self.second.as_slice(), k),
-            _ => word_of(self.third.as_slice(), k),
+            3 => word_of(self.third.as_slice(), k),
+            4 => word_of(self.fourth.as_slice(), k),
+            _ => word_of(self.fifth.as_slice(), k),
         }
     }
 
@@ -33,7 +39,9 @@ impl Cells for ThreeCells {
         match at.0 {
             1 => write_word(&mut self.first, k, v),
             2 => write_word(&mut self.second, k, v),
-            _ => write_word(&mut self.third, k, v),
+            3 => write_word(&mut self.third, k, v),
+            4 => write_word(&mut self.fourth, k, v),
+            _ => write_word(&mut self.fifth, k, v),
         }
     }
 
@@ -41,7 +49,9 @@ impl Cells for ThreeCells {
         match at.0 {
             1 => word_of(self.first.as_slice(), k),
             2 => word_of(self.second.as_slice(), k),
-            _ => word_of(self.third.as_slice(), k),
+            3 => word_of(self.third.as_slice(), k),
+            4 => word_of(self.fourth.as_slice(), k),
+            _ => word_of(self.fifth.as_slice(), k),
         }
     }
 
@@ -49,7 +59,9 @@ impl Cells for ThreeCells {
         match at.0 {
             1 => write_word(&mut self.first, k, v),
             2 => write_word(&mut self.second, k, v),
-            _ => write_word(&mut self.third, k, v),
+            3 => write_word(&mut self.third, k, v),
+            4 => write_word(&mut self.fourth, k, v),
+            _ => write_word(&mut self.fifth, k, v),
         }
     }
 
@@ -57,7 +69,9 @@ impl Cells for ThreeCells {
         match at.0 {
             1 => behind(&self.first),
             2 => behind(&self.second),
-            _ => behind(&self.third),
+            3 => behind(&self.third),
+            4 => behind(&self.fourth),
+            _ => behind(&self.fifth),
         }
     }
 
@@ -65,11 +79,14 @@ impl Cells for ThreeCells {
         match at.0 {
             1 => overwrite(&mut self.first, 32, bytes),
             2 => overwrite(&mut self.second, 32, bytes),
-            _ => overwrite(&mut self.third, 32, bytes),
+            3 => overwrite(&mut self.third, 32, bytes),
+            4 => overwrite(&mut self.fourth, 32, bytes),
+            _ => overwrite(&mut self.fifth, 32, bytes),
         }
     }
 
-    ghost addresses = { λ s a. three-address s.first.items s.second.items s.third.items a };
+    ghost addresses = { λ s a.
+        five-address s.first.items s.second.items s.third.items s.fourth.items s.fifth.items a };
 
     ghost reflexive = { λ s. tt };
 

@@ -1,0 +1,10 @@
+use Rattle.vc_cells_tests.proofs.dicts.tables.Goals as goal
+
+pub adopt-none-requires : goal.adopt-none-requires
+adopt-none-requires g c = c.empty-bag.ensures
+
+pub adopt-before-requires : goal.adopt-before-requires
+adopt-before-requires g c = c.adopt-none.ensures
+
+pub empty-list-requires : goal.empty-list-requires
+empty-list-requires g c = c.adopt-before.ensures.sized

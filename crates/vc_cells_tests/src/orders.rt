@@ -1,0 +1,80 @@
+ghost use Rattle.std.specs.Prelude.{◌+◌};
+ghost use Rattle.vc_cells_tests.specs.Five.{AreSized};
+ghost use Rattle.vc_cells_tests.specs.Sorted.{IsBefore};
+
+use crate::drive::{Compares, number};
+use crate::given::given;
+use std::alloc::Global;
+use std::process::Abort;
+use std::test::Fail;
+use vc_base::{Addr, Cells, Steps};
+use vc_dtdisc::{BuiltIn, DictDisc, Shape};
+use vc_dtord::DtOrd;
+
+// Puts the next holder in.
+fn link<C: Cells, D: DictDisc>(
+    rt: &impl Abort,
+    ord: &mut DtOrd,
+    cells: &mut C,
+    kind: &D,
+    at: Addr,
+    alloc: Global,
+)
+    requires { IsBefore (D.rules kind.now) ord.old (C.blocks cells.old) at.0 }
+    ensures { IsBefore (D.rules kind.now) ord.new (C.blocks cells.new) (at.0 + 1) }
+{
+    assert!(rt; 1 <= at.0);
+    assert!(rt; at.0 <= 3);
+    let mut steps: Steps<Compares> = Steps::new(alloc);
+    ord.link(cells, kind, at, &mut steps);
+}
+
+// One of the three holders.
+fn made<C: Cells, D: DictDisc>(rt: &impl Abort, cells: &mut C, kind: &D, alloc: Global) -> DtOrd
+    requires { AreSized (C.blocks cells.old) }
+    ensures { IsBefore (D.rules kind.now) result (C.blocks cells.new) 4 }
+{
+    let mut ord = DtOrd::new();
+    link(rt, &mut ord, cells, kind, Addr(1), alloc);
+    link(rt, &mut ord, cells, kind, Addr(2), alloc);
+    link(rt, &mut ord, cells, kind, Addr(3), alloc);
+    ord
+}
+
+// The first of c, and the first that is not less than bb.
+fn found<C: Cells, D: DictDisc>(
+    rt: &impl Abort,
+    ord: &mut DtOrd,
+    cells: &mut C,
+    kind: &D,
+    alloc: Global,
+)
+    requires { IsBefore (D.rules kind.now) ord.old (C.blocks cells.old) 4 }
+    ensures { IsBefore (D.rules kind.now) ord.new (C.blocks cells.new) 4 }
+{
+    let mut steps: Steps<Compares> = Steps::new(alloc);
+    let c = ord.find(cells, kind, b"c", &mut steps);
+    let bb = ord.at_least(cells, kind, b"bb", &mut steps);
+    assert_eq!(rt; (number(c), number(bb)), (1, 1));
+}
+
+// The ends and neighbours of c, a and b in order, and what is left without a.
+fn asked<C: Cells, D: DictDisc>(rt: &impl Abort, ord: &mut DtOrd, cells: &mut C, kind: &D)
+    requires { IsBefore (D.rules kind.now) ord.old (C.blocks cells.old) 4 }
+{
+    assert_eq!(rt; (number(ord.first(cells)), number(ord.last(cells))), (2, 1));
+    assert_eq!(rt; number(ord.next(cells, Addr(2))), 3);
+    assert_eq!(rt; number(ord.prev(cells, Addr(1))), 3);
+    ord.unlink(cells, Addr(2));
+}
+
+#[test]
+fn order_of_three(rt: HostRuntime) -> Result<(), Fail> {
+    let kind = BuiltIn::new(Shape::Whole);
+    let mut cells = given(rt.alloc(), *b"cab")?;
+    let mut ord = made(&rt, &mut cells, &kind, rt.alloc());
+    found(&rt, &mut ord, &mut cells, &kind, rt.alloc());
+    asked(&rt, &mut ord, &mut cells, &kind);
+    assert_eq!(rt; ord.first.0, 3);
+    Ok(())
+}
