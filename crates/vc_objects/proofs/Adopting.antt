@@ -1,0 +1,155 @@
+-- A set or bag gets another table: a block that is put, and the one before it goes.
+use Rattle.std.proofs.Common.{◌≡◌, ◌≢◌, ℕ, ◌*◌, true, false, List, [], ◌∷◌, Option, Some, None, inl, inr, is_some, length, map, replicate, unwrap_or, refl, sym, ap, ◌∙◌, subst, arith, ⊎_elim}
+use Rattle.std.specs.Prelude.{IsSome, if◌then◌else◌}
+use Rattle.std.specs.List.{AllByRecursion}
+use Rattle.std.proofs.lemmas.Bool.{cases_Bool, true≢false, ne_eqb}
+use Rattle.std.proofs.lemmas.Bool.Decides.{eqb_tells}
+use Rattle.std.proofs.lemmas.List.{length-replicate}
+use Rattle.vc_base.specs.declared.dict_method.DictMethod.{DictMethod}
+use Rattle.vc_base.specs.declared.addr.Addr.{Addr}
+use Rattle.vc_base.specs.Cells.{Blocks, IsAddress, body_of, put}
+use Rattle.vc_base.specs.Holders.{contains, some_address}
+use Rattle.vc_base.proofs.CellsLemmas.{put_other, put_same}
+use Rattle.vc_dtdisc.specs.Finds.{object_at}
+use Rattle.vc_dtdisc.specs.Rules.{IsObject, Rules}
+use Rattle.vc_dtlist.proofs.HolderLemmas.{apart-cons}
+use Rattle.vc_dict.specs.Listed.{holders_of}
+use Rattle.vc_dict.specs.Stands.{Adopted, CanAdopt, Stands}
+use Rattle.vc_dict.specs.declared.dict.Dict.{Dict}
+use Rattle.vc_dict.proofs.OwnLemmas.{Stands-own, holder-there, holders-told, table-apart}
+use Rattle.vc_objects.specs.Objects.{Dictionary, Object, Table, owned}
+use Rattle.vc_objects.specs.Parts.{CanGrow, IsWhole, dictionary_of, object_of, table_of}
+use Rattle.vc_objects.proofs.Addresses.{all-objects, apart-holders, apart-owned, apart-table, each-object, objects-same}
+
+abbrev made : DictMethod → List Object → Option ℕ → Option Table → Dictionary
+made m os c t = record { method = m; objects = os; current = c; table = t }
+
+-- dictionaries of the same parts
+pub same-dictionary : (m n : DictMethod) (os ps : List Object) (c d : Option ℕ) (t u : Option Table) → m ≡ n → os ≡ ps → c ≡ d → t ≡ u → made m os c t ≡ made n ps d u
+same-dictionary m n os ps c d t u e f g h =
+    ap (λ z. made z os c t) e ∙ (ap (λ z. made n z c t) f ∙ (ap (λ z. made n ps z t) g ∙ ap (λ z. made n ps d z) h))
+
+pub some-table : (at slots : ℕ) → at ≢ 0 → table_of at slots ≡ Some (record { at = at; slots = slots })
+some-table at slots ne = ap (λ t. if t then None else Some (record { at = at; slots = slots })) (ne_eqb at 0 ne)
+
+module _ (rules : Rules) (d0 : Dict) (B0 B1 : Blocks) (t slots : ℕ) (can : CanGrow rules d0 B0 slots) (fresh : B0 t ≡ None) (address : IsAddress t) (placed : B1 ≡ put t (replicate (8 * slots) 0) B0) where
+  abbrev hs : List ℕ
+  hs = holders_of d0 B0
+
+  -- the block is another one than those of the dictionary
+  cell-apart : (a : ℕ) → IsSome (B0 a) → a ≢ t
+  cell-apart a h e = true≢false (sym h ∙ ap is_some (ap B0 e ∙ fresh))
+
+  holder-apart : (a : ℕ) → contains hs a ≡ true → a ≢ t
+  holder-apart a h = cell-apart a (holder-there rules d0 B0 hs a can.stands h).there
+
+  none-there : contains hs t ≡ false
+  none-there =
+      ⊎_elim
+      (λ (within : contains hs t ≡ true). absurd (holder-apart t within refl))
+      (λ (apart : contains hs t ≡ false). apart)
+      (cases_Bool (contains hs t))
+
+  other-table : d0.table.0 ≢ t
+  other-table = elim (eqb_tells d0.table.0 0) as (λ _. d0.table.0 ≢ t) [
+    | inl same ↦ λ e. let some = address.some in let z = same.1 in omega (arith, e, some, z)
+    | inr apart ↦ cell-apart d0.table.0 (can.stands.table.some apart.1).there
+  ]
+
+  own-apart : (a : ℕ) → contains (d0.table.0 ∷ hs) a ≡ true → a ≢ t
+  own-apart a w = elim (eqb_tells d0.table.0 a) as (λ _. a ≢ t) [
+    | inl same ↦ λ e. other-table (same.1 ∙ e)
+    | inr apart ↦ holder-apart a (rw apart.0 at w)
+  ]
+
+  kept-placed : (a : ℕ) → a ≢ t → B1 a ≡ B0 a
+  kept-placed a ne = ap (λ (f : Blocks). f a) placed ∙ put_other a t (replicate (8 * slots) 0) B0 ne
+
+  shows : B1 t ≡ Some (replicate (8 * slots) 0)
+  shows = ap (λ (f : Blocks). f t) placed ∙ put_same t (replicate (8 * slots) 0) B0
+
+  pub stands-placed : Stands rules d0 B1 (holders_of d0 B0)
+  stands-placed = Stands-own rules d0 B0 B1 hs (λ a some w. kept-placed a (own-apart a w)) can.stands
+
+  pub can-adopt : CanAdopt rules d0 B1 t slots
+  can-adopt = record {
+    holders = hs;
+    stands = stands-placed;
+    method = can.method;
+    fits = record {
+      slots_allowed = can.allowed;
+      there = ap is_some shows;
+      size = ap (λ o. length (unwrap_or o [])) shows ∙ length-replicate (8 * slots) 0;
+      enough = can.enough;
+      apart = none-there;
+    };
+    another = λ e. other-table (sym e);
+  }
+
+  -- the table before it stands still
+  pub old-there : (d1 : Dict) (B2 : Blocks) → Adopted rules t slots (holders_of d0 B0) d0 B1 d1 B2 → (a : ℕ) → a ≡ d0.table.0 → a ≢ 0 → IsSome (B2 a)
+  old-there d1 B2 adopted a is some =
+      let there : IsSome (B0 a) = subst (λ n. IsSome (B0 n)) (sym is) (can.stands.table.some (λ z. some (is ∙ z))).there in
+      adopted.keeps.there a ∙ (ap is_some (kept-placed a (cell-apart a there)) ∙ there)
+
+  module _ (d1 : Dict) (B2 B3 : Blocks) (adopted : Adopted rules t slots (holders_of d0 B0) d0 B1 d1 B2) (after : (a : ℕ) → a ≢ d0.table.0 → B3 a ≡ B2 a) where
+    outside : (a : ℕ) → contains hs a ≡ true → a ≢ d0.table.0
+    outside a w e = true≢false (sym (ap (contains hs) (sym e) ∙ w) ∙ table-apart rules d0 B0 hs can.stands)
+
+    stands-then : Stands rules d1 B3 hs
+    stands-then =
+        Stands-own rules d1 B2 B3 hs
+        (λ a some w. after a (elim (eqb_tells d1.table.0 a) as (λ _. a ≢ d0.table.0) [
+          | inl same ↦ λ e. other-table (sym e ∙ (sym same.1 ∙ adopted.table))
+          | inr apart ↦ outside a (rw apart.0 at w)
+        ]))
+        adopted.stands
+
+    told : holders_of d1 B3 ≡ hs
+    told = holders-told rules d1 B3 hs stands-then
+
+    object : (a : ℕ) → contains hs a ≡ true → object_at B3 a ≡ object_at B0 a
+    object a w =
+        let bytes : Option (List ℕ) → List ℕ = λ o. body_of (unwrap_or o []) in
+        let apart : contains (d0.table.0 ∷ t ∷ []) a ≡ false = apart-cons d0.table.0 (t ∷ []) a (λ e. outside a w (sym e)) (apart-cons t [] a (λ e. holder-apart a w (sym e)) refl) in
+        ap bytes (after a (outside a w)) ∙ (adopted.keeps.bodies a apart ∙ ap bytes (kept-placed a (holder-apart a w)))
+
+    objects : map (object_of B3) (holders_of d1 B3) ≡ map (object_of B0) hs
+    objects = ap (map (object_of B3)) told ∙ objects-same B0 B3 hs object
+
+    there : d1.table.0 ≢ 0
+    there e = let some = address.some in let is = adopted.table in omega (arith, some, is, e)
+
+    pub dictionary-grown : dictionary_of d1 B3 ≡ record { method = d0.method; objects = map (object_of B0) (holders_of d0 B0); current = some_address d0.current.0; table = Some (record { at = t; slots = slots }) }
+    dictionary-grown =
+        same-dictionary d1.method d0.method (map (object_of B3) (holders_of d1 B3)) (map (object_of B0) hs) (some_address d1.current.0) (some_address d0.current.0) (table_of d1.table.0 d1.slots) (Some (record { at = t; slots = slots }))
+        adopted.method objects (ap (λ (c : Addr). some_address c.0) adopted.current)
+        (some-table d1.table.0 d1.slots there ∙ (ap (λ n. Some (record { at = n; slots = d1.slots })) adopted.table ∙ ap (λ n. Some (record { at = t; slots = n })) adopted.slots))
+
+    pub whole-grown : IsWhole rules d1 B3
+    whole-grown = record {
+      stands = subst (λ xs. Stands rules d1 B3 xs) (sym told) stands-then;
+      current = ap (λ xs. contains (0 ∷ xs) d1.current.0) told ∙ (ap (λ (c : Addr). contains (0 ∷ hs) c.0) adopted.current ∙ can.current);
+      table = λ _. there;
+      objects =
+          subst (λ xs. AllByRecursion (λ o. IsObject o.bytes) (map (object_of B3) xs)) (sym told)
+          (all-objects IsObject B3 hs (λ a w. subst IsObject (sym (object a w)) (each-object IsObject B0 hs can.objects a w)));
+    }
+
+    pub others-grown : B3 0 ≡ None → B0 0 ≡ None → (a : ℕ) → contains (owned (dictionary_of d0 B0)) a ≡ false → contains (owned (dictionary_of d1 B3)) a ≡ false → B3 a ≡ B0 a
+    others-grown none none' a old new = elim (eqb_tells a 0) as (λ _. B3 a ≡ B0 a) [
+      | inl same ↦ subst (λ n. B3 n ≡ B0 n) (sym same.1) (none ∙ sym none')
+      | inr some ↦
+          let table : d0.table.0 ≢ a = apart-table d0 B0 a some.1 old in
+          let block : t ≢ a = subst (λ n. n ≢ a) adopted.table (apart-table d1 B3 a some.1 new) in
+          after a (λ e. table (sym e))
+          ∙ (adopted.keeps.others a (apart-cons d0.table.0 (t ∷ []) a table (apart-cons t [] a block refl)) (apart-holders d0 B0 a old)
+          ∙ kept-placed a (λ e. block (sym e)))
+    ]
+
+    pub fresh-grown : (a : ℕ) → contains (owned (dictionary_of d1 B3)) a ≡ true → contains (owned (dictionary_of d0 B0)) a ≡ false → B0 a ≡ None
+    fresh-grown a new old = elim (eqb_tells t a) as (λ _. B0 a ≡ None) [
+      | inl same ↦ subst (λ n. B0 n ≡ None) same.1 fresh
+      | inr apart ↦
+          absurd (true≢false (sym new ∙ apart-owned d1 B3 a (λ _ e. apart.1 (sym adopted.table ∙ e)) (ap (λ xs. contains xs a) told ∙ apart-holders d0 B0 a old)))
+    ]

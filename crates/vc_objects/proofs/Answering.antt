@@ -1,0 +1,189 @@
+-- What the definitions give for an object, by the answers of the calls that put its table and its holder.
+use Rattle.std.proofs.Common.{◌≡◌, ℕ, ◌*◌, ◌≤◌, Bool, true, false, List, Option, Some, None, inl, inr, length, map, refl, sym, ap, ◌∙◌, subst, arith}
+use Rattle.std.specs.Prelude.{IfErr, IsErrOf, OnOk, Result, Ok, Err}
+use Rattle.std.proofs.lemmas.Option.{none-some, same_Some}
+use Rattle.vc_base.specs.Holders.{contains}
+use Rattle.vc_model.specs.Best.{best_need}
+use Rattle.vc_model.specs.Count.{Rose}
+use Rattle.vc_model.specs.Discipline.{Discipline, Terms, Unserved}
+use Rattle.vc_model.specs.Outcome as model
+use Rattle.vc_model.specs.Outcome.{Fault, Outcome, Done, Refused, Put}
+use Rattle.vc_dict.specs.Methods.{wanted_by}
+use Rattle.vc_dict.specs.declared.dict.Dict.{Dict}
+use Rattle.vc_dtdisc.specs.Rules.{Rules}
+use Rattle.vc_dtlist.proofs.HolderLemmas.{apart-append, apart-front, apart-rest}
+use Rattle.vc_seg.specs.Answer.{IsPut, IsRefusal}
+use Rattle.vc_seg.specs.declared.fault.RegionFault.{RegionFault}
+use Rattle.vc_seg.specs.declared.fault.RegionFault.TheVariants as code
+use Rattle.vc_region.specs.Region.{Region}
+use Rattle.vc_region.specs.declared.region.Region as code_region
+use Rattle.vc_objects.specs.declared.fate.Fate.TheVariants.{Stored, NoTable, NoHolder}
+use Rattle.vc_objects.specs.declared.fate.Want.{Want}
+use Rattle.vc_objects.specs.declared.fate.Want.TheVariants.{TooManySegments, NoSegment}
+use Rattle.vc_objects.specs.Insert.{Grown, alloc_unlabelled, grow, grown_to, grown_with, held, held_in, insert, slots_wanted, want_of, with_object, without_table}
+use Rattle.vc_objects.specs.Leaves.{GivesInserted, HasGrown, HasHeld, Lacks, LacksHolder, LacksTable, LeavesRest, lacks_segment, want_by}
+use Rattle.vc_objects.specs.Objects.{Dictionary, Object, Table, holder_size, listed, owned}
+use Rattle.vc_objects.specs.Parts.{dictionary_in}
+use Rattle.vc_objects.proofs.Leaving.{leaves-trans}
+
+-- a block that was put is the table
+pub grown-put : (o : Outcome (Put (Region ℕ))) (D : Dictionary) (slots a : ℕ) (r R : Region ℕ) (E : Dictionary) → IsPut o a r → R ≡ without_table r D.table
+    → E ≡ record D { table = Some (record { at = a; slots = slots }) } → HasGrown (grown_with D slots o) R E
+grown-put (Done p) D slots a r R E is region dict =
+    (region ∙ ap (λ q. without_table q D.table) is.2, dict ∙ ap (λ n. record D { table = Some (record { at = n; slots = slots }) }) is.0)
+grown-put (Refused why) D slots a r R E is region dict = absurd is
+
+-- the refusal of one call is that of another
+pub refusal-as : {A B : Type 0} (call : Bool → Outcome A) (call' : Bool → Outcome B) → ((refused : Bool) (why : Fault) → call refused ≡ Refused why → call' refused ≡ Refused why) → (why : RegionFault) → IsRefusal call why → IsRefusal call' why
+refusal-as call call' kept code.TooManySegments h = kept false _ h
+refusal-as call call' kept code.NoSegment h = kept true _ h
+refusal-as call call' kept code.OutOfMemory h = tt
+refusal-as call call' kept code.Fixed h = kept false _ h
+refusal-as call call' kept code.PoolSize h = kept false _ h
+refusal-as call call' kept code.NotLast h = kept false _ h
+refusal-as call call' kept code.WrongMethod h = kept false _ h
+
+pub grown-refused : (call : Bool → Outcome (Put (Region ℕ))) (D : Dictionary) (slots : ℕ) (why : RegionFault) → IsRefusal call why → IsRefusal (λ refused. grown_with D slots (call refused)) why
+grown-refused call D slots why is = refusal-as call (λ refused. grown_with D slots (call refused)) (λ refused fault e. ap (grown_with D slots) e) why is
+
+-- what is wanted of the table then
+pub grown-wants : (o : Outcome (Put (Region ℕ))) (D : Dictionary) (slots : ℕ) (R : Region ℕ) (E : Dictionary) → HasGrown (grown_with D slots o) R E → slots_wanted E ≡ wanted_by D.method slots (length D.objects) 1
+grown-wants (Done p) D slots R E h = ap slots_wanted h.1
+grown-wants (Refused why) D slots R E h = absurd h
+
+-- the method and the objects stay
+pub grown-kept : (terms : Terms) (r : Region ℕ) (D : Dictionary) (wanted : Option ℕ) (R : Region ℕ) (E : Dictionary) → HasGrown (grown_to terms r 0 D false wanted) R E → (E.method ≡ D.method) × (E.objects ≡ D.objects)
+grown-kept terms r D None R E h = (ap (λ (d : Dictionary). d.method) h.1, ap (λ (d : Dictionary). d.objects) h.1)
+grown-kept terms r D (Some slots) R E h = by (alloc_unlabelled terms r 0 (8 * slots) false) h
+  where
+    by : (o : Outcome (Put (Region ℕ))) → HasGrown (grown_with D slots o) R E → (E.method ≡ D.method) × (E.objects ≡ D.objects)
+    by (Done p) h = (ap (λ (d : Dictionary). d.method) h.1, ap (λ (d : Dictionary). d.objects) h.1)
+    by (Refused why) h = absurd h
+
+-- what is told of the table that is wanted is told of growth
+pub grow-refused : (terms : Terms) (r : Region ℕ) (D : Dictionary) (slots : ℕ) (why : RegionFault) → slots_wanted D ≡ Some slots
+    → IsRefusal (λ refused. grown_to terms r 0 D refused (Some slots)) why → IsRefusal (grow terms r 0 D) why
+grow-refused terms r D slots why e is = subst (λ o. IsRefusal (λ refused. grown_to terms r 0 D refused o) why) (sym e) is
+
+-- what follows from what holds after a call that did it, and after one that didn't
+pub then-ok : (P Q : Type 0) (result : Result Unit RegionFault) → (P → Q) → OnOk result P → OnOk result Q
+then-ok P Q (Ok done) f p = f p
+then-ok P Q (Err why) f p = tt
+
+pub then-err : (P Q : RegionFault → Type 0) (result : Result Unit RegionFault) → ((why : RegionFault) → P why → Q why) → IfErr result P → IfErr result Q
+then-err P Q (Ok done) f p = tt
+then-err P Q (Err why) f p = f why p
+
+-- the object stands in the block that was put
+pub held-put : (rules : Rules) (append : Bool) (bytes : List ℕ) (E : Dictionary) (o : Outcome (Put (Region ℕ))) (at : ℕ) (r R : Region ℕ) (D : Dictionary) → IsPut o at r → R ≡ r
+    → D ≡ with_object rules append bytes E at → HasHeld rules append bytes E o R D
+held-put rules append bytes E (Done p) at r R D is region dict = (region ∙ is.2, dict ∙ ap (with_object rules append bytes E) is.0)
+held-put rules append bytes E (Refused why) at r R D is region dict = absurd is
+
+-- what a refused block wants
+abbrev Found : {A : Type 0} → (Bool → Outcome A) → Want → Type 0
+Found call want = (why : Fault) × (call (lacks_segment want) ≡ Refused why) × (want_of why ≡ want)
+
+refusal-found : {A : Type 0} (call : Bool → Outcome A) (fault : RegionFault) (want : Want) → IsRefusal call fault → want_by fault ≡ Some want → Found call want
+refusal-found {A} call fault want is e = by fault is e
+  where
+    by : (fault : RegionFault) → IsRefusal call fault → want_by fault ≡ Some want → Found call want
+    by code.TooManySegments is e = subst (Found call) (same_Some TooManySegments want e) (model.TooManySegments, is, refl)
+    by code.NoSegment is e = subst (Found call) (same_Some NoSegment want e) (model.NoSegment, is, refl)
+    by code.OutOfMemory is e = absurd (none-some want e)
+    by code.Fixed is e = subst (Found call) (same_Some TooManySegments want e) (model.Fixed, is, refl)
+    by code.PoolSize is e = subst (Found call) (same_Some TooManySegments want e) (model.PoolSize, is, refl)
+    by code.NotLast is e = subst (Found call) (same_Some TooManySegments want e) (model.NotLast, is, refl)
+    by code.WrongMethod is e = subst (Found call) (same_Some TooManySegments want e) (model.WrongMethod, is, refl)
+
+module _ (rules : Rules) (terms : Terms) (r : Region ℕ) (d : Dictionary) (append : Bool) (bytes : List ℕ) where
+  stored-in : (g : Grown ℕ) (o : Outcome (Put (Region ℕ))) (R : Region ℕ) (D : Dictionary) → HasHeld rules append bytes g.dict o R D → GivesInserted (held rules append bytes g o) R D Stored
+  stored-in g (Done p) R D h = record { region = sym h.0; dict = sym h.1; fate = refl }
+  stored-in g (Refused why) R D h = absurd h
+
+  -- the object is stored
+  pub inserted-stored : (o : Outcome (Grown ℕ)) (terms' : Terms) (Q : Region ℕ) (E : Dictionary) (R : Region ℕ) (D : Dictionary) → terms' ≡ terms → HasGrown o Q E
+      → HasHeld rules append bytes E (alloc_unlabelled terms' Q 0 (holder_size bytes) false) R D → GivesInserted (held_in rules terms r 0 d append bytes false o) R D Stored
+  inserted-stored (Done g) terms' Q E R D same grown k =
+      let h = subst (λ t. HasHeld rules append bytes E (alloc_unlabelled t Q 0 (holder_size bytes) false) R D) same k in
+      stored-in g (alloc_unlabelled terms g.region 0 (holder_size bytes) false) R D
+      (subst (λ e. HasHeld rules append bytes e (alloc_unlabelled terms g.region 0 (holder_size bytes) false) R D) grown.1
+      (subst (λ q. HasHeld rules append bytes E (alloc_unlabelled terms q 0 (holder_size bytes) false) R D) grown.0 h))
+  inserted-stored (Refused why) terms' Q E R D same grown k = absurd grown
+
+  no-holder-in : (g : Grown ℕ) (o : Outcome (Put (Region ℕ))) (why : Fault) (want : Want) → o ≡ Refused why → want_of why ≡ want → GivesInserted (held rules append bytes g o) g.region g.dict (NoHolder want)
+  no-holder-in g o why want e w = subst (λ p. GivesInserted (held rules append bytes g p) g.region g.dict (NoHolder want)) (sym e) (record { region = refl; dict = refl; fate = ap NoHolder w })
+
+  -- its holder isn't put
+  pub inserted-no_holder : (o : Outcome (Grown ℕ)) (terms' : Terms) (Q : Region ℕ) (E : Dictionary) (R : Region ℕ) (D : Dictionary) (fault : RegionFault) (want : Want) → terms' ≡ terms → HasGrown o Q E
+      → IsRefusal (alloc_unlabelled terms' Q 0 (holder_size bytes)) fault → want_by fault ≡ Some want → R ≡ Q → D ≡ E → GivesInserted (held_in rules terms r 0 d append bytes (lacks_segment want) o) R D (NoHolder want)
+  inserted-no_holder (Done g) terms' Q E R D fault want same grown k w region dict =
+      let is = subst (λ t. IsRefusal (alloc_unlabelled t Q 0 (holder_size bytes)) fault) same k in
+      let found = refusal-found (alloc_unlabelled terms g.region 0 (holder_size bytes)) fault want (subst (λ q. IsRefusal (alloc_unlabelled terms q 0 (holder_size bytes)) fault) grown.0 is) w in
+      let gives = no-holder-in g (alloc_unlabelled terms g.region 0 (holder_size bytes) (lacks_segment want)) found.0 want found.1 found.2 in
+      record { region = gives.region ∙ sym (region ∙ grown.0); dict = gives.dict ∙ sym (dict ∙ grown.1); fate = gives.fate }
+  inserted-no_holder (Refused why) terms' Q E R D fault want same grown k w region dict = absurd grown
+
+  -- its table isn't
+  pub inserted-no_table : (R : Region ℕ) (D : Dictionary) (fault : RegionFault) (want : Want) → IsRefusal (grow terms r 0 d) fault → want_by fault ≡ Some want → R ≡ r → D ≡ d
+      → GivesInserted (insert rules terms r 0 d append bytes (lacks_segment want) false) R D (NoTable want)
+  inserted-no_table R D fault want is w region dict =
+      let found = refusal-found (grow terms r 0 d) fault want is w in
+      subst (λ o. GivesInserted (held_in rules terms r 0 d append bytes false o) R D (NoTable want)) (sym found.1)
+      (record { region = sym region; dict = sym dict; fate = ap NoTable found.2 })
+
+-- what the discipline says of it
+pub lacks-table : (wanted : Option ℕ) (bytes : List ℕ) (old new : Discipline) (fault : RegionFault) (want : Want) → want_by fault ≡ Some want
+    → (IsErrOf {T = Unit} (Err fault) code.NoSegment → LacksTable wanted old new) → Lacks (NoTable want) wanted bytes old new
+lacks-table wanted bytes old new fault want e lacks = by fault e lacks
+  where
+    by : (fault : RegionFault) → want_by fault ≡ Some want → (IsErrOf {T = Unit} (Err fault) code.NoSegment → LacksTable wanted old new) → Lacks (NoTable want) wanted bytes old new
+    by code.TooManySegments e lacks = subst (λ w. Lacks (NoTable w) wanted bytes old new) (same_Some TooManySegments want e) tt
+    by code.NoSegment e lacks = subst (λ w. Lacks (NoTable w) wanted bytes old new) (same_Some NoSegment want e) (lacks refl)
+    by code.OutOfMemory e lacks = absurd (none-some want e)
+    by code.Fixed e lacks = subst (λ w. Lacks (NoTable w) wanted bytes old new) (same_Some TooManySegments want e) tt
+    by code.PoolSize e lacks = subst (λ w. Lacks (NoTable w) wanted bytes old new) (same_Some TooManySegments want e) tt
+    by code.NotLast e lacks = subst (λ w. Lacks (NoTable w) wanted bytes old new) (same_Some TooManySegments want e) tt
+    by code.WrongMethod e lacks = subst (λ w. Lacks (NoTable w) wanted bytes old new) (same_Some TooManySegments want e) tt
+
+still-lacks : (wanted : Option ℕ) (bytes : List ℕ) (old mid new : Discipline) → (wanted ≡ None → mid ≡ old) → old.faults ≤ mid.faults → Unserved mid new (best_need mid.terms (holder_size bytes) 32) → LacksHolder wanted bytes old new
+still-lacks None bytes old mid new same faults un = subst (λ d. Unserved d new (best_need d.terms (holder_size bytes) 32)) (same refl) un
+still-lacks (Some slots) bytes old mid new same faults un = elim un.rose as (λ _. Rose old.faults new.faults) [
+  | inl less ↦ inl (omega (arith, faults, less))
+  | inr last ↦ inr last
+]
+
+pub lacks-holder : (wanted : Option ℕ) (bytes : List ℕ) (old mid new : Discipline) (fault : RegionFault) (want : Want) → want_by fault ≡ Some want → (wanted ≡ None → mid ≡ old) → old.faults ≤ mid.faults
+    → (IsErrOf {T = Unit} (Err fault) code.NoSegment → Unserved mid new (best_need mid.terms (holder_size bytes) 32)) → Lacks (NoHolder want) wanted bytes old new
+lacks-holder wanted bytes old mid new fault want e same faults lacks = by fault e lacks
+  where
+    by : (fault : RegionFault) → want_by fault ≡ Some want → (IsErrOf {T = Unit} (Err fault) code.NoSegment → Unserved mid new (best_need mid.terms (holder_size bytes) 32)) → Lacks (NoHolder want) wanted bytes old new
+    by code.TooManySegments e lacks = subst (λ w. Lacks (NoHolder w) wanted bytes old new) (same_Some TooManySegments want e) tt
+    by code.NoSegment e lacks = subst (λ w. Lacks (NoHolder w) wanted bytes old new) (same_Some NoSegment want e) (still-lacks wanted bytes old mid new same faults (lacks refl))
+    by code.OutOfMemory e lacks = absurd (none-some want e)
+    by code.Fixed e lacks = subst (λ w. Lacks (NoHolder w) wanted bytes old new) (same_Some TooManySegments want e) tt
+    by code.PoolSize e lacks = subst (λ w. Lacks (NoHolder w) wanted bytes old new) (same_Some TooManySegments want e) tt
+    by code.NotLast e lacks = subst (λ w. Lacks (NoHolder w) wanted bytes old new) (same_Some TooManySegments want e) tt
+    by code.WrongMethod e lacks = subst (λ w. Lacks (NoHolder w) wanted bytes old new) (same_Some TooManySegments want e) tt
+
+abbrev tables : Dictionary → List ℕ
+tables g = map (λ (x : Table). x.at) (listed g.table)
+
+abbrev holders : Dictionary → List ℕ
+holders g = map (λ (o : Object). o.at) g.objects
+
+-- one call on a dictionary after another, where the first keeps the objects and the second the table
+module _ {I : Type 0} {V : I → Type 0} (meaning : (x : I) × V x → Discipline) (rules : Rules) (r s t : code_region.Region I V) (d e f : Dict) where
+  pub rest-trans : LeavesRest meaning rules r d s e → LeavesRest meaning rules s e t f → (dictionary_in e s).objects ≡ (dictionary_in d r).objects → (dictionary_in f t).table ≡ (dictionary_in e s).table
+      → LeavesRest meaning rules r d t f
+  rest-trans first second objects table = record {
+    whole = second.whole;
+    kind = second.kind ∙ first.kind;
+    rest = leaves-trans meaning r s t (owned (dictionary_in d r)) (owned (dictionary_in e s)) (owned (dictionary_in f t)) first.rest second.rest between;
+  }
+    where
+      between : (a : ℕ) → contains (owned (dictionary_in d r)) a ≡ false → contains (owned (dictionary_in f t)) a ≡ false → contains (owned (dictionary_in e s)) a ≡ false
+      between a old new =
+          apart-append (tables (dictionary_in e s)) (holders (dictionary_in e s)) a
+          (subst (λ (x : Option Table). contains (map (λ (y : Table). y.at) (listed x)) a ≡ false) table (apart-front (tables (dictionary_in f t)) (holders (dictionary_in f t)) a new))
+          (ap (λ os. contains (map (λ (o : Object). o.at) os) a) objects ∙ apart-rest (tables (dictionary_in d r)) (holders (dictionary_in d r)) a old)

@@ -1,0 +1,112 @@
+-- A table that a change of method needs is brought, or not.
+use Rattle.std.proofs.Common.{◌≡◌, ◌≢◌, ℕ, ◌*◌, [], Bool, false, Some, None, length, replicate, refl, sym, ap, ◌∙◌, subst}
+use Rattle.std.specs.Prelude.{IsErrOf, Result, Ok, Err, ◌==◌, if◌then◌else◌}
+use Rattle.std.proofs.lemmas.Bool.{eq-eqb, ne_eqb}
+use Rattle.vc_base.specs.declared.dict_method.DictMethod.{DictMethod}
+use Rattle.vc_base.specs.declared.dict_method.DictMethod.TheVariants.{DtSet, DtBag, DtOset, DtObag, DtList, DtStack, DtQueue}
+use Rattle.vc_base.specs.Cells.{Blocks, put}
+use Rattle.vc_model.specs.Discipline.{Terms}
+use Rattle.vc_model.specs.Outcome.{Fault, Outcome, Done, Refused, Put, TooManySegments, NoSegment, Fixed, PoolSize, NotLast, WrongMethod}
+use Rattle.vc_dict.specs.Methods.{slots_between}
+use Rattle.vc_dtdisc.specs.Rules.{Gone, Rules}
+use Rattle.vc_region.specs.Region.{Region}
+use Rattle.vc_seg.specs.Answer.{IsPut, IsRefusal}
+use Rattle.vc_seg.specs.declared.fault.RegionFault.{RegionFault}
+use Rattle.vc_seg.specs.declared.fault.RegionFault.TheVariants as code
+use Rattle.vc_objects.specs.Insert.{without_table}
+use Rattle.vc_objects.specs.Leaves.{GivesTurned, told_each}
+use Rattle.vc_objects.specs.Objects.{Dictionary, Table}
+use Rattle.vc_objects.specs.Parts.{table_of}
+use Rattle.vc_objects.specs.Remove.{bytes_of, freed_all}
+use Rattle.vc_objects.specs.Turn.{Brought, Turned, bring, bring_of, brought, number_of, objects_dropped, table_left, turn, turned_to, turned_with}
+use Rattle.vc_objects.specs.Turning.{BringsCell, HasBrought}
+
+-- a refusal stays one
+pub refusal-through : {A B : Type 0} (f : Outcome A → Outcome B) → ((w : Fault) → f (Refused w) ≡ Refused w) → (call : Bool → Outcome A) (why : RegionFault) → IsRefusal call why → IsRefusal (λ t. f (call t)) why
+refusal-through f e call code.TooManySegments h = ap f h ∙ e TooManySegments
+refusal-through f e call code.NoSegment h = ap f h ∙ e NoSegment
+refusal-through f e call code.OutOfMemory h = tt
+refusal-through f e call code.Fixed h = ap f h ∙ e Fixed
+refusal-through f e call code.PoolSize h = ap f h ∙ e PoolSize
+refusal-through f e call code.NotLast h = ap f h ∙ e NotLast
+refusal-through f e call code.WrongMethod h = ap f h ∙ e WrongMethod
+
+-- a fault is the same of whatever value is missing
+abbrev fault_in : {A : Type 0} → Result A RegionFault → RegionFault
+fault_in (Ok x) = code.OutOfMemory
+fault_in (Err why) = why
+
+pub same-fault : {A B : Type 0} (why fault : RegionFault) → IsErrOf {T = A} (Err why) fault → IsErrOf {T = B} (Err why) fault
+same-fault why fault e = let same : why ≡ fault = ap fault_in e in ap Err same
+
+-- a block that was put is the table
+pub put-brought : (slots : ℕ) (o : Outcome (Put (Region ℕ))) (a : ℕ) (r : Region ℕ) → a ≢ 0 → IsPut o a r → HasBrought (brought slots o) r a slots
+put-brought slots (Done p) a r some h = (
+  sym h.2,
+  ap (λ z. let t : Table = record { at = z; slots = slots } in Some t) (sym h.0) ∙ sym (ap (λ z. if z then None else Some (record { at = a; slots = slots })) (ne_eqb a 0 some)),
+)
+put-brought slots (Refused why) a r some h = absurd h
+
+pub cell-brought : (slots a : ℕ) (before after : Blocks) → a ≢ 0 → after ≡ put a (replicate (8 * slots) 0) before → before a ≡ None → BringsCell (Some slots) before after a slots
+cell-brought slots a before after some e fresh = record {
+  wants = sym (ap (λ z. if z then None else Some slots) (ne_eqb a 0 some));
+  none = λ zero. absurd (some zero);
+  same = λ zero. absurd (some zero);
+  made = λ _. e;
+  fresh = λ _. fresh;
+}
+
+-- the methods are told by their numbers
+method_of : ℕ → DictMethod
+method_of n =
+    if n == 0 then DtSet else (if n == 1 then DtBag else (if n == 2 then DtOset else (if n == 3 then DtObag else (if n == 4 then DtList else (if n == 5 then DtStack else DtQueue)))))
+
+method-back : (m : DictMethod) → method_of (number_of m) ≡ m
+unfolding method_of
+method-back DtSet = refl
+method-back DtBag = refl
+method-back DtOset = refl
+method-back DtObag = refl
+method-back DtList = refl
+method-back DtStack = refl
+method-back DtQueue = refl
+
+pub other-number : (m n : DictMethod) → m ≢ n → (number_of m == number_of n) ≡ false
+other-number m n ne = ne_eqb (number_of m) (number_of n) (λ e. ne (sym (method-back m) ∙ (ap method_of e ∙ method-back n)))
+
+module _ (rules : Rules) (terms : Terms) (method : DictMethod) (r : Region ℕ) (d : Dictionary) (count : ℕ) (other : method ≢ d.method) (counts : length d.objects ≡ count) where
+  abbrev stays : Outcome (Turned ℕ)
+  stays = Done (record { region = r; dict = d; gone = []; granted = [] })
+
+  -- with it the dictionary is turned
+  given : (o : Outcome (Brought ℕ)) (r1 r2 : Region ℕ) (d1 d2 : Dictionary) (t s : ℕ) (gone gone' : Gone) → d1 ≡ d → HasBrought o r1 t s
+      → r2 ≡ without_table (freed_all r1 (objects_dropped rules method d1)) (table_left d1 method) → d2 ≡ turned_to rules method d1 (table_of t s)
+      → gone' ≡ told_each (bytes_of (objects_dropped rules method d1)) gone → GivesTurned (turned_with rules method d o) r2 d2 gone gone'
+  given (Done b) r1 r2 d1 d2 t s gone gone' same h e f k = (
+    ap (λ z. without_table (freed_all z (objects_dropped rules method d)) (table_left d method)) h.0
+        ∙ (ap (λ z. without_table (freed_all r1 (objects_dropped rules method z)) (table_left z method)) (sym same) ∙ sym e),
+    ap (turned_to rules method d) h.1 ∙ (ap (λ z. turned_to rules method z (table_of t s)) (sym same) ∙ sym f),
+    k ∙ ap (λ z. told_each (bytes_of (objects_dropped rules method z)) gone) same,
+  )
+  given (Refused why) r1 r2 d1 d2 t s gone gone' same h e f k = absurd h
+
+  pub gives-turned : (r1 r2 : Region ℕ) (d1 d2 : Dictionary) (t s : ℕ) (gone gone' : Gone) → d1 ≡ d → HasBrought (bring_of terms r 0 false (slots_between d.method method count)) r1 t s
+      → r2 ≡ without_table (freed_all r1 (objects_dropped rules method d1)) (table_left d1 method) → d2 ≡ turned_to rules method d1 (table_of t s)
+      → gone' ≡ told_each (bytes_of (objects_dropped rules method d1)) gone → GivesTurned (turn rules terms r 0 d method false) r2 d2 gone gone'
+  gives-turned r1 r2 d1 d2 t s gone gone' same h e f k =
+      subst (λ z. GivesTurned (if z then stays else turned_with rules method d (bring terms r 0 d method false)) r2 d2 gone gone') (sym (other-number method d.method other))
+      (given (bring terms r 0 d method false) r1 r2 d1 d2 t s gone gone' same
+      (subst (λ n. HasBrought (bring_of terms r 0 false (slots_between d.method method n)) r1 t s) (sym counts) h) e f k)
+
+  -- without it nothing is
+  pub refuses-turned : (why : RegionFault) → IsRefusal (λ refused. bring_of terms r 0 refused (slots_between d.method method count)) why → IsRefusal (turn rules terms r 0 d method) why
+  refuses-turned why h =
+      subst (λ z. IsRefusal (λ (t : Bool). if z then stays else turned_with rules method d (bring terms r 0 d method t)) why) (sym (other-number method d.method other))
+      (refusal-through (turned_with rules method d) (λ w. refl) (λ (t : Bool). bring terms r 0 d method t) why
+      (subst (λ n. IsRefusal (λ (t : Bool). bring_of terms r 0 t (slots_between d.method method n)) why) (sym counts) h))
+
+-- the present method changes nothing
+pub gives-same : (rules : Rules) (terms : Terms) (method : DictMethod) (r : Region ℕ) (d : Dictionary) (gone : Gone) → method ≡ d.method → GivesTurned (turn rules terms r 0 d method false) r d gone gone
+gives-same rules terms method r d gone e =
+    subst (λ z. GivesTurned (if z then Done (record { region = r; dict = d; gone = []; granted = [] }) else turned_with rules method d (bring terms r 0 d method false)) r d gone gone)
+    (sym (eq-eqb (number_of method) (number_of d.method) (ap number_of e))) (refl, refl, refl)

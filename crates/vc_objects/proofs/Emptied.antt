@@ -1,0 +1,188 @@
+-- How far a dictionary has been emptied, object by object.
+use Rattle.std.proofs.Common.{◌≡◌, ◌≢◌, ℕ, ◌+◌, ◌<◌, ◌≤◌, List, [], ◌∷◌, true, false, map, length, refl, sym, ap, ◌∙◌, subst, inl, inr, arith}
+use Rattle.std.specs.Prelude.{if◌then◌else◌}
+use Rattle.std.proofs.lemmas.Bool.{true≢false, eq-eqb}
+use Rattle.std.proofs.lemmas.Bool.Decides.{eqb_tells}
+use Rattle.vc_base.specs.Cells.{Blocks}
+use Rattle.vc_base.specs.Holders.{contains, some_address}
+use Rattle.vc_model.specs.Discipline.{Discipline}
+use Rattle.vc_dtdisc.specs.Rules.{Gone, Rules, gone_after}
+use Rattle.vc_dtlist.proofs.HolderLemmas.{apart-append, apart-cons, apart-front}
+use Rattle.vc_dtlist.proofs.KeptLemmas.{within-head}
+use Rattle.vc_dict.specs.Listed.{holders_of}
+use Rattle.vc_dict.specs.declared.dict.Dict.{Dict}
+use Rattle.vc_region.specs.Cells.{cells_in, rest_in}
+use Rattle.vc_region.specs.Parts.{disc_in, segments_in}
+use Rattle.vc_region.specs.Region as model
+use Rattle.vc_region.specs.declared.region.Region.{Region}
+use Rattle.vc_objects.specs.Freed.{FreesCell}
+use Rattle.vc_objects.specs.Insert.{freed}
+use Rattle.vc_objects.specs.Leaves.{KeepsDisc, Leaves, LeavesRest, told_each, told_if}
+use Rattle.vc_objects.specs.Lists.{first_object, without_object}
+use Rattle.vc_objects.specs.Objects.{Dictionary, Object, Table, is_best, listed, owned}
+use Rattle.vc_objects.specs.Parts.{IsWhole, dictionary_in, dictionary_of, object_of, table_of}
+use Rattle.vc_objects.specs.Remove.{bytes_of, emptied, freed_all, remove_first}
+use Rattle.vc_objects.proofs.Looking.{KeepsDisc-same}
+use Rattle.vc_objects.proofs.Owning.{owned-within}
+use Rattle.vc_objects.proofs.Taken.{differs, fewer-owned, leaves-self, left-cell}
+
+-- a dictionary with other objects
+abbrev pub with_objects : Dictionary → List Object → Dictionary
+with_objects d os = record { method = d.method; objects = os; current = d.current; table = d.table }
+
+-- the first object goes, and the others are left
+objects-first : (o : Object) (os : List Object) → without_object o.at (o ∷ os) ≡ os
+objects-first o os = ap (λ t. if t then os else o ∷ without_object o.at os) (eq-eqb o.at o.at refl)
+
+first-freed : (r : model.Region ℕ) (d : Dictionary) (os : List Object) → freed_all (remove_first r (with_objects d os)).region (remove_first r (with_objects d os)).dict.objects ≡ freed_all r os
+first-freed r d [] = refl
+first-freed r d (o ∷ os) = ap (λ z. freed_all (freed r o.at) z) (objects-first o os)
+
+first-told : (r : model.Region ℕ) (d : Dictionary) (os : List Object) (gone : Gone) → told_each (bytes_of (remove_first r (with_objects d os)).dict.objects) (told_if true (remove_first r (with_objects d os)).gone gone) ≡ told_each (bytes_of os) gone
+first-told r d [] gone = refl
+first-told r d (o ∷ os) gone = ap (λ z. told_each (bytes_of z) (gone_after gone o.bytes)) (objects-first o os)
+
+first-count : (r : model.Region ℕ) (d : Dictionary) (os : List Object) → 0 < length os → length (remove_first r (with_objects d os)).dict.objects + 1 ≡ length os
+first-count r d [] some = absurd (omega arith)
+first-count r d (o ∷ os) some = let e : length (without_object o.at (o ∷ os)) ≡ length os = ap (λ (z : List Object). length z) (objects-first o os) in omega (arith, e)
+
+first-emptied : (r : model.Region ℕ) (d : Dictionary) (os : List Object) → emptied (remove_first r (with_objects d os)).dict ≡ emptied d
+first-emptied r d [] = refl
+first-emptied r d (o ∷ os) = refl
+
+none_left : (os : List Object) → length os ≡ 0 → os ≡ []
+none_left [] e = refl
+none_left (o ∷ os) e = absurd (omega arith)
+
+-- without objects it is as when it is emptied
+no_holders : (b : Blocks) (xs : List ℕ) → map (object_of b) xs ≡ [] → xs ≡ []
+no_holders b [] e = refl
+no_holders b (x ∷ xs) e = cc
+
+none_current : (c : ℕ) → contains (0 ∷ []) c ≡ true → c ≡ 0
+none_current c h = elim (eqb_tells 0 c) as (λ _. c ≡ 0) [
+  | inl same ↦ sym same.1
+  | inr apart ↦ absurd (true≢false (sym h ∙ apart-cons 0 [] c apart.1 refl))
+]
+
+pub emptied-none : (rules : Rules) (d : Dict) (b : Blocks) → IsWhole rules d b → (dictionary_of d b).objects ≡ [] → dictionary_of d b ≡ emptied (dictionary_of d b)
+emptied-none rules d b whole none =
+    let with : List Object → ℕ → Dictionary = λ os c. record { method = d.method; objects = os; current = some_address c; table = table_of d.table.0 d.slots } in
+    let lone : contains (0 ∷ []) d.current.0 ≡ true = subst (λ z. contains (0 ∷ z) d.current.0 ≡ true) (no_holders b (holders_of d b) none) whole.current in
+    ap (λ os. with os d.current.0) none ∙ ap (λ c. with [] c) (none_current d.current.0 lone)
+
+-- it owns no more then
+pub emptied-fewer : (d : Dictionary) (a : ℕ) → contains (owned d) a ≡ false → contains (owned (emptied d)) a ≡ false
+emptied-fewer d a h =
+    let front = map (λ (t : Table). t.at) (listed d.table) in
+    apart-append front [] a (apart-front front (map (λ (o : Object). o.at) d.objects) a h) refl
+
+-- the terms stay, and the faults have not fallen, over one call after another
+keeps-after : (a b c : Discipline) (s t u : List (ℕ × ℕ)) → KeepsDisc a b s t → KeepsDisc b c t u → KeepsDisc a c s u
+keeps-after a b c s t u first second =
+    let more = first.kept.faults in
+    let most = second.kept.faults in
+    record {
+      kept = record { terms = second.kept.terms ∙ first.kept.terms; faults = omega (arith, more, most) };
+      out = λ rest is. second.out rest (first.out rest is);
+    }
+
+module _ {I : Type 0} {V : I → Type 0} (meaning : (x : I) × V x → Discipline) where
+  -- one call after another, neither of which takes a block
+  pub leaves-after : (r s t : Region I V) (mine mid mine' : List ℕ) → Leaves meaning r s mine mid → Leaves meaning s t mid mine'
+      → ((a : ℕ) → contains mine a ≡ false → contains mid a ≡ false) → ((a : ℕ) → contains mid a ≡ false → contains mine' a ≡ false) → Leaves meaning r t mine mine'
+  leaves-after r s t mine mid mine' first second fewer least = record {
+    best = second.best;
+    disc = keeps-after (disc_in meaning r) (disc_in meaning s) (disc_in meaning t) (segments_in r) (segments_in s) (segments_in t) first.disc second.disc;
+    labelled = second.labelled ∙ first.labelled;
+    others = λ a apart apart'. second.others a (fewer a apart) apart' ∙ first.others a apart (fewer a apart);
+    fresh = λ a within apart. absurd (true≢false (sym within ∙ least a (fewer a apart)));
+  }
+
+  -- the table goes, too
+  pub leaves-table : (r s : Region I V) (d : Dict) → d.table.0 ≢ 0 → FreesCell meaning r d.table.0 s → Leaves meaning r s (owned (dictionary_in d r)) []
+  leaves-table r s d ne free = record {
+    best = free.best;
+    disc = KeepsDisc-same (disc_in meaning r) (disc_in meaning s) (segments_in r) (segments_in s) free.disc free.segments;
+    labelled = free.labelled;
+    others = λ a apart _.
+        let own : contains (owned (dictionary_in d r)) d.table.0 ≡ true = owned-within d (cells_in r) d.table.0 ne ∙ within-head d.table.0 (holders_of d (cells_in r)) in
+        ap (λ (f : Blocks). f a) free.cells ∙ left-cell (cells_in r) d.table.0 a (differs (owned (dictionary_in d r)) d.table.0 a own apart);
+    fresh = λ a within _. absurd (true≢false (sym within));
+  }
+
+  pub leaves-none : (r : Region I V) (mine : List ℕ) → is_best (rest_in r) ≡ true → Leaves meaning r r mine []
+  leaves-none r mine best = record {
+    best = best;
+    disc = KeepsDisc-same (disc_in meaning r) (disc_in meaning r) (segments_in r) (segments_in r) refl refl;
+    labelled = refl;
+    others = λ a _ _. refl;
+    fresh = λ a within _. absurd (true≢false (sym within));
+  }
+
+-- so many objects were taken out, and the others are left
+pub record Emptying {I : Type 0} {V : I → Type 0} (meaning : (x : I) × V x → Discipline) (rules : Rules) (before : Region I V) (old : Dict) (gone : Gone) (passed : ℕ) (after : Region I V) (new : Dict) (told : Gone) : Type 0 where
+  pub count : passed + length (dictionary_in new after).objects ≡ length (dictionary_in old before).objects
+  pub region : freed_all (rest_in after) (dictionary_in new after).objects ≡ freed_all (rest_in before) (dictionary_in old before).objects
+  pub dict : emptied (dictionary_in new after) ≡ emptied (dictionary_in old before)
+  pub leaves : LeavesRest meaning rules before old after new
+  pub fewer : (a : ℕ) → contains (owned (dictionary_in old before)) a ≡ false → contains (owned (dictionary_in new after)) a ≡ false
+  pub tells : told_each (bytes_of (dictionary_in new after).objects) told ≡ told_each (bytes_of (dictionary_in old before).objects) gone
+
+module _ {I : Type 0} {V : I → Type 0} (meaning : (x : I) × V x → Discipline) (rules : Rules) (before : Region I V) (old : Dict) (gone : Gone) where
+  pub emptying-start : is_best (rest_in before) ≡ true → IsWhole rules old (cells_in before) → Emptying meaning rules before old gone 0 before old gone
+  emptying-start best whole = record {
+    count = omega arith;
+    region = refl;
+    dict = refl;
+    leaves = leaves-self meaning rules before old best whole;
+    fewer = λ a h. h;
+    tells = refl;
+  }
+
+  module _ (passed : ℕ) (mid : Region I V) (dict : Dict) (told : Gone) (e : Emptying meaning rules before old gone passed mid dict told) where
+    -- one more goes
+    pub emptying-next : (rules' : Rules) (after : Region I V) (new : Dict) (told' : Gone) → rules' ≡ rules → passed < length (dictionary_in old before).objects → rest_in after ≡ (remove_first (rest_in mid) (dictionary_in dict mid)).region
+        → dictionary_in new after ≡ (remove_first (rest_in mid) (dictionary_in dict mid)).dict → LeavesRest meaning rules' mid dict after new → told' ≡ told_if true (remove_first (rest_in mid) (dictionary_in dict mid)).gone told
+        → Emptying meaning rules before old gone (passed + 1) after new told'
+    emptying-next rules' after new told' same more region dict' leaves' tells =
+        let r = rest_in mid in
+        let d = dictionary_in dict mid in
+        let next = remove_first r d in
+        let leaves : LeavesRest meaning rules mid dict after new = subst (λ z. LeavesRest meaning z mid dict after new) same leaves' in
+        let shorter : length next.dict.objects + 1 ≡ length d.objects = first-count r d d.objects (let c = e.count in omega (arith, c)) in
+        let as_long : length (dictionary_in new after).objects ≡ length next.dict.objects = ap (λ (z : Dictionary). length z.objects) dict' in
+        let fewer : (a : ℕ) → contains (owned d) a ≡ false → contains (owned (dictionary_in new after)) a ≡ false =
+        λ a h. ap (λ (z : Dictionary). contains (owned z) a) dict' ∙ fewer-owned r d (first_object d.objects) a h in
+        let c = e.count in
+        record {
+          count = omega (arith, c, shorter, as_long);
+          region =
+              ap (λ z. freed_all z (dictionary_in new after).objects) region ∙ ap (λ (z : Dictionary). freed_all next.region z.objects) dict'
+              ∙ first-freed r d d.objects ∙ e.region;
+          dict = ap (λ (z : Dictionary). emptied z) dict' ∙ first-emptied r d d.objects ∙ e.dict;
+          leaves = record {
+            whole = leaves.whole;
+            kind = leaves.kind ∙ e.leaves.kind;
+            rest = leaves-after meaning before mid after (owned (dictionary_in old before)) (owned d) (owned (dictionary_in new after)) e.leaves.rest leaves.rest e.fewer fewer;
+          };
+          fewer = λ a h. fewer a (e.fewer a h);
+          tells =
+              ap (λ z. told_each (bytes_of (dictionary_in new after).objects) z) tells
+              ∙ ap (λ (z : Dictionary). told_each (bytes_of z.objects) (told_if true next.gone told)) dict'
+              ∙ first-told r d d.objects told ∙ e.tells;
+        }
+
+    -- all are gone
+    module _ (all : length (dictionary_in old before).objects ≤ passed) where
+      none : (dictionary_in dict mid).objects ≡ []
+      none = none_left (dictionary_in dict mid).objects (let c = e.count in omega (arith, c, all))
+
+      pub emptying-region : rest_in mid ≡ freed_all (rest_in before) (dictionary_in old before).objects
+      emptying-region = sym (ap (λ os. freed_all (rest_in mid) os) none) ∙ e.region
+
+      pub emptying-dict : dictionary_in dict mid ≡ emptied (dictionary_in old before)
+      emptying-dict = emptied-none rules dict (cells_in mid) e.leaves.whole none ∙ e.dict
+
+      pub emptying-told : told ≡ told_each (bytes_of (dictionary_in old before).objects) gone
+      emptying-told = sym (ap (λ os. told_each (bytes_of os) told) none) ∙ e.tells

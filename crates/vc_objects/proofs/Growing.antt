@@ -1,0 +1,124 @@
+-- Which table is wanted, and what there is once a set or bag has it.
+use Rattle.std.proofs.Common.{◌≡◌, ◌≢◌, ℕ, suc, ◌+◌, ◌*◌, ◌^◌, ◌<◌, ◌≤◌, Bool, true, false, List, Option, Some, None, inl, inr, map, length, refl, sym, ap, ◌∙◌, subst, arith, pow-suc}
+use Rattle.std.specs.Prelude.{◌==◌, ◌&&◌, nat_lt, if◌then◌else◌}
+use Rattle.std.proofs.Math.Pow.{pow_mono}
+use Rattle.std.proofs.lemmas.Bool.{cases_lt, le-ltb, ltb-true, ne_eqb}
+use Rattle.std.proofs.lemmas.Bool.Decides.{eqb_tells}
+use Rattle.std.proofs.lemmas.List.{length-map}
+use Rattle.std.proofs.lemmas.Option.{none-some, same_Some}
+use Rattle.vc_base.specs.Cells.{Blocks}
+use Rattle.vc_dtdisc.specs.Rules.{Rules}
+use Rattle.vc_dthash.specs.Slots.{IsSlots, most_slots, slots_for, wanted}
+use Rattle.vc_dict.specs.Listed.{holders_of}
+use Rattle.vc_dict.specs.Methods.{has_table, wanted_by}
+use Rattle.vc_dict.specs.Stands.{Stands}
+use Rattle.vc_dict.specs.declared.dict.Dict.{Dict}
+use Rattle.vc_dict.proofs.OwnLemmas.{holders-told}
+use Rattle.vc_objects.specs.Insert.{slots_wanted}
+use Rattle.vc_objects.specs.Objects.{slots_of}
+use Rattle.vc_objects.specs.Parts.{CanGrow, IsWhole, dictionary_of, object_of, table_of}
+
+-- the slots of a dictionary's table are those that its heads tell
+slots-told : (at slots : ℕ) → (at ≡ 0 → slots ≡ 0) → slots_of (table_of at slots) ≡ slots
+slots-told at slots none =
+    let by : Bool → ℕ = λ t. slots_of (if t then None else Some (record { at = at; slots = slots })) in
+    elim (eqb_tells at 0) as (λ _. by (at == 0) ≡ slots) [
+      | inl same ↦ ap by same.0 ∙ sym (none same.1)
+      | inr apart ↦ ap by apart.0
+    ]
+
+-- what a dictionary wants is what its heads want
+pub wanted-told : (rules : Rules) (d : Dict) (b : Blocks) (xs : List ℕ) → Stands rules d b xs → slots_wanted (dictionary_of d b) ≡ wanted_by d.method d.slots d.count 1
+wanted-told rules d b xs s =
+    ap (λ slots. wanted_by d.method slots (length (map (object_of b) (holders_of d b))) 1) (slots-told d.table.0 d.slots s.table.none)
+    ∙ ap (λ count. wanted_by d.method d.slots count 1) (length-map (holders_of d b) (object_of b) ∙ (ap length (holders-told rules d b xs s) ∙ sym s.count))
+
+by_grow : (p q : Bool) (m n : ℕ) → (if p && q then Some m else None) ≡ Some n → (n ≡ m) × (q ≡ true)
+by_grow true true m n e = (sym (same_Some m n e), refl)
+by_grow true false m n e = absurd (none-some n e)
+by_grow false q m n e = absurd (none-some n e)
+
+by_table : (t : Bool) (o : Option ℕ) (n : ℕ) → (if t then o else None) ≡ Some n → (t ≡ true) × (o ≡ Some n)
+by_table true o n e = (refl, e)
+by_table false o n e = absurd (none-some n e)
+
+-- a table that has too few slots gets twice as many
+doubles : (slots count n : ℕ) → slots ≢ 0 → wanted slots count 1 ≡ Some n → (n ≡ 2 * slots) × (slots < most_slots)
+doubles slots count n ne e =
+    let more = if nat_lt (2 * slots) (count + 1) && nat_lt slots most_slots then Some (2 * slots) else None in
+    let h = by_grow (nat_lt (2 * slots) (count + 1)) (nat_lt slots most_slots) (2 * slots) n (sym (ap (λ t. if t then Some (slots_for 1) else more) (ne_eqb slots 0 ne)) ∙ e) in
+    (h.0, ltb-true slots most_slots h.1)
+
+-- and these are enough
+enough-slots : (n count : ℕ) → n ≢ 0 → count + 1 ≤ 2 * n → wanted n count 1 ≡ None
+enough-slots n count ne h =
+    let more = if nat_lt (2 * n) (count + 1) && nat_lt n most_slots then Some (2 * n) else None in
+    ap (λ t. if t then Some (slots_for 1) else more) (ne_eqb n 0 ne)
+    ∙ ap (λ t. if t && nat_lt n most_slots then Some (2 * n) else None) (le-ltb (2 * n) (count + 1) h)
+
+some-slots : (slots : ℕ) → IsSlots slots → 1 ≤ slots
+some-slots slots is =
+    let p : 2 ^ 0 ≤ 2 ^ is.doublings = pow_mono {i = 0} {j = is.doublings} (omega arith) in
+    let value = is.value in
+    omega (arith, p, value)
+
+pub most-of : (slots : ℕ) → IsSlots slots → slots ≤ 2097152
+most-of slots is =
+    let p : 2 ^ is.doublings ≤ 2 ^ 17 = pow_mono {i = is.doublings} {j = 17} is.few in
+    let value = is.value in
+    omega (arith, p, value)
+
+few-doublings : (slots : ℕ) (is : IsSlots slots) → slots < most_slots → is.doublings + 1 ≤ 17
+few-doublings slots is small = elim (cases_lt is.doublings 17) as (λ _. is.doublings + 1 ≤ 17) [
+  | inl less ↦ omega (arith, less)
+  | inr more ↦
+      let p : 2 ^ 17 ≤ 2 ^ is.doublings = pow_mono {i = 17} {j = is.doublings} more in
+      let value = is.value in
+      absurd (omega (arith, p, value, small))
+]
+
+doubled-slots : (slots : ℕ) → IsSlots slots → slots < most_slots → IsSlots (2 * slots)
+doubled-slots slots is small =
+    let value = is.value in
+    let more = pow-suc 2 is.doublings in
+    let few = few-doublings slots is small in
+    record { doublings = suc is.doublings; few = omega (arith, few); value = omega (arith, value, more) }
+
+-- where slots are wanted a set or bag can get a table of these, and then none are wanted
+module _ (rules : Rules) (d : Dict) (b : Blocks) (n : ℕ) (whole : IsWhole rules d b) (wants : wanted_by d.method d.slots d.count 1 ≡ Some n) where
+  grows : (n ≡ 2 * d.slots) × (d.slots < most_slots)
+  grows =
+      let by = by_table (has_table d.method) (wanted d.slots d.count 1) n wants in
+      let t = whole.stands.table.some (whole.table by.0) in
+      let some = some-slots d.slots t.slots_allowed in
+      doubles d.slots d.count n (λ e. let z = e in omega (arith, some, z)) by.1
+
+  pub can-grow : CanGrow rules d b n
+  can-grow =
+      let by = by_table (has_table d.method) (wanted d.slots d.count 1) n wants in
+      let t = whole.stands.table.some (whole.table by.0) in
+      let fits = t.enough grows.1 in
+      record {
+        stands = whole.stands;
+        current = whole.current;
+        objects = whole.objects;
+        method = by.0;
+        allowed = subst IsSlots (sym grows.0) (doubled-slots d.slots t.slots_allowed grows.1);
+        enough = λ few. let twice = grows.0 in omega (arith, fits, twice);
+      }
+
+  pub no-more : wanted n d.count 1 ≡ None
+  no-more =
+      let by = by_table (has_table d.method) (wanted d.slots d.count 1) n wants in
+      let t = whole.stands.table.some (whole.table by.0) in
+      let some = some-slots d.slots t.slots_allowed in
+      let fits = t.enough grows.1 in
+      let twice = grows.0 in
+      let count = whole.stands.count in
+      enough-slots n d.count (λ e. let z = e in omega (arith, some, z, twice)) (omega (arith, some, fits, twice, count))
+
+  pub no-more-told : wanted_by d.method n (length (dictionary_of d b).objects) 1 ≡ None
+  no-more-told =
+      let by = by_table (has_table d.method) (wanted d.slots d.count 1) n wants in
+      ap (λ count. wanted_by d.method n count 1) (length-map (holders_of d b) (object_of b) ∙ sym whole.stands.count)
+      ∙ (ap (λ t. if t then wanted n d.count 1 else None) by.0 ∙ no-more)

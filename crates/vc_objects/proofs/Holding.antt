@@ -1,0 +1,213 @@
+-- A holder is put, and joins a dictionary.
+use Rattle.std.proofs.Common.{◌≡◌, ◌≢◌, ℕ, ◌+◌, Bool, true, false, List, [], ◌∷◌, Some, None, inl, inr, is_some, length, map, drop, replicate, unwrap_or, refl, sym, ap, ◌∙◌, subst, arith, ⊎_elim}
+use Rattle.std.specs.Prelude.{IsSome}
+use Rattle.std.specs.List.{AllByRecursion}
+use Rattle.std.proofs.lemmas.Bool.{cases_Bool, true≢false}
+use Rattle.std.proofs.lemmas.Bool.Decides.{eqb_tells}
+use Rattle.std.proofs.lemmas.List.{length-drop, length-replicate, take_all}
+use Rattle.vc_base.specs.declared.addr.Addr.{Addr}
+use Rattle.vc_base.specs.Cells.{Blocks, HasBytes, IsAddress, IsHolder, body_of, bytes_at, put, with_body}
+use Rattle.vc_base.specs.Holders.{contains, some_address}
+use Rattle.vc_base.proofs.CellsLemmas.{length-with_bytes, put_other, put_same, window_same}
+use Rattle.vc_model.specs.Bytes.{with_bytes}
+use Rattle.vc_dtdisc.specs.Finds.{find_key, object_at}
+use Rattle.vc_dtdisc.specs.Rules.{IsObject, Rules}
+use Rattle.vc_dtlist.proofs.HolderLemmas.{apart-cons}
+use Rattle.vc_dtlist.proofs.KeptLemmas.{within-tail}
+use Rattle.vc_dict.specs.Changes as changes
+use Rattle.vc_dict.specs.Listed.{holders_of}
+use Rattle.vc_dict.specs.Methods.{has_table, is_list, is_set}
+use Rattle.vc_dict.specs.Stands.{Became, CanLink, Stands}
+use Rattle.vc_dict.specs.declared.dict.Dict.{Dict}
+use Rattle.vc_dict.proofs.CurrentLemmas.{apart-linked, within-linked}
+use Rattle.vc_dict.proofs.OwnLemmas.{Stands-own, holder-there, holders-told, table-apart}
+use Rattle.vc_objects.specs.Insert.{slots_wanted, with_object}
+use Rattle.vc_objects.specs.Lists.{first_with, linked}
+use Rattle.vc_objects.specs.Objects.{Object, owned}
+use Rattle.vc_objects.specs.Parts.{IsWhole, dictionary_of, object_of, table_of}
+use Rattle.vc_objects.proofs.Addresses.{all-objects, apart-holders, apart-owned, apart-table, each-object, objects-same}
+use Rattle.vc_objects.proofs.Adopting.{same-dictionary}
+use Rattle.vc_objects.proofs.Growing.{wanted-told}
+use Rattle.vc_objects.proofs.Mapped.{first_with-mapped, linked-mapped, none-mapped}
+
+-- a body that is written whole is read back
+body-written : (body bytes : List ℕ) → length body + 32 ≡ length bytes → drop 32 (with_bytes 32 body bytes) ≡ body
+body-written body bytes long =
+    let same = length-with_bytes 32 body bytes (omega (arith, long)) in
+    let rest : length (drop 32 (with_bytes 32 body bytes)) ≡ length body = length-drop 32 (with_bytes 32 body bytes) ∙ omega (arith, long, same) in
+    sym (take_all (length body) (drop 32 (with_bytes 32 body bytes)) (omega (arith, rest))) ∙ window_same 32 body bytes (omega (arith, long))
+
+module _ (rules : Rules) (d0 : Dict) (B0 B1 B2 : Blocks) (at : ℕ) (bytes : List ℕ) (whole : IsWhole rules d0 B0) (fresh : B0 at ≡ None) (address : IsAddress at) (object : IsObject bytes)
+    (placed : B1 ≡ put at (replicate (32 + length bytes) 0) B0) (written : B2 ≡ with_body at bytes B1) where
+  abbrev hs : List ℕ
+  hs = holders_of d0 B0
+
+  abbrev zeros : List ℕ
+  zeros = replicate (32 + length bytes) 0
+
+  shows : B1 at ≡ Some zeros
+  shows = ap (λ (f : Blocks). f at) placed ∙ put_same at zeros B0
+
+  long : length bytes + 32 ≡ length (bytes_at B1 at)
+  long =
+      let zeroes : length zeros ≡ 32 + length bytes = length-replicate (32 + length bytes) 0 in
+      let is : length (bytes_at B1 at) ≡ length zeros = ap (λ o. length (unwrap_or o [])) shows in
+      omega (arith, zeroes, is)
+
+  -- the block has room for four words, and for the object behind them
+  pub body-place : HasBytes B1 at 32
+  body-place = let is = long in record { there = ap is_some shows; enough = omega (arith, is) }
+
+  pub body-length : length bytes + 32 ≡ length (bytes_at B1 at)
+  body-length = long
+
+  shows-body : B2 at ≡ Some (with_bytes 32 bytes (bytes_at B1 at))
+  shows-body = ap (λ (f : Blocks). f at) written ∙ put_same at (with_bytes 32 bytes (bytes_at B1 at)) B1
+
+  object-put : object_at B2 at ≡ bytes
+  object-put = ap (λ o. body_of (unwrap_or o [])) shows-body ∙ body-written bytes (bytes_at B1 at) long
+
+  kept : (a : ℕ) → a ≢ at → B2 a ≡ B0 a
+  kept a ne =
+      ap (λ (f : Blocks). f a) written
+      ∙ (put_other a at (with_bytes 32 bytes (bytes_at B1 at)) B1 ne
+      ∙ (ap (λ (f : Blocks). f a) placed ∙ put_other a at zeros B0 ne))
+
+  -- it is another one than those of the dictionary
+  cell-apart : (a : ℕ) → IsSome (B0 a) → a ≢ at
+  cell-apart a h e = true≢false (sym h ∙ ap is_some (ap B0 e ∙ fresh))
+
+  holder-apart : (a : ℕ) → contains hs a ≡ true → a ≢ at
+  holder-apart a h = cell-apart a (holder-there rules d0 B0 hs a whole.stands h).there
+
+  none-there : contains hs at ≡ false
+  none-there =
+      ⊎_elim
+      (λ (within : contains hs at ≡ true). absurd (holder-apart at within refl))
+      (λ (apart : contains hs at ≡ false). apart)
+      (cases_Bool (contains hs at))
+
+  other-table : d0.table.0 ≢ at
+  other-table = elim (eqb_tells d0.table.0 0) as (λ _. d0.table.0 ≢ at) [
+    | inl same ↦ λ e. let some = address.some in let z = same.1 in omega (arith, e, some, z)
+    | inr apart ↦ cell-apart d0.table.0 (whole.stands.table.some apart.1).there
+  ]
+
+  own-apart : (a : ℕ) → contains (d0.table.0 ∷ hs) a ≡ true → a ≢ at
+  own-apart a w = elim (eqb_tells d0.table.0 a) as (λ _. a ≢ at) [
+    | inl same ↦ λ e. other-table (same.1 ∙ e)
+    | inr apart ↦ holder-apart a (rw apart.0 at w)
+  ]
+
+  pub stands-put : Stands rules d0 B2 (holders_of d0 B0)
+  stands-put = Stands-own rules d0 B0 B2 hs (λ a some w. kept a (own-apart a w)) whole.stands
+
+  objects-put : map (object_of B2) hs ≡ map (object_of B0) hs
+  objects-put = objects-same B0 B2 hs (λ a w. ap (λ o. body_of (unwrap_or o [])) (kept a (holder-apart a w)))
+
+  holder : IsHolder B2 at
+  holder =
+      let least = object.least in
+      let is = long in
+      let same : length (bytes_at B2 at) ≡ length (bytes_at B1 at) = ap (λ o. length (unwrap_or o [])) shows-body ∙ length-with_bytes 32 bytes (bytes_at B1 at) (omega (arith, is)) in
+      record { there = ap is_some shows-body; enough = omega (arith, same, is, least) }
+
+  pub can-link : (append : Bool) → slots_wanted (dictionary_of d0 B0) ≡ None
+      → (is_set d0.method ≡ true → first_with rules (rules.key bytes) (dictionary_of d0 B0).objects ≡ None)
+      → (append ≡ true → is_list d0.method ≡ true) → CanLink rules d0 B2 at append
+  can-link append room lone list = record {
+    holders = hs;
+    stands = stands-put;
+    apart = apart-cons d0.table.0 hs at other-table none-there;
+    holder = holder;
+    current = whole.current;
+    room = sym (wanted-told rules d0 B0 hs whole.stands) ∙ room;
+    lone = λ set.
+        none-mapped B2 (find_key rules B2 (rules.key (object_at B2 at)) hs)
+        (sym (first_with-mapped B2 rules (rules.key (object_at B2 at)) hs)
+        ∙ (ap (λ key. first_with rules (rules.key key) (map (object_of B2) hs)) object-put
+        ∙ (ap (first_with rules (rules.key bytes)) objects-put ∙ lone set)));
+    list = list;
+  }
+
+  module _ (append : Bool) (d1 : Dict) (B3 : Blocks) (became : Became rules (at ∷ hs) d0 B2 d1 B3 (changes.linked append d0.method rules B2 d0.current.0 at hs) at) where
+    abbrev ys : List ℕ
+    ys = changes.linked append d0.method rules B2 d0.current.0 at hs
+
+    told : holders_of d1 B3 ≡ ys
+    told = holders-told rules d1 B3 ys became.stands
+
+    one-of : (a : ℕ) → at ≢ a → contains ys a ≡ true → contains hs a ≡ true
+    one-of a ne w =
+        ⊎_elim
+        (λ (within : contains hs a ≡ true). within)
+        (λ (apart : contains hs a ≡ false). absurd (true≢false (sym w ∙ apart-linked append d0.method rules B2 d0.current.0 at hs a ne apart)))
+        (cases_Bool (contains hs a))
+
+    no-table : contains ys d0.table.0 ≡ false
+    no-table = apart-linked append d0.method rules B2 d0.current.0 at hs d0.table.0 (λ e. other-table (sym e)) (table-apart rules d0 B0 hs whole.stands)
+
+    body-kept : (a : ℕ) → contains ys a ≡ true → object_at B3 a ≡ object_at B2 a
+    body-kept a w = became.keeps.bodies a (apart-cons d0.table.0 [] a (λ e. true≢false (sym (ap (contains ys) e ∙ w) ∙ no-table)) refl)
+
+    objects-linked : map (object_of B3) (holders_of d1 B3) ≡ linked append d0.method rules (some_address d0.current.0) (record { at = at; bytes = bytes }) (map (object_of B0) hs)
+    objects-linked =
+        let put_in : Object → List Object → List Object = linked append d0.method rules (some_address d0.current.0) in
+        ap (map (object_of B3)) told
+        ∙ (objects-same B2 B3 ys body-kept
+        ∙ (sym (linked-mapped B2 append d0.method rules d0.current.0 at hs)
+        ∙ (ap (λ o. put_in (record { at = at; bytes = o }) (map (object_of B2) hs)) object-put
+        ∙ ap (put_in (record { at = at; bytes = bytes })) objects-put)))
+
+    pub dictionary-held : dictionary_of d1 B3 ≡ with_object rules append bytes (dictionary_of d0 B0) at
+    dictionary-held =
+        same-dictionary d1.method d0.method (map (object_of B3) (holders_of d1 B3)) (linked append d0.method rules (some_address d0.current.0) (record { at = at; bytes = bytes }) (map (object_of B0) hs))
+        (some_address d1.current.0) (Some at) (table_of d1.table.0 d1.slots) (table_of d0.table.0 d0.slots)
+        became.method objects-linked (ap some_address became.current ∙ some)
+        (ap (λ (t : Addr). table_of t.0 d1.slots) became.table ∙ ap (table_of d0.table.0) became.slots)
+      where
+        some : some_address at ≡ Some at
+        some = elim (eqb_tells at 0) as (λ _. some_address at ≡ Some at) [
+          | inl same ↦ let is = address.some in let z = same.1 in absurd (omega (arith, is, z))
+          | inr apart ↦ rw apart.0 refl
+        ]
+
+    pub whole-held : IsWhole rules d1 B3
+    whole-held = record {
+      stands = subst (λ xs. Stands rules d1 B3 xs) (sym told) became.stands;
+      current =
+          ap (λ xs. contains (0 ∷ xs) d1.current.0) told
+          ∙ (ap (contains (0 ∷ ys)) became.current ∙ within-tail 0 ys at (within-linked append d0.method rules B2 d0.current.0 at hs));
+      table = λ has e. whole.table (sym (ap has_table became.method) ∙ has) (sym (ap (λ (t : Addr). t.0) became.table) ∙ e);
+      objects =
+          subst (λ xs. AllByRecursion (λ o. IsObject o.bytes) (map (object_of B3) xs)) (sym told)
+          (all-objects IsObject B3 ys (λ a w. subst IsObject (sym (body-kept a w)) (elim (eqb_tells at a) as (λ _. IsObject (object_at B2 a)) [
+            | inl same ↦ subst (λ n. IsObject (object_at B2 n)) same.1 (subst IsObject (sym object-put) object)
+            | inr apart ↦
+                let within = one-of a apart.1 w in
+                subst IsObject (sym (ap (λ o. body_of (unwrap_or o [])) (kept a (holder-apart a within)))) (each-object IsObject B0 hs whole.objects a within)
+          ])));
+    }
+
+    pub others-held : B3 0 ≡ None → B0 0 ≡ None → (a : ℕ) → contains (owned (dictionary_of d0 B0)) a ≡ false → contains (owned (dictionary_of d1 B3)) a ≡ false → B3 a ≡ B0 a
+    others-held none none' a old new = elim (eqb_tells a 0) as (λ _. B3 a ≡ B0 a) [
+      | inl same ↦ subst (λ n. B3 n ≡ B0 n) (sym same.1) (none ∙ sym none')
+      | inr some ↦
+          let table : d0.table.0 ≢ a = apart-table d0 B0 a some.1 old in
+          let holders = apart-holders d0 B0 a old in
+          let gone : contains ys a ≡ false = ap (λ xs. contains xs a) (sym told) ∙ apart-holders d1 B3 a new in
+          let ne : at ≢ a = λ e. true≢false (sym (within-linked append d0.method rules B2 d0.current.0 at hs) ∙ (ap (contains ys) e ∙ gone)) in
+          became.keeps.others a (apart-cons d0.table.0 [] a table refl) (apart-cons at hs a ne holders) ∙ kept a (λ e. ne (sym e))
+    ]
+
+    pub fresh-held : (a : ℕ) → contains (owned (dictionary_of d1 B3)) a ≡ true → contains (owned (dictionary_of d0 B0)) a ≡ false → B0 a ≡ None
+    fresh-held a new old = elim (eqb_tells at a) as (λ _. B0 a ≡ None) [
+      | inl same ↦ subst (λ n. B0 n ≡ None) same.1 fresh
+      | inr apart ↦
+          absurd (true≢false (sym new ∙ apart-owned d1 B3 a (no-longer a old) (ap (λ xs. contains xs a) told ∙ apart-linked append d0.method rules B2 d0.current.0 at hs a apart.1 (apart-holders d0 B0 a old))))
+    ]
+      where
+        no-longer : (a : ℕ) → contains (owned (dictionary_of d0 B0)) a ≡ false → d1.table.0 ≢ 0 → d1.table.0 ≢ a
+        no-longer a old some e =
+            let same : d1.table.0 ≡ d0.table.0 = ap (λ (t : Addr). t.0) became.table in
+            apart-table d0 B0 a (λ z. some (e ∙ z)) old (sym same ∙ e)

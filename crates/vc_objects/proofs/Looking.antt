@@ -1,0 +1,130 @@
+-- What a dictionary stands for, and what a call that changes none of it leaves.
+use Rattle.std.proofs.Common.{◌≡◌, ◌≢◌, ℕ, List, [], ◌∷◌, ◌++◌, true, false, Option, Some, None, IsSome, map, refl, sym, ap, ◌∙◌, subst, inl, inr, arith}
+use Rattle.std.specs.List.{AllByRecursion}
+use Rattle.std.proofs.lemmas.Bool.{true≢false}
+use Rattle.std.proofs.lemmas.Bool.Decides.{eqb_tells}
+use Rattle.vc_base.specs.declared.dict_method.DictMethod.{DictMethod}
+use Rattle.vc_base.specs.Cells.{Blocks}
+use Rattle.vc_base.specs.Holders.{contains, some_address}
+use Rattle.vc_model.specs.Discipline.{Discipline}
+use Rattle.vc_dtdisc.specs.Rules.{IsObject, Rules}
+use Rattle.vc_dtlist.proofs.HolderLemmas.{apart-cons, apart-head, apart-tail}
+use Rattle.vc_dict.specs.Listed.{holders_of}
+use Rattle.vc_dict.specs.Methods.{has_table}
+use Rattle.vc_dict.specs.Stands.{Became, Stands}
+use Rattle.vc_dict.specs.declared.dict.Dict.{Dict}
+use Rattle.vc_dict.proofs.OwnLemmas.{holders-told, table-apart}
+use Rattle.vc_region.specs.CellLaws.{cells-addresses}
+use Rattle.vc_region.specs.Cells.{StaysButCells, cells_in, labelled, rest_in}
+use Rattle.vc_region.specs.Parts.{boxed, disc_in, region_of, segments_in}
+use Rattle.vc_region.specs.Region as model
+use Rattle.vc_region.specs.declared.region.Region.{Region}
+use Rattle.vc_region.proofs.Rest.{rest-segments}
+use Rattle.vc_objects.specs.Leaves.{KeepsDisc, Looks}
+use Rattle.vc_objects.specs.Objects.{Dictionary, Object, is_best, owned}
+use Rattle.vc_objects.specs.Parts.{IsWhole, dictionary_in, dictionary_of, object_of, table_of}
+use Rattle.vc_objects.proofs.Mapped.{addresses-mapped, objects-kept}
+use Rattle.vc_objects.proofs.Owning.{owned-within}
+
+-- a dictionary by its parts
+abbrev pub dictionary : DictMethod → List Object → ℕ → ℕ → ℕ → Dictionary
+dictionary method objects current table slots = record { method = method; objects = objects; current = some_address current; table = table_of table slots }
+
+pub dictionary-same : (m m' : DictMethod) (os os' : List Object) (c c' t t' s s' : ℕ) → m ≡ m' → os ≡ os' → c ≡ c' → t ≡ t' → s ≡ s' → dictionary m os c t s ≡ dictionary m' os' c' t' s'
+dictionary-same m m' os os' c c' t t' s s' e f g h i =
+    ap (λ z. dictionary z os c t s) e ∙ ap (λ z. dictionary m' z c t s) f ∙ ap (λ z. dictionary m' os' z t s) g ∙ ap (λ z. dictionary m' os' c' z s) h ∙ ap (λ z. dictionary m' os' c' t' z) i
+
+-- the dictionary that stands for these holders
+pub dictionary-told : (rules : Rules) (d : Dict) (b : Blocks) (xs : List ℕ) → Stands rules d b xs → dictionary_of d b ≡ dictionary d.method (map (object_of b) xs) d.current.0 d.table.0 d.slots
+dictionary-told rules d b xs s = ap (λ z. dictionary d.method (map (object_of b) z) d.current.0 d.table.0 d.slots) (holders-told rules d b xs s)
+
+-- it is whole where it stands for these holders and the rest holds of them
+pub IsWhole-told : (rules : Rules) (d : Dict) (b : Blocks) (xs : List ℕ) → Stands rules d b xs → contains (0 ∷ xs) d.current.0 ≡ true → (has_table d.method ≡ true → d.table.0 ≢ 0) → AllByRecursion (λ o. IsObject o.bytes) (map (object_of b) xs) → IsWhole rules d b
+IsWhole-told rules d b xs s current table objects =
+    let told : xs ≡ holders_of d b = sym (holders-told rules d b xs s) in
+    record {
+      stands = subst (λ z. Stands rules d b z) told s;
+      current = subst (λ z. contains (0 ∷ z) d.current.0 ≡ true) told current;
+      table = table;
+      objects = subst (λ z. AllByRecursion (λ o. IsObject o.bytes) (map (object_of b) z)) told objects;
+    }
+
+-- each of the holders is apart from the table
+pub apart-table : (rules : Rules) (d : Dict) (b : Blocks) (xs : List ℕ) (a : ℕ) → Stands rules d b xs → contains xs a ≡ true → contains (d.table.0 ∷ []) a ≡ false
+apart-table rules d b xs a s w =
+    apart-cons d.table.0 [] a (λ e. true≢false (sym w ∙ ap (λ z. contains xs z) (sym e) ∙ table-apart rules d b xs s)) refl
+
+-- no cell stands at 0
+none_by : (o : Option (List ℕ)) → (IsSome o → ⊥) → o ≡ None
+none_by None h = refl
+none_by (Some x) h = absurd (h refl)
+
+pub no-cell-zero : {I : Type 0} {V : I → Type 0} (r : Region I V) → cells_in r 0 ≡ None
+no-cell-zero r = none_by (cells_in r 0) (λ h. let some = (cells-addresses r 0 h).some in absurd (omega arith))
+
+-- what stays but for cells has its segments and its discipline still
+pub segments-stay : {I : Type 0} {V : I → Type 0} (old new : Region I V) → rest_in new ≡ rest_in old → segments_in new ≡ segments_in old
+segments-stay old new e = sym (rest-segments (region_of new)) ∙ ap model.segments_of e ∙ rest-segments (region_of old)
+
+pub KeepsDisc-same : (old new : Discipline) (segments segments' : List (ℕ × ℕ)) → new ≡ old → segments' ≡ segments → KeepsDisc old new segments segments'
+KeepsDisc-same old new segments segments' e f = record {
+  kept = record { terms = ap (λ d. d.terms) e; faults = let h = ap (λ d. d.faults) e in omega arith };
+  out = λ rest h. ap (λ d. d.out) e ∙ h ∙ ap (λ z. rest ++ z) (sym f);
+}
+
+module _ {I : Type 0} {V : I → Type 0} (meaning : (x : I) × V x → Discipline) (rules : Rules) (before after : Region I V) (old new : Dict) (best : is_best (rest_in before) ≡ true) (whole : IsWhole rules old (cells_in before))
+    (t : Became rules (holders_of old (cells_in before)) old (cells_in before) new (cells_in after) (holders_of old (cells_in before)) old.current.0) (stays : StaysButCells before after) where
+  same-objects : map (object_of (cells_in after)) (holders_of old (cells_in before)) ≡ map (object_of (cells_in before)) (holders_of old (cells_in before))
+  same-objects =
+      objects-kept (cells_in before) (cells_in after) (holders_of old (cells_in before))
+      (λ a w. t.keeps.bodies a (apart-table rules old (cells_in before) (holders_of old (cells_in before)) a whole.stands w))
+
+  same-dictionary : dictionary_in new after ≡ dictionary_in old before
+  same-dictionary =
+      let xs = holders_of old (cells_in before) in
+      dictionary-told rules new (cells_in after) xs t.stands
+      ∙ dictionary-same new.method old.method (map (object_of (cells_in after)) xs) (map (object_of (cells_in before)) xs) new.current.0 old.current.0 new.table.0 old.table.0 new.slots old.slots
+      t.method same-objects t.current (ap (λ z. z.0) t.table) t.slots
+
+  still-whole : IsWhole rules new (cells_in after)
+  still-whole =
+      let xs = holders_of old (cells_in before) in
+      IsWhole-told rules new (cells_in after) xs t.stands
+      (subst (λ z. contains (0 ∷ xs) z ≡ true) (sym t.current) whole.current)
+      (λ h e. whole.table (sym (ap has_table t.method) ∙ h) (sym (ap (λ z. z.0) t.table) ∙ e))
+      (subst (λ z. AllByRecursion (λ o. IsObject o.bytes) z) (sym same-objects) whole.objects)
+
+  others-stay : (a : ℕ) → contains (owned (dictionary_in old before)) a ≡ false → cells_in after a ≡ cells_in before a
+  others-stay a apart = elim (eqb_tells a 0) as (λ _. cells_in after a ≡ cells_in before a) [
+    | inl zero ↦ ap (cells_in after) zero.1 ∙ no-cell-zero after ∙ sym (no-cell-zero before) ∙ ap (cells_in before) (sym zero.1)
+    | inr some ↦
+        let xs = holders_of old (cells_in before) in
+        let neither : contains (old.table.0 ∷ xs) a ≡ false = sym (owned-within old (cells_in before) a some.1) ∙ apart in
+        t.keeps.others a (apart-cons old.table.0 [] a (apart-head old.table.0 xs a neither) refl) (apart-tail old.table.0 xs a neither)
+  ]
+
+  -- a call that changes no holder only looks
+  pub Looks-became : Looks meaning rules before old after new
+  Looks-became =
+      let disc : disc_in meaning after ≡ disc_in meaning before = ap (boxed meaning) stays.disc in
+      record {
+        region = stays.region;
+        dict = same-dictionary;
+        disc = disc;
+        leaves = record {
+          whole = still-whole;
+          kind = t.kind;
+          rest = record {
+            best = ap is_best stays.region ∙ best;
+            disc = KeepsDisc-same (disc_in meaning before) (disc_in meaning after) (segments_in before) (segments_in after) disc (segments-stay before after stays.region);
+            labelled = ap labelled stays.region;
+            others = λ a apart _. others-stay a apart;
+            fresh = λ a within apart. absurd (true≢false (sym within ∙ ap (λ d. contains (owned d) a) same-dictionary ∙ apart));
+          };
+        };
+      }
+
+-- after a look the holders are the same
+pub holders-looked : (old new : Dict) (b b' : Blocks) → dictionary_of new b' ≡ dictionary_of old b → holders_of new b' ≡ holders_of old b
+holders-looked old new b b' e =
+    sym (addresses-mapped b' (holders_of new b')) ∙ ap (λ d. map (λ (o : Object). o.at) d.objects) e ∙ addresses-mapped b (holders_of old b)

@@ -1,0 +1,114 @@
+-- What turning a dictionary leaves of its region.
+use Rattle.std.proofs.Common.{◌≡◌, ◌≢◌, ℕ, ◌⊎◌, inl, inr, Bool, true, false, ◌∷◌, Some, None, length, refl, sym, ap, ◌∙◌, subst}
+use Rattle.std.specs.Prelude.{not, ◌==◌, ◌&&◌, if◌then◌else◌}
+use Rattle.std.proofs.lemmas.Bool.{ne_eqb, true≢false}
+use Rattle.std.proofs.lemmas.Bool.Decides.{eqb_tells}
+use Rattle.std.proofs.lemmas.List.{length-map}
+use Rattle.std.proofs.lemmas.Option.{none-some}
+use Rattle.vc_base.specs.declared.dict_method.DictMethod.{DictMethod}
+use Rattle.vc_base.specs.Cells.{Blocks}
+use Rattle.vc_base.specs.Holders.{contains}
+use Rattle.vc_dtdisc.specs.Rules.{Rules}
+use Rattle.vc_dtlist.proofs.HolderLemmas.{apart-head, apart-tail}
+use Rattle.vc_dthash.specs.Slots.{slots_for}
+use Rattle.vc_model.specs.Discipline.{Discipline}
+use Rattle.vc_dict.specs.declared.dict.Dict.{Dict}
+use Rattle.vc_dict.specs.Listed.{holders_of}
+use Rattle.vc_dict.specs.Methods.{has_table, slots_between}
+use Rattle.vc_region.specs.Cells.{cells_in, labelled, rest_in}
+use Rattle.vc_region.specs.Parts.{disc_in, segments_in}
+use Rattle.vc_region.specs.declared.region.Region.{Region}
+use Rattle.vc_objects.specs.Leaves.{KeepsDisc, LeavesRest}
+use Rattle.vc_objects.specs.Objects.{is_best, owned}
+use Rattle.vc_objects.specs.Parts.{IsWhole, dictionary_in, dictionary_of, object_of}
+use Rattle.vc_objects.specs.Turning.{BringsCell}
+use Rattle.vc_objects.proofs.Bringing.{other-brought, told-brought}
+use Rattle.vc_objects.proofs.Leaving.{keeps-same, keeps-trans, leaves-still, none-at}
+use Rattle.vc_objects.proofs.Owning.{owned-within}
+
+-- so many objects are counted
+pub counts-objects : (rules : Rules) (d : Dict) (b : Blocks) → IsWhole rules d b → length (dictionary_of d b).objects ≡ d.count
+counts-objects rules d b whole = length-map (holders_of d b) (object_of b) ∙ sym whole.stands.count
+
+-- a table that was brought is the one that it has then
+then_by : (new old : Bool) (at t x n s : ℕ) → x ≡ (if new && old then at else t) → (if new && not old then Some n else None) ≡ (if t == 0 then None else Some s) → t ≢ 0 → x ≡ t
+then_by true true at t x n s e h ne = absurd (none-some s (h ∙ ap (λ z. if z then None else Some s) (ne_eqb t 0 ne)))
+then_by true false at t x n s e h ne = e
+then_by false old at t x n s e h ne = e
+
+which_by : (u : Bool) (at t x : ℕ) → x ≡ (if u then at else t) → (x ≡ at) ⊎ (x ≡ t)
+which_by true at t x e = inl e
+which_by false at t x e = inr e
+
+module _ {I : Type 0} {V : I → Type 0} (meaning : (x : I) × V x → Discipline) (rules : Rules) (d : Dict) where
+  -- nothing was turned
+  pub leaves-refused : (r r' : Region I V) → is_best (rest_in r) ≡ true → IsWhole rules d (cells_in r) → KeepsDisc (disc_in meaning r) (disc_in meaning r') (segments_in r) (segments_in r')
+      → rest_in r' ≡ rest_in r → cells_in r' ≡ cells_in r → LeavesRest meaning rules r d r' d
+  leaves-refused r r' best whole disc rest cells = record {
+    whole = subst (λ b. IsWhole rules d b) (sym cells) whole;
+    kind = refl;
+    rest = leaves-still meaning r r' (owned (dictionary_in d r)) (owned (dictionary_in d r')) best disc rest cells (ap (λ b. owned (dictionary_of d b)) cells);
+  }
+
+  pub leaves-same : (r : Region I V) → is_best (rest_in r) ≡ true → IsWhole rules d (cells_in r) → LeavesRest meaning rules r d r d
+  leaves-same r best whole = leaves-refused r r best whole (keeps-same (disc_in meaning r) (disc_in meaning r) (segments_in r) (segments_in r) refl refl) refl refl
+
+  -- it was turned
+  module _ (method : DictMethod) (d' : Dict) (r r1 r2 : Region I V) (t s : ℕ) (whole : IsWhole rules d (cells_in r)) (brought : BringsCell (slots_between d.method method d.count) (cells_in r) (cells_in r1) t s)
+      (table : d'.table.0 ≡ (if has_table method && has_table d.method then d.table.0 else t))
+      (within : (a : ℕ) → contains (holders_of d (cells_in r1)) a ≡ false → contains (holders_of d' (cells_in r2)) a ≡ false)
+      (others : (a : ℕ) → a ≢ 0 → a ≢ t → a ≢ d.table.0 → contains (holders_of d (cells_in r1)) a ≡ false → cells_in r2 a ≡ cells_in r1 a) where
+    abbrev old : Blocks
+    old = cells_in r
+
+    told : (a : ℕ) → contains (holders_of d old) a ≡ false → contains (holders_of d (cells_in r1)) a ≡ false
+    told a h = ap (λ xs. contains xs a) (told-brought rules method d old (cells_in r1) t s whole brought) ∙ h
+
+    not-new : (a : ℕ) → a ≢ 0 → d'.table.0 ≢ a → a ≢ t
+    not-new a some ne e =
+        ne (then_by (has_table method) (has_table d.method) d.table.0 t d'.table.0 (slots_for d.count) s table brought.wants (λ z. some (e ∙ z)) ∙ sym e)
+
+    others-stay : (a : ℕ) → contains (owned (dictionary_in d r)) a ≡ false → contains (owned (dictionary_in d' r2)) a ≡ false → cells_in r2 a ≡ cells_in r a
+    others-stay a mine mine' = elim (eqb_tells a 0) as (λ _. cells_in r2 a ≡ cells_in r a) [
+      | inl same ↦ subst (λ n. cells_in r2 n ≡ cells_in r n) (sym same.1) (none-at r2 ∙ sym (none-at r))
+      | inr some ↦
+          let h : contains (d.table.0 ∷ holders_of d old) a ≡ false = sym (owned-within d old a some.1) ∙ mine in
+          let k : contains (d'.table.0 ∷ holders_of d' (cells_in r2)) a ≡ false = sym (owned-within d' (cells_in r2) a some.1) ∙ mine' in
+          let new = not-new a some.1 (apart-head d'.table.0 (holders_of d' (cells_in r2)) a k) in
+          others a some.1 new (λ e. apart-head d.table.0 (holders_of d old) a h (sym e)) (told a (apart-tail d.table.0 (holders_of d old) a h))
+          ∙ other-brought rules method d old (cells_in r1) t s whole brought a new
+    ]
+
+    new-table : (a : ℕ) → a ≢ 0 → contains (d.table.0 ∷ holders_of d old) a ≡ false → d'.table.0 ≡ a → old a ≡ None
+    new-table a some h e = elim (which_by (has_table method && has_table d.method) d.table.0 t d'.table.0 table) as (λ _. old a ≡ None) [
+      | inl same ↦ absurd (apart-head d.table.0 (holders_of d old) a h (sym same ∙ e))
+      | inr new ↦ subst (λ z. old z ≡ None) (sym new ∙ e) (brought.fresh (λ z. some (sym e ∙ (new ∙ z))))
+    ]
+
+    fresh-then : (a : ℕ) → contains (owned (dictionary_in d' r2)) a ≡ true → contains (owned (dictionary_in d r)) a ≡ false → cells_in r a ≡ None
+    fresh-then a mine' mine = elim (eqb_tells a 0) as (λ _. cells_in r a ≡ None) [
+      | inl same ↦ subst (λ n. cells_in r n ≡ None) (sym same.1) (none-at r)
+      | inr some ↦
+          let h : contains (d.table.0 ∷ holders_of d old) a ≡ false = sym (owned-within d old a some.1) ∙ mine in
+          let k : contains (d'.table.0 ∷ holders_of d' (cells_in r2)) a ≡ true = sym (owned-within d' (cells_in r2) a some.1) ∙ mine' in
+          elim (eqb_tells d'.table.0 a) as (λ _. cells_in r a ≡ None) [
+            | inl here ↦ new-table a some.1 h here.1
+            | inr apart ↦ absurd (true≢false (sym (rw apart.0 at k) ∙ within a (told a (apart-tail d.table.0 (holders_of d old) a h))))
+          ]
+    ]
+
+    pub leaves-turned : is_best (rest_in r2) ≡ true → IsWhole rules d' (cells_in r2) → d'.kind ≡ d.kind
+        → KeepsDisc (disc_in meaning r) (disc_in meaning r1) (segments_in r) (segments_in r1) → disc_in meaning r2 ≡ disc_in meaning r1 → segments_in r2 ≡ segments_in r1
+        → labelled (rest_in r1) ≡ labelled (rest_in r) → labelled (rest_in r2) ≡ labelled (rest_in r1) → LeavesRest meaning rules r d r2 d'
+    leaves-turned best now kind disc discs segments label label' = record {
+      whole = now;
+      kind = kind;
+      rest = record {
+        best = best;
+        disc = keeps-trans (disc_in meaning r) (disc_in meaning r1) (disc_in meaning r2) (segments_in r) (segments_in r1) (segments_in r2) disc
+            (keeps-same (disc_in meaning r1) (disc_in meaning r2) (segments_in r1) (segments_in r2) discs segments);
+        labelled = label' ∙ label;
+        others = others-stay;
+        fresh = fresh-then;
+      };
+    }

@@ -1,0 +1,225 @@
+-- What is left of a dictionary and of its region when one of its holders is taken out and freed.
+use Rattle.std.proofs.Common.{◌≡◌, ◌≢◌, ℕ, ◌≤◌, List, [], ◌∷◌, Bool, true, false, Option, Some, None, map, unwrap_or, refl, sym, ap, ◌∙◌, subst, inl, inr, ⊎_elim}
+use Rattle.std.specs.Prelude.{◌==◌, if◌then◌else◌}
+use Rattle.std.specs.List.{AllByRecursion}
+use Rattle.std.proofs.lemmas.Bool.{cases_Bool, true≢false}
+use Rattle.std.proofs.lemmas.Bool.Decides.{eqb_tells}
+use Rattle.vc_base.specs.Cells.{Blocks, IsHolder, body_of}
+use Rattle.vc_base.specs.Holders.{AreDistinct, contains, first_in, without}
+use Rattle.vc_model.specs.Discipline.{Discipline}
+use Rattle.vc_dtdisc.specs.Finds.{object_at}
+use Rattle.vc_dtdisc.specs.Rules.{IsObject, Rules}
+use Rattle.vc_dtlist.proofs.ChainLemmas.{Chain-none}
+use Rattle.vc_dtlist.proofs.HolderLemmas.{apart-append, apart-cons, apart-front, apart-head, apart-rest, apart-tail, apart-without}
+use Rattle.vc_dtlist.proofs.KeptLemmas.{within-head}
+use Rattle.vc_dict.specs.Changes as changes
+use Rattle.vc_dict.specs.Listed.{holders_of}
+use Rattle.vc_dict.specs.Methods.{has_table}
+use Rattle.vc_dict.specs.Stands.{Became, Stands}
+use Rattle.vc_dict.specs.declared.dict.Dict.{Dict}
+use Rattle.vc_dict.proofs.CurrentLemmas.{current-removed}
+use Rattle.vc_dict.proofs.OwnLemmas.{Stands-own, holder-there, table-apart}
+use Rattle.vc_region.specs.Cells.{StaysButCells, cells_in, labelled, rest_in, without_cell}
+use Rattle.vc_region.specs.Parts.{boxed, disc_in, segments_in}
+use Rattle.vc_region.specs.Region as model
+use Rattle.vc_region.specs.declared.region.Region.{Region}
+use Rattle.vc_objects.specs.Freed.{FreesCell}
+use Rattle.vc_objects.specs.Insert.{freed}
+use Rattle.vc_objects.specs.Leaves.{GivesRemoved, LeavesRest}
+use Rattle.vc_objects.specs.Lists.{without_object}
+use Rattle.vc_objects.specs.Objects.{Dictionary, Object, Table, is_best, listed, owned}
+use Rattle.vc_objects.specs.Parts.{IsWhole, dictionary_in, object_of, table_of}
+use Rattle.vc_objects.specs.Remove.{remove_found}
+use Rattle.vc_objects.proofs.Looking.{IsWhole-told, KeepsDisc-same, apart-table, dictionary-same, dictionary-told, no-cell-zero, segments-stay}
+use Rattle.vc_objects.proofs.Mapped.{current_without-mapped, objects-kept, without_object-mapped}
+use Rattle.vc_objects.proofs.Owning.{owned-within}
+
+-- two addresses of which one alone is in a list differ
+pub differs : (xs : List ℕ) (x a : ℕ) → contains xs x ≡ true → contains xs a ≡ false → x ≢ a
+differs xs x a h k e = true≢false (sym h ∙ ap (contains xs) e ∙ k)
+
+-- the other cells
+pub left-cell : (c : Blocks) (x a : ℕ) → x ≢ a → without_cell x c a ≡ c a
+left-cell c x a ne = elim (eqb_tells a x) as (λ _. without_cell x c a ≡ c a) [
+  | inl same ↦ absurd (ne (sym same.1))
+  | inr apart ↦ rw apart.0 refl
+]
+
+-- a holder that goes is none of those that are left, which were there before
+gone-apart : (at : ℕ) (xs : List ℕ) → AreDistinct xs → contains (without at xs) at ≡ false
+gone-apart at [] d = refl
+gone-apart at (x ∷ xs) d = elim (eqb_tells x at) as (λ _. contains (without at (x ∷ xs)) at ≡ false) [
+  | inl same ↦ rw same.0 (subst (λ z. contains xs z ≡ false) same.1 d.0)
+  | inr apart ↦ rw apart.0 (apart-cons x (without at xs) at apart.1 (gone-apart at xs d.1))
+]
+
+left-within : (xs : List ℕ) (at a : ℕ) → contains (without at xs) a ≡ true → contains xs a ≡ true
+left-within xs at a h =
+    ⊎_elim
+    (λ (t : contains xs a ≡ true). t)
+    (λ (t : contains xs a ≡ false). absurd (true≢false (sym h ∙ apart-without xs at a t)))
+    (cases_Bool (contains xs a))
+
+-- so it is with objects
+all_by : (P : Object → Type 0) (t : Bool) (os ps : List Object) → AllByRecursion P os → AllByRecursion P ps → AllByRecursion P (if t then os else ps)
+all_by P true os ps h k = h
+all_by P false os ps h k = k
+
+all-without : (P : Object → Type 0) (at : ℕ) (os : List Object) → AllByRecursion P os → AllByRecursion P (without_object at os)
+all-without P at [] h = h
+all-without P at (x ∷ xs) h = all_by P (x.at == at) xs (x ∷ without_object at xs) h.1 (h.0, all-without P at xs h.1)
+
+apart_by : (t : Bool) (os ps : List Object) (a : ℕ) → contains (map (λ (o : Object). o.at) os) a ≡ false → contains (map (λ (o : Object). o.at) ps) a ≡ false → contains (map (λ (o : Object). o.at) (if t then os else ps)) a ≡ false
+apart_by true os ps a h k = h
+apart_by false os ps a h k = k
+
+apart-objects : (at : ℕ) (os : List Object) (a : ℕ) → contains (map (λ (o : Object). o.at) os) a ≡ false → contains (map (λ (o : Object). o.at) (without_object at os)) a ≡ false
+apart-objects at [] a h = h
+apart-objects at (x ∷ xs) a h =
+    let behind = apart-tail x.at (map (λ (o : Object). o.at) xs) a h in
+    apart_by (x.at == at) xs (x ∷ without_object at xs) a behind
+    (apart-cons x.at (map (λ (o : Object). o.at) (without_object at xs)) a (apart-head x.at (map (λ (o : Object). o.at) xs) a h) (apart-objects at xs a behind))
+
+-- a dictionary that an object is taken out of owns no more than before
+pub fewer-owned : (r : model.Region ℕ) (d : Dictionary) (o : Option Object) (a : ℕ) → contains (owned d) a ≡ false → contains (owned (remove_found r d o).dict) a ≡ false
+fewer-owned r d None a h = h
+fewer-owned r d (Some o) a h =
+    let front = map (λ (t : Table). t.at) (listed d.table) in
+    apart-append front (map (λ (o : Object). o.at) (without_object o.at d.objects)) a (apart-front front (map (λ (o : Object). o.at) d.objects) a h)
+    (apart-objects o.at d.objects a (apart-rest front (map (λ (o : Object). o.at) d.objects) a h))
+
+-- a holder of a whole dictionary has an object
+pub object-of-all : (b : Blocks) (xs : List ℕ) (a : ℕ) → contains xs a ≡ true → AllByRecursion (λ o. IsObject o.bytes) (map (object_of b) xs) → IsObject (object_at b a)
+object-of-all b [] a h all = absurd (true≢false (sym h))
+object-of-all b (x ∷ xs) a h all = elim (eqb_tells x a) as (λ _. IsObject (object_at b a)) [
+  | inl same ↦ subst (λ z. IsObject (object_at b z)) same.1 all.0
+  | inr apart ↦ object-of-all b xs a (rw apart.0 at h) all.1
+]
+
+-- a holder was taken out
+module _ {I : Type 0} {V : I → Type 0} (rules : Rules) (before mid : Region I V) (old new : Dict) (at : ℕ) (whole : IsWhole rules old (cells_in before)) (within : contains (holders_of old (cells_in before)) at ≡ true)
+    (became : Became rules (holders_of old (cells_in before)) old (cells_in before) new (cells_in mid) (without at (holders_of old (cells_in before)))
+    (changes.current_without (Some at) old.current.0 (holders_of old (cells_in before)))) where
+  -- its object stays
+  pub object-stays : object_at (cells_in mid) at ≡ object_at (cells_in before) at
+  object-stays = became.keeps.bodies at (apart-table rules old (cells_in before) (holders_of old (cells_in before)) at whole.stands within)
+
+  pub object-small : IsObject (object_at (cells_in mid) at)
+  object-small =
+      subst (λ z. IsObject z) (sym object-stays) (object-of-all (cells_in before) (holders_of old (cells_in before)) at within whole.objects)
+
+  pub holder-stays : IsHolder (cells_in mid) at
+  holder-stays =
+      let h = holder-there rules old (cells_in before) (holders_of old (cells_in before)) at whole.stands within in
+      record { there = became.keeps.there at ∙ h.there; enough = subst (λ n. 33 ≤ n) (sym (became.keeps.sizes at)) h.enough }
+
+  -- and it is freed
+  module _ (meaning : (x : I) × V x → Discipline) (after : Region I V) (stays : StaysButCells before mid) (free : FreesCell meaning mid at after) where
+    left : (a : ℕ) → at ≢ a → cells_in after a ≡ cells_in mid a
+    left a ne = ap (λ (f : Blocks). f a) free.cells ∙ left-cell (cells_in mid) at a ne
+
+    others_apart : (a : ℕ) → contains (without at (holders_of old (cells_in before))) a ≡ true → at ≢ a
+    others_apart a h e =
+        let xs = holders_of old (cells_in before) in
+        true≢false (sym h ∙ ap (contains (without at xs)) (sym e) ∙ gone-apart at xs whole.stands.list.distinct)
+
+    table_differs : at ≢ new.table.0
+    table_differs e =
+        let xs = holders_of old (cells_in before) in
+        differs xs at old.table.0 within (table-apart rules old (cells_in before) xs whole.stands) (e ∙ ap (λ z. z.0) became.table)
+
+    own_apart : (a : ℕ) → contains (new.table.0 ∷ without at (holders_of old (cells_in before))) a ≡ true → at ≢ a
+    own_apart a h = elim (eqb_tells new.table.0 a) as (λ _. at ≢ a) [
+      | inl same ↦ λ e. table_differs (e ∙ sym same.1)
+      | inr apart ↦ others_apart a (rw apart.0 at h)
+    ]
+
+    stands-after : Stands rules new (cells_in after) (without at (holders_of old (cells_in before)))
+    stands-after =
+        Stands-own rules new (cells_in mid) (cells_in after) (without at (holders_of old (cells_in before))) (λ a _ h. left a (own_apart a h)) became.stands
+
+    objects-after : map (object_of (cells_in after)) (without at (holders_of old (cells_in before))) ≡ without_object at (dictionary_in old before).objects
+    objects-after =
+        let xs = holders_of old (cells_in before) in
+        objects-kept (cells_in before) (cells_in after) (without at xs)
+        (λ a w. ap (λ o. body_of (unwrap_or o [])) (left a (others_apart a w))
+        ∙ became.keeps.bodies a (apart-table rules old (cells_in before) xs a whole.stands (left-within xs at a w)))
+        ∙ sym (without_object-mapped (cells_in before) at xs)
+
+    pub dict-after : dictionary_in new after ≡ (remove_found (rest_in before) (dictionary_in old before) (Some (object_of (cells_in before) at))).dict
+    dict-after =
+        let xs = holders_of old (cells_in before) in
+        let os = without_object at (dictionary_in old before).objects in
+        let zero : contains xs 0 ≡ false = Chain-none (cells_in before) 0 xs 0 whole.stands.list.chain in
+        let with : Option ℕ → Dictionary = λ c. record { method = old.method; objects = os; current = c; table = table_of old.table.0 old.slots } in
+        dictionary-told rules new (cells_in after) (without at xs) stands-after
+        ∙ dictionary-same new.method old.method (map (object_of (cells_in after)) (without at xs)) os new.current.0 (changes.current_without (Some at) old.current.0 xs) new.table.0 old.table.0 new.slots old.slots
+        became.method objects-after became.current (ap (λ z. z.0) became.table) became.slots
+        ∙ ap with (sym (current_without-mapped (cells_in before) at old.current.0 xs zero (differs xs at 0 within zero)))
+
+    whole-after : IsWhole rules new (cells_in after)
+    whole-after =
+        let xs = holders_of old (cells_in before) in
+        IsWhole-told rules new (cells_in after) (without at xs) stands-after
+        (subst (λ z. contains (0 ∷ without at xs) z ≡ true) (sym became.current) (current-removed (Some at) old.current.0 xs whole.current))
+        (λ h e. whole.table (sym (ap has_table became.method) ∙ h) (sym (ap (λ z. z.0) became.table) ∙ e))
+        (subst (λ z. AllByRecursion (λ o. IsObject o.bytes) z) (sym objects-after) (all-without (λ o. IsObject o.bytes) at (dictionary_in old before).objects whole.objects))
+
+    others-after : (a : ℕ) → contains (owned (dictionary_in old before)) a ≡ false → cells_in after a ≡ cells_in before a
+    others-after a apart_own = elim (eqb_tells a 0) as (λ _. cells_in after a ≡ cells_in before a) [
+      | inl zero ↦ ap (cells_in after) zero.1 ∙ no-cell-zero after ∙ sym (no-cell-zero before) ∙ ap (cells_in before) (sym zero.1)
+      | inr some ↦
+          let xs = holders_of old (cells_in before) in
+          let apart : contains (old.table.0 ∷ xs) a ≡ false = sym (owned-within old (cells_in before) a some.1) ∙ apart_own in
+          let other : contains xs a ≡ false = apart-tail old.table.0 xs a apart in
+          left a (differs xs at a within other) ∙ became.keeps.others a (apart-cons old.table.0 [] a (apart-head old.table.0 xs a apart) refl) other
+    ]
+
+    pub leaves-taken : LeavesRest meaning rules before old after new
+    leaves-taken = record {
+      whole = whole-after;
+      kind = became.kind;
+      rest = record {
+        best = free.best;
+        disc = KeepsDisc-same (disc_in meaning before) (disc_in meaning after) (segments_in before) (segments_in after) (free.disc ∙ ap (boxed meaning) stays.disc) (free.segments ∙ segments-stay before mid stays.region);
+        labelled = free.labelled ∙ ap labelled stays.region;
+        others = λ a old_apart _. others-after a old_apart;
+        fresh = λ a new_within old_apart.
+            absurd (true≢false (sym new_within ∙ ap (λ d. contains (owned d) a) dict-after ∙ fewer-owned (rest_in before) (dictionary_in old before) (Some (object_of (cells_in before) at)) a old_apart));
+      };
+    }
+
+    pub region-taken : rest_in after ≡ freed (rest_in before) at
+    region-taken = free.rest ∙ ap (λ r. freed r at) stays.region
+
+    pub gives-taken : GivesRemoved (remove_found (rest_in before) (dictionary_in old before) (Some (object_of (cells_in before) at))) (rest_in after) (dictionary_in new after) (Some (object_at (cells_in mid) at))
+    gives-taken = record { region = sym region-taken; dict = sym dict-after; gone = ap (λ z. Some z) (sym object-stays) }
+
+    -- as the object that was asked for, with what was copied of it
+    pub gives-found : (o : Option Object) (bytes : List ℕ) → o ≡ Some (object_of (cells_in before) at) → bytes ≡ object_at (cells_in mid) at → GivesRemoved (remove_found (rest_in before) (dictionary_in old before) o) (rest_in after) (dictionary_in new after) (Some bytes)
+    gives-found o bytes e f =
+        subst (λ z. GivesRemoved (remove_found (rest_in before) (dictionary_in old before) z) (rest_in after) (dictionary_in new after) (Some bytes)) (sym e)
+        (subst (λ z. GivesRemoved (remove_found (rest_in before) (dictionary_in old before) (Some (object_of (cells_in before) at))) (rest_in after) (dictionary_in new after) (Some z)) (sym f) gives-taken)
+
+-- none was asked for
+pub gives-none : (r r' : model.Region ℕ) (d d' : Dictionary) (o : Option Object) → o ≡ None → r' ≡ r → d' ≡ d → GivesRemoved (remove_found r d o) r' d' None
+gives-none r r' d d' o e f h = subst (λ z. GivesRemoved (remove_found r d z) r' d' None) (sym e) (record { region = sym f; dict = sym h; gone = refl })
+
+-- nothing is done
+pub leaves-self : {I : Type 0} {V : I → Type 0} (meaning : (x : I) × V x → Discipline) (rules : Rules) (r : Region I V) (d : Dict) → is_best (rest_in r) ≡ true → IsWhole rules d (cells_in r) → LeavesRest meaning rules r d r d
+leaves-self meaning rules r d best whole = record {
+  whole = whole;
+  kind = refl;
+  rest = record {
+    best = best;
+    disc = KeepsDisc-same (disc_in meaning r) (disc_in meaning r) (segments_in r) (segments_in r) refl refl;
+    labelled = refl;
+    others = λ a _ _. refl;
+    fresh = λ a new_within old_apart. absurd (true≢false (sym new_within ∙ old_apart));
+  };
+}
+
+-- the first holder is one of them
+pub first-within : (xs : List ℕ) (at : ℕ) → Some at ≡ first_in xs → contains xs at ≡ true
+first-within [] at e = cc
+first-within (x ∷ xs) at e = subst (λ z. contains (x ∷ xs) z ≡ true) (sym (ap (λ o. unwrap_or o 0) e)) (within-head x xs)

@@ -1,0 +1,213 @@
+-- A dictionary that turned to another method: which objects it has then, and which cells stay.
+use Rattle.std.proofs.Common.{◌≡◌, ◌≢◌, ℕ, ◌-◌, ◌≤◌, List, [], ◌∷◌, Bool, true, false, Option, Some, None, inl, inr, is_some, length, map, unwrap_or, refl, sym, ap, ◌∙◌, subst, arith}
+use Rattle.std.specs.Prelude.{IsSome, not, ◌==◌, ◌&&◌, if◌then◌else◌}
+use Rattle.std.specs.List.{AllByRecursion}
+use Rattle.std.proofs.lemmas.Bool.{true≢false, eq-eqb}
+use Rattle.std.proofs.lemmas.Bool.Decides.{eqb_tells}
+use Rattle.vc_base.specs.declared.dict_method.DictMethod.{DictMethod}
+use Rattle.vc_base.specs.Cells.{Blocks, body_of}
+use Rattle.vc_base.specs.Holders.{contains, some_address}
+use Rattle.vc_dtdisc.specs.Finds.{object_at}
+use Rattle.vc_dtdisc.specs.Rules.{IsObject, Rules}
+use Rattle.vc_dtlist.proofs.ChainLemmas.{Chain-none}
+use Rattle.vc_dtlist.proofs.HolderLemmas.{apart-cons}
+use Rattle.vc_dthash.specs.Slots.{slots_for}
+use Rattle.vc_dict.specs.declared.dict.Dict.{Dict}
+use Rattle.vc_dict.specs.declared.dict.Dropped.{Dropped}
+use Rattle.vc_dict.specs.Listed.{holders_of}
+use Rattle.vc_dict.specs.Methods.{has_table}
+use Rattle.vc_dict.specs.Orders as orders
+use Rattle.vc_dict.specs.Stands.{Stands}
+use Rattle.vc_dict.specs.Turned.{CanRemethod, Remethoded}
+use Rattle.vc_dict.proofs.OwnLemmas.{Stands-own, holder-address, holders-told, table-apart}
+use Rattle.vc_dict.proofs.PassLemmas.{differs}
+use Rattle.vc_region.specs.Region.{Region}
+use Rattle.vc_objects.specs.Insert.{without_table}
+use Rattle.vc_objects.specs.Objects.{Dictionary, Object, Table}
+use Rattle.vc_objects.specs.Parts.{IsWhole, dictionary_of, object_of, table_of}
+use Rattle.vc_objects.specs.Turn.{dropped_by, kept_by, objects_dropped, ordered_by, table_left, turned_to}
+use Rattle.vc_objects.specs.Turning.{CanTurn, HasDropped}
+use Rattle.vc_objects.proofs.Addresses.{all-objects, each-object}
+use Rattle.vc_objects.proofs.Mapped.{dropped_by-mapped, kept_by-mapped, objects-kept, ordered_by-mapped}
+use Rattle.vc_objects.proofs.Parted.{apart-drops, apart-keeps, distinct-drops, drops, keeps, keeps-apart, length-parted, within-drops, within-keeps}
+
+-- by the truth of tests on the methods
+apart_by : (u : Bool) (xs : List ℕ) (x y : ℕ) → contains xs x ≡ false → contains xs y ≡ false → contains xs (if u then x else y) ≡ false
+apart_by true xs x y h k = h
+apart_by false xs x y h k = k
+
+left_by : (u : Bool) (x y : ℕ) → x ≡ (if u then 0 else y) → x ≢ 0 → (u ≡ false) × (x ≡ y)
+left_by true x y e ne = absurd (ne e)
+left_by false x y e ne = (refl, e)
+
+gone_by : (u : Bool) (at slots : ℕ) → table_of (if u then 0 else at) slots ≡ (if u then None else table_of at slots)
+gone_by true at slots = refl
+gone_by false at slots = refl
+
+table_by : (new old : Bool) (at slots t s : ℕ) → (new ≡ false → t ≡ 0)
+    → table_of (if new && old then at else t) (if new && old then slots else s) ≡ (if new then (if old then table_of at slots else table_of t s) else None)
+table_by true true at slots t s none = refl
+table_by true false at slots t s none = refl
+table_by false old at slots t s none = ap (λ z. table_of z s) (none refl)
+
+brings : (t s n : ℕ) → Some n ≡ (if t == 0 then None else Some s) → t ≢ 0
+brings t s n e zero =
+    let f : Some n ≡ None = e ∙ ap (λ z. if z then None else Some s) (eq-eqb t 0 zero) in
+    cc
+
+some_by : (new old : Bool) (at t s n : ℕ) → new ≡ true → (old ≡ true → at ≢ 0) → (if new && not old then Some n else None) ≡ (if t == 0 then None else Some s) → (if new && old then at else t) ≢ 0
+some_by true true at t s n e f h = f refl
+some_by true false at t s n e f h = brings t s n h
+some_by false old at t s n e f h = absurd (true≢false (sym e))
+
+abbrev fields : DictMethod → List Object → Option ℕ → Option Table → Dictionary
+fields method objects current table = record { method = method; objects = objects; current = current; table = table }
+
+fields-same : (m n : DictMethod) (os ps : List Object) (c d : Option ℕ) (t u : Option Table) → m ≡ n → os ≡ ps → c ≡ d → t ≡ u → fields m os c t ≡ fields n ps d u
+fields-same m n os ps c d t u e f g h =
+    ap (λ z. fields z os c t) e ∙ (ap (λ z. fields n z c t) f ∙ (ap (λ z. fields n ps z t) g ∙ ap (λ z. fields n ps d z) h))
+
+module _ (rules : Rules) (method : DictMethod) (d : Dict) (b : Blocks) (t s : ℕ) (can : CanTurn rules d b method t s) where
+  abbrev hs : List ℕ
+  hs = holders_of d b
+
+  abbrev ks : List ℕ
+  ks = keeps method rules b (holders_of d b)
+
+  abbrev gs : List ℕ
+  gs = drops method rules b (holders_of d b)
+
+  pub can-remethod : CanRemethod rules d b method t s
+  can-remethod = record { holders = hs; stands = can.whole.stands; needs = can.needs; fits = can.fits; none = can.none }
+
+  -- neither table is one of the holders
+  old-apart : contains hs d.table.0 ≡ false
+  old-apart = table-apart rules d b hs can.whole.stands
+
+  new-apart : contains hs t ≡ false
+  new-apart = elim (eqb_tells t 0) as (λ _. contains hs t ≡ false) [
+    | inl same ↦ subst (λ z. contains hs z ≡ false) (sym same.1) (Chain-none b 0 hs 0 can.whole.stands.list.chain)
+    | inr apart ↦ (can.fits apart.1).apart
+  ]
+
+  tables-apart : (a : ℕ) → contains hs a ≡ true → contains (d.table.0 ∷ t ∷ []) a ≡ false
+  tables-apart a h = apart-cons d.table.0 (t ∷ []) a (differs hs a d.table.0 h old-apart) (apart-cons t [] a (differs hs a t h new-apart) refl)
+
+  module _ (d' : Dict) (b2 : Blocks) (answer : Dropped) (done : Remethoded rules method t s (holders_of d b) d b d' b2 answer) where
+    -- those that were dropped
+    pub fewer-turned : d'.count ≤ d.count
+    fewer-turned =
+        let e = length-parted method rules b hs in
+        let old = can.whole.stands.count in
+        let new = done.stands.count in
+        omega (arith, e, old, new)
+
+    pub count-dropped : d.count - d'.count ≡ length gs
+    count-dropped =
+        let e = length-parted method rules b hs in
+        let old = can.whole.stands.count in
+        let new = done.stands.count in
+        omega (arith, e, old, new)
+
+    pub has-dropped : HasDropped b2 answer.first.0 (d.count - d'.count)
+    has-dropped = record {
+      holders = gs;
+      dropped = done.dropped;
+      distinct = distinct-drops method rules b hs can.whole.stands.list.distinct;
+      many = count-dropped;
+    }
+
+    object-turned : (a : ℕ) → contains hs a ≡ true → object_at b2 a ≡ object_at b a
+    object-turned a h = done.keeps.bodies a (tables-apart a h)
+
+    pub drops-told : map (object_of b2) gs ≡ objects_dropped rules method (dictionary_of d b)
+    drops-told =
+        objects-kept b b2 gs (λ a h. object-turned a (within-drops method rules b hs a h))
+        ∙ (sym (dropped_by-mapped b method rules (orders.ordered_by method rules b hs))
+        ∙ ap (dropped_by method rules) (sym (ordered_by-mapped b method rules hs)))
+
+    -- the table that is left
+    left-told : answer.table.0 ≢ 0 → (has_table method ≡ false) × (answer.table.0 ≡ d.table.0)
+    left-told ne = left_by (has_table method) answer.table.0 d.table.0 done.left ne
+
+    pub left-there : (b3 : Blocks) → ((a : ℕ) → contains gs a ≡ false → b3 a ≡ b2 a) → answer.table.0 ≢ 0 → IsSome (b3 answer.table.0)
+    left-there b3 same ne =
+        let e = (left-told ne).1 in
+        subst (λ z. IsSome (b3 z)) (sym e)
+        (ap is_some (same d.table.0 (apart-drops method rules b hs d.table.0 old-apart)) ∙ (done.keeps.there d.table.0 ∙ (can.whole.stands.table.some (λ z. ne (e ∙ z))).there))
+
+    pub left-table : (r : Region ℕ) → without_table r (table_of answer.table.0 d.slots) ≡ without_table r (table_left (dictionary_of d b) method)
+    left-table r = ap (without_table r) (ap (λ z. table_of z d.slots) done.left ∙ gone_by (has_table method) d.table.0 d.slots)
+
+    not-left : (a : ℕ) → a ≢ 0 → a ≢ d.table.0 → a ≢ answer.table.0
+    not-left a some ne e = ne (e ∙ (left-told (λ z. some (e ∙ z))).1)
+
+    table-zero : has_table method ≡ false → d'.table.0 ≡ 0
+    table-zero h = done.stands.plain (ap has_table done.method ∙ h)
+
+    own-apart : contains hs d'.table.0 ≡ false
+    own-apart = subst (λ z. contains hs z ≡ false) (sym done.table) (apart_by (has_table method && has_table d.method) hs d.table.0 t old-apart new-apart)
+
+    module _ (b' : Blocks) (stays : (a : ℕ) → contains (drops method rules b (holders_of d b)) a ≡ false → a ≢ answer.table.0 → b' a ≡ b2 a) where
+      table-stays : (a : ℕ) → a ≢ 0 → d'.table.0 ≡ a → b' a ≡ b2 a
+      table-stays a some e =
+          stays a (apart-drops method rules b hs a (subst (λ z. contains hs z ≡ false) e own-apart))
+          (λ same. some (sym e ∙ table-zero (left-told (λ z. some (same ∙ z))).0))
+
+      holder-stays : (a : ℕ) → a ≢ 0 → contains ks a ≡ true → b' a ≡ b2 a
+      holder-stays a some h =
+          stays a (keeps-apart method rules b hs can.whole.stands.list.distinct a h)
+          (not-left a some (λ e. differs hs a d.table.0 (within-keeps method rules b hs a h) old-apart (sym e)))
+
+      own-stays : (a : ℕ) → a ≢ 0 → contains (d'.table.0 ∷ ks) a ≡ true → b' a ≡ b2 a
+      own-stays a some w = elim (eqb_tells d'.table.0 a) as (λ _. b' a ≡ b2 a) [
+        | inl same ↦ table-stays a some same.1
+        | inr apart ↦ holder-stays a some (rw apart.0 at w)
+      ]
+
+      stands-then : Stands rules d' b' ks
+      stands-then = Stands-own rules d' b2 b' ks own-stays done.stands
+
+      told : holders_of d' b' ≡ ks
+      told = holders-told rules d' b' ks stands-then
+
+      object-then : (a : ℕ) → contains ks a ≡ true → object_at b' a ≡ object_at b a
+      object-then a h =
+          let w = holder-address rules d' b' ks a stands-then h in
+          let some : a ≢ 0 = λ zero. let is = w.some in omega (arith, is, zero) in
+          ap (λ o. body_of (unwrap_or o [])) (holder-stays a some h) ∙ object-turned a (within-keeps method rules b hs a h)
+
+      objects-then : map (object_of b') (holders_of d' b') ≡ map (object_of b) ks
+      objects-then = ap (map (object_of b')) told ∙ objects-kept b b' ks object-then
+
+      pub dictionary-turned : dictionary_of d' b' ≡ turned_to rules method (dictionary_of d b) (table_of t s)
+      dictionary-turned =
+          fields-same d'.method method (map (object_of b') (holders_of d' b')) (kept_by method rules (ordered_by method rules (map (object_of b) hs))) (some_address d'.current.0) None
+          (table_of d'.table.0 d'.slots) (if has_table method then (if has_table d.method then table_of d.table.0 d.slots else table_of t s) else None)
+          done.method
+          (objects-then ∙ (sym (kept_by-mapped b method rules (orders.ordered_by method rules b hs)) ∙ ap (kept_by method rules) (sym (ordered_by-mapped b method rules hs))))
+          (ap some_address done.current)
+          (ap (λ z. table_of z d'.slots) done.table ∙ (ap (λ z. table_of (if has_table method && has_table d.method then d.table.0 else t) z) done.slots
+          ∙ table_by (has_table method) (has_table d.method) d.table.0 d.slots t s none-then))
+        where
+          none-then : has_table method ≡ false → t ≡ 0
+          none-then h = sym (ap (λ z. if z && has_table d.method then d.table.0 else t) h) ∙ (sym done.table ∙ table-zero h)
+
+      pub whole-turned : IsWhole rules d' b'
+      whole-turned = record {
+        stands = subst (λ xs. Stands rules d' b' xs) (sym told) stands-then;
+        current = ap (λ z. contains (0 ∷ holders_of d' b') z) done.current;
+        table = λ h. subst (λ z. z ≢ 0) (sym done.table)
+            (some_by (has_table method) (has_table d.method) d.table.0 t s (slots_for d.count) (sym (ap has_table done.method) ∙ h) can.whole.table can.needs);
+        objects =
+            subst (λ os. AllByRecursion (λ o. IsObject o.bytes) os) (sym objects-then)
+            (all-objects IsObject b ks (λ a h. each-object IsObject b hs can.whole.objects a (within-keeps method rules b hs a h)));
+      }
+
+      pub within-turned : (a : ℕ) → contains hs a ≡ false → contains (holders_of d' b') a ≡ false
+      within-turned a h = ap (λ xs. contains xs a) told ∙ apart-keeps method rules b hs a h
+
+      pub others-turned : (a : ℕ) → a ≢ 0 → a ≢ t → a ≢ d.table.0 → contains hs a ≡ false → b' a ≡ b a
+      others-turned a some new old h =
+          stays a (apart-drops method rules b hs a h) (not-left a some old)
+          ∙ done.keeps.others a (apart-cons d.table.0 (t ∷ []) a (λ e. old (sym e)) (apart-cons t [] a (λ e. new (sym e)) refl)) h

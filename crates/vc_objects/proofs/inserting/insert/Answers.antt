@@ -1,0 +1,48 @@
+use Rattle.std.proofs.Common.{sym, ap, ◌∙◌}
+use Rattle.vc_dict.specs.Methods.{is_set}
+use Rattle.vc_region.specs.Cells.{rest_in}
+use Rattle.vc_objects.specs.Insert.{slots_wanted}
+use Rattle.vc_objects.specs.Lists.{first_with}
+use Rattle.vc_objects.specs.Parts.{dictionary_in}
+use Rattle.vc_objects.proofs.Answering.{grown-kept, inserted-no_holder, inserted-no_table, inserted-stored, lacks-holder, rest-trans}
+use Rattle.vc_objects.proofs.inserting.insert.Goals as goal
+
+pub hold-requires-clause-lone : goal.hold-requires-clause-lone
+hold-requires-clause-lone g c set =
+    let kept = grown-kept _ (rest_in c.args.region.now) (dictionary_in c.args.dict.now c.args.region.now) (slots_wanted (dictionary_in c.args.dict.now c.args.region.now)) (rest_in c.grow.new.region) (dictionary_in c.grow.new.dict c.grow.new.region) c.in-Ok.ensures.ok in
+    ap (first_with (g.D.DictDisc.rules c.args.kind.now) ((g.D.DictDisc.rules c.args.kind.now).key c.args.object.now)) kept.1 ∙ c.requires.lone (sym (ap is_set kept.0) ∙ set)
+
+pub returns-in-Ok-hold-clause-ok : goal.returns-in-Ok-hold-clause-ok
+returns-in-Ok-hold-clause-ok g c =
+    inserted-stored _ _ (rest_in c.args.region.now) (dictionary_in c.args.dict.now c.args.region.now) c.args.append c.args.object.now _ _ (rest_in c.grow.new.region) (dictionary_in c.grow.new.dict c.grow.new.region)
+    (rest_in c.hold.new.region) (dictionary_in c.hold.new.dict c.hold.new.region) c.grow.ensures.leaves.rest.disc.kept.terms c.in-Ok.ensures.ok c.in-Ok-hold.ensures.ok
+
+pub returns-in-Ok-hold-clause-leaves : goal.returns-in-Ok-hold-clause-leaves
+returns-in-Ok-hold-clause-leaves g c =
+    rest-trans _ _ c.args.region.now c.grow.new.region c.hold.new.region c.args.dict.now c.grow.new.dict c.hold.new.dict c.grow.ensures.leaves c.hold.ensures.leaves
+    (grown-kept _ (rest_in c.args.region.now) (dictionary_in c.args.dict.now c.args.region.now) (slots_wanted (dictionary_in c.args.dict.now c.args.region.now)) (rest_in c.grow.new.region) (dictionary_in c.grow.new.dict c.grow.new.region) c.in-Ok.ensures.ok).1 c.hold.ensures.table
+
+pub returns-in-Some-clause-ok : goal.returns-in-Some-clause-ok
+returns-in-Some-clause-ok g c =
+    inserted-no_holder _ _ (rest_in c.args.region.now) (dictionary_in c.args.dict.now c.args.region.now) c.args.append c.args.object.now _ _ (rest_in c.grow.new.region) (dictionary_in c.grow.new.dict c.grow.new.region)
+    (rest_in c.hold.new.region) (dictionary_in c.hold.new.dict c.hold.new.region) c.in-Err-hold.fault c.in-Some.want c.grow.ensures.leaves.rest.disc.kept.terms c.in-Ok.ensures.ok c.in-Err-hold.ensures.err.0 (sym c.in-Some.ensures)
+    c.in-Err-hold.ensures.err.1 c.in-Err-hold.ensures.err.2
+
+pub returns-in-Some-clause-leaves : goal.returns-in-Some-clause-leaves
+returns-in-Some-clause-leaves g c =
+    rest-trans _ _ c.args.region.now c.grow.new.region c.hold.new.region c.args.dict.now c.grow.new.dict c.hold.new.dict c.grow.ensures.leaves c.hold.ensures.leaves
+    (grown-kept _ (rest_in c.args.region.now) (dictionary_in c.args.dict.now c.args.region.now) (slots_wanted (dictionary_in c.args.dict.now c.args.region.now)) (rest_in c.grow.new.region) (dictionary_in c.grow.new.dict c.grow.new.region) c.in-Ok.ensures.ok).1 c.hold.ensures.table
+
+pub returns-in-Some-clause-lacks : goal.returns-in-Some-clause-lacks
+returns-in-Some-clause-lacks g c =
+    lacks-holder (slots_wanted (dictionary_in c.args.dict.now c.args.region.now)) c.args.object.now _ _ _ c.in-Err-hold.fault c.in-Some.want (sym c.in-Some.ensures) c.grow.ensures.same c.grow.ensures.leaves.rest.disc.kept.faults c.in-Err-hold.ensures.lacks
+
+pub returns-in-None-clause-leaves : goal.returns-in-None-clause-leaves
+returns-in-None-clause-leaves g c =
+    rest-trans _ _ c.args.region.now c.grow.new.region c.hold.new.region c.args.dict.now c.grow.new.dict c.hold.new.dict c.grow.ensures.leaves c.hold.ensures.leaves
+    (grown-kept _ (rest_in c.args.region.now) (dictionary_in c.args.dict.now c.args.region.now) (slots_wanted (dictionary_in c.args.dict.now c.args.region.now)) (rest_in c.grow.new.region) (dictionary_in c.grow.new.dict c.grow.new.region) c.in-Ok.ensures.ok).1 c.hold.ensures.table
+
+pub returns-in-Some-want_of-clause-ok : goal.returns-in-Some-want_of-clause-ok
+returns-in-Some-want_of-clause-ok g c =
+    inserted-no_table (g.D.DictDisc.rules c.args.kind.now) _ (rest_in c.args.region.now) (dictionary_in c.args.dict.now c.args.region.now) c.args.append c.args.object.now (rest_in c.grow.new.region) (dictionary_in c.grow.new.dict c.grow.new.region)
+    c.in-Err.fault c.in-Some-want_of.want c.in-Err.ensures.err.0 (sym c.in-Some-want_of.ensures) c.in-Err.ensures.err.1 c.in-Err.ensures.err.2

@@ -1,0 +1,63 @@
+use Rattle.std.proofs.Common.{ℕ, ap, ◌∙◌, arith}
+use Rattle.vc_base.specs.declared.addr.Addr.{Addr}
+use Rattle.vc_dict.specs.Listed.{holders_of}
+use Rattle.vc_region.specs.Cells.{cells_in, rest_in}
+use Rattle.vc_region.specs.Region as model
+use Rattle.vc_objects.specs.Insert.{without_table}
+use Rattle.vc_objects.specs.Objects.{owned}
+use Rattle.vc_objects.specs.Parts.{dictionary_in, table_of}
+use Rattle.vc_objects.proofs.Adopting.{can-adopt, dictionary-grown, fresh-grown, old-there, others-grown, stands-placed, whole-grown}
+use Rattle.vc_objects.proofs.Answering.{grown-put}
+use Rattle.vc_objects.proofs.Growing.{most-of}
+use Rattle.vc_objects.proofs.Leaving.{leaves-put, none-at}
+use Rattle.vc_objects.proofs.tables.put_table.Goals as goal
+
+pub overflow_mul-slots : goal.overflow_mul-slots
+overflow_mul-slots g c = let most = most-of c.args.slots c.requires.grows.allowed in omega (arith, most)
+
+pub alloc_cell-requires-clause-most : goal.alloc_cell-requires-clause-most
+alloc_cell-requires-clause-most g c = let most = most-of c.args.slots c.requires.grows.allowed in omega (arith, most)
+
+pub adopt_table-old-requires : goal.adopt_table-old-requires
+adopt_table-old-requires g c =
+    can-adopt _ c.args.dict.now (cells_in c.args.region.now) (cells_in c.alloc_cell.new.region) c.in-Ok.table.0 c.args.slots c.requires.grows c.in-Ok.ensures.fresh c.in-Ok.ensures.address c.in-Ok.ensures.cells
+
+pub free_table-requires-clause-there : goal.free_table-requires-clause-there
+free_table-requires-clause-there g c some =
+    old-there _ c.args.dict.now (cells_in c.args.region.now) (cells_in c.alloc_cell.new.region) c.in-Ok.table.0 c.args.slots c.requires.grows c.in-Ok.ensures.fresh c.in-Ok.ensures.address c.in-Ok.ensures.cells
+    c.adopt_table-old.new.self (cells_in c.adopt_table-old.new.cells) (c.adopt_table-old.ensures.dict (holders_of c.args.dict.now (cells_in c.args.region.now)) (stands-placed _ c.args.dict.now (cells_in c.args.region.now) (cells_in c.alloc_cell.new.region) c.in-Ok.table.0 c.args.slots c.requires.grows c.in-Ok.ensures.fresh c.in-Ok.ensures.address c.in-Ok.ensures.cells))
+    c.adopt_table-old.result.0 (ap (λ (t : Addr). t.0) c.adopt_table-old.ensures.old) some
+
+pub returns-in-Ok-clause-ok : goal.returns-in-Ok-clause-ok
+returns-in-Ok-clause-ok g c =
+    let adopted = c.adopt_table-old.ensures.dict (holders_of c.args.dict.now (cells_in c.args.region.now)) (stands-placed _ c.args.dict.now (cells_in c.args.region.now) (cells_in c.alloc_cell.new.region) c.in-Ok.table.0 c.args.slots c.requires.grows c.in-Ok.ensures.fresh c.in-Ok.ensures.address c.in-Ok.ensures.cells) in
+    let table = ap (λ (t : Addr). t.0) c.adopt_table-old.ensures.old in
+    grown-put _ (dictionary_in c.args.dict.now c.args.region.now) c.args.slots c.in-Ok.table.0 (rest_in c.alloc_cell.new.region) (rest_in c.free_table.new.region) (dictionary_in c.adopt_table-old.new.self c.free_table.new.region)
+    c.in-Ok.ensures.answer
+    (c.free_table.ensures.rest c.args.dict.now.slots
+    ∙ (ap (λ (q : model.Region ℕ). without_table q (table_of c.adopt_table-old.result.0 c.args.dict.now.slots)) c.adopt_table-old.ensures.rest.region
+    ∙ ap (λ (n : ℕ). without_table (rest_in c.alloc_cell.new.region) (table_of n c.args.dict.now.slots)) table))
+    (dictionary-grown _ c.args.dict.now (cells_in c.args.region.now) (cells_in c.alloc_cell.new.region) c.in-Ok.table.0 c.args.slots c.requires.grows c.in-Ok.ensures.fresh c.in-Ok.ensures.address c.in-Ok.ensures.cells
+    c.adopt_table-old.new.self (cells_in c.adopt_table-old.new.cells) (cells_in c.free_table.new.region) adopted (λ a ne. c.free_table.ensures.others a (λ e. ne (e ∙ table))))
+
+pub returns-in-Ok-clause-whole : goal.returns-in-Ok-clause-whole
+returns-in-Ok-clause-whole g c =
+    let adopted = c.adopt_table-old.ensures.dict (holders_of c.args.dict.now (cells_in c.args.region.now)) (stands-placed _ c.args.dict.now (cells_in c.args.region.now) (cells_in c.alloc_cell.new.region) c.in-Ok.table.0 c.args.slots c.requires.grows c.in-Ok.ensures.fresh c.in-Ok.ensures.address c.in-Ok.ensures.cells) in
+    let table = ap (λ (t : Addr). t.0) c.adopt_table-old.ensures.old in
+    whole-grown _ c.args.dict.now (cells_in c.args.region.now) (cells_in c.alloc_cell.new.region) c.in-Ok.table.0 c.args.slots c.requires.grows c.in-Ok.ensures.fresh c.in-Ok.ensures.address c.in-Ok.ensures.cells
+    c.adopt_table-old.new.self (cells_in c.adopt_table-old.new.cells) (cells_in c.free_table.new.region) adopted (λ a ne. c.free_table.ensures.others a (λ e. ne (e ∙ table)))
+
+pub returns-in-Ok-clause-kind : goal.returns-in-Ok-clause-kind
+returns-in-Ok-clause-kind g c = (c.adopt_table-old.ensures.dict (holders_of c.args.dict.now (cells_in c.args.region.now)) (stands-placed _ c.args.dict.now (cells_in c.args.region.now) (cells_in c.alloc_cell.new.region) c.in-Ok.table.0 c.args.slots c.requires.grows c.in-Ok.ensures.fresh c.in-Ok.ensures.address c.in-Ok.ensures.cells)).kind
+
+pub returns-in-Ok-clause-leaves : goal.returns-in-Ok-clause-leaves
+returns-in-Ok-clause-leaves g c =
+    let adopted = c.adopt_table-old.ensures.dict (holders_of c.args.dict.now (cells_in c.args.region.now)) (stands-placed _ c.args.dict.now (cells_in c.args.region.now) (cells_in c.alloc_cell.new.region) c.in-Ok.table.0 c.args.slots c.requires.grows c.in-Ok.ensures.fresh c.in-Ok.ensures.address c.in-Ok.ensures.cells) in
+    let table = ap (λ (t : Addr). t.0) c.adopt_table-old.ensures.old in
+    leaves-put _ c.args.region.now c.alloc_cell.new.region c.adopt_table-old.new.cells c.free_table.new.region (owned (dictionary_in c.args.dict.now c.args.region.now)) (owned (dictionary_in c.adopt_table-old.new.self c.free_table.new.region)) _
+    c.in-Ok.ensures.disc c.alloc_cell.ensures.labelled c.adopt_table-old.ensures.rest c.free_table.ensures.disc c.free_table.ensures.segments c.free_table.ensures.labelled c.free_table.ensures.best
+    (others-grown _ c.args.dict.now (cells_in c.args.region.now) (cells_in c.alloc_cell.new.region) c.in-Ok.table.0 c.args.slots c.requires.grows c.in-Ok.ensures.fresh c.in-Ok.ensures.address c.in-Ok.ensures.cells
+    c.adopt_table-old.new.self (cells_in c.adopt_table-old.new.cells) (cells_in c.free_table.new.region) adopted (λ a ne. c.free_table.ensures.others a (λ e. ne (e ∙ table)))
+    (none-at c.free_table.new.region) (none-at c.args.region.now))
+    (fresh-grown _ c.args.dict.now (cells_in c.args.region.now) (cells_in c.alloc_cell.new.region) c.in-Ok.table.0 c.args.slots c.requires.grows c.in-Ok.ensures.fresh c.in-Ok.ensures.address c.in-Ok.ensures.cells
+    c.adopt_table-old.new.self (cells_in c.adopt_table-old.new.cells) (cells_in c.free_table.new.region) adopted (λ a ne. c.free_table.ensures.others a (λ e. ne (e ∙ table))))

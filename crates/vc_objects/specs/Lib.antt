@@ -1,0 +1,14 @@
+pub use Rattle.vc_region.specs.Region
+pub use Rattle.vc_region.specs.Cells
+pub use Rattle.vc_dict.specs.Methods
+pub use Rattle.vc_dtdisc.specs.Rules
+pub mod Objects
+pub mod Lists
+pub mod Insert
+pub mod Remove
+pub mod Turn
+pub mod Parts
+pub mod Freed
+pub mod Leaves
+pub mod Turning
+pub mod Rows

@@ -1,0 +1,50 @@
+-- A dictionary and its objects, each in its holder, an unlabelled block of a best region.
+use Rattle.std.specs.Prelude.{ℕ, ◌+◌, ◌*◌, List, [], ◌∷◌, ◌++◌, Bool, true, false, Option, Some, None, length, map}
+use Rattle.vc_base.specs.declared.dict_method.DictMethod.{DictMethod}
+use Rattle.vc_region.specs.Region.{OfBest, OfDebug, OfLast, OfPool, OfProfile, Region}
+
+-- an object: the address of its holder, and its bytes
+pub record Object : Type 0 where
+  pub at : ℕ
+  pub bytes : List ℕ
+
+-- a table: the address of its block, and how many slots it has
+pub record Table : Type 0 where
+  pub at : ℕ
+  pub slots : ℕ
+
+-- a dictionary: its method, its objects in walk order, the address of the current one's holder, and its table; the last two where there are such
+pub record Dictionary : Type 0 where
+  pub method : DictMethod
+  pub objects : List Object
+  pub current : Option ℕ
+  pub table : Option Table
+
+-- a holder has four words of 8 bytes before the object
+abbrev pub holder_size : List ℕ → ℕ
+holder_size bytes = 32 + length bytes
+
+-- a table has 8 bytes for each slot
+abbrev pub table_size : ℕ → ℕ
+table_size slots = 8 * slots
+
+abbrev pub slots_of : Option Table → ℕ
+slots_of None = 0
+slots_of (Some t) = t.slots
+
+-- an item, where there is one
+abbrev pub listed : {A : Type 0} → Option A → List A
+listed None = []
+listed (Some x) = x ∷ []
+
+-- the addresses of its blocks: of its table and of its holders
+abbrev pub owned : Dictionary → List ℕ
+owned d = map (λ t. t.at) (listed d.table) ++ map (λ o. o.at) d.objects
+
+-- dictionaries lie in best regions
+abbrev pub is_best : {L : Type 0} → Region L → Bool
+is_best (OfBest layout) = true
+is_best (OfPool pool) = false
+is_best (OfLast layout) = false
+is_best (OfDebug debug) = false
+is_best (OfProfile profile) = false

@@ -1,0 +1,68 @@
+-- Taking objects out of a dictionary: their holders go.
+use Rattle.std.specs.Prelude.{ℕ, List, [], ◌∷◌, Option, Some, None, map}
+use Rattle.vc_base.specs.declared.dict_method.DictMethod.{DictMethod}
+use Rattle.vc_base.specs.declared.dict_method.DictMethod.TheVariants.{DtSet, DtBag, DtOset, DtObag, DtList, DtStack, DtQueue}
+use Rattle.vc_dtdisc.specs.Rules.{Rules}
+use Rattle.vc_region.specs.Region.{Region}
+use Rattle.vc_objects.specs.Insert.{freed, without_table}
+use Rattle.vc_objects.specs.Lists.{current_without, first_object, first_with, without_object}
+use Rattle.vc_objects.specs.Objects.{Dictionary, Object}
+
+-- a region and a dictionary in it after an object was taken out, and that object's bytes, where there was one
+pub record Removed (L : Type 0) : Type 0 where
+  pub region : Region L
+  pub dict : Dictionary
+  pub gone : Option (List ℕ)
+
+abbrev pub remove_found : {L : Type 0} → Region L → Dictionary → Option Object → Removed L
+remove_found r d None = record { region = r; dict = d; gone = None }
+remove_found r d (Some o) =
+    record {
+      region = freed r o.at;
+      dict = record {
+        method = d.method;
+        objects = without_object o.at d.objects;
+        current = current_without o.at d.current d.objects;
+        table = d.table;
+      };
+      gone = Some o.bytes;
+    }
+
+-- the first object that has a key is taken out
+abbrev pub remove : {L : Type 0} → Rules → Region L → Dictionary → List ℕ → Removed L
+remove rules r d key = remove_found r d (first_with rules key d.objects)
+
+-- the first object is taken out
+abbrev pub remove_first : {L : Type 0} → Region L → Dictionary → Removed L
+remove_first r d = remove_found r d (first_object d.objects)
+
+-- the object that goes where none is named: the first one of a stack or queue
+abbrev pub unnamed : DictMethod → List Object → Option Object
+unnamed DtSet objects = None
+unnamed DtBag objects = None
+unnamed DtOset objects = None
+unnamed DtObag objects = None
+unnamed DtList objects = None
+unnamed DtStack objects = first_object objects
+unnamed DtQueue objects = first_object objects
+
+-- the first object is taken out, of a stack or queue
+abbrev pub remove_unnamed : {L : Type 0} → Region L → Dictionary → Removed L
+remove_unnamed r d = remove_found r d (unnamed d.method d.objects)
+
+-- the holders of these objects go
+abbrev pub freed_all : {L : Type 0} → Region L → List Object → Region L
+freed_all r [] = r
+freed_all r (o ∷ os) = freed_all (freed r o.at) os
+
+-- what objects are, in order
+abbrev pub bytes_of : List Object → List (List ℕ)
+bytes_of objects = map (λ o. o.bytes) objects
+
+-- a dictionary without its objects; the table stays
+abbrev pub emptied : Dictionary → Dictionary
+emptied d = record { method = d.method; objects = []; current = None; table = d.table }
+
+-- the region when a dictionary ends: without its holders and its table
+abbrev pub region_without : {L : Type 0} → Region L → Dictionary → Region L
+region_without r d = without_table (freed_all r d.objects) d.table

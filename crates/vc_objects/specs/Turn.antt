@@ -1,0 +1,118 @@
+-- Turning a dictionary to another method.
+use Rattle.std.specs.Prelude.{ℕ, List, [], ◌∷◌, ◌++◌, Bool, Option, Some, None, is_some, length, ◌==◌, if◌then◌else◌}
+use Rattle.vc_base.specs.declared.dict_method.DictMethod.{DictMethod}
+use Rattle.vc_base.specs.declared.dict_method.DictMethod.TheVariants.{DtSet, DtBag, DtOset, DtObag, DtList, DtStack, DtQueue}
+use Rattle.vc_model.specs.Addr.{address}
+use Rattle.vc_model.specs.Discipline.{Terms}
+use Rattle.vc_model.specs.Outcome.{Outcome, Done, Refused, Put}
+use Rattle.vc_dict.specs.Methods.{has_table, is_ordered, is_set, slots_between}
+use Rattle.vc_dtdisc.specs.Rules.{Rules}
+use Rattle.vc_region.specs.Region.{Region}
+use Rattle.vc_objects.specs.Insert.{alloc_unlabelled, without_table}
+use Rattle.vc_objects.specs.Lists.{first_with, placed}
+use Rattle.vc_objects.specs.Objects.{Dictionary, Object, Table, listed, table_size}
+use Rattle.vc_objects.specs.Remove.{bytes_of, freed_all}
+
+-- these placed one after another among others in order of their keys, each behind those that match it
+abbrev pub placed_each : Rules → List Object → List Object → List Object
+placed_each rules done [] = done
+placed_each rules done (x ∷ xs) = placed_each rules (placed rules x done) xs
+
+-- whether an object matches one of these
+abbrev pub has_match : Rules → List Object → Object → Bool
+has_match rules objects o = is_some (first_with rules (rules.key o.bytes) objects)
+
+-- behind others, those that match neither one of these nor an earlier one
+abbrev pub kept : Rules → List Object → List Object → List Object
+kept rules done [] = done
+kept rules done (x ∷ xs) = if has_match rules done x then kept rules done xs else kept rules (done ++ x ∷ []) xs
+
+-- those that match one of these or an earlier one
+abbrev pub dropped : Rules → List Object → List Object → List Object
+dropped rules done [] = []
+dropped rules done (x ∷ xs) = if has_match rules done x then x ∷ dropped rules done xs else dropped rules (done ++ x ∷ []) xs
+
+-- objects in the order of a method
+abbrev pub ordered_by : DictMethod → Rules → List Object → List Object
+ordered_by method rules objects = if is_ordered method then placed_each rules [] objects else objects
+
+-- those that a method keeps, and those that it drops
+abbrev pub kept_by : DictMethod → Rules → List Object → List Object
+kept_by method rules objects = if is_set method then kept rules [] objects else objects
+
+abbrev pub dropped_by : DictMethod → Rules → List Object → List Object
+dropped_by method rules objects = if is_set method then dropped rules [] objects else []
+
+-- the methods in their order
+abbrev pub number_of : DictMethod → ℕ
+number_of DtSet = 0
+number_of DtBag = 1
+number_of DtOset = 2
+number_of DtObag = 3
+number_of DtList = 4
+number_of DtStack = 5
+number_of DtQueue = 6
+
+-- a region and a dictionary in it, turned; the bytes of the objects that were dropped; and the segments that were granted
+pub record Turned (L : Type 0) : Type 0 where
+  pub region : Region L
+  pub dict : Dictionary
+  pub gone : List (List ℕ)
+  pub granted : List (ℕ × ℕ)
+
+-- a region with the table that the new method brings, where it brings one
+pub record Brought (L : Type 0) : Type 0 where
+  pub region : Region L
+  pub table : Option Table
+  pub granted : List (ℕ × ℕ)
+
+abbrev pub brought : {L : Type 0} → ℕ → Outcome (Put (Region L)) → Outcome (Brought L)
+brought slots (Refused why) = Refused why
+brought slots (Done p) =
+    Done (record { region = p.region; table = Some (record { at = address p.at; slots = slots }); granted = listed p.granted })
+
+abbrev pub bring_of : {L : Type 0} → Terms → Region L → L → Bool → Option ℕ → Outcome (Brought L)
+bring_of terms r none refused None = Done (record { region = r; table = None; granted = [] })
+bring_of terms r none refused (Some slots) = brought slots (alloc_unlabelled terms r none (table_size slots) refused)
+
+-- the table comes before all else, with slots for the count before any object is dropped
+abbrev pub bring : {L : Type 0} → Terms → Region L → L → Dictionary → DictMethod → Bool → Outcome (Brought L)
+bring terms r none d method refused = bring_of terms r none refused (slots_between d.method method (length d.objects))
+
+-- between set and bag the table stays, and else it is the one that was brought
+abbrev pub table_then : Dictionary → DictMethod → Option Table → Option Table
+table_then d method new = if has_table method then (if has_table d.method then d.table else new) else None
+
+-- the table that is no longer used
+abbrev pub table_left : Dictionary → DictMethod → Option Table
+table_left d method = if has_table method then None else d.table
+
+-- the objects in the order of the method, without those that it drops; none is current
+abbrev pub turned_to : Rules → DictMethod → Dictionary → Option Table → Dictionary
+turned_to rules method d new =
+    record {
+      method = method;
+      objects = kept_by method rules (ordered_by method rules d.objects);
+      current = None;
+      table = table_then d method new;
+    }
+
+abbrev pub objects_dropped : Rules → DictMethod → Dictionary → List Object
+objects_dropped rules method d = dropped_by method rules (ordered_by method rules d.objects)
+
+abbrev pub turned_with : {L : Type 0} → Rules → DictMethod → Dictionary → Outcome (Brought L) → Outcome (Turned L)
+turned_with rules method d (Refused why) = Refused why
+turned_with rules method d (Done b) =
+    Done (record {
+      region = without_table (freed_all b.region (objects_dropped rules method d)) (table_left d method);
+      dict = turned_to rules method d b.table;
+      gone = bytes_of (objects_dropped rules method d);
+      granted = b.granted;
+    })
+
+-- a dictionary is turned to a method; the present one changes nothing
+abbrev pub turn : {L : Type 0} → Rules → Terms → Region L → L → Dictionary → DictMethod → Bool → Outcome (Turned L)
+turn rules terms r none d method refused =
+    if number_of method == number_of d.method
+    then Done (record { region = r; dict = d; gone = []; granted = [] })
+    else turned_with rules method d (bring terms r none d method refused)

@@ -1,0 +1,161 @@
+// Putting objects into a dictionary.
+ghost use Rattle.std.specs.Prelude.{◌≡◌, None, true, false, IfOk, IfErr, IsErrOf, OnErr, OnOk};
+ghost use Rattle.vc_model.specs.Best.{best_need};
+ghost use Rattle.vc_model.specs.Discipline.{Unserved};
+ghost use Rattle.vc_dtdisc.specs.Rules.{IsObject};
+ghost use Rattle.vc_dict.specs.Methods.{is_list, is_set};
+ghost use Rattle.vc_region.specs.Cells.{cells_in, rest_in};
+ghost use Rattle.vc_region.specs.Parts.{disc_in};
+ghost use Rattle.vc_seg.specs.Answer.{IsRefusal};
+ghost use Rattle.vc_objects.specs.Insert.{alloc_unlabelled, grow, insert, slots_wanted};
+ghost use Rattle.vc_objects.specs.Leaves.{GivesInserted, HasGrown, HasHeld, IsHalted, Lacks, LacksTable, LeavesRest, no_holder, no_table, want_by};
+ghost use Rattle.vc_objects.specs.Lists.{first_with};
+ghost use Rattle.vc_objects.specs.Objects.{holder_size, is_best};
+ghost use Rattle.vc_objects.specs.Parts.{IsWhole, dictionary_in};
+
+use crate::cells::alloc_cell;
+use crate::fate::{Fate, Want};
+use crate::tables::put_table;
+use vc_base::{Cells, OutOfMemory, Steps};
+use vc_dict::Dict;
+use vc_dtdisc::DictDisc;
+use vc_region::Region;
+use vc_seg::{BoxedDisc, RegionFault, SegDisc};
+
+// What a block wants by the fault of a best region; want of memory is none.
+fn want_of(fault: RegionFault) -> Option<Want>
+    ensures { result ≡ want_by fault }
+{
+    match fault {
+        RegionFault::NoSegment => Some(Want::NoSegment),
+        RegionFault::OutOfMemory => None,
+        _ => Some(Want::TooManySegments),
+    }
+}
+
+// The table grows where one more object wants it.
+fn grow<D: DictDisc>(region: &mut Region, dict: &mut Dict, kind: &D) -> Result<(), RegionFault>
+    requires best { is_best (rest_in region.old) ≡ true }
+    requires whole { IsWhole (D.rules kind.now) dict.old (cells_in region.old) }
+
+    ensures ok { OnOk result (HasGrown
+        (grow (disc_in state region.old).terms (rest_in region.old) 0
+        (dictionary_in dict.old region.old) false)
+        (rest_in region.new) (dictionary_in dict.new region.new)) }
+    ensures room { OnOk result (slots_wanted (dictionary_in dict.new region.new) ≡ None) }
+    ensures leaves { LeavesRest state (D.rules kind.now) region.old dict.old region.new dict.new }
+    ensures same { slots_wanted (dictionary_in dict.old region.old) ≡ None
+        → disc_in state region.new ≡ disc_in state region.old }
+
+    // With no block for the table nothing changed.
+    ensures err { IfErr result (λ why. IsRefusal
+        (grow (disc_in state region.old).terms (rest_in region.old) 0
+        (dictionary_in dict.old region.old)) why
+        × (rest_in region.new ≡ rest_in region.old)
+        × (dictionary_in dict.new region.new ≡ dictionary_in dict.old region.old)) }
+    ensures lacks { IsErrOf result RegionFault.NoSegment → LacksTable
+        (slots_wanted (dictionary_in dict.old region.old))
+        (disc_in state region.old) (disc_in state region.new) }
+{
+    match dict.wants_table(1) {
+        None => Ok(()),
+        Some(slots) => put_table(region, dict, kind, slots),
+    }
+}
+
+// An object gets a holder, and joins a dictionary whose table has room.
+fn hold<D: DictDisc, L>(
+    region: &mut Region,
+    dict: &mut Dict,
+    kind: &D,
+    object: &[u8],
+    append: bool,
+    steps: &mut Steps<L>,
+) -> Result<(), RegionFault>
+    requires best { is_best (rest_in region.old) ≡ true }
+    requires whole { IsWhole (D.rules kind.now) dict.old (cells_in region.old) }
+    requires room { slots_wanted (dictionary_in dict.old region.old) ≡ None }
+    requires lone { is_set dict.old.method ≡ true → first_with (D.rules kind.now)
+        ((D.rules kind.now).key object.now) (dictionary_in dict.old region.old).objects ≡ None }
+    requires object { IsObject object.now }
+    requires append { append ≡ true → is_list dict.old.method ≡ true }
+
+    ensures ok { OnOk result (HasHeld (D.rules kind.now) append object.now
+        (dictionary_in dict.old region.old)
+        (alloc_unlabelled (disc_in state region.old).terms (rest_in region.old) 0
+        (holder_size object.now) false)
+        (rest_in region.new) (dictionary_in dict.new region.new)) }
+    ensures leaves { LeavesRest state (D.rules kind.now) region.old dict.old region.new dict.new }
+    ensures table { (dictionary_in dict.new region.new).table
+        ≡ (dictionary_in dict.old region.old).table }
+
+    // With no block for the holder nothing changed.
+    ensures err { IfErr result (λ why. IsRefusal
+        (alloc_unlabelled (disc_in state region.old).terms (rest_in region.old) 0
+        (holder_size object.now)) why
+        × (rest_in region.new ≡ rest_in region.old)
+        × (dictionary_in dict.new region.new ≡ dictionary_in dict.old region.old)) }
+    ensures lacks { IsErrOf result RegionFault.NoSegment → Unserved
+        (disc_in state region.old) (disc_in state region.new)
+        (best_need (disc_in state region.old).terms (holder_size object.now) 32) }
+{
+    match alloc_cell(region, 32 + object.len() as u32) {
+        Ok(at) => {
+            region.set_body(at, object);
+            dict.link(region, kind, at, append, steps);
+            Ok(())
+        }
+        Err(fault) => Err(fault),
+    }
+}
+
+/// Puts an object of 1 to 1,024 bytes into a dictionary of a best region where `insert` does, or `append`, which is for
+/// lists, and makes it current. In a set or ordered set no object matches. The table of a set or bag grows first where it
+/// must; then comes the holder. What either wants is told, and nothing else is changed then.
+pub fn insert<D: DictDisc, L>(
+    region: &mut Region,
+    dict: &mut Dict,
+    kind: &D,
+    object: &[u8],
+    append: bool,
+    steps: &mut Steps<L>,
+) -> Result<Fate, OutOfMemory>
+    requires best { is_best (rest_in region.old) ≡ true }
+    requires whole { IsWhole (D.rules kind.now) dict.old (cells_in region.old) }
+    requires lone { is_set dict.old.method ≡ true → first_with (D.rules kind.now)
+        ((D.rules kind.now).key object.now) (dictionary_in dict.old region.old).objects ≡ None }
+    requires object { IsObject object.now }
+    requires append { append ≡ true → is_list dict.old.method ≡ true }
+
+    ensures ok { IfOk result (λ fate. GivesInserted
+        (insert (D.rules kind.now) (disc_in state region.old).terms (rest_in region.old) 0
+        (dictionary_in dict.old region.old) append object.now (no_table fate) (no_holder fate))
+        (rest_in region.new) (dictionary_in dict.new region.new) fate) }
+    ensures leaves { LeavesRest state (D.rules kind.now) region.old dict.old region.new dict.new }
+
+    // What was refused was asked for.
+    ensures lacks { IfOk result (λ fate. Lacks fate
+        (slots_wanted (dictionary_in dict.old region.old)) object.now
+        (disc_in state region.old) (disc_in state region.new)) }
+
+    // With no memory nothing changed, or the table grew.
+    ensures err { OnErr result (IsHalted
+        (grow (disc_in state region.old).terms (rest_in region.old) 0
+        (dictionary_in dict.old region.old) false)
+        (rest_in region.old) (dictionary_in dict.old region.old)
+        (rest_in region.new) (dictionary_in dict.new region.new)) }
+{
+    match grow(region, dict, kind) {
+        Ok(()) => match hold(region, dict, kind, object, append, steps) {
+            Ok(()) => Ok(Fate::Stored),
+            Err(fault) => match want_of(fault) {
+                Some(want) => Ok(Fate::NoHolder(want)),
+                None => Err(OutOfMemory),
+            },
+        },
+        Err(fault) => match want_of(fault) {
+            Some(want) => Ok(Fate::NoTable(want)),
+            None => Err(OutOfMemory),
+        },
+    }
+}

@@ -1,0 +1,22 @@
+//! Dictionaries in best regions: each object lies in a holder, an unlabelled block, and the table of a set or bag in
+//! another one.
+#![tactic(auto)]
+
+mod cells;
+mod emptying;
+mod fate;
+mod finding;
+mod inserting;
+mod opening;
+mod removing;
+mod rows;
+mod tables;
+mod turning;
+
+pub use emptying::{empty, shut};
+pub use fate::{Fate, Want};
+pub use finding::{before_key, behind_key, find, first, last, next};
+pub use inserting::insert;
+pub use opening::open;
+pub use removing::{remove, remove_unnamed};
+pub use turning::turn;
