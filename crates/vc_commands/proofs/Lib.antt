@@ -1,0 +1,5 @@
+pub mod Named
+mod Found
+mod Ran
+mod Seats
+mod Walked

@@ -1,0 +1,120 @@
+-- What running a command promises, from what its own function does.
+use Rattle.std.proofs.Common.{◌≡◌, ℕ, List, [], Bool, true, false, Option, None, refl, sym, ◌∙◌, subst, inl}
+use Rattle.std.specs.Prelude.{IfOk, OnErr, Result, Ok, Err, length}
+use Rattle.vc_base.specs.declared.dict_method.DictMethod.{DictMethod}
+use Rattle.vc_base.specs.declared.dict_method.DictMethod.TheVariants.{DtSet, DtBag, DtOset, DtObag, DtList, DtStack, DtQueue}
+use Rattle.vc_model.specs.Discipline.{Discipline}
+use Rattle.vc_dict.specs.Methods.{is_list, wanted_by}
+use Rattle.vc_dtdisc.specs.Rules.{Gone}
+use Rattle.vc_dict.specs.declared.dict.Dict.{Dict}
+use Rattle.vc_region.specs.Cells.{rest_in}
+use Rattle.vc_region.specs.Region as model
+use Rattle.vc_region.specs.declared.region.Region.{Region}
+use Rattle.vc_objects.specs.Insert.{slots_wanted}
+use Rattle.vc_objects.specs.Objects.{Dictionary, slots_of}
+use Rattle.vc_objects.specs.Parts.{dictionary_in}
+use Rattle.vc_objects.specs.Remove.{bytes_of}
+use Rattle.vc_script.specs.Needs.{Need, ForObject, ForTable, NoNeed, need_shown}
+use Rattle.vc_script.specs.declared.command.Command.{Command}
+use Rattle.vc_script.specs.declared.command.Command.TheVariants.{Insert, Append, Attach, Delete, Detach, Search, MatchKey, First, Last, Next, Prev, Walk, Count, Remethod, Empty}
+use Rattle.vc_script.specs.declared.refusal.Refusal.TheVariants.{NoSegmentForTable, NoSegmentForObject, NotYet, WrongMethod}
+use Rattle.vc_script.specs.declared.reply.Reply.{Reply}
+use Rattle.vc_script.specs.declared.reply.Reply.TheVariants.{Objects, Refused}
+use Rattle.vc_commands.specs.Commands.{append_in, in_dict}
+use Rattle.vc_commands.specs.Run.{GivesDict, IsSpent, IsStill, LacksFor}
+use Rattle.vc_commands.specs.Seat.{Seat, declined}
+
+-- a reply that needs nothing lacks nothing
+table-needed : ForTable ≡ NoNeed → ⊥
+table-needed e = cc
+
+object-needed : ForObject ≡ NoNeed → ⊥
+object-needed e = cc
+
+pub unneeded : (slots : Option ℕ) (object : List ℕ) (reply : Reply) (old new : Discipline) → need_shown reply ≡ NoNeed → LacksFor slots object reply old new
+unneeded slots object (Refused NoSegmentForTable) old new h = absurd (table-needed h)
+unneeded slots object (Refused NoSegmentForObject) old new h = absurd (object-needed h)
+unneeded slots object reply old new h = tt
+
+pub lacks-unneeded : {E : Type 0} (result : Result Reply E) (slots : Option ℕ) (object : List ℕ) (old new : Discipline) → IfOk result (λ reply. need_shown reply ≡ NoNeed) → IfOk result (λ reply. LacksFor slots object reply old new)
+lacks-unneeded (Ok reply) slots object old new h = unneeded slots object reply old new h
+lacks-unneeded (Err why) slots object old new h = tt
+
+-- where nothing changed no more than that is spent
+pub spent-still : {E : Type 0} {I : Type 0} {V : I → Type 0} (result : Result Reply E) (s : Seat ℕ) (r r' : Region I V) (d d' : Dict) (gone gone' : Gone) → s.region ≡ rest_in r → s.dict ≡ dictionary_in d r → gone' ≡ gone
+    → OnErr result (IsStill r d r' d') → OnErr result ((gone' ≡ gone) × IsSpent s (rest_in r') (dictionary_in d' r'))
+spent-still (Ok reply) s r r' d d' gone gone' e f same h = tt
+spent-still (Err why) s r r' d d' gone gone' e f same h = (same, inl (h.region ∙ sym e, h.dict ∙ sym f))
+
+pub spent-told : {E : Type 0} {I : Type 0} {V : I → Type 0} (result : Result Reply E) (s : Seat ℕ) (r r' : Region I V) (d d' : Dict) (gone gone' : Gone) → s.region ≡ rest_in r → s.dict ≡ dictionary_in d r
+    → OnErr result ((gone' ≡ gone) × IsStill r d r' d') → OnErr result ((gone' ≡ gone) × IsSpent s (rest_in r') (dictionary_in d' r'))
+spent-told (Ok reply) s r r' d d' gone gone' e f h = tt
+spent-told (Err why) s r r' d d' gone gone' e f h = (h.0, inl (h.1.region ∙ sym e, h.1.dict ∙ sym f))
+
+-- a list wants no table
+no-table : (method : DictMethod) (slots count more : ℕ) → is_list method ≡ true → wanted_by method slots count more ≡ None
+no-table DtSet slots count more h = cc
+no-table DtBag slots count more h = cc
+no-table DtOset slots count more h = refl
+no-table DtObag slots count more h = refl
+no-table DtList slots count more h = refl
+no-table DtStack slots count more h = refl
+no-table DtQueue slots count more h = refl
+
+by-method : (is : Bool) (s : Seat ℕ) (bytes object : List ℕ) (reply : Reply) (r : model.Region ℕ) (d : Dictionary) (gone gone' : Gone) (old new : Discipline) → is_list s.dict.method ≡ is
+    → GivesDict (append_in s bytes (need_shown reply)) r d reply gone gone' → LacksFor (slots_wanted s.dict) object reply old new → LacksFor None object reply old new
+by-method true s bytes object reply r d gone gone' old new is g h =
+    subst (λ o. LacksFor o object reply old new) (no-table s.dict.method (slots_of s.dict.table) (length s.dict.objects) 1 is) h
+by-method false s bytes object reply r d gone gone' old new is g h =
+    let answer : Refused WrongMethod ≡ reply = (rw is at g.reply) in
+    subst (λ x. LacksFor None object x old new) answer tt
+
+pub append-lacks : {E : Type 0} (result : Result Reply E) (s : Seat ℕ) (bytes object : List ℕ) (r : model.Region ℕ) (d : Dictionary) (gone gone' : Gone) (old new : Discipline)
+    → IfOk result (λ reply. GivesDict (append_in s bytes (need_shown reply)) r d reply gone gone') → IfOk result (λ reply. LacksFor (slots_wanted s.dict) object reply old new) → IfOk result (λ reply. LacksFor None object reply old new)
+append-lacks (Ok reply) s bytes object r d gone gone' old new g h = by-method (is_list s.dict.method) s bytes object reply r d gone gone' old new refl g h
+append-lacks (Err why) s bytes object r d gone gone' old new g h = tt
+
+-- a command that is none of a dictionary is not there yet
+pub other-told : (s : Seat ℕ) (command : Command) (need : Need)
+    → ((d : List ℕ) (x : List ℕ) → command ≡ Insert d x → ⊥)
+    → ((d : List ℕ) (x : List ℕ) → command ≡ Append d x → ⊥)
+    → ((d : List ℕ) (x : List ℕ) → command ≡ Attach d x → ⊥)
+    → ((d : List ℕ) (x : Option (List ℕ)) → command ≡ Delete d x → ⊥)
+    → ((d : List ℕ) (x : List ℕ) → command ≡ Detach d x → ⊥)
+    → ((d : List ℕ) (x : List ℕ) → command ≡ Search d x → ⊥)
+    → ((d : List ℕ) (x : List ℕ) → command ≡ MatchKey d x → ⊥)
+    → ((d : List ℕ) → command ≡ First d → ⊥)
+    → ((d : List ℕ) → command ≡ Last d → ⊥)
+    → ((d : List ℕ) (x : List ℕ) → command ≡ Next d x → ⊥)
+    → ((d : List ℕ) (x : List ℕ) → command ≡ Prev d x → ⊥)
+    → ((d : List ℕ) → command ≡ Walk d → ⊥)
+    → ((d : List ℕ) → command ≡ Count d → ⊥)
+    → ((d : List ℕ) (x : DictMethod) → command ≡ Remethod d x → ⊥)
+    → ((d : List ℕ) → command ≡ Empty d → ⊥)
+    → in_dict s command need ≡ declined s NotYet
+other-told s (Insert d x) need n0 n1 n2 n3 n4 n5 n6 n7 n8 n9 n10 n11 n12 n13 n14 = absurd (n0 d x refl)
+other-told s (Append d x) need n0 n1 n2 n3 n4 n5 n6 n7 n8 n9 n10 n11 n12 n13 n14 = absurd (n1 d x refl)
+other-told s (Attach d x) need n0 n1 n2 n3 n4 n5 n6 n7 n8 n9 n10 n11 n12 n13 n14 = absurd (n2 d x refl)
+other-told s (Delete d x) need n0 n1 n2 n3 n4 n5 n6 n7 n8 n9 n10 n11 n12 n13 n14 = absurd (n3 d x refl)
+other-told s (Detach d x) need n0 n1 n2 n3 n4 n5 n6 n7 n8 n9 n10 n11 n12 n13 n14 = absurd (n4 d x refl)
+other-told s (Search d x) need n0 n1 n2 n3 n4 n5 n6 n7 n8 n9 n10 n11 n12 n13 n14 = absurd (n5 d x refl)
+other-told s (MatchKey d x) need n0 n1 n2 n3 n4 n5 n6 n7 n8 n9 n10 n11 n12 n13 n14 = absurd (n6 d x refl)
+other-told s (First d) need n0 n1 n2 n3 n4 n5 n6 n7 n8 n9 n10 n11 n12 n13 n14 = absurd (n7 d refl)
+other-told s (Last d) need n0 n1 n2 n3 n4 n5 n6 n7 n8 n9 n10 n11 n12 n13 n14 = absurd (n8 d refl)
+other-told s (Next d x) need n0 n1 n2 n3 n4 n5 n6 n7 n8 n9 n10 n11 n12 n13 n14 = absurd (n9 d x refl)
+other-told s (Prev d x) need n0 n1 n2 n3 n4 n5 n6 n7 n8 n9 n10 n11 n12 n13 n14 = absurd (n10 d x refl)
+other-told s (Walk d) need n0 n1 n2 n3 n4 n5 n6 n7 n8 n9 n10 n11 n12 n13 n14 = absurd (n11 d refl)
+other-told s (Count d) need n0 n1 n2 n3 n4 n5 n6 n7 n8 n9 n10 n11 n12 n13 n14 = absurd (n12 d refl)
+other-told s (Remethod d x) need n0 n1 n2 n3 n4 n5 n6 n7 n8 n9 n10 n11 n12 n13 n14 = absurd (n13 d x refl)
+other-told s (Empty d) need n0 n1 n2 n3 n4 n5 n6 n7 n8 n9 n10 n11 n12 n13 n14 = absurd (n14 d refl)
+other-told s command need n0 n1 n2 n3 n4 n5 n6 n7 n8 n9 n10 n11 n12 n13 n14 = refl
+
+-- all objects are told of
+pub walk-told : {E : Type 0} (result : Result Reply E) (s : Seat ℕ) (d : List ℕ) (gone : Gone) → IfOk result (λ reply. reply ≡ Objects (bytes_of s.dict.objects))
+    → IfOk result (λ reply. GivesDict (in_dict s (Walk d) (need_shown reply)) s.region s.dict reply gone gone)
+walk-told (Ok reply) s d gone h = record { region = refl; dict = refl; reply = sym h; told = refl }
+walk-told (Err why) s d gone h = tt
+
+pub walk-lacks : {E : Type 0} (result : Result Reply E) (bytes : List (List ℕ)) (old new : Discipline) → IfOk result (λ reply. reply ≡ Objects bytes) → IfOk result (λ reply. LacksFor None [] reply old new)
+walk-lacks (Ok reply) bytes old new h = subst (λ x. LacksFor None [] x old new) (sym h) tt
+walk-lacks (Err why) bytes old new h = tt

@@ -1,0 +1,15 @@
+use Rattle.std.proofs.Common.{subst}
+use Rattle.vc_commands.specs.Run.{IsOfHolder}
+use Rattle.vc_commands.proofs.Found.{holder-bytes}
+use Rattle.vc_commands.proofs.Seats.{leaves-looked}
+use Rattle.vc_commands.proofs.putting.put_unless.Goals as goal
+
+pub body-requires : goal.body-requires
+body-requires g c =
+    holder-bytes c.standing.new.dict c.standing.new.region (g.D.DictDisc.rules c.args.kind.now) c.in-Some.at.0 c.standing.ensures.looks.leaves.whole
+    (subst (λ o. IsOfHolder c.standing.new.dict c.standing.new.region o) c.in-Some.is c.standing.ensures.within)
+
+pub returns-in-None-clause-leaves : goal.returns-in-None-clause-leaves
+returns-in-None-clause-leaves g c =
+    leaves-looked _ (g.D.DictDisc.rules c.args.kind.now) c.args.region.now c.args.dict.now c.standing.new.region c.standing.new.dict c.standing.ensures.looks
+    c.put.new.region c.put.new.dict c.put.ensures.leaves

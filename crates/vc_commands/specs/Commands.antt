@@ -1,0 +1,161 @@
+-- The commands on one dictionary: each gives the first refusal that applies, else the dictionary after it and the reply.
+use Rattle.std.specs.Prelude.{ℕ, List, [], Bool, true, false, Option, Some, None, length, nat_le, ◌&&◌, if◌then◌else◌}
+use Rattle.vc_base.specs.declared.dict_method.DictMethod.{DictMethod}
+use Rattle.vc_model.specs.Outcome as model
+use Rattle.vc_model.specs.Outcome.{Outcome}
+use Rattle.vc_dict.specs.Methods.{is_list, is_set, slots_between}
+use Rattle.vc_objects.specs.Insert.{Inserted, insert, slots_wanted, want_of}
+use Rattle.vc_objects.specs.Lists.{before_key, behind_key, first_object, first_with, last_object}
+use Rattle.vc_objects.specs.Objects.{Object, listed}
+use Rattle.vc_objects.specs.Remove.{Removed, bytes_of, emptied, freed_all, remove, remove_unnamed}
+use Rattle.vc_objects.specs.Turn.{Turned, turn}
+use Rattle.vc_objects.specs.declared.fate.Fate.{Fate}
+use Rattle.vc_objects.specs.declared.fate.Fate.TheVariants.{Stored, NoTable, NoHolder}
+use Rattle.vc_objects.specs.declared.fate.Want.{Want}
+use Rattle.vc_objects.specs.declared.fate.Want.TheVariants as want
+use Rattle.vc_script.specs.Needs.{Need, NoNeed, ForBlock, ForTable, ForObject}
+use Rattle.vc_script.specs.declared.command.Command.{Command}
+use Rattle.vc_script.specs.declared.command.Command.TheVariants.{Insert, Append, Attach, Delete, Detach, Search, MatchKey, First, Last, Next, Prev, Walk, Count, Remethod, Empty}
+use Rattle.vc_script.specs.declared.refusal.Refusal.{Refusal}
+use Rattle.vc_script.specs.declared.refusal.Refusal.TheVariants as why
+use Rattle.vc_script.specs.declared.reply.Reply.{Reply}
+use Rattle.vc_script.specs.declared.reply.Reply.TheVariants.{New, Old, Gone, Out, Found, Nothing, Objects, Number, MethodIs, Emptied, Refused}
+use Rattle.vc_commands.specs.Seat.{DictChanged, Seat, answered, declined, looked}
+
+abbrev pub is_for_table : Need → Bool
+is_for_table NoNeed = false
+is_for_table ForBlock = false
+is_for_table ForTable = true
+is_for_table ForObject = false
+
+abbrev pub is_for_object : Need → Bool
+is_for_object NoNeed = false
+is_for_object ForBlock = false
+is_for_object ForTable = false
+is_for_object ForObject = true
+
+-- an object or a key of a script has 1 to 1,024 bytes
+abbrev pub is_object : List ℕ → Bool
+is_object bytes = nat_le 1 (length bytes) && nat_le (length bytes) 1024
+
+abbrev pub where_object : {L : Type 0} → Seat L → List ℕ → DictChanged L → DictChanged L
+where_object s bytes c = if is_object bytes then c else declined s why.Size
+
+-- the refusal of a script for what a table wants, and for what a holder does
+abbrev pub table_refusal : Want → Refusal
+table_refusal want.TooManySegments = why.TooManySegments
+table_refusal want.NoSegment = why.NoSegmentForTable
+
+abbrev pub object_refusal : Want → Refusal
+object_refusal want.TooManySegments = why.TooManySegments
+object_refusal want.NoSegment = why.NoSegmentForObject
+
+-- the reply to an object that is put
+abbrev pub fate_reply : List ℕ → Fate → Reply
+fate_reply bytes Stored = New bytes
+fate_reply bytes (NoTable wants) = Refused (table_refusal wants)
+fate_reply bytes (NoHolder wants) = Refused (object_refusal wants)
+
+abbrev pub put_as : {L : Type 0} → List ℕ → Inserted L → DictChanged L
+put_as bytes c = record { region = c.region; dict = c.dict; reply = fate_reply bytes c.fate; told = []; granted = c.granted }
+
+abbrev pub put_object : {L : Type 0} → Seat L → Bool → List ℕ → Need → DictChanged L
+put_object s append bytes need =
+    put_as bytes (insert s.rules s.terms s.region s.none s.dict append bytes (is_for_table need) (is_for_object need))
+
+-- the object of a set that an object matches
+abbrev pub standing : {L : Type 0} → Seat L → List ℕ → Option Object
+standing s bytes = if is_set s.dict.method then first_with s.rules (s.rules.key bytes) s.dict.objects else None
+
+abbrev pub put_unless : {L : Type 0} → Seat L → List ℕ → Need → Option Object → DictChanged L
+put_unless s bytes need (Some o) = answered s (Old o.bytes)
+put_unless s bytes need None = put_object s false bytes need
+
+-- an object is put, unless one of a set matches it
+abbrev pub insert_in : {L : Type 0} → Seat L → List ℕ → Need → DictChanged L
+insert_in s bytes need = put_unless s bytes need (standing s bytes)
+
+-- lists alone are appended to
+abbrev pub append_in : {L : Type 0} → Seat L → List ℕ → Need → DictChanged L
+append_in s bytes need =
+    if is_list s.dict.method
+    then where_object s bytes (put_object s true (s.rules.made bytes) need)
+    else declined s why.WrongMethod
+
+-- what was taken out is told to the script, and to the kind where that is wanted
+abbrev pub gone_reply : Bool → Option (List ℕ) → Reply
+gone_reply tells None = Nothing
+gone_reply tells (Some bytes) = if tells then Gone bytes else Out bytes
+
+abbrev pub removed_as : {L : Type 0} → Bool → Removed L → DictChanged L
+removed_as tells c =
+    record {
+      region = c.region;
+      dict = c.dict;
+      reply = gone_reply tells c.gone;
+      told = if tells then listed c.gone else [];
+      granted = [];
+    }
+
+abbrev pub remove_in : {L : Type 0} → Seat L → Bool → List ℕ → DictChanged L
+remove_in s tells bytes = where_object s bytes (removed_as tells (remove s.rules s.region s.dict (s.rules.key bytes)))
+
+abbrev pub delete_in : {L : Type 0} → Seat L → Option (List ℕ) → DictChanged L
+delete_in s None = removed_as true (remove_unnamed s.region s.dict)
+delete_in s (Some bytes) = remove_in s true bytes
+
+-- an object that is found is current
+abbrev pub found_in : {L : Type 0} → Seat L → Option Object → DictChanged L
+found_in s None = answered s Nothing
+found_in s (Some o) = looked s (record s.dict { current = Some o.at }) (Found o.bytes)
+
+-- all objects go, and the kind is told of each
+abbrev pub empty_in : {L : Type 0} → Seat L → List ℕ → DictChanged L
+empty_in s name =
+    record {
+      region = freed_all s.region s.dict.objects;
+      dict = emptied s.dict;
+      reply = Emptied name (length s.dict.objects);
+      told = bytes_of s.dict.objects;
+      granted = [];
+    }
+
+-- another method
+abbrev pub turned_as : {L : Type 0} → Seat L → List ℕ → DictMethod → Outcome (Turned L) → DictChanged L
+turned_as s name method (model.Refused fault) = declined s (table_refusal (want_of fault))
+turned_as s name method (model.Done t) =
+    record { region = t.region; dict = t.dict; reply = MethodIs name method; told = t.gone; granted = t.granted }
+
+-- a command on a dictionary; the need is the one free choice
+abbrev pub in_dict : {L : Type 0} → Seat L → Command → Need → DictChanged L
+in_dict s (Insert d bytes) need = where_object s bytes (insert_in s (s.rules.made bytes) need)
+in_dict s (Append d bytes) need = append_in s bytes need
+in_dict s (Attach d bytes) need = where_object s bytes (insert_in s bytes need)
+in_dict s (Delete d object) need = delete_in s object
+in_dict s (Detach d bytes) need = remove_in s false bytes
+in_dict s (Search d bytes) need = where_object s bytes (found_in s (first_with s.rules (s.rules.key bytes) s.dict.objects))
+in_dict s (MatchKey d key) need = where_object s key (found_in s (first_with s.rules key s.dict.objects))
+in_dict s (First d) need = found_in s (first_object s.dict.objects)
+in_dict s (Last d) need = found_in s (last_object s.dict.objects)
+in_dict s (Next d bytes) need = where_object s bytes (found_in s (behind_key s.rules (s.rules.key bytes) s.dict.objects))
+in_dict s (Prev d bytes) need = where_object s bytes (found_in s (before_key s.rules (s.rules.key bytes) s.dict.objects))
+in_dict s (Walk d) need = answered s (Objects (bytes_of s.dict.objects))
+in_dict s (Count d) need = answered s (Number (length s.dict.objects))
+in_dict s (Remethod d method) need =
+    turned_as s d method (turn s.rules s.terms s.region s.none s.dict method (is_for_table need))
+in_dict s (Empty d) need = empty_in s d
+in_dict s command need = declined s why.NotYet
+
+-- the slots of the table that a command may need
+abbrev pub table_asked : {L : Type 0} → Seat L → Command → Option ℕ
+table_asked s (Insert d bytes) = slots_wanted s.dict
+table_asked s (Attach d bytes) = slots_wanted s.dict
+table_asked s (Remethod d method) = slots_between s.dict.method method (length s.dict.objects)
+table_asked s command = None
+
+-- the object that it may put into a holder
+abbrev pub object_asked : {L : Type 0} → Seat L → Command → List ℕ
+object_asked s (Insert d bytes) = s.rules.made bytes
+object_asked s (Append d bytes) = s.rules.made bytes
+object_asked s (Attach d bytes) = bytes
+object_asked s command = []

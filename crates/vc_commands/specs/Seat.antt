@@ -1,0 +1,36 @@
+-- Where a command on a dictionary works, and what it gives.
+use Rattle.std.specs.Prelude.{ℕ, List, []}
+use Rattle.vc_model.specs.Discipline.{Terms}
+use Rattle.vc_dtdisc.specs.Rules.{Rules}
+use Rattle.vc_region.specs.Region.{Region}
+use Rattle.vc_objects.specs.Objects.{Dictionary}
+use Rattle.vc_script.specs.declared.refusal.Refusal.{Refusal}
+use Rattle.vc_script.specs.declared.reply.Reply.{Reply}
+use Rattle.vc_script.specs.declared.reply.Reply.TheVariants.{Refused}
+
+-- the rules of its kind, the terms of the region's discipline, the label of a block without a name, the region, and the dictionary
+pub record Seat (L : Type 0) : Type 0 where
+  pub rules : Rules
+  pub terms : Terms
+  pub none : L
+  pub region : Region L
+  pub dict : Dictionary
+
+-- the region and the dictionary after it, the reply, the objects that the kind is told of, and the segments that were granted, as number and bytes
+pub record DictChanged (L : Type 0) : Type 0 where
+  pub region : Region L
+  pub dict : Dictionary
+  pub reply : Reply
+  pub told : List (List ℕ)
+  pub granted : List (ℕ × ℕ)
+
+-- a reply that changes nothing but the dictionary
+abbrev pub looked : {L : Type 0} → Seat L → Dictionary → Reply → DictChanged L
+looked s dict reply = record { region = s.region; dict = dict; reply = reply; told = []; granted = [] }
+
+-- one that changes nothing
+abbrev pub answered : {L : Type 0} → Seat L → Reply → DictChanged L
+answered s reply = looked s s.dict reply
+
+abbrev pub declined : {L : Type 0} → Seat L → Refusal → DictChanged L
+declined s why = answered s (Refused why)

@@ -1,0 +1,238 @@
+// The commands that put an object into a dictionary.
+ghost use Rattle.std.specs.Prelude.{◌≡◌, None, true, false, IfOk, OnErr, OnOk};
+ghost use Rattle.vc_dict.specs.Methods.{is_list, is_set};
+ghost use Rattle.vc_dtdisc.specs.Rules.{Gone, IsObject, Rules};
+ghost use Rattle.vc_region.specs.Cells.{cells_in, rest_in};
+ghost use Rattle.vc_region.specs.Parts.{disc_in};
+ghost use Rattle.vc_objects.specs.Insert.{slots_wanted};
+ghost use Rattle.vc_objects.specs.Leaves.{LeavesRest, Looks};
+ghost use Rattle.vc_objects.specs.Lists.{first_with};
+ghost use Rattle.vc_objects.specs.Objects.{is_best};
+ghost use Rattle.vc_objects.specs.Parts.{IsWhole, dictionary_in};
+ghost use Rattle.vc_script.specs.Needs.{need_shown};
+ghost use Rattle.vc_commands.specs.Commands.{append_in, fate_reply, insert_in, put_object, put_unless, standing, where_object};
+ghost use Rattle.vc_commands.specs.Run.{Gives, IsOfHolder, IsSpent, IsStill, LacksFor, object_there, seat_in};
+
+use crate::Uncounted;
+use crate::looking::is_object;
+use std::alloc::Global;
+use vc_base::{Addr, Cells, DictMethod, OutOfMemory, Steps};
+use vc_dict::Dict;
+use vc_dtdisc::DictDisc;
+use vc_objects::{Fate, Want};
+use vc_region::Region;
+use vc_script::{Bytes, Refusal, Reply};
+use vc_seg::{BoxedDisc, SegDisc};
+
+// Whether no two objects match: in sets and ordered sets.
+fn is_set(method: DictMethod) -> bool
+    ensures { result ≡ is_set method }
+{
+    match method {
+        DictMethod::DtSet | DictMethod::DtOset => true,
+        _ => false,
+    }
+}
+
+// Whether objects are appended: to lists.
+fn is_list(method: DictMethod) -> bool
+    ensures { result ≡ is_list method }
+{
+    match method {
+        DictMethod::DtList => true,
+        _ => false,
+    }
+}
+
+// The reply to an object that was put.
+fn fate_reply(object: Vec<u8>, fate: Fate) -> Reply
+    ensures { result ≡ fate_reply object.items fate }
+{
+    match fate {
+        Fate::Stored => Reply::New(Bytes::from_vec(object)),
+        Fate::NoTable(Want::TooManySegments) | Fate::NoHolder(Want::TooManySegments) => {
+            Reply::Refused(Refusal::TooManySegments)
+        }
+        Fate::NoTable(Want::NoSegment) => Reply::Refused(Refusal::NoSegmentForTable),
+        Fate::NoHolder(Want::NoSegment) => Reply::Refused(Refusal::NoSegmentForObject),
+    }
+}
+
+// Puts an object that none of a set matches.
+fn put<D: DictDisc>(
+    alloc: Global,
+    region: &mut Region,
+    dict: &mut Dict,
+    kind: &D,
+    object: Vec<u8>,
+    append: bool,
+) -> Result<Reply, OutOfMemory>
+    requires best { is_best (rest_in region.old) ≡ true }
+    requires whole { IsWhole (D.rules kind.now) dict.old (cells_in region.old) }
+    requires lone { is_set dict.old.method ≡ true → first_with (D.rules kind.now)
+        ((D.rules kind.now).key object.items) (dictionary_in dict.old region.old).objects ≡ None }
+    requires object { IsObject object.items }
+    requires append { append ≡ true → is_list dict.old.method ≡ true }
+
+    ensures step { IfOk result (λ reply. Gives
+        (put_object (seat_in state (D.rules kind.now) region.old dict.old) append object.items
+        (need_shown reply))
+        region.new dict.new reply (D.gone kind.now) (D.gone kind.now)) }
+    ensures leaves { LeavesRest state (D.rules kind.now) region.old dict.old region.new dict.new }
+    ensures lacks { IfOk result (λ reply. LacksFor (slots_wanted (dictionary_in dict.old region.old))
+        object.items reply (disc_in state region.old) (disc_in state region.new)) }
+    ensures err { OnErr result (IsSpent (seat_in state (D.rules kind.now) region.old dict.old)
+        (rest_in region.new) (dictionary_in dict.new region.new)) }
+{
+    let mut steps = Steps::<Uncounted>::new(alloc);
+    let fate = vc_objects::insert(region, dict, kind, &object, append, &mut steps)?;
+    Ok(fate_reply(object, fate))
+}
+
+// The holder of the object of a set that an object matches.
+fn standing<D: DictDisc>(
+    alloc: Global,
+    region: &mut Region,
+    dict: &mut Dict,
+    kind: &D,
+    object: &[u8],
+) -> Option<Addr>
+    requires best { is_best (rest_in region.old) ≡ true }
+    requires whole { IsWhole (D.rules kind.now) dict.old (cells_in region.old) }
+
+    ensures found { object_there region.new result ≡ standing
+        (seat_in state (D.rules kind.now) region.old dict.old) object.now }
+    ensures within { IsOfHolder dict.new region.new result }
+    ensures looks { Looks state (D.rules kind.now) region.old dict.old region.new dict.new }
+{
+    if is_set(dict.method) {
+        let mut steps = Steps::<Uncounted>::new(alloc);
+        vc_objects::find(region, dict, kind, kind.key(object), &mut steps)
+    } else {
+        None
+    }
+}
+
+// Puts an object, unless one of a set matches it.
+fn put_unless<D: DictDisc>(
+    alloc: Global,
+    region: &mut Region,
+    dict: &mut Dict,
+    kind: &D,
+    object: Vec<u8>,
+) -> Result<Reply, OutOfMemory>
+    requires best { is_best (rest_in region.old) ≡ true }
+    requires whole { IsWhole (D.rules kind.now) dict.old (cells_in region.old) }
+    requires object { IsObject object.items }
+
+    ensures step { IfOk result (λ reply. Gives
+        (insert_in (seat_in state (D.rules kind.now) region.old dict.old) object.items
+        (need_shown reply))
+        region.new dict.new reply (D.gone kind.now) (D.gone kind.now)) }
+    ensures leaves { LeavesRest state (D.rules kind.now) region.old dict.old region.new dict.new }
+    ensures lacks { IfOk result (λ reply. LacksFor (slots_wanted (dictionary_in dict.old region.old))
+        object.items reply (disc_in state region.old) (disc_in state region.new)) }
+    ensures err { OnErr result (IsSpent (seat_in state (D.rules kind.now) region.old dict.old)
+        (rest_in region.new) (dictionary_in dict.new region.new)) }
+{
+    match standing(alloc, region, dict, kind, &object) {
+        Some(at) => {
+            let bytes = region.body(at).to_vec(alloc)?;
+            Ok(Reply::Old(Bytes::from_vec(bytes)))
+        }
+        None => put(alloc, region, dict, kind, object, false),
+    }
+}
+
+// `insert`: puts the object that is made of these bytes, unless one of a set matches it.
+pub(crate) fn insert<D: DictDisc>(
+    alloc: Global,
+    region: &mut Region,
+    dict: &mut Dict,
+    kind: &D,
+    object: &[u8],
+) -> Result<Reply, OutOfMemory>
+    requires best { is_best (rest_in region.old) ≡ true }
+    requires whole { IsWhole (D.rules kind.now) dict.old (cells_in region.old) }
+
+    ensures step { IfOk result (λ reply. Gives
+        (where_object (seat_in state (D.rules kind.now) region.old dict.old) object.now
+        (insert_in (seat_in state (D.rules kind.now) region.old dict.old)
+        ((D.rules kind.now).made object.now) (need_shown reply)))
+        region.new dict.new reply (D.gone kind.now) (D.gone kind.now)) }
+    ensures leaves { LeavesRest state (D.rules kind.now) region.old dict.old region.new dict.new }
+    ensures lacks { IfOk result (λ reply. LacksFor (slots_wanted (dictionary_in dict.old region.old))
+        ((D.rules kind.now).made object.now) reply
+        (disc_in state region.old) (disc_in state region.new)) }
+    ensures err { OnErr result (IsSpent (seat_in state (D.rules kind.now) region.old dict.old)
+        (rest_in region.new) (dictionary_in dict.new region.new)) }
+{
+    if !is_object(object) {
+        return Ok(Reply::Refused(Refusal::Size));
+    }
+    let mut out = Vec::new(alloc);
+    kind.make(object, &mut out)?;
+    put_unless(alloc, region, dict, kind, out)
+}
+
+// `attach`: puts the object itself, unless one of a set matches it.
+pub(crate) fn attach<D: DictDisc>(
+    alloc: Global,
+    region: &mut Region,
+    dict: &mut Dict,
+    kind: &D,
+    object: &[u8],
+) -> Result<Reply, OutOfMemory>
+    requires best { is_best (rest_in region.old) ≡ true }
+    requires whole { IsWhole (D.rules kind.now) dict.old (cells_in region.old) }
+
+    ensures step { IfOk result (λ reply. Gives
+        (where_object (seat_in state (D.rules kind.now) region.old dict.old) object.now
+        (insert_in (seat_in state (D.rules kind.now) region.old dict.old) object.now
+        (need_shown reply)))
+        region.new dict.new reply (D.gone kind.now) (D.gone kind.now)) }
+    ensures leaves { LeavesRest state (D.rules kind.now) region.old dict.old region.new dict.new }
+    ensures lacks { IfOk result (λ reply. LacksFor (slots_wanted (dictionary_in dict.old region.old))
+        object.now reply (disc_in state region.old) (disc_in state region.new)) }
+    ensures err { OnErr result (IsSpent (seat_in state (D.rules kind.now) region.old dict.old)
+        (rest_in region.new) (dictionary_in dict.new region.new)) }
+{
+    if !is_object(object) {
+        return Ok(Reply::Refused(Refusal::Size));
+    }
+    let out = object.to_vec(alloc)?;
+    put_unless(alloc, region, dict, kind, out)
+}
+
+// `append`: puts the object that is made of these bytes behind the current one of a list.
+pub(crate) fn append<D: DictDisc>(
+    alloc: Global,
+    region: &mut Region,
+    dict: &mut Dict,
+    kind: &D,
+    object: &[u8],
+) -> Result<Reply, OutOfMemory>
+    requires best { is_best (rest_in region.old) ≡ true }
+    requires whole { IsWhole (D.rules kind.now) dict.old (cells_in region.old) }
+
+    ensures step { IfOk result (λ reply. Gives
+        (append_in (seat_in state (D.rules kind.now) region.old dict.old) object.now
+        (need_shown reply))
+        region.new dict.new reply (D.gone kind.now) (D.gone kind.now)) }
+    ensures leaves { LeavesRest state (D.rules kind.now) region.old dict.old region.new dict.new }
+    ensures lacks { IfOk result (λ reply. LacksFor (slots_wanted (dictionary_in dict.old region.old))
+        ((D.rules kind.now).made object.now) reply
+        (disc_in state region.old) (disc_in state region.new)) }
+    ensures err { OnErr result (IsSpent (seat_in state (D.rules kind.now) region.old dict.old)
+        (rest_in region.new) (dictionary_in dict.new region.new)) }
+{
+    if !is_list(dict.method) {
+        return Ok(Reply::Refused(Refusal::WrongMethod));
+    }
+    if !is_object(object) {
+        return Ok(Reply::Refused(Refusal::Size));
+    }
+    let mut out = Vec::new(alloc);
+    kind.make(object, &mut out)?;
+    put(alloc, region, dict, kind, out, true)
+}

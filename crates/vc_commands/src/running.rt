@@ -1,0 +1,72 @@
+// Running a command on a dictionary.
+ghost use Rattle.std.specs.Prelude.{◌≡◌, true, IfOk, OnErr};
+ghost use Rattle.vc_dtdisc.specs.Rules.{Gone, Rules};
+ghost use Rattle.vc_region.specs.Cells.{cells_in, rest_in};
+ghost use Rattle.vc_region.specs.Parts.{disc_in};
+ghost use Rattle.vc_objects.specs.Leaves.{LeavesRest};
+ghost use Rattle.vc_objects.specs.Objects.{is_best};
+ghost use Rattle.vc_objects.specs.Parts.{IsWhole, dictionary_in};
+ghost use Rattle.vc_script.specs.Needs.{need_shown};
+ghost use Rattle.vc_commands.specs.Commands.{in_dict};
+ghost use Rattle.vc_commands.specs.Run.{GivesDict, IsSpent, LacksBy, seat_in};
+
+use crate::listing::{count, walk};
+use crate::looking::{first, last, match_key, next, prev, search};
+use crate::putting::{append, attach, insert};
+use crate::taking::{delete, take};
+use crate::turning::{empty, remethod};
+use std::alloc::Global;
+use vc_base::OutOfMemory;
+use vc_dict::Dict;
+use vc_dtdisc::DictDisc;
+use vc_region::Region;
+use vc_script::{Command, Refusal, Reply};
+use vc_seg::{BoxedDisc, SegDisc};
+
+/// Runs a command on a dictionary in its best region, by its kind. `dict`, `shut` and `view` are no such command. With no
+/// memory nothing changes, save that the table may have grown for an object.
+pub fn run<D: DictDisc>(
+    alloc: Global,
+    region: &mut Region,
+    dict: &mut Dict,
+    kind: &mut D,
+    command: &Command,
+) -> Result<Reply, OutOfMemory>
+    requires best { is_best (rest_in region.old) ≡ true }
+    requires whole { IsWhole (D.rules kind.old) dict.old (cells_in region.old) }
+
+    ensures step { IfOk result (λ reply. GivesDict
+        (in_dict (seat_in state (D.rules kind.old) region.old dict.old) command.now
+        (need_shown reply))
+        (rest_in region.new) (dictionary_in dict.new region.new) reply
+        (D.gone kind.old) (D.gone kind.new)) }
+    ensures leaves { LeavesRest state (D.rules kind.old) region.old dict.old region.new dict.new }
+    ensures rules { D.rules kind.new ≡ D.rules kind.old }
+
+    // A segment that was refused was asked for.
+    ensures lacks { IfOk result (λ reply. LacksBy
+        (seat_in state (D.rules kind.old) region.old dict.old) command.now reply
+        (disc_in state region.old) (disc_in state region.new)) }
+    ensures err { OnErr result ((D.gone kind.new ≡ D.gone kind.old)
+        × IsSpent (seat_in state (D.rules kind.old) region.old dict.old)
+        (rest_in region.new) (dictionary_in dict.new region.new)) }
+{
+    match command {
+        Command::Insert(_, object) => insert(alloc, region, dict, kind, object.as_slice()),
+        Command::Append(_, object) => append(alloc, region, dict, kind, object.as_slice()),
+        Command::Attach(_, object) => attach(alloc, region, dict, kind, object.as_slice()),
+        Command::Delete(_, object) => delete(alloc, region, dict, kind, object),
+        Command::Detach(_, object) => take(alloc, region, dict, kind, object.as_slice(), false),
+        Command::Search(_, object) => search(alloc, region, dict, kind, object.as_slice()),
+        Command::MatchKey(_, key) => match_key(alloc, region, dict, kind, key.as_slice()),
+        Command::First(_) => first(alloc, region, dict, kind),
+        Command::Last(_) => last(alloc, region, dict, kind),
+        Command::Next(_, object) => next(alloc, region, dict, kind, object.as_slice()),
+        Command::Prev(_, object) => prev(alloc, region, dict, kind, object.as_slice()),
+        Command::Walk(_) => walk(alloc, region, dict, kind),
+        Command::Count(_) => Ok(count(region, dict)),
+        Command::Remethod(name, method) => remethod(alloc, region, dict, kind, *name, *method),
+        Command::Empty(name) => Ok(empty(region, dict, kind, *name)),
+        _ => Ok(Reply::Refused(Refusal::NotYet)),
+    }
+}
