@@ -2,6 +2,7 @@
 use Rattle.std.proofs.Common.{◌≡◌, ℕ, Bool, List, ◌++◌, Some, Result, Ok, Err, IfOk, option_map, refl, sym, ap, ◌∙◌, subst, arith}
 use Rattle.std.proofs.lemmas.Option.{same_Some, none-some}
 use Rattle.vc_base.specs.declared.addr.Addr.{Addr}
+use Rattle.vc_base.specs.Cells.{Blocks}
 use Rattle.vc_model.specs.Discipline.{Discipline, HasOut, Kept, Served, TookBack, Unserved}
 use Rattle.vc_model.specs.Outcome as model
 use Rattle.vc_model.specs.Outcome.{Fault, Outcome, Put, Refused}
@@ -17,6 +18,7 @@ use Rattle.vc_script.specs.declared.refusal.Refusal.TheVariants as why
 use Rattle.vc_session.specs.declared.labels.Labels.{Labels}
 use Rattle.vc_session.specs.Account.{Held, IsChange, IsNamed}
 use Rattle.vc_session.specs.Blocks.{fault_of, refusal_of}
+use Rattle.vc_session.specs.Naming.{TellsFault}
 use Rattle.vc_session.specs.State.{Changed, Home, Label, changed_to, unchanged}
 use Rattle.vc_session.specs.Step.{Gives, is_for_block}
 use Rattle.vc_session.proofs.Closing.{front-out}
@@ -26,8 +28,8 @@ abbrev pub KeepsOut : Discipline → Discipline → List (ℕ × ℕ) → List (
 KeepsOut d e segments segments' = (rest : List (ℕ × ℕ)) → d.out ≡ rest ++ segments → e.out ≡ rest ++ segments'
 
 -- a region that changed, whose discipline keeps what was out before the region's segments
-pub changed-by : (h : Held) (disc : Discipline) (region : Region ℕ) (labels : Labels) → HasOut h.disc (segments_of h.region) → Kept h.disc disc → KeepsOut h.disc disc (segments_of h.region) (segments_of region) → IsNamed region labels → IsChange h (record { name = h.name; place = h.place; disc = disc; region = region; labels = labels })
-changed-by h disc region labels has kept keeps names =
+pub changed-by : (h : Held) (disc : Discipline) (region : Region ℕ) (cells : Blocks) (labels : Labels) → cells ≡ h.cells → HasOut h.disc (segments_of h.region) → Kept h.disc disc → KeepsOut h.disc disc (segments_of h.region) (segments_of region) → IsNamed region labels → IsChange h (record { name = h.name; place = h.place; disc = disc; region = region; cells = cells; labels = labels })
+changed-by h disc region cells labels same has kept keeps names =
     let after = keeps has.0 has.1 in
     record {
       name = refl;
@@ -36,6 +38,7 @@ changed-by h disc region labels has kept keeps names =
       lent = (has.0, after);
       out = front-out has.0 (segments_of region) disc.out after ∙ sym (front-out has.0 (segments_of h.region) h.disc.out has.1);
       names = names;
+      cells = same;
     }
 
 pub kept-same : (d e : Discipline) → e ≡ d → Kept d e
@@ -128,6 +131,11 @@ abbrev pub IsAn : {A E : Type 0} → Result A E → Type 0
 IsAn (Ok x) = Unit {0}
 IsAn (Err e) = ⊥
 
+-- a fault that is told as one of a segment
+pub told-no_segment : {E : Type 0} (fault : RegionFault) (result : Result Reply E) → TellsFault fault result → result ≡ Ok (reply.Refused why.NoSegment) → IsNoSegment fault
+told-no_segment fault (Ok told) tells is = fault-no_segment fault told tells (ap (get_ok told) is)
+told-no_segment fault (Err e) tells is = absurd (subst IsAn (sym is) tt)
+
 -- what holds of an answer under each name of a region
 pub if_ok-all : {E : Type 0} (result : Result Reply E) (P : List ℕ → Reply → Type 0) → ((name : List ℕ) → IfOk result (P name)) → IfOk result (λ told. (name : List ℕ) → P name told)
 if_ok-all (Ok told) P all = all
@@ -138,9 +146,9 @@ pub gives-unchanged : (h : Home) (c : Changed) (w : Refusal) → c ≡ unchanged
 gives-unchanged h c w e = record { region_after = ap (λ (k : Changed). k.region) e; kept_after = ap (λ (k : Changed). k.kept) e; replied = ap (λ (k : Changed). k.reply) e }
 
 -- a region whose discipline and lists stay
-pub change-same : (h : Held) (labels : Labels) → HasOut h.disc (segments_of h.region) → IsNamed h.region labels → IsChange h (record { name = h.name; place = h.place; disc = h.disc; region = h.region; labels = labels })
+pub change-same : (h : Held) (labels : Labels) → HasOut h.disc (segments_of h.region) → IsNamed h.region labels → IsChange h (record { name = h.name; place = h.place; disc = h.disc; region = h.region; cells = h.cells; labels = labels })
 change-same h labels has names =
-    changed-by h h.disc h.region labels has (kept-same h.disc h.disc refl) (out-same h.disc h.disc (segments_of h.region) (segments_of h.region) refl refl) names
+    changed-by h h.disc h.region h.cells labels refl has (kept-same h.disc h.disc refl) (out-same h.disc h.disc (segments_of h.region) (segments_of h.region) refl refl) names
 
 -- what is told leaves the region
 pub gives-changed : (h : Home) (region : Region Label) (c : Changed) (told : Reply) → c ≡ changed_to h region told → Gives c (region, h.kept) told

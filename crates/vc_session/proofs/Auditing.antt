@@ -1,11 +1,11 @@
 -- What is done with the block of a name in a debug region, and what a walk of its damage and of the rows of a profile region tells.
-use Rattle.std.proofs.Common.{◌≡◌, ℕ, ◌+◌, ◌≤◌, ◌<◌, zero, suc, Bool, true, false, cond, List, [], ◌∷◌, ◌++◌, Option, Some, None, filter, length, map, option_map, drop, slice_get, refl, sym, ap, ◌∙◌, subst, inl, inr, ⊎_elim, append_assoc, append-nil, arith}
+use Rattle.std.proofs.Common.{◌≡◌, ℕ, ◌+◌, ◌≤◌, zero, suc, true, false, cond, List, [], ◌∷◌, ◌++◌, Option, Some, None, filter, map, option_map, drop, slice_get, refl, sym, ap, ◌∙◌, subst, inl, inr, ⊎_elim, append_assoc, append-nil, arith}
 use Rattle.std.specs.Prelude.{ℤ}
 use Rattle.std.specs.List.{AllByRecursion, cons_option, filter_map}
 use Rattle.std.proofs.lemmas.Option.{none-some, same_Some}
 use Rattle.vc_audit.specs.Debug.{damage, damage_of, user_block}
 use Rattle.vc_audit.specs.DebugParts.{debug_of}
-use Rattle.vc_audit.proofs.DebugDamaged.{address_in, all-pass, behind, next-passes, none-passes}
+use Rattle.vc_audit.proofs.DebugDamaged.{all-pass, behind, next-passes, none-passes}
 use Rattle.vc_audit.proofs.DebugRelabel.{relabel_found}
 use Rattle.vc_audit.proofs.DebugWalks.{own-best}
 use Rattle.vc_model.specs.Addr.{address, place_of}
@@ -19,7 +19,7 @@ use Rattle.vc_model.proofs.Sorting as sorting
 use Rattle.vc_region.specs.declared.region.Region as made
 use Rattle.vc_region.specs.declared.region.Region.TheVariants.{Best, Pool, Last, Debug, Profile}
 use Rattle.vc_region.specs.Parts.{blocks_in, region_of}
-use Rattle.vc_region.specs.Region.{OfBest, OfPool, OfLast, OfDebug, OfProfile, Region, blocks_of, damaged_in, is_debug, is_profile, keeps_freed, next_damaged_in, region_poke, region_watch, relabelled, row_in, rows_in, segments_of, watch_at}
+use Rattle.vc_region.specs.Region.{OfBest, OfPool, OfLast, OfDebug, OfProfile, Region, blocks_of, damaged_in, is_debug, keeps_freed, next_damaged_in, region_poke, region_watch, relabelled, row_in, rows_in, segments_of, watch_at}
 use Rattle.vc_region.proofs.Keeps.{poke-keeps, watch-keeps}
 use Rattle.vc_region.proofs.Relabel.{damaged-relabelled, debug-relabelled, marks-relabelled, poke-relabelled, watch-relabelled}
 use Rattle.vc_region.proofs.Writing.{poke-labels, watch-blocks}

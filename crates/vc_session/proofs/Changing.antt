@@ -1,25 +1,31 @@
 -- What a change of one region's lists does to the state, and to the settled shelf.
-use Rattle.std.proofs.Common.{◌≡◌, ◌≢◌, ℕ, ◌-◌, true, List, [], ◌∷◌, Some, None, map, option_map, set, refl, sym, ap, ◌∙◌, subst, arith, inl, inr}
+use Rattle.std.proofs.Common.{◌≡◌, ◌≢◌, ℕ, ◌-◌, true, false, cond, List, [], ◌∷◌, Some, None, map, option_map, set, refl, sym, ap, ◌∙◌, subst, arith, inl, inr}
 use Rattle.std.specs.Prelude.{slice_get, count_by, ◌==◌}
 use Rattle.std.specs.Str.{bytes_eq}
 use Rattle.std.proofs.lemmas.List.{map-set}
-use Rattle.std.proofs.lemmas.Option.{same_Some, slice_get-map}
+use Rattle.std.proofs.lemmas.Option.{none-some, same_Some, slice_get-map}
 use Rattle.std.proofs.lemmas.Bool.Decides.{nat_tests}
+use Rattle.vc_base.specs.Cells.{Blocks}
 use Rattle.vc_model.specs.Count.{Rose}
 use Rattle.vc_model.specs.Discipline.{Terms}
 use Rattle.vc_model.specs.Numbered.{at_number}
+use Rattle.vc_region.specs.Cells.{no_cells}
 use Rattle.vc_script.specs.declared.command.Command.{Command}
+use Rattle.vc_script.specs.declared.command.Command.TheVariants.{ClearRegion, OpenDict}
 use Rattle.vc_script.specs.declared.reply.Reply.{Reply}
 use Rattle.vc_script.specs.declared.reply.Reply.TheVariants.{Refused}
-use Rattle.vc_script.specs.declared.refusal.Refusal.TheVariants.{NoRegion, NoSegment, NoSegmentForTable, NoSegmentForObject}
-use Rattle.vc_script.specs.Needs.{NoNeed, need_shown}
-use Rattle.vc_session.specs.State.{Label, State, Stepped, Home, changed, home_named, is_home, refused, stepped, with_region}
+use Rattle.vc_script.specs.declared.refusal.Refusal.TheVariants.{Busy, NoRegion, NoSegment, NoSegmentForTable, NoSegmentForObject}
+use Rattle.vc_script.specs.Needs.{Need, NoNeed, need_shown}
+use Rattle.vc_dtdisc.specs.Rules.{Gone, Rules}
+use Rattle.vc_session.specs.State.{DictHome, Label, State, Stepped, Home, changed, home_named, is_busy, is_home, refused, stepped, with_region}
 use Rattle.vc_region.specs.Region.{Region}
 use Rattle.vc_session.specs.Kept.{Kept}
-use Rattle.vc_session.specs.Step.{Gives, StepsTo, in_region, region_of, region_step, shelf_step, step, step_of}
+use Rattle.vc_session.specs.Dicts.{dict_of, region_named}
+use Rattle.vc_session.specs.Step.{Gives, GivesStep, cleared_or, in_region, opened_in, region_asked, region_of, region_step, shelf_step, step, step_of, step_on}
 use Rattle.vc_session.specs.Run.{refusal_at, place_named, home_place}
+use Rattle.vc_session.specs.Told.{tell}
 use Rattle.vc_session.proofs.Firsts.{IsFirst, first-unmap}
-use Rattle.vc_session.specs.Account.{Held, Lacks, LacksSegment, held_named, IsChange, IsHeld, IsSession, RoseBy, Settles, account, accounts, account_after, home_of, settled, state_of, without_faults}
+use Rattle.vc_session.specs.Account.{Held, Lacks, LacksSegment, held_named, IsChange, IsHeld, IsSession, RoseBy, Settles, account, accounts, account_after, cells_left, home_of, settled, state_of, without_faults}
 use Rattle.vc_session.proofs.Cells.{at_number-from_one, at_number_some, map-set_alike}
 use Rattle.vc_session.proofs.Firsts.{find-first, find-set, with_region-first}
 use Rattle.vc_session.proofs.Settle.{settled-change, settled-at}
@@ -33,29 +39,61 @@ none_elsewhere : (p q : ℕ) → q ≢ p → count_by (λ r. r == q) (p ∷ []) 
 none_elsewhere p q other = grind (arith, nat_tests)
 
 -- one refusal, at its place
-one_refusal : (p : ℕ) → OnlyAt p 1 (p ∷ [])
+pub one_refusal : (p : ℕ) → OnlyAt p 1 (p ∷ [])
 one_refusal p = record { here = one_here p; elsewhere = λ q other. none_elsewhere p q other }
 
 no_refusal : (p : ℕ) → OnlyAt p 0 []
 no_refusal p = record { here = refl; elsewhere = λ q other. refl }
 
-rose-by_one : (a b : ℕ) → Rose a b → RoseBy 1 a b
+pub rose-by_one : (a b : ℕ) → Rose a b → RoseBy 1 a b
 rose-by_one a b (inl more) = inl (omega (arith, more))
 rose-by_one a b (inr last) = inr (omega (arith, last))
 
--- a command that works in no region
-pub step-shelf : (s : State) (line : ℕ) (command : Command) (reply : Reply) (after : State) → region_of command ≡ None → shelf_step s command ≡ stepped after reply → StepsTo s line command reply after
-step-shelf s line command reply after none is =
-    let eq : step s line command (need_shown reply) ≡ stepped after reply = ap (step_of s line command (need_shown reply)) none ∙ is in
-    record { replied = ap (λ (t : Stepped). t.reply) eq; state_after = ap (λ (t : Stepped). t.state) eq }
+-- a step that gives a reply and a state, and tells no kind
+pub gives-same : (t : Stepped) (gone : List Gone) (reply : Reply) (after : State) → t ≡ stepped after reply → GivesStep t gone reply after gone
+gives-same t gone reply after eq =
+    record {
+      replied = ap (λ (t : Stepped). t.reply) eq;
+      state_after = ap (λ (t : Stepped). t.state) eq;
+      told = sym (ap (λ (t : Stepped). tell t.told gone) eq);
+    }
 
--- a command in a region that isn't open
-pub step-none : (s : State) (line : ℕ) (command : Command) (r : List ℕ) → region_of command ≡ Some r → home_named r s.homes ≡ None → StepsTo s line command (Refused NoRegion) s
-step-none s line command r works none =
-    let eq : step s line command NoNeed ≡ refused s NoRegion = ap (step_of s line command NoNeed) works ∙ ap (region_step s r line command NoNeed) none in
-    record { replied = ap (λ (t : Stepped). t.reply) eq; state_after = ap (λ (t : Stepped). t.state) eq }
+-- a command that works on no dictionary and in no region
+pub step-shelf : (s : State) (line : ℕ) (command : Command) (need : Need) → dict_of command ≡ None → region_of command ≡ None → step s line command need ≡ shelf_step s command need
+step-shelf s line command need dict region = ap (step_on s line command need) dict ∙ ap (step_of s line command need) region
 
-module _ (slots : Slots) (hs : List Held) (i : ℕ) (h g : Held) (at : slice_get hs i ≡ Some h) (session : IsSession slots hs) (change : IsChange h g) where
+-- one that works in a region
+pub step-region : (s : State) (line : ℕ) (command : Command) (need : Need) (r : List ℕ) → dict_of command ≡ None → region_of command ≡ Some r → step s line command need ≡ step_of s line command need (Some r)
+step-region s line command need r dict region = ap (step_on s line command need) dict ∙ ap (step_of s line command need) region
+
+opened_in-region : (command : Command) (r : List ℕ) → region_of command ≡ Some r → opened_in command ≡ Some r
+opened_in-region (OpenDict d method x k) r e = absurd (none-some r e)
+opened_in-region command r e = e
+
+-- asks for segments there
+pub asked-region : (s : State) (command : Command) (r : List ℕ) → dict_of command ≡ None → region_of command ≡ Some r → region_asked s command ≡ Some r
+asked-region s command r dict region = ap (λ d. region_named s d (opened_in command)) dict ∙ opened_in-region command r region
+
+-- and is not run where that isn't open
+pub step-none : (s : State) (gone : List Gone) (line : ℕ) (command : Command) (r : List ℕ) → home_named r s.homes ≡ None → GivesStep (step_of s line command NoNeed (Some r)) gone (Refused NoRegion) s gone
+step-none s gone line command r none =
+    gives-same (step_of s line command NoNeed (Some r)) gone (Refused NoRegion) s (ap (region_step s r line command NoNeed) none)
+
+cleared-busy : (s : State) (r x : List ℕ) (command : Command) (t : Stepped) → command ≡ ClearRegion x → is_busy s r ≡ true → cleared_or s r command t ≡ refused s Busy
+cleared-busy s r x command t is busy = ap (λ c. cleared_or s r c t) is ∙ ap (λ b. cond b (refused s Busy) t) busy
+
+cleared-free : (s : State) (r : List ℕ) (command : Command) (t : Stepped) → ((x : List ℕ) → command ≡ ClearRegion x → is_busy s r ≡ false) → cleared_or s r command t ≡ t
+cleared-free s r (ClearRegion x) t free = ap (λ b. cond b (refused s Busy) t) (free x refl)
+cleared-free s r command t free = refl
+
+-- nor is a region cleared in which a dictionary lies
+pub step-busy : (s : State) (gone : List Gone) (line : ℕ) (command : Command) (r x : List ℕ) (h : Home) → home_named r s.homes ≡ Some h → command ≡ ClearRegion x → is_busy s r ≡ true → GivesStep (step_of s line command NoNeed (Some r)) gone (Refused Busy) s gone
+step-busy s gone line command r x h found is busy =
+    gives-same (step_of s line command NoNeed (Some r)) gone (Refused Busy) s
+    (ap (region_step s r line command NoNeed) found ∙ cleared-busy s r x command (changed s r (in_region h line command NoNeed)) is busy)
+
+-- whatever the cells were before the change
+module _ (slots : Slots) (hs : List Held) (i : ℕ) (h g : Held) (at : slice_get hs i ≡ Some h) (session : IsSession slots hs) {cells : Blocks} (change : IsChange (record h { cells = cells }) g) where
   held : IsHeld slots h
   held = held-at slots hs i h at session
 
@@ -64,7 +102,7 @@ module _ (slots : Slots) (hs : List Held) (i : ℕ) (h g : Held) (at : slice_get
       session-set slots hs i h g at change.place
       (record { place = ap (at_number slots) change.place ∙ held.place; lent = change.lent; names = change.names }) session
 
-  settles-change : (n : ℕ) (refusals : List ℕ) → RoseBy n h.disc.faults g.disc.faults → OnlyAt h.place n refusals → Settles (settled (accounts slots) hs) (settled (accounts slots) (set hs i g)) refusals
+  pub settles-change : (n : ℕ) (refusals : List ℕ) → RoseBy n h.disc.faults g.disc.faults → OnlyAt h.place n refusals → Settles (settled (accounts slots) hs) (settled (accounts slots) (set hs i g)) refusals
   settles-change n refusals rose only =
       let found = at_number_some slots h.place None held.place in
       let there : slice_get (accounts slots) (h.place - 1) ≡ Some None = slice_get-map (option_map account) slots (h.place - 1) ∙ ap (option_map (option_map account)) found.1 in
@@ -85,14 +123,14 @@ module _ (slots : Slots) (hs : List Held) (i : ℕ) (h g : Held) (at : slice_get
   pub settles-none : Settles (settled (accounts slots) hs) (settled (accounts slots) (set hs i g)) []
   settles-none = quiet
 
-  pub settles-reply : (r : List ℕ) (command : Command) (reply : Reply) → region_of command ≡ Some r → home_named r (state_of slots hs).homes ≡ Some (home_of h) → (reply ≡ Refused NoSegment → Rose h.disc.faults g.disc.faults) → (reply ≡ Refused NoSegmentForTable → ⊥) → (reply ≡ Refused NoSegmentForObject → ⊥) → Settles (settled (accounts slots) hs) (settled (accounts slots) (set hs i g)) (refusal_at (state_of slots hs) command reply)
-  settles-reply r command (Refused NoSegment) works found rose no_table no_object =
-      subst (λ o. Settles (settled (accounts slots) hs) (settled (accounts slots) (set hs i g)) (place_named (state_of slots hs) o)) (sym works)
+  pub settles-reply : (kinds : List Rules) (ds : List DictHome) (r : List ℕ) (command : Command) (reply : Reply) → region_asked (state_of kinds slots hs ds) command ≡ Some r → home_named r (state_of kinds slots hs ds).homes ≡ Some (home_of h) → (reply ≡ Refused NoSegment → Rose h.disc.faults g.disc.faults) → (reply ≡ Refused NoSegmentForTable → ⊥) → (reply ≡ Refused NoSegmentForObject → ⊥) → Settles (settled (accounts slots) hs) (settled (accounts slots) (set hs i g)) (refusal_at (state_of kinds slots hs ds) command reply)
+  settles-reply kinds ds r command (Refused NoSegment) works found rose no_table no_object =
+      subst (λ o. Settles (settled (accounts slots) hs) (settled (accounts slots) (set hs i g)) (place_named (state_of kinds slots hs ds) o)) (sym works)
       (subst (λ o. Settles (settled (accounts slots) hs) (settled (accounts slots) (set hs i g)) (home_place o)) (sym found)
       (settles-change 1 (h.place ∷ []) (rose-by_one h.disc.faults g.disc.faults (rose refl)) (one_refusal h.place)))
-  settles-reply r command (Refused NoSegmentForTable) works found rose no_table no_object = absurd (no_table refl)
-  settles-reply r command (Refused NoSegmentForObject) works found rose no_table no_object = absurd (no_object refl)
-  settles-reply r command reply works found rose no_table no_object = quiet
+  settles-reply kinds ds r command (Refused NoSegmentForTable) works found rose no_table no_object = absurd (no_table refl)
+  settles-reply kinds ds r command (Refused NoSegmentForObject) works found rose no_table no_object = absurd (no_object refl)
+  settles-reply kinds ds r command reply works found rose no_table no_object = quiet
 
   same_home : (let k : Home = record (home_of h) { region = (home_of g).region; kept = (home_of g).kept } in k) ≡ home_of g
   same_home =
@@ -100,7 +138,7 @@ module _ (slots : Slots) (hs : List Held) (i : ℕ) (h g : Held) (at : slice_get
       ∙ (ap (λ p. let k : Home = record { name = g.name; place = p; terms = h.disc.terms; region = (home_of g).region; kept = (home_of g).kept } in k) (sym change.place)
       ∙ ap (λ r. let k : Home = record { name = g.name; place = g.place; terms = r; region = (home_of g).region; kept = (home_of g).kept } in k) (sym change.kept.terms))
 
-  homes-change : (r : List ℕ) → IsFirst (is_home r) (map home_of hs) i → with_region r (home_of g).region (home_of g).kept (map home_of hs) ≡ map home_of (set hs i g)
+  pub homes-change : (r : List ℕ) → IsFirst (is_home r) (map home_of hs) i → with_region r (home_of g).region (home_of g).kept (map home_of hs) ≡ map home_of (set hs i g)
   homes-change r first =
       let item : first.item ≡ home_of h = same_Some first.item (home_of h) (sym first.at ∙ (slice_get-map home_of hs i ∙ ap (option_map home_of) at)) in
       with_region-first r (home_of g).region (home_of g).kept (map home_of hs) i first
@@ -112,19 +150,20 @@ module _ (slots : Slots) (hs : List Held) (i : ℕ) (h g : Held) (at : slice_get
       let item : first.item ≡ home_of h = same_Some first.item (home_of h) (sym first.at ∙ (slice_get-map home_of hs i ∙ ap (option_map home_of) at)) in
       find-first (is_home r) (map home_of hs) i first ∙ ap (λ k. Some k) item
 
-  pub step-change : (r : List ℕ) (line : ℕ) (command : Command) (reply : Reply) → region_of command ≡ Some r → IsFirst (is_home r) (map home_of hs) i → Gives (in_region (home_of h) line command (need_shown reply)) ((home_of g).region, (home_of g).kept) reply → StepsTo (state_of slots hs) line command reply (state_of slots (set hs i g))
-  step-change r line command reply works first gives =
-      let s = state_of slots hs in
+  pub step-change : (kinds : List Rules) (ds : List DictHome) (gone : List Gone) (r : List ℕ) (line : ℕ) (command : Command) (reply : Reply) → IsFirst (is_home r) (map home_of hs) i → ((x : List ℕ) → command ≡ ClearRegion x → is_busy (state_of kinds slots hs ds) r ≡ false) → Gives (in_region (home_of h) line command (need_shown reply)) ((home_of g).region, (home_of g).kept) reply → GivesStep (step_of (state_of kinds slots hs ds) line command (need_shown reply) (Some r)) gone reply (state_of kinds slots (set hs i g) ds) gone
+  step-change kinds ds gone r line command reply first free gives =
+      let s = state_of kinds slots hs ds in
       let need = need_shown reply in
-      let is : step s line command need ≡ changed s r (in_region (home_of h) line command need) =
-      ap (step_of s line command need) works ∙ ap (region_step s r line command need) (found-change r first) in
+      let is : step_of s line command need (Some r) ≡ changed s r (in_region (home_of h) line command need) =
+      ap (region_step s r line command need) (found-change r first) ∙ cleared-free s r command (changed s r (in_region (home_of h) line command need)) free in
       record {
         replied = ap (λ (t : Stepped). t.reply) is ∙ gives.replied;
         state_after =
             ap (λ (t : Stepped). t.state) is
-            ∙ (ap (λ q. let u : State = record { shelf = s.shelf; homes = with_region r q (in_region (home_of h) line command need).kept s.homes } in u) gives.region_after
-            ∙ (ap (λ q. let u : State = record { shelf = s.shelf; homes = with_region r (home_of g).region q s.homes } in u) gives.kept_after
-            ∙ ap (λ homes. let u : State = record { shelf = s.shelf; homes = homes } in u) (homes-change r first)));
+            ∙ (ap (λ q. let u : State = record s { homes = with_region r q (in_region (home_of h) line command need).kept s.homes } in u) gives.region_after
+            ∙ (ap (λ q. let u : State = record s { homes = with_region r (home_of g).region q s.homes } in u) gives.kept_after
+            ∙ ap (λ homes. let u : State = record s { homes = homes } in u) (homes-change r first)));
+        told = sym (ap (λ (t : Stepped). tell t.told gone) is);
       }
 
   -- the region that a command works in, before and after it
@@ -137,7 +176,12 @@ module _ (slots : Slots) (hs : List Held) (i : ℕ) (h g : Held) (at : slice_get
       (subst (λ o. Lacks (Some h) o asked) (sym (find-set (λ k. bytes_eq k.name r) hs i h g at here.before passes)) lacks)
 
   -- with the lists as before the state is the same
-  pub state-same : (let p : Region Label × Kept = ((home_of g).region, (home_of g).kept) in p) ≡ ((home_of h).region, (home_of h).kept) → state_of slots (set hs i g) ≡ state_of slots hs
-  state-same same =
+  pub state-same : (kinds : List Rules) (ds : List DictHome) → (let p : Region Label × Kept = ((home_of g).region, (home_of g).kept) in p) ≡ ((home_of h).region, (home_of h).kept) → state_of kinds slots (set hs i g) ds ≡ state_of kinds slots hs ds
+  state-same kinds ds same =
       let home : home_of g ≡ home_of h = sym same_home ∙ ap (λ (q : Region Label × Kept). let k : Home = record (home_of h) { region = q.0; kept = q.1 } in k) same in
-      ap (λ homes. let s : State = record { shelf = (state_of slots hs).shelf; homes = homes } in s) (map-set_alike home_of hs i h g at home)
+      ap (λ homes. let s : State = record (state_of kinds slots hs ds) { homes = homes } in s) (map-set_alike home_of hs i h g at home)
+
+-- a command leaves the cells, where it clears no region but one that has none
+pub cells-left : (command : Command) (cells : Blocks) → ((r : List ℕ) → command ≡ ClearRegion r → cells ≡ no_cells) → cells_left command cells ≡ cells
+cells-left (ClearRegion r) cells none = sym (none r refl)
+cells-left command cells none = refl

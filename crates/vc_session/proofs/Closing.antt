@@ -7,10 +7,12 @@ use Rattle.std.proofs.lemmas.Option.{none-some, same_Some, slice_get-map}
 use Rattle.vc_model.specs.Discipline.{Discipline, TookBack, HasOut}
 use Rattle.vc_region.specs.Region.{segments_of}
 use Rattle.vc_model.specs.Numbered.{at_number}
+use Rattle.vc_script.specs.declared.refusal.Refusal.TheVariants.{Busy}
 use Rattle.vc_script.specs.declared.reply.Reply.TheVariants.{Closed}
 use Rattle.vc_region.proofs.Relabel.{segments-relabelled}
+use Rattle.vc_dtdisc.specs.Rules.{Rules}
 use Rattle.vc_session.specs.Labels.{name_of}
-use Rattle.vc_session.specs.State.{Home, stepped, close_home, close_step, home_named, is_home, without_home}
+use Rattle.vc_session.specs.State.{DictHome, Home, State, stepped, close_home, close_step, closed, home_named, is_busy, is_home, refused, without_home}
 use Rattle.vc_session.specs.Account.{Account, Held, IsSession, account, accounts, account_after, account_back, home_of, settled, state_of}
 use Rattle.vc_session.proofs.Cells.{all-remove, at_number-from_one, at_number-zero, at_number_some, map-remove, slice_get-set_other}
 use Rattle.vc_session.proofs.Firsts.{IsFirst, find-first, or-false}
@@ -102,6 +104,11 @@ without_home-at r (g ∷ hs) (suc i) h at passes none =
     let parts = or-false (is_home r g) (list_any (is_home r) (take i hs)) none in
     ap (λ b. cond b hs (g ∷ without_home r hs)) parts.0 ∙ ap (λ ks. g ∷ ks) (without_home-at r hs i h at passes parts.1)
 
+-- a region in which a dictionary lies is not closed
+pub close-busy : (s : State) (r : List ℕ) (i : ℕ) → IsFirst (is_home r) s.homes i → is_busy s r ≡ true → close_step s r ≡ refused s Busy
+close-busy s r i first busy =
+    ap (close_home s r) (find-first (is_home r) s.homes i first) ∙ ap (λ b. cond b (refused s Busy) (closed s r first.item)) busy
+
 module _ (slots slots' : Slots) (hs : List Held) (i : ℕ) (h : Held) (at : slice_get hs i ≡ Some h) (session : IsSession slots hs) (here : accounts slots' ≡ set (accounts slots) (h.place - 1) (Some (account_after h))) where
   pub session-close : ((p : ℕ) → p ≢ h.place → at_number slots' p ≡ at_number slots p) → IsSession slots' (remove hs i)
   session-close same = session-closed slots slots' h.place (remove hs i) same (away-remove hs i h at (apart-session slots hs session)) (session-remove slots hs i session)
@@ -116,14 +123,15 @@ module _ (slots slots' : Slots) (hs : List Held) (i : ℕ) (h : Held) (at : slic
       ∙ (map-set (option_map (λ (a : Account). a.terms)) (accounts slots) (h.place - 1) (Some (account_after h))
       ∙ ap (λ rs. set rs (h.place - 1) (Some h.disc.terms)) (terms_of slots)))
 
-  pub step-close : (r : List ℕ) (count : ℕ) → IsFirst (is_home r) (map home_of hs) i → count ≡ length (segments_of h.region) → close_step (state_of slots hs) r ≡ stepped (state_of slots' (remove hs i)) (Closed r count)
-  step-close r count first counted =
+  pub step-close : (kinds : List Rules) (ds : List DictHome) (r : List ℕ) (count : ℕ) → IsFirst (is_home r) (map home_of hs) i → is_busy (state_of kinds slots hs ds) r ≡ false → count ≡ length (segments_of h.region) → close_step (state_of kinds slots hs ds) r ≡ stepped (state_of kinds slots' (remove hs i) ds) (Closed r count)
+  step-close kinds ds r count first free counted =
       let item : first.item ≡ home_of h = same_Some first.item (home_of h) (sym first.at ∙ (slice_get-map home_of hs i ∙ ap (option_map home_of) at)) in
       let found : home_named r (map home_of hs) ≡ Some (home_of h) = find-first (is_home r) (map home_of hs) i first ∙ ap (λ k. Some k) item in
       let left : without_home r (map home_of hs) ≡ map home_of (remove hs i) =
       without_home-at r (map home_of hs) i first.item first.at first.passes first.before ∙ sym (map-remove home_of hs i) in
-      ap (close_home (state_of slots hs) r) found
-      ∙ (ap (λ ss. stepped (record { shelf = set (state_of slots hs).shelf (h.place - 1) (Some h.disc.terms); homes = without_home r (map home_of hs) }) (Closed r (length ss))) (segments-relabelled (name_of h.labels) h.region)
-      ∙ (ap (λ rs. stepped (record { shelf = rs; homes = without_home r (map home_of hs) }) (Closed r (length (segments_of h.region)))) (sym shelf-close)
-      ∙ (ap (λ ks. stepped (record { shelf = (state_of slots' hs).shelf; homes = ks }) (Closed r (length (segments_of h.region)))) left
-      ∙ ap (λ n. stepped (state_of slots' (remove hs i)) (Closed r n)) (sym counted))))
+      ap (close_home (state_of kinds slots hs ds) r) found
+      ∙ (ap (λ b. cond b (refused (state_of kinds slots hs ds) Busy) (closed (state_of kinds slots hs ds) r (home_of h))) free
+      ∙ (ap (λ ss. stepped (record (state_of kinds slots hs ds) { shelf = set (state_of kinds slots hs ds).shelf (h.place - 1) (Some h.disc.terms); homes = without_home r (map home_of hs) }) (Closed r (length ss))) (segments-relabelled (name_of h.labels) h.region)
+      ∙ (ap (λ rs. stepped (record (state_of kinds slots hs ds) { shelf = rs; homes = without_home r (map home_of hs) }) (Closed r (length (segments_of h.region)))) (sym shelf-close)
+      ∙ (ap (λ ks. stepped (record (state_of kinds slots' hs ds) { homes = ks }) (Closed r (length (segments_of h.region)))) left
+      ∙ ap (λ n. stepped (state_of kinds slots' (remove hs i) ds) (Closed r n)) (sym counted)))))

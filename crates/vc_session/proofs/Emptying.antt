@@ -4,6 +4,7 @@ use Rattle.std.proofs.Common.{◌≡◌, ℕ, ◌-◌, ◌≤◌, ◌||◌, Bool
 use Rattle.std.specs.List.{AllByRecursion, list_any}
 use Rattle.std.proofs.lemmas.List.{length-append, take-append-le, take_all}
 use Rattle.slab.specs.Slab.{slab_len}
+use Rattle.vc_base.specs.Cells.{Blocks}
 use Rattle.vc_model.specs.Discipline.{Discipline, HasOut, TookBack}
 use Rattle.vc_region.specs.Region.{Region, blocks_of, keeps_freed, region_clear, relabelled, segments_of}
 use Rattle.vc_model.specs.Sound.{HaveOwnPlaces}
@@ -26,9 +27,9 @@ cleared-names labels labels' r =
 
 -- the lists after a change that keeps the discipline and the segments
 pub change-same :
-    (h : Held) (disc : Discipline) (region : Region ℕ) (labels : Labels) → disc ≡ h.disc → segments_of region ≡ segments_of h.region → HasOut h.disc (segments_of h.region) → IsNamed region labels
-    → IsChange h (record { name = h.name; place = h.place; disc = disc; region = region; labels = labels })
-change-same h disc region labels same segments lent names =
+    (h : Held) (disc : Discipline) (region : Region ℕ) (cells : Blocks) (labels : Labels) → cells ≡ h.cells → disc ≡ h.disc → segments_of region ≡ segments_of h.region → HasOut h.disc (segments_of h.region) → IsNamed region labels
+    → IsChange h (record { name = h.name; place = h.place; disc = disc; region = region; cells = cells; labels = labels })
+change-same h disc region cells labels same_cells same segments lent names =
     record {
       name = refl;
       place = refl;
@@ -36,6 +37,7 @@ change-same h disc region labels same segments lent names =
       lent = (lent.0, ap (λ (d : Discipline). d.out) same ∙ (lent.1 ∙ ap (λ ss. lent.0 ++ ss) (sym segments)));
       out = ap (λ (d : Discipline). take (length d.out - length (segments_of region)) d.out) same ∙ ap (λ ss. take (length h.disc.out - length ss) h.disc.out) segments;
       names = names;
+      cells = same_cells;
     }
 
 front : (rest segments : List (ℕ × ℕ)) → take (length (rest ++ segments) - length segments) (rest ++ segments) ≡ rest
@@ -45,9 +47,9 @@ front rest segments =
 
 -- and after one in which segments went back
 pub change-back :
-    (h : Held) (disc : Discipline) (region : Region ℕ) (labels : Labels) → TookBack h.disc disc (segments_of h.region) (segments_of region) → HasOut h.disc (segments_of h.region) → IsNamed region labels
-    → IsChange h (record { name = h.name; place = h.place; disc = disc; region = region; labels = labels })
-change-back h disc region labels took lent names =
+    (h : Held) (disc : Discipline) (region : Region ℕ) (cells : Blocks) (labels : Labels) → cells ≡ h.cells → TookBack h.disc disc (segments_of h.region) (segments_of region) → HasOut h.disc (segments_of h.region) → IsNamed region labels
+    → IsChange h (record { name = h.name; place = h.place; disc = disc; region = region; cells = cells; labels = labels })
+change-back h disc region cells labels same_cells took lent names =
     let now : disc.out ≡ lent.0 ++ segments_of region = took.out lent.0 lent.1 in
     record {
       name = refl;
@@ -59,6 +61,7 @@ change-back h disc region labels took lent names =
           ∙ (front lent.0 (segments_of region)
           ∙ sym (ap (λ o. take (length o - length (segments_of h.region)) o) lent.1 ∙ front lent.0 (segments_of h.region)));
       names = names;
+      cells = same_cells;
     }
 
 pub named-cleared : (r : Region ℕ) (labels : Labels) → AreLabels labels → ((x : List ℕ) → tag_of labels x ≡ None) → slab_len labels.by_tag ≡ 0 → HaveOwnPlaces (blocks_of r) → blocks_of r ≡ [] → (keeps_freed r ≡ false → kept_of labels ≡ []) → IsNamed r labels

@@ -18,7 +18,7 @@ use Rattle.vc_session.specs.Homes.{held_of, held_all}
 use Rattle.vc_session.proofs.Firsts.{IsFirst, first-unmap}
 use Rattle.vc_session.proofs.Names.{other_bytes, same_bytes}
 
-swapped : (x y : List ℕ) → bytes_eq x y ≡ bytes_eq y x
+pub swapped : (x y : List ℕ) → bytes_eq x y ≡ bytes_eq y x
 swapped x y =
     ⊎_elim
     (λ e. e ∙ sym ((bytes_eq-Decides y x).1 (sym (same_bytes x y e))))

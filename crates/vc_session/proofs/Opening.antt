@@ -4,9 +4,12 @@ use Rattle.std.specs.Prelude.{slice_get}
 use Rattle.std.specs.List.{AllByRecursion, list_any}
 use Rattle.std.proofs.lemmas.List.{append-nil, map-append, map-set, set-set}
 use Rattle.std.proofs.lemmas.Option.{slice_get-map}
+use Rattle.vc_base.specs.Cells.{Blocks}
 use Rattle.vc_model.specs.Numbered.{at_number}
 use Rattle.vc_model.specs.Discipline.{Discipline}
 use Rattle.vc_model.specs.Layout.{Block}
+use Rattle.vc_dtdisc.specs.Rules.{Rules}
+use Rattle.vc_region.specs.Cells.{no_cells, region_cells, rest_of}
 use Rattle.vc_region.specs.Region.{Region, blocks_of, relabelled, segments_of}
 use Rattle.vc_model.specs.Sound.{HaveOwnPlaces}
 use Rattle.vc_region.specs.Stat.{opened}
@@ -16,7 +19,7 @@ use Rattle.vc_seg.specs.Shelf.{place_at, standing}
 use Rattle.vc_seg.specs.declared.shelf.ShelfPlace.TheVariants.{Here}
 use Rattle.vc_script.specs.declared.reply.Reply.TheVariants.{Opened}
 use Rattle.vc_script.specs.declared.refusal.Refusal.TheVariants.{RegionExists}
-use Rattle.vc_session.specs.State.{Home, Label, State, is_home, open_step, opened_over, refused, stepped}
+use Rattle.vc_session.specs.State.{DictHome, Home, Label, State, is_home, open_step, opened_over, refused, stepped}
 use Rattle.slab.specs.Slab.{slab_len}
 use Rattle.vc_session.specs.declared.labels.Labels.{Labels}
 use Rattle.vc_session.specs.Labels.{AreLabels, kept_of, name_of, tag_of}
@@ -50,6 +53,21 @@ opened-blocks VmLast = refl
 opened-blocks VmDebug = refl
 opened-blocks VmProfile = refl
 
+-- nor has it cells
+pub opened-rest : (m : Method) → rest_of (opened m) ≡ opened m
+opened-rest VmBest = refl
+opened-rest VmPool = refl
+opened-rest VmLast = refl
+opened-rest VmDebug = refl
+opened-rest VmProfile = refl
+
+pub opened-cells : (m : Method) → region_cells (opened m) ≡ no_cells
+opened-cells VmBest = refl
+opened-cells VmPool = refl
+opened-cells VmLast = refl
+opened-cells VmDebug = refl
+opened-cells VmProfile = refl
+
 -- labels with no name
 pub record AreNone (labels : Labels) : Type 0 where
   pub agree : AreLabels labels
@@ -79,51 +97,51 @@ none-named r labels none e =
     }
 
 -- a region that was just opened
-abbrev pub fresh : List ℕ → ℕ → Discipline → Region ℕ → Labels → Held
-fresh name n d region labels = record { name = name; place = n; disc = d; region = region; labels = labels }
+abbrev pub fresh : List ℕ → ℕ → Discipline → Region ℕ → Blocks → Labels → Held
+fresh name n d region cells labels = record { name = name; place = n; disc = d; region = region; cells = cells; labels = labels }
 
-module _ (slots : Slots) (hs : List Held) (name : List ℕ) (n : ℕ) (d : Discipline) (m : Method) (region : Region ℕ) (is : region ≡ opened m) (labels : Labels) (none : AreNone labels) (at : at_number slots n ≡ Some (Some d)) (session : IsSession slots hs) where
+module _ (slots : Slots) (hs : List Held) (name : List ℕ) (n : ℕ) (d : Discipline) (m : Method) (region : Region ℕ) (is : region ≡ opened m) (cells : Blocks) (labels : Labels) (none : AreNone labels) (at : at_number slots n ≡ Some (Some d)) (session : IsSession slots hs) where
   segments : segments_of region ≡ []
   segments = ap (λ r. segments_of r) is ∙ opened-segments m
 
   there : slice_get slots (n - 1) ≡ Some (Some d)
   there = (at_number_some slots n (Some d) at).1
 
-  pub open_step-ok : list_any (is_home name) (map home_of hs) ≡ false → open_step (state_of slots hs) name m n ≡ stepped (state_of (set slots (n - 1) None) (hs ++ fresh name n d region labels ∷ [])) (Opened name)
-  open_step-ok new =
+  pub open_step-ok : (kinds : List Rules) (ds : List DictHome) → list_any (is_home name) (map home_of hs) ≡ false → open_step (state_of kinds slots hs ds) name m n ≡ stepped (state_of kinds (set slots (n - 1) None) (hs ++ fresh name n d region cells labels ∷ []) ds) (Opened name)
+  open_step-ok kinds ds new =
       let r : Region Label = relabelled (name_of labels) region in
       let same : r ≡ opened m = ap (relabelled (name_of labels)) is ∙ opened-relabelled (name_of labels) m in
-      ap (λ q. cond (list_any (is_home name) (map home_of hs)) (refused (state_of slots hs) RegionExists) (opened_over (state_of slots hs) name n q (at_number (state_of slots hs).shelf n))) (sym same)
-      ∙ (ap (λ b. cond b (refused (state_of slots hs) RegionExists) (opened_over (state_of slots hs) name n r (at_number (state_of slots hs).shelf n))) new
-      ∙ (ap (opened_over (state_of slots hs) name n r) (at_number-map (option_map (λ e. e.terms)) slots n ∙ ap (option_map (option_map (λ e. e.terms))) at)
-      ∙ (ap (λ kept. stepped (record { shelf = set (state_of slots hs).shelf (n - 1) None; homes = map home_of hs ++ (let b : Home = record { name = name; place = n; terms = d.terms; region = r; kept = kept } in b) ∷ [] }) (Opened name)) (sym none.kept)
-      ∙ (ap (λ shelf. stepped (record { shelf = shelf; homes = map home_of hs ++ home_of (fresh name n d region labels) ∷ [] }) (Opened name)) (sym (map-set (option_map (λ (e : Discipline). e.terms)) slots (n - 1) None))
-      ∙ ap (λ homes. stepped (record { shelf = map (option_map (λ e. e.terms)) (set slots (n - 1) None); homes = homes }) (Opened name)) (sym (map-append home_of hs (fresh name n d region labels ∷ [])))))))
+      ap (λ q. cond (list_any (is_home name) (map home_of hs)) (refused (state_of kinds slots hs ds) RegionExists) (opened_over (state_of kinds slots hs ds) name n q (at_number (state_of kinds slots hs ds).shelf n))) (sym same)
+      ∙ (ap (λ b. cond b (refused (state_of kinds slots hs ds) RegionExists) (opened_over (state_of kinds slots hs ds) name n r (at_number (state_of kinds slots hs ds).shelf n))) new
+      ∙ (ap (opened_over (state_of kinds slots hs ds) name n r) (at_number-map (option_map (λ e. e.terms)) slots n ∙ ap (option_map (option_map (λ e. e.terms))) at)
+      ∙ (ap (λ kept. stepped (record (state_of kinds slots hs ds) { shelf = set (state_of kinds slots hs ds).shelf (n - 1) None; homes = map home_of hs ++ (let b : Home = record { name = name; place = n; terms = d.terms; region = r; kept = kept } in b) ∷ [] }) (Opened name)) (sym none.kept)
+      ∙ (ap (λ shelf. stepped (record (state_of kinds slots hs ds) { shelf = shelf; homes = map home_of hs ++ home_of (fresh name n d region cells labels) ∷ [] }) (Opened name)) (sym (map-set (option_map (λ (e : Discipline). e.terms)) slots (n - 1) None))
+      ∙ ap (λ homes. stepped (record (state_of kinds slots hs ds) { shelf = map (option_map (λ e. e.terms)) (set slots (n - 1) None); homes = homes }) (Opened name)) (sym (map-append home_of hs (fresh name n d region cells labels ∷ [])))))))
 
-  pub session-open : IsSession (set slots (n - 1) None) (hs ++ fresh name n d region labels ∷ [])
+  pub session-open : IsSession (set slots (n - 1) None) (hs ++ fresh name n d region cells labels ∷ [])
   session-open =
       let low = (at_number_some slots n (Some d) at).0 in
-      session-push slots (n - 1) (Some d) hs (fresh name n d region labels) there session (away-session slots n d hs at session)
+      session-push slots (n - 1) (Some d) hs (fresh name n d region cells labels) there session (away-session slots n d hs at session)
       (record {
         place = at_number-from_one (set slots (n - 1) None) n low ∙ slice_get-set_same slots (n - 1) (Some d) None there;
         lent = (d.out, sym (append-nil d.out) ∙ ap (λ s. d.out ++ s) (sym segments));
         names = none-named region labels none (ap (λ r. blocks_of r) is ∙ opened-blocks m);
       })
 
-  pub settled-open : settled (accounts (set slots (n - 1) None)) (hs ++ fresh name n d region labels ∷ []) ≡ settled (accounts slots) hs
+  pub settled-open : settled (accounts (set slots (n - 1) None)) (hs ++ fresh name n d region cells labels ∷ []) ≡ settled (accounts slots) hs
   settled-open =
       let low = (at_number_some slots n (Some d) at).0 in
       let off : Off (n - 1) hs = off-apart n hs low (away-session slots n d hs at session) (apart-session slots hs session) in
       let all : take (length d.out - length (segments_of region)) d.out ≡ d.out =
       front-out d.out (segments_of region) d.out (sym (append-nil d.out) ∙ ap (λ s. d.out ++ s) (sym segments)) in
-      let account_is : account_after (fresh name n d region labels) ≡ account d = ap (λ out. let a : Account = record { out = out; terms = d.terms; faults = d.faults } in a) all in
-      let kept : slice_get (settled (accounts slots) hs) (n - 1) ≡ Some (Some (account_after (fresh name n d region labels))) =
+      let account_is : account_after (fresh name n d region cells labels) ≡ account d = ap (λ out. let a : Account = record { out = out; terms = d.terms; faults = d.faults } in a) all in
+      let kept : slice_get (settled (accounts slots) hs) (n - 1) ≡ Some (Some (account_after (fresh name n d region cells labels))) =
       settled-keeps (accounts slots) (n - 1) hs off ∙ (slice_get-map (option_map account) slots (n - 1) ∙ (ap (option_map (option_map account)) there ∙ ap (λ a. Some (Some a)) (sym account_is))) in
-      settled-push (accounts (set slots (n - 1) None)) hs (fresh name n d region labels)
-      ∙ (ap (λ shelf. set (settled shelf hs) (n - 1) (Some (account_after (fresh name n d region labels)))) (map-set (option_map account) slots (n - 1) None)
-      ∙ (ap (λ shelf. set shelf (n - 1) (Some (account_after (fresh name n d region labels)))) (settled-set (accounts slots) (n - 1) None hs off)
-      ∙ (set-set (settled (accounts slots) hs) (n - 1) None (Some (account_after (fresh name n d region labels)))
-      ∙ set_same (settled (accounts slots) hs) (n - 1) (Some (account_after (fresh name n d region labels))) kept)))
+      settled-push (accounts (set slots (n - 1) None)) hs (fresh name n d region cells labels)
+      ∙ (ap (λ shelf. set (settled shelf hs) (n - 1) (Some (account_after (fresh name n d region cells labels)))) (map-set (option_map account) slots (n - 1) None)
+      ∙ (ap (λ shelf. set shelf (n - 1) (Some (account_after (fresh name n d region cells labels)))) (settled-set (accounts slots) (n - 1) None hs off)
+      ∙ (set-set (settled (accounts slots) hs) (n - 1) None (Some (account_after (fresh name n d region cells labels)))
+      ∙ set_same (settled (accounts slots) hs) (n - 1) (Some (account_after (fresh name n d region cells labels))) kept)))
 
 pub open_step-named : (s : State) (name : List ℕ) (m : Method) (n : ℕ) → list_any (is_home name) s.homes ≡ true → open_step s name m n ≡ refused s RegionExists
 open_step-named s name m n named =
@@ -135,8 +153,8 @@ opened_over-not_here s name n r (Some None) not_here = refl
 opened_over-not_here s name n r (Some (Some d)) not_here = absurd (not_here refl)
 
 -- no discipline is here at the number
-pub open_step-not_here : (slots : Slots) (hs : List Held) (name : List ℕ) (m : Method) (n : ℕ) → list_any (is_home name) (map home_of hs) ≡ false → (place_at slots n ≡ Here → ⊥) → open_step (state_of slots hs) name m n ≡ refused (state_of slots hs) (why_not (place_at slots n))
-open_step-not_here slots hs name m n new not_here =
+pub open_step-not_here : (kinds : List Rules) (slots : Slots) (hs : List Held) (ds : List DictHome) (name : List ℕ) (m : Method) (n : ℕ) → list_any (is_home name) (map home_of hs) ≡ false → (place_at slots n ≡ Here → ⊥) → open_step (state_of kinds slots hs ds) name m n ≡ refused (state_of kinds slots hs ds) (why_not (place_at slots n))
+open_step-not_here kinds slots hs ds name m n new not_here =
     let r : Region Label = opened m in
-    ap (λ b. cond b (refused (state_of slots hs) RegionExists) (opened_over (state_of slots hs) name n r (at_number (state_of slots hs).shelf n))) new
-    ∙ (ap (opened_over (state_of slots hs) name n r) (at_number-map (option_map (λ e. e.terms)) slots n) ∙ opened_over-not_here (state_of slots hs) name n r (at_number slots n) not_here)
+    ap (λ b. cond b (refused (state_of kinds slots hs ds) RegionExists) (opened_over (state_of kinds slots hs ds) name n r (at_number (state_of kinds slots hs ds).shelf n))) new
+    ∙ (ap (opened_over (state_of kinds slots hs ds) name n r) (at_number-map (option_map (λ e. e.terms)) slots n) ∙ opened_over-not_here (state_of kinds slots hs ds) name n r (at_number slots n) not_here)

@@ -1,5 +1,5 @@
 -- The sites of a region's rows stay names, or the hyphen of the blocks without one.
-use Rattle.std.proofs.Common.{◌≡◌, ℕ, List, [], ◌∷◌, Option, Some, None, map, Bool, true, false, cond, refl, ap}
+use Rattle.std.proofs.Common.{ℕ, List, [], ◌∷◌, Option, Some, None, map, Bool, true, false, cond, refl, ap}
 use Rattle.std.specs.Prelude.{ℤ, IsTrue, codes, ◌||◌}
 use Rattle.std.specs.List.{AllByRecursion}
 use Rattle.std.specs.Str.{bytes_eq}

@@ -20,7 +20,7 @@ use Rattle.vc_region.specs.Stat.{opened}
 use Rattle.vc_seg.specs.declared.method.Method.{Method}
 use Rattle.vc_seg.specs.declared.method.Method.TheVariants.{VmBest, VmPool, VmLast, VmDebug, VmProfile}
 use Rattle.vc_script.specs.declared.command.Command.{Command}
-use Rattle.vc_script.specs.declared.command.Command.TheVariants.{OpenRegion, CloseRegion, ClearRegion, Compact, Alloc, Align, Resize, Free, WriteBlock, ReadBlock, SizeOf, AddrOf, SegmentOf, StatOf, Segments, Blocks, Poke, Check, Watch, ProfileOf}
+use Rattle.vc_script.specs.declared.command.Command.TheVariants.{OpenRegion, CloseRegion, ClearRegion, Compact, Alloc, Align, Resize, Free, WriteBlock, ReadBlock, SizeOf, AddrOf, SegmentOf, StatOf, Segments, Blocks, Poke, Check, Watch, ProfileOf, OpenDict, Insert, Append, Attach, Delete, Detach, Search, MatchKey, First, Last, Next, Prev, Walk, Count, Remethod, Empty, Shut}
 use Rattle.vc_script.specs.declared.refusal.Refusal.{Refusal}
 use Rattle.vc_script.specs.declared.refusal.Refusal.TheVariants as why
 use Rattle.vc_script.specs.declared.reply.Reply.TheVariants as reply
@@ -29,11 +29,20 @@ use Rattle.vc_script.specs.Needs.{Need}
 use Rattle.vc_script.specs.Proper.{IsName, IsProperCommand, IsSite}
 use Rattle.vc_script.specs.ProperReply.{IsProperReply, is_row_site}
 use Rattle.vc_script.specs.Words.{is_name}
-use Rattle.vc_session.specs.State.{Changed, Home, Label, State, Stepped, changed_to, close_home, home_named, is_home, opened_over, refused, told, unchanged, with_region, without_home}
+use Rattle.vc_session.specs.State.{Changed, DictHome, Home, Label, State, Stepped, changed, changed_to, close_home, closed, is_busy, unless_busy, home_named, is_home, opened_over, refused, told, unchanged, with_region, without_home}
 use Rattle.vc_session.specs.Blocks.{freed, free_block, has_label, has_room, is_align, is_block, is_size, kept_freed, no_block, align_refused, put_by, site_of, size_refused, put_in, put_new, read_block, resize_block, with_named, write_block}
 use Rattle.vc_session.specs.Whole.{addr_reply, item_of, kept_cleared, segment_reply, with_label, with_labels}
 use Rattle.vc_session.specs.Kept.{Kept, by_name, line_of, with_line, without_name}
-use Rattle.vc_session.specs.Step.{in_region, is_for_block, region_of, region_step, shelf_step, step, step_of}
+use Rattle.vc_session.specs.Step.{cleared_or, in_region, is_for_block, region_of, region_step, shelf_step, step, step_of, step_on}
+use Rattle.vc_session.specs.Dicts.{dict_changed, dict_command, dict_named, dict_of, dict_opened, dict_refused, is_dict, on_found, on_seat, open_dict_in, open_dict_unless, seat_of, shut_in}
+use Rattle.vc_session.proofs.ProperDicts.{IsProperGrown, proper-in_dict, proper-open, proper-region_without}
+use Rattle.std.proofs.lemmas.Slice.Eq.{bytes_eq-Decides}
+use Rattle.vc_base.specs.declared.dict_method.DictMethod.{DictMethod}
+use Rattle.vc_dtdisc.specs.Rules.{Rules}
+use Rattle.vc_objects.specs.Insert.{Grown, open_dictionary}
+use Rattle.vc_objects.specs.Remove.{region_without}
+use Rattle.vc_commands.specs.Commands.{in_dict, is_for_table}
+use Rattle.std.specs.Str.{bytes_eq}
 use Rattle.vc_session.specs.ProperState.{AreProperNames, HasProperSites, IsProperHome, IsProperRegion, IsProperState, name_or_none}
 use Rattle.vc_session.specs.Audit.{check_in, damage_item, is_poke, poke_block, poke_byte, profile_in, watch_block}
 use Rattle.vc_session.proofs.ProperSites.{HasSitesAfter, HasSitesFreed, clear-sites, compact-sites, free-sites, poke-sites, resize-sites, row-site_of, sites-align, sites-alloc, watch-sites, write-sites}
@@ -333,9 +342,12 @@ step-cond : (t : Bool) (a b : Stepped) → IsProperStep a → IsProperStep b →
 step-cond true a b p q = p
 step-cond false a b p q = q
 
+proper-unless_busy : (s : State) (r : List ℕ) (t : Stepped) → IsProperState s → IsProperStep t → IsProperStep (unless_busy s r t)
+proper-unless_busy s r t all there = step-cond (is_busy s r) (refused s why.Busy) t (tt, all) there
+
 proper-closed : (s : State) (r : List ℕ) (o : Option Home) → IsName r → IsProperState s → IsProperStep (close_home s r o)
 proper-closed s r None name all = (tt, all)
-proper-closed s r (Some h) name all = (name, proper-without_home r s.homes all)
+proper-closed s r (Some h) name all = proper-unless_busy s r (closed s r h) all (name, proper-without_home r s.homes all)
 
 proper-opened_over : (s : State) (r : List ℕ) (n : ℕ) (region : Region Label) (place : Option (Option Terms)) → IsName r → IsProperRegion region → HasProperSites region → IsProperState s → IsProperStep (opened_over s r n region place)
 proper-opened_over s r n region None name here sites all = (tt, all)
@@ -359,23 +371,111 @@ sites-new VmLast = tt
 sites-new VmDebug = tt
 sites-new VmProfile = tt
 
-proper-on_shelf : (s : State) (c : Command) → IsProperCommand c → IsProperState s → IsProperStep (shelf_step s c)
-proper-on_shelf s (OpenRegion r method n) proper all =
+proper-dict_opened : (s : State) (h : Home) (d : List ℕ) (k : ℕ) (o : Outcome (Grown Label)) → IsName d → IsProperState s → IsProperHome h → IsProperGrown o → IsProperStep (dict_opened s h d k o)
+proper-dict_opened s h d k (Refused fault) name all here there = (tt, all)
+proper-dict_opened s h d k (Done g) name all here there = (name, proper-with_region h.name g.region h.kept s.homes there.0 here.1 there.1 all)
+
+proper-dict_unless : (s : State) (h : Home) (d : List ℕ) (method : DictMethod) (k : ℕ) (need : Need) (o : Option Refusal) → IsName d → IsProperState s → IsProperHome h → IfSome o (λ w. IsProperReply (reply.Refused w)) → IsProperStep (open_dict_unless s h d method k need o)
+proper-dict_unless s h d method k need (Some refusal) name all here proper = (proper, all)
+proper-dict_unless s h d method k need None name all here proper =
+    proper-dict_opened s h d k (open_dictionary h.terms h.region None method (is_for_table need)) name all here (proper-open h.terms h.region method (is_for_table need) (here.0, here.2))
+
+-- a refusal has no names
+proper-any : (w : Refusal) → IsProperReply (reply.Refused w)
+proper-any w = tt
+
+proper-some : (o : Option Refusal) → IfSome o (λ w. IsProperReply (reply.Refused w))
+proper-some None = tt
+proper-some (Some w) = proper-any w
+
+proper-dict_in : (s : State) (d : List ℕ) (method : DictMethod) (k : ℕ) (need : Need) (o : Option Home) → IsName d → IsProperState s → IfSome o IsProperHome → IsProperStep (open_dict_in s d method k need o)
+proper-dict_in s d method k need None name all here = (tt, all)
+proper-dict_in s d method k need (Some h) name all here =
+    proper-dict_unless s h d method k need (dict_refused s h d k) name all here (proper-some (dict_refused s h d k))
+
+proper-on_shelf : (s : State) (c : Command) (need : Need) → IsProperCommand c → IsProperState s → IsProperStep (shelf_step s c need)
+proper-on_shelf s (OpenRegion r method n) need proper all =
     let over = opened_over s r n (opened method) (at_number s.shelf n) in
     step-cond (list_any (is_home r) s.homes) (refused s why.RegionExists) over (tt, all) (proper-opened_over s r n (opened method) (at_number s.shelf n) proper.0 (proper-new method) (sites-new method) all)
-proper-on_shelf s (CloseRegion r) proper all = proper-closed s r (home_named r s.homes) proper all
-proper-on_shelf s command proper all = (tt, all)
+proper-on_shelf s (CloseRegion r) need proper all = proper-closed s r (home_named r s.homes) proper all
+proper-on_shelf s (OpenDict d method r k) need proper all = proper-dict_in s d method k need (home_named r s.homes) proper.0 all (proper-home_named r s.homes all)
+proper-on_shelf s command need proper all = (tt, all)
+
+proper-cleared_or : (s : State) (r : List ℕ) (c : Command) (t : Stepped) → IsProperState s → IsProperStep t → IsProperStep (cleared_or s r c t)
+proper-cleared_or s r (ClearRegion x) t all there = proper-unless_busy s r t all there
+proper-cleared_or s r command t all there = there
 
 proper-at : (s : State) (r : List ℕ) (line : ℕ) (c : Command) (need : Need) (o : Option Home) → IsProperCommand c → IsProperState s → IfSome o IsProperHome → IsProperStep (region_step s r line c need o)
 proper-at s r line c need None proper all here = (tt, all)
 proper-at s r line c need (Some h) proper all here =
     let done = proper-in_region h line c need proper here in
+    proper-cleared_or s r c (changed s r (in_region h line c need)) all
     (done.0, proper-with_region r (in_region h line c need).region (in_region h line c need).kept s.homes done.1 done.2 done.3 all)
 
 proper-of : (s : State) (line : ℕ) (c : Command) (need : Need) (o : Option (List ℕ)) → IsProperCommand c → IsProperState s → IsProperStep (step_of s line c need o)
-proper-of s line c need None proper all = proper-on_shelf s c proper all
+proper-of s line c need None proper all = proper-on_shelf s c need proper all
 proper-of s line c need (Some r) proper all = proper-at s r line c need (home_named r s.homes) proper all (proper-home_named r s.homes all)
+
+-- the name that is looked for is that of the dictionary that is found
+found-name : (t : Bool) (name : List ℕ) (h : DictHome) (o : Option DictHome) → bytes_eq h.name name ≡ t → IsName name → IfSome o (λ d. IsName d.name) → IfSome (cond t (Some h) o) (λ d. IsName d.name)
+found-name true name h o same proper rest = subst IsName (sym ((bytes_eq-Decides h.name name).0 same)) proper
+found-name false name h o same proper rest = rest
+
+proper-dict_named : (name : List ℕ) (dicts : List DictHome) → IsName name → IfSome (dict_named name dicts) (λ d. IsName d.name)
+proper-dict_named name [] proper = tt
+proper-dict_named name (h ∷ hs) proper = found-name (is_dict name h) name h (dict_named name hs) refl proper (proper-dict_named name hs proper)
+
+proper-shut : (s : State) (d : DictHome) (o : Option Home) → IsProperState s → IfSome o IsProperHome → IsProperState (shut_in s d o)
+proper-shut s d None all here = all
+proper-shut s d (Some h) all here =
+    let left = proper-region_without h.region d.dict (here.0, here.2) in
+    proper-with_region h.name (region_without h.region d.dict) h.kept s.homes left.0 here.1 left.1 all
+
+proper-dict_changed : (s : State) (d : DictHome) (h : Home) (rules : Rules) (c : Command) (need : Need) → IsProperCommand c → IsProperState s → IsProperHome h → IsProperStep (dict_changed s d h (in_dict (seat_of d h rules) c need))
+proper-dict_changed s d h rules c need proper all here =
+    let done = proper-in_dict rules h.terms h.region d.dict c need proper (here.0, here.2) in
+    (done.0, proper-with_region h.name (in_dict (seat_of d h rules) c need).region h.kept s.homes done.1.0 here.1 done.1.1 all)
+
+proper-dict_command : (s : State) (c : Command) (need : Need) (d : DictHome) (h : Home) (rules : Rules) → IsProperCommand c → IsName d.name → IsProperState s → IsProperHome h → IsProperStep (dict_command s c need d h rules)
+proper-dict_command s (Shut name) need d h rules proper known all here =
+    (known, proper-shut s d (home_named d.home s.homes) all (proper-home_named d.home s.homes all))
+proper-dict_command s command need d h rules proper known all here = proper-dict_changed s d h rules command need proper all here
+
+proper-on_seat : (s : State) (c : Command) (need : Need) (d : DictHome) (o : Option Home) (rules : Option Rules) → IsProperCommand c → IsName d.name → IsProperState s → IfSome o IsProperHome → IsProperStep (on_seat s d (dict_command s c need) o rules)
+proper-on_seat s c need d None rules proper known all here = (tt, all)
+proper-on_seat s c need d (Some h) None proper known all here = (tt, all)
+proper-on_seat s c need d (Some h) (Some rules) proper known all here = proper-dict_command s c need d h rules proper known all here
+
+proper-on_found : (s : State) (c : Command) (need : Need) (o : Option DictHome) → IsProperCommand c → IsProperState s → IfSome o (λ d. IsName d.name) → IsProperStep (on_found s (dict_command s c need) o)
+proper-on_found s c need None proper all known = (tt, all)
+proper-on_found s c need (Some d) proper all known =
+    proper-on_seat s c need d (home_named d.home s.homes) (at_number s.kinds d.kind) proper known all (proper-home_named d.home s.homes all)
+
+-- the name of the dictionary that a command works on is a name
+proper-dict_of : (c : Command) → IsProperCommand c → IfSome (dict_of c) IsName
+proper-dict_of (Insert d bytes) proper = proper
+proper-dict_of (Append d bytes) proper = proper
+proper-dict_of (Attach d bytes) proper = proper
+proper-dict_of (Delete d bytes) proper = proper
+proper-dict_of (Detach d bytes) proper = proper
+proper-dict_of (Search d bytes) proper = proper
+proper-dict_of (MatchKey d key) proper = proper
+proper-dict_of (First d) proper = proper
+proper-dict_of (Last d) proper = proper
+proper-dict_of (Next d bytes) proper = proper
+proper-dict_of (Prev d bytes) proper = proper
+proper-dict_of (Walk d) proper = proper
+proper-dict_of (Count d) proper = proper
+proper-dict_of (Remethod d method) proper = proper
+proper-dict_of (Empty d) proper = proper
+proper-dict_of (Shut d) proper = proper
+proper-dict_of command proper = tt
+
+proper-step_on : (s : State) (line : ℕ) (c : Command) (need : Need) (o : Option (List ℕ)) → IsProperCommand c → IsProperState s → IfSome o IsName → IsProperStep (step_on s line c need o)
+proper-step_on s line c need None proper all name = proper-of s line c need (region_of c) proper all
+proper-step_on s line c need (Some d) proper all name =
+    proper-on_found s c need (dict_named d s.dicts) proper all (proper-dict_named d s.dicts name)
 
 -- a step of a command whose names are names, in a state whose labels are
 pub proper-step : (s : State) (n : ℕ) (c : Command) (need : Need) → IsProperCommand c → IsProperState s → IsProperStep (step s n c need)
-proper-step s n c need proper all = proper-of s n c need (region_of c) proper all
+proper-step s n c need proper all = proper-step_on s n c need (dict_of c) proper all (proper-dict_of c proper)

@@ -6,6 +6,7 @@ use Rattle.std.proofs.lemmas.Bool.{eq-eqb, false≢true}
 use Rattle.std.proofs.lemmas.Bool.Decides.{nat_tests}
 use Rattle.std.proofs.lemmas.Option.{none-some}
 use Rattle.vc_base.specs.declared.addr.Addr.{Addr}
+use Rattle.vc_base.specs.Cells.{Blocks}
 use Rattle.vc_model.specs.Addr.{address, place_of}
 use Rattle.vc_model.specs.Best.{zeros}
 use Rattle.vc_model.specs.Discipline.{Discipline, HasOut, Unserved}
@@ -177,9 +178,9 @@ module _ (h : Held) (x : List ℕ) (legal : Option Refusal) (names : IsNamed h.r
     names-put (Err fault) result named answers there others places =
         subst (λ l. IsNamed region l) (sym named.1) (subst (λ r. IsNamed r mid) (sym answers.1) mid-names)
 
-    pub change-put : {E : Type 0} (put : Result Addr RegionFault) (result : Result Reply E) → NamesPut tag x put mid new result → Answers call put h.region region → Asks put h.disc disc (segments_of h.region) (segments_of region) need → IfOk put (λ a. find_block (place_of a.0) (blocks_of region) ≡ Some (zeros tag size (place_of a.0))) → IfOk put (λ a. without_block (place_of a.0) (blocks_of region) ≡ blocks_of h.region) → HaveOwnPlaces (blocks_of region) → HasOut h.disc (segments_of h.region) → IsChange h (record { name = h.name; place = h.place; disc = disc; region = region; labels = new })
-    change-put put result named answers asks there others places has =
-        changed-by h disc region new has
+    pub change-put : {E : Type 0} (put : Result Addr RegionFault) (result : Result Reply E) → NamesPut tag x put mid new result → Answers call put h.region region → Asks put h.disc disc (segments_of h.region) (segments_of region) need → IfOk put (λ a. find_block (place_of a.0) (blocks_of region) ≡ Some (zeros tag size (place_of a.0))) → IfOk put (λ a. without_block (place_of a.0) (blocks_of region) ≡ blocks_of h.region) → HaveOwnPlaces (blocks_of region) → HasOut h.disc (segments_of h.region) → (cells : Blocks) → cells ≡ h.cells → IsChange h (record { name = h.name; place = h.place; disc = disc; region = region; cells = cells; labels = new })
+    change-put put result named answers asks there others places has cells same_cells =
+        changed-by h disc region cells new same_cells has
         (asks-kept put h.disc disc (segments_of h.region) (segments_of region) need asks)
         (asks-out call h.region region h.disc disc need put answers asks)
         (names-put put result named answers there others places)

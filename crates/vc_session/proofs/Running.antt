@@ -20,16 +20,18 @@ use Rattle.vc_script.proofs.ProperCommands.{IsProperCommand-answer}
 use Rattle.vc_script.proofs.Texts.{ascending-push, shows-text}
 use Rattle.vc_session.specs.Account.{Account, RoseBy, Settles, faults_of}
 use Rattle.vc_session.specs.Engine.{IsIdle, IsStep, LineRan}
-use Rattle.vc_session.specs.Moment.{Moment, over_sink}
+use Rattle.vc_session.specs.Moment.{Moment, ended, over_sink}
 use Rattle.vc_session.specs.ProperState.{IsProperState}
-use Rattle.vc_session.specs.Replay.{IsRun, Told, run_by}
-use Rattle.vc_session.specs.Run.{Ran, command_then, commands, fault_in, fault_then, lines_of, listed, nothing_ran, refusal_at, run, text_of}
+use Rattle.vc_session.specs.Replay.{IsRun, Told, all_told, run_by}
+use Rattle.vc_session.specs.Run.{Ran, command_then, commands, fault_in, fault_then, lines_of, nothing_ran, refusal_at, run, text_of}
 use Rattle.vc_session.specs.SoFar.{Found, Running}
 use Rattle.vc_session.specs.State.{Stepped}
 use Rattle.vc_session.specs.Step.{step}
+use Rattle.vc_session.specs.Told.{ended_told, tell}
 use Rattle.vc_session.proofs.ProperSteps.{proper-step}
 use Rattle.vc_session.proofs.Runs.{one_more, run-push, step_after}
 use Rattle.vc_session.proofs.Settling.{settles-same, settles-trans}
+use Rattle.vc_session.proofs.Told.{tell-append}
 
 pub told-none : (before : Option (List ℕ)) → Told before before []
 told-none None = tt
@@ -82,6 +84,7 @@ running-start tool start all = record {
   run = λ needs shows. refl;
   state = refl;
   settles = settles-same start.accounts;
+  gone = refl;
   told = refl;
 }
 
@@ -93,7 +96,7 @@ running-shows {front = front} r =
     (shows-text r.ran.replies (subst IsAscending r.lines r.rising) r.proper))
 
 -- a run of all the lines from which commands come
-pub running-end : {tool : Tool} {start now : Moment} {front : List ℕ} {count : ℕ} {whole : Found} (behind : Found) (after : Option (List ℕ)) → Running tool start now front count whole → commands tool behind ≡ [] → Told start.written after front → IsRun start (over_sink now after) (commands tool (whole ++ behind))
+pub running-end : {tool : Tool} {start now : Moment} {front : List ℕ} {count : ℕ} {whole : Found} (behind : Found) (after : Option (List ℕ)) → Running tool start now front count whole → commands tool behind ≡ [] → Told start.written after front → IsRun start (ended (over_sink now after)) (commands tool (whole ++ behind))
 running-end {tool} {start} {now} {front} {count} {whole} behind after r end told =
     let all : commands tool (whole ++ behind) ≡ r.done = r.script behind ∙ (ap (λ cs. r.done ++ cs) end ∙ append-nil r.done) in
     let ran : run_by start (commands tool (whole ++ behind)) front ≡ r.ran = ap (λ cs. run_by start cs front) all ∙ r.run (needs_of (lines_of r.done) front) (running-shows r) in
@@ -102,6 +105,11 @@ running-end {tool} {start} {now} {front} {count} {whole} behind after r end told
       text = r.told ∙ ap text_of (sym ran);
       told = told;
       settles = subst (λ e. Settles start.accounts now.accounts e.refusals) (sym ran) r.settles;
+      gone =
+          ap (λ g. tell (ended_told now.state) g) r.gone
+          ∙ (sym (tell-append r.ran.told (ended_told now.state) start.gone)
+          ∙ (ap (λ s. tell (r.ran.told ++ ended_told s) start.gone) (sym r.state)
+          ∙ ap (λ e. tell (all_told e) start.gone) (sym ran)));
     }
 
 -- the same run, over another sink
@@ -120,6 +128,7 @@ running-over written r = record {
   run = r.run;
   state = r.state;
   settles = r.settles;
+  gone = r.gone;
   told = r.told;
 }
 
@@ -139,6 +148,7 @@ running-same {start = start} {now = now} {next = next} r idle = record {
   run = r.run;
   state = r.state ∙ sym idle.state;
   settles = subst (Settles start.accounts next.accounts) (append-nil r.ran.refusals) (settles-trans start.accounts now.accounts next.accounts r.ran.refusals [] r.settles idle.keeps);
+  gone = idle.gone ∙ r.gone;
   told = r.told;
 }
 
@@ -165,6 +175,7 @@ module _ {tool : Tool} {start now : Moment} {front : List ℕ} {count : ℕ} {wh
     run = r.run;
     state = r.state;
     settles = r.settles;
+    gone = r.gone;
     told = r.told;
   }
 
@@ -179,7 +190,7 @@ module _ {tool : Tool} {start now : Moment} {front : List ℕ} {count : ℕ} {wh
       state = next.state;
       refusals = r.ran.refusals ++ refusal_at now.state c i.reply;
       told = r.ran.told ++ t.told;
-      granted = r.ran.granted ++ listed t.granted;
+      granted = r.ran.granted ++ t.granted;
     }
 
     proper_next : IsProperReply i.reply × IsProperState next.state
@@ -197,9 +208,9 @@ module _ {tool : Tool} {start now : Moment} {front : List ℕ} {count : ℕ} {wh
         ∙ (ap (λ e. one_more e (n, c) (step_after e (n, c) needs)) (r.run needs parts.0)
         ∙ (ap (λ s. one_more r.ran (n, c) (step s n c (need_at needs n))) r.state
         ∙ (ap (λ need. one_more r.ran (n, c) (step now.state n c need)) parts.1
-        ∙ (ap (λ s. let e : Ran = record { replies = r.ran.replies ++ (n, t.reply) ∷ []; state = t.state; refusals = r.ran.refusals ++ refusal_at s c t.reply; told = r.ran.told ++ t.told; granted = r.ran.granted ++ listed t.granted } in e) r.state
-        ∙ (ap (λ reply. let e : Ran = record { replies = r.ran.replies ++ (n, reply) ∷ []; state = t.state; refusals = r.ran.refusals ++ refusal_at now.state c reply; told = r.ran.told ++ t.told; granted = r.ran.granted ++ listed t.granted } in e) i.steps.replied
-        ∙ ap (λ s. let e : Ran = record { replies = r.ran.replies ++ (n, i.reply) ∷ []; state = s; refusals = r.ran.refusals ++ refusal_at now.state c i.reply; told = r.ran.told ++ t.told; granted = r.ran.granted ++ listed t.granted } in e) i.steps.state_after)))))
+        ∙ (ap (λ s. let e : Ran = record { replies = r.ran.replies ++ (n, t.reply) ∷ []; state = t.state; refusals = r.ran.refusals ++ refusal_at s c t.reply; told = r.ran.told ++ t.told; granted = r.ran.granted ++ t.granted } in e) r.state
+        ∙ (ap (λ reply. let e : Ran = record { replies = r.ran.replies ++ (n, reply) ∷ []; state = t.state; refusals = r.ran.refusals ++ refusal_at now.state c reply; told = r.ran.told ++ t.told; granted = r.ran.granted ++ t.granted } in e) i.steps.replied
+        ∙ ap (λ s. let e : Ran = record { replies = r.ran.replies ++ (n, i.reply) ∷ []; state = s; refusals = r.ran.refusals ++ refusal_at now.state c i.reply; told = r.ran.told ++ t.told; granted = r.ran.granted ++ t.granted } in e) i.steps.state_after)))))
 
     -- a line with a command
     running-step : Running tool start next (front ++ line_of i.reply) n (whole ++ (n, Ok line) ∷ [])
@@ -221,6 +232,10 @@ module _ {tool : Tool} {start now : Moment} {front : List ℕ} {count : ℕ} {wh
       run = run_next;
       state = refl;
       settles = settles-trans start.accounts now.accounts next.accounts r.ran.refusals (refusal_at now.state c i.reply) r.settles i.settles;
+      gone =
+          i.steps.told
+          ∙ (ap (λ g. tell t.told g) r.gone
+          ∙ sym (tell-append r.ran.told t.told start.gone));
       told =
           ap (λ w. w ++ line_of i.reply) r.told
           ∙ sym (ap text (map-append (λ (p : ℕ × Reply). p.1) r.ran.replies ((n, i.reply) ∷ []))

@@ -6,7 +6,7 @@ use Rattle.vc_script.specs.declared.reply.Reply.{Reply}
 use Rattle.vc_script.specs.Needs.{Need, need_at}
 use Rattle.vc_session.specs.State.{State, Stepped}
 use Rattle.vc_session.specs.Step.{step}
-use Rattle.vc_session.specs.Run.{Ran, listed, ran, run, refusal_at}
+use Rattle.vc_session.specs.Run.{Ran, ran, run, refusal_at}
 
 abbrev pub one_more : Ran → ℕ × Command → Stepped → Ran
 one_more r c t =
@@ -15,7 +15,7 @@ one_more r c t =
       state = t.state;
       refusals = r.refusals ++ refusal_at r.state c.1 t.reply;
       told = r.told ++ t.told;
-      granted = r.granted ++ listed t.granted;
+      granted = r.granted ++ t.granted;
     }
 
 -- the step behind a run
@@ -34,12 +34,12 @@ ran-one_more s d t r c u =
     same_ran ((d.0, t.reply) ∷ (r.replies ++ (c.0, u.reply) ∷ [])) u.state _ _ _ _ _ _
     (sym (append_assoc (refusal_at s d.1 t.reply) r.refusals (refusal_at r.state c.1 u.reply)))
     (sym (append_assoc t.told r.told u.told))
-    (sym (append_assoc (listed t.granted) r.granted (listed u.granted)))
+    (sym (append_assoc t.granted r.granted u.granted))
 
 pub run-push : (s : State) (cs : List (ℕ × Command)) (needs : List (ℕ × Need)) (c : ℕ × Command) → run s (cs ++ c ∷ []) needs ≡ one_more (run s cs needs) c (step_after (run s cs needs) c needs)
 run-push s [] needs c =
     let t = step s c.0 c.1 (need_at needs c.0) in
-    same_ran ((c.0, t.reply) ∷ []) t.state _ _ _ _ _ _ (append-nil (refusal_at s c.1 t.reply)) (append-nil t.told) (append-nil (listed t.granted))
+    same_ran ((c.0, t.reply) ∷ []) t.state _ _ _ _ _ _ (append-nil (refusal_at s c.1 t.reply)) (append-nil t.told) (append-nil t.granted)
 run-push s (d ∷ ds) needs c =
     let t = step s d.0 d.1 (need_at needs d.0) in
     ap (ran s d t) (run-push t.state ds needs c)

@@ -18,7 +18,7 @@ use Rattle.vc_script.specs.Lines.{piece}
 use Rattle.vc_script.specs.Pieces.{found_then}
 use Rattle.vc_script.proofs.Pieces.{Tells, end-tells, fed-tells, judge-ok}
 use Rattle.vc_session.specs.Engine.{IsIdle, LineRan}
-use Rattle.vc_session.specs.Moment.{Moment, over_sink}
+use Rattle.vc_session.specs.Moment.{Moment, ended, over_sink}
 use Rattle.vc_session.specs.ProperState.{IsProperState}
 use Rattle.vc_session.specs.Replay.{IsCutShort, IsReplay, IsRun, ShowsNoFault, Stops, StopsAtFault, Told}
 use Rattle.vc_session.specs.Run.{commands, fault_in, wholly_read}
@@ -87,14 +87,14 @@ module _ {tool : Tool} {start now : Moment} {text : List ℕ} {count : ℕ} {who
             ∙ ap (λ xs. whole ++ ended_rest s (xs ++ more)) (sym t.same));
       }
 
-  reading-cut_short : (left' after : Option (List ℕ)) → left' ≡ left → Told start.written after text → IsCutShort tool start (over_sink now after) input left'
+  reading-cut_short : (left' after : Option (List ℕ)) → left' ≡ left → Told start.written after text → IsCutShort tool start (ended (over_sink now after)) input left'
   reading-cut_short left' after same told = record {
     bytes = r.before ++ r.last;
     rest = r.behind;
     split = r.split;
     unread = same ∙ r.unread;
     no_fault = shows-none;
-    run = subst (λ ls. IsRun start (over_sink now after) (commands tool ls)) (sym read_lines) (running-end [] after running refl told);
+    run = subst (λ ls. IsRun start (ended (over_sink now after)) (commands tool ls)) (sym read_lines) (running-end [] after running refl told);
   }
 
 reading-start : (tool : Tool) (o : Option (List ℕ)) → IfSome o (λ input. Reading tool input o new_cutting [] [])
@@ -151,11 +151,11 @@ pub so_far-start : (tool : Tool) (start : Moment) (told : Option (List ℕ)) →
 so_far-start tool start told all = record { whole = []; running = running-start tool start all; reading = reading-start tool told }
 
 -- the end of a run whose lines are found
-replay-end : {tool : Tool} {start now : Moment} {text : List ℕ} {count : ℕ} {whole : Found} (input : List ℕ) (left after : Option (List ℕ)) (found : Found) (bad : Option (ℕ × LineFault)) → Running tool start now text count whole → judged input ≡ whole ++ found → commands tool found ≡ [] → fault_in tool found ≡ bad → Stops tool input bad left → Told start.written after text → IsReplay tool start (over_sink now after) input bad left
+replay-end : {tool : Tool} {start now : Moment} {text : List ℕ} {count : ℕ} {whole : Found} (input : List ℕ) (left after : Option (List ℕ)) (found : Found) (bad : Option (ℕ × LineFault)) → Running tool start now text count whole → judged input ≡ whole ++ found → commands tool found ≡ [] → fault_in tool found ≡ bad → Stops tool input bad left → Told start.written after text → IsReplay tool start (ended (over_sink now after)) input bad left
 replay-end {tool} {start} {now} {text} {count} {whole} input left after found bad r all none first stops told = record {
   first = sym (ap (fault_in tool) all ∙ (r.good found ∙ first));
   stops = stops;
-  run = subst (λ ls. IsRun start (over_sink now after) (commands tool ls)) (sym all) (running-end found after r none told);
+  run = subst (λ ls. IsRun start (ended (over_sink now after)) (commands tool ls)) (sym all) (running-end found after r none told);
 }
 
 stops-at : {tool : Tool} {input : List ℕ} {left : Option (List ℕ)} {s : Cutting} {rest : List ℕ} {whole : Found} → Reading tool input left s rest whole → StopsAtFault tool input left
@@ -182,7 +182,7 @@ module _ {tool : Tool} {start now : Moment} {text : List ℕ} {told left : Optio
   }
 
   -- a read failed where no byte was left over
-  pub so_far-cut_short : (left' after : Option (List ℕ)) → SoFar tool start now text told left s [] → IsCutting s → left' ≡ left → Told start.written after text → IfSome told (λ input. IsCutShort tool start (over_sink now after) input left')
+  pub so_far-cut_short : (left' after : Option (List ℕ)) → SoFar tool start now text told left s [] → IsCutting s → left' ≡ left → Told start.written after text → IfSome told (λ input. IsCutShort tool start (ended (over_sink now after)) input left')
   so_far-cut_short left' after r is same written = if_some told _ _ (λ input reading. reading-cut_short r.running is reading left' after same written) r.reading
 
 module _ {tool : Tool} {start now : Moment} {text : List ℕ} {told left : Option (List ℕ)} {s : Cutting} {rest : List ℕ} (next : Cutting) (used : ℕ) (is : IsCutting s) where
@@ -195,7 +195,7 @@ module _ {tool : Tool} {start now : Moment} {text : List ℕ} {told left : Optio
   }
 
   -- a line can't be taken
-  pub so_far-bad_cut : (fault : LineFault) (after : Option (List ℕ)) → SoFar tool start now text told left s rest → fed s rest ≡ record { after = next; cut = Bad fault; used = used } → Told start.written after text → IfSome told (λ input. IsReplay tool start (over_sink now after) input (Some (next.count + 1, fault)) left)
+  pub so_far-bad_cut : (fault : LineFault) (after : Option (List ℕ)) → SoFar tool start now text told left s rest → fed s rest ≡ record { after = next; cut = Bad fault; used = used } → Told start.written after text → IfSome told (λ input. IsReplay tool start (ended (over_sink now after)) input (Some (next.count + 1, fault)) left)
   so_far-bad_cut fault after r e written = if_some told _ _ (λ input reading.
       replay-end input left after ((next.count + 1, Err fault) ∷ []) (Some (next.count + 1, fault)) r.running (judged-input reading ∙ ap (λ ls. r.whole ++ ls) (fed-tells-all s rest next (Bad fault) used is e reading.behind)) refl refl (stops-at reading) written) r.reading
 
@@ -213,7 +213,7 @@ idle-told front old new before after held holds idle written =
     subst (λ xs. Told before after (front ++ xs)) (same_Some new old (sym holds ∙ (idle.told ∙ held))) written
 
 -- a line is bad
-pub so_far-bad_line : {tool : Tool} {start now : Moment} (next_moment : Moment) {told left : Option (List ℕ)} {s : Cutting} {rest : List ℕ} (front old new : List ℕ) (next : Cutting) (used : ℕ) (fault : LineFault) (after : Option (List ℕ)) → now.written ≡ Some old → next_moment.written ≡ Some new → IsCutting s → SoFar tool start now (front ++ old) told left s rest → fed s rest ≡ record { after = next; cut = Whole; used = used } → LineRan now next_moment next.count (answer tool next.line) (Some fault) → Told start.written after (front ++ new) → IfSome told (λ input. IsReplay tool start (over_sink next_moment after) input (Some (next.count, fault)) left)
+pub so_far-bad_line : {tool : Tool} {start now : Moment} (next_moment : Moment) {told left : Option (List ℕ)} {s : Cutting} {rest : List ℕ} (front old new : List ℕ) (next : Cutting) (used : ℕ) (fault : LineFault) (after : Option (List ℕ)) → now.written ≡ Some old → next_moment.written ≡ Some new → IsCutting s → SoFar tool start now (front ++ old) told left s rest → fed s rest ≡ record { after = next; cut = Whole; used = used } → LineRan now next_moment next.count (answer tool next.line) (Some fault) → Told start.written after (front ++ new) → IfSome told (λ input. IsReplay tool start (ended (over_sink next_moment after)) input (Some (next.count, fault)) left)
 so_far-bad_line {tool} {start} next_moment {told} {left} {s} {rest} front old new next used fault after held holds is r e ran written = if_some told _ _ (λ input reading.
     let bad = bad-line tool next.count next.line fault ran in
     let behind = judged_rest next (drop used rest ++ reading.behind) in
@@ -225,18 +225,18 @@ none-behind {s = s} {whole = whole} r at_end = judged-input r ∙ ap (λ xs. who
 
 module _ {tool : Tool} {start now : Moment} {told left : Option (List ℕ)} {s : Cutting} where
   -- the end, with no line begun
-  pub so_far-end_none : {text : List ℕ} (after : Option (List ℕ)) → SoFar tool start now text told left s [] → IfSome told (λ input. left ≡ Some []) → judged_rest s [] ≡ [] → Told start.written after text → IfSome told (λ input. IsReplay tool start (over_sink now after) input None left)
+  pub so_far-end_none : {text : List ℕ} (after : Option (List ℕ)) → SoFar tool start now text told left s [] → IfSome told (λ input. left ≡ Some []) → judged_rest s [] ≡ [] → Told start.written after text → IfSome told (λ input. IsReplay tool start (ended (over_sink now after)) input None left)
   so_far-end_none after r at_end last written = if_both told _ _ _ (λ input reading end.
       replay-end input left after [] None r.running (none-behind reading end ∙ ap (λ ls. r.whole ++ ls) last) refl refl end written) r.reading at_end
 
   module _ (next : Moment) (n : ℕ) (line : List ℕ) (last : judged_rest s [] ≡ (n, Ok line) ∷ []) (below : s.count < n) where
     -- the end behind a last line, which is good
-    pub so_far-end_good : (front old new : List ℕ) (after : Option (List ℕ)) → now.written ≡ Some old → next.written ≡ Some new → SoFar tool start now (front ++ old) told left s [] → IfSome told (λ input. left ≡ Some []) → LineRan now next n (answer tool line) None → Told start.written after (front ++ new) → IfSome told (λ input. IsReplay tool start (over_sink next after) input None left)
+    pub so_far-end_good : (front old new : List ℕ) (after : Option (List ℕ)) → now.written ≡ Some old → next.written ≡ Some new → SoFar tool start now (front ++ old) told left s [] → IfSome told (λ input. left ≡ Some []) → LineRan now next n (answer tool line) None → Told start.written after (front ++ new) → IfSome told (λ input. IsReplay tool start (ended (over_sink next after)) input None left)
     so_far-end_good front old new after held holds r at_end ran written = if_both told _ _ _ (λ input reading end.
         replay-end input left after [] None (running-line front old new n line held holds below r.running ran) (none-behind reading end ∙ (ap (λ ls. r.whole ++ ls) last ∙ sym (append-nil (r.whole ++ (n, Ok line) ∷ [])))) refl refl end written) r.reading at_end
 
     -- or bad
-    pub so_far-end_bad : (front old new : List ℕ) (fault : LineFault) (after : Option (List ℕ)) → now.written ≡ Some old → next.written ≡ Some new → SoFar tool start now (front ++ old) told left s [] → IfSome told (λ input. left ≡ Some []) → LineRan now next n (answer tool line) (Some fault) → Told start.written after (front ++ new) → IfSome told (λ input. IsReplay tool start (over_sink next after) input (Some (n, fault)) left)
+    pub so_far-end_bad : (front old new : List ℕ) (fault : LineFault) (after : Option (List ℕ)) → now.written ≡ Some old → next.written ≡ Some new → SoFar tool start now (front ++ old) told left s [] → IfSome told (λ input. left ≡ Some []) → LineRan now next n (answer tool line) (Some fault) → Told start.written after (front ++ new) → IfSome told (λ input. IsReplay tool start (ended (over_sink next after)) input (Some (n, fault)) left)
     so_far-end_bad front old new fault after held holds r at_end ran written = if_both told _ _ _ (λ input reading end.
         let bad = bad-line tool n line fault ran in
         replay-end input left after ((n, Ok line) ∷ []) (Some (n, fault)) (running-same r.running bad.idle) (none-behind reading end ∙ ap (λ ls. r.whole ++ ls) last) (bad.none []) (bad.first []) (stops-at reading) (idle-told front old new start.written after held holds bad.idle written)) r.reading at_end

@@ -2,21 +2,25 @@
 use Rattle.std.specs.Prelude.{◌≡◌, ◌≢◌, ℕ, ◌+◌, ◌-◌, ◌≤◌, ◌⊎◌, List, [], ◌∷◌, Option, Some, None, ⊤, find, length, map, option_map, take, slice_set, count_by, nat_lt, ◌==◌, is_some, false}
 use Rattle.std.specs.List.{AllByRecursion}
 use Rattle.std.specs.Str.{bytes_eq}
+use Rattle.vc_base.specs.Cells.{Blocks}
 use Rattle.vc_model.specs.Count.{last_count}
+use Rattle.vc_dtdisc.specs.Rules.{Rules}
 use Rattle.vc_model.specs.Discipline.{Discipline, HasOut, Kept, Terms, Unserved}
 use Rattle.vc_model.specs.Layout.{Block, address_of, place_of_block}
 use Rattle.vc_model.specs.Addr.{place_of}
 use Rattle.vc_model.specs.Numbered.{at_number}
+use Rattle.vc_region.specs.Cells.{no_cells}
 use Rattle.vc_region.specs.Region.{Region, blocks_of, keeps_freed, region_need, relabelled, segments_of}
 use Rattle.vc_model.specs.Sound.{HaveOwnPlaces}
 use Rattle.slab.specs.Slab.{slab_len}
 use Rattle.vc_session.specs.declared.labels.Label.{Label}
 use Rattle.vc_session.specs.declared.labels.Labels.{Labels}
 use Rattle.vc_session.specs.Labels.{AreLabels, kept_of, label_at, name_of, tag_of}
-use Rattle.vc_session.specs.State.{Home, State}
+use Rattle.vc_session.specs.State.{DictHome, Home, State}
 use Rattle.vc_session.specs.Blocks.{has_label}
 use Rattle.vc_session.specs.Step.{block_asked, region_of}
 use Rattle.vc_script.specs.declared.command.Command.{Command}
+use Rattle.vc_script.specs.declared.command.Command.TheVariants.{ClearRegion}
 
 -- the segments of a discipline that are out, its terms, and its faults
 pub record Account : Type 0 where
@@ -31,12 +35,13 @@ account d = record { out = d.out; terms = d.terms; faults = d.faults }
 abbrev pub accounts : List (Option Discipline) → List (Option Account)
 accounts shelf = map (option_map account) shelf
 
--- a region that is open: its discipline, what it is by its method with tags for labels, and the names of the tags in use
+-- a region that is open: its discipline, what it is by its method with tags for labels but for the bytes in its cells, its cells, and the names of the tags in use
 pub record Held : Type 0 where
   pub name : List ℕ
   pub place : ℕ
   pub disc : Discipline
   pub region : Region ℕ
+  pub cells : Blocks
   pub labels : Labels
 
 abbrev pub home_of : Held → Home
@@ -49,9 +54,10 @@ home_of h =
       kept = kept_of h.labels;
     }
 
--- the state that a shelf and open regions stand for
-abbrev pub state_of : List (Option Discipline) → List Held → State
-state_of shelf held = record { shelf = map (option_map (λ d. d.terms)) shelf; homes = map home_of held }
+-- the state that kinds, a shelf and open regions stand for, with these dictionaries
+abbrev pub state_of : List Rules → List (Option Discipline) → List Held → List DictHome → State
+state_of kinds shelf held dicts =
+    record { shelf = map (option_map (λ d. d.terms)) shelf; homes = map home_of held; kinds = kinds; dicts = dicts }
 
 -- the account of a discipline when segments that are the last of those out are back
 abbrev pub account_back : Discipline → List (ℕ × ℕ) → Account
@@ -92,7 +98,7 @@ pub record IsHeld (shelf : List (Option Discipline)) (h : Held) : Type 0 where
   pub lent : HasOut h.disc (segments_of h.region)
   pub names : IsNamed h.region h.labels
 
--- a region after a change of its lists: its discipline keeps what was out before it
+-- a region after a change of its lists: its discipline keeps what was out before it, and its cells stay
 pub record IsChange (before after : Held) : Type 0 where
   pub name : after.name ≡ before.name
   pub place : after.place ≡ before.place
@@ -100,6 +106,16 @@ pub record IsChange (before after : Held) : Type 0 where
   pub lent : HasOut after.disc (segments_of after.region)
   pub out : (account_after after).out ≡ (account_after before).out
   pub names : IsNamed after.region after.labels
+  pub cells : after.cells ≡ before.cells
+
+-- what a command leaves of a region's cells: clearing it leaves none
+abbrev pub cells_left : Command → Blocks → Blocks
+cells_left (ClearRegion r) cells = no_cells
+cells_left command cells = cells
+
+-- a region with the cells that a command leaves
+abbrev pub left_by : Command → Held → Held
+left_by command h = record h { cells = cells_left command h.cells }
 
 -- for a block of that size and alignment a region asked its discipline for a segment, and was refused it
 abbrev pub LacksSegment : Held → Held → ℕ × ℕ → Type 0

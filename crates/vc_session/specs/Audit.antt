@@ -41,7 +41,7 @@ watch_in h line x = on_block h x (watch_block h line x)
 abbrev pub damage_item : Block Label × ℤ → Option (List ℕ × ℤ)
 damage_item f = option_map (λ x. (x, f.1)) f.0.label
 
--- the damaged blocks by address; every block of a script has a name
+-- the damaged blocks by address; each block of a debug region has a name
 abbrev pub check_in : Home → Changed
 check_in h = where_allowed h (is_debug h.region) (told h (Damaged (filter_map damage_item (damaged_in h.region))))
 

@@ -17,11 +17,12 @@ pub record IsIdle (now next : Moment) : Type 0 where
   pub state : next.state ≡ now.state
   pub told : next.written ≡ now.written
   pub keeps : Keeps now next
+  pub gone : next.gone ≡ now.gone
 
 -- the command of a line was run, and its reply written
 pub record IsStep (now next : Moment) (n : ℕ) (command : Command) : Type 0 where
   pub reply : Reply
-  pub steps : StepsTo now.state n command reply next.state
+  pub steps : StepsTo now.state now.gone n command reply next.state next.gone
   pub told : Told now.written next.written (line_of reply)
   pub settles : Settles now.accounts next.accounts (refusal_at now.state command reply)
 

@@ -1,31 +1,43 @@
 -- What a run is at a moment.
 use Rattle.std.specs.Prelude.{ℕ, List, [], Option}
 use Rattle.vc_model.specs.Discipline.{Discipline}
+use Rattle.vc_dtdisc.specs.Rules.{Gone, Rules}
 use Rattle.vc_seg.specs.declared.shelf.Shelf.{Shelf}
 use Rattle.vc_session.specs.declared.session.Session.{Session}
 use Rattle.vc_session.specs.State.{State}
 use Rattle.vc_session.specs.Account.{Account, Settles}
 use Rattle.vc_session.specs.Homes.{accounts_on, settled_over, state_on, state_over}
+use Rattle.vc_session.specs.Told.{ended_told, gone_in, rules_in, tell}
 
--- the state, what the replies' sink tells, and the accounts of the disciplines once every open region is closed
+-- the state, what the replies' sink tells, the accounts of the disciplines once every open region is closed, and what each kind was told of so far
 pub record Moment : Type 0 where
   pub state : State
   pub written : Option (List ℕ)
   pub accounts : List (Option Account)
+  pub gone : List Gone
 
--- of a session over a shelf
-abbrev pub moment : {I : Type 0} {V : I → Type 0} → ((x : I) × V x → Discipline) → Shelf I V → Session I V → Option (List ℕ) → Moment
-moment meaning shelf session written =
-    record { state = state_over meaning shelf session; written = written; accounts = settled_over meaning shelf session }
+-- of a session over a shelf and kinds
+abbrev pub moment : {I : Type 0} {V : I → Type 0} {D : Type 0} → ((x : I) × V x → Discipline) → (D → Rules) → (D → Gone) → Shelf I V → Session D I V → List D → Option (List ℕ) → Moment
+moment meaning rules gone shelf session kinds written =
+    record {
+      state = state_over meaning (rules_in rules kinds) shelf session;
+      written = written;
+      accounts = settled_over meaning shelf session;
+      gone = gone_in gone kinds;
+    }
 
--- of a shelf over which no region is open
-abbrev pub at_rest : {I : Type 0} {V : I → Type 0} → ((x : I) × V x → Discipline) → Shelf I V → Option (List ℕ) → Moment
-at_rest meaning shelf written =
-    record { state = state_on meaning shelf; written = written; accounts = accounts_on meaning shelf }
+-- of a shelf over which no region is open, and kinds of these rules that were told so
+abbrev pub at_rest : {I : Type 0} {V : I → Type 0} → ((x : I) × V x → Discipline) → List Rules → List Gone → Shelf I V → Option (List ℕ) → Moment
+at_rest meaning kinds gone shelf written =
+    record { state = state_on meaning kinds shelf; written = written; accounts = accounts_on meaning shelf; gone = gone }
 
 -- the same over another sink
 abbrev pub over_sink : Moment → Option (List ℕ) → Moment
-over_sink m written = record { state = m.state; written = written; accounts = m.accounts }
+over_sink m written = record m { written = written }
+
+-- the same once the kinds are told of what the session has at its end
+abbrev pub ended : Moment → Moment
+ended m = record m { gone = tell (ended_told m.state) m.gone }
 
 -- each place has its discipline, with the segments out and the terms that it had, and no fault less
 abbrev pub Keeps : Moment → Moment → Type 0

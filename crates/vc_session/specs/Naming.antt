@@ -3,8 +3,9 @@ use Rattle.std.specs.Prelude.{◌≡◌, ℕ, List, Option, Some, None, Result, 
 use Rattle.vc_model.specs.Addr.{place_of}
 use Rattle.vc_base.specs.declared.addr.Addr.{Addr}
 use Rattle.vc_seg.specs.declared.fault.RegionFault.{RegionFault}
+use Rattle.vc_seg.specs.declared.fault.RegionFault.TheVariants as code
 use Rattle.vc_script.specs.declared.refusal.Refusal.{Refusal}
-use Rattle.vc_script.specs.declared.refusal.Refusal.TheVariants.{BlockExists, TooManyBlocks}
+use Rattle.vc_script.specs.declared.refusal.Refusal.TheVariants.{BlockExists, NoSegmentForTable, TooManyBlocks, TooManySegments}
 use Rattle.vc_script.specs.declared.reply.Reply.{Reply}
 use Rattle.vc_script.specs.declared.reply.Reply.TheVariants as reply
 use Rattle.vc_session.specs.declared.labels.Labels.{Labels}
@@ -34,3 +35,14 @@ NamesPut tag x (Ok a) old new answer =
     (answer ≡ Ok (at_place x (place_of a.0) None)) × WithLabel old new tag (record { name = x; at = a }) × AreLabels new
     × (kept_of new ≡ without_name x (kept_of old))
 NamesPut tag x (Err fault) old new answer = TellsFault fault answer × (new ≡ old)
+
+-- the reply to a fault where no table is put, and none to want of memory
+abbrev pub table_reply : RegionFault → Option Reply
+table_reply code.OutOfMemory = None
+table_reply code.NoSegment = Some (reply.Refused NoSegmentForTable)
+table_reply fault = Some (reply.Refused TooManySegments)
+
+-- the answer where no table is put is that reply, or want of memory
+abbrev pub TellsTable : {E : Type 0} → RegionFault → Result Reply E → Type 0
+TellsTable fault (Ok told) = table_reply fault ≡ Some told
+TellsTable fault (Err e) = table_reply fault ≡ None

@@ -11,6 +11,7 @@ use Rattle.vc_session.specs.declared.status.Status.{Status}
 use Rattle.vc_session.specs.declared.status.Status.TheVariants.{Ok, Script, Usage, Read, Write, Memory}
 use Rattle.vc_session.specs.Account.{Settles}
 use Rattle.vc_session.specs.Moment.{Moment}
+use Rattle.vc_session.specs.Told.{ended_told, tell}
 use Rattle.vc_script.specs.Judged.{judged}
 use Rattle.vc_script.specs.Needs.{needs_of}
 use Rattle.vc_session.specs.Run.{Ran, commands, fault_in, first_bad, lines_of, run, script, text_of, wholly_read}
@@ -65,12 +66,17 @@ err_line tool bad = message tool (codes "line " ++ decimal bad.0 ++ codes ": " +
 abbrev pub run_by : Moment → List (ℕ × Command) → List ℕ → Ran
 run_by before commands written = run before.state commands (needs_of (lines_of commands) written)
 
--- a run of commands: what was written is the text of the run for the needs that it shows, and the shelf settles with the run's refusals
+-- what a run and its end tell
+abbrev pub all_told : Ran → List (ℕ × List ℕ)
+all_told r = r.told ++ ended_told r.state
+
+-- a run of commands: what was written is the text of the run for the needs that it shows, the shelf settles with the run's refusals, and the kinds were told of what went in it and at its end
 pub record IsRun (before after : Moment) (commands : List (ℕ × Command)) : Type 0 where
   pub written : List ℕ
   pub text : written ≡ text_of (run_by before commands written)
   pub told : Told before.written after.written written
   pub settles : Settles before.accounts after.accounts (run_by before commands written).refusals
+  pub gone : after.gone ≡ tell (all_told (run_by before commands written)) before.gone
 
 -- bytes that show no fault: their whole lines are good, and no line is too long or past the last number, the one that has begun among them
 pub record ShowsNoFault (tool : Tool) (bytes : List ℕ) : Type 0 where

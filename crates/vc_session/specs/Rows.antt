@@ -2,6 +2,8 @@
 use Rattle.std.specs.Prelude.{ℕ, ◌-◌, List, [], ◌∷◌, ◌++◌, Some, None, codes, length, replicate}
 use Rattle.vc_model.specs.Discipline.{Terms}
 use Rattle.vc_model.specs.Layout.{Block}
+use Rattle.vc_dtdisc.specs.Shapes.{rules_of}
+use Rattle.vc_dtdisc.specs.declared.shape.Shape.TheVariants.{Whole, Field, Text, Fold, Reverse, Clip}
 use Rattle.vc_region.specs.Region.{OfBest}
 use Rattle.vc_session.specs.State.{Label, State}
 
@@ -11,7 +13,24 @@ terms = record { round = 4096 }
 
 -- before the first line: a place of the shelf with such a discipline, and no region
 abbrev pub at_first : State
-at_first = record { shelf = Some terms ∷ []; homes = [] }
+at_first = record { shelf = Some terms ∷ []; homes = []; kinds = []; dicts = [] }
+
+-- the same with six kinds: by all bytes, by the text before a zero byte, without regard to case, in reverse order, by the first four bytes, and cut at eight
+abbrev pub with_kinds : State
+with_kinds =
+    record {
+      shelf = Some terms ∷ [];
+      homes = [];
+      kinds =
+          rules_of Whole
+          ∷ rules_of (Text 0)
+          ∷ rules_of Fold
+          ∷ rules_of Reverse
+          ∷ rules_of (Field 0 4)
+          ∷ rules_of (Clip 8)
+          ∷ [];
+      dicts = [];
+    }
 
 -- one region over the discipline of that place
 abbrev pub one_region : List ℕ → List (ℕ × ℕ) → List (Block Label) → State
@@ -19,6 +38,8 @@ one_region name segments blocks =
     record {
       shelf = None ∷ [];
       homes = record { name = name; place = 1; terms = terms; region = OfBest (record { segments = segments; blocks = blocks }); kept = [] } ∷ [];
+      kinds = [];
+      dicts = [];
     }
 
 -- a block with these bytes first and zeros behind them
@@ -39,6 +60,8 @@ with_kept =
             kept = (codes "b", 3) ∷ [];
           }
           ∷ [];
+      kinds = [];
+      dicts = [];
     }
 
 -- a block between a block that was written and one that was freed

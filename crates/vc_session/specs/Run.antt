@@ -14,7 +14,7 @@ use Rattle.vc_script.specs.Answer.{answer}
 use Rattle.vc_script.specs.Needs.{Need, need_at}
 use Rattle.vc_script.specs.Print.{text}
 use Rattle.vc_session.specs.State.{State, Home, Stepped, home_named}
-use Rattle.vc_session.specs.Step.{region_of, step}
+use Rattle.vc_session.specs.Step.{region_asked, step}
 
 -- what a line's answer leaves of the commands behind it: none behind a bad line
 abbrev pub command_then : ℕ → LineAnswer → List (ℕ × Command) → List (ℕ × Command)
@@ -73,15 +73,10 @@ place_named s (Some r) = home_place (home_named r s.homes)
 
 -- the place of the discipline that refused a segment in a step, where one did
 abbrev pub refusal_at : State → Command → Reply → List ℕ
-refusal_at s command (Refused NoSegment) = place_named s (region_of command)
-refusal_at s command (Refused NoSegmentForTable) = place_named s (region_of command)
-refusal_at s command (Refused NoSegmentForObject) = place_named s (region_of command)
+refusal_at s command (Refused NoSegment) = place_named s (region_asked s command)
+refusal_at s command (Refused NoSegmentForTable) = place_named s (region_asked s command)
+refusal_at s command (Refused NoSegmentForObject) = place_named s (region_asked s command)
 refusal_at s command reply = []
-
--- an item, where there is one
-abbrev pub listed : {A : Type 0} → Option A → List A
-listed None = []
-listed (Some x) = x ∷ []
 
 -- a run of no command
 abbrev pub nothing_ran : State → Ran
@@ -95,7 +90,7 @@ ran s c t rest =
       state = rest.state;
       refusals = refusal_at s c.1 t.reply ++ rest.refusals;
       told = t.told ++ rest.told;
-      granted = listed t.granted ++ rest.granted;
+      granted = t.granted ++ rest.granted;
     }
 
 -- the steps in order, each with its line and with the need of that line

@@ -10,9 +10,10 @@ use Rattle.vc_script.specs.Lines.{ended_after, lines_after}
 use Rattle.vc_script.specs.Needs.{IsAscending, Need, ShowsNeeds}
 use Rattle.vc_script.specs.ProperReply.{IsProperReply}
 use Rattle.vc_session.specs.Account.{Settles}
-use Rattle.vc_session.specs.Moment.{Moment, over_sink}
+use Rattle.vc_session.specs.Moment.{Moment, ended, over_sink}
 use Rattle.vc_session.specs.ProperState.{IsProperState}
 use Rattle.vc_session.specs.Replay.{IsReplay, ShowsNoFault, Told}
+use Rattle.vc_session.specs.Told.{tell}
 use Rattle.vc_session.specs.Run.{Ran, commands, fault_in, lines_of, run, text_of, wholly_read}
 
 -- lines by their numbers, or what is wrong with them
@@ -34,6 +35,7 @@ pub record Running (tool : Tool) (start now : Moment) (text : List ℕ) (count :
   pub run : (needs : List (ℕ × Need)) → ShowsNeeds needs ran.replies → run start.state done needs ≡ ran
   pub state : ran.state ≡ now.state
   pub settles : Settles start.accounts now.accounts ran.refusals
+  pub gone : now.gone ≡ tell ran.told start.gone
   pub told : text ≡ text_of ran
 
 -- what is judged of the bytes behind those that were fed
@@ -68,11 +70,11 @@ pub record GoesOn (tool : Tool) (first now : Moment) (gathered : List ℕ) (s ne
 
 -- each run so far ends at this bad line, once what was gathered is written
 pub record Ends (tool : Tool) (first now : Moment) (gathered : List ℕ) (s : Cutting) (rest : List ℕ) (bad : ℕ × LineFault) : Type 0 where
-  pub end : {start : Moment} {text : List ℕ} {told left : Option (List ℕ)} (after : Option (List ℕ)) → SoFar tool start first text told left s rest → Told start.written after (text ++ gathered) → IfSome told (λ input. IsReplay tool start (over_sink now after) input (Some bad) left)
+  pub end : {start : Moment} {text : List ℕ} {told left : Option (List ℕ)} (after : Option (List ℕ)) → SoFar tool start first text told left s rest → Told start.written after (text ++ gathered) → IfSome told (λ input. IsReplay tool start (ended (over_sink now after)) input (Some bad) left)
 
 -- each run so far ends with the input
 pub record EndsAll (tool : Tool) (first now : Moment) (gathered : List ℕ) (s : Cutting) (bad : Option (ℕ × LineFault)) : Type 0 where
-  pub end : {start : Moment} {text : List ℕ} {told left : Option (List ℕ)} (after : Option (List ℕ)) → SoFar tool start first text told left s [] → IfSome told (λ input. left ≡ Some []) → Told start.written after (text ++ gathered) → IfSome told (λ input. IsReplay tool start (over_sink now after) input bad left)
+  pub end : {start : Moment} {text : List ℕ} {told left : Option (List ℕ)} (after : Option (List ℕ)) → SoFar tool start first text told left s [] → IfSome told (λ input. left ≡ Some []) → Told start.written after (text ++ gathered) → IfSome told (λ input. IsReplay tool start (ended (over_sink now after)) input bad left)
 
 -- the bytes that can still be taken without a fault
 abbrev pub fuel : Cutting → ℕ

@@ -1,9 +1,11 @@
--- The state of a session: its shelf and its open regions.
+-- The state of a session: its shelf, its open regions, its kinds and its dictionaries.
 use Rattle.std.specs.Prelude.{ℕ, ◌-◌, List, [], ◌∷◌, ◌++◌, Option, Some, None, Bool, length, find, slice_set, if◌then◌else◌}
 use Rattle.std.specs.List.{list_any}
 use Rattle.std.specs.Str.{bytes_eq}
 use Rattle.vc_model.specs.Discipline.{Terms}
 use Rattle.vc_model.specs.Numbered.{at_number}
+use Rattle.vc_dtdisc.specs.Rules.{Rules}
+use Rattle.vc_objects.specs.Objects.{Dictionary}
 use Rattle.vc_region.specs.Region.{Region, segments_of}
 use Rattle.vc_region.specs.Stat.{opened}
 use Rattle.vc_seg.specs.declared.method.Method.{Method}
@@ -25,21 +27,35 @@ pub record Home : Type 0 where
   pub region : Region Label
   pub kept : Kept
 
--- for each place of the shelf the terms of the discipline that is here, None where it is taken; and the regions in order of opening
+-- a dictionary of the session: its name, the region that it lies in, the number of its kind, from 1 on, and what it is by its method
+pub record DictHome : Type 0 where
+  pub name : List ℕ
+  pub home : List ℕ
+  pub kind : ℕ
+  pub dict : Dictionary
+
+-- for each place of the shelf the terms of the discipline that is here, None where it is taken; the regions in order of opening; the rules of each kind; and the dictionaries in order of opening
 pub record State : Type 0 where
   pub shelf : List (Option Terms)
   pub homes : List Home
+  pub kinds : List Rules
+  pub dicts : List DictHome
 
--- what a step gives: the state after it, the reply, what was told to kinds (the kind's number and the object), and the segment that was granted, as number and bytes
+-- what a step gives: the state after it, the reply, what was told to kinds (the kind's number and the object), and the segments that were granted, as number and bytes
 pub record Stepped : Type 0 where
   pub state : State
   pub reply : Reply
   pub told : List (ℕ × List ℕ)
-  pub granted : Option (ℕ × ℕ)
+  pub granted : List (ℕ × ℕ)
 
 -- a step that tells no kind and is granted no segment
 abbrev pub stepped : State → Reply → Stepped
-stepped s reply = record { state = s; reply = reply; told = []; granted = None }
+stepped s reply = record { state = s; reply = reply; told = []; granted = [] }
+
+-- an item, where there is one
+abbrev pub listed : {A : Type 0} → Option A → List A
+listed None = []
+listed (Some x) = x ∷ []
 
 -- a refusal changes nothing
 abbrev pub refused : State → Refusal → Stepped
@@ -55,7 +71,7 @@ home_named r homes = find (is_home r) homes
 abbrev pub opened_with : State → List ℕ → ℕ → Region Label → Terms → Stepped
 opened_with s r n region terms =
     stepped
-    (record {
+    (record s {
       shelf = slice_set s.shelf (n - 1) None;
       homes = s.homes ++ record { name = r; place = n; terms = terms; region = region; kept = [] } ∷ [];
     })
@@ -77,13 +93,24 @@ abbrev pub without_home : List ℕ → List Home → List Home
 without_home r [] = []
 without_home r (h ∷ hs) = if is_home r h then hs else h ∷ without_home r hs
 
+-- whether a dictionary lies in a region
+abbrev pub is_busy : State → List ℕ → Bool
+is_busy s r = list_any (λ d. bytes_eq d.home r) s.dicts
+
+-- what is done with a region in which no dictionary lies
+abbrev pub unless_busy : State → List ℕ → Stepped → Stepped
+unless_busy s r t = if is_busy s r then refused s why.Busy else t
+
 -- a region gives its segments back, and its discipline is at its place again
+abbrev pub closed : State → List ℕ → Home → Stepped
+closed s r h =
+    stepped
+    (record s { shelf = slice_set s.shelf (h.place - 1) (Some h.terms); homes = without_home r s.homes })
+    (Closed r (length (segments_of h.region)))
+
 abbrev pub close_home : State → List ℕ → Option Home → Stepped
 close_home s r None = refused s why.NoRegion
-close_home s r (Some h) =
-    stepped
-    (record { shelf = slice_set s.shelf (h.place - 1) (Some h.terms); homes = without_home r s.homes })
-    (Closed r (length (segments_of h.region)))
+close_home s r (Some h) = unless_busy s r (closed s r h)
 
 abbrev pub close_step : State → List ℕ → Stepped
 close_step s r = close_home s r (home_named r s.homes)
@@ -116,8 +143,8 @@ with_region r region kept (h ∷ hs) =
 abbrev pub changed : State → List ℕ → Changed → Stepped
 changed s r c =
     record {
-      state = record { shelf = s.shelf; homes = with_region r c.region c.kept s.homes };
+      state = record s { homes = with_region r c.region c.kept s.homes };
       reply = c.reply;
       told = [];
-      granted = c.granted;
+      granted = listed c.granted;
     }

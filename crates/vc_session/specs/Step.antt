@@ -1,15 +1,18 @@
 -- One step of a session.
 use Rattle.std.specs.Prelude.{◌≡◌, ℕ, List, Option, Some, None, Bool, true, false}
 use Rattle.vc_script.specs.declared.command.Command.{Command}
-use Rattle.vc_script.specs.declared.command.Command.TheVariants.{OpenRegion, CloseRegion, ClearRegion, Compact, Alloc, Align, Resize, Free, WriteBlock, ReadBlock, SizeOf, AddrOf, SegmentOf, StatOf, Segments, Blocks, Poke, Check, Watch, ProfileOf}
+use Rattle.vc_script.specs.declared.command.Command.TheVariants.{OpenRegion, CloseRegion, OpenDict, ClearRegion, Compact, Alloc, Align, Resize, Free, WriteBlock, ReadBlock, SizeOf, AddrOf, SegmentOf, StatOf, Segments, Blocks, Poke, Check, Watch, ProfileOf}
 use Rattle.vc_script.specs.declared.refusal.Refusal.TheVariants as why
 use Rattle.vc_script.specs.Needs.{Need, NoNeed, ForBlock, ForTable, ForObject, need_shown}
 use Rattle.vc_script.specs.declared.reply.Reply.{Reply}
 use Rattle.vc_region.specs.Region.{Region}
+use Rattle.vc_dtdisc.specs.Rules.{Gone}
 use Rattle.vc_session.specs.Kept.{Kept}
-use Rattle.vc_session.specs.State.{Changed, Home, Label, State, Stepped, changed, close_step, home_named, open_step, refused, unchanged}
+use Rattle.vc_session.specs.State.{Changed, Home, Label, State, Stepped, changed, close_step, home_named, open_step, refused, unchanged, unless_busy}
+use Rattle.vc_session.specs.Dicts.{dict_of, dict_step, open_dict_step, region_named}
 use Rattle.vc_session.specs.Blocks.{align_in, alloc_in, free_in, read_in, resize_in, size_in, write_in}
 use Rattle.vc_session.specs.Audit.{check_in, poke_in, profile_in, watch_in}
+use Rattle.vc_session.specs.Told.{tell}
 use Rattle.vc_session.specs.Whole.{addr_in, clear_in, compact_in, list_blocks, list_segments, segment_in, stat_in}
 
 abbrev pub is_for_block : Need → Bool
@@ -62,23 +65,47 @@ in_region h line (Watch r x) need = watch_in h line x
 in_region h line (ProfileOf r) need = profile_in h
 in_region h line command need = unchanged h why.NotYet
 
+-- whether a command clears a region
+abbrev pub is_clear : Command → Bool
+is_clear (ClearRegion r) = true
+is_clear command = false
+
+-- no region in which a dictionary lies is cleared
+abbrev pub cleared_or : State → List ℕ → Command → Stepped → Stepped
+cleared_or s r (ClearRegion x) t = unless_busy s r t
+cleared_or s r command t = t
+
 abbrev pub region_step : State → List ℕ → ℕ → Command → Need → Option Home → Stepped
 region_step s r line command need None = refused s why.NoRegion
-region_step s r line command need (Some h) = changed s r (in_region h line command need)
+region_step s r line command need (Some h) = cleared_or s r command (changed s r (in_region h line command need))
 
--- a command that opens or closes a region, or one that is not built
-abbrev pub shelf_step : State → Command → Stepped
-shelf_step s (OpenRegion r method n) = open_step s r method n
-shelf_step s (CloseRegion r) = close_step s r
-shelf_step s command = refused s why.NotYet
+-- a command that opens or closes a region, opens a dictionary, or one that is not built
+abbrev pub shelf_step : State → Command → Need → Stepped
+shelf_step s (OpenRegion r method n) need = open_step s r method n
+shelf_step s (CloseRegion r) need = close_step s r
+shelf_step s (OpenDict d method r kind) need = open_dict_step s d method r kind need
+shelf_step s command need = refused s why.NotYet
 
 abbrev pub step_of : State → ℕ → Command → Need → Option (List ℕ) → Stepped
-step_of s line command need None = shelf_step s command
+step_of s line command need None = shelf_step s command need
 step_of s line command need (Some r) = region_step s r line command need (home_named r s.homes)
+
+-- a command on a dictionary, on a region, or neither
+abbrev pub step_on : State → ℕ → Command → Need → Option (List ℕ) → Stepped
+step_on s line command need None = step_of s line command need (region_of command)
+step_on s line command need (Some d) = dict_step s d command need
 
 -- one step, of the command at a line: the first refusal that applies, else the state changed; the need is the one free choice
 abbrev pub step : State → ℕ → Command → Need → Stepped
-step s line command need = step_of s line command need (region_of command)
+step s line command need = step_on s line command need (dict_of command)
+
+-- the region in which a command asks for segments
+abbrev pub opened_in : Command → Option (List ℕ)
+opened_in (OpenDict d method r kind) = Some r
+opened_in command = region_of command
+
+abbrev pub region_asked : State → Command → Option (List ℕ)
+region_asked s command = region_named s (dict_of command) (opened_in command)
 
 -- what a command on one region gives is this reply, and after it the region and the names that it keeps are these
 pub record Gives (c : Changed) (after : Region Label × Kept) (reply : Reply) : Type 0 where
@@ -86,10 +113,16 @@ pub record Gives (c : Changed) (after : Region Label × Kept) (reply : Reply) : 
   pub kept_after : c.kept ≡ after.1
   pub replied : c.reply ≡ reply
 
--- for the need that a reply shows, the step of the command at a line gives that reply and leaves this state
-pub record StepsTo (before : State) (line : ℕ) (command : Command) (reply : Reply) (after : State) : Type 0 where
-  pub replied : (step before line command (need_shown reply)).reply ≡ reply
-  pub state_after : (step before line command (need_shown reply)).state ≡ after
+-- what a step gives is this reply and this state, and the kinds are told so
+pub record GivesStep (t : Stepped) (gone : List Gone) (answer : Reply) (after : State) (gone_after : List Gone) : Type 0 where
+  pub replied : t.reply ≡ answer
+  pub state_after : t.state ≡ after
+  pub told : gone_after ≡ tell t.told gone
+
+-- for the need that a reply shows, the step of the command at a line gives that reply, leaves this state, and tells the kinds so
+abbrev pub StepsTo : State → List Gone → ℕ → Command → Reply → State → List Gone → Type 0
+StepsTo before gone line command reply after gone_after =
+    GivesStep (step before line command (need_shown reply)) gone reply after gone_after
 
 -- the size and the alignment of the block that a command puts
 abbrev pub block_asked : Command → ℕ × ℕ

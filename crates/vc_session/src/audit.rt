@@ -2,8 +2,9 @@
 ghost use Rattle.std.specs.Prelude.{◌≡◌, ℕ, ℤ, List, [], ◌++◌, option_map, true, Ok, IfOk, OnErr, OnOk};
 ghost use Rattle.std.specs.List.{cons_option, filter_map};
 ghost use Rattle.vc_model.specs.Discipline.{HasOut};
-ghost use Rattle.vc_region.specs.Parts.{disc_in, region_of, segments_in};
-ghost use Rattle.vc_region.specs.Region.{damaged_in, is_debug, is_profile, relabelled, rows_in};
+ghost use Rattle.vc_region.specs.Cells.{rest_in};
+ghost use Rattle.vc_region.specs.Parts.{disc_in};
+ghost use Rattle.vc_region.specs.Region.{damaged_in, is_debug, is_profile, relabelled, rows_in, segments_of};
 ghost use Rattle.vc_session.specs.Account.{IsNamed, home_of};
 ghost use Rattle.vc_session.specs.Audit.{check_in, damage_item, is_poke, poke_in, profile_in, watch_in};
 ghost use Rattle.vc_session.specs.Labels.{name_of};
@@ -47,9 +48,9 @@ fn damage_items(
     labels: &Labels,
     alloc: Global,
 ) -> Result<Vec<(Name, i64)>, OutOfMemory>
-    requires method { is_debug (region_of region.now) ≡ true }
+    requires method { is_debug (rest_in region.now) ≡ true }
     ensures { IfOk result (λ v. v.items ≡ filter_map damage_item
-        (damaged_in (relabelled (name_of labels.now) (region_of region.now)))) }
+        (damaged_in (relabelled (name_of labels.now) (rest_in region.now)))) }
 {
     let mut items = Vec::new(alloc);
     let mut after = Addr::NONE;
@@ -62,8 +63,8 @@ fn damage_items(
 
 // The rows of a profile region. Where there are more than a u32 counts, the answer is OutOfMemory, too.
 fn row_items(region: &Region, alloc: Global) -> Result<Vec<ProfileRow>, OutOfMemory>
-    requires { is_profile (region_of region.now) ≡ true }
-    ensures { IfOk result (λ v. v.items ≡ rows_in (region_of region.now)) }
+    requires { is_profile (rest_in region.now) ≡ true }
+    ensures { IfOk result (λ v. v.items ≡ rows_in (rest_in region.now)) }
 {
     let mut items = Vec::new(alloc);
     let mut i = 0u32;
@@ -83,9 +84,9 @@ impl HomeEntry {
 
     // Puts one byte into a block or its guards, in a debug region.
     pub(crate) fn poke(&mut self, labels: &Labels, name: &Name, off: i64, byte: u32) -> Reply
-        requires names { IsNamed (region_of self.old.region) labels.now }
+        requires names { IsNamed (rest_in self.old.region) labels.now }
         requires lent { HasOut (disc_in state self.old.region)
-            (segments_in self.old.region) }
+            (segments_of (rest_in self.old.region)) }
 
         ensures step { Runs state
             (λ h. poke_in h name.now off byte)
@@ -115,9 +116,9 @@ impl HomeEntry {
         name: &Name,
         line: u32,
     ) -> Result<Reply, OutOfMemory>
-        requires names { IsNamed (region_of self.old.region) labels.now }
+        requires names { IsNamed (rest_in self.old.region) labels.now }
         requires lent { HasOut (disc_in state self.old.region)
-            (segments_in self.old.region) }
+            (segments_of (rest_in self.old.region)) }
 
         ensures step { IfOk result (λ reply. Runs state
             (λ h. watch_in h line name.now)
@@ -140,7 +141,7 @@ impl HomeEntry {
 
     // Lists the damaged blocks by address, in a debug region.
     pub(crate) fn check(&self, labels: &Labels, alloc: Global) -> Result<Reply, OutOfMemory>
-        requires names { IsNamed (region_of self.now.region) labels.now }
+        requires names { IsNamed (rest_in self.now.region) labels.now }
         ensures { IfOk result (λ reply. (r : List ℕ)
             → check_in (home_of (held_of state r self.now labels.now))
             ≡ told (home_of (held_of state r self.now labels.now)) reply) }

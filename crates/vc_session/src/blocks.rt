@@ -3,7 +3,9 @@ ghost use Rattle.std.specs.Prelude.{◌≡◌, ◌<◌, ◌+◌, ◌^◌, ◌≤
 ghost use Rattle.std.specs.HashMap.{spare};
 ghost use Rattle.slab.specs.Slab.{HasRoomFor, slab_len};
 ghost use Rattle.vc_model.specs.Discipline.{HasOut};
-ghost use Rattle.vc_region.specs.Parts.{disc_in, region_of, segments_in};
+ghost use Rattle.vc_region.specs.Cells.{rest_in};
+ghost use Rattle.vc_region.specs.Parts.{disc_in};
+ghost use Rattle.vc_region.specs.Region.{segments_of};
 ghost use Rattle.vc_script.specs.Needs.{need_shown};
 ghost use Rattle.vc_session.specs.Account.{IsNamed, LacksSegment};
 ghost use Rattle.vc_session.specs.Blocks.{align_in, align_refused, alloc_in, fault_of, free_in, is_align, is_size, no_block, refusal_of, resize_in, site_of, size_refused};
@@ -48,7 +50,7 @@ fn size_refused(size: u32) -> Option<Refusal>
 
 // And of an alignment besides, in a region whose method aligns blocks.
 fn align_refused(region: &Region, size: u32, align: u32) -> Option<Refusal>
-    ensures { result ≡ align_refused (region_of region.now) size align }
+    ensures { result ≡ align_refused (rest_in region.now) size align }
 {
     if !aligns(region) {
         return Some(Refusal::WrongMethod);
@@ -159,9 +161,9 @@ impl HomeEntry {
         site: Option<Name>,
         size: u32,
     ) -> Result<Reply, OutOfMemory>
-        requires names { IsNamed (region_of self.old.region) labels.old }
+        requires names { IsNamed (rest_in self.old.region) labels.old }
         requires lent { HasOut (disc_in state self.old.region)
-            (segments_in self.old.region) }
+            (segments_of (rest_in self.old.region)) }
 
         ensures step { IfOk result (λ reply. Runs state
             (λ h. alloc_in h name site size (is_for_block (need_shown reply)))
@@ -193,9 +195,9 @@ impl HomeEntry {
         size: u32,
         align: u32,
     ) -> Result<Reply, OutOfMemory>
-        requires names { IsNamed (region_of self.old.region) labels.old }
+        requires names { IsNamed (rest_in self.old.region) labels.old }
         requires lent { HasOut (disc_in state self.old.region)
-            (segments_in self.old.region) }
+            (segments_of (rest_in self.old.region)) }
 
         ensures step { IfOk result (λ reply. Runs state
             (λ h. align_in h name size align (is_for_block (need_shown reply)))
@@ -228,9 +230,9 @@ impl HomeEntry {
         size: u32,
         may_move: bool,
     ) -> Result<Reply, OutOfMemory>
-        requires names { IsNamed (region_of self.old.region) labels.old }
+        requires names { IsNamed (rest_in self.old.region) labels.old }
         requires lent { HasOut (disc_in state self.old.region)
-            (segments_in self.old.region) }
+            (segments_of (rest_in self.old.region)) }
 
         ensures step { IfOk result (λ reply. Runs state
             (λ h. resize_in h name.now size may_move (is_for_block (need_shown reply)))
@@ -268,9 +270,9 @@ impl HomeEntry {
         name: &Name,
         line: u32,
     ) -> Result<Reply, OutOfMemory>
-        requires names { IsNamed (region_of self.old.region) labels.old }
+        requires names { IsNamed (rest_in self.old.region) labels.old }
         requires lent { HasOut (disc_in state self.old.region)
-            (segments_in self.old.region) }
+            (segments_of (rest_in self.old.region)) }
 
         ensures step { IfOk result (λ reply. Runs state
             (λ h. free_in h name.now line)

@@ -1,7 +1,9 @@
 // The commands that read and write the bytes of a block.
 ghost use Rattle.std.specs.Prelude.{◌≡◌, ℕ, List, IfOk};
 ghost use Rattle.vc_model.specs.Discipline.{HasOut};
-ghost use Rattle.vc_region.specs.Parts.{disc_in, region_of, segments_in};
+ghost use Rattle.vc_region.specs.Cells.{rest_in};
+ghost use Rattle.vc_region.specs.Parts.{disc_in};
+ghost use Rattle.vc_region.specs.Region.{segments_of};
 ghost use Rattle.vc_session.specs.Account.{IsNamed};
 ghost use Rattle.vc_session.specs.Blocks.{read_in, size_in, write_in};
 
@@ -19,9 +21,9 @@ impl HomeEntry {
 
     // Writes bytes into a block, from an offset on.
     pub(crate) fn write(&mut self, labels: &Labels, name: &Name, off: u32, bytes: &[u8]) -> Reply
-        requires names { IsNamed (region_of self.old.region) labels.now }
+        requires names { IsNamed (rest_in self.old.region) labels.now }
         requires lent { HasOut (disc_in state self.old.region)
-            (segments_in self.old.region) }
+            (segments_of (rest_in self.old.region)) }
 
         ensures step { Runs state
             (λ h. write_in h name.now off bytes.now)
@@ -52,7 +54,7 @@ impl HomeEntry {
         off: u32,
         len: u32,
     ) -> Result<Reply, OutOfMemory>
-        requires names { IsNamed (region_of self.now.region) labels.now }
+        requires names { IsNamed (rest_in self.now.region) labels.now }
         ensures { IfOk result (λ reply. Runs state
             (λ h. read_in h name.now off len)
             self.now labels.now (region_with self.now labels.now) reply) }
@@ -71,7 +73,7 @@ impl HomeEntry {
 
     // Tells the size of a block.
     pub(crate) fn size(&self, labels: &Labels, name: &Name) -> Reply
-        requires names { IsNamed (region_of self.now.region) labels.now }
+        requires names { IsNamed (rest_in self.now.region) labels.now }
         ensures { Runs state
             (λ h. size_in h name.now)
             self.now labels.now (region_with self.now labels.now) result }

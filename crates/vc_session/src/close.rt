@@ -1,12 +1,15 @@
 // The closing of regions: the segments and the discipline are given back.
-ghost use Rattle.std.specs.Prelude.{◌≡◌, ◌≢◌, ℕ, ◌+◌, ◌-◌, ◌<◌, [], Some, IfSome, length, remove, slice_get, slice_set};
+ghost use Rattle.std.specs.Prelude.{◌≡◌, ◌≢◌, false, ℕ, ◌+◌, ◌-◌, ◌<◌, [], List, Some, IfSome, length, remove, slice_get, slice_set};
 ghost use Rattle.vc_model.specs.Discipline.{HasOut};
 ghost use Rattle.vc_model.specs.Numbered.{at_number};
+ghost use Rattle.vc_dtdisc.specs.Rules.{Rules};
 ghost use Rattle.vc_region.specs.Region.{segments_of};
 ghost use Rattle.vc_seg.specs.Shelf.{place_at};
-ghost use Rattle.vc_region.specs.Parts.{disc_in, segments_in};
+ghost use Rattle.vc_region.specs.Cells.{rest_in};
+ghost use Rattle.vc_region.specs.Parts.{disc_in};
 ghost use Rattle.vc_session.specs.Account.{account_after, account_back};
-ghost use Rattle.vc_session.specs.Homes.{IsSessionOver, accounts_on, held_in, settled_over, slots_on, state_over};
+ghost use Rattle.vc_session.specs.Homes.{HoldsDicts, HoldsRegions, accounts_on, held_in, settled_over, slots_on, state_over};
+ghost use Rattle.vc_session.specs.DictHomes.{lies_in};
 ghost use Rattle.vc_session.specs.State.{close_step, stepped};
 
 use crate::home::HomeEntry;
@@ -19,11 +22,11 @@ use vc_seg::{BoxedDisc, SegDisc, Shelf, ShelfPlace};
 fn close_region(home: HomeEntry, shelf: &mut Shelf) -> u32
     requires taken { place_at (slots_on state shelf.old) home.place ≡ ShelfPlace.Taken }
     requires lent { HasOut (disc_in state home.region)
-        (segments_in home.region) }
-    ensures count { result ≡ length (segments_in home.region) }
+        (segments_of (rest_in home.region)) }
+    ensures count { result ≡ length (segments_of (rest_in home.region)) }
     ensures here { accounts_on state shelf.new
         ≡ slice_set (accounts_on state shelf.old) (home.place - 1)
-        (Some (account_back (disc_in state home.region) (segments_in home.region))) }
+        (Some (account_back (disc_in state home.region) (segments_of (rest_in home.region)))) }
     ensures elsewhere { (p : ℕ) → p ≢ home.place
         → at_number (slots_on state shelf.new) p
         ≡ at_number (slots_on state shelf.old) p }
@@ -34,12 +37,14 @@ fn close_region(home: HomeEntry, shelf: &mut Shelf) -> u32
     count
 }
 
-impl Session {
+impl<D> Session<D> {
     // Closes the region that was opened as the one of that index, from 0 on, of those that are open, and answers how many
     // segments it gave back.
     pub(crate) fn close_at(&mut self, shelf: &mut Shelf, i: usize) -> u32
-        requires session { IsSessionOver state shelf.old self.old }
+        requires session { HoldsRegions state shelf.old self.old }
         requires within { i < length self.old.homes.entries }
+        requires free { IfSome (slice_get (held_in state self.old) i)
+            (λ h. lies_in h.name self.old.dicts.entries ≡ false) }
         ensures count { IfSome (slice_get (held_in state self.old) i)
             (λ h. result ≡ length (segments_of h.region)) }
         ensures here { IfSome (slice_get (held_in state self.old) i)
@@ -49,7 +54,10 @@ impl Session {
         ensures others { held_in state self.new
             ≡ remove (held_in state self.old) i }
         ensures fewer { length self.new.homes.entries + 1 ≡ length self.old.homes.entries }
-        ensures session { IsSessionOver state shelf.new self.new }
+        ensures entries { self.new.dicts.entries ≡ self.old.dicts.entries }
+        ensures session { HoldsRegions state shelf.new self.new }
+        ensures dicts { (kinds : List Rules) → HoldsDicts state kinds self.old
+            → HoldsDicts state kinds self.new }
         ensures settled { settled_over state shelf.new self.new
             ≡ settled_over state shelf.old self.old }
         ensures spent { self.new.is_spent ≡ self.old.is_spent }
@@ -63,17 +71,26 @@ impl Session {
 
     // Closes the region of that name.
     pub(crate) fn close_named(&mut self, shelf: &mut Shelf, name: &Name) -> Reply
-        requires { IsSessionOver state shelf.old self.old }
-        ensures step { close_step (state_over state shelf.old self.old) name.now
-            ≡ stepped (state_over state shelf.new self.new) result }
-        ensures session { IsSessionOver state shelf.new self.new }
+        requires { HoldsRegions state shelf.old self.old }
+        ensures step { (kinds : List Rules)
+            → HoldsDicts state kinds self.old
+            → close_step (state_over state kinds shelf.old self.old) name.now
+            ≡ stepped (state_over state kinds shelf.new self.new) result }
+        ensures session { HoldsRegions state shelf.new self.new }
+        ensures dicts { (kinds : List Rules) → HoldsDicts state kinds self.old
+            → HoldsDicts state kinds self.new }
         ensures settled { settled_over state shelf.new self.new
             ≡ settled_over state shelf.old self.old }
         ensures spent { self.new.is_spent ≡ self.old.is_spent }
     {
         match self.homes.get_index_of(name) {
             None => Reply::Refused(Refusal::NoRegion),
-            Some(i) => Reply::Closed(*name, self.close_at(shelf, i)),
+            Some(i) => {
+                if self.is_busy(name) {
+                    return Reply::Refused(Refusal::Busy);
+                }
+                Reply::Closed(*name, self.close_at(shelf, i))
+            }
         }
     }
 }

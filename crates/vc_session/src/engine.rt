@@ -6,15 +6,17 @@ ghost use Rattle.vc_script.specs.Cutting.{IsCutting};
 ghost use Rattle.vc_script.specs.declared.line_fault.LineFault.{LineFault};
 ghost use Rattle.vc_session.specs.Engine.{LineRan};
 ghost use Rattle.vc_session.specs.Homes.{IsSessionOver, state_over};
-ghost use Rattle.vc_session.specs.Moment.{Keeps, moment};
+ghost use Rattle.vc_session.specs.Moment.{Keeps, ended, moment};
 ghost use Rattle.vc_session.specs.ProperState.{IsProperState};
 ghost use Rattle.vc_session.specs.Replay.{IsCutShort, IsReplay};
 ghost use Rattle.vc_session.specs.SoFar.{Ends, EndsAll, GoesOn, fuel};
+ghost use Rattle.vc_session.specs.Told.{rules_in};
 
 use crate::session::Session;
 use crate::stream::write_all;
 use std::alloc::Global;
 use vc_base::{OutOfMemory, ReadFailed, Sink, Source, WriteFailed};
+use vc_dtdisc::DictDisc;
 use vc_script::{Cut, LineAnswer, LineCutter, LineFault, Tool, print_reply, read_line};
 use vc_seg::{BoxedDisc, SegDisc, Shelf};
 
@@ -57,29 +59,32 @@ impl From<WriteFailed> for Stop {
 }
 
 // Runs the line of that number and gathers its reply, or answers what is wrong with it.
-fn run_line(
+fn run_line<D: DictDisc>(
     alloc: Global,
     tool: Tool,
-    session: &mut Session,
+    session: &mut Session<D>,
     shelf: &mut Shelf,
+    kinds: &mut Vec<D>,
     n: u32,
     line: &[u8],
     replies: &mut Vec<u8>,
 ) -> Result<Option<LineFault>, OutOfMemory>
-    requires { IsSessionOver state shelf.old session.old }
+    requires { IsSessionOver state (rules_in D.rules kinds.old.items) shelf.old session.old }
     ensures ran { IfOk result (λ fault. LineRan
-        (moment state shelf.old session.old (Some replies.old.items))
-        (moment state shelf.new session.new (Some replies.new.items))
+        (moment state D.rules D.gone shelf.old session.old kinds.old.items (Some replies.old.items))
+        (moment state D.rules D.gone shelf.new session.new kinds.new.items (Some replies.new.items))
         n (answer tool line.now) fault) }
-    ensures session { IsSessionOver state shelf.new session.new }
-    ensures keeps { OnErr result (Keeps (moment state shelf.old session.old None)
-        (moment state shelf.new session.new None)) }
+    ensures session { IsSessionOver state (rules_in D.rules kinds.new.items) shelf.new session.new }
+    ensures rules { rules_in D.rules kinds.new.items ≡ rules_in D.rules kinds.old.items }
+    ensures keeps { OnErr result (Keeps
+        (moment state D.rules D.gone shelf.old session.old kinds.old.items None)
+        (moment state D.rules D.gone shelf.new session.new kinds.new.items None)) }
 {
     match read_line(alloc, tool, line)? {
         LineAnswer::Blank => Ok(None),
         LineAnswer::Bad(fault) => Ok(Some(fault)),
         LineAnswer::Is(command) => {
-            let reply = session.step(shelf, n, &command)?;
+            let reply = session.step(shelf, kinds, n, &command)?;
             let printed = print_reply(alloc, &reply)?;
             replies.extend_from_slice(printed.as_slice())?;
             Ok(None)
@@ -88,32 +93,35 @@ fn run_line(
 }
 
 // Runs the lines that a piece ends, gathers their replies, and answers the first bad line, by its number from 1 on.
-fn run_piece(
+fn run_piece<D: DictDisc>(
     alloc: Global,
     tool: Tool,
-    session: &mut Session,
+    session: &mut Session<D>,
     shelf: &mut Shelf,
+    kinds: &mut Vec<D>,
     cutter: &mut LineCutter,
     piece: &[u8],
     replies: &mut Vec<u8>,
 ) -> Result<Option<(u32, LineFault)>, OutOfMemory>
-    requires session { IsSessionOver state shelf.old session.old }
+    requires session { IsSessionOver state (rules_in D.rules kinds.old.items) shelf.old session.old }
     requires fed { IsTrue cutter.old.is_open }
     requires cutting { IsCutting cutter.old }
     requires none { replies.old.items ≡ [] }
     ensures good { result ≡ Ok None → GoesOn tool
-        (moment state shelf.old session.old (Some replies.old.items))
-        (moment state shelf.new session.new (Some replies.new.items))
+        (moment state D.rules D.gone shelf.old session.old kinds.old.items (Some replies.old.items))
+        (moment state D.rules D.gone shelf.new session.new kinds.new.items (Some replies.new.items))
         replies.new.items cutter.old cutter.new piece.now [] }
     ensures bad { (bad : ℕ × LineFault) → result ≡ Ok (Some bad) → Ends tool
-        (moment state shelf.old session.old (Some replies.old.items))
-        (moment state shelf.new session.new (Some replies.new.items))
+        (moment state D.rules D.gone shelf.old session.old kinds.old.items (Some replies.old.items))
+        (moment state D.rules D.gone shelf.new session.new kinds.new.items (Some replies.new.items))
         replies.new.items cutter.old piece.now bad }
     ensures open { result ≡ Ok None → IsTrue cutter.new.is_open × IsCutting cutter.new }
     ensures less { result ≡ Ok None → fuel cutter.new + length piece.now ≤ fuel cutter.old }
-    ensures session { IsSessionOver state shelf.new session.new }
-    ensures keeps { Keeps (moment state shelf.old session.old None)
-        (moment state shelf.new session.new None) }
+    ensures session { IsSessionOver state (rules_in D.rules kinds.new.items) shelf.new session.new }
+    ensures rules { rules_in D.rules kinds.new.items ≡ rules_in D.rules kinds.old.items }
+    ensures keeps { Keeps
+        (moment state D.rules D.gone shelf.old session.old kinds.old.items None)
+        (moment state D.rules D.gone shelf.new session.new kinds.new.items None) }
 {
     let mut rest = piece;
     while !rest.is_empty() {
@@ -128,6 +136,7 @@ fn run_piece(
                     tool,
                     session,
                     shelf,
+                    kinds,
                     cutter.number(),
                     cutter.line(),
                     replies,
@@ -142,25 +151,28 @@ fn run_piece(
 }
 
 // Runs the line that the input's end ends, where one has begun, and answers it where it is bad.
-fn run_last(
+fn run_last<D: DictDisc>(
     alloc: Global,
     tool: Tool,
-    session: &mut Session,
+    session: &mut Session<D>,
     shelf: &mut Shelf,
+    kinds: &mut Vec<D>,
     cutter: &mut LineCutter,
     replies: &mut Vec<u8>,
 ) -> Result<Option<(u32, LineFault)>, OutOfMemory>
-    requires session { IsSessionOver state shelf.old session.old }
+    requires session { IsSessionOver state (rules_in D.rules kinds.old.items) shelf.old session.old }
     requires fed { IsTrue cutter.old.is_open }
     requires cutting { IsCutting cutter.old }
     requires none { replies.old.items ≡ [] }
     ensures ends { IfOk result (EndsAll tool
-        (moment state shelf.old session.old (Some replies.old.items))
-        (moment state shelf.new session.new (Some replies.new.items))
+        (moment state D.rules D.gone shelf.old session.old kinds.old.items (Some replies.old.items))
+        (moment state D.rules D.gone shelf.new session.new kinds.new.items (Some replies.new.items))
         replies.new.items cutter.old) }
-    ensures session { IsSessionOver state shelf.new session.new }
-    ensures keeps { Keeps (moment state shelf.old session.old None)
-        (moment state shelf.new session.new None) }
+    ensures session { IsSessionOver state (rules_in D.rules kinds.new.items) shelf.new session.new }
+    ensures rules { rules_in D.rules kinds.new.items ≡ rules_in D.rules kinds.old.items }
+    ensures keeps { Keeps
+        (moment state D.rules D.gone shelf.old session.old kinds.old.items None)
+        (moment state D.rules D.gone shelf.new session.new kinds.new.items None) }
 {
     match cutter.end() {
         Cut::Whole => match run_line(
@@ -168,6 +180,7 @@ fn run_last(
             tool,
             session,
             shelf,
+            kinds,
             cutter.number(),
             cutter.line(),
             replies,
@@ -181,26 +194,32 @@ fn run_last(
 
 // Runs the lines before the first bad one, and answers that one, by its number from 1 on. The replies of what one read
 // gave are gathered, and written before the next read and before anything else.
-pub(crate) fn run_lines<S: Source, O: Sink>(
+pub(crate) fn run_lines<D: DictDisc, S: Source, O: Sink>(
     alloc: Global,
     tool: Tool,
-    session: &mut Session,
+    session: &mut Session<D>,
     shelf: &mut Shelf,
+    kinds: &mut Vec<D>,
     source: &mut S,
     out: &mut O,
 ) -> Result<Option<(u32, LineFault)>, Stop>
-    requires session { IsSessionOver state shelf.old session.old }
-    requires proper { IsProperState (state_over state shelf.old session.old) }
+    requires session { IsSessionOver state (rules_in D.rules kinds.old.items) shelf.old session.old }
+    requires proper { IsProperState (state_over state (rules_in D.rules kinds.old.items)
+        shelf.old session.old) }
     ensures replay { IfOk result (λ bad. IfSome (S.left source.old) (λ input. IsReplay tool
-        (moment state shelf.old session.old (O.written out.old))
-        (moment state shelf.new session.new (O.written out.new)) input bad (S.left source.new))) }
+        (moment state D.rules D.gone shelf.old session.old kinds.old.items (O.written out.old))
+        (ended (moment state D.rules D.gone shelf.new session.new kinds.new.items
+        (O.written out.new))) input bad (S.left source.new))) }
     ensures cut_short { IfErr result (λ stop. stop ≡ Stop.Read
         → IfSome (S.left source.old) (λ input. IsCutShort tool
-        (moment state shelf.old session.old (O.written out.old))
-        (moment state shelf.new session.new (O.written out.new)) input (S.left source.new))) }
-    ensures session { IsSessionOver state shelf.new session.new }
-    ensures keeps { Keeps (moment state shelf.old session.old None)
-        (moment state shelf.new session.new None) }
+        (moment state D.rules D.gone shelf.old session.old kinds.old.items (O.written out.old))
+        (ended (moment state D.rules D.gone shelf.new session.new kinds.new.items
+        (O.written out.new))) input (S.left source.new))) }
+    ensures session { IsSessionOver state (rules_in D.rules kinds.new.items) shelf.new session.new }
+    ensures rules { rules_in D.rules kinds.new.items ≡ rules_in D.rules kinds.old.items }
+    ensures keeps { Keeps
+        (moment state D.rules D.gone shelf.old session.old kinds.old.items None)
+        (moment state D.rules D.gone shelf.new session.new kinds.new.items None) }
     ensures read { IfErr result (λ stop. stop ≡ Stop.Read
         → Rose (S.failures source.old) (S.failures source.new)) }
     ensures write { IfErr result (λ stop. stop ≡ Stop.Write
@@ -221,6 +240,7 @@ pub(crate) fn run_lines<S: Source, O: Sink>(
             tool,
             session,
             shelf,
+            kinds,
             &mut cutter,
             &buf[..n],
             &mut replies,
@@ -232,7 +252,15 @@ pub(crate) fn run_lines<S: Source, O: Sink>(
         }
         replies.clear();
     }
-    let ran = run_last(alloc, tool, session, shelf, &mut cutter, &mut replies);
+    let ran = run_last(
+        alloc,
+        tool,
+        session,
+        shelf,
+        kinds,
+        &mut cutter,
+        &mut replies,
+    );
     write_all(out, replies.as_slice())?;
     Ok(ran?)
 }

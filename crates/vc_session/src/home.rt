@@ -2,7 +2,9 @@
 ghost use Rattle.std.specs.Prelude.{◌≡◌, [], Ok, IfOk, OnErr};
 ghost use Rattle.vc_model.specs.Addr.{place_of};
 ghost use Rattle.vc_model.specs.Discipline.{HasOut};
-ghost use Rattle.vc_region.specs.Parts.{disc_in, region_of, segments_in};
+ghost use Rattle.vc_region.specs.Cells.{rest_in};
+ghost use Rattle.vc_region.specs.Parts.{disc_in};
+ghost use Rattle.vc_region.specs.Region.{segments_of};
 ghost use Rattle.vc_script.specs.Needs.{need_shown};
 ghost use Rattle.vc_session.specs.Account.{IsNamed, LacksSegment};
 ghost use Rattle.vc_session.specs.Step.{block_asked, in_region};
@@ -35,7 +37,7 @@ pub(crate) fn place_of(at: Addr) -> Place
 }
 
 impl HomeEntry {
-    ghost use Rattle.vc_session.specs.Homes.{Changes, Runs, held_of, region_with};
+    ghost use Rattle.vc_session.specs.Homes.{Leaves, Runs, held_of, region_with};
 
     // Runs the command of a line in the region, whose names these are.
     pub(crate) fn run(
@@ -45,16 +47,16 @@ impl HomeEntry {
         line: u32,
         command: &Command,
     ) -> Result<Reply, OutOfMemory>
-        requires names { IsNamed (region_of self.old.region) labels.old }
+        requires names { IsNamed (rest_in self.old.region) labels.old }
         requires lent { HasOut (disc_in state self.old.region)
-            (segments_in self.old.region) }
+            (segments_of (rest_in self.old.region)) }
 
         ensures step { IfOk result (λ reply. Runs state
             (λ h. in_region h line command.now (need_shown reply))
             self.old labels.old (region_with self.new labels.new) reply) }
         ensures err { OnErr result (region_with self.new labels.new
             ≡ region_with self.old labels.old) }
-        ensures change { Changes state
+        ensures change { Leaves state command.now
             self.old labels.old self.new labels.new }
         ensures unserved { result ≡ Ok (Reply.Refused Refusal.NoSegment)
             → LacksSegment

@@ -1,6 +1,7 @@
 // The opening of regions.
-ghost use Rattle.std.specs.Prelude.{◌≡◌, IfOk, OnErr};
-ghost use Rattle.vc_session.specs.Homes.{IsSessionOver, not_here, settled_over, state_over};
+ghost use Rattle.std.specs.Prelude.{◌≡◌, List, IfOk, OnErr};
+ghost use Rattle.vc_dtdisc.specs.Rules.{Rules};
+ghost use Rattle.vc_session.specs.Homes.{HoldsDicts, HoldsRegions, not_here, settled_over, state_over};
 ghost use Rattle.vc_session.specs.State.{open_step, stepped};
 
 use crate::home::HomeEntry;
@@ -21,7 +22,7 @@ fn not_here(place: ShelfPlace) -> Refusal
     }
 }
 
-impl Session {
+impl<D> Session<D> {
     // Opens a region of that method over the discipline of that number.
     pub(crate) fn open_region(
         &mut self,
@@ -30,17 +31,21 @@ impl Session {
         method: Method,
         n: u32,
     ) -> Result<Reply, OutOfMemory>
-        requires { IsSessionOver state shelf.old self.old }
-        ensures step { IfOk result (λ reply. open_step
-            (state_over state shelf.old self.old) name method n
-            ≡ stepped (state_over state shelf.new self.new) reply) }
-        ensures session { IsSessionOver state shelf.new self.new }
+        requires { HoldsRegions state shelf.old self.old }
+        ensures step { IfOk result (λ reply. (kinds : List Rules)
+            → HoldsDicts state kinds self.old
+            → open_step (state_over state kinds shelf.old self.old) name method n
+            ≡ stepped (state_over state kinds shelf.new self.new) reply) }
+        ensures session { HoldsRegions state shelf.new self.new }
+        ensures dicts { (kinds : List Rules) → HoldsDicts state kinds self.old
+            → HoldsDicts state kinds self.new }
         ensures settled { settled_over state shelf.new self.new
             ≡ settled_over state shelf.old self.old }
         ensures spent { self.new.is_spent ≡ self.old.is_spent }
-        ensures err { OnErr result
-            (state_over state shelf.new self.new
-            ≡ state_over state shelf.old self.old) }
+        ensures err { OnErr result ((kinds : List Rules)
+            → HoldsDicts state kinds self.old
+            → state_over state kinds shelf.new self.new
+            ≡ state_over state kinds shelf.old self.old) }
     {
         if self.homes.contains_key(&name) {
             return Ok(Reply::Refused(Refusal::RegionExists));

@@ -1,16 +1,24 @@
-// A session: its open regions, over a shelf.
-ghost use Rattle.std.specs.Prelude.{◌≡◌, [], false, Ok, IfOk, OnErr, OnOk, IsTrue};
+// A session: its open regions and dictionaries, over a shelf.
+ghost use Rattle.std.specs.Prelude.{◌≡◌, ◌&&◌, [], List, None, Some, false, Ok, IfOk, OnErr, OnOk, IsTrue};
+ghost use Rattle.vc_dtdisc.specs.Rules.{Gone, Rules};
 ghost use Rattle.vc_session.specs.Account.{Settles, StepLacks};
-ghost use Rattle.vc_session.specs.Homes.{IsSessionOver, accounts_on, held_in, settled_over, state_over};
+ghost use Rattle.vc_session.specs.Homes.{HoldsDicts, HoldsRegions, IsSessionOver, accounts_on, held_in, settled_over, state_over};
+ghost use Rattle.vc_script.specs.Needs.{need_shown};
+ghost use Rattle.vc_session.specs.DictHomes.{lies_in};
+ghost use Rattle.vc_session.specs.Dicts.{dict_of};
+ghost use Rattle.vc_session.specs.Lacks.{IsCutOff, StepLacksFor};
 ghost use Rattle.vc_session.specs.Run.{refusal_at};
-ghost use Rattle.vc_session.specs.State.{stepped};
-ghost use Rattle.vc_session.specs.Step.{StepsTo, region_of, shelf_step};
+ghost use Rattle.vc_session.specs.Step.{GivesStep, StepsTo, is_clear, region_of, shelf_step, step_of};
+ghost use Rattle.vc_session.specs.Told.{ended_told, gone_in, rules_in, tell};
 
+use crate::dicts::DictEntry;
 use crate::home::HomeEntry;
 use crate::labels::Labels;
 use indexmap::IndexMap;
 use std::alloc::Global;
+use std::marker::PhantomData;
 use vc_base::{Name, OutOfMemory};
+use vc_dtdisc::DictDisc;
 use vc_script::{Command, Refusal, Reply, Tool};
 use vc_seg::{BoxedDisc, SegDisc, Shelf};
 
@@ -41,109 +49,243 @@ fn region_of(command: &Command) -> Option<Name>
     }
 }
 
-/// The regions that a script has open, over a shelf. A step runs one command; at the end every region is closed.
-#[derive(Drop)]
-pub struct Session {
+// The dictionary that a command works on.
+fn dict_of(command: &Command) -> Option<Name>
+    ensures { result ≡ dict_of command.now }
+{
+    match command {
+        Command::Insert(name, _)
+        | Command::Append(name, _)
+        | Command::Attach(name, _)
+        | Command::Delete(name, _)
+        | Command::Detach(name, _)
+        | Command::Search(name, _)
+        | Command::MatchKey(name, _)
+        | Command::First(name)
+        | Command::Last(name)
+        | Command::Next(name, _)
+        | Command::Prev(name, _)
+        | Command::Walk(name)
+        | Command::Count(name)
+        | Command::Remethod(name, _)
+        | Command::Empty(name)
+        | Command::Shut(name) => Some(*name),
+        _ => None,
+    }
+}
+
+/// The regions and dictionaries that a script has open, over a shelf and kinds. A step runs one command; at the end every
+/// dictionary is shut and every region closed.
+pub struct Session<D> {
     /// The open regions by name, in order of opening.
     pub homes: IndexMap<Name, HomeEntry>,
+    /// The dictionaries by name, in order of opening.
+    pub dicts: IndexMap<Name, DictEntry>,
     // The names of the blocks of each, in the same order.
     pub(crate) labels: Vec<Labels>,
     pub(crate) alloc: Global,
-    is_spent: bool,
+    pub(crate) is_spent: bool,
+    kind: PhantomData<D>,
 }
 
-impl Session {
-    /// A session with no region, for a tool's commands. It stands over any shelf.
-    pub fn new(alloc: Global, tool: Tool) -> Result<Session, OutOfMemory>
-        ensures none { IfOk result (λ s. (s.homes.entries ≡ []) × (s.labels.items ≡ [])) }
+impl<D> Drop for Session<D> {
+    fn drop(self) {
+        let Self {
+            homes: _,
+            dicts: _,
+            labels: _,
+            alloc: _,
+            is_spent: _,
+            kind: _,
+        } = self;
+    }
+}
+
+impl<D: DictDisc> Session<D> {
+    /// A session with no region, for a tool's commands. It stands over any shelf and any kinds.
+    pub fn new(alloc: Global, tool: Tool) -> Result<Session<D>, OutOfMemory>
+        ensures none { IfOk result (λ s. (s.homes.entries ≡ []) × (s.labels.items ≡ [])
+            × (s.dicts.entries ≡ [])) }
         ensures memory { IfOk result (λ s. s.is_spent ≡ false) }
     {
         let _ = tool;
         Ok(Session {
             homes: IndexMap::new(alloc),
+            dicts: IndexMap::new(alloc),
             labels: Vec::new(alloc),
             alloc,
             is_spent: false,
+            kind: PhantomData,
         })
     }
 
-    // Runs a command that works in no region that is open.
-    fn run_on_shelf(&mut self, shelf: &mut Shelf, command: &Command) -> Result<Reply, OutOfMemory>
-        requires { IsSessionOver state shelf.old self.old }
-        ensures step { IfOk result (λ reply. shelf_step
-            (state_over state shelf.old self.old) command.now
-            ≡ stepped (state_over state shelf.new self.new) reply) }
-        ensures session { IsSessionOver state shelf.new self.new }
-        ensures settled { settled_over state shelf.new self.new
-            ≡ settled_over state shelf.old self.old }
+    // Runs a command that works on no dictionary and in no region that is open.
+    fn run_on_shelf(
+        &mut self,
+        shelf: &mut Shelf,
+        kinds: &Vec<D>,
+        command: &Command,
+    ) -> Result<Reply, OutOfMemory>
+        requires session { IsSessionOver state (rules_in D.rules kinds.now.items) shelf.old self.old }
+        requires dict { dict_of command.now ≡ None }
+        requires region { region_of command.now ≡ None }
+        ensures step { IfOk result (λ reply. GivesStep
+            (shelf_step (state_over state (rules_in D.rules kinds.now.items) shelf.old self.old)
+            command.now (need_shown reply))
+            (gone_in D.gone kinds.now.items) reply
+            (state_over state (rules_in D.rules kinds.now.items) shelf.new self.new)
+            (gone_in D.gone kinds.now.items)) }
+        ensures session { IsSessionOver state (rules_in D.rules kinds.now.items) shelf.new self.new }
         ensures spent { self.new.is_spent ≡ self.old.is_spent }
         ensures err { OnErr result
-            (state_over state shelf.new self.new
-            ≡ state_over state shelf.old self.old) }
+            (state_over state (rules_in D.rules kinds.now.items) shelf.new self.new
+            ≡ state_over state (rules_in D.rules kinds.now.items) shelf.old self.old) }
+        ensures keeps { Settles
+            (settled_over state shelf.old self.old)
+            (settled_over state shelf.new self.new) [] }
+        ensures settles { IfOk result (λ reply. Settles
+            (settled_over state shelf.old self.old)
+            (settled_over state shelf.new self.new)
+            (refusal_at (state_over state (rules_in D.rules kinds.now.items) shelf.old self.old)
+            command.now reply)) }
+        ensures lacks { IfOk result (λ reply. StepLacksFor
+            (state_over state (rules_in D.rules kinds.now.items) shelf.old self.old)
+            (held_in state self.old) (held_in state self.new) command.now reply) }
     {
         match command {
             Command::OpenRegion(name, method, n) => self.open_region(shelf, *name, *method, *n),
             Command::CloseRegion(name) => Ok(self.close_named(shelf, name)),
+            Command::OpenDict(name, method, region, kind) => {
+                self.open_dict(shelf, kinds, *name, *method, *region, *kind)
+            }
             _ => Ok(Reply::Refused(Refusal::NotYet)),
         }
     }
 
-    // Runs one command. With no memory the regions stay.
-    fn run_command(
+    // Whether a command clears the region of that name, and a dictionary lies in it.
+    fn clears_busy(&self, name: &Name, command: &Command) -> bool
+        ensures { result ≡ (is_clear command.now && lies_in name.now self.now.dicts.entries) }
+    {
+        matches!(command, Command::ClearRegion(_)) && self.is_busy(name)
+    }
+
+    // Runs a command in the region of that name.
+    fn run_in_region(
         &mut self,
-        shelf: &mut Shelf,
+        shelf: &Shelf,
+        name: &Name,
         line: u32,
         command: &Command,
     ) -> Result<Reply, OutOfMemory>
-        requires { IsSessionOver state shelf.old self.old }
-        ensures step { IfOk result (λ reply. StepsTo
-            (state_over state shelf.old self.old) line command.now reply
-            (state_over state shelf.new self.new)) }
-        ensures session { IsSessionOver state shelf.new self.new }
+        requires regions { HoldsRegions state shelf.now self.old }
+        requires dict { dict_of command.now ≡ None }
+        requires region { region_of command.now ≡ Some name.now }
+        ensures step { IfOk result (λ reply. (kinds : List Rules)
+            → HoldsDicts state kinds self.old → (gone : List Gone) → GivesStep
+            (step_of (state_over state kinds shelf.now self.old) line command.now
+            (need_shown reply) (Some name.now))
+            gone reply (state_over state kinds shelf.now self.new) gone) }
+        ensures regions { HoldsRegions state shelf.now self.new }
+        ensures dicts { (kinds : List Rules) → HoldsDicts state kinds self.old
+            → HoldsDicts state kinds self.new }
         ensures spent { self.new.is_spent ≡ self.old.is_spent }
-        ensures err { OnErr result
-            (state_over state shelf.new self.new
-            ≡ state_over state shelf.old self.old) }
+        ensures err { OnErr result ((kinds : List Rules) → HoldsDicts state kinds self.old
+            → state_over state kinds shelf.now self.new
+            ≡ state_over state kinds shelf.now self.old) }
+        ensures keeps { Settles
+            (settled_over state shelf.now self.old)
+            (settled_over state shelf.now self.new) [] }
+        ensures settles { IfOk result (λ reply. (kinds : List Rules) → Settles
+            (settled_over state shelf.now self.old)
+            (settled_over state shelf.now self.new)
+            (refusal_at (state_over state kinds shelf.now self.old) command.now reply)) }
+        ensures unserved { result ≡ Ok (Reply.Refused Refusal.NoSegment)
+            → StepLacks (held_in state self.old)
+            (held_in state self.new) command.now }
+        ensures lacks { IfOk result (λ reply. (kinds : List Rules) → StepLacksFor
+            (state_over state kinds shelf.now self.old)
+            (held_in state self.old) (held_in state self.new) command.now reply) }
+    {
+        let Some(i) = self.homes.get_index_of(name) else {
+            return Ok(Reply::Refused(Refusal::NoRegion));
+        };
+        if self.clears_busy(name, command) {
+            return Ok(Reply::Refused(Refusal::Busy));
+        }
+        self.homes[i].run(self.alloc, &mut self.labels[i], line, command)
+    }
+
+    // Runs one command. With no memory the state stays, but that a table may have grown.
+    fn run_command(
+        &mut self,
+        shelf: &mut Shelf,
+        kinds: &mut Vec<D>,
+        line: u32,
+        command: &Command,
+    ) -> Result<Reply, OutOfMemory>
+        requires { IsSessionOver state (rules_in D.rules kinds.old.items) shelf.old self.old }
+        ensures step { IfOk result (λ reply. StepsTo
+            (state_over state (rules_in D.rules kinds.old.items) shelf.old self.old)
+            (gone_in D.gone kinds.old.items) line command.now reply
+            (state_over state (rules_in D.rules kinds.new.items) shelf.new self.new)
+            (gone_in D.gone kinds.new.items)) }
+        ensures rules { rules_in D.rules kinds.new.items ≡ rules_in D.rules kinds.old.items }
+        ensures session { IsSessionOver state (rules_in D.rules kinds.new.items) shelf.new self.new }
+        ensures spent { self.new.is_spent ≡ self.old.is_spent }
+        ensures err { OnErr result ((gone_in D.gone kinds.new.items ≡ gone_in D.gone kinds.old.items)
+            × IsCutOff
+            (state_over state (rules_in D.rules kinds.old.items) shelf.old self.old) command.now
+            (state_over state (rules_in D.rules kinds.new.items) shelf.new self.new)) }
 
         // The disciplines are the same, but for the faults of the one that refused.
         ensures settles { IfOk result (λ reply. Settles
             (settled_over state shelf.old self.old)
             (settled_over state shelf.new self.new)
-            (refusal_at (state_over state shelf.old self.old) command.now reply)) }
+            (refusal_at (state_over state (rules_in D.rules kinds.old.items) shelf.old self.old)
+            command.now reply)) }
         ensures keeps { Settles
             (settled_over state shelf.old self.old)
             (settled_over state shelf.new self.new) [] }
         ensures unserved { result ≡ Ok (Reply.Refused Refusal.NoSegment)
             → StepLacks (held_in state self.old)
             (held_in state self.new) command.now }
+        ensures lacks { IfOk result (λ reply. StepLacksFor
+            (state_over state (rules_in D.rules kinds.old.items) shelf.old self.old)
+            (held_in state self.old) (held_in state self.new) command.now reply) }
     {
+        if let Some(name) = dict_of(command) {
+            return self.run_on_dict(shelf, kinds, &name, command);
+        }
         match region_of(command) {
-            None => self.run_on_shelf(shelf, command),
-            Some(name) => match self.homes.get_index_of(&name) {
-                None => Ok(Reply::Refused(Refusal::NoRegion)),
-                Some(i) => Ok(self.homes[i].run(self.alloc, &mut self.labels[i], line, command)?),
-            },
+            None => self.run_on_shelf(shelf, kinds, command),
+            Some(name) => self.run_in_region(shelf, &name, line, command),
         }
     }
 
-    /// Runs the command of a line, numbered from 1 on, and answers its reply. A refusal changes nothing. With no memory
-    /// every region stays as it is, and every later step answers `OutOfMemory` as well.
+    /// Runs the command of a line, numbered from 1 on, and answers its reply. A refusal changes nothing, save that the
+    /// larger table of a set or bag stays where the holder of an object is refused. With no memory nothing changes, save
+    /// that such a table may have grown, and every later step answers `OutOfMemory` as well.
     pub fn step(
         &mut self,
         shelf: &mut Shelf,
+        kinds: &mut Vec<D>,
         line: u32,
         command: &Command,
     ) -> Result<Reply, OutOfMemory>
-        requires { IsSessionOver state shelf.old self.old }
+        requires { IsSessionOver state (rules_in D.rules kinds.old.items) shelf.old self.old }
         ensures step { IfOk result (λ reply. StepsTo
-            (state_over state shelf.old self.old) line command.now reply
-            (state_over state shelf.new self.new)) }
-        ensures session { IsSessionOver state shelf.new self.new }
+            (state_over state (rules_in D.rules kinds.old.items) shelf.old self.old)
+            (gone_in D.gone kinds.old.items) line command.now reply
+            (state_over state (rules_in D.rules kinds.new.items) shelf.new self.new)
+            (gone_in D.gone kinds.new.items)) }
+        ensures rules { rules_in D.rules kinds.new.items ≡ rules_in D.rules kinds.old.items }
+        ensures session { IsSessionOver state (rules_in D.rules kinds.new.items) shelf.new self.new }
 
-        // With no memory nothing changes, now or later.
-        ensures err { OnErr result
-            (state_over state shelf.new self.new
-            ≡ state_over state shelf.old self.old) }
+        // With no memory nothing changes, now or later, but that the table of the command's dictionary may have grown.
+        ensures err { OnErr result ((gone_in D.gone kinds.new.items ≡ gone_in D.gone kinds.old.items)
+            × IsCutOff
+            (state_over state (rules_in D.rules kinds.old.items) shelf.old self.old) command.now
+            (state_over state (rules_in D.rules kinds.new.items) shelf.new self.new)) }
         ensures spent { IsTrue self.old.is_spent → OnOk result ⊥ }
         ensures stays_spent { OnErr result (IsTrue self.new.is_spent) }
         ensures not_spent { OnOk result (self.new.is_spent ≡ false) }
@@ -153,18 +295,22 @@ impl Session {
         ensures settles { IfOk result (λ reply. Settles
             (settled_over state shelf.old self.old)
             (settled_over state shelf.new self.new)
-            (refusal_at (state_over state shelf.old self.old) command.now reply)) }
+            (refusal_at (state_over state (rules_in D.rules kinds.old.items)
+            shelf.old self.old) command.now reply)) }
         ensures keeps { Settles
             (settled_over state shelf.old self.old)
             (settled_over state shelf.new self.new) [] }
         ensures unserved { result ≡ Ok (Reply.Refused Refusal.NoSegment)
             → StepLacks (held_in state self.old)
             (held_in state self.new) command.now }
+        ensures lacks { IfOk result (λ reply. StepLacksFor
+            (state_over state (rules_in D.rules kinds.old.items) shelf.old self.old)
+            (held_in state self.old) (held_in state self.new) command.now reply) }
     {
         if self.is_spent {
             return Err(OutOfMemory);
         }
-        match self.run_command(shelf, line, command) {
+        match self.run_command(shelf, kinds, line, command) {
             Ok(reply) => Ok(reply),
             Err(_) => {
                 self.is_spent = true;
@@ -173,16 +319,31 @@ impl Session {
         }
     }
 
-    /// Closes every region, and gives each discipline back to its place. It cannot fail. The regions are closed in order
-    /// of opening, and each gives its segments back in ascending order of number.
-    pub fn end(self, shelf: &mut Shelf)
-        requires { IsSessionOver state shelf.old self }
-        ensures { accounts_on state shelf.new
-            ≡ settled_over state shelf.old self }
+    // Closes every region of a session in which no dictionary is left, in order of opening.
+    fn close_all(&mut self, shelf: &mut Shelf)
+        requires session { HoldsRegions state shelf.old self.old }
+        requires none { self.old.dicts.entries ≡ [] }
+        ensures { accounts_on state shelf.new ≡ settled_over state shelf.old self.old }
+    {
+        while !self.homes.is_empty() {
+            let _ = self.close_at(shelf, 0);
+        }
+    }
+
+    /// Shuts every dictionary and closes every region, and gives each discipline back to its place. It cannot fail. Both
+    /// go in order of opening; the kinds are told of all objects, and each region gives its segments back in ascending order of number.
+    pub fn end(self, shelf: &mut Shelf, kinds: &mut Vec<D>)
+        requires { IsSessionOver state (rules_in D.rules kinds.old.items) shelf.old self }
+        ensures shelf { Settles
+            (settled_over state shelf.old self)
+            (accounts_on state shelf.new) [] }
+        ensures gone { gone_in D.gone kinds.new.items ≡ tell
+            (ended_told (state_over state (rules_in D.rules kinds.old.items) shelf.old self))
+            (gone_in D.gone kinds.old.items) }
+        ensures rules { rules_in D.rules kinds.new.items ≡ rules_in D.rules kinds.old.items }
     {
         let mut rest = self;
-        while !rest.homes.is_empty() {
-            let _ = rest.close_at(shelf, 0);
-        }
+        rest.shut_all(shelf, kinds);
+        rest.close_all(shelf);
     }
 }

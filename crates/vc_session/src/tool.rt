@@ -1,10 +1,11 @@
-// The top call: a script from a source, its replies to one sink, a fault to another.
-ghost use Rattle.std.specs.Prelude.{◌≡◌, ◌<◌, ◌≤◌, ◌+◌, ◌++◌, ◌⊎◌, ℕ, Some, None, IfSome, IfOk, IfErr, OnErr, OnOk, codes, length};
+// The top calls: a script from a source, its replies to one sink, a fault to another.
+ghost use Rattle.std.specs.Prelude.{◌≡◌, ◌<◌, ◌≤◌, [], None, IfSome, IfOk, IfErr, OnErr, OnOk, length};
 ghost use Rattle.vc_model.specs.Count.{Rose};
-ghost use Rattle.vc_script.specs.declared.line_fault.LineFault.{LineFault};
-ghost use Rattle.vc_script.specs.declared.tool.Tool.TheVariants.{Vmreplay};
+ghost use Rattle.vc_script.specs.declared.tool.Tool.TheVariants.{Dtrun, Vmreplay};
+ghost use Rattle.vc_session.specs.Headline.{Headline};
 ghost use Rattle.vc_session.specs.Moment.{Keeps, at_rest};
-ghost use Rattle.vc_session.specs.Replay.{Broke, IsCutShort, IsReplay, Told, Tried, err_line, fault_text, message, tool_name};
+ghost use Rattle.vc_session.specs.Replay.{Broke, IsCutShort, IsReplay, Told, err_line, fault_text, message, tool_name};
+ghost use Rattle.vc_session.specs.Told.{gone_in, rules_in};
 
 use crate::Status;
 use crate::engine::{Stop, run_lines};
@@ -14,35 +15,48 @@ use arrayvec::ArrayString;
 use itoa::Buffer;
 use std::alloc::Global;
 use vc_base::{Sink, Source, WriteFailed};
+use vc_dtdisc::{BuiltIn, DictDisc};
 use vc_script::{LineFault, Tool};
 use vc_seg::{BoxedDisc, SegDisc, Shelf};
 
 // Runs the script of a source.
-fn run_source<S: Source, O: Sink>(
+fn run_source<D: DictDisc, S: Source, O: Sink>(
     alloc: Global,
     tool: Tool,
     shelf: &mut Shelf,
+    kinds: &mut Vec<D>,
     source: &mut S,
     out: &mut O,
 ) -> Result<Option<(u32, LineFault)>, Stop>
     ensures replay { IfOk result (λ bad. IfSome (S.left source.old) (λ input. IsReplay tool
-        (at_rest state shelf.old (O.written out.old)) (at_rest state shelf.new (O.written out.new))
+        (at_rest state (rules_in D.rules kinds.old.items) (gone_in D.gone kinds.old.items)
+        shelf.old (O.written out.old))
+        (at_rest state (rules_in D.rules kinds.new.items) (gone_in D.gone kinds.new.items)
+        shelf.new (O.written out.new))
         input bad (S.left source.new))) }
     ensures cut_short { IfErr result (λ stop. stop ≡ Stop.Read
         → IfSome (S.left source.old) (λ input. IsCutShort tool
-        (at_rest state shelf.old (O.written out.old)) (at_rest state shelf.new (O.written out.new))
+        (at_rest state (rules_in D.rules kinds.old.items) (gone_in D.gone kinds.old.items)
+        shelf.old (O.written out.old))
+        (at_rest state (rules_in D.rules kinds.new.items) (gone_in D.gone kinds.new.items)
+        shelf.new (O.written out.new))
         input (S.left source.new))) }
     ensures read { IfErr result (λ stop. stop ≡ Stop.Read
         → Rose (S.failures source.old) (S.failures source.new)) }
     ensures write { IfErr result (λ stop. stop ≡ Stop.Write
         → Rose (O.failures out.old) (O.failures out.new)) }
-    ensures keeps { Keeps (at_rest state shelf.old None) (at_rest state shelf.new None) }
+    ensures keeps { Keeps
+        (at_rest state (rules_in D.rules kinds.old.items) (gone_in D.gone kinds.old.items)
+        shelf.old None)
+        (at_rest state (rules_in D.rules kinds.new.items) (gone_in D.gone kinds.new.items)
+        shelf.new None) }
+    ensures rules { rules_in D.rules kinds.new.items ≡ rules_in D.rules kinds.old.items }
     ensures reads { S.failures source.old ≤ S.failures source.new }
     ensures writes { O.failures out.old ≤ O.failures out.new }
 {
-    let mut session = Session::new(alloc, tool)?;
-    let ended = run_lines(alloc, tool, &mut session, shelf, source, out);
-    session.end(shelf);
+    let mut session = Session::<D>::new(alloc, tool)?;
+    let ended = run_lines(alloc, tool, &mut session, shelf, kinds, source, out);
+    session.end(shelf, kinds);
     ended
 }
 
@@ -110,82 +124,60 @@ fn tell_fault<E: Sink>(err: &mut E, tool: Tool, n: u32, fault: LineFault) -> Res
     tell(err, tool, text.as_str())
 }
 
-/// Runs the script that the source gives over the disciplines of a shelf, and ends with a status. The source is read in
-/// pieces of at most 4,096 bytes. The replies to the lines of one piece are gathered and go to `out` before the next read;
-/// gathering them takes memory. A fault goes to `err`, as one line.
-pub fn replay<S: Source, O: Sink, E: Sink>(
+// Runs the script of a source, for a tool that was given these words.
+fn run_tool<D: DictDisc, S: Source, O: Sink, E: Sink>(
     alloc: Global,
+    tool: Tool,
     words: &[String],
     shelf: &mut Shelf,
+    kinds: &mut Vec<D>,
     source: &mut S,
     out: &mut O,
     err: &mut E,
 ) -> Status
-    // Nothing was wrong, and the replies of the whole script were written.
-    ensures ok { result ≡ Status.Ok → (length words.now ≡ 0) × (err.new ≡ err.old)
-        × IfSome (S.left source.old) (λ input. IsReplay Vmreplay
-        (at_rest state shelf.old (O.written out.old))
-        (at_rest state shelf.new (O.written out.new)) input None (S.left source.new)) }
+    // What is read and written by each status.
+    ensures headline { Headline tool (length words.now)
+        (at_rest state (rules_in D.rules kinds.old.items) (gone_in D.gone kinds.old.items)
+        shelf.old None)
+        (at_rest state (rules_in D.rules kinds.new.items) (gone_in D.gone kinds.new.items)
+        shelf.new None)
+        (record {
+          left = S.left source.old;
+          reads = S.failures source.old;
+          written = O.written out.old;
+          writes = O.failures out.old;
+          told = E.written err.old;
+          errors = E.failures err.old;
+        })
+        (record {
+          left = S.left source.new;
+          reads = S.failures source.new;
+          written = O.written out.new;
+          writes = O.failures out.new;
+          told = E.written err.new;
+          errors = E.failures err.new;
+        })
+        result }
 
-    // The replies of the lines before the fault were written, and the fault's line. What was read shows no fault, but for
-    // its last 4,096 bytes or fewer.
-    ensures script { result ≡ Status.Script → (length words.now ≡ 0) × ((bad : ℕ × LineFault)
-        × Told (E.written err.old) (E.written err.new) (err_line Vmreplay bad)
-        × IfSome (S.left source.old) (λ input. IsReplay Vmreplay
-        (at_rest state shelf.old (O.written out.old))
-        (at_rest state shelf.new (O.written out.new)) input (Some bad) (S.left source.new))) }
-
-    // The tool takes no words.
-    ensures words { 0 < length words.now → (source.new ≡ source.old) × (out.new ≡ out.old)
-        × ((result ≡ Status.Usage) ⊎ ((result ≡ Status.Write)
-        × Broke (E.failures err.old) (E.failures err.new)
-        (E.written err.old) (E.written err.new)
-        (message Vmreplay (codes "bad arguments")))) }
-    ensures usage { result ≡ Status.Usage → (0 < length words.now)
-        × Told (E.written err.old) (E.written err.new) (message Vmreplay (codes "bad arguments")) }
-
-    // A fault comes from its stream, and its line is tried once.
-    ensures read { result ≡ Status.Read → Rose (S.failures source.old) (S.failures source.new)
-        × Tried (E.failures err.old) (E.failures err.new)
-        (E.written err.old) (E.written err.new) (message Vmreplay (codes "read failed")) }
-
-    // With a failed read the replies of the lines that were wholly read were written, and no byte that was read shows a
-    // fault.
-    ensures cut_short { result ≡ Status.Read
-        → IfSome (S.left source.old) (λ input. IsCutShort Vmreplay
-        (at_rest state shelf.old (O.written out.old)) (at_rest state shelf.new (O.written out.new))
-        input (S.left source.new)) }
-
-    // Where the line of status 1 or 2 could not be written whole, a front of it was.
-    ensures write { result ≡ Status.Write → length words.now ≡ 0
-        → (Rose (O.failures out.old) (O.failures out.new)
-        × Tried (E.failures err.old) (E.failures err.new)
-        (E.written err.old) (E.written err.new) (message Vmreplay (codes "write failed")))
-        ⊎ ((bad : ℕ × LineFault)
-        × Broke (E.failures err.old) (E.failures err.new)
-        (E.written err.old) (E.written err.new) (err_line Vmreplay bad)
-        × IfSome (S.left source.old) (λ input. IsReplay Vmreplay
-        (at_rest state shelf.old (O.written out.old))
-        (at_rest state shelf.new (O.written out.new))
-        input (Some bad) (S.left source.new))) }
-    ensures memory { result ≡ Status.Memory → Tried (E.failures err.old) (E.failures err.new)
-        (E.written err.old) (E.written err.new) (message Vmreplay (codes "out of memory")) }
-
-    ensures reads { S.failures source.old ≤ S.failures source.new }
-    ensures writes { (O.failures out.old ≤ O.failures out.new)
-        × (E.failures err.old ≤ E.failures err.new) }
+    // Where nothing was wrong err has nothing, and with words nothing is read or replied.
+    ensures quiet { result ≡ Status.Ok → err.new ≡ err.old }
+    ensures words { 0 < length words.now → (source.new ≡ source.old) × (out.new ≡ out.old) }
 
     // On every exit each place has its discipline, with the segments out and the terms that it had, and no fault less.
-    ensures keeps { Keeps (at_rest state shelf.old None) (at_rest state shelf.new None) }
+    ensures keeps { Keeps
+        (at_rest state (rules_in D.rules kinds.old.items) (gone_in D.gone kinds.old.items)
+        shelf.old None)
+        (at_rest state (rules_in D.rules kinds.new.items) (gone_in D.gone kinds.new.items)
+        shelf.new None) }
+    ensures rules { rules_in D.rules kinds.new.items ≡ rules_in D.rules kinds.old.items }
 {
-    let tool = Tool::Vmreplay;
     if !words.is_empty() {
         return match tell(err, tool, "bad arguments") {
             Ok(()) => Status::Usage,
             Err(_) => Status::Write,
         };
     }
-    match run_source(alloc, tool, shelf, source, out) {
+    match run_source(alloc, tool, shelf, kinds, source, out) {
         Ok(None) => Status::Ok,
         Ok(Some((n, fault))) => match tell_fault(err, tool, n, fault) {
             Ok(()) => Status::Script,
@@ -204,4 +196,109 @@ pub fn replay<S: Source, O: Sink, E: Sink>(
             Status::Memory
         }
     }
+}
+
+/// Runs the script that the source gives over the disciplines of a shelf, and ends with a status. The source is read in
+/// pieces of at most 4,096 bytes. The replies to the lines of one piece are gathered and go to `out` before the next read;
+/// gathering them takes memory. A fault goes to `err`, as one line.
+pub fn replay<S: Source, O: Sink, E: Sink>(
+    alloc: Global,
+    words: &[String],
+    shelf: &mut Shelf,
+    source: &mut S,
+    out: &mut O,
+    err: &mut E,
+) -> Status
+    // What is read and written by each status.
+    ensures headline { Headline Vmreplay (length words.now)
+        (at_rest state [] [] shelf.old None)
+        (at_rest state [] [] shelf.new None)
+        (record {
+          left = S.left source.old;
+          reads = S.failures source.old;
+          written = O.written out.old;
+          writes = O.failures out.old;
+          told = E.written err.old;
+          errors = E.failures err.old;
+        })
+        (record {
+          left = S.left source.new;
+          reads = S.failures source.new;
+          written = O.written out.new;
+          writes = O.failures out.new;
+          told = E.written err.new;
+          errors = E.failures err.new;
+        })
+        result }
+
+    // Where nothing was wrong err has nothing, and with words nothing is read or replied.
+    ensures quiet { result ≡ Status.Ok → err.new ≡ err.old }
+    ensures words { 0 < length words.now → (source.new ≡ source.old) × (out.new ≡ out.old) }
+
+    // On every exit each place has its discipline, with the segments out and the terms that it had, and no fault less.
+    ensures keeps { Keeps
+        (at_rest state [] [] shelf.old None)
+        (at_rest state [] [] shelf.new None) }
+{
+    let mut kinds: Vec<BuiltIn> = Vec::new(alloc);
+    run_tool(
+        alloc,
+        Tool::Vmreplay,
+        words,
+        shelf,
+        &mut kinds,
+        source,
+        out,
+        err,
+    )
+}
+
+/// Runs the script that the source gives over the disciplines of a shelf and kinds of dictionaries, as `replay` does. At
+/// its end each kind is told of the objects that are left.
+pub fn dtrun<D: DictDisc, S: Source, O: Sink, E: Sink>(
+    alloc: Global,
+    words: &[String],
+    shelf: &mut Shelf,
+    kinds: &mut Vec<D>,
+    source: &mut S,
+    out: &mut O,
+    err: &mut E,
+) -> Status
+    // What is read and written by each status.
+    ensures headline { Headline Dtrun (length words.now)
+        (at_rest state (rules_in D.rules kinds.old.items) (gone_in D.gone kinds.old.items)
+        shelf.old None)
+        (at_rest state (rules_in D.rules kinds.new.items) (gone_in D.gone kinds.new.items)
+        shelf.new None)
+        (record {
+          left = S.left source.old;
+          reads = S.failures source.old;
+          written = O.written out.old;
+          writes = O.failures out.old;
+          told = E.written err.old;
+          errors = E.failures err.old;
+        })
+        (record {
+          left = S.left source.new;
+          reads = S.failures source.new;
+          written = O.written out.new;
+          writes = O.failures out.new;
+          told = E.written err.new;
+          errors = E.failures err.new;
+        })
+        result }
+
+    // Where nothing was wrong err has nothing, and with words nothing is read or replied.
+    ensures quiet { result ≡ Status.Ok → err.new ≡ err.old }
+    ensures words { 0 < length words.now → (source.new ≡ source.old) × (out.new ≡ out.old) }
+
+    // On every exit each place has its discipline, with the segments out and the terms that it had, and no fault less.
+    ensures keeps { Keeps
+        (at_rest state (rules_in D.rules kinds.old.items) (gone_in D.gone kinds.old.items)
+        shelf.old None)
+        (at_rest state (rules_in D.rules kinds.new.items) (gone_in D.gone kinds.new.items)
+        shelf.new None) }
+    ensures rules { rules_in D.rules kinds.new.items ≡ rules_in D.rules kinds.old.items }
+{
+    run_tool(alloc, Tool::Dtrun, words, shelf, kinds, source, out, err)
 }

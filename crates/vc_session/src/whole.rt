@@ -1,7 +1,9 @@
 // The commands that change a whole region.
 ghost use Rattle.std.specs.Prelude.{◌≡◌, ℕ, List};
 ghost use Rattle.vc_model.specs.Discipline.{HasOut};
-ghost use Rattle.vc_region.specs.Parts.{disc_in, region_of, segments_in};
+ghost use Rattle.vc_region.specs.Cells.{rest_in};
+ghost use Rattle.vc_region.specs.Parts.{disc_in};
+ghost use Rattle.vc_region.specs.Region.{segments_of};
 ghost use Rattle.vc_session.specs.Account.{IsNamed, home_of};
 ghost use Rattle.vc_session.specs.State.{changed_to};
 ghost use Rattle.vc_session.specs.Whole.{clear_in, compact_in};
@@ -10,22 +12,22 @@ use crate::home::HomeEntry;
 use crate::labels::Labels;
 use crate::marks::keeps_freed;
 use vc_base::Name;
-use vc_script::Reply;
+use vc_script::{Command, Reply};
 use vc_seg::{BoxedDisc, SegDisc};
 
 impl HomeEntry {
-    ghost use Rattle.vc_session.specs.Homes.{Changes, Runs, held_of, region_with};
+    ghost use Rattle.vc_session.specs.Homes.{Changes, Leaves, Runs, held_of, region_with};
     ghost use Rattle.vc_session.specs.declared.labels.Labels.{Labels};
 
     // Frees all blocks, at a line.
     pub(crate) fn clear(&mut self, labels: &mut Labels, name: Name, line: u32) -> Reply
-        requires names { IsNamed (region_of self.old.region) labels.old }
+        requires names { IsNamed (rest_in self.old.region) labels.old }
         requires lent { HasOut (disc_in state self.old.region)
-            (segments_in self.old.region) }
+            (segments_of (rest_in self.old.region)) }
 
         ensures step { Runs state (λ h. clear_in h name line)
             self.old labels.old (region_with self.new labels.new) result }
-        ensures change { Changes state
+        ensures change { Leaves state (Command.ClearRegion name)
             self.old labels.old self.new labels.new }
     {
         labels.clear(keeps_freed(&self.region), line);
@@ -36,13 +38,13 @@ impl HomeEntry {
     // Gives back the segments without a block.
     pub(crate) fn compact(&mut self, name: Name) -> Reply
         requires lent { HasOut (disc_in state self.old.region)
-            (segments_in self.old.region) }
+            (segments_of (rest_in self.old.region)) }
 
         ensures step { (labels : Labels) (r : List ℕ)
             → compact_in (home_of (held_of state r self.old labels)) name
             ≡ changed_to (home_of (held_of state r self.old labels))
             (region_with self.new labels).0 result }
-        ensures change { (labels : Labels) → IsNamed (region_of self.old.region) labels
+        ensures change { (labels : Labels) → IsNamed (rest_in self.old.region) labels
             → Changes state
             self.old labels self.new labels }
     {

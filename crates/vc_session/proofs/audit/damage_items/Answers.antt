@@ -1,14 +1,16 @@
-use Rattle.std.proofs.Common.{SFits, rules, ◌≡◌, ℕ, ◌++◌, [], length, option_map, List, Option, inr, sym, ap, ◌∙◌, append-nil, arith}
+use Rattle.std.proofs.Common.{SFits, rules, ℕ, ◌++◌, [], length, option_map, List, Option, inr, sym, ap, ◌∙◌, append-nil, arith}
 use Rattle.std.specs.Prelude.{ℤ}
 use Rattle.std.specs.List.{cons_option}
 use Rattle.std.specs.Int.{w64}
 use Rattle.std.proofs.lemmas.Int.{to_z-of_z}
 use Rattle.vc_model.specs.Layout.{Block, address_of}
 use Rattle.vc_region.proofs.Sound.{own_places}
+use Rattle.vc_region.specs.Cells.{rest_in}
 use Rattle.vc_region.specs.Parts.{region_of}
 use Rattle.vc_region.specs.Region.{next_damaged_in}
 use Rattle.vc_session.proofs.Auditing.{between, damage-told, damaged-all, damaged-end, damaged_behind, found_items, list-damage}
 use Rattle.vc_session.proofs.Listing.{from_none}
+use Rattle.vc_region.proofs.Rest.{rest-damaged, rest-debug}
 use Rattle.vc_session.proofs.audit.damage_items.Goals as goal
 
 pub loop-block-smaller : goal.loop-block-smaller
@@ -46,4 +48,7 @@ returns g c =
     sym (append-nil items)
     ∙ (ap (λ fs. items ++ found_items labels fs) (sym (damaged-end r c.loop-block.after.0 none))
     ∙ (c.loop-block.invariant.items
-    ∙ (ap (found_items labels) (damaged-all r) ∙ sym (list-damage (region_of r) labels))))
+    ∙ (ap (found_items labels) (damaged-all r ∙ sym (rest-damaged (region_of r))) ∙ sym (list-damage (rest_in r) labels))))
+
+pub check-requires-clause-method : goal.check-requires-clause-method
+check-requires-clause-method g c = sym (rest-debug (region_of c.args.region.now)) ∙ c.requires.method

@@ -1,7 +1,6 @@
 use Rattle.std.proofs.Common.{◌≡◌, ◌⊎◌, ◌++◌, length}
 use Rattle.vc_model.specs.Touch.{HasBlock}
 use Rattle.vc_region.specs.Parts.{blocks_in, region_of}
-use Rattle.vc_region.specs.Region.{damaged_in}
 use Rattle.vc_session.proofs.Auditing.{damaged_behind, found_items}
 use Rattle.vc_session.proofs.audit.damage_items.Given as goal
 

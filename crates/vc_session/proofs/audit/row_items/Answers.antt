@@ -1,7 +1,8 @@
-use Rattle.std.proofs.Common.{◌≡◌, ◌+◌, ◌++◌, [], ◌∷◌, drop, length, sym, ap, ◌∙◌, append_assoc, append-nil, arith}
+use Rattle.std.proofs.Common.{◌+◌, ◌++◌, [], ◌∷◌, drop, length, sym, ap, ◌∙◌, append_assoc, append-nil, arith}
 use Rattle.vc_region.specs.Parts.{region_of}
 use Rattle.vc_region.specs.Region.{rows_in}
 use Rattle.vc_session.proofs.Auditing.{row-end, row-is, row-next}
+use Rattle.vc_region.proofs.Rest.{rest-profile, rest-rows}
 use Rattle.vc_session.proofs.audit.row_items.Goals as goal
 
 pub loop-row-preserved : goal.loop-row-preserved
@@ -25,4 +26,7 @@ returns g c =
     let r = region_of c.args.region.now in
     sym (append-nil c.loop-row.items.items)
     ∙ (ap (λ rs. c.loop-row.items.items ++ rs) (sym (row-end (rows_in r) c.loop-row.i (sym (row-is r c.loop-row.i) ∙ sym c.in_default.ensures)))
-    ∙ c.loop-row.invariant)
+    ∙ (c.loop-row.invariant ∙ sym (rest-rows r)))
+
+pub row-requires : goal.row-requires
+row-requires g c = sym (rest-profile (region_of c.args.region.now)) ∙ c.requires

@@ -1,11 +1,13 @@
-use Rattle.std.proofs.Common.{◌-◌, Some, option_map, set, ap, ◌∙◌}
+use Rattle.std.proofs.Common.{◌-◌, Some, option_map, length, set, sym, ap, ◌∙◌}
 use Rattle.std.proofs.lemmas.List.{map-set}
 use Rattle.vc_model.specs.Discipline.{Discipline}
 use Rattle.vc_model.specs.Numbered.{at_number}
-use Rattle.vc_region.specs.Parts.{disc_in, segments_in}
-use Rattle.vc_session.specs.Account.{account, accounts}
+use Rattle.vc_region.specs.Parts.{disc_in, region_of, segments_in}
+use Rattle.vc_session.specs.Account.{account, account_back, accounts}
 use Rattle.vc_session.specs.Homes.{slots_on}
 use Rattle.vc_session.proofs.Closing.{account-closed, elsewhere, taken-at}
+use Rattle.vc_region.proofs.Rest.{rest-segments}
+use Rattle.vc_session.proofs.Seen.{seen-out}
 use Rattle.vc_session.proofs.close.close_region.Given as given
 use Rattle.vc_session.proofs.close.close_region.Goals as goal
 
@@ -16,9 +18,10 @@ pub returns-clause-here : goal.returns-clause-here
 returns-clause-here g c =
     let slots = slots_on (meaning g) c.args.shelf.now in
     let disc = meaning g (c.close-disc.result.0.vtable, c.close-disc.result.0.value) in
+    let lent = seen-out (region_of c.args.home.region) (disc_in (meaning g) c.args.home.region) c.requires.lent in
     ap accounts c.give_back.ensures.filled
     ∙ (map-set (option_map account) slots (c.args.home.place - 1) (Some disc)
-    ∙ ap (λ a. set (accounts slots) (c.args.home.place - 1) (Some a)) (account-closed (disc_in (meaning g) c.args.home.region) disc (segments_in c.args.home.region) c.requires.lent c.close-disc.ensures.disc))
+    ∙ ap (λ a. set (accounts slots) (c.args.home.place - 1) (Some a)) (account-closed (disc_in (meaning g) c.args.home.region) disc (segments_in c.args.home.region) lent c.close-disc.ensures.disc ∙ ap (account_back (disc_in (meaning g) c.args.home.region)) (sym (rest-segments (region_of c.args.home.region)))))
 
 pub returns-clause-elsewhere : goal.returns-clause-elsewhere
 returns-clause-elsewhere g c = λ p other.
@@ -26,3 +29,9 @@ returns-clause-elsewhere g c = λ p other.
     let disc = meaning g (c.close-disc.result.0.vtable, c.close-disc.result.0.value) in
     ap (λ s. at_number s p) c.give_back.ensures.filled
     ∙ elsewhere slots c.args.home.place disc (taken-at slots c.args.home.place c.requires.taken) p other
+
+pub close-disc-requires : goal.close-disc-requires
+close-disc-requires g c = seen-out (region_of c.args.home.region) (disc_in (meaning g) c.args.home.region) c.requires.lent
+
+pub returns-clause-count : goal.returns-clause-count
+returns-clause-count g c = c.close-disc.ensures.count ∙ ap length (sym (rest-segments (region_of c.args.home.region)))

@@ -5,6 +5,7 @@ use Rattle.vc_session.specs.Homes.{IsSessionOver}
 use Rattle.vc_session.specs.Moment.{Keeps, moment}
 use Rattle.vc_session.specs.Replay.{Told}
 use Rattle.vc_session.specs.SoFar.{SoFar, fuel}
+use Rattle.vc_session.specs.Told.{rules_in}
 use Rattle.vc_session.proofs.engine.run_lines.Given as goal
 
 -- what was read is run, up to the line that has begun, and its replies are written
@@ -15,16 +16,17 @@ invariant-loop-replies g l =
       none : l.replies.items ≡ [];
       fed : IsTrue l.cutter.is_open;
       cutting : IsCutting l.cutter;
-      session : IsSessionOver (λ z. (goal.SegDisc-dyn g z).state z.1) l.shelf l.session;
+      session : IsSessionOver (λ z. (goal.SegDisc-dyn g z).state z.1) (rules_in g.D.DictDisc.rules l.kinds.items) l.shelf l.session;
+      rules : rules_in g.D.DictDisc.rules l.kinds.items ≡ rules_in g.D.DictDisc.rules l.fn.kinds.items;
       text : List ℕ;
       so_far : SoFar l.tool
-          (moment (λ z. (goal.SegDisc-dyn g z).state z.1) l.fn.shelf l.fn.session (g.O.Sink.written l.fn.out))
-          (moment (λ z. (goal.SegDisc-dyn g z).state z.1) l.shelf l.session (g.O.Sink.written l.out))
+          (moment (λ z. (goal.SegDisc-dyn g z).state z.1) g.D.DictDisc.rules g.D.DictDisc.gone l.fn.shelf l.fn.session l.fn.kinds.items (g.O.Sink.written l.fn.out))
+          (moment (λ z. (goal.SegDisc-dyn g z).state z.1) g.D.DictDisc.rules g.D.DictDisc.gone l.shelf l.session l.kinds.items (g.O.Sink.written l.out))
           text (g.S.Source.left l.fn.source) (g.S.Source.left l.source) l.cutter [];
       told : Told (g.O.Sink.written l.fn.out) (g.O.Sink.written l.out) text;
       keeps : Keeps
-          (moment (λ z. (goal.SegDisc-dyn g z).state z.1) l.fn.shelf l.fn.session None)
-          (moment (λ z. (goal.SegDisc-dyn g z).state z.1) l.shelf l.session None);
+          (moment (λ z. (goal.SegDisc-dyn g z).state z.1) g.D.DictDisc.rules g.D.DictDisc.gone l.fn.shelf l.fn.session l.fn.kinds.items None)
+          (moment (λ z. (goal.SegDisc-dyn g z).state z.1) g.D.DictDisc.rules g.D.DictDisc.gone l.shelf l.session l.kinds.items None);
       reads : g.S.Source.failures l.fn.source ≤ g.S.Source.failures l.source;
       writes : g.O.Sink.failures l.fn.out ≤ g.O.Sink.failures l.out;
     }

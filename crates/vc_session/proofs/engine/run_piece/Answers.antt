@@ -13,6 +13,7 @@ loop-rest-init g c = record {
   fed = c.requires.fed;
   cutting = c.requires.cutting;
   session = c.requires.session;
+  rules = refl;
   goes_on = record { on = λ r. so_far-none _ c.requires.none r };
   keeps = settles-same _;
   less = omega arith;
@@ -29,6 +30,7 @@ loop-rest-preserved-in-More g c =
       fed = subst IsTrue (sym kept.fed) inv.fed;
       cutting = kept.cutting;
       session = inv.session;
+      rules = inv.rules;
       goes_on = record { on = λ r. so_far-more next c.feed-cut.result.1 inv.cutting (inv.goes_on.on r) e };
       keeps = inv.keeps;
       less = omega (arith, inv.less, kept.less, c.feed-cut.ensures.within, length-drop c.feed-cut.result.1 c.loop-rest.rest.now);
@@ -67,6 +69,7 @@ loop-rest-preserved g c =
       fed = subst IsTrue (sym kept.fed) inv.fed;
       cutting = kept.cutting;
       session = c.run_line.ensures.session;
+      rules = c.run_line.ensures.rules ∙ inv.rules;
       goes_on = record { on = λ r. so_far-line _ _ _ _ next c.feed-cut.result.1 refl refl inv.cutting (inv.goes_on.on r) e ran };
       keeps = line-keeps _ _ _ (answer c.args.tool next.line) None _ ran inv.keeps;
       less = omega (arith, inv.less, kept.less, c.feed-cut.ensures.within, length-drop c.feed-cut.result.1 c.loop-rest.rest.now);

@@ -1,6 +1,7 @@
 use Rattle.std.proofs.Common.{◌≡◌, false, ◌∷◌, [], Some, None, sym, ap, ◌∙◌, subst}
 use Rattle.vc_model.specs.Discipline.{Discipline}
 use Rattle.vc_region.specs.Region.{region_align, region_need}
+use Rattle.vc_region.specs.Cells.{cells_in, rest_in}
 use Rattle.vc_region.specs.Parts.{disc_in, region_of}
 use Rattle.vc_region.proofs.Keeps.{align-keeps}
 use Rattle.vc_region.proofs.Sound.{own_places}
@@ -14,7 +15,8 @@ use Rattle.vc_session.specs.Naming.{NamesPut, new_refused}
 use Rattle.vc_session.proofs.Answers.{change-same, gives-unchanged, if_ok-all, none-no_segment}
 use Rattle.vc_session.proofs.Found.{align-in, both-parts}
 use Rattle.vc_session.proofs.Names.{isnamed-same}
-use Rattle.vc_session.proofs.Putting.{align-commutes, new-name, align-legal, align-words, change-put, err-put, new-words, put_new-refused, refused-other, size-range, step-put}
+use Rattle.vc_session.proofs.Putting.{align-commutes, new-name, align-legal, align-words, change-put, err-put, new-words, put_new-refused, refused-other, size-range, step-put, unserved-put}
+use Rattle.vc_session.proofs.Seen.{seen-align, seen-asks}
 use Rattle.vc_session.proofs.home.HomeEntry.align.Given as given
 use Rattle.vc_session.proofs.home.HomeEntry.align.Goals as goal
 
@@ -30,8 +32,8 @@ returns-in-Some-clause-step g c = λ r.
 
 pub returns-in-Some-clause-unserved : goal.returns-in-Some-clause-unserved
 returns-in-Some-clause-unserved g c = λ e.
-    let is : new_refused c.args.labels.now c.args.name (align_refused (region_of c.args.self.now.region) c.args.size c.args.align) ≡ Some c.in-Some.why = ap (λ b. new_refused c.args.labels.now c.args.name b) (sym c.align_refused-words.ensures) ∙ (sym c.new_refused.ensures ∙ c.in-Some.is) in
-    absurd (none-no_segment c.in-Some.why (refused-other c.args.labels.now c.args.name (region_of c.args.self.now.region) c.args.size c.args.align c.in-Some.why is) e)
+    let is : new_refused c.args.labels.now c.args.name (align_refused (rest_in c.args.self.now.region) c.args.size c.args.align) ≡ Some c.in-Some.why = ap (λ b. new_refused c.args.labels.now c.args.name b) (sym c.align_refused-words.ensures) ∙ (sym c.new_refused.ensures ∙ c.in-Some.is) in
+    absurd (none-no_segment c.in-Some.why (refused-other c.args.labels.now c.args.name (rest_in c.args.self.now.region) c.args.size c.args.align c.in-Some.why is) e)
 
 pub returns-in_ok-tag-in-None-clause-step : goal.returns-in_ok-tag-in-None-clause-step
 returns-in_ok-tag-in-None-clause-step g c =
@@ -41,9 +43,10 @@ returns-in_ok-tag-in-None-clause-step g c =
     let ok = c.in_ok-tag-in-None.ensures.ok in
     let is : new_refused h.labels c.args.name (align_refused (home_of h).region c.args.size c.args.align) ≡ None = ap (λ b. new_refused c.args.labels.now c.args.name b) (align-words h c.args.size c.args.align ∙ sym c.align_refused-words.ensures) ∙ (sym c.new_refused.ensures ∙ c.in-None.is) in
     let named = subst (λ t. NamesPut t c.args.name c.align.result c.reserve.new.self c.name_put.new.labels c.name_put.result) (sym ok.0) c.name_put.ensures in
+    let seen = seen-align h.disc.terms (region_of c.args.self.now.region) (region_of c.align.new.self) tag (45 ∷ []) c.args.size c.align.result ok.1 c.align.ensures.there c.align.ensures.others (own_places c.align.new.self) c.args.align c.align.ensures.answer in
     step-put h c.args.name (align_refused (home_of h).region c.args.size c.args.align) c.requires.names is c.reserve.new.self c.reserve.ensures.same c.reserve.ensures.agree tag ok.1 ok.2
     (λ u. region_align h.disc.terms h.region tag (45 ∷ []) c.args.size c.args.align u) (λ u. region_align h.disc.terms (home_of h).region (Some c.args.name) (45 ∷ []) c.args.size c.args.align u)
-    (align-commutes h c.args.name tag (45 ∷ []) c.args.size c.args.align) (λ a r'. align-keeps h.disc.terms h.region tag (45 ∷ []) c.args.size c.args.align false a r') (region_of c.align.new.self) c.name_put.new.labels c.align.result c.name_put.result named c.align.ensures.answer)
+    (align-commutes h c.args.name tag (45 ∷ []) c.args.size c.args.align) (λ a r'. align-keeps h.disc.terms h.region tag (45 ∷ []) c.args.size c.args.align false a r') (rest_in c.align.new.self) c.name_put.new.labels c.align.result c.name_put.result named seen.answer)
 
 pub returns-in_ok-tag-in-None-clause-err : goal.returns-in_ok-tag-in-None-clause-err
 returns-in_ok-tag-in-None-clause-err g c =
@@ -52,9 +55,10 @@ returns-in_ok-tag-in-None-clause-err g c =
     let ok = c.in_ok-tag-in-None.ensures.ok in
     let is : new_refused h.labels c.args.name (align_refused (home_of h).region c.args.size c.args.align) ≡ None = ap (λ b. new_refused c.args.labels.now c.args.name b) (align-words h c.args.size c.args.align ∙ sym c.align_refused-words.ensures) ∙ (sym c.new_refused.ensures ∙ c.in-None.is) in
     let named = subst (λ t. NamesPut t c.args.name c.align.result c.reserve.new.self c.name_put.new.labels c.name_put.result) (sym ok.0) c.name_put.ensures in
+    let seen = seen-align h.disc.terms (region_of c.args.self.now.region) (region_of c.align.new.self) tag (45 ∷ []) c.args.size c.align.result ok.1 c.align.ensures.there c.align.ensures.others (own_places c.align.new.self) c.args.align c.align.ensures.answer in
     err-put h c.args.name (align_refused (home_of h).region c.args.size c.args.align) c.requires.names is c.reserve.new.self c.reserve.ensures.same c.reserve.ensures.agree tag ok.1 ok.2
     (λ u. region_align h.disc.terms h.region tag (45 ∷ []) c.args.size c.args.align u) (λ u. region_align h.disc.terms (home_of h).region (Some c.args.name) (45 ∷ []) c.args.size c.args.align u)
-    (align-commutes h c.args.name tag (45 ∷ []) c.args.size c.args.align) (λ a r'. align-keeps h.disc.terms h.region tag (45 ∷ []) c.args.size c.args.align false a r') (region_of c.align.new.self) c.name_put.new.labels c.align.result c.name_put.result named c.align.ensures.answer
+    (align-commutes h c.args.name tag (45 ∷ []) c.args.size c.args.align) (λ a r'. align-keeps h.disc.terms h.region tag (45 ∷ []) c.args.size c.args.align false a r') (rest_in c.align.new.self) c.name_put.new.labels c.align.result c.name_put.result named seen.answer
 
 pub returns-in_ok-tag-in-None-clause-change : goal.returns-in_ok-tag-in-None-clause-change
 returns-in_ok-tag-in-None-clause-change g c = λ r.
@@ -63,27 +67,43 @@ returns-in_ok-tag-in-None-clause-change g c = λ r.
     let ok = c.in_ok-tag-in-None.ensures.ok in
     let is : new_refused h.labels c.args.name (align_refused (home_of h).region c.args.size c.args.align) ≡ None = ap (λ b. new_refused c.args.labels.now c.args.name b) (align-words h c.args.size c.args.align ∙ sym c.align_refused-words.ensures) ∙ (sym c.new_refused.ensures ∙ c.in-None.is) in
     let named = subst (λ t. NamesPut t c.args.name c.align.result c.reserve.new.self c.name_put.new.labels c.name_put.result) (sym ok.0) c.name_put.ensures in
+    let seen = seen-align h.disc.terms (region_of c.args.self.now.region) (region_of c.align.new.self) tag (45 ∷ []) c.args.size c.align.result ok.1 c.align.ensures.there c.align.ensures.others (own_places c.align.new.self) c.args.align c.align.ensures.answer in
     change-put h c.args.name (align_refused (home_of h).region c.args.size c.args.align) c.requires.names is c.reserve.new.self c.reserve.ensures.same c.reserve.ensures.agree tag ok.1 ok.2
     (λ u. region_align h.disc.terms h.region tag (45 ∷ []) c.args.size c.args.align u) (λ u. region_align h.disc.terms (home_of h).region (Some c.args.name) (45 ∷ []) c.args.size c.args.align u)
-    (align-commutes h c.args.name tag (45 ∷ []) c.args.size c.args.align) (λ a r'. align-keeps h.disc.terms h.region tag (45 ∷ []) c.args.size c.args.align false a r') (region_of c.align.new.self) c.name_put.new.labels
-    (disc_in (meaning g) c.align.new.self) (region_need h.disc.terms h.region c.args.size c.args.align) c.args.size c.align.result c.name_put.result named c.align.ensures.answer c.align.ensures.disc c.align.ensures.there c.align.ensures.others (own_places c.align.new.self) c.requires.lent
+    (align-commutes h c.args.name tag (45 ∷ []) c.args.size c.args.align) (λ a r'. align-keeps h.disc.terms h.region tag (45 ∷ []) c.args.size c.args.align false a r') (rest_in c.align.new.self) c.name_put.new.labels
+    (disc_in (meaning g) c.align.new.self) (region_need h.disc.terms h.region c.args.size c.args.align) c.args.size c.align.result c.name_put.result named seen.answer
+    (seen-asks c.align.result h.disc (disc_in (meaning g) c.align.new.self) (region_of c.args.self.now.region) (region_of c.align.new.self) c.args.size c.args.align c.align.ensures.disc)
+    seen.there seen.others seen.places c.requires.lent (cells_in c.align.new.self) seen.cells
+
+pub returns-in_ok-tag-in-None-clause-unserved : goal.returns-in_ok-tag-in-None-clause-unserved
+returns-in_ok-tag-in-None-clause-unserved g c = λ e.
+    let h = held_of (meaning g) [] c.args.self.now c.args.labels.now in
+    let tag = c.in_ok-tag-in-None.tag in
+    let ok = c.in_ok-tag-in-None.ensures.ok in
+    let is : new_refused h.labels c.args.name (align_refused (home_of h).region c.args.size c.args.align) ≡ None = ap (λ b. new_refused c.args.labels.now c.args.name b) (align-words h c.args.size c.args.align ∙ sym c.align_refused-words.ensures) ∙ (sym c.new_refused.ensures ∙ c.in-None.is) in
+    let named = subst (λ t. NamesPut t c.args.name c.align.result c.reserve.new.self c.name_put.new.labels c.name_put.result) (sym ok.0) c.name_put.ensures in
+    unserved-put h c.args.name (align_refused (home_of h).region c.args.size c.args.align) c.requires.names is c.reserve.new.self c.reserve.ensures.same c.reserve.ensures.agree tag ok.1 ok.2
+    (λ u. region_align h.disc.terms h.region tag (45 ∷ []) c.args.size c.args.align u) (λ u. region_align h.disc.terms (home_of h).region (Some c.args.name) (45 ∷ []) c.args.size c.args.align u)
+    (align-commutes h c.args.name tag (45 ∷ []) c.args.size c.args.align) (λ a r'. align-keeps h.disc.terms h.region tag (45 ∷ []) c.args.size c.args.align false a r') (rest_in c.align.new.self) c.name_put.new.labels
+    (disc_in (meaning g) c.align.new.self) (region_need h.disc.terms h.region c.args.size c.args.align) c.args.size c.align.result c.name_put.result named
+    (seen-asks c.align.result h.disc (disc_in (meaning g) c.align.new.self) (region_of c.args.self.now.region) (region_of c.align.new.self) c.args.size c.args.align c.align.ensures.disc) e
 
 pub align-requires-clause-some : goal.align-requires-clause-some
 align-requires-clause-some g c =
-    let is : new_refused c.args.labels.now c.args.name (align_refused (region_of c.args.self.now.region) c.args.size c.args.align) ≡ None = ap (λ b. new_refused c.args.labels.now c.args.name b) (sym c.align_refused-words.ensures) ∙ (sym c.new_refused.ensures ∙ c.in-None.is) in
-    let legal = align-legal (region_of c.args.self.now.region) c.args.size c.args.align (new-words c.args.labels.now c.args.name _ is) in
+    let is : new_refused c.args.labels.now c.args.name (align_refused (rest_in c.args.self.now.region) c.args.size c.args.align) ≡ None = ap (λ b. new_refused c.args.labels.now c.args.name b) (sym c.align_refused-words.ensures) ∙ (sym c.new_refused.ensures ∙ c.in-None.is) in
+    let legal = align-legal (rest_in c.args.self.now.region) c.args.size c.args.align (new-words c.args.labels.now c.args.name _ is) in
     (size-range c.args.size (both-parts (is_size c.args.size) (is_align c.args.align) legal).0).0
 
 pub align-requires-clause-most : goal.align-requires-clause-most
 align-requires-clause-most g c =
-    let is : new_refused c.args.labels.now c.args.name (align_refused (region_of c.args.self.now.region) c.args.size c.args.align) ≡ None = ap (λ b. new_refused c.args.labels.now c.args.name b) (sym c.align_refused-words.ensures) ∙ (sym c.new_refused.ensures ∙ c.in-None.is) in
-    let legal = align-legal (region_of c.args.self.now.region) c.args.size c.args.align (new-words c.args.labels.now c.args.name _ is) in
+    let is : new_refused c.args.labels.now c.args.name (align_refused (rest_in c.args.self.now.region) c.args.size c.args.align) ≡ None = ap (λ b. new_refused c.args.labels.now c.args.name b) (sym c.align_refused-words.ensures) ∙ (sym c.new_refused.ensures ∙ c.in-None.is) in
+    let legal = align-legal (rest_in c.args.self.now.region) c.args.size c.args.align (new-words c.args.labels.now c.args.name _ is) in
     (size-range c.args.size (both-parts (is_size c.args.size) (is_align c.args.align) legal).0).1
 
 pub align-requires-clause-align : goal.align-requires-clause-align
 align-requires-clause-align g c =
-    let is : new_refused c.args.labels.now c.args.name (align_refused (region_of c.args.self.now.region) c.args.size c.args.align) ≡ None = ap (λ b. new_refused c.args.labels.now c.args.name b) (sym c.align_refused-words.ensures) ∙ (sym c.new_refused.ensures ∙ c.in-None.is) in
-    let legal = align-legal (region_of c.args.self.now.region) c.args.size c.args.align (new-words c.args.labels.now c.args.name _ is) in
+    let is : new_refused c.args.labels.now c.args.name (align_refused (rest_in c.args.self.now.region) c.args.size c.args.align) ≡ None = ap (λ b. new_refused c.args.labels.now c.args.name b) (sym c.align_refused-words.ensures) ∙ (sym c.new_refused.ensures ∙ c.in-None.is) in
+    let legal = align-legal (rest_in c.args.self.now.region) c.args.size c.args.align (new-words c.args.labels.now c.args.name _ is) in
     align-in c.args.align (both-parts (is_size c.args.size) (is_align c.args.align) legal).1
 
 pub returns-in_err-tag-in-None-clause-change : goal.returns-in_err-tag-in-None-clause-change

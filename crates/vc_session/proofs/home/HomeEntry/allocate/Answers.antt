@@ -1,6 +1,7 @@
 use Rattle.std.proofs.Common.{◌≡◌, false, [], Some, None, sym, ap, ◌∙◌, subst}
 use Rattle.vc_model.specs.Discipline.{Discipline}
 use Rattle.vc_region.specs.Region.{region_alloc, region_need}
+use Rattle.vc_region.specs.Cells.{cells_in, rest_in}
 use Rattle.vc_region.specs.Parts.{disc_in, region_of}
 use Rattle.vc_region.proofs.Keeps.{alloc-keeps}
 use Rattle.vc_region.proofs.Sound.{own_places}
@@ -13,7 +14,8 @@ use Rattle.vc_session.specs.Homes.{held_of}
 use Rattle.vc_session.specs.Naming.{NamesPut, new_refused}
 use Rattle.vc_session.proofs.Answers.{change-same, gives-unchanged, if_ok-all}
 use Rattle.vc_session.proofs.Names.{isnamed-same}
-use Rattle.vc_session.proofs.Putting.{alloc-commutes, change-put, err-put, new-words, put_new-refused, size-legal, size-range, step-put}
+use Rattle.vc_session.proofs.Putting.{alloc-commutes, change-put, err-put, new-words, put_new-refused, size-legal, size-range, step-put, unserved-put}
+use Rattle.vc_session.proofs.Seen.{seen-alloc, seen-asks}
 use Rattle.vc_session.proofs.home.HomeEntry.allocate.Given as given
 use Rattle.vc_session.proofs.home.HomeEntry.allocate.Goals as goal
 
@@ -45,9 +47,10 @@ returns-in_ok-tag-in-None-clause-step g c =
     let ok = c.in_ok-tag-in-None.ensures.ok in
     let is : new_refused h.labels c.args.name (size_refused c.args.size) ≡ None = ap (λ b. new_refused c.args.labels.now c.args.name b) (sym c.size_refused.ensures) ∙ (sym c.new_refused.ensures ∙ c.in-None.is) in
     let named = subst (λ t. NamesPut t c.args.name c.alloc.result c.reserve.new.self c.name_put.new.labels c.name_put.result) (sym ok.0) c.name_put.ensures in
+    let seen = seen-alloc h.disc.terms (region_of c.args.self.now.region) (region_of c.alloc.new.self) tag c.site_of.result.now c.args.size c.alloc.result ok.1 c.alloc.ensures.there c.alloc.ensures.others (own_places c.alloc.new.self) c.alloc.ensures.answer in
     step-put h c.args.name (size_refused c.args.size) c.requires.names is c.reserve.new.self c.reserve.ensures.same c.reserve.ensures.agree tag ok.1 ok.2
     (λ u. region_alloc h.disc.terms h.region tag c.site_of.result.now c.args.size u) (λ u. region_alloc h.disc.terms (home_of h).region (Some c.args.name) (site_of c.args.site) c.args.size u)
-    (λ f new same u. ap (λ s. region_alloc h.disc.terms (home_of h).region (Some c.args.name) s c.args.size u) (sym c.site_of.ensures.value) ∙ alloc-commutes h c.args.name tag c.site_of.result.now c.args.size f new same u) (λ a r'. alloc-keeps h.disc.terms h.region tag c.site_of.result.now c.args.size false a r') (region_of c.alloc.new.self) c.name_put.new.labels c.alloc.result c.name_put.result named c.alloc.ensures.answer)
+    (λ f new same u. ap (λ s. region_alloc h.disc.terms (home_of h).region (Some c.args.name) s c.args.size u) (sym c.site_of.ensures.value) ∙ alloc-commutes h c.args.name tag c.site_of.result.now c.args.size f new same u) (λ a r'. alloc-keeps h.disc.terms h.region tag c.site_of.result.now c.args.size false a r') (rest_in c.alloc.new.self) c.name_put.new.labels c.alloc.result c.name_put.result named seen.answer)
 
 pub returns-in_ok-tag-in-None-clause-err : goal.returns-in_ok-tag-in-None-clause-err
 returns-in_ok-tag-in-None-clause-err g c =
@@ -56,9 +59,10 @@ returns-in_ok-tag-in-None-clause-err g c =
     let ok = c.in_ok-tag-in-None.ensures.ok in
     let is : new_refused h.labels c.args.name (size_refused c.args.size) ≡ None = ap (λ b. new_refused c.args.labels.now c.args.name b) (sym c.size_refused.ensures) ∙ (sym c.new_refused.ensures ∙ c.in-None.is) in
     let named = subst (λ t. NamesPut t c.args.name c.alloc.result c.reserve.new.self c.name_put.new.labels c.name_put.result) (sym ok.0) c.name_put.ensures in
+    let seen = seen-alloc h.disc.terms (region_of c.args.self.now.region) (region_of c.alloc.new.self) tag c.site_of.result.now c.args.size c.alloc.result ok.1 c.alloc.ensures.there c.alloc.ensures.others (own_places c.alloc.new.self) c.alloc.ensures.answer in
     err-put h c.args.name (size_refused c.args.size) c.requires.names is c.reserve.new.self c.reserve.ensures.same c.reserve.ensures.agree tag ok.1 ok.2
     (λ u. region_alloc h.disc.terms h.region tag c.site_of.result.now c.args.size u) (λ u. region_alloc h.disc.terms (home_of h).region (Some c.args.name) (site_of c.args.site) c.args.size u)
-    (λ f new same u. ap (λ s. region_alloc h.disc.terms (home_of h).region (Some c.args.name) s c.args.size u) (sym c.site_of.ensures.value) ∙ alloc-commutes h c.args.name tag c.site_of.result.now c.args.size f new same u) (λ a r'. alloc-keeps h.disc.terms h.region tag c.site_of.result.now c.args.size false a r') (region_of c.alloc.new.self) c.name_put.new.labels c.alloc.result c.name_put.result named c.alloc.ensures.answer
+    (λ f new same u. ap (λ s. region_alloc h.disc.terms (home_of h).region (Some c.args.name) s c.args.size u) (sym c.site_of.ensures.value) ∙ alloc-commutes h c.args.name tag c.site_of.result.now c.args.size f new same u) (λ a r'. alloc-keeps h.disc.terms h.region tag c.site_of.result.now c.args.size false a r') (rest_in c.alloc.new.self) c.name_put.new.labels c.alloc.result c.name_put.result named seen.answer
 
 pub returns-in_ok-tag-in-None-clause-change : goal.returns-in_ok-tag-in-None-clause-change
 returns-in_ok-tag-in-None-clause-change g c = λ r.
@@ -67,10 +71,26 @@ returns-in_ok-tag-in-None-clause-change g c = λ r.
     let ok = c.in_ok-tag-in-None.ensures.ok in
     let is : new_refused h.labels c.args.name (size_refused c.args.size) ≡ None = ap (λ b. new_refused c.args.labels.now c.args.name b) (sym c.size_refused.ensures) ∙ (sym c.new_refused.ensures ∙ c.in-None.is) in
     let named = subst (λ t. NamesPut t c.args.name c.alloc.result c.reserve.new.self c.name_put.new.labels c.name_put.result) (sym ok.0) c.name_put.ensures in
+    let seen = seen-alloc h.disc.terms (region_of c.args.self.now.region) (region_of c.alloc.new.self) tag c.site_of.result.now c.args.size c.alloc.result ok.1 c.alloc.ensures.there c.alloc.ensures.others (own_places c.alloc.new.self) c.alloc.ensures.answer in
     change-put h c.args.name (size_refused c.args.size) c.requires.names is c.reserve.new.self c.reserve.ensures.same c.reserve.ensures.agree tag ok.1 ok.2
     (λ u. region_alloc h.disc.terms h.region tag c.site_of.result.now c.args.size u) (λ u. region_alloc h.disc.terms (home_of h).region (Some c.args.name) (site_of c.args.site) c.args.size u)
-    (λ f new same u. ap (λ s. region_alloc h.disc.terms (home_of h).region (Some c.args.name) s c.args.size u) (sym c.site_of.ensures.value) ∙ alloc-commutes h c.args.name tag c.site_of.result.now c.args.size f new same u) (λ a r'. alloc-keeps h.disc.terms h.region tag c.site_of.result.now c.args.size false a r') (region_of c.alloc.new.self) c.name_put.new.labels
-    (disc_in (meaning g) c.alloc.new.self) (region_need h.disc.terms h.region c.args.size 32) c.args.size c.alloc.result c.name_put.result named c.alloc.ensures.answer c.alloc.ensures.disc c.alloc.ensures.there c.alloc.ensures.others (own_places c.alloc.new.self) c.requires.lent
+    (λ f new same u. ap (λ s. region_alloc h.disc.terms (home_of h).region (Some c.args.name) s c.args.size u) (sym c.site_of.ensures.value) ∙ alloc-commutes h c.args.name tag c.site_of.result.now c.args.size f new same u) (λ a r'. alloc-keeps h.disc.terms h.region tag c.site_of.result.now c.args.size false a r') (rest_in c.alloc.new.self) c.name_put.new.labels
+    (disc_in (meaning g) c.alloc.new.self) (region_need h.disc.terms h.region c.args.size 32) c.args.size c.alloc.result c.name_put.result named seen.answer
+    (seen-asks c.alloc.result h.disc (disc_in (meaning g) c.alloc.new.self) (region_of c.args.self.now.region) (region_of c.alloc.new.self) c.args.size 32 c.alloc.ensures.disc)
+    seen.there seen.others seen.places c.requires.lent (cells_in c.alloc.new.self) seen.cells
+
+pub returns-in_ok-tag-in-None-clause-unserved : goal.returns-in_ok-tag-in-None-clause-unserved
+returns-in_ok-tag-in-None-clause-unserved g c = λ e.
+    let h = held_of (meaning g) [] c.args.self.now c.args.labels.now in
+    let tag = c.in_ok-tag-in-None.tag in
+    let ok = c.in_ok-tag-in-None.ensures.ok in
+    let is : new_refused h.labels c.args.name (size_refused c.args.size) ≡ None = ap (λ b. new_refused c.args.labels.now c.args.name b) (sym c.size_refused.ensures) ∙ (sym c.new_refused.ensures ∙ c.in-None.is) in
+    let named = subst (λ t. NamesPut t c.args.name c.alloc.result c.reserve.new.self c.name_put.new.labels c.name_put.result) (sym ok.0) c.name_put.ensures in
+    unserved-put h c.args.name (size_refused c.args.size) c.requires.names is c.reserve.new.self c.reserve.ensures.same c.reserve.ensures.agree tag ok.1 ok.2
+    (λ u. region_alloc h.disc.terms h.region tag c.site_of.result.now c.args.size u) (λ u. region_alloc h.disc.terms (home_of h).region (Some c.args.name) (site_of c.args.site) c.args.size u)
+    (λ f new same u. ap (λ s. region_alloc h.disc.terms (home_of h).region (Some c.args.name) s c.args.size u) (sym c.site_of.ensures.value) ∙ alloc-commutes h c.args.name tag c.site_of.result.now c.args.size f new same u) (λ a r'. alloc-keeps h.disc.terms h.region tag c.site_of.result.now c.args.size false a r') (rest_in c.alloc.new.self) c.name_put.new.labels
+    (disc_in (meaning g) c.alloc.new.self) (region_need h.disc.terms h.region c.args.size 32) c.args.size c.alloc.result c.name_put.result named
+    (seen-asks c.alloc.result h.disc (disc_in (meaning g) c.alloc.new.self) (region_of c.args.self.now.region) (region_of c.alloc.new.self) c.args.size 32 c.alloc.ensures.disc) e
 
 pub returns-in_err-tag-in-None-clause-change : goal.returns-in_err-tag-in-None-clause-change
 returns-in_err-tag-in-None-clause-change g c = λ r.

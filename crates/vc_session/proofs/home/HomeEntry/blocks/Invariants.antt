@@ -1,6 +1,8 @@
 use Rattle.std.proofs.Common.{◌≡◌, ◌⊎◌, ◌++◌, length}
 use Rattle.vc_model.specs.Touch.{HasBlock}
+use Rattle.vc_region.specs.Cells.{rest_in}
 use Rattle.vc_region.specs.Parts.{blocks_in}
+use Rattle.vc_region.specs.Region.{blocks_of}
 use Rattle.vc_session.proofs.Listing.{blocks_above, items_of}
 use Rattle.vc_session.proofs.home.HomeEntry.blocks.Given as goal
 
@@ -8,9 +10,9 @@ use Rattle.vc_session.proofs.home.HomeEntry.blocks.Given as goal
 abbrev pub invariant-loop-block : goal.invariant-loop-block
 invariant-loop-block g l =
     record {
-      items : l.items.items ++ items_of l.labels (blocks_above l.after.0 (blocks_in l.self.region)) ≡ items_of l.labels (blocks_above 0 (blocks_in l.self.region));
+      items : l.items.items ++ items_of l.labels (blocks_above l.after.0 (blocks_of (rest_in l.self.region))) ≡ items_of l.labels (blocks_above 0 (blocks_of (rest_in l.self.region)));
       from : (l.after.0 ≡ 0) ⊎ HasBlock (blocks_in l.self.region) l.after.0;
     }
 
 abbrev pub decreases-loop-block : goal.decreases-loop-block
-decreases-loop-block g l = length (blocks_above l.after.0 (blocks_in l.self.region))
+decreases-loop-block g l = length (blocks_above l.after.0 (blocks_of (rest_in l.self.region)))

@@ -1,6 +1,6 @@
 use Rattle.std.proofs.Common.{cond, sym, ap, ◌∙◌}
 use Rattle.vc_model.specs.Discipline.{Discipline}
-use Rattle.vc_region.specs.Parts.{region_of}
+use Rattle.vc_region.specs.Cells.{rest_in}
 use Rattle.std.specs.List.{filter_map}
 use Rattle.vc_region.specs.Region.{damaged_in}
 use Rattle.vc_region.proofs.Relabel.{debug-relabelled}
@@ -21,11 +21,11 @@ pub returns-then-not-is_debug : goal.returns-then-not-is_debug
 returns-then-not-is_debug g c = λ r.
     let k = home_of (held_of (meaning g) r c.args.self.now c.args.labels.now) in
     ap (λ v. cond v (told k (Damaged (filter_map damage_item (damaged_in k.region)))) (unchanged k why.WrongMethod))
-    (debug-relabelled (name_of c.args.labels.now) (region_of c.args.self.now.region) ∙ (sym c.is_debug.ensures ∙ c.if-not-is_debug.true))
+    (debug-relabelled (name_of c.args.labels.now) (rest_in c.args.self.now.region) ∙ (sym c.is_debug.ensures ∙ c.if-not-is_debug.true))
 
 pub returns : goal.returns
 returns g c = λ r.
     let k = home_of (held_of (meaning g) r c.args.self.now c.args.labels.now) in
     ap (λ v. cond v (told k (Damaged (filter_map damage_item (damaged_in k.region)))) (unchanged k why.WrongMethod))
-    (debug-relabelled (name_of c.args.labels.now) (region_of c.args.self.now.region) ∙ (sym c.is_debug.ensures ∙ c.if-not-is_debug.false))
+    (debug-relabelled (name_of c.args.labels.now) (rest_in c.args.self.now.region) ∙ (sym c.is_debug.ensures ∙ c.if-not-is_debug.false))
     ∙ ap (λ is. told k (Damaged is)) (sym (c.from_vec.ensures ∙ c.in_ok-damage_items.ensures))

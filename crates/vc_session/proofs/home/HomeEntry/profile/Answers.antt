@@ -1,6 +1,6 @@
 use Rattle.std.proofs.Common.{cond, sym, ap, ◌∙◌}
 use Rattle.vc_model.specs.Discipline.{Discipline}
-use Rattle.vc_region.specs.Parts.{region_of}
+use Rattle.vc_region.specs.Cells.{rest_in}
 use Rattle.vc_region.specs.Region.{rows_in}
 use Rattle.vc_region.proofs.Relabel.{profile-relabelled, rows-relabelled}
 use Rattle.vc_script.specs.declared.refusal.Refusal.TheVariants as why
@@ -19,11 +19,11 @@ pub returns-then-not-is_profile : goal.returns-then-not-is_profile
 returns-then-not-is_profile g c = λ labels r.
     let k = home_of (held_of (meaning g) r c.args.self.now labels) in
     ap (λ v. cond v (told k (Rows (rows_in k.region))) (unchanged k why.WrongMethod))
-    (profile-relabelled (name_of labels) (region_of c.args.self.now.region) ∙ (sym c.is_profile.ensures ∙ c.if-not-is_profile.true))
+    (profile-relabelled (name_of labels) (rest_in c.args.self.now.region) ∙ (sym c.is_profile.ensures ∙ c.if-not-is_profile.true))
 
 pub returns : goal.returns
 returns g c = λ labels r.
     let k = home_of (held_of (meaning g) r c.args.self.now labels) in
     ap (λ v. cond v (told k (Rows (rows_in k.region))) (unchanged k why.WrongMethod))
-    (profile-relabelled (name_of labels) (region_of c.args.self.now.region) ∙ (sym c.is_profile.ensures ∙ c.if-not-is_profile.false))
-    ∙ ap (λ is. told k (Rows is)) (rows-relabelled (name_of labels) (region_of c.args.self.now.region) ∙ sym (c.from_vec.ensures ∙ c.in_ok-row_items.ensures))
+    (profile-relabelled (name_of labels) (rest_in c.args.self.now.region) ∙ (sym c.is_profile.ensures ∙ c.if-not-is_profile.false))
+    ∙ ap (λ is. told k (Rows is)) (rows-relabelled (name_of labels) (rest_in c.args.self.now.region) ∙ sym (c.from_vec.ensures ∙ c.in_ok-row_items.ensures))

@@ -1,6 +1,8 @@
 use Rattle.std.proofs.Common.{◌+◌, ◌≤◌, Some, ◌&&◌, refl, sym, ap, ◌∙◌, arith}
 use Rattle.std.specs.Prelude.{nat_le}
+use Rattle.vc_model.specs.Addr.{place_of}
 use Rattle.vc_model.specs.Discipline.{Discipline}
+use Rattle.vc_region.specs.Cells.{rest_in}
 use Rattle.vc_region.specs.Parts.{region_of}
 use Rattle.vc_script.specs.declared.refusal.Refusal.TheVariants as why
 use Rattle.vc_session.specs.Account.{home_of}
@@ -10,6 +12,8 @@ use Rattle.vc_session.specs.State.{unchanged}
 use Rattle.vc_session.specs.declared.labels.Label.{Label}
 use Rattle.vc_session.proofs.Answers.{gives-unchanged}
 use Rattle.vc_session.proofs.Found.{on_block-none, the_block}
+use Rattle.vc_region.proofs.RestFound.{has-rest, rest-size}
+use Rattle.vc_session.proofs.Seen.{seen-bytes}
 use Rattle.vc_session.proofs.Touching.{b, bytes-told, gives-read, range-beyond, range-many, range-none, range-within, read-range, size-told}
 use Rattle.vc_session.proofs.home.HomeEntry.read.Given as given
 use Rattle.vc_session.proofs.home.HomeEntry.read.Goals as goal
@@ -22,13 +26,13 @@ pub size-requires : goal.size-requires
 size-requires g c =
     let label : Label = record { name = c.args.name.now; at = c.in-Some.at } in
     let f = c.in-Some.ensures.some in
-    (the_block (region_of c.args.self.now.region) c.args.labels.now c.args.name.now f.0 label c.requires.names refl f.1 f.2).there
+    has-rest (region_of c.args.self.now.region) label.at.0 (the_block (rest_in c.args.self.now.region) c.args.labels.now c.args.name.now f.0 label c.requires.names refl f.1 f.2).there
 
 pub read-requires-clause-block : goal.read-requires-clause-block
 read-requires-clause-block g c =
     let label : Label = record { name = c.args.name.now; at = c.in-Some.at } in
     let f = c.in-Some.ensures.some in
-    (the_block (region_of c.args.self.now.region) c.args.labels.now c.args.name.now f.0 label c.requires.names refl f.1 f.2).there
+    has-rest (region_of c.args.self.now.region) label.at.0 (the_block (rest_in c.args.self.now.region) c.args.labels.now c.args.name.now f.0 label c.requires.names refl f.1 f.2).there
 
 pub returns-in-None : goal.returns-in-None
 returns-in-None g c = λ r.
@@ -48,7 +52,7 @@ returns-then-len-eq0 g c = λ r.
       | then-len-eq0-via-then-len-eq0 w ↦ range-none c.args.off c.args.len block.size (omega arith)
       | then-len-eq0-via-else-len-eq0+then-len-gt4096 w ↦ range-many c.args.off c.args.len block.size (omega arith)
       | then-len-eq0-via-else-len-eq0+else-len-gt4096+then-off-len w ↦
-          let same = size-told h c.args.name.now f.0 label c.requires.names refl f.1 f.2 w.size.result w.size.ensures in
+          let same = size-told h c.args.name.now f.0 label c.requires.names refl f.1 f.2 w.size.result (rest-size (region_of c.args.self.now.region) (place_of label.at.0) ∙ w.size.ensures) in
           range-beyond c.args.off c.args.len block.size (omega (arith, same))
     ]))
 
@@ -57,11 +61,12 @@ returns-in_ok-bytes-in-Some g c = λ r.
     let h = held_of (meaning g) r c.args.self.now c.args.labels.now in
     let label : Label = record { name = c.args.name.now; at = c.in-Some.at } in
     let f = c.in-Some.ensures.some in
+    let block = b h c.args.name.now f.0 label c.requires.names refl f.1 f.2 in
     let few : c.args.len ≤ 4096 = omega arith in
     let some : 1 ≤ c.args.len = omega arith in
     let within : c.args.off + c.args.len ≤ c.size.result = omega arith in
-    let size = size-told h c.args.name.now f.0 label c.requires.names refl f.1 f.2 c.size.result c.size.ensures in
+    let size = size-told h c.args.name.now f.0 label c.requires.names refl f.1 f.2 c.size.result (rest-size (region_of c.args.self.now.region) (place_of label.at.0) ∙ c.size.ensures) in
     gives-read h c.args.name.now f.0 label c.requires.names refl f.1 f.2 c.args.off c.args.len c.from_vec.result
     (ap (λ n. (nat_le 1 c.args.len && nat_le c.args.len 4096) && nat_le (c.args.off + c.args.len) n) size ∙ range-within c.args.off c.args.len c.size.result some few within)
     (bytes-told h c.args.name.now f.0 label c.requires.names refl f.1 f.2 c.args.off c.args.len c.from_vec.result
-    (c.read.ensures ∙ ap (λ bs. Some bs) (sym (c.from_vec.ensures ∙ c.in_ok-bytes-in-Some.ensures.items_if_clones_equal (λ x y same. same)))))
+    (seen-bytes (region_of c.args.self.now.region) label.at.0 block.block block.found block.first c.args.off c.args.len ∙ (c.read.ensures ∙ ap (λ bs. Some bs) (sym (c.from_vec.ensures ∙ c.in_ok-bytes-in-Some.ensures.items_if_clones_equal (λ x y same. same))))))

@@ -11,7 +11,7 @@ use Rattle.vc_session.specs.Homes.{Runs, held_of, region_with}
 use Rattle.vc_session.specs.State.{Changed, told}
 use Rattle.vc_session.specs.declared.labels.Labels.{Labels}
 use Rattle.vc_session.specs.Whole.{addr_in, clear_in, compact_in, list_blocks, list_segments, segment_in, stat_in}
-use Rattle.vc_session.proofs.Answers.{gives-changed, get_ok, if_ok-map}
+use Rattle.vc_session.proofs.Answers.{change-same, gives-changed, get_ok, if_ok-map}
 use Rattle.vc_session.proofs.Grants.{granted-addr, granted-check, granted-profile, granted-read, granted-segment, granted-size, not_refused}
 use Rattle.vc_session.proofs.home.HomeEntry.run.Given as given
 use Rattle.vc_session.proofs.home.HomeEntry.run.Goals as goal
@@ -35,9 +35,6 @@ pub returns-in-Compact-clause-unserved : goal.returns-in-Compact-clause-unserved
 returns-in-Compact-clause-unserved g c = λ e.
     let k = home_of (held_of (meaning g) [] c.args.self.now c.args.labels.now) in
     absurd (not_refused (compact_in k c.in-Compact.name) c.compact.result (tt) (ap (λ (d : Changed). d.reply) (c.compact.ensures.step c.args.labels.now [])) (ap (get_ok c.compact.result) e))
-
-pub returns-in-Compact-clause-change : goal.returns-in-Compact-clause-change
-returns-in-Compact-clause-change g c = c.compact.ensures.change c.args.labels.now c.requires.names
 
 pub returns-in-Alloc-clause-step : goal.returns-in-Alloc-clause-step
 returns-in-Alloc-clause-step g c = rw c.in-Alloc.is c.allocate.ensures.step
@@ -147,3 +144,57 @@ returns-in-ProfileOf-clause-unserved g c = λ e.
     let k = home_of (held_of (meaning g) [] c.args.self.now c.args.labels.now) in
     let eq = subst (λ r. IfOk r (λ reply. (labels : Labels) (n : List ℕ) → profile_in (home_of (held_of (meaning g) n c.args.self.now labels)) ≡ told (home_of (held_of (meaning g) n c.args.self.now labels)) reply)) e c.profile.ensures in
     absurd (not_refused (profile_in k) (Refused NoSegment) (granted-profile k) (ap (λ (d : Changed). d.reply) (eq c.args.labels.now [])) refl)
+
+pub returns-in-ClearRegion-clause-change : goal.returns-in-ClearRegion-clause-change
+returns-in-ClearRegion-clause-change g c = rw c.in-ClearRegion.is c.clear.ensures.change
+
+pub returns-in-Compact-clause-change : goal.returns-in-Compact-clause-change
+returns-in-Compact-clause-change g c = rw c.in-Compact.is (c.compact.ensures.change c.args.labels.now c.requires.names)
+
+pub returns-in-Alloc-clause-change : goal.returns-in-Alloc-clause-change
+returns-in-Alloc-clause-change g c = rw c.in-Alloc.is c.allocate.ensures.change
+
+pub returns-in-Align-clause-change : goal.returns-in-Align-clause-change
+returns-in-Align-clause-change g c = rw c.in-Align.is c.align.ensures.change
+
+pub returns-in-Resize-clause-change : goal.returns-in-Resize-clause-change
+returns-in-Resize-clause-change g c = rw c.in-Resize.is c.resize.ensures.change
+
+pub returns-in-Free-clause-change : goal.returns-in-Free-clause-change
+returns-in-Free-clause-change g c = rw c.in-Free.is c.free.ensures.change
+
+pub returns-in-WriteBlock-clause-change : goal.returns-in-WriteBlock-clause-change
+returns-in-WriteBlock-clause-change g c = rw c.in-WriteBlock.is c.write.ensures.change
+
+pub returns-in-Poke-clause-change : goal.returns-in-Poke-clause-change
+returns-in-Poke-clause-change g c = rw c.in-Poke.is c.poke.ensures.change
+
+pub returns-in-Watch-clause-change : goal.returns-in-Watch-clause-change
+returns-in-Watch-clause-change g c = rw c.in-Watch.is c.watch.ensures.change
+
+pub returns-in-ReadBlock-clause-change : goal.returns-in-ReadBlock-clause-change
+returns-in-ReadBlock-clause-change g c = rw c.in-ReadBlock.is (λ r. change-same (held_of (meaning g) r c.args.self.now c.args.labels.now) c.args.labels.now c.requires.lent c.requires.names)
+
+pub returns-in-SizeOf-clause-change : goal.returns-in-SizeOf-clause-change
+returns-in-SizeOf-clause-change g c = rw c.in-SizeOf.is (λ r. change-same (held_of (meaning g) r c.args.self.now c.args.labels.now) c.args.labels.now c.requires.lent c.requires.names)
+
+pub returns-in-AddrOf-clause-change : goal.returns-in-AddrOf-clause-change
+returns-in-AddrOf-clause-change g c = rw c.in-AddrOf.is (λ r. change-same (held_of (meaning g) r c.args.self.now c.args.labels.now) c.args.labels.now c.requires.lent c.requires.names)
+
+pub returns-in-SegmentOf-clause-change : goal.returns-in-SegmentOf-clause-change
+returns-in-SegmentOf-clause-change g c = rw c.in-SegmentOf.is (λ r. change-same (held_of (meaning g) r c.args.self.now c.args.labels.now) c.args.labels.now c.requires.lent c.requires.names)
+
+pub returns-in-StatOf-clause-change : goal.returns-in-StatOf-clause-change
+returns-in-StatOf-clause-change g c = rw c.in-StatOf.is (λ r. change-same (held_of (meaning g) r c.args.self.now c.args.labels.now) c.args.labels.now c.requires.lent c.requires.names)
+
+pub returns-in-Segments-clause-change : goal.returns-in-Segments-clause-change
+returns-in-Segments-clause-change g c = rw c.in-Segments.is (λ r. change-same (held_of (meaning g) r c.args.self.now c.args.labels.now) c.args.labels.now c.requires.lent c.requires.names)
+
+pub returns-in-Blocks-clause-change : goal.returns-in-Blocks-clause-change
+returns-in-Blocks-clause-change g c = rw c.in-Blocks.is (λ r. change-same (held_of (meaning g) r c.args.self.now c.args.labels.now) c.args.labels.now c.requires.lent c.requires.names)
+
+pub returns-in-Check-clause-change : goal.returns-in-Check-clause-change
+returns-in-Check-clause-change g c = rw c.in-Check.is (λ r. change-same (held_of (meaning g) r c.args.self.now c.args.labels.now) c.args.labels.now c.requires.lent c.requires.names)
+
+pub returns-in-ProfileOf-clause-change : goal.returns-in-ProfileOf-clause-change
+returns-in-ProfileOf-clause-change g c = rw c.in-ProfileOf.is (λ r. change-same (held_of (meaning g) r c.args.self.now c.args.labels.now) c.args.labels.now c.requires.lent c.requires.names)

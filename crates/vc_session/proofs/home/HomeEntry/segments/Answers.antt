@@ -2,7 +2,9 @@ use Rattle.std.proofs.Common.{◌≡◌, ◌++◌, [], ◌∷◌, length, sym, a
 use Rattle.vc_region.proofs.Relabel.{segments-relabelled}
 use Rattle.vc_model.specs.Walk.{by_number}
 use Rattle.vc_region.proofs.Sound.{own_numbers}
+use Rattle.vc_region.specs.Cells.{rest_in}
 use Rattle.vc_region.specs.Parts.{region_of, segments_in}
+use Rattle.vc_region.proofs.Rest.{rest-segments}
 use Rattle.vc_script.specs.declared.reply.Reply.TheVariants.{SegmentList}
 use Rattle.vc_session.specs.Labels.{name_of}
 use Rattle.vc_session.specs.State.{told}
@@ -40,4 +42,4 @@ returns g c = λ labels r.
     ∙ (ap (λ is. c.loop-segment.items.items ++ is) (sym (segments-end c.loop-segment.after ss numbers (sym c.in_default.ensures)))
     ∙ (c.loop-segment.invariant
     ∙ segments-all ss numbers))) in
-    ap (λ is. told (home_of (held_of (meaning g) r c.args.self.now labels)) (SegmentList is)) (ap by_number (segments-relabelled (name_of labels) (region_of c.args.self.now.region)) ∙ sym all)
+    ap (λ is. told (home_of (held_of (meaning g) r c.args.self.now labels)) (SegmentList is)) (ap by_number (segments-relabelled (name_of labels) (rest_in c.args.self.now.region) ∙ rest-segments (region_of c.args.self.now.region)) ∙ sym all)

@@ -1,5 +1,7 @@
 use Rattle.std.proofs.Common.{refl, sym, ap, ◌∙◌}
+use Rattle.vc_model.specs.Addr.{place_of}
 use Rattle.vc_model.specs.Discipline.{Discipline}
+use Rattle.vc_region.specs.Cells.{rest_in}
 use Rattle.vc_region.specs.Parts.{region_of}
 use Rattle.vc_script.specs.declared.reply.Reply.TheVariants.{Size}
 use Rattle.vc_session.specs.Account.{home_of}
@@ -9,6 +11,7 @@ use Rattle.vc_session.specs.State.{told, unchanged}
 use Rattle.vc_session.specs.declared.labels.Label.{Label}
 use Rattle.vc_session.proofs.Answers.{gives-unchanged}
 use Rattle.vc_session.proofs.Found.{on_block-none, the_block}
+use Rattle.vc_region.proofs.RestFound.{has-rest, rest-size}
 use Rattle.vc_session.proofs.Touching.{gives-size, size-told}
 use Rattle.vc_session.proofs.home.HomeEntry.size.Given as given
 use Rattle.vc_session.proofs.home.HomeEntry.size.Goals as goal
@@ -20,7 +23,7 @@ pub size-requires : goal.size-requires
 size-requires g c =
     let label : Label = record { name = c.args.name.now; at = c.in-Some.at } in
     let f = c.in-Some.ensures.some in
-    (the_block (region_of c.args.self.now.region) c.args.labels.now c.args.name.now f.0 label c.requires.names refl f.1 f.2).there
+    has-rest (region_of c.args.self.now.region) label.at.0 (the_block (rest_in c.args.self.now.region) c.args.labels.now c.args.name.now f.0 label c.requires.names refl f.1 f.2).there
 
 pub returns-in-None : goal.returns-in-None
 returns-in-None g c = λ r.
@@ -33,4 +36,4 @@ returns-in-Some g c = λ r.
     let h = held_of (meaning g) r c.args.self.now c.args.labels.now in
     let label : Label = record { name = c.args.name.now; at = c.in-Some.at } in
     let f = c.in-Some.ensures.some in
-    gives-size h c.args.name.now f.0 label c.requires.names refl f.1 f.2 c.size.result (size-told h c.args.name.now f.0 label c.requires.names refl f.1 f.2 c.size.result c.size.ensures)
+    gives-size h c.args.name.now f.0 label c.requires.names refl f.1 f.2 c.size.result (size-told h c.args.name.now f.0 label c.requires.names refl f.1 f.2 c.size.result (rest-size (region_of c.args.self.now.region) (place_of label.at.0) ∙ c.size.ensures))

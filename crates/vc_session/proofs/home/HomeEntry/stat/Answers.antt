@@ -1,5 +1,7 @@
 use Rattle.std.proofs.Common.{sym, ap, ◌∙◌}
+use Rattle.vc_region.specs.Cells.{rest_in}
 use Rattle.vc_region.specs.Parts.{region_of}
+use Rattle.vc_region.proofs.Rest.{rest-stat}
 use Rattle.vc_script.specs.declared.reply.Reply.TheVariants.{Stats}
 use Rattle.vc_region.proofs.Relabel.{stat-relabelled}
 use Rattle.vc_session.specs.Labels.{name_of}
@@ -15,4 +17,4 @@ meaning g p = (g.dyn-1.0.entry p.0).1.state p.1
 
 pub returns : goal.returns
 returns g c = λ labels r.
-    ap (λ s. told (home_of (held_of (meaning g) r c.args.self.now labels)) (Stats s)) (stat-relabelled (name_of labels) (region_of c.args.self.now.region) ∙ sym c.stat.ensures)
+    ap (λ s. told (home_of (held_of (meaning g) r c.args.self.now labels)) (Stats s)) (stat-relabelled (name_of labels) (rest_in c.args.self.now.region) ∙ (rest-stat (region_of c.args.self.now.region) ∙ sym c.stat.ensures))

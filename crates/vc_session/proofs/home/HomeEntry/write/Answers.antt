@@ -2,8 +2,9 @@ use Rattle.std.proofs.Common.{◌≡◌, ◌+◌, length, refl, ap, ◌∙◌, a
 use Rattle.std.specs.Prelude.{nat_le}
 use Rattle.vc_model.specs.Addr.{place_of}
 use Rattle.vc_model.specs.Discipline.{Discipline}
-use Rattle.vc_region.specs.Region.{segments_of}
+use Rattle.vc_region.specs.Region.{region_write, segments_of}
 use Rattle.vc_region.proofs.Clearing.{written-segments}
+use Rattle.vc_region.specs.Cells.{cells_in, region_cells, rest_in, rest_of}
 use Rattle.vc_region.specs.Parts.{disc_in, region_of}
 use Rattle.vc_region.proofs.Sound.{own_places}
 use Rattle.vc_script.specs.declared.refusal.Refusal.TheVariants as why
@@ -15,6 +16,8 @@ use Rattle.vc_session.specs.declared.labels.Label.{Label}
 use Rattle.vc_session.proofs.Answers.{changed-by, gives-unchanged, kept-same, out-same}
 use Rattle.vc_session.proofs.Found.{on_block-none, the_block}
 use Rattle.vc_session.proofs.Touching.{gives-written, le-beyond, le-within, named-written, size-told, write-range}
+use Rattle.vc_region.proofs.RestFound.{has-rest, rest-own, rest-size}
+use Rattle.vc_session.proofs.Seen.{cells-written, seen-write, seen-written}
 use Rattle.vc_session.proofs.home.HomeEntry.write.Given as given
 use Rattle.vc_session.proofs.home.HomeEntry.write.Goals as goal
 
@@ -25,19 +28,19 @@ pub size-requires : goal.size-requires
 size-requires g c =
     let label : Label = record { name = c.args.name.now; at = c.in-Some.at } in
     let f = c.in-Some.ensures.some in
-    (the_block (region_of c.args.self.now.region) c.args.labels.now c.args.name.now f.0 label c.requires.names refl f.1 f.2).there
+    has-rest (region_of c.args.self.now.region) label.at.0 (the_block (rest_in c.args.self.now.region) c.args.labels.now c.args.name.now f.0 label c.requires.names refl f.1 f.2).there
 
 pub watch_line-watch-requires : goal.watch_line-watch-requires
 watch_line-watch-requires g c =
     let label : Label = record { name = c.args.name.now; at = c.in-Some.at } in
     let f = c.in-Some.ensures.some in
-    (the_block (region_of c.args.self.now.region) c.args.labels.now c.args.name.now f.0 label c.requires.names refl f.1 f.2).there
+    has-rest (region_of c.args.self.now.region) label.at.0 (the_block (rest_in c.args.self.now.region) c.args.labels.now c.args.name.now f.0 label c.requires.names refl f.1 f.2).there
 
 pub write-requires-clause-block : goal.write-requires-clause-block
 write-requires-clause-block g c =
     let label : Label = record { name = c.args.name.now; at = c.in-Some.at } in
     let f = c.in-Some.ensures.some in
-    (the_block (region_of c.args.self.now.region) c.args.labels.now c.args.name.now f.0 label c.requires.names refl f.1 f.2).there
+    has-rest (region_of c.args.self.now.region) label.at.0 (the_block (rest_in c.args.self.now.region) c.args.labels.now c.args.name.now f.0 label c.requires.names refl f.1 f.2).there
 
 pub returns-in-None-clause-step : goal.returns-in-None-clause-step
 returns-in-None-clause-step g c = λ r.
@@ -51,7 +54,7 @@ returns-then-off-bytes-clause-step g c = λ r.
     let label : Label = record { name = c.args.name.now; at = c.in-Some.at } in
     let f = c.in-Some.ensures.some in
     let last = c.args.off + length c.args.bytes.now in
-    let size = size-told h c.args.name.now f.0 label c.requires.names refl f.1 f.2 c.size.result c.size.ensures in
+    let size = size-told h c.args.name.now f.0 label c.requires.names refl f.1 f.2 c.size.result (rest-size (region_of c.args.self.now.region) (place_of label.at.0) ∙ c.size.ensures) in
     gives-unchanged (home_of h) (write_in (home_of h) c.args.name.now c.args.off c.args.bytes.now) why.Range
     (write-range h c.args.name.now f.0 label c.requires.names refl f.1 f.2 c.args.off c.args.bytes.now
     (ap (nat_le last) size ∙ le-beyond last c.size.result (omega arith)))
@@ -61,18 +64,26 @@ returns-else-off-bytes-clause-step g c = λ r.
     let h = held_of (meaning g) r c.args.self.now c.args.labels.now in
     let label : Label = record { name = c.args.name.now; at = c.in-Some.at } in
     let f = c.in-Some.ensures.some in
+    let was = region_of c.args.self.now.region in
+    let at = place_of label.at.0 in
+    let b = the_block h.region h.labels c.args.name.now f.0 label c.requires.names refl f.1 f.2 in
+    let put : rest_in c.write.new.self ≡ region_write h.region at c.args.off c.args.bytes.now = ap rest_of c.write.ensures.region ∙ seen-write was label.at.0 b.block b.found b.first c.args.off c.args.bytes.now in
     let last = c.args.off + length c.args.bytes.now in
-    let size = size-told h c.args.name.now f.0 label c.requires.names refl f.1 f.2 c.size.result c.size.ensures in
-    gives-written h c.args.name.now f.0 label c.requires.names refl f.1 f.2 c.args.off c.args.bytes.now (region_of c.write.new.self)
-    (ap (nat_le last) size ∙ le-within last c.size.result (omega arith)) c.write.ensures.region c.watch_line-watch.result c.watch_line-watch.ensures
+    let size = size-told h c.args.name.now f.0 label c.requires.names refl f.1 f.2 c.size.result (rest-size (region_of c.args.self.now.region) (place_of label.at.0) ∙ c.size.ensures) in
+    gives-written h c.args.name.now f.0 label c.requires.names refl f.1 f.2 c.args.off c.args.bytes.now (rest_in c.write.new.self)
+    (ap (nat_le last) size ∙ le-within last c.size.result (omega arith)) put c.watch_line-watch.result c.watch_line-watch.ensures
 
 pub returns-else-off-bytes-clause-change : goal.returns-else-off-bytes-clause-change
 returns-else-off-bytes-clause-change g c = λ r.
     let h = held_of (meaning g) r c.args.self.now c.args.labels.now in
     let label : Label = record { name = c.args.name.now; at = c.in-Some.at } in
     let f = c.in-Some.ensures.some in
-    let new = region_of c.write.new.self in
+    let was = region_of c.args.self.now.region in
+    let at = place_of label.at.0 in
+    let b = the_block h.region h.labels c.args.name.now f.0 label c.requires.names refl f.1 f.2 in
+    let put : rest_in c.write.new.self ≡ region_write h.region at c.args.off c.args.bytes.now = ap rest_of c.write.ensures.region ∙ seen-write was label.at.0 b.block b.found b.first c.args.off c.args.bytes.now in
+    let new = rest_in c.write.new.self in
     let disc = disc_in (meaning g) c.write.new.self in
-    let segments : segments_of new ≡ segments_of h.region = ap segments_of c.write.ensures.region ∙ written-segments h.region (place_of label.at.0) c.args.off c.args.bytes.now in
-    changed-by h disc new h.labels c.requires.lent (kept-same h.disc disc c.write.ensures.disc) (out-same h.disc disc (segments_of h.region) (segments_of new) c.write.ensures.disc segments)
-    (named-written h c.args.name.now f.0 label c.requires.names refl f.1 f.2 c.args.off c.args.bytes.now new c.write.ensures.region c.write.ensures.others (own_places c.write.new.self))
+    let segments : segments_of new ≡ segments_of h.region = ap segments_of put ∙ written-segments h.region at c.args.off c.args.bytes.now in
+    changed-by h disc new (cells_in c.write.new.self) h.labels (ap region_cells c.write.ensures.region ∙ cells-written was label.at.0 b.block b.found b.first c.args.off c.args.bytes.now) c.requires.lent (kept-same h.disc disc c.write.ensures.disc) (out-same h.disc disc (segments_of h.region) (segments_of new) c.write.ensures.disc segments)
+    (named-written h c.args.name.now f.0 label c.requires.names refl f.1 f.2 c.args.off c.args.bytes.now new put (seen-written was label.at.0 b.block b.found b.first c.args.off c.args.bytes.now (region_of c.write.new.self) c.write.ensures.region c.write.ensures.others) (rest-own (region_of c.write.new.self) (own_places c.write.new.self)))

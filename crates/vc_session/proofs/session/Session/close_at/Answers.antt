@@ -1,11 +1,13 @@
-use Rattle.std.proofs.Common.{◌≡◌, ◌-◌, Some, IfSome, set, length, arith, ap, ◌∙◌, subst, sym}
+use Rattle.std.proofs.Common.{◌≡◌, ◌-◌, Some, IfSome, set, length, arith, ap, ◌∙◌, subst, sym, false}
 use Rattle.std.specs.Prelude.{remove}
 use Rattle.vc_model.specs.Discipline.{Discipline}
 use Rattle.vc_region.specs.Region.{segments_of}
 use Rattle.vc_seg.specs.Shelf.{standing}
 use Rattle.vc_session.specs.Account.{Held, IsSession, account_after, accounts, settled}
+use Rattle.vc_session.specs.DictHomes.{AreDicts, lies_in}
 use Rattle.vc_session.specs.Homes.{accounts_on, held_all, held_in, held_of, slots_on}
 use Rattle.vc_session.proofs.Closing.{session-close, settled-close}
+use Rattle.vc_session.proofs.DictsStay.{all-other, dicts-stay, stays-remove}
 use Rattle.vc_session.proofs.Helds.{held-entry, held-remove, length-remove, slice-or}
 use Rattle.vc_session.proofs.Sessions.{held-at}
 use Rattle.vc_session.proofs.session.Session.close_at.Given as given
@@ -100,6 +102,25 @@ returns-clause-session g c =
       named = named;
       held = subst (λ hs. IsSession slots' hs) (sym rest) (session-close slots slots' helds c.args.i h at c.requires.session.held c.close_region.ensures.here c.close_region.ensures.elsewhere);
     }
+
+pub returns-clause-dicts : goal.returns-clause-dicts
+returns-clause-dicts g c = λ kinds dicts.
+    let M = meaning g in
+    let slots = slots_on M c.args.shelf.now in
+    let helds = held_in M c.args.self.now in
+    let entries = c.args.self.now.homes.entries in
+    let labels = c.args.self.now.labels.items in
+    let own = slice-or labels c.args.i c.remove.result (omega (arith, c.requires.session.named, c.requires.within)) c.remove.ensures.value in
+    let h = held_of M c.in-Some.field-0-0 c.in-Some.home c.remove.result in
+    let at = held-entry M entries labels c.args.i (c.in-Some.field-0-0, c.in-Some.home) c.remove.result (sym c.in-Some.ensures.entry) own in
+    let rest : held_all M c.shift_remove_index.new.self.entries c.remove.new.self.items ≡ remove helds c.args.i =
+    ap (λ es. held_all M es c.remove.new.self.items) c.shift_remove_index.ensures.entries
+    ∙ (ap (λ ls. held_all M (remove entries c.args.i) ls) c.remove.ensures.items ∙ held-remove M entries labels c.args.i c.requires.session.named) in
+    let es = c.args.self.now.dicts.entries in
+    let none : lies_in h.name es ≡ false = subst (λ o. IfSome o (λ (k : Held). lies_in k.name es ≡ false)) at c.requires.free in
+    subst (λ hs. AreDicts kinds hs es) (sym rest)
+    (dicts-stay kinds helds (remove helds c.args.i) es
+    (all-other kinds helds (remove helds c.args.i) h.name (λ e other. stays-remove kinds helds c.args.i h at e other) es none) dicts)
 
 pub returns-clause-settled : goal.returns-clause-settled
 returns-clause-settled g c =

@@ -7,15 +7,18 @@ use Rattle.indexmap.proofs.CallerLemmas.{insert_entry-new}
 use Rattle.vc_model.specs.Discipline.{Discipline}
 use Rattle.vc_seg.specs.Shelf.{place_at, slots_of}
 use Rattle.vc_script.specs.declared.reply.Reply.TheVariants.{Opened, Refused}
-use Rattle.vc_region.specs.Parts.{boxed, region_of}
+use Rattle.vc_region.specs.Cells.{cells_in, rest_in, rest_of}
+use Rattle.vc_region.specs.Parts.{boxed}
 use Rattle.vc_session.specs.declared.home.HomeEntry.{HomeEntry}
 use Rattle.vc_session.specs.Account.{accounts, settled, state_of, IsSession}
+use Rattle.vc_session.specs.DictHomes.{AreDicts, dicts_in}
 use Rattle.vc_session.specs.Homes.{held_all, held_in, held_of, not_here, slots_on}
 use Rattle.vc_session.specs.State.{stepped}
 use Rattle.vc_session.proofs.Agreeing.{from_ok}
 use Rattle.vc_session.proofs.Cells.{at_number_some, set_same}
+use Rattle.vc_session.proofs.DictsStay.{all-stay, dicts-stay, dicts_in-stay, stays-push}
 use Rattle.vc_session.proofs.Helds.{any-named, held-new, none_of}
-use Rattle.vc_session.proofs.Opening.{AreNone, fresh, open_step-ok, open_step-named, open_step-not_here, session-open, settled-open}
+use Rattle.vc_session.proofs.Opening.{AreNone, fresh, open_step-ok, open_step-named, open_step-not_here, opened-rest, session-open, settled-open}
 use Rattle.vc_session.proofs.session.Session.open_region.Given as given
 use Rattle.vc_session.proofs.session.Session.open_region.Goals as goal
 
@@ -23,14 +26,14 @@ abbrev meaning : (g : given.Over) → (x : g.dyn-1.0.I) × (g.dyn-1.0.entry x).0
 meaning g p = (g.dyn-1.0.entry p.0).1.state p.1
 
 pub returns-then-contains_key-clause-step : goal.returns-then-contains_key-clause-step
-returns-then-contains_key-clause-step g c =
+returns-then-contains_key-clause-step g c = λ kinds dicts.
     let slots = slots_on (meaning g) c.args.shelf.now in
     let helds = held_in (meaning g) c.args.self.now in
-    open_step-named (state_of slots helds) c.args.name c.args.method c.args.n
+    open_step-named (state_of kinds slots helds (dicts_in helds c.args.self.now.dicts.entries)) c.args.name c.args.method c.args.n
     (any-named (meaning g) c.args.self.now.homes.entries c.args.self.now.labels.items c.args.name c.requires.named ∙ sym c.if-contains_key.ensures)
 
 pub returns-in_default-clause-step : goal.returns-in_default-clause-step
-returns-in_default-clause-step g c =
+returns-in_default-clause-step g c = λ kinds dicts.
     let M = meaning g in
     let slots = slots_on M c.args.shelf.now in
     let helds = held_in M c.args.self.now in
@@ -41,13 +44,15 @@ returns-in_default-clause-step g c =
     let why : c.not_here.result ≡ not_here (place_at slots c.args.n) = c.not_here.ensures ∙ ap not_here (c.place.ensures ∙ ap (λ s. place_at s c.args.n) same) in
     let held : held_all M c.reserve.new.self.entries c.reserve-2.new.self.items ≡ helds =
     ap (λ es. held_all M es c.reserve-2.new.self.items) c.reserve.ensures.entries ∙ ap (λ ls. held_all M entries ls) c.reserve-2.ensures.items in
-    open_step-not_here slots helds c.args.name c.args.method c.args.n (any-named M entries labels c.args.name c.requires.named ∙ absent) (λ e. false≢true (c.in_default.ensures.here.1 e))
-    ∙ (ap (λ w. stepped (state_of slots helds) (Refused w)) (sym why)
-    ∙ (ap (λ hs. stepped (state_of slots hs) (Refused c.not_here.result)) (sym held)
-    ∙ ap (λ s. stepped (state_of s (held_all M c.reserve.new.self.entries c.reserve-2.new.self.items)) (Refused c.not_here.result)) (sym same)))
+    let es = c.args.self.now.dicts.entries in
+    let ds = dicts_in helds es in
+    open_step-not_here kinds slots helds ds c.args.name c.args.method c.args.n (any-named M entries labels c.args.name c.requires.named ∙ absent) (λ e. false≢true (c.in_default.ensures.here.1 e))
+    ∙ (ap (λ w. stepped (state_of kinds slots helds ds) (Refused w)) (sym why)
+    ∙ (ap (λ hs. stepped (state_of kinds slots hs (dicts_in hs es)) (Refused c.not_here.result)) (sym held)
+    ∙ ap (λ s. let hs = held_all M c.reserve.new.self.entries c.reserve-2.new.self.items in stepped (state_of kinds s hs (dicts_in hs es)) (Refused c.not_here.result)) (sym same)))
 
 pub returns-in-Ok-clause-step : goal.returns-in-Ok-clause-step
-returns-in-Ok-clause-step g c =
+returns-in-Ok-clause-step g c = λ kinds dicts.
     let M = meaning g in
     let slots = slots_on M c.args.shelf.now in
     let helds = held_in M c.args.self.now in
@@ -57,19 +62,51 @@ returns-in-Ok-clause-step g c =
     let home : HomeEntry _ _ = record { place = c.args.n; region = c.in-Ok.region } in
     let none : AreNone c.new.result = record { agree = c.new.ensures.agree; names = c.new.ensures.no_names; count = c.new.ensures.count; kept = c.new.ensures.kept } in
     let d = boxed M c.in-Some.disc in
-    let r = region_of c.in-Ok.region in
-    let new : held_of M c.args.name home c.new.result ≡ fresh c.args.name c.args.n d r c.new.result = ap (λ e. fresh c.args.name c.args.n e r c.new.result) c.in-Ok.ensures.ok.1 in
+    let r = rest_in c.in-Ok.region in
+    let cells = cells_in c.in-Ok.region in
+    let new : held_of M c.args.name home c.new.result ≡ fresh c.args.name c.args.n d r cells c.new.result = ap (λ e. fresh c.args.name c.args.n e r cells c.new.result) c.in-Ok.ensures.ok.1 in
     let put = from_ok c.insert.result (c.insert.ensures.succeeds (omega (arith, c.in_ok-reserve.ensures.ok))) c.insert.ensures.entries in
     let gone = none_of (lookup (bytes_eq c.args.name) c.reserve.new.self.entries) (ap (λ es. is_some (lookup (bytes_eq c.args.name) es)) c.reserve.ensures.entries ∙ absent) in
     let last = put ∙ (insert_entry-new bytes_eq c.reserve.new.self c.args.name home gone ∙ ap (λ es. es ++ (c.args.name, home) ∷ []) c.reserve.ensures.entries) in
     let more = c.push_reserved.ensures.items ∙ ap (λ ls. ls ++ c.new.result ∷ []) c.reserve-2.ensures.items in
-    let all : held_all M c.insert.new.self.entries c.push_reserved.new.self.items ≡ helds ++ fresh c.args.name c.args.n d r c.new.result ∷ [] =
+    let all : held_all M c.insert.new.self.entries c.push_reserved.new.self.items ≡ helds ++ fresh c.args.name c.args.n d r cells c.new.result ∷ [] =
     ap (λ es. held_all M es c.push_reserved.new.self.items) last
     ∙ (ap (λ ls. held_all M (entries ++ (c.args.name, home) ∷ []) ls) more
     ∙ (held-new M entries labels c.args.name home c.new.result c.requires.named ∙ ap (λ h. helds ++ h ∷ []) new)) in
-    open_step-ok slots helds c.args.name c.args.n d c.args.method r c.in-Ok.ensures.ok.0 c.new.result none c.in-Some.ensures.taken c.requires.held (any-named M entries labels c.args.name c.requires.named ∙ absent)
-    ∙ (ap (λ hs. stepped (state_of (set slots (c.args.n - 1) None) hs) (Opened c.args.name)) (sym all)
-    ∙ ap (λ s. stepped (state_of s (held_all M c.insert.new.self.entries c.push_reserved.new.self.items)) (Opened c.args.name)) (sym c.in-Some.ensures.emptied))
+    let es = c.args.self.now.dicts.entries in
+    let g' = fresh c.args.name c.args.n d r cells c.new.result in
+    let stays = dicts_in-stay kinds helds (helds ++ g' ∷ []) es (all-stay kinds helds (helds ++ g' ∷ []) es (λ e. stays-push kinds helds g' e)) dicts in
+    open_step-ok slots helds c.args.name c.args.n d c.args.method r (ap rest_of c.in-Ok.ensures.ok.0 ∙ opened-rest c.args.method) cells c.new.result none c.in-Some.ensures.taken c.requires.held kinds (dicts_in helds es) (any-named M entries labels c.args.name c.requires.named ∙ absent)
+    ∙ (ap (λ ds. stepped (state_of kinds (set slots (c.args.n - 1) None) (helds ++ g' ∷ []) ds) (Opened c.args.name)) (sym stays)
+    ∙ (ap (λ hs. stepped (state_of kinds (set slots (c.args.n - 1) None) hs (dicts_in hs es)) (Opened c.args.name)) (sym all)
+    ∙ ap (λ s. let hs = held_all M c.insert.new.self.entries c.push_reserved.new.self.items in stepped (state_of kinds s hs (dicts_in hs es)) (Opened c.args.name)) (sym c.in-Some.ensures.emptied)))
+
+pub returns-in-Ok-clause-dicts : goal.returns-in-Ok-clause-dicts
+returns-in-Ok-clause-dicts g c = λ kinds dicts.
+    let M = meaning g in
+    let slots = slots_on M c.args.shelf.now in
+    let helds = held_in M c.args.self.now in
+    let entries = c.args.self.now.homes.entries in
+    let labels = c.args.self.now.labels.items in
+    let absent : is_some (lookup (bytes_eq c.args.name) entries) ≡ false = sym c.if-contains_key.ensures in
+    let home : HomeEntry _ _ = record { place = c.args.n; region = c.in-Ok.region } in
+    let none : AreNone c.new.result = record { agree = c.new.ensures.agree; names = c.new.ensures.no_names; count = c.new.ensures.count; kept = c.new.ensures.kept } in
+    let d = boxed M c.in-Some.disc in
+    let r = rest_in c.in-Ok.region in
+    let cells = cells_in c.in-Ok.region in
+    let new : held_of M c.args.name home c.new.result ≡ fresh c.args.name c.args.n d r cells c.new.result = ap (λ e. fresh c.args.name c.args.n e r cells c.new.result) c.in-Ok.ensures.ok.1 in
+    let put = from_ok c.insert.result (c.insert.ensures.succeeds (omega (arith, c.in_ok-reserve.ensures.ok))) c.insert.ensures.entries in
+    let gone = none_of (lookup (bytes_eq c.args.name) c.reserve.new.self.entries) (ap (λ es. is_some (lookup (bytes_eq c.args.name) es)) c.reserve.ensures.entries ∙ absent) in
+    let last = put ∙ (insert_entry-new bytes_eq c.reserve.new.self c.args.name home gone ∙ ap (λ es. es ++ (c.args.name, home) ∷ []) c.reserve.ensures.entries) in
+    let more = c.push_reserved.ensures.items ∙ ap (λ ls. ls ++ c.new.result ∷ []) c.reserve-2.ensures.items in
+    let all : held_all M c.insert.new.self.entries c.push_reserved.new.self.items ≡ helds ++ fresh c.args.name c.args.n d r cells c.new.result ∷ [] =
+    ap (λ es. held_all M es c.push_reserved.new.self.items) last
+    ∙ (ap (λ ls. held_all M (entries ++ (c.args.name, home) ∷ []) ls) more
+    ∙ (held-new M entries labels c.args.name home c.new.result c.requires.named ∙ ap (λ h. helds ++ h ∷ []) new)) in
+    let es = c.args.self.now.dicts.entries in
+    let g' = fresh c.args.name c.args.n d r cells c.new.result in
+    subst (λ hs. AreDicts kinds hs es) (sym all)
+    (dicts-stay kinds helds (helds ++ g' ∷ []) es (all-stay kinds helds (helds ++ g' ∷ []) es (λ e. stays-push kinds helds g' e)) dicts)
 
 pub returns-in-Ok-clause-session : goal.returns-in-Ok-clause-session
 returns-in-Ok-clause-session g c =
@@ -82,13 +119,14 @@ returns-in-Ok-clause-session g c =
     let home : HomeEntry _ _ = record { place = c.args.n; region = c.in-Ok.region } in
     let none : AreNone c.new.result = record { agree = c.new.ensures.agree; names = c.new.ensures.no_names; count = c.new.ensures.count; kept = c.new.ensures.kept } in
     let d = boxed M c.in-Some.disc in
-    let r = region_of c.in-Ok.region in
-    let new : held_of M c.args.name home c.new.result ≡ fresh c.args.name c.args.n d r c.new.result = ap (λ e. fresh c.args.name c.args.n e r c.new.result) c.in-Ok.ensures.ok.1 in
+    let r = rest_in c.in-Ok.region in
+    let cells = cells_in c.in-Ok.region in
+    let new : held_of M c.args.name home c.new.result ≡ fresh c.args.name c.args.n d r cells c.new.result = ap (λ e. fresh c.args.name c.args.n e r cells c.new.result) c.in-Ok.ensures.ok.1 in
     let put = from_ok c.insert.result (c.insert.ensures.succeeds (omega (arith, c.in_ok-reserve.ensures.ok))) c.insert.ensures.entries in
     let gone = none_of (lookup (bytes_eq c.args.name) c.reserve.new.self.entries) (ap (λ es. is_some (lookup (bytes_eq c.args.name) es)) c.reserve.ensures.entries ∙ absent) in
     let last = put ∙ (insert_entry-new bytes_eq c.reserve.new.self c.args.name home gone ∙ ap (λ es. es ++ (c.args.name, home) ∷ []) c.reserve.ensures.entries) in
     let more = c.push_reserved.ensures.items ∙ ap (λ ls. ls ++ c.new.result ∷ []) c.reserve-2.ensures.items in
-    let all : held_all M c.insert.new.self.entries c.push_reserved.new.self.items ≡ helds ++ fresh c.args.name c.args.n d r c.new.result ∷ [] =
+    let all : held_all M c.insert.new.self.entries c.push_reserved.new.self.items ≡ helds ++ fresh c.args.name c.args.n d r cells c.new.result ∷ [] =
     ap (λ es. held_all M es c.push_reserved.new.self.items) last
     ∙ (ap (λ ls. held_all M (entries ++ (c.args.name, home) ∷ []) ls) more
     ∙ (held-new M entries labels c.args.name home c.new.result c.requires.named ∙ ap (λ h. helds ++ h ∷ []) new)) in
@@ -98,7 +136,7 @@ returns-in-Ok-clause-session g c =
       held =
           subst (λ s. IsSession s (held_all M c.insert.new.self.entries c.push_reserved.new.self.items)) (sym c.in-Some.ensures.emptied)
           (subst (λ hs. IsSession (set slots (c.args.n - 1) None) hs) (sym all)
-          (session-open slots helds c.args.name c.args.n d c.args.method r c.in-Ok.ensures.ok.0 c.new.result none c.in-Some.ensures.taken c.requires.held));
+          (session-open slots helds c.args.name c.args.n d c.args.method r (ap rest_of c.in-Ok.ensures.ok.0 ∙ opened-rest c.args.method) cells c.new.result none c.in-Some.ensures.taken c.requires.held));
     }
 
 pub returns-in-Ok-clause-settled : goal.returns-in-Ok-clause-settled
@@ -112,19 +150,20 @@ returns-in-Ok-clause-settled g c =
     let home : HomeEntry _ _ = record { place = c.args.n; region = c.in-Ok.region } in
     let none : AreNone c.new.result = record { agree = c.new.ensures.agree; names = c.new.ensures.no_names; count = c.new.ensures.count; kept = c.new.ensures.kept } in
     let d = boxed M c.in-Some.disc in
-    let r = region_of c.in-Ok.region in
-    let new : held_of M c.args.name home c.new.result ≡ fresh c.args.name c.args.n d r c.new.result = ap (λ e. fresh c.args.name c.args.n e r c.new.result) c.in-Ok.ensures.ok.1 in
+    let r = rest_in c.in-Ok.region in
+    let cells = cells_in c.in-Ok.region in
+    let new : held_of M c.args.name home c.new.result ≡ fresh c.args.name c.args.n d r cells c.new.result = ap (λ e. fresh c.args.name c.args.n e r cells c.new.result) c.in-Ok.ensures.ok.1 in
     let put = from_ok c.insert.result (c.insert.ensures.succeeds (omega (arith, c.in_ok-reserve.ensures.ok))) c.insert.ensures.entries in
     let gone = none_of (lookup (bytes_eq c.args.name) c.reserve.new.self.entries) (ap (λ es. is_some (lookup (bytes_eq c.args.name) es)) c.reserve.ensures.entries ∙ absent) in
     let last = put ∙ (insert_entry-new bytes_eq c.reserve.new.self c.args.name home gone ∙ ap (λ es. es ++ (c.args.name, home) ∷ []) c.reserve.ensures.entries) in
     let more = c.push_reserved.ensures.items ∙ ap (λ ls. ls ++ c.new.result ∷ []) c.reserve-2.ensures.items in
-    let all : held_all M c.insert.new.self.entries c.push_reserved.new.self.items ≡ helds ++ fresh c.args.name c.args.n d r c.new.result ∷ [] =
+    let all : held_all M c.insert.new.self.entries c.push_reserved.new.self.items ≡ helds ++ fresh c.args.name c.args.n d r cells c.new.result ∷ [] =
     ap (λ es. held_all M es c.push_reserved.new.self.items) last
     ∙ (ap (λ ls. held_all M (entries ++ (c.args.name, home) ∷ []) ls) more
     ∙ (held-new M entries labels c.args.name home c.new.result c.requires.named ∙ ap (λ h. helds ++ h ∷ []) new)) in
     ap (λ s. settled (accounts s) (held_all M c.insert.new.self.entries c.push_reserved.new.self.items)) c.in-Some.ensures.emptied
     ∙ (ap (λ hs. settled (accounts (set slots (c.args.n - 1) None)) hs) all
-    ∙ settled-open slots helds c.args.name c.args.n d c.args.method r c.in-Ok.ensures.ok.0 c.new.result none c.in-Some.ensures.taken c.requires.held)
+    ∙ settled-open slots helds c.args.name c.args.n d c.args.method r (ap rest_of c.in-Ok.ensures.ok.0 ∙ opened-rest c.args.method) cells c.new.result none c.in-Some.ensures.taken c.requires.held)
 
 pub returns-in-Err-clause-session : goal.returns-in-Err-clause-session
 returns-in-Err-clause-session g c =
@@ -148,6 +187,14 @@ returns-in-Err-clause-session g c =
           (subst (λ hs. IsSession slots hs) (sym held) c.requires.held);
     }
 
+pub returns-in-Err-clause-dicts : goal.returns-in-Err-clause-dicts
+returns-in-Err-clause-dicts g c = λ kinds dicts.
+    let M = meaning g in
+    let entries = c.args.self.now.homes.entries in
+    let held : held_all M c.reserve.new.self.entries c.reserve-2.new.self.items ≡ held_in M c.args.self.now =
+    ap (λ es. held_all M es c.reserve-2.new.self.items) c.reserve.ensures.entries ∙ ap (λ ls. held_all M entries ls) c.reserve-2.ensures.items in
+    subst (λ hs. AreDicts kinds hs c.args.self.now.dicts.entries) (sym held) dicts
+
 pub returns-in-Err-clause-settled : goal.returns-in-Err-clause-settled
 returns-in-Err-clause-settled g c =
     let M = meaning g in
@@ -167,7 +214,7 @@ returns-in-Err-clause-settled g c =
     ∙ ap (λ hs. settled (accounts slots) hs) held
 
 pub returns-in-Err-clause-err : goal.returns-in-Err-clause-err
-returns-in-Err-clause-err g c =
+returns-in-Err-clause-err g c = λ kinds dicts.
     let M = meaning g in
     let slots = slots_on M c.args.shelf.now in
     let entries = c.args.self.now.homes.entries in
@@ -181,5 +228,6 @@ returns-in-Err-clause-err g c =
     ∙ set_same slots (c.args.n - 1) (Some d) (at_number_some slots c.args.n (Some d) c.in-Some.ensures.taken).1))) in
     let held : held_all M c.reserve.new.self.entries c.reserve-2.new.self.items ≡ held_in M c.args.self.now =
     ap (λ es. held_all M es c.reserve-2.new.self.items) c.reserve.ensures.entries ∙ ap (λ ls. held_all M entries ls) c.reserve-2.ensures.items in
-    ap (λ s. state_of s (held_all M c.reserve.new.self.entries c.reserve-2.new.self.items)) back
-    ∙ ap (λ hs. state_of slots hs) held
+    let es = c.args.self.now.dicts.entries in
+    ap (λ s. let hs = held_all M c.reserve.new.self.entries c.reserve-2.new.self.items in state_of kinds s hs (dicts_in hs es)) back
+    ∙ ap (λ hs. state_of kinds slots hs (dicts_in hs es)) held

@@ -1,0 +1,248 @@
+-- What the opening of a dictionary leaves of a session.
+use Rattle.std.proofs.Common.{◌≡◌, ℕ, false, Bool, List, [], ◌∷◌, ◌++◌, Some, None, Result, Ok, Err, IfOk, OnErr, map, option_map, set, refl, sym, ap, ◌∙◌, subst}
+use Rattle.std.specs.Prelude.{slice_get}
+use Rattle.std.specs.Str.{bytes_eq}
+use Rattle.std.proofs.lemmas.Option.{none-some, same_Some, slice_get-map}
+use Rattle.std.proofs.lemmas.Slice.Eq.{bytes_eq-Decides}
+use Rattle.vc_base.specs.Cells.{Blocks}
+use Rattle.vc_base.specs.declared.dict_method.DictMethod.{DictMethod}
+use Rattle.vc_dict.specs.declared.dict.Dict.{Dict}
+use Rattle.vc_model.specs.Discipline.{Discipline}
+use Rattle.vc_model.specs.Numbered.{at_number}
+use Rattle.vc_model.specs.Outcome as model
+use Rattle.vc_model.specs.Outcome.{Fault, Outcome, done_as}
+use Rattle.vc_dtdisc.specs.Rules.{Gone, Rules}
+use Rattle.vc_region.specs.Region.{Region, relabelled}
+use Rattle.vc_seg.specs.Answer.{IsRefusal}
+use Rattle.vc_seg.specs.declared.fault.RegionFault.{RegionFault}
+use Rattle.vc_seg.specs.declared.fault.RegionFault.TheVariants as code
+use Rattle.vc_objects.specs.Insert.{Grown, open_dictionary, want_of}
+use Rattle.vc_objects.specs.Leaves.{HasGrown, LacksTable}
+use Rattle.vc_objects.specs.Objects.{Dictionary, owned}
+use Rattle.vc_objects.specs.Parts.{IsWhole, dictionary_of}
+use Rattle.vc_objects.proofs.Named.{open_dictionary-named, relabel_grown}
+use Rattle.vc_commands.specs.Commands.{is_for_table, table_refusal}
+use Rattle.vc_script.specs.Needs.{Need, need_shown}
+use Rattle.vc_script.specs.declared.command.Command.TheVariants.{OpenDict}
+use Rattle.vc_script.specs.declared.refusal.Refusal.{Refusal}
+use Rattle.vc_script.specs.declared.refusal.Refusal.TheVariants.{NoSegmentForTable}
+use Rattle.vc_script.specs.declared.refusal.Refusal.TheVariants as why
+use Rattle.vc_script.specs.declared.reply.Reply.{Reply}
+use Rattle.vc_script.specs.declared.reply.Reply.TheVariants as reply
+use Rattle.vc_session.specs.Account.{Held, IsChange, IsSession, Settles, accounts, held_named, home_of, settled, state_of}
+use Rattle.vc_session.specs.DictHomes.{AreDicts, IsDictOf, cells_held, dict_home, dicts_in}
+use Rattle.vc_session.specs.Dicts.{dict_opened, dict_refused, open_dict_in, open_dict_step, open_dict_unless}
+use Rattle.vc_session.specs.Kept.{Kept}
+use Rattle.vc_session.specs.Labels.{kept_of, name_of}
+use Rattle.vc_session.specs.Lacks.{InHeld, StepLacksFor}
+use Rattle.vc_session.specs.Naming.{TellsTable, table_reply}
+use Rattle.vc_session.specs.Run.{home_place, refusal_at}
+use Rattle.vc_session.specs.State.{DictHome, Home, Label, State, Stepped, home_named, is_home, with_region}
+use Rattle.vc_session.specs.Step.{GivesStep}
+use Rattle.vc_session.specs.Told.{tell}
+use Rattle.vc_session.proofs.Changing.{gives-same, homes-change, one_refusal, rose-by_one, settles-change, settles-none, state-same}
+use Rattle.vc_session.proofs.DictChange.{Touches, clear-none, dicts-kept, dicts-push, homes-kept, homes-push, now-named, was-named}
+use Rattle.vc_session.proofs.DictsStay.{Entry}
+use Rattle.vc_session.proofs.Firsts.{IsFirst, find-first, first-unmap}
+use Rattle.vc_session.proofs.Names.{name-none, same_bytes}
+use Rattle.vc_session.proofs.Sessions.{Slots}
+
+-- what a fault tells where no table is put
+pub record TableTold (call : Bool → Outcome (Grown ℕ)) (told : Reply) : Type 0 where
+  pub fault : Fault
+  pub refused : call (is_for_table (need_shown told)) ≡ model.Refused fault
+  pub is : told ≡ reply.Refused (table_refusal (want_of fault))
+
+told-by : (call : Bool → Outcome (Grown ℕ)) (fault : Fault) (one told : Reply) → Some one ≡ Some told → call (is_for_table (need_shown one)) ≡ model.Refused fault → one ≡ reply.Refused (table_refusal (want_of fault)) → TableTold call told
+told-by call fault one told same is shown = subst (TableTold call) (same_Some one told same) (record { fault = fault; refused = is; is = shown })
+
+pub table-told : (call : Bool → Outcome (Grown ℕ)) (fault : RegionFault) (told : Reply) → table_reply fault ≡ Some told → IsRefusal call fault → TableTold call told
+table-told call code.OutOfMemory told same is = absurd (none-some told same)
+table-told call code.NoSegment told same is = told-by call model.NoSegment (reply.Refused NoSegmentForTable) told same is refl
+table-told call code.TooManySegments told same is = told-by call model.TooManySegments (reply.Refused why.TooManySegments) told same is refl
+table-told call code.Fixed told same is = told-by call model.Fixed (reply.Refused why.TooManySegments) told same is refl
+table-told call code.PoolSize told same is = told-by call model.PoolSize (reply.Refused why.TooManySegments) told same is refl
+table-told call code.NotLast told same is = told-by call model.NotLast (reply.Refused why.TooManySegments) told same is refl
+table-told call code.WrongMethod told same is = told-by call model.WrongMethod (reply.Refused why.TooManySegments) told same is refl
+
+-- what holds of the reply to a fault at a table
+pub told-ok : {E : Type 0} (P : Reply → Type 0) (fault : RegionFault) (result : Result Reply E) → TellsTable fault result → ((told : Reply) → table_reply fault ≡ Some told → P told) → IfOk result P
+told-ok P fault (Ok told) tells each = each told tells
+told-ok P fault (Err e) tells each = tt
+
+pub on-error : {T E P : Type 0} (r : Result T E) → P → OnErr r P
+on-error (Ok x) p = tt
+on-error (Err e) p = p
+
+-- with no region of the name
+pub open-none : (s : State) (gone : List Gone) (d r : List ℕ) (method : DictMethod) (k : ℕ) (need : Need) → home_named r s.homes ≡ None → GivesStep (open_dict_step s d method r k need) gone (reply.Refused why.NoRegion) s gone
+open-none s gone d r method k need none =
+    gives-same (open_dict_step s d method r k need) gone (reply.Refused why.NoRegion) s (ap (open_dict_in s d method k need) none)
+
+module _ (kinds : List Rules) (slots : Slots) (hs : List Held) (es : List Entry) (j : ℕ) (h : Held) (at : slice_get hs j ≡ Some h) (r : List ℕ) (first : IsFirst (is_home r) (map home_of hs) j) (session : IsSession slots hs) (dicts : AreDicts kinds hs es) (d : List ℕ) (method : DictMethod) (k : ℕ) where
+  abbrev s : State
+  s = state_of kinds slots hs (dicts_in hs es)
+
+  item-is : first.item ≡ home_of h
+  item-is = same_Some first.item (home_of h) (sym first.at ∙ (slice_get-map home_of hs j ∙ ap (option_map home_of) at))
+
+  home-found : home_named r s.homes ≡ Some (home_of h)
+  home-found = find-first (is_home r) (map home_of hs) j first ∙ ap (λ x. Some x) item-is
+
+  name-is : h.name ≡ r
+  name-is = same_bytes h.name r (ap (is_home r) (sym item-is) ∙ first.passes)
+
+  named-first : IsFirst (λ (x : Held). bytes_eq x.name h.name) hs j
+  named-first = subst (λ n. IsFirst (λ (x : Held). bytes_eq x.name n) hs j) (sym name-is) (first-unmap (is_home r) home_of hs j first)
+
+  -- it is refused before its table is asked for
+  pub open-refused : (gone : List Gone) (need : Need) (refusal : Refusal) → dict_refused s (home_of h) d k ≡ Some refusal → GivesStep (open_dict_step s d method r k need) gone (reply.Refused refusal) s gone
+  open-refused gone need refusal is =
+      gives-same (open_dict_step s d method r k need) gone (reply.Refused refusal) s
+      (ap (open_dict_in s d method k need) home-found ∙ ap (open_dict_unless s (home_of h) d method k need) is)
+
+  named : (b : Bool) → open_dictionary h.disc.terms (home_of h).region None method b ≡ done_as (relabel_grown (name_of h.labels)) (open_dictionary h.disc.terms h.region 0 method b)
+  named b =
+      ap (λ o. open_dictionary h.disc.terms (home_of h).region o method b) (sym (name-none h.labels 0 refl))
+      ∙ open_dictionary-named (name_of h.labels) h.disc.terms h.region 0 method b
+
+  step-open : (need : Need) → dict_refused s (home_of h) d k ≡ None → open_dict_step s d method r k need ≡ dict_opened s (home_of h) d k (done_as (relabel_grown (name_of h.labels)) (open_dictionary h.disc.terms h.region 0 method (is_for_table need)))
+  step-open need is =
+      ap (open_dict_in s d method k need) home-found
+      ∙ (ap (open_dict_unless s (home_of h) d method k need) is ∙ ap (dict_opened s (home_of h) d k) (named (is_for_table need)))
+
+  -- no block is put for its table
+  pub open-failed : (gone : List Gone) (fault : RegionFault) (told : Reply) (after : State) → after ≡ s → dict_refused s (home_of h) d k ≡ None → table_reply fault ≡ Some told → IsRefusal (open_dictionary h.disc.terms h.region 0 method) fault → GivesStep (open_dict_step s d method r k (need_shown told)) gone told after gone
+  open-failed gone fault told after same none tells refusal =
+      let t = table-told (open_dictionary h.disc.terms h.region 0 method) fault told tells refusal in
+      gives-same (open_dict_step s d method r k (need_shown told)) gone told after
+      (step-open (need_shown told) none
+      ∙ (ap (λ o. dict_opened s (home_of h) d k (done_as (relabel_grown (name_of h.labels)) o)) t.refused
+      ∙ (ap (λ q. let x : Stepped = record { state = s; reply = q; told = []; granted = [] } in x) (sym t.is)
+      ∙ ap (λ q. let x : Stepped = record { state = q; reply = told; told = []; granted = [] } in x) (sym same))))
+
+  module _ (g : Held) {cells : Blocks} (change : IsChange (record h { cells = cells }) g) where
+    abbrev gs : List Held
+    gs = set hs j g
+
+    abbrev Settled : List ℕ → Type 0
+    Settled refusals = Settles (settled (accounts slots) hs) (settled (accounts slots) gs) refusals
+
+    -- a refusal of its discipline counts
+    pub settles-failed : (fault : RegionFault) (told : Reply) → table_reply fault ≡ Some told → (fault ≡ code.NoSegment → LacksTable (Some 16) h.disc g.disc) → Settled (refusal_at s (OpenDict d method r k) told)
+    settles-failed code.OutOfMemory told same lacks = absurd (none-some told same)
+    settles-failed code.NoSegment told same lacks =
+        subst (λ x. Settled (refusal_at s (OpenDict d method r k) x)) (same_Some (reply.Refused NoSegmentForTable) told same)
+        (subst (λ o. Settled (home_place o)) (sym home-found)
+        (settles-change slots hs j h g at session change 1 (h.place ∷ []) (rose-by_one h.disc.faults g.disc.faults (lacks refl).rose) (one_refusal h.place)))
+    settles-failed code.TooManySegments told same lacks =
+        subst (λ x. Settled (refusal_at s (OpenDict d method r k) x)) (same_Some (reply.Refused why.TooManySegments) told same) (settles-none slots hs j h g at session change)
+    settles-failed code.Fixed told same lacks =
+        subst (λ x. Settled (refusal_at s (OpenDict d method r k) x)) (same_Some (reply.Refused why.TooManySegments) told same) (settles-none slots hs j h g at session change)
+    settles-failed code.PoolSize told same lacks =
+        subst (λ x. Settled (refusal_at s (OpenDict d method r k) x)) (same_Some (reply.Refused why.TooManySegments) told same) (settles-none slots hs j h g at session change)
+    settles-failed code.NotLast told same lacks =
+        subst (λ x. Settled (refusal_at s (OpenDict d method r k) x)) (same_Some (reply.Refused why.TooManySegments) told same) (settles-none slots hs j h g at session change)
+    settles-failed code.WrongMethod told same lacks =
+        subst (λ x. Settled (refusal_at s (OpenDict d method r k) x)) (same_Some (reply.Refused why.TooManySegments) told same) (settles-none slots hs j h g at session change)
+
+    -- and was wanting for the table
+    pub lacks-failed : (fault : RegionFault) (told : Reply) → table_reply fault ≡ Some told → (fault ≡ code.NoSegment → LacksTable (Some 16) h.disc g.disc) → Touches h g [] [] → StepLacksFor s hs gs (OpenDict d method r k) told
+    lacks-failed code.OutOfMemory told same lacks touch = absurd (none-some told same)
+    lacks-failed code.NoSegment told same lacks touch =
+        let P : Discipline → Discipline → Type 0 = λ old new. LacksTable (Some 16) old new in
+        let now : held_named gs (Some r) ≡ Some g = subst (λ n. held_named gs (Some n) ≡ Some g) name-is (now-named kinds hs j h g [] [] named-first at touch) in
+        let was : held_named hs (Some r) ≡ Some h = subst (λ n. held_named hs (Some n) ≡ Some h) name-is (was-named kinds hs j h g [] [] named-first at touch) in
+        subst (λ x. StepLacksFor s hs gs (OpenDict d method r k) x) (same_Some (reply.Refused NoSegmentForTable) told same)
+        (subst (λ o. InHeld o (held_named gs (Some r)) P) (sym was) (subst (λ o. InHeld (Some h) o P) (sym now) (lacks refl)))
+    lacks-failed code.TooManySegments told same lacks touch =
+        subst (λ x. StepLacksFor s hs gs (OpenDict d method r k) x) (same_Some (reply.Refused why.TooManySegments) told same) tt
+    lacks-failed code.Fixed told same lacks touch =
+        subst (λ x. StepLacksFor s hs gs (OpenDict d method r k) x) (same_Some (reply.Refused why.TooManySegments) told same) tt
+    lacks-failed code.PoolSize told same lacks touch =
+        subst (λ x. StepLacksFor s hs gs (OpenDict d method r k) x) (same_Some (reply.Refused why.TooManySegments) told same) tt
+    lacks-failed code.NotLast told same lacks touch =
+        subst (λ x. StepLacksFor s hs gs (OpenDict d method r k) x) (same_Some (reply.Refused why.TooManySegments) told same) tt
+    lacks-failed code.WrongMethod told same lacks touch =
+        subst (λ x. StepLacksFor s hs gs (OpenDict d method r k) x) (same_Some (reply.Refused why.TooManySegments) told same) tt
+
+    -- all else stays
+    pub dicts-failed : Touches h g [] [] → AreDicts kinds gs es
+    dicts-failed touch = dicts-kept kinds hs j h g [] [] named-first at touch es dicts (clear-none hs h.name es)
+
+    pub state-failed : Touches h g [] [] → g.region ≡ h.region → g.labels ≡ h.labels → state_of kinds slots gs (dicts_in gs es) ≡ s
+    state-failed touch region labels =
+        ap (state_of kinds slots gs) (homes-kept kinds hs j h g [] [] named-first at touch es dicts (clear-none hs h.name es))
+        ∙ state-same slots hs j h g at session change kinds (dicts_in hs es)
+        (ap (λ q. let p : Region Label × Kept = (relabelled (name_of g.labels) q, kept_of g.labels) in p) region
+        ∙ ap (λ l. let p : Region Label × Kept = (relabelled (name_of l) h.region, kept_of l) in p) labels)
+
+  -- its table is put
+  module _ (g : Held) (new : Dict) {cells : Blocks} (change : IsChange (record h { cells = cells }) g) (touch : Touches h g [] (owned (dictionary_of new g.cells))) (labels : g.labels ≡ h.labels) (kind : new.kind ≡ k) (rules : Rules) (by : at_number kinds k ≡ Some rules) (whole : IsWhole rules new g.cells) where
+    abbrev after_hs : List Held
+    after_hs = set hs j g
+
+    abbrev pub entry_opened : Entry
+    entry_opened = (d, record { home = r; dict = new })
+
+    abbrev mine : List ℕ
+    mine = owned (dictionary_of new g.cells)
+
+    opened-held : held_named after_hs (Some r) ≡ Some g
+    opened-held = subst (λ n. held_named after_hs (Some n) ≡ Some g) name-is (now-named kinds hs j h g [] mine named-first at touch)
+
+    opened-is : IsDictOf kinds after_hs entry_opened
+    opened-is = record {
+      home = g;
+      found = opened-held;
+      best = touch.best;
+      rules = rules;
+      kind = ap (at_number kinds) kind ∙ by;
+      whole = whole;
+    }
+
+    opened-own : owned (dict_home after_hs entry_opened).dict ≡ mine
+    opened-own = ap (λ o. owned (dictionary_of new (cells_held o))) opened-held
+
+    pub dicts-opened : AreDicts kinds after_hs (es ++ entry_opened ∷ [])
+    dicts-opened =
+        dicts-push kinds hs j h g [] mine named-first at touch entry_opened opened-is ((bytes_eq-Decides h.name r).1 name-is) opened-own es dicts (clear-none hs h.name es)
+
+    homes-opened : dicts_in after_hs (es ++ entry_opened ∷ []) ≡ dicts_in hs es ++ dict_home after_hs entry_opened ∷ []
+    homes-opened =
+        homes-push kinds hs j h g [] mine named-first at touch entry_opened opened-is ((bytes_eq-Decides h.name r).1 name-is) opened-own es dicts (clear-none hs h.name es)
+
+    abbrev pub opened_state : State
+    opened_state = state_of kinds slots after_hs (dicts_in after_hs (es ++ entry_opened ∷ []))
+
+    abbrev with_both : List Home → List DictHome → State
+    with_both homes ds = record { shelf = s.shelf; homes = homes; kinds = kinds; dicts = ds }
+
+    entry-is : (dict : Dictionary) → dict ≡ dictionary_of new g.cells → (let x : DictHome = record { name = d; home = h.name; kind = k; dict = dict } in x) ≡ dict_home after_hs entry_opened
+    entry-is dict same =
+        let one : List ℕ → ℕ → Dictionary → DictHome = λ n m x. record { name = d; home = n; kind = m; dict = x } in
+        ap (λ n. one n k dict) name-is
+        ∙ (ap (λ m. one r m dict) (sym kind) ∙ ap (one r new.kind) (same ∙ sym (ap (λ o. dictionary_of new (cells_held o)) opened-held)))
+
+    region-opened : (region : Region ℕ) → g.region ≡ region → with_region h.name (relabelled (name_of h.labels) region) (home_of h).kept s.homes ≡ map home_of after_hs
+    region-opened region same =
+        ap (λ q. with_region h.name (relabelled (name_of h.labels) q) (home_of h).kept s.homes) (sym same)
+        ∙ (ap (λ l. with_region h.name (relabelled (name_of l) g.region) (kept_of l) s.homes) (sym labels)
+        ∙ homes-change slots hs j h g at session change h.name (subst (λ n. IsFirst (is_home n) (map home_of hs) j) (sym name-is) first))
+
+    gives-opened : (gone : List Gone) (o : Outcome (Grown ℕ)) (t : Stepped) → HasGrown o g.region (dictionary_of new g.cells) → t ≡ dict_opened s (home_of h) d k (done_as (relabel_grown (name_of h.labels)) o) → GivesStep t gone (reply.Opened d) opened_state gone
+    gives-opened gone (model.Refused fault) t grown is = absurd grown
+    gives-opened gone (model.Done x) t grown is =
+        record {
+          replied = ap (λ (q : Stepped). q.reply) is;
+          state_after =
+              ap (λ (q : Stepped). q.state) is
+              ∙ (ap (λ q. with_both q (s.dicts ++ (let y : DictHome = record { name = d; home = h.name; kind = k; dict = x.dict } in y) ∷ [])) (region-opened x.region grown.0)
+              ∙ (ap (λ q. with_both (map home_of after_hs) (s.dicts ++ q ∷ [])) (entry-is x.dict (sym grown.1))
+              ∙ ap (with_both (map home_of after_hs)) (sym homes-opened)));
+          told = sym (ap (λ (q : Stepped). tell q.told gone) is);
+        }
+
+    pub open-done : (gone : List Gone) → dict_refused s (home_of h) d k ≡ None → HasGrown (open_dictionary h.disc.terms h.region 0 method false) g.region (dictionary_of new g.cells) → GivesStep (open_dict_step s d method r k (need_shown (reply.Opened d))) gone (reply.Opened d) opened_state gone
+    open-done gone none grown =
+        gives-opened gone (open_dictionary h.disc.terms h.region 0 method false) (open_dict_step s d method r k (need_shown (reply.Opened d))) grown (step-open (need_shown (reply.Opened d)) none)

@@ -1,0 +1,207 @@
+-- A command on a dictionary, over the regions and dictionaries of a session as they are stored.
+use Rattle.std.proofs.Common.{◌≡◌, ℕ, ◌-◌, ◌<◌, zero, suc, true, List, [], ◌∷◌, Some, length, map, set, refl, sym, ap, ◌∙◌, subst, arith}
+use Rattle.std.specs.Prelude.{slice_get}
+use Rattle.std.specs.List.{position}
+use Rattle.std.specs.Str.{bytes_eq}
+use Rattle.std.specs.Map.{keys_of, values_of}
+use Rattle.std.proofs.lemmas.List.{length-map}
+use Rattle.std.proofs.lemmas.Option.{none-some, same_Some}
+use Rattle.indexmap.specs.IndexMap.{set_value_at}
+use Rattle.vc_model.specs.Discipline.{Discipline}
+use Rattle.vc_model.specs.Numbered.{at_number}
+use Rattle.vc_dict.specs.declared.dict.Dict.{Dict}
+use Rattle.vc_dtdisc.specs.Rules.{Gone, Rules}
+use Rattle.vc_region.specs.Cells.{cells_in, rest_in}
+use Rattle.vc_region.specs.Parts.{disc_in}
+use Rattle.vc_region.specs.declared.region.Region.{Region}
+use Rattle.vc_objects.specs.Leaves.{LeavesRest}
+use Rattle.vc_objects.specs.Objects.{is_best, owned}
+use Rattle.vc_objects.specs.Parts.{IsWhole, dictionary_in}
+use Rattle.vc_commands.specs.Commands.{in_dict}
+use Rattle.vc_commands.specs.Run.{GivesDict, IsSpent, LacksBy, seat_in}
+use Rattle.vc_commands.specs.Seat.{Seat}
+use Rattle.vc_script.specs.Needs.{Need, need_shown}
+use Rattle.vc_script.specs.declared.command.Command.{Command}
+use Rattle.vc_script.specs.declared.command.Command.TheVariants.{Shut}
+use Rattle.vc_script.specs.declared.reply.Reply.{Reply}
+use Rattle.vc_session.specs.declared.dicts.DictEntry.{DictEntry}
+use Rattle.vc_session.specs.declared.home.HomeEntry.{HomeEntry}
+use Rattle.vc_session.specs.declared.labels.Labels.{Labels}
+use Rattle.vc_session.specs.Account.{Held, IsChange, IsHeld, IsSession, Settles, accounts, home_of, settled, state_of}
+use Rattle.vc_session.specs.DictHomes.{AreDicts, IsDictOf, dict_home, dicts_in}
+use Rattle.vc_session.specs.Dicts.{dict_changed, dict_command, dict_of, dict_step, is_dict, seat_of}
+use Rattle.vc_session.specs.Homes.{held_all, held_of}
+use Rattle.vc_session.specs.Lacks.{IsCutOff, StepLacksFor}
+use Rattle.vc_session.specs.Run.{refusal_at}
+use Rattle.vc_session.specs.State.{DictHome, Home, State, is_home}
+use Rattle.vc_session.specs.Step.{GivesStep}
+use Rattle.vc_session.proofs.Cells.{set_same}
+use Rattle.vc_session.proofs.Changing.{session-change, settles-none}
+use Rattle.vc_session.proofs.DictChange.{Touches, dict-at}
+use Rattle.vc_session.proofs.DictNamed.{first-dict, key-at, value-set}
+use Rattle.vc_session.proofs.DictRegion.{region-change, touches}
+use Rattle.vc_session.proofs.DictReplies.{IsOther, other-dict}
+use Rattle.vc_session.proofs.DictStep.{best-here, cut-after, dicts-after, lacks-after, settles-after, step-after, whole-here}
+use Rattle.vc_session.proofs.DictsStay.{Entry}
+use Rattle.vc_session.proofs.Firsts.{IsFirst}
+use Rattle.vc_session.proofs.Helds.{first-named, held-read, held-set, index-within, length-set, name-at, some-at}
+use Rattle.vc_session.proofs.Sessions.{Slots, held-at}
+
+-- what stands at a place, by its key and its value
+pub pair-read : {A : Type 0} (es : List (List ℕ × A)) (i : ℕ) (k : List ℕ) (x : A) → slice_get (keys_of es) i ≡ Some k → slice_get (values_of es) i ≡ Some x → slice_get es i ≡ Some (k, x)
+pair-read [] i k x key value = absurd (none-some k key)
+pair-read (e ∷ es) zero k x key value = ap (λ n. Some (n, e.1)) (same_Some e.0 k key) ∙ ap (λ y. Some (k, y)) (same_Some e.1 x value)
+pair-read (e ∷ es) (suc i) k x key value = pair-read es i k x key value
+
+-- any command but the one that ends a dictionary
+pub plain-command : (s : State) (command : Command) (need : Need) (d : DictHome) (h : Home) (rules : Rules) → ((x : List ℕ) → command ≡ Shut x → ⊥) → dict_command s command need d h rules ≡ dict_changed s d h (in_dict (seat_of d h rules) command need)
+plain-command s (Shut x) need d h rules other = absurd (other x refl)
+plain-command s command need d h rules other = refl
+
+module _ {I : Type 0} {V : I → Type 0} (meaning : (x : I) × V x → Discipline) (kinds : List Rules) (slots : Slots) (homes : List (List ℕ × HomeEntry I V)) (labels : List Labels) (es : List Entry) (name : List ℕ) (entry : DictEntry) (hv : HomeEntry I V) (j i : ℕ) (named : length labels ≡ length homes) (held : IsSession slots (held_all meaning homes labels)) (dicts : AreDicts kinds (held_all meaning homes labels) es) (at_home : position (bytes_eq entry.home) (keys_of homes) ≡ Some j) (home : slice_get (values_of homes) j ≡ Some hv) (at_dict : position (bytes_eq name) (keys_of es) ≡ Some i) (dict : slice_get (values_of es) i ≡ Some entry) where
+  abbrev hs : List Held
+  hs = held_all meaning homes labels
+
+  within : j < length labels
+  within = omega (arith, named, length-map homes (λ (x : List ℕ × HomeEntry I V). x.0), index-within meaning homes entry.home j at_home)
+
+  some-label : (l : Labels) × (slice_get labels j ≡ Some l)
+  some-label = some-at labels j within
+
+  abbrev l : Labels
+  l = some-label.0
+
+  abbrev h : Held
+  h = held_of meaning entry.home hv l
+
+  abbrev e : Entry
+  e = (name, entry)
+
+  at : slice_get hs j ≡ Some h
+  at = held-read meaning homes labels j entry.home hv l (name-at meaning homes entry.home j at_home) home some-label.1
+
+  there : slice_get es i ≡ Some e
+  there = pair-read es i name entry (key-at es name i at_dict) dict
+
+  first : IsFirst (is_home entry.home) (map home_of hs) j
+  first = first-named meaning homes labels entry.home j named at_home
+
+  first_dict : IsFirst (is_dict name) (dicts_in hs es) i
+  first_dict = first-dict hs es name i at_dict
+
+  abbrev s : State
+  s = state_of kinds slots hs (dicts_in hs es)
+
+  abbrev is : IsDictOf kinds hs e
+  is = dict-at kinds hs es i e there dicts
+
+  pub kind-there : (r : Rules) × (at_number kinds entry.dict.kind ≡ Some r)
+  kind-there = (is.rules, is.kind)
+
+  pub best-there : is_best (rest_in hv.region) ≡ true
+  best-there = best-here kinds slots hs es j i h e at there first first_dict held dicts refl
+
+  module _ (rules : Rules) (at_rules : at_number kinds entry.dict.kind ≡ Some rules) where
+    rules-is : rules ≡ is.rules
+    rules-is = same_Some rules is.rules (sym at_rules ∙ is.kind)
+
+    pub whole-there : IsWhole rules entry.dict (cells_in hv.region)
+    whole-there =
+        subst (λ r. IsWhole r entry.dict (cells_in hv.region)) (sym rules-is)
+        (whole-here kinds slots hs es j i h e at there first first_dict held dicts refl)
+
+    module _ (after : Region I V) (new : Dict) (leaves : LeavesRest meaning rules hv.region entry.dict after new) (kinds' : List Rules) (same_kinds : kinds' ≡ kinds) where
+      abbrev g : Held
+      g = held_of meaning entry.home (record { place = hv.place; region = after }) l
+
+      abbrev mine : List ℕ
+      mine = owned (dictionary_in entry.dict hv.region)
+
+      abbrev mine' : List ℕ
+      mine' = owned (dictionary_in new after)
+
+      change : IsChange (let k : Held = record h { cells = cells_in after } in k) g
+      change =
+          let is_held : IsHeld slots h = held-at slots hs j h at held in
+          region-change meaning entry.home hv after l mine mine' best-there leaves.rest is_held.lent is_held.names
+
+      touch : Touches h g mine mine'
+      touch = touches meaning entry.home hv after l mine mine' best-there leaves.rest
+
+      whole-new : IsWhole is.rules new (cells_in after)
+      whole-new = subst (λ r. IsWhole r new (cells_in after)) rules-is leaves.whole
+
+      abbrev n : Entry
+      n = (name, record { home = entry.home; dict = new })
+
+      abbrev hs' : List Held
+      hs' = held_all meaning (set_value_at homes j (record { place = hv.place; region = after })) labels
+
+      abbrev es' : List Entry
+      es' = set_value_at es i (record { home = entry.home; dict = new })
+
+      held-is : hs' ≡ set hs j g
+      held-is =
+          ap (held_all meaning (set_value_at homes j (record { place = hv.place; region = after }))) (sym (set_same labels j l some-label.1))
+          ∙ held-set meaning homes labels j entry.home (record { place = hv.place; region = after }) l named (name-at meaning homes entry.home j at_home)
+
+      es-is : es' ≡ set es i n
+      es-is = value-set es i name entry (record { home = entry.home; dict = new }) there
+
+      carry : (P : List Rules → List Held → List Entry → Type 0) → P kinds (set hs j g) (set es i n) → P kinds' hs' es'
+      carry P p = subst (λ x. P x hs' es') (sym same_kinds) (subst (λ x. P kinds x es') (sym held-is) (subst (P kinds (set hs j g)) (sym es-is) p))
+
+      pub session-ran : IsSession slots hs'
+      session-ran = carry (λ ks xs ys. IsSession slots xs) (session-change slots hs j h g at held change)
+
+      pub named-ran : length labels ≡ length (set_value_at homes j (record { place = hv.place; region = after }))
+      named-ran =
+          ap length (sym (set_same labels j l some-label.1))
+          ∙ length-set meaning homes labels j (record { place = hv.place; region = after }) l named
+
+      pub dicts-ran : AreDicts kinds' hs' es'
+      dicts-ran =
+          carry AreDicts
+          (dicts-after kinds slots hs es j i h e at there first first_dict held dicts refl g new change touch refl leaves.kind whole-new)
+
+      pub keeps-ran : Settles (settled (accounts slots) hs) (settled (accounts slots) hs') []
+      keeps-ran =
+          carry (λ ks xs ys. Settles (settled (accounts slots) hs) (settled (accounts slots) xs) [])
+          (settles-none slots hs j h g at held change)
+
+      abbrev tags : Seat ℕ
+      tags = seat_in meaning rules hv.region entry.dict
+
+      -- the seat by the rules that the kind has
+      abbrev seat_by : Rules → Seat ℕ
+      seat_by r = record { rules = r; terms = tags.terms; none = tags.none; region = tags.region; dict = tags.dict }
+
+      pub step-ran : (command : Command) (reply : Reply) (gone gone' : List Gone) (old told : Gone) → ((x : List ℕ) → command ≡ Shut x → ⊥) → GivesDict (in_dict tags command (need_shown reply)) (rest_in after) (dictionary_in new after) reply old told → at_number gone entry.dict.kind ≡ Some old → gone' ≡ set gone (entry.dict.kind - 1) told → GivesStep (dict_step s name command (need_shown reply)) gone reply (state_of kinds' slots hs' (dicts_in hs' es')) gone'
+      step-ran command reply gone gone' old told other gives at_gone is_gone =
+          carry (λ ks xs ys. GivesStep (dict_step s name command (need_shown reply)) gone reply (state_of ks slots xs (dicts_in xs ys)) gone')
+          (step-after kinds slots hs es j i h e at there first first_dict held dicts refl g new change touch refl leaves.kind whole-new command reply gone gone' old told
+          (plain-command s command (need_shown reply) (dict_home hs e) (home_of h) is.rules other)
+          (subst (λ r. GivesDict (in_dict (seat_by r) command (need_shown reply)) (rest_in after) (dictionary_in new after) reply old told) rules-is gives)
+          at_gone is_gone)
+
+      lacks-by : (command : Command) (reply : Reply) → LacksBy tags command reply (disc_in meaning hv.region) (disc_in meaning after) → LacksBy (seat_by is.rules) command reply (disc_in meaning hv.region) (disc_in meaning after)
+      lacks-by command reply lacks = subst (λ r. LacksBy (seat_by r) command reply (disc_in meaning hv.region) (disc_in meaning after)) rules-is lacks
+
+      pub settles-ran : (command : Command) (reply : Reply) → dict_of command ≡ Some name → IsOther reply → LacksBy tags command reply (disc_in meaning hv.region) (disc_in meaning after) → Settles (settled (accounts slots) hs) (settled (accounts slots) hs') (refusal_at s command reply)
+      settles-ran command reply works other lacks =
+          carry (λ ks xs ys. Settles (settled (accounts slots) hs) (settled (accounts slots) xs) (refusal_at s command reply))
+          (settles-after kinds slots hs es j i h e at there first first_dict held dicts refl g new change touch refl leaves.kind whole-new command reply works other (lacks-by command reply lacks))
+
+      pub lacks-ran : (command : Command) (reply : Reply) → dict_of command ≡ Some name → LacksBy tags command reply (disc_in meaning hv.region) (disc_in meaning after) → StepLacksFor s hs hs' command reply
+      lacks-ran command reply works lacks =
+          carry (λ ks xs ys. StepLacksFor s hs xs command reply)
+          (lacks-after kinds slots hs es j i h e at there first first_dict held dicts refl g new change touch refl leaves.kind whole-new command reply works (lacks-by command reply lacks))
+
+      pub cut-ran : (command : Command) → dict_of command ≡ Some name → IsSpent tags (rest_in after) (dictionary_in new after) → IsCutOff s command (state_of kinds' slots hs' (dicts_in hs' es'))
+      cut-ran command works spent =
+          carry (λ ks xs ys. IsCutOff s command (state_of ks slots xs (dicts_in xs ys)))
+          (cut-after kinds slots hs es j i h e at there first first_dict held dicts refl g new change touch refl leaves.kind whole-new command works spent)
+
+      -- its reply is of no block's segment
+      pub other-ran : (command : Command) (reply : Reply) (old told : Gone) → GivesDict (in_dict tags command (need_shown reply)) (rest_in after) (dictionary_in new after) reply old told → IsOther reply
+      other-ran command reply old told gives = subst IsOther gives.reply (other-dict tags command (need_shown reply))

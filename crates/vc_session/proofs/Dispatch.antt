@@ -1,0 +1,201 @@
+-- Which part of a session runs a command: a dictionary's, a region's, or the shelf's.
+use Rattle.std.proofs.Common.{◌≡◌, ℕ, Bool, true, false, cond, List, [], Option, Some, None, Result, Ok, IfOk, OnErr, refl, sym, ap, ◌∙◌, subst, inl}
+use Rattle.std.specs.List.{list_any}
+use Rattle.vc_base.specs.declared.dict_method.DictMethod.{DictMethod}
+use Rattle.vc_model.specs.Discipline.{Discipline, Terms}
+use Rattle.vc_model.specs.Numbered.{at_number}
+use Rattle.vc_model.specs.Outcome as model
+use Rattle.vc_model.specs.Outcome.{Fault, Outcome}
+use Rattle.vc_dtdisc.specs.Rules.{Gone, Rules}
+use Rattle.vc_region.specs.Region.{Region}
+use Rattle.vc_region.specs.Stat.{opened}
+use Rattle.vc_objects.specs.Insert.{Grown, open_dictionary, want_of}
+use Rattle.vc_objects.specs.declared.fate.Want.{Want}
+use Rattle.vc_objects.specs.declared.fate.Want.TheVariants as want
+use Rattle.vc_commands.specs.Commands.{is_for_table, table_refusal}
+use Rattle.vc_script.specs.Needs.{Need, need_shown}
+use Rattle.vc_script.specs.declared.command.Command.{Command}
+use Rattle.vc_script.specs.declared.command.Command.TheVariants.{OpenRegion, CloseRegion, OpenDict, Shut}
+use Rattle.vc_script.specs.declared.refusal.Refusal.{Refusal}
+use Rattle.vc_script.specs.declared.refusal.Refusal.TheVariants as why
+use Rattle.vc_script.specs.declared.reply.Reply.{Reply}
+use Rattle.vc_script.specs.declared.reply.Reply.TheVariants.{Refused}
+use Rattle.vc_seg.specs.declared.method.Method.{Method}
+use Rattle.vc_session.specs.Account.{Account, Held, Settles}
+use Rattle.vc_session.specs.Dicts.{dict_command, dict_named, dict_of, dict_opened, dict_refused, dict_step, on_found, on_seat, open_dict_in, open_dict_unless, seat_of}
+use Rattle.vc_session.specs.Homes.{HoldsDicts, held_in, settled_over, state_over}
+use Rattle.vc_session.specs.Lacks.{IsCutOff, StepLacksFor}
+use Rattle.vc_session.specs.declared.session.Session.{Session}
+use Rattle.vc_seg.specs.declared.shelf.Shelf.{Shelf}
+use Rattle.vc_session.specs.Run.{refusal_at}
+use Rattle.vc_session.specs.State.{DictHome, Home, Label, State, Stepped, close_home, close_step, closed, home_named, is_busy, is_home, open_step, opened_over, refused, stepped}
+use Rattle.vc_session.specs.Step.{GivesStep, StepsTo, region_of, shelf_step, step_of, step_on}
+use Rattle.vc_session.proofs.DictReplies.{IsOther, other-dict}
+use Rattle.vc_session.proofs.Grants.{IsGranted}
+use Rattle.vc_session.proofs.OnShelf.{if_ok, ok-at, on_error}
+
+-- the step of a command is that of its part
+module _ (s after : State) (gone gone' : List Gone) (line : ℕ) (command : Command) (reply : Reply) where
+  pub on-dict : (name : List ℕ) → dict_of command ≡ Some name → GivesStep (dict_step s name command (need_shown reply)) gone reply after gone' → StepsTo s gone line command reply after gone'
+  on-dict name works gives = subst (λ o. GivesStep (step_on s line command (need_shown reply) o) gone reply after gone') (sym works) gives
+
+  pub on-region : (region : Option (List ℕ)) → dict_of command ≡ None → region_of command ≡ region → GivesStep (step_of s line command (need_shown reply) region) gone reply after gone' → StepsTo s gone line command reply after gone'
+  on-region region none works gives =
+      subst (λ o. GivesStep (step_on s line command (need_shown reply) o) gone reply after gone') (sym none)
+      (subst (λ o. GivesStep (step_of s line command (need_shown reply) o) gone reply after gone') (sym works) gives)
+
+-- a step that tells no kind and is granted no segment
+pub gives-stepped : (t : Stepped) (after : State) (reply : Reply) (gone : List Gone) → t ≡ stepped after reply → GivesStep t gone reply after gone
+gives-stepped t after reply gone e =
+    subst (λ u. GivesStep u gone reply after gone) (sym e) (record { replied = refl; state_after = refl; told = refl })
+
+-- where no segment is refused none is lacking
+pub granted-lacks : (s : State) (before after : List Held) (command : Command) (reply : Reply) → IsGranted reply → StepLacksFor s before after command reply
+granted-lacks s before after command (Refused why.NoSegmentForTable) granted = absurd granted
+granted-lacks s before after command (Refused why.NoSegmentForObject) granted = absurd granted
+granted-lacks s before after command reply granted = tt
+
+granted-none : (s : State) (command : Command) (reply : Reply) → IsGranted reply → refusal_at s command reply ≡ []
+granted-none s command (Refused why.NoSegment) granted = absurd granted
+granted-none s command (Refused why.NoSegmentForTable) granted = absurd granted
+granted-none s command (Refused why.NoSegmentForObject) granted = absurd granted
+granted-none s command reply granted = refl
+
+pub granted-settles : (s : State) (before after : List (Option Account)) (command : Command) (reply : Reply) → IsGranted reply → Settles before after [] → Settles before after (refusal_at s command reply)
+granted-settles s before after command reply granted settles = subst (Settles before after) (sym (granted-none s command reply granted)) settles
+
+granted-opened : (s : State) (r : List ℕ) (n : ℕ) (region : Region Label) (place : Option (Option Terms)) → IsGranted (opened_over s r n region place).reply
+granted-opened s r n region None = tt
+granted-opened s r n region (Some None) = tt
+granted-opened s r n region (Some (Some terms)) = tt
+
+holds-cond : (P : Reply → Type 0) (t : Bool) (a b : Stepped) → P a.reply → P b.reply → P (cond t a b).reply
+holds-cond P true a b p q = p
+holds-cond P false a b p q = q
+
+granted-open : (s : State) (r : List ℕ) (method : Method) (n : ℕ) → IsGranted (open_step s r method n).reply
+granted-open s r method n =
+    let over = opened_over s r n (opened method) (at_number s.shelf n) in
+    holds-cond IsGranted (list_any (is_home r) s.homes) (refused s why.RegionExists) over tt (granted-opened s r n (opened method) (at_number s.shelf n))
+
+granted-close_home : (s : State) (r : List ℕ) (o : Option Home) → IsGranted (close_home s r o).reply
+granted-close_home s r None = tt
+granted-close_home s r (Some h) = holds-cond IsGranted (is_busy s r) (refused s why.Busy) (closed s r h) tt tt
+
+-- the reply where a region is opened or closed
+pub open-granted : (s after : State) (r : List ℕ) (method : Method) (n : ℕ) (reply : Reply) → open_step s r method n ≡ stepped after reply → IsGranted reply
+open-granted s after r method n reply e = subst IsGranted (ap (λ (t : Stepped). t.reply) e) (granted-open s r method n)
+
+pub close-granted : (s after : State) (r : List ℕ) (reply : Reply) → close_step s r ≡ stepped after reply → IsGranted reply
+close-granted s after r reply e = subst IsGranted (ap (λ (t : Stepped). t.reply) e) (granted-close_home s r (home_named r s.homes))
+
+-- no segment is refused for a block where a command works in no region's blocks
+granted-other : (reply : Reply) → IsGranted reply → IsOther reply
+granted-other (Refused why.NoSegment) granted = absurd granted
+granted-other reply granted = tt
+
+other-table : (w : Want) → IsOther (Refused (table_refusal w))
+other-table want.TooManySegments = tt
+other-table want.NoSegment = tt
+
+other-dict_opened : (s : State) (h : Home) (d : List ℕ) (k : ℕ) (o : Outcome (Grown Label)) → IsOther (dict_opened s h d k o).reply
+other-dict_opened s h d k (model.Refused fault) = other-table (want_of fault)
+other-dict_opened s h d k (model.Done g) = tt
+
+abbrev IsOtherWhy : Option Refusal → Type 0
+IsOtherWhy None = Unit {0}
+IsOtherWhy (Some w) = IsOther (Refused w)
+
+why-cond : (t : Bool) (a b : Option Refusal) → IsOtherWhy a → IsOtherWhy b → IsOtherWhy (cond t a b)
+why-cond true a b p q = p
+why-cond false a b p q = q
+
+other-refused : (exists kind best many : Bool) → IsOtherWhy (let o : Option Refusal = cond exists (Some why.DictionaryExists) (cond kind (Some why.NoSuchKind) (cond best (Some why.WrongMethod) (cond many (Some why.TooManyDictionaries) None))) in o)
+other-refused true kind best many = tt
+other-refused false true best many = tt
+other-refused false false true many = tt
+other-refused false false false true = tt
+other-refused false false false false = tt
+
+other-unless : (s : State) (h : Home) (d : List ℕ) (method : DictMethod) (k : ℕ) (need : Need) (o : Option Refusal) → IsOtherWhy o → IsOther (open_dict_unless s h d method k need o).reply
+other-unless s h d method k need None other = other-dict_opened s h d k (open_dictionary h.terms h.region None method (is_for_table need))
+other-unless s h d method k need (Some refusal) other = other
+
+other-open_in : (s : State) (d : List ℕ) (method : DictMethod) (k : ℕ) (need : Need) (o : Option Home) → IsOther (open_dict_in s d method k need o).reply
+other-open_in s d method k need None = tt
+other-open_in s d method k need (Some h) = other-unless s h d method k need (dict_refused s h d k) (other-refused _ _ _ _)
+
+other-shelf : (s : State) (command : Command) (need : Need) → IsOther (shelf_step s command need).reply
+other-shelf s (OpenRegion r method n) need = granted-other (open_step s r method n).reply (granted-open s r method n)
+other-shelf s (CloseRegion r) need = granted-other (close_step s r).reply (granted-close_home s r (home_named r s.homes))
+other-shelf s (OpenDict d method r k) need = other-open_in s d method k need (home_named r s.homes)
+other-shelf s command need = tt
+
+other-command : (s : State) (command : Command) (need : Need) (d : DictHome) (h : Home) (rules : Rules) → IsOther (dict_command s command need d h rules).reply
+other-command s (Shut name) need d h rules = tt
+other-command s command need d h rules = other-dict (seat_of d h rules) command need
+
+other-seat : (s : State) (command : Command) (need : Need) (d : DictHome) (o : Option Home) (rules : Option Rules) → IsOther (on_seat s d (dict_command s command need) o rules).reply
+other-seat s command need d None rules = tt
+other-seat s command need d (Some h) None = tt
+other-seat s command need d (Some h) (Some rules) = other-command s command need d h rules
+
+other-found : (s : State) (command : Command) (need : Need) (o : Option DictHome) → IsOther (on_found s (dict_command s command need) o).reply
+other-found s command need None = tt
+other-found s command need (Some d) = other-seat s command need d (home_named d.home s.homes) (at_number s.kinds d.kind)
+
+other-told : (t : Stepped) (gone gone' : List Gone) (after : State) (reply : Reply) → IsOther t.reply → GivesStep t gone reply after gone' → reply ≡ Refused why.NoSegment → ⊥
+other-told t gone gone' after reply other gives e = subst IsOther (gives.replied ∙ e) other
+
+pub dict-served : (s after : State) (gone gone' : List Gone) (name : List ℕ) (command : Command) (need : Need) (reply : Reply) → GivesStep (dict_step s name command need) gone reply after gone' → reply ≡ Refused why.NoSegment → ⊥
+dict-served s after gone gone' name command need reply gives =
+    other-told (dict_step s name command need) gone gone' after reply (other-found s command need (dict_named name s.dicts)) gives
+
+pub shelf-served : (s after : State) (gone gone' : List Gone) (command : Command) (need : Need) (reply : Reply) → GivesStep (shelf_step s command need) gone reply after gone' → reply ≡ Refused why.NoSegment → ⊥
+shelf-served s after gone gone' command need reply gives =
+    other-told (shelf_step s command need) gone gone' after reply (other-shelf s command need) gives
+
+-- over any kinds, and so over those of a session
+module _ {I : Type 0} {V : I → Type 0} {D : Type 0} (meaning : (x : I) × V x → Discipline) (kinds : List Rules) (shelf shelf' : Shelf I V) (session session' : Session D I V) (dicts : HoldsDicts meaning kinds session) where
+  abbrev before : List Rules → State
+  before ks = state_over meaning ks shelf session
+
+  abbrev after : List Rules → State
+  after ks = state_over meaning ks shelf' session'
+
+  pub open-lacks : {E : Type 0} (r : List ℕ) (method : Method) (n : ℕ) (command : Command) (res : Result Reply E) → IfOk res (λ reply. (ks : List Rules) → HoldsDicts meaning ks session → open_step (before ks) r method n ≡ stepped (after ks) reply) → IfOk res (λ reply. StepLacksFor (before kinds) (held_in meaning session) (held_in meaning session') command reply)
+  open-lacks r method n command res each =
+      if_ok res (λ reply. (ks : List Rules) → HoldsDicts meaning ks session → open_step (before ks) r method n ≡ stepped (after ks) reply) (λ reply. StepLacksFor (before kinds) (held_in meaning session) (held_in meaning session') command reply)
+      (λ reply e. granted-lacks (before kinds) (held_in meaning session) (held_in meaning session') command reply (open-granted (before kinds) (after kinds) r method n reply (e kinds dicts))) each
+
+  pub close-lacks : (r : List ℕ) (command : Command) (reply : Reply) → ((ks : List Rules) → HoldsDicts meaning ks session → close_step (before ks) r ≡ stepped (after ks) reply) → StepLacksFor (before kinds) (held_in meaning session) (held_in meaning session') command reply
+  close-lacks r command reply e =
+      granted-lacks (before kinds) (held_in meaning session) (held_in meaning session') command reply (close-granted (before kinds) (after kinds) r reply (e kinds dicts))
+
+  pub any-err : {E : Type 0} (res : Result Reply E) → OnErr res ((ks : List Rules) → HoldsDicts meaning ks session → after ks ≡ before ks) → OnErr res (after kinds ≡ before kinds)
+  any-err res each = on_error res ((ks : List Rules) → HoldsDicts meaning ks session → after ks ≡ before ks) (after kinds ≡ before kinds) (λ e. e kinds dicts) each
+
+  pub region-steps : {E : Type 0} (gone : List Gone) (line : ℕ) (command : Command) (name : List ℕ) (res : Result Reply E) → dict_of command ≡ None → region_of command ≡ Some name → IfOk res (λ reply. (ks : List Rules) → HoldsDicts meaning ks session → (told : List Gone) → GivesStep (step_of (before ks) line command (need_shown reply) (Some name)) told reply (after ks) told) → IfOk res (λ reply. StepsTo (before kinds) gone line command reply (after kinds) gone)
+  region-steps gone line command name res none works each =
+      if_ok res (λ reply. (ks : List Rules) → HoldsDicts meaning ks session → (told : List Gone) → GivesStep (step_of (before ks) line command (need_shown reply) (Some name)) told reply (after ks) told) (λ reply. StepsTo (before kinds) gone line command reply (after kinds) gone)
+      (λ reply gives. on-region (before kinds) (after kinds) gone gone line command reply (Some name) none works (gives kinds dicts gone)) each
+
+  pub region-err : {E : Type 0} (gone : List Gone) (command : Command) (res : Result Reply E) → OnErr res ((ks : List Rules) → HoldsDicts meaning ks session → after ks ≡ before ks) → OnErr res ((gone ≡ gone) × IsCutOff (before kinds) command (after kinds))
+  region-err gone command res each =
+      on_error res ((ks : List Rules) → HoldsDicts meaning ks session → after ks ≡ before ks) ((gone ≡ gone) × IsCutOff (before kinds) command (after kinds)) (λ e. (refl, inl (e kinds dicts))) each
+
+  pub region-settles : {E : Type 0} (command : Command) (res : Result Reply E) → IfOk res (λ reply. (ks : List Rules) → Settles (settled_over meaning shelf session) (settled_over meaning shelf' session') (refusal_at (before ks) command reply)) → IfOk res (λ reply. Settles (settled_over meaning shelf session) (settled_over meaning shelf' session') (refusal_at (before kinds) command reply))
+  region-settles command res each =
+      if_ok res (λ reply. (ks : List Rules) → Settles (settled_over meaning shelf session) (settled_over meaning shelf' session') (refusal_at (before ks) command reply)) (λ reply. Settles (settled_over meaning shelf session) (settled_over meaning shelf' session') (refusal_at (before kinds) command reply))
+      (λ reply e. e kinds) each
+
+  pub region-lacks : {E : Type 0} (command : Command) (res : Result Reply E) → IfOk res (λ reply. (ks : List Rules) → StepLacksFor (before ks) (held_in meaning session) (held_in meaning session') command reply) → IfOk res (λ reply. StepLacksFor (before kinds) (held_in meaning session) (held_in meaning session') command reply)
+  region-lacks command res each =
+      if_ok res (λ reply. (ks : List Rules) → StepLacksFor (before ks) (held_in meaning session) (held_in meaning session') command reply) (λ reply. StepLacksFor (before kinds) (held_in meaning session) (held_in meaning session') command reply)
+      (λ reply e. e kinds) each
+
+-- a command on a dictionary is refused no segment for a block
+pub dict-unserved : {E : Type 0} (s after : State) (gone gone' : List Gone) (name : List ℕ) (command : Command) (res : Result Reply E) → IfOk res (λ reply. GivesStep (dict_step s name command (need_shown reply)) gone reply after gone') → res ≡ Ok (Refused why.NoSegment) → ⊥
+dict-unserved s after gone gone' name command res each is =
+    dict-served s after gone gone' name command (need_shown (Refused why.NoSegment)) (Refused why.NoSegment)
+    (ok-at res (Refused why.NoSegment) (λ reply. GivesStep (dict_step s name command (need_shown reply)) gone reply after gone') is each) refl

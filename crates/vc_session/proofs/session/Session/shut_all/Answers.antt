@@ -1,0 +1,56 @@
+use Rattle.std.proofs.Common.{◌≡◌, [], ap, ◌∙◌, subst, sym, refl, arith}
+use Rattle.std.specs.List.{flat_map}
+use Rattle.vc_objects.specs.Remove.{bytes_of}
+use Rattle.vc_session.specs.Dicts.{shut_state, told_of}
+use Rattle.vc_session.specs.DictHomes.{AreDicts, dict_home, dicts_in}
+use Rattle.vc_session.specs.Homes.{held_in, settled_over, slots_on, state_over}
+use Rattle.vc_session.specs.State.{DictHome}
+use Rattle.vc_session.specs.Told.{gone_in, rules_in, tell}
+use Rattle.vc_session.proofs.Ending.{gone-shut, if_some-at, nothing-left}
+use Rattle.vc_session.proofs.Helds.{some-at}
+use Rattle.vc_session.proofs.Settling.{settles-trans}
+use Rattle.vc_session.proofs.session.Session.shut_all.Invariants.{meaning}
+use Rattle.vc_session.proofs.session.Session.shut_all.Goals as goal
+
+pub loop-self-preserved : goal.loop-self-preserved
+loop-self-preserved g c =
+    let M = meaning g in
+    let rules = rules_in g.D.DictDisc.rules in
+    let gone = gone_in g.D.DictDisc.gone in
+    let shelf = c.args.shelf.now in
+    let old = c.loop-self.self in
+    let new = c.shut_at.new.self in
+    let first = c.args.kinds.now.items in
+    let kinds = c.loop-self.kinds.items in
+    let after = c.shut_at.new.kinds.items in
+    let held = held_in M old in
+    let front = some-at old.dicts.entries 0 (omega (arith, c.shut_at.ensures.fewer)) in
+    let e = front.0 in
+    let shut : state_over M (rules after) shelf new ≡ shut_state (state_over M (rules kinds) shelf old) (dict_home held e) =
+    if_some-at (λ x. state_over M (rules after) shelf new ≡ shut_state (state_over M (rules kinds) shelf old) (dict_home held x)) _ e front.1 c.shut_at.ensures.state in
+    let told : gone after ≡ tell (told_of e.1.dict.kind (bytes_of (dict_home held e).dict.objects)) (gone kinds) =
+    if_some-at (λ x. gone after ≡ tell (told_of x.1.dict.kind (bytes_of (dict_home held x).dict.objects)) (gone kinds)) _ e front.1 c.shut_at.ensures.gone in
+    let same : rules after ≡ rules first = c.shut_at.ensures.rules ∙ c.loop-self.invariant.rules in
+    record {
+      session = c.shut_at.ensures.session;
+      rules = same;
+      gone =
+          gone-shut (rules first) (slots_on M shelf) held old.dicts.entries (state_over M (rules first) shelf new) (gone kinds) (gone after)
+          (subst (λ r. AreDicts r held old.dicts.entries) c.loop-self.invariant.rules c.loop-self.invariant.session.dicts)
+          e front.1
+          (ap (λ r. state_over M r shelf new) (sym same) ∙ (shut ∙ ap (λ r. shut_state (state_over M r shelf old) (dict_home held e)) c.loop-self.invariant.rules))
+          told
+          ∙ c.loop-self.invariant.gone;
+      settles =
+          settles-trans (settled_over M shelf c.args.self.now) (settled_over M shelf old) (settled_over M shelf new) [] [] c.loop-self.invariant.settles c.shut_at.ensures.keeps;
+    }
+
+pub returns-clause-none : goal.returns-clause-none
+returns-clause-none g c = nothing-left c.loop-self.self.dicts.entries (c.loop-self-test.ensures.0 refl)
+
+pub returns-clause-gone : goal.returns-clause-gone
+returns-clause-gone g c =
+    let M = meaning g in
+    let none = nothing-left c.loop-self.self.dicts.entries (c.loop-self-test.ensures.0 refl) in
+    let each : DictHome → _ = λ d. told_of d.kind (bytes_of d.dict.objects) in
+    sym (ap (λ es. tell (flat_map each (dicts_in (held_in M c.loop-self.self) es)) (gone_in g.D.DictDisc.gone c.loop-self.kinds.items)) none) ∙ c.loop-self.invariant.gone

@@ -1,0 +1,158 @@
+-- The dictionaries of a session, and the commands that open one, work on one, and end it.
+use Rattle.std.specs.Prelude.{ℕ, List, [], ◌∷◌, ◌++◌, Option, Some, None, Bool, length, find, map, nat_le, not, option_map, ◌&&◌, if◌then◌else◌}
+use Rattle.std.specs.List.{list_any}
+use Rattle.std.specs.Str.{bytes_eq}
+use Rattle.vc_base.specs.declared.dict_method.DictMethod.{DictMethod}
+use Rattle.vc_model.specs.Numbered.{at_number}
+use Rattle.vc_model.specs.Outcome as model
+use Rattle.vc_model.specs.Outcome.{Outcome}
+use Rattle.vc_dtdisc.specs.Rules.{Rules}
+use Rattle.vc_objects.specs.Insert.{Grown, open_dictionary, want_of}
+use Rattle.vc_objects.specs.Objects.{Dictionary, is_best}
+use Rattle.vc_objects.specs.Remove.{bytes_of, region_without}
+use Rattle.vc_commands.specs.Commands.{in_dict, is_for_table, table_refusal}
+use Rattle.vc_commands.specs.Seat.{DictChanged, Seat}
+use Rattle.vc_script.specs.Needs.{Need}
+use Rattle.vc_script.specs.declared.command.Command.{Command}
+use Rattle.vc_script.specs.declared.command.Command.TheVariants.{Insert, Append, Attach, Delete, Detach, Search, MatchKey, First, Last, Next, Prev, Walk, Count, Remethod, Empty, Shut}
+use Rattle.vc_script.specs.declared.refusal.Refusal.{Refusal}
+use Rattle.vc_script.specs.declared.refusal.Refusal.TheVariants as why
+use Rattle.vc_script.specs.declared.reply.Reply.TheVariants.{Opened, ShutDown}
+use Rattle.vc_session.specs.State.{DictHome, Home, Label, State, Stepped, home_named, refused, with_region}
+
+-- the dictionary that a command works on
+abbrev pub dict_of : Command → Option (List ℕ)
+dict_of (Insert d bytes) = Some d
+dict_of (Append d bytes) = Some d
+dict_of (Attach d bytes) = Some d
+dict_of (Delete d bytes) = Some d
+dict_of (Detach d bytes) = Some d
+dict_of (Search d bytes) = Some d
+dict_of (MatchKey d key) = Some d
+dict_of (First d) = Some d
+dict_of (Last d) = Some d
+dict_of (Next d bytes) = Some d
+dict_of (Prev d bytes) = Some d
+dict_of (Walk d) = Some d
+dict_of (Count d) = Some d
+dict_of (Remethod d method) = Some d
+dict_of (Empty d) = Some d
+dict_of (Shut d) = Some d
+dict_of command = None
+
+abbrev pub is_dict : List ℕ → DictHome → Bool
+is_dict d h = bytes_eq h.name d
+
+abbrev pub dict_named : List ℕ → List DictHome → Option DictHome
+dict_named d dicts = find (is_dict d) dicts
+
+-- the dictionaries with another one of that name, and those without it
+abbrev pub with_dict : List ℕ → Dictionary → List DictHome → List DictHome
+with_dict d dict [] = []
+with_dict d dict (h ∷ hs) = if is_dict d h then (record h { dict = dict }) ∷ hs else h ∷ with_dict d dict hs
+
+abbrev pub without_dict : List ℕ → List DictHome → List DictHome
+without_dict d [] = []
+without_dict d (h ∷ hs) = if is_dict d h then hs else h ∷ without_dict d hs
+
+-- objects that a kind is told of, each with the kind's number
+abbrev pub told_of : ℕ → List (List ℕ) → List (ℕ × List ℕ)
+told_of kind objects = map (λ o. (kind, o)) objects
+
+-- where a command on a dictionary works
+abbrev pub seat_of : DictHome → Home → Rules → Seat Label
+seat_of d h rules = record { rules = rules; terms = h.terms; none = None; region = h.region; dict = d.dict }
+
+-- the state with the change of a dictionary and of its region
+abbrev pub dict_changed : State → DictHome → Home → DictChanged Label → Stepped
+dict_changed s d h c =
+    record {
+      state = record s { homes = with_region h.name c.region h.kept s.homes; dicts = with_dict d.name c.dict s.dicts };
+      reply = c.reply;
+      told = told_of d.kind c.told;
+      granted = c.granted;
+    }
+
+-- a dictionary ends: its objects are told to its kind, and its blocks go
+abbrev pub shut_in : State → DictHome → Option Home → State
+shut_in s d None = s
+shut_in s d (Some h) =
+    record s { homes = with_region h.name (region_without h.region d.dict) h.kept s.homes; dicts = without_dict d.name s.dicts }
+
+abbrev pub shut_state : State → DictHome → State
+shut_state s d = shut_in s d (home_named d.home s.homes)
+
+abbrev pub dict_shut : State → DictHome → Stepped
+dict_shut s d =
+    record {
+      state = shut_state s d;
+      reply = ShutDown d.name;
+      told = told_of d.kind (bytes_of d.dict.objects);
+      granted = [];
+    }
+
+abbrev pub dict_command : State → Command → Need → DictHome → Home → Rules → Stepped
+dict_command s (Shut name) need d h rules = dict_shut s d
+dict_command s command need d h rules = dict_changed s d h (in_dict (seat_of d h rules) command need)
+
+-- what is done with a dictionary, in its region and by its kind's rules
+abbrev pub on_seat : State → DictHome → (DictHome → Home → Rules → Stepped) → Option Home → Option Rules → Stepped
+on_seat s d act None rules = refused s why.NoDictionary
+on_seat s d act (Some h) None = refused s why.NoDictionary
+on_seat s d act (Some h) (Some rules) = act d h rules
+
+abbrev pub on_found : State → (DictHome → Home → Rules → Stepped) → Option DictHome → Stepped
+on_found s act None = refused s why.NoDictionary
+on_found s act (Some d) = on_seat s d act (home_named d.home s.homes) (at_number s.kinds d.kind)
+
+-- a command on the dictionary of that name
+abbrev pub dict_step : State → List ℕ → Command → Need → Stepped
+dict_step s name command need = on_found s (dict_command s command need) (dict_named name s.dicts)
+
+-- a session has at most so many dictionaries at once
+abbrev pub dict_limit : ℕ
+dict_limit = 256
+
+-- whether there is a kind of that number, from 1 on
+abbrev pub is_kind : State → ℕ → Bool
+is_kind s k = nat_le 1 k && nat_le k (length s.kinds)
+
+-- why no dictionary is opened in a region, before its table is asked for
+abbrev pub dict_refused : State → Home → List ℕ → ℕ → Option Refusal
+dict_refused s h d k =
+    if list_any (is_dict d) s.dicts then Some why.DictionaryExists
+    else if not (is_kind s k) then Some why.NoSuchKind
+    else if not (is_best h.region) then Some why.WrongMethod
+    else if nat_le dict_limit (length s.dicts) then Some why.TooManyDictionaries
+    else None
+
+abbrev pub dict_opened : State → Home → List ℕ → ℕ → Outcome (Grown Label) → Stepped
+dict_opened s h d k (model.Refused fault) = refused s (table_refusal (want_of fault))
+dict_opened s h d k (model.Done g) =
+    record {
+      state = record s {
+        homes = with_region h.name g.region h.kept s.homes;
+        dicts = s.dicts ++ record { name = d; home = h.name; kind = k; dict = g.dict } ∷ [];
+      };
+      reply = Opened d;
+      told = [];
+      granted = g.granted;
+    }
+
+abbrev pub open_dict_unless : State → Home → List ℕ → DictMethod → ℕ → Need → Option Refusal → Stepped
+open_dict_unless s h d method k need (Some refusal) = refused s refusal
+open_dict_unless s h d method k need None =
+    dict_opened s h d k (open_dictionary h.terms h.region None method (is_for_table need))
+
+abbrev pub open_dict_in : State → List ℕ → DictMethod → ℕ → Need → Option Home → Stepped
+open_dict_in s d method k need None = refused s why.NoRegion
+open_dict_in s d method k need (Some h) = open_dict_unless s h d method k need (dict_refused s h d k)
+
+-- a dictionary of a method is opened in a region, by the kind of that number
+abbrev pub open_dict_step : State → List ℕ → DictMethod → List ℕ → ℕ → Need → Stepped
+open_dict_step s d method r k need = open_dict_in s d method k need (home_named r s.homes)
+
+-- the region in which a command asks for segments
+abbrev pub region_named : State → Option (List ℕ) → Option (List ℕ) → Option (List ℕ)
+region_named s None region = region
+region_named s (Some d) region = option_map (λ h. h.home) (dict_named d s.dicts)

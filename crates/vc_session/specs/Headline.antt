@@ -1,0 +1,53 @@
+-- What a tool promises by its status.
+use Rattle.std.specs.Prelude.{◌≡◌, ℕ, ◌≤◌, ◌<◌, ◌⊎◌, List, Option, Some, None, IfSome, codes}
+use Rattle.vc_model.specs.Count.{Rose}
+use Rattle.vc_script.specs.declared.line_fault.LineFault.{LineFault}
+use Rattle.vc_script.specs.declared.tool.Tool.{Tool}
+use Rattle.vc_session.specs.declared.status.Status.{Status}
+use Rattle.vc_session.specs.declared.status.Status.TheVariants.{Ok, Script, Usage, Read, Write, Memory}
+use Rattle.vc_session.specs.Moment.{Moment, over_sink}
+use Rattle.vc_session.specs.Replay.{Broke, IsCutShort, IsReplay, Told, Tried, err_line, message}
+
+-- what the three streams mean: what the source has left and how often a read failed; what the replies' sink tells and how often a write failed; and the same of the faults' sink
+pub record Streams : Type 0 where
+  pub left : Option (List ℕ)
+  pub reads : ℕ
+  pub written : Option (List ℕ)
+  pub writes : ℕ
+  pub told : Option (List ℕ)
+  pub errors : ℕ
+
+-- from one moment and what the streams mean then to another
+abbrev pub Replays : Tool → Moment → Moment → Streams → Streams → Option (ℕ × LineFault) → Type 0
+Replays tool start last old new bad =
+    IfSome old.left (λ input. IsReplay tool (over_sink start old.written) (over_sink last new.written) input bad new.left)
+
+-- one line of err was written, was broken off, or one of these
+abbrev pub Tells : Streams → Streams → List ℕ → Type 0
+Tells old new line = Told old.told new.told line
+
+abbrev pub BreaksOff : Streams → Streams → List ℕ → Type 0
+BreaksOff old new line = Broke old.errors new.errors old.told new.told line
+
+abbrev pub Tries : Streams → Streams → List ℕ → Type 0
+Tries old new line = Tried old.errors new.errors old.told new.told line
+
+-- by how a tool ends, of so many words, from the moment and the streams at its start to those at its end
+pub record Headline (tool : Tool) (words : ℕ) (start last : Moment) (old new : Streams) (status : Status) : Type 0 where
+  -- nothing was wrong, and the replies of the whole script were written
+  pub ok : status ≡ Ok → (words ≡ 0) × Replays tool start last old new None
+  -- the replies of the lines before the fault were written, and the fault's line; what was read shows no fault, but for its last 4,096 bytes or fewer
+  pub script : status ≡ Script → (words ≡ 0) × ((bad : ℕ × LineFault) × Tells old new (err_line tool bad) × Replays tool start last old new (Some bad))
+  -- the tool takes no words
+  pub words_refused : 0 < words → (status ≡ Usage) ⊎ ((status ≡ Write) × BreaksOff old new (message tool (codes "bad arguments")))
+  pub usage : status ≡ Usage → (0 < words) × Tells old new (message tool (codes "bad arguments"))
+  -- a fault comes from its stream, and its line is tried once
+  pub read : status ≡ Read → Rose old.reads new.reads × Tries old new (message tool (codes "read failed"))
+  -- with a failed read the replies of the lines that were wholly read were written, and no byte that was read shows a fault
+  pub cut_short : status ≡ Read → IfSome old.left (λ input. IsCutShort tool (over_sink start old.written) (over_sink last new.written) input new.left)
+  -- where the line of status 1 or 2 could not be written whole, a front of it was
+  pub write : status ≡ Write → words ≡ 0 → (Rose old.writes new.writes × Tries old new (message tool (codes "write failed"))) ⊎ ((bad : ℕ × LineFault) × BreaksOff old new (err_line tool bad) × Replays tool start last old new (Some bad))
+  pub memory : status ≡ Memory → Tries old new (message tool (codes "out of memory"))
+  -- the counts of failures never fall
+  pub reads : old.reads ≤ new.reads
+  pub writes : (old.writes ≤ new.writes) × (old.errors ≤ new.errors)

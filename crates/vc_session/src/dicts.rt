@@ -1,0 +1,26 @@
+// The dictionaries of a session.
+ghost use Rattle.std.specs.Prelude.{◌≡◌};
+
+use crate::session::Session;
+use vc_base::Name;
+use vc_dict::Dict;
+
+/// A dictionary that is open.
+#[derive(Drop)]
+pub struct DictEntry {
+    /// The name of the region that it lies in.
+    pub home: Name,
+    /// Its heads and its method.
+    pub dict: Dict,
+}
+
+impl<D> Session<D> {
+    ghost use Rattle.vc_session.specs.DictHomes.{lies_in};
+
+    // Whether a dictionary lies in the region of that name.
+    pub(crate) fn is_busy(&self, region: &Name) -> bool
+        ensures { result ≡ lies_in region.now self.now.dicts.entries }
+    {
+        self.dicts.values().any(|entry| entry.home == *region)
+    }
+}
