@@ -42,7 +42,12 @@ pub(crate) struct Expected<'a> {
     pub err: &'a [u8],
 }
 
-fn sink(alloc: Global, room: usize, piece: usize, fails: &[u64]) -> Result<MemSink, AllocError>
+pub(crate) fn sink(
+    alloc: Global,
+    room: usize,
+    piece: usize,
+    fails: &[u64],
+) -> Result<MemSink, AllocError>
     requires { 1 ≤ piece }
 {
     match MemSink::new(alloc, room, piece, fails.to_vec(alloc)?) {

@@ -4,6 +4,8 @@
 #[cfg(test)]
 mod blocks;
 #[cfg(test)]
+mod dicts;
+#[cfg(test)]
 mod given;
 #[cfg(test)]
 mod long;

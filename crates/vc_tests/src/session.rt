@@ -1,45 +1,60 @@
 // A session used by itself: commands and their replies over a shelf, with no script.
 ghost use Rattle.vc_session.specs.Homes.{IsSessionOver};
+ghost use Rattle.vc_session.specs.Told.{rules_in};
 
 use crate::prints::prints;
 use std::alloc::Global;
 use std::process::Abort;
 use std::test::Fail;
 use vc_base::Name;
+use vc_dtdisc::{BuiltIn, DictDisc};
 use vc_script::{Command, Tool};
 use vc_seg::{BoxedDisc, HeapDisc, Method, SegDisc, Shelf, ShelfPlace};
 use vc_session::Session;
 
 // A step whose reply prints as that line.
-fn step(
+fn step<D: DictDisc>(
     rt: &impl Abort,
     alloc: Global,
-    session: &mut Session,
+    session: &mut Session<D>,
     shelf: &mut Shelf,
+    kinds: &mut Vec<D>,
     number: u32,
     command: &Command,
     line: &[u8],
 )
-    requires { IsSessionOver state shelf.old session.old }
-    ensures { IsSessionOver state shelf.new session.new }
+    requires { IsSessionOver state (rules_in D.rules kinds.old.items) shelf.old session.old }
+    ensures { IsSessionOver state (rules_in D.rules kinds.new.items) shelf.new session.new }
 {
-    let reply = session.step(shelf, number, command).expect(rt, "memory");
+    let reply = session
+        .step(shelf, kinds, number, command)
+        .expect(rt, "memory");
     prints(rt, alloc, reply, line);
 }
 
 // Steps one after the other, each with its number and the line of its reply.
-fn steps(
+fn steps<D: DictDisc>(
     rt: &impl Abort,
     alloc: Global,
-    session: &mut Session,
+    session: &mut Session<D>,
     shelf: &mut Shelf,
+    kinds: &mut Vec<D>,
     rows: &[(u32, Command, &str)],
 )
-    requires { IsSessionOver state shelf.old session.old }
-    ensures { IsSessionOver state shelf.new session.new }
+    requires { IsSessionOver state (rules_in D.rules kinds.old.items) shelf.old session.old }
+    ensures { IsSessionOver state (rules_in D.rules kinds.new.items) shelf.new session.new }
 {
     for row in rows {
-        step(rt, alloc, session, shelf, row.0, &row.1, row.2.as_bytes());
+        step(
+            rt,
+            alloc,
+            session,
+            shelf,
+            kinds,
+            row.0,
+            &row.1,
+            row.2.as_bytes(),
+        );
     }
 }
 
@@ -60,13 +75,14 @@ fn session(rt: HostRuntime) -> Result<(), Fail> {
     ];
     let mut shelf = Shelf::new(alloc);
     assert!(rt; shelf.put(Box::new(alloc, HeapDisc::new(4096))?).is_ok());
+    let mut kinds: Vec<BuiltIn> = Vec::new(alloc);
     let mut session = Session::new(alloc, Tool::Vmreplay).expect(&rt, "memory");
-    steps(&rt, alloc, &mut session, &mut shelf, &open);
+    steps(&rt, alloc, &mut session, &mut shelf, &mut kinds, &open);
     assert_eq!(rt; shelf.place(1), ShelfPlace::Taken);
-    steps(&rt, alloc, &mut session, &mut shelf, &used);
+    steps(&rt, alloc, &mut session, &mut shelf, &mut kinds, &used);
     assert_eq!(rt; shelf.place(1), ShelfPlace::Here);
-    steps(&rt, alloc, &mut session, &mut shelf, &again);
-    session.end(&mut shelf);
+    steps(&rt, alloc, &mut session, &mut shelf, &mut kinds, &again);
+    session.end(&mut shelf, &mut kinds);
     assert_eq!(rt; shelf.place(1), ShelfPlace::Here);
     Ok(())
 }
