@@ -1,27 +1,33 @@
 #!/bin/sh
-# Runs vmreplay on each script of this folder, and compares its replies with those beside the script:
-#   examples/run.sh [PROGRAM]
-# The program is bin/vmreplay where none is named.
+# Runs each script of this folder, *.vm with vmreplay and *.dt with dtrun, and compares its replies with those beside it:
+#   examples/run.sh [FOLDER]
+# The programs are those of bin/ where no folder is named.
 set -u
 here=$(cd "$(dirname "$0")" && pwd) || exit 1
-program=${1:-$here/../bin/vmreplay}
-if [ ! -x "$program" ]; then
-    echo "examples/run.sh: no program $program: run make first" >&2
-    exit 1
-fi
+programs=${1:-$here/../bin}
+for program in vmreplay dtrun; do
+    if [ ! -x "$programs/$program" ]; then
+        echo "examples/run.sh: no program $programs/$program: run make first" >&2
+        exit 1
+    fi
+done
 dir=$(mktemp -d) || exit 1
 trap 'rm -rf "$dir"' EXIT
 passed=0
 failed=0
-for script in "$here"/*.vm; do
-    name=$(basename "$script" .vm)
-    "$program" < "$script" > "$dir/out" 2> "$dir/err"
+for script in "$here"/*.vm "$here"/*.dt; do
+    case $script in
+        *.vm) program=vmreplay ;;
+        *) program=dtrun ;;
+    esac
+    name=$(basename "${script%.*}")
+    "$programs/$program" < "$script" > "$dir/out" 2> "$dir/err"
     status=$?
     if [ "$status" -eq 0 ] && [ ! -s "$dir/err" ] && cmp -s "$here/$name.replies" "$dir/out"; then
-        echo "$name: $(wc -l < "$dir/out" | tr -d ' ') replies as they stand in $name.replies, status 0, nothing on standard error"
+        echo "$program $name: $(wc -l < "$dir/out" | tr -d ' ') replies as they stand in $name.replies, status 0, nothing on standard error"
         passed=$((passed + 1))
     else
-        echo "$name: FAILED, status $status"
+        echo "$program $name: FAILED, status $status"
         cat "$dir/err"
         diff "$here/$name.replies" "$dir/out"
         failed=$((failed + 1))
