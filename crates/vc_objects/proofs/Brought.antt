@@ -20,16 +20,7 @@ use Rattle.vc_objects.specs.Parts.{table_of}
 use Rattle.vc_objects.specs.Remove.{bytes_of, freed_all}
 use Rattle.vc_objects.specs.Turn.{Brought, Turned, bring, bring_of, brought, number_of, objects_dropped, table_left, turn, turned_to, turned_with}
 use Rattle.vc_objects.specs.Turning.{BringsCell, HasBrought}
-
--- a refusal stays one
-pub refusal-through : {A B : Type 0} (f : Outcome A → Outcome B) → ((w : Fault) → f (Refused w) ≡ Refused w) → (call : Bool → Outcome A) (why : RegionFault) → IsRefusal call why → IsRefusal (λ t. f (call t)) why
-refusal-through f e call code.TooManySegments h = ap f h ∙ e TooManySegments
-refusal-through f e call code.NoSegment h = ap f h ∙ e NoSegment
-refusal-through f e call code.OutOfMemory h = tt
-refusal-through f e call code.Fixed h = ap f h ∙ e Fixed
-refusal-through f e call code.PoolSize h = ap f h ∙ e PoolSize
-refusal-through f e call code.NotLast h = ap f h ∙ e NotLast
-refusal-through f e call code.WrongMethod h = ap f h ∙ e WrongMethod
+use Rattle.vc_objects.proofs.Answering.{refusal-as}
 
 -- a block that was put is the table
 pub put-brought : (slots : ℕ) (o : Outcome (Put (Region ℕ))) (a : ℕ) (r : Region ℕ) → a ≢ 0 → IsPut o a r → HasBrought (brought slots o) r a slots
@@ -94,7 +85,7 @@ module _ (rules : Rules) (terms : Terms) (method : DictMethod) (r : Region ℕ) 
   pub refuses-turned : (why : RegionFault) → IsRefusal (λ refused. bring_of terms r 0 refused (slots_between d.method method count)) why → IsRefusal (turn rules terms r 0 d method) why
   refuses-turned why h =
       subst (λ z. IsRefusal (λ (t : Bool). if z then stays else turned_with rules method d (bring terms r 0 d method t)) why) (sym (other-number method d.method other))
-      (refusal-through (turned_with rules method d) (λ w. refl) (λ (t : Bool). bring terms r 0 d method t) why
+      (refusal-as (λ (t : Bool). bring terms r 0 d method t) (λ (t : Bool). turned_with rules method d (bring terms r 0 d method t)) (λ refused fault e. ap (turned_with rules method d) e) why
       (subst (λ n. IsRefusal (λ (t : Bool). bring_of terms r 0 t (slots_between d.method method n)) why) (sym counts) h))
 
 -- the present method changes nothing
