@@ -144,6 +144,15 @@ fn put_unless<D: DictDisc>(
     }
 }
 
+// The object that is made of these bytes.
+fn made_object<D: DictDisc>(alloc: Global, kind: &D, bytes: &[u8]) -> Result<Vec<u8>, OutOfMemory>
+    ensures { IfOk result (λ out. out.items ≡ (D.rules kind.now).made bytes.now) }
+{
+    let mut out = Vec::new(alloc);
+    kind.make(bytes, &mut out)?;
+    Ok(out)
+}
+
 // `insert`: puts the object that is made of these bytes, unless one of a set matches it.
 pub(crate) fn insert<D: DictDisc>(
     alloc: Global,
@@ -170,8 +179,7 @@ pub(crate) fn insert<D: DictDisc>(
     if !is_object(object) {
         return Ok(Reply::Refused(Refusal::Size));
     }
-    let mut out = Vec::new(alloc);
-    kind.make(object, &mut out)?;
+    let out = made_object(alloc, kind, object)?;
     put_unless(alloc, region, dict, kind, out)
 }
 
@@ -232,7 +240,6 @@ pub(crate) fn append<D: DictDisc>(
     if !is_object(object) {
         return Ok(Reply::Refused(Refusal::Size));
     }
-    let mut out = Vec::new(alloc);
-    kind.make(object, &mut out)?;
+    let out = made_object(alloc, kind, object)?;
     put(alloc, region, dict, kind, out, true)
 }
