@@ -11,7 +11,7 @@ ghost use Rattle.vc_objects.specs.Objects.{is_best};
 ghost use Rattle.vc_objects.specs.Parts.{IsWhole, dictionary_in};
 ghost use Rattle.vc_script.specs.Needs.{need_shown};
 ghost use Rattle.vc_commands.specs.Commands.{append_in, fate_reply, insert_in, put_object, put_unless, standing, where_object};
-ghost use Rattle.vc_commands.specs.Run.{Gives, IsOfHolder, IsSpent, IsStill, LacksFor, object_there, seat_in};
+ghost use Rattle.vc_commands.specs.Run.{AskedFor, Gives, IsOfHolder, IsSpent, IsStill, object_there, seat_in};
 
 use crate::Uncounted;
 use crate::looking::is_object;
@@ -79,8 +79,8 @@ fn put<D: DictDisc>(
         (need_shown reply))
         region.new dict.new reply (D.gone kind.now) (D.gone kind.now)) }
     ensures leaves { LeavesRest state (D.rules kind.now) region.old dict.old region.new dict.new }
-    ensures lacks { IfOk result (λ reply. LacksFor (slots_wanted (dictionary_in dict.old region.old))
-        object.items reply (disc_in state region.old) (disc_in state region.new)) }
+    ensures asked { AskedFor result (slots_wanted (dictionary_in dict.old region.old)) object.items
+        (disc_in state region.old) (disc_in state region.new) }
     ensures err { OnErr result (IsSpent (seat_in state (D.rules kind.now) region.old dict.old)
         (rest_in region.new) (dictionary_in dict.new region.new)) }
 {
@@ -130,8 +130,8 @@ fn put_unless<D: DictDisc>(
         (need_shown reply))
         region.new dict.new reply (D.gone kind.now) (D.gone kind.now)) }
     ensures leaves { LeavesRest state (D.rules kind.now) region.old dict.old region.new dict.new }
-    ensures lacks { IfOk result (λ reply. LacksFor (slots_wanted (dictionary_in dict.old region.old))
-        object.items reply (disc_in state region.old) (disc_in state region.new)) }
+    ensures asked { AskedFor result (slots_wanted (dictionary_in dict.old region.old)) object.items
+        (disc_in state region.old) (disc_in state region.new) }
     ensures err { OnErr result (IsSpent (seat_in state (D.rules kind.now) region.old dict.old)
         (rest_in region.new) (dictionary_in dict.new region.new)) }
 {
@@ -170,9 +170,9 @@ pub(crate) fn insert<D: DictDisc>(
         ((D.rules kind.now).made object.now) (need_shown reply)))
         region.new dict.new reply (D.gone kind.now) (D.gone kind.now)) }
     ensures leaves { LeavesRest state (D.rules kind.now) region.old dict.old region.new dict.new }
-    ensures lacks { IfOk result (λ reply. LacksFor (slots_wanted (dictionary_in dict.old region.old))
-        ((D.rules kind.now).made object.now) reply
-        (disc_in state region.old) (disc_in state region.new)) }
+    ensures asked { AskedFor result (slots_wanted (dictionary_in dict.old region.old))
+        ((D.rules kind.now).made object.now)
+        (disc_in state region.old) (disc_in state region.new) }
     ensures err { OnErr result (IsSpent (seat_in state (D.rules kind.now) region.old dict.old)
         (rest_in region.new) (dictionary_in dict.new region.new)) }
 {
@@ -200,8 +200,8 @@ pub(crate) fn attach<D: DictDisc>(
         (need_shown reply)))
         region.new dict.new reply (D.gone kind.now) (D.gone kind.now)) }
     ensures leaves { LeavesRest state (D.rules kind.now) region.old dict.old region.new dict.new }
-    ensures lacks { IfOk result (λ reply. LacksFor (slots_wanted (dictionary_in dict.old region.old))
-        object.now reply (disc_in state region.old) (disc_in state region.new)) }
+    ensures asked { AskedFor result (slots_wanted (dictionary_in dict.old region.old)) object.now
+        (disc_in state region.old) (disc_in state region.new) }
     ensures err { OnErr result (IsSpent (seat_in state (D.rules kind.now) region.old dict.old)
         (rest_in region.new) (dictionary_in dict.new region.new)) }
 {
@@ -228,11 +228,10 @@ pub(crate) fn append<D: DictDisc>(
         (need_shown reply))
         region.new dict.new reply (D.gone kind.now) (D.gone kind.now)) }
     ensures leaves { LeavesRest state (D.rules kind.now) region.old dict.old region.new dict.new }
-    ensures lacks { IfOk result (λ reply. LacksFor (slots_wanted (dictionary_in dict.old region.old))
-        ((D.rules kind.now).made object.now) reply
-        (disc_in state region.old) (disc_in state region.new)) }
-    ensures err { OnErr result (IsSpent (seat_in state (D.rules kind.now) region.old dict.old)
-        (rest_in region.new) (dictionary_in dict.new region.new)) }
+    ensures asked { AskedFor result (slots_wanted (dictionary_in dict.old region.old))
+        ((D.rules kind.now).made object.now)
+        (disc_in state region.old) (disc_in state region.new) }
+    ensures err { OnErr result (IsStill region.old dict.old region.new dict.new) }
 {
     if !is_list(dict.method) {
         return Ok(Reply::Refused(Refusal::WrongMethod));
