@@ -5,6 +5,7 @@ ghost use Rattle.vc_dict.specs.Methods.{has_table, is_list, is_set};
 ghost use Rattle.vc_cells_tests.specs.Five.{AreSized};
 ghost use Rattle.vc_cells_tests.specs.Ready.{IsAt, IsReady};
 
+use crate::given::number;
 use std::alloc::{AllocError, Global};
 use std::process::Abort;
 use vc_base::{Addr, Cells, Steps};
@@ -239,11 +240,6 @@ fn prev<C: Cells, D: DictDisc>(dict: &Dict, cells: &C, kind: &D, at: Option<Addr
         Some(a) => dict.prev(cells, a),
         None => None,
     }
-}
-
-// The number of an address, or 0 for none.
-pub(crate) fn number(at: Option<Addr>) -> u32 {
-    at.unwrap_or(Addr::NONE).0
 }
 
 // The holders from the first on, and 0 behind the last.

@@ -3,6 +3,8 @@ ghost use Rattle.vc_cells_tests.specs.Five.{AreGiven, AreSized, five};
 
 use crate::FiveCells;
 use std::alloc::{AllocError, Global};
+use std::process::Abort;
+use vc_base::Addr;
 
 // A holder of one byte.
 fn holder(alloc: Global, byte: u8) -> Result<Vec<u8>, AllocError>
@@ -32,4 +34,15 @@ pub(crate) fn given(alloc: Global, bytes: [u8; 3]) -> Result<FiveCells, AllocErr
         fourth: table(alloc)?,
         fifth: table(alloc)?,
     })
+}
+
+// The number of an address, or 0 for none.
+pub(crate) fn number(at: Option<Addr>) -> u32 {
+    at.unwrap_or(Addr::NONE).0
+}
+
+// These numbers are those that are expected. A test calls it in place of many assertions, each of which takes its time to
+// prove.
+pub(crate) fn same<const N: usize>(rt: &impl Abort, found: [u32; N], expected: [u32; N]) {
+    assert_eq!(rt; found, expected);
 }

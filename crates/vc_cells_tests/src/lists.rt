@@ -2,8 +2,8 @@ ghost use Rattle.std.specs.Prelude.{◌∷◌, []};
 ghost use Rattle.vc_dtlist.specs.Linked.{StandsFor};
 ghost use Rattle.vc_cells_tests.specs.Five.{AreSized};
 
-use crate::drive::{Compares, number};
-use crate::given::given;
+use crate::drive::Compares;
+use crate::given::{given, number, same};
 use std::alloc::Global;
 use std::process::Abort;
 use std::test::Fail;
@@ -28,12 +28,14 @@ fn made<C: Cells>(cells: &mut C) -> DtList
 fn asked<C: Cells, D: DictDisc>(rt: &impl Abort, list: &DtList, cells: &C, kind: &D, alloc: Global)
     requires { StandsFor list.now (C.blocks cells.now) (3 ∷ 1 ∷ 2 ∷ []) }
 {
-    assert_eq!(rt; (number(list.first()), number(list.last())), (3, 2));
-    assert_eq!(rt; number(list.next(cells, Addr(3))), 1);
-    assert_eq!(rt; number(list.prev(cells, Addr(2))), 1);
+    let behind = list.next(cells, Addr(3));
+    let before = list.prev(cells, Addr(2));
     let mut steps: Steps<Compares> = Steps::new(alloc);
-    assert_eq!(rt; number(list.find(cells, kind, b"b", &mut steps)), 2);
-    assert_eq!(rt; number(list.find(cells, kind, b"x", &mut steps)), 0);
+    let b = list.find(cells, kind, b"b", &mut steps);
+    let x = list.find(cells, kind, b"x", &mut steps);
+    same(rt, [number(list.first()), number(list.last())], [3, 2]);
+    same(rt, [number(behind), number(before)], [1, 1]);
+    same(rt, [number(b), number(x)], [2, 0]);
 }
 
 // 1 out, and in again before 3.
@@ -42,16 +44,16 @@ fn moved<C: Cells>(rt: &impl Abort, list: &mut DtList, cells: &mut C)
     requires sized { AreSized (C.blocks cells.old) }
 {
     list.unlink(cells, Addr(1));
-    assert_eq!(rt; number(list.next(cells, Addr(3))), 2);
+    let behind = list.next(cells, Addr(3));
     list.before(cells, Addr(3), Addr(1));
-    assert_eq!(rt; number(list.first()), 1);
+    same(rt, [number(behind), number(list.first())], [2, 1]);
 }
 
 #[test]
 fn list_of_three(rt: HostRuntime) -> Result<(), Fail> {
     let kind = BuiltIn::new(Shape::Whole);
     let mut cells = given(rt.alloc(), *b"abc")?;
-    assert_eq!(rt; number(DtList::new().first()), 0);
+    same(&rt, [number(DtList::new().first())], [0]);
     let mut list = made(&mut cells);
     asked(&rt, &list, &cells, &kind, rt.alloc());
     moved(&rt, &mut list, &mut cells);

@@ -2,8 +2,8 @@ ghost use Rattle.std.specs.Prelude.{◌+◌};
 ghost use Rattle.vc_cells_tests.specs.Five.{AreSized};
 ghost use Rattle.vc_cells_tests.specs.Sorted.{IsBefore};
 
-use crate::drive::{Compares, number};
-use crate::given::given;
+use crate::drive::Compares;
+use crate::given::{given, number, same};
 use std::alloc::Global;
 use std::process::Abort;
 use std::test::Fail;
@@ -55,16 +55,19 @@ fn found<C: Cells, D: DictDisc>(
     let mut steps: Steps<Compares> = Steps::new(alloc);
     let c = ord.find(cells, kind, b"c", &mut steps);
     let bb = ord.at_least(cells, kind, b"bb", &mut steps);
-    assert_eq!(rt; (number(c), number(bb)), (1, 1));
+    same(rt, [number(c), number(bb)], [1, 1]);
 }
 
 // The ends and neighbours of c, a and b in order, and what is left without a.
 fn asked<C: Cells, D: DictDisc>(rt: &impl Abort, ord: &mut DtOrd, cells: &mut C, kind: &D)
     requires { IsBefore (D.rules kind.now) ord.old (C.blocks cells.old) 4 }
 {
-    assert_eq!(rt; (number(ord.first(cells)), number(ord.last(cells))), (2, 1));
-    assert_eq!(rt; number(ord.next(cells, Addr(2))), 3);
-    assert_eq!(rt; number(ord.prev(cells, Addr(1))), 3);
+    let least = ord.first(cells);
+    let greatest = ord.last(cells);
+    let behind = ord.next(cells, Addr(2));
+    let before = ord.prev(cells, Addr(1));
+    same(rt, [number(least), number(greatest)], [2, 1]);
+    same(rt, [number(behind), number(before)], [3, 3]);
     ord.unlink(cells, Addr(2));
 }
 
@@ -75,6 +78,6 @@ fn order_of_three(rt: HostRuntime) -> Result<(), Fail> {
     let mut ord = made(&rt, &mut cells, &kind, rt.alloc());
     found(&rt, &mut ord, &mut cells, &kind, rt.alloc());
     asked(&rt, &mut ord, &mut cells, &kind);
-    assert_eq!(rt; ord.first.0, 3);
+    same(&rt, [ord.first.0], [3]);
     Ok(())
 }

@@ -9,5 +9,5 @@ link-requires-2 g c = c.in_ok-link.ensures
 pub link-requires-3 : goal.link-requires-3
 link-requires-3 g c = c.in_ok-link-2.ensures
 
-pub order-requires : goal.order-requires
-order-requires g c = c.in_ok-link-3.ensures
+pub order-found-requires : goal.order-found-requires
+order-found-requires g c = c.in_ok-link-3.ensures

@@ -9,5 +9,5 @@ loop-method-preserved g c = c.remethod-dropped.ensures
 pub remethod-dropped-requires : goal.remethod-dropped-requires
 remethod-dropped-requires g c = c.loop-method.invariant
 
-pub order-requires : goal.order-requires
-order-requires g c = c.remethod-dropped.ensures
+pub order-found-requires : goal.order-found-requires
+order-found-requires g c = c.remethod-dropped.ensures

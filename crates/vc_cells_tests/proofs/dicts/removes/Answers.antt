@@ -6,11 +6,11 @@ filled-requires g c = c.in_ok-cells.ensures
 pub unlink-found-requires : goal.unlink-found-requires
 unlink-found-requires g c = c.in_ok-dict.ensures
 
-pub order-requires : goal.order-requires
-order-requires g c = c.unlink-found.ensures
+pub order-rest-requires : goal.order-rest-requires
+order-rest-requires g c = c.unlink-found.ensures
 
 pub take_first-first-requires : goal.take_first-first-requires
 take_first-first-requires g c = c.unlink-found.ensures
 
-pub order-requires-in-loop-method : goal.order-requires-in-loop-method
-order-requires-in-loop-method g c = c.take_first-first.ensures
+pub order-end-requires : goal.order-end-requires
+order-end-requires g c = c.take_first-first.ensures

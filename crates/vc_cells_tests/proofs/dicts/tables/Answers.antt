@@ -5,6 +5,3 @@ adopt-none-requires g c = c.empty-bag.ensures
 
 pub adopt-before-requires : goal.adopt-before-requires
 adopt-before-requires g c = c.adopt-none.ensures
-
-pub empty-list-requires : goal.empty-list-requires
-empty-list-requires g c = c.adopt-before.ensures.sized

@@ -1,14 +1,14 @@
 use Rattle.std.proofs.Common.{[], ◌∷◌, refl}
 use Rattle.vc_cells_tests.proofs.hashes.asked.Goals as goal
 
-pub next-requires : goal.next-requires
-next-requires g c = record { holders = 1 ∷ 2 ∷ []; stands = c.requires; within = refl }
+pub next-second-requires : goal.next-second-requires
+next-second-requires g c = record { holders = 1 ∷ 2 ∷ []; stands = c.requires; within = refl }
 
-pub prev-requires : goal.prev-requires
-prev-requires g c = record { holders = 1 ∷ 2 ∷ []; stands = c.requires; within = refl }
+pub prev-first-requires : goal.prev-first-requires
+prev-first-requires g c = record { holders = 1 ∷ 2 ∷ []; stands = c.requires; within = refl }
 
-pub find-requires : goal.find-requires
-find-requires g c = record { holders = 1 ∷ 2 ∷ []; stands = c.requires }
+pub find-b-requires : goal.find-b-requires
+find-b-requires g c = record { holders = 1 ∷ 2 ∷ []; stands = c.requires }
 
-pub find-requires-2 : goal.find-requires-2
-find-requires-2 g c = record { holders = 1 ∷ 2 ∷ []; stands = c.requires }
+pub find-x-requires : goal.find-x-requires
+find-x-requires g c = record { holders = 1 ∷ 2 ∷ []; stands = c.requires }

@@ -1,14 +1,14 @@
 use Rattle.std.proofs.Common.{[], ◌∷◌, refl}
 use Rattle.vc_cells_tests.proofs.lists.asked.Goals as goal
 
-pub next-requires : goal.next-requires
-next-requires g c = record { holders = 3 ∷ 1 ∷ 2 ∷ []; stands = c.requires; within = refl }
+pub next-behind-requires : goal.next-behind-requires
+next-behind-requires g c = record { holders = 3 ∷ 1 ∷ 2 ∷ []; stands = c.requires; within = refl }
 
-pub prev-requires : goal.prev-requires
-prev-requires g c = record { holders = 3 ∷ 1 ∷ 2 ∷ []; stands = c.requires; within = refl }
+pub prev-before-requires : goal.prev-before-requires
+prev-before-requires g c = record { holders = 3 ∷ 1 ∷ 2 ∷ []; stands = c.requires; within = refl }
 
-pub find-requires : goal.find-requires
-find-requires g c = record { holders = 3 ∷ 1 ∷ 2 ∷ []; stands = c.requires }
+pub find-b-requires : goal.find-b-requires
+find-b-requires g c = record { holders = 3 ∷ 1 ∷ 2 ∷ []; stands = c.requires }
 
-pub find-requires-2 : goal.find-requires-2
-find-requires-2 g c = record { holders = 3 ∷ 1 ∷ 2 ∷ []; stands = c.requires }
+pub find-x-requires : goal.find-x-requires
+find-x-requires g c = record { holders = 3 ∷ 1 ∷ 2 ∷ []; stands = c.requires }

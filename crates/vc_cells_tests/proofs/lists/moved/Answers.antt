@@ -5,8 +5,8 @@ use Rattle.vc_cells_tests.proofs.lists.moved.Goals as goal
 pub unlink-requires : goal.unlink-requires
 unlink-requires g c = record { holders = 3 ∷ 1 ∷ 2 ∷ []; stands = c.requires.list; within = refl }
 
-pub next-requires : goal.next-requires
-next-requires g c =
+pub next-behind-requires : goal.next-behind-requires
+next-behind-requires g c =
     let t = c.unlink.ensures.list (3 ∷ 1 ∷ 2 ∷ []) c.requires.list in
     record { holders = 3 ∷ 2 ∷ []; stands = t.stands; within = refl }
 
