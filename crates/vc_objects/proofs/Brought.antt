@@ -6,13 +6,12 @@ use Rattle.vc_base.specs.declared.dict_method.DictMethod.{DictMethod}
 use Rattle.vc_base.specs.declared.dict_method.DictMethod.TheVariants.{DtSet, DtBag, DtOset, DtObag, DtList, DtStack, DtQueue}
 use Rattle.vc_base.specs.Cells.{Blocks, put}
 use Rattle.vc_model.specs.Discipline.{Terms}
-use Rattle.vc_model.specs.Outcome.{Fault, Outcome, Done, Refused, Put, TooManySegments, NoSegment, Fixed, PoolSize, NotLast, WrongMethod}
+use Rattle.vc_model.specs.Outcome.{Outcome, Done, Refused, Put}
 use Rattle.vc_dict.specs.Methods.{slots_between}
 use Rattle.vc_dtdisc.specs.Rules.{Gone, Rules}
 use Rattle.vc_region.specs.Region.{Region}
 use Rattle.vc_seg.specs.Answer.{IsPut, IsRefusal}
 use Rattle.vc_seg.specs.declared.fault.RegionFault.{RegionFault}
-use Rattle.vc_seg.specs.declared.fault.RegionFault.TheVariants as code
 use Rattle.vc_objects.specs.Insert.{without_table}
 use Rattle.vc_objects.specs.Leaves.{GivesTurned, told_each}
 use Rattle.vc_objects.specs.Objects.{Dictionary, Table}

@@ -1,6 +1,5 @@
 -- Holders that were dropped are freed one after another.
-use Rattle.std.proofs.Common.{◌≡◌, ◌≢◌, ℕ, ◌+◌, ◌<◌, ◌≤◌, List, [], ◌∷◌, true, false, length, map, unwrap_or, refl, sym, ap, ◌∙◌, subst, arith, inl, inr}
-use Rattle.std.proofs.lemmas.Bool.Decides.{eqb_tells}
+use Rattle.std.proofs.Common.{◌≡◌, ℕ, ◌+◌, ◌<◌, ◌≤◌, List, [], ◌∷◌, true, false, length, map, unwrap_or, refl, sym, ap, ◌∙◌, subst, arith}
 use Rattle.vc_base.specs.Cells.{Blocks, IsHolder, body_of}
 use Rattle.vc_base.specs.Holders.{AreDistinct, contains}
 use Rattle.vc_dtdisc.specs.Finds.{object_at}

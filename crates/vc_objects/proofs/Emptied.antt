@@ -17,7 +17,7 @@ use Rattle.vc_region.specs.Region as model
 use Rattle.vc_region.specs.declared.region.Region.{Region}
 use Rattle.vc_objects.specs.Freed.{FreesCell}
 use Rattle.vc_objects.specs.Insert.{freed}
-use Rattle.vc_objects.specs.Leaves.{KeepsDisc, Leaves, LeavesRest, told_each, told_if}
+use Rattle.vc_objects.specs.Leaves.{Leaves, LeavesRest, told_each, told_if}
 use Rattle.vc_objects.specs.Lists.{first_object, without_object}
 use Rattle.vc_objects.specs.Objects.{Dictionary, Object, Table, is_best, listed, owned}
 use Rattle.vc_objects.specs.Parts.{IsWhole, dictionary_in, dictionary_of, object_of, table_of}

@@ -1,5 +1,5 @@
 -- What a dictionary stands for, and what a call that changes none of it leaves.
-use Rattle.std.proofs.Common.{◌≡◌, ◌≢◌, ℕ, List, [], ◌∷◌, ◌++◌, true, false, Option, Some, None, IsSome, map, refl, sym, ap, ◌∙◌, subst, inl, inr, arith}
+use Rattle.std.proofs.Common.{◌≡◌, ◌≢◌, ℕ, List, [], ◌∷◌, true, false, map, refl, sym, ap, ◌∙◌, subst, inl, inr}
 use Rattle.std.specs.List.{AllByRecursion}
 use Rattle.std.proofs.lemmas.Bool.{true≢false}
 use Rattle.std.proofs.lemmas.Bool.Decides.{eqb_tells}
@@ -14,13 +14,11 @@ use Rattle.vc_dict.specs.Methods.{has_table}
 use Rattle.vc_dict.specs.Stands.{Became, Stands}
 use Rattle.vc_dict.specs.declared.dict.Dict.{Dict}
 use Rattle.vc_dict.proofs.OwnLemmas.{holders-told, table-apart}
-use Rattle.vc_region.specs.CellLaws.{cells-addresses}
 use Rattle.vc_region.specs.Cells.{StaysButCells, cells_in, labelled, rest_in}
-use Rattle.vc_region.specs.Parts.{boxed, disc_in, region_of, segments_in}
-use Rattle.vc_region.specs.Region as model
+use Rattle.vc_region.specs.Parts.{boxed, disc_in, segments_in}
 use Rattle.vc_region.specs.declared.region.Region.{Region}
 use Rattle.vc_region.proofs.CellCalls.{stays-segments}
-use Rattle.vc_objects.specs.Leaves.{KeepsDisc, Looks}
+use Rattle.vc_objects.specs.Leaves.{Looks}
 use Rattle.vc_objects.specs.Objects.{Dictionary, Object, is_best, owned}
 use Rattle.vc_objects.specs.Parts.{IsWhole, dictionary_in, dictionary_of, object_of, table_of}
 use Rattle.vc_objects.proofs.Leaving.{keeps-same, none-at}

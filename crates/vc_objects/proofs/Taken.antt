@@ -19,7 +19,7 @@ use Rattle.vc_dict.specs.Stands.{Became, Stands}
 use Rattle.vc_dict.specs.declared.dict.Dict.{Dict}
 use Rattle.vc_dict.proofs.CurrentLemmas.{current-removed}
 use Rattle.vc_dict.proofs.OwnLemmas.{Stands-own, holder-there, table-apart}
-use Rattle.vc_region.specs.Cells.{StaysButCells, cells_in, labelled, rest_in, without_cell}
+use Rattle.vc_region.specs.Cells.{StaysButCells, cells_in, labelled, rest_in}
 use Rattle.vc_region.specs.Parts.{boxed, disc_in, segments_in}
 use Rattle.vc_region.specs.Region as model
 use Rattle.vc_region.specs.declared.region.Region.{Region}
@@ -28,7 +28,7 @@ use Rattle.vc_objects.specs.Freed.{FreesCell}
 use Rattle.vc_objects.specs.Insert.{freed}
 use Rattle.vc_objects.specs.Leaves.{GivesRemoved, LeavesRest}
 use Rattle.vc_objects.specs.Lists.{without_object}
-use Rattle.vc_objects.specs.Objects.{Dictionary, Object, Table, is_best, listed, owned}
+use Rattle.vc_objects.specs.Objects.{Dictionary, Object, Table, listed, owned}
 use Rattle.vc_objects.specs.Parts.{IsWhole, dictionary_in, object_of, table_of}
 use Rattle.vc_objects.specs.Remove.{remove_found}
 use Rattle.vc_objects.proofs.Leaving.{keeps-same, none-at}
