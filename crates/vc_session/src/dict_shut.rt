@@ -1,7 +1,6 @@
 // The ending of a dictionary.
 ghost use Rattle.std.specs.Prelude.{◌≡◌, ◌+◌, ◌<◌, [], IfSome, length, slice_get};
 ghost use Rattle.vc_objects.specs.Remove.{bytes_of};
-ghost use Rattle.vc_session.specs.Account.{Settles};
 ghost use Rattle.vc_session.specs.DictHomes.{dict_home};
 ghost use Rattle.vc_session.specs.Dicts.{shut_state, told_of};
 ghost use Rattle.vc_session.specs.Homes.{IsSessionOver, held_in, settled_over, state_over};
@@ -32,9 +31,8 @@ impl<D: DictDisc> Session<D> {
             shelf.now self.new }
         ensures rules { KeepRules D.rules kinds.old.items kinds.new.items }
         ensures spent { self.new.is_spent ≡ self.old.is_spent }
-        ensures keeps { Settles
-            (settled_over state shelf.now self.old)
-            (settled_over state shelf.now self.new) [] }
+        ensures settled { settled_over state shelf.now self.new
+            ≡ settled_over state shelf.now self.old }
     {
         let Some((_, entry)) = self.dicts.shift_remove_index(i) else {
             unreachable!()
@@ -56,9 +54,8 @@ impl<D: DictDisc> Session<D> {
         ensures session { IsSessionOver state (rules_in D.rules kinds.new.items)
             shelf.now self.new }
         ensures rules { KeepRules D.rules kinds.old.items kinds.new.items }
-        ensures keeps { Settles
-            (settled_over state shelf.now self.old)
-            (settled_over state shelf.now self.new) [] }
+        ensures settled { settled_over state shelf.now self.new
+            ≡ settled_over state shelf.now self.old }
     {
         while !self.dicts.is_empty() {
             self.shut_at(shelf, kinds, 0);

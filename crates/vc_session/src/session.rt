@@ -340,9 +340,7 @@ impl<D: DictDisc> Session<D> {
     /// go in order of opening; the kinds are told of all objects, and each region gives its segments back in ascending order of number.
     pub fn end(self, shelf: &mut Shelf, kinds: &mut Vec<D>)
         requires { IsSessionOver state (rules_in D.rules kinds.old.items) shelf.old self }
-        ensures shelf { Settles
-            (settled_over state shelf.old self)
-            (accounts_on state shelf.new) [] }
+        ensures shelf { accounts_on state shelf.new ≡ settled_over state shelf.old self }
         ensures gone { gone_in D.gone kinds.new.items ≡ tell
             (ended_told (state_over state (rules_in D.rules kinds.old.items) shelf.old self))
             (gone_in D.gone kinds.old.items) }
