@@ -125,10 +125,10 @@ module _ {L M : Type 0} (f : L → M) where
   lacks-named s command (Refused NoSegmentForTable) old new h = subst (λ o. LacksTable o old new) (sym (table_asked-named s command)) h
   lacks-named s command (Refused NoSegmentForObject) old new h =
       subst (λ o. LacksHolder o (object_asked (relabel_seat s) command) old new) (sym (table_asked-named s command)) (subst (λ bs. LacksHolder (table_asked s command) bs old new) (sym (object_asked-named s command)) h)
-  lacks-named s command reply old new h = tt
+  lacks-named s command reply old new h = h
 
   pub lacks-unnamed : (s : Seat L) (command : Command) (reply : Reply) (old new : Discipline) → LacksBy (relabel_seat s) command reply old new → LacksBy s command reply old new
   lacks-unnamed s command (Refused NoSegmentForTable) old new h = subst (λ o. LacksTable o old new) (table_asked-named s command) h
   lacks-unnamed s command (Refused NoSegmentForObject) old new h =
       subst (λ o. LacksHolder o (object_asked s command) old new) (table_asked-named s command) (subst (λ bs. LacksHolder (table_asked (relabel_seat s) command) bs old new) (object_asked-named s command) h)
-  lacks-unnamed s command reply old new h = tt
+  lacks-unnamed s command reply old new h = h

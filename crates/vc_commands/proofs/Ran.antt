@@ -1,6 +1,7 @@
 -- What running a command promises, from what its own function does.
-use Rattle.std.proofs.Common.{◌≡◌, ℕ, List, [], Bool, true, false, Option, None, refl, sym, ◌∙◌, subst, inl}
+use Rattle.std.proofs.Common.{◌≡◌, ℕ, List, [], Bool, true, false, Option, Some, None, refl, sym, ap, ◌∙◌, subst, inl}
 use Rattle.std.specs.Prelude.{IfOk, OnErr, Result, Ok, Err, length}
+use Rattle.std.proofs.lemmas.Bool.{false≢true}
 use Rattle.vc_base.specs.declared.dict_method.DictMethod.{DictMethod}
 use Rattle.vc_base.specs.declared.dict_method.DictMethod.TheVariants.{DtSet, DtBag, DtOset, DtObag, DtList, DtStack, DtQueue}
 use Rattle.vc_model.specs.Discipline.{Discipline}
@@ -20,8 +21,8 @@ use Rattle.vc_script.specs.declared.command.Command.TheVariants.{Insert, Append,
 use Rattle.vc_script.specs.declared.refusal.Refusal.TheVariants.{NoSegmentForTable, NoSegmentForObject, NotYet, WrongMethod}
 use Rattle.vc_script.specs.declared.reply.Reply.{Reply}
 use Rattle.vc_script.specs.declared.reply.Reply.TheVariants.{Objects, Refused}
-use Rattle.vc_commands.specs.Commands.{append_in, in_dict}
-use Rattle.vc_commands.specs.Run.{GivesDict, IsSpent, IsStill, LacksFor}
+use Rattle.vc_commands.specs.Commands.{append_in, asks, in_dict}
+use Rattle.vc_commands.specs.Run.{AskedFor, GivesDict, IsSpent, IsSpentBy, IsStill, LacksFor}
 use Rattle.vc_commands.specs.Seat.{Seat, declined}
 
 -- a reply that needs nothing lacks nothing
@@ -31,25 +32,45 @@ table-needed e = cc
 object-needed : ForObject ≡ NoNeed → ⊥
 object-needed e = cc
 
-pub unneeded : (slots : Option ℕ) (object : List ℕ) (reply : Reply) (old new : Discipline) → need_shown reply ≡ NoNeed → LacksFor slots object reply old new
-unneeded slots object (Refused NoSegmentForTable) old new h = absurd (table-needed h)
-unneeded slots object (Refused NoSegmentForObject) old new h = absurd (object-needed h)
-unneeded slots object reply old new h = tt
+pub unneeded : (slots : Option ℕ) (object : List ℕ) (reply : Reply) (old new : Discipline) → new.faults ≡ old.faults → need_shown reply ≡ NoNeed → LacksFor slots object reply old new
+unneeded slots object (Refused NoSegmentForTable) old new same h = absurd (table-needed h)
+unneeded slots object (Refused NoSegmentForObject) old new same h = absurd (object-needed h)
+unneeded slots object reply old new same h = same
 
-pub lacks-unneeded : {E : Type 0} (result : Result Reply E) (slots : Option ℕ) (object : List ℕ) (old new : Discipline) → IfOk result (λ reply. need_shown reply ≡ NoNeed) → IfOk result (λ reply. LacksFor slots object reply old new)
-lacks-unneeded (Ok reply) slots object old new h = unneeded slots object reply old new h
-lacks-unneeded (Err why) slots object old new h = tt
+pub unasked : {E : Type 0} (result : Result Reply E) (slots : Option ℕ) (object : List ℕ) (old new : Discipline) → new ≡ old → IfOk result (λ reply. need_shown reply ≡ NoNeed) → AskedFor result slots object old new
+unasked (Ok reply) slots object old new same h = unneeded slots object reply old new (ap (λ (d : Discipline). d.faults) same) h
+unasked (Err why) slots object old new same h = ap (λ (d : Discipline). d.faults) same
 
--- where nothing changed no more than that is spent
-pub spent-still : {E : Type 0} {I : Type 0} {V : I → Type 0} (result : Result Reply E) (s : Seat ℕ) (r r' : Region I V) (d d' : Dict) (gone gone' : Gone) → s.region ≡ rest_in r → s.dict ≡ dictionary_in d r → gone' ≡ gone
-    → OnErr result (IsStill r d r' d') → OnErr result ((gone' ≡ gone) × IsSpent s (rest_in r') (dictionary_in d' r'))
-spent-still (Ok reply) s r r' d d' gone gone' e f same h = tt
-spent-still (Err why) s r r' d d' gone gone' e f same h = (same, inl (h.region ∙ sym e, h.dict ∙ sym f))
+-- a command that asks, and one that doesn't
+pub asking : {A : Type 0} (command : Command) → asks command ≡ true → asks command ≡ false → A
+asking command one other = absurd (false≢true (sym other ∙ one))
 
-pub spent-told : {E : Type 0} {I : Type 0} {V : I → Type 0} (result : Result Reply E) (s : Seat ℕ) (r r' : Region I V) (d d' : Dict) (gone gone' : Gone) → s.region ≡ rest_in r → s.dict ≡ dictionary_in d r
-    → OnErr result ((gone' ≡ gone) × IsStill r d r' d') → OnErr result ((gone' ≡ gone) × IsSpent s (rest_in r') (dictionary_in d' r'))
-spent-told (Ok reply) s r r' d d' gone gone' e f h = tt
-spent-told (Err why) s r r' d d' gone gone' e f h = (h.0, inl (h.1.region ∙ sym e, h.1.dict ∙ sym f))
+-- where the kind was told of nothing and no more is spent than that
+pub spent-put : {E : Type 0} (result : Result Reply E) (gone gone' : Gone) (Spent : Type 0) → gone' ≡ gone → OnErr result Spent → OnErr result ((gone' ≡ gone) × Spent)
+spent-put (Ok reply) gone gone' Spent same h = tt
+spent-put (Err why) gone gone' Spent same h = (same, h)
+
+-- where nothing can change nothing is spent
+pub spent-none : {E : Type 0} (result : Result Reply E) (gone : Gone) (r : model.Region ℕ) (d : Dictionary) → OnErr result ((gone ≡ gone) × ((r ≡ r) × (d ≡ d)))
+spent-none (Ok reply) gone r d = tt
+spent-none (Err why) gone r d = (refl, (refl, refl))
+
+-- where nothing changed nothing is spent
+pub spent-still : {E : Type 0} {I : Type 0} {V : I → Type 0} (result : Result Reply E) (r r' : Region I V) (d d' : Dict) (gone gone' : Gone) → gone' ≡ gone
+    → OnErr result (IsStill r d r' d') → OnErr result ((gone' ≡ gone) × ((rest_in r' ≡ rest_in r) × (dictionary_in d' r' ≡ dictionary_in d r)))
+spent-still (Ok reply) r r' d d' gone gone' same h = tt
+spent-still (Err why) r r' d d' gone gone' same h = (same, (h.region, h.dict))
+
+pub spent-told : {E : Type 0} {I : Type 0} {V : I → Type 0} (result : Result Reply E) (r r' : Region I V) (d d' : Dict) (gone gone' : Gone)
+    → OnErr result ((gone' ≡ gone) × IsStill r d r' d') → OnErr result ((gone' ≡ gone) × ((rest_in r' ≡ rest_in r) × (dictionary_in d' r' ≡ dictionary_in d r)))
+spent-told (Ok reply) r r' d d' gone gone' h = tt
+spent-told (Err why) r r' d d' gone gone' h = (h.0, (h.1.region, h.1.dict))
+
+-- where a command puts no object in a set or bag nothing is spent, and else nothing or the table
+pub spent-by : (s : Seat ℕ) (command : Command) (r : model.Region ℕ) (d : Dictionary) → IsSpentBy s command r d → IsSpent s r d
+spent-by s (Insert name bytes) r d h = h
+spent-by s (Attach name bytes) r d h = h
+spent-by s command r d h = inl h
 
 -- a list wants no table
 no-table : (method : DictMethod) (slots count more : ℕ) → is_list method ≡ true → wanted_by method slots count more ≡ None
@@ -67,12 +88,13 @@ by-method true s bytes object reply r d gone gone' old new is g h =
     subst (λ o. LacksFor o object reply old new) (no-table s.dict.method (slots_of s.dict.table) (length s.dict.objects) 1 is) h
 by-method false s bytes object reply r d gone gone' old new is g h =
     let answer : Refused WrongMethod ≡ reply = (rw is at g.reply) in
-    subst (λ x. LacksFor None object x old new) answer tt
+    let same : new.faults ≡ old.faults = subst (λ x. LacksFor (slots_wanted s.dict) object x old new) (sym answer) h in
+    subst (λ x. LacksFor None object x old new) answer same
 
-pub append-lacks : {E : Type 0} (result : Result Reply E) (s : Seat ℕ) (bytes object : List ℕ) (r : model.Region ℕ) (d : Dictionary) (gone gone' : Gone) (old new : Discipline)
-    → IfOk result (λ reply. GivesDict (append_in s bytes (need_shown reply)) r d reply gone gone') → IfOk result (λ reply. LacksFor (slots_wanted s.dict) object reply old new) → IfOk result (λ reply. LacksFor None object reply old new)
-append-lacks (Ok reply) s bytes object r d gone gone' old new g h = by-method (is_list s.dict.method) s bytes object reply r d gone gone' old new refl g h
-append-lacks (Err why) s bytes object r d gone gone' old new g h = tt
+pub append-asked : {E : Type 0} (result : Result Reply E) (s : Seat ℕ) (bytes object : List ℕ) (r : model.Region ℕ) (d : Dictionary) (gone gone' : Gone) (old new : Discipline)
+    → IfOk result (λ reply. GivesDict (append_in s bytes (need_shown reply)) r d reply gone gone') → AskedFor result (slots_wanted s.dict) object old new → AskedFor result None object old new
+append-asked (Ok reply) s bytes object r d gone gone' old new g h = by-method (is_list s.dict.method) s bytes object reply r d gone gone' old new refl g h
+append-asked (Err why) s bytes object r d gone gone' old new g h = h
 
 -- a command that is none of a dictionary is not there yet
 pub other-told : (s : Seat ℕ) (command : Command) (need : Need)
@@ -115,6 +137,8 @@ pub walk-told : {E : Type 0} (result : Result Reply E) (s : Seat ℕ) (d : List 
 walk-told (Ok reply) s d gone h = record { region = refl; dict = refl; reply = sym h; told = refl }
 walk-told (Err why) s d gone h = tt
 
-pub walk-lacks : {E : Type 0} (result : Result Reply E) (bytes : List (List ℕ)) (old new : Discipline) → IfOk result (λ reply. reply ≡ Objects bytes) → IfOk result (λ reply. LacksFor None [] reply old new)
-walk-lacks (Ok reply) bytes old new h = subst (λ x. LacksFor None [] x old new) (sym h) tt
-walk-lacks (Err why) bytes old new h = tt
+pub walk-asked : {E : Type 0} (result : Result Reply E) (bytes : List (List ℕ)) (disc : Discipline) → IfOk result (λ reply. reply ≡ Objects bytes) → AskedFor result None [] disc disc
+walk-asked (Ok reply) bytes disc h =
+    let same : disc.faults ≡ disc.faults = refl in
+    subst (λ x. LacksFor None [] x disc disc) (sym h) same
+walk-asked (Err why) bytes disc h = refl

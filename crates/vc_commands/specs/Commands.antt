@@ -146,6 +146,14 @@ in_dict s (Remethod d method) need =
 in_dict s (Empty d) need = empty_in s d
 in_dict s command need = declined s why.NotYet
 
+-- whether a command may ask for a segment: it puts an object, or turns the dictionary
+abbrev pub asks : Command → Bool
+asks (Insert d bytes) = true
+asks (Append d bytes) = true
+asks (Attach d bytes) = true
+asks (Remethod d method) = true
+asks command = false
+
 -- the slots of the table that a command may need
 abbrev pub table_asked : {L : Type 0} → Seat L → Command → Option ℕ
 table_asked s (Insert d bytes) = slots_wanted s.dict

@@ -1,5 +1,5 @@
 -- What running a command on a dictionary promises.
-use Rattle.std.specs.Prelude.{◌≡◌, ℕ, List, false, true, Option, Some, None, option_map}
+use Rattle.std.specs.Prelude.{◌≡◌, ℕ, List, false, true, Option, Some, None, Result, Ok, Err, option_map}
 use Rattle.vc_base.specs.declared.addr.Addr.{Addr}
 use Rattle.vc_base.specs.Holders.{contains}
 use Rattle.vc_model.specs.Discipline.{Discipline}
@@ -16,6 +16,7 @@ use Rattle.vc_objects.specs.Leaves.{IsHalted, LacksHolder, LacksTable, told_each
 use Rattle.vc_objects.specs.Objects.{Dictionary, Object}
 use Rattle.vc_objects.specs.Parts.{dictionary_in, object_of}
 use Rattle.vc_script.specs.declared.command.Command.{Command}
+use Rattle.vc_script.specs.declared.command.Command.TheVariants.{Insert, Attach}
 use Rattle.vc_script.specs.declared.refusal.Refusal.TheVariants.{NoSegmentForTable, NoSegmentForObject}
 use Rattle.vc_script.specs.declared.reply.Reply.{Reply}
 use Rattle.vc_script.specs.declared.reply.Reply.TheVariants.{Refused}
@@ -62,12 +63,26 @@ IsOfHolder dict region (Some at) = contains (holders_of dict (cells_in region)) 
 abbrev pub IsSpent : Seat ℕ → model.Region ℕ → Dictionary → Type 0
 IsSpent s region d = IsHalted (grow s.terms s.region s.none s.dict false) s.region s.dict region d
 
--- a segment that was refused was asked for, for a table of these slots or a holder of this object
+-- by the command: only `insert` and `attach` put an object where a table can grow
+abbrev pub IsSpentBy : Seat ℕ → Command → model.Region ℕ → Dictionary → Type 0
+IsSpentBy s (Insert name bytes) region d = IsSpent s region d
+IsSpentBy s (Attach name bytes) region d = IsSpent s region d
+IsSpentBy s command region d = (region ≡ s.region) × (d ≡ s.dict)
+
+-- by a reply: a segment that was refused was asked for, for a table of these slots or a holder of this object, and else no fault was counted
 abbrev pub LacksFor : Option ℕ → List ℕ → Reply → Discipline → Discipline → Type 0
 LacksFor slots object (Refused NoSegmentForTable) old new = LacksTable slots old new
 LacksFor slots object (Refused NoSegmentForObject) old new = LacksHolder slots object old new
-LacksFor slots object reply old new = Unit {0}
+LacksFor slots object reply old new = new.faults ≡ old.faults
 
--- by the command and its reply
+-- by what a command asks for
 abbrev pub LacksBy : {L : Type 0} → Seat L → Command → Reply → Discipline → Discipline → Type 0
 LacksBy s command reply old new = LacksFor (table_asked s command) (object_asked s command) reply old new
+
+-- by an answer: with no memory, too, no fault was counted
+abbrev pub AskedFor : {E : Type 0} → Result Reply E → Option ℕ → List ℕ → Discipline → Discipline → Type 0
+AskedFor (Ok reply) slots object old new = LacksFor slots object reply old new
+AskedFor (Err why) slots object old new = new.faults ≡ old.faults
+
+abbrev pub AskedBy : {E L : Type 0} → Result Reply E → Seat L → Command → Discipline → Discipline → Type 0
+AskedBy result s command old new = AskedFor result (table_asked s command) (object_asked s command) old new

@@ -2,6 +2,7 @@
 ghost use Rattle.std.specs.Prelude.{◌≡◌, true, IfOk, OnErr};
 ghost use Rattle.vc_dtdisc.specs.Rules.{Gone, Rules};
 ghost use Rattle.vc_region.specs.Cells.{cells_in, rest_in};
+ghost use Rattle.vc_region.specs.Parts.{disc_in};
 ghost use Rattle.vc_objects.specs.Leaves.{LeavesRest};
 ghost use Rattle.vc_objects.specs.Lists.{before_key, behind_key, first_object, first_with, last_object};
 ghost use Rattle.vc_objects.specs.Objects.{is_best};
@@ -74,6 +75,7 @@ fn look_for<D: DictDisc>(
         region.new dict.new reply (D.gone kind.now) (D.gone kind.now)) }
     ensures need { IfOk result (λ reply. need_shown reply ≡ NoNeed) }
     ensures leaves { LeavesRest state (D.rules kind.now) region.old dict.old region.new dict.new }
+    ensures disc { disc_in state region.new ≡ disc_in state region.old }
     ensures err { OnErr result (IsStill region.old dict.old region.new dict.new) }
 {
     let mut steps = Steps::<Uncounted>::new(alloc);
@@ -100,6 +102,7 @@ pub(crate) fn search<D: DictDisc>(
         region.new dict.new reply (D.gone kind.now) (D.gone kind.now)) }
     ensures need { IfOk result (λ reply. need_shown reply ≡ NoNeed) }
     ensures leaves { LeavesRest state (D.rules kind.now) region.old dict.old region.new dict.new }
+    ensures disc { disc_in state region.new ≡ disc_in state region.old }
     ensures err { OnErr result (IsStill region.old dict.old region.new dict.new) }
 {
     if is_object(object) {
@@ -128,6 +131,7 @@ pub(crate) fn match_key<D: DictDisc>(
         region.new dict.new reply (D.gone kind.now) (D.gone kind.now)) }
     ensures need { IfOk result (λ reply. need_shown reply ≡ NoNeed) }
     ensures leaves { LeavesRest state (D.rules kind.now) region.old dict.old region.new dict.new }
+    ensures disc { disc_in state region.new ≡ disc_in state region.old }
     ensures err { OnErr result (IsStill region.old dict.old region.new dict.new) }
 {
     if is_object(key) {
@@ -153,6 +157,7 @@ pub(crate) fn first<D: DictDisc>(
         region.new dict.new reply (D.gone kind.now) (D.gone kind.now)) }
     ensures need { IfOk result (λ reply. need_shown reply ≡ NoNeed) }
     ensures leaves { LeavesRest state (D.rules kind.now) region.old dict.old region.new dict.new }
+    ensures disc { disc_in state region.new ≡ disc_in state region.old }
     ensures err { OnErr result (IsStill region.old dict.old region.new dict.new) }
 {
     let at = vc_objects::first(region, dict, kind);
@@ -175,6 +180,7 @@ pub(crate) fn last<D: DictDisc>(
         region.new dict.new reply (D.gone kind.now) (D.gone kind.now)) }
     ensures need { IfOk result (λ reply. need_shown reply ≡ NoNeed) }
     ensures leaves { LeavesRest state (D.rules kind.now) region.old dict.old region.new dict.new }
+    ensures disc { disc_in state region.new ≡ disc_in state region.old }
     ensures err { OnErr result (IsStill region.old dict.old region.new dict.new) }
 {
     let at = vc_objects::last(region, dict, kind);
@@ -199,6 +205,7 @@ fn look_behind<D: DictDisc>(
         region.new dict.new reply (D.gone kind.now) (D.gone kind.now)) }
     ensures need { IfOk result (λ reply. need_shown reply ≡ NoNeed) }
     ensures leaves { LeavesRest state (D.rules kind.now) region.old dict.old region.new dict.new }
+    ensures disc { disc_in state region.new ≡ disc_in state region.old }
     ensures err { OnErr result (IsStill region.old dict.old region.new dict.new) }
 {
     let mut steps = Steps::<Uncounted>::new(alloc);
@@ -225,6 +232,7 @@ pub(crate) fn next<D: DictDisc>(
         region.new dict.new reply (D.gone kind.now) (D.gone kind.now)) }
     ensures need { IfOk result (λ reply. need_shown reply ≡ NoNeed) }
     ensures leaves { LeavesRest state (D.rules kind.now) region.old dict.old region.new dict.new }
+    ensures disc { disc_in state region.new ≡ disc_in state region.old }
     ensures err { OnErr result (IsStill region.old dict.old region.new dict.new) }
 {
     if is_object(object) {
@@ -252,6 +260,7 @@ fn look_before<D: DictDisc>(
         region.new dict.new reply (D.gone kind.now) (D.gone kind.now)) }
     ensures need { IfOk result (λ reply. need_shown reply ≡ NoNeed) }
     ensures leaves { LeavesRest state (D.rules kind.now) region.old dict.old region.new dict.new }
+    ensures disc { disc_in state region.new ≡ disc_in state region.old }
     ensures err { OnErr result (IsStill region.old dict.old region.new dict.new) }
 {
     let mut steps = Steps::<Uncounted>::new(alloc);
@@ -278,6 +287,7 @@ pub(crate) fn prev<D: DictDisc>(
         region.new dict.new reply (D.gone kind.now) (D.gone kind.now)) }
     ensures need { IfOk result (λ reply. need_shown reply ≡ NoNeed) }
     ensures leaves { LeavesRest state (D.rules kind.now) region.old dict.old region.new dict.new }
+    ensures disc { disc_in state region.new ≡ disc_in state region.old }
     ensures err { OnErr result (IsStill region.old dict.old region.new dict.new) }
 {
     if is_object(object) {

@@ -11,7 +11,7 @@ ghost use Rattle.vc_objects.specs.Objects.{is_best};
 ghost use Rattle.vc_objects.specs.Parts.{IsWhole, dictionary_in};
 ghost use Rattle.vc_script.specs.Needs.{need_shown};
 ghost use Rattle.vc_commands.specs.Commands.{append_in, fate_reply, insert_in, put_object, put_unless, standing, where_object};
-ghost use Rattle.vc_commands.specs.Run.{Gives, IsOfHolder, IsSpent, IsStill, LacksFor, object_there, seat_in};
+ghost use Rattle.vc_commands.specs.Run.{AskedFor, Gives, IsOfHolder, IsSpent, IsStill, object_there, seat_in};
 
 use crate::Uncounted;
 use crate::looking::is_object;
@@ -79,8 +79,8 @@ fn put<D: DictDisc>(
         (need_shown reply))
         region.new dict.new reply (D.gone kind.now) (D.gone kind.now)) }
     ensures leaves { LeavesRest state (D.rules kind.now) region.old dict.old region.new dict.new }
-    ensures lacks { IfOk result (λ reply. LacksFor (slots_wanted (dictionary_in dict.old region.old))
-        object.items reply (disc_in state region.old) (disc_in state region.new)) }
+    ensures asked { AskedFor result (slots_wanted (dictionary_in dict.old region.old)) object.items
+        (disc_in state region.old) (disc_in state region.new) }
     ensures err { OnErr result (IsSpent (seat_in state (D.rules kind.now) region.old dict.old)
         (rest_in region.new) (dictionary_in dict.new region.new)) }
 {
@@ -130,8 +130,8 @@ fn put_unless<D: DictDisc>(
         (need_shown reply))
         region.new dict.new reply (D.gone kind.now) (D.gone kind.now)) }
     ensures leaves { LeavesRest state (D.rules kind.now) region.old dict.old region.new dict.new }
-    ensures lacks { IfOk result (λ reply. LacksFor (slots_wanted (dictionary_in dict.old region.old))
-        object.items reply (disc_in state region.old) (disc_in state region.new)) }
+    ensures asked { AskedFor result (slots_wanted (dictionary_in dict.old region.old)) object.items
+        (disc_in state region.old) (disc_in state region.new) }
     ensures err { OnErr result (IsSpent (seat_in state (D.rules kind.now) region.old dict.old)
         (rest_in region.new) (dictionary_in dict.new region.new)) }
 {
@@ -142,6 +142,15 @@ fn put_unless<D: DictDisc>(
         }
         None => put(alloc, region, dict, kind, object, false),
     }
+}
+
+// The object that is made of these bytes.
+fn made_object<D: DictDisc>(alloc: Global, kind: &D, bytes: &[u8]) -> Result<Vec<u8>, OutOfMemory>
+    ensures { IfOk result (λ out. out.items ≡ (D.rules kind.now).made bytes.now) }
+{
+    let mut out = Vec::new(alloc);
+    kind.make(bytes, &mut out)?;
+    Ok(out)
 }
 
 // `insert`: puts the object that is made of these bytes, unless one of a set matches it.
@@ -161,17 +170,16 @@ pub(crate) fn insert<D: DictDisc>(
         ((D.rules kind.now).made object.now) (need_shown reply)))
         region.new dict.new reply (D.gone kind.now) (D.gone kind.now)) }
     ensures leaves { LeavesRest state (D.rules kind.now) region.old dict.old region.new dict.new }
-    ensures lacks { IfOk result (λ reply. LacksFor (slots_wanted (dictionary_in dict.old region.old))
-        ((D.rules kind.now).made object.now) reply
-        (disc_in state region.old) (disc_in state region.new)) }
+    ensures asked { AskedFor result (slots_wanted (dictionary_in dict.old region.old))
+        ((D.rules kind.now).made object.now)
+        (disc_in state region.old) (disc_in state region.new) }
     ensures err { OnErr result (IsSpent (seat_in state (D.rules kind.now) region.old dict.old)
         (rest_in region.new) (dictionary_in dict.new region.new)) }
 {
     if !is_object(object) {
         return Ok(Reply::Refused(Refusal::Size));
     }
-    let mut out = Vec::new(alloc);
-    kind.make(object, &mut out)?;
+    let out = made_object(alloc, kind, object)?;
     put_unless(alloc, region, dict, kind, out)
 }
 
@@ -192,8 +200,8 @@ pub(crate) fn attach<D: DictDisc>(
         (need_shown reply)))
         region.new dict.new reply (D.gone kind.now) (D.gone kind.now)) }
     ensures leaves { LeavesRest state (D.rules kind.now) region.old dict.old region.new dict.new }
-    ensures lacks { IfOk result (λ reply. LacksFor (slots_wanted (dictionary_in dict.old region.old))
-        object.now reply (disc_in state region.old) (disc_in state region.new)) }
+    ensures asked { AskedFor result (slots_wanted (dictionary_in dict.old region.old)) object.now
+        (disc_in state region.old) (disc_in state region.new) }
     ensures err { OnErr result (IsSpent (seat_in state (D.rules kind.now) region.old dict.old)
         (rest_in region.new) (dictionary_in dict.new region.new)) }
 {
@@ -220,11 +228,10 @@ pub(crate) fn append<D: DictDisc>(
         (need_shown reply))
         region.new dict.new reply (D.gone kind.now) (D.gone kind.now)) }
     ensures leaves { LeavesRest state (D.rules kind.now) region.old dict.old region.new dict.new }
-    ensures lacks { IfOk result (λ reply. LacksFor (slots_wanted (dictionary_in dict.old region.old))
-        ((D.rules kind.now).made object.now) reply
-        (disc_in state region.old) (disc_in state region.new)) }
-    ensures err { OnErr result (IsSpent (seat_in state (D.rules kind.now) region.old dict.old)
-        (rest_in region.new) (dictionary_in dict.new region.new)) }
+    ensures asked { AskedFor result (slots_wanted (dictionary_in dict.old region.old))
+        ((D.rules kind.now).made object.now)
+        (disc_in state region.old) (disc_in state region.new) }
+    ensures err { OnErr result (IsStill region.old dict.old region.new dict.new) }
 {
     if !is_list(dict.method) {
         return Ok(Reply::Refused(Refusal::WrongMethod));
@@ -232,7 +239,6 @@ pub(crate) fn append<D: DictDisc>(
     if !is_object(object) {
         return Ok(Reply::Refused(Refusal::Size));
     }
-    let mut out = Vec::new(alloc);
-    kind.make(object, &mut out)?;
+    let out = made_object(alloc, kind, object)?;
     put(alloc, region, dict, kind, out, true)
 }

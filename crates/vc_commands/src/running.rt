@@ -1,5 +1,5 @@
 // Running a command on a dictionary.
-ghost use Rattle.std.specs.Prelude.{◌≡◌, true, IfOk, OnErr};
+ghost use Rattle.std.specs.Prelude.{◌≡◌, true, false, IfOk, OnErr};
 ghost use Rattle.vc_dtdisc.specs.Rules.{Gone, Rules};
 ghost use Rattle.vc_region.specs.Cells.{cells_in, rest_in};
 ghost use Rattle.vc_region.specs.Parts.{disc_in};
@@ -7,8 +7,8 @@ ghost use Rattle.vc_objects.specs.Leaves.{LeavesRest};
 ghost use Rattle.vc_objects.specs.Objects.{is_best};
 ghost use Rattle.vc_objects.specs.Parts.{IsWhole, dictionary_in};
 ghost use Rattle.vc_script.specs.Needs.{need_shown};
-ghost use Rattle.vc_commands.specs.Commands.{in_dict};
-ghost use Rattle.vc_commands.specs.Run.{GivesDict, IsSpent, LacksBy, seat_in};
+ghost use Rattle.vc_commands.specs.Commands.{asks, in_dict};
+ghost use Rattle.vc_commands.specs.Run.{AskedBy, GivesDict, IsSpentBy, seat_in};
 
 use crate::listing::{count, walk};
 use crate::looking::{first, last, match_key, next, prev, search};
@@ -24,7 +24,7 @@ use vc_script::{Command, Refusal, Reply};
 use vc_seg::{BoxedDisc, SegDisc};
 
 /// Runs a command on a dictionary in its best region, by its kind. `dict`, `shut` and `view` are no such command. With no
-/// memory nothing changes, save that the table may have grown for an object.
+/// memory nothing changes, save that `insert` and `attach` may leave a larger table.
 pub fn run<D: DictDisc>(
     alloc: Global,
     region: &mut Region,
@@ -43,12 +43,16 @@ pub fn run<D: DictDisc>(
     ensures leaves { LeavesRest state (D.rules kind.old) region.old dict.old region.new dict.new }
     ensures rules { D.rules kind.new ≡ D.rules kind.old }
 
-    // A segment that was refused was asked for.
-    ensures lacks { IfOk result (λ reply. LacksBy
-        (seat_in state (D.rules kind.old) region.old dict.old) command.now reply
-        (disc_in state region.old) (disc_in state region.new)) }
+    // A segment that was refused was asked for; where none was, no fault was counted.
+    ensures asked { AskedBy result
+        (seat_in state (D.rules kind.old) region.old dict.old) command.now
+        (disc_in state region.old) (disc_in state region.new) }
+    ensures disc { asks command.now ≡ false
+        → disc_in state region.new ≡ disc_in state region.old }
+
+    // With no memory the kind was told of nothing.
     ensures err { OnErr result ((D.gone kind.new ≡ D.gone kind.old)
-        × IsSpent (seat_in state (D.rules kind.old) region.old dict.old)
+        × IsSpentBy (seat_in state (D.rules kind.old) region.old dict.old) command.now
         (rest_in region.new) (dictionary_in dict.new region.new)) }
 {
     match command {

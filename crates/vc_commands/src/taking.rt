@@ -3,6 +3,7 @@ ghost use Rattle.std.specs.Prelude.{◌≡◌, ◌≤◌, [], None, Some, true, 
 ghost use Rattle.std.specs.Vec.{vec_capacity};
 ghost use Rattle.vc_dtdisc.specs.Rules.{Gone, Rules};
 ghost use Rattle.vc_region.specs.Cells.{cells_in, rest_in};
+ghost use Rattle.vc_region.specs.Parts.{disc_in};
 ghost use Rattle.vc_objects.specs.Leaves.{LeavesRest};
 ghost use Rattle.vc_objects.specs.Objects.{is_best};
 ghost use Rattle.vc_objects.specs.Parts.{IsWhole, dictionary_in};
@@ -63,6 +64,7 @@ pub(crate) fn take<D: DictDisc>(
         region.new dict.new reply (D.gone kind.old) (D.gone kind.new)) }
     ensures need { IfOk result (λ reply. need_shown reply ≡ NoNeed) }
     ensures leaves { LeavesRest state (D.rules kind.old) region.old dict.old region.new dict.new }
+    ensures disc { disc_in state region.new ≡ disc_in state region.old }
     ensures rules { D.rules kind.new ≡ D.rules kind.old }
     ensures err { OnErr result ((D.gone kind.new ≡ D.gone kind.old)
         × IsStill region.old dict.old region.new dict.new) }
@@ -93,6 +95,7 @@ fn take_unnamed<D: DictDisc>(
         region.new dict.new reply (D.gone kind.old) (D.gone kind.new)) }
     ensures need { IfOk result (λ reply. need_shown reply ≡ NoNeed) }
     ensures leaves { LeavesRest state (D.rules kind.old) region.old dict.old region.new dict.new }
+    ensures disc { disc_in state region.new ≡ disc_in state region.old }
     ensures rules { D.rules kind.new ≡ D.rules kind.old }
     ensures err { OnErr result ((D.gone kind.new ≡ D.gone kind.old)
         × IsStill region.old dict.old region.new dict.new) }
@@ -118,6 +121,7 @@ pub(crate) fn delete<D: DictDisc>(
         region.new dict.new reply (D.gone kind.old) (D.gone kind.new)) }
     ensures need { IfOk result (λ reply. need_shown reply ≡ NoNeed) }
     ensures leaves { LeavesRest state (D.rules kind.old) region.old dict.old region.new dict.new }
+    ensures disc { disc_in state region.new ≡ disc_in state region.old }
     ensures rules { D.rules kind.new ≡ D.rules kind.old }
     ensures err { OnErr result ((D.gone kind.new ≡ D.gone kind.old)
         × IsStill region.old dict.old region.new dict.new) }

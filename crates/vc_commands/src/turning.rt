@@ -10,7 +10,7 @@ ghost use Rattle.vc_objects.specs.Parts.{IsWhole, dictionary_in};
 ghost use Rattle.vc_objects.specs.Turn.{turn};
 ghost use Rattle.vc_script.specs.Needs.{NoNeed, need_shown};
 ghost use Rattle.vc_commands.specs.Commands.{empty_in, is_for_table, turned_as};
-ghost use Rattle.vc_commands.specs.Run.{Gives, IsStill, LacksFor, seat_in};
+ghost use Rattle.vc_commands.specs.Run.{AskedFor, Gives, IsStill, seat_in};
 
 use crate::Uncounted;
 use std::alloc::Global;
@@ -40,9 +40,9 @@ pub(crate) fn remethod<D: DictDisc>(
         region.new dict.new reply (D.gone kind.old) (D.gone kind.new)) }
     ensures leaves { LeavesRest state (D.rules kind.old) region.old dict.old region.new dict.new }
     ensures rules { D.rules kind.new ≡ D.rules kind.old }
-    ensures lacks { IfOk result (λ reply. LacksFor
+    ensures asked { AskedFor result
         (slots_between dict.old.method method (length (dictionary_in dict.old region.old).objects))
-        [] reply (disc_in state region.old) (disc_in state region.new)) }
+        [] (disc_in state region.old) (disc_in state region.new) }
     ensures err { OnErr result ((D.gone kind.new ≡ D.gone kind.old)
         × IsStill region.old dict.old region.new dict.new) }
 {
@@ -70,6 +70,7 @@ pub(crate) fn empty<D: DictDisc>(
         region.new dict.new result (D.gone kind.old) (D.gone kind.new) }
     ensures need { need_shown result ≡ NoNeed }
     ensures leaves { LeavesRest state (D.rules kind.old) region.old dict.old region.new dict.new }
+    ensures disc { disc_in state region.new ≡ disc_in state region.old }
     ensures rules { D.rules kind.new ≡ D.rules kind.old }
 {
     Reply::Emptied(name, vc_objects::empty(region, dict, kind))

@@ -1,10 +1,10 @@
 -- What the definitions give for an object, by the answers of the calls that put its table and its holder.
-use Rattle.std.proofs.Common.{◌≡◌, ℕ, ◌*◌, ◌≤◌, Bool, true, false, List, Option, Some, None, inl, inr, length, map, refl, sym, ap, ◌∙◌, subst, arith}
-use Rattle.std.specs.Prelude.{IfErr, IsErrOf, OnOk, Result, Ok, Err}
+use Rattle.std.proofs.Common.{◌≡◌, ℕ, ◌*◌, Bool, true, false, List, Option, Some, None, length, map, refl, sym, ap, ◌∙◌, subst}
+use Rattle.std.specs.Prelude.{IfErr, OnOk, Result, Ok, Err}
 use Rattle.std.proofs.lemmas.Option.{none-some, same_Some}
 use Rattle.vc_base.specs.Holders.{contains}
+use Rattle.vc_base.specs.declared.fault.OutOfMemory.{OutOfMemory}
 use Rattle.vc_model.specs.Best.{best_need}
-use Rattle.vc_model.specs.Count.{Rose}
 use Rattle.vc_model.specs.Discipline.{Discipline, Terms, Unserved}
 use Rattle.vc_model.specs.Outcome as model
 use Rattle.vc_model.specs.Outcome.{Fault, Outcome, Done, Refused, Put}
@@ -12,7 +12,7 @@ use Rattle.vc_dict.specs.Methods.{wanted_by}
 use Rattle.vc_dict.specs.declared.dict.Dict.{Dict}
 use Rattle.vc_dtdisc.specs.Rules.{Rules}
 use Rattle.vc_dtlist.proofs.HolderLemmas.{apart-append, apart-front, apart-rest}
-use Rattle.vc_seg.specs.Answer.{IsPut, IsRefusal}
+use Rattle.vc_seg.specs.Answer.{Asks, IsPut, IsRefusal}
 use Rattle.vc_seg.specs.declared.fault.RegionFault.{RegionFault}
 use Rattle.vc_seg.specs.declared.fault.RegionFault.TheVariants as code
 use Rattle.vc_region.specs.Region.{Region}
@@ -21,7 +21,7 @@ use Rattle.vc_objects.specs.declared.fate.Fate.TheVariants.{Stored, NoTable, NoH
 use Rattle.vc_objects.specs.declared.fate.Want.{Want}
 use Rattle.vc_objects.specs.declared.fate.Want.TheVariants.{TooManySegments, NoSegment}
 use Rattle.vc_objects.specs.Insert.{Grown, alloc_unlabelled, grow, grown_to, grown_with, held, held_in, insert, slots_wanted, want_of, with_object, without_table}
-use Rattle.vc_objects.specs.Leaves.{GivesInserted, HasGrown, HasHeld, Lacks, LacksHolder, LacksTable, LeavesRest, lacks_segment, want_by}
+use Rattle.vc_objects.specs.Leaves.{Asked, GivesInserted, HasGrown, HasHeld, LacksHolder, LacksTable, LeavesRest, RefusedBy, lacks_segment, want_by}
 use Rattle.vc_objects.specs.Objects.{Dictionary, Object, Table, holder_size, listed, owned}
 use Rattle.vc_objects.specs.Parts.{dictionary_in}
 use Rattle.vc_objects.proofs.Leaving.{leaves-trans}
@@ -132,39 +132,56 @@ module _ (rules : Rules) (terms : Terms) (r : Region ℕ) (d : Dictionary) (appe
       subst (λ o. GivesInserted (held_in rules terms r 0 d append bytes false o) R D (NoTable want)) (sym found.1)
       (record { region = sym region; dict = sym dict; fate = ap NoTable found.2 })
 
--- what the discipline says of it
-pub lacks-table : (wanted : Option ℕ) (bytes : List ℕ) (old new : Discipline) (fault : RegionFault) (want : Want) → want_by fault ≡ Some want
-    → (IsErrOf {T = Unit} (Err fault) code.NoSegment → LacksTable wanted old new) → Lacks (NoTable want) wanted bytes old new
-lacks-table wanted bytes old new fault want e lacks = by fault e lacks
-  where
-    by : (fault : RegionFault) → want_by fault ≡ Some want → (IsErrOf {T = Unit} (Err fault) code.NoSegment → LacksTable wanted old new) → Lacks (NoTable want) wanted bytes old new
-    by code.TooManySegments e lacks = subst (λ w. Lacks (NoTable w) wanted bytes old new) (same_Some TooManySegments want e) tt
-    by code.NoSegment e lacks = subst (λ w. Lacks (NoTable w) wanted bytes old new) (same_Some NoSegment want e) (lacks refl)
-    by code.OutOfMemory e lacks = absurd (none-some want e)
-    by code.Fixed e lacks = subst (λ w. Lacks (NoTable w) wanted bytes old new) (same_Some TooManySegments want e) tt
-    by code.PoolSize e lacks = subst (λ w. Lacks (NoTable w) wanted bytes old new) (same_Some TooManySegments want e) tt
-    by code.NotLast e lacks = subst (λ w. Lacks (NoTable w) wanted bytes old new) (same_Some TooManySegments want e) tt
-    by code.WrongMethod e lacks = subst (λ w. Lacks (NoTable w) wanted bytes old new) (same_Some TooManySegments want e) tt
+-- what the discipline says of a block that was asked for, and of one that has no memory
+pub asked-block : (old new : Discipline) (segments segments' : List (ℕ × ℕ)) (size : ℕ) (fault : RegionFault) → Asks (Err fault) old new segments segments' size → RefusedBy fault (Unserved old new size) old new
+asked-block old new segments segments' size code.TooManySegments h = h.faults
+asked-block old new segments segments' size code.NoSegment h = h
+asked-block old new segments segments' size code.OutOfMemory h = h.faults
+asked-block old new segments segments' size code.Fixed h = h.faults
+asked-block old new segments segments' size code.PoolSize h = h.faults
+asked-block old new segments segments' size code.NotLast h = h.faults
+asked-block old new segments segments' size code.WrongMethod h = h.faults
 
-still-lacks : (wanted : Option ℕ) (bytes : List ℕ) (old mid new : Discipline) → (wanted ≡ None → mid ≡ old) → old.faults ≤ mid.faults → Unserved mid new (best_need mid.terms (holder_size bytes) 32) → LacksHolder wanted bytes old new
-still-lacks None bytes old mid new same faults un = subst (λ d. Unserved d new (best_need d.terms (holder_size bytes) 32)) (same refl) un
-still-lacks (Some slots) bytes old mid new same faults un = elim un.rose as (λ _. Rose old.faults new.faults) [
-  | inl less ↦ inl (omega (arith, faults, less))
-  | inr last ↦ inr last
-]
+pub asked-spent : (P : Type 0) (old new : Discipline) (fault : RegionFault) → want_by fault ≡ None → RefusedBy fault P old new → new.faults ≡ old.faults
+asked-spent P old new code.TooManySegments e h = h
+asked-spent P old new code.NoSegment e h = absurd (none-some NoSegment (sym e))
+asked-spent P old new code.OutOfMemory e h = h
+asked-spent P old new code.Fixed e h = h
+asked-spent P old new code.PoolSize e h = h
+asked-spent P old new code.NotLast e h = h
+asked-spent P old new code.WrongMethod e h = h
 
-pub lacks-holder : (wanted : Option ℕ) (bytes : List ℕ) (old mid new : Discipline) (fault : RegionFault) (want : Want) → want_by fault ≡ Some want → (wanted ≡ None → mid ≡ old) → old.faults ≤ mid.faults
-    → (IsErrOf {T = Unit} (Err fault) code.NoSegment → Unserved mid new (best_need mid.terms (holder_size bytes) 32)) → Lacks (NoHolder want) wanted bytes old new
-lacks-holder wanted bytes old mid new fault want e same faults lacks = by fault e lacks
+-- of an object's table and of its holder
+pub asked-no_table : (wanted : Option ℕ) (bytes : List ℕ) (old new : Discipline) (fault : RegionFault) (want : Want) → want_by fault ≡ Some want
+    → RefusedBy fault (LacksTable wanted old new) old new → Asked {E = OutOfMemory} (Ok (NoTable want)) wanted bytes old new
+asked-no_table wanted bytes old new fault want e h = by fault e h
   where
-    by : (fault : RegionFault) → want_by fault ≡ Some want → (IsErrOf {T = Unit} (Err fault) code.NoSegment → Unserved mid new (best_need mid.terms (holder_size bytes) 32)) → Lacks (NoHolder want) wanted bytes old new
-    by code.TooManySegments e lacks = subst (λ w. Lacks (NoHolder w) wanted bytes old new) (same_Some TooManySegments want e) tt
-    by code.NoSegment e lacks = subst (λ w. Lacks (NoHolder w) wanted bytes old new) (same_Some NoSegment want e) (still-lacks wanted bytes old mid new same faults (lacks refl))
-    by code.OutOfMemory e lacks = absurd (none-some want e)
-    by code.Fixed e lacks = subst (λ w. Lacks (NoHolder w) wanted bytes old new) (same_Some TooManySegments want e) tt
-    by code.PoolSize e lacks = subst (λ w. Lacks (NoHolder w) wanted bytes old new) (same_Some TooManySegments want e) tt
-    by code.NotLast e lacks = subst (λ w. Lacks (NoHolder w) wanted bytes old new) (same_Some TooManySegments want e) tt
-    by code.WrongMethod e lacks = subst (λ w. Lacks (NoHolder w) wanted bytes old new) (same_Some TooManySegments want e) tt
+    by : (fault : RegionFault) → want_by fault ≡ Some want → RefusedBy fault (LacksTable wanted old new) old new → Asked {E = OutOfMemory} (Ok (NoTable want)) wanted bytes old new
+    by code.TooManySegments e h = subst (λ w. Asked {E = OutOfMemory} (Ok (NoTable w)) wanted bytes old new) (same_Some TooManySegments want e) h
+    by code.NoSegment e h = subst (λ w. Asked {E = OutOfMemory} (Ok (NoTable w)) wanted bytes old new) (same_Some NoSegment want e) h
+    by code.OutOfMemory e h = absurd (none-some want e)
+    by code.Fixed e h = subst (λ w. Asked {E = OutOfMemory} (Ok (NoTable w)) wanted bytes old new) (same_Some TooManySegments want e) h
+    by code.PoolSize e h = subst (λ w. Asked {E = OutOfMemory} (Ok (NoTable w)) wanted bytes old new) (same_Some TooManySegments want e) h
+    by code.NotLast e h = subst (λ w. Asked {E = OutOfMemory} (Ok (NoTable w)) wanted bytes old new) (same_Some TooManySegments want e) h
+    by code.WrongMethod e h = subst (λ w. Asked {E = OutOfMemory} (Ok (NoTable w)) wanted bytes old new) (same_Some TooManySegments want e) h
+
+lacks-behind : (wanted : Option ℕ) (bytes : List ℕ) (old mid new : Discipline) → (wanted ≡ None → mid ≡ old) → mid.terms ≡ old.terms → mid.faults ≡ old.faults → LacksHolder None bytes mid new → LacksHolder wanted bytes old new
+lacks-behind None bytes old mid new same terms faults h = subst (λ d. LacksHolder None bytes d new) (same refl) h
+lacks-behind (Some slots) bytes old mid new same terms faults h =
+    record { between = mid; terms = terms; grown = faults; unserved = subst (λ t. Unserved mid new (best_need t (holder_size bytes) 32)) terms h }
+
+pub asked-no_holder : (wanted : Option ℕ) (bytes : List ℕ) (old mid new : Discipline) (fault : RegionFault) (want : Want) → want_by fault ≡ Some want → (wanted ≡ None → mid ≡ old) → mid.terms ≡ old.terms → mid.faults ≡ old.faults
+    → RefusedBy fault (LacksHolder None bytes mid new) mid new → Asked {E = OutOfMemory} (Ok (NoHolder want)) wanted bytes old new
+asked-no_holder wanted bytes old mid new fault want e same terms faults h = by fault e h
+  where
+    by : (fault : RegionFault) → want_by fault ≡ Some want → RefusedBy fault (LacksHolder None bytes mid new) mid new → Asked {E = OutOfMemory} (Ok (NoHolder want)) wanted bytes old new
+    by code.TooManySegments e h = subst (λ w. Asked {E = OutOfMemory} (Ok (NoHolder w)) wanted bytes old new) (same_Some TooManySegments want e) (h ∙ faults)
+    by code.NoSegment e h = subst (λ w. Asked {E = OutOfMemory} (Ok (NoHolder w)) wanted bytes old new) (same_Some NoSegment want e) (lacks-behind wanted bytes old mid new same terms faults h)
+    by code.OutOfMemory e h = absurd (none-some want e)
+    by code.Fixed e h = subst (λ w. Asked {E = OutOfMemory} (Ok (NoHolder w)) wanted bytes old new) (same_Some TooManySegments want e) (h ∙ faults)
+    by code.PoolSize e h = subst (λ w. Asked {E = OutOfMemory} (Ok (NoHolder w)) wanted bytes old new) (same_Some TooManySegments want e) (h ∙ faults)
+    by code.NotLast e h = subst (λ w. Asked {E = OutOfMemory} (Ok (NoHolder w)) wanted bytes old new) (same_Some TooManySegments want e) (h ∙ faults)
+    by code.WrongMethod e h = subst (λ w. Asked {E = OutOfMemory} (Ok (NoHolder w)) wanted bytes old new) (same_Some TooManySegments want e) (h ∙ faults)
 
 abbrev tables : Dictionary → List ℕ
 tables g = map (λ (x : Table). x.at) (listed g.table)

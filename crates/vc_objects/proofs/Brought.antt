@@ -1,6 +1,6 @@
 -- A table that a change of method needs is brought, or not.
 use Rattle.std.proofs.Common.{◌≡◌, ◌≢◌, ℕ, ◌*◌, [], Bool, false, Some, None, length, replicate, refl, sym, ap, ◌∙◌, subst}
-use Rattle.std.specs.Prelude.{IsErrOf, Result, Ok, Err, ◌==◌, if◌then◌else◌}
+use Rattle.std.specs.Prelude.{◌==◌, if◌then◌else◌}
 use Rattle.std.proofs.lemmas.Bool.{eq-eqb, ne_eqb}
 use Rattle.vc_base.specs.declared.dict_method.DictMethod.{DictMethod}
 use Rattle.vc_base.specs.declared.dict_method.DictMethod.TheVariants.{DtSet, DtBag, DtOset, DtObag, DtList, DtStack, DtQueue}
@@ -30,14 +30,6 @@ refusal-through f e call code.Fixed h = ap f h ∙ e Fixed
 refusal-through f e call code.PoolSize h = ap f h ∙ e PoolSize
 refusal-through f e call code.NotLast h = ap f h ∙ e NotLast
 refusal-through f e call code.WrongMethod h = ap f h ∙ e WrongMethod
-
--- a fault is the same of whatever value is missing
-abbrev fault_in : {A : Type 0} → Result A RegionFault → RegionFault
-fault_in (Ok x) = code.OutOfMemory
-fault_in (Err why) = why
-
-pub same-fault : {A B : Type 0} (why fault : RegionFault) → IsErrOf {T = A} (Err why) fault → IsErrOf {T = B} (Err why) fault
-same-fault why fault e = let same : why ≡ fault = ap fault_in e in ap Err same
 
 -- a block that was put is the table
 pub put-brought : (slots : ℕ) (o : Outcome (Put (Region ℕ))) (a : ℕ) (r : Region ℕ) → a ≢ 0 → IsPut o a r → HasBrought (brought slots o) r a slots

@@ -126,6 +126,7 @@ pub record Emptying {I : Type 0} {V : I → Type 0} (meaning : (x : I) × V x �
   pub region : freed_all (rest_in after) (dictionary_in new after).objects ≡ freed_all (rest_in before) (dictionary_in old before).objects
   pub dict : emptied (dictionary_in new after) ≡ emptied (dictionary_in old before)
   pub leaves : LeavesRest meaning rules before old after new
+  pub disc : disc_in meaning after ≡ disc_in meaning before
   pub fewer : (a : ℕ) → contains (owned (dictionary_in old before)) a ≡ false → contains (owned (dictionary_in new after)) a ≡ false
   pub tells : told_each (bytes_of (dictionary_in new after).objects) told ≡ told_each (bytes_of (dictionary_in old before).objects) gone
 
@@ -136,6 +137,7 @@ module _ {I : Type 0} {V : I → Type 0} (meaning : (x : I) × V x → Disciplin
     region = refl;
     dict = refl;
     leaves = leaves-self meaning rules before old best whole;
+    disc = refl;
     fewer = λ a h. h;
     tells = refl;
   }
@@ -143,9 +145,9 @@ module _ {I : Type 0} {V : I → Type 0} (meaning : (x : I) × V x → Disciplin
   module _ (passed : ℕ) (mid : Region I V) (dict : Dict) (told : Gone) (e : Emptying meaning rules before old gone passed mid dict told) where
     -- one more goes
     pub emptying-next : (rules' : Rules) (after : Region I V) (new : Dict) (told' : Gone) → rules' ≡ rules → passed < length (dictionary_in old before).objects → rest_in after ≡ (remove_first (rest_in mid) (dictionary_in dict mid)).region
-        → dictionary_in new after ≡ (remove_first (rest_in mid) (dictionary_in dict mid)).dict → LeavesRest meaning rules' mid dict after new → told' ≡ told_if true (remove_first (rest_in mid) (dictionary_in dict mid)).gone told
+        → dictionary_in new after ≡ (remove_first (rest_in mid) (dictionary_in dict mid)).dict → LeavesRest meaning rules' mid dict after new → disc_in meaning after ≡ disc_in meaning mid → told' ≡ told_if true (remove_first (rest_in mid) (dictionary_in dict mid)).gone told
         → Emptying meaning rules before old gone (passed + 1) after new told'
-    emptying-next rules' after new told' same more region dict' leaves' tells =
+    emptying-next rules' after new told' same more region dict' leaves' disc tells =
         let r = rest_in mid in
         let d = dictionary_in dict mid in
         let next = remove_first r d in
@@ -166,6 +168,7 @@ module _ {I : Type 0} {V : I → Type 0} (meaning : (x : I) × V x → Disciplin
             kind = leaves.kind ∙ e.leaves.kind;
             rest = leaves-after meaning before mid after (owned (dictionary_in old before)) (owned d) (owned (dictionary_in new after)) e.leaves.rest leaves.rest e.fewer fewer;
           };
+          disc = disc ∙ e.disc;
           fewer = λ a h. fewer a (e.fewer a h);
           tells =
               ap (λ z. told_each (bytes_of (dictionary_in new after).objects) z) tells

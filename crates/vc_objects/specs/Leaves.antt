@@ -1,9 +1,8 @@
 -- What a call on a dictionary answers, and what it leaves as it was.
-use Rattle.std.specs.Prelude.{◌≡◌, ℕ, ◌⊎◌, List, ◌++◌, Bool, true, false, Option, Some, None, fold, if◌then◌else◌}
+use Rattle.std.specs.Prelude.{◌≡◌, ℕ, ◌⊎◌, List, ◌++◌, Bool, true, false, Option, Some, None, Result, Ok, Err, fold, if◌then◌else◌}
 use Rattle.vc_base.specs.Holders.{contains}
 use Rattle.vc_model.specs.Addr.{address}
 use Rattle.vc_model.specs.Best.{best_need}
-use Rattle.vc_model.specs.Count.{Rose}
 use Rattle.vc_model.specs.Discipline.{Discipline, Kept, Unserved}
 use Rattle.vc_model.specs.Outcome.{Outcome, Done, Refused, Put}
 use Rattle.vc_dtdisc.specs.Rules.{Gone, Rules, gone_after}
@@ -100,16 +99,38 @@ abbrev pub LacksTable : Option ℕ → Discipline → Discipline → Type 0
 LacksTable None old new = ⊥
 LacksTable (Some slots) old new = Unserved old new (best_need old.terms (table_size slots) 32)
 
--- for a holder one was refused; where the table grew before, the discipline's faults rose
+-- the table grew with no segment refused, and then one of a size was
+pub record LacksGrown (old new : Discipline) (size : ℕ) : Type 0 where
+  pub between : Discipline
+  pub terms : between.terms ≡ old.terms
+  pub grown : between.faults ≡ old.faults
+  pub unserved : Unserved between new size
+
+-- for a holder one was refused, and before it none where the table grew
 abbrev pub LacksHolder : Option ℕ → List ℕ → Discipline → Discipline → Type 0
 LacksHolder None bytes old new = Unserved old new (best_need old.terms (holder_size bytes) 32)
-LacksHolder (Some slots) bytes old new = Rose old.faults new.faults
+LacksHolder (Some slots) bytes old new = LacksGrown old new (best_need old.terms (holder_size bytes) 32)
 
--- by what becomes of an object that is put
-abbrev pub Lacks : Fate → Option ℕ → List ℕ → Discipline → Discipline → Type 0
-Lacks (NoTable NoSegment) wanted bytes old new = LacksTable wanted old new
-Lacks (NoHolder NoSegment) wanted bytes old new = LacksHolder wanted bytes old new
-Lacks fate wanted bytes old new = Unit {0}
+-- a segment was refused so where a fault tells it, and else none
+abbrev pub RefusedBy : RegionFault → Type 0 → Discipline → Discipline → Type 0
+RefusedBy code.NoSegment lacks old new = lacks
+RefusedBy why lacks old new = new.faults ≡ old.faults
+
+-- what a call that may bring a table asked for, by its answer
+abbrev pub AskedTable : {A : Type 0} → Result A RegionFault → Option ℕ → Discipline → Discipline → Type 0
+AskedTable (Ok done) wanted old new = new.faults ≡ old.faults
+AskedTable (Err why) wanted old new = RefusedBy why (LacksTable wanted old new) old new
+
+-- one that puts a holder, where the table has room
+abbrev pub AskedHolder : {A : Type 0} → Result A RegionFault → List ℕ → Discipline → Discipline → Type 0
+AskedHolder (Ok done) bytes old new = new.faults ≡ old.faults
+AskedHolder (Err why) bytes old new = RefusedBy why (LacksHolder None bytes old new) old new
+
+-- and one that puts an object, by what becomes of it
+abbrev pub Asked : {E : Type 0} → Result Fate E → Option ℕ → List ℕ → Discipline → Discipline → Type 0
+Asked (Ok (NoTable NoSegment)) wanted bytes old new = LacksTable wanted old new
+Asked (Ok (NoHolder NoSegment)) wanted bytes old new = LacksHolder wanted bytes old new
+Asked answer wanted bytes old new = new.faults ≡ old.faults
 
 -- what taking an object out gives is this
 pub record GivesRemoved (c : Removed ℕ) (r : model.Region ℕ) (d : Dictionary) (bytes : Option (List ℕ)) : Type 0 where

@@ -1,6 +1,7 @@
 // Emptying a dictionary, and ending it.
 ghost use Rattle.std.specs.Prelude.{◌≡◌, [], true, length};
 ghost use Rattle.vc_region.specs.Cells.{cells_in, rest_in};
+ghost use Rattle.vc_region.specs.Parts.{disc_in};
 ghost use Rattle.vc_objects.specs.Leaves.{Leaves, LeavesRest, told_each, told_if};
 ghost use Rattle.vc_objects.specs.Objects.{is_best, owned};
 ghost use Rattle.vc_objects.specs.Parts.{IsWhole, dictionary_in};
@@ -23,6 +24,7 @@ fn take_one<D: DictDisc>(region: &mut Region, dict: &mut Dict, kind: &mut D)
     ensures dict { dictionary_in dict.new region.new
         ≡ (remove_first (rest_in region.old) (dictionary_in dict.old region.old)).dict }
     ensures leaves { LeavesRest state (D.rules kind.old) region.old dict.old region.new dict.new }
+    ensures disc { disc_in state region.new ≡ disc_in state region.old }
     ensures rules { D.rules kind.new ≡ D.rules kind.old }
     ensures gone { D.gone kind.new ≡ told_if true
         (remove_first (rest_in region.old) (dictionary_in dict.old region.old)).gone
@@ -49,6 +51,7 @@ pub fn empty<D: DictDisc>(region: &mut Region, dict: &mut Dict, kind: &mut D) ->
     ensures dict { dictionary_in dict.new region.new
         ≡ emptied (dictionary_in dict.old region.old) }
     ensures leaves { LeavesRest state (D.rules kind.old) region.old dict.old region.new dict.new }
+    ensures disc { disc_in state region.new ≡ disc_in state region.old }
     ensures rules { D.rules kind.new ≡ D.rules kind.old }
     ensures gone { D.gone kind.new ≡ told_each
         (bytes_of (dictionary_in dict.old region.old).objects) (D.gone kind.old) }
@@ -69,6 +72,7 @@ pub fn shut<D: DictDisc>(region: &mut Region, dict: Dict, kind: &mut D)
         ≡ region_without (rest_in region.old) (dictionary_in dict region.old) }
     ensures leaves { Leaves state region.old region.new
         (owned (dictionary_in dict region.old)) [] }
+    ensures disc { disc_in state region.new ≡ disc_in state region.old }
     ensures rules { D.rules kind.new ≡ D.rules kind.old }
     ensures gone { D.gone kind.new ≡ told_each
         (bytes_of (dictionary_in dict region.old).objects) (D.gone kind.old) }

@@ -1,14 +1,12 @@
 // Putting objects into a dictionary.
-ghost use Rattle.std.specs.Prelude.{◌≡◌, None, true, false, IfOk, IfErr, IsErrOf, OnErr, OnOk};
-ghost use Rattle.vc_model.specs.Best.{best_need};
-ghost use Rattle.vc_model.specs.Discipline.{Unserved};
+ghost use Rattle.std.specs.Prelude.{◌≡◌, None, true, false, IfOk, IfErr, OnErr, OnOk};
 ghost use Rattle.vc_dtdisc.specs.Rules.{IsObject};
 ghost use Rattle.vc_dict.specs.Methods.{is_list, is_set};
 ghost use Rattle.vc_region.specs.Cells.{cells_in, rest_in};
 ghost use Rattle.vc_region.specs.Parts.{disc_in};
 ghost use Rattle.vc_seg.specs.Answer.{IsRefusal};
 ghost use Rattle.vc_objects.specs.Insert.{alloc_unlabelled, grow, insert, slots_wanted};
-ghost use Rattle.vc_objects.specs.Leaves.{GivesInserted, HasGrown, HasHeld, IsHalted, Lacks, LacksTable, LeavesRest, no_holder, no_table, want_by};
+ghost use Rattle.vc_objects.specs.Leaves.{Asked, AskedHolder, AskedTable, GivesInserted, HasGrown, HasHeld, IsHalted, LeavesRest, no_holder, no_table, want_by};
 ghost use Rattle.vc_objects.specs.Lists.{first_with};
 ghost use Rattle.vc_objects.specs.Objects.{holder_size, is_best};
 ghost use Rattle.vc_objects.specs.Parts.{IsWhole, dictionary_in};
@@ -53,8 +51,7 @@ fn grow<D: DictDisc>(region: &mut Region, dict: &mut Dict, kind: &D) -> Result<(
         (dictionary_in dict.old region.old)) why
         × (rest_in region.new ≡ rest_in region.old)
         × (dictionary_in dict.new region.new ≡ dictionary_in dict.old region.old)) }
-    ensures lacks { IsErrOf result RegionFault.NoSegment → LacksTable
-        (slots_wanted (dictionary_in dict.old region.old))
+    ensures asked { AskedTable result (slots_wanted (dictionary_in dict.old region.old))
         (disc_in state region.old) (disc_in state region.new) }
 {
     match dict.wants_table(1) {
@@ -95,9 +92,8 @@ fn hold<D: DictDisc, L>(
         (holder_size object.now)) why
         × (rest_in region.new ≡ rest_in region.old)
         × (dictionary_in dict.new region.new ≡ dictionary_in dict.old region.old)) }
-    ensures lacks { IsErrOf result RegionFault.NoSegment → Unserved
-        (disc_in state region.old) (disc_in state region.new)
-        (best_need (disc_in state region.old).terms (holder_size object.now) 32) }
+    ensures asked { AskedHolder result object.now
+        (disc_in state region.old) (disc_in state region.new) }
 {
     match alloc_cell(region, 32 + object.len() as u32) {
         Ok(at) => {
@@ -133,10 +129,10 @@ pub fn insert<D: DictDisc, L>(
         (rest_in region.new) (dictionary_in dict.new region.new) fate) }
     ensures leaves { LeavesRest state (D.rules kind.now) region.old dict.old region.new dict.new }
 
-    // What was refused was asked for.
-    ensures lacks { IfOk result (λ fate. Lacks fate
+    // What was refused was asked for, and no segment else was refused.
+    ensures asked { Asked result
         (slots_wanted (dictionary_in dict.old region.old)) object.now
-        (disc_in state region.old) (disc_in state region.new)) }
+        (disc_in state region.old) (disc_in state region.new) }
 
     // With no memory nothing changed, or the table grew.
     ensures err { OnErr result (IsHalted

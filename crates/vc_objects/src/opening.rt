@@ -1,10 +1,10 @@
-ghost use Rattle.std.specs.Prelude.{◌≡◌, [], Some, true, false, IfOk, IfErr, IsErrOf};
+ghost use Rattle.std.specs.Prelude.{◌≡◌, [], Some, true, false, IfOk, IfErr};
 ghost use Rattle.vc_dtdisc.specs.Rules.{Rules};
 ghost use Rattle.vc_region.specs.Cells.{cells_in, rest_in};
 ghost use Rattle.vc_region.specs.Parts.{disc_in};
 ghost use Rattle.vc_seg.specs.Answer.{IsRefusal};
 ghost use Rattle.vc_objects.specs.Insert.{open_dictionary};
-ghost use Rattle.vc_objects.specs.Leaves.{HasGrown, LacksTable, Leaves};
+ghost use Rattle.vc_objects.specs.Leaves.{AskedTable, HasGrown, Leaves};
 ghost use Rattle.vc_objects.specs.Objects.{is_best, owned};
 ghost use Rattle.vc_objects.specs.Parts.{IsWhole, dictionary_in};
 
@@ -38,8 +38,8 @@ pub fn open<D: DictDisc>(
         × (rest_in region.new ≡ rest_in region.old)
         × (cells_in region.new ≡ cells_in region.old)
         × Leaves state region.old region.new [] []) }
-    ensures lacks { IsErrOf result RegionFault.NoSegment
-        → LacksTable (Some 16) (disc_in state region.old) (disc_in state region.new) }
+    ensures asked { AskedTable result (Some 16)
+        (disc_in state region.old) (disc_in state region.new) }
 {
     let mut dict = Dict::new(method, kind);
     match dict.wants_table(1) {

@@ -4,6 +4,7 @@ ghost use Rattle.std.specs.Vec.{vec_capacity};
 ghost use Rattle.vc_base.specs.Cells.{IsHolder};
 ghost use Rattle.vc_dtdisc.specs.Finds.{object_at};
 ghost use Rattle.vc_region.specs.Cells.{cells_in, rest_in};
+ghost use Rattle.vc_region.specs.Parts.{disc_in};
 ghost use Rattle.vc_objects.specs.Freed.{FreesCell};
 ghost use Rattle.vc_objects.specs.Leaves.{GivesRemoved, LeavesRest, told_if};
 ghost use Rattle.vc_objects.specs.Objects.{is_best};
@@ -70,6 +71,7 @@ pub fn remove<D: DictDisc, L>(
         (rest_in region.new) (dictionary_in dict.new region.new)
         (if result then Some out.new.items else None) }
     ensures leaves { LeavesRest state (D.rules kind.old) region.old dict.old region.new dict.new }
+    ensures disc { disc_in state region.new ≡ disc_in state region.old }
     ensures rules { D.rules kind.new ≡ D.rules kind.old }
     ensures gone { D.gone kind.new ≡ told_if tells
         (if result then Some out.new.items else None) (D.gone kind.old) }
@@ -100,6 +102,7 @@ fn remove_first<D: DictDisc>(
         (rest_in region.new) (dictionary_in dict.new region.new)
         (if result then Some out.new.items else None) }
     ensures leaves { LeavesRest state (D.rules kind.old) region.old dict.old region.new dict.new }
+    ensures disc { disc_in state region.new ≡ disc_in state region.old }
     ensures rules { D.rules kind.new ≡ D.rules kind.old }
     ensures gone { D.gone kind.new ≡ told_if true
         (if result then Some out.new.items else None) (D.gone kind.old) }
@@ -130,6 +133,7 @@ pub fn remove_unnamed<D: DictDisc>(
         (rest_in region.new) (dictionary_in dict.new region.new)
         (if result then Some out.new.items else None) }
     ensures leaves { LeavesRest state (D.rules kind.old) region.old dict.old region.new dict.new }
+    ensures disc { disc_in state region.new ≡ disc_in state region.old }
     ensures rules { D.rules kind.new ≡ D.rules kind.old }
     ensures gone { D.gone kind.new ≡ told_if true
         (if result then Some out.new.items else None) (D.gone kind.old) }

@@ -1,10 +1,10 @@
 // The tables of sets and bags.
-ghost use Rattle.std.specs.Prelude.{◌≡◌, ◌≢◌, ℕ, Some, None, true, false, IfErr, IsErrOf, IsSome, OnOk};
+ghost use Rattle.std.specs.Prelude.{◌≡◌, ◌≢◌, ℕ, Some, None, true, false, IfErr, IsSome, OnOk};
 ghost use Rattle.vc_region.specs.Cells.{cells_in, labelled, rest_in};
 ghost use Rattle.vc_region.specs.Parts.{disc_in, segments_in};
 ghost use Rattle.vc_seg.specs.Answer.{IsRefusal};
 ghost use Rattle.vc_objects.specs.Insert.{grown_to, without_table};
-ghost use Rattle.vc_objects.specs.Leaves.{HasGrown, LacksTable, Leaves};
+ghost use Rattle.vc_objects.specs.Leaves.{AskedTable, HasGrown, Leaves};
 ghost use Rattle.vc_objects.specs.Objects.{is_best, owned};
 ghost use Rattle.vc_objects.specs.Parts.{CanGrow, IsWhole, dictionary_in, table_of};
 
@@ -60,8 +60,8 @@ pub(crate) fn put_table<D: DictDisc>(
         × (rest_in region.new ≡ rest_in region.old)
         × (cells_in region.new ≡ cells_in region.old)
         × (dict.new ≡ dict.old)) }
-    ensures lacks { IsErrOf result RegionFault.NoSegment
-        → LacksTable (Some slots) (disc_in state region.old) (disc_in state region.new) }
+    ensures asked { AskedTable result (Some slots)
+        (disc_in state region.old) (disc_in state region.new) }
 {
     match alloc_cell(region, 8 * slots) {
         Ok(table) => {

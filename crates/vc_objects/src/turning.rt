@@ -1,5 +1,5 @@
 // Turning a dictionary to another method.
-ghost use Rattle.std.specs.Prelude.{◌≡◌, ◌≢◌, ℕ, List, Some, true, false, length, ◌&&◌, if◌then◌else◌, IfErr, IfOk, IsErrOf, OnOk};
+ghost use Rattle.std.specs.Prelude.{◌≡◌, ◌≢◌, ℕ, List, Some, true, false, length, ◌&&◌, if◌then◌else◌, IfErr, IfOk, OnOk};
 ghost use Rattle.vc_base.specs.Cells.{IsHolder};
 ghost use Rattle.vc_base.specs.Holders.{AreDistinct, contains};
 ghost use Rattle.vc_dtdisc.specs.Finds.{object_at};
@@ -12,7 +12,7 @@ ghost use Rattle.vc_region.specs.Cells.{cells_in, labelled, rest_in, without_cel
 ghost use Rattle.vc_region.specs.Parts.{disc_in, segments_in};
 ghost use Rattle.vc_seg.specs.Answer.{IsRefusal};
 ghost use Rattle.vc_objects.specs.Insert.{freed, without_table};
-ghost use Rattle.vc_objects.specs.Leaves.{GivesTurned, KeepsDisc, LacksTable, LeavesRest, told_each};
+ghost use Rattle.vc_objects.specs.Leaves.{AskedTable, GivesTurned, KeepsDisc, LeavesRest, told_each};
 ghost use Rattle.vc_objects.specs.Objects.{is_best};
 ghost use Rattle.vc_objects.specs.Parts.{IsWhole, dictionary_in, table_of};
 ghost use Rattle.vc_objects.specs.Remove.{bytes_of, freed_all};
@@ -54,7 +54,7 @@ fn bring_some(region: &mut Region, slots: u32) -> Result<NewTable, RegionFault>
         (Some slots)) why
         × (rest_in region.new ≡ rest_in region.old)
         × (cells_in region.new ≡ cells_in region.old)) }
-    ensures lacks { IsErrOf result RegionFault.NoSegment → LacksTable (Some slots)
+    ensures asked { AskedTable result (Some slots)
         (disc_in state region.old) (disc_in state region.new) }
 {
     match alloc_cell(region, 8 * slots) {
@@ -84,8 +84,7 @@ fn bring(region: &mut Region, dict: &Dict, method: DictMethod) -> Result<NewTabl
         (slots_between dict.now.method method dict.now.count)) why
         × (rest_in region.new ≡ rest_in region.old)
         × (cells_in region.new ≡ cells_in region.old)) }
-    ensures lacks { IsErrOf result RegionFault.NoSegment → LacksTable
-        (slots_between dict.now.method method dict.now.count)
+    ensures asked { AskedTable result (slots_between dict.now.method method dict.now.count)
         (disc_in state region.old) (disc_in state region.new) }
 {
     match dict.table_for(method) {
@@ -206,14 +205,14 @@ fn turn_other<D: DictDisc, L>(
     ensures leaves { LeavesRest state (D.rules kind.old) region.old dict.old region.new dict.new }
     ensures rules { D.rules kind.new ≡ D.rules kind.old }
 
-    // A segment that is wanted was asked for, and nothing changed.
+    // Where no table is put nothing changed.
     ensures err { IfErr result (λ why. IsRefusal
         (turn (D.rules kind.old) (disc_in state region.old).terms (rest_in region.old) 0
         (dictionary_in dict.old region.old) method) why
         × (rest_in region.new ≡ rest_in region.old)
         × (dictionary_in dict.new region.new ≡ dictionary_in dict.old region.old)
         × (D.gone kind.new ≡ D.gone kind.old)) }
-    ensures lacks { IsErrOf result RegionFault.NoSegment → LacksTable
+    ensures asked { AskedTable result
         (slots_between dict.old.method method (length (dictionary_in dict.old region.old).objects))
         (disc_in state region.old) (disc_in state region.new) }
 {
@@ -247,14 +246,14 @@ pub fn turn<D: DictDisc, L>(
     ensures leaves { LeavesRest state (D.rules kind.old) region.old dict.old region.new dict.new }
     ensures rules { D.rules kind.new ≡ D.rules kind.old }
 
-    // A segment that is wanted was asked for, and nothing changed.
+    // Where no table is put nothing changed.
     ensures err { IfErr result (λ why. IsRefusal
         (turn (D.rules kind.old) (disc_in state region.old).terms (rest_in region.old) 0
         (dictionary_in dict.old region.old) method) why
         × (rest_in region.new ≡ rest_in region.old)
         × (dictionary_in dict.new region.new ≡ dictionary_in dict.old region.old)
         × (D.gone kind.new ≡ D.gone kind.old)) }
-    ensures lacks { IsErrOf result RegionFault.NoSegment → LacksTable
+    ensures asked { AskedTable result
         (slots_between dict.old.method method (length (dictionary_in dict.old region.old).objects))
         (disc_in state region.old) (disc_in state region.new) }
 {

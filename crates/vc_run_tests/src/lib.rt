@@ -17,3 +17,5 @@ mod order;
 mod rows;
 #[cfg(test)]
 mod streams;
+#[cfg(test)]
+mod told;

@@ -25,8 +25,8 @@ use Rattle.vc_session.specs.Step.{Gives, GivesStep, cleared_or, in_region, opene
 use Rattle.vc_session.specs.Run.{refusal_at, place_named, home_place}
 use Rattle.vc_session.specs.Told.{tell}
 use Rattle.vc_session.proofs.Firsts.{IsFirst, first-unmap}
-use Rattle.vc_session.specs.Account.{Held, Lacks, LacksSegment, held_named, IsChange, IsHeld, IsSession, RoseBy, Settles, account, accounts, account_after, cells_left, home_of, settled, state_of, without_faults}
-use Rattle.vc_session.proofs.Cells.{at_number-from_one, at_number_some, map-set_alike}
+use Rattle.vc_session.specs.Account.{Account, Held, Lacks, LacksSegment, held_named, IsChange, IsHeld, IsSession, RoseBy, Settles, account, accounts, account_after, cells_left, home_of, settled, state_of, without_faults}
+use Rattle.vc_session.proofs.Cells.{at_number-from_one, at_number_some, map-set_alike, set_same}
 use Rattle.vc_session.proofs.Firsts.{find-first, find-set, with_region-first}
 use Rattle.vc_session.proofs.Settle.{settled-change, settled-at}
 use Rattle.vc_session.proofs.Settling.{OnlyAt, settles-set}
@@ -131,6 +131,21 @@ module _ (slots : Slots) (hs : List Held) (i : ℕ) (h g : Held) (at : slice_get
   settles-reply kinds ds r command (Refused NoSegmentForTable) works found rose no_table no_object = absurd (no_table refl)
   settles-reply kinds ds r command (Refused NoSegmentForObject) works found rose no_table no_object = absurd (no_object refl)
   settles-reply kinds ds r command reply works found rose no_table no_object = quiet
+
+  -- where its discipline has no more faults, the settled shelf is the same
+  pub settled-same : g.disc.faults ≡ h.disc.faults → settled (accounts slots) (set hs i g) ≡ settled (accounts slots) hs
+  settled-same faults =
+      let apart = apart-session slots hs session in
+      let found = at_number_some slots h.place None held.place in
+      let there : slice_get (accounts slots) (h.place - 1) ≡ Some None = slice_get-map (option_map account) slots (h.place - 1) ∙ ap (option_map (option_map account)) found.1 in
+      let same : account_after g ≡ account_after h =
+      ap (λ o. let a : Account = record { out = o; terms = g.disc.terms; faults = g.disc.faults } in a) change.out
+      ∙ (ap (λ r. let a : Account = record { out = (account_after h).out; terms = r; faults = g.disc.faults } in a) change.kept.terms
+      ∙ ap (λ f. let a : Account = record { out = (account_after h).out; terms = h.disc.terms; faults = f } in a) faults) in
+      settled-change (accounts slots) hs i h g at change.place apart
+      ∙ (ap (λ p. set (settled (accounts slots) hs) (p - 1) (Some (account_after g))) change.place
+      ∙ (ap (λ a. set (settled (accounts slots) hs) (h.place - 1) (Some a)) same
+      ∙ set_same (settled (accounts slots) hs) (h.place - 1) (Some (account_after h)) (settled-at (accounts slots) hs i h None at there apart)))
 
   same_home : (let k : Home = record (home_of h) { region = (home_of g).region; kept = (home_of g).kept } in k) ≡ home_of g
   same_home =

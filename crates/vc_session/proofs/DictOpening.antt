@@ -1,5 +1,5 @@
 -- What the opening of a dictionary leaves of a session.
-use Rattle.std.proofs.Common.{◌≡◌, ℕ, false, Bool, List, [], ◌∷◌, ◌++◌, Some, None, Result, Ok, Err, IfOk, OnErr, map, option_map, set, refl, sym, ap, ◌∙◌, subst}
+use Rattle.std.proofs.Common.{◌≡◌, ℕ, false, Bool, List, [], ◌∷◌, ◌++◌, Option, Some, None, Result, Ok, Err, IfOk, OnErr, map, option_map, set, refl, sym, ap, ◌∙◌, subst}
 use Rattle.std.specs.Prelude.{slice_get}
 use Rattle.std.specs.Str.{bytes_eq}
 use Rattle.std.proofs.lemmas.Option.{none-some, same_Some, slice_get-map}
@@ -17,7 +17,7 @@ use Rattle.vc_seg.specs.Answer.{IsRefusal}
 use Rattle.vc_seg.specs.declared.fault.RegionFault.{RegionFault}
 use Rattle.vc_seg.specs.declared.fault.RegionFault.TheVariants as code
 use Rattle.vc_objects.specs.Insert.{Grown, open_dictionary, want_of}
-use Rattle.vc_objects.specs.Leaves.{HasGrown, LacksTable}
+use Rattle.vc_objects.specs.Leaves.{HasGrown, LacksTable, RefusedBy}
 use Rattle.vc_objects.specs.Objects.{Dictionary, owned}
 use Rattle.vc_objects.specs.Parts.{IsWhole, dictionary_of}
 use Rattle.vc_objects.proofs.Named.{open_dictionary-named, relabel_grown}
@@ -64,6 +64,10 @@ table-told call code.Fixed told same is = told-by call model.Fixed (reply.Refuse
 table-told call code.PoolSize told same is = told-by call model.PoolSize (reply.Refused why.TooManySegments) told same is refl
 table-told call code.NotLast told same is = told-by call model.NotLast (reply.Refused why.TooManySegments) told same is refl
 table-told call code.WrongMethod told same is = told-by call model.WrongMethod (reply.Refused why.TooManySegments) told same is refl
+
+-- where a fault tells of a refused segment, it was refused for the table
+pub table-lacks : (fault : RegionFault) (wanted : Option ℕ) (old new : Discipline) → RefusedBy fault (LacksTable wanted old new) old new → fault ≡ code.NoSegment → LacksTable wanted old new
+table-lacks fault wanted old new refused same = subst (λ f. RefusedBy f (LacksTable wanted old new) old new) same refused
 
 -- what holds of the reply to a fault at a table
 pub told-ok : {E : Type 0} (P : Reply → Type 0) (fault : RegionFault) (result : Result Reply E) → TellsTable fault result → ((told : Reply) → table_reply fault ≡ Some told → P told) → IfOk result P

@@ -1,5 +1,5 @@
 -- A command on a dictionary, over the regions and dictionaries of a session as they are stored.
-use Rattle.std.proofs.Common.{◌≡◌, ℕ, ◌-◌, ◌<◌, zero, suc, true, List, [], ◌∷◌, Some, length, map, set, refl, sym, ap, ◌∙◌, subst, arith}
+use Rattle.std.proofs.Common.{◌≡◌, ℕ, ◌-◌, ◌<◌, zero, suc, true, List, [], ◌∷◌, Some, Result, Ok, Err, IfOk, length, map, set, refl, sym, ap, ◌∙◌, subst, arith}
 use Rattle.std.specs.Prelude.{slice_get}
 use Rattle.std.specs.List.{position}
 use Rattle.std.specs.Str.{bytes_eq}
@@ -18,7 +18,7 @@ use Rattle.vc_objects.specs.Leaves.{LeavesRest}
 use Rattle.vc_objects.specs.Objects.{is_best, owned}
 use Rattle.vc_objects.specs.Parts.{IsWhole, dictionary_in}
 use Rattle.vc_commands.specs.Commands.{in_dict}
-use Rattle.vc_commands.specs.Run.{GivesDict, IsSpent, LacksBy, seat_in}
+use Rattle.vc_commands.specs.Run.{AskedBy, GivesDict, IsSpentBy, LacksBy, seat_in}
 use Rattle.vc_commands.specs.Seat.{Seat}
 use Rattle.vc_script.specs.Needs.{Need, need_shown}
 use Rattle.vc_script.specs.declared.command.Command.{Command}
@@ -52,6 +52,11 @@ pub pair-read : {A : Type 0} (es : List (List ℕ × A)) (i : ℕ) (k : List ℕ
 pair-read [] i k x key value = absurd (none-some k key)
 pair-read (e ∷ es) zero k x key value = ap (λ n. Some (n, e.1)) (same_Some e.0 k key) ∙ ap (λ y. Some (k, y)) (same_Some e.1 x value)
 pair-read (e ∷ es) (suc i) k x key value = pair-read es i k x key value
+
+-- what an answer asked for, by its reply
+pub asked-ok : {E L : Type 0} (answer : Result Reply E) (s : Seat L) (command : Command) (old new : Discipline) → AskedBy answer s command old new → IfOk answer (λ reply. LacksBy s command reply old new)
+asked-ok (Ok reply) s command old new asked = asked
+asked-ok (Err e) s command old new asked = tt
 
 -- any command but the one that ends a dictionary
 pub plain-command : (s : State) (command : Command) (need : Need) (d : DictHome) (h : Home) (rules : Rules) → ((x : List ℕ) → command ≡ Shut x → ⊥) → dict_command s command need d h rules ≡ dict_changed s d h (in_dict (seat_of d h rules) command need)
@@ -197,10 +202,11 @@ module _ {I : Type 0} {V : I → Type 0} (meaning : (x : I) × V x → Disciplin
           carry (λ ks xs ys. StepLacksFor s hs xs command reply)
           (lacks-after kinds slots hs es j i h e at there first first_dict held dicts refl g new change touch refl leaves.kind whole-new command reply works (lacks-by command reply lacks))
 
-      pub cut-ran : (command : Command) → dict_of command ≡ Some name → IsSpent tags (rest_in after) (dictionary_in new after) → IsCutOff s command (state_of kinds' slots hs' (dicts_in hs' es'))
+      pub cut-ran : (command : Command) → dict_of command ≡ Some name → IsSpentBy tags command (rest_in after) (dictionary_in new after) → IsCutOff s command (state_of kinds' slots hs' (dicts_in hs' es'))
       cut-ran command works spent =
           carry (λ ks xs ys. IsCutOff s command (state_of ks slots xs (dicts_in xs ys)))
-          (cut-after kinds slots hs es j i h e at there first first_dict held dicts refl g new change touch refl leaves.kind whole-new command works spent)
+          (cut-after kinds slots hs es j i h e at there first first_dict held dicts refl g new change touch refl leaves.kind whole-new command works
+          (subst (λ r. IsSpentBy (seat_by r) command (rest_in after) (dictionary_in new after)) rules-is spent))
 
       -- its reply is of no block's segment
       pub other-ran : (command : Command) (reply : Reply) (old told : Gone) → GivesDict (in_dict tags command (need_shown reply)) (rest_in after) (dictionary_in new after) reply old told → IsOther reply

@@ -1,6 +1,6 @@
 -- What a command on a dictionary does to the state, to its kind and to the settled shelf.
 use Rattle.std.proofs.Common.{◌≡◌, ℕ, ◌-◌, true, false, List, [], ◌∷◌, Option, Some, None, map, option_map, set, refl, sym, ap, ◌∙◌, subst, inl, inr}
-use Rattle.std.specs.Prelude.{remove, slice_get}
+use Rattle.std.specs.Prelude.{◌⊎◌, remove, slice_get}
 use Rattle.std.specs.List.{AllByRecursion}
 use Rattle.std.specs.Str.{bytes_eq}
 use Rattle.std.proofs.lemmas.Option.{none-some, same_Some, slice_get-map}
@@ -20,12 +20,12 @@ use Rattle.vc_objects.specs.Objects.{Dictionary, is_best, owned}
 use Rattle.vc_objects.specs.Parts.{IsWhole, dictionary_of}
 use Rattle.vc_objects.proofs.Named.{grow-named, relabel_grown}
 use Rattle.vc_commands.specs.Commands.{in_dict, object_asked, table_asked}
-use Rattle.vc_commands.specs.Run.{GivesDict, IsSpent, LacksBy}
+use Rattle.vc_commands.specs.Run.{GivesDict, IsSpent, IsSpentBy, LacksBy}
 use Rattle.vc_commands.specs.Seat.{DictChanged, Seat}
 use Rattle.vc_commands.proofs.Named.{in_dict-named, lacks-named, relabel_changed, relabel_seat}
 use Rattle.vc_script.specs.Needs.{Need, need_shown}
 use Rattle.vc_script.specs.declared.command.Command.{Command}
-use Rattle.vc_script.specs.declared.command.Command.TheVariants.{OpenDict}
+use Rattle.vc_script.specs.declared.command.Command.TheVariants.{Insert, Attach, OpenDict}
 use Rattle.vc_script.specs.declared.refusal.Refusal.TheVariants.{NoSegment, NoSegmentForTable, NoSegmentForObject}
 use Rattle.vc_script.specs.declared.reply.Reply.{Reply}
 use Rattle.vc_script.specs.declared.reply.Reply.TheVariants.{Refused}
@@ -55,7 +55,7 @@ table-rose (Some slots) old new lacks = lacks.rose
 
 object-rose : (o : Option ℕ) (bytes : List ℕ) (old new : Discipline) → LacksHolder o bytes old new → Rose old.faults new.faults
 object-rose None bytes old new lacks = lacks.rose
-object-rose (Some slots) bytes old new lacks = lacks
+object-rose (Some slots) bytes old new lacks = subst (λ n. Rose n new.faults) lacks.grown lacks.unserved.rose
 
 command-lacks : (s : State) (command : Command) (reply : Reply) (old new : Discipline) (d : List ℕ) → dict_of command ≡ Some d → DictLacks s command reply old new (dict_at s (dict_of command)) → CommandLacks s command reply old new
 command-lacks s (OpenDict x method r k) reply old new d works lacks = absurd (none-some d works)
@@ -275,9 +275,16 @@ module _ (kinds : List Rules) (slots : Slots) (hs : List Held) (es : List Entry)
         (subst (λ o. GrewIn s d o after) (sym found-home) seat))
 
     -- with no memory
-    pub cut-after : (command : Command) → dict_of command ≡ Some e.0 → IsSpent tags g.region now → IsCutOff s command after
-    cut-after command works (inl same) =
-        inl
-        (sym (state-after (home_of h).region d.dict (relabel-after h.region (sym same.0)) (dict-is ∙ sym same.1))
-        ∙ same-state)
-    cut-after command works (inr grown) = inr (grew-by command works grown)
+    same-after : (g.region ≡ tags.region) × (now ≡ tags.dict) → after ≡ s
+    same-after same =
+        sym (state-after (home_of h).region d.dict (relabel-after h.region (sym same.0)) (dict-is ∙ sym same.1))
+        ∙ same-state
+
+    halted-after : (command : Command) → dict_of command ≡ Some e.0 → IsSpent tags g.region now → (after ≡ s) ⊎ GrewBy s (dict_at s (dict_of command)) after
+    halted-after command works (inl same) = inl (same-after same)
+    halted-after command works (inr grown) = inr (grew-by command works grown)
+
+    pub cut-after : (command : Command) → dict_of command ≡ Some e.0 → IsSpentBy tags command g.region now → IsCutOff s command after
+    cut-after (Insert x bytes) works spent = halted-after (Insert x bytes) works spent
+    cut-after (Attach x bytes) works spent = halted-after (Attach x bytes) works spent
+    cut-after command works same = same-after same

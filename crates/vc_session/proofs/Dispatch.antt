@@ -1,5 +1,5 @@
 -- Which part of a session runs a command: a dictionary's, a region's, or the shelf's.
-use Rattle.std.proofs.Common.{◌≡◌, ℕ, Bool, true, false, cond, List, [], Option, Some, None, Result, Ok, IfOk, OnErr, refl, sym, ap, ◌∙◌, subst, inl}
+use Rattle.std.proofs.Common.{◌≡◌, ℕ, Bool, true, false, cond, List, [], Option, Some, None, Result, Ok, IfOk, OnErr, refl, sym, ap, ◌∙◌, subst}
 use Rattle.std.specs.List.{list_any}
 use Rattle.vc_base.specs.declared.dict_method.DictMethod.{DictMethod}
 use Rattle.vc_model.specs.Discipline.{Discipline, Terms}
@@ -30,6 +30,7 @@ use Rattle.vc_seg.specs.declared.shelf.Shelf.{Shelf}
 use Rattle.vc_session.specs.Run.{refusal_at}
 use Rattle.vc_session.specs.State.{DictHome, Home, Label, State, Stepped, close_home, close_step, closed, home_named, is_busy, is_home, open_step, opened_over, refused, stepped}
 use Rattle.vc_session.specs.Step.{GivesStep, StepsTo, region_of, shelf_step, step_of, step_on}
+use Rattle.vc_session.proofs.CutOff.{cut-same}
 use Rattle.vc_session.proofs.DictReplies.{IsOther, other-dict}
 use Rattle.vc_session.proofs.Grants.{IsGranted}
 use Rattle.vc_session.proofs.OnShelf.{if_ok, ok-at, on_error}
@@ -182,7 +183,7 @@ module _ {I : Type 0} {V : I → Type 0} {D : Type 0} (meaning : (x : I) × V x 
 
   pub region-err : {E : Type 0} (gone : List Gone) (command : Command) (res : Result Reply E) → OnErr res ((ks : List Rules) → HoldsDicts meaning ks session → after ks ≡ before ks) → OnErr res ((gone ≡ gone) × IsCutOff (before kinds) command (after kinds))
   region-err gone command res each =
-      on_error res ((ks : List Rules) → HoldsDicts meaning ks session → after ks ≡ before ks) ((gone ≡ gone) × IsCutOff (before kinds) command (after kinds)) (λ e. (refl, inl (e kinds dicts))) each
+      on_error res ((ks : List Rules) → HoldsDicts meaning ks session → after ks ≡ before ks) ((gone ≡ gone) × IsCutOff (before kinds) command (after kinds)) (λ e. (refl, cut-same (before kinds) command (after kinds) (e kinds dicts))) each
 
   pub region-settles : {E : Type 0} (command : Command) (res : Result Reply E) → IfOk res (λ reply. (ks : List Rules) → Settles (settled_over meaning shelf session) (settled_over meaning shelf' session') (refusal_at (before ks) command reply)) → IfOk res (λ reply. Settles (settled_over meaning shelf session) (settled_over meaning shelf' session') (refusal_at (before kinds) command reply))
   region-settles command res each =

@@ -5,6 +5,7 @@ pub mod BestStays
 pub mod Cells
 pub mod Changing
 pub mod Closing
+pub mod CutOff
 pub mod DictChange
 pub mod DictEnd
 pub mod DictKept

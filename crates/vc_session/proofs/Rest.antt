@@ -2,7 +2,6 @@
 use Rattle.std.proofs.Common.{◌≡◌, ℕ, List, [], Option, Some, None, Result, Ok, Err, IfOk, length, map, sym, ap, ◌∙◌, subst}
 use Rattle.std.specs.Prelude.{IfErr, IfSome}
 use Rattle.std.specs.List.{AllByRecursion, zip}
-use Rattle.std.proofs.lemmas.List.{append-nil}
 use Rattle.vc_model.specs.Discipline.{Discipline}
 use Rattle.vc_dtdisc.specs.Rules.{Gone, Rules}
 use Rattle.vc_seg.specs.declared.shelf.Shelf.{Shelf}
@@ -18,23 +17,21 @@ use Rattle.vc_session.specs.Replay.{IsCutShort, IsReplay, IsRun, Told, run_by}
 use Rattle.vc_session.specs.Told.{gone_in, rules_in}
 use Rattle.vc_session.specs.declared.dicts.DictEntry.{DictEntry}
 use Rattle.vc_session.specs.declared.session.Session.{Session}
-use Rattle.vc_session.proofs.Settling.{settles-trans}
 
 -- from the moment of a run's last line to the one behind its session's end
 pub record Rests (now after : Moment) : Type 0 where
   pub written : after.written ≡ now.written
-  pub settles : Settles now.accounts after.accounts []
+  pub accounts : after.accounts ≡ now.accounts
   pub gone : after.gone ≡ now.gone
 
 module _ {before now after : Moment} (rests : Rests now after) where
   pub run-rest : {commands : List (ℕ × Command)} → IsRun before now commands → IsRun before after commands
   run-rest {commands} r =
-      let refusals = (run_by before commands r.written).refusals in
       record {
         written = r.written;
         text = r.text;
         told = subst (λ w. Told before.written w r.written) (sym rests.written) r.told;
-        settles = subst (Settles before.accounts after.accounts) (append-nil refusals) (settles-trans before.accounts now.accounts after.accounts refusals [] r.settles rests.settles);
+        settles = subst (λ s. Settles before.accounts s (run_by before commands r.written).refusals) (sym rests.accounts) r.settles;
         gone = rests.gone ∙ r.gone;
       }
 

@@ -17,6 +17,9 @@ rose_by-trans m n a b c (inr p) (inr q) = inr q
 pub settles-same : (shelf : List (Option Account)) → Settles shelf shelf []
 settles-same shelf = record { same = refl; faults = λ place. inl (omega arith) }
 
+pub settles-equal : (before after : List (Option Account)) → after ≡ before → Settles before after []
+settles-equal before after same = subst (λ s. Settles before s []) (sym same) (settles-same before)
+
 pub settles-trans : (a b c : List (Option Account)) (ps qs : List ℕ) → Settles a b ps → Settles b c qs → Settles a c (ps ++ qs)
 settles-trans a b c ps qs f g = record {
   same = g.same ∙ f.same;

@@ -9,7 +9,7 @@ use Rattle.vc_objects.specs.Insert.{Grown, grow}
 use Rattle.vc_objects.specs.Leaves.{LacksTable}
 use Rattle.vc_commands.specs.Run.{LacksBy}
 use Rattle.vc_script.specs.declared.command.Command.{Command}
-use Rattle.vc_script.specs.declared.command.Command.TheVariants.{OpenDict}
+use Rattle.vc_script.specs.declared.command.Command.TheVariants.{Insert, Attach, OpenDict}
 use Rattle.vc_script.specs.declared.refusal.Refusal.TheVariants.{NoSegmentForTable, NoSegmentForObject}
 use Rattle.vc_script.specs.declared.reply.Reply.{Reply}
 use Rattle.vc_script.specs.declared.reply.Reply.TheVariants.{Refused}
@@ -65,6 +65,8 @@ abbrev pub GrewBy : State → Option DictHome → State → Type 0
 GrewBy s None after = ⊥
 GrewBy s (Some d) after = GrewIn s d (home_named d.home s.homes) after
 
--- with no memory for a step the state is as before it, or the table of its dictionary grew
+-- with no memory for a step the state is as before it, or the table of a dictionary grew for the object that is put
 abbrev pub IsCutOff : State → Command → State → Type 0
-IsCutOff s command after = (after ≡ s) ⊎ GrewBy s (dict_at s (dict_of command)) after
+IsCutOff s (Insert d bytes) after = (after ≡ s) ⊎ GrewBy s (dict_named d s.dicts) after
+IsCutOff s (Attach d bytes) after = (after ≡ s) ⊎ GrewBy s (dict_named d s.dicts) after
+IsCutOff s command after = after ≡ s

@@ -1,5 +1,5 @@
 -- What kinds are told of: the objects that go, each with the number of its kind, from 1 on.
-use Rattle.std.specs.Prelude.{ℕ, ◌-◌, List, [], ◌∷◌, Option, Some, None, map, slice_set}
+use Rattle.std.specs.Prelude.{◌≡◌, ℕ, ◌-◌, List, [], ◌∷◌, Option, Some, None, map, slice_set}
 use Rattle.std.specs.List.{flat_map}
 use Rattle.vc_model.specs.Numbered.{at_number}
 use Rattle.vc_dtdisc.specs.Rules.{Gone, Rules, gone_after}
@@ -10,6 +10,10 @@ use Rattle.vc_session.specs.State.{State}
 -- the rules of kinds
 abbrev pub rules_in : {K : Type 0} → (K → Rules) → List K → List Rules
 rules_in rules kinds = map rules kinds
+
+-- kinds have the rules that they had
+abbrev pub KeepRules : {K : Type 0} → (K → Rules) → List K → List K → Type 0
+KeepRules rules old new = rules_in rules new ≡ rules_in rules old
 
 -- what kinds were told of
 abbrev pub gone_in : {K : Type 0} → (K → Gone) → List K → List Gone

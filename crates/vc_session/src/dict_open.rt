@@ -85,14 +85,16 @@ impl<D: DictDisc> Session<D> {
         region: Name,
         kind: u32,
     ) -> Result<Reply, OutOfMemory>
-        requires session { IsSessionOver state (rules_in D.rules kinds.now.items) shelf.now self.old }
+        requires session { IsSessionOver state (rules_in D.rules kinds.now.items)
+            shelf.now self.old }
         ensures step { IfOk result (λ reply. GivesStep
             (open_dict_step (state_over state (rules_in D.rules kinds.now.items) shelf.now self.old)
             name method region kind (need_shown reply))
             (gone_in D.gone kinds.now.items) reply
             (state_over state (rules_in D.rules kinds.now.items) shelf.now self.new)
             (gone_in D.gone kinds.now.items)) }
-        ensures session { IsSessionOver state (rules_in D.rules kinds.now.items) shelf.now self.new }
+        ensures session { IsSessionOver state (rules_in D.rules kinds.now.items)
+            shelf.now self.new }
         ensures spent { self.new.is_spent ≡ self.old.is_spent }
         ensures keeps { Settles
             (settled_over state shelf.now self.old)

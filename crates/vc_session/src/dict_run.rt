@@ -10,7 +10,7 @@ ghost use Rattle.vc_session.specs.Homes.{IsSessionOver, held_in, settled_over, s
 ghost use Rattle.vc_session.specs.Lacks.{IsCutOff, StepLacksFor};
 ghost use Rattle.vc_session.specs.Run.{refusal_at};
 ghost use Rattle.vc_session.specs.Step.{GivesStep};
-ghost use Rattle.vc_session.specs.Told.{gone_in, rules_in};
+ghost use Rattle.vc_session.specs.Told.{KeepRules, gone_in, rules_in};
 
 use crate::session::Session;
 use vc_base::{Name, OutOfMemory};
@@ -27,7 +27,8 @@ impl<D: DictDisc> Session<D> {
         name: &Name,
         command: &Command,
     ) -> Result<Reply, OutOfMemory>
-        requires session { IsSessionOver state (rules_in D.rules kinds.old.items) shelf.now self.old }
+        requires session { IsSessionOver state (rules_in D.rules kinds.old.items)
+            shelf.now self.old }
         requires command { dict_of command.now ≡ Some name.now }
         ensures step { IfOk result (λ reply. GivesStep
             (dict_step (state_over state (rules_in D.rules kinds.old.items) shelf.now self.old)
@@ -35,8 +36,9 @@ impl<D: DictDisc> Session<D> {
             (gone_in D.gone kinds.old.items) reply
             (state_over state (rules_in D.rules kinds.new.items) shelf.now self.new)
             (gone_in D.gone kinds.new.items)) }
-        ensures session { IsSessionOver state (rules_in D.rules kinds.new.items) shelf.now self.new }
-        ensures rules { rules_in D.rules kinds.new.items ≡ rules_in D.rules kinds.old.items }
+        ensures session { IsSessionOver state (rules_in D.rules kinds.new.items)
+            shelf.now self.new }
+        ensures rules { KeepRules D.rules kinds.old.items kinds.new.items }
         ensures spent { self.new.is_spent ≡ self.old.is_spent }
         ensures keeps { Settles
             (settled_over state shelf.now self.old)
@@ -49,7 +51,8 @@ impl<D: DictDisc> Session<D> {
         ensures lacks { IfOk result (λ reply. StepLacksFor
             (state_over state (rules_in D.rules kinds.old.items) shelf.now self.old)
             (held_in state self.old) (held_in state self.new) command.now reply) }
-        ensures err { OnErr result ((gone_in D.gone kinds.new.items ≡ gone_in D.gone kinds.old.items)
+        ensures err { OnErr result
+            ((gone_in D.gone kinds.new.items ≡ gone_in D.gone kinds.old.items)
             × IsCutOff
             (state_over state (rules_in D.rules kinds.old.items) shelf.now self.old) command.now
             (state_over state (rules_in D.rules kinds.new.items) shelf.now self.new)) }
@@ -75,7 +78,8 @@ impl<D: DictDisc> Session<D> {
         i: usize,
         command: &Command,
     ) -> Result<Reply, OutOfMemory>
-        requires session { IsSessionOver state (rules_in D.rules kinds.old.items) shelf.now self.old }
+        requires session { IsSessionOver state (rules_in D.rules kinds.old.items)
+            shelf.now self.old }
         requires command { dict_of command.now ≡ Some name.now }
         requires index { position (bytes_eq name.now) (keys_of self.old.dicts.entries) ≡ Some i }
         requires other { (x : List ℕ) → command.now ≡ Command.Shut x → ⊥ }
@@ -85,8 +89,9 @@ impl<D: DictDisc> Session<D> {
             (gone_in D.gone kinds.old.items) reply
             (state_over state (rules_in D.rules kinds.new.items) shelf.now self.new)
             (gone_in D.gone kinds.new.items)) }
-        ensures session { IsSessionOver state (rules_in D.rules kinds.new.items) shelf.now self.new }
-        ensures rules { rules_in D.rules kinds.new.items ≡ rules_in D.rules kinds.old.items }
+        ensures session { IsSessionOver state (rules_in D.rules kinds.new.items)
+            shelf.now self.new }
+        ensures rules { KeepRules D.rules kinds.old.items kinds.new.items }
         ensures spent { self.new.is_spent ≡ self.old.is_spent }
         ensures keeps { Settles
             (settled_over state shelf.now self.old)
@@ -99,7 +104,8 @@ impl<D: DictDisc> Session<D> {
         ensures lacks { IfOk result (λ reply. StepLacksFor
             (state_over state (rules_in D.rules kinds.old.items) shelf.now self.old)
             (held_in state self.old) (held_in state self.new) command.now reply) }
-        ensures err { OnErr result ((gone_in D.gone kinds.new.items ≡ gone_in D.gone kinds.old.items)
+        ensures err { OnErr result
+            ((gone_in D.gone kinds.new.items ≡ gone_in D.gone kinds.old.items)
             × IsCutOff
             (state_over state (rules_in D.rules kinds.old.items) shelf.now self.old) command.now
             (state_over state (rules_in D.rules kinds.new.items) shelf.now self.new)) }

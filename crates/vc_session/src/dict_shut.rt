@@ -1,11 +1,10 @@
 // The ending of a dictionary.
 ghost use Rattle.std.specs.Prelude.{◌≡◌, ◌+◌, ◌<◌, [], IfSome, length, slice_get};
 ghost use Rattle.vc_objects.specs.Remove.{bytes_of};
-ghost use Rattle.vc_session.specs.Account.{Settles};
 ghost use Rattle.vc_session.specs.DictHomes.{dict_home};
 ghost use Rattle.vc_session.specs.Dicts.{shut_state, told_of};
 ghost use Rattle.vc_session.specs.Homes.{IsSessionOver, held_in, settled_over, state_over};
-ghost use Rattle.vc_session.specs.Told.{ended_told, gone_in, rules_in, tell};
+ghost use Rattle.vc_session.specs.Told.{KeepRules, ended_told, gone_in, rules_in, tell};
 
 use crate::session::Session;
 use vc_dtdisc::DictDisc;
@@ -15,7 +14,8 @@ use vc_seg::{BoxedDisc, SegDisc, Shelf};
 impl<D: DictDisc> Session<D> {
     // Ends the dictionary that was opened as the one of that index, from 0 on, of those that are open.
     pub(crate) fn shut_at(&mut self, shelf: &Shelf, kinds: &mut Vec<D>, i: usize)
-        requires session { IsSessionOver state (rules_in D.rules kinds.old.items) shelf.now self.old }
+        requires session { IsSessionOver state (rules_in D.rules kinds.old.items)
+            shelf.now self.old }
         requires within { i < length self.old.dicts.entries }
         ensures state { IfSome (slice_get self.old.dicts.entries i) (λ e.
             state_over state (rules_in D.rules kinds.new.items) shelf.now self.new
@@ -27,12 +27,12 @@ impl<D: DictDisc> Session<D> {
             (gone_in D.gone kinds.old.items)) }
         ensures fewer { length self.new.dicts.entries + 1 ≡ length self.old.dicts.entries }
         ensures homes { length self.new.homes.entries ≡ length self.old.homes.entries }
-        ensures session { IsSessionOver state (rules_in D.rules kinds.new.items) shelf.now self.new }
-        ensures rules { rules_in D.rules kinds.new.items ≡ rules_in D.rules kinds.old.items }
+        ensures session { IsSessionOver state (rules_in D.rules kinds.new.items)
+            shelf.now self.new }
+        ensures rules { KeepRules D.rules kinds.old.items kinds.new.items }
         ensures spent { self.new.is_spent ≡ self.old.is_spent }
-        ensures keeps { Settles
-            (settled_over state shelf.now self.old)
-            (settled_over state shelf.now self.new) [] }
+        ensures settled { settled_over state shelf.now self.new
+            ≡ settled_over state shelf.now self.old }
     {
         let Some((_, entry)) = self.dicts.shift_remove_index(i) else {
             unreachable!()
@@ -51,11 +51,11 @@ impl<D: DictDisc> Session<D> {
         ensures gone { gone_in D.gone kinds.new.items ≡ tell
             (ended_told (state_over state (rules_in D.rules kinds.old.items) shelf.now self.old))
             (gone_in D.gone kinds.old.items) }
-        ensures session { IsSessionOver state (rules_in D.rules kinds.new.items) shelf.now self.new }
-        ensures rules { rules_in D.rules kinds.new.items ≡ rules_in D.rules kinds.old.items }
-        ensures keeps { Settles
-            (settled_over state shelf.now self.old)
-            (settled_over state shelf.now self.new) [] }
+        ensures session { IsSessionOver state (rules_in D.rules kinds.new.items)
+            shelf.now self.new }
+        ensures rules { KeepRules D.rules kinds.old.items kinds.new.items }
+        ensures settled { settled_over state shelf.now self.new
+            ≡ settled_over state shelf.now self.old }
     {
         while !self.dicts.is_empty() {
             self.shut_at(shelf, kinds, 0);

@@ -10,7 +10,7 @@ ghost use Rattle.vc_session.specs.Moment.{Keeps, ended, moment};
 ghost use Rattle.vc_session.specs.ProperState.{IsProperState};
 ghost use Rattle.vc_session.specs.Replay.{IsCutShort, IsReplay};
 ghost use Rattle.vc_session.specs.SoFar.{Ends, EndsAll, GoesOn, fuel};
-ghost use Rattle.vc_session.specs.Told.{rules_in};
+ghost use Rattle.vc_session.specs.Told.{KeepRules, rules_in};
 
 use crate::session::Session;
 use crate::stream::write_all;
@@ -75,7 +75,7 @@ fn run_line<D: DictDisc>(
         (moment state D.rules D.gone shelf.new session.new kinds.new.items (Some replies.new.items))
         n (answer tool line.now) fault) }
     ensures session { IsSessionOver state (rules_in D.rules kinds.new.items) shelf.new session.new }
-    ensures rules { rules_in D.rules kinds.new.items ≡ rules_in D.rules kinds.old.items }
+    ensures rules { KeepRules D.rules kinds.old.items kinds.new.items }
     ensures keeps { OnErr result (Keeps
         (moment state D.rules D.gone shelf.old session.old kinds.old.items None)
         (moment state D.rules D.gone shelf.new session.new kinds.new.items None)) }
@@ -103,7 +103,8 @@ fn run_piece<D: DictDisc>(
     piece: &[u8],
     replies: &mut Vec<u8>,
 ) -> Result<Option<(u32, LineFault)>, OutOfMemory>
-    requires session { IsSessionOver state (rules_in D.rules kinds.old.items) shelf.old session.old }
+    requires session { IsSessionOver state (rules_in D.rules kinds.old.items)
+        shelf.old session.old }
     requires fed { IsTrue cutter.old.is_open }
     requires cutting { IsCutting cutter.old }
     requires none { replies.old.items ≡ [] }
@@ -118,7 +119,7 @@ fn run_piece<D: DictDisc>(
     ensures open { result ≡ Ok None → IsTrue cutter.new.is_open × IsCutting cutter.new }
     ensures less { result ≡ Ok None → fuel cutter.new + length piece.now ≤ fuel cutter.old }
     ensures session { IsSessionOver state (rules_in D.rules kinds.new.items) shelf.new session.new }
-    ensures rules { rules_in D.rules kinds.new.items ≡ rules_in D.rules kinds.old.items }
+    ensures rules { KeepRules D.rules kinds.old.items kinds.new.items }
     ensures keeps { Keeps
         (moment state D.rules D.gone shelf.old session.old kinds.old.items None)
         (moment state D.rules D.gone shelf.new session.new kinds.new.items None) }
@@ -160,7 +161,8 @@ fn run_last<D: DictDisc>(
     cutter: &mut LineCutter,
     replies: &mut Vec<u8>,
 ) -> Result<Option<(u32, LineFault)>, OutOfMemory>
-    requires session { IsSessionOver state (rules_in D.rules kinds.old.items) shelf.old session.old }
+    requires session { IsSessionOver state (rules_in D.rules kinds.old.items)
+        shelf.old session.old }
     requires fed { IsTrue cutter.old.is_open }
     requires cutting { IsCutting cutter.old }
     requires none { replies.old.items ≡ [] }
@@ -169,7 +171,7 @@ fn run_last<D: DictDisc>(
         (moment state D.rules D.gone shelf.new session.new kinds.new.items (Some replies.new.items))
         replies.new.items cutter.old) }
     ensures session { IsSessionOver state (rules_in D.rules kinds.new.items) shelf.new session.new }
-    ensures rules { rules_in D.rules kinds.new.items ≡ rules_in D.rules kinds.old.items }
+    ensures rules { KeepRules D.rules kinds.old.items kinds.new.items }
     ensures keeps { Keeps
         (moment state D.rules D.gone shelf.old session.old kinds.old.items None)
         (moment state D.rules D.gone shelf.new session.new kinds.new.items None) }
@@ -203,7 +205,8 @@ pub(crate) fn run_lines<D: DictDisc, S: Source, O: Sink>(
     source: &mut S,
     out: &mut O,
 ) -> Result<Option<(u32, LineFault)>, Stop>
-    requires session { IsSessionOver state (rules_in D.rules kinds.old.items) shelf.old session.old }
+    requires session { IsSessionOver state (rules_in D.rules kinds.old.items)
+        shelf.old session.old }
     requires proper { IsProperState (state_over state (rules_in D.rules kinds.old.items)
         shelf.old session.old) }
     ensures replay { IfOk result (λ bad. IfSome (S.left source.old) (λ input. IsReplay tool
@@ -216,7 +219,7 @@ pub(crate) fn run_lines<D: DictDisc, S: Source, O: Sink>(
         (ended (moment state D.rules D.gone shelf.new session.new kinds.new.items
         (O.written out.new))) input (S.left source.new))) }
     ensures session { IsSessionOver state (rules_in D.rules kinds.new.items) shelf.new session.new }
-    ensures rules { rules_in D.rules kinds.new.items ≡ rules_in D.rules kinds.old.items }
+    ensures rules { KeepRules D.rules kinds.old.items kinds.new.items }
     ensures keeps { Keeps
         (moment state D.rules D.gone shelf.old session.old kinds.old.items None)
         (moment state D.rules D.gone shelf.new session.new kinds.new.items None) }

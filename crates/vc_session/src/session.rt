@@ -9,7 +9,7 @@ ghost use Rattle.vc_session.specs.Dicts.{dict_of};
 ghost use Rattle.vc_session.specs.Lacks.{IsCutOff, StepLacksFor};
 ghost use Rattle.vc_session.specs.Run.{refusal_at};
 ghost use Rattle.vc_session.specs.Step.{GivesStep, StepsTo, is_clear, region_of, shelf_step, step_of};
-ghost use Rattle.vc_session.specs.Told.{ended_told, gone_in, rules_in, tell};
+ghost use Rattle.vc_session.specs.Told.{KeepRules, ended_told, gone_in, rules_in, tell};
 
 use crate::dicts::DictEntry;
 use crate::home::HomeEntry;
@@ -126,7 +126,8 @@ impl<D: DictDisc> Session<D> {
         kinds: &Vec<D>,
         command: &Command,
     ) -> Result<Reply, OutOfMemory>
-        requires session { IsSessionOver state (rules_in D.rules kinds.now.items) shelf.old self.old }
+        requires session { IsSessionOver state (rules_in D.rules kinds.now.items)
+            shelf.old self.old }
         requires dict { dict_of command.now ≡ None }
         requires region { region_of command.now ≡ None }
         ensures step { IfOk result (λ reply. GivesStep
@@ -135,7 +136,8 @@ impl<D: DictDisc> Session<D> {
             (gone_in D.gone kinds.now.items) reply
             (state_over state (rules_in D.rules kinds.now.items) shelf.new self.new)
             (gone_in D.gone kinds.now.items)) }
-        ensures session { IsSessionOver state (rules_in D.rules kinds.now.items) shelf.new self.new }
+        ensures session { IsSessionOver state (rules_in D.rules kinds.now.items)
+            shelf.new self.new }
         ensures spent { self.new.is_spent ≡ self.old.is_spent }
         ensures err { OnErr result
             (state_over state (rules_in D.rules kinds.now.items) shelf.new self.new
@@ -229,10 +231,12 @@ impl<D: DictDisc> Session<D> {
             (gone_in D.gone kinds.old.items) line command.now reply
             (state_over state (rules_in D.rules kinds.new.items) shelf.new self.new)
             (gone_in D.gone kinds.new.items)) }
-        ensures rules { rules_in D.rules kinds.new.items ≡ rules_in D.rules kinds.old.items }
-        ensures session { IsSessionOver state (rules_in D.rules kinds.new.items) shelf.new self.new }
+        ensures rules { KeepRules D.rules kinds.old.items kinds.new.items }
+        ensures session { IsSessionOver state (rules_in D.rules kinds.new.items)
+            shelf.new self.new }
         ensures spent { self.new.is_spent ≡ self.old.is_spent }
-        ensures err { OnErr result ((gone_in D.gone kinds.new.items ≡ gone_in D.gone kinds.old.items)
+        ensures err { OnErr result
+            ((gone_in D.gone kinds.new.items ≡ gone_in D.gone kinds.old.items)
             × IsCutOff
             (state_over state (rules_in D.rules kinds.old.items) shelf.old self.old) command.now
             (state_over state (rules_in D.rules kinds.new.items) shelf.new self.new)) }
@@ -278,11 +282,13 @@ impl<D: DictDisc> Session<D> {
             (gone_in D.gone kinds.old.items) line command.now reply
             (state_over state (rules_in D.rules kinds.new.items) shelf.new self.new)
             (gone_in D.gone kinds.new.items)) }
-        ensures rules { rules_in D.rules kinds.new.items ≡ rules_in D.rules kinds.old.items }
-        ensures session { IsSessionOver state (rules_in D.rules kinds.new.items) shelf.new self.new }
+        ensures rules { KeepRules D.rules kinds.old.items kinds.new.items }
+        ensures session { IsSessionOver state (rules_in D.rules kinds.new.items)
+            shelf.new self.new }
 
         // With no memory nothing changes, now or later, but that the table of the command's dictionary may have grown.
-        ensures err { OnErr result ((gone_in D.gone kinds.new.items ≡ gone_in D.gone kinds.old.items)
+        ensures err { OnErr result
+            ((gone_in D.gone kinds.new.items ≡ gone_in D.gone kinds.old.items)
             × IsCutOff
             (state_over state (rules_in D.rules kinds.old.items) shelf.old self.old) command.now
             (state_over state (rules_in D.rules kinds.new.items) shelf.new self.new)) }
@@ -334,13 +340,11 @@ impl<D: DictDisc> Session<D> {
     /// go in order of opening; the kinds are told of all objects, and each region gives its segments back in ascending order of number.
     pub fn end(self, shelf: &mut Shelf, kinds: &mut Vec<D>)
         requires { IsSessionOver state (rules_in D.rules kinds.old.items) shelf.old self }
-        ensures shelf { Settles
-            (settled_over state shelf.old self)
-            (accounts_on state shelf.new) [] }
+        ensures shelf { accounts_on state shelf.new ≡ settled_over state shelf.old self }
         ensures gone { gone_in D.gone kinds.new.items ≡ tell
             (ended_told (state_over state (rules_in D.rules kinds.old.items) shelf.old self))
             (gone_in D.gone kinds.old.items) }
-        ensures rules { rules_in D.rules kinds.new.items ≡ rules_in D.rules kinds.old.items }
+        ensures rules { KeepRules D.rules kinds.old.items kinds.new.items }
     {
         let mut rest = self;
         rest.shut_all(shelf, kinds);

@@ -5,7 +5,7 @@ ghost use Rattle.vc_script.specs.declared.tool.Tool.TheVariants.{Dtrun, Vmreplay
 ghost use Rattle.vc_session.specs.Headline.{Headline};
 ghost use Rattle.vc_session.specs.Moment.{Keeps, at_rest};
 ghost use Rattle.vc_session.specs.Replay.{Broke, IsCutShort, IsReplay, Told, err_line, fault_text, message, tool_name};
-ghost use Rattle.vc_session.specs.Told.{gone_in, rules_in};
+ghost use Rattle.vc_session.specs.Told.{KeepRules, gone_in, rules_in};
 
 use crate::Status;
 use crate::engine::{Stop, run_lines};
@@ -50,7 +50,7 @@ fn run_source<D: DictDisc, S: Source, O: Sink>(
         shelf.old None)
         (at_rest state (rules_in D.rules kinds.new.items) (gone_in D.gone kinds.new.items)
         shelf.new None) }
-    ensures rules { rules_in D.rules kinds.new.items ≡ rules_in D.rules kinds.old.items }
+    ensures rules { KeepRules D.rules kinds.old.items kinds.new.items }
     ensures reads { S.failures source.old ≤ S.failures source.new }
     ensures writes { O.failures out.old ≤ O.failures out.new }
 {
@@ -159,9 +159,10 @@ fn run_tool<D: DictDisc, S: Source, O: Sink, E: Sink>(
         })
         result }
 
-    // Where nothing was wrong err has nothing, and with words nothing is read or replied.
+    // Where nothing was wrong err has nothing, and with words nothing but err is touched.
     ensures quiet { result ≡ Status.Ok → err.new ≡ err.old }
-    ensures words { 0 < length words.now → (source.new ≡ source.old) × (out.new ≡ out.old) }
+    ensures words { 0 < length words.now → (source.new ≡ source.old) × (out.new ≡ out.old)
+        × (shelf.new ≡ shelf.old) × (kinds.new ≡ kinds.old) }
 
     // On every exit each place has its discipline, with the segments out and the terms that it had, and no fault less.
     ensures keeps { Keeps
@@ -169,7 +170,7 @@ fn run_tool<D: DictDisc, S: Source, O: Sink, E: Sink>(
         shelf.old None)
         (at_rest state (rules_in D.rules kinds.new.items) (gone_in D.gone kinds.new.items)
         shelf.new None) }
-    ensures rules { rules_in D.rules kinds.new.items ≡ rules_in D.rules kinds.old.items }
+    ensures rules { KeepRules D.rules kinds.old.items kinds.new.items }
 {
     if !words.is_empty() {
         return match tell(err, tool, "bad arguments") {
@@ -231,9 +232,10 @@ pub fn replay<S: Source, O: Sink, E: Sink>(
         })
         result }
 
-    // Where nothing was wrong err has nothing, and with words nothing is read or replied.
+    // Where nothing was wrong err has nothing, and with words nothing but err is touched.
     ensures quiet { result ≡ Status.Ok → err.new ≡ err.old }
-    ensures words { 0 < length words.now → (source.new ≡ source.old) × (out.new ≡ out.old) }
+    ensures words { 0 < length words.now → (source.new ≡ source.old) × (out.new ≡ out.old)
+        × (shelf.new ≡ shelf.old) }
 
     // On every exit each place has its discipline, with the segments out and the terms that it had, and no fault less.
     ensures keeps { Keeps
@@ -288,9 +290,10 @@ pub fn dtrun<D: DictDisc, S: Source, O: Sink, E: Sink>(
         })
         result }
 
-    // Where nothing was wrong err has nothing, and with words nothing is read or replied.
+    // Where nothing was wrong err has nothing, and with words nothing but err is touched.
     ensures quiet { result ≡ Status.Ok → err.new ≡ err.old }
-    ensures words { 0 < length words.now → (source.new ≡ source.old) × (out.new ≡ out.old) }
+    ensures words { 0 < length words.now → (source.new ≡ source.old) × (out.new ≡ out.old)
+        × (shelf.new ≡ shelf.old) × (kinds.new ≡ kinds.old) }
 
     // On every exit each place has its discipline, with the segments out and the terms that it had, and no fault less.
     ensures keeps { Keeps
@@ -298,7 +301,7 @@ pub fn dtrun<D: DictDisc, S: Source, O: Sink, E: Sink>(
         shelf.old None)
         (at_rest state (rules_in D.rules kinds.new.items) (gone_in D.gone kinds.new.items)
         shelf.new None) }
-    ensures rules { rules_in D.rules kinds.new.items ≡ rules_in D.rules kinds.old.items }
+    ensures rules { KeepRules D.rules kinds.old.items kinds.new.items }
 {
     run_tool(alloc, Tool::Dtrun, words, shelf, kinds, source, out, err)
 }

@@ -30,7 +30,7 @@ loop-passed-preserved g c =
     record {
       emptying = emptying-next (λ z. (goal.SegDisc-dyn g z).state z.1) (g.D.DictDisc.rules c.args.kind.now) c.args.region.now c.args.dict.now (g.D.DictDisc.gone c.args.kind.now) c.loop-passed._passed c.loop-passed.region c.loop-passed.dict (g.D.DictDisc.gone c.loop-passed.kind) c.loop-passed.invariant.emptying
           (g.D.DictDisc.rules c.loop-passed.kind) c.take_one.new.region c.take_one.new.dict (g.D.DictDisc.gone c.take_one.new.kind) c.loop-passed.invariant.rules (omega (arith, before, counted, long))
-          c.take_one.ensures.region c.take_one.ensures.dict c.take_one.ensures.leaves c.take_one.ensures.gone;
+          c.take_one.ensures.region c.take_one.ensures.dict c.take_one.ensures.leaves c.take_one.ensures.disc c.take_one.ensures.gone;
       rules = c.take_one.ensures.rules ∙ c.loop-passed.invariant.rules;
     }
 
@@ -73,6 +73,10 @@ returns-clause-dict g c =
 pub returns-clause-leaves : goal.returns-clause-leaves
 returns-clause-leaves g c =
     c.loop-passed.invariant.emptying.leaves
+
+pub returns-clause-disc : goal.returns-clause-disc
+returns-clause-disc g c =
+    c.loop-passed.invariant.emptying.disc
 
 pub returns-clause-gone : goal.returns-clause-gone
 returns-clause-gone g c =

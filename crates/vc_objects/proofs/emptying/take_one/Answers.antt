@@ -3,6 +3,7 @@ use Rattle.std.specs.Option.{option_map}
 use Rattle.vc_dtdisc.specs.Rules.{gone_after}
 use Rattle.vc_dict.specs.Listed.{holders_of}
 use Rattle.vc_region.specs.Cells.{cells_in, rest_in}
+use Rattle.vc_region.proofs.CellCalls.{stays-disc}
 use Rattle.vc_objects.specs.Freed.{FreesCell}
 use Rattle.vc_objects.specs.Leaves.{told_if}
 use Rattle.vc_objects.specs.Lists.{first_object}
@@ -102,6 +103,10 @@ returns-in-Some-clause-leaves g c =
     leaves-taken rules c.args.region.now c.take_first.new.cells c.args.dict.now c.take_first.new.self c.in-Some.at.0 c.requires.whole within became
     (λ z. (goal.SegDisc-dyn g z).state z.1) c.free_cell.new.region c.in-Some.ensures.rest free
 
+pub returns-in-Some-clause-disc : goal.returns-in-Some-clause-disc
+returns-in-Some-clause-disc g c =
+    c.free_cell.ensures.disc ∙ stays-disc (λ z. (goal.SegDisc-dyn g z).state z.1) c.args.region.now c.take_first.new.cells c.in-Some.ensures.rest
+
 pub returns-in-Some-clause-gone : goal.returns-in-Some-clause-gone
 returns-in-Some-clause-gone g c =
     let rules = g.D.DictDisc.rules c.args.kind.now in
@@ -149,6 +154,10 @@ returns-in-None-clause-leaves g c =
     let became = c.in-None.ensures.dict xs c.requires.whole.stands in
     let looks = Looks-became (λ z. (goal.SegDisc-dyn g z).state z.1) rules c.args.region.now c.take_first.new.cells c.args.dict.now c.take_first.new.self c.requires.best c.requires.whole became c.in-None.ensures.rest in
     looks.leaves
+
+pub returns-in-None-clause-disc : goal.returns-in-None-clause-disc
+returns-in-None-clause-disc g c =
+    stays-disc (λ z. (goal.SegDisc-dyn g z).state z.1) c.args.region.now c.take_first.new.cells c.in-None.ensures.rest
 
 pub returns-in-None-clause-gone : goal.returns-in-None-clause-gone
 returns-in-None-clause-gone g c =

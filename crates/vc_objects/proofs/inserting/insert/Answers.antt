@@ -1,10 +1,12 @@
-use Rattle.std.proofs.Common.{sym, ap, ◌∙◌}
+use Rattle.std.proofs.Common.{None, sym, ap, ◌∙◌}
 use Rattle.vc_dict.specs.Methods.{is_set}
 use Rattle.vc_region.specs.Cells.{rest_in}
+use Rattle.vc_region.specs.Parts.{disc_in}
 use Rattle.vc_objects.specs.Insert.{slots_wanted}
+use Rattle.vc_objects.specs.Leaves.{LacksHolder, LacksTable}
 use Rattle.vc_objects.specs.Lists.{first_with}
 use Rattle.vc_objects.specs.Parts.{dictionary_in}
-use Rattle.vc_objects.proofs.Answering.{grown-kept, inserted-no_holder, inserted-no_table, inserted-stored, lacks-holder, rest-trans}
+use Rattle.vc_objects.proofs.Answering.{asked-no_holder, asked-no_table, asked-spent, grown-kept, inserted-no_holder, inserted-no_table, inserted-stored, rest-trans}
 use Rattle.vc_objects.proofs.inserting.insert.Goals as goal
 
 pub hold-requires-clause-lone : goal.hold-requires-clause-lone
@@ -33,9 +35,9 @@ returns-in-Some-clause-leaves g c =
     rest-trans _ _ c.args.region.now c.grow.new.region c.hold.new.region c.args.dict.now c.grow.new.dict c.hold.new.dict c.grow.ensures.leaves c.hold.ensures.leaves
     (grown-kept _ (rest_in c.args.region.now) (dictionary_in c.args.dict.now c.args.region.now) (slots_wanted (dictionary_in c.args.dict.now c.args.region.now)) (rest_in c.grow.new.region) (dictionary_in c.grow.new.dict c.grow.new.region) c.in-Ok.ensures.ok).1 c.hold.ensures.table
 
-pub returns-in-Some-clause-lacks : goal.returns-in-Some-clause-lacks
-returns-in-Some-clause-lacks g c =
-    lacks-holder (slots_wanted (dictionary_in c.args.dict.now c.args.region.now)) c.args.object.now _ _ _ c.in-Err-hold.fault c.in-Some.want (sym c.in-Some.ensures) c.grow.ensures.same c.grow.ensures.leaves.rest.disc.kept.faults c.in-Err-hold.ensures.lacks
+pub returns-in-Some-clause-asked : goal.returns-in-Some-clause-asked
+returns-in-Some-clause-asked g c =
+    asked-no_holder (slots_wanted (dictionary_in c.args.dict.now c.args.region.now)) c.args.object.now (disc_in (λ z. (goal.SegDisc-dyn g z).state z.1) c.args.region.now) (disc_in (λ z. (goal.SegDisc-dyn g z).state z.1) c.grow.new.region) (disc_in (λ z. (goal.SegDisc-dyn g z).state z.1) c.hold.new.region) c.in-Err-hold.fault c.in-Some.want (sym c.in-Some.ensures) c.grow.ensures.same c.grow.ensures.leaves.rest.disc.kept.terms c.in-Ok.ensures.asked c.in-Err-hold.ensures.asked
 
 pub returns-in-None-clause-leaves : goal.returns-in-None-clause-leaves
 returns-in-None-clause-leaves g c =
@@ -46,3 +48,15 @@ pub returns-in-Some-want_of-clause-ok : goal.returns-in-Some-want_of-clause-ok
 returns-in-Some-want_of-clause-ok g c =
     inserted-no_table (g.D.DictDisc.rules c.args.kind.now) _ (rest_in c.args.region.now) (dictionary_in c.args.dict.now c.args.region.now) c.args.append c.args.object.now (rest_in c.grow.new.region) (dictionary_in c.grow.new.dict c.grow.new.region)
     c.in-Err.fault c.in-Some-want_of.want c.in-Err.ensures.err.0 (sym c.in-Some-want_of.ensures) c.in-Err.ensures.err.1 c.in-Err.ensures.err.2
+
+pub returns-in-None-clause-asked : goal.returns-in-None-clause-asked
+returns-in-None-clause-asked g c =
+    asked-spent (LacksHolder None c.args.object.now (disc_in (λ z. (goal.SegDisc-dyn g z).state z.1) c.grow.new.region) (disc_in (λ z. (goal.SegDisc-dyn g z).state z.1) c.hold.new.region)) (disc_in (λ z. (goal.SegDisc-dyn g z).state z.1) c.grow.new.region) (disc_in (λ z. (goal.SegDisc-dyn g z).state z.1) c.hold.new.region) c.in-Err-hold.fault (sym c.in-None.ensures) c.in-Err-hold.ensures.asked ∙ c.in-Ok.ensures.asked
+
+pub returns-in-Some-want_of-clause-asked : goal.returns-in-Some-want_of-clause-asked
+returns-in-Some-want_of-clause-asked g c =
+    asked-no_table (slots_wanted (dictionary_in c.args.dict.now c.args.region.now)) c.args.object.now (disc_in (λ z. (goal.SegDisc-dyn g z).state z.1) c.args.region.now) (disc_in (λ z. (goal.SegDisc-dyn g z).state z.1) c.grow.new.region) c.in-Err.fault c.in-Some-want_of.want (sym c.in-Some-want_of.ensures) c.in-Err.ensures.asked
+
+pub returns-in-None-want_of-clause-asked : goal.returns-in-None-want_of-clause-asked
+returns-in-None-want_of-clause-asked g c =
+    asked-spent (LacksTable (slots_wanted (dictionary_in c.args.dict.now c.args.region.now)) (disc_in (λ z. (goal.SegDisc-dyn g z).state z.1) c.args.region.now) (disc_in (λ z. (goal.SegDisc-dyn g z).state z.1) c.grow.new.region)) (disc_in (λ z. (goal.SegDisc-dyn g z).state z.1) c.args.region.now) (disc_in (λ z. (goal.SegDisc-dyn g z).state z.1) c.grow.new.region) c.in-Err.fault (sym c.in-None-want_of.ensures) c.in-Err.ensures.asked

@@ -2,6 +2,7 @@ use Rattle.std.proofs.Common.{◌≡◌, Some, ap, sym, ◌∙◌, subst}
 use Rattle.std.specs.Option.{option_map}
 use Rattle.vc_dict.specs.Listed.{holders_of}
 use Rattle.vc_region.specs.Cells.{cells_in, rest_in}
+use Rattle.vc_region.proofs.CellCalls.{stays-disc}
 use Rattle.vc_objects.specs.Leaves.{told_if}
 use Rattle.vc_objects.specs.Lists.{first_with}
 use Rattle.vc_objects.specs.Objects.{is_best}
@@ -73,3 +74,11 @@ returns-in-None-clause-leaves g c =
     let xs = holders_of c.args.dict.now (cells_in c.args.region.now) in
     (Looks-became _ rules c.args.region.now c.unlink.new.cells c.args.dict.now c.unlink.new.self c.requires.best c.requires.whole
     (c.in-None.ensures.dict xs c.requires.whole.stands) c.in-None.ensures.rest).leaves
+
+pub returns-in-Some-clause-disc : goal.returns-in-Some-clause-disc
+returns-in-Some-clause-disc g c =
+    c.release.ensures.freed.disc ∙ stays-disc (λ z. (goal.SegDisc-dyn g z).state z.1) c.args.region.now c.unlink.new.cells c.in-Some.ensures.rest
+
+pub returns-in-None-clause-disc : goal.returns-in-None-clause-disc
+returns-in-None-clause-disc g c =
+    stays-disc (λ z. (goal.SegDisc-dyn g z).state z.1) c.args.region.now c.unlink.new.cells c.in-None.ensures.rest

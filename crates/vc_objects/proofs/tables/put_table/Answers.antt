@@ -1,13 +1,17 @@
 use Rattle.std.proofs.Common.{ℕ, ap, ◌∙◌, arith}
 use Rattle.vc_base.specs.declared.addr.Addr.{Addr}
+use Rattle.vc_model.specs.Best.{best_need}
+use Rattle.vc_model.specs.Discipline.{Discipline}
 use Rattle.vc_dict.specs.Listed.{holders_of}
 use Rattle.vc_region.specs.Cells.{cells_in, rest_in}
+use Rattle.vc_region.specs.Parts.{disc_in, segments_in}
 use Rattle.vc_region.specs.Region as model
+use Rattle.vc_region.proofs.CellCalls.{stays-disc}
 use Rattle.vc_objects.specs.Insert.{without_table}
-use Rattle.vc_objects.specs.Objects.{owned}
+use Rattle.vc_objects.specs.Objects.{owned, table_size}
 use Rattle.vc_objects.specs.Parts.{dictionary_in, table_of}
 use Rattle.vc_objects.proofs.Adopting.{can-adopt, dictionary-grown, fresh-grown, old-there, others-grown, stands-placed, whole-grown}
-use Rattle.vc_objects.proofs.Answering.{grown-put}
+use Rattle.vc_objects.proofs.Answering.{asked-block, grown-put}
 use Rattle.vc_objects.proofs.Growing.{most-of}
 use Rattle.vc_objects.proofs.Leaving.{leaves-put, none-at}
 use Rattle.vc_objects.proofs.tables.put_table.Goals as goal
@@ -61,3 +65,13 @@ returns-in-Ok-clause-leaves g c =
     (none-at c.free_table.new.region) (none-at c.args.region.now))
     (fresh-grown _ c.args.dict.now (cells_in c.args.region.now) (cells_in c.alloc_cell.new.region) c.in-Ok.table.0 c.args.slots c.requires.grows c.in-Ok.ensures.fresh c.in-Ok.ensures.address c.in-Ok.ensures.cells
     c.adopt_table-old.new.self (cells_in c.adopt_table-old.new.cells) (cells_in c.free_table.new.region) adopted (λ a ne. c.free_table.ensures.others a (λ e. ne (e ∙ table))))
+
+pub returns-in-Ok-clause-asked : goal.returns-in-Ok-clause-asked
+returns-in-Ok-clause-asked g c =
+    ap (λ (d : Discipline). d.faults) (c.free_table.ensures.disc ∙ stays-disc (λ z. (goal.SegDisc-dyn g z).state z.1) c.alloc_cell.new.region c.adopt_table-old.new.cells c.adopt_table-old.ensures.rest)
+    ∙ c.in-Ok.ensures.disc.faults
+
+pub returns-in-Err-clause-asked : goal.returns-in-Err-clause-asked
+returns-in-Err-clause-asked g c =
+    let old = disc_in (λ z. (goal.SegDisc-dyn g z).state z.1) c.args.region.now in
+    asked-block old (disc_in (λ z. (goal.SegDisc-dyn g z).state z.1) c.alloc_cell.new.region) (segments_in c.args.region.now) (segments_in c.alloc_cell.new.region) (best_need old.terms (table_size c.args.slots) 32) c.in-Err.fault c.in-Err.ensures.disc

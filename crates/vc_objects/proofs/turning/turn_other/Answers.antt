@@ -1,11 +1,11 @@
 use Rattle.std.proofs.Common.{refl, sym, ap, subst}
 use Rattle.vc_region.specs.Cells.{cells_in, rest_in}
 use Rattle.vc_region.specs.Parts.{disc_in}
-use Rattle.vc_objects.specs.Leaves.{LacksTable}
+use Rattle.vc_objects.specs.Leaves.{LacksTable, RefusedBy}
 use Rattle.vc_dict.specs.Methods.{slots_between}
 use Rattle.vc_objects.specs.Parts.{dictionary_in, dictionary_of}
 use Rattle.vc_objects.proofs.Bringing.{can-turn, dictionary-brought}
-use Rattle.vc_objects.proofs.Brought.{gives-turned, refuses-turned, same-fault}
+use Rattle.vc_objects.proofs.Brought.{gives-turned, refuses-turned}
 use Rattle.vc_objects.proofs.Remains.{counts-objects, leaves-refused, leaves-turned}
 use Rattle.vc_objects.proofs.turning.turn_other.Goals as goal
 
@@ -49,9 +49,11 @@ returns-in-Err-clause-err g c =
       refl,
     )
 
-pub returns-in-Err-clause-lacks : goal.returns-in-Err-clause-lacks
-returns-in-Err-clause-lacks g c = λ lacks.
+pub returns-in-Err-clause-asked : goal.returns-in-Err-clause-asked
+returns-in-Err-clause-asked g c =
     let d = c.args.dict.now in
     let r = c.args.region.now in
-    subst (λ n. LacksTable (slots_between d.method c.args.method n) (disc_in (λ z. (goal.SegDisc-dyn g z).state z.1) r) (disc_in (λ z. (goal.SegDisc-dyn g z).state z.1) c.bring.new.region))
-    (sym (counts-objects (g.D.DictDisc.rules c.args.kind.now) d (cells_in r) c.requires.whole)) (c.in-Err.ensures.lacks (same-fault c.in-Err.why _ lacks))
+    let old = disc_in (λ z. (goal.SegDisc-dyn g z).state z.1) r in
+    let new = disc_in (λ z. (goal.SegDisc-dyn g z).state z.1) c.bring.new.region in
+    subst (λ n. RefusedBy c.in-Err.why (LacksTable (slots_between d.method c.args.method n) old new) old new)
+    (sym (counts-objects (g.D.DictDisc.rules c.args.kind.now) d (cells_in r) c.requires.whole)) c.in-Err.ensures.asked

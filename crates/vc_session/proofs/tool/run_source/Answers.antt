@@ -27,7 +27,7 @@ returns-clause-replay g c =
     (at_rest (meaning g) (rules_in g.D.DictDisc.rules c.end.new.kinds.items) (gone_in g.D.DictDisc.gone c.end.new.kinds.items) c.end.new.shelf (g.O.Sink.written c.run_lines-ended.new.out))
     (g.S.Source.left c.args.source.now) (g.S.Source.left c.run_lines-ended.new.source)
     (new-moment (meaning g) g.D.DictDisc.rules g.D.DictDisc.gone c.args.shelf.now c.in_ok-session.session c.args.kinds.now.items c.in_ok-session.ensures.none (g.O.Sink.written c.args.out.now))
-    (record { written = refl; settles = c.end.ensures.shelf; gone = c.end.ensures.gone })
+    (record { written = refl; accounts = c.end.ensures.shelf; gone = c.end.ensures.gone })
     _ c.run_lines-ended.ensures.replay
 
 pub returns-clause-cut_short : goal.returns-clause-cut_short
@@ -39,5 +39,5 @@ returns-clause-cut_short g c =
     (at_rest (meaning g) (rules_in g.D.DictDisc.rules c.end.new.kinds.items) (gone_in g.D.DictDisc.gone c.end.new.kinds.items) c.end.new.shelf (g.O.Sink.written c.run_lines-ended.new.out))
     (g.S.Source.left c.args.source.now) (g.S.Source.left c.run_lines-ended.new.source)
     (new-moment (meaning g) g.D.DictDisc.rules g.D.DictDisc.gone c.args.shelf.now c.in_ok-session.session c.args.kinds.now.items c.in_ok-session.ensures.none (g.O.Sink.written c.args.out.now))
-    (record { written = refl; settles = c.end.ensures.shelf; gone = c.end.ensures.gone })
+    (record { written = refl; accounts = c.end.ensures.shelf; gone = c.end.ensures.gone })
     _ (λ stop. stop ≡ Read) c.run_lines-ended.ensures.cut_short

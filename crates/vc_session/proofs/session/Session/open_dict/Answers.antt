@@ -1,4 +1,4 @@
-use Rattle.std.proofs.Common.{◌≡◌, ◌-◌, ℕ, true, false, is_some, List, [], ◌∷◌, ◌++◌, Some, None, Err, length, option_map, set, refl, sym, ap, ◌∙◌, subst, arith}
+use Rattle.std.proofs.Common.{◌≡◌, ◌-◌, ℕ, true, false, is_some, List, [], ◌∷◌, ◌++◌, Some, None, length, option_map, set, refl, sym, ap, ◌∙◌, subst, arith}
 use Rattle.std.specs.Prelude.{slice_get}
 use Rattle.std.specs.Map.{lookup, values_of}
 use Rattle.std.specs.Str.{bytes_eq}
@@ -11,7 +11,6 @@ use Rattle.vc_model.specs.Numbered.{at_number}
 use Rattle.vc_region.specs.Cells.{cells_in, rest_in}
 use Rattle.vc_objects.specs.Objects.{is_best, owned}
 use Rattle.vc_objects.specs.Parts.{dictionary_of}
-use Rattle.vc_seg.specs.declared.fault.RegionFault.TheVariants.{NoSegment}
 use Rattle.vc_script.specs.Needs.{NoNeed, need_shown}
 use Rattle.vc_script.specs.declared.command.Command.TheVariants.{OpenDict}
 use Rattle.vc_script.specs.declared.reply.Reply.TheVariants.{Opened, Refused}
@@ -31,7 +30,7 @@ use Rattle.vc_session.proofs.Agreeing.{from_ok}
 use Rattle.vc_session.proofs.Cells.{at_number-from_one, set_same}
 use Rattle.vc_session.proofs.Changing.{session-change, settles-none}
 use Rattle.vc_session.proofs.DictNamed.{any-dict}
-use Rattle.vc_session.proofs.DictOpening.{dicts-failed, dicts-opened, lacks-failed, on-error, open-done, open-failed, open-none, open-refused, settles-failed, state-failed, told-ok}
+use Rattle.vc_session.proofs.DictOpening.{dicts-failed, dicts-opened, lacks-failed, on-error, open-done, open-failed, open-none, open-refused, settles-failed, state-failed, table-lacks, told-ok}
 use Rattle.vc_session.proofs.DictRefusing.{best-relabelled}
 use Rattle.vc_session.proofs.DictRegion.{held_after, region-change, touches}
 use Rattle.vc_session.proofs.DictWhy.{kind-within, lacks-early, refused-early, refused-none, settles-early}
@@ -495,7 +494,7 @@ returns-in-Err-clause-step g c =
     let fault = c.in-Err.fault in
     let refusal = c.in-Err.ensures.err.0 in
     let region = c.in-Err.ensures.err.1 in
-    let lacks = λ (same : fault ≡ NoSegment). c.in-Err.ensures.lacks (ap (λ x. Err x) same) in
+    let lacks = table-lacks fault (Some 16) h'.disc g'.disc c.in-Err.ensures.asked in
     let new = c.reserve.new.self.entries in
     let hs' = held_all M homes' labels in
     let same_state : state_of kinds slots hs' (dicts_in hs' new) ≡ s =
@@ -564,7 +563,7 @@ returns-in-Err-clause-session g c =
     let fault = c.in-Err.fault in
     let refusal = c.in-Err.ensures.err.0 in
     let region = c.in-Err.ensures.err.1 in
-    let lacks = λ (same : fault ≡ NoSegment). c.in-Err.ensures.lacks (ap (λ x. Err x) same) in
+    let lacks = table-lacks fault (Some 16) h'.disc g'.disc c.in-Err.ensures.asked in
     let new = c.reserve.new.self.entries in
     let hs' = held_all M homes' labels in
     let same_state : state_of kinds slots hs' (dicts_in hs' new) ≡ s =
@@ -695,7 +694,7 @@ returns-in-Err-clause-settles g c =
     let fault = c.in-Err.fault in
     let refusal = c.in-Err.ensures.err.0 in
     let region = c.in-Err.ensures.err.1 in
-    let lacks = λ (same : fault ≡ NoSegment). c.in-Err.ensures.lacks (ap (λ x. Err x) same) in
+    let lacks = table-lacks fault (Some 16) h'.disc g'.disc c.in-Err.ensures.asked in
     let new = c.reserve.new.self.entries in
     let hs' = held_all M homes' labels in
     let same_state : state_of kinds slots hs' (dicts_in hs' new) ≡ s =
@@ -765,7 +764,7 @@ returns-in-Err-clause-lacks g c =
     let fault = c.in-Err.fault in
     let refusal = c.in-Err.ensures.err.0 in
     let region = c.in-Err.ensures.err.1 in
-    let lacks = λ (same : fault ≡ NoSegment). c.in-Err.ensures.lacks (ap (λ x. Err x) same) in
+    let lacks = table-lacks fault (Some 16) h'.disc g'.disc c.in-Err.ensures.asked in
     let new = c.reserve.new.self.entries in
     let hs' = held_all M homes' labels in
     let same_state : state_of kinds slots hs' (dicts_in hs' new) ≡ s =
@@ -835,7 +834,7 @@ returns-in-Err-clause-err g c =
     let fault = c.in-Err.fault in
     let refusal = c.in-Err.ensures.err.0 in
     let region = c.in-Err.ensures.err.1 in
-    let lacks = λ (same : fault ≡ NoSegment). c.in-Err.ensures.lacks (ap (λ x. Err x) same) in
+    let lacks = table-lacks fault (Some 16) h'.disc g'.disc c.in-Err.ensures.asked in
     let new = c.reserve.new.self.entries in
     let hs' = held_all M homes' labels in
     let same_state : state_of kinds slots hs' (dicts_in hs' new) ≡ s =

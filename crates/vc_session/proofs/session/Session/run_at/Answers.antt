@@ -6,13 +6,15 @@ use Rattle.std.specs.List.{position}
 use Rattle.std.specs.Map.{keys_of}
 use Rattle.std.specs.Str.{bytes_eq}
 use Rattle.vc_model.specs.Discipline.{Discipline}
+use Rattle.vc_region.specs.Parts.{disc_in}
+use Rattle.vc_commands.specs.Run.{seat_in}
 use Rattle.vc_session.specs.Homes.{held_in, slots_on}
 use Rattle.vc_session.specs.Told.{gone_in, rules_in}
 use Rattle.vc_session.proofs.Cells.{map-set_alike}
 use Rattle.vc_session.proofs.DictChange.{dict-at}
 use Rattle.vc_session.proofs.DictEnd.{no-home}
 use Rattle.vc_session.proofs.DictNamed.{first-dict, key-at}
-use Rattle.vc_session.proofs.DictRun.{best-there, cut-ran, dicts-ran, keeps-ran, kind-there, named-ran, lacks-ran, other-ran, pair-read, session-ran, settles-ran, step-ran, whole-there}
+use Rattle.vc_session.proofs.DictRun.{asked-ok, best-there, cut-ran, dicts-ran, keeps-ran, kind-there, named-ran, lacks-ran, other-ran, pair-read, session-ran, settles-ran, step-ran, whole-there}
 use Rattle.vc_session.proofs.DictTold.{kind-at, kind-within}
 use Rattle.vc_session.proofs.Helds.{any-named, slice-or}
 use Rattle.vc_session.proofs.OnShelf.{if_ok, on_error}
@@ -290,7 +292,7 @@ returns-clause-settles g c =
     let gone' = gone_in g.D.DictDisc.gone (set items place told) in
     if_both c.run.result _ _ _
     (λ reply gives lacks. settles-ran M kinds slots homes labels es name e hv j i regions.named regions.held c.requires.session.dicts at_home home c.requires.index dict (rules one) at_rules after new c.run.ensures.leaves kinds' same_kinds c.args.command.now reply c.requires.command (other-ran M kinds slots homes labels es name e hv j i regions.named regions.held c.requires.session.dicts at_home home c.requires.index dict (rules one) at_rules after new c.run.ensures.leaves kinds' same_kinds c.args.command.now reply _ _ gives) lacks)
-    c.run.ensures.step c.run.ensures.lacks
+    c.run.ensures.step (asked-ok c.run.result (seat_in M (rules one) hv.region e.dict) c.args.command.now (disc_in M hv.region) (disc_in M after) c.run.ensures.asked)
 
 pub returns-clause-lacks : goal.returns-clause-lacks
 returns-clause-lacks g c =
@@ -327,7 +329,7 @@ returns-clause-lacks g c =
     let kinds' = rules_in rules (set items place told) in
     let gone = gone_in g.D.DictDisc.gone items in
     let gone' = gone_in g.D.DictDisc.gone (set items place told) in
-    if_ok c.run.result _ _ (λ reply lacks. lacks-ran M kinds slots homes labels es name e hv j i regions.named regions.held c.requires.session.dicts at_home home c.requires.index dict (rules one) at_rules after new c.run.ensures.leaves kinds' same_kinds c.args.command.now reply c.requires.command lacks) c.run.ensures.lacks
+    if_ok c.run.result _ _ (λ reply lacks. lacks-ran M kinds slots homes labels es name e hv j i regions.named regions.held c.requires.session.dicts at_home home c.requires.index dict (rules one) at_rules after new c.run.ensures.leaves kinds' same_kinds c.args.command.now reply c.requires.command lacks) (asked-ok c.run.result (seat_in M (rules one) hv.region e.dict) c.args.command.now (disc_in M hv.region) (disc_in M after) c.run.ensures.asked)
 
 pub returns-clause-err : goal.returns-clause-err
 returns-clause-err g c =

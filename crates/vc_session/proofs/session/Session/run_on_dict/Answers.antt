@@ -12,6 +12,7 @@ use Rattle.vc_session.proofs.Changing.{gives-same}
 use Rattle.vc_session.proofs.DictEnd.{entry-at, some-case, step-shut}
 use Rattle.vc_session.proofs.DictNamed.{dict-none, first-dict}
 use Rattle.vc_session.proofs.DictsStay.{Entry}
+use Rattle.vc_session.proofs.Settling.{settles-equal}
 use Rattle.vc_session.proofs.session.Session.run_on_dict.Given as given
 use Rattle.vc_session.proofs.session.Session.run_on_dict.Goals as goal
 
@@ -47,3 +48,9 @@ returns-in-Shut-clause-step g c =
     let e : Entry = (name, p.0) in
     step-shut kinds slots hs es i e p.1 (first-dict hs es name i index) c.requires.session.dicts c.args.command.now c.in-Shut.field-0 _ gone _ c.in-Shut.is
     (some-case _ e _ p.1 c.shut_at.ensures.state) (some-case _ e _ p.1 c.shut_at.ensures.gone)
+
+pub returns-in-Shut-clause-keeps : goal.returns-in-Shut-clause-keeps
+returns-in-Shut-clause-keeps g c = settles-equal _ _ c.shut_at.ensures.settled
+
+pub returns-in-Shut-clause-settles : goal.returns-in-Shut-clause-settles
+returns-in-Shut-clause-settles g c = settles-equal _ _ c.shut_at.ensures.settled

@@ -1,14 +1,13 @@
-use Rattle.std.proofs.Common.{◌≡◌, [], ap, ◌∙◌, subst, sym, refl, arith}
+use Rattle.std.proofs.Common.{◌≡◌, ap, ◌∙◌, subst, sym, refl, arith}
 use Rattle.std.specs.List.{flat_map}
 use Rattle.vc_objects.specs.Remove.{bytes_of}
 use Rattle.vc_session.specs.Dicts.{shut_state, told_of}
 use Rattle.vc_session.specs.DictHomes.{AreDicts, dict_home, dicts_in}
-use Rattle.vc_session.specs.Homes.{held_in, settled_over, slots_on, state_over}
+use Rattle.vc_session.specs.Homes.{held_in, slots_on, state_over}
 use Rattle.vc_session.specs.State.{DictHome}
 use Rattle.vc_session.specs.Told.{gone_in, rules_in, tell}
 use Rattle.vc_session.proofs.Ending.{gone-shut, if_some-at, nothing-left}
 use Rattle.vc_session.proofs.Helds.{some-at}
-use Rattle.vc_session.proofs.Settling.{settles-trans}
 use Rattle.vc_session.proofs.session.Session.shut_all.Invariants.{meaning}
 use Rattle.vc_session.proofs.session.Session.shut_all.Goals as goal
 
@@ -41,8 +40,7 @@ loop-self-preserved g c =
           (ap (λ r. state_over M r shelf new) (sym same) ∙ (shut ∙ ap (λ r. shut_state (state_over M r shelf old) (dict_home held e)) c.loop-self.invariant.rules))
           told
           ∙ c.loop-self.invariant.gone;
-      settles =
-          settles-trans (settled_over M shelf c.args.self.now) (settled_over M shelf old) (settled_over M shelf new) [] [] c.loop-self.invariant.settles c.shut_at.ensures.keeps;
+      settled = c.shut_at.ensures.settled ∙ c.loop-self.invariant.settled;
     }
 
 pub returns-clause-none : goal.returns-clause-none

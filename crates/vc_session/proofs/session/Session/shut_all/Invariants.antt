@@ -1,6 +1,5 @@
-use Rattle.std.proofs.Common.{◌≡◌, [], length}
+use Rattle.std.proofs.Common.{◌≡◌, length}
 use Rattle.vc_model.specs.Discipline.{Discipline}
-use Rattle.vc_session.specs.Account.{Settles}
 use Rattle.vc_session.specs.Homes.{IsSessionOver, settled_over, state_over}
 use Rattle.vc_session.specs.Told.{ended_told, gone_in, rules_in, tell}
 use Rattle.vc_session.proofs.session.Session.shut_all.Given as goal
@@ -17,7 +16,7 @@ invariant-loop-self g l =
       gone :
           tell (ended_told (state_over (meaning g) (rules_in g.D.DictDisc.rules l.initial.kinds.items) l.shelf l.self)) (gone_in g.D.DictDisc.gone l.kinds.items)
           ≡ tell (ended_told (state_over (meaning g) (rules_in g.D.DictDisc.rules l.initial.kinds.items) l.shelf l.initial.self)) (gone_in g.D.DictDisc.gone l.initial.kinds.items);
-      settles : Settles (settled_over (meaning g) l.shelf l.initial.self) (settled_over (meaning g) l.shelf l.self) [];
+      settled : settled_over (meaning g) l.shelf l.self ≡ settled_over (meaning g) l.shelf l.initial.self;
     }
 
 abbrev pub decreases-loop-self : goal.decreases-loop-self

@@ -11,14 +11,14 @@ use Rattle.vc_objects.specs.Objects.{Dictionary, owned}
 use Rattle.vc_objects.specs.Parts.{IsWhole, dictionary_of}
 use Rattle.vc_objects.specs.Remove.{bytes_of}
 use Rattle.vc_session.specs.declared.home.HomeEntry.{HomeEntry}
-use Rattle.vc_session.specs.Account.{IsSession, Settles, accounts, home_of, settled, state_of}
+use Rattle.vc_session.specs.Account.{IsSession, accounts, home_of, settled, state_of}
 use Rattle.vc_session.specs.DictHomes.{AreDicts, dict_home, dicts_in}
 use Rattle.vc_session.specs.Dicts.{shut_state, told_of}
 use Rattle.vc_session.specs.Homes.{held_all, held_in, held_of, slots_on}
 use Rattle.vc_session.specs.State.{is_home}
 use Rattle.vc_session.specs.Told.{gone_in, rules_in, tell}
 use Rattle.vc_session.proofs.Cells.{at_number-from_one, at_number_some, map-set_alike, set_same}
-use Rattle.vc_session.proofs.Changing.{session-change, settles-none}
+use Rattle.vc_session.proofs.Changing.{session-change, settled-same}
 use Rattle.vc_session.proofs.DictChange.{dict-at}
 use Rattle.vc_session.proofs.DictRegion.{held_after, region-change, touches}
 use Rattle.vc_session.proofs.DictShut.{dict-is, dicts-shut, none-left, shut-best, shut-whole, state-shut}
@@ -410,8 +410,8 @@ returns-clause-rules g c =
     let rules_are : own.rules ≡ item kind = same_Some own.rules (item kind) (sym number.1 ∙ (slice_get-map item items (n - 1) ∙ ap (option_map item) its_kind)) in
     map-set_alike item items (n - 1) kind c.shut.new.kind its_kind c.shut.ensures.rules
 
-pub returns-clause-keeps : goal.returns-clause-keeps
-returns-clause-keeps g c =
+pub returns-clause-settled : goal.returns-clause-settled
+returns-clause-settled g c =
     let M = meaning g in
     let items = c.args.kinds.now.items in
     let kinds = rules_in g.D.DictDisc.rules items in
@@ -455,4 +455,4 @@ returns-clause-keeps g c =
     ap (λ ls. held_all M (set_value_at entries j entry) ls) (sym (set_same labels j l.0 l.1)) ∙ held-set M entries labels j r entry l.0 named name in
     let left = c.shift_remove_index.ensures.entries in
     let kinds' : rules_in item (set items (n - 1) c.shut.new.kind) ≡ kinds = map-set_alike item items (n - 1) kind c.shut.new.kind its_kind c.shut.ensures.rules in
-    subst (λ hs. Settles (settled (accounts slots) helds) (settled (accounts slots) hs) []) (sym helds') (settles-none slots helds j h g' at session change)
+    ap (settled (accounts slots)) helds' ∙ settled-same slots helds j h g' at session change (ap (λ (d : Discipline). d.faults) c.shut.ensures.disc)
