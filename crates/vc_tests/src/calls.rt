@@ -1,5 +1,5 @@
 // Each public call once, with ample memory.
-use crate::same::same_bytes;
+use crate::same::{is_at, same_bytes};
 use std::test::Fail;
 use vc_base::{
     Addr, MemSink, MemSource, Name, NeverSink, NeverSource, Sink, Source, StdSink, StdSource,
@@ -146,8 +146,10 @@ fn budget(rt: HostRuntime) -> Result<(), Fail> {
     assert!(rt; disc.room().unwrap_or(0) == 192);
     match disc.lend(alloc, 1, 128) {
         Ok(segment) => {
+            assert!(rt; segment.number() == 1);
             assert!(rt; segment.size() == 128);
             assert!(rt; disc.lend(alloc, 2, 128).is_err());
+            assert!(rt; disc.faults() == 1);
             assert!(rt; disc.room().unwrap_or(0) == 64);
             disc.take_back(segment);
         }
@@ -184,6 +186,7 @@ fn shelf(rt: HostRuntime) -> Result<(), Fail> {
     assert!(rt; shelf.put(Box::new(alloc, HeapDisc::new(32))?).is_ok());
     assert!(rt; shelf.len() == 1);
     assert!(rt; shelf.place(0) == ShelfPlace::Missing);
+    assert!(rt; shelf.place(1) == ShelfPlace::Here);
     assert!(rt; shelf.place(2) == ShelfPlace::Missing);
     match shelf.take(1) {
         Some(disc) => {
@@ -222,7 +225,7 @@ fn best_closed(rt: HostRuntime) -> Result<(), Fail> {
     match Best::open(alloc, Box::new(alloc, HeapDisc::new(4096))?) {
         Ok(mut region) => {
             let mut steps = Steps::<Mark>::new(alloc);
-            assert!(rt; region.alloc(100, 64, 1, &mut steps).is_ok());
+            is_at(&rt, region.alloc(100, 64, 1, &mut steps), 1, 64);
             let (disc, count) = region.close();
             assert!(rt; disc.round() == 4096);
             assert!(rt; count == 1);

@@ -1,7 +1,7 @@
 // Each call of a region of one of the methods once, with ample memory.
 ghost use Rattle.std.specs.Prelude.{◌≤◌};
 
-use crate::same::same_bytes;
+use crate::same::{is_at, same_bytes};
 use std::process::Abort;
 use std::test::Fail;
 use vc_base::Addr;
@@ -13,9 +13,9 @@ fn two_placed(rt: &impl Abort, region: &mut Region)
     requires { 0 ≤ 0 }
 {
     let first = region.alloc(100, 1, b"-");
-    assert_eq!(rt; first, Ok(Addr::new(1, 32)));
+    is_at(rt, first, 1, 32);
     let second = region.align(100, 256, 2, b"x");
-    assert_eq!(rt; second, Ok(Addr::new(1, 256)));
+    is_at(rt, second, 1, 256);
 }
 
 #[test]
@@ -102,8 +102,8 @@ fn cleared(rt: HostRuntime) -> Result<(), Fail> {
     let disc = Box::new(alloc, HeapDisc::new(4096))?;
     match Region::open(alloc, Method::VmBest, disc) {
         Ok(mut region) => {
-            assert!(rt; region.alloc(6, 1, b"-").is_ok());
-            assert!(rt; region.alloc(5000, 2, b"-").is_ok());
+            is_at(&rt, region.alloc(6, 1, b"-"), 1, 32);
+            is_at(&rt, region.alloc(5000, 2, b"-"), 2, 32);
             region.clear();
             assert!(rt; region.next_block(Addr::NONE).is_none());
         }
