@@ -3,7 +3,7 @@ use itoa::Buffer;
 use std::alloc::{AllocError, Global};
 use std::process::Abort;
 use vc_base::{MemSink, MemSource, Sink, Source};
-use vc_dtdisc::{BuiltIn, Shape};
+use vc_dtdisc::{BuiltIn, DictDisc, Shape};
 use vc_seg::{BudgetDisc, FuseDisc, HeapDisc, SegDisc, Shelf};
 use vc_session::{Status, dtrun, replay};
 
@@ -79,7 +79,7 @@ fn sink(
     }
 }
 
-fn streams(rt: &impl Abort, alloc: Global, given: Given) -> Result<Streams, AllocError> {
+fn open_streams(rt: &impl Abort, alloc: Global, given: Given) -> Result<Streams, AllocError> {
     Ok(Streams {
         source: source(rt, alloc, given)?,
         out: sink(rt, alloc, given.room, given.piece, given.writes)?,
@@ -102,7 +102,7 @@ pub(crate) fn run(
     given: Given,
     expected: Expected,
 ) -> Result<(), AllocError> {
-    let mut streams = streams(rt, alloc, given)?;
+    let mut streams = open_streams(rt, alloc, given)?;
     let status = replay(
         alloc,
         words,
@@ -137,8 +137,31 @@ fn kinds(alloc: Global) -> Result<Vec<BuiltIn>, AllocError> {
     Ok(kinds)
 }
 
-// Runs a script over dictionaries with no failing call, over two disciplines that round to 4,096 bytes and refuse these
-// lends, and gives what was written.
+// Runs a script over dictionaries of these kinds with no failing call, and gives what was written.
+pub(crate) fn run_kinds<D: DictDisc>(
+    rt: &impl Abort,
+    alloc: Global,
+    shelf: &mut Shelf,
+    kinds: &mut Vec<D>,
+    script: &[u8],
+) -> Result<Vec<u8>, AllocError> {
+    let mut streams = open_streams(rt, alloc, ample(script, 4096))?;
+    let words = Vec::new(alloc);
+    let status = dtrun(
+        alloc,
+        words.as_slice(),
+        shelf,
+        kinds,
+        &mut streams.source,
+        &mut streams.out,
+        &mut streams.err,
+    );
+    assert_eq!(rt; status, Status::Ok);
+    assert!(rt; streams.err.bytes().is_empty());
+    streams.out.bytes().to_vec(alloc)
+}
+
+// The same over one kind of each shape, and two disciplines that round to 4,096 bytes and refuse these lends.
 pub(crate) fn run_dicts(
     rt: &impl Abort,
     alloc: Global,
@@ -147,20 +170,7 @@ pub(crate) fn run_dicts(
 ) -> Result<Vec<u8>, AllocError> {
     let mut shelf = fuses(rt, alloc, lends)?;
     let mut kinds = kinds(alloc)?;
-    let mut streams = streams(rt, alloc, ample(script, 4096))?;
-    let words = Vec::new(alloc);
-    let status = dtrun(
-        alloc,
-        words.as_slice(),
-        &mut shelf,
-        &mut kinds,
-        &mut streams.source,
-        &mut streams.out,
-        &mut streams.err,
-    );
-    assert_eq!(rt; status, Status::Ok);
-    assert!(rt; streams.err.bytes().is_empty());
-    streams.out.bytes().to_vec(alloc)
+    run_kinds(rt, alloc, &mut shelf, &mut kinds, script)
 }
 
 pub(crate) fn put(rt: &impl Abort, shelf: &mut Shelf, disc: Box<dyn SegDisc>) {
