@@ -4,7 +4,7 @@ use std::alloc::{AllocError, Global};
 use std::process::Abort;
 use vc_base::{MemSink, MemSource, Sink, Source};
 use vc_dtdisc::{BuiltIn, DictDisc, Shape};
-use vc_seg::{BudgetDisc, FuseDisc, HeapDisc, SegDisc, Shelf};
+use vc_seg::{FuseDisc, SegDisc, Shelf};
 use vc_session::{Status, dtrun, replay};
 
 // What a script is given: it comes in pieces, some reads and writes fail, by their numbers from 1 on, and there's room for
@@ -88,9 +88,9 @@ fn open_streams(rt: &impl Abort, alloc: Global, given: Given) -> Result<Streams,
 }
 
 fn is_run(rt: &impl Abort, status: Status, out: &[u8], err: &[u8], expected: Expected) {
-    assert_eq!(rt; status, expected.status);
-    assert_eq!(rt; out, expected.out);
-    assert_eq!(rt; err, expected.err);
+    assert!(rt; status == expected.status);
+    assert!(rt; out == expected.out);
+    assert!(rt; err == expected.err);
 }
 
 // Runs the script of what is given behind these words of a command line, and looks at what comes out.
@@ -156,7 +156,7 @@ pub(crate) fn run_kinds<D: DictDisc>(
         &mut streams.out,
         &mut streams.err,
     );
-    assert_eq!(rt; status, Status::Ok);
+    assert!(rt; status == Status::Ok);
     assert!(rt; streams.err.bytes().is_empty());
     streams.out.bytes().to_vec(alloc)
 }
@@ -168,7 +168,11 @@ pub(crate) fn run_dicts(
     lends: &[u64],
     script: &[u8],
 ) -> Result<Vec<u8>, AllocError> {
-    let mut shelf = fuses(rt, alloc, lends)?;
+    let mut shelf = Shelf::new(alloc);
+    for _ in 0..2 {
+        let disc = FuseDisc::new(4096, lends.to_vec(alloc)?);
+        put(rt, &mut shelf, Box::new(alloc, disc)?);
+    }
     let mut kinds = kinds(alloc)?;
     run_kinds(rt, alloc, &mut shelf, &mut kinds, script)
 }
@@ -176,33 +180,6 @@ pub(crate) fn run_dicts(
 pub(crate) fn put(rt: &impl Abort, shelf: &mut Shelf, disc: Box<dyn SegDisc>) {
     assert!(rt; shelf.len() < u32::MAX);
     assert!(rt; shelf.put(disc).is_ok());
-}
-
-// A discipline that rounds to 4,096 bytes.
-pub(crate) fn heap(rt: &impl Abort, alloc: Global) -> Result<Shelf, AllocError> {
-    let mut shelf = Shelf::new(alloc);
-    put(rt, &mut shelf, Box::new(alloc, HeapDisc::new(4096))?);
-    Ok(shelf)
-}
-
-// Two that round to 4,096 bytes and refuse these lends.
-pub(crate) fn fuses(rt: &impl Abort, alloc: Global, lends: &[u64]) -> Result<Shelf, AllocError> {
-    let mut shelf = Shelf::new(alloc);
-    for _ in 0..2 {
-        let disc = FuseDisc::new(4096, lends.to_vec(alloc)?);
-        put(rt, &mut shelf, Box::new(alloc, disc)?);
-    }
-    Ok(shelf)
-}
-
-// Two that round to 4,096 bytes and have this budget.
-pub(crate) fn budgets(rt: &impl Abort, alloc: Global, budget: u64) -> Result<Shelf, AllocError> {
-    let mut shelf = Shelf::new(alloc);
-    for _ in 0..2 {
-        let disc = BudgetDisc::new(4096, budget);
-        put(rt, &mut shelf, Box::new(alloc, disc)?);
-    }
-    Ok(shelf)
 }
 
 // A script with no failing call, over two disciplines that round to 4,096 bytes and refuse these lends, in pieces of seven bytes and whole.
@@ -214,7 +191,11 @@ pub(crate) fn replies(
     expected: Expected,
 ) -> Result<(), AllocError> {
     for piece in [7, 4096] {
-        let mut shelf = fuses(rt, alloc, lends)?;
+        let mut shelf = Shelf::new(alloc);
+        for _ in 0..2 {
+            let disc = FuseDisc::new(4096, lends.to_vec(alloc)?);
+            put(rt, &mut shelf, Box::new(alloc, disc)?);
+        }
         run(rt, alloc, &[], &mut shelf, ample(script, piece), expected)?;
     }
     Ok(())

@@ -1,7 +1,8 @@
 // Scripts over regions of the other methods than best fit, and over a budget.
-use crate::given::{Talk, ample, budgets, fine, put_number, run};
+use crate::given::{Talk, ample, fine, put, put_number, run};
 use std::alloc::AllocError;
 use std::test::Fail;
+use vc_seg::{BudgetDisc, Shelf};
 
 // A script and its replies.
 struct Row {
@@ -88,7 +89,11 @@ fn methods(rt: HostRuntime) -> Result<(), Fail> {
     let alloc = rt.alloc();
     for row in ROWS {
         for piece in [7, 4096] {
-            let mut shelf = budgets(&rt, alloc, 1_048_576)?;
+            let mut shelf = Shelf::new(alloc);
+            for _ in 0..2 {
+                let disc = BudgetDisc::new(4096, 1_048_576);
+                put(&rt, &mut shelf, Box::new(alloc, disc)?);
+            }
             let given = ample(row.script, piece);
             run(&rt, alloc, &[], &mut shelf, given, fine(row.out))?;
         }
@@ -129,7 +134,8 @@ fn damage(rt: HostRuntime) -> Result<(), Fail> {
         for off in -32i32..116 {
             poked(&mut talk, off, byte, byte == 7 && !(0..100).contains(&off))?;
         }
-        let mut shelf = budgets(&rt, alloc, 4096)?;
+        let mut shelf = Shelf::new(alloc);
+        put(&rt, &mut shelf, Box::new(alloc, BudgetDisc::new(4096, 4096))?);
         let given = ample(talk.script.as_slice(), 4096);
         run(
             &rt,

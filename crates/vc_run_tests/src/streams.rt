@@ -1,8 +1,9 @@
 // Scripts whose reads and writes fail, and lines at their limit.
-use crate::given::{Expected, Given, Talk, ample, fine, heap, run};
+use crate::given::{Expected, Given, Talk, ample, fine, put, run};
 use std::alloc::{AllocError, Global};
 use std::process::Abort;
 use std::test::Fail;
+use vc_seg::{HeapDisc, Shelf};
 use vc_session::Status;
 
 const ROW: &[u8] = b"open r best 1\nalloc r a 100\n";
@@ -178,7 +179,8 @@ const ROWS: &[Row] = &[
 fn faults(rt: HostRuntime) -> Result<(), Fail> {
     let alloc = rt.alloc();
     for row in ROWS {
-        let mut shelf = heap(&rt, alloc)?;
+        let mut shelf = Shelf::new(alloc);
+        put(&rt, &mut shelf, Box::new(alloc, HeapDisc::new(4096))?);
         let given = Given {
             script: row.script,
             piece: row.piece,
@@ -211,7 +213,8 @@ fn front<'a>(rt: &impl Abort, bytes: &'a [u8], len: usize) -> &'a [u8] {
 #[test]
 fn each_read(rt: HostRuntime) -> Result<(), Fail> {
     let alloc = rt.alloc();
-    let mut shelf = heap(&rt, alloc)?;
+    let mut shelf = Shelf::new(alloc);
+    put(&rt, &mut shelf, Box::new(alloc, HeapDisc::new(4096))?);
     for (first, behind, out) in [
         (1, 15, b"".as_slice()),
         (15, 29, b"r open\n".as_slice()),
@@ -237,7 +240,8 @@ fn each_read(rt: HostRuntime) -> Result<(), Fail> {
 #[test]
 fn each_room(rt: HostRuntime) -> Result<(), Fail> {
     let alloc = rt.alloc();
-    let mut shelf = heap(&rt, alloc)?;
+    let mut shelf = Shelf::new(alloc);
+    put(&rt, &mut shelf, Box::new(alloc, HeapDisc::new(4096))?);
     for room in 0..14 {
         for piece in [1, 6, 7, 8, 4096] {
             let given = Given {
@@ -275,7 +279,8 @@ fn gathered(rt: HostRuntime) -> Result<(), Fail> {
     let blank = Vec::from_elem(alloc, b'\n', 1739)?;
     let mut talk = Talk::new(alloc);
     many_lines(&mut talk, blank.as_slice())?;
-    let mut shelf = heap(&rt, alloc)?;
+    let mut shelf = Shelf::new(alloc);
+    put(&rt, &mut shelf, Box::new(alloc, HeapDisc::new(4096))?);
     for (writes, room, status, len, err) in [
         ([1].as_slice(), 10_000, Status::Write, 0, WRITE_FAILED),
         (&[2], 10_000, Status::Write, 1050, WRITE_FAILED),
@@ -307,7 +312,8 @@ const UNKNOWN: &[u8] = b"vmreplay: line 1: unknown command\n";
 #[test]
 fn long_lines(rt: HostRuntime) -> Result<(), Fail> {
     let alloc = rt.alloc();
-    let mut shelf = heap(&rt, alloc)?;
+    let mut shelf = Shelf::new(alloc);
+    put(&rt, &mut shelf, Box::new(alloc, HeapDisc::new(4096))?);
     for (byte, len, reads, status, err) in [
         (b'#', 4096, [].as_slice(), Status::Ok, b"".as_slice()),
         (b'#', 4097, &[], Status::Script, TOO_LONG),
@@ -344,7 +350,8 @@ fn one_word(alloc: Global) -> Result<Vec<String>, AllocError> {
 fn words(rt: HostRuntime) -> Result<(), Fail> {
     let alloc = rt.alloc();
     let words = one_word(alloc)?;
-    let mut shelf = heap(&rt, alloc)?;
+    let mut shelf = Shelf::new(alloc);
+    put(&rt, &mut shelf, Box::new(alloc, HeapDisc::new(4096))?);
     for (err_writes, status, number, err) in [
         (
             [].as_slice(),

@@ -2,7 +2,7 @@
 ghost use Rattle.vc_dtdisc.specs.ShapeLaws.{rules-lawful};
 ghost use Rattle.vc_dtdisc.specs.Shapes.{rules_of};
 
-use crate::given::{fuses, run_kinds};
+use crate::given::{put, run_kinds};
 use std::alloc::{AllocError, Global};
 use std::cell::Cell;
 use std::cmp::Ordering;
@@ -11,6 +11,7 @@ use std::rc::Rc;
 use std::test::Fail;
 use vc_base::{OutOfMemory, Steps};
 use vc_dtdisc::{BuiltIn, DictDisc, Shape};
+use vc_seg::{HeapDisc, Shelf};
 
 // A kind that notes each object that it is told of, by two digits behind those of earlier ones: its own, and the object's last
 // byte. A u128 has room for 19 notes.
@@ -60,7 +61,10 @@ impl DictDisc for Noting {
 // these noted.
 fn noted(rt: &impl Abort, alloc: Global, script: &[u8]) -> Result<u128, AllocError> {
     let notes = Rc::new(alloc, Cell::new(0))?;
-    let mut shelf = fuses(rt, alloc, &[])?;
+    let mut shelf = Shelf::new(alloc);
+    for _ in 0..2 {
+        put(rt, &mut shelf, Box::new(alloc, HeapDisc::new(4096))?);
+    }
     let mut kinds = Vec::new(alloc);
     for digit in [1, 2] {
         kinds.push(Noting {
