@@ -21,14 +21,14 @@ use vc_dtlist::DtList;
 use vc_dtord::DtOrd;
 
 /// A dictionary of holders by one of seven methods, and which of them is current. It allocates nothing, and none of its
-/// calls can fail. After Cdt.
+/// calls can fail. After Cdt's dictionaries; that it stands over holders is this project's own.
 #[derive(Debug, Drop)]
 pub struct Dict {
     /// Its method.
     pub method: DictMethod,
-    /// The number of its kind.
+    /// The number of its kind, by the caller's own count.
     pub kind: u32,
-    /// How many holders there are.
+    /// How many holders there are, as Cdt's dtsize tells.
     pub count: u64,
     /// The current holder, or `Addr::NONE`.
     pub current: Addr,
@@ -38,7 +38,7 @@ pub struct Dict {
     slots: u32,
 }
 
-/// What a change of method leaves over.
+/// What a change of method leaves over for the caller to free. This project's own.
 #[derive(Clone, Copy, Debug, PartialEq, Eq)]
 pub struct Dropped {
     /// The first of the holders that were dropped, or `Addr::NONE`; `after_dropped` tells the others.
@@ -48,7 +48,7 @@ pub struct Dropped {
 }
 
 impl Dict {
-    /// A dictionary of no holders, with no current one and no table.
+    /// A dictionary of no holders, with no current one and no table, for a set or bag too. After Cdt's dtopen.
     pub fn new(method: DictMethod, kind: u32) -> Dict
         ensures dict { (rules : Rules) (blocks : Blocks) → Stands rules result blocks [] }
         ensures method { result.method ≡ method }
@@ -102,22 +102,25 @@ impl Dict {
         }
     }
 
-    /// How many slots the table has, or 0 without one, as in every method but sets and bags.
+    /// How many slots the table has: 16, doubled at most 17 times, or 0 without one, as in every method but sets and
+    /// bags. This project's own.
     pub fn slots(&self) -> u32
         ensures { result ≡ self.now.slots }
     {
         self.hash().slots()
     }
 
-    /// The table, or `Addr::NONE` without one, as in every method but sets and bags.
+    /// The table, a block of 8 bytes for each slot, or `Addr::NONE` without one, as in every method but sets and bags.
+    /// This project's own.
     pub fn table(&self) -> Addr
         ensures { result ≡ self.now.table }
     {
         self.hash().table()
     }
 
-    /// The slots wanted before so many more objects are added, or none where those that are there are enough, or the
-    /// method has no table.
+    /// The slots wanted before so many more objects are added, as `DtHash` tells: those of a first table for these, or
+    /// twice those that are there. None where they are enough, where there are 2,097,152, or where the method has no
+    /// table. This project's own.
     pub fn wants_table(&self, more: u64) -> Option<u32>
         ensures { result ≡ wanted_by self.now.method self.now.slots self.now.count more }
     {
@@ -130,7 +133,7 @@ impl Dict {
 
     /// Takes a block as the table of a set or bag, and answers the table before, or `Addr::NONE` where there was none.
     /// The block has 8 bytes for each slot and is neither a holder nor the table; there are 16 slots, doubled at most
-    /// 17 times, and at most two objects for each, unless there are 2,097,152.
+    /// 17 times, and at most two objects for each, unless there are 2,097,152. This project's own.
     pub fn adopt_table<C: Cells, D: DictDisc>(
         &mut self,
         cells: &mut C,
@@ -250,7 +253,7 @@ impl Dict {
     /// Puts a holder where `insert` does, or `append`, which is for lists, and makes it current. It has at least 33
     /// bytes and is neither in the dictionary nor its table; the current one is none or in it. A set or bag has a table,
     /// and `wants_table(1)` is none; in a set or ordered set no object matches. It compares at most as many times as there
-    /// are holders.
+    /// are holders. After Cdt's dtinsert and dtappend.
     pub fn link<C: Cells, D: DictDisc, L>(
         &mut self,
         cells: &mut C,
@@ -303,7 +306,8 @@ impl Dict {
         found
     }
 
-    /// The first holder whose object has that key, by at most as many compares as there are holders.
+    /// The first holder whose object has that key, by at most as many compares as there are holders; none where no
+    /// object has it. It isn't made current. After Cdt's dtsearch and dtmatch.
     pub fn find<C: Cells, D: DictDisc, L>(
         &mut self,
         cells: &mut C,
@@ -331,7 +335,7 @@ impl Dict {
         }
     }
 
-    /// The first holder.
+    /// The first holder, or none where there are none. It isn't made current. After Cdt's dtfirst.
     pub fn first<C: Cells>(&self, cells: &C) -> Option<Addr>
         requires { IsKept self.now (C.blocks cells.now) }
         ensures { (rules : Rules) (holders : List ℕ)
@@ -347,7 +351,7 @@ impl Dict {
         }
     }
 
-    /// The last holder.
+    /// The last holder, or none where there are none. It isn't made current. After Cdt's dtlast.
     pub fn last<C: Cells>(&self, cells: &C) -> Option<Addr>
         requires { IsKept self.now (C.blocks cells.now) }
         ensures { (rules : Rules) (holders : List ℕ)
@@ -363,7 +367,7 @@ impl Dict {
         }
     }
 
-    /// The holder behind one of the dictionary.
+    /// The holder behind one of the dictionary, or none behind the last. It isn't made current. After Cdt's dtnext.
     pub fn next<C: Cells>(&self, cells: &C, at: Addr) -> Option<Addr>
         requires { IsIn self.now (C.blocks cells.now) at.0 }
         ensures { (rules : Rules) (holders : List ℕ)
@@ -379,7 +383,7 @@ impl Dict {
         }
     }
 
-    /// The holder before one of the dictionary.
+    /// The holder before one of the dictionary, or none before the first. It isn't made current. After Cdt's dtprev.
     pub fn prev<C: Cells>(&self, cells: &C, at: Addr) -> Option<Addr>
         requires { IsIn self.now (C.blocks cells.now) at.0 }
         ensures { (rules : Rules) (holders : List ℕ)
@@ -456,8 +460,9 @@ impl Dict {
         }
     }
 
-    /// Takes out the first holder whose object has that key, and answers it. Where it was current, the one behind it is,
-    /// or none. It keeps its bytes behind the words.
+    /// Takes out the first holder whose object has that key, and answers it, by at most as many compares as there are
+    /// holders; none where no object has it, and nothing changes. Where it was current, the one behind it is, or none. It
+    /// keeps its bytes behind the words. After Cdt's dtdelete and dtdetach.
     pub fn unlink<C: Cells, D: DictDisc, L>(
         &mut self,
         cells: &mut C,
@@ -482,7 +487,8 @@ impl Dict {
         found
     }
 
-    /// Takes out the first holder in every method, and answers it. Where it was current, the one behind it is, or none.
+    /// Takes out the first holder in every method, and answers it, or none where there are none. Where it was current,
+    /// the one behind it is, or none. After Cdt's dtdelete without an object, and dtclear.
     pub fn take_first<C: Cells, D: DictDisc>(&mut self, cells: &mut C, kind: &D) -> Option<Addr>
         requires { IsDict (D.rules kind.now) self.old (C.blocks cells.old) }
         ensures first { (holders : List ℕ)
@@ -500,8 +506,9 @@ impl Dict {
         found
     }
 
-    /// The slots of the table that a change to a method needs, by the count before any is dropped; none where that method
-    /// is neither set nor bag, or the present one is.
+    /// The slots of the table that a change to a method needs, by the count before any is dropped: 16, doubled until two
+    /// objects for each are enough, at most 17 times. None where that method is neither set nor bag, or the present one
+    /// is. This project's own.
     pub fn table_for(&self, method: DictMethod) -> Option<u32>
         ensures { result ≡ slots_between self.now.method method self.now.count }
     {
@@ -584,7 +591,8 @@ impl Dict {
 
     /// Turns the dictionary to a method, unless it is the present one. Ordered methods order the objects by key, stably,
     /// and sets then drop each object that matches an earlier one; else the order stays. No object is current then. A
-    /// change for which `table_for` is a number takes a table of so many slots, and any other none, with no slots.
+    /// change for which `table_for` is a number takes a table of so many slots, a block as for `adopt_table`; any other
+    /// takes `Addr::NONE` and 0 slots. After Cdt's dtmethod.
     pub fn remethod<C: Cells, D: DictDisc, L>(
         &mut self,
         cells: &mut C,
@@ -614,7 +622,8 @@ impl Dict {
     }
 }
 
-/// The holder that was dropped behind one, or `Addr::NONE` behind the last.
+/// The holder that was dropped behind one, or `Addr::NONE` behind the last: the lower 32 bits of its word 1. It has at
+/// least 33 bytes. This project's own.
 pub fn after_dropped<C: Cells>(cells: &C, a: Addr) -> Addr
     requires { IsHolder (C.blocks cells.now) a.0 }
     ensures { result.0 ≡ behind_dropped (C.blocks cells.now) a.0 }

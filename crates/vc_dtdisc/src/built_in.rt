@@ -10,7 +10,7 @@ use std::marker::Model;
 use vc_base::{OutOfMemory, Steps, one_more};
 
 /// A kind of one of the six shapes, which counts of how many objects and bytes it was told that they go; each number
-/// stays at the greatest u64 once there.
+/// stays at the greatest u64 once there. This project's own.
 #[derive(Debug, Drop)]
 pub struct BuiltIn {
     shape: Shape,
@@ -34,7 +34,8 @@ impl Model for BuiltIn {
 }
 
 impl BuiltIn {
-    /// A kind of that shape that was told of nothing. A clip has at least one byte.
+    /// A kind of that shape that was told of nothing. A clip has at least one byte; any other size or offset serves. It
+    /// can't fail.
     pub fn new(shape: Shape) -> BuiltIn
         requires { IsTrue (is_shape shape) }
         ensures shape { result.shape ≡ shape }

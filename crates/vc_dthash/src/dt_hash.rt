@@ -71,7 +71,9 @@ impl DtHash {
         self.table
     }
 
-    /// The slots wanted before so many more objects are added, or none where those that are there are enough.
+    /// The slots wanted before so many more objects are added. Without a table they are 16, doubled until two objects for
+    /// each are enough for these, at most 17 times; with one twice as many where two for each aren't enough for all. None
+    /// where they are enough, or where there are 2,097,152.
     pub fn wants_table(&self, more: u64) -> Option<u32>
         ensures { result ≡ wanted self.now.slots self.now.count more }
     {
@@ -147,7 +149,8 @@ impl DtHash {
         self.count -= 1;
     }
 
-    /// The first holder whose object has that key, by at most as many compares as there are holders.
+    /// The first holder whose object has that key, by at most as many compares as there are holders; none where no
+    /// object has it.
     pub fn find<C: Cells, D: DictDisc, L>(
         &self,
         cells: &C,
@@ -163,7 +166,7 @@ impl DtHash {
         self.list().find(cells, kind, key, steps)
     }
 
-    /// The first holder.
+    /// The first holder, or none where there are none.
     pub fn first(&self) -> Option<Addr>
         ensures { (blocks : Blocks) (holders : List ℕ) → HashFor self.now blocks holders
             → option_map number_of result ≡ first_in holders }
@@ -171,7 +174,7 @@ impl DtHash {
         self.list().first()
     }
 
-    /// The last holder.
+    /// The last holder, or none where there are none.
     pub fn last(&self) -> Option<Addr>
         ensures { (blocks : Blocks) (holders : List ℕ) → HashFor self.now blocks holders
             → option_map number_of result ≡ last_in holders }
@@ -179,7 +182,7 @@ impl DtHash {
         self.list().last()
     }
 
-    /// The holder behind one of the list.
+    /// The holder behind one of the list, or none behind the last.
     pub fn next<C: Cells>(&self, cells: &C, at: Addr) -> Option<Addr>
         requires { IsLinked self.now (C.blocks cells.now) at.0 }
         ensures { (holders : List ℕ) → HashFor self.now (C.blocks cells.now) holders
@@ -188,7 +191,7 @@ impl DtHash {
         self.list().next(cells, at)
     }
 
-    /// The holder before one of the list.
+    /// The holder before one of the list, or none before the first.
     pub fn prev<C: Cells>(&self, cells: &C, at: Addr) -> Option<Addr>
         requires { IsLinked self.now (C.blocks cells.now) at.0 }
         ensures { (holders : List ℕ) → HashFor self.now (C.blocks cells.now) holders

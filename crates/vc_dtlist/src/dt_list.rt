@@ -107,7 +107,8 @@ impl DtList {
         self.link(cells, mark, at, next);
     }
 
-    /// The first holder whose object has that key, by at most as many compares as the list has holders.
+    /// The first holder whose object has that key, by at most as many compares as the list has holders; none where no
+    /// object has it.
     pub fn find<C: Cells, D: DictDisc, L>(
         &self,
         cells: &C,
@@ -123,7 +124,8 @@ impl DtList {
         self.seek(cells, kind, key, Sought::Equal, steps)
     }
 
-    /// The first holder whose object's key stands so to that one, by at most as many compares as the list has holders.
+    /// The first holder whose object's key stands so to that one, by at most as many compares as the list has holders;
+    /// none where no key does.
     pub fn seek<C: Cells, D: DictDisc, L>(
         &self,
         cells: &C,
@@ -151,7 +153,7 @@ impl DtList {
         None
     }
 
-    /// The first holder.
+    /// The first holder, or none where there are none.
     pub fn first(&self) -> Option<Addr>
         ensures { (blocks : Blocks) (holders : List ℕ) → StandsFor self.now blocks holders
             → option_map number_of result ≡ first_in holders }
@@ -159,7 +161,7 @@ impl DtList {
         found(self.first)
     }
 
-    /// The last holder.
+    /// The last holder, or none where there are none.
     pub fn last(&self) -> Option<Addr>
         ensures { (blocks : Blocks) (holders : List ℕ) → StandsFor self.now blocks holders
             → option_map number_of result ≡ last_in holders }
@@ -167,7 +169,7 @@ impl DtList {
         found(self.last)
     }
 
-    /// The holder behind one of the list.
+    /// The holder behind one of the list, or none behind the last.
     pub fn next<C: Cells>(&self, cells: &C, at: Addr) -> Option<Addr>
         requires { IsIn self.now (C.blocks cells.now) at.0 }
         ensures { (holders : List ℕ) → StandsFor self.now (C.blocks cells.now) holders
@@ -176,7 +178,7 @@ impl DtList {
         found(neighbour(cells, at, 1))
     }
 
-    /// The holder before one of the list.
+    /// The holder before one of the list, or none before the first.
     pub fn prev<C: Cells>(&self, cells: &C, at: Addr) -> Option<Addr>
         requires { IsIn self.now (C.blocks cells.now) at.0 }
         ensures { (holders : List ℕ) → StandsFor self.now (C.blocks cells.now) holders

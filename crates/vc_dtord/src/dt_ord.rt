@@ -107,7 +107,8 @@ impl DtOrd {
         self.last = list.last;
     }
 
-    /// The first holder whose object has that key, by at most as many compares as there are holders.
+    /// The first holder whose object has that key, by at most as many compares as there are holders; none where no
+    /// object has it.
     pub fn find<C: Cells, D: DictDisc, L>(
         &mut self,
         cells: &mut C,
@@ -129,7 +130,8 @@ impl DtOrd {
         self.list().find(cells, kind, key, steps)
     }
 
-    /// The first holder whose object's key isn't less than that one, by at most as many compares as there are holders.
+    /// The first holder whose object's key isn't less than that one, by at most as many compares as there are holders;
+    /// none where every key is less.
     pub fn at_least<C: Cells, D: DictDisc, L>(
         &mut self,
         cells: &mut C,
@@ -151,7 +153,7 @@ impl DtOrd {
         self.list().seek(cells, kind, key, Sought::NotLess, steps)
     }
 
-    /// The first holder.
+    /// The first holder, or none where there are none.
     pub fn first<C: Cells>(&self, cells: &C) -> Option<Addr>
         requires { IsOrdered self.now (C.blocks cells.now) }
         ensures { (rules : Rules) (holders : List ℕ)
@@ -161,7 +163,7 @@ impl DtOrd {
         self.list().first()
     }
 
-    /// The last holder.
+    /// The last holder, or none where there are none.
     pub fn last<C: Cells>(&self, cells: &C) -> Option<Addr>
         requires { IsOrdered self.now (C.blocks cells.now) }
         ensures { (rules : Rules) (holders : List ℕ)
@@ -171,7 +173,7 @@ impl DtOrd {
         self.list().last()
     }
 
-    /// The holder behind one of the list.
+    /// The holder behind one of the list, or none behind the last.
     pub fn next<C: Cells>(&self, cells: &C, at: Addr) -> Option<Addr>
         requires { IsLinked self.now (C.blocks cells.now) at.0 }
         ensures { (rules : Rules) (holders : List ℕ)
@@ -181,7 +183,7 @@ impl DtOrd {
         self.list().next(cells, at)
     }
 
-    /// The holder before one of the list.
+    /// The holder before one of the list, or none before the first.
     pub fn prev<C: Cells>(&self, cells: &C, at: Addr) -> Option<Addr>
         requires { IsLinked self.now (C.blocks cells.now) at.0 }
         ensures { (rules : Rules) (holders : List ℕ)

@@ -19,7 +19,8 @@ use Rattle.vc_dict.specs.declared.dict.Dict.{Dict}
 use Rattle.vc_dict.proofs.OwnLemmas.{Stands-own, holder-there, holders-told, table-apart}
 use Rattle.vc_objects.specs.Objects.{Dictionary, Object, Table, owned}
 use Rattle.vc_objects.specs.Parts.{CanGrow, IsWhole, dictionary_of, object_of, table_of}
-use Rattle.vc_objects.proofs.Addresses.{all-objects, apart-holders, apart-owned, apart-table, each-object, objects-same}
+use Rattle.vc_objects.proofs.Mapped.{objects-kept}
+use Rattle.vc_objects.proofs.Owning.{all-objects, apart-holders, apart-owned, apart-table, each-object}
 
 abbrev made : DictMethod → List Object → Option ℕ → Option Table → Dictionary
 made m os c t = record { method = m; objects = os; current = c; table = t }
@@ -115,7 +116,7 @@ module _ (rules : Rules) (d0 : Dict) (B0 B1 : Blocks) (t slots : ℕ) (can : Can
         ap bytes (after a (outside a w)) ∙ (adopted.keeps.bodies a apart ∙ ap bytes (kept-placed a (holder-apart a w)))
 
     objects : map (object_of B3) (holders_of d1 B3) ≡ map (object_of B0) hs
-    objects = ap (map (object_of B3)) told ∙ objects-same B0 B3 hs object
+    objects = ap (map (object_of B3)) told ∙ objects-kept B0 B3 hs object
 
     there : d1.table.0 ≢ 0
     there e = let some = address.some in let is = adopted.table in omega (arith, some, is, e)

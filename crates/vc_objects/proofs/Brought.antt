@@ -6,13 +6,12 @@ use Rattle.vc_base.specs.declared.dict_method.DictMethod.{DictMethod}
 use Rattle.vc_base.specs.declared.dict_method.DictMethod.TheVariants.{DtSet, DtBag, DtOset, DtObag, DtList, DtStack, DtQueue}
 use Rattle.vc_base.specs.Cells.{Blocks, put}
 use Rattle.vc_model.specs.Discipline.{Terms}
-use Rattle.vc_model.specs.Outcome.{Fault, Outcome, Done, Refused, Put, TooManySegments, NoSegment, Fixed, PoolSize, NotLast, WrongMethod}
+use Rattle.vc_model.specs.Outcome.{Outcome, Done, Refused, Put}
 use Rattle.vc_dict.specs.Methods.{slots_between}
 use Rattle.vc_dtdisc.specs.Rules.{Gone, Rules}
 use Rattle.vc_region.specs.Region.{Region}
 use Rattle.vc_seg.specs.Answer.{IsPut, IsRefusal}
 use Rattle.vc_seg.specs.declared.fault.RegionFault.{RegionFault}
-use Rattle.vc_seg.specs.declared.fault.RegionFault.TheVariants as code
 use Rattle.vc_objects.specs.Insert.{without_table}
 use Rattle.vc_objects.specs.Leaves.{GivesTurned, told_each}
 use Rattle.vc_objects.specs.Objects.{Dictionary, Table}
@@ -20,16 +19,7 @@ use Rattle.vc_objects.specs.Parts.{table_of}
 use Rattle.vc_objects.specs.Remove.{bytes_of, freed_all}
 use Rattle.vc_objects.specs.Turn.{Brought, Turned, bring, bring_of, brought, number_of, objects_dropped, table_left, turn, turned_to, turned_with}
 use Rattle.vc_objects.specs.Turning.{BringsCell, HasBrought}
-
--- a refusal stays one
-pub refusal-through : {A B : Type 0} (f : Outcome A → Outcome B) → ((w : Fault) → f (Refused w) ≡ Refused w) → (call : Bool → Outcome A) (why : RegionFault) → IsRefusal call why → IsRefusal (λ t. f (call t)) why
-refusal-through f e call code.TooManySegments h = ap f h ∙ e TooManySegments
-refusal-through f e call code.NoSegment h = ap f h ∙ e NoSegment
-refusal-through f e call code.OutOfMemory h = tt
-refusal-through f e call code.Fixed h = ap f h ∙ e Fixed
-refusal-through f e call code.PoolSize h = ap f h ∙ e PoolSize
-refusal-through f e call code.NotLast h = ap f h ∙ e NotLast
-refusal-through f e call code.WrongMethod h = ap f h ∙ e WrongMethod
+use Rattle.vc_objects.proofs.Answering.{refusal-as}
 
 -- a block that was put is the table
 pub put-brought : (slots : ℕ) (o : Outcome (Put (Region ℕ))) (a : ℕ) (r : Region ℕ) → a ≢ 0 → IsPut o a r → HasBrought (brought slots o) r a slots
@@ -94,7 +84,7 @@ module _ (rules : Rules) (terms : Terms) (method : DictMethod) (r : Region ℕ) 
   pub refuses-turned : (why : RegionFault) → IsRefusal (λ refused. bring_of terms r 0 refused (slots_between d.method method count)) why → IsRefusal (turn rules terms r 0 d method) why
   refuses-turned why h =
       subst (λ z. IsRefusal (λ (t : Bool). if z then stays else turned_with rules method d (bring terms r 0 d method t)) why) (sym (other-number method d.method other))
-      (refusal-through (turned_with rules method d) (λ w. refl) (λ (t : Bool). bring terms r 0 d method t) why
+      (refusal-as (λ (t : Bool). bring terms r 0 d method t) (λ (t : Bool). turned_with rules method d (bring terms r 0 d method t)) (λ refused fault e. ap (turned_with rules method d) e) why
       (subst (λ n. IsRefusal (λ (t : Bool). bring_of terms r 0 t (slots_between d.method method n)) why) (sym counts) h))
 
 -- the present method changes nothing

@@ -1,6 +1,5 @@
 -- Holders that were dropped are freed one after another.
-use Rattle.std.proofs.Common.{◌≡◌, ◌≢◌, ℕ, ◌+◌, ◌<◌, ◌≤◌, List, [], ◌∷◌, true, false, length, map, unwrap_or, refl, sym, ap, ◌∙◌, subst, arith, inl, inr}
-use Rattle.std.proofs.lemmas.Bool.Decides.{eqb_tells}
+use Rattle.std.proofs.Common.{◌≡◌, ℕ, ◌+◌, ◌<◌, ◌≤◌, List, [], ◌∷◌, true, false, length, map, unwrap_or, refl, sym, ap, ◌∙◌, subst, arith}
 use Rattle.vc_base.specs.Cells.{Blocks, IsHolder, body_of}
 use Rattle.vc_base.specs.Holders.{AreDistinct, contains}
 use Rattle.vc_dtdisc.specs.Finds.{object_at}
@@ -16,6 +15,7 @@ use Rattle.vc_objects.specs.Leaves.{told_each}
 use Rattle.vc_objects.specs.Parts.{object_of}
 use Rattle.vc_objects.specs.Remove.{bytes_of, freed_all}
 use Rattle.vc_objects.specs.Turning.{Frees}
+use Rattle.vc_objects.proofs.Unlabelled.{left-cell}
 
 -- so many of these holders are freed, and the others are left
 pub record Dropping (holders : List ℕ) (before : Blocks) (old : Region ℕ) (gone : Gone) (passed at : ℕ) (cells : Blocks) (region : Region ℕ) (told : Gone) : Type 0 where
@@ -36,13 +36,6 @@ AreDropped-same old new at (x ∷ xs) e d =
     let here : new x ≡ old x = e x (within-head x xs) in
     let behind : behind_dropped new x ≡ behind_dropped old x = rw here refl in
     (d.0, HasBytes-same old new x 33 here d.1, rw behind (AreDropped-same old new (behind_dropped old x) xs (λ a h. e a (within-tail x xs a h)) d.2))
-
--- a cell that goes is none of others
-pub left-cell : (c : Blocks) (x : ℕ) (a : ℕ) → x ≢ a → without_cell x c a ≡ c a
-left-cell c x a ne = elim (eqb_tells a x) as (λ _. without_cell x c a ≡ c a) [
-  | inl same ↦ absurd (ne (sym same.1))
-  | inr apart ↦ rw apart.0 refl
-]
 
 pub dropping-start : (holders : List ℕ) (before : Blocks) (old : Region ℕ) (gone : Gone) (at : ℕ) → AreDropped before at holders → AreDistinct holders → Dropping holders before old gone 0 at before old gone
 dropping-start holders before old gone at d distinct = record {

@@ -17,14 +17,15 @@ use Rattle.vc_region.specs.Region as model
 use Rattle.vc_region.specs.declared.region.Region.{Region}
 use Rattle.vc_objects.specs.Freed.{FreesCell}
 use Rattle.vc_objects.specs.Insert.{freed}
-use Rattle.vc_objects.specs.Leaves.{KeepsDisc, Leaves, LeavesRest, told_each, told_if}
+use Rattle.vc_objects.specs.Leaves.{Leaves, LeavesRest, told_each, told_if}
 use Rattle.vc_objects.specs.Lists.{first_object, without_object}
 use Rattle.vc_objects.specs.Objects.{Dictionary, Object, Table, is_best, listed, owned}
 use Rattle.vc_objects.specs.Parts.{IsWhole, dictionary_in, dictionary_of, object_of, table_of}
 use Rattle.vc_objects.specs.Remove.{bytes_of, emptied, freed_all, remove_first}
-use Rattle.vc_objects.proofs.Looking.{KeepsDisc-same}
+use Rattle.vc_objects.proofs.Leaving.{keeps-same, leaves-self, leaves-trans}
 use Rattle.vc_objects.proofs.Owning.{owned-within}
-use Rattle.vc_objects.proofs.Taken.{differs, fewer-owned, leaves-self, left-cell}
+use Rattle.vc_objects.proofs.Taken.{differs, fewer-owned}
+use Rattle.vc_objects.proofs.Unlabelled.{left-cell}
 
 -- a dictionary with other objects
 abbrev pub with_objects : Dictionary → List Object → Dictionary
@@ -77,33 +78,12 @@ emptied-fewer d a h =
     let front = map (λ (t : Table). t.at) (listed d.table) in
     apart-append front [] a (apart-front front (map (λ (o : Object). o.at) d.objects) a h) refl
 
--- the terms stay, and the faults have not fallen, over one call after another
-keeps-after : (a b c : Discipline) (s t u : List (ℕ × ℕ)) → KeepsDisc a b s t → KeepsDisc b c t u → KeepsDisc a c s u
-keeps-after a b c s t u first second =
-    let more = first.kept.faults in
-    let most = second.kept.faults in
-    record {
-      kept = record { terms = second.kept.terms ∙ first.kept.terms; faults = omega (arith, more, most) };
-      out = λ rest is. second.out rest (first.out rest is);
-    }
-
 module _ {I : Type 0} {V : I → Type 0} (meaning : (x : I) × V x → Discipline) where
-  -- one call after another, neither of which takes a block
-  pub leaves-after : (r s t : Region I V) (mine mid mine' : List ℕ) → Leaves meaning r s mine mid → Leaves meaning s t mid mine'
-      → ((a : ℕ) → contains mine a ≡ false → contains mid a ≡ false) → ((a : ℕ) → contains mid a ≡ false → contains mine' a ≡ false) → Leaves meaning r t mine mine'
-  leaves-after r s t mine mid mine' first second fewer least = record {
-    best = second.best;
-    disc = keeps-after (disc_in meaning r) (disc_in meaning s) (disc_in meaning t) (segments_in r) (segments_in s) (segments_in t) first.disc second.disc;
-    labelled = second.labelled ∙ first.labelled;
-    others = λ a apart apart'. second.others a (fewer a apart) apart' ∙ first.others a apart (fewer a apart);
-    fresh = λ a within apart. absurd (true≢false (sym within ∙ least a (fewer a apart)));
-  }
-
   -- the table goes, too
   pub leaves-table : (r s : Region I V) (d : Dict) → d.table.0 ≢ 0 → FreesCell meaning r d.table.0 s → Leaves meaning r s (owned (dictionary_in d r)) []
   leaves-table r s d ne free = record {
     best = free.best;
-    disc = KeepsDisc-same (disc_in meaning r) (disc_in meaning s) (segments_in r) (segments_in s) free.disc free.segments;
+    disc = keeps-same (disc_in meaning r) (disc_in meaning s) (segments_in r) (segments_in s) free.disc free.segments;
     labelled = free.labelled;
     others = λ a apart _.
         let own : contains (owned (dictionary_in d r)) d.table.0 ≡ true = owned-within d (cells_in r) d.table.0 ne ∙ within-head d.table.0 (holders_of d (cells_in r)) in
@@ -114,7 +94,7 @@ module _ {I : Type 0} {V : I → Type 0} (meaning : (x : I) × V x → Disciplin
   pub leaves-none : (r : Region I V) (mine : List ℕ) → is_best (rest_in r) ≡ true → Leaves meaning r r mine []
   leaves-none r mine best = record {
     best = best;
-    disc = KeepsDisc-same (disc_in meaning r) (disc_in meaning r) (segments_in r) (segments_in r) refl refl;
+    disc = keeps-same (disc_in meaning r) (disc_in meaning r) (segments_in r) (segments_in r) refl refl;
     labelled = refl;
     others = λ a _ _. refl;
     fresh = λ a within _. absurd (true≢false (sym within));
@@ -166,7 +146,7 @@ module _ {I : Type 0} {V : I → Type 0} (meaning : (x : I) × V x → Disciplin
           leaves = record {
             whole = leaves.whole;
             kind = leaves.kind ∙ e.leaves.kind;
-            rest = leaves-after meaning before mid after (owned (dictionary_in old before)) (owned d) (owned (dictionary_in new after)) e.leaves.rest leaves.rest e.fewer fewer;
+            rest = leaves-trans meaning before mid after (owned (dictionary_in old before)) (owned d) (owned (dictionary_in new after)) e.leaves.rest leaves.rest (λ a apart _. e.fewer a apart);
           };
           disc = disc ∙ e.disc;
           fewer = λ a h. fewer a (e.fewer a h);

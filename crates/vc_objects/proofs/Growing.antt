@@ -17,6 +17,7 @@ use Rattle.vc_dict.proofs.OwnLemmas.{holders-told}
 use Rattle.vc_objects.specs.Insert.{slots_wanted}
 use Rattle.vc_objects.specs.Objects.{slots_of}
 use Rattle.vc_objects.specs.Parts.{CanGrow, IsWhole, dictionary_of, object_of, table_of}
+use Rattle.vc_objects.proofs.Doubling.{slots-least}
 
 -- the slots of a dictionary's table are those that its heads tell
 slots-told : (at slots : ℕ) → (at ≡ 0 → slots ≡ 0) → slots_of (table_of at slots) ≡ slots
@@ -56,18 +57,6 @@ enough-slots n count ne h =
     ap (λ t. if t then Some (slots_for 1) else more) (ne_eqb n 0 ne)
     ∙ ap (λ t. if t && nat_lt n most_slots then Some (2 * n) else None) (le-ltb (2 * n) (count + 1) h)
 
-some-slots : (slots : ℕ) → IsSlots slots → 1 ≤ slots
-some-slots slots is =
-    let p : 2 ^ 0 ≤ 2 ^ is.doublings = pow_mono {i = 0} {j = is.doublings} (omega arith) in
-    let value = is.value in
-    omega (arith, p, value)
-
-pub most-of : (slots : ℕ) → IsSlots slots → slots ≤ 2097152
-most-of slots is =
-    let p : 2 ^ is.doublings ≤ 2 ^ 17 = pow_mono {i = is.doublings} {j = 17} is.few in
-    let value = is.value in
-    omega (arith, p, value)
-
 few-doublings : (slots : ℕ) (is : IsSlots slots) → slots < most_slots → is.doublings + 1 ≤ 17
 few-doublings slots is small = elim (cases_lt is.doublings 17) as (λ _. is.doublings + 1 ≤ 17) [
   | inl less ↦ omega (arith, less)
@@ -90,7 +79,7 @@ module _ (rules : Rules) (d : Dict) (b : Blocks) (n : ℕ) (whole : IsWhole rule
   grows =
       let by = by_table (has_table d.method) (wanted d.slots d.count 1) n wants in
       let t = whole.stands.table.some (whole.table by.0) in
-      let some = some-slots d.slots t.slots_allowed in
+      let some = slots-least d.slots t.slots_allowed in
       doubles d.slots d.count n (λ e. let z = e in omega (arith, some, z)) by.1
 
   pub can-grow : CanGrow rules d b n
@@ -111,7 +100,7 @@ module _ (rules : Rules) (d : Dict) (b : Blocks) (n : ℕ) (whole : IsWhole rule
   no-more =
       let by = by_table (has_table d.method) (wanted d.slots d.count 1) n wants in
       let t = whole.stands.table.some (whole.table by.0) in
-      let some = some-slots d.slots t.slots_allowed in
+      let some = slots-least d.slots t.slots_allowed in
       let fits = t.enough grows.1 in
       let twice = grows.0 in
       let count = whole.stands.count in

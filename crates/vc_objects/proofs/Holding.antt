@@ -25,10 +25,10 @@ use Rattle.vc_objects.specs.Insert.{slots_wanted, with_object}
 use Rattle.vc_objects.specs.Lists.{first_with, linked}
 use Rattle.vc_objects.specs.Objects.{Object, owned}
 use Rattle.vc_objects.specs.Parts.{IsWhole, dictionary_of, object_of, table_of}
-use Rattle.vc_objects.proofs.Addresses.{all-objects, apart-holders, apart-owned, apart-table, each-object, objects-same}
 use Rattle.vc_objects.proofs.Adopting.{same-dictionary}
 use Rattle.vc_objects.proofs.Growing.{wanted-told}
-use Rattle.vc_objects.proofs.Mapped.{first_with-mapped, linked-mapped, none-mapped}
+use Rattle.vc_objects.proofs.Mapped.{first_with-mapped, linked-mapped, none-mapped, objects-kept}
+use Rattle.vc_objects.proofs.Owning.{all-objects, apart-holders, apart-owned, apart-table, each-object}
 
 -- a body that is written whole is read back
 body-written : (body bytes : List ℕ) → length body + 32 ≡ length bytes → drop 32 (with_bytes 32 body bytes) ≡ body
@@ -103,7 +103,7 @@ module _ (rules : Rules) (d0 : Dict) (B0 B1 B2 : Blocks) (at : ℕ) (bytes : Lis
   stands-put = Stands-own rules d0 B0 B2 hs (λ a some w. kept a (own-apart a w)) whole.stands
 
   objects-put : map (object_of B2) hs ≡ map (object_of B0) hs
-  objects-put = objects-same B0 B2 hs (λ a w. ap (λ o. body_of (unwrap_or o [])) (kept a (holder-apart a w)))
+  objects-put = objects-kept B0 B2 hs (λ a w. ap (λ o. body_of (unwrap_or o [])) (kept a (holder-apart a w)))
 
   holder : IsHolder B2 at
   holder =
@@ -154,7 +154,7 @@ module _ (rules : Rules) (d0 : Dict) (B0 B1 B2 : Blocks) (at : ℕ) (bytes : Lis
     objects-linked =
         let put_in : Object → List Object → List Object = linked append d0.method rules (some_address d0.current.0) in
         ap (map (object_of B3)) told
-        ∙ (objects-same B2 B3 ys body-kept
+        ∙ (objects-kept B2 B3 ys body-kept
         ∙ (sym (linked-mapped B2 append d0.method rules d0.current.0 at hs)
         ∙ (ap (λ o. put_in (record { at = at; bytes = o }) (map (object_of B2) hs)) object-put
         ∙ ap (put_in (record { at = at; bytes = bytes })) objects-put)))

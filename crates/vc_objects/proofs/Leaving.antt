@@ -5,13 +5,16 @@ use Rattle.std.proofs.lemmas.Bool.{cases_Bool, true≢false}
 use Rattle.vc_base.specs.Cells.{Blocks}
 use Rattle.vc_base.specs.Holders.{contains}
 use Rattle.vc_model.specs.Discipline.{Discipline, Served}
+use Rattle.vc_dtdisc.specs.Rules.{Rules}
+use Rattle.vc_dict.specs.declared.dict.Dict.{Dict}
 use Rattle.vc_region.specs.CellLaws.{cells-addresses}
 use Rattle.vc_region.specs.Cells.{StaysButCells, cells_in, labelled, rest_in}
 use Rattle.vc_region.specs.Parts.{disc_in, segments_in}
 use Rattle.vc_region.specs.declared.region.Region.{Region}
 use Rattle.vc_region.proofs.CellCalls.{stays-disc, stays-segments}
-use Rattle.vc_objects.specs.Leaves.{KeepsDisc, Leaves}
-use Rattle.vc_objects.specs.Objects.{is_best}
+use Rattle.vc_objects.specs.Leaves.{KeepsDisc, Leaves, LeavesRest}
+use Rattle.vc_objects.specs.Objects.{is_best, owned}
+use Rattle.vc_objects.specs.Parts.{IsWhole, dictionary_in}
 
 -- no cell stands at 0
 pub none-at : {I : Type 0} {V : I → Type 0} (r : Region I V) → cells_in r 0 ≡ None
@@ -51,6 +54,14 @@ module _ {I : Type 0} {V : I → Type 0} (meaning : (x : I) × V x → Disciplin
     labelled = ap labelled rest;
     others = λ a _ _. ap (λ (f : Blocks). f a) cells;
     fresh = λ a new old. absurd (true≢false (sym new ∙ (ap (λ xs. contains xs a) own ∙ old)));
+  }
+
+  -- nothing is done
+  pub leaves-self : (rules : Rules) (r : Region I V) (d : Dict) → is_best (rest_in r) ≡ true → IsWhole rules d (cells_in r) → LeavesRest meaning rules r d r d
+  leaves-self rules r d best whole = record {
+    whole = whole;
+    kind = refl;
+    rest = leaves-still r r (owned (dictionary_in d r)) (owned (dictionary_in d r)) best (keeps-same (disc_in meaning r) (disc_in meaning r) (segments_in r) (segments_in r) refl refl) refl refl refl;
   }
 
   -- one call after another, where the second lets go of nothing that the first took

@@ -1,7 +1,6 @@
 pub mod Unlabelled
 pub mod Mapped
 pub mod Owning
-pub mod Addresses
 pub mod Leaving
 pub mod Looking
 pub mod Behind

@@ -1,5 +1,5 @@
 -- What a dictionary stands for, and what a call that changes none of it leaves.
-use Rattle.std.proofs.Common.{◌≡◌, ◌≢◌, ℕ, List, [], ◌∷◌, ◌++◌, true, false, Option, Some, None, IsSome, map, refl, sym, ap, ◌∙◌, subst, inl, inr, arith}
+use Rattle.std.proofs.Common.{◌≡◌, ◌≢◌, ℕ, List, [], ◌∷◌, true, false, map, refl, sym, ap, ◌∙◌, subst, inl, inr}
 use Rattle.std.specs.List.{AllByRecursion}
 use Rattle.std.proofs.lemmas.Bool.{true≢false}
 use Rattle.std.proofs.lemmas.Bool.Decides.{eqb_tells}
@@ -14,15 +14,14 @@ use Rattle.vc_dict.specs.Methods.{has_table}
 use Rattle.vc_dict.specs.Stands.{Became, Stands}
 use Rattle.vc_dict.specs.declared.dict.Dict.{Dict}
 use Rattle.vc_dict.proofs.OwnLemmas.{holders-told, table-apart}
-use Rattle.vc_region.specs.CellLaws.{cells-addresses}
 use Rattle.vc_region.specs.Cells.{StaysButCells, cells_in, labelled, rest_in}
-use Rattle.vc_region.specs.Parts.{boxed, disc_in, region_of, segments_in}
-use Rattle.vc_region.specs.Region as model
+use Rattle.vc_region.specs.Parts.{boxed, disc_in, segments_in}
 use Rattle.vc_region.specs.declared.region.Region.{Region}
-use Rattle.vc_region.proofs.Rest.{rest-segments}
-use Rattle.vc_objects.specs.Leaves.{KeepsDisc, Looks}
+use Rattle.vc_region.proofs.CellCalls.{stays-segments}
+use Rattle.vc_objects.specs.Leaves.{Looks}
 use Rattle.vc_objects.specs.Objects.{Dictionary, Object, is_best, owned}
 use Rattle.vc_objects.specs.Parts.{IsWhole, dictionary_in, dictionary_of, object_of, table_of}
+use Rattle.vc_objects.proofs.Leaving.{keeps-same, none-at}
 use Rattle.vc_objects.proofs.Mapped.{addresses-mapped, objects-kept}
 use Rattle.vc_objects.proofs.Owning.{owned-within}
 
@@ -54,24 +53,6 @@ pub apart-table : (rules : Rules) (d : Dict) (b : Blocks) (xs : List ℕ) (a : �
 apart-table rules d b xs a s w =
     apart-cons d.table.0 [] a (λ e. true≢false (sym w ∙ ap (λ z. contains xs z) (sym e) ∙ table-apart rules d b xs s)) refl
 
--- no cell stands at 0
-none_by : (o : Option (List ℕ)) → (IsSome o → ⊥) → o ≡ None
-none_by None h = refl
-none_by (Some x) h = absurd (h refl)
-
-pub no-cell-zero : {I : Type 0} {V : I → Type 0} (r : Region I V) → cells_in r 0 ≡ None
-no-cell-zero r = none_by (cells_in r 0) (λ h. let some = (cells-addresses r 0 h).some in absurd (omega arith))
-
--- what stays but for cells has its segments and its discipline still
-pub segments-stay : {I : Type 0} {V : I → Type 0} (old new : Region I V) → rest_in new ≡ rest_in old → segments_in new ≡ segments_in old
-segments-stay old new e = sym (rest-segments (region_of new)) ∙ ap model.segments_of e ∙ rest-segments (region_of old)
-
-pub KeepsDisc-same : (old new : Discipline) (segments segments' : List (ℕ × ℕ)) → new ≡ old → segments' ≡ segments → KeepsDisc old new segments segments'
-KeepsDisc-same old new segments segments' e f = record {
-  kept = record { terms = ap (λ d. d.terms) e; faults = let h = ap (λ d. d.faults) e in omega arith };
-  out = λ rest h. ap (λ d. d.out) e ∙ h ∙ ap (λ z. rest ++ z) (sym f);
-}
-
 module _ {I : Type 0} {V : I → Type 0} (meaning : (x : I) × V x → Discipline) (rules : Rules) (before after : Region I V) (old new : Dict) (best : is_best (rest_in before) ≡ true) (whole : IsWhole rules old (cells_in before))
     (t : Became rules (holders_of old (cells_in before)) old (cells_in before) new (cells_in after) (holders_of old (cells_in before)) old.current.0) (stays : StaysButCells before after) where
   same-objects : map (object_of (cells_in after)) (holders_of old (cells_in before)) ≡ map (object_of (cells_in before)) (holders_of old (cells_in before))
@@ -96,7 +77,7 @@ module _ {I : Type 0} {V : I → Type 0} (meaning : (x : I) × V x → Disciplin
 
   others-stay : (a : ℕ) → contains (owned (dictionary_in old before)) a ≡ false → cells_in after a ≡ cells_in before a
   others-stay a apart = elim (eqb_tells a 0) as (λ _. cells_in after a ≡ cells_in before a) [
-    | inl zero ↦ ap (cells_in after) zero.1 ∙ no-cell-zero after ∙ sym (no-cell-zero before) ∙ ap (cells_in before) (sym zero.1)
+    | inl zero ↦ ap (cells_in after) zero.1 ∙ none-at after ∙ sym (none-at before) ∙ ap (cells_in before) (sym zero.1)
     | inr some ↦
         let xs = holders_of old (cells_in before) in
         let neither : contains (old.table.0 ∷ xs) a ≡ false = sym (owned-within old (cells_in before) a some.1) ∙ apart in
@@ -116,7 +97,7 @@ module _ {I : Type 0} {V : I → Type 0} (meaning : (x : I) × V x → Disciplin
           kind = t.kind;
           rest = record {
             best = ap is_best stays.region ∙ best;
-            disc = KeepsDisc-same (disc_in meaning before) (disc_in meaning after) (segments_in before) (segments_in after) disc (segments-stay before after stays.region);
+            disc = keeps-same (disc_in meaning before) (disc_in meaning after) (segments_in before) (segments_in after) disc (stays-segments before after stays);
             labelled = ap labelled stays.region;
             others = λ a apart _. others-stay a apart;
             fresh = λ a within apart. absurd (true≢false (sym within ∙ ap (λ d. contains (owned d) a) same-dictionary ∙ apart));

@@ -50,9 +50,6 @@ module _ {I : Type 0} {V : I → Type 0} (meaning : (x : I) × V x → Disciplin
     rest = leaves-still meaning r r' (owned (dictionary_in d r)) (owned (dictionary_in d r')) best disc rest cells (ap (λ b. owned (dictionary_of d b)) cells);
   }
 
-  pub leaves-same : (r : Region I V) → is_best (rest_in r) ≡ true → IsWhole rules d (cells_in r) → LeavesRest meaning rules r d r d
-  leaves-same r best whole = leaves-refused r r best whole (keeps-same (disc_in meaning r) (disc_in meaning r) (segments_in r) (segments_in r) refl refl) refl refl
-
   -- it was turned
   module _ (method : DictMethod) (d' : Dict) (r r1 r2 : Region I V) (t s : ℕ) (whole : IsWhole rules d (cells_in r)) (brought : BringsCell (slots_between d.method method d.count) (cells_in r) (cells_in r1) t s)
       (table : d'.table.0 ≡ (if has_table method && has_table d.method then d.table.0 else t))

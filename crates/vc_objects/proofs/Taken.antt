@@ -19,31 +19,27 @@ use Rattle.vc_dict.specs.Stands.{Became, Stands}
 use Rattle.vc_dict.specs.declared.dict.Dict.{Dict}
 use Rattle.vc_dict.proofs.CurrentLemmas.{current-removed}
 use Rattle.vc_dict.proofs.OwnLemmas.{Stands-own, holder-there, table-apart}
-use Rattle.vc_region.specs.Cells.{StaysButCells, cells_in, labelled, rest_in, without_cell}
+use Rattle.vc_region.specs.Cells.{StaysButCells, cells_in, labelled, rest_in}
 use Rattle.vc_region.specs.Parts.{boxed, disc_in, segments_in}
 use Rattle.vc_region.specs.Region as model
 use Rattle.vc_region.specs.declared.region.Region.{Region}
+use Rattle.vc_region.proofs.CellCalls.{stays-segments}
 use Rattle.vc_objects.specs.Freed.{FreesCell}
 use Rattle.vc_objects.specs.Insert.{freed}
 use Rattle.vc_objects.specs.Leaves.{GivesRemoved, LeavesRest}
 use Rattle.vc_objects.specs.Lists.{without_object}
-use Rattle.vc_objects.specs.Objects.{Dictionary, Object, Table, is_best, listed, owned}
+use Rattle.vc_objects.specs.Objects.{Dictionary, Object, Table, listed, owned}
 use Rattle.vc_objects.specs.Parts.{IsWhole, dictionary_in, object_of, table_of}
 use Rattle.vc_objects.specs.Remove.{remove_found}
-use Rattle.vc_objects.proofs.Looking.{IsWhole-told, KeepsDisc-same, apart-table, dictionary-same, dictionary-told, no-cell-zero, segments-stay}
+use Rattle.vc_objects.proofs.Leaving.{keeps-same, none-at}
+use Rattle.vc_objects.proofs.Looking.{IsWhole-told, apart-table, dictionary-same, dictionary-told}
 use Rattle.vc_objects.proofs.Mapped.{current_without-mapped, objects-kept, without_object-mapped}
-use Rattle.vc_objects.proofs.Owning.{owned-within}
+use Rattle.vc_objects.proofs.Owning.{each-object, owned-within}
+use Rattle.vc_objects.proofs.Unlabelled.{left-cell}
 
 -- two addresses of which one alone is in a list differ
 pub differs : (xs : List ℕ) (x a : ℕ) → contains xs x ≡ true → contains xs a ≡ false → x ≢ a
 differs xs x a h k e = true≢false (sym h ∙ ap (contains xs) e ∙ k)
-
--- the other cells
-pub left-cell : (c : Blocks) (x a : ℕ) → x ≢ a → without_cell x c a ≡ c a
-left-cell c x a ne = elim (eqb_tells a x) as (λ _. without_cell x c a ≡ c a) [
-  | inl same ↦ absurd (ne (sym same.1))
-  | inr apart ↦ rw apart.0 refl
-]
 
 -- a holder that goes is none of those that are left, which were there before
 gone-apart : (at : ℕ) (xs : List ℕ) → AreDistinct xs → contains (without at xs) at ≡ false
@@ -88,14 +84,6 @@ fewer-owned r d (Some o) a h =
     apart-append front (map (λ (o : Object). o.at) (without_object o.at d.objects)) a (apart-front front (map (λ (o : Object). o.at) d.objects) a h)
     (apart-objects o.at d.objects a (apart-rest front (map (λ (o : Object). o.at) d.objects) a h))
 
--- a holder of a whole dictionary has an object
-pub object-of-all : (b : Blocks) (xs : List ℕ) (a : ℕ) → contains xs a ≡ true → AllByRecursion (λ o. IsObject o.bytes) (map (object_of b) xs) → IsObject (object_at b a)
-object-of-all b [] a h all = absurd (true≢false (sym h))
-object-of-all b (x ∷ xs) a h all = elim (eqb_tells x a) as (λ _. IsObject (object_at b a)) [
-  | inl same ↦ subst (λ z. IsObject (object_at b z)) same.1 all.0
-  | inr apart ↦ object-of-all b xs a (rw apart.0 at h) all.1
-]
-
 -- a holder was taken out
 module _ {I : Type 0} {V : I → Type 0} (rules : Rules) (before mid : Region I V) (old new : Dict) (at : ℕ) (whole : IsWhole rules old (cells_in before)) (within : contains (holders_of old (cells_in before)) at ≡ true)
     (became : Became rules (holders_of old (cells_in before)) old (cells_in before) new (cells_in mid) (without at (holders_of old (cells_in before)))
@@ -106,7 +94,7 @@ module _ {I : Type 0} {V : I → Type 0} (rules : Rules) (before mid : Region I 
 
   pub object-small : IsObject (object_at (cells_in mid) at)
   object-small =
-      subst (λ z. IsObject z) (sym object-stays) (object-of-all (cells_in before) (holders_of old (cells_in before)) at within whole.objects)
+      subst (λ z. IsObject z) (sym object-stays) (each-object IsObject (cells_in before) (holders_of old (cells_in before)) whole.objects at within)
 
   pub holder-stays : IsHolder (cells_in mid) at
   holder-stays =
@@ -167,7 +155,7 @@ module _ {I : Type 0} {V : I → Type 0} (rules : Rules) (before mid : Region I 
 
     others-after : (a : ℕ) → contains (owned (dictionary_in old before)) a ≡ false → cells_in after a ≡ cells_in before a
     others-after a apart_own = elim (eqb_tells a 0) as (λ _. cells_in after a ≡ cells_in before a) [
-      | inl zero ↦ ap (cells_in after) zero.1 ∙ no-cell-zero after ∙ sym (no-cell-zero before) ∙ ap (cells_in before) (sym zero.1)
+      | inl zero ↦ ap (cells_in after) zero.1 ∙ none-at after ∙ sym (none-at before) ∙ ap (cells_in before) (sym zero.1)
       | inr some ↦
           let xs = holders_of old (cells_in before) in
           let apart : contains (old.table.0 ∷ xs) a ≡ false = sym (owned-within old (cells_in before) a some.1) ∙ apart_own in
@@ -181,7 +169,7 @@ module _ {I : Type 0} {V : I → Type 0} (rules : Rules) (before mid : Region I 
       kind = became.kind;
       rest = record {
         best = free.best;
-        disc = KeepsDisc-same (disc_in meaning before) (disc_in meaning after) (segments_in before) (segments_in after) (free.disc ∙ ap (boxed meaning) stays.disc) (free.segments ∙ segments-stay before mid stays.region);
+        disc = keeps-same (disc_in meaning before) (disc_in meaning after) (segments_in before) (segments_in after) (free.disc ∙ ap (boxed meaning) stays.disc) (free.segments ∙ stays-segments before mid stays);
         labelled = free.labelled ∙ ap labelled stays.region;
         others = λ a old_apart _. others-after a old_apart;
         fresh = λ a new_within old_apart.
@@ -204,20 +192,6 @@ module _ {I : Type 0} {V : I → Type 0} (rules : Rules) (before mid : Region I 
 -- none was asked for
 pub gives-none : (r r' : model.Region ℕ) (d d' : Dictionary) (o : Option Object) → o ≡ None → r' ≡ r → d' ≡ d → GivesRemoved (remove_found r d o) r' d' None
 gives-none r r' d d' o e f h = subst (λ z. GivesRemoved (remove_found r d z) r' d' None) (sym e) (record { region = sym f; dict = sym h; gone = refl })
-
--- nothing is done
-pub leaves-self : {I : Type 0} {V : I → Type 0} (meaning : (x : I) × V x → Discipline) (rules : Rules) (r : Region I V) (d : Dict) → is_best (rest_in r) ≡ true → IsWhole rules d (cells_in r) → LeavesRest meaning rules r d r d
-leaves-self meaning rules r d best whole = record {
-  whole = whole;
-  kind = refl;
-  rest = record {
-    best = best;
-    disc = KeepsDisc-same (disc_in meaning r) (disc_in meaning r) (segments_in r) (segments_in r) refl refl;
-    labelled = refl;
-    others = λ a _ _. refl;
-    fresh = λ a new_within old_apart. absurd (true≢false (sym new_within ∙ old_apart));
-  };
-}
 
 -- the first holder is one of them
 pub first-within : (xs : List ℕ) (at : ℕ) → Some at ≡ first_in xs → contains xs at ≡ true

@@ -27,9 +27,9 @@ use Rattle.vc_objects.specs.Objects.{Dictionary, Object, Table}
 use Rattle.vc_objects.specs.Parts.{IsWhole, dictionary_of, object_of, table_of}
 use Rattle.vc_objects.specs.Turn.{dropped_by, kept_by, objects_dropped, ordered_by, table_left, turned_to}
 use Rattle.vc_objects.specs.Turning.{CanTurn, HasDropped}
-use Rattle.vc_objects.proofs.Addresses.{all-objects, each-object}
 use Rattle.vc_objects.proofs.Mapped.{dropped_by-mapped, kept_by-mapped, objects-kept, ordered_by-mapped}
 use Rattle.vc_objects.proofs.Parted.{apart-drops, apart-keeps, distinct-drops, drops, keeps, keeps-apart, length-parted, within-drops, within-keeps}
+use Rattle.vc_objects.proofs.Owning.{all-objects, each-object}
 
 -- by the truth of tests on the methods
 apart_by : (u : Bool) (xs : List ℕ) (x y : ℕ) → contains xs x ≡ false → contains xs y ≡ false → contains xs (if u then x else y) ≡ false

@@ -1,9 +1,10 @@
 -- Unlabelled blocks of a best region: what putting one does, and freeing one.
-use Rattle.std.proofs.Common.{◌≡◌, ℕ, ◌<◌, true, false, List, Option, Some, None, length, option_map, refl, sym, ap, ◌∙◌, replicate}
+use Rattle.std.proofs.Common.{◌≡◌, ◌≢◌, ℕ, ◌<◌, true, false, List, Option, Some, None, length, option_map, refl, sym, ap, ◌∙◌, inl, inr, replicate}
 use Rattle.std.specs.Prelude.{IfOk, IsErrOf, IsSome, OnOk, Result, Ok, Err}
 use Rattle.std.specs.List.{HoldsAt, remove}
 use Rattle.std.proofs.lemmas.Bool.{eqb-true, true≢false}
-use Rattle.vc_base.specs.Cells.{put}
+use Rattle.std.proofs.lemmas.Bool.Decides.{eqb_tells}
+use Rattle.vc_base.specs.Cells.{Blocks, put}
 use Rattle.vc_base.specs.declared.addr.Addr.{Addr}
 use Rattle.vc_model.specs.Addr.{place_of}
 use Rattle.vc_model.specs.Best.{zeros}
@@ -102,6 +103,13 @@ none-refused o q code.Fixed d e = absurd (refused-done d e)
 none-refused o q code.PoolSize d e = absurd (refused-done d e)
 none-refused o q code.NotLast d e = absurd (refused-done d e)
 none-refused o q code.WrongMethod d e = absurd (refused-done d e)
+
+-- the other cells stay
+pub left-cell : (c : Blocks) (x a : ℕ) → x ≢ a → without_cell x c a ≡ c a
+left-cell c x a ne = elim (eqb_tells a x) as (λ _. without_cell x c a ≡ c a) [
+  | inl same ↦ absurd (ne (sym same.1))
+  | inr apart ↦ rw apart.0 refl
+]
 
 -- an unlabelled block of one is freed
 module _ (r r' : Region ℕ) (a : ℕ) (best : is_best (rest_of r) ≡ true) where

@@ -1,5 +1,5 @@
 // Taking objects out of a dictionary.
-ghost use Rattle.std.specs.Prelude.{◌≡◌, ◌≤◌, [], Some, None, true, length, if◌then◌else◌};
+ghost use Rattle.std.specs.Prelude.{◌≡◌, ◌≤◌, [], Some, None, true, false, length, if◌then◌else◌};
 ghost use Rattle.std.specs.Vec.{vec_capacity};
 ghost use Rattle.vc_base.specs.Cells.{IsHolder};
 ghost use Rattle.vc_dtdisc.specs.Finds.{object_at};
@@ -75,6 +75,7 @@ pub fn remove<D: DictDisc, L>(
     ensures rules { D.rules kind.new ≡ D.rules kind.old }
     ensures gone { D.gone kind.new ≡ told_if tells
         (if result then Some out.new.items else None) (D.gone kind.old) }
+    ensures nothing { result ≡ false → out.new.items ≡ [] }
 {
     match dict.unlink(region, kind, key, steps) {
         Some(at) => {
@@ -106,6 +107,7 @@ fn remove_first<D: DictDisc>(
     ensures rules { D.rules kind.new ≡ D.rules kind.old }
     ensures gone { D.gone kind.new ≡ told_if true
         (if result then Some out.new.items else None) (D.gone kind.old) }
+    ensures nothing { result ≡ false → out.new.items ≡ [] }
 {
     match dict.take_first(region, kind) {
         Some(at) => {
@@ -137,6 +139,7 @@ pub fn remove_unnamed<D: DictDisc>(
     ensures rules { D.rules kind.new ≡ D.rules kind.old }
     ensures gone { D.gone kind.new ≡ told_if true
         (if result then Some out.new.items else None) (D.gone kind.old) }
+    ensures nothing { result ≡ false → out.new.items ≡ [] }
 {
     match dict.method {
         DictMethod::DtStack | DictMethod::DtQueue => remove_first(region, dict, kind, out),

@@ -30,3 +30,48 @@ pub fn bag_to_set()
         ≡ codes "r open\nd open\nnew a\nnew a\nout a\n1\nnew b\nd method set\n2 a b\n"
         ++ codes "d method set\nd empty 2\nblocks 1 *@1:32+128\n" }
 {}
+
+/// An ordered set stands in the order of its keys, and keeps the object that another one matches.
+pub fn ordered_set_of_fruit()
+    ensures { text_of (run with_kinds (script Dtrun
+        (codes "open r best 1\ndict d oset r 1\ninsert d pear\ninsert d apple\ninsert d pear\n"
+        ++ codes "walk d\n")) [])
+        ≡ codes "r open\nd open\nnew pear\nnew apple\nold pear\n2 apple pear\n" }
+{}
+
+/// An ordered bag without regard to the case of letters: those that match stand in the order of coming, and the first goes.
+pub fn ordered_bag_without_case()
+    ensures { text_of (run with_kinds (script Dtrun
+        (codes "open r best 1\ndict d obag r 3\ninsert d b\ninsert d A\ninsert d B\nwalk d\n"
+        ++ codes "delete d b\nwalk d\n")) [])
+        ≡ codes "r open\nd open\nnew b\nnew A\nnew B\n3 A b B\ngone b\n2 A B\n" }
+{}
+
+/// Of a stack and of a queue the first object goes where none is named, and of a set none.
+pub fn unnamed_deletes()
+    ensures { text_of (run with_kinds (script Dtrun
+        (codes "open r best 1\ndict s stack r 1\ninsert s a\ninsert s b\ninsert s c\nwalk s\n"
+        ++ codes "delete s\ndict q queue r 1\ninsert q a\ninsert q b\nwalk q\ndelete q\n"
+        ++ codes "dict t set r 1\ninsert t a\ndelete t\n")) [])
+        ≡ codes "r open\ns open\nnew a\nnew b\nnew c\n3 c b a\ngone c\nq open\nnew a\nnew b\n"
+        ++ codes "2 a b\ngone a\nt open\nnew a\nnone\n" }
+{}
+
+/// A bag becomes an ordered set without the later of two that match, and that a stack in its order.
+pub fn bag_to_stack()
+    ensures { text_of (run with_kinds (script Dtrun
+        (codes "open r best 1\ndict d bag r 3\ninsert d b\ninsert d B\ninsert d a\n"
+        ++ codes "method d oset\nwalk d\nmethod d stack\ninsert d z\nwalk d\n")) [])
+        ≡ codes "r open\nd open\nnew b\nnew B\nnew a\nd method oset\n2 a b\nd method stack\n"
+        ++ codes "new z\n3 z a b\n" }
+{}
+
+/// A text ends at a zero byte; a clip has eight bytes where it is made, and all of them where it is attached.
+pub fn text_and_clip()
+    ensures { text_of (run with_kinds (script Dtrun
+        (codes "open r best 1\ndict d set r 2\ninsert d a%00x\ninsert d a%00y\n"
+        ++ codes "dict c set r 6\ninsert c abcdefghij\nattach c abcdefghij\ndelete c abcdefgh\n"
+        ++ codes "attach c abcdefghij\nmatch c abcdefgh\nmatch c abcdefghij\n")) [])
+        ≡ codes "r open\nd open\nnew a%00x\nold a%00x\nc open\nnew abcdefgh\nold abcdefgh\n"
+        ++ codes "gone abcdefgh\nnew abcdefghij\nfound abcdefghij\nnone\n" }
+{}

@@ -4,7 +4,7 @@ use Rattle.vc_region.specs.Cells.{rest_in}
 use Rattle.vc_region.specs.Parts.{disc_in}
 use Rattle.vc_objects.specs.Parts.{dictionary_in}
 use Rattle.vc_objects.specs.Remove.{bytes_of}
-use Rattle.vc_objects.proofs.Remains.{leaves-same}
+use Rattle.vc_objects.proofs.Leaving.{leaves-self}
 use Rattle.vc_script.specs.Needs.{NoNeed}
 use Rattle.vc_commands.specs.Run.{IsSpent, seat_in}
 use Rattle.vc_commands.proofs.Ran.{append-asked, asking, other-told, spent-none, spent-put, spent-still, spent-told, unasked, unneeded, walk-asked, walk-told}
@@ -176,7 +176,7 @@ returns-in-Walk-clause-step g c =
 
 pub returns-in-Walk-clause-leaves : goal.returns-in-Walk-clause-leaves
 returns-in-Walk-clause-leaves g c =
-    leaves-same (λ z. (goal.SegDisc-dyn g z).state z.1) (g.D.DictDisc.rules c.args.kind.now) c.args.dict.now c.args.region.now c.requires.best c.requires.whole
+    leaves-self (λ z. (goal.SegDisc-dyn g z).state z.1) (g.D.DictDisc.rules c.args.kind.now) c.args.region.now c.args.dict.now c.requires.best c.requires.whole
 
 pub returns-in-Walk-clause-asked : goal.returns-in-Walk-clause-asked
 returns-in-Walk-clause-asked g c =
@@ -192,7 +192,7 @@ returns-in-Count-clause-step g c =
 
 pub returns-in-Count-clause-leaves : goal.returns-in-Count-clause-leaves
 returns-in-Count-clause-leaves g c =
-    leaves-same (λ z. (goal.SegDisc-dyn g z).state z.1) (g.D.DictDisc.rules c.args.kind.now) c.args.dict.now c.args.region.now c.requires.best c.requires.whole
+    leaves-self (λ z. (goal.SegDisc-dyn g z).state z.1) (g.D.DictDisc.rules c.args.kind.now) c.args.region.now c.args.dict.now c.requires.best c.requires.whole
 
 pub returns-in-Count-clause-asked : goal.returns-in-Count-clause-asked
 returns-in-Count-clause-asked g c =
@@ -212,7 +212,7 @@ returns-in_default g c =
     c.in_default.not-Insert c.in_default.not-Append c.in_default.not-Attach c.in_default.not-Delete c.in_default.not-Detach c.in_default.not-Search c.in_default.not-MatchKey c.in_default.not-First c.in_default.not-Last c.in_default.not-Next c.in_default.not-Prev c.in_default.not-Walk c.in_default.not-Count c.in_default.not-Remethod c.in_default.not-Empty in
     record {
       step = rw told (record { region = refl; dict = refl; reply = refl; told = refl });
-      leaves = leaves-same (λ z. (goal.SegDisc-dyn g z).state z.1) (g.D.DictDisc.rules c.args.kind.now) c.args.dict.now c.args.region.now c.requires.best c.requires.whole;
+      leaves = leaves-self (λ z. (goal.SegDisc-dyn g z).state z.1) (g.D.DictDisc.rules c.args.kind.now) c.args.region.now c.args.dict.now c.requires.best c.requires.whole;
       rules = refl;
       asked = refl;
       disc = λ _. refl;

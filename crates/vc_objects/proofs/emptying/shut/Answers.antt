@@ -1,11 +1,12 @@
-use Rattle.std.proofs.Common.{◌≡◌, ◌≢◌, ℕ, [], false, refl, sym, ap, ◌∙◌, subst}
+use Rattle.std.proofs.Common.{◌≡◌, ◌≢◌, ℕ, [], false, sym, ap, ◌∙◌, subst}
 use Rattle.std.specs.Prelude.{◌==◌, not}
 use Rattle.std.proofs.lemmas.Bool.{true≢false}
 use Rattle.vc_base.specs.Holders.{contains}
 use Rattle.vc_objects.specs.Freed.{FreesCell}
 use Rattle.vc_objects.specs.Objects.{Dictionary, owned}
 use Rattle.vc_objects.specs.Parts.{dictionary_in}
-use Rattle.vc_objects.proofs.Emptied.{emptied-fewer, leaves-after, leaves-none, leaves-table}
+use Rattle.vc_objects.proofs.Emptied.{emptied-fewer, leaves-none, leaves-table}
+use Rattle.vc_objects.proofs.Leaving.{leaves-trans}
 use Rattle.vc_objects.proofs.emptying.shut.Goals as goal
 
 pub returns-then-ne-clause-leaves : goal.returns-then-ne-clause-leaves
@@ -24,10 +25,10 @@ returns-then-ne-clause-leaves g c =
       cells = c.free_cell.ensures.cells;
       labelled = c.free_cell.ensures.labelled;
     } in
-    leaves-after (λ z. (goal.SegDisc-dyn g z).state z.1) c.args.region.now c.empty.new.region c.free_cell.new.region mine left [] c.empty.ensures.leaves.rest
+    leaves-trans (λ z. (goal.SegDisc-dyn g z).state z.1) c.args.region.now c.empty.new.region c.free_cell.new.region mine left [] c.empty.ensures.leaves.rest
     (leaves-table (λ z. (goal.SegDisc-dyn g z).state z.1) c.empty.new.region c.free_cell.new.region c.empty.new.dict some
     (subst (λ t. FreesCell (λ z. (goal.SegDisc-dyn g z).state z.1) c.empty.new.region t.0 c.free_cell.new.region) c.table-table.ensures free))
-    fewer (λ a _. refl)
+    (λ a apart _. fewer a apart)
 
 pub returns-else-ne-clause-leaves : goal.returns-else-ne-clause-leaves
 returns-else-ne-clause-leaves g c =
@@ -35,5 +36,5 @@ returns-else-ne-clause-leaves g c =
     let left = owned (dictionary_in c.empty.new.dict c.empty.new.region) in
     let fewer : (a : ℕ) → contains mine a ≡ false → contains left a ≡ false =
     λ a h. ap (λ (d : Dictionary). contains (owned d) a) c.empty.ensures.dict ∙ emptied-fewer (dictionary_in c.args.dict c.args.region.now) a h in
-    leaves-after (λ z. (goal.SegDisc-dyn g z).state z.1) c.args.region.now c.empty.new.region c.empty.new.region mine left [] c.empty.ensures.leaves.rest
-    (leaves-none (λ z. (goal.SegDisc-dyn g z).state z.1) c.empty.new.region left c.empty.ensures.leaves.rest.best) fewer (λ a _. refl)
+    leaves-trans (λ z. (goal.SegDisc-dyn g z).state z.1) c.args.region.now c.empty.new.region c.empty.new.region mine left [] c.empty.ensures.leaves.rest
+    (leaves-none (λ z. (goal.SegDisc-dyn g z).state z.1) c.empty.new.region left c.empty.ensures.leaves.rest.best) (λ a apart _. fewer a apart)

@@ -12,15 +12,15 @@ use Rattle.vc_objects.specs.Objects.{owned, table_size}
 use Rattle.vc_objects.specs.Parts.{dictionary_in, table_of}
 use Rattle.vc_objects.proofs.Adopting.{can-adopt, dictionary-grown, fresh-grown, old-there, others-grown, stands-placed, whole-grown}
 use Rattle.vc_objects.proofs.Answering.{asked-block, grown-put}
-use Rattle.vc_objects.proofs.Growing.{most-of}
+use Rattle.vc_objects.proofs.Doubling.{slots-most}
 use Rattle.vc_objects.proofs.Leaving.{leaves-put, none-at}
 use Rattle.vc_objects.proofs.tables.put_table.Goals as goal
 
 pub overflow_mul-slots : goal.overflow_mul-slots
-overflow_mul-slots g c = let most = most-of c.args.slots c.requires.grows.allowed in omega (arith, most)
+overflow_mul-slots g c = let most = slots-most c.args.slots c.requires.grows.allowed in omega (arith, most)
 
 pub alloc_cell-requires-clause-most : goal.alloc_cell-requires-clause-most
-alloc_cell-requires-clause-most g c = let most = most-of c.args.slots c.requires.grows.allowed in omega (arith, most)
+alloc_cell-requires-clause-most g c = let most = slots-most c.args.slots c.requires.grows.allowed in omega (arith, most)
 
 pub adopt_table-old-requires : goal.adopt_table-old-requires
 adopt_table-old-requires g c =

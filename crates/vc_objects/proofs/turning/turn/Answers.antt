@@ -4,7 +4,7 @@ use Rattle.vc_region.specs.Cells.{rest_in}
 use Rattle.vc_region.specs.Parts.{disc_in}
 use Rattle.vc_objects.specs.Parts.{dictionary_in}
 use Rattle.vc_objects.proofs.Brought.{gives-same}
-use Rattle.vc_objects.proofs.Remains.{leaves-same}
+use Rattle.vc_objects.proofs.Leaving.{leaves-self}
 use Rattle.vc_objects.proofs.turning.turn.Goals as goal
 
 pub returns-then-eq-clause-ok : goal.returns-then-eq-clause-ok
@@ -15,4 +15,4 @@ returns-then-eq-clause-ok g c =
 
 pub returns-then-eq-clause-leaves : goal.returns-then-eq-clause-leaves
 returns-then-eq-clause-leaves g c =
-    leaves-same (λ z. (goal.SegDisc-dyn g z).state z.1) (g.D.DictDisc.rules c.args.kind.now) c.args.dict.now c.args.region.now c.requires.best c.requires.whole
+    leaves-self (λ z. (goal.SegDisc-dyn g z).state z.1) (g.D.DictDisc.rules c.args.kind.now) c.args.region.now c.args.dict.now c.requires.best c.requires.whole
