@@ -1,5 +1,5 @@
 // Where blocks are placed, and what can be read and written of them.
-use crate::given::{fine, put_number, replies};
+use crate::given::{Talk, fine, put_number, replies};
 use std::alloc::AllocError;
 use std::test::Fail;
 
@@ -78,63 +78,70 @@ fn edges(rt: HostRuntime) -> Result<(), Fail> {
 #[test]
 fn long_reads(rt: HostRuntime) -> Result<(), Fail> {
     let alloc = rt.alloc();
-    let script =
-        b"open r best 1\nalloc r b 5000\nread r b 904 4096\nread r b 905 4096\nread r b 0 4096\n";
     let zeros = Vec::from_elem(alloc, b'0', 8192)?;
-    let mut out = b"r open\nb 1:32\nb ".to_vec(alloc)?;
-    out.extend_from_slice(zeros.as_slice())?;
-    out.extend_from_slice(b"\nrefused: range\nb ")?;
-    out.extend_from_slice(zeros.as_slice())?;
-    out.push(b'\n')?;
-    replies(&rt, alloc, &[], script, fine(out.as_slice()))?;
+    let mut talk = Talk::new(alloc);
+    talk.say(
+        b"open r best 1\nalloc r b 5000\nread r b 904 4096\n",
+        b"r open\nb 1:32\nb ",
+    )?;
+    talk.say(b"read r b 905 4096\n", zeros.as_slice())?;
+    talk.say(b"read r b 0 4096\n", b"\nrefused: range\nb ")?;
+    talk.say(b"", zeros.as_slice())?;
+    talk.say(b"", b"\n")?;
+    replies(
+        &rt,
+        alloc,
+        &[],
+        talk.script.as_slice(),
+        fine(talk.out.as_slice()),
+    )?;
     Ok(())
 }
 
-fn asked(script: &mut Vec<u8>, name: u8, size: u32, align: u32) -> Result<(), AllocError> {
-    script.extend_from_slice(b"align r ")?;
-    script.push(name)?;
-    script.push(b' ')?;
-    put_number(script, size)?;
-    script.push(b' ')?;
-    put_number(script, align)?;
-    script.push(b'\n')?;
-    Ok(())
+// Asks for a block at an alignment, and tells where it is placed.
+fn placed(talk: &mut Talk, name: &[u8], size: u32, align: u32, off: u32) -> Result<(), AllocError> {
+    talk.say(b"align r ", name)?;
+    talk.say(name, b" 1:")?;
+    talk.script.push(b' ')?;
+    put_number(&mut talk.script, size)?;
+    talk.script.push(b' ')?;
+    put_number(&mut talk.script, align)?;
+    put_number(&mut talk.out, off)?;
+    talk.say(b"\n", b"\n")
 }
 
-fn placed(out: &mut Vec<u8>, name: u8, off: u32) -> Result<(), AllocError> {
-    out.push(name)?;
-    out.extend_from_slice(b" 1:")?;
-    put_number(out, off)?;
-    out.push(b'\n')?;
-    Ok(())
+// Three blocks at the first three offsets that an alignment divides, of which the middle one is freed.
+fn three_placed(talk: &mut Talk, align: u32) -> Result<(), AllocError> {
+    talk.say(
+        b"open r best 1\nalloc r big 30000\nfree r big\n",
+        b"r open\nbig 1:32\nbig freed\n",
+    )?;
+    for (name, times) in [(b"p", 1), (b"q", 2), (b"w", 3)] {
+        placed(talk, name, 16, align, align.wrapping_mul(times))?;
+    }
+    talk.say(b"free r q\n", b"q freed\n")
 }
 
-// Each alignment, in a segment of 32,768 bytes: three blocks at the first three offsets that it divides, of which the
-// middle one is freed. The gap that it leaves holds a block at its offset up to the third block, and no greater one, which
-// goes behind that.
+// Each alignment, in a segment of 32,768 bytes. The gap that the freed block leaves holds a block at its offset up to the
+// third block, and no greater one, which goes behind that.
 #[test]
 fn alignments(rt: HostRuntime) -> Result<(), Fail> {
     let alloc = rt.alloc();
-    for align in [32, 64, 128, 256, 512, 1024, 2048, 4096] {
-        assert!(rt; 32 <= align);
-        assert!(rt; align <= 4096);
-        let mut script = b"open r best 1\nalloc r big 30000\nfree r big\n".to_vec(alloc)?;
-        let mut out = b"r open\nbig 1:32\nbig freed\n".to_vec(alloc)?;
-        asked(&mut script, b'p', 16, align)?;
-        placed(&mut out, b'p', align)?;
-        asked(&mut script, b'q', 16, align)?;
-        placed(&mut out, b'q', 2 * align)?;
-        asked(&mut script, b'w', 16, align)?;
-        placed(&mut out, b'w', 3 * align)?;
-        script.extend_from_slice(b"free r q\n")?;
-        out.extend_from_slice(b"q freed\n")?;
-        asked(&mut script, b'a', align - 16, align)?;
-        placed(&mut out, b'a', 2 * align)?;
-        script.extend_from_slice(b"free r a\n")?;
-        out.extend_from_slice(b"a freed\n")?;
-        asked(&mut script, b'b', align - 15, align)?;
-        placed(&mut out, b'b', 4 * align)?;
-        replies(&rt, alloc, &[], script.as_slice(), fine(out.as_slice()))?;
+    for align in [32u32, 64, 128, 256, 512, 1024, 2048, 4096] {
+        let mut talk = Talk::new(alloc);
+        three_placed(&mut talk, align)?;
+        let fits = align.wrapping_sub(16);
+        placed(&mut talk, b"a", fits, align, align.wrapping_mul(2))?;
+        talk.say(b"free r a\n", b"a freed\n")?;
+        let larger = align.wrapping_sub(15);
+        placed(&mut talk, b"b", larger, align, align.wrapping_mul(4))?;
+        replies(
+            &rt,
+            alloc,
+            &[],
+            talk.script.as_slice(),
+            fine(talk.out.as_slice()),
+        )?;
     }
     Ok(())
 }

@@ -1,12 +1,8 @@
 // Scripts over dictionaries through the top call of dtrun.
-use crate::given::{Ran, ample, fine, is_run, sink};
+use crate::given::run_dicts;
 use std::alloc::{AllocError, Global};
 use std::process::Abort;
 use std::test::Fail;
-use vc_base::{MemSource, Sink};
-use vc_dtdisc::{BuiltIn, Shape};
-use vc_seg::{FuseDisc, Shelf};
-use vc_session::dtrun;
 
 // A script over disciplines that refuse these lends, and its replies.
 struct Row {
@@ -402,75 +398,23 @@ const TURNS: &[Turn] = &[
     },
 ];
 
-// One kind of each shape.
-fn kinds(alloc: Global) -> Result<Vec<BuiltIn>, AllocError> {
-    let mut kinds = Vec::new(alloc);
-    kinds.push(BuiltIn::new(Shape::Whole))?;
-    kinds.push(BuiltIn::new(Shape::Text { off: 0 }))?;
-    kinds.push(BuiltIn::new(Shape::Fold))?;
-    kinds.push(BuiltIn::new(Shape::Reverse))?;
-    kinds.push(BuiltIn::new(Shape::Field { off: 0, size: 4 }))?;
-    kinds.push(BuiltIn::new(Shape::Clip { n: 8 }))?;
-    Ok(kinds)
-}
-
-// Runs a script over two disciplines that round to 4,096 bytes and refuse these lends.
-fn run_dicts(
-    rt: &impl Abort,
-    alloc: Global,
-    lends: &[u64],
-    script: &[u8],
-) -> Result<Ran, AllocError> {
-    let mut shelf = Shelf::new(alloc);
-    for _ in 0..2 {
-        assert!(rt; shelf.len() < 2);
-        let disc = FuseDisc::new(4096, lends.to_vec(alloc)?);
-        assert!(rt; shelf.put(Box::new(alloc, disc)?).is_ok());
-    }
-    let given = ample(script, 4096);
-    let mut kinds = kinds(alloc)?;
-    let mut source = MemSource::new(given.script.to_vec(alloc)?, 4096, Vec::new(alloc));
-    let mut out = sink(alloc, given.room, 4096, &[])?;
-    let mut err = sink(alloc, 100, 4096, &[])?;
-    let words = Vec::new(alloc);
-    let status = dtrun(
-        alloc,
-        words.as_slice(),
-        &mut shelf,
-        &mut kinds,
-        &mut source,
-        &mut out,
-        &mut err,
-    );
-    Ok(Ran {
-        status,
-        out: out.bytes().to_vec(alloc)?,
-        err: err.bytes().to_vec(alloc)?,
-    })
-}
-
 #[test]
 fn rows(rt: HostRuntime) -> Result<(), Fail> {
-    let alloc = rt.alloc();
     for row in ROWS {
-        let ran = run_dicts(&rt, alloc, row.lends, row.script)?;
-        is_run(&rt, &ran, fine(row.out));
+        let out = run_dicts(&rt, rt.alloc(), row.lends, row.script)?;
+        assert_eq!(rt; out.as_slice(), row.out);
     }
     Ok(())
 }
 
 // Puts three objects, turns the dictionary, and walks it.
-fn put_turn(
-    script: &mut Vec<u8>,
-    turn: &Turn,
-    objects: [&'static [u8]; 3],
-) -> Result<(), AllocError> {
+fn put_turn(script: &mut Vec<u8>, turn: &Turn, objects: &[u8]) -> Result<(), AllocError> {
     script.extend_from_slice(b"open r best 1\ndict d ")?;
     script.extend_from_slice(turn.from)?;
     script.extend_from_slice(b" r 3\n")?;
     for object in objects {
         script.extend_from_slice(b"insert d ")?;
-        script.extend_from_slice(object)?;
+        script.push(*object)?;
         script.push(b'\n')?;
     }
     script.extend_from_slice(b"method d ")?;
@@ -486,19 +430,27 @@ fn ends_with_line(out: &[u8], line: &[u8]) -> bool {
     }
 }
 
+// One change, of which the walk is that line.
+fn turned(
+    rt: &impl Abort,
+    alloc: Global,
+    turn: &Turn,
+    objects: &[u8],
+    line: &[u8],
+) -> Result<(), AllocError> {
+    let mut script = Vec::new(alloc);
+    put_turn(&mut script, turn, objects)?;
+    let out = run_dicts(rt, alloc, &[], script.as_slice())?;
+    assert!(rt; ends_with_line(out.as_slice(), line));
+    Ok(())
+}
+
 // Every change of one method to another, with objects that match and without.
 #[test]
 fn turns(rt: HostRuntime) -> Result<(), Fail> {
-    let alloc = rt.alloc();
     for turn in TURNS {
-        let mut script = Vec::new(alloc);
-        put_turn(&mut script, turn, [b"b", b"B", b"a"])?;
-        let ran = run_dicts(&rt, alloc, &[], script.as_slice())?;
-        assert!(rt; ends_with_line(ran.out.as_slice(), turn.equals));
-        script.clear();
-        put_turn(&mut script, turn, [b"b", b"c", b"a"])?;
-        let ran = run_dicts(&rt, alloc, &[], script.as_slice())?;
-        assert!(rt; ends_with_line(ran.out.as_slice(), turn.apart));
+        turned(&rt, rt.alloc(), turn, b"bBa", turn.equals)?;
+        turned(&rt, rt.alloc(), turn, b"bca", turn.apart)?;
     }
     Ok(())
 }

@@ -1,12 +1,11 @@
-// What a script through the top call is given, and what comes out.
-ghost use Rattle.std.specs.Prelude.{◌≡◌, ◌≤◌};
-
+// What a script through the top calls is given, and what comes out.
 use itoa::Buffer;
 use std::alloc::{AllocError, Global};
 use std::process::Abort;
 use vc_base::{MemSink, MemSource, Sink, Source};
-use vc_seg::{FuseDisc, Shelf};
-use vc_session::{Status, replay};
+use vc_dtdisc::{BuiltIn, DictDisc, Shape};
+use vc_seg::{FuseDisc, SegDisc, Shelf};
+use vc_session::{Status, dtrun, replay};
 
 // What a script is given: it comes in pieces, some reads and writes fail, by their numbers from 1 on, and there's room for
 // so many bytes of replies.
@@ -21,9 +20,7 @@ pub(crate) struct Given<'a> {
 }
 
 // With no failing call, and ample room.
-pub(crate) fn ample(script: &[u8], piece: usize) -> Given
-    ensures { result.piece ≡ piece }
-{
+pub(crate) fn ample(script: &[u8], piece: usize) -> Given {
     Given {
         script,
         piece,
@@ -42,63 +39,147 @@ pub(crate) struct Expected<'a> {
     pub err: &'a [u8],
 }
 
-pub(crate) fn sink(
+// All replies, and no line of what is wrong.
+pub(crate) fn fine(out: &[u8]) -> Expected {
+    Expected {
+        status: Status::Ok,
+        out,
+        err: b"",
+    }
+}
+
+// Where a script is read from, and where its replies and the line of what is wrong go.
+#[derive(Drop)]
+struct Streams {
+    source: MemSource,
+    out: MemSink,
+    err: MemSink,
+}
+
+fn source(rt: &impl Abort, alloc: Global, given: Given) -> Result<MemSource, AllocError> {
+    assert!(rt; 1 <= given.piece);
+    Ok(MemSource::new(
+        given.script.to_vec(alloc)?,
+        given.piece,
+        given.reads.to_vec(alloc)?,
+    ))
+}
+
+fn sink(
+    rt: &impl Abort,
     alloc: Global,
     room: usize,
     piece: usize,
     fails: &[u64],
-) -> Result<MemSink, AllocError>
-    requires { 1 ≤ piece }
-{
+) -> Result<MemSink, AllocError> {
+    assert!(rt; 1 <= piece);
     match MemSink::new(alloc, room, piece, fails.to_vec(alloc)?) {
         Ok(sink) => Ok(sink),
         Err(_) => Err(AllocError),
     }
 }
 
-// What came out.
-#[derive(Drop)]
-pub(crate) struct Ran {
-    pub status: Status,
-    pub out: Vec<u8>,
-    pub err: Vec<u8>,
-}
-
-// Runs the script of what is given.
-pub(crate) fn run(alloc: Global, shelf: &mut Shelf, given: Given) -> Result<Ran, AllocError>
-    requires { 1 ≤ given.piece }
-{
-    let mut source = MemSource::new(
-        given.script.to_vec(alloc)?,
-        given.piece,
-        given.reads.to_vec(alloc)?,
-    );
-    let mut out = sink(alloc, given.room, given.piece, given.writes)?;
-    let mut err = sink(alloc, 100, given.piece, given.err_writes)?;
-    let words = Vec::new(alloc);
-    let status = replay(
-        alloc,
-        words.as_slice(),
-        shelf,
-        &mut source,
-        &mut out,
-        &mut err,
-    );
-    Ok(Ran {
-        status,
-        out: out.bytes().to_vec(alloc)?,
-        err: err.bytes().to_vec(alloc)?,
+fn open_streams(rt: &impl Abort, alloc: Global, given: Given) -> Result<Streams, AllocError> {
+    Ok(Streams {
+        source: source(rt, alloc, given)?,
+        out: sink(rt, alloc, given.room, given.piece, given.writes)?,
+        err: sink(rt, alloc, 100, given.piece, given.err_writes)?,
     })
 }
 
-pub(crate) fn is_run(rt: &impl Abort, ran: &Ran, expected: Expected) {
-    assert_eq!(rt; ran.status, expected.status);
-    assert_eq!(rt; ran.out.as_slice(), expected.out);
-    assert_eq!(rt; ran.err.as_slice(), expected.err);
+fn is_run(rt: &impl Abort, status: Status, out: &[u8], err: &[u8], expected: Expected) {
+    assert!(rt; status == expected.status);
+    assert!(rt; out == expected.out);
+    assert!(rt; err == expected.err);
 }
 
-pub(crate) fn put_number(text: &mut Vec<u8>, number: u32) -> Result<(), AllocError> {
-    text.extend_from_slice(Buffer::new().format(number).as_bytes())
+// Runs the script of what is given behind these words of a command line, and looks at what comes out.
+pub(crate) fn run(
+    rt: &impl Abort,
+    alloc: Global,
+    words: &[String],
+    shelf: &mut Shelf,
+    given: Given,
+    expected: Expected,
+) -> Result<(), AllocError> {
+    let mut streams = open_streams(rt, alloc, given)?;
+    let status = replay(
+        alloc,
+        words,
+        shelf,
+        &mut streams.source,
+        &mut streams.out,
+        &mut streams.err,
+    );
+    is_run(
+        rt,
+        status,
+        streams.out.bytes(),
+        streams.err.bytes(),
+        expected,
+    );
+    Ok(())
+}
+
+// One kind of each shape.
+fn kinds(alloc: Global) -> Result<Vec<BuiltIn>, AllocError> {
+    let mut kinds = Vec::new(alloc);
+    for shape in [
+        Shape::Whole,
+        Shape::Text { off: 0 },
+        Shape::Fold,
+        Shape::Reverse,
+        Shape::Field { off: 0, size: 4 },
+        Shape::Clip { n: 8 },
+    ] {
+        kinds.push(BuiltIn::new(shape))?;
+    }
+    Ok(kinds)
+}
+
+// Runs a script over dictionaries of these kinds with no failing call, and gives what was written.
+pub(crate) fn run_kinds<D: DictDisc>(
+    rt: &impl Abort,
+    alloc: Global,
+    shelf: &mut Shelf,
+    kinds: &mut Vec<D>,
+    script: &[u8],
+) -> Result<Vec<u8>, AllocError> {
+    let mut streams = open_streams(rt, alloc, ample(script, 4096))?;
+    let words = Vec::new(alloc);
+    let status = dtrun(
+        alloc,
+        words.as_slice(),
+        shelf,
+        kinds,
+        &mut streams.source,
+        &mut streams.out,
+        &mut streams.err,
+    );
+    assert!(rt; status == Status::Ok);
+    assert!(rt; streams.err.bytes().is_empty());
+    streams.out.bytes().to_vec(alloc)
+}
+
+// The same over one kind of each shape, and two disciplines that round to 4,096 bytes and refuse these lends.
+pub(crate) fn run_dicts(
+    rt: &impl Abort,
+    alloc: Global,
+    lends: &[u64],
+    script: &[u8],
+) -> Result<Vec<u8>, AllocError> {
+    let mut shelf = Shelf::new(alloc);
+    for _ in 0..2 {
+        let disc = FuseDisc::new(4096, lends.to_vec(alloc)?);
+        put(rt, &mut shelf, Box::new(alloc, disc)?);
+    }
+    let mut kinds = kinds(alloc)?;
+    run_kinds(rt, alloc, &mut shelf, &mut kinds, script)
+}
+
+pub(crate) fn put(rt: &impl Abort, shelf: &mut Shelf, disc: Box<dyn SegDisc>) {
+    assert!(rt; shelf.len() < u32::MAX);
+    assert!(rt; shelf.put(disc).is_ok());
 }
 
 // A script with no failing call, over two disciplines that round to 4,096 bytes and refuse these lends, in pieces of seven bytes and whole.
@@ -112,20 +193,36 @@ pub(crate) fn replies(
     for piece in [7, 4096] {
         let mut shelf = Shelf::new(alloc);
         for _ in 0..2 {
-            assert!(rt; shelf.len() < 2);
             let disc = FuseDisc::new(4096, lends.to_vec(alloc)?);
-            assert!(rt; shelf.put(Box::new(alloc, disc)?).is_ok());
+            put(rt, &mut shelf, Box::new(alloc, disc)?);
         }
-        let ran = run(alloc, &mut shelf, ample(script, piece))?;
-        is_run(rt, &ran, expected);
+        run(rt, alloc, &[], &mut shelf, ample(script, piece), expected)?;
     }
     Ok(())
 }
 
-pub(crate) fn fine(out: &[u8]) -> Expected {
-    Expected {
-        status: Status::Ok,
-        out,
-        err: b"",
+// A script and the replies to it, as they are put together.
+#[derive(Drop)]
+pub(crate) struct Talk {
+    pub script: Vec<u8>,
+    pub out: Vec<u8>,
+}
+
+impl Talk {
+    pub fn new(alloc: Global) -> Talk {
+        Talk {
+            script: Vec::new(alloc),
+            out: Vec::new(alloc),
+        }
     }
+
+    // More of both.
+    pub fn say(&mut self, script: &[u8], out: &[u8]) -> Result<(), AllocError> {
+        self.script.extend_from_slice(script)?;
+        self.out.extend_from_slice(out)
+    }
+}
+
+pub(crate) fn put_number(text: &mut Vec<u8>, number: u32) -> Result<(), AllocError> {
+    text.extend_from_slice(Buffer::new().format(number).as_bytes())
 }

@@ -1,5 +1,6 @@
 // Longer scripts, whole and in pieces of seven bytes.
-use crate::given::{fine, put_number, replies};
+use crate::given::{Talk, fine, put_number, replies};
+use std::alloc::AllocError;
 use std::test::Fail;
 
 const TRACE: &[u8] = b"\
@@ -94,24 +95,35 @@ fn trace(rt: HostRuntime) -> Result<(), Fail> {
     Ok(())
 }
 
+// A block that takes a segment of its own, of the same number.
+fn takes_segment(talk: &mut Talk, i: u32) -> Result<(), AllocError> {
+    talk.say(b"alloc r a", b"a")?;
+    put_number(&mut talk.script, i)?;
+    put_number(&mut talk.out, i)?;
+    talk.say(b" 4000\n", b" ")?;
+    put_number(&mut talk.out, i)?;
+    talk.say(b"", b":32\n")
+}
+
 // Each block takes a segment, up to 1,023 of them. Another is refused, and a small one goes into the first gap.
 #[test]
 fn too_many_segments(rt: HostRuntime) -> Result<(), Fail> {
     let alloc = rt.alloc();
-    let mut script = b"open r best 1\n".to_vec(alloc)?;
-    let mut out = b"r open\n".to_vec(alloc)?;
+    let mut talk = Talk::new(alloc);
+    talk.say(b"open r best 1\n", b"r open\n")?;
     for i in 1..1024 {
-        script.extend_from_slice(b"alloc r a")?;
-        put_number(&mut script, i)?;
-        script.extend_from_slice(b" 4000\n")?;
-        out.push(b'a')?;
-        put_number(&mut out, i)?;
-        out.push(b' ')?;
-        put_number(&mut out, i)?;
-        out.extend_from_slice(b":32\n")?;
+        takes_segment(&mut talk, i)?;
     }
-    script.extend_from_slice(b"alloc r z 4000\nalloc r z 16\n")?;
-    out.extend_from_slice(b"refused: too many segments\nz 1:4064\n")?;
-    replies(&rt, alloc, &[], script.as_slice(), fine(out.as_slice()))?;
+    talk.say(
+        b"alloc r z 4000\nalloc r z 16\n",
+        b"refused: too many segments\nz 1:4064\n",
+    )?;
+    replies(
+        &rt,
+        alloc,
+        &[],
+        talk.script.as_slice(),
+        fine(talk.out.as_slice()),
+    )?;
     Ok(())
 }

@@ -1,5 +1,5 @@
 // Scripts over regions of the other methods than best fit, and over a budget.
-use crate::given::{ample, fine, is_run, put_number, run};
+use crate::given::{Talk, ample, fine, put, put_number, run};
 use std::alloc::AllocError;
 use std::test::Fail;
 use vc_seg::{BudgetDisc, Shelf};
@@ -91,12 +91,11 @@ fn methods(rt: HostRuntime) -> Result<(), Fail> {
         for piece in [7, 4096] {
             let mut shelf = Shelf::new(alloc);
             for _ in 0..2 {
-                assert!(rt; shelf.len() < 2);
                 let disc = BudgetDisc::new(4096, 1_048_576);
-                assert!(rt; shelf.put(Box::new(alloc, disc)?).is_ok());
+                put(&rt, &mut shelf, Box::new(alloc, disc)?);
             }
-            let ran = run(alloc, &mut shelf, ample(row.script, piece))?;
-            is_run(&rt, &ran, fine(row.out));
+            let given = ample(row.script, piece);
+            run(&rt, alloc, &[], &mut shelf, given, fine(row.out))?;
         }
     }
     Ok(())
@@ -109,25 +108,19 @@ fn put_signed(text: &mut Vec<u8>, number: i32) -> Result<(), AllocError> {
     put_number(text, number.unsigned_abs())
 }
 
-// A block is put, poked at one offset, and freed.
-fn put_round(script: &mut Vec<u8>, off: i32, byte: u32) -> Result<(), AllocError> {
-    script.extend_from_slice(b"alloc r x 100\npoke r x ")?;
-    put_signed(script, off)?;
-    script.push(b' ')?;
-    put_number(script, byte)?;
-    script.extend_from_slice(b"\ncheck r\nfree r x\n")
-}
-
-// Its replies, where the check finds that offset or nothing.
-fn put_replies(out: &mut Vec<u8>, off: i32, is_found: bool) -> Result<(), AllocError> {
-    out.extend_from_slice(b"x 1:64\nx poked\ncheck ")?;
+// A block is put, poked at one offset, and freed. The check finds that offset or nothing.
+fn poked(talk: &mut Talk, off: i32, byte: u32, is_found: bool) -> Result<(), AllocError> {
+    talk.say(b"alloc r x 100\npoke r x ", b"x 1:64\nx poked\ncheck ")?;
+    put_signed(&mut talk.script, off)?;
+    talk.script.push(b' ')?;
+    put_number(&mut talk.script, byte)?;
     if is_found {
-        out.extend_from_slice(b"1 x:")?;
-        put_signed(out, off)?;
+        talk.say(b"", b"1 x:")?;
+        put_signed(&mut talk.out, off)?;
     } else {
-        out.push(b'0')?;
+        talk.say(b"", b"0")?;
     }
-    out.extend_from_slice(b"\nx freed\n")
+    talk.say(b"\ncheck r\nfree r x\n", b"\nx freed\n")
 }
 
 // Every byte of the guards and of a block of 100 bytes is poked in turn: with another byte those of the guards are found,
@@ -136,20 +129,22 @@ fn put_replies(out: &mut Vec<u8>, off: i32, is_found: bool) -> Result<(), AllocE
 fn damage(rt: HostRuntime) -> Result<(), Fail> {
     let alloc = rt.alloc();
     for byte in [7u32, 165] {
-        let mut script = b"open r debug 1\n".to_vec(alloc)?;
-        let mut out = b"r open\n".to_vec(alloc)?;
+        let mut talk = Talk::new(alloc);
+        talk.say(b"open r debug 1\n", b"r open\n")?;
         for off in -32i32..116 {
-            put_round(&mut script, off, byte)?;
-            put_replies(&mut out, off, byte == 7 && !(0..100).contains(&off))?;
+            poked(&mut talk, off, byte, byte == 7 && !(0..100).contains(&off))?;
         }
         let mut shelf = Shelf::new(alloc);
-        assert!(rt;
-            shelf
-                .put(Box::new(alloc, BudgetDisc::new(4096, 4096))?)
-                .is_ok()
-        );
-        let ran = run(alloc, &mut shelf, ample(script.as_slice(), 4096))?;
-        is_run(&rt, &ran, fine(out.as_slice()));
+        put(&rt, &mut shelf, Box::new(alloc, BudgetDisc::new(4096, 4096))?);
+        let given = ample(talk.script.as_slice(), 4096);
+        run(
+            &rt,
+            alloc,
+            &[],
+            &mut shelf,
+            given,
+            fine(talk.out.as_slice()),
+        )?;
     }
     Ok(())
 }

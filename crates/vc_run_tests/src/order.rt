@@ -5,7 +5,7 @@ ghost use Rattle.vc_seg.specs.Budget.{discipline_of};
 ghost use Rattle.vc_seg.specs.Lend.{Returned};
 ghost use Rattle.vc_seg.specs.Segment.{pair_of, zeroed};
 
-use crate::given::{ample, fine, is_run, run};
+use crate::given::{ample, fine, put, run};
 use std::alloc::Global;
 use std::cell::Cell;
 use std::rc::Rc;
@@ -106,16 +106,15 @@ fn order(rt: HostRuntime) -> Result<(), Fail> {
         let notes = Rc::new(alloc, Cell::new(0))?;
         let mut shelf = Shelf::new(alloc);
         for digit in [1, 2] {
-            assert!(rt; shelf.len() < 2);
             let disc = Noting {
                 inner: BudgetDisc::new(4096, 16_384),
                 digit,
                 notes: notes.clone()?,
             };
-            assert!(rt; shelf.put(Box::new(alloc, disc)?).is_ok());
+            put(&rt, &mut shelf, Box::new(alloc, disc)?);
         }
-        let ran = run(alloc, &mut shelf, ample(SCRIPT, piece))?;
-        is_run(&rt, &ran, fine(REPLIES));
+        let given = ample(SCRIPT, piece);
+        run(&rt, alloc, &[], &mut shelf, given, fine(REPLIES))?;
         assert_eq!(rt; notes.get(), 111_321_222_311_121_421_222_324);
     }
     Ok(())

@@ -1,9 +1,10 @@
 // Scripts whose reads and writes fail, and lines at their limit.
-use crate::given::{Expected, Given, ample, fine, is_run, run};
+use crate::given::{Expected, Given, Talk, ample, fine, put, run};
+use std::alloc::{AllocError, Global};
+use std::process::Abort;
 use std::test::Fail;
-use vc_base::{MemSink, MemSource, Sink, Source};
 use vc_seg::{HeapDisc, Shelf};
-use vc_session::{Status, replay};
+use vc_session::Status;
 
 const ROW: &[u8] = b"open r best 1\nalloc r a 100\n";
 
@@ -178,9 +179,8 @@ const ROWS: &[Row] = &[
 fn faults(rt: HostRuntime) -> Result<(), Fail> {
     let alloc = rt.alloc();
     for row in ROWS {
-        assert!(rt; 1 <= row.piece);
         let mut shelf = Shelf::new(alloc);
-        assert!(rt; shelf.put(Box::new(alloc, HeapDisc::new(4096))?).is_ok());
+        put(&rt, &mut shelf, Box::new(alloc, HeapDisc::new(4096))?);
         let given = Given {
             script: row.script,
             piece: row.piece,
@@ -194,23 +194,27 @@ fn faults(rt: HostRuntime) -> Result<(), Fail> {
             out: row.out,
             err: row.err,
         };
-        let ran = run(alloc, &mut shelf, given)?;
-        is_run(&rt, &ran, expected);
+        run(&rt, alloc, &[], &mut shelf, given, expected)?;
 
         // Every segment is back: the next script is lent the first again.
-        let ran = run(alloc, &mut shelf, ample(ROW, 4096))?;
-        is_run(&rt, &ran, fine(REPLIES));
+        run(&rt, alloc, &[], &mut shelf, ample(ROW, 4096), fine(REPLIES))?;
     }
     Ok(())
 }
 
+// So many bytes of the beginning.
+fn front<'a>(rt: &impl Abort, bytes: &'a [u8], len: usize) -> &'a [u8] {
+    assert!(rt; len <= bytes.len());
+    &bytes[..len]
+}
+
 // The script comes in 28 pieces of one byte, 14 a line, and its end is the read behind them. A read that fails leaves the
-// replies of the lines that were wholly read; with less room a front of the text is left.
+// replies of the lines that were wholly read.
 #[test]
-fn each_call(rt: HostRuntime) -> Result<(), Fail> {
+fn each_read(rt: HostRuntime) -> Result<(), Fail> {
     let alloc = rt.alloc();
     let mut shelf = Shelf::new(alloc);
-    assert!(rt; shelf.put(Box::new(alloc, HeapDisc::new(4096))?).is_ok());
+    put(&rt, &mut shelf, Box::new(alloc, HeapDisc::new(4096))?);
     for (first, behind, out) in [
         (1, 15, b"".as_slice()),
         (15, 29, b"r open\n".as_slice()),
@@ -226,76 +230,82 @@ fn each_call(rt: HostRuntime) -> Result<(), Fail> {
                 out,
                 err: READ_FAILED,
             };
-            let ran = run(alloc, &mut shelf, given)?;
-            is_run(&rt, &ran, expected);
+            run(&rt, alloc, &[], &mut shelf, given, expected)?;
         }
     }
+    Ok(())
+}
+
+// With less room a front of the text is left.
+#[test]
+fn each_room(rt: HostRuntime) -> Result<(), Fail> {
+    let alloc = rt.alloc();
+    let mut shelf = Shelf::new(alloc);
+    put(&rt, &mut shelf, Box::new(alloc, HeapDisc::new(4096))?);
     for room in 0..14 {
         for piece in [1, 6, 7, 8, 4096] {
-            assert!(rt; 1 <= piece);
             let given = Given {
                 room,
                 ..ample(ROW, piece)
             };
             let expected = Expected {
                 status: Status::Write,
-                out: &REPLIES[..room],
+                out: front(&rt, REPLIES, room),
                 err: WRITE_FAILED,
             };
-            let ran = run(alloc, &mut shelf, given)?;
-            is_run(&rt, &ran, expected);
+            run(&rt, alloc, &[], &mut shelf, given, expected)?;
         }
     }
     Ok(())
 }
 
-// The first read gives 2,000 lines in 4,096 bytes, 1,739 of them empty, whose replies have 1,050 bytes, and the second the
-// other 44 lines, whose replies have 176. Each is one write: the first may fail, or the second, and there is no third. Of
-// room there is as much as one byte less than the replies to what was read, as much as them, and one byte more.
-#[test]
-fn gathered(rt: HostRuntime) -> Result<(), Fail> {
-    let alloc = rt.alloc();
-    let mut shelf = Shelf::new(alloc);
-    assert!(rt; shelf.put(Box::new(alloc, HeapDisc::new(4096))?).is_ok());
-    let mut script = b"open r best 1\nalloc r a 1\n".to_vec(alloc)?;
-    let mut out = REPLIES.to_vec(alloc)?;
-    let blank = Vec::from_elem(alloc, b'\n', 1739)?;
-    script.extend_from_slice(blank.as_slice())?;
+// 2,000 lines in 4,096 bytes, 1,739 of them empty, whose replies have 1,050 bytes, and 44 other lines, whose replies have
+// 176.
+fn many_lines(talk: &mut Talk, blank: &[u8]) -> Result<(), AllocError> {
+    talk.say(b"open r best 1\nalloc r a 1\n", REPLIES)?;
+    talk.say(blank, b"")?;
     for _ in 0..303 {
-        script.extend_from_slice(b"size r a\n")?;
-        out.extend_from_slice(b"a 1\n")?;
-    }
-    let whole = out.len();
-    for (writes, room, status, len) in [
-        ([1].as_slice(), 10_000, Status::Write, 0),
-        (&[2], 10_000, Status::Write, 1050),
-        (&[], 1049, Status::Write, 1049),
-        (&[], 1050, Status::Write, 1050),
-        (&[], 1051, Status::Write, 1051),
-        (&[], 1225, Status::Write, 1225),
-        (&[], 1226, Status::Ok, 1226),
-        (&[3], 1227, Status::Ok, 1226),
-    ] {
-        assert!(rt; len <= whole);
-        let given = Given {
-            writes,
-            room,
-            ..ample(script.as_slice(), 4096)
-        };
-        let expected = Expected {
-            status,
-            out: &out.as_slice()[..len],
-            err: if status == Status::Ok {
-                b""
-            } else {
-                WRITE_FAILED
-            },
-        };
-        let ran = run(alloc, &mut shelf, given)?;
-        is_run(&rt, &ran, expected);
+        talk.say(b"size r a\n", b"a 1\n")?;
     }
     Ok(())
 }
+
+// The first read gives the 2,000 lines, and the second the other 44. The replies to each are one write: the first may fail,
+// or the second, and there is no third. Of room there is as much as one byte less than the replies to what was read, as much
+// as them, and one byte more.
+#[test]
+fn gathered(rt: HostRuntime) -> Result<(), Fail> {
+    let alloc = rt.alloc();
+    let blank = Vec::from_elem(alloc, b'\n', 1739)?;
+    let mut talk = Talk::new(alloc);
+    many_lines(&mut talk, blank.as_slice())?;
+    let mut shelf = Shelf::new(alloc);
+    put(&rt, &mut shelf, Box::new(alloc, HeapDisc::new(4096))?);
+    for (writes, room, status, len, err) in [
+        ([1].as_slice(), 10_000, Status::Write, 0, WRITE_FAILED),
+        (&[2], 10_000, Status::Write, 1050, WRITE_FAILED),
+        (&[], 1049, Status::Write, 1049, WRITE_FAILED),
+        (&[], 1050, Status::Write, 1050, WRITE_FAILED),
+        (&[], 1051, Status::Write, 1051, WRITE_FAILED),
+        (&[], 1225, Status::Write, 1225, WRITE_FAILED),
+        (&[], 1226, Status::Ok, 1226, b""),
+        (&[3], 1227, Status::Ok, 1226, b""),
+    ] {
+        let given = Given {
+            writes,
+            room,
+            ..ample(talk.script.as_slice(), 4096)
+        };
+        let out = front(&rt, talk.out.as_slice(), len);
+        let expected = Expected { status, out, err };
+        run(&rt, alloc, &[], &mut shelf, given, expected)?;
+    }
+    Ok(())
+}
+
+const TOO_LONG: &[u8] = b"vmreplay: line 1: line too long\n";
+
+const UNKNOWN: &[u8] = b"vmreplay: line 1: unknown command\n";
 
 // A line of 4,096 bytes is one, also with a CR among them; one byte more is too many, also in a comment, and also where a
 // later read fails: no byte that shows a fault was read before.
@@ -303,25 +313,17 @@ fn gathered(rt: HostRuntime) -> Result<(), Fail> {
 fn long_lines(rt: HostRuntime) -> Result<(), Fail> {
     let alloc = rt.alloc();
     let mut shelf = Shelf::new(alloc);
-    for (byte, len, reads, status, line) in [
+    put(&rt, &mut shelf, Box::new(alloc, HeapDisc::new(4096))?);
+    for (byte, len, reads, status, err) in [
         (b'#', 4096, [].as_slice(), Status::Ok, b"".as_slice()),
-        (b'#', 4097, &[], Status::Script, b"line too long"),
-        (b'a', 4096, &[], Status::Script, b"unknown command"),
-        (b'a', 4097, &[], Status::Script, b"line too long"),
-        (b'a', 5000, &[1024], Status::Read, b""),
-        (b'a', 5000, &[1025], Status::Read, b""),
-        (b'a', 5000, &[1026], Status::Script, b"line too long"),
+        (b'#', 4097, &[], Status::Script, TOO_LONG),
+        (b'a', 4096, &[], Status::Script, UNKNOWN),
+        (b'a', 4097, &[], Status::Script, TOO_LONG),
+        (b'a', 5000, &[1024], Status::Read, READ_FAILED),
+        (b'a', 5000, &[1025], Status::Read, READ_FAILED),
+        (b'a', 5000, &[1026], Status::Script, TOO_LONG),
     ] {
         let script = Vec::from_elem(alloc, byte, len)?;
-        let mut err = Vec::new(alloc);
-        if status == Status::Script {
-            err.extend_from_slice(b"vmreplay: line 1: ")?;
-            err.extend_from_slice(line)?;
-            err.push(b'\n')?;
-        }
-        if status == Status::Read {
-            err.extend_from_slice(READ_FAILED)?;
-        }
         let given = Given {
             reads,
             room: 0,
@@ -330,38 +332,46 @@ fn long_lines(rt: HostRuntime) -> Result<(), Fail> {
         let expected = Expected {
             status,
             out: b"",
-            err: err.as_slice(),
+            err,
         };
-        let ran = run(alloc, &mut shelf, given)?;
-        is_run(&rt, &ran, expected);
+        run(&rt, alloc, &[], &mut shelf, given, expected)?;
     }
     Ok(())
 }
 
+fn one_word(alloc: Global) -> Result<Vec<String>, AllocError> {
+    let mut words = Vec::new(alloc);
+    words.push(String::from_str(alloc, "--frob")?)?;
+    Ok(words)
+}
+
+// Words behind the program's name are bad, also where that can't be written.
 #[test]
 fn words(rt: HostRuntime) -> Result<(), Fail> {
     let alloc = rt.alloc();
-    for (fails, status, line) in [
-        ([].as_slice(), 2, b"vmreplay: bad arguments\n".as_slice()),
-        (&[1], 4, b""),
+    let words = one_word(alloc)?;
+    let mut shelf = Shelf::new(alloc);
+    put(&rt, &mut shelf, Box::new(alloc, HeapDisc::new(4096))?);
+    for (err_writes, status, number, err) in [
+        (
+            [].as_slice(),
+            Status::Usage,
+            2,
+            b"vmreplay: bad arguments\n".as_slice(),
+        ),
+        (&[1], Status::Write, 4, b""),
     ] {
-        let mut shelf = Shelf::new(alloc);
-        let mut source = MemSource::new(ROW.to_vec(alloc)?, 1, Vec::new(alloc));
-        let mut out = MemSink::new(alloc, 100, 1, Vec::new(alloc))?;
-        let mut err = MemSink::new(alloc, 100, 1, fails.to_vec(alloc)?)?;
-        let mut words = Vec::new(alloc);
-        words.push(String::from_str(alloc, "--frob")?)?;
-        let ended = replay(
-            alloc,
-            words.as_slice(),
-            &mut shelf,
-            &mut source,
-            &mut out,
-            &mut err,
-        );
-        assert_eq!(rt; ended.number(), status);
-        assert_eq!(rt; out.bytes(), b"".as_slice());
-        assert_eq!(rt; err.bytes(), line);
+        assert_eq!(rt; status.number(), number);
+        let given = Given {
+            err_writes,
+            ..ample(ROW, 1)
+        };
+        let expected = Expected {
+            status,
+            out: b"",
+            err,
+        };
+        run(&rt, alloc, words.as_slice(), &mut shelf, given, expected)?;
     }
     Ok(())
 }

@@ -2,17 +2,16 @@
 ghost use Rattle.vc_dtdisc.specs.ShapeLaws.{rules-lawful};
 ghost use Rattle.vc_dtdisc.specs.Shapes.{rules_of};
 
-use crate::given::{ample, sink};
+use crate::given::{put, run_kinds};
 use std::alloc::{AllocError, Global};
 use std::cell::Cell;
 use std::cmp::Ordering;
 use std::process::Abort;
 use std::rc::Rc;
 use std::test::Fail;
-use vc_base::{MemSource, OutOfMemory, Steps};
+use vc_base::{OutOfMemory, Steps};
 use vc_dtdisc::{BuiltIn, DictDisc, Shape};
-use vc_seg::{FuseDisc, Shelf};
-use vc_session::{Status, dtrun};
+use vc_seg::{HeapDisc, Shelf};
 
 // A kind that notes each object that it is told of, by two digits behind those of earlier ones: its own, and the object's last
 // byte. A u128 has room for 19 notes.
@@ -63,32 +62,18 @@ impl DictDisc for Noting {
 fn noted(rt: &impl Abort, alloc: Global, script: &[u8]) -> Result<u128, AllocError> {
     let notes = Rc::new(alloc, Cell::new(0))?;
     let mut shelf = Shelf::new(alloc);
+    for _ in 0..2 {
+        put(rt, &mut shelf, Box::new(alloc, HeapDisc::new(4096))?);
+    }
     let mut kinds = Vec::new(alloc);
     for digit in [1, 2] {
-        assert!(rt; shelf.len() < 2);
-        let disc = FuseDisc::new(4096, Vec::new(alloc));
-        assert!(rt; shelf.put(Box::new(alloc, disc)?).is_ok());
         kinds.push(Noting {
             inner: BuiltIn::new(Shape::Field { off: 0, size: 1 }),
             digit,
             notes: notes.clone()?,
         })?;
     }
-    let given = ample(script, 4096);
-    let mut source = MemSource::new(given.script.to_vec(alloc)?, 4096, Vec::new(alloc));
-    let mut out = sink(alloc, given.room, 4096, &[])?;
-    let mut err = sink(alloc, 100, 4096, &[])?;
-    let words = Vec::new(alloc);
-    let status = dtrun(
-        alloc,
-        words.as_slice(),
-        &mut shelf,
-        &mut kinds,
-        &mut source,
-        &mut out,
-        &mut err,
-    );
-    assert_eq!(rt; status, Status::Ok);
+    run_kinds(rt, alloc, &mut shelf, &mut kinds, script)?;
     Ok(notes.get())
 }
 

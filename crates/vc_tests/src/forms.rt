@@ -260,6 +260,16 @@ fn bytes(rt: &impl Abort, alloc: Global, bytes: &[u8]) -> Bytes {
     Bytes::from_vec(bytes.to_vec(alloc).expect(rt, "memory"))
 }
 
+fn all_spell(rt: &impl Abort, alloc: Global, table: &[(&str, Command)]) -> Result<(), Fail> {
+    for (line, command) in table {
+        match read_line(alloc, Tool::Dtrun, line.as_bytes())? {
+            LineAnswer::Is(found) => assert!(rt; found == *command, "at {line}"),
+            _ => assert!(rt; false, "at {line}"),
+        }
+    }
+    Ok(())
+}
+
 // What words at the edges of their forms spell, and words of both numbers where a last one may be missing.
 #[test]
 fn spelled(rt: HostRuntime) -> Result<(), Fail> {
@@ -303,11 +313,5 @@ fn spelled(rt: HostRuntime) -> Result<(), Fail> {
         ("view a r", Command::View(a, Some(r))),
         ("view a -", Command::View(a, None)),
     ];
-    for (line, command) in &table {
-        match read_line(alloc, Tool::Dtrun, line.as_bytes())? {
-            LineAnswer::Is(found) => assert!(rt; found == *command, "at {line}"),
-            _ => assert!(rt; false, "at {line}"),
-        }
-    }
-    Ok(())
+    all_spell(&rt, alloc, &table)
 }

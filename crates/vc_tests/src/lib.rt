@@ -10,4 +10,6 @@ mod prints;
 #[cfg(test)]
 mod region;
 #[cfg(test)]
+mod same;
+#[cfg(test)]
 mod session;

@@ -1,4 +1,5 @@
 // The printed line of a reply of each variant.
+use crate::same::same_bytes;
 use std::alloc::Global;
 use std::process::Abort;
 use std::test::Fail;
@@ -11,13 +12,13 @@ use vc_seg::{ProfileRow, Stat};
 
 pub(crate) fn prints(rt: &impl Abort, alloc: Global, reply: Reply, line: &[u8]) {
     let printed = print_reply(alloc, &reply).expect(rt, "memory");
-    assert_eq!(rt; printed.as_slice(), line);
+    same_bytes(rt, printed.as_slice(), line);
 }
 
 fn all_print(rt: &impl Abort, alloc: Global, table: &[(Reply, &str)]) -> Result<(), Fail> {
     for (reply, line) in table {
         let printed = print_reply(alloc, reply)?;
-        assert_eq!(rt; printed.as_slice(), line.as_bytes());
+        same_bytes(rt, printed.as_slice(), line.as_bytes());
     }
     Ok(())
 }
@@ -249,7 +250,7 @@ fn refusals(rt: HostRuntime) -> Result<(), Fail> {
     let alloc = rt.alloc();
     for (why, line) in REFUSALS {
         let printed = print_reply(alloc, &Reply::Refused(*why))?;
-        assert_eq!(rt; printed.as_slice(), line.as_bytes());
+        same_bytes(&rt, printed.as_slice(), line.as_bytes());
     }
     Ok(())
 }

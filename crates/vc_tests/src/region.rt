@@ -1,6 +1,7 @@
 // Each call of a region of one of the methods once, with ample memory.
 ghost use Rattle.std.specs.Prelude.{◌≤◌};
 
+use crate::same::{is_at, same_bytes};
 use std::process::Abort;
 use std::test::Fail;
 use vc_base::Addr;
@@ -12,9 +13,9 @@ fn two_placed(rt: &impl Abort, region: &mut Region)
     requires { 0 ≤ 0 }
 {
     let first = region.alloc(100, 1, b"-");
-    assert_eq!(rt; first, Ok(Addr::new(1, 32)));
+    is_at(rt, first, 1, 32);
     let second = region.align(100, 256, 2, b"x");
-    assert_eq!(rt; second, Ok(Addr::new(1, 256)));
+    is_at(rt, second, 1, 256);
 }
 
 #[test]
@@ -23,7 +24,7 @@ fn told(rt: HostRuntime) -> Result<(), Fail> {
     let disc = Box::new(alloc, HeapDisc::new(4096))?;
     match Region::open(alloc, Method::VmBest, disc) {
         Ok(mut region) => {
-            assert_eq!(rt; region.method(), Method::VmBest);
+            assert!(rt; region.method() == Method::VmBest);
             two_placed(&rt, &mut region);
             let stat = Stat {
                 busy: 2,
@@ -35,7 +36,7 @@ fn told(rt: HostRuntime) -> Result<(), Fail> {
                 segs: 1,
                 extent: 4096,
             };
-            assert_eq!(rt; region.stat(), stat);
+            assert!(rt; region.stat() == stat);
         }
         Err(_) => assert!(rt; false),
     }
@@ -67,8 +68,9 @@ fn written(rt: HostRuntime) -> Result<(), Fail> {
         Ok(mut region) => match region.alloc(6, 1, b"-") {
             Ok(at) => {
                 region.write(at, 1, b"abc");
-                assert_eq!(rt; (region.size(at), region.tag(at)), (6, 1));
-                assert_eq!(rt; region.read(at, 0, 6), b"\0abc\0\0".as_slice());
+                assert!(rt; region.size(at) == 6);
+                assert!(rt; region.tag(at) == 1);
+                same_bytes(&rt, region.read(at, 0, 6), b"\0abc\0\0");
             }
             Err(_) => assert!(rt; false),
         },
@@ -100,12 +102,10 @@ fn cleared(rt: HostRuntime) -> Result<(), Fail> {
     let disc = Box::new(alloc, HeapDisc::new(4096))?;
     match Region::open(alloc, Method::VmBest, disc) {
         Ok(mut region) => {
-            let small = region.alloc(6, 1, b"-");
-            assert_eq!(rt; small, Ok(Addr::new(1, 32)));
-            let large = region.alloc(5000, 2, b"-");
-            assert_eq!(rt; large, Ok(Addr::new(2, 32)));
+            is_at(&rt, region.alloc(6, 1, b"-"), 1, 32);
+            is_at(&rt, region.alloc(5000, 2, b"-"), 2, 32);
             region.clear();
-            assert_eq!(rt; region.next_block(Addr::NONE), None);
+            assert!(rt; region.next_block(Addr::NONE).is_none());
         }
         Err(_) => assert!(rt; false),
     }
@@ -117,7 +117,7 @@ fn given_back(rt: HostRuntime) -> Result<(), Fail> {
     let alloc = rt.alloc();
     let disc = Box::new(alloc, HeapDisc::new(4096))?;
     match Region::open(alloc, Method::VmBest, disc) {
-        Ok(mut region) => assert_eq!(rt; region.compact(), 0),
+        Ok(mut region) => assert!(rt; region.compact() == 0),
         Err(_) => assert!(rt; false),
     }
     Ok(())
@@ -130,7 +130,8 @@ fn closed(rt: HostRuntime) -> Result<(), Fail> {
     match Region::open(alloc, Method::VmBest, disc) {
         Ok(region) => {
             let (disc, count) = region.close();
-            assert_eq!(rt; (disc.round(), count), (4096, 0));
+            assert!(rt; disc.round() == 4096);
+            assert!(rt; count == 0);
         }
         Err(_) => assert!(rt; false),
     }
