@@ -135,7 +135,11 @@ fn damage(rt: HostRuntime) -> Result<(), Fail> {
             poked(&mut talk, off, byte, byte == 7 && !(0..100).contains(&off))?;
         }
         let mut shelf = Shelf::new(alloc);
-        put(&rt, &mut shelf, Box::new(alloc, BudgetDisc::new(4096, 4096))?);
+        put(
+            &rt,
+            &mut shelf,
+            Box::new(alloc, BudgetDisc::new(4096, 4096))?,
+        );
         let given = ample(talk.script.as_slice(), 4096);
         run(
             &rt,
