@@ -2,14 +2,14 @@
 # Lets each allocation of a test fail in turn, and looks whether a lend that finds no memory is made again: the second
 # lend would be refused, and the test takes no refusal. Run by hand at the top of the repository. It needs cc.
 set -eu
-(cd crates/vc_memory_tests && rt test > /dev/null)
+(cd crates/vc_tests && rt test > /dev/null)
 dir=$(mktemp -d)
 trap 'rm -rf "$dir"' EXIT
 cc -shared -fPIC -O1 -o "$dir/fail.so" bench/fail_malloc.c -ldl
 
 run() {
     FAIL_AT=$1 LD_PRELOAD="$dir/fail.so" REPORT="$dir/report" \
-        crates/vc_memory_tests/out/vc_memory_tests_tests lends::lend_once > "$dir/out" || { cat "$dir/out"; exit 1; }
+        crates/vc_tests/out/vc_tests_tests lends::lend_once > "$dir/out" || { cat "$dir/out"; exit 1; }
     read -r made held < "$dir/report"
 }
 
