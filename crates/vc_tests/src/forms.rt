@@ -1,10 +1,6 @@
 // The edges of every form of words: which lines are taken, and the fault of each other one.
 use std::alloc::Global;
-use std::process::Abort;
-use std::test::Fail;
-use vc_base::{DictMethod, Name};
-use vc_script::{Bytes, Command, LineAnswer, LineFault, Place, Tool, read_line};
-use vc_seg::Method;
+use vc_script::{LineAnswer, LineFault, Tool, read_line};
 
 // Lines of vmreplay that aren't blank, each with its fault where it isn't a command.
 const LINES: &[(&str, Option<LineFault>)] = &[
@@ -225,93 +221,42 @@ const DICTIONARY_LINES: &[(&str, Option<LineFault>)] = &[
     ("dict d set r x", Some(LineFault::BadNumber)),
 ];
 
-fn is_read(rt: &impl Abort, answer: &LineAnswer, fault: Option<LineFault>, line: &str) {
-    let found = match answer {
-        LineAnswer::Blank => panic!(rt; "blank: {line}"),
-        LineAnswer::Is(_) => None,
-        LineAnswer::Bad(fault) => Some(*fault),
-    };
-    assert_eq!(rt; found, fault, "at {line}");
+// Whether an answer is a command, or has that fault.
+fn is_answer(answer: &LineAnswer, fault: Option<LineFault>) -> bool {
+    match answer {
+        LineAnswer::Blank => false,
+        LineAnswer::Is(_) => fault.is_none(),
+        LineAnswer::Bad(found) => fault == Some(*found),
+    }
+}
+
+// Whether a line is read so, with ample memory.
+fn is_read(alloc: Global, tool: Tool, line: &str, fault: Option<LineFault>) -> bool {
+    match read_line(alloc, tool, line.as_bytes()) {
+        Ok(answer) => is_answer(&answer, fault),
+        Err(_) => false,
+    }
+}
+
+fn is_blank(alloc: Global, line: &str) -> bool {
+    match read_line(alloc, Tool::Dtrun, line.as_bytes()) {
+        Ok(answer) => matches!(answer, LineAnswer::Blank),
+        Err(_) => false,
+    }
 }
 
 #[test]
-fn forms(rt: HostRuntime) -> Result<(), Fail> {
-    let alloc = rt.alloc();
+fn forms(rt: HostRuntime) {
     for (tool, lines) in [(Tool::Vmreplay, LINES), (Tool::Dtrun, DICTIONARY_LINES)] {
         for (line, fault) in lines {
-            let answer = read_line(alloc, tool, line.as_bytes())?;
-            is_read(&rt, &answer, *fault, line);
+            assert!(rt; is_read(rt.alloc(), tool, line, *fault), "at {line}");
         }
     }
-    Ok(())
 }
 
 #[test]
-fn blank_lines(rt: HostRuntime) -> Result<(), Fail> {
-    let alloc = rt.alloc();
+fn blank_lines(rt: HostRuntime) {
     for line in ["", " \t", "#", "  # x", "\t#open r best 1"] {
-        let answer = read_line(alloc, Tool::Dtrun, line.as_bytes())?;
-        assert!(rt; answer == LineAnswer::Blank, "at {line}");
+        assert!(rt; is_blank(rt.alloc(), line), "at {line}");
     }
-    Ok(())
-}
-
-fn bytes(rt: &impl Abort, alloc: Global, bytes: &[u8]) -> Bytes {
-    Bytes::from_vec(bytes.to_vec(alloc).expect(rt, "memory"))
-}
-
-fn all_spell(rt: &impl Abort, alloc: Global, table: &[(&str, Command)]) -> Result<(), Fail> {
-    for (line, command) in table {
-        match read_line(alloc, Tool::Dtrun, line.as_bytes())? {
-            LineAnswer::Is(found) => assert!(rt; found == *command, "at {line}"),
-            _ => assert!(rt; false, "at {line}"),
-        }
-    }
-    Ok(())
-}
-
-// What words at the edges of their forms spell, and words of both numbers where a last one may be missing.
-#[test]
-fn spelled(rt: HostRuntime) -> Result<(), Fail> {
-    let alloc = rt.alloc();
-    let (r, a) = (Name::new(b"r"), Name::new(b"a"));
-    let site = Some(Name::new(b"a_.9"));
-    let place = Place {
-        seg: 1023,
-        off: 33554431,
-    };
-    let written = bytes(&rt, alloc, b"aA\xff%\n+");
-    let object = bytes(&rt, alloc, b"\0-");
-    let table = [
-        ("alloc r a 0000000001", Command::Alloc(r, a, 1, None)),
-        (
-            "alloc r a 4294967295 @a_.9",
-            Command::Alloc(r, a, u32::MAX, site),
-        ),
-        ("poke r a -0 0", Command::Poke(r, a, 0, 0)),
-        (
-            "poke r a -4294967295 1",
-            Command::Poke(r, a, -4294967295, 1),
-        ),
-        ("addr r 1023:33554431", Command::AddrOf(r, place)),
-        (
-            "write r a 0 a%41%fF%25%0a+",
-            Command::WriteBlock(r, a, 0, written),
-        ),
-        (
-            "open r profile 0",
-            Command::OpenRegion(r, Method::VmProfile, 0),
-        ),
-        ("resize r a 1 move", Command::Resize(r, a, 1, true)),
-        ("resize r a 1 fixed", Command::Resize(r, a, 1, false)),
-        (
-            "dict a stack r 6",
-            Command::OpenDict(a, DictMethod::DtStack, r, 6),
-        ),
-        ("delete a %00-", Command::Delete(a, Some(object))),
-        ("delete a", Command::Delete(a, None)),
-        ("view a r", Command::View(a, Some(r))),
-        ("view a -", Command::View(a, None)),
-    ];
-    all_spell(&rt, alloc, &table)
 }

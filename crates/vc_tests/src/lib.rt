@@ -1,15 +1,31 @@
-//! Each public call of the libraries once, over memory.
+//! Each public call of the libraries once, and scripts through the top calls, over memory.
 #![tactic(auto)]
 
 #[cfg(test)]
+mod blocks;
+#[cfg(test)]
 mod calls;
+#[cfg(test)]
+mod dicts;
 #[cfg(test)]
 mod forms;
 #[cfg(test)]
-mod prints;
+mod given;
 #[cfg(test)]
-mod region;
+mod lends;
+#[cfg(test)]
+mod long;
+#[cfg(test)]
+mod methods;
+#[cfg(test)]
+mod order;
+#[cfg(test)]
+mod rows;
 #[cfg(test)]
 mod same;
 #[cfg(test)]
 mod session;
+#[cfg(test)]
+mod streams;
+#[cfg(test)]
+mod told;

@@ -1,5 +1,7 @@
 // Whole scripts through the top call, and what comes of them.
 use crate::given::{Expected, replies};
+use std::alloc::{AllocError, Global};
+use std::process::Abort;
 use std::test::Fail;
 use vc_session::Status;
 
@@ -10,6 +12,15 @@ struct Row {
     status: Status,
     out: &'static [u8],
     err: &'static [u8],
+}
+
+fn is_run(rt: &impl Abort, alloc: Global, row: &Row) -> Result<(), AllocError> {
+    let expected = Expected {
+        status: row.status,
+        out: row.out,
+        err: row.err,
+    };
+    replies(rt, alloc, row.lends, row.script, expected)
 }
 
 const ROWS: &[Row] = &[
@@ -173,12 +184,7 @@ const ROWS: &[Row] = &[
 #[test]
 fn rows(rt: HostRuntime) -> Result<(), Fail> {
     for row in ROWS {
-        let expected = Expected {
-            status: row.status,
-            out: row.out,
-            err: row.err,
-        };
-        replies(&rt, rt.alloc(), row.lends, row.script, expected)?;
+        is_run(&rt, rt.alloc(), row)?;
     }
     Ok(())
 }

@@ -1,6 +1,6 @@
 // Where blocks are placed, and what can be read and written of them.
-use crate::given::{Talk, fine, put_number, replies};
-use std::alloc::AllocError;
+use crate::given::{Talk, fine, is_said, put_number, replies};
+use std::alloc::{AllocError, Global};
 use std::test::Fail;
 
 const EDGES: &[u8] = b"\
@@ -74,27 +74,26 @@ fn edges(rt: HostRuntime) -> Result<(), Fail> {
     Ok(())
 }
 
-// The most bytes that can be read at once end with the block, or begin one byte further.
-#[test]
-fn long_reads(rt: HostRuntime) -> Result<(), Fail> {
-    let alloc = rt.alloc();
+// Reads of the most bytes that can be read at once: they end with the block, or begin one byte further.
+fn most_read(alloc: Global) -> Result<Talk, AllocError> {
     let zeros = Vec::from_elem(alloc, b'0', 8192)?;
+    let zeros = zeros.as_slice();
     let mut talk = Talk::new(alloc);
     talk.say(
         b"open r best 1\nalloc r b 5000\nread r b 904 4096\n",
         b"r open\nb 1:32\nb ",
     )?;
-    talk.say(b"read r b 905 4096\n", zeros.as_slice())?;
+    talk.say(b"read r b 905 4096\n", zeros)?;
     talk.say(b"read r b 0 4096\n", b"\nrefused: range\nb ")?;
-    talk.say(b"", zeros.as_slice())?;
+    talk.say(b"", zeros)?;
     talk.say(b"", b"\n")?;
-    replies(
-        &rt,
-        alloc,
-        &[],
-        talk.script.as_slice(),
-        fine(talk.out.as_slice()),
-    )?;
+    Ok(talk)
+}
+
+#[test]
+fn long_reads(rt: HostRuntime) -> Result<(), Fail> {
+    let talk = most_read(rt.alloc())?;
+    is_said(&rt, rt.alloc(), &talk)?;
     Ok(())
 }
 
@@ -122,26 +121,25 @@ fn three_placed(talk: &mut Talk, align: u32) -> Result<(), AllocError> {
     talk.say(b"free r q\n", b"q freed\n")
 }
 
+// Fills the gap that the freed block leaves, and asks for one byte more.
+fn aligned(alloc: Global, align: u32) -> Result<Talk, AllocError> {
+    let mut talk = Talk::new(alloc);
+    three_placed(&mut talk, align)?;
+    let fits = align.wrapping_sub(16);
+    placed(&mut talk, b"a", fits, align, align.wrapping_mul(2))?;
+    talk.say(b"free r a\n", b"a freed\n")?;
+    let larger = align.wrapping_sub(15);
+    placed(&mut talk, b"b", larger, align, align.wrapping_mul(4))?;
+    Ok(talk)
+}
+
 // Each alignment, in a segment of 32,768 bytes. The gap that the freed block leaves holds a block at its offset up to the
 // third block, and no greater one, which goes behind that.
 #[test]
 fn alignments(rt: HostRuntime) -> Result<(), Fail> {
-    let alloc = rt.alloc();
     for align in [32u32, 64, 128, 256, 512, 1024, 2048, 4096] {
-        let mut talk = Talk::new(alloc);
-        three_placed(&mut talk, align)?;
-        let fits = align.wrapping_sub(16);
-        placed(&mut talk, b"a", fits, align, align.wrapping_mul(2))?;
-        talk.say(b"free r a\n", b"a freed\n")?;
-        let larger = align.wrapping_sub(15);
-        placed(&mut talk, b"b", larger, align, align.wrapping_mul(4))?;
-        replies(
-            &rt,
-            alloc,
-            &[],
-            talk.script.as_slice(),
-            fine(talk.out.as_slice()),
-        )?;
+        let talk = aligned(rt.alloc(), align)?;
+        is_said(&rt, rt.alloc(), &talk)?;
     }
     Ok(())
 }

@@ -1,6 +1,7 @@
 // Scripts over regions of the other methods than best fit, and over a budget.
 use crate::given::{Talk, ample, fine, put, put_number, run};
-use std::alloc::AllocError;
+use std::alloc::{AllocError, Global};
+use std::process::Abort;
 use std::test::Fail;
 use vc_seg::{BudgetDisc, Shelf};
 
@@ -83,19 +84,28 @@ const ROWS: &[Row] = &[
     },
 ];
 
+// A shelf of so many disciplines of one budget.
+fn budgets(rt: &impl Abort, alloc: Global, count: u32, budget: u64) -> Result<Shelf, AllocError> {
+    let mut shelf = Shelf::new(alloc);
+    for _ in 0..count {
+        let disc = Box::new(alloc, BudgetDisc::new(4096, budget))?;
+        put(rt, &mut shelf, disc);
+    }
+    Ok(shelf)
+}
+
+fn is_run(rt: &impl Abort, alloc: Global, row: &Row, piece: usize) -> Result<(), AllocError> {
+    let mut shelf = budgets(rt, alloc, 2, 1_048_576)?;
+    let given = ample(row.script, piece);
+    run(rt, alloc, &[], &mut shelf, given, fine(row.out))
+}
+
 // Each script in pieces and whole.
 #[test]
 fn methods(rt: HostRuntime) -> Result<(), Fail> {
-    let alloc = rt.alloc();
     for row in ROWS {
         for piece in [7, 4096] {
-            let mut shelf = Shelf::new(alloc);
-            for _ in 0..2 {
-                let disc = BudgetDisc::new(4096, 1_048_576);
-                put(&rt, &mut shelf, Box::new(alloc, disc)?);
-            }
-            let given = ample(row.script, piece);
-            run(&rt, alloc, &[], &mut shelf, given, fine(row.out))?;
+            is_run(&rt, rt.alloc(), row, piece)?;
         }
     }
     Ok(())
@@ -123,32 +133,30 @@ fn poked(talk: &mut Talk, off: i32, byte: u32, is_found: bool) -> Result<(), All
     talk.say(b"\ncheck r\nfree r x\n", b"\nx freed\n")
 }
 
+// Pokes that byte at each offset of a block and of its guards.
+fn pokes(alloc: Global, byte: u32) -> Result<Talk, AllocError> {
+    let mut talk = Talk::new(alloc);
+    talk.say(b"open r debug 1\n", b"r open\n")?;
+    for off in -32i32..116 {
+        poked(&mut talk, off, byte, byte == 7 && !(0..100).contains(&off))?;
+    }
+    Ok(talk)
+}
+
+// A script and its replies, with room for one segment.
+fn is_said_within(rt: &impl Abort, alloc: Global, talk: &Talk) -> Result<(), AllocError> {
+    let mut shelf = budgets(rt, alloc, 1, 4096)?;
+    let given = ample(talk.script.as_slice(), 4096);
+    run(rt, alloc, &[], &mut shelf, given, fine(talk.out.as_slice()))
+}
+
 // Every byte of the guards and of a block of 100 bytes is poked in turn: with another byte those of the guards are found,
 // and with the byte of guards none.
 #[test]
 fn damage(rt: HostRuntime) -> Result<(), Fail> {
-    let alloc = rt.alloc();
     for byte in [7u32, 165] {
-        let mut talk = Talk::new(alloc);
-        talk.say(b"open r debug 1\n", b"r open\n")?;
-        for off in -32i32..116 {
-            poked(&mut talk, off, byte, byte == 7 && !(0..100).contains(&off))?;
-        }
-        let mut shelf = Shelf::new(alloc);
-        put(
-            &rt,
-            &mut shelf,
-            Box::new(alloc, BudgetDisc::new(4096, 4096))?,
-        );
-        let given = ample(talk.script.as_slice(), 4096);
-        run(
-            &rt,
-            alloc,
-            &[],
-            &mut shelf,
-            given,
-            fine(talk.out.as_slice()),
-        )?;
+        let talk = pokes(rt.alloc(), byte)?;
+        is_said_within(&rt, rt.alloc(), &talk)?;
     }
     Ok(())
 }

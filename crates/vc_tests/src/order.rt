@@ -6,8 +6,9 @@ ghost use Rattle.vc_seg.specs.Lend.{Returned};
 ghost use Rattle.vc_seg.specs.Segment.{pair_of, zeroed};
 
 use crate::given::{ample, fine, put, run};
-use std::alloc::Global;
+use std::alloc::{AllocError, Global};
 use std::cell::Cell;
+use std::process::Abort;
 use std::rc::Rc;
 use std::test::Fail;
 use vc_seg::{BudgetDisc, LendFault, SegDisc, Segment, Shelf};
@@ -97,25 +98,53 @@ w 4:32\n\
 refused: no segment\n\
 ";
 
+// Puts the discipline of that digit.
+fn put_noting(
+    rt: &impl Abort,
+    alloc: Global,
+    shelf: &mut Shelf,
+    digit: u128,
+    notes: &Rc<Cell<u128>>,
+) -> Result<(), AllocError> {
+    let disc = Noting {
+        inner: BudgetDisc::new(4096, 16_384),
+        digit,
+        notes: notes.clone()?,
+    };
+    put(rt, shelf, Box::new(alloc, disc)?);
+    Ok(())
+}
+
+fn shelf_of(rt: &impl Abort, alloc: Global, notes: &Rc<Cell<u128>>) -> Result<Shelf, AllocError> {
+    let mut shelf = Shelf::new(alloc);
+    put_noting(rt, alloc, &mut shelf, 1, notes)?;
+    put_noting(rt, alloc, &mut shelf, 2, notes)?;
+    Ok(shelf)
+}
+
+// What two disciplines note of the script in pieces of so many bytes.
+fn noted(rt: &impl Abort, alloc: Global, piece: usize) -> Result<u128, AllocError> {
+    let notes = Rc::new(alloc, Cell::new(0))?;
+    let mut shelf = shelf_of(rt, alloc, &notes)?;
+    let ran = run(
+        rt,
+        alloc,
+        &[],
+        &mut shelf,
+        ample(SCRIPT, piece),
+        fine(REPLIES),
+    );
+    let found = notes.get();
+    ran?;
+    Ok(found)
+}
+
 // compact gives back 1 and 3 of the first, close 1 to 3 of the second, and the end 1, 2 and 4 of the first and then 1 to 4
 // of the second. The second has room for four segments of 4,096 bytes.
 #[test]
 fn order(rt: HostRuntime) -> Result<(), Fail> {
-    let alloc = rt.alloc();
     for piece in [1, 4096] {
-        let notes = Rc::new(alloc, Cell::new(0))?;
-        let mut shelf = Shelf::new(alloc);
-        for digit in [1, 2] {
-            let disc = Noting {
-                inner: BudgetDisc::new(4096, 16_384),
-                digit,
-                notes: notes.clone()?,
-            };
-            put(&rt, &mut shelf, Box::new(alloc, disc)?);
-        }
-        let given = ample(SCRIPT, piece);
-        run(&rt, alloc, &[], &mut shelf, given, fine(REPLIES))?;
-        assert_eq!(rt; notes.get(), 111_321_222_311_121_421_222_324);
+        assert!(rt; noted(&rt, rt.alloc(), piece)? == 111_321_222_311_121_421_222_324);
     }
     Ok(())
 }

@@ -226,3 +226,9 @@ impl Talk {
 pub(crate) fn put_number(text: &mut Vec<u8>, number: u32) -> Result<(), AllocError> {
     text.extend_from_slice(Buffer::new().format(number).as_bytes())
 }
+
+// A script and its replies, over disciplines that refuse nothing.
+pub(crate) fn is_said(rt: &impl Abort, alloc: Global, talk: &Talk) -> Result<(), AllocError> {
+    let expected = fine(talk.out.as_slice());
+    replies(rt, alloc, &[], talk.script.as_slice(), expected)
+}

@@ -398,11 +398,16 @@ const TURNS: &[Turn] = &[
     },
 ];
 
+fn is_run(rt: &impl Abort, alloc: Global, row: &Row) -> Result<(), AllocError> {
+    let out = run_dicts(rt, alloc, row.lends, row.script)?;
+    assert!(rt; out.as_slice() == row.out);
+    Ok(())
+}
+
 #[test]
 fn rows(rt: HostRuntime) -> Result<(), Fail> {
     for row in ROWS {
-        let out = run_dicts(&rt, rt.alloc(), row.lends, row.script)?;
-        assert_eq!(rt; out.as_slice(), row.out);
+        is_run(&rt, rt.alloc(), row)?;
     }
     Ok(())
 }
