@@ -35,8 +35,10 @@ pub mod Keeping
 pub mod Lists
 pub mod Moving
 pub mod Names
+pub mod Newest
 pub mod OnShelf
 pub mod Opening
+pub mod Placed
 pub mod ProperDicts
 pub mod ProperSites
 pub mod ProperSteps

@@ -1,14 +1,15 @@
 // The lines of a source, run in order as they come.
-ghost use Rattle.std.specs.Prelude.{◌≡◌, ℕ, ◌+◌, ◌≤◌, [], Ok, Some, None, IsTrue, IfSome, IfOk, IfErr, OnErr, length};
+ghost use Rattle.std.specs.Prelude.{◌≡◌, ℕ, ◌+◌, ◌≤◌, [], Ok, Some, None, IsTrue, IfSome, IfOk, IfErr, OnErr, OnOk, length};
 ghost use Rattle.vc_model.specs.Count.{Rose};
 ghost use Rattle.vc_script.specs.Answer.{answer};
-ghost use Rattle.vc_script.specs.Cutting.{IsCutting};
+ghost use Rattle.vc_script.specs.Cutting.{IsCutting, new_cutting};
+ghost use Rattle.vc_script.specs.Print.{line_of};
 ghost use Rattle.vc_script.specs.declared.line_fault.LineFault.{LineFault};
-ghost use Rattle.vc_session.specs.Engine.{LineRan};
+ghost use Rattle.vc_session.specs.Engine.{IsStep, LineRan};
 ghost use Rattle.vc_session.specs.Homes.{IsSessionOver, state_over};
 ghost use Rattle.vc_session.specs.Moment.{Keeps, ended, moment};
 ghost use Rattle.vc_session.specs.ProperState.{IsProperState};
-ghost use Rattle.vc_session.specs.Replay.{IsCutShort, IsReplay};
+ghost use Rattle.vc_session.specs.Replay.{IsCutShort, IsReplay, Told};
 ghost use Rattle.vc_session.specs.SoFar.{Ends, EndsAll, GoesOn, fuel};
 ghost use Rattle.vc_session.specs.Told.{KeepRules, rules_in};
 
@@ -17,7 +18,9 @@ use crate::stream::write_all;
 use std::alloc::Global;
 use vc_base::{OutOfMemory, ReadFailed, Sink, Source, WriteFailed};
 use vc_dtdisc::DictDisc;
-use vc_script::{Cut, LineAnswer, LineCutter, LineFault, Tool, print_reply, read_line};
+use vc_script::{
+    Command, Cut, LineAnswer, LineCutter, LineFault, Reply, Tool, print_reply, read_line,
+};
 use vc_seg::{BoxedDisc, SegDisc, Shelf};
 
 // Why a run ended before its lines did.
@@ -58,6 +61,41 @@ impl From<WriteFailed> for Stop {
     }
 }
 
+// Gathers the line of a reply behind those of the others.
+fn gather(alloc: Global, reply: &Reply, replies: &mut Vec<u8>) -> Result<(), OutOfMemory>
+    ensures { OnOk result (Told (Some replies.old.items) (Some replies.new.items)
+        (line_of reply.now)) }
+{
+    let printed = print_reply(alloc, reply)?;
+    replies.extend_from_slice(printed.as_slice())?;
+    Ok(())
+}
+
+// Runs the command of the line of that number and gathers its reply.
+fn run_answer<D: DictDisc>(
+    alloc: Global,
+    session: &mut Session<D>,
+    shelf: &mut Shelf,
+    kinds: &mut Vec<D>,
+    n: u32,
+    command: &Command,
+    replies: &mut Vec<u8>,
+) -> Result<(), OutOfMemory>
+    requires { IsSessionOver state (rules_in D.rules kinds.old.items) shelf.old session.old }
+    ensures ran { OnOk result (IsStep
+        (moment state D.rules D.gone shelf.old session.old kinds.old.items (Some replies.old.items))
+        (moment state D.rules D.gone shelf.new session.new kinds.new.items (Some replies.new.items))
+        n command.now) }
+    ensures session { IsSessionOver state (rules_in D.rules kinds.new.items) shelf.new session.new }
+    ensures rules { KeepRules D.rules kinds.old.items kinds.new.items }
+    ensures keeps { Keeps
+        (moment state D.rules D.gone shelf.old session.old kinds.old.items None)
+        (moment state D.rules D.gone shelf.new session.new kinds.new.items None) }
+{
+    let reply = session.step(shelf, kinds, n, command)?;
+    gather(alloc, &reply, replies)
+}
+
 // Runs the line of that number and gathers its reply, or answers what is wrong with it.
 fn run_line<D: DictDisc>(
     alloc: Global,
@@ -84,9 +122,7 @@ fn run_line<D: DictDisc>(
         LineAnswer::Blank => Ok(None),
         LineAnswer::Bad(fault) => Ok(Some(fault)),
         LineAnswer::Is(command) => {
-            let reply = session.step(shelf, kinds, n, &command)?;
-            let printed = print_reply(alloc, &reply)?;
-            replies.extend_from_slice(printed.as_slice())?;
+            run_answer(alloc, session, shelf, kinds, n, &command, replies)?;
             Ok(None)
         }
     }
@@ -194,8 +230,9 @@ fn run_last<D: DictDisc>(
     }
 }
 
-// Runs the lines before the first bad one, and answers that one, by its number from 1 on. The replies of what one read
-// gave are gathered, and written before the next read and before anything else.
+// Runs the lines before the first bad one over a new cutter, and answers that one, by its number from 1 on. The
+// replies of what one read gave are gathered in an empty vector, and written before the next read and before anything
+// else.
 pub(crate) fn run_lines<D: DictDisc, S: Source, O: Sink>(
     alloc: Global,
     tool: Tool,
@@ -204,11 +241,15 @@ pub(crate) fn run_lines<D: DictDisc, S: Source, O: Sink>(
     kinds: &mut Vec<D>,
     source: &mut S,
     out: &mut O,
+    cutter: &mut LineCutter,
+    replies: &mut Vec<u8>,
 ) -> Result<Option<(u32, LineFault)>, Stop>
     requires session { IsSessionOver state (rules_in D.rules kinds.old.items)
         shelf.old session.old }
     requires proper { IsProperState (state_over state (rules_in D.rules kinds.old.items)
         shelf.old session.old) }
+    requires cutter { cutter.old ≡ new_cutting }
+    requires none { replies.old.items ≡ [] }
     ensures replay { IfOk result (λ bad. IfSome (S.left source.old) (λ input. IsReplay tool
         (moment state D.rules D.gone shelf.old session.old kinds.old.items (O.written out.old))
         (ended (moment state D.rules D.gone shelf.new session.new kinds.new.items
@@ -230,8 +271,6 @@ pub(crate) fn run_lines<D: DictDisc, S: Source, O: Sink>(
     ensures reads { S.failures source.old ≤ S.failures source.new }
     ensures writes { O.failures out.old ≤ O.failures out.new }
 {
-    let mut cutter = LineCutter::new(alloc)?;
-    let mut replies = Vec::new(alloc);
     let mut buf = [0u8; 4096];
     loop {
         let n = source.read(&mut buf)?;
@@ -244,9 +283,9 @@ pub(crate) fn run_lines<D: DictDisc, S: Source, O: Sink>(
             session,
             shelf,
             kinds,
-            &mut cutter,
+            cutter,
             &buf[..n],
-            &mut replies,
+            replies,
         );
         write_all(out, replies.as_slice())?;
         match ran? {
@@ -255,15 +294,7 @@ pub(crate) fn run_lines<D: DictDisc, S: Source, O: Sink>(
         }
         replies.clear();
     }
-    let ran = run_last(
-        alloc,
-        tool,
-        session,
-        shelf,
-        kinds,
-        &mut cutter,
-        &mut replies,
-    );
+    let ran = run_last(alloc, tool, session, shelf, kinds, cutter, replies);
     write_all(out, replies.as_slice())?;
     Ok(ran?)
 }

@@ -17,7 +17,8 @@ pub fn refused_budget()
 pub fn pool()
     ensures { text_of (run at_first (script Vmreplay
         (codes "open r pool 1\nalloc r a 24\nalloc r b 24\nalloc r c 25\nalloc r c 8\n"
-        ++ codes "free r a\nfree r c\nalloc r d 24\nalloc r e 24\nalloc r f 24\nresize r f 25 move\n"))
+        ++ codes "free r a\nfree r c\nalloc r d 24\nalloc r e 24\nalloc r f 24\n"
+        ++ codes "resize r f 25 move\n"))
         [])
         ≡ codes "r open\na 1:32\nb 1:64\nrefused: pool size\nc 1:96\n"
         ++ codes "a freed\nc freed\nd 1:96\ne 1:32\nf 1:128\nrefused: pool size\n" }

@@ -16,7 +16,7 @@ use itoa::Buffer;
 use std::alloc::Global;
 use vc_base::{Sink, Source, WriteFailed};
 use vc_dtdisc::{BuiltIn, DictDisc};
-use vc_script::{LineFault, Tool};
+use vc_script::{LineCutter, LineFault, Tool};
 use vc_seg::{BoxedDisc, SegDisc, Shelf};
 
 // Runs the script of a source.
@@ -54,8 +54,20 @@ fn run_source<D: DictDisc, S: Source, O: Sink>(
     ensures reads { S.failures source.old ≤ S.failures source.new }
     ensures writes { O.failures out.old ≤ O.failures out.new }
 {
+    let mut cutter = LineCutter::new(alloc)?;
+    let mut replies = Vec::new(alloc);
     let mut session = Session::<D>::new(alloc, tool)?;
-    let ended = run_lines(alloc, tool, &mut session, shelf, kinds, source, out);
+    let ended = run_lines(
+        alloc,
+        tool,
+        &mut session,
+        shelf,
+        kinds,
+        source,
+        out,
+        &mut cutter,
+        &mut replies,
+    );
     session.end(shelf, kinds);
     ended
 }

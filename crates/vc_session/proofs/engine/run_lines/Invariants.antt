@@ -9,8 +9,8 @@ use Rattle.vc_session.specs.Told.{rules_in}
 use Rattle.vc_session.proofs.engine.run_lines.Given as goal
 
 -- what was read is run, up to the line that has begun, and its replies are written
-abbrev pub invariant-loop-replies : goal.invariant-loop-replies
-invariant-loop-replies g l =
+abbrev pub invariant-loop-n : goal.invariant-loop-n
+invariant-loop-n g l =
     record {
       room : length l.buf ≡ 4096;
       none : l.replies.items ≡ [];
@@ -31,5 +31,5 @@ invariant-loop-replies g l =
       writes : g.O.Sink.failures l.fn.out ≤ g.O.Sink.failures l.out;
     }
 
-abbrev pub decreases-loop-replies : goal.decreases-loop-replies
-decreases-loop-replies g l = fuel l.cutter
+abbrev pub decreases-loop-n : goal.decreases-loop-n
+decreases-loop-n g l = fuel l.cutter

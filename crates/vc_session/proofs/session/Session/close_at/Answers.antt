@@ -43,12 +43,9 @@ close_region-requires-clause-lent g c =
 pub returns-clause-count : goal.returns-clause-count
 returns-clause-count g c =
     let M = meaning g in
-    let slots = slots_on M c.args.shelf.now in
-    let helds = held_in M c.args.self.now in
     let entries = c.args.self.now.homes.entries in
     let labels = c.args.self.now.labels.items in
     let own = slice-or labels c.args.i c.remove.result (omega (arith, c.requires.session.named, c.requires.within)) c.remove.ensures.value in
-    let h = held_of M c.in-Some.field-0-0 c.in-Some.home c.remove.result in
     let at = held-entry M entries labels c.args.i (c.in-Some.field-0-0, c.in-Some.home) c.remove.result (sym c.in-Some.ensures.entry) own in
     subst (λ o. IfSome o (λ (k : Held). c.close_region.result ≡ length (segments_of k.region))) (sym at) c.close_region.ensures.count
 
@@ -56,18 +53,15 @@ pub returns-clause-here : goal.returns-clause-here
 returns-clause-here g c =
     let M = meaning g in
     let slots = slots_on M c.args.shelf.now in
-    let helds = held_in M c.args.self.now in
     let entries = c.args.self.now.homes.entries in
     let labels = c.args.self.now.labels.items in
     let own = slice-or labels c.args.i c.remove.result (omega (arith, c.requires.session.named, c.requires.within)) c.remove.ensures.value in
-    let h = held_of M c.in-Some.field-0-0 c.in-Some.home c.remove.result in
     let at = held-entry M entries labels c.args.i (c.in-Some.field-0-0, c.in-Some.home) c.remove.result (sym c.in-Some.ensures.entry) own in
     subst (λ o. IfSome o (λ (k : Held). accounts_on M c.close_region.new.shelf ≡ set (accounts slots) (k.place - 1) (Some (account_after k)))) (sym at) c.close_region.ensures.here
 
 pub returns-clause-others : goal.returns-clause-others
 returns-clause-others g c =
     let M = meaning g in
-    let slots = slots_on M c.args.shelf.now in
     let helds = held_in M c.args.self.now in
     let entries = c.args.self.now.homes.entries in
     let labels = c.args.self.now.labels.items in
@@ -106,7 +100,6 @@ returns-clause-session g c =
 pub returns-clause-dicts : goal.returns-clause-dicts
 returns-clause-dicts g c = λ kinds dicts.
     let M = meaning g in
-    let slots = slots_on M c.args.shelf.now in
     let helds = held_in M c.args.self.now in
     let entries = c.args.self.now.homes.entries in
     let labels = c.args.self.now.labels.items in

@@ -1,6 +1,6 @@
-use Rattle.std.proofs.Common.{◌≡◌, ◌-◌, ℕ, true, false, is_some, List, [], ◌∷◌, ◌++◌, Some, None, length, option_map, set, refl, sym, ap, ◌∙◌, subst, arith}
+use Rattle.std.proofs.Common.{◌≡◌, ◌-◌, true, false, is_some, [], ◌∷◌, ◌++◌, Some, None, length, option_map, set, refl, sym, ap, ◌∙◌, subst, arith}
 use Rattle.std.specs.Prelude.{slice_get}
-use Rattle.std.specs.Map.{lookup, values_of}
+use Rattle.std.specs.Map.{lookup}
 use Rattle.std.specs.Str.{bytes_eq}
 use Rattle.std.proofs.lemmas.List.{length-map}
 use Rattle.std.proofs.lemmas.Option.{same_Some, slice_get-map}
@@ -36,7 +36,8 @@ use Rattle.vc_session.proofs.DictRegion.{held_after, region-change, touches}
 use Rattle.vc_session.proofs.DictWhy.{kind-within, lacks-early, refused-early, refused-none, settles-early}
 use Rattle.vc_session.proofs.Ending.{if_some-at}
 use Rattle.vc_session.proofs.Firsts.{find-none}
-use Rattle.vc_session.proofs.Helds.{any-named, first-named, held-read, held-set, index-within, length-set, name-at, none_of, slice-or, some-at}
+use Rattle.vc_session.proofs.Helds.{any-named, first-named, held-read, held-set, index-within, length-set, name-at, none_of, slice-or}
+use Rattle.vc_session.proofs.Placed.{home-at, labels-at}
 use Rattle.vc_session.proofs.Sessions.{held-at}
 use Rattle.vc_session.proofs.Settling.{settles-same}
 use Rattle.vc_session.proofs.session.Session.open_dict.Given as given
@@ -57,60 +58,27 @@ returns-in_default-clause-step g c =
     let entries = c.args.self.now.homes.entries in
     let labels = c.args.self.now.labels.items in
     let named = c.requires.session.regions.named in
-    let session = c.requires.session.regions.held in
-    let dicts = c.requires.session.dicts in
     let ds = c.args.self.now.dicts.entries in
     let d = c.args.name in
     let method = c.args.method in
     let r = c.args.region in
     let k = c.args.kind in
     let s = state_of kinds slots helds (dicts_in helds ds) in
-    let shelf = settled (accounts slots) helds in
     open-none s gone d r method k NoNeed (find-none (is_home r) s.homes (any-named M entries labels r named ∙ (sym c.get_index_of.ensures.found ∙ ap is_some c.in_default.is)))
 
 pub returns-in_default-clause-keeps : goal.returns-in_default-clause-keeps
 returns-in_default-clause-keeps g c =
     let M = meaning g in
-    let items = c.args.kinds.now.items in
-    let item = g.D.DictDisc.rules in
-    let kinds = rules_in item items in
-    let gone = gone_in g.D.DictDisc.gone items in
     let slots = slots_on M c.args.shelf.now in
     let helds = held_in M c.args.self.now in
-    let entries = c.args.self.now.homes.entries in
-    let labels = c.args.self.now.labels.items in
-    let named = c.requires.session.regions.named in
-    let session = c.requires.session.regions.held in
-    let dicts = c.requires.session.dicts in
-    let ds = c.args.self.now.dicts.entries in
-    let d = c.args.name in
-    let method = c.args.method in
-    let r = c.args.region in
-    let k = c.args.kind in
-    let s = state_of kinds slots helds (dicts_in helds ds) in
     let shelf = settled (accounts slots) helds in
     settles-same shelf
 
 pub returns-in_default-clause-settles : goal.returns-in_default-clause-settles
 returns-in_default-clause-settles g c =
     let M = meaning g in
-    let items = c.args.kinds.now.items in
-    let item = g.D.DictDisc.rules in
-    let kinds = rules_in item items in
-    let gone = gone_in g.D.DictDisc.gone items in
     let slots = slots_on M c.args.shelf.now in
     let helds = held_in M c.args.self.now in
-    let entries = c.args.self.now.homes.entries in
-    let labels = c.args.self.now.labels.items in
-    let named = c.requires.session.regions.named in
-    let session = c.requires.session.regions.held in
-    let dicts = c.requires.session.dicts in
-    let ds = c.args.self.now.dicts.entries in
-    let d = c.args.name in
-    let method = c.args.method in
-    let r = c.args.region in
-    let k = c.args.kind in
-    let s = state_of kinds slots helds (dicts_in helds ds) in
     let shelf = settled (accounts slots) helds in
     settles-same shelf
 
@@ -134,12 +102,11 @@ returns-in-Some-dict_refused-clause-step g c =
     let r = c.args.region in
     let k = c.args.kind in
     let s = state_of kinds slots helds (dicts_in helds ds) in
-    let shelf = settled (accounts slots) helds in
     let j = c.in-Some.j in
     let index = sym c.get_index_of.ensures.index ∙ c.in-Some.is in
     let within = index-within M entries r j index in
-    let l = some-at labels j (omega (arith, named, length-map entries (λ (x : List ℕ × HomeEntry _ _). x.0), within)) in
-    let v = some-at (values_of entries) j (omega (arith, length-map entries (λ (x : List ℕ × HomeEntry _ _). x.1), length-map entries (λ (x : List ℕ × HomeEntry _ _). x.0), within)) in
+    let l = labels-at entries j within labels named in
+    let v = home-at entries j within in
     let name = name-at M entries r j index in
     let h = held_of M r v.0 l.0 in
     let at = held-read M entries labels j r v.0 l.0 name v.1 l.1 in
@@ -153,23 +120,8 @@ returns-in-Some-dict_refused-clause-step g c =
 pub returns-in-Some-dict_refused-clause-keeps : goal.returns-in-Some-dict_refused-clause-keeps
 returns-in-Some-dict_refused-clause-keeps g c =
     let M = meaning g in
-    let items = c.args.kinds.now.items in
-    let item = g.D.DictDisc.rules in
-    let kinds = rules_in item items in
-    let gone = gone_in g.D.DictDisc.gone items in
     let slots = slots_on M c.args.shelf.now in
     let helds = held_in M c.args.self.now in
-    let entries = c.args.self.now.homes.entries in
-    let labels = c.args.self.now.labels.items in
-    let named = c.requires.session.regions.named in
-    let session = c.requires.session.regions.held in
-    let dicts = c.requires.session.dicts in
-    let ds = c.args.self.now.dicts.entries in
-    let d = c.args.name in
-    let method = c.args.method in
-    let r = c.args.region in
-    let k = c.args.kind in
-    let s = state_of kinds slots helds (dicts_in helds ds) in
     let shelf = settled (accounts slots) helds in
     settles-same shelf
 
@@ -179,14 +131,11 @@ returns-in-Some-dict_refused-clause-settles g c =
     let items = c.args.kinds.now.items in
     let item = g.D.DictDisc.rules in
     let kinds = rules_in item items in
-    let gone = gone_in g.D.DictDisc.gone items in
     let slots = slots_on M c.args.shelf.now in
     let helds = held_in M c.args.self.now in
     let entries = c.args.self.now.homes.entries in
     let labels = c.args.self.now.labels.items in
     let named = c.requires.session.regions.named in
-    let session = c.requires.session.regions.held in
-    let dicts = c.requires.session.dicts in
     let ds = c.args.self.now.dicts.entries in
     let d = c.args.name in
     let method = c.args.method in
@@ -197,12 +146,11 @@ returns-in-Some-dict_refused-clause-settles g c =
     let j = c.in-Some.j in
     let index = sym c.get_index_of.ensures.index ∙ c.in-Some.is in
     let within = index-within M entries r j index in
-    let l = some-at labels j (omega (arith, named, length-map entries (λ (x : List ℕ × HomeEntry _ _). x.0), within)) in
-    let v = some-at (values_of entries) j (omega (arith, length-map entries (λ (x : List ℕ × HomeEntry _ _). x.1), length-map entries (λ (x : List ℕ × HomeEntry _ _). x.0), within)) in
+    let l = labels-at entries j within labels named in
+    let v = home-at entries j within in
     let name = name-at M entries r j index in
     let h = held_of M r v.0 l.0 in
     let at = held-read M entries labels j r v.0 l.0 name v.1 l.1 in
-    let first = first-named M entries labels r j named index in
     let why : c.dict_refused.result ≡ dict_refused s (home_of h) d k =
     if_some-at (λ (q : Held). c.dict_refused.result ≡ dict_refused s (home_of q) d k) (slice_get helds j) h at c.dict_refused.ensures in
     let refusal = c.in-Some-dict_refused.why in
@@ -215,30 +163,25 @@ returns-in-Some-dict_refused-clause-lacks g c =
     let items = c.args.kinds.now.items in
     let item = g.D.DictDisc.rules in
     let kinds = rules_in item items in
-    let gone = gone_in g.D.DictDisc.gone items in
     let slots = slots_on M c.args.shelf.now in
     let helds = held_in M c.args.self.now in
     let entries = c.args.self.now.homes.entries in
     let labels = c.args.self.now.labels.items in
     let named = c.requires.session.regions.named in
-    let session = c.requires.session.regions.held in
-    let dicts = c.requires.session.dicts in
     let ds = c.args.self.now.dicts.entries in
     let d = c.args.name in
     let method = c.args.method in
     let r = c.args.region in
     let k = c.args.kind in
     let s = state_of kinds slots helds (dicts_in helds ds) in
-    let shelf = settled (accounts slots) helds in
     let j = c.in-Some.j in
     let index = sym c.get_index_of.ensures.index ∙ c.in-Some.is in
     let within = index-within M entries r j index in
-    let l = some-at labels j (omega (arith, named, length-map entries (λ (x : List ℕ × HomeEntry _ _). x.0), within)) in
-    let v = some-at (values_of entries) j (omega (arith, length-map entries (λ (x : List ℕ × HomeEntry _ _). x.1), length-map entries (λ (x : List ℕ × HomeEntry _ _). x.0), within)) in
+    let l = labels-at entries j within labels named in
+    let v = home-at entries j within in
     let name = name-at M entries r j index in
     let h = held_of M r v.0 l.0 in
     let at = held-read M entries labels j r v.0 l.0 name v.1 l.1 in
-    let first = first-named M entries labels r j named index in
     let why : c.dict_refused.result ≡ dict_refused s (home_of h) d k =
     if_some-at (λ (q : Held). c.dict_refused.result ≡ dict_refused s (home_of q) d k) (slice_get helds j) h at c.dict_refused.ensures in
     let refusal = c.in-Some-dict_refused.why in
@@ -251,43 +194,17 @@ returns-in_err-reserve-clause-session g c =
     let items = c.args.kinds.now.items in
     let item = g.D.DictDisc.rules in
     let kinds = rules_in item items in
-    let gone = gone_in g.D.DictDisc.gone items in
-    let slots = slots_on M c.args.shelf.now in
     let helds = held_in M c.args.self.now in
-    let entries = c.args.self.now.homes.entries in
-    let labels = c.args.self.now.labels.items in
     let named = c.requires.session.regions.named in
     let session = c.requires.session.regions.held in
     let dicts = c.requires.session.dicts in
-    let ds = c.args.self.now.dicts.entries in
-    let d = c.args.name in
-    let method = c.args.method in
-    let r = c.args.region in
-    let k = c.args.kind in
-    let s = state_of kinds slots helds (dicts_in helds ds) in
-    let shelf = settled (accounts slots) helds in
     record { regions = record { named = named; held = session }; dicts = subst (AreDicts kinds helds) (sym c.reserve.ensures.entries) dicts }
 
 pub returns-in_err-reserve-clause-keeps : goal.returns-in_err-reserve-clause-keeps
 returns-in_err-reserve-clause-keeps g c =
     let M = meaning g in
-    let items = c.args.kinds.now.items in
-    let item = g.D.DictDisc.rules in
-    let kinds = rules_in item items in
-    let gone = gone_in g.D.DictDisc.gone items in
     let slots = slots_on M c.args.shelf.now in
     let helds = held_in M c.args.self.now in
-    let entries = c.args.self.now.homes.entries in
-    let labels = c.args.self.now.labels.items in
-    let named = c.requires.session.regions.named in
-    let session = c.requires.session.regions.held in
-    let dicts = c.requires.session.dicts in
-    let ds = c.args.self.now.dicts.entries in
-    let d = c.args.name in
-    let method = c.args.method in
-    let r = c.args.region in
-    let k = c.args.kind in
-    let s = state_of kinds slots helds (dicts_in helds ds) in
     let shelf = settled (accounts slots) helds in
     settles-same shelf
 
@@ -297,21 +214,8 @@ returns-in_err-reserve-clause-err g c =
     let items = c.args.kinds.now.items in
     let item = g.D.DictDisc.rules in
     let kinds = rules_in item items in
-    let gone = gone_in g.D.DictDisc.gone items in
     let slots = slots_on M c.args.shelf.now in
     let helds = held_in M c.args.self.now in
-    let entries = c.args.self.now.homes.entries in
-    let labels = c.args.self.now.labels.items in
-    let named = c.requires.session.regions.named in
-    let session = c.requires.session.regions.held in
-    let dicts = c.requires.session.dicts in
-    let ds = c.args.self.now.dicts.entries in
-    let d = c.args.name in
-    let method = c.args.method in
-    let r = c.args.region in
-    let k = c.args.kind in
-    let s = state_of kinds slots helds (dicts_in helds ds) in
-    let shelf = settled (accounts slots) helds in
     on-error c.from_residual.result (ap (λ x. state_of kinds slots helds (dicts_in helds x)) c.reserve.ensures.entries)
 
 pub open-requires : goal.open-requires
@@ -320,41 +224,30 @@ open-requires g c =
     let items = c.args.kinds.now.items in
     let item = g.D.DictDisc.rules in
     let kinds = rules_in item items in
-    let gone = gone_in g.D.DictDisc.gone items in
     let slots = slots_on M c.args.shelf.now in
     let helds = held_in M c.args.self.now in
     let entries = c.args.self.now.homes.entries in
     let labels = c.args.self.now.labels.items in
     let named = c.requires.session.regions.named in
-    let session = c.requires.session.regions.held in
-    let dicts = c.requires.session.dicts in
     let ds = c.args.self.now.dicts.entries in
     let d = c.args.name in
-    let method = c.args.method in
     let r = c.args.region in
     let k = c.args.kind in
     let s = state_of kinds slots helds (dicts_in helds ds) in
-    let shelf = settled (accounts slots) helds in
     let j = c.in-Some.j in
     let index = sym c.get_index_of.ensures.index ∙ c.in-Some.is in
     let within = index-within M entries r j index in
-    let l = some-at labels j (omega (arith, named, length-map entries (λ (x : List ℕ × HomeEntry _ _). x.0), within)) in
-    let v = some-at (values_of entries) j (omega (arith, length-map entries (λ (x : List ℕ × HomeEntry _ _). x.1), length-map entries (λ (x : List ℕ × HomeEntry _ _). x.0), within)) in
+    let l = labels-at entries j within labels named in
+    let v = home-at entries j within in
     let name = name-at M entries r j index in
     let h = held_of M r v.0 l.0 in
     let at = held-read M entries labels j r v.0 l.0 name v.1 l.1 in
-    let first = first-named M entries labels r j named index in
     let why : c.dict_refused.result ≡ dict_refused s (home_of h) d k =
     if_some-at (λ (q : Held). c.dict_refused.result ≡ dict_refused s (home_of q) d k) (slice_get helds j) h at c.dict_refused.ensures in
     let none : dict_refused s (home_of h) d k ≡ None = sym why ∙ c.in_default-dict_refused.is in
     let may = refused-none s (home_of h) d k none in
-    let range = kind-within k (length kinds) may.kind in
-    let many = length-map items item in
     let home = c.index_mut.result.now in
     let same_home : v.0 ≡ home = same_Some v.0 home (sym v.1 ∙ c.index_mut.ensures.value) in
-    let h' = held_of M r home l.0 in
-    let at' = held-read M entries labels j r home l.0 name c.index_mut.ensures.value l.1 in
-    let none' : dict_refused s (home_of h') d k ≡ None = ap (λ (x : HomeEntry _ _). dict_refused s (home_of (held_of M r x l.0)) d k) (sym same_home) ∙ none in
     let best : is_best (rest_in home.region) ≡ true =
     sym (best-relabelled (name_of l.0) (rest_in home.region)) ∙ (ap (λ (x : HomeEntry _ _). is_best (home_of (held_of M r x l.0)).region) (sym same_home) ∙ may.best) in
     record { best = best }
@@ -365,36 +258,29 @@ overflow_sub-kind g c =
     let items = c.args.kinds.now.items in
     let item = g.D.DictDisc.rules in
     let kinds = rules_in item items in
-    let gone = gone_in g.D.DictDisc.gone items in
     let slots = slots_on M c.args.shelf.now in
     let helds = held_in M c.args.self.now in
     let entries = c.args.self.now.homes.entries in
     let labels = c.args.self.now.labels.items in
     let named = c.requires.session.regions.named in
-    let session = c.requires.session.regions.held in
-    let dicts = c.requires.session.dicts in
     let ds = c.args.self.now.dicts.entries in
     let d = c.args.name in
-    let method = c.args.method in
     let r = c.args.region in
     let k = c.args.kind in
     let s = state_of kinds slots helds (dicts_in helds ds) in
-    let shelf = settled (accounts slots) helds in
     let j = c.in-Some.j in
     let index = sym c.get_index_of.ensures.index ∙ c.in-Some.is in
     let within = index-within M entries r j index in
-    let l = some-at labels j (omega (arith, named, length-map entries (λ (x : List ℕ × HomeEntry _ _). x.0), within)) in
-    let v = some-at (values_of entries) j (omega (arith, length-map entries (λ (x : List ℕ × HomeEntry _ _). x.1), length-map entries (λ (x : List ℕ × HomeEntry _ _). x.0), within)) in
+    let l = labels-at entries j within labels named in
+    let v = home-at entries j within in
     let name = name-at M entries r j index in
     let h = held_of M r v.0 l.0 in
     let at = held-read M entries labels j r v.0 l.0 name v.1 l.1 in
-    let first = first-named M entries labels r j named index in
     let why : c.dict_refused.result ≡ dict_refused s (home_of h) d k =
     if_some-at (λ (q : Held). c.dict_refused.result ≡ dict_refused s (home_of q) d k) (slice_get helds j) h at c.dict_refused.ensures in
     let none : dict_refused s (home_of h) d k ≡ None = sym why ∙ c.in_default-dict_refused.is in
     let may = refused-none s (home_of h) d k none in
     let range = kind-within k (length kinds) may.kind in
-    let many = length-map items item in
     range.0
 
 pub index-requires : goal.index-requires
@@ -403,30 +289,24 @@ index-requires g c =
     let items = c.args.kinds.now.items in
     let item = g.D.DictDisc.rules in
     let kinds = rules_in item items in
-    let gone = gone_in g.D.DictDisc.gone items in
     let slots = slots_on M c.args.shelf.now in
     let helds = held_in M c.args.self.now in
     let entries = c.args.self.now.homes.entries in
     let labels = c.args.self.now.labels.items in
     let named = c.requires.session.regions.named in
-    let session = c.requires.session.regions.held in
-    let dicts = c.requires.session.dicts in
     let ds = c.args.self.now.dicts.entries in
     let d = c.args.name in
-    let method = c.args.method in
     let r = c.args.region in
     let k = c.args.kind in
     let s = state_of kinds slots helds (dicts_in helds ds) in
-    let shelf = settled (accounts slots) helds in
     let j = c.in-Some.j in
     let index = sym c.get_index_of.ensures.index ∙ c.in-Some.is in
     let within = index-within M entries r j index in
-    let l = some-at labels j (omega (arith, named, length-map entries (λ (x : List ℕ × HomeEntry _ _). x.0), within)) in
-    let v = some-at (values_of entries) j (omega (arith, length-map entries (λ (x : List ℕ × HomeEntry _ _). x.1), length-map entries (λ (x : List ℕ × HomeEntry _ _). x.0), within)) in
+    let l = labels-at entries j within labels named in
+    let v = home-at entries j within in
     let name = name-at M entries r j index in
     let h = held_of M r v.0 l.0 in
     let at = held-read M entries labels j r v.0 l.0 name v.1 l.1 in
-    let first = first-named M entries labels r j named index in
     let why : c.dict_refused.result ≡ dict_refused s (home_of h) d k =
     if_some-at (λ (q : Held). c.dict_refused.result ≡ dict_refused s (home_of q) d k) (slice_get helds j) h at c.dict_refused.ensures in
     let none : dict_refused s (home_of h) d k ≡ None = sym why ∙ c.in_default-dict_refused.is in
@@ -455,12 +335,11 @@ returns-in-Err-clause-step g c =
     let r = c.args.region in
     let k = c.args.kind in
     let s = state_of kinds slots helds (dicts_in helds ds) in
-    let shelf = settled (accounts slots) helds in
     let j = c.in-Some.j in
     let index = sym c.get_index_of.ensures.index ∙ c.in-Some.is in
     let within = index-within M entries r j index in
-    let l = some-at labels j (omega (arith, named, length-map entries (λ (x : List ℕ × HomeEntry _ _). x.0), within)) in
-    let v = some-at (values_of entries) j (omega (arith, length-map entries (λ (x : List ℕ × HomeEntry _ _). x.1), length-map entries (λ (x : List ℕ × HomeEntry _ _). x.0), within)) in
+    let l = labels-at entries j within labels named in
+    let v = home-at entries j within in
     let name = name-at M entries r j index in
     let h = held_of M r v.0 l.0 in
     let at = held-read M entries labels j r v.0 l.0 name v.1 l.1 in
@@ -469,8 +348,6 @@ returns-in-Err-clause-step g c =
     if_some-at (λ (q : Held). c.dict_refused.result ≡ dict_refused s (home_of q) d k) (slice_get helds j) h at c.dict_refused.ensures in
     let none : dict_refused s (home_of h) d k ≡ None = sym why ∙ c.in_default-dict_refused.is in
     let may = refused-none s (home_of h) d k none in
-    let range = kind-within k (length kinds) may.kind in
-    let many = length-map items item in
     let home = c.index_mut.result.now in
     let same_home : v.0 ≡ home = same_Some v.0 home (sym v.1 ∙ c.index_mut.ensures.value) in
     let h' = held_of M r home l.0 in
@@ -490,11 +367,9 @@ returns-in-Err-clause-step g c =
     let change = region-change M r home after l.0 [] mine best leaves held.lent held.names in
     let helds' : held_all M homes' labels ≡ set helds j g' =
     ap (λ ls. held_all M homes' ls) (sym (set_same labels j l.0 l.1)) ∙ held-set M entries labels j r entry l.0 named name in
-    let named' : length labels ≡ length homes' = sym (ap length (set_same labels j l.0 l.1)) ∙ length-set M entries labels j entry l.0 named in
     let fault = c.in-Err.fault in
     let refusal = c.in-Err.ensures.err.0 in
     let region = c.in-Err.ensures.err.1 in
-    let lacks = table-lacks fault (Some 16) h'.disc g'.disc c.in-Err.ensures.asked in
     let new = c.reserve.new.self.entries in
     let hs' = held_all M homes' labels in
     let same_state : state_of kinds slots hs' (dicts_in hs' new) ≡ s =
@@ -510,7 +385,6 @@ returns-in-Err-clause-session g c =
     let items = c.args.kinds.now.items in
     let item = g.D.DictDisc.rules in
     let kinds = rules_in item items in
-    let gone = gone_in g.D.DictDisc.gone items in
     let slots = slots_on M c.args.shelf.now in
     let helds = held_in M c.args.self.now in
     let entries = c.args.self.now.homes.entries in
@@ -524,12 +398,11 @@ returns-in-Err-clause-session g c =
     let r = c.args.region in
     let k = c.args.kind in
     let s = state_of kinds slots helds (dicts_in helds ds) in
-    let shelf = settled (accounts slots) helds in
     let j = c.in-Some.j in
     let index = sym c.get_index_of.ensures.index ∙ c.in-Some.is in
     let within = index-within M entries r j index in
-    let l = some-at labels j (omega (arith, named, length-map entries (λ (x : List ℕ × HomeEntry _ _). x.0), within)) in
-    let v = some-at (values_of entries) j (omega (arith, length-map entries (λ (x : List ℕ × HomeEntry _ _). x.1), length-map entries (λ (x : List ℕ × HomeEntry _ _). x.0), within)) in
+    let l = labels-at entries j within labels named in
+    let v = home-at entries j within in
     let name = name-at M entries r j index in
     let h = held_of M r v.0 l.0 in
     let at = held-read M entries labels j r v.0 l.0 name v.1 l.1 in
@@ -538,13 +411,10 @@ returns-in-Err-clause-session g c =
     if_some-at (λ (q : Held). c.dict_refused.result ≡ dict_refused s (home_of q) d k) (slice_get helds j) h at c.dict_refused.ensures in
     let none : dict_refused s (home_of h) d k ≡ None = sym why ∙ c.in_default-dict_refused.is in
     let may = refused-none s (home_of h) d k none in
-    let range = kind-within k (length kinds) may.kind in
-    let many = length-map items item in
     let home = c.index_mut.result.now in
     let same_home : v.0 ≡ home = same_Some v.0 home (sym v.1 ∙ c.index_mut.ensures.value) in
     let h' = held_of M r home l.0 in
     let at' = held-read M entries labels j r home l.0 name c.index_mut.ensures.value l.1 in
-    let none' : dict_refused s (home_of h') d k ≡ None = ap (λ (x : HomeEntry _ _). dict_refused s (home_of (held_of M r x l.0)) d k) (sym same_home) ∙ none in
     let best : is_best (rest_in home.region) ≡ true =
     sym (best-relabelled (name_of l.0) (rest_in home.region)) ∙ (ap (λ (x : HomeEntry _ _). is_best (home_of (held_of M r x l.0)).region) (sym same_home) ∙ may.best) in
     let held = held-at slots helds j h' at' session in
@@ -560,16 +430,7 @@ returns-in-Err-clause-session g c =
     let helds' : held_all M homes' labels ≡ set helds j g' =
     ap (λ ls. held_all M homes' ls) (sym (set_same labels j l.0 l.1)) ∙ held-set M entries labels j r entry l.0 named name in
     let named' : length labels ≡ length homes' = sym (ap length (set_same labels j l.0 l.1)) ∙ length-set M entries labels j entry l.0 named in
-    let fault = c.in-Err.fault in
-    let refusal = c.in-Err.ensures.err.0 in
-    let region = c.in-Err.ensures.err.1 in
-    let lacks = table-lacks fault (Some 16) h'.disc g'.disc c.in-Err.ensures.asked in
     let new = c.reserve.new.self.entries in
-    let hs' = held_all M homes' labels in
-    let same_state : state_of kinds slots hs' (dicts_in hs' new) ≡ s =
-    ap (λ hs. state_of kinds slots hs (dicts_in hs new)) helds'
-    ∙ (ap (λ x. state_of kinds slots (set helds j g') (dicts_in (set helds j g') x)) kept
-    ∙ state-failed kinds slots helds ds j h' at' r first session dicts d method k g' change touch region refl) in
     record {
       regions = record { named = named'; held = subst (IsSession slots) (sym helds') (session-change slots helds j h' g' at' session change) };
       dicts =
@@ -583,17 +444,14 @@ returns-in-Err-clause-keeps g c =
     let items = c.args.kinds.now.items in
     let item = g.D.DictDisc.rules in
     let kinds = rules_in item items in
-    let gone = gone_in g.D.DictDisc.gone items in
     let slots = slots_on M c.args.shelf.now in
     let helds = held_in M c.args.self.now in
     let entries = c.args.self.now.homes.entries in
     let labels = c.args.self.now.labels.items in
     let named = c.requires.session.regions.named in
     let session = c.requires.session.regions.held in
-    let dicts = c.requires.session.dicts in
     let ds = c.args.self.now.dicts.entries in
     let d = c.args.name in
-    let method = c.args.method in
     let r = c.args.region in
     let k = c.args.kind in
     let s = state_of kinds slots helds (dicts_in helds ds) in
@@ -601,38 +459,31 @@ returns-in-Err-clause-keeps g c =
     let j = c.in-Some.j in
     let index = sym c.get_index_of.ensures.index ∙ c.in-Some.is in
     let within = index-within M entries r j index in
-    let l = some-at labels j (omega (arith, named, length-map entries (λ (x : List ℕ × HomeEntry _ _). x.0), within)) in
-    let v = some-at (values_of entries) j (omega (arith, length-map entries (λ (x : List ℕ × HomeEntry _ _). x.1), length-map entries (λ (x : List ℕ × HomeEntry _ _). x.0), within)) in
+    let l = labels-at entries j within labels named in
+    let v = home-at entries j within in
     let name = name-at M entries r j index in
     let h = held_of M r v.0 l.0 in
     let at = held-read M entries labels j r v.0 l.0 name v.1 l.1 in
-    let first = first-named M entries labels r j named index in
     let why : c.dict_refused.result ≡ dict_refused s (home_of h) d k =
     if_some-at (λ (q : Held). c.dict_refused.result ≡ dict_refused s (home_of q) d k) (slice_get helds j) h at c.dict_refused.ensures in
     let none : dict_refused s (home_of h) d k ≡ None = sym why ∙ c.in_default-dict_refused.is in
     let may = refused-none s (home_of h) d k none in
-    let range = kind-within k (length kinds) may.kind in
-    let many = length-map items item in
     let home = c.index_mut.result.now in
     let same_home : v.0 ≡ home = same_Some v.0 home (sym v.1 ∙ c.index_mut.ensures.value) in
     let h' = held_of M r home l.0 in
     let at' = held-read M entries labels j r home l.0 name c.index_mut.ensures.value l.1 in
-    let none' : dict_refused s (home_of h') d k ≡ None = ap (λ (x : HomeEntry _ _). dict_refused s (home_of (held_of M r x l.0)) d k) (sym same_home) ∙ none in
     let best : is_best (rest_in home.region) ≡ true =
     sym (best-relabelled (name_of l.0) (rest_in home.region)) ∙ (ap (λ (x : HomeEntry _ _). is_best (home_of (held_of M r x l.0)).region) (sym same_home) ∙ may.best) in
     let held = held-at slots helds j h' at' session in
     let after = c.open.new.region in
     let entry : HomeEntry _ _ = record { place = home.place; region = after } in
     let homes' = set_value_at entries j entry in
-    let kept = c.reserve.ensures.entries in
     let mine = [] in
     let leaves = c.in-Err.ensures.err.3 in
     let g' = held_after M r home after l.0 [] mine best leaves in
-    let touch = touches M r home after l.0 [] mine best leaves in
     let change = region-change M r home after l.0 [] mine best leaves held.lent held.names in
     let helds' : held_all M homes' labels ≡ set helds j g' =
     ap (λ ls. held_all M homes' ls) (sym (set_same labels j l.0 l.1)) ∙ held-set M entries labels j r entry l.0 named name in
-    let named' : length labels ≡ length homes' = sym (ap length (set_same labels j l.0 l.1)) ∙ length-set M entries labels j entry l.0 named in
     subst (λ hs. Settles shelf (settled (accounts slots) hs) []) (sym helds') (settles-none slots helds j h' g' at' session change)
 
 pub returns-in-Err-clause-settles : goal.returns-in-Err-clause-settles
@@ -641,7 +492,6 @@ returns-in-Err-clause-settles g c =
     let items = c.args.kinds.now.items in
     let item = g.D.DictDisc.rules in
     let kinds = rules_in item items in
-    let gone = gone_in g.D.DictDisc.gone items in
     let slots = slots_on M c.args.shelf.now in
     let helds = held_in M c.args.self.now in
     let entries = c.args.self.now.homes.entries in
@@ -659,8 +509,8 @@ returns-in-Err-clause-settles g c =
     let j = c.in-Some.j in
     let index = sym c.get_index_of.ensures.index ∙ c.in-Some.is in
     let within = index-within M entries r j index in
-    let l = some-at labels j (omega (arith, named, length-map entries (λ (x : List ℕ × HomeEntry _ _). x.0), within)) in
-    let v = some-at (values_of entries) j (omega (arith, length-map entries (λ (x : List ℕ × HomeEntry _ _). x.1), length-map entries (λ (x : List ℕ × HomeEntry _ _). x.0), within)) in
+    let l = labels-at entries j within labels named in
+    let v = home-at entries j within in
     let name = name-at M entries r j index in
     let h = held_of M r v.0 l.0 in
     let at = held-read M entries labels j r v.0 l.0 name v.1 l.1 in
@@ -669,38 +519,25 @@ returns-in-Err-clause-settles g c =
     if_some-at (λ (q : Held). c.dict_refused.result ≡ dict_refused s (home_of q) d k) (slice_get helds j) h at c.dict_refused.ensures in
     let none : dict_refused s (home_of h) d k ≡ None = sym why ∙ c.in_default-dict_refused.is in
     let may = refused-none s (home_of h) d k none in
-    let range = kind-within k (length kinds) may.kind in
-    let many = length-map items item in
     let home = c.index_mut.result.now in
     let same_home : v.0 ≡ home = same_Some v.0 home (sym v.1 ∙ c.index_mut.ensures.value) in
     let h' = held_of M r home l.0 in
     let at' = held-read M entries labels j r home l.0 name c.index_mut.ensures.value l.1 in
-    let none' : dict_refused s (home_of h') d k ≡ None = ap (λ (x : HomeEntry _ _). dict_refused s (home_of (held_of M r x l.0)) d k) (sym same_home) ∙ none in
     let best : is_best (rest_in home.region) ≡ true =
     sym (best-relabelled (name_of l.0) (rest_in home.region)) ∙ (ap (λ (x : HomeEntry _ _). is_best (home_of (held_of M r x l.0)).region) (sym same_home) ∙ may.best) in
     let held = held-at slots helds j h' at' session in
     let after = c.open.new.region in
     let entry : HomeEntry _ _ = record { place = home.place; region = after } in
     let homes' = set_value_at entries j entry in
-    let kept = c.reserve.ensures.entries in
     let mine = [] in
     let leaves = c.in-Err.ensures.err.3 in
     let g' = held_after M r home after l.0 [] mine best leaves in
-    let touch = touches M r home after l.0 [] mine best leaves in
     let change = region-change M r home after l.0 [] mine best leaves held.lent held.names in
     let helds' : held_all M homes' labels ≡ set helds j g' =
     ap (λ ls. held_all M homes' ls) (sym (set_same labels j l.0 l.1)) ∙ held-set M entries labels j r entry l.0 named name in
-    let named' : length labels ≡ length homes' = sym (ap length (set_same labels j l.0 l.1)) ∙ length-set M entries labels j entry l.0 named in
     let fault = c.in-Err.fault in
-    let refusal = c.in-Err.ensures.err.0 in
-    let region = c.in-Err.ensures.err.1 in
     let lacks = table-lacks fault (Some 16) h'.disc g'.disc c.in-Err.ensures.asked in
-    let new = c.reserve.new.self.entries in
     let hs' = held_all M homes' labels in
-    let same_state : state_of kinds slots hs' (dicts_in hs' new) ≡ s =
-    ap (λ hs. state_of kinds slots hs (dicts_in hs new)) helds'
-    ∙ (ap (λ x. state_of kinds slots (set helds j g') (dicts_in (set helds j g') x)) kept
-    ∙ state-failed kinds slots helds ds j h' at' r first session dicts d method k g' change touch region refl) in
     told-ok (λ told. Settles shelf (settled (accounts slots) hs') (refusal_at s (OpenDict d method r k) told)) fault c.table_refused.result c.table_refused.ensures
     (λ told tells. subst (λ hs. Settles shelf (settled (accounts slots) hs) (refusal_at s (OpenDict d method r k) told)) (sym helds')
     (settles-failed kinds slots helds ds j h' at' r first session dicts d method k g' change fault told tells lacks))
@@ -711,7 +548,6 @@ returns-in-Err-clause-lacks g c =
     let items = c.args.kinds.now.items in
     let item = g.D.DictDisc.rules in
     let kinds = rules_in item items in
-    let gone = gone_in g.D.DictDisc.gone items in
     let slots = slots_on M c.args.shelf.now in
     let helds = held_in M c.args.self.now in
     let entries = c.args.self.now.homes.entries in
@@ -725,12 +561,11 @@ returns-in-Err-clause-lacks g c =
     let r = c.args.region in
     let k = c.args.kind in
     let s = state_of kinds slots helds (dicts_in helds ds) in
-    let shelf = settled (accounts slots) helds in
     let j = c.in-Some.j in
     let index = sym c.get_index_of.ensures.index ∙ c.in-Some.is in
     let within = index-within M entries r j index in
-    let l = some-at labels j (omega (arith, named, length-map entries (λ (x : List ℕ × HomeEntry _ _). x.0), within)) in
-    let v = some-at (values_of entries) j (omega (arith, length-map entries (λ (x : List ℕ × HomeEntry _ _). x.1), length-map entries (λ (x : List ℕ × HomeEntry _ _). x.0), within)) in
+    let l = labels-at entries j within labels named in
+    let v = home-at entries j within in
     let name = name-at M entries r j index in
     let h = held_of M r v.0 l.0 in
     let at = held-read M entries labels j r v.0 l.0 name v.1 l.1 in
@@ -739,20 +574,16 @@ returns-in-Err-clause-lacks g c =
     if_some-at (λ (q : Held). c.dict_refused.result ≡ dict_refused s (home_of q) d k) (slice_get helds j) h at c.dict_refused.ensures in
     let none : dict_refused s (home_of h) d k ≡ None = sym why ∙ c.in_default-dict_refused.is in
     let may = refused-none s (home_of h) d k none in
-    let range = kind-within k (length kinds) may.kind in
-    let many = length-map items item in
     let home = c.index_mut.result.now in
     let same_home : v.0 ≡ home = same_Some v.0 home (sym v.1 ∙ c.index_mut.ensures.value) in
     let h' = held_of M r home l.0 in
     let at' = held-read M entries labels j r home l.0 name c.index_mut.ensures.value l.1 in
-    let none' : dict_refused s (home_of h') d k ≡ None = ap (λ (x : HomeEntry _ _). dict_refused s (home_of (held_of M r x l.0)) d k) (sym same_home) ∙ none in
     let best : is_best (rest_in home.region) ≡ true =
     sym (best-relabelled (name_of l.0) (rest_in home.region)) ∙ (ap (λ (x : HomeEntry _ _). is_best (home_of (held_of M r x l.0)).region) (sym same_home) ∙ may.best) in
     let held = held-at slots helds j h' at' session in
     let after = c.open.new.region in
     let entry : HomeEntry _ _ = record { place = home.place; region = after } in
     let homes' = set_value_at entries j entry in
-    let kept = c.reserve.ensures.entries in
     let mine = [] in
     let leaves = c.in-Err.ensures.err.3 in
     let g' = held_after M r home after l.0 [] mine best leaves in
@@ -760,17 +591,9 @@ returns-in-Err-clause-lacks g c =
     let change = region-change M r home after l.0 [] mine best leaves held.lent held.names in
     let helds' : held_all M homes' labels ≡ set helds j g' =
     ap (λ ls. held_all M homes' ls) (sym (set_same labels j l.0 l.1)) ∙ held-set M entries labels j r entry l.0 named name in
-    let named' : length labels ≡ length homes' = sym (ap length (set_same labels j l.0 l.1)) ∙ length-set M entries labels j entry l.0 named in
     let fault = c.in-Err.fault in
-    let refusal = c.in-Err.ensures.err.0 in
-    let region = c.in-Err.ensures.err.1 in
     let lacks = table-lacks fault (Some 16) h'.disc g'.disc c.in-Err.ensures.asked in
-    let new = c.reserve.new.self.entries in
     let hs' = held_all M homes' labels in
-    let same_state : state_of kinds slots hs' (dicts_in hs' new) ≡ s =
-    ap (λ hs. state_of kinds slots hs (dicts_in hs new)) helds'
-    ∙ (ap (λ x. state_of kinds slots (set helds j g') (dicts_in (set helds j g') x)) kept
-    ∙ state-failed kinds slots helds ds j h' at' r first session dicts d method k g' change touch region refl) in
     told-ok (λ told. StepLacksFor s helds hs' (OpenDict d method r k) told) fault c.table_refused.result c.table_refused.ensures
     (λ told tells. subst (λ hs. StepLacksFor s helds hs (OpenDict d method r k) told) (sym helds')
     (lacks-failed kinds slots helds ds j h' at' r first session dicts d method k g' change fault told tells lacks touch))
@@ -781,7 +604,6 @@ returns-in-Err-clause-err g c =
     let items = c.args.kinds.now.items in
     let item = g.D.DictDisc.rules in
     let kinds = rules_in item items in
-    let gone = gone_in g.D.DictDisc.gone items in
     let slots = slots_on M c.args.shelf.now in
     let helds = held_in M c.args.self.now in
     let entries = c.args.self.now.homes.entries in
@@ -795,12 +617,11 @@ returns-in-Err-clause-err g c =
     let r = c.args.region in
     let k = c.args.kind in
     let s = state_of kinds slots helds (dicts_in helds ds) in
-    let shelf = settled (accounts slots) helds in
     let j = c.in-Some.j in
     let index = sym c.get_index_of.ensures.index ∙ c.in-Some.is in
     let within = index-within M entries r j index in
-    let l = some-at labels j (omega (arith, named, length-map entries (λ (x : List ℕ × HomeEntry _ _). x.0), within)) in
-    let v = some-at (values_of entries) j (omega (arith, length-map entries (λ (x : List ℕ × HomeEntry _ _). x.1), length-map entries (λ (x : List ℕ × HomeEntry _ _). x.0), within)) in
+    let l = labels-at entries j within labels named in
+    let v = home-at entries j within in
     let name = name-at M entries r j index in
     let h = held_of M r v.0 l.0 in
     let at = held-read M entries labels j r v.0 l.0 name v.1 l.1 in
@@ -809,13 +630,10 @@ returns-in-Err-clause-err g c =
     if_some-at (λ (q : Held). c.dict_refused.result ≡ dict_refused s (home_of q) d k) (slice_get helds j) h at c.dict_refused.ensures in
     let none : dict_refused s (home_of h) d k ≡ None = sym why ∙ c.in_default-dict_refused.is in
     let may = refused-none s (home_of h) d k none in
-    let range = kind-within k (length kinds) may.kind in
-    let many = length-map items item in
     let home = c.index_mut.result.now in
     let same_home : v.0 ≡ home = same_Some v.0 home (sym v.1 ∙ c.index_mut.ensures.value) in
     let h' = held_of M r home l.0 in
     let at' = held-read M entries labels j r home l.0 name c.index_mut.ensures.value l.1 in
-    let none' : dict_refused s (home_of h') d k ≡ None = ap (λ (x : HomeEntry _ _). dict_refused s (home_of (held_of M r x l.0)) d k) (sym same_home) ∙ none in
     let best : is_best (rest_in home.region) ≡ true =
     sym (best-relabelled (name_of l.0) (rest_in home.region)) ∙ (ap (λ (x : HomeEntry _ _). is_best (home_of (held_of M r x l.0)).region) (sym same_home) ∙ may.best) in
     let held = held-at slots helds j h' at' session in
@@ -830,11 +648,7 @@ returns-in-Err-clause-err g c =
     let change = region-change M r home after l.0 [] mine best leaves held.lent held.names in
     let helds' : held_all M homes' labels ≡ set helds j g' =
     ap (λ ls. held_all M homes' ls) (sym (set_same labels j l.0 l.1)) ∙ held-set M entries labels j r entry l.0 named name in
-    let named' : length labels ≡ length homes' = sym (ap length (set_same labels j l.0 l.1)) ∙ length-set M entries labels j entry l.0 named in
-    let fault = c.in-Err.fault in
-    let refusal = c.in-Err.ensures.err.0 in
     let region = c.in-Err.ensures.err.1 in
-    let lacks = table-lacks fault (Some 16) h'.disc g'.disc c.in-Err.ensures.asked in
     let new = c.reserve.new.self.entries in
     let hs' = held_all M homes' labels in
     let same_state : state_of kinds slots hs' (dicts_in hs' new) ≡ s =
@@ -863,12 +677,11 @@ returns-in-Ok-clause-step g c =
     let r = c.args.region in
     let k = c.args.kind in
     let s = state_of kinds slots helds (dicts_in helds ds) in
-    let shelf = settled (accounts slots) helds in
     let j = c.in-Some.j in
     let index = sym c.get_index_of.ensures.index ∙ c.in-Some.is in
     let within = index-within M entries r j index in
-    let l = some-at labels j (omega (arith, named, length-map entries (λ (x : List ℕ × HomeEntry _ _). x.0), within)) in
-    let v = some-at (values_of entries) j (omega (arith, length-map entries (λ (x : List ℕ × HomeEntry _ _). x.1), length-map entries (λ (x : List ℕ × HomeEntry _ _). x.0), within)) in
+    let l = labels-at entries j within labels named in
+    let v = home-at entries j within in
     let name = name-at M entries r j index in
     let h = held_of M r v.0 l.0 in
     let at = held-read M entries labels j r v.0 l.0 name v.1 l.1 in
@@ -898,7 +711,6 @@ returns-in-Ok-clause-step g c =
     let change = region-change M r home after l.0 [] mine best leaves held.lent held.names in
     let helds' : held_all M homes' labels ≡ set helds j g' =
     ap (λ ls. held_all M homes' ls) (sym (set_same labels j l.0 l.1)) ∙ held-set M entries labels j r entry l.0 named name in
-    let named' : length labels ≡ length homes' = sym (ap length (set_same labels j l.0 l.1)) ∙ length-set M entries labels j entry l.0 named in
     let dict = c.in-Ok.dict in
     let kind = c.index.result.now in
     let its_kind : slice_get items (k - 1) ≡ Some kind = slice-or items (k - 1) kind (omega (arith, range.0, range.1, many)) c.index.ensures in
@@ -923,7 +735,6 @@ returns-in-Ok-clause-session g c =
     let items = c.args.kinds.now.items in
     let item = g.D.DictDisc.rules in
     let kinds = rules_in item items in
-    let gone = gone_in g.D.DictDisc.gone items in
     let slots = slots_on M c.args.shelf.now in
     let helds = held_in M c.args.self.now in
     let entries = c.args.self.now.homes.entries in
@@ -937,12 +748,11 @@ returns-in-Ok-clause-session g c =
     let r = c.args.region in
     let k = c.args.kind in
     let s = state_of kinds slots helds (dicts_in helds ds) in
-    let shelf = settled (accounts slots) helds in
     let j = c.in-Some.j in
     let index = sym c.get_index_of.ensures.index ∙ c.in-Some.is in
     let within = index-within M entries r j index in
-    let l = some-at labels j (omega (arith, named, length-map entries (λ (x : List ℕ × HomeEntry _ _). x.0), within)) in
-    let v = some-at (values_of entries) j (omega (arith, length-map entries (λ (x : List ℕ × HomeEntry _ _). x.1), length-map entries (λ (x : List ℕ × HomeEntry _ _). x.0), within)) in
+    let l = labels-at entries j within labels named in
+    let v = home-at entries j within in
     let name = name-at M entries r j index in
     let h = held_of M r v.0 l.0 in
     let at = held-read M entries labels j r v.0 l.0 name v.1 l.1 in
@@ -957,7 +767,6 @@ returns-in-Ok-clause-session g c =
     let same_home : v.0 ≡ home = same_Some v.0 home (sym v.1 ∙ c.index_mut.ensures.value) in
     let h' = held_of M r home l.0 in
     let at' = held-read M entries labels j r home l.0 name c.index_mut.ensures.value l.1 in
-    let none' : dict_refused s (home_of h') d k ≡ None = ap (λ (x : HomeEntry _ _). dict_refused s (home_of (held_of M r x l.0)) d k) (sym same_home) ∙ none in
     let best : is_best (rest_in home.region) ≡ true =
     sym (best-relabelled (name_of l.0) (rest_in home.region)) ∙ (ap (λ (x : HomeEntry _ _). is_best (home_of (held_of M r x l.0)).region) (sym same_home) ∙ may.best) in
     let held = held-at slots helds j h' at' session in
@@ -984,10 +793,6 @@ returns-in-Ok-clause-session g c =
     let put = from_ok c.insert.result (c.insert.ensures.succeeds (omega (arith, c.in_ok-reserve.ensures.ok))) c.insert.ensures.entries in
     let free = none_of (lookup (bytes_eq d) c.reserve.new.self.entries) (ap (λ es. is_some (lookup (bytes_eq d) es)) kept ∙ absent) in
     let last : new ≡ ds ++ (d, lain) ∷ [] = put ∙ (insert_entry-new bytes_eq c.reserve.new.self d lain free ∙ ap (λ es. es ++ (d, lain) ∷ []) kept) in
-    let hs' = held_all M homes' labels in
-    let state' : state_of kinds slots hs' (dicts_in hs' new) ≡ state_of kinds slots (set helds j g') (dicts_in (set helds j g') (ds ++ (d, lain) ∷ [])) =
-    ap (λ hs. state_of kinds slots hs (dicts_in hs new)) helds'
-    ∙ ap (λ x. state_of kinds slots (set helds j g') (dicts_in (set helds j g') x)) last in
     record {
       regions = record { named = named'; held = subst (IsSession slots) (sym helds') (session-change slots helds j h' g' at' session change) };
       dicts =
@@ -1001,17 +806,14 @@ returns-in-Ok-clause-keeps g c =
     let items = c.args.kinds.now.items in
     let item = g.D.DictDisc.rules in
     let kinds = rules_in item items in
-    let gone = gone_in g.D.DictDisc.gone items in
     let slots = slots_on M c.args.shelf.now in
     let helds = held_in M c.args.self.now in
     let entries = c.args.self.now.homes.entries in
     let labels = c.args.self.now.labels.items in
     let named = c.requires.session.regions.named in
     let session = c.requires.session.regions.held in
-    let dicts = c.requires.session.dicts in
     let ds = c.args.self.now.dicts.entries in
     let d = c.args.name in
-    let method = c.args.method in
     let r = c.args.region in
     let k = c.args.kind in
     let s = state_of kinds slots helds (dicts_in helds ds) in
@@ -1019,38 +821,31 @@ returns-in-Ok-clause-keeps g c =
     let j = c.in-Some.j in
     let index = sym c.get_index_of.ensures.index ∙ c.in-Some.is in
     let within = index-within M entries r j index in
-    let l = some-at labels j (omega (arith, named, length-map entries (λ (x : List ℕ × HomeEntry _ _). x.0), within)) in
-    let v = some-at (values_of entries) j (omega (arith, length-map entries (λ (x : List ℕ × HomeEntry _ _). x.1), length-map entries (λ (x : List ℕ × HomeEntry _ _). x.0), within)) in
+    let l = labels-at entries j within labels named in
+    let v = home-at entries j within in
     let name = name-at M entries r j index in
     let h = held_of M r v.0 l.0 in
     let at = held-read M entries labels j r v.0 l.0 name v.1 l.1 in
-    let first = first-named M entries labels r j named index in
     let why : c.dict_refused.result ≡ dict_refused s (home_of h) d k =
     if_some-at (λ (q : Held). c.dict_refused.result ≡ dict_refused s (home_of q) d k) (slice_get helds j) h at c.dict_refused.ensures in
     let none : dict_refused s (home_of h) d k ≡ None = sym why ∙ c.in_default-dict_refused.is in
     let may = refused-none s (home_of h) d k none in
-    let range = kind-within k (length kinds) may.kind in
-    let many = length-map items item in
     let home = c.index_mut.result.now in
     let same_home : v.0 ≡ home = same_Some v.0 home (sym v.1 ∙ c.index_mut.ensures.value) in
     let h' = held_of M r home l.0 in
     let at' = held-read M entries labels j r home l.0 name c.index_mut.ensures.value l.1 in
-    let none' : dict_refused s (home_of h') d k ≡ None = ap (λ (x : HomeEntry _ _). dict_refused s (home_of (held_of M r x l.0)) d k) (sym same_home) ∙ none in
     let best : is_best (rest_in home.region) ≡ true =
     sym (best-relabelled (name_of l.0) (rest_in home.region)) ∙ (ap (λ (x : HomeEntry _ _). is_best (home_of (held_of M r x l.0)).region) (sym same_home) ∙ may.best) in
     let held = held-at slots helds j h' at' session in
     let after = c.open.new.region in
     let entry : HomeEntry _ _ = record { place = home.place; region = after } in
     let homes' = set_value_at entries j entry in
-    let kept = c.reserve.ensures.entries in
     let mine = owned (dictionary_of c.in-Ok.dict (cells_in after)) in
     let leaves = c.in-Ok.ensures.leaves in
     let g' = held_after M r home after l.0 [] mine best leaves in
-    let touch = touches M r home after l.0 [] mine best leaves in
     let change = region-change M r home after l.0 [] mine best leaves held.lent held.names in
     let helds' : held_all M homes' labels ≡ set helds j g' =
     ap (λ ls. held_all M homes' ls) (sym (set_same labels j l.0 l.1)) ∙ held-set M entries labels j r entry l.0 named name in
-    let named' : length labels ≡ length homes' = sym (ap length (set_same labels j l.0 l.1)) ∙ length-set M entries labels j entry l.0 named in
     subst (λ hs. Settles shelf (settled (accounts slots) hs) []) (sym helds') (settles-none slots helds j h' g' at' session change)
 
 pub returns-in-Ok-clause-settles : goal.returns-in-Ok-clause-settles
@@ -1059,17 +854,14 @@ returns-in-Ok-clause-settles g c =
     let items = c.args.kinds.now.items in
     let item = g.D.DictDisc.rules in
     let kinds = rules_in item items in
-    let gone = gone_in g.D.DictDisc.gone items in
     let slots = slots_on M c.args.shelf.now in
     let helds = held_in M c.args.self.now in
     let entries = c.args.self.now.homes.entries in
     let labels = c.args.self.now.labels.items in
     let named = c.requires.session.regions.named in
     let session = c.requires.session.regions.held in
-    let dicts = c.requires.session.dicts in
     let ds = c.args.self.now.dicts.entries in
     let d = c.args.name in
-    let method = c.args.method in
     let r = c.args.region in
     let k = c.args.kind in
     let s = state_of kinds slots helds (dicts_in helds ds) in
@@ -1077,36 +869,29 @@ returns-in-Ok-clause-settles g c =
     let j = c.in-Some.j in
     let index = sym c.get_index_of.ensures.index ∙ c.in-Some.is in
     let within = index-within M entries r j index in
-    let l = some-at labels j (omega (arith, named, length-map entries (λ (x : List ℕ × HomeEntry _ _). x.0), within)) in
-    let v = some-at (values_of entries) j (omega (arith, length-map entries (λ (x : List ℕ × HomeEntry _ _). x.1), length-map entries (λ (x : List ℕ × HomeEntry _ _). x.0), within)) in
+    let l = labels-at entries j within labels named in
+    let v = home-at entries j within in
     let name = name-at M entries r j index in
     let h = held_of M r v.0 l.0 in
     let at = held-read M entries labels j r v.0 l.0 name v.1 l.1 in
-    let first = first-named M entries labels r j named index in
     let why : c.dict_refused.result ≡ dict_refused s (home_of h) d k =
     if_some-at (λ (q : Held). c.dict_refused.result ≡ dict_refused s (home_of q) d k) (slice_get helds j) h at c.dict_refused.ensures in
     let none : dict_refused s (home_of h) d k ≡ None = sym why ∙ c.in_default-dict_refused.is in
     let may = refused-none s (home_of h) d k none in
-    let range = kind-within k (length kinds) may.kind in
-    let many = length-map items item in
     let home = c.index_mut.result.now in
     let same_home : v.0 ≡ home = same_Some v.0 home (sym v.1 ∙ c.index_mut.ensures.value) in
     let h' = held_of M r home l.0 in
     let at' = held-read M entries labels j r home l.0 name c.index_mut.ensures.value l.1 in
-    let none' : dict_refused s (home_of h') d k ≡ None = ap (λ (x : HomeEntry _ _). dict_refused s (home_of (held_of M r x l.0)) d k) (sym same_home) ∙ none in
     let best : is_best (rest_in home.region) ≡ true =
     sym (best-relabelled (name_of l.0) (rest_in home.region)) ∙ (ap (λ (x : HomeEntry _ _). is_best (home_of (held_of M r x l.0)).region) (sym same_home) ∙ may.best) in
     let held = held-at slots helds j h' at' session in
     let after = c.open.new.region in
     let entry : HomeEntry _ _ = record { place = home.place; region = after } in
     let homes' = set_value_at entries j entry in
-    let kept = c.reserve.ensures.entries in
     let mine = owned (dictionary_of c.in-Ok.dict (cells_in after)) in
     let leaves = c.in-Ok.ensures.leaves in
     let g' = held_after M r home after l.0 [] mine best leaves in
-    let touch = touches M r home after l.0 [] mine best leaves in
     let change = region-change M r home after l.0 [] mine best leaves held.lent held.names in
     let helds' : held_all M homes' labels ≡ set helds j g' =
     ap (λ ls. held_all M homes' ls) (sym (set_same labels j l.0 l.1)) ∙ held-set M entries labels j r entry l.0 named name in
-    let named' : length labels ≡ length homes' = sym (ap length (set_same labels j l.0 l.1)) ∙ length-set M entries labels j entry l.0 named in
     subst (λ hs. Settles shelf (settled (accounts slots) hs) []) (sym helds') (settles-none slots helds j h' g' at' session change)

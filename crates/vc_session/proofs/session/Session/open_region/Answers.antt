@@ -2,23 +2,22 @@ use Rattle.std.proofs.Common.{◌≡◌, ◌-◌, ◌++◌, ◌∷◌, [], lengt
 use Rattle.std.specs.Map.{lookup}
 use Rattle.std.specs.Str.{bytes_eq}
 use Rattle.std.proofs.lemmas.Bool.{false≢true}
-use Rattle.std.proofs.lemmas.List.{length-append, set-set}
+use Rattle.std.proofs.lemmas.List.{set-set}
 use Rattle.indexmap.proofs.CallerLemmas.{insert_entry-new}
 use Rattle.vc_model.specs.Discipline.{Discipline}
 use Rattle.vc_seg.specs.Shelf.{place_at, slots_of}
-use Rattle.vc_script.specs.declared.reply.Reply.TheVariants.{Opened, Refused}
-use Rattle.vc_region.specs.Cells.{cells_in, rest_in, rest_of}
+use Rattle.vc_script.specs.declared.reply.Reply.TheVariants.{Refused}
 use Rattle.vc_region.specs.Parts.{boxed}
 use Rattle.vc_session.specs.declared.home.HomeEntry.{HomeEntry}
 use Rattle.vc_session.specs.Account.{accounts, settled, state_of, IsSession}
 use Rattle.vc_session.specs.DictHomes.{AreDicts, dicts_in}
-use Rattle.vc_session.specs.Homes.{held_all, held_in, held_of, not_here, slots_on}
+use Rattle.vc_session.specs.Homes.{held_all, held_in, not_here, slots_on}
 use Rattle.vc_session.specs.State.{stepped}
 use Rattle.vc_session.proofs.Agreeing.{from_ok}
 use Rattle.vc_session.proofs.Cells.{at_number_some, set_same}
-use Rattle.vc_session.proofs.DictsStay.{all-stay, dicts-stay, dicts_in-stay, stays-push}
-use Rattle.vc_session.proofs.Helds.{any-named, held-new, none_of}
-use Rattle.vc_session.proofs.Opening.{AreNone, fresh, open_step-ok, open_step-named, open_step-not_here, opened-rest, session-open, settled-open}
+use Rattle.vc_session.proofs.Helds.{any-named, none_of}
+use Rattle.vc_session.proofs.Newest.{IsNewest, newest-dicts, newest-named, newest-session, newest-settled, newest-step}
+use Rattle.vc_session.proofs.Opening.{open_step-named, open_step-not_here}
 use Rattle.vc_session.proofs.session.Session.open_region.Given as given
 use Rattle.vc_session.proofs.session.Session.open_region.Goals as goal
 
@@ -54,116 +53,90 @@ returns-in_default-clause-step g c = λ kinds dicts.
 pub returns-in-Ok-clause-step : goal.returns-in-Ok-clause-step
 returns-in-Ok-clause-step g c = λ kinds dicts.
     let M = meaning g in
-    let slots = slots_on M c.args.shelf.now in
-    let helds = held_in M c.args.self.now in
     let entries = c.args.self.now.homes.entries in
     let labels = c.args.self.now.labels.items in
     let absent : is_some (lookup (bytes_eq c.args.name) entries) ≡ false = sym c.if-contains_key.ensures in
     let home : HomeEntry _ _ = record { place = c.args.n; region = c.in-Ok.region } in
-    let none : AreNone c.new.result = record { agree = c.new.ensures.agree; names = c.new.ensures.no_names; count = c.new.ensures.count; kept = c.new.ensures.kept } in
-    let d = boxed M c.in-Some.disc in
-    let r = rest_in c.in-Ok.region in
-    let cells = cells_in c.in-Ok.region in
-    let new : held_of M c.args.name home c.new.result ≡ fresh c.args.name c.args.n d r cells c.new.result = ap (λ e. fresh c.args.name c.args.n e r cells c.new.result) c.in-Ok.ensures.ok.1 in
     let put = from_ok c.insert.result (c.insert.ensures.succeeds (omega (arith, c.in_ok-reserve.ensures.ok))) c.insert.ensures.entries in
     let gone = none_of (lookup (bytes_eq c.args.name) c.reserve.new.self.entries) (ap (λ es. is_some (lookup (bytes_eq c.args.name) es)) c.reserve.ensures.entries ∙ absent) in
-    let last = put ∙ (insert_entry-new bytes_eq c.reserve.new.self c.args.name home gone ∙ ap (λ es. es ++ (c.args.name, home) ∷ []) c.reserve.ensures.entries) in
-    let more = c.push_reserved.ensures.items ∙ ap (λ ls. ls ++ c.new.result ∷ []) c.reserve-2.ensures.items in
-    let all : held_all M c.insert.new.self.entries c.push_reserved.new.self.items ≡ helds ++ fresh c.args.name c.args.n d r cells c.new.result ∷ [] =
-    ap (λ es. held_all M es c.push_reserved.new.self.items) last
-    ∙ (ap (λ ls. held_all M (entries ++ (c.args.name, home) ∷ []) ls) more
-    ∙ (held-new M entries labels c.args.name home c.new.result c.requires.named ∙ ap (λ h. helds ++ h ∷ []) new)) in
-    let es = c.args.self.now.dicts.entries in
-    let g' = fresh c.args.name c.args.n d r cells c.new.result in
-    let stays = dicts_in-stay kinds helds (helds ++ g' ∷ []) es (all-stay kinds helds (helds ++ g' ∷ []) es (λ e. stays-push kinds helds g' e)) dicts in
-    open_step-ok slots helds c.args.name c.args.n d c.args.method r (ap rest_of c.in-Ok.ensures.ok.0 ∙ opened-rest c.args.method) cells c.new.result none c.in-Some.ensures.taken c.requires.held kinds (dicts_in helds es) (any-named M entries labels c.args.name c.requires.named ∙ absent)
-    ∙ (ap (λ ds. stepped (state_of kinds (set slots (c.args.n - 1) None) (helds ++ g' ∷ []) ds) (Opened c.args.name)) (sym stays)
-    ∙ (ap (λ hs. stepped (state_of kinds (set slots (c.args.n - 1) None) hs (dicts_in hs es)) (Opened c.args.name)) (sym all)
-    ∙ ap (λ s. let hs = held_all M c.insert.new.self.entries c.push_reserved.new.self.items in stepped (state_of kinds s hs (dicts_in hs es)) (Opened c.args.name)) (sym c.in-Some.ensures.emptied)))
+    let newest : IsNewest M (slots_on M c.args.shelf.now) (slots_on M c.take.new.self) entries c.insert.new.self.entries labels c.push_reserved.new.self.items c.args.name c.args.method home c.new.result = record {
+      named = c.requires.named;
+      session = c.requires.held;
+      absent = absent;
+      last = put ∙ (insert_entry-new bytes_eq c.reserve.new.self c.args.name home gone ∙ ap (λ es. es ++ (c.args.name, home) ∷ []) c.reserve.ensures.entries);
+      more = c.push_reserved.ensures.items ∙ ap (λ ls. ls ++ c.new.result ∷ []) c.reserve-2.ensures.items;
+      newly = c.in-Ok.ensures.ok.0;
+      taken = c.in-Some.ensures.taken ∙ ap (λ d. Some (Some d)) (sym c.in-Ok.ensures.ok.1);
+      emptied = c.in-Some.ensures.emptied;
+      none = record { agree = c.new.ensures.agree; names = c.new.ensures.no_names; count = c.new.ensures.count; kept = c.new.ensures.kept };
+    } in
+    newest-step M (slots_on M c.args.shelf.now) (slots_on M c.take.new.self) entries c.insert.new.self.entries labels c.push_reserved.new.self.items c.args.name c.args.method home c.new.result newest kinds c.args.self.now.dicts.entries dicts
 
 pub returns-in-Ok-clause-dicts : goal.returns-in-Ok-clause-dicts
 returns-in-Ok-clause-dicts g c = λ kinds dicts.
     let M = meaning g in
-    let slots = slots_on M c.args.shelf.now in
-    let helds = held_in M c.args.self.now in
     let entries = c.args.self.now.homes.entries in
     let labels = c.args.self.now.labels.items in
     let absent : is_some (lookup (bytes_eq c.args.name) entries) ≡ false = sym c.if-contains_key.ensures in
     let home : HomeEntry _ _ = record { place = c.args.n; region = c.in-Ok.region } in
-    let none : AreNone c.new.result = record { agree = c.new.ensures.agree; names = c.new.ensures.no_names; count = c.new.ensures.count; kept = c.new.ensures.kept } in
-    let d = boxed M c.in-Some.disc in
-    let r = rest_in c.in-Ok.region in
-    let cells = cells_in c.in-Ok.region in
-    let new : held_of M c.args.name home c.new.result ≡ fresh c.args.name c.args.n d r cells c.new.result = ap (λ e. fresh c.args.name c.args.n e r cells c.new.result) c.in-Ok.ensures.ok.1 in
     let put = from_ok c.insert.result (c.insert.ensures.succeeds (omega (arith, c.in_ok-reserve.ensures.ok))) c.insert.ensures.entries in
     let gone = none_of (lookup (bytes_eq c.args.name) c.reserve.new.self.entries) (ap (λ es. is_some (lookup (bytes_eq c.args.name) es)) c.reserve.ensures.entries ∙ absent) in
-    let last = put ∙ (insert_entry-new bytes_eq c.reserve.new.self c.args.name home gone ∙ ap (λ es. es ++ (c.args.name, home) ∷ []) c.reserve.ensures.entries) in
-    let more = c.push_reserved.ensures.items ∙ ap (λ ls. ls ++ c.new.result ∷ []) c.reserve-2.ensures.items in
-    let all : held_all M c.insert.new.self.entries c.push_reserved.new.self.items ≡ helds ++ fresh c.args.name c.args.n d r cells c.new.result ∷ [] =
-    ap (λ es. held_all M es c.push_reserved.new.self.items) last
-    ∙ (ap (λ ls. held_all M (entries ++ (c.args.name, home) ∷ []) ls) more
-    ∙ (held-new M entries labels c.args.name home c.new.result c.requires.named ∙ ap (λ h. helds ++ h ∷ []) new)) in
-    let es = c.args.self.now.dicts.entries in
-    let g' = fresh c.args.name c.args.n d r cells c.new.result in
-    subst (λ hs. AreDicts kinds hs es) (sym all)
-    (dicts-stay kinds helds (helds ++ g' ∷ []) es (all-stay kinds helds (helds ++ g' ∷ []) es (λ e. stays-push kinds helds g' e)) dicts)
+    let newest : IsNewest M (slots_on M c.args.shelf.now) (slots_on M c.take.new.self) entries c.insert.new.self.entries labels c.push_reserved.new.self.items c.args.name c.args.method home c.new.result = record {
+      named = c.requires.named;
+      session = c.requires.held;
+      absent = absent;
+      last = put ∙ (insert_entry-new bytes_eq c.reserve.new.self c.args.name home gone ∙ ap (λ es. es ++ (c.args.name, home) ∷ []) c.reserve.ensures.entries);
+      more = c.push_reserved.ensures.items ∙ ap (λ ls. ls ++ c.new.result ∷ []) c.reserve-2.ensures.items;
+      newly = c.in-Ok.ensures.ok.0;
+      taken = c.in-Some.ensures.taken ∙ ap (λ d. Some (Some d)) (sym c.in-Ok.ensures.ok.1);
+      emptied = c.in-Some.ensures.emptied;
+      none = record { agree = c.new.ensures.agree; names = c.new.ensures.no_names; count = c.new.ensures.count; kept = c.new.ensures.kept };
+    } in
+    newest-dicts M (slots_on M c.args.shelf.now) (slots_on M c.take.new.self) entries c.insert.new.self.entries labels c.push_reserved.new.self.items c.args.name c.args.method home c.new.result newest kinds c.args.self.now.dicts.entries dicts
 
 pub returns-in-Ok-clause-session : goal.returns-in-Ok-clause-session
 returns-in-Ok-clause-session g c =
     let M = meaning g in
-    let slots = slots_on M c.args.shelf.now in
-    let helds = held_in M c.args.self.now in
     let entries = c.args.self.now.homes.entries in
     let labels = c.args.self.now.labels.items in
     let absent : is_some (lookup (bytes_eq c.args.name) entries) ≡ false = sym c.if-contains_key.ensures in
     let home : HomeEntry _ _ = record { place = c.args.n; region = c.in-Ok.region } in
-    let none : AreNone c.new.result = record { agree = c.new.ensures.agree; names = c.new.ensures.no_names; count = c.new.ensures.count; kept = c.new.ensures.kept } in
-    let d = boxed M c.in-Some.disc in
-    let r = rest_in c.in-Ok.region in
-    let cells = cells_in c.in-Ok.region in
-    let new : held_of M c.args.name home c.new.result ≡ fresh c.args.name c.args.n d r cells c.new.result = ap (λ e. fresh c.args.name c.args.n e r cells c.new.result) c.in-Ok.ensures.ok.1 in
     let put = from_ok c.insert.result (c.insert.ensures.succeeds (omega (arith, c.in_ok-reserve.ensures.ok))) c.insert.ensures.entries in
     let gone = none_of (lookup (bytes_eq c.args.name) c.reserve.new.self.entries) (ap (λ es. is_some (lookup (bytes_eq c.args.name) es)) c.reserve.ensures.entries ∙ absent) in
-    let last = put ∙ (insert_entry-new bytes_eq c.reserve.new.self c.args.name home gone ∙ ap (λ es. es ++ (c.args.name, home) ∷ []) c.reserve.ensures.entries) in
-    let more = c.push_reserved.ensures.items ∙ ap (λ ls. ls ++ c.new.result ∷ []) c.reserve-2.ensures.items in
-    let all : held_all M c.insert.new.self.entries c.push_reserved.new.self.items ≡ helds ++ fresh c.args.name c.args.n d r cells c.new.result ∷ [] =
-    ap (λ es. held_all M es c.push_reserved.new.self.items) last
-    ∙ (ap (λ ls. held_all M (entries ++ (c.args.name, home) ∷ []) ls) more
-    ∙ (held-new M entries labels c.args.name home c.new.result c.requires.named ∙ ap (λ h. helds ++ h ∷ []) new)) in
-    let named : length (labels ++ c.new.result ∷ []) ≡ length (entries ++ (c.args.name, home) ∷ []) = omega (arith, length-append labels (c.new.result ∷ []), length-append entries ((c.args.name, home) ∷ []), c.requires.named) in
-    record {
-      named = ap length more ∙ (named ∙ sym (ap length last));
-      held =
-          subst (λ s. IsSession s (held_all M c.insert.new.self.entries c.push_reserved.new.self.items)) (sym c.in-Some.ensures.emptied)
-          (subst (λ hs. IsSession (set slots (c.args.n - 1) None) hs) (sym all)
-          (session-open slots helds c.args.name c.args.n d c.args.method r (ap rest_of c.in-Ok.ensures.ok.0 ∙ opened-rest c.args.method) cells c.new.result none c.in-Some.ensures.taken c.requires.held));
-    }
+    let newest : IsNewest M (slots_on M c.args.shelf.now) (slots_on M c.take.new.self) entries c.insert.new.self.entries labels c.push_reserved.new.self.items c.args.name c.args.method home c.new.result = record {
+      named = c.requires.named;
+      session = c.requires.held;
+      absent = absent;
+      last = put ∙ (insert_entry-new bytes_eq c.reserve.new.self c.args.name home gone ∙ ap (λ es. es ++ (c.args.name, home) ∷ []) c.reserve.ensures.entries);
+      more = c.push_reserved.ensures.items ∙ ap (λ ls. ls ++ c.new.result ∷ []) c.reserve-2.ensures.items;
+      newly = c.in-Ok.ensures.ok.0;
+      taken = c.in-Some.ensures.taken ∙ ap (λ d. Some (Some d)) (sym c.in-Ok.ensures.ok.1);
+      emptied = c.in-Some.ensures.emptied;
+      none = record { agree = c.new.ensures.agree; names = c.new.ensures.no_names; count = c.new.ensures.count; kept = c.new.ensures.kept };
+    } in
+    record { named = newest-named M (slots_on M c.args.shelf.now) (slots_on M c.take.new.self) entries c.insert.new.self.entries labels c.push_reserved.new.self.items c.args.name c.args.method home c.new.result newest; held = newest-session M (slots_on M c.args.shelf.now) (slots_on M c.take.new.self) entries c.insert.new.self.entries labels c.push_reserved.new.self.items c.args.name c.args.method home c.new.result newest }
 
 pub returns-in-Ok-clause-settled : goal.returns-in-Ok-clause-settled
 returns-in-Ok-clause-settled g c =
     let M = meaning g in
-    let slots = slots_on M c.args.shelf.now in
-    let helds = held_in M c.args.self.now in
     let entries = c.args.self.now.homes.entries in
     let labels = c.args.self.now.labels.items in
     let absent : is_some (lookup (bytes_eq c.args.name) entries) ≡ false = sym c.if-contains_key.ensures in
     let home : HomeEntry _ _ = record { place = c.args.n; region = c.in-Ok.region } in
-    let none : AreNone c.new.result = record { agree = c.new.ensures.agree; names = c.new.ensures.no_names; count = c.new.ensures.count; kept = c.new.ensures.kept } in
-    let d = boxed M c.in-Some.disc in
-    let r = rest_in c.in-Ok.region in
-    let cells = cells_in c.in-Ok.region in
-    let new : held_of M c.args.name home c.new.result ≡ fresh c.args.name c.args.n d r cells c.new.result = ap (λ e. fresh c.args.name c.args.n e r cells c.new.result) c.in-Ok.ensures.ok.1 in
     let put = from_ok c.insert.result (c.insert.ensures.succeeds (omega (arith, c.in_ok-reserve.ensures.ok))) c.insert.ensures.entries in
     let gone = none_of (lookup (bytes_eq c.args.name) c.reserve.new.self.entries) (ap (λ es. is_some (lookup (bytes_eq c.args.name) es)) c.reserve.ensures.entries ∙ absent) in
-    let last = put ∙ (insert_entry-new bytes_eq c.reserve.new.self c.args.name home gone ∙ ap (λ es. es ++ (c.args.name, home) ∷ []) c.reserve.ensures.entries) in
-    let more = c.push_reserved.ensures.items ∙ ap (λ ls. ls ++ c.new.result ∷ []) c.reserve-2.ensures.items in
-    let all : held_all M c.insert.new.self.entries c.push_reserved.new.self.items ≡ helds ++ fresh c.args.name c.args.n d r cells c.new.result ∷ [] =
-    ap (λ es. held_all M es c.push_reserved.new.self.items) last
-    ∙ (ap (λ ls. held_all M (entries ++ (c.args.name, home) ∷ []) ls) more
-    ∙ (held-new M entries labels c.args.name home c.new.result c.requires.named ∙ ap (λ h. helds ++ h ∷ []) new)) in
-    ap (λ s. settled (accounts s) (held_all M c.insert.new.self.entries c.push_reserved.new.self.items)) c.in-Some.ensures.emptied
-    ∙ (ap (λ hs. settled (accounts (set slots (c.args.n - 1) None)) hs) all
-    ∙ settled-open slots helds c.args.name c.args.n d c.args.method r (ap rest_of c.in-Ok.ensures.ok.0 ∙ opened-rest c.args.method) cells c.new.result none c.in-Some.ensures.taken c.requires.held)
+    let newest : IsNewest M (slots_on M c.args.shelf.now) (slots_on M c.take.new.self) entries c.insert.new.self.entries labels c.push_reserved.new.self.items c.args.name c.args.method home c.new.result = record {
+      named = c.requires.named;
+      session = c.requires.held;
+      absent = absent;
+      last = put ∙ (insert_entry-new bytes_eq c.reserve.new.self c.args.name home gone ∙ ap (λ es. es ++ (c.args.name, home) ∷ []) c.reserve.ensures.entries);
+      more = c.push_reserved.ensures.items ∙ ap (λ ls. ls ++ c.new.result ∷ []) c.reserve-2.ensures.items;
+      newly = c.in-Ok.ensures.ok.0;
+      taken = c.in-Some.ensures.taken ∙ ap (λ d. Some (Some d)) (sym c.in-Ok.ensures.ok.1);
+      emptied = c.in-Some.ensures.emptied;
+      none = record { agree = c.new.ensures.agree; names = c.new.ensures.no_names; count = c.new.ensures.count; kept = c.new.ensures.kept };
+    } in
+    newest-settled M (slots_on M c.args.shelf.now) (slots_on M c.take.new.self) entries c.insert.new.self.entries labels c.push_reserved.new.self.items c.args.name c.args.method home c.new.result newest
 
 pub returns-in-Err-clause-session : goal.returns-in-Err-clause-session
 returns-in-Err-clause-session g c =

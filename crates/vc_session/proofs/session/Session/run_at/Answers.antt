@@ -171,8 +171,6 @@ returns-clause-session g c =
     let at_place = subst (λ (x : _). slice_get items (x.dict.kind - 1) ≡ Some one) (sym same) at_index in
     let same_kinds = map-set_alike rules items place one told at_place c.run.ensures.rules in
     let kinds' = rules_in rules (set items place told) in
-    let gone = gone_in g.D.DictDisc.gone items in
-    let gone' = gone_in g.D.DictDisc.gone (set items place told) in
     record {
       regions = record {
         named = named-ran M kinds slots homes labels es name e hv j i regions.named regions.held c.requires.session.dicts at_home home c.requires.index dict (rules one) at_rules after new c.run.ensures.leaves kinds' same_kinds;
@@ -206,16 +204,10 @@ returns-clause-rules g c =
     let one = c.index_mut-3.result.now in
     let at_index = subst (λ (x : _). slice_get items (x.dict.kind - 1) ≡ Some one) same
     (slice-or items (c.index-entry.result.now.dict.kind - 1) one (subst (λ (x : _). x.dict.kind - 1 < length items) (sym same) low.1) c.index_mut-3.ensures.value) in
-    let at_rules = kind-at rules items e.dict.kind one low.0 at_index in
-    let after = c.run.new.region in
-    let new = c.run.new.dict in
     let told = c.run.new.kind in
     let place = c.index-entry.result.now.dict.kind - 1 in
     let at_place = subst (λ (x : _). slice_get items (x.dict.kind - 1) ≡ Some one) (sym same) at_index in
     let same_kinds = map-set_alike rules items place one told at_place c.run.ensures.rules in
-    let kinds' = rules_in rules (set items place told) in
-    let gone = gone_in g.D.DictDisc.gone items in
-    let gone' = gone_in g.D.DictDisc.gone (set items place told) in
     same_kinds
 
 pub returns-clause-keeps : goal.returns-clause-keeps
@@ -251,8 +243,6 @@ returns-clause-keeps g c =
     let at_place = subst (λ (x : _). slice_get items (x.dict.kind - 1) ≡ Some one) (sym same) at_index in
     let same_kinds = map-set_alike rules items place one told at_place c.run.ensures.rules in
     let kinds' = rules_in rules (set items place told) in
-    let gone = gone_in g.D.DictDisc.gone items in
-    let gone' = gone_in g.D.DictDisc.gone (set items place told) in
     keeps-ran M kinds slots homes labels es name e hv j i regions.named regions.held c.requires.session.dicts at_home home c.requires.index dict (rules one) at_rules after new c.run.ensures.leaves kinds' same_kinds
 
 pub returns-clause-settles : goal.returns-clause-settles
@@ -288,8 +278,6 @@ returns-clause-settles g c =
     let at_place = subst (λ (x : _). slice_get items (x.dict.kind - 1) ≡ Some one) (sym same) at_index in
     let same_kinds = map-set_alike rules items place one told at_place c.run.ensures.rules in
     let kinds' = rules_in rules (set items place told) in
-    let gone = gone_in g.D.DictDisc.gone items in
-    let gone' = gone_in g.D.DictDisc.gone (set items place told) in
     if_both c.run.result _ _ _
     (λ reply gives lacks. settles-ran M kinds slots homes labels es name e hv j i regions.named regions.held c.requires.session.dicts at_home home c.requires.index dict (rules one) at_rules after new c.run.ensures.leaves kinds' same_kinds c.args.command.now reply c.requires.command (other-ran M kinds slots homes labels es name e hv j i regions.named regions.held c.requires.session.dicts at_home home c.requires.index dict (rules one) at_rules after new c.run.ensures.leaves kinds' same_kinds c.args.command.now reply _ _ gives) lacks)
     c.run.ensures.step (asked-ok c.run.result (seat_in M (rules one) hv.region e.dict) c.args.command.now (disc_in M hv.region) (disc_in M after) c.run.ensures.asked)
@@ -327,8 +315,6 @@ returns-clause-lacks g c =
     let at_place = subst (λ (x : _). slice_get items (x.dict.kind - 1) ≡ Some one) (sym same) at_index in
     let same_kinds = map-set_alike rules items place one told at_place c.run.ensures.rules in
     let kinds' = rules_in rules (set items place told) in
-    let gone = gone_in g.D.DictDisc.gone items in
-    let gone' = gone_in g.D.DictDisc.gone (set items place told) in
     if_ok c.run.result _ _ (λ reply lacks. lacks-ran M kinds slots homes labels es name e hv j i regions.named regions.held c.requires.session.dicts at_home home c.requires.index dict (rules one) at_rules after new c.run.ensures.leaves kinds' same_kinds c.args.command.now reply c.requires.command lacks) (asked-ok c.run.result (seat_in M (rules one) hv.region e.dict) c.args.command.now (disc_in M hv.region) (disc_in M after) c.run.ensures.asked)
 
 pub returns-clause-err : goal.returns-clause-err
@@ -364,8 +350,6 @@ returns-clause-err g c =
     let at_place = subst (λ (x : _). slice_get items (x.dict.kind - 1) ≡ Some one) (sym same) at_index in
     let same_kinds = map-set_alike rules items place one told at_place c.run.ensures.rules in
     let kinds' = rules_in rules (set items place told) in
-    let gone = gone_in g.D.DictDisc.gone items in
-    let gone' = gone_in g.D.DictDisc.gone (set items place told) in
     on_error c.run.result _ _
     (λ (p : _). (map-set_alike g.D.DictDisc.gone items place one told at_place p.0, cut-ran M kinds slots homes labels es name e hv j i regions.named regions.held c.requires.session.dicts at_home home c.requires.index dict (rules one) at_rules after new c.run.ensures.leaves kinds' same_kinds c.args.command.now c.requires.command p.1))
     c.run.ensures.err
@@ -376,13 +360,9 @@ overflow_sub-k g c =
     let rules = g.D.DictDisc.rules in
     let items = c.args.kinds.now.items in
     let kinds = rules_in rules items in
-    let slots = slots_on M c.args.shelf.now in
-    let homes = c.args.self.now.homes.entries in
-    let labels = c.args.self.now.labels.items in
     let es = c.args.self.now.dicts.entries in
     let name = c.args.name.now in
     let i = c.args.i in
-    let regions = c.requires.session.regions in
     let e = c.index-entry.result.now in
     let dict = c.index-entry.ensures in
     let there = pair-read es i name e (key-at es name i c.requires.index) dict in
@@ -395,13 +375,9 @@ index_mut-requires-3 g c =
     let rules = g.D.DictDisc.rules in
     let items = c.args.kinds.now.items in
     let kinds = rules_in rules items in
-    let slots = slots_on M c.args.shelf.now in
-    let homes = c.args.self.now.homes.entries in
-    let labels = c.args.self.now.labels.items in
     let es = c.args.self.now.dicts.entries in
     let name = c.args.name.now in
     let i = c.args.i in
-    let regions = c.requires.session.regions in
     let e = c.index-entry.result.now in
     let dict = c.index-entry.ensures in
     let there = pair-read es i name e (key-at es name i c.requires.index) dict in

@@ -1,8 +1,8 @@
-use Rattle.std.proofs.Common.{◌≡◌, ◌-◌, ◌<◌, ℕ, is_some, List, [], Some, length, option_map, set, refl, sym, ap, ◌∙◌, subst, arith}
+use Rattle.std.proofs.Common.{◌≡◌, ◌-◌, ◌<◌, is_some, [], Some, length, option_map, set, refl, sym, ap, ◌∙◌, subst, arith}
 use Rattle.std.specs.Prelude.{slice_get}
 use Rattle.std.specs.Map.{lookup}
 use Rattle.std.specs.Str.{bytes_eq}
-use Rattle.std.proofs.lemmas.List.{length-map, map-set}
+use Rattle.std.proofs.lemmas.List.{map-set}
 use Rattle.std.proofs.lemmas.Option.{none-some, same_Some, slice_get-map}
 use Rattle.indexmap.specs.IndexMap.{set_value_at}
 use Rattle.vc_model.specs.Discipline.{Discipline}
@@ -26,7 +26,8 @@ use Rattle.vc_session.proofs.DictTold.{tell-each}
 use Rattle.vc_session.proofs.DictsStay.{Entry}
 use Rattle.vc_session.proofs.Ending.{if_some-to, within-map}
 use Rattle.vc_session.proofs.Firsts.{find-none, none-unmap}
-use Rattle.vc_session.proofs.Helds.{any-named, first-named, held-read, held-set, index-within, length-set, name-at, slice-or, some-at}
+use Rattle.vc_session.proofs.Helds.{any-named, first-named, held-read, held-set, index-within, length-set, name-at, slice-or}
+use Rattle.vc_session.proofs.Placed.{labels-at}
 use Rattle.vc_session.proofs.Sessions.{held-at}
 use Rattle.vc_session.proofs.session.Session.shut_at.Given as given
 use Rattle.vc_session.proofs.session.Session.shut_at.Goals as goal
@@ -39,19 +40,16 @@ unreachable-requires-in_default-get_index_of g c =
     let M = meaning g in
     let items = c.args.kinds.now.items in
     let kinds = rules_in g.D.DictDisc.rules items in
-    let slots = slots_on M c.args.shelf.now in
     let helds = held_in M c.args.self.now in
     let entries = c.args.self.now.homes.entries in
     let labels = c.args.self.now.labels.items in
     let named = c.requires.session.regions.named in
-    let session = c.requires.session.regions.held in
     let dicts = c.requires.session.dicts in
     let ds = c.args.self.now.dicts.entries in
     let i = c.args.i in
     let e : Entry = (c.in-Some.field-0-0, c.in-Some.entry) in
     let there : slice_get ds i ≡ Some e = sym c.in-Some.ensures.entry in
     let r = c.in-Some.entry.home in
-    let n = c.in-Some.entry.dict.kind in
     let own = dict-at kinds helds ds i e there dicts in
     let absent = sym c.get_index_of.ensures.found ∙ ap is_some c.in_default-get_index_of.is in
     none-some own.home
@@ -62,18 +60,12 @@ overflow_sub-k g c =
     let M = meaning g in
     let items = c.args.kinds.now.items in
     let kinds = rules_in g.D.DictDisc.rules items in
-    let slots = slots_on M c.args.shelf.now in
     let helds = held_in M c.args.self.now in
-    let entries = c.args.self.now.homes.entries in
-    let labels = c.args.self.now.labels.items in
-    let named = c.requires.session.regions.named in
-    let session = c.requires.session.regions.held in
     let dicts = c.requires.session.dicts in
     let ds = c.args.self.now.dicts.entries in
     let i = c.args.i in
     let e : Entry = (c.in-Some.field-0-0, c.in-Some.entry) in
     let there : slice_get ds i ≡ Some e = sym c.in-Some.ensures.entry in
-    let r = c.in-Some.entry.home in
     let n = c.in-Some.entry.dict.kind in
     let own = dict-at kinds helds ds i e there dicts in
     (at_number_some kinds n own.rules own.kind).0
@@ -83,18 +75,12 @@ index_mut-requires-2 g c =
     let M = meaning g in
     let items = c.args.kinds.now.items in
     let kinds = rules_in g.D.DictDisc.rules items in
-    let slots = slots_on M c.args.shelf.now in
     let helds = held_in M c.args.self.now in
-    let entries = c.args.self.now.homes.entries in
-    let labels = c.args.self.now.labels.items in
-    let named = c.requires.session.regions.named in
-    let session = c.requires.session.regions.held in
     let dicts = c.requires.session.dicts in
     let ds = c.args.self.now.dicts.entries in
     let i = c.args.i in
     let e : Entry = (c.in-Some.field-0-0, c.in-Some.entry) in
     let there : slice_get ds i ≡ Some e = sym c.in-Some.ensures.entry in
-    let r = c.in-Some.entry.home in
     let n = c.in-Some.entry.dict.kind in
     let own = dict-at kinds helds ds i e there dicts in
     let within = within-map g.D.DictDisc.rules items (n - 1) own.rules (at_number_some kinds n own.rules own.kind).1 in
@@ -117,13 +103,10 @@ shut-requires-clause-best g c =
     let e : Entry = (c.in-Some.field-0-0, c.in-Some.entry) in
     let there : slice_get ds i ≡ Some e = sym c.in-Some.ensures.entry in
     let r = c.in-Some.entry.home in
-    let n = c.in-Some.entry.dict.kind in
-    let own = dict-at kinds helds ds i e there dicts in
-    let item = g.D.DictDisc.rules in
     let j = c.in-Some-get_index_of.j in
     let index = sym c.get_index_of.ensures.index ∙ c.in-Some-get_index_of.is in
     let home = c.index_mut.result.now in
-    let l = some-at labels j (omega (arith, named, length-map entries (λ (x : List ℕ × HomeEntry _ _). x.0), index-within M entries r j index)) in
+    let l = labels-at entries j (index-within M entries r j index) labels named in
     let name = name-at M entries r j index in
     let h = held_of M r home l.0 in
     let at = held-read M entries labels j r home l.0 name c.index_mut.ensures.value l.1 in
@@ -153,7 +136,7 @@ shut-requires-clause-whole g c =
     let j = c.in-Some-get_index_of.j in
     let index = sym c.get_index_of.ensures.index ∙ c.in-Some-get_index_of.is in
     let home = c.index_mut.result.now in
-    let l = some-at labels j (omega (arith, named, length-map entries (λ (x : List ℕ × HomeEntry _ _). x.0), index-within M entries r j index)) in
+    let l = labels-at entries j (index-within M entries r j index) labels named in
     let name = name-at M entries r j index in
     let h = held_of M r home l.0 in
     let at = held-read M entries labels j r home l.0 name c.index_mut.ensures.value l.1 in
@@ -188,7 +171,7 @@ returns-clause-state g c =
     let j = c.in-Some-get_index_of.j in
     let index = sym c.get_index_of.ensures.index ∙ c.in-Some-get_index_of.is in
     let home = c.index_mut.result.now in
-    let l = some-at labels j (omega (arith, named, length-map entries (λ (x : List ℕ × HomeEntry _ _). x.0), index-within M entries r j index)) in
+    let l = labels-at entries j (index-within M entries r j index) labels named in
     let name = name-at M entries r j index in
     let h = held_of M r home l.0 in
     let at = held-read M entries labels j r home l.0 name c.index_mut.ensures.value l.1 in
@@ -197,7 +180,6 @@ returns-clause-state g c =
     let number = at_number_some kinds n own.rules own.kind in
     let its_place : n - 1 < length items = within-map item items (n - 1) own.rules number.1 in
     let its_kind : slice_get items (n - 1) ≡ Some kind = slice-or items (n - 1) kind its_place c.index_mut-2.ensures.value in
-    let rules_are : own.rules ≡ item kind = same_Some own.rules (item kind) (sym number.1 ∙ (slice_get-map item items (n - 1) ∙ ap (option_map item) its_kind)) in
     let after = c.shut.new.region in
     let best = shut-best kinds slots helds ds j i h e at there first session dicts refl in
     let leaves = c.shut.ensures.leaves in
@@ -240,7 +222,7 @@ returns-clause-gone g c =
     let j = c.in-Some-get_index_of.j in
     let index = sym c.get_index_of.ensures.index ∙ c.in-Some-get_index_of.is in
     let home = c.index_mut.result.now in
-    let l = some-at labels j (omega (arith, named, length-map entries (λ (x : List ℕ × HomeEntry _ _). x.0), index-within M entries r j index)) in
+    let l = labels-at entries j (index-within M entries r j index) labels named in
     let name = name-at M entries r j index in
     let h = held_of M r home l.0 in
     let at = held-read M entries labels j r home l.0 name c.index_mut.ensures.value l.1 in
@@ -249,19 +231,6 @@ returns-clause-gone g c =
     let number = at_number_some kinds n own.rules own.kind in
     let its_place : n - 1 < length items = within-map item items (n - 1) own.rules number.1 in
     let its_kind : slice_get items (n - 1) ≡ Some kind = slice-or items (n - 1) kind its_place c.index_mut-2.ensures.value in
-    let rules_are : own.rules ≡ item kind = same_Some own.rules (item kind) (sym number.1 ∙ (slice_get-map item items (n - 1) ∙ ap (option_map item) its_kind)) in
-    let after = c.shut.new.region in
-    let best = shut-best kinds slots helds ds j i h e at there first session dicts refl in
-    let leaves = c.shut.ensures.leaves in
-    let held = held-at slots helds j h at session in
-    let g' = held_after M r home after l.0 (owned (dictionary_of e.1.dict h.cells)) [] best leaves in
-    let touch = touches M r home after l.0 (owned (dictionary_of e.1.dict h.cells)) [] best leaves in
-    let change = region-change M r home after l.0 (owned (dictionary_of e.1.dict h.cells)) [] best leaves held.lent held.names in
-    let entry : HomeEntry _ _ = record { place = home.place; region = after } in
-    let helds' : held_all M (set_value_at entries j entry) labels ≡ set helds j g' =
-    ap (λ ls. held_all M (set_value_at entries j entry) ls) (sym (set_same labels j l.0 l.1)) ∙ held-set M entries labels j r entry l.0 named name in
-    let left = c.shift_remove_index.ensures.entries in
-    let kinds' : rules_in item (set items (n - 1) c.shut.new.kind) ≡ kinds = map-set_alike item items (n - 1) kind c.shut.new.kind its_kind c.shut.ensures.rules in
     let gone = g.D.DictDisc.gone in
     let was : at_number (gone_in gone items) n ≡ Some (gone kind) =
     at_number-from_one (gone_in gone items) n number.0 ∙ (slice_get-map gone items (n - 1) ∙ ap (option_map gone) its_kind) in
@@ -275,48 +244,16 @@ returns-clause-gone g c =
 pub returns-clause-homes : goal.returns-clause-homes
 returns-clause-homes g c =
     let M = meaning g in
-    let items = c.args.kinds.now.items in
-    let kinds = rules_in g.D.DictDisc.rules items in
-    let slots = slots_on M c.args.shelf.now in
-    let helds = held_in M c.args.self.now in
     let entries = c.args.self.now.homes.entries in
     let labels = c.args.self.now.labels.items in
     let named = c.requires.session.regions.named in
-    let session = c.requires.session.regions.held in
-    let dicts = c.requires.session.dicts in
-    let ds = c.args.self.now.dicts.entries in
-    let i = c.args.i in
-    let e : Entry = (c.in-Some.field-0-0, c.in-Some.entry) in
-    let there : slice_get ds i ≡ Some e = sym c.in-Some.ensures.entry in
     let r = c.in-Some.entry.home in
-    let n = c.in-Some.entry.dict.kind in
-    let own = dict-at kinds helds ds i e there dicts in
-    let item = g.D.DictDisc.rules in
     let j = c.in-Some-get_index_of.j in
     let index = sym c.get_index_of.ensures.index ∙ c.in-Some-get_index_of.is in
     let home = c.index_mut.result.now in
-    let l = some-at labels j (omega (arith, named, length-map entries (λ (x : List ℕ × HomeEntry _ _). x.0), index-within M entries r j index)) in
-    let name = name-at M entries r j index in
-    let h = held_of M r home l.0 in
-    let at = held-read M entries labels j r home l.0 name c.index_mut.ensures.value l.1 in
-    let first = first-named M entries labels r j named index in
-    let kind = c.index_mut-2.result.now in
-    let number = at_number_some kinds n own.rules own.kind in
-    let its_place : n - 1 < length items = within-map item items (n - 1) own.rules number.1 in
-    let its_kind : slice_get items (n - 1) ≡ Some kind = slice-or items (n - 1) kind its_place c.index_mut-2.ensures.value in
-    let rules_are : own.rules ≡ item kind = same_Some own.rules (item kind) (sym number.1 ∙ (slice_get-map item items (n - 1) ∙ ap (option_map item) its_kind)) in
+    let l = labels-at entries j (index-within M entries r j index) labels named in
     let after = c.shut.new.region in
-    let best = shut-best kinds slots helds ds j i h e at there first session dicts refl in
-    let leaves = c.shut.ensures.leaves in
-    let held = held-at slots helds j h at session in
-    let g' = held_after M r home after l.0 (owned (dictionary_of e.1.dict h.cells)) [] best leaves in
-    let touch = touches M r home after l.0 (owned (dictionary_of e.1.dict h.cells)) [] best leaves in
-    let change = region-change M r home after l.0 (owned (dictionary_of e.1.dict h.cells)) [] best leaves held.lent held.names in
     let entry : HomeEntry _ _ = record { place = home.place; region = after } in
-    let helds' : held_all M (set_value_at entries j entry) labels ≡ set helds j g' =
-    ap (λ ls. held_all M (set_value_at entries j entry) ls) (sym (set_same labels j l.0 l.1)) ∙ held-set M entries labels j r entry l.0 named name in
-    let left = c.shift_remove_index.ensures.entries in
-    let kinds' : rules_in item (set items (n - 1) c.shut.new.kind) ≡ kinds = map-set_alike item items (n - 1) kind c.shut.new.kind its_kind c.shut.ensures.rules in
     sym (length-set M entries labels j entry l.0 named) ∙ (ap length (set_same labels j l.0 l.1) ∙ named)
 
 pub returns-clause-session : goal.returns-clause-session
@@ -342,7 +279,7 @@ returns-clause-session g c =
     let j = c.in-Some-get_index_of.j in
     let index = sym c.get_index_of.ensures.index ∙ c.in-Some-get_index_of.is in
     let home = c.index_mut.result.now in
-    let l = some-at labels j (omega (arith, named, length-map entries (λ (x : List ℕ × HomeEntry _ _). x.0), index-within M entries r j index)) in
+    let l = labels-at entries j (index-within M entries r j index) labels named in
     let name = name-at M entries r j index in
     let h = held_of M r home l.0 in
     let at = held-read M entries labels j r home l.0 name c.index_mut.ensures.value l.1 in
@@ -351,7 +288,6 @@ returns-clause-session g c =
     let number = at_number_some kinds n own.rules own.kind in
     let its_place : n - 1 < length items = within-map item items (n - 1) own.rules number.1 in
     let its_kind : slice_get items (n - 1) ≡ Some kind = slice-or items (n - 1) kind its_place c.index_mut-2.ensures.value in
-    let rules_are : own.rules ≡ item kind = same_Some own.rules (item kind) (sym number.1 ∙ (slice_get-map item items (n - 1) ∙ ap (option_map item) its_kind)) in
     let after = c.shut.new.region in
     let best = shut-best kinds slots helds ds j i h e at there first session dicts refl in
     let leaves = c.shut.ensures.leaves in
@@ -380,34 +316,19 @@ returns-clause-rules g c =
     let M = meaning g in
     let items = c.args.kinds.now.items in
     let kinds = rules_in g.D.DictDisc.rules items in
-    let slots = slots_on M c.args.shelf.now in
     let helds = held_in M c.args.self.now in
-    let entries = c.args.self.now.homes.entries in
-    let labels = c.args.self.now.labels.items in
-    let named = c.requires.session.regions.named in
-    let session = c.requires.session.regions.held in
     let dicts = c.requires.session.dicts in
     let ds = c.args.self.now.dicts.entries in
     let i = c.args.i in
     let e : Entry = (c.in-Some.field-0-0, c.in-Some.entry) in
     let there : slice_get ds i ≡ Some e = sym c.in-Some.ensures.entry in
-    let r = c.in-Some.entry.home in
     let n = c.in-Some.entry.dict.kind in
     let own = dict-at kinds helds ds i e there dicts in
     let item = g.D.DictDisc.rules in
-    let j = c.in-Some-get_index_of.j in
-    let index = sym c.get_index_of.ensures.index ∙ c.in-Some-get_index_of.is in
-    let home = c.index_mut.result.now in
-    let l = some-at labels j (omega (arith, named, length-map entries (λ (x : List ℕ × HomeEntry _ _). x.0), index-within M entries r j index)) in
-    let name = name-at M entries r j index in
-    let h = held_of M r home l.0 in
-    let at = held-read M entries labels j r home l.0 name c.index_mut.ensures.value l.1 in
-    let first = first-named M entries labels r j named index in
     let kind = c.index_mut-2.result.now in
     let number = at_number_some kinds n own.rules own.kind in
     let its_place : n - 1 < length items = within-map item items (n - 1) own.rules number.1 in
     let its_kind : slice_get items (n - 1) ≡ Some kind = slice-or items (n - 1) kind its_place c.index_mut-2.ensures.value in
-    let rules_are : own.rules ≡ item kind = same_Some own.rules (item kind) (sym number.1 ∙ (slice_get-map item items (n - 1) ∙ ap (option_map item) its_kind)) in
     map-set_alike item items (n - 1) kind c.shut.new.kind its_kind c.shut.ensures.rules
 
 pub returns-clause-settled : goal.returns-clause-settled
@@ -427,32 +348,21 @@ returns-clause-settled g c =
     let e : Entry = (c.in-Some.field-0-0, c.in-Some.entry) in
     let there : slice_get ds i ≡ Some e = sym c.in-Some.ensures.entry in
     let r = c.in-Some.entry.home in
-    let n = c.in-Some.entry.dict.kind in
-    let own = dict-at kinds helds ds i e there dicts in
-    let item = g.D.DictDisc.rules in
     let j = c.in-Some-get_index_of.j in
     let index = sym c.get_index_of.ensures.index ∙ c.in-Some-get_index_of.is in
     let home = c.index_mut.result.now in
-    let l = some-at labels j (omega (arith, named, length-map entries (λ (x : List ℕ × HomeEntry _ _). x.0), index-within M entries r j index)) in
+    let l = labels-at entries j (index-within M entries r j index) labels named in
     let name = name-at M entries r j index in
     let h = held_of M r home l.0 in
     let at = held-read M entries labels j r home l.0 name c.index_mut.ensures.value l.1 in
     let first = first-named M entries labels r j named index in
-    let kind = c.index_mut-2.result.now in
-    let number = at_number_some kinds n own.rules own.kind in
-    let its_place : n - 1 < length items = within-map item items (n - 1) own.rules number.1 in
-    let its_kind : slice_get items (n - 1) ≡ Some kind = slice-or items (n - 1) kind its_place c.index_mut-2.ensures.value in
-    let rules_are : own.rules ≡ item kind = same_Some own.rules (item kind) (sym number.1 ∙ (slice_get-map item items (n - 1) ∙ ap (option_map item) its_kind)) in
     let after = c.shut.new.region in
     let best = shut-best kinds slots helds ds j i h e at there first session dicts refl in
     let leaves = c.shut.ensures.leaves in
     let held = held-at slots helds j h at session in
     let g' = held_after M r home after l.0 (owned (dictionary_of e.1.dict h.cells)) [] best leaves in
-    let touch = touches M r home after l.0 (owned (dictionary_of e.1.dict h.cells)) [] best leaves in
     let change = region-change M r home after l.0 (owned (dictionary_of e.1.dict h.cells)) [] best leaves held.lent held.names in
     let entry : HomeEntry _ _ = record { place = home.place; region = after } in
     let helds' : held_all M (set_value_at entries j entry) labels ≡ set helds j g' =
     ap (λ ls. held_all M (set_value_at entries j entry) ls) (sym (set_same labels j l.0 l.1)) ∙ held-set M entries labels j r entry l.0 named name in
-    let left = c.shift_remove_index.ensures.entries in
-    let kinds' : rules_in item (set items (n - 1) c.shut.new.kind) ≡ kinds = map-set_alike item items (n - 1) kind c.shut.new.kind its_kind c.shut.ensures.rules in
     ap (settled (accounts slots)) helds' ∙ settled-same slots helds j h g' at session change (ap (λ (d : Discipline). d.faults) c.shut.ensures.disc)
