@@ -9,5 +9,6 @@ pub fn one_cell()
     ensures between { cells_of cell_and_labelled 1048578 ≡ None }
     ensures no_address { cells_of cell_and_labelled 0 ≡ None }
     ensures gone { without_cell 1048577 (cells_of cell_and_labelled) 1048577 ≡ None }
-    ensures rest { map (λ b. b.bytes) (map zeroed cell_and_labelled) ≡ (0 ∷ 0 ∷ []) ∷ (9 ∷ []) ∷ [] }
+    ensures rest { map (λ b. b.bytes) (map zeroed cell_and_labelled)
+        ≡ (0 ∷ 0 ∷ []) ∷ (9 ∷ []) ∷ [] }
 {}

@@ -27,7 +27,8 @@ pub fn debug_damage()
     ensures both { damages (poked (poked two_put (1, 256) (pos 8) 0) (1, 64) (negsuc 31) 1)
         ≡ ((1, 64), negsuc 31) ∷ ((1, 256), pos 8) ∷ [] }
     ensures inside { damages (poked two_put (1, 256) (pos 7) 1) ≡ [] }
-    ensures repaired { damages (poked (poked two_put (1, 256) (pos 8) 0) (1, 256) (pos 8) 165) ≡ [] }
+    ensures repaired { damages (poked (poked two_put (1, 256) (pos 8) 0) (1, 256) (pos 8) 165)
+        ≡ [] }
 {}
 
 /// A resize, also to the same size, writes the back guard anew and leaves the front guard as it is, also where the block
@@ -41,16 +42,18 @@ pub fn debug_resizing()
     ensures bytes { option_map (λ b. b.bytes) (find_block (1, 256) (user_blocks (with_resize
         (with_resize (debug_write two_put (1, 256) 5 (7 ∷ 8 ∷ 9 ∷ [])) (1, 256) 7 false)
         (1, 256) 10 false))) ≡ Some (replicate 5 0 ++ 7 ∷ 8 ∷ 0 ∷ 0 ∷ 0 ∷ []) }
-    ensures refused { debug_resize (rounds_to 4096) two_put (1, 64) 140 false false ≡ Refused Fixed }
+    ensures refused { debug_resize (rounds_to 4096) two_put (1, 64) 140 false false
+        ≡ Refused Fixed }
 {}
 
 /// A second watch takes the new line. A mark goes along where its block moves, and ends where the block is freed or all
 /// are.
 pub fn debug_marks()
     ensures none { watched_at two_put (1, 64) ≡ None }
-    ensures second { watched_at (with_watch (with_watch two_put (1, 64) 3) (1, 64) 5) (1, 64) ≡ Some 5 }
-    ensures moved { watched_at (with_resize (with_watch two_put (1, 64) 5) (1, 64) 140 true) (1, 352)
+    ensures second { watched_at (with_watch (with_watch two_put (1, 64) 3) (1, 64) 5) (1, 64)
         ≡ Some 5 }
+    ensures moved { watched_at (with_resize (with_watch two_put (1, 64) 5) (1, 64) 140 true)
+        (1, 352) ≡ Some 5 }
     ensures left { watched_at (with_resize (with_watch two_put (1, 64) 5) (1, 64) 140 true) (1, 64)
         ≡ None }
     ensures freed { watched_at (debug_free (with_watch two_put (1, 64) 5) (1, 64)) (1, 64) ≡ None }
