@@ -1,0 +1,71 @@
+-- Which objects the layers above hide, layer by layer.
+use Rattle.std.proofs.Common.{◌≡◌, ℕ, List, [], ◌∷◌, Bool, true, false, ◌||◌, Option, Some, None, is_some, refl, sym, ap, ◌∙◌, inl, inr}
+use Rattle.std.specs.List.{find, list_any}
+use Rattle.std.specs.Option.{option_map}
+use Rattle.std.proofs.lemmas.Bool.{cases_Bool, eq-eqb, ne_eqb}
+use Rattle.vc_base.specs.declared.addr.Addr.{Addr}
+use Rattle.vc_dtlist.specs.Linked.{number_of}
+use Rattle.vc_paths.specs.Layers.{AreLayers, Layered, Placed, has_key, is_match, place_with, Same, Layer}
+use Rattle.vc_paths.specs.Links.{ArePaths, Links, below}
+use Rattle.vc_paths.specs.Path.{IsAlike}
+use Rattle.vc_paths.specs.Shown.{above, down, has_match, is_covered}
+use Rattle.vc_paths.proofs.DownLemmas.{above-on, above-stop, down-none, down-step}
+
+-- something is found where something passes
+found-any : (t : Placed → Bool) (xs : List Placed) → is_some (find t xs) ≡ list_any t xs
+found-any t [] = refl
+found-any t (x ∷ xs) = elim (cases_Bool (t x)) as (λ _. is_some (find t (x ∷ xs)) ≡ list_any t (x ∷ xs)) [
+  | inl h ↦ rw h refl
+  | inr h ↦ rw h (found-any t xs)
+]
+
+mapped-some : {A B : Type 0} (f : A → B) (o : Option A) → is_some (option_map f o) ≡ is_some o
+mapped-some f None = refl
+mapped-some f (Some x) = refl
+
+-- a match is found where a dictionary has one
+pub like-found : (all : Layered) (u : ℕ) (bytes : List ℕ) (r : Option Addr) → option_map number_of r ≡ place_with (all.layer u).rules ((all.layer u).rules.key bytes) (all.layer u).objects → is_some r ≡ has_match all u bytes u
+like-found all u bytes r e =
+    let rules = (all.layer u).rules in
+    sym (mapped-some number_of r)
+    ∙ ap is_some e
+    ∙ mapped-some (λ o. o.at) (find (λ o. has_key rules (rules.key bytes) o.bytes) (all.layer u).objects)
+    ∙ found-any (λ o. has_key rules (rules.key bytes) o.bytes) (all.layer u).objects
+
+-- like dictionaries have the same rules
+pub match-same : (all : Layered) (d u : ℕ) (bytes : List ℕ) → AreLayers all → IsAlike all d d → IsAlike all d u → has_match all u bytes u ≡ has_match all d bytes u
+match-same all d u bytes laws here there =
+    ap (λ rules. list_any (λ o. is_match rules bytes o.bytes) (all.layer u).objects) (laws.kinds u d there.there here.there there.kind)
+
+-- so a match among some objects that stayed is one by the rules of the path
+pub match-told : (now all : Layered) (d u : ℕ) (bytes : List ℕ) → Same all now → AreLayers all → IsAlike all d d → IsAlike all d u → has_match now u bytes u ≡ has_match all d bytes u
+match-told now all d u bytes same laws here there = ap (λ (z : ℕ → Layer). list_any (λ o. is_match (z u).rules bytes o.bytes) (z u).objects) same.layers ∙ match-same all d u bytes laws here there
+
+-- what hides an object is told by a walk over the layers above, which ends at its own
+pub cover-is : (all : Layered) (links : Links) (d e : ℕ) (bytes : List ℕ) → is_covered all links d e bytes ≡ list_any (has_match all d bytes) (above (Some e) (down links (Some d)))
+unfolding is_covered
+cover-is all links d e bytes = refl
+
+module _ (test : ℕ → Bool) (links : Links) (e : ℕ) where
+  cover-step : (at : Option ℕ) (u : ℕ) → ArePaths links → at ≡ Some u → list_any test (above (Some e) (down links at)) ≡ list_any test (above (Some e) (u ∷ down links (below links u)))
+  cover-step at u p is = ap (λ z. list_any test (above (Some e) z)) (ap (down links) is ∙ down-step links u p)
+
+  pub cover-stop : (at : Option ℕ) (u : ℕ) → ArePaths links → at ≡ Some u → e ≡ u → list_any test (above (Some e) (down links at)) ≡ false
+  cover-stop at u p is same =
+      cover-step at u p is ∙ ap (list_any test) (above-stop (Some e) u (down links (below links u)) (eq-eqb e u same))
+
+  pub cover-on : (at : Option ℕ) (u : ℕ) → ArePaths links → at ≡ Some u → (e ≡ u → ⊥) → list_any test (above (Some e) (down links at)) ≡ (test u || list_any test (above (Some e) (down links (below links u))))
+  cover-on at u p is other =
+      cover-step at u p is ∙ ap (list_any test) (above-on (Some e) u (down links (below links u)) (ne_eqb e u other))
+
+  pub cover-there : (at : Option ℕ) (u : ℕ) → ArePaths links → at ≡ Some u → (e ≡ u → ⊥) → test u ≡ true → list_any test (above (Some e) (down links at)) ≡ true
+  cover-there at u p is other h = cover-on at u p is other ∙ ap (λ z. z || list_any test (above (Some e) (down links (below links u)))) h
+
+  pub cover-less : (at : Option ℕ) (u : ℕ) (next : Option ℕ) → ArePaths links → at ≡ Some u → (e ≡ u → ⊥) → next ≡ below links u → test u ≡ false → list_any test (above (Some e) (down links at)) ≡ list_any test (above (Some e) (down links next))
+  cover-less at u next p is other on h =
+      cover-on at u p is other
+      ∙ ap (λ z. z || list_any test (above (Some e) (down links (below links u)))) h
+      ∙ ap (λ z. list_any test (above (Some e) (down links z))) (sym on)
+
+  pub cover-end : (at : Option ℕ) → at ≡ None → list_any test (above (Some e) (down links at)) ≡ false
+  cover-end at is = ap (λ z. list_any test (above (Some e) z)) (ap (down links) is ∙ down-none links)

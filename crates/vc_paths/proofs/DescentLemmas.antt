@@ -1,0 +1,66 @@
+-- Walks down a path that look for the first layer that shows something, or for the last one.
+use Rattle.std.proofs.Common.{◌≡◌, ℕ, List, ◌∷◌, true, false, Option, Some, None, is_some, refl, sym, ap, ◌∙◌}
+use Rattle.std.specs.List.{flat_map}
+use Rattle.std.specs.Option.{option_map, option_or}
+use Rattle.std.proofs.lemmas.Bool.{true≢false}
+use Rattle.vc_paths.specs.Finding.{first_of, last_from, last_of}
+use Rattle.vc_paths.specs.Links.{ArePaths, Links, below, is_link_to}
+use Rattle.vc_paths.specs.Shown.{above, down}
+use Rattle.vc_paths.proofs.DownLemmas.{above-on, above-stop, down-none, down-step}
+use Rattle.vc_paths.proofs.EndLemmas.{first-append, last-append, last-or}
+
+or-some : {A : Type 0} (r o : Option A) → is_some r ≡ true → option_or r o ≡ r
+or-some None o h = absurd (true≢false (sym h))
+or-some (Some x) o h = refl
+
+or-none : {A : Type 0} (r o : Option A) → is_some r ≡ false → option_or r o ≡ o
+or-none None o h = refl
+or-none (Some x) o h = absurd (true≢false h)
+
+pub or-mapped : {A B : Type 0} (f : A → B) (r o : Option A) → option_map f (option_or r o) ≡ option_or (option_map f r) (option_map f o)
+or-mapped f None o = refl
+or-mapped f (Some x) o = refl
+
+pub some-mapped : {A B : Type 0} (f : A → B) (r : Option A) → is_some (option_map f r) ≡ is_some r
+some-mapped f None = refl
+some-mapped f (Some x) = refl
+
+module _ {A : Type 0} (shows : ℕ → List A) (links : Links) where
+  below-step : (at : Option ℕ) (e : ℕ) (next : Option ℕ) → ArePaths links → at ≡ Some e → next ≡ below links e → down links at ≡ e ∷ down links next
+  below-step at e next p is on = ap (down links) is ∙ down-step links e p ∙ ap (λ z. e ∷ down links z) (sym on)
+
+  first-step : (at : Option ℕ) (e : ℕ) (r : Option A) → ArePaths links → at ≡ Some e → r ≡ first_of (shows e) → first_of (flat_map shows (down links at)) ≡ option_or r (first_of (flat_map shows (down links (below links e))))
+  first-step at e r p is found =
+      ap (λ z. first_of (flat_map shows z)) (below-step at e (below links e) p is refl)
+      ∙ first-append (shows e) (flat_map shows (down links (below links e)))
+      ∙ ap (λ z. option_or z (first_of (flat_map shows (down links (below links e))))) (sym found)
+
+  -- a layer that shows something, and one that shows nothing
+  pub below-found : (at : Option ℕ) (e : ℕ) (r : Option A) → ArePaths links → at ≡ Some e → r ≡ first_of (shows e) → is_some r ≡ true → r ≡ first_of (flat_map shows (down links at))
+  below-found at e r p is found h = sym (first-step at e r p is found ∙ or-some r (first_of (flat_map shows (down links (below links e)))) h)
+
+  pub below-past : (at : Option ℕ) (e : ℕ) (next : Option ℕ) (r : Option A) → ArePaths links → at ≡ Some e → next ≡ below links e → r ≡ first_of (shows e) → is_some r ≡ false → first_of (flat_map shows (down links at)) ≡ first_of (flat_map shows (down links next))
+  below-past at e next r p is on found h =
+      first-step at e r p is found
+      ∙ or-none r (first_of (flat_map shows (down links (below links e)))) h
+      ∙ ap (λ z. first_of (flat_map shows (down links z))) (sym on)
+
+  pub below-end : (at : Option ℕ) → at ≡ None → None ≡ first_of (flat_map shows (down links at))
+  below-end at is = sym (ap (λ z. first_of (flat_map shows z)) (ap (down links) is ∙ down-none links))
+
+  -- the last so far, at the end and before it
+  pub above-end : (end at : Option ℕ) (best : Option A) → at ≡ None → last_from best (flat_map shows (above end (down links at))) ≡ best
+  above-end end at best is = ap (λ z. last_from best (flat_map shows (above end z))) (ap (down links) is ∙ down-none links)
+
+  pub above-last : (end at : Option ℕ) (e : ℕ) (best : Option A) → ArePaths links → at ≡ Some e → is_link_to e end ≡ true → last_from best (flat_map shows (above end (down links at))) ≡ best
+  above-last end at e best p is h =
+      ap (λ z. last_from best (flat_map shows (above end z))) (below-step at e (below links e) p is refl)
+      ∙ ap (λ z. last_from best (flat_map shows z)) (above-stop end e (down links (below links e)) h)
+
+  pub above-past : (end at : Option ℕ) (e : ℕ) (next : Option ℕ) (best r : Option A) → ArePaths links → at ≡ Some e → next ≡ below links e → is_link_to e end ≡ false → r ≡ last_of (shows e)
+      → last_from best (flat_map shows (above end (down links at))) ≡ last_from (option_or r best) (flat_map shows (above end (down links next)))
+  above-past end at e next best r p is on h found =
+      ap (λ z. last_from best (flat_map shows (above end z))) (below-step at e next p is on)
+      ∙ ap (λ z. last_from best (flat_map shows z)) (above-on end e (down links next) h)
+      ∙ last-append best (shows e) (flat_map shows (above end (down links next)))
+      ∙ ap (λ z. last_from z (flat_map shows (above end (down links next)))) (last-or best (shows e) ∙ ap (λ z. option_or z best) (sym found))

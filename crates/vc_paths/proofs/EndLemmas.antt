@@ -1,0 +1,112 @@
+-- The ends of lists, and the neighbours of what passes a test, where lists are joined or mapped.
+use Rattle.std.proofs.Common.{◌≡◌, List, [], ◌∷◌, ◌++◌, map, Bool, true, false, ◌||◌, Option, Some, refl, sym, ap, ◌∙◌, inl, inr}
+use Rattle.std.specs.List.{filter, flat_map, list_any}
+use Rattle.std.specs.Option.{option_map, option_or}
+use Rattle.std.proofs.lemmas.Bool.{cases_Bool, or_from, or_parts, or_right, true≢false}
+use Rattle.std.proofs.lemmas.List.Folds.{list_any-append}
+use Rattle.vc_paths.specs.Finding.{before_first_from, behind_last, first_of, last_from, last_of}
+
+-- the ends of joined lists
+pub first-append : {A : Type 0} (xs ys : List A) → first_of (xs ++ ys) ≡ option_or (first_of xs) (first_of ys)
+first-append [] ys = refl
+first-append (x ∷ xs) ys = refl
+
+pub last-append : {A : Type 0} (o : Option A) (xs ys : List A) → last_from o (xs ++ ys) ≡ last_from (last_from o xs) ys
+last-append o [] ys = refl
+last-append o (x ∷ xs) ys = last-append (Some x) xs ys
+
+pub last-some : {A : Type 0} (o : Option A) (x : A) (xs : List A) → last_from (Some x) xs ≡ option_or (last_from (Some x) xs) o
+last-some o x [] = refl
+last-some o x (y ∷ ys) = last-some o y ys
+
+pub last-or : {A : Type 0} (o : Option A) (xs : List A) → last_from o xs ≡ option_or (last_of xs) o
+last-or o [] = refl
+last-or o (x ∷ xs) = last-some o x xs
+
+-- the ends of a mapped list, and the neighbours there
+pub first-map : {A B : Type 0} (f : A → B) (xs : List A) → first_of (map f xs) ≡ option_map f (first_of xs)
+first-map f [] = refl
+first-map f (x ∷ xs) = refl
+
+pub last-map : {A B : Type 0} (f : A → B) (o : Option A) (xs : List A) → last_from (option_map f o) (map f xs) ≡ option_map f (last_from o xs)
+last-map f o [] = refl
+last-map f o (x ∷ xs) = last-map f (Some x) xs
+
+pub any-map : {A B : Type 0} (f : A → B) (t : B → Bool) (xs : List A) → list_any t (map f xs) ≡ list_any (λ x. t (f x)) xs
+any-map f t [] = refl
+any-map f t (x ∷ xs) = ap (λ z. t (f x) || z) (any-map f t xs)
+
+pub before-map : {A B : Type 0} (f : A → B) (o : Option A) (t : B → Bool) (xs : List A) → before_first_from (option_map f o) t (map f xs) ≡ option_map f (before_first_from o (λ x. t (f x)) xs)
+before-map f o t [] = refl
+before-map f o t (x ∷ xs) = elim (cases_Bool (t (f x))) as (λ _. before_first_from (option_map f o) t (map f (x ∷ xs)) ≡ option_map f (before_first_from o (λ y. t (f y)) (x ∷ xs))) [
+  | inl h ↦ rw h refl
+  | inr h ↦ rw h (before-map f (Some x) t xs)
+]
+
+pub behind-map : {A B : Type 0} (f : A → B) (t : B → Bool) (xs : List A) → behind_last t (map f xs) ≡ option_map f (behind_last (λ x. t (f x)) xs)
+behind-map f t [] = refl
+behind-map f t (x ∷ xs) = elim (cases_Bool (t (f x))) as (λ _. behind_last t (map f (x ∷ xs)) ≡ option_map f (behind_last (λ y. t (f y)) (x ∷ xs))) [
+  | inl h ↦ elim (cases_Bool (list_any (λ y. t (f y)) xs)) as (λ _. behind_last t (map f (x ∷ xs)) ≡ option_map f (behind_last (λ y. t (f y)) (x ∷ xs))) [
+    | inl k ↦ rw (h, any-map f t xs, k) (behind-map f t xs)
+    | inr k ↦ rw (h, any-map f t xs, k) (first-map f xs)
+  ]
+  | inr h ↦ rw h (behind-map f t xs)
+]
+
+-- whether some passes where lists are joined by a map, and where a filter leaves some out
+pub any-flat_map : {A B : Type 0} (t : B → Bool) (f : A → List B) (xs : List A) → list_any t (flat_map f xs) ≡ list_any (λ x. list_any t (f x)) xs
+any-flat_map t f [] = refl
+any-flat_map t f (x ∷ xs) = list_any-append t (f x) (flat_map f xs) ∙ ap (λ z. list_any t (f x) || z) (any-flat_map t f xs)
+
+pub any-filter : {A : Type 0} (t p : A → Bool) (xs : List A) → list_any t xs ≡ false → list_any t (filter p xs) ≡ false
+any-filter t p [] h = refl
+any-filter t p (x ∷ xs) h =
+    let w = or_parts (t x) (list_any t xs) h in
+    elim (cases_Bool (p x)) as (λ _. list_any t (filter p (x ∷ xs)) ≡ false) [
+      | inl k ↦ rw (k, w.0) (any-filter t p xs w.1)
+      | inr k ↦ rw k (any-filter t p xs w.1)
+    ]
+
+-- some passes among joined lists where one in the middle does
+any-middle : {A : Type 0} (t : A → Bool) (front : List A) (x : A) (back : List A) → t x ≡ true → list_any t (front ++ x ∷ back) ≡ true
+any-middle t [] x back h = rw h refl
+any-middle t (y ∷ ys) x back h = or_right (t y) (list_any t (ys ++ x ∷ back)) (any-middle t ys x back h)
+
+-- the neighbours of the last that passes, and of the first
+pub behind-at : {A : Type 0} (t : A → Bool) (front : List A) (x : A) (back : List A) → t x ≡ true → list_any t back ≡ false → behind_last t (front ++ x ∷ back) ≡ first_of back
+behind-at t [] x back h none = rw (h, none) refl
+behind-at t (y ∷ ys) x back h none = elim (cases_Bool (t y)) as (λ _. behind_last t (y ∷ ys ++ x ∷ back) ≡ first_of back) [
+  | inl k ↦ rw (k, any-middle t ys x back h) (behind-at t ys x back h none)
+  | inr k ↦ rw k (behind-at t ys x back h none)
+]
+
+pub before-at : {A : Type 0} (t : A → Bool) (o : Option A) (front : List A) (x : A) (back : List A) → t x ≡ true → list_any t front ≡ false → before_first_from o t (front ++ x ∷ back) ≡ last_from o front
+before-at t o [] x back h none = rw h refl
+before-at t o (y ∷ ys) x back h none =
+    let w = or_parts (t y) (list_any t ys) none in
+    rw w.0 (before-at t (Some y) ys x back h w.1)
+
+-- a list at the first that passes a test
+pub record Parts {A : Type 0} (t : A → Bool) (xs : List A) : Type 0 where
+  pub front : List A
+  pub one : A
+  pub back : List A
+  pub whole : xs ≡ front ++ one ∷ back
+  pub passes : t one ≡ true
+  pub none : list_any t front ≡ false
+
+pub parted : {A : Type 0} (t : A → Bool) (xs : List A) → list_any t xs ≡ true → Parts t xs
+parted t [] h = absurd (true≢false (sym h))
+parted t (x ∷ xs) h = elim (cases_Bool (t x)) as (λ _. Parts t (x ∷ xs)) [
+  | inl k ↦ record { front = []; one = x; back = xs; whole = refl; passes = k; none = refl }
+  | inr k ↦
+      let w = parted t xs (rw k at h) in
+      record {
+        front = x ∷ w.front;
+        one = w.one;
+        back = w.back;
+        whole = ap (λ z. x ∷ z) w.whole;
+        passes = w.passes;
+        none = or_from (t x) (list_any t w.front) k w.none;
+      }
+]

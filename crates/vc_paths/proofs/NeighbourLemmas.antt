@@ -1,0 +1,373 @@
+-- The neighbours of a visible object in order of keys: those in its dictionary that match it, or one beyond them.
+use Rattle.std.proofs.Common.{◌≡◌, ℕ, List, [], ◌∷◌, ◌++◌, Bool, true, false, Option, Some, None, is_some, refl, sym, ap, ◌∙◌, subst, inl, inr, append_assoc, append-nil}
+use Rattle.std.specs.Prelude.{map, not, ◌||◌, ◌&&◌, ◌==◌}
+use Rattle.std.specs.List.{AllByRecursion, filter, find, list_any}
+use Rattle.std.specs.Option.{option_map, option_or}
+use Rattle.std.proofs.lemmas.Bool.{true≢false, and_parts, cases_Bool, eq-eqb, eqb-true, not-true}
+use Rattle.std.proofs.lemmas.List.Elements.{filter-append}
+use Rattle.std.proofs.lemmas.List.Folds.{list_any-append}
+use Rattle.vc_base.specs.declared.addr.Addr.{Addr}
+use Rattle.vc_base.specs.Holders.{AreDistinct}
+use Rattle.vc_dict.specs.Methods.{is_ordered}
+use Rattle.vc_dtdisc.specs.Rules.{Rules}
+use Rattle.vc_dtlist.specs.Linked.{number_of}
+use Rattle.vc_paths.specs.Finding.{before_first, before_first_from, behind_last, first_of, last_from, last_of}
+use Rattle.vc_paths.specs.Layers.{AreLayers, Layered, Placed, bytes_there, is_greater, is_match, place_before, place_behind, stands_at}
+use Rattle.vc_paths.specs.Links.{Links, path}
+use Rattle.vc_paths.specs.Ordered.{Stands, if_level, is_before, is_behind, is_level, named, object_at, object_there}
+use Rattle.vc_paths.specs.Path.{Answers, IsAlike, IsPath, IsVisible, is_at, numbers_of, objects_of, place_of, seen_in, visible_of}
+use Rattle.vc_paths.specs.Visible.{Seen, is_hidden, sorted_onto, stacked}
+use Rattle.vc_paths.proofs.BesideLemmas.{AreLevel, any_level, before_apart, before_beside, behind_apart, behind_beside, fails}
+use Rattle.vc_paths.proofs.LayerLemmas.{find_split, next_shown, previous_shown, split_at, split_of, there_split}
+use Rattle.vc_paths.proofs.OrderLemmas.{AreOrdered, all_append, all_both, all_filter, all_none, all_weaker, any_more, any_none, filter_kept, filter_none, or_left, or_right, ordered}
+use Rattle.vc_paths.proofs.OrderedLemmas.{all_map, layer_sorted, path_head, visible_ordered}
+use Rattle.vc_paths.proofs.SortedLemmas.{AreSorted, all_sorted, all_stacked, itself, kept_sorted, layer_filter, onto_sorted}
+
+-- objects that match one match each other
+level_both : (rules : Rules) → AreOrdered rules → (x y u : Seen ℕ) → is_level rules x y ≡ true → is_level rules x u ≡ true → is_match rules y.bytes u.bytes ≡ true
+level_both rules laws x y u h g = laws.tied u.bytes y.bytes
+    (laws.upto u.bytes x.bytes y.bytes (laws.left u.bytes x.bytes g) (laws.right y.bytes x.bytes h))
+    (laws.upto y.bytes x.bytes u.bytes (laws.left y.bytes x.bytes h) (laws.right u.bytes x.bytes g))
+
+level_upto : (rules : Rules) → AreOrdered rules → (x y u : Seen ℕ) → is_level rules x y ≡ true → is_level rules x u ≡ true → is_greater rules y.bytes u.bytes ≡ false
+level_upto rules laws x y u h g = laws.upto y.bytes x.bytes u.bytes (laws.left y.bytes x.bytes h) (laws.right u.bytes x.bytes g)
+
+level_shared : (rules : Rules) → AreOrdered rules → (x o u : Seen ℕ) → is_match rules o.bytes u.bytes ≡ true → is_level rules x o ≡ true → is_level rules x u ≡ true
+level_shared rules laws x o u m h = laws.tied u.bytes x.bytes
+    (laws.upto u.bytes o.bytes x.bytes (laws.left u.bytes o.bytes m) (laws.left o.bytes x.bytes h))
+    (laws.upto x.bytes o.bytes u.bytes (laws.right o.bytes x.bytes h) (laws.right u.bytes o.bytes m))
+
+-- below one that matches no other one that does is seen
+level_hidden : (rules : Rules) → AreOrdered rules → (x : Seen ℕ) (above : List (Seen ℕ)) (layers : List (List (Seen ℕ))) → list_any (is_level rules x) above ≡ true → AllByRecursion (λ y. is_level rules x y ≡ false) (stacked rules above layers)
+level_hidden rules laws x above [] h = tt
+level_hidden rules laws x above (layer ∷ lower) h =
+    all_append (λ y. is_level rules x y ≡ false) (filter (λ o. not (is_hidden rules above o)) layer) (stacked rules (above ++ layer) lower)
+    (all_weaker (λ y. not (is_hidden rules above y) ≡ true) (λ y. is_level rules x y ≡ false) (λ y n.
+    fails (is_level rules x y) (is_hidden rules above y) (λ m. any_more (is_level rules x) (λ u. is_match rules y.bytes u.bytes) (λ u w. level_both rules laws x y u m w) above h) (not-true (is_hidden rules above y) n))
+    (filter (λ o. not (is_hidden rules above o)) layer) (filter_kept (λ o. not (is_hidden rules above o)) layer))
+    (level_hidden rules laws x (above ++ layer) lower (list_any-append (is_level rules x) above layer ∙ or_left (list_any (is_level rules x) above) (list_any (is_level rules x) layer) h))
+
+none_hidden : (rules : Rules) (xs : List (Seen ℕ)) → filter (λ o. not (is_hidden rules [] o)) xs ≡ xs
+none_hidden rules [] = refl
+none_hidden rules (x ∷ xs) = ap (λ z. x ∷ z) (none_hidden rules xs)
+
+-- and of the first layer with one each is
+level_first : (rules : Rules) → AreOrdered rules → (x : Seen ℕ) (above layer : List (Seen ℕ)) → AllByRecursion (λ u. is_level rules x u ≡ false) above → filter (is_level rules x) (filter (λ o. not (is_hidden rules above o)) layer) ≡ filter (is_level rules x) layer
+level_first rules laws x above layer h =
+    layer_filter rules (is_level rules x) above layer (level_shared rules laws x)
+    ∙ ap (λ z. filter (λ o. not (is_hidden rules z o)) (filter (is_level rules x) layer)) (filter_none (is_level rules x) above h)
+    ∙ none_hidden rules (filter (is_level rules x) layer)
+
+-- what stands in another dictionary isn't at a place
+at_elsewhere : (e f a : ℕ) (xs : List Placed) → (f == e) ≡ false → AllByRecursion (λ y. is_at (e, a) y ≡ false) (map (seen_in f) xs)
+at_elsewhere e f a [] h = tt
+at_elsewhere e f a (x ∷ xs) h = (ap (λ z. z && (x.at == a)) h, at_elsewhere e f a xs h)
+
+-- a test that none of the matching objects passes
+none_at : (rules : Rules) (x : Seen ℕ) (test : Seen ℕ → Bool) (ys : List (Seen ℕ)) → AreLevel rules x test ys → AllByRecursion (λ y. is_level rules x y ≡ false) ys → list_any test ys ≡ false
+none_at rules x test ys l h = any_none test ys (all_both (λ y. test y ≡ true → is_level rules x y ≡ true) (λ y. is_level rules x y ≡ false) (λ y. test y ≡ false) (λ y f g. fails (test y) (is_level rules x y) f g) ys l h)
+
+-- an object that is seen in a layer, and a test that only it and others that match it pass
+pub record Seeks (rules : Rules) (all : Layered) (e a : ℕ) (x : Seen ℕ) : Type 0 where
+  pub laws : AreOrdered rules
+  pub present : list_any (is_level rules x) (objects_of all e) ≡ true
+
+-- the objects that match the one at a visible place are those of its dictionary
+level_stacked : (rules : Rules) (all : Layered) (e a : ℕ) (x : Seen ℕ) (above : List (Seen ℕ)) (es : List ℕ) → Seeks rules all e a x → AllByRecursion (AreLevel rules x (is_at (e, a))) (map (objects_of all) es) → AllByRecursion (λ u. is_level rules x u ≡ false) above → list_any (is_at (e, a)) (stacked rules above (map (objects_of all) es)) ≡ true → filter (is_level rules x) (stacked rules above (map (objects_of all) es)) ≡ filter (is_level rules x) (objects_of all e)
+level_stacked rules all e a x above [] s l h any = absurd (true≢false (sym any))
+level_stacked rules all e a x above (f ∷ es) s l h any =
+    let layer = objects_of all f in
+    let seen = filter (λ o. not (is_hidden rules above o)) layer in
+    let lower = stacked rules (above ++ layer) (map (objects_of all) es) in
+    let parts = filter-append (is_level rules x) seen lower in
+    elim (cases_Bool (f == e)) as (λ _. filter (is_level rules x) (stacked rules above (map (objects_of all) (f ∷ es))) ≡ filter (is_level rules x) (objects_of all e)) [
+      | inl t ↦
+          let same = eqb-true f e t in
+          let present : list_any (is_level rules x) layer ≡ true = subst (λ z. list_any (is_level rules x) (objects_of all z) ≡ true) (sym same) s.present in
+          let both = list_any-append (is_level rules x) above layer ∙ or_right (list_any (is_level rules x) above) (list_any (is_level rules x) layer) present in
+          let none = filter_none (is_level rules x) lower (level_hidden rules s.laws x (above ++ layer) (map (objects_of all) es) both) in
+          parts
+          ∙ ap (λ z. filter (is_level rules x) seen ++ z) none
+          ∙ append-nil (filter (is_level rules x) seen)
+          ∙ level_first rules s.laws x above layer h
+          ∙ ap (λ z. filter (is_level rules x) (objects_of all z)) same
+      | inr t ↦
+          let none : list_any (is_at (e, a)) seen ≡ false = any_none (is_at (e, a)) seen (all_filter (λ y. is_at (e, a) y ≡ false) (λ o. not (is_hidden rules above o)) layer (at_elsewhere e f a (all.layer f).objects t)) in
+          let more : list_any (is_at (e, a)) lower ≡ true = sym (ap (λ z. z || list_any (is_at (e, a)) lower) none) ∙ sym (list_any-append (is_at (e, a)) seen lower) ∙ any in
+          elim (cases_Bool (list_any (is_level rules x) layer)) as (λ _. filter (is_level rules x) (stacked rules above (map (objects_of all) (f ∷ es))) ≡ filter (is_level rules x) (objects_of all e)) [
+            | inl w ↦
+                let both = list_any-append (is_level rules x) above layer ∙ or_right (list_any (is_level rules x) above) (list_any (is_level rules x) layer) w in
+                let hidden = level_hidden rules s.laws x (above ++ layer) (map (objects_of all) es) both in
+                let levels = all_stacked rules (λ y. is_at (e, a) y ≡ true → is_level rules x y ≡ true) (above ++ layer) (map (objects_of all) es) l.1 in
+                absurd (true≢false (sym more ∙ none_at rules x (is_at (e, a)) lower levels hidden))
+            | inr w ↦
+                let apart = all_none (is_level rules x) layer w in
+                let rest = level_stacked rules all e a x (above ++ layer) es s l.1 (all_append (λ u. is_level rules x u ≡ false) above layer h apart) more in
+                parts
+                ∙ ap (λ z. z ++ filter (is_level rules x) lower) (filter_none (is_level rules x) seen (all_filter (λ u. is_level rules x u ≡ false) (λ o. not (is_hidden rules above o)) layer apart))
+                ∙ rest
+          ]
+    ]
+
+-- each object of a layer is the one at its address
+pub all_there : (objects front rest : List Placed) → objects ≡ front ++ rest → AreDistinct (map (λ o. o.at) objects) → AllByRecursion (λ o. bytes_there o.at objects ≡ Some o.bytes) rest
+all_there objects front [] whole d = tt
+all_there objects front (x ∷ xs) whole d =
+    let s = split_of objects front x xs x.at whole d refl in (
+      ap (option_map (λ (o : Placed). o.bytes)) (find_split objects x.at s),
+      all_there objects (front ++ x ∷ []) xs (whole ∙ sym (append_assoc front (x ∷ []) xs)) d,
+    )
+
+-- an object that stands in a dictionary of the path
+pub record InLayer (all : Layered) (d : ℕ) (y : Seen ℕ) : Type 0 where
+  pub alike : IsAlike all d y.dict
+  pub there : bytes_there y.at (all.layer y.dict).objects ≡ Some y.bytes
+
+pub all_objects : (all : Layered) (d e : ℕ) → AreLayers all → IsAlike all d e → AllByRecursion (InLayer all d) (objects_of all e)
+all_objects all d e laws alike =
+    all_map (InLayer all d) (seen_in e) (all.layer e).objects
+    (all_weaker (λ o. bytes_there o.at (all.layer e).objects ≡ Some o.bytes) (λ o. InLayer all d (seen_in e o)) (λ o h. record { alike = alike; there = h }) (all.layer e).objects
+    (all_there (all.layer e).objects [] (all.layer e).objects refl (laws.distinct e alike.there)))
+
+pub all_layers : (all : Layered) (d : ℕ) (es : List ℕ) → AreLayers all → AllByRecursion (IsAlike all d) es → AllByRecursion (AllByRecursion (InLayer all d)) (map (objects_of all) es)
+all_layers all d [] laws alike = tt
+all_layers all d (e ∷ es) laws alike = (all_objects all d e laws alike.0, all_layers all d es laws alike.1)
+
+pub all_visible : (all : Layered) (links : Links) (d : ℕ) → AreLayers all → IsPath all links d → is_ordered (all.layer d).method ≡ true → AllByRecursion (InLayer all d) (visible_of all links d)
+all_visible all links d laws path' method =
+    let rules = (all.layer d).rules in
+    let layers = map (objects_of all) (path links d) in
+    subst (λ z. AllByRecursion (InLayer all d) z) (sym (visible_ordered all links d method))
+    (all_sorted rules (InLayer all d) [] (stacked rules [] layers) tt (all_stacked rules (InLayer all d) [] layers (all_layers all d (path links d) laws path'.alike)))
+
+-- where an element passes a test, what holds of each holds of one that passes
+pub any_found : {A : Type 0} (P : A → Type 0) (test : A → Bool) (xs : List A) → AllByRecursion P xs → list_any test xs ≡ true → (y : A) × (test y ≡ true) × P y
+any_found P test [] h any = absurd (true≢false (sym any))
+any_found P test (x ∷ xs) h any = elim (cases_Bool (test x)) as (λ _. (y : _) × (test y ≡ true) × P y) [
+  | inl t ↦ (x, t, h.0)
+  | inr t ↦ any_found P test xs h.1 (rw t at any)
+]
+
+-- a visible object stands at its place
+pub visible_stands : (all : Layered) (links : Links) (d : ℕ) (p : ℕ × Addr) → AreLayers all → IsPath all links d → is_ordered (all.layer d).method ≡ true → IsVisible all links d (numbers_of p) → Stands all d p
+visible_stands all links d p laws path' method visible' =
+    let found = any_found (InLayer all d) (is_at (numbers_of p)) (visible_of all links d) (all_visible all links d laws path' method) visible' in
+    let y = found.0 in
+    let parts = and_parts (y.dict == p.0) (y.at == p.1.0) found.1 in
+    let dict = eqb-true y.dict p.0 parts.0 in
+    let at = eqb-true y.at p.1.0 parts.1 in
+    let alike : IsAlike all d p.0 = subst (IsAlike all d) dict found.2.alike in
+    let there : bytes_there p.1.0 (all.layer p.0).objects ≡ Some y.bytes = subst (λ z. bytes_there z (all.layer p.0).objects ≡ Some y.bytes) at (subst (λ z. bytes_there y.at (all.layer z).objects ≡ Some y.bytes) dict found.2.there) in
+    record { there = alike.there; kind = alike.kind; object = ap is_some there }
+
+some_same : (x y : List ℕ) → Some x ≡ Some y → x ≡ y
+some_same x y e = cc
+
+-- what stands at the place of an object matches it
+in_level : (rules : Rules) → AreOrdered rules → (all : Layered) (d : ℕ) (p : ℕ × Addr) (x : Seen ℕ) → bytes_there p.1.0 (all.layer p.0).objects ≡ Some x.bytes → (y : Seen ℕ) → InLayer all d y → is_at (numbers_of p) y ≡ true → is_level rules x y ≡ true
+in_level rules laws all d p x here y inner t =
+    let parts = and_parts (y.dict == p.0) (y.at == p.1.0) t in
+    let there : bytes_there p.1.0 (all.layer p.0).objects ≡ Some y.bytes =
+    subst (λ z. bytes_there z (all.layer p.0).objects ≡ Some y.bytes) (eqb-true y.at p.1.0 parts.1)
+    (subst (λ z. bytes_there y.at (all.layer z).objects ≡ Some y.bytes) (eqb-true y.dict p.0 parts.0) inner.there) in
+    subst (λ z. is_match rules x.bytes z ≡ true) (some_same x.bytes y.bytes (sym here ∙ there)) (laws.tied x.bytes x.bytes (itself rules laws x) (itself rules laws x))
+
+-- an object of a layer passes the test on its place
+found_at : (e a : ℕ) (xs : List Placed) → is_some (option_map (λ (o : Placed). o.bytes) (find (stands_at a) xs)) ≡ true → list_any (is_at (e, a)) (map (seen_in e) xs) ≡ true
+found_at e a [] h = absurd (true≢false (sym h))
+found_at e a (x ∷ xs) h = elim (cases_Bool (x.at == a)) as (λ _. list_any (is_at (e, a)) (map (seen_in e) (x ∷ xs)) ≡ true) [
+  | inl t ↦ rw (t, eq-eqb e e refl) refl
+  | inr t ↦ rw (t, eq-eqb e e refl) (found_at e a xs (rw t at h))
+]
+
+any_along : (rules : Rules) (x : Seen ℕ) (test : Seen ℕ → Bool) (ys : List (Seen ℕ)) → AreLevel rules x test ys → list_any test ys ≡ true → list_any (is_level rules x) ys ≡ true
+any_along rules x test [] l h = absurd (true≢false (sym h))
+any_along rules x test (y ∷ ys) l h = elim (cases_Bool (is_level rules x y)) as (λ _. list_any (is_level rules x) (y ∷ ys) ≡ true) [
+  | inl t ↦ rw t refl
+  | inr t ↦ rw t (any_along rules x test ys l.1 (rw (fails (test y) (is_level rules x y) l.0 t) at h))
+]
+
+-- a visible object, among all that are and in its own layer
+pub record Visited (rules : Rules) (all : Layered) (p : ℕ × Addr) (x : Seen ℕ) (seen : List (Seen ℕ)) : Type 0 where
+  pub laws : AreOrdered rules
+  pub sorted : AreSorted rules seen
+  pub level : AreLevel rules x (is_at (numbers_of p)) seen
+  pub any : list_any (is_at (numbers_of p)) seen ≡ true
+  pub kept : filter (is_level rules x) seen ≡ filter (is_level rules x) (objects_of all p.0)
+  pub layer_sorted : AreSorted rules (objects_of all p.0)
+  pub layer_level : AreLevel rules x (is_at (numbers_of p)) (objects_of all p.0)
+  pub layer_any : list_any (is_at (numbers_of p)) (objects_of all p.0) ≡ true
+
+-- by what is known of the layers
+visited_in : (rules : Rules) → AreOrdered rules → (all : Layered) (d : ℕ) (p : ℕ × Addr) (x : Seen ℕ) (es : List ℕ) → bytes_there p.1.0 (all.layer p.0).objects ≡ Some x.bytes → AllByRecursion (AllByRecursion (InLayer all d)) (map (objects_of all) es) → AllByRecursion (InLayer all d) (objects_of all p.0) → AreSorted rules (objects_of all p.0) → list_any (is_at (numbers_of p)) (sorted_onto rules [] (stacked rules [] (map (objects_of all) es))) ≡ true → Visited rules all p x (sorted_onto rules [] (stacked rules [] (map (objects_of all) es)))
+visited_in rules laws all d p x es here layers layer layer_sorted any =
+    let test = is_at (numbers_of p) in
+    let heap = stacked rules [] (map (objects_of all) es) in
+    let level_of : (ys : List (Seen ℕ)) → AllByRecursion (InLayer all d) ys → AreLevel rules x test ys =
+    λ ys h. all_weaker (InLayer all d) (λ y. test y ≡ true → is_level rules x y ≡ true) (λ y inner. in_level rules laws all d p x here y inner) ys h in
+    let in_heap = all_stacked rules (InLayer all d) [] (map (objects_of all) es) layers in
+    let in_seen = all_sorted rules (InLayer all d) [] heap tt in_heap in
+    let same = kept_sorted rules laws (is_level rules x) (λ y u h g. level_upto rules laws x y u h g) heap in
+    let heap_any : list_any test heap ≡ true =
+    sym (any_level rules x test heap (level_of heap in_heap)) ∙ ap (list_any test) (sym same) ∙ any_level rules x test (sorted_onto rules [] heap) (level_of (sorted_onto rules [] heap) in_seen) ∙ any in
+    let layer_level = level_of (objects_of all p.0) layer in
+    let layer_any = found_at p.0 p.1.0 (all.layer p.0).objects (ap is_some here) in
+    let seeks : Seeks rules all p.0 p.1.0 x = record { laws = laws; present = any_along rules x test (objects_of all p.0) layer_level layer_any } in
+    let levels = all_weaker (AllByRecursion (InLayer all d)) (AreLevel rules x test) level_of (map (objects_of all) es) layers in
+    record {
+      laws = laws;
+      sorted = onto_sorted rules laws [] heap tt;
+      level = level_of (sorted_onto rules [] heap) in_seen;
+      any = any;
+      kept = same ∙ level_stacked rules all p.0 p.1.0 x [] es seeks levels tt heap_any;
+      layer_sorted = layer_sorted;
+      layer_level = layer_level;
+      layer_any = layer_any;
+    }
+
+-- what holds of each holds of a neighbour, and of the ends
+all_first : (P : Seen ℕ → Type 0) (xs : List (Seen ℕ)) (b : Seen ℕ) → AllByRecursion P xs → first_of xs ≡ Some b → P b
+all_first P [] b h e = cc
+all_first P (x ∷ xs) b h e = let same : x ≡ b = cc in subst P same h.0
+
+all_behind : (P : Seen ℕ → Type 0) (test : Seen ℕ → Bool) (xs : List (Seen ℕ)) (b : Seen ℕ) → AllByRecursion P xs → behind_last test xs ≡ Some b → P b
+all_behind P test [] b h e = cc
+all_behind P test (x ∷ xs) b h e = elim (cases_Bool (test x && not (list_any test xs))) as (λ _. P b) [
+  | inl t ↦ all_first P xs b h.1 (rw t at e)
+  | inr t ↦ all_behind P test xs b h.1 (rw t at e)
+]
+
+all_last : (P : Seen ℕ → Type 0) (before : Option (Seen ℕ)) (xs : List (Seen ℕ)) (b : Seen ℕ) → ((a : Seen ℕ) → before ≡ Some a → P a) → AllByRecursion P xs → last_from before xs ≡ Some b → P b
+all_last P before [] b f h e = f b e
+all_last P before (x ∷ xs) b f h e = all_last P (Some x) xs b (λ a same. let one : x ≡ a = cc in subst P one h.0) h.1 e
+
+all_before : (P : Seen ℕ → Type 0) (test : Seen ℕ → Bool) (before : Option (Seen ℕ)) (xs : List (Seen ℕ)) (b : Seen ℕ) → ((a : Seen ℕ) → before ≡ Some a → P a) → AllByRecursion P xs → before_first_from before test xs ≡ Some b → P b
+all_before P test before [] b f h e = cc
+all_before P test before (x ∷ xs) b f h e = elim (cases_Bool (test x)) as (λ _. P b) [
+  | inl t ↦ f b (rw t at e)
+  | inr t ↦ all_before P test (Some x) xs b (λ a same. let one : x ≡ a = cc in subst P one h.0) h.1 (rw t at e)
+]
+
+-- of one that matches or else one that doesn't, the one that matches
+if_level_or : (rules : Rules) (x : Seen ℕ) (a b : Option (Seen ℕ)) → ((y : Seen ℕ) → a ≡ Some y → is_level rules x y ≡ true) → ((y : Seen ℕ) → b ≡ Some y → is_level rules x y ≡ false) → if_level rules (Some x) (option_or a b) ≡ a
+if_level_or rules x None None f g = refl
+if_level_or rules x None (Some b) f g = rw (g b refl) refl
+if_level_or rules x (Some a) b f g = rw (f a refl) refl
+
+-- behind a visible object is its neighbour where that matches, and else the first that is greater
+next_among : (rules : Rules) (all : Layered) (p : ℕ × Addr) (x : Seen ℕ) (seen : List (Seen ℕ)) → Visited rules all p x seen → behind_last (is_at (numbers_of p)) seen ≡ option_or (if_level rules (Some x) (behind_last (is_at (numbers_of p)) (objects_of all p.0))) (first_of (filter (is_behind rules (Some x)) seen))
+next_among rules all p x seen v =
+    let test = is_at (numbers_of p) in
+    let layer = objects_of all p.0 in
+    let a = behind_last test (filter (is_level rules x) layer) in
+    let b = first_of (filter (is_behind rules (Some x)) layer) in
+    let same = if_level_or rules x a b
+    (λ y e. all_behind (λ z. is_level rules x z ≡ true) test (filter (is_level rules x) layer) y (filter_kept (is_level rules x) layer) e)
+    (λ y e. behind_apart rules v.laws x y (all_first (λ z. is_behind rules (Some x) z ≡ true) (filter (is_behind rules (Some x)) layer) y (filter_kept (is_behind rules (Some x)) layer) e)) in
+    behind_beside rules v.laws x test seen v.sorted v.level v.any
+    ∙ ap (λ z. option_or z (first_of (filter (is_behind rules (Some x)) seen)))
+    (ap (behind_last test) v.kept ∙ sym same ∙ ap (if_level rules (Some x)) (sym (behind_beside rules v.laws x test layer v.layer_sorted v.layer_level v.layer_any)))
+
+-- and before it the last that is less
+previous_among : (rules : Rules) (all : Layered) (p : ℕ × Addr) (x : Seen ℕ) (seen : List (Seen ℕ)) → Visited rules all p x seen → before_first (is_at (numbers_of p)) seen ≡ option_or (if_level rules (Some x) (before_first (is_at (numbers_of p)) (objects_of all p.0))) (last_of (filter (is_before rules (Some x)) seen))
+previous_among rules all p x seen v =
+    let test = is_at (numbers_of p) in
+    let layer = objects_of all p.0 in
+    let a = before_first test (filter (is_level rules x) layer) in
+    let b = last_of (filter (is_before rules (Some x)) layer) in
+    let same = if_level_or rules x a b
+    (λ y e. all_before (λ z. is_level rules x z ≡ true) test None (filter (is_level rules x) layer) y (λ u none. cc) (filter_kept (is_level rules x) layer) e)
+    (λ y e. before_apart rules v.laws x y (all_last (λ z. is_before rules (Some x) z ≡ true) None (filter (is_before rules (Some x)) layer) y (λ u none. cc) (filter_kept (is_before rules (Some x)) layer) e)) in
+    before_beside rules v.laws x test seen v.sorted v.level v.any
+    ∙ ap (λ z. option_or z (last_of (filter (is_before rules (Some x)) seen)))
+    (ap (before_first test) v.kept ∙ sym same ∙ ap (if_level rules (Some x)) (sym (before_beside rules v.laws x test layer v.layer_sorted v.layer_level v.layer_any)))
+
+-- the neighbours in the layer, by its objects
+at_same : (e a : ℕ) (o : Placed) → is_at (e, a) (seen_in e o) ≡ stands_at a o
+at_same e a o = rw (eq-eqb e e refl) refl
+
+first_map : (e : ℕ) (xs : List Placed) → first_of (map (seen_in e) xs) ≡ option_map (seen_in e) (first_of xs)
+first_map e [] = refl
+first_map e (x ∷ xs) = refl
+
+any_map : (e a : ℕ) (xs : List Placed) → list_any (is_at (e, a)) (map (seen_in e) xs) ≡ list_any (stands_at a) xs
+any_map e a [] = refl
+any_map e a (x ∷ xs) = ap (λ z. z || list_any (is_at (e, a)) (map (seen_in e) xs)) (at_same e a x) ∙ ap (λ z. stands_at a x || z) (any_map e a xs)
+
+pub behind_map : (e a : ℕ) (xs : List Placed) → behind_last (is_at (e, a)) (map (seen_in e) xs) ≡ option_map (seen_in e) (behind_last (stands_at a) xs)
+behind_map e a [] = refl
+behind_map e a (x ∷ xs) =
+    let one = at_same e a x in
+    let more = any_map e a xs in
+    elim (cases_Bool (stands_at a x && not (list_any (stands_at a) xs))) as (λ _. behind_last (is_at (e, a)) (map (seen_in e) (x ∷ xs)) ≡ option_map (seen_in e) (behind_last (stands_at a) (x ∷ xs))) [
+      | inl t ↦ rw (one, more, t) (first_map e xs)
+      | inr t ↦ rw (one, more, t) (behind_map e a xs)
+    ]
+
+before_map : (e a : ℕ) (before : Option Placed) (xs : List Placed) → before_first_from (option_map (seen_in e) before) (is_at (e, a)) (map (seen_in e) xs) ≡ option_map (seen_in e) (before_first_from before (stands_at a) xs)
+before_map e a before [] = refl
+before_map e a before (x ∷ xs) = elim (cases_Bool (stands_at a x)) as (λ _. before_first_from (option_map (seen_in e) before) (is_at (e, a)) (map (seen_in e) (x ∷ xs)) ≡ option_map (seen_in e) (before_first_from before (stands_at a) (x ∷ xs))) [
+  | inl t ↦ rw (at_same e a x, t) refl
+  | inr t ↦ rw (at_same e a x, t) (before_map e a (Some x) xs)
+]
+
+-- what is known of the object at a visible place
+visited_at : (all : Layered) (links : Links) (d : ℕ) (p : ℕ × Addr) → AreLayers all → IsPath all links d → is_ordered (all.layer d).method ≡ true → IsVisible all links d (numbers_of p) → (x : Seen ℕ) × (object_there all p ≡ Some x) × Visited (all.layer d).rules all p x (visible_of all links d)
+visited_at all links d p laws path' method visible' =
+    let rules = (all.layer d).rules in
+    let stands = visible_stands all links d p laws path' method visible' in
+    let found = any_found (InLayer all d) (is_at (numbers_of p)) (visible_of all links d) (all_visible all links d laws path' method) visible' in
+    let alike : IsAlike all d p.0 = subst (IsAlike all d) (eqb-true found.0.dict p.0 (and_parts (found.0.dict == p.0) (found.0.at == p.1.0) found.1).0) found.2.alike in
+    let h = (path_head (IsAlike all d) links d path'.alike).there in
+    let order = ordered rules (laws.lawful d h).order in
+    let s = split_at (all.layer p.0).objects p.1.0 stands.object (laws.distinct p.0 stands.there) in
+    let x = seen_in p.0 s.here in
+    let here : bytes_there p.1.0 (all.layer p.0).objects ≡ Some x.bytes = ap (option_map (λ (o : Placed). o.bytes)) (find_split (all.layer p.0).objects p.1.0 s) in
+    let same = visible_ordered all links d method in (
+      x,
+      there_split all p.0 p.1 s,
+      subst (λ z. Visited rules all p x z) (sym same)
+          (visited_in rules order all d p x (path links d) here (all_layers all d (path links d) laws path'.alike) (all_objects all d p.0 laws alike) (layer_sorted all d p.0 laws h method alike) (subst (λ z. list_any (is_at (numbers_of p)) z ≡ true) same visible')),
+    )
+
+-- the object behind a visible one, by what was found beside it
+pub next_found : (all : Layered) (links : Links) (d : ℕ) (p : ℕ × Addr) (next : Option Addr) (near : Option (Seen ℕ)) → AreLayers all → IsPath all links d → is_ordered (all.layer d).method ≡ true → IsVisible all links d (numbers_of p) → option_map number_of next ≡ place_behind p.1.0 (all.layer p.0).objects → near ≡ if_level (all.layer p.0).rules (object_there all p) (object_at all (named p.0 next)) → behind_last (is_at (numbers_of p)) (visible_of all links d) ≡ option_or near (first_of (filter (is_behind (all.layer d).rules (object_there all p)) (visible_of all links d)))
+next_found all links d p next near laws path' method visible' n e =
+    let rules = (all.layer d).rules in
+    let h = (path_head (IsAlike all d) links d path'.alike).there in
+    let stands = visible_stands all links d p laws path' method visible' in
+    let visited = visited_at all links d p laws path' method visible' in
+    let shown = next_shown all d p next laws stands n in
+    let same : near ≡ if_level rules (Some visited.0) (behind_last (is_at (numbers_of p)) (objects_of all p.0)) =
+    e
+    ∙ ap (λ r. if_level r (object_there all p) (object_at all (named p.0 next))) (laws.kinds p.0 d stands.there h stands.kind)
+    ∙ ap (λ z. if_level rules z (object_at all (named p.0 next))) visited.1
+    ∙ ap (if_level rules (Some visited.0)) (shown.object ∙ sym (behind_map p.0 p.1.0 (all.layer p.0).objects)) in
+    next_among rules all p visited.0 (visible_of all links d) visited.2
+    ∙ ap (λ z. option_or z (first_of (filter (is_behind rules (Some visited.0)) (visible_of all links d)))) (sym same)
+    ∙ ap (λ z. option_or near (first_of (filter (is_behind rules z) (visible_of all links d)))) (sym visited.1)
+
+-- and before it
+pub previous_found : (all : Layered) (links : Links) (d : ℕ) (p : ℕ × Addr) (next : Option Addr) (near : Option (Seen ℕ)) → AreLayers all → IsPath all links d → is_ordered (all.layer d).method ≡ true → IsVisible all links d (numbers_of p) → option_map number_of next ≡ place_before p.1.0 (all.layer p.0).objects → near ≡ if_level (all.layer p.0).rules (object_there all p) (object_at all (named p.0 next)) → before_first (is_at (numbers_of p)) (visible_of all links d) ≡ option_or near (last_of (filter (is_before (all.layer d).rules (object_there all p)) (visible_of all links d)))
+previous_found all links d p next near laws path' method visible' n e =
+    let rules = (all.layer d).rules in
+    let h = (path_head (IsAlike all d) links d path'.alike).there in
+    let stands = visible_stands all links d p laws path' method visible' in
+    let visited = visited_at all links d p laws path' method visible' in
+    let shown = previous_shown all d p next laws stands n in
+    let same : near ≡ if_level rules (Some visited.0) (before_first (is_at (numbers_of p)) (objects_of all p.0)) =
+    e
+    ∙ ap (λ r. if_level r (object_there all p) (object_at all (named p.0 next))) (laws.kinds p.0 d stands.there h stands.kind)
+    ∙ ap (λ z. if_level rules z (object_at all (named p.0 next))) visited.1
+    ∙ ap (if_level rules (Some visited.0)) (shown.object ∙ sym (before_map p.0 p.1.0 None (all.layer p.0).objects)) in
+    previous_among rules all p visited.0 (visible_of all links d) visited.2
+    ∙ ap (λ z. option_or z (last_of (filter (is_before rules (Some visited.0)) (visible_of all links d)))) (sym same)
+    ∙ ap (λ z. option_or near (last_of (filter (is_before rules z) (visible_of all links d)))) (sym visited.1)
+
+-- a place that stands is the answer where it comes first
+some_answer : (d : ℕ) (at : Addr) (o : Option (List ℕ)) (rest : Option (Seen ℕ)) → is_some o ≡ true → Some (d, at.0) ≡ option_map place_of (option_or (option_map (λ (bytes : List ℕ). seen_in d (record { at = at.0; bytes = bytes })) o) rest)
+some_answer d at None rest h = absurd (true≢false (sym h))
+some_answer d at (Some b) rest h = refl
+
+pub near_answers : (all : Layered) (d : ℕ) (p : ℕ × Addr) (rest : Option (Seen ℕ)) → Stands all d p → Answers (Some p) (option_or (object_there all p) rest)
+near_answers all d p rest s = some_answer p.0 p.1 (bytes_there p.1.0 (all.layer p.0).objects) rest s.object

@@ -1,0 +1,165 @@
+-- The objects of a dictionary around the one at an address.
+use Rattle.std.proofs.Common.{◌≡◌, ◌≢◌, ℕ, List, [], ◌∷◌, ◌++◌, map, true, false, eqb, Option, Some, None, refl, sym, ap, ◌∙◌, subst, inl, inr, append_assoc}
+use Rattle.std.specs.Prelude.{IsSome}
+use Rattle.std.specs.List.{find, list_any}
+use Rattle.std.specs.Option.{option_map}
+use Rattle.std.proofs.lemmas.Bool.{cases_Bool, eq-eqb, eqb-true, ne_eqb, or_from, or_parts, true≢false}
+use Rattle.vc_base.specs.Holders.{AreDistinct, contains}
+use Rattle.vc_paths.specs.Finding.{first_of, last_of}
+use Rattle.vc_paths.specs.Layers.{Placed, bytes_there, place_before, place_behind, place_in, stands_at}
+use Rattle.vc_paths.specs.Shown.{IsPlaceIn, from_at, objects_from, objects_up_to, up_to}
+use Rattle.vc_paths.proofs.EndLemmas.{any-map, before-at, behind-at, last-append, parted}
+
+-- numbers that are distinct stand just once
+pub apart-once : (xs : List ℕ) (y : ℕ) (ys : List ℕ) → AreDistinct (xs ++ y ∷ ys) → (contains xs y ≡ false) × (contains ys y ≡ false)
+apart-once [] y ys d = (refl, d.0)
+apart-once (x ∷ xs) y ys d =
+    let w = apart-once xs y ys d.1 in
+    let ne : x ≢ y = λ same. true≢false (sym (there xs) ∙ ap (λ z. contains (xs ++ y ∷ ys) z) (sym same) ∙ d.0) in
+    (or_from (eqb x y) (contains xs y) (ne_eqb x y ne) w.0, w.1)
+  where
+    there : (zs : List ℕ) → contains (zs ++ y ∷ ys) y ≡ true
+    there [] = rw (eq-eqb y y refl) refl
+    there (z ∷ zs) = elim (cases_Bool (eqb z y)) as (λ _. contains (z ∷ zs ++ y ∷ ys) y ≡ true) [
+      | inl h ↦ rw h refl
+      | inr h ↦ rw h (there zs)
+    ]
+
+-- an object among others, at an address of its own
+pub record Standing (objects : List Placed) (at : ℕ) : Type 0 where
+  pub before : List Placed
+  pub one : Placed
+  pub behind : List Placed
+  pub whole : objects ≡ before ++ one ∷ behind
+  pub here : one.at ≡ at
+  pub first : list_any (stands_at at) before ≡ false
+  pub last : list_any (stands_at at) behind ≡ false
+
+map-joined : (xs : List Placed) (y : Placed) (ys : List Placed) → map (λ o. o.at) (xs ++ y ∷ ys) ≡ map (λ o. o.at) xs ++ y.at ∷ map (λ o. o.at) ys
+map-joined [] y ys = refl
+map-joined (x ∷ xs) y ys = ap (λ z. x.at ∷ z) (map-joined xs y ys)
+
+-- the addresses of two parts and of what stands between them
+apart-object : (xs : List Placed) (y : Placed) (ys : List Placed) → AreDistinct (map (λ o. o.at) (xs ++ y ∷ ys)) → (list_any (stands_at y.at) xs ≡ false) × (list_any (stands_at y.at) ys ≡ false)
+apart-object xs y ys d =
+    let w = apart-once (map (λ o. o.at) xs) y.at (map (λ o. o.at) ys) (subst AreDistinct (map-joined xs y ys) d) in
+    (sym (any-map (λ o. o.at) (λ x. eqb x y.at) xs) ∙ w.0, sym (any-map (λ o. o.at) (λ x. eqb x y.at) ys) ∙ w.1)
+
+found-some : (at : ℕ) (objects : List Placed) → IsSome (bytes_there at objects) → list_any (stands_at at) objects ≡ true
+found-some at [] h = absurd (true≢false (sym h))
+found-some at (x ∷ xs) h = elim (cases_Bool (stands_at at x)) as (λ _. list_any (stands_at at) (x ∷ xs) ≡ true) [
+  | inl k ↦ rw k refl
+  | inr k ↦ rw k (found-some at xs (rw k at h))
+]
+
+pub standing-any : (objects : List Placed) (at : ℕ) → AreDistinct (map (λ o. o.at) objects) → list_any (stands_at at) objects ≡ true → Standing objects at
+standing-any objects at d h =
+    let w = parted (stands_at at) objects h in
+    let same = eqb-true w.one.at at w.passes in
+    let apart = apart-object w.front w.one w.back (subst (λ z. AreDistinct (map (λ o. o.at) z)) w.whole d) in
+    record {
+      before = w.front;
+      one = w.one;
+      behind = w.back;
+      whole = w.whole;
+      here = same;
+      first = w.none;
+      last = subst (λ z. list_any (stands_at z) w.back ≡ false) same apart.1;
+    }
+
+pub standing : (objects : List Placed) (at : ℕ) → AreDistinct (map (λ o. o.at) objects) → IsSome (bytes_there at objects) → Standing objects at
+standing objects at d h = standing-any objects at d (found-some at objects h)
+
+-- past objects that stand elsewhere
+find-past : (at : ℕ) (xs ys : List Placed) → list_any (stands_at at) xs ≡ false → find (stands_at at) (xs ++ ys) ≡ find (stands_at at) ys
+find-past at [] ys none = refl
+find-past at (x ∷ xs) ys none = let w = or_parts (stands_at at x) (list_any (stands_at at) xs) none in rw w.0 (find-past at xs ys w.1)
+
+from-past : (at : ℕ) (xs : List Placed) (y : Placed) (ys : List Placed) → list_any (stands_at at) xs ≡ false → y.at ≡ at → from_at at (xs ++ y ∷ ys) ≡ y ∷ ys
+from-past at [] y ys none e = rw (eq-eqb y.at at e) refl
+from-past at (x ∷ xs) y ys none e = let w = or_parts (stands_at at x) (list_any (stands_at at) xs) none in rw w.0 (from-past at xs y ys w.1 e)
+
+up_to-past : (at : ℕ) (xs : List Placed) (y : Placed) (ys : List Placed) → list_any (stands_at at) xs ≡ false → y.at ≡ at → up_to at (xs ++ y ∷ ys) ≡ xs ++ y ∷ []
+up_to-past at [] y ys none e = rw (eq-eqb y.at at e) refl
+up_to-past at (x ∷ xs) y ys none e = let w = or_parts (stands_at at x) (list_any (stands_at at) xs) none in rw w.0 (ap (λ z. x ∷ z) (up_to-past at xs y ys w.1 e))
+
+module _ (objects : List Placed) (at : ℕ) (s : Standing objects at) where
+  pub there : bytes_there at objects ≡ Some s.one.bytes
+  there =
+      let found : find (stands_at at) (s.one ∷ s.behind) ≡ Some s.one = rw (eq-eqb s.one.at at s.here) refl in
+      ap (λ z. bytes_there at z) s.whole
+      ∙ ap (option_map (λ o. o.bytes)) (find-past at s.before (s.one ∷ s.behind) s.first ∙ found)
+
+  pub from-here : objects_from (Some at) objects ≡ s.one ∷ s.behind
+  from-here = ap (λ z. from_at at z) s.whole ∙ from-past at s.before s.one s.behind s.first s.here
+
+  pub up_to-here : objects_up_to (Some at) objects ≡ s.before ++ s.one ∷ []
+  up_to-here = ap (λ z. up_to at z) s.whole ∙ up_to-past at s.before s.one s.behind s.first s.here
+
+  pub behind-here : place_behind at objects ≡ place_in (first_of s.behind)
+  behind-here =
+      ap (λ z. place_behind at z) s.whole
+      ∙ ap place_in (behind-at (stands_at at) s.before s.one s.behind (eq-eqb s.one.at at s.here) s.last)
+
+  pub before-here : place_before at objects ≡ place_in (last_of s.before)
+  before-here =
+      ap (λ z. place_before at z) s.whole
+      ∙ ap place_in (before-at (stands_at at) None s.before s.one s.behind (eq-eqb s.one.at at s.here) s.first)
+
+-- the objects from the first of a rest on are that rest, and those up to the last of a front are that front
+pub from-first : (front rest : List Placed) → AreDistinct (map (λ o. o.at) (front ++ rest)) → objects_from (place_in (first_of rest)) (front ++ rest) ≡ rest
+from-first front [] d = refl
+from-first front (y ∷ ys) d = from-past y.at front y ys (apart-object front y ys d).0 refl
+
+-- a list is empty, or it ends in its last
+pub data Ends (xs : List Placed) : Type 0 where
+  none : xs ≡ [] → Ends xs
+  some : (front : List Placed) (y : Placed) → xs ≡ front ++ y ∷ [] → Ends xs
+
+pub ends : (xs : List Placed) → Ends xs
+ends [] = none refl
+ends (x ∷ xs) = elim (ends xs) as (λ _. Ends (x ∷ xs)) [
+  | none e ↦ some [] x (ap (λ z. x ∷ z) e)
+  | some front y e ↦ some (x ∷ front) y (ap (λ z. x ∷ z) e)
+]
+
+pub up_to-last : (front rest : List Placed) → AreDistinct (map (λ o. o.at) (front ++ rest)) → objects_up_to (place_in (last_of front)) (front ++ rest) ≡ front
+up_to-last front rest d = elim (ends front) as (λ _. objects_up_to (place_in (last_of front)) (front ++ rest) ≡ front) [
+  | none e ↦ rw e refl
+  | some less y e ↦
+      let joined : front ++ rest ≡ less ++ y ∷ rest = ap (λ z. z ++ rest) e ∙ append_assoc less (y ∷ []) rest in
+      ap (λ z. objects_up_to (place_in z) (front ++ rest)) (ap last_of e ∙ last-append None less (y ∷ []))
+      ∙ ap (λ z. up_to y.at z) joined
+      ∙ up_to-past y.at less y rest (apart-object less y rest (subst (λ z. AreDistinct (map (λ o. o.at) z)) joined d)).0 refl
+      ∙ sym e
+]
+
+-- an object of a list stands at a place
+there-first : (front : List Placed) (y : Placed) (rest : List Placed) → IsSome (bytes_there y.at (front ++ y ∷ rest))
+there-first [] y rest = rw (eq-eqb y.at y.at refl) refl
+there-first (x ∷ xs) y rest = elim (cases_Bool (stands_at y.at x)) as (λ _. IsSome (bytes_there y.at (x ∷ xs ++ y ∷ rest))) [
+  | inl h ↦ rw h refl
+  | inr h ↦ rw h (there-first xs y rest)
+]
+
+same-some : (x y : ℕ) → Some x ≡ Some y → x ≡ y
+same-some x y e = cc
+
+pub place-first : (front rest : List Placed) → IsPlaceIn (front ++ rest) (place_in (first_of rest))
+place-first front [] = λ a e. absurd (none_some a e)
+  where
+    none_some : (a : ℕ) → ◌≡◌ {A = Option ℕ} None (Some a) → ⊥
+    none_some a e = cc
+place-first front (y ∷ ys) = λ a e. subst (λ z. IsSome (bytes_there z (front ++ y ∷ ys))) (same-some y.at a e) (there-first front y ys)
+
+pub place-last : (front rest : List Placed) → IsPlaceIn (front ++ rest) (place_in (last_of front))
+place-last front rest = elim (ends front) as (λ _. IsPlaceIn (front ++ rest) (place_in (last_of front))) [
+  | none e ↦ λ a h. absurd (none_some a (ap (λ z. place_in (last_of z)) (sym e) ∙ h))
+  | some less y e ↦ λ a h.
+      let joined : front ++ rest ≡ less ++ y ∷ rest = ap (λ z. z ++ rest) e ∙ append_assoc less (y ∷ []) rest in
+      let same = same-some y.at a (ap place_in (sym (last-append None less (y ∷ []))) ∙ ap (λ z. place_in (last_of z)) (sym e) ∙ h) in
+      subst (λ z. IsSome (bytes_there z (front ++ rest))) same (subst (λ z. IsSome (bytes_there y.at z)) (sym joined) (there-first less y rest))
+]
+  where
+    none_some : (a : ℕ) → ◌≡◌ {A = Option ℕ} None (Some a) → ⊥
+    none_some a e = cc

@@ -1,0 +1,139 @@
+-- What has a key among the objects that are seen through a dictionary: where the first layer has it that has some.
+use Rattle.std.proofs.Common.{◌≡◌, ℕ, ◌<◌, List, [], ◌∷◌, map, Bool, true, false, cond, Option, Some, None, refl, sym, ap, ◌∙◌, subst, inl, inr}
+use Rattle.std.specs.List.{AllByRecursion, find, list_any}
+use Rattle.std.specs.Option.{option_map, option_or}
+use Rattle.std.proofs.lemmas.Bool.{cases_Bool}
+use Rattle.vc_dict.specs.Methods.{is_ordered}
+use Rattle.vc_dtdisc.specs.Rules.{AreLawful, Rules}
+use Rattle.vc_paths.specs.Layers.{AreLayers, Layered, Placed, has_key, place_in, place_with}
+use Rattle.vc_paths.specs.Links.{ArePaths, Links, below, numbers, onward, path, path_of}
+use Rattle.vc_paths.specs.Path.{IsAlike, IsPath, objects_of, place_of, seen_in, visible_of}
+use Rattle.vc_paths.specs.Seek.{has_key_in}
+use Rattle.vc_paths.specs.Visible.{Seen, sorted_onto, stacked}
+use Rattle.vc_paths.proofs.PathLemmas.{path-step}
+use Rattle.vc_paths.proofs.SortedLemmas.{found_sorted}
+use Rattle.vc_paths.proofs.StackedLemmas.{first_having, stacked-found, with_key}
+
+-- what passes a test first among the objects of dictionaries, one after another
+abbrev pub found_along : Layered → (Seen ℕ → Bool) → List ℕ → Option (Seen ℕ)
+found_along all test [] = None
+found_along all test (e ∷ es) = option_or (find test (objects_of all e)) (found_along all test es)
+
+-- a first one is found, or none passes
+data Found {A : Type 0} (test : A → Bool) (xs : List A) : Type 0 where
+  one : (x : A) → find test xs ≡ Some x → list_any test xs ≡ true → Found test xs
+  none : find test xs ≡ None → list_any test xs ≡ false → Found test xs
+
+found : {A : Type 0} (test : A → Bool) (xs : List A) → Found test xs
+found test [] = none refl refl
+found test (x ∷ xs) = elim (cases_Bool (test x)) as (λ _. Found test (x ∷ xs)) [
+  | inl t ↦ one x (rw t refl) (rw t refl)
+  | inr t ↦ elim (found test xs) as (λ _. Found test (x ∷ xs)) [
+    | one y f a ↦ one y (rw t f) (rw t a)
+    | none f a ↦ none (rw t f) (rw t a)
+  ]
+]
+
+-- the first layer that has some finds it
+found-having : (all : Layered) (test : Seen ℕ → Bool) (es : List ℕ) → find test (first_having test (map (objects_of all) es)) ≡ found_along all test es
+found-having all test [] = refl
+found-having all test (e ∷ es) = elim (found test (objects_of all e)) as (λ _. find test (first_having test (map (objects_of all) (e ∷ es))) ≡ found_along all test (e ∷ es)) [
+  | one x f a ↦ rw (a, f) refl
+  | none f a ↦ rw (a, f) (found-having all test es)
+]
+
+-- the order of keys leaves what is found
+found-ordered : (t : Bool) (rules : Rules) (key : List ℕ) (xs : List (Seen ℕ)) → AreLawful rules → find (with_key rules key) (cond t (sorted_onto rules [] xs) xs) ≡ find (with_key rules key) xs
+found-ordered true rules key xs lawful = found_sorted rules lawful.order key xs
+found-ordered false rules key xs lawful = refl
+
+-- so what is found with a key is what the layers of the path find, the uppermost first
+pub found-visible : (all : Layered) (links : Links) (d : ℕ) (key : List ℕ) → AreLawful (all.layer d).rules → find (has_key_in all d key) (visible_of all links d) ≡ found_along all (has_key_in all d key) (path links d)
+found-visible all links d key lawful =
+    let rules = (all.layer d).rules in
+    let layers = map (objects_of all) (path links d) in
+    found-ordered (is_ordered (all.layer d).method) rules key (stacked rules [] layers) lawful
+    ∙ stacked-found rules key layers lawful
+    ∙ found-having all (has_key_in all d key) (path links d)
+
+-- what is found among a dictionary's objects, as it is seen
+find-map : {A B : Type 0} (f : A → B) (test : B → Bool) (xs : List A) → find test (map f xs) ≡ option_map f (find (λ x. test (f x)) xs)
+find-map f test [] = refl
+find-map f test (x ∷ xs) = elim (cases_Bool (test (f x))) as (λ _. find test (map f (x ∷ xs)) ≡ option_map f (find (λ y. test (f y)) (x ∷ xs))) [
+  | inl t ↦ rw t refl
+  | inr t ↦ rw t (find-map f test xs)
+]
+
+-- where it stands
+place-map : (e : ℕ) (o : Option Placed) → option_map place_of (option_map (seen_in e) o) ≡ option_map (λ a. (e, a)) (place_in o)
+place-map e None = refl
+place-map e (Some o) = refl
+
+place-found : (all : Layered) (rules : Rules) (e : ℕ) (key : List ℕ) → option_map place_of (find (λ o. has_key rules key o.bytes) (objects_of all e)) ≡ option_map (λ a. (e, a)) (place_with rules key (all.layer e).objects)
+place-found all rules e key =
+    let test : Seen ℕ → Bool = λ o. has_key rules key o.bytes in
+    ap (option_map place_of) (find-map (seen_in e) test (all.layer e).objects) ∙ place-map e (find (λ o. has_key rules key o.bytes) (all.layer e).objects)
+
+-- the rules of dictionaries of one kind
+pub alike-rules : (all : Layered) (d e : ℕ) → AreLayers all → all.Has d → IsAlike all d e → (all.layer e).rules ≡ (all.layer d).rules
+alike-rules all d e lawful h a = lawful.kinds e d a.there h a.kind
+
+-- a search that has come to a link: what the layers from there on find is what is found
+pub record IsSought (all : Layered) (links : Links) (d : ℕ) (key : List ℕ) (at : Option ℕ) : Type 0 where
+  pub number : (e : ℕ) → at ≡ Some e → e < numbers
+  pub alike : AllByRecursion (IsAlike all d) (onward (path links) at)
+  pub found : found_along all (has_key_in all d key) (onward (path links) at) ≡ find (has_key_in all d key) (visible_of all links d)
+
+pub path-first : (all : Layered) (links : Links) (d : ℕ) → IsPath all links d → IsAlike all d d
+path-first all links d p = p.alike.0
+
+pub IsSought-start : (all : Layered) (links : Links) (d : ℕ) (key : List ℕ) → AreLayers all → IsPath all links d → IsSought all links d key (Some d)
+IsSought-start all links d key lawful p = record {
+  number = λ e h. let same : d ≡ e = cc in subst (λ z. z < numbers) same p.number;
+  alike = p.alike;
+  found = sym (found-visible all links d key (lawful.lawful d (path-first all links d p).there));
+}
+
+-- the layer there finds it, or the search goes on
+alike-step : (all : Layered) (links : Links) (d e : ℕ) → ArePaths links → AllByRecursion (IsAlike all d) (path links e) → AllByRecursion (IsAlike all d) (e ∷ onward (path links) (below links e))
+alike-step all links d e p h = subst (AllByRecursion (IsAlike all d)) (path-step links e p) h
+
+pub none-there : (o : Option (Seen ℕ)) → option_map place_of o ≡ None → o ≡ None
+none-there None h = refl
+none-there (Some o) h = absurd (some_none (place_of o) h)
+  where
+    some_none : (p : ℕ × ℕ) → Some p ≡ None → ⊥
+    some_none p h = cc
+
+pub IsSought-next : (all : Layered) (links : Links) (d e : ℕ) (key : List ℕ) → AreLayers all → ArePaths links → all.Has d → IsSought all links d key (Some e) → place_with (all.layer e).rules key (all.layer e).objects ≡ None → IsSought all links d key (below links e)
+IsSought-next all links d e key lawful p h s missed =
+    let rest = alike-step all links d e p s.alike in
+    let rules = alike-rules all d e lawful h s.alike.0 in
+    let nothing : find (has_key_in all d key) (objects_of all e) ≡ None
+    = none-there (find (has_key_in all d key) (objects_of all e)) (place-found all (all.layer d).rules e key ∙ ap (option_map (λ a. (e, a))) (ap (λ z. place_with z key (all.layer e).objects) (sym rules) ∙ missed)) in
+    record {
+      number = λ x b. p.within e x b;
+      alike = rest.1;
+      found =
+          ap (λ z. option_or z (found_along all (has_key_in all d key) (onward (path links) (below links e)))) (sym nothing)
+          ∙ ap (found_along all (has_key_in all d key)) (sym (path-step links e p))
+          ∙ s.found;
+    }
+
+none_some : (p : ℕ × ℕ) → None ≡ Some p → ⊥
+none_some p h = cc
+
+some-there : (o more : Option (Seen ℕ)) (p : ℕ × ℕ) → option_map place_of o ≡ Some p → option_map place_of (option_or o more) ≡ Some p
+some-there None more p h = absurd (none_some p h)
+some-there (Some o) more p h = h
+
+pub IsSought-found : (all : Layered) (links : Links) (d e at : ℕ) (key : List ℕ) → AreLayers all → all.Has d → IsSought all links d key (Some e) → place_with (all.layer e).rules key (all.layer e).objects ≡ Some at → option_map place_of (find (has_key_in all d key) (visible_of all links d)) ≡ Some (e, at)
+IsSought-found all links d e at key lawful h s hit =
+    let rules = alike-rules all d e lawful h s.alike.0 in
+    let here : option_map place_of (find (has_key_in all d key) (objects_of all e)) ≡ Some (e, at)
+    = place-found all (all.layer d).rules e key ∙ ap (option_map (λ a. (e, a))) (ap (λ z. place_with z key (all.layer e).objects) (sym rules) ∙ hit) in
+    ap (option_map place_of) (sym s.found)
+    ∙ some-there (find (has_key_in all d key) (objects_of all e)) (found_along all (has_key_in all d key) (onward (path_of 15 links) (below links e))) (e, at) here
+
+pub IsSought-end : (all : Layered) (links : Links) (d : ℕ) (key : List ℕ) → IsSought all links d key None → find (has_key_in all d key) (visible_of all links d) ≡ None
+IsSought-end all links d key s = sym s.found

@@ -1,0 +1,11 @@
+use Rattle.std.proofs.Common.{length}
+use Rattle.vc_paths.specs.Ordered.{is_behind, object_at}
+use Rattle.vc_paths.proofs.LayerLemmas.{Onward, since_place}
+use Rattle.vc_paths.proofs.ordered.first_behind.Given as goal
+
+abbrev pub invariant-loop-next : goal.invariant-loop-next
+invariant-loop-next g l =
+    Onward (g.Y.Layers.layered l.layers) l.e (is_behind ((g.Y.Layers.layered l.layers).layer l.e).rules (object_at (g.Y.Layers.layered l.layers) l.other)) l.next
+
+abbrev pub decreases-loop-next : goal.decreases-loop-next
+decreases-loop-next g l = length (since_place l.next ((g.Y.Layers.layered l.layers).layer l.e).objects)

@@ -1,0 +1,11 @@
+use Rattle.std.proofs.Common.{length}
+use Rattle.vc_paths.specs.Ordered.{is_before, object_at}
+use Rattle.vc_paths.proofs.LayerLemmas.{Backward, until_place}
+use Rattle.vc_paths.proofs.ordered.last_before.Given as goal
+
+abbrev pub invariant-loop-next : goal.invariant-loop-next
+invariant-loop-next g l =
+    Backward (g.Y.Layers.layered l.layers) l.e (is_before ((g.Y.Layers.layered l.layers).layer l.e).rules (object_at (g.Y.Layers.layered l.layers) l.other)) l.next
+
+abbrev pub decreases-loop-next : goal.decreases-loop-next
+decreases-loop-next g l = length (until_place l.next ((g.Y.Layers.layered l.layers).layer l.e).objects)

@@ -1,0 +1,59 @@
+use Rattle.std.proofs.Common.{◌≡◌, ℕ, List, Some, None, refl, sym, ap, ◌∙◌, subst}
+use Rattle.std.specs.List.{filter, find}
+use Rattle.std.specs.Option.{option_map}
+use Rattle.std.specs.Prelude.{IsSome}
+use Rattle.vc_paths.specs.Finding.{behind_last, last_of}
+use Rattle.vc_paths.specs.Layers.{bytes_there, is_match, place_in, Layer}
+use Rattle.vc_paths.specs.Path.{Answers, is_at, numbers_of, place_of, visible_of}
+use Rattle.vc_paths.specs.Seek.{has_key_in}
+use Rattle.vc_paths.proofs.MatchLemmas.{behind-key, key-at}
+use Rattle.vc_paths.proofs.SeekLemmas.{none-there}
+use Rattle.vc_paths.proofs.SightLemmas.{none-behind}
+use Rattle.vc_paths.proofs.StayLemmas.{visible-kept, seen-kept}
+use Rattle.vc_paths.proofs.views.next.Goals as goal
+
+pub last_match-last-requires-clause-dict : goal.last_match-last-requires-clause-dict
+last_match-last-requires-clause-dict g c =
+    let all = g.Y.Layers.layered c.args.layers.now in
+    let key = key-at all c.args.paths.now c.args.d c.args.key.now (numbers_of c.in-Some.from) (g.met.Y.Layers.lawful c.args.layers.now) c.requires
+    (ap (option_map numbers_of) (sym c.in-Some.is) ∙ c.search.ensures.found) in
+    c.search.ensures.layers.has c.in-Some.from.0 key.dict
+
+pub last_match-last-requires-clause-place : goal.last_match-last-requires-clause-place
+last_match-last-requires-clause-place g c =
+    let all = g.Y.Layers.layered c.args.layers.now in
+    let key = key-at all c.args.paths.now c.args.d c.args.key.now (numbers_of c.in-Some.from) (g.met.Y.Layers.lawful c.args.layers.now) c.requires
+    (ap (option_map numbers_of) (sym c.in-Some.is) ∙ c.search.ensures.found) in
+    subst (λ (z : ℕ → Layer). IsSome (bytes_there c.in-Some.from.1.0 (z c.in-Some.from.0).objects)) (sym c.search.ensures.layers.layers)
+    (subst IsSome (sym key.there) refl)
+
+pub walk_next-requires-clause-place : goal.walk_next-requires-clause-place
+walk_next-requires-clause-place g c =
+    let all = g.Y.Layers.layered c.args.layers.now in
+    let e = c.in-Some.from.0 in
+    let last
+    = subst (λ (z : ℕ → Layer). (bytes : List ℕ) → bytes_there c.in-Some.from.1.0 (z e).objects ≡ Some bytes → Some c.last_match-last.result.0 ≡ place_in (last_of (filter (λ o. is_match (z e).rules bytes o.bytes) (z e).objects)))
+    c.search.ensures.layers.layers c.last_match-last.ensures in
+    let agree = behind-key all c.args.paths.now c.args.d c.args.key.now (numbers_of c.in-Some.from) c.last_match-last.result.0 (g.met.Y.Layers.lawful c.args.layers.now) c.requires
+    (ap (option_map numbers_of) (sym c.in-Some.is) ∙ c.search.ensures.found) last in
+    seen-kept c.args.paths.now c.args.d (e, c.last_match-last.result.0) c.search.ensures.layers agree.there
+
+pub returns-in-Some-clause-found : goal.returns-in-Some-clause-found
+returns-in-Some-clause-found g c =
+    let all = g.Y.Layers.layered c.args.layers.now in
+    let e = c.in-Some.from.0 in
+    let last
+    = subst (λ (z : ℕ → Layer). (bytes : List ℕ) → bytes_there c.in-Some.from.1.0 (z e).objects ≡ Some bytes → Some c.last_match-last.result.0 ≡ place_in (last_of (filter (λ o. is_match (z e).rules bytes o.bytes) (z e).objects)))
+    c.search.ensures.layers.layers c.last_match-last.ensures in
+    let agree = behind-key all c.args.paths.now c.args.d c.args.key.now (numbers_of c.in-Some.from) c.last_match-last.result.0 (g.met.Y.Layers.lawful c.args.layers.now) c.requires
+    (ap (option_map numbers_of) (sym c.in-Some.is) ∙ c.search.ensures.found) last in
+    subst (λ z. Answers c.walk_next.result (behind_last (is_at (e, c.last_match-last.result.0)) z)) (visible-kept c.args.paths.now c.args.d c.search.ensures.layers) c.walk_next.ensures.found
+    ∙ ap (option_map place_of) (sym agree.same)
+
+pub returns-in-None-clause-found : goal.returns-in-None-clause-found
+returns-in-None-clause-found g c =
+    let all = g.Y.Layers.layered c.args.layers.now in
+    let test = has_key_in all c.args.d c.args.key.now in
+    let xs = visible_of all c.args.paths.now c.args.d in
+    let none : find test xs ≡ None = none-there (find test xs) (sym c.search.ensures.found ∙ ap (option_map numbers_of) c.in-None.is) in
+    sym (ap (option_map place_of) (none-behind test xs none))

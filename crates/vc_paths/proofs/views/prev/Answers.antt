@@ -1,0 +1,34 @@
+use Rattle.std.proofs.Common.{◌≡◌, None, sym, ap, ◌∙◌, subst}
+use Rattle.std.specs.List.{find}
+use Rattle.std.specs.Option.{option_map}
+use Rattle.vc_paths.specs.Finding.{before_first}
+use Rattle.vc_paths.specs.Path.{Answers, is_at, numbers_of, place_of, visible_of}
+use Rattle.vc_paths.specs.Seek.{has_key_in}
+use Rattle.vc_paths.proofs.MatchLemmas.{before-key}
+use Rattle.vc_paths.proofs.SeekLemmas.{none-there}
+use Rattle.vc_paths.proofs.SightLemmas.{none-before}
+use Rattle.vc_paths.proofs.StayLemmas.{visible-kept, seen-kept}
+use Rattle.vc_paths.proofs.views.prev.Goals as goal
+
+pub walk_prev-requires-clause-place : goal.walk_prev-requires-clause-place
+walk_prev-requires-clause-place g c =
+    let all = g.Y.Layers.layered c.args.layers.now in
+    let agree = before-key all c.args.paths.now c.args.d c.args.key.now (numbers_of c.in-Some.from) (g.met.Y.Layers.lawful c.args.layers.now) c.requires
+    (ap (option_map numbers_of) (sym c.in-Some.is) ∙ c.search.ensures.found) in
+    seen-kept c.args.paths.now c.args.d (numbers_of c.in-Some.from) c.search.ensures.layers agree.there
+
+pub returns-in-Some-clause-found : goal.returns-in-Some-clause-found
+returns-in-Some-clause-found g c =
+    let all = g.Y.Layers.layered c.args.layers.now in
+    let agree = before-key all c.args.paths.now c.args.d c.args.key.now (numbers_of c.in-Some.from) (g.met.Y.Layers.lawful c.args.layers.now) c.requires
+    (ap (option_map numbers_of) (sym c.in-Some.is) ∙ c.search.ensures.found) in
+    subst (λ z. Answers c.walk_prev.result (before_first (is_at (numbers_of c.in-Some.from)) z)) (visible-kept c.args.paths.now c.args.d c.search.ensures.layers) c.walk_prev.ensures.found
+    ∙ ap (option_map place_of) (sym agree.same)
+
+pub returns-in-None-clause-found : goal.returns-in-None-clause-found
+returns-in-None-clause-found g c =
+    let all = g.Y.Layers.layered c.args.layers.now in
+    let test = has_key_in all c.args.d c.args.key.now in
+    let xs = visible_of all c.args.paths.now c.args.d in
+    let none : find test xs ≡ None = none-there (find test xs) (sym c.search.ensures.found ∙ ap (option_map numbers_of) c.in-None.is) in
+    sym (ap (option_map place_of) (none-before test None xs none))

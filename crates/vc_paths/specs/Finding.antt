@@ -1,0 +1,31 @@
+-- Where something is found in a list: at its ends, behind what passes a test, and before it.
+use Rattle.std.specs.Prelude.{Bool, not, List, [], ◌∷◌, Option, Some, None, ◌&&◌, if◌then◌else◌}
+use Rattle.std.specs.List.{list_any}
+
+-- the first
+abbrev pub first_of : {A : Type 0} → List A → Option A
+first_of [] = None
+first_of (x ∷ xs) = Some x
+
+-- the last, or another one where there is none
+abbrev pub last_from : {A : Type 0} → Option A → List A → Option A
+last_from other [] = other
+last_from other (x ∷ xs) = last_from (Some x) xs
+
+-- the last, where there is one
+abbrev pub last_of : {A : Type 0} → List A → Option A
+last_of xs = last_from None xs
+
+-- the one behind the last that passes a test
+abbrev pub behind_last : {A : Type 0} → (A → Bool) → List A → Option A
+behind_last test [] = None
+behind_last test (x ∷ xs) = if test x && not (list_any test xs) then first_of xs else behind_last test xs
+
+-- the one before the first that passes a test, in a list behind another one or none
+abbrev pub before_first_from : {A : Type 0} → Option A → (A → Bool) → List A → Option A
+before_first_from before test [] = None
+before_first_from before test (x ∷ xs) = if test x then before else before_first_from (Some x) test xs
+
+-- the one before the first that passes a test
+abbrev pub before_first : {A : Type 0} → (A → Bool) → List A → Option A
+before_first test xs = before_first_from None test xs

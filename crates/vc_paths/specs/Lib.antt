@@ -1,0 +1,10 @@
+pub mod Finding
+pub mod Layers
+pub mod Links
+pub mod Ordered
+pub mod Path
+pub mod Rows
+pub mod Seek
+pub mod Shown
+pub mod View
+pub mod Visible

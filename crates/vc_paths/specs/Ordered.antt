@@ -1,0 +1,63 @@
+-- What a search through ordered layers compares: objects at places, before or behind another one where there is one.
+use Rattle.std.specs.Prelude.{◌≡◌, ℕ, Bool, true, Option, Some, None, IsSome, if◌then◌else◌}
+use Rattle.std.specs.Option.{option_map}
+use Rattle.vc_base.specs.declared.addr.Addr.{Addr}
+use Rattle.vc_dtdisc.specs.Rules.{Rules}
+use Rattle.vc_paths.specs.Layers.{Layered, bytes_there, is_greater, is_match}
+use Rattle.vc_paths.specs.Visible.{Seen}
+
+-- the object at a place
+abbrev pub object_there : Layered → ℕ × Addr → Option (Seen ℕ)
+object_there all p =
+    option_map (λ bytes. record { dict = p.0; at = p.1.0; bytes = bytes }) (bytes_there p.1.0 (all.layer p.0).objects)
+
+-- the object at a place that there may be
+abbrev pub object_at : Layered → Option (ℕ × Addr) → Option (Seen ℕ)
+object_at all None = None
+object_at all (Some p) = object_there all p
+
+-- a place in a dictionary, where there is one
+abbrev pub named : ℕ → Option Addr → Option (ℕ × Addr)
+named d None = None
+named d (Some at) = Some (d, at)
+
+-- an object stands at a place, in a dictionary of one kind with another
+pub record Stands (all : Layered) (d : ℕ) (p : ℕ × Addr) : Type 0 where
+  pub there : all.Has p.0
+  pub kind : (all.layer p.0).kind ≡ (all.layer d).kind
+  pub object : IsSome (bytes_there p.1.0 (all.layer p.0).objects)
+
+-- an object stands at a place that there may be
+abbrev pub IsStanding : Layered → ℕ → Option (ℕ × Addr) → Type 0
+IsStanding all d None = Unit {0}
+IsStanding all d (Some p) = Stands all d p
+
+-- whether an object matches another one
+abbrev pub is_level : Rules → Seen ℕ → Seen ℕ → Bool
+is_level rules x y = is_match rules x.bytes y.bytes
+
+-- whether an object is less than another one, where there is one
+abbrev pub is_before : Rules → Option (Seen ℕ) → Seen ℕ → Bool
+is_before rules None y = true
+is_before rules (Some x) y = is_greater rules x.bytes y.bytes
+
+-- whether an object is greater than another one, where there is one
+abbrev pub is_behind : Rules → Option (Seen ℕ) → Seen ℕ → Bool
+is_behind rules None y = true
+is_behind rules (Some x) y = is_greater rules y.bytes x.bytes
+
+-- the lesser of two; the first where they match
+abbrev pub lesser : Rules → Option (Seen ℕ) → Option (Seen ℕ) → Option (Seen ℕ)
+lesser rules best None = best
+lesser rules best (Some y) = if is_before rules best y then Some y else best
+
+-- the greater of two; the first where they match
+abbrev pub greater : Rules → Option (Seen ℕ) → Option (Seen ℕ) → Option (Seen ℕ)
+greater rules best None = best
+greater rules best (Some y) = if is_behind rules best y then Some y else best
+
+-- an object where it matches another one, and none where one of them is missing
+abbrev pub if_level : Rules → Option (Seen ℕ) → Option (Seen ℕ) → Option (Seen ℕ)
+if_level rules None y = None
+if_level rules (Some x) None = None
+if_level rules (Some x) (Some y) = if is_level rules x y then Some y else None

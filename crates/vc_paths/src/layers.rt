@@ -1,0 +1,106 @@
+ghost use Rattle.std.specs.Prelude.{◌≡◌, ℕ, Some, IsSome, List};
+ghost use Rattle.std.specs.Option.{option_map};
+ghost use Rattle.vc_dtlist.specs.Linked.{number_of};
+ghost use Rattle.vc_paths.specs.Finding.{first_of, last_of};
+ghost use Rattle.vc_paths.specs.Layers.{AreLayers, Layered, Same, bytes_there, place_before, place_behind, place_in, place_with};
+
+use std::cmp::Ordering;
+use vc_base::{Addr, DictMethod, Steps};
+
+/// Dictionaries by number, each a layer that a view path may have: its objects stand at places, which are the addresses
+/// of their holders. Each number that a call is handed is that of a dictionary, and each place one of the dictionary named
+/// with it. None of the calls can fail or needs memory, and none changes an object, an order, a method or a kind. This
+/// project's own.
+pub trait Layers {
+    /// Which numbers are dictionaries, and what each of these is.
+    ghost layered: { Self → Layered };
+
+    /// All stayed the same but the links inside holders and the roots of ordered dictionaries.
+    ghost Stays: { Self → Self → Type 0 };
+
+    /// The method of a dictionary.
+    fn method(&self, d: u32) -> DictMethod
+        requires { (layered self.now).Has d }
+        ensures { result ≡ ((layered self.now).layer d).method };
+
+    /// The number of its kind.
+    fn kind_number(&self, d: u32) -> u32
+        requires { (layered self.now).Has d }
+        ensures { result ≡ ((layered self.now).layer d).kind };
+
+    /// The bytes of the object at a place.
+    fn object(&self, d: u32, at: Addr) -> &[u8]
+        requires dict { (layered self.now).Has d }
+        requires place { IsSome (bytes_there at.0 ((layered self.now).layer d).objects) }
+        ensures { bytes_there at.0 ((layered self.now).layer d).objects ≡ Some result.now };
+
+    /// The place of the first object that has a key; none where none has it.
+    fn find<L>(&mut self, d: u32, key: &[u8], steps: &mut Steps<L>) -> Option<Addr>
+        requires { (layered self.old).Has d }
+        ensures found { option_map number_of result ≡ place_with ((layered self.old).layer d).rules
+            key.now ((layered self.old).layer d).objects }
+        ensures layers { Same (layered self.old) (layered self.new) }
+        ensures stays { Stays self.old self.new };
+
+    /// The place of the first object of `d` that matches the object at a place of `of`, a dictionary of the same kind;
+    /// none where none matches.
+    fn find_like<L>(&mut self, d: u32, of: u32, at: Addr, steps: &mut Steps<L>) -> Option<Addr>
+        requires dict { (layered self.old).Has d }
+        requires other { (layered self.old).Has of }
+        requires kinds { ((layered self.old).layer of).kind ≡ ((layered self.old).layer d).kind }
+        requires place { IsSome (bytes_there at.0 ((layered self.old).layer of).objects) }
+        ensures found { (bytes : List ℕ)
+            → bytes_there at.0 ((layered self.old).layer of).objects ≡ Some bytes
+            → option_map number_of result ≡ place_with ((layered self.old).layer d).rules
+            (((layered self.old).layer d).rules.key bytes) ((layered self.old).layer d).objects }
+        ensures layers { Same (layered self.old) (layered self.new) }
+        ensures stays { Stays self.old self.new };
+
+    /// How the object at a place of `d` stands to the one at a place of `e`, a dictionary of the same kind.
+    fn compare_at<L>(&self, d: u32, a: Addr, e: u32, b: Addr, steps: &mut Steps<L>) -> Ordering
+        requires dict { (layered self.now).Has d }
+        requires other { (layered self.now).Has e }
+        requires kinds { ((layered self.now).layer e).kind ≡ ((layered self.now).layer d).kind }
+        requires first { IsSome (bytes_there a.0 ((layered self.now).layer d).objects) }
+        requires second { IsSome (bytes_there b.0 ((layered self.now).layer e).objects) }
+        ensures { (x y : List ℕ)
+            → bytes_there a.0 ((layered self.now).layer d).objects ≡ Some x
+            → bytes_there b.0 ((layered self.now).layer e).objects ≡ Some y
+            → result ≡ ((layered self.now).layer d).rules.compare
+            (((layered self.now).layer d).rules.key x) (((layered self.now).layer d).rules.key y) };
+
+    /// The place of the first object; none where there is none.
+    fn first(&self, d: u32) -> Option<Addr>
+        requires { (layered self.now).Has d }
+        ensures { option_map number_of result
+            ≡ place_in (first_of ((layered self.now).layer d).objects) };
+
+    /// The place of the last object; none where there is none.
+    fn last(&self, d: u32) -> Option<Addr>
+        requires { (layered self.now).Has d }
+        ensures { option_map number_of result
+            ≡ place_in (last_of ((layered self.now).layer d).objects) };
+
+    /// The place behind another one; none behind the last.
+    fn next(&self, d: u32, at: Addr) -> Option<Addr>
+        requires dict { (layered self.now).Has d }
+        requires place { IsSome (bytes_there at.0 ((layered self.now).layer d).objects) }
+        ensures { option_map number_of result
+            ≡ place_behind at.0 ((layered self.now).layer d).objects };
+
+    /// The place before another one; none before the first.
+    fn prev(&self, d: u32, at: Addr) -> Option<Addr>
+        requires dict { (layered self.now).Has d }
+        requires place { IsSome (bytes_there at.0 ((layered self.now).layer d).objects) }
+        ensures { option_map number_of result
+            ≡ place_before at.0 ((layered self.now).layer d).objects };
+
+    /// The places of a dictionary are distinct, an ordered one stands in order of its keys, and kinds of one number have
+    /// the same lawful rules.
+    ghost lawful: { (layers : Self) → AreLayers (layered layers) };
+
+    /// The rest stays where nothing is done, and over two calls where it stays over each.
+    ghost reflexive: { (layers : Self) → Stays layers layers };
+
+    ghost transitive: { (a b c : Self) → Stays a b → Stays b c → Stays a c };
+}

@@ -1,0 +1,195 @@
+ghost use Rattle.std.specs.Prelude.{◌≡◌, ◌<◌, Some, None, IfErr, IfOk, length};
+ghost use Rattle.std.specs.Result.{result_err};
+ghost use Rattle.vc_base.specs.Holders.{contains};
+ghost use Rattle.vc_paths.specs.Links.{ArePaths, are_too_long, below, is_link_to, is_too_long, is_viewed, linked, no_links, numbers, path};
+ghost use Rattle.vc_paths.specs.Path.{IsPath};
+ghost use Rattle.vc_paths.specs.View.{are_alike, view_fault};
+
+use crate::{Layers, ViewFault};
+use std::alloc::Global;
+use std::marker::Model;
+use vc_base::OutOfMemory;
+
+// There are so many numbers of dictionaries.
+const NUMBERS: u32 = 256;
+
+// A path has at most so many dictionaries.
+const PATH_LIMIT: u32 = 16;
+
+/// Which dictionary views which, by numbers from 0 to 255: from each at most one link, and along them at most 16
+/// dictionaries. This project's own.
+#[derive(Drop)]
+pub struct Paths {
+    // What each dictionary views.
+    links: Vec<Option<u32>>,
+}
+
+impl Model for Paths {
+    ghost use Rattle.vc_paths.specs.Links.{ArePaths, Links};
+
+    ghost Value = { Links };
+
+    ghost view = { λ p. p.links.items };
+
+    ghost invariant = { λ p. ArePaths p.links.items };
+}
+
+// Whether a link is to a dictionary.
+pub(crate) fn is_link_to(d: u32, link: Option<u32>) -> bool
+    ensures { result ≡ is_link_to d link }
+{
+    match link {
+        Some(e) => e == d,
+        None => false,
+    }
+}
+
+// Whether two dictionaries have one method, and kinds of one number.
+fn are_alike<Y: Layers>(layers: &Y, d: u32, e: u32) -> bool
+    requires first { (Y.layered layers.now).Has d }
+    requires second { (Y.layered layers.now).Has e }
+    ensures { result ≡ are_alike (Y.layered layers.now) d e }
+{
+    layers.method(d) == layers.method(e) && layers.kind_number(d) == layers.kind_number(e)
+}
+
+impl Paths {
+    /// No dictionary views another. There is room for 256 of them.
+    pub fn new(alloc: Global) -> Result<Paths, OutOfMemory>
+        ensures { IfOk result (λ paths. paths ≡ no_links) }
+    {
+        let mut links = Vec::with_capacity(alloc, NUMBERS as usize)?;
+        for _number in 0..NUMBERS {
+            links.push(None)?;
+        }
+        Ok(Paths { links })
+    }
+
+    /// What a dictionary views, if anything.
+    pub fn below(&self, d: u32) -> Option<u32>
+        requires { d < numbers }
+        ensures { result ≡ below self.now d }
+    {
+        self.links[d as usize]
+    }
+
+    /// No path is too long, and links lead to numbers.
+    pub fn keep(&self)
+        ensures { ArePaths self.now }
+    {
+        let _links = &self.links;
+    }
+
+    /// Whether some dictionary views this one.
+    pub fn is_viewed(&self, d: u32) -> bool
+        requires { d < numbers }
+        ensures { result ≡ is_viewed self.now d }
+    {
+        self.links.iter().any(|link| is_link_to(d, *link))
+    }
+
+    /// How many dictionaries are on the path of one, itself included.
+    pub fn length(&self, d: u32) -> u32
+        requires { d < numbers }
+        ensures { result ≡ length (path self.now d) }
+    {
+        self.keep();
+        let mut count = 1;
+        let mut at = d;
+        while let Some(e) = self.below(at) {
+            count += 1;
+            at = e;
+        }
+        count
+    }
+
+    // Whether a dictionary is on the path of another one, or that one itself.
+    fn is_on_path(&self, d: u32, e: u32) -> bool
+        requires { e < numbers }
+        ensures { result ≡ contains (path self.now e) d }
+    {
+        self.keep();
+        let mut at = e;
+        while at != d {
+            match self.below(at) {
+                Some(next) => at = next,
+                None => return false,
+            }
+        }
+        true
+    }
+
+    // What a dictionary would view if `d` viewed `e`.
+    fn below_with(&self, d: u32, e: u32, x: u32) -> Option<u32>
+        requires first { d < numbers }
+        requires other { x < numbers }
+        ensures { result ≡ below (linked d (Some e) self.now) x }
+    {
+        self.keep();
+        let old = self.below(x);
+        if x == d { Some(e) } else { old }
+    }
+
+    // Whether the path of a dictionary would be too long if `d` viewed `e`.
+    fn is_too_long_with(&self, d: u32, e: u32, x: u32) -> bool
+        requires first { d < numbers }
+        requires second { e < numbers }
+        requires other { x < numbers }
+        ensures { result ≡ is_too_long (linked d (Some e) self.now) x }
+    {
+        self.keep();
+        let mut at = x;
+        for _step in 0..PATH_LIMIT {
+            match self.below_with(d, e, at) {
+                Some(next) => at = next,
+                None => return false,
+            }
+        }
+        true
+    }
+
+    // Whether some path would be too long if `d` viewed `e`.
+    fn are_too_long_with(&self, d: u32, e: u32) -> bool
+        requires first { d < numbers }
+        requires second { e < numbers }
+        ensures { result ≡ are_too_long (linked d (Some e) self.now) }
+    {
+        for x in 0..NUMBERS {
+            if self.is_too_long_with(d, e, x) {
+                return true;
+            }
+        }
+        false
+    }
+
+    /// Lets a dictionary view another one, in place of what it viewed before. Refused with nothing changed where their
+    /// methods or kinds differ, where it is on the path of that one, and where some path would have more than 16
+    /// dictionaries.
+    pub fn view<Y: Layers>(&mut self, layers: &Y, d: u32, e: u32) -> Result<(), ViewFault>
+        requires first { IsPath (Y.layered layers.now) self.old d }
+        requires second { IsPath (Y.layered layers.now) self.old e }
+        ensures fault { result_err result ≡ view_fault (Y.layered layers.now) self.old d e }
+        ensures ok { IfOk result (λ _. self.new ≡ linked d (Some e) self.old) }
+        ensures err { IfErr result (λ _. self.new ≡ self.old) }
+    {
+        if !are_alike(layers, d, e) {
+            return Err(ViewFault::Differs);
+        }
+        if self.is_on_path(d, e) {
+            return Err(ViewFault::Cycle);
+        }
+        if self.are_too_long_with(d, e) {
+            return Err(ViewFault::TooDeep);
+        }
+        self.links[d as usize] = Some(e);
+        Ok(())
+    }
+
+    /// Lets a dictionary view no other one.
+    pub fn end(&mut self, d: u32)
+        requires { d < numbers }
+        ensures { self.new ≡ linked d None self.old }
+    {
+        self.links[d as usize] = None;
+    }
+}

@@ -1,0 +1,302 @@
+// What is found through view paths where the method is not ordered.
+ghost use Rattle.std.specs.Prelude.{◌≡◌, ℕ, false, List, Some, IsSome, option_map};
+ghost use Rattle.std.specs.List.{flat_map};
+ghost use Rattle.vc_dict.specs.Methods.{is_ordered};
+ghost use Rattle.vc_dtlist.specs.Linked.{number_of};
+ghost use Rattle.vc_paths.specs.Finding.{before_first, behind_last, first_of, last_of};
+ghost use Rattle.vc_paths.specs.Layers.{Same, bytes_there, place_in};
+ghost use Rattle.vc_paths.specs.Path.{Answers, IsAlike, IsPath, IsVisible, is_at, numbers_of, visible_of};
+ghost use Rattle.vc_paths.specs.Shown.{IsOnPath, IsPlaceIn, above, down, has_match, is_covered, objects_from, objects_up_to, shown, shown_in};
+
+use crate::paths::is_link_to;
+use crate::{Layers, Paths};
+use vc_base::{Addr, Steps};
+
+// Whether a layer has a match of the object at a place of e.
+fn has_like<Y: Layers, L>(layers: &mut Y, u: u32, e: u32, at: Addr, steps: &mut Steps<L>) -> bool
+    requires upper { (Y.layered layers.old).Has u }
+    requires other { (Y.layered layers.old).Has e }
+    requires kinds { ((Y.layered layers.old).layer e).kind ≡ ((Y.layered layers.old).layer u).kind }
+    requires place { IsSome (bytes_there at.0 ((Y.layered layers.old).layer e).objects) }
+    ensures found { (bytes : List ℕ)
+        → bytes_there at.0 ((Y.layered layers.old).layer e).objects ≡ Some bytes
+        → result ≡ has_match (Y.layered layers.old) u bytes u }
+    ensures layers { Same (Y.layered layers.old) (Y.layered layers.new) }
+    ensures stays { Y.Stays layers.old layers.new }
+{
+    layers.find_like(u, e, at, steps).is_some()
+}
+
+// Whether the layers above e on the path of d hide the object at a place of e.
+fn is_hidden<Y: Layers, L>(
+    paths: &Paths,
+    layers: &mut Y,
+    d: u32,
+    e: u32,
+    at: Addr,
+    steps: &mut Steps<L>,
+) -> bool
+    requires path { IsOnPath (Y.layered layers.old) paths.now d (Some d) }
+    requires other { IsAlike (Y.layered layers.old) d e }
+    requires place { IsSome (bytes_there at.0 ((Y.layered layers.old).layer e).objects) }
+    ensures hidden { (bytes : List ℕ)
+        → bytes_there at.0 ((Y.layered layers.old).layer e).objects ≡ Some bytes
+        → result ≡ is_covered (Y.layered layers.old) paths.now d e bytes }
+    ensures layers { Same (Y.layered layers.old) (Y.layered layers.new) }
+    ensures stays { Y.Stays layers.old layers.new }
+{
+    paths.keep();
+    let mut upper = Some(d);
+    while let Some(u) = upper {
+        if e == u {
+            return false;
+        }
+        if has_like(layers, u, e, at, steps) {
+            return true;
+        }
+        upper = paths.below(u);
+    }
+    false
+}
+
+// The first object of e that isn't hidden, from a place on.
+fn seen_from<Y: Layers, L>(
+    paths: &Paths,
+    layers: &mut Y,
+    d: u32,
+    e: u32,
+    at: Option<Addr>,
+    steps: &mut Steps<L>,
+) -> Option<Addr>
+    requires path { IsOnPath (Y.layered layers.old) paths.now d (Some d) }
+    requires other { IsAlike (Y.layered layers.old) d e }
+    requires place { IsPlaceIn ((Y.layered layers.old).layer e).objects (option_map number_of at) }
+    ensures found { option_map number_of result ≡ place_in (first_of (shown (Y.layered layers.old)
+        paths.now d e (objects_from (option_map number_of at)
+        ((Y.layered layers.old).layer e).objects))) }
+    ensures layers { Same (Y.layered layers.old) (Y.layered layers.new) }
+    ensures stays { Y.Stays layers.old layers.new }
+{
+    let mut here = at;
+    while let Some(place) = here {
+        if !is_hidden(paths, layers, d, e, place, steps) {
+            return here;
+        }
+        here = layers.next(e, place);
+    }
+    None
+}
+
+// The last object of e that isn't hidden, up to a place.
+fn seen_back<Y: Layers, L>(
+    paths: &Paths,
+    layers: &mut Y,
+    d: u32,
+    e: u32,
+    at: Option<Addr>,
+    steps: &mut Steps<L>,
+) -> Option<Addr>
+    requires path { IsOnPath (Y.layered layers.old) paths.now d (Some d) }
+    requires other { IsAlike (Y.layered layers.old) d e }
+    requires place { IsPlaceIn ((Y.layered layers.old).layer e).objects (option_map number_of at) }
+    ensures found { option_map number_of result ≡ place_in (last_of (shown (Y.layered layers.old)
+        paths.now d e (objects_up_to (option_map number_of at)
+        ((Y.layered layers.old).layer e).objects))) }
+    ensures layers { Same (Y.layered layers.old) (Y.layered layers.new) }
+    ensures stays { Y.Stays layers.old layers.new }
+{
+    let mut here = at;
+    while let Some(place) = here {
+        if !is_hidden(paths, layers, d, e, place, steps) {
+            return here;
+        }
+        here = layers.prev(e, place);
+    }
+    None
+}
+
+// The place of an object of e, where there is one.
+fn placed(e: u32, at: Option<Addr>) -> Option<(u32, Addr)>
+    ensures { option_map numbers_of result ≡ option_map (λ a. (e, a)) (option_map number_of at) }
+{
+    match at {
+        None => None,
+        Some(place) => Some((e, place)),
+    }
+}
+
+// The first object of e that isn't hidden.
+fn first_in<Y: Layers, L>(
+    paths: &Paths,
+    layers: &mut Y,
+    d: u32,
+    e: u32,
+    steps: &mut Steps<L>,
+) -> Option<(u32, Addr)>
+    requires path { IsOnPath (Y.layered layers.old) paths.now d (Some d) }
+    requires other { IsAlike (Y.layered layers.old) d e }
+    ensures found { option_map numbers_of result
+        ≡ first_of (shown_in (Y.layered layers.old) paths.now d e) }
+    ensures layers { Same (Y.layered layers.old) (Y.layered layers.new) }
+    ensures stays { Y.Stays layers.old layers.new }
+{
+    let start = layers.first(e);
+    placed(e, seen_from(paths, layers, d, e, start, steps))
+}
+
+// The last object of e that isn't hidden.
+fn last_in<Y: Layers, L>(
+    paths: &Paths,
+    layers: &mut Y,
+    d: u32,
+    e: u32,
+    steps: &mut Steps<L>,
+) -> Option<(u32, Addr)>
+    requires path { IsOnPath (Y.layered layers.old) paths.now d (Some d) }
+    requires other { IsAlike (Y.layered layers.old) d e }
+    ensures found { option_map numbers_of result
+        ≡ last_of (shown_in (Y.layered layers.old) paths.now d e) }
+    ensures layers { Same (Y.layered layers.old) (Y.layered layers.new) }
+    ensures stays { Y.Stays layers.old layers.new }
+{
+    let end = layers.last(e);
+    placed(e, seen_back(paths, layers, d, e, end, steps))
+}
+
+// The first object that is seen through d from a layer of its path on.
+fn first_below<Y: Layers, L>(
+    paths: &Paths,
+    layers: &mut Y,
+    d: u32,
+    from: Option<u32>,
+    steps: &mut Steps<L>,
+) -> Option<(u32, Addr)>
+    requires path { IsOnPath (Y.layered layers.old) paths.now d (Some d) }
+    requires from { IsOnPath (Y.layered layers.old) paths.now d from }
+    ensures found { option_map numbers_of result
+        ≡ first_of (flat_map (shown_in (Y.layered layers.old) paths.now d) (down paths.now from)) }
+    ensures layers { Same (Y.layered layers.old) (Y.layered layers.new) }
+    ensures stays { Y.Stays layers.old layers.new }
+{
+    paths.keep();
+    let mut layer = from;
+    while let Some(e) = layer {
+        let found = first_in(paths, layers, d, e, steps);
+        if found.is_some() {
+            return found;
+        }
+        layer = paths.below(e);
+    }
+    None
+}
+
+// The last object that is seen through d in the layers above one of its path, or in all of them.
+fn last_above<Y: Layers, L>(
+    paths: &Paths,
+    layers: &mut Y,
+    d: u32,
+    end: Option<u32>,
+    steps: &mut Steps<L>,
+) -> Option<(u32, Addr)>
+    requires path { IsOnPath (Y.layered layers.old) paths.now d (Some d) }
+    ensures found { option_map numbers_of result ≡ last_of (flat_map
+        (shown_in (Y.layered layers.old) paths.now d) (above end (down paths.now (Some d)))) }
+    ensures layers { Same (Y.layered layers.old) (Y.layered layers.new) }
+    ensures stays { Y.Stays layers.old layers.new }
+{
+    paths.keep();
+    let mut best = None;
+    let mut layer = Some(d);
+    while let Some(e) = layer {
+        if is_link_to(e, end) {
+            return best;
+        }
+        best = last_in(paths, layers, d, e, steps).or(best);
+        layer = paths.below(e);
+    }
+    best
+}
+
+/// The first object that is seen through a dictionary.
+pub(crate) fn first<Y: Layers, L>(
+    paths: &Paths,
+    layers: &mut Y,
+    d: u32,
+    steps: &mut Steps<L>,
+) -> Option<(u32, Addr)>
+    requires path { IsPath (Y.layered layers.old) paths.now d }
+    requires method { is_ordered ((Y.layered layers.old).layer d).method ≡ false }
+    ensures found { Answers result (first_of (visible_of (Y.layered layers.old) paths.now d)) }
+    ensures layers { Same (Y.layered layers.old) (Y.layered layers.new) }
+    ensures stays { Y.Stays layers.old layers.new }
+{
+    paths.keep();
+    first_below(paths, layers, d, Some(d), steps)
+}
+
+/// The last object that is seen through a dictionary.
+pub(crate) fn last<Y: Layers, L>(
+    paths: &Paths,
+    layers: &mut Y,
+    d: u32,
+    steps: &mut Steps<L>,
+) -> Option<(u32, Addr)>
+    requires path { IsPath (Y.layered layers.old) paths.now d }
+    requires method { is_ordered ((Y.layered layers.old).layer d).method ≡ false }
+    ensures found { Answers result (last_of (visible_of (Y.layered layers.old) paths.now d)) }
+    ensures layers { Same (Y.layered layers.old) (Y.layered layers.new) }
+    ensures stays { Y.Stays layers.old layers.new }
+{
+    paths.keep();
+    last_above(paths, layers, d, None, steps)
+}
+
+/// The object behind the one at a place, among those that are seen through a dictionary.
+pub(crate) fn walk_next<Y: Layers, L>(
+    paths: &Paths,
+    layers: &mut Y,
+    d: u32,
+    from: (u32, Addr),
+    steps: &mut Steps<L>,
+) -> Option<(u32, Addr)>
+    requires path { IsPath (Y.layered layers.old) paths.now d }
+    requires method { is_ordered ((Y.layered layers.old).layer d).method ≡ false }
+    requires from { IsVisible (Y.layered layers.old) paths.now d (numbers_of from) }
+    ensures found { Answers result (behind_last (is_at (numbers_of from))
+        (visible_of (Y.layered layers.old) paths.now d)) }
+    ensures layers { Same (Y.layered layers.old) (Y.layered layers.new) }
+    ensures stays { Y.Stays layers.old layers.new }
+{
+    paths.keep();
+    let (e, at) = from;
+    let start = layers.next(e, at);
+    match seen_from(paths, layers, d, e, start, steps) {
+        Some(place) => Some((e, place)),
+        None => first_below(paths, layers, d, paths.below(e), steps),
+    }
+}
+
+/// The object before the one at a place, among those that are seen through a dictionary.
+pub(crate) fn walk_prev<Y: Layers, L>(
+    paths: &Paths,
+    layers: &mut Y,
+    d: u32,
+    from: (u32, Addr),
+    steps: &mut Steps<L>,
+) -> Option<(u32, Addr)>
+    requires path { IsPath (Y.layered layers.old) paths.now d }
+    requires method { is_ordered ((Y.layered layers.old).layer d).method ≡ false }
+    requires from { IsVisible (Y.layered layers.old) paths.now d (numbers_of from) }
+    ensures found { Answers result (before_first (is_at (numbers_of from))
+        (visible_of (Y.layered layers.old) paths.now d)) }
+    ensures layers { Same (Y.layered layers.old) (Y.layered layers.new) }
+    ensures stays { Y.Stays layers.old layers.new }
+{
+    paths.keep();
+    let (e, at) = from;
+    let end = layers.prev(e, at);
+    match seen_back(paths, layers, d, e, end, steps) {
+        Some(place) => Some((e, place)),
+        None => last_above(paths, layers, d, Some(e), steps),
+    }
+}

@@ -1,0 +1,217 @@
+ghost use Rattle.std.specs.Prelude.{◌≡◌, ℕ, List, Some, IsSome, if◌then◌else◌};
+ghost use Rattle.std.specs.List.{filter, find};
+ghost use Rattle.vc_dict.specs.Methods.{is_ordered};
+ghost use Rattle.vc_paths.specs.Finding.{before_first, behind_last, first_of, last_of};
+ghost use Rattle.vc_paths.specs.Layers.{Same, bytes_there, is_match, place_in};
+ghost use Rattle.vc_paths.specs.Path.{Answers, IsPath, IsVisible, is_at, numbers_of, visible_of};
+ghost use Rattle.vc_paths.specs.Seek.{has_key_in};
+
+use crate::{Layers, Paths, ordered, plain};
+use vc_base::{Addr, DictMethod, Steps};
+
+// Whether objects stand in order of their keys.
+fn is_ordered(method: DictMethod) -> bool
+    ensures { result ≡ is_ordered method }
+{
+    match method {
+        DictMethod::DtOset | DictMethod::DtObag => true,
+        _ => false,
+    }
+}
+
+/// The first object that is seen through a dictionary and has a key; none where none has it.
+pub fn search<Y: Layers, L>(
+    paths: &Paths,
+    layers: &mut Y,
+    d: u32,
+    key: &[u8],
+    steps: &mut Steps<L>,
+) -> Option<(u32, Addr)>
+    requires { IsPath (Y.layered layers.old) paths.now d }
+    ensures found { Answers result (find (has_key_in (Y.layered layers.old) d key.now)
+        (visible_of (Y.layered layers.old) paths.now d)) }
+    ensures layers { Same (Y.layered layers.old) (Y.layered layers.new) }
+    ensures stays { Y.Stays layers.old layers.new }
+{
+    paths.keep();
+    let mut at = Some(d);
+    while let Some(e) = at {
+        if let Some(place) = layers.find(e, key, steps) {
+            return Some((e, place));
+        }
+        at = paths.below(e);
+    }
+    None
+}
+
+// The second of two places where its object matches the one at a third place, and else the first.
+fn if_match<Y: Layers, L>(
+    layers: &Y,
+    e: u32,
+    at: Addr,
+    last: Addr,
+    other: Addr,
+    steps: &mut Steps<L>,
+) -> Addr
+    requires dict { (Y.layered layers.now).Has e }
+    requires place { IsSome (bytes_there at.0 ((Y.layered layers.now).layer e).objects) }
+    requires other { IsSome (bytes_there other.0 ((Y.layered layers.now).layer e).objects) }
+    ensures { (x y : List ℕ) → bytes_there at.0 ((Y.layered layers.now).layer e).objects ≡ Some x
+        → bytes_there other.0 ((Y.layered layers.now).layer e).objects ≡ Some y
+        → result.0
+        ≡ (if is_match ((Y.layered layers.now).layer e).rules x y then other.0 else last.0) }
+{
+    if layers.compare_at(e, other, e, at, steps).is_eq() {
+        other
+    } else {
+        last
+    }
+}
+
+// The last place in a dictionary whose object matches the one at a place: that one, or one behind it.
+fn last_match<Y: Layers, L>(layers: &Y, e: u32, at: Addr, steps: &mut Steps<L>) -> Addr
+    requires dict { (Y.layered layers.now).Has e }
+    requires place { IsSome (bytes_there at.0 ((Y.layered layers.now).layer e).objects) }
+    ensures { (bytes : List ℕ)
+        → bytes_there at.0 ((Y.layered layers.now).layer e).objects ≡ Some bytes
+        → Some result.0 ≡ place_in (last_of (filter
+        (λ o. is_match ((Y.layered layers.now).layer e).rules bytes o.bytes)
+        ((Y.layered layers.now).layer e).objects)) }
+{
+    let mut last = at;
+    let mut next = layers.next(e, at);
+    while let Some(other) = next {
+        last = if_match(layers, e, at, last, other, steps);
+        next = layers.next(e, other);
+    }
+    last
+}
+
+/// The first object that is seen through a dictionary; none where none is.
+pub fn first<Y: Layers, L>(
+    paths: &Paths,
+    layers: &mut Y,
+    d: u32,
+    steps: &mut Steps<L>,
+) -> Option<(u32, Addr)>
+    requires { IsPath (Y.layered layers.old) paths.now d }
+    ensures found { Answers result
+        (first_of (visible_of (Y.layered layers.old) paths.now d)) }
+    ensures layers { Same (Y.layered layers.old) (Y.layered layers.new) }
+    ensures stays { Y.Stays layers.old layers.new }
+{
+    if is_ordered(layers.method(d)) {
+        ordered::first(paths, layers, d, steps)
+    } else {
+        plain::first(paths, layers, d, steps)
+    }
+}
+
+/// The last object that is seen through a dictionary; none where none is.
+pub fn last<Y: Layers, L>(
+    paths: &Paths,
+    layers: &mut Y,
+    d: u32,
+    steps: &mut Steps<L>,
+) -> Option<(u32, Addr)>
+    requires { IsPath (Y.layered layers.old) paths.now d }
+    ensures found { Answers result
+        (last_of (visible_of (Y.layered layers.old) paths.now d)) }
+    ensures layers { Same (Y.layered layers.old) (Y.layered layers.new) }
+    ensures stays { Y.Stays layers.old layers.new }
+{
+    if is_ordered(layers.method(d)) {
+        ordered::last(paths, layers, d, steps)
+    } else {
+        plain::last(paths, layers, d, steps)
+    }
+}
+
+/// The object behind one that is seen through a dictionary; none behind the last.
+pub fn walk_next<Y: Layers, L>(
+    paths: &Paths,
+    layers: &mut Y,
+    d: u32,
+    from: (u32, Addr),
+    steps: &mut Steps<L>,
+) -> Option<(u32, Addr)>
+    requires path { IsPath (Y.layered layers.old) paths.now d }
+    requires place { IsVisible (Y.layered layers.old) paths.now d (numbers_of from) }
+    ensures found { Answers result (behind_last (is_at (numbers_of from))
+        (visible_of (Y.layered layers.old) paths.now d)) }
+    ensures layers { Same (Y.layered layers.old) (Y.layered layers.new) }
+    ensures stays { Y.Stays layers.old layers.new }
+{
+    if is_ordered(layers.method(d)) {
+        ordered::walk_next(paths, layers, d, from, steps)
+    } else {
+        plain::walk_next(paths, layers, d, from, steps)
+    }
+}
+
+// The object before one that is seen through a dictionary; none before the first.
+fn walk_prev<Y: Layers, L>(
+    paths: &Paths,
+    layers: &mut Y,
+    d: u32,
+    from: (u32, Addr),
+    steps: &mut Steps<L>,
+) -> Option<(u32, Addr)>
+    requires path { IsPath (Y.layered layers.old) paths.now d }
+    requires place { IsVisible (Y.layered layers.old) paths.now d (numbers_of from) }
+    ensures found { Answers result (before_first (is_at (numbers_of from))
+        (visible_of (Y.layered layers.old) paths.now d)) }
+    ensures layers { Same (Y.layered layers.old) (Y.layered layers.new) }
+    ensures stays { Y.Stays layers.old layers.new }
+{
+    if is_ordered(layers.method(d)) {
+        ordered::walk_prev(paths, layers, d, from, steps)
+    } else {
+        plain::walk_prev(paths, layers, d, from, steps)
+    }
+}
+
+/// The object behind the last that is seen through a dictionary and has a key; none where that is the last of all, or
+/// none has the key.
+pub fn next<Y: Layers, L>(
+    paths: &Paths,
+    layers: &mut Y,
+    d: u32,
+    key: &[u8],
+    steps: &mut Steps<L>,
+) -> Option<(u32, Addr)>
+    requires { IsPath (Y.layered layers.old) paths.now d }
+    ensures found { Answers result (behind_last (has_key_in (Y.layered layers.old) d key.now)
+        (visible_of (Y.layered layers.old) paths.now d)) }
+    ensures layers { Same (Y.layered layers.old) (Y.layered layers.new) }
+    ensures stays { Y.Stays layers.old layers.new }
+{
+    match search(paths, layers, d, key, steps) {
+        Some(from) => {
+            let last = last_match(layers, from.0, from.1, steps);
+            walk_next(paths, layers, d, (from.0, last), steps)
+        }
+        None => None,
+    }
+}
+
+/// The object before the first that is seen through a dictionary and has a key; none where that is the first of all, or
+/// none has the key.
+pub fn prev<Y: Layers, L>(
+    paths: &Paths,
+    layers: &mut Y,
+    d: u32,
+    key: &[u8],
+    steps: &mut Steps<L>,
+) -> Option<(u32, Addr)>
+    requires { IsPath (Y.layered layers.old) paths.now d }
+    ensures found { Answers result (before_first (has_key_in (Y.layered layers.old) d key.now)
+        (visible_of (Y.layered layers.old) paths.now d)) }
+    ensures layers { Same (Y.layered layers.old) (Y.layered layers.new) }
+    ensures stays { Y.Stays layers.old layers.new }
+{
+    match search(paths, layers, d, key, steps) {
+        Some(from) => walk_prev(paths, layers, d, from, steps),
+        None => None,
+    }
+}
