@@ -38,7 +38,9 @@ pub(crate) fn some_site_of(word: &[u8]) -> Result<Option<Name>, LineFault>
     Ok(Some(site_of(word)?))
 }
 
-pub(crate) fn number_of(word: &[u8]) -> Result<u32, LineFault>
+/// The number that a word spells: 1 to 10 decimal digits, at most 4,294,967,295. Any other word is a `BadNumber`. This
+/// project's own.
+pub fn number_of(word: &[u8]) -> Result<u32, LineFault>
     ensures { result ≡ number_of word.now }
 {
     if is_number(word) {

@@ -39,6 +39,7 @@ pub use bytes::Bytes;
 pub use command::Command;
 pub use cutter::{Cut, LineCutter};
 pub use damage_items::DamageItems;
+pub use form::number_of;
 pub use line_answer::LineAnswer;
 pub use line_fault::LineFault;
 pub use object_items::ObjectItems;

@@ -1,0 +1,4 @@
+pub mod Faultless
+pub mod Flags
+pub mod Matched
+pub mod Ranges
