@@ -1,0 +1,4 @@
+pub mod WordSteps
+pub mod CommandSteps
+pub mod ProperGenerated
+pub mod Pairing

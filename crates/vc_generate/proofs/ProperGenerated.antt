@@ -1,0 +1,74 @@
+-- Generated commands are proper.
+use Rattle.std.proofs.Common.{◌≡◌, ℕ, ◌%◌, ◌^◌, ◌<◌, ◌≤◌, Bool, true, false, cond, leb, eqb, ltb, ◌||◌, List, [], ◌∷◌, ◌++◌, length, map, lit<, refl, arith}
+use Rattle.std.specs.Prelude.{decimal}
+use Rattle.std.specs.List.{AllByRecursion, list_all}
+use Rattle.std.proofs.lemmas.Bool.{and_from, and_parts, le-leb}
+use Rattle.std.proofs.lemmas.Fmt.{length-decimal-le}
+use Rattle.vc_script.proofs.Newlines.{list_all-decimal}
+use Rattle.vc_script.specs.Proper.{IsName, IsProperCommand}
+use Rattle.vc_script.specs.Words.{is_digit, is_letter, is_name_byte}
+use Rattle.vc_script.specs.declared.command.Command.{Command}
+use Rattle.vc_script.specs.declared.tool.Tool.{Tool}
+use Rattle.vc_script.specs.declared.tool.Tool.TheVariants.{Dtrun, Vmreplay}
+use Rattle.vc_generate.specs.Generated.{block_command, block_commands, block_of, closing, generated, is_resize, is_taken, none_taken, object_command, opening, place_of, taken_after}
+use Rattle.vc_generate.specs.Words.{words_of}
+
+or_true : (a b : Bool) → a ≡ true → (b || a) ≡ true
+or_true a true is = refl
+or_true a false is = is
+
+or_left : (a b : Bool) → a ≡ true → (a || b) ≡ true
+or_left a b is = rw is refl
+
+-- digits stand in names
+name_bytes : (bytes : List ℕ) → list_all is_digit bytes ≡ true → list_all is_name_byte bytes ≡ true
+name_bytes [] each = refl
+name_bytes (b ∷ bs) each =
+    let parts = and_parts (is_digit b) (list_all is_digit bs) each in
+    and_from (is_name_byte b) (list_all is_name_byte bs)
+    (or_true _ (is_letter b) (or_left (is_digit b) _ parts.0)) (name_bytes bs parts.1)
+
+block_is_name : (word : ℕ) → IsName (block_of word)
+block_is_name word =
+    let digits = decimal (place_of word) in
+    let small : place_of word < 10 ^ 3 = omega arith in
+    let short : length digits ≤ 31 =
+    let at_most : length digits ≤ 3 = length-decimal-le 3 (place_of word) (omega arith) small (omega arith) in omega arith in
+    and_from (list_all is_name_byte digits) (leb (length digits) 31) (name_bytes digits (list_all-decimal (place_of word))) (le-leb _ _ short)
+
+taken_proper : (resize : Bool) (moved freed : Command) → IsProperCommand moved → IsProperCommand freed → IsProperCommand (cond resize moved freed)
+taken_proper true moved freed first second = first
+taken_proper false moved freed first second = second
+
+proper_block : (taken : Bool) (word : ℕ) → IsProperCommand (block_command taken word)
+proper_block false word = (refl, block_is_name word, omega arith, tt)
+proper_block true word = taken_proper (is_resize word) _ _ (refl, block_is_name word, omega arith) (refl, block_is_name word)
+
+proper_object : (word : ℕ) → IsProperCommand (object_command word)
+proper_object word = taken_proper (ltb (word % 4) 2) _ _ refl (taken_proper (eqb (word % 4) 2) _ _ refl refl)
+
+proper_blocks : (taken : List Bool) (words : List ℕ) → AllByRecursion IsProperCommand (block_commands taken words)
+unfolding block_commands
+proper_blocks taken [] = tt
+proper_blocks taken (word ∷ words) = (proper_block (is_taken taken (place_of word)) word, proper_blocks (taken_after taken word) words)
+
+proper_objects : (words : List ℕ) → AllByRecursion IsProperCommand (map object_command words)
+proper_objects [] = tt
+proper_objects (word ∷ words) = (proper_object word, proper_objects words)
+
+both : (first second : List Command) → AllByRecursion IsProperCommand first → AllByRecursion IsProperCommand second →
+    AllByRecursion IsProperCommand (first ++ second)
+both [] second begun ended = ended
+both (c ∷ cs) second begun ended = (begun.0, both cs second begun.1 ended)
+
+-- each command of a tool
+pub proper_generated : (tool : Tool) (count seed : ℕ) → AllByRecursion IsProperCommand (generated tool count seed)
+unfolding generated
+proper_generated Vmreplay count seed =
+    let words = words_of seed count in
+    both (opening Vmreplay ++ block_commands none_taken words) (closing Vmreplay)
+    (both (opening Vmreplay) (block_commands none_taken words) ((refl, lit< tt), tt) (proper_blocks none_taken words)) (refl, tt)
+proper_generated Dtrun count seed =
+    let words = words_of seed count in
+    both (opening Dtrun ++ map object_command words) (closing Dtrun)
+    (both (opening Dtrun) (map object_command words) ((refl, lit< tt), ((refl, refl, lit< tt), tt)) (proper_objects words)) (refl, (refl, tt))

@@ -1,0 +1,30 @@
+// The command of a word on the dictionary.
+ghost use Rattle.std.specs.Prelude.{◌≡◌, ◌/◌, ◌%◌, IfOk};
+ghost use Rattle.vc_generate.specs.Generated.{object_command, object_of};
+
+use crate::fixed::dict;
+use itoa::Buffer;
+use std::alloc::{AllocError, Global};
+use vc_script::{Bytes, Command};
+
+// The object of a word: `k` and a number below 1000 in decimal.
+fn object_of(alloc: Global, word: u32) -> Result<Bytes, AllocError>
+    ensures { IfOk result (λ object. object ≡ object_of word) }
+{
+    let mut buffer = Buffer::new();
+    let mut bytes = Vec::from_slice(alloc, b"k")?;
+    bytes.extend_from_slice(buffer.format(word / 256 % 1000).as_bytes())?;
+    Ok(Bytes::from_vec(bytes))
+}
+
+// The command of a word.
+pub(crate) fn object_command(alloc: Global, word: u32) -> Result<Command, AllocError>
+    ensures { IfOk result (λ command. command ≡ object_command word) }
+{
+    let object = object_of(alloc, word)?;
+    Ok(match word % 4 {
+        0 | 1 => Command::Insert(dict(), object),
+        2 => Command::Delete(dict(), Some(object)),
+        _ => Command::Search(dict(), object),
+    })
+}
