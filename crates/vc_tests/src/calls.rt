@@ -4,7 +4,7 @@ use std::test::Fail;
 use vc_base::{
     Addr, Name, NeverSink, NeverSource, Sink, Source, StdSink, StdSource, Steps, one_more,
 };
-use vc_seg::{HeapDisc, Segment, Shelf, ShelfPlace};
+use vc_seg::Segment;
 
 struct Mark;
 
@@ -76,25 +76,5 @@ fn writer(rt: HostRuntime) -> Result<(), Fail> {
     let mut sink = StdSink::new(Vec::new(rt.alloc()));
     assert!(rt; sink.write(b"abc").unwrap_or(0) == 3);
     assert!(rt; sink.faults() == 0);
-    Ok(())
-}
-
-#[test]
-fn shelf(rt: HostRuntime) -> Result<(), Fail> {
-    let alloc = rt.alloc();
-    let mut shelf = Shelf::new(alloc);
-    assert!(rt; shelf.put(Box::new(alloc, HeapDisc::new(32))?).is_ok());
-    assert!(rt; shelf.len() == 1);
-    assert!(rt; shelf.place(0) == ShelfPlace::Missing);
-    assert!(rt; shelf.place(1) == ShelfPlace::Here);
-    assert!(rt; shelf.place(2) == ShelfPlace::Missing);
-    match shelf.take(1) {
-        Some(disc) => {
-            assert!(rt; shelf.place(1) == ShelfPlace::Taken);
-            shelf.give_back(1, disc);
-        }
-        None => assert!(rt; false),
-    }
-    assert!(rt; shelf.place(1) == ShelfPlace::Here);
     Ok(())
 }

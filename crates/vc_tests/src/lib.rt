@@ -24,8 +24,6 @@ mod rows;
 #[cfg(test)]
 mod same;
 #[cfg(test)]
-mod session;
-#[cfg(test)]
 mod streams;
 #[cfg(test)]
 mod told;
