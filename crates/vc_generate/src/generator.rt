@@ -1,4 +1,4 @@
-ghost use Rattle.std.specs.Prelude.{◌≡◌, ◌≤◌, true, IfOk, OnErr};
+ghost use Rattle.std.specs.Prelude.{◌≡◌, true, IfOk, OnErr};
 ghost use Rattle.vc_generate.specs.Generated.{generated};
 ghost use Rattle.vc_generate.specs.Next.{IsNext, is_object_next};
 
@@ -33,13 +33,12 @@ impl Model for Generator {
 }
 
 impl Generator {
-    /// The commands of `tool` for the first `count` words of `seed`, 1 to 1,000,000 words. Takes no memory.
+    /// The commands of `tool` for the first `count` words of `seed`, of which the tools ask for 1 to 1,000,000. Takes no
+    /// memory.
     ///
     /// vmreplay opens `r`, allocates, resizes and frees blocks `x0` to `x255` of 1 to 1000 bytes, and closes `r`. dtrun opens
     /// `r` and the ordered set `d`, inserts, deletes and searches objects `k0` to `k999`, and ends both.
     pub fn new(tool: Tool, count: u32, seed: u32) -> Generator
-        requires least { 1 ≤ count }
-        requires most { count ≤ 1000000 }
         ensures { result ≡ generated tool count seed }
     {
         Generator {
