@@ -1,9 +1,11 @@
 pub use Rattle.vc_model.specs.Count
 pub use Rattle.vc_model.specs.Stream
 pub use Rattle.vc_model.specs.Addr
+pub mod Address
 pub mod Cells
 pub mod Holders
 pub mod Memory
+pub mod Methods
 pub mod Name
 pub mod Standard
 pub mod Steps

@@ -10,7 +10,8 @@ use Rattle.vc_dtdisc.specs.Rules.{Rules}
 use Rattle.vc_dtlist.proofs.KeptLemmas.{KeepsTables-but, within-tail}
 use Rattle.vc_dthash.specs.declared.dt_hash.DtHash.{DtHash}
 use Rattle.vc_dthash.specs.Hashed.{HashFor}
-use Rattle.vc_dtord.specs.Ordered.{inserted_at, is_less, placed}
+use Rattle.vc_dtdisc.specs.Finding.{put_before}
+use Rattle.vc_dtord.specs.Ordered.{is_less, placed}
 use Rattle.vc_dict.proofs.CurrentLemmas.{within-linked}
 use Rattle.vc_cells_tests.specs.Five.{AreSized}
 use Rattle.vc_cells_tests.proofs.ReadyLemmas.{sized-kept}
@@ -30,12 +31,12 @@ insert_by : (t : Bool) (at x : ℕ) (xs ys : List ℕ) (a : ℕ) → contains (x
 insert_by true at x xs ys a h k = within-tail at (x ∷ xs) a h
 insert_by false at x xs ys a h k = k
 
-in-inserted : (test : ℕ → Bool) (at : ℕ) (xs : List ℕ) (a : ℕ) → contains xs a ≡ true → contains (inserted_at test at xs) a ≡ true
+in-inserted : (test : ℕ → Bool) (at : ℕ) (xs : List ℕ) (a : ℕ) → contains xs a ≡ true → contains (put_before test at xs) a ≡ true
 in-inserted test at [] a h = absurd (true≢false (sym h))
 in-inserted test at (x ∷ xs) a h =
-    insert_by (test x) at x xs (inserted_at test at xs) a h (elim (eqb_tells x a) as (λ _. contains (x ∷ inserted_at test at xs) a ≡ true) [
+    insert_by (test x) at x xs (put_before test at xs) a h (elim (eqb_tells x a) as (λ _. contains (x ∷ put_before test at xs) a ≡ true) [
       | inl same ↦ rw same.0 refl
-      | inr apart ↦ within-tail x (inserted_at test at xs) a (in-inserted test at xs a (rw apart.0 at h))
+      | inr apart ↦ within-tail x (put_before test at xs) a (in-inserted test at xs a (rw apart.0 at h))
     ])
 
 pub in-placed : (rules : Rules) (b : Blocks) (at : ℕ) (xs : List ℕ) (a : ℕ) → (a ≢ at → contains xs a ≡ true) → contains (placed rules b at xs) a ≡ true

@@ -1,16 +1,21 @@
 -- The current one is none or one of the holders, after each call.
-use Rattle.std.proofs.Common.{◌≡◌, ◌≢◌, ℕ, List, [], ◌∷◌, ◌++◌, Bool, true, false, Option, Some, None, unwrap_or, inl, inr, refl, sym, ◌∙◌}
+use Rattle.std.proofs.Common.{◌≡◌, ◌≢◌, ℕ, List, [], ◌∷◌, ◌++◌, Bool, true, false, Option, Some, None, unwrap_or, option_map, inl, inr, refl, sym, ap, ◌∙◌}
 use Rattle.std.specs.Prelude.{◌==◌, if◌then◌else◌}
-use Rattle.std.proofs.lemmas.Bool.{true≢false, eq-eqb}
+use Rattle.std.proofs.lemmas.Bool.{true≢false, eq-eqb, eqb-true, ne_eqb}
 use Rattle.std.proofs.lemmas.Bool.Decides.{eqb_tells}
 use Rattle.vc_base.specs.declared.dict_method.DictMethod.{DictMethod}
 use Rattle.vc_base.specs.declared.dict_method.DictMethod.TheVariants.{DtSet, DtBag, DtOset, DtObag, DtList, DtStack, DtQueue}
 use Rattle.vc_base.specs.Cells.{Blocks}
-use Rattle.vc_base.specs.Holders.{contains, first_in, inserted_after, inserted_before, next_in, without}
+use Rattle.vc_base.specs.Holders.{contains, first_in, next_in, some_address, without}
 use Rattle.vc_dtdisc.specs.Rules.{Rules}
 use Rattle.vc_dtlist.proofs.HolderLemmas.{apart-append, apart-cons, apart-head, apart-tail}
 use Rattle.vc_dtlist.proofs.KeptLemmas.{within-head, within-tail}
-use Rattle.vc_dtord.specs.Ordered.{inserted_at, is_less}
+use Rattle.vc_dtdisc.specs.Finding.{put_before, put_behind}
+use Rattle.vc_dtdisc.specs.Objects as objects
+use Rattle.vc_dtdisc.specs.Objects.{behind_object}
+use Rattle.vc_dtdisc.proofs.AddressLemmas.{behind_object-next_in}
+use Rattle.vc_dtord.specs.Ordered.{is_less}
+use Rattle.vc_dtord.proofs.OrdLemmas.{any-inserted}
 use Rattle.vc_dict.specs.Changes.{behind_current, current_without, inserted, linked, removed}
 use Rattle.vc_dict.proofs.PassLemmas.{apart-placed}
 
@@ -24,63 +29,69 @@ within-last : (at : ℕ) (xs : List ℕ) → contains (xs ++ at ∷ []) at ≡ t
 within-last at [] = within-head at []
 within-last at (x ∷ xs) = within-tail x (xs ++ at ∷ []) at (within-last at xs)
 
-within-inserted_at : (test : ℕ → Bool) (at : ℕ) (xs : List ℕ) → contains (inserted_at test at xs) at ≡ true
-within-inserted_at test at [] = within-head at []
-within-inserted_at test at (x ∷ xs) =
-    either_in (test x) (at ∷ x ∷ xs) (x ∷ inserted_at test at xs) at true (within-head at (x ∷ xs)) (within-tail x (inserted_at test at xs) at (within-inserted_at test at xs))
+within-put_before : (test : ℕ → Bool) (at : ℕ) (xs : List ℕ) → contains (put_before test at xs) at ≡ true
+within-put_before test at [] = within-head at []
+within-put_before test at (x ∷ xs) =
+    either_in (test x) (at ∷ x ∷ xs) (x ∷ put_before test at xs) at true (within-head at (x ∷ xs)) (within-tail x (put_before test at xs) at (within-put_before test at xs))
 
-within-before : (mark at : ℕ) (xs : List ℕ) → contains (inserted_before mark at xs) at ≡ true
-within-before mark at [] = within-head at []
-within-before mark at (x ∷ xs) =
-    either_in (x == mark) (at ∷ x ∷ xs) (x ∷ inserted_before mark at xs) at true (within-head at (x ∷ xs)) (within-tail x (inserted_before mark at xs) at (within-before mark at xs))
+within-put_behind : (test : ℕ → Bool) (at : ℕ) (xs : List ℕ) → contains (put_behind test at xs) at ≡ true
+within-put_behind test at [] = within-head at []
+within-put_behind test at (x ∷ xs) =
+    either_in (test x) (x ∷ at ∷ xs) (x ∷ put_behind test at xs) at true (within-tail x (at ∷ xs) at (within-head at xs)) (within-tail x (put_behind test at xs) at (within-put_behind test at xs))
 
-within-after : (mark at : ℕ) (xs : List ℕ) → contains (inserted_after mark at xs) at ≡ true
-within-after mark at [] = within-head at []
-within-after mark at (x ∷ xs) =
-    either_in (x == mark) (x ∷ at ∷ xs) (x ∷ inserted_after mark at xs) at true (within-tail x (at ∷ xs) at (within-head at xs)) (within-tail x (inserted_after mark at xs) at (within-after mark at xs))
+within-before : (current : Option ℕ) (at : ℕ) (xs : List ℕ) → contains (objects.before_current (λ a. a) current at xs) at ≡ true
+within-before None at xs = within-head at xs
+within-before (Some current) at xs = within-put_before (λ x. x == current) at xs
+
+within-behind : (current : Option ℕ) (at : ℕ) (xs : List ℕ) → contains (objects.behind_current (λ a. a) current at xs) at ≡ true
+within-behind None at xs = within-last at xs
+within-behind (Some current) at xs = within-put_behind (λ x. x == current) at xs
 
 within-inserted : (method : DictMethod) (rules : Rules) (b : Blocks) (current at : ℕ) (xs : List ℕ) → contains (inserted method rules b current at xs) at ≡ true
 within-inserted DtSet rules b current at xs = within-last at xs
 within-inserted DtBag rules b current at xs = within-last at xs
-within-inserted DtOset rules b current at xs = within-inserted_at (is_less rules b at) at xs
-within-inserted DtObag rules b current at xs = within-inserted_at (is_less rules b at) at xs
-within-inserted DtList rules b current at xs = either_in (current == 0) (at ∷ xs) (inserted_before current at xs) at true (within-head at xs) (within-before current at xs)
+within-inserted DtOset rules b current at xs = within-put_before (is_less rules b at) at xs
+within-inserted DtObag rules b current at xs = within-put_before (is_less rules b at) at xs
+within-inserted DtList rules b current at xs = within-before (some_address current) at xs
 within-inserted DtStack rules b current at xs = within-head at xs
 within-inserted DtQueue rules b current at xs = within-last at xs
 
 pub within-linked : (append : Bool) (method : DictMethod) (rules : Rules) (b : Blocks) (current at : ℕ) (xs : List ℕ) → contains (linked append method rules b current at xs) at ≡ true
 within-linked append method rules b current at xs =
     either_in append (behind_current current at xs) (inserted method rules b current at xs) at true
-    (either_in (current == 0) (xs ++ at ∷ []) (inserted_after current at xs) at true (within-last at xs) (within-after current at xs))
+    (within-behind (some_address current) at xs)
     (within-inserted method rules b current at xs)
 
 -- no other one is
-apart-before : (mark at : ℕ) (xs : List ℕ) (a : ℕ) → at ≢ a → contains xs a ≡ false → contains (inserted_before mark at xs) a ≡ false
-apart-before mark at [] a ne h = apart-cons at [] a ne refl
-apart-before mark at (x ∷ xs) a ne h =
-    either_in (x == mark) (at ∷ x ∷ xs) (x ∷ inserted_before mark at xs) a false (apart-cons at (x ∷ xs) a ne h) (apart-cons x (inserted_before mark at xs) a (apart-head x xs a h) (apart-before mark at xs a ne (apart-tail x xs a h)))
-
-apart-after : (mark at : ℕ) (xs : List ℕ) (a : ℕ) → at ≢ a → contains xs a ≡ false → contains (inserted_after mark at xs) a ≡ false
-apart-after mark at [] a ne h = apart-cons at [] a ne refl
-apart-after mark at (x ∷ xs) a ne h =
-    either_in (x == mark) (x ∷ at ∷ xs) (x ∷ inserted_after mark at xs) a false (apart-cons x (at ∷ xs) a (apart-head x xs a h) (apart-cons at xs a ne (apart-tail x xs a h))) (apart-cons x (inserted_after mark at xs) a (apart-head x xs a h) (apart-after mark at xs a ne (apart-tail x xs a h)))
+apart-put_behind : (test : ℕ → Bool) (at : ℕ) (xs : List ℕ) (a : ℕ) → at ≢ a → contains xs a ≡ false → contains (put_behind test at xs) a ≡ false
+apart-put_behind test at [] a ne h = apart-cons at [] a ne refl
+apart-put_behind test at (x ∷ xs) a ne h =
+    either_in (test x) (x ∷ at ∷ xs) (x ∷ put_behind test at xs) a false (apart-cons x (at ∷ xs) a (apart-head x xs a h) (apart-cons at xs a ne (apart-tail x xs a h))) (apart-cons x (put_behind test at xs) a (apart-head x xs a h) (apart-put_behind test at xs a ne (apart-tail x xs a h)))
 
 apart-last : (at : ℕ) (xs : List ℕ) (a : ℕ) → at ≢ a → contains xs a ≡ false → contains (xs ++ at ∷ []) a ≡ false
 apart-last at xs a ne h = apart-append xs (at ∷ []) a h (apart-cons at [] a ne refl)
+
+apart-before : (current : Option ℕ) (at : ℕ) (xs : List ℕ) (a : ℕ) → at ≢ a → contains xs a ≡ false → contains (objects.before_current (λ z. z) current at xs) a ≡ false
+apart-before None at xs a ne h = apart-cons at xs a ne h
+apart-before (Some current) at xs a ne h = any-inserted (λ z. z == a) (λ x. x == current) at xs (ne_eqb at a ne) h
+
+apart-behind : (current : Option ℕ) (at : ℕ) (xs : List ℕ) (a : ℕ) → at ≢ a → contains xs a ≡ false → contains (objects.behind_current (λ z. z) current at xs) a ≡ false
+apart-behind None at xs a ne h = apart-last at xs a ne h
+apart-behind (Some current) at xs a ne h = apart-put_behind (λ x. x == current) at xs a ne h
 
 apart-inserted : (method : DictMethod) (rules : Rules) (b : Blocks) (current at : ℕ) (xs : List ℕ) (a : ℕ) → at ≢ a → contains xs a ≡ false → contains (inserted method rules b current at xs) a ≡ false
 apart-inserted DtSet rules b current at xs a ne h = apart-last at xs a ne h
 apart-inserted DtBag rules b current at xs a ne h = apart-last at xs a ne h
 apart-inserted DtOset rules b current at xs a ne h = apart-placed rules b at xs a ne h
 apart-inserted DtObag rules b current at xs a ne h = apart-placed rules b at xs a ne h
-apart-inserted DtList rules b current at xs a ne h = either_in (current == 0) (at ∷ xs) (inserted_before current at xs) a false (apart-cons at xs a ne h) (apart-before current at xs a ne h)
+apart-inserted DtList rules b current at xs a ne h = apart-before (some_address current) at xs a ne h
 apart-inserted DtStack rules b current at xs a ne h = apart-cons at xs a ne h
 apart-inserted DtQueue rules b current at xs a ne h = apart-last at xs a ne h
 
 pub apart-linked : (append : Bool) (method : DictMethod) (rules : Rules) (b : Blocks) (current at : ℕ) (xs : List ℕ) (a : ℕ) → at ≢ a → contains xs a ≡ false → contains (linked append method rules b current at xs) a ≡ false
 apart-linked append method rules b current at xs a ne h =
     either_in append (behind_current current at xs) (inserted method rules b current at xs) a false
-    (either_in (current == 0) (xs ++ at ∷ []) (inserted_after current at xs) a false (apart-last at xs a ne h) (apart-after current at xs a ne h))
+    (apart-behind (some_address current) at xs a ne h)
     (apart-inserted method rules b current at xs a ne h)
 
 -- another one stays in the list
@@ -116,10 +127,52 @@ within-next : (at : ℕ) (xs : List ℕ) → contains (0 ∷ without at xs) (unw
 within-next at [] = refl
 within-next at (x ∷ xs) = next_by (x == at) at x xs (within-next at xs)
 
--- so the current one is none or one of those that are left
+-- which one is current then
+no_map : (o : Option ℕ) → option_map (λ a. a) o ≡ o
+no_map None = refl
+no_map (Some a) = refl
+
+is_same : (t : Bool) (at current : ℕ) (xs : List ℕ) → unwrap_or (if t then option_map (λ a. a) (behind_object (λ a. a) at xs) else Some current) 0 ≡ (if t then unwrap_or (next_in at xs) 0 else current)
+is_same true at current xs = ap (λ o. unwrap_or o 0) (no_map (behind_object (λ a. a) at xs) ∙ behind_object-next_in at xs)
+is_same false at current xs = refl
+
+is_none : (t : Bool) (at current : ℕ) (xs : List ℕ) → unwrap_or (objects.current_without (λ a. a) at (if t then None else Some current) xs) 0 ≡ (if t then 0 else if current == at then unwrap_or (next_in at xs) 0 else current)
+is_none true at current xs = refl
+is_none false at current xs = is_same (current == at) at current xs
+
+pub current-is : (at current : ℕ) (xs : List ℕ) → current_without (Some at) current xs ≡ (if current == 0 then 0 else if current == at then unwrap_or (next_in at xs) 0 else current)
+current-is at current xs = is_none (current == 0) at current xs
+
+pub current-gone : (at current : ℕ) (xs : List ℕ) → at ≢ 0 → (current == at) ≡ true → current_without (Some at) current xs ≡ unwrap_or (next_in at xs) 0
+current-gone at current xs some same =
+    current-is at current xs
+    ∙ ap (λ t. if t then 0 else if current == at then unwrap_or (next_in at xs) 0 else current) (ne_eqb current 0 (λ e. some (sym (eqb-true current at same) ∙ e)))
+    ∙ ap (λ t. if t then unwrap_or (next_in at xs) 0 else current) same
+
+stays_by : (t : Bool) (current other : ℕ) → (current == 0) ≡ t → other ≡ current → (if t then 0 else other) ≡ current
+stays_by true current other e f = sym (eqb-true current 0 e)
+stays_by false current other e f = f
+
+pub current-stays : (at current : ℕ) (xs : List ℕ) → (current == at) ≡ false → current_without (Some at) current xs ≡ current
+current-stays at current xs other =
+    current-is at current xs
+    ∙ stays_by (current == 0) current (if current == at then unwrap_or (next_in at xs) 0 else current) refl (ap (λ t. if t then unwrap_or (next_in at xs) 0 else current) other)
+
+told_by : (t : Bool) (at current : ℕ) (xs : List ℕ) → at ≢ 0 → (current == at) ≡ t → current_without (Some at) current xs ≡ (if t then unwrap_or (next_in at xs) 0 else current)
+told_by true at current xs some e = current-gone at current xs some e
+told_by false at current xs some e = current-stays at current xs e
+
+pub current-told : (at current : ℕ) (xs : List ℕ) → at ≢ 0 → current_without (Some at) current xs ≡ (if current == at then unwrap_or (next_in at xs) 0 else current)
+current-told at current xs some = told_by (current == at) at current xs some refl
+
+-- so it is none or one of those that are left
 current_by : (t : Bool) (current at : ℕ) (xs : List ℕ) → (t ≡ false → contains (0 ∷ without at xs) current ≡ true) → contains (0 ∷ without at xs) (if t then unwrap_or (next_in at xs) 0 else current) ≡ true
 current_by true current at xs h = within-next at xs
 current_by false current at xs h = h refl
+
+none_by : (t : Bool) (at other : ℕ) (xs : List ℕ) → contains (0 ∷ without at xs) other ≡ true → contains (0 ∷ without at xs) (if t then 0 else other) ≡ true
+none_by true at other xs h = within-head 0 (without at xs)
+none_by false at other xs h = h
 
 current-another : (current at : ℕ) (xs : List ℕ) → contains (0 ∷ xs) current ≡ true → current ≢ at → contains (0 ∷ without at xs) current ≡ true
 current-another current at xs h ne = elim (eqb_tells 0 current) as (λ _. contains (0 ∷ without at xs) current ≡ true) [
@@ -130,4 +183,6 @@ current-another current at xs h ne = elim (eqb_tells 0 current) as (λ _. contai
 pub current-removed : (found : Option ℕ) (current : ℕ) (xs : List ℕ) → contains (0 ∷ xs) current ≡ true → contains (0 ∷ removed found xs) (current_without found current xs) ≡ true
 current-removed None current xs h = h
 current-removed (Some at) current xs h =
-    current_by (current == at) current at xs (λ e. current-another current at xs h (λ same. absurd (true≢false (sym (eq-eqb current at same) ∙ e))))
+    ap (contains (0 ∷ without at xs)) (current-is at current xs)
+    ∙ none_by (current == 0) at (if current == at then unwrap_or (next_in at xs) 0 else current) xs
+    (current_by (current == at) current at xs (λ e. current-another current at xs h (λ same. absurd (true≢false (sym (eq-eqb current at same) ∙ e)))))

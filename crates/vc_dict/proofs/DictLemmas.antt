@@ -4,29 +4,31 @@ use Rattle.std.specs.Option.{option_map}
 use Rattle.std.proofs.lemmas.Bool.{true≢false}
 use Rattle.vc_base.specs.declared.addr.Addr.{Addr}
 use Rattle.vc_base.specs.declared.dict_method.DictMethod.{DictMethod}
-use Rattle.vc_base.specs.declared.dict_method.DictMethod.TheVariants.{DtSet, DtBag, DtOset, DtObag, DtList, DtStack, DtQueue}
+use Rattle.vc_base.specs.declared.dict_method.DictMethod.TheVariants.{DtSet, DtBag, DtOset, DtObag, DtList as ByList, DtStack, DtQueue}
 use Rattle.vc_base.specs.Cells.{Blocks}
 use Rattle.vc_base.specs.Holders.{KeepsBut, contains}
 use Rattle.vc_dtdisc.specs.Rules.{Rules}
+use Rattle.vc_dtlist.specs.declared.dt_list.DtList.{DtList}
 use Rattle.vc_dtlist.specs.Kept.{KeepsTables}
 use Rattle.vc_dtlist.specs.Linked.{StandsFor, number_of}
-use Rattle.vc_dtlist.proofs.FindLemmas.{fewer_holders}
 use Rattle.vc_dtlist.proofs.HolderLemmas.{apart-cons}
 use Rattle.vc_dtlist.proofs.KeptLemmas.{KeepsTables-but}
-use Rattle.vc_dtlist.proofs.TurnLemmas.{StandsFor-unique}
 use Rattle.vc_dthash.specs.declared.dt_hash.DtHash.{DtHash}
-use Rattle.vc_dthash.specs.Hashed.{HasTable, HashTurned}
-use Rattle.vc_dtord.specs.Ordered.{IsSorted}
+use Rattle.vc_dthash.specs.Hashed.{HashFor, HashTurned}
+use Rattle.vc_dtord.specs.declared.dt_ord.DtOrd.{DtOrd}
+use Rattle.vc_dtord.specs.Ordered.{OrdFor}
 use Rattle.vc_dict.specs.declared.dict.Dict.{Dict}
-use Rattle.vc_dict.specs.Methods.{has_table, is_ordered}
-use Rattle.vc_dict.specs.Stands.{Became, IsMember, Stands, hash_of, list_of}
+use Rattle.vc_base.specs.Methods.{has_table, is_ordered}
+use Rattle.vc_dict.specs.Stands.{Became, HeadsFor, IsMember, Stands, hash_of, heads_of}
+use Rattle.vc_dict.proofs.HeadLemmas.{heads-hash, heads-links, heads-order}
+use Rattle.vc_dict.proofs.OwnLemmas.{count-fits, holders-told}
 
 pub table_unordered : (method : DictMethod) → has_table method ≡ true → is_ordered method ≡ false
 table_unordered DtSet h = refl
 table_unordered DtBag h = refl
 table_unordered DtOset h = absurd (true≢false (sym h))
 table_unordered DtObag h = absurd (true≢false (sym h))
-table_unordered DtList h = refl
+table_unordered ByList h = refl
 table_unordered DtStack h = refl
 table_unordered DtQueue h = refl
 
@@ -35,49 +37,40 @@ ordered_plain DtSet h = absurd (true≢false (sym h))
 ordered_plain DtBag h = absurd (true≢false (sym h))
 ordered_plain DtOset h = refl
 ordered_plain DtObag h = refl
-ordered_plain DtList h = refl
+ordered_plain ByList h = refl
 ordered_plain DtStack h = refl
 ordered_plain DtQueue h = refl
 
 -- it counts fewer than 2^32 holders, and stands for one list alone
 pub few : (rules : Rules) (d : Dict) (b : Blocks) (xs : List ℕ) → Stands rules d b xs → d.count < 2 ^ 32
-few rules d b xs s = let h = fewer_holders (list_of d) b xs s.list in omega (arith, s.count)
+few rules d b xs s = let h = count-fits rules d b xs s in omega (arith, s.count)
 
 pub Stands-unique : (rules rules' : Rules) (d : Dict) (b : Blocks) (xs ys : List ℕ) → Stands rules d b xs → Stands rules' d b ys → xs ≡ ys
-Stands-unique rules rules' d b xs ys s t = StandsFor-unique (list_of d) b xs ys s.list t.list
-
--- without a table none is kept
-no_table : (b b' : Blocks) (xs ys : List ℕ) (table slots : ℕ) → table ≡ 0 → HasTable b xs table slots → HasTable b' ys table slots
-no_table b b' xs ys table slots e t = record { none = t.none; some = λ ne. absurd (ne e) }
+Stands-unique rules rules' d b xs ys s t = sym (holders-told rules d b xs s) ∙ holders-told rules' d b ys t
 
 -- a hash changed
 pub Became-hash : (rules : Rules) (d : Dict) (hash : DtHash) (b b' : Blocks) (at : ℕ) (xs ys : List ℕ) → has_table d.method ≡ true → HashTurned at xs (hash_of d) b hash b' ys → Became rules (at ∷ xs) d b (record d { first = hash.first; last = hash.last; count = hash.count }) b' ys d.current.0
-Became-hash rules d hash b b' at xs ys h t = record {
-  stands = record {
-    list = t.stands.list;
-    count = t.stands.count;
-    sorted = λ e. absurd (true≢false (sym e ∙ table_unordered d.method h));
-    table = subst (λ z. HasTable b' ys z.0 d.slots) t.table (subst (λ z. HasTable b' ys hash.table.0 z) t.slots t.stands.table);
-    plain = λ e. absurd (true≢false (sym h ∙ e));
-  };
-  current = refl;
-  method = refl;
-  kind = refl;
-  table = refl;
-  slots = refl;
-  keeps = t.keeps;
-}
+Became-hash rules d hash b b' at xs ys h t =
+    let new : Dict = record d { first = hash.first; last = hash.last; count = hash.count } in
+    let stands : HashFor (hash_of new) b' ys = subst (λ z. HashFor (record hash { table = z; slots = d.slots }) b' ys) t.table (subst (λ z. HashFor (record hash { slots = z }) b' ys) t.slots t.stands) in
+    record {
+      stands = record {
+        heads = subst (λ z. HeadsFor rules z b' ys) (sym (heads-hash new h)) stands;
+        count = stands.count;
+        plain = λ e. absurd (true≢false (sym h ∙ e));
+      };
+      current = refl;
+      method = refl;
+      kind = refl;
+      table = refl;
+      slots = refl;
+      keeps = t.keeps;
+    }
 
 -- a list or an ordered one changed
-pub Became-plain : (rules : Rules) (d : Dict) (first last : Addr) (n : ℕ) (b b' : Blocks) (written xs ys : List ℕ) → has_table d.method ≡ false → Stands rules d b xs → StandsFor (record { first = first; last = last }) b' ys → n ≡ length ys → (is_ordered d.method ≡ true → IsSorted rules b' ys) → KeepsBut written b b' → Became rules written d b (record d { first = first; last = last; count = n }) b' ys d.current.0
-Became-plain rules d first last n b b' written xs ys h s list count sorted keeps = record {
-  stands = record {
-    list = list;
-    count = count;
-    sorted = sorted;
-    table = no_table b b' xs ys d.table.0 d.slots (s.plain h) s.table;
-    plain = s.plain;
-  };
+pub Became-plain : (rules : Rules) (d : Dict) (first last : Addr) (n : ℕ) (b b' : Blocks) (written xs ys : List ℕ) → Stands rules d b xs → HeadsFor rules (heads_of (record d { first = first; last = last; count = n })) b' ys → n ≡ length ys → KeepsBut written b b' → Became rules written d b (record d { first = first; last = last; count = n }) b' ys d.current.0
+Became-plain rules d first last n b b' written xs ys s heads count keeps = record {
+  stands = record { heads = heads; count = count; plain = λ h. record { table = (s.plain h).table; slots = (s.plain h).slots } };
   current = refl;
   method = refl;
   kind = refl;
@@ -85,6 +78,16 @@ Became-plain rules d first last n b b' written xs ys h s list count sorted keeps
   slots = refl;
   keeps = KeepsTables-but (d.table.0 ∷ []) written b b' keeps;
 }
+
+pub Became-ord : (rules : Rules) (d : Dict) (ord : DtOrd) (n : ℕ) (b b' : Blocks) (written xs ys : List ℕ) → is_ordered d.method ≡ true → Stands rules d b xs → OrdFor rules ord b' ys → n ≡ length ys → KeepsBut written b b' → Became rules written d b (record d { first = ord.first; last = ord.last; count = n }) b' ys d.current.0
+Became-ord rules d ord n b b' written xs ys o s stands count keeps =
+    let new : Dict = record d { first = ord.first; last = ord.last; count = n } in
+    Became-plain rules d ord.first ord.last n b b' written xs ys s (subst (λ z. HeadsFor rules z b' ys) (sym (heads-order new (ordered_plain d.method o) o)) stands) count keeps
+
+pub Became-list : (rules : Rules) (d : Dict) (list : DtList) (n : ℕ) (b b' : Blocks) (written xs ys : List ℕ) → has_table d.method ≡ false → is_ordered d.method ≡ false → Stands rules d b xs → StandsFor list b' ys → n ≡ length ys → KeepsBut written b b' → Became rules written d b (record d { first = list.first; last = list.last; count = n }) b' ys d.current.0
+Became-list rules d list n b b' written xs ys h o s stands count keeps =
+    let new : Dict = record d { first = list.first; last = list.last; count = n } in
+    Became-plain rules d list.first list.last n b b' written xs ys s (subst (λ z. HeadsFor rules z b' ys) (sym (heads-links new h o)) stands) count keeps
 
 -- one of the holders needs no naming beside them
 pub KeepsTables-within : (tables xs : List ℕ) (at : ℕ) (b b' : Blocks) → contains xs at ≡ true → KeepsTables tables (at ∷ xs) b b' → KeepsTables tables xs b b'
@@ -143,13 +146,7 @@ Became-current rules written d at b b' d' ys t = record {
 }
 
 pub Stands-current : (rules : Rules) (d : Dict) (at : Addr) (b : Blocks) (xs : List ℕ) → Stands rules d b xs → Stands rules (record d { current = at }) b xs
-Stands-current rules d at b xs s = record {
-  list = s.list;
-  count = s.count;
-  sorted = s.sorted;
-  table = s.table;
-  plain = s.plain;
-}
+Stands-current rules d at b xs s = record { heads = s.heads; count = s.count; plain = λ h. record { table = (s.plain h).table; slots = (s.plain h).slots } }
 
 -- an address that may be none
 pub or_none : (o : Option Addr) (other : Addr) (p : Option ℕ) → option_map number_of o ≡ p → other.0 ≡ 0 → (unwrap_or o other).0 ≡ unwrap_or p 0

@@ -1,4 +1,5 @@
 pub mod LengthLemmas
+pub mod HeadLemmas
 pub mod DictLemmas
 pub mod PassLemmas
 pub mod WeedLemmas

@@ -16,13 +16,17 @@ use Rattle.vc_dthash.specs.declared.dt_hash.DtHash.{DtHash}
 use Rattle.vc_dthash.specs.Hashed.{HasTable, HashFor, IsTable}
 use Rattle.vc_dthash.specs.Slots.{slots_for, wanted}
 use Rattle.vc_dthash.proofs.HashLemmas.{HasTable-kept}
+use Rattle.vc_dtord.specs.Ordered.{IsSorted}
 use Rattle.vc_dtord.proofs.OrdLemmas.{IsSorted-same}
 use Rattle.vc_dict.specs.declared.dict.Dict.{Dict}
-use Rattle.vc_dict.specs.Methods.{has_table, slots_between}
+use Rattle.vc_base.specs.Methods.{has_table, is_ordered}
+use Rattle.vc_dict.specs.Methods.{slots_between}
 use Rattle.vc_dict.specs.Orders.{dropped_by, kept_by, ordered_by}
-use Rattle.vc_dict.specs.Stands.{Stands}
+use Rattle.vc_dict.specs.Stands.{HeadsFor, Stands, list_of}
 use Rattle.vc_dict.specs.Turned.{CanRemethod, Remethoded}
 use Rattle.vc_dict.proofs.DictLemmas.{Stands-unique}
+use Rattle.vc_dict.proofs.HeadLemmas.{heads_by}
+use Rattle.vc_dict.proofs.OwnLemmas.{Stands-table}
 use Rattle.vc_dict.proofs.TurnedLemmas.{AreDropped-chain, IsSorted-turned, length-ordered, no_block, shorter, within_kept_by, within_ordered}
 
 -- a hash that stands for nothing over whatever blocks has no slots
@@ -53,10 +57,23 @@ if_number true x y = refl
 if_number false x y = refl
 
 table_before : (rules : Rules) (d : Dict) (b : Blocks) (method : DictMethod) (block size : ℕ) (holders : List ℕ) (t : Bool) → CanRemethod rules d b method block size → Stands rules d b holders → HasTable b holders (if t then d.table.0 else block) (if t then d.slots else size)
-table_before rules d b method block size holders true r s = s.table
+table_before rules d b method block size holders true r s = Stands-table rules d b holders s
 table_before rules d b method block size holders false r s = record {
   none = r.none;
   some = λ ne. subst (λ z. IsTable b z block size) (Stands-unique rules rules d b r.holders holders r.stands s) (r.fits ne);
+}
+
+-- its heads by the method, and that it has no table where the method has none
+made_by : (t u : Bool) (rules : Rules) (new : Dict) (b : Blocks) (xs : List ℕ) → is_ordered new.method ≡ u → StandsFor (list_of new) b xs → new.count ≡ length xs → HasTable b xs new.table.0 new.slots → (is_ordered new.method ≡ true → IsSorted rules b xs) → HeadsFor rules (heads_by t u new) b xs
+made_by true u rules new b xs e list count table sorted = record { list = list; count = count; table = table }
+made_by false true rules new b xs e list count table sorted = record { list = list; sorted = sorted e }
+made_by false false rules new b xs e list count table sorted = list
+
+Stands-made : (rules : Rules) (new : Dict) (b : Blocks) (xs : List ℕ) → StandsFor (list_of new) b xs → new.count ≡ length xs → HasTable b xs new.table.0 new.slots → (is_ordered new.method ≡ true → IsSorted rules b xs) → (has_table new.method ≡ false → new.table.0 ≡ 0) → Stands rules new b xs
+Stands-made rules new b xs list count table sorted none = record {
+  heads = made_by (has_table new.method) (is_ordered new.method) rules new b xs refl list count table sorted;
+  count = count;
+  plain = λ h. record { table = none h; slots = table.none (none h) };
 }
 
 pub Remethoded-made : (rules : Rules) (method : DictMethod) (d : Dict) (b b2 : Blocks) (block size : ℕ) (holders : List ℕ) (list gone : DtList) (n : ℕ) (table : Addr) (slots : ℕ) (left : Addr)
@@ -76,15 +93,13 @@ Remethoded-made rules method d b b2 block size holders list gone n table slots l
     HasTable-kept b b2 holders ys (if both then d.table.0 else block) (if both then d.slots else size) keeps.there keeps.sizes
     (λ small h. omega (arith, short, long, h)) (λ h. within_kept_by method rules b xs _ (within_ordered method rules b holders _ h))
     (table_before rules d b method block size holders both r s) in
+    let new : Dict = record { method = method; kind = d.kind; count = n; current = record { 0 = 0 }; first = list.first; last = list.last; table = table; slots = slots } in
     record {
-      stands = record {
-        list = ls;
-        count = count;
-        sorted = λ h. IsSorted-same rules b b2 ys (λ a w. keeps.bodies a) (IsSorted-turned rules b method holders order h);
-        table = subst (λ z. HasTable b2 ys z slots) (sym te) (subst (λ z. HasTable b2 ys (if both then d.table.0 else block) z) (sym se) moved);
-        plain = λ h. te ∙ ap (λ t. if t && has_table d.method then d.table.0 else block) h ∙ no_block d.method method d.count block size r.needs h;
-      };
-      dropped = AreDropped-chain b2 0 gone.first.0 (dropped_by method rules b xs) gs.chain gs.first;
+      stands = Stands-made rules new b2 ys ls count
+          (subst (λ z. HasTable b2 ys z slots) (sym te) (subst (λ z. HasTable b2 ys (if both then d.table.0 else block) z) (sym se) moved))
+          (λ h. IsSorted-same rules b b2 ys (λ a w. keeps.bodies a) (IsSorted-turned rules b method holders order h))
+          (λ h. te ∙ ap (λ t. if t && has_table d.method then d.table.0 else block) h ∙ no_block d.method method d.count block size r.needs h);
+      dropped = AreDropped-chain b2 0 gone.first.0 (dropped_by method rules b xs) gs.links.chain gs.links.first;
       method = refl;
       kind = refl;
       current = refl;

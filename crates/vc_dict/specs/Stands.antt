@@ -1,5 +1,5 @@
 -- Which holders a dictionary stands for.
-use Rattle.std.specs.Prelude.{◌≡◌, ◌≢◌, ℕ, Bool, List, [], ◌∷◌, None, true, false, length}
+use Rattle.std.specs.Prelude.{◌≡◌, ◌≢◌, ℕ, Bool, List, [], ◌∷◌, None, true, false, length, if◌then◌else◌}
 use Rattle.vc_base.specs.Cells.{Blocks, IsHolder}
 use Rattle.vc_base.specs.Holders.{contains}
 use Rattle.vc_dtdisc.specs.Finds.{find_key, object_at}
@@ -8,13 +8,16 @@ use Rattle.vc_dtlist.specs.declared.dt_list.DtList.{DtList}
 use Rattle.vc_dtlist.specs.Kept.{KeepsTables}
 use Rattle.vc_dtlist.specs.Linked.{StandsFor}
 use Rattle.vc_dthash.specs.declared.dt_hash.DtHash.{DtHash}
-use Rattle.vc_dthash.specs.Hashed.{HasTable, IsTable}
+use Rattle.vc_dthash.specs.Hashed.{HashFor, IsTable}
 use Rattle.vc_dtord.specs.declared.dt_ord.DtOrd.{DtOrd}
-use Rattle.vc_dtord.specs.Ordered.{IsSorted}
+use Rattle.vc_dtord.specs.Ordered.{OrdFor}
 use Rattle.vc_dict.specs.declared.dict.Dict.{Dict}
-use Rattle.vc_dict.specs.Methods.{has_table, is_list, is_ordered, is_set, wanted_by}
+use Rattle.vc_dict.specs.declared.heads.Heads.{Heads}
+use Rattle.vc_dict.specs.declared.heads.Heads.TheVariants.{Hash, Links, Order}
+use Rattle.vc_base.specs.Methods.{has_table, is_list, is_ordered, is_set}
+use Rattle.vc_dict.specs.Methods.{wanted_by}
 
--- the list, the hash and the ordered one that are made from its heads
+-- its heads as those of a list, of a hash and of an ordered one
 abbrev pub list_of : Dict → DtList
 list_of dict = record { first = dict.first; last = dict.last }
 
@@ -30,13 +33,29 @@ hash_of dict = record {
 abbrev pub ord_of : Dict → DtOrd
 ord_of dict = record { first = dict.first; last = dict.last }
 
--- it stands for these holders, which it counts, in order where its method has one; a set or bag may have a table
+-- by its method: those of a hash for a set or bag, of an ordered one for an ordered set or bag, and else of a list
+abbrev pub heads_of : Dict → Heads
+heads_of dict =
+    if has_table dict.method
+    then Hash (hash_of dict)
+    else if is_ordered dict.method then Order (ord_of dict) else Links (list_of dict)
+
+-- heads stand for these holders in their own form
+abbrev pub HeadsFor : Rules → Heads → Blocks → List ℕ → Type 0
+HeadsFor rules (Hash hash) blocks holders = HashFor hash blocks holders
+HeadsFor rules (Order ord) blocks holders = OrdFor rules ord blocks holders
+HeadsFor rules (Links list) blocks holders = StandsFor list blocks holders
+
+-- neither a table nor slots
+pub record HasNoTable (dict : Dict) : Type 0 where
+  pub table : dict.table.0 ≡ 0
+  pub slots : dict.slots ≡ 0
+
+-- its heads stand for these holders, which it counts; where the method has no table, nor has it
 pub record Stands (rules : Rules) (dict : Dict) (blocks : Blocks) (holders : List ℕ) : Type 0 where
-  pub list : StandsFor (list_of dict) blocks holders
+  pub heads : HeadsFor rules (heads_of dict) blocks holders
   pub count : dict.count ≡ length holders
-  pub sorted : is_ordered dict.method ≡ true → IsSorted rules blocks holders
-  pub table : HasTable blocks holders dict.table.0 dict.slots
-  pub plain : has_table dict.method ≡ false → dict.table.0 ≡ 0
+  pub plain : has_table dict.method ≡ false → HasNoTable dict
 
 -- it stands for some holders
 pub record IsDict (rules : Rules) (dict : Dict) (blocks : Blocks) : Type 0 where

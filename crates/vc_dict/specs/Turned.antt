@@ -7,7 +7,8 @@ use Rattle.vc_dtlist.specs.Kept.{KeepsTables}
 use Rattle.vc_dthash.specs.Hashed.{IsTable}
 use Rattle.vc_dict.specs.declared.dict.Dict.{Dict}
 use Rattle.vc_dict.specs.declared.dict.Dropped.{Dropped}
-use Rattle.vc_dict.specs.Methods.{has_table, slots_between}
+use Rattle.vc_base.specs.Methods.{has_table}
+use Rattle.vc_dict.specs.Methods.{slots_between}
 use Rattle.vc_dict.specs.Orders.{dropped_by, kept_by, ordered_by}
 use Rattle.vc_dict.specs.Stands.{Stands}
 

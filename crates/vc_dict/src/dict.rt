@@ -6,12 +6,13 @@ ghost use Rattle.vc_dtdisc.specs.Finds.{find_key};
 ghost use Rattle.vc_dtdisc.specs.Rules.{Rules};
 ghost use Rattle.vc_dtlist.specs.Linked.{Finds, number_of};
 ghost use Rattle.vc_dtord.specs.Ordered.{placed};
-ghost use Rattle.vc_dict.specs.Methods.{has_table, is_ordered, slots_between, wanted_by};
+ghost use Rattle.vc_base.specs.Methods.{has_table, is_ordered};
+ghost use Rattle.vc_dict.specs.Methods.{slots_between, wanted_by};
 ghost use Rattle.vc_dict.specs.Changes.{before_current, behind_current, current_without, inserted, linked, removed};
 ghost use Rattle.vc_dict.specs.Turned.{CanRemethod, Remethoded, Unchanged, behind_dropped};
-ghost use Rattle.vc_dict.specs.Stands.{Adopted, Became, CanAdopt, CanLink, IsDict, IsIn, IsKept, IsMember, Stands, hash_of, list_of, ord_of};
+ghost use Rattle.vc_dict.specs.Stands.{Adopted, Became, CanAdopt, CanLink, HeadsFor, IsDict, IsIn, IsKept, IsMember, Stands, hash_of, heads_of, list_of, ord_of};
 
-use crate::method::{has_table, is_ordered};
+use crate::heads::Heads;
 use crate::pass::{order_by, weed_by};
 use crate::places::put_linked;
 use vc_base::{Addr, Cells, DictMethod, Steps};
@@ -69,8 +70,8 @@ impl Dict {
         }
     }
 
-    // Its holders as a list.
-    pub(crate) fn list(&self) -> DtList
+    // As a list, stack or queue.
+    fn list(&self) -> DtList
         ensures { result ≡ list_of self.now }
     {
         DtList {
@@ -102,6 +103,21 @@ impl Dict {
         }
     }
 
+    // Its heads in the form of its method.
+    fn heads(&self) -> Heads
+        ensures value { result ≡ heads_of self.now }
+        ensures stands { (rules : Rules) (blocks : Blocks) (holders : List ℕ)
+            → Stands rules self.now blocks holders → HeadsFor rules result blocks holders }
+    {
+        if self.method.has_table() {
+            Heads::Hash(self.hash())
+        } else if self.method.is_ordered() {
+            Heads::Order(self.ord())
+        } else {
+            Heads::Links(self.list())
+        }
+    }
+
     /// How many slots the table has: 16, doubled at most 17 times, or 0 without one, as in every method but sets and
     /// bags. This project's own.
     pub fn slots(&self) -> u32
@@ -124,7 +140,7 @@ impl Dict {
     pub fn wants_table(&self, more: u64) -> Option<u32>
         ensures { result ≡ wanted_by self.now.method self.now.slots self.now.count more }
     {
-        if has_table(self.method) {
+        if self.method.has_table() {
             self.hash().wants_table(more)
         } else {
             None
@@ -151,8 +167,11 @@ impl Dict {
     {
         let mut hash = self.hash();
         let old = hash.adopt_table(cells, kind, table, slots);
+        self.first = hash.first;
+        self.last = hash.last;
         self.table = hash.table;
         self.slots = hash.slots;
+        self.count = hash.count;
         old
     }
 
@@ -241,9 +260,9 @@ impl Dict {
             → steps.new ≤ steps.old + length holders }
         ensures rest { C.RestStays cells.old cells.new }
     {
-        if has_table(self.method) {
+        if self.method.has_table() {
             self.link_hash(cells, kind, at);
-        } else if is_ordered(self.method) {
+        } else if self.method.is_ordered() {
             self.link_ord(cells, kind, at, steps);
         } else {
             self.link_list(cells, kind, at, append);
@@ -326,12 +345,10 @@ impl Dict {
             (C.blocks cells.new) holders self.old.current.0 }
         ensures rest { C.RestStays cells.old cells.new }
     {
-        if has_table(self.method) {
-            self.hash().find(cells, kind, key, steps)
-        } else if is_ordered(self.method) {
-            self.find_ord(cells, kind, key, steps)
-        } else {
-            self.list().find(cells, kind, key, steps)
+        match self.heads() {
+            Heads::Hash(hash) => hash.find(cells, kind, key, steps),
+            Heads::Order(_) => self.find_ord(cells, kind, key, steps),
+            Heads::Links(list) => list.find(cells, kind, key, steps),
         }
     }
 
@@ -342,12 +359,10 @@ impl Dict {
             → Stands rules self.now (C.blocks cells.now) holders
             → option_map number_of result ≡ first_in holders }
     {
-        if has_table(self.method) {
-            self.hash().first()
-        } else if is_ordered(self.method) {
-            self.ord().first(cells)
-        } else {
-            self.list().first()
+        match self.heads() {
+            Heads::Hash(hash) => hash.first(),
+            Heads::Order(ord) => ord.first(cells),
+            Heads::Links(list) => list.first(),
         }
     }
 
@@ -358,12 +373,10 @@ impl Dict {
             → Stands rules self.now (C.blocks cells.now) holders
             → option_map number_of result ≡ last_in holders }
     {
-        if has_table(self.method) {
-            self.hash().last()
-        } else if is_ordered(self.method) {
-            self.ord().last(cells)
-        } else {
-            self.list().last()
+        match self.heads() {
+            Heads::Hash(hash) => hash.last(),
+            Heads::Order(ord) => ord.last(cells),
+            Heads::Links(list) => list.last(),
         }
     }
 
@@ -374,12 +387,10 @@ impl Dict {
             → Stands rules self.now (C.blocks cells.now) holders
             → option_map number_of result ≡ next_in at.0 holders }
     {
-        if has_table(self.method) {
-            self.hash().next(cells, at)
-        } else if is_ordered(self.method) {
-            self.ord().next(cells, at)
-        } else {
-            self.list().next(cells, at)
+        match self.heads() {
+            Heads::Hash(hash) => hash.next(cells, at),
+            Heads::Order(ord) => ord.next(cells, at),
+            Heads::Links(list) => list.next(cells, at),
         }
     }
 
@@ -390,12 +401,10 @@ impl Dict {
             → Stands rules self.now (C.blocks cells.now) holders
             → option_map number_of result ≡ previous_in None at.0 holders }
     {
-        if has_table(self.method) {
-            self.hash().prev(cells, at)
-        } else if is_ordered(self.method) {
-            self.ord().prev(cells, at)
-        } else {
-            self.list().prev(cells, at)
+        match self.heads() {
+            Heads::Hash(hash) => hash.prev(cells, at),
+            Heads::Order(ord) => ord.prev(cells, at),
+            Heads::Links(list) => list.prev(cells, at),
         }
     }
 
@@ -421,13 +430,13 @@ impl Dict {
             (C.blocks cells.new) (without at.0 holders) self.old.current.0 }
         ensures rest { C.RestStays cells.old cells.new }
     {
-        if has_table(self.method) {
+        if self.method.has_table() {
             let mut hash = self.hash();
             hash.unlink(cells, kind, at);
             self.first = hash.first;
             self.last = hash.last;
             self.count = hash.count;
-        } else if is_ordered(self.method) {
+        } else if self.method.is_ordered() {
             let mut ord = self.ord();
             ord.unlink(cells, at);
             self.first = ord.first;
@@ -512,9 +521,9 @@ impl Dict {
     pub fn table_for(&self, method: DictMethod) -> Option<u32>
         ensures { result ≡ slots_between self.now.method method self.now.count }
     {
-        if has_table(self.method) {
+        if self.method.has_table() {
             None
-        } else if has_table(method) {
+        } else if method.has_table() {
             DtHash::new().wants_table(self.count)
         } else {
             None
@@ -546,8 +555,8 @@ impl Dict {
           slots = self.new.slots;
         } }
     {
-        let keeps = has_table(method) && has_table(self.method);
-        let left = if has_table(method) {
+        let keeps = method.has_table() && self.method.has_table();
+        let left = if method.has_table() {
             Addr::NONE
         } else {
             self.table
@@ -580,7 +589,7 @@ impl Dict {
             (C.blocks cells.old) self.new (C.blocks cells.new) result }
         ensures rest { C.RestStays cells.old cells.new }
     {
-        let ordered = order_by(self.list(), self.count, method, cells, kind, steps);
+        let ordered = order_by(self.heads().list(), self.count, method, cells, kind, steps);
         let weeded = weed_by(ordered, self.count, method, cells, kind, steps);
         let left = self.turn(method, weeded.kept, weeded.count, table, slots);
         Dropped {

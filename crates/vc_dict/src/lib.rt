@@ -1,8 +1,9 @@
-//! Dictionaries of holders by seven methods: sets and bags, ordered sets and bags, lists, stacks and queues.
+//! Dictionaries of holders by seven methods: sets and bags, ordered sets and bags, lists, stacks and queues. View paths
+//! through dictionaries are handed on.
 #![tactic(auto)]
 
 mod dict;
-mod method;
+mod heads;
 mod pass;
 mod places;
 mod rows;
@@ -10,3 +11,4 @@ mod rows;
 pub use dict::{Dict, Dropped, after_dropped};
 pub use rows::{insert_rows, list_rows, order_rows, remove_rows, table_rows};
 pub use vc_base::DictMethod;
+pub use vc_paths::{Layers, Paths, ViewFault, first, last, next, prev, search, walk_next};

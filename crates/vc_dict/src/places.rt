@@ -3,7 +3,7 @@ ghost use Rattle.vc_base.specs.Cells.{Blocks};
 ghost use Rattle.vc_dtdisc.specs.Rules.{Rules};
 ghost use Rattle.vc_dtlist.specs.Linked.{CanAdd, IsIn, StandsFor, Turned, Turns};
 ghost use Rattle.vc_dict.specs.Changes.{before_current, behind_current, inserted, linked};
-ghost use Rattle.vc_dict.specs.Methods.{is_ordered};
+ghost use Rattle.vc_base.specs.Methods.{is_ordered};
 
 use vc_base::{Addr, Cells, DictMethod};
 use vc_dtlist::DtList;

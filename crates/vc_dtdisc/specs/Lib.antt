@@ -1,4 +1,6 @@
+pub mod Finding
 pub mod Finds
+pub mod Objects
 pub mod Rules
 pub mod Shapes
 pub mod ShapeLaws

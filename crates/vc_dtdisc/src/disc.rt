@@ -4,8 +4,8 @@ ghost use Rattle.vc_dtdisc.specs.Rules.{Gone, Rules, AreLawful, gone_after};
 use std::cmp::Ordering;
 use vc_base::{OutOfMemory, Steps};
 
-/// The kind of a dictionary, after Cdt's disciplines. An object has 1 to 1,024 bytes; what a kind means for longer ones,
-/// for none, or for lists of other numbers than bytes, is its own choice.
+/// The kind of a dictionary, after Cdt's disciplines. An object has 1 to 1,024 bytes. The laws of order and hashes, and
+/// that what is made matches its prototype, hold for any lists of numbers; that it is an object is asked of objects alone.
 pub trait DictDisc {
     /// Its rules: an object's key, the order and the hash of keys, and the object that is made of a prototype.
     ghost rules: { Self → Rules };

@@ -1,13 +1,13 @@
 -- A hash over blocks that a call on its list left, and its table.
-use Rattle.std.proofs.Common.{◌≡◌, ℕ, ◌+◌, ◌-◌, ◌*◌, ◌<◌, ◌≤◌, List, [], ◌∷◌, ◌++◌, None, true, false, Bool, ◌^◌, is_some, length, length-append, refl, sym, ap, ◌∙◌, arith}
+use Rattle.std.proofs.Common.{◌≡◌, ◌≢◌, ℕ, ◌+◌, ◌-◌, ◌*◌, ◌<◌, ◌≤◌, List, [], ◌∷◌, ◌++◌, None, true, false, Bool, ◌^◌, is_some, unwrap_or, length, length-append, refl, sym, ap, ◌∙◌, arith}
 use Rattle.std.specs.Prelude.{◌==◌, ◌&&◌, nat_lt, if◌then◌else◌, Some, Option}
 use Rattle.std.proofs.lemmas.Bool.{lt-ltb, ltb-false}
 use Rattle.vc_base.specs.Cells.{Blocks, bytes_at}
 use Rattle.vc_base.specs.Holders.{contains, without}
 use Rattle.vc_dtlist.specs.Linked.{Turned}
-use Rattle.vc_dtlist.proofs.FindLemmas.{fewer_holders}
+use Rattle.vc_dtlist.proofs.AddressLemmas.{AreHolders, LinksFor-holders, few-holders}
 use Rattle.vc_dtlist.proofs.HolderLemmas.{apart-append, apart-cons, apart-head, apart-without, length-without}
-use Rattle.vc_dtlist.proofs.KeptLemmas.{KeepsTables-but}
+use Rattle.vc_dtlist.proofs.KeptLemmas.{KeepsTables-but, StandsFor-same}
 use Rattle.vc_dtlist.proofs.TurnLemmas.{StandsFor-unique}
 use Rattle.vc_dthash.specs.declared.dt_hash.DtHash.{DtHash}
 use Rattle.vc_dthash.specs.Hashed.{CanLink, HasTable, HashFor, HashTurned, IsTable, list_of}
@@ -29,9 +29,43 @@ HasTable-kept b b' xs ys table slots there sizes enough apart t = record {
   some = λ ne. IsTable-kept b b' xs ys table slots there sizes enough apart (t.some ne);
 }
 
--- a hash counts fewer than 2^32 holders
+-- the holders of a hash
+pub HashFor-holders : (hash : DtHash) (b : Blocks) (xs : List ℕ) → HashFor hash b xs → AreHolders b xs
+HashFor-holders hash b xs s = LinksFor-holders (list_of hash) b xs s.list.links
+
+-- it stands for them still where what is at their addresses and at its table's stays
+HasTable-same : (b b' : Blocks) (xs : List ℕ) (table slots : ℕ) → (table ≢ 0 → b' table ≡ b table) → HasTable b xs table slots → HasTable b' xs table slots
+HasTable-same b b' xs table slots e t = record {
+  none = t.none;
+  some = λ ne.
+      let is = t.some ne in
+      record {
+        slots_allowed = is.slots_allowed;
+        there = ap is_some (e ne) ∙ is.there;
+        size = ap (λ o. length (unwrap_or o [])) (e ne) ∙ is.size;
+        enough = is.enough;
+        apart = is.apart;
+      };
+}
+
+pub HashFor-same : (hash : DtHash) (b b' : Blocks) (xs : List ℕ) → ((a : ℕ) → contains xs a ≡ true → b' a ≡ b a) → (hash.table.0 ≢ 0 → b' hash.table.0 ≡ b hash.table.0) → HashFor hash b xs → HashFor hash b' xs
+HashFor-same hash b b' xs e t s = record {
+  list = StandsFor-same (list_of hash) b b' xs e s.list;
+  count = s.count;
+  table = HasTable-same b b' xs hash.table.0 hash.slots t s.table;
+}
+
+-- or where they stay and its table keeps its size
+pub HashFor-kept : (hash : DtHash) (b b' : Blocks) (xs : List ℕ) → ((a : ℕ) → contains xs a ≡ true → b' a ≡ b a) → ((a : ℕ) → is_some (b' a) ≡ is_some (b a)) → ((a : ℕ) → length (bytes_at b' a) ≡ length (bytes_at b a)) → HashFor hash b xs → HashFor hash b' xs
+HashFor-kept hash b b' xs e there sizes s = record {
+  list = StandsFor-same (list_of hash) b b' xs e s.list;
+  count = s.count;
+  table = HasTable-kept b b' xs xs hash.table.0 hash.slots there sizes (λ few h. h) (λ h. h) s.table;
+}
+
+-- it counts fewer than 2^32 of them
 pub few : (hash : DtHash) (b : Blocks) (xs : List ℕ) → HashFor hash b xs → hash.count < 2 ^ 32
-few hash b xs s = let h = fewer_holders (list_of hash) b xs s.list in omega (arith, s.count)
+few hash b xs s = let h = few-holders b xs (HashFor-holders hash b xs s) in omega (arith, s.count)
 
 -- where no table is wanted for one more, there is room for it
 by_room : (p q : Bool) (n : ℕ) → (if p && q then Some n else None) ≡ None → q ≡ true → p ≡ false

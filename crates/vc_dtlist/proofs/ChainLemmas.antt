@@ -2,59 +2,53 @@
 use Rattle.std.proofs.Common.{◌≡◌, ◌≢◌, ℕ, List, [], ◌∷◌, ◌++◌, false, refl, ◌∙◌, arith}
 use Rattle.vc_base.specs.Cells.{Blocks, WordWritten, WordsWritten}
 use Rattle.vc_base.specs.Holders.{AreDistinct, contains, first_of, last_of}
-use Rattle.vc_dtlist.specs.Linked.{Chain, Node}
+use Rattle.vc_dtlist.specs.Linked.{Chain, HasLinks}
 use Rattle.vc_dtlist.proofs.WordLemmas.{HasBytes-written, word-other_block}
 use Rattle.vc_dtlist.proofs.HolderLemmas.{apart-head, apart-tail, apart-cons, last-differs, first_of-append}
 
--- a node of another block stays
-pub Node-other : (old new : Blocks) (a x p n : ℕ) → WordsWritten old new a → x ≢ a → Node old x p n → Node new x p n
-Node-other old new a x p n w ne node = record {
+-- the links of another block stay
+pub HasLinks-other : (old new : Blocks) (a x p n : ℕ) → WordsWritten old new a → x ≢ a → HasLinks old x p n → HasLinks new x p n
+HasLinks-other old new a x p n w ne node = record {
   address = node.address;
   holder = HasBytes-written old new a x 33 w node.holder;
   previous = word-other_block old new a x 0 w ne ∙ node.previous;
   next = word-other_block old new a x 1 w ne ∙ node.next;
-  third = word-other_block old new a x 2 w ne ∙ node.third;
-  fourth = word-other_block old new a x 3 w ne ∙ node.fourth;
 }
 
--- a node whose next word was written
-pub Node-next : (old new : Blocks) (x p n v : ℕ) → WordWritten old new x 1 v → Node old x p n → Node new x p v
-Node-next old new x p n v w node = record {
+-- those whose next word was written
+pub HasLinks-next : (old new : Blocks) (x p n v : ℕ) → WordWritten old new x 1 v → HasLinks old x p n → HasLinks new x p v
+HasLinks-next old new x p n v w node = record {
   address = node.address;
   holder = HasBytes-written old new x x 33 w.written node.holder;
   previous = w.other_words 0 (omega arith) ∙ node.previous;
   next = w.read node.holder.there;
-  third = w.other_words 2 (omega arith) ∙ node.third;
-  fourth = w.other_words 3 (omega arith) ∙ node.fourth;
 }
 
 -- or its previous word
-pub Node-previous : (old new : Blocks) (x p n v : ℕ) → WordWritten old new x 0 v → Node old x p n → Node new x v n
-Node-previous old new x p n v w node = record {
+pub HasLinks-previous : (old new : Blocks) (x p n v : ℕ) → WordWritten old new x 0 v → HasLinks old x p n → HasLinks new x v n
+HasLinks-previous old new x p n v w node = record {
   address = node.address;
   holder = HasBytes-written old new x x 33 w.written node.holder;
   previous = w.read node.holder.there;
   next = w.other_words 1 (omega arith) ∙ node.next;
-  third = w.other_words 2 (omega arith) ∙ node.third;
-  fourth = w.other_words 3 (omega arith) ∙ node.fourth;
 }
 
 -- a chain stays where its holders aren't written
 pub Chain-other : (old new : Blocks) (a p : ℕ) (xs : List ℕ) (n : ℕ) → WordsWritten old new a → contains xs a ≡ false → Chain old p xs n → Chain new p xs n
 Chain-other old new a p [] n w h c = tt
 Chain-other old new a p (x ∷ xs) n w h c =
-    (Node-other old new a x p (first_of xs n) w (apart-head x xs a h) c.0, Chain-other old new a x xs n w (apart-tail x xs a h) c.1)
+    (HasLinks-other old new a x p (first_of xs n) w (apart-head x xs a h) c.0, Chain-other old new a x xs n w (apart-tail x xs a h) c.1)
 
 -- with another behind its last holder
 pub Chain-next : (old new : Blocks) (p x : ℕ) (xs : List ℕ) (n v : ℕ) → WordWritten old new (last_of x xs) 1 v → AreDistinct (x ∷ xs) → Chain old p (x ∷ xs) n → Chain new p (x ∷ xs) v
-Chain-next old new p x [] n v w d c = (Node-next old new x p n v w c.0, tt)
+Chain-next old new p x [] n v w d c = (HasLinks-next old new x p n v w c.0, tt)
 Chain-next old new p x (y ∷ ys) n v w d c =
-    (Node-other old new (last_of y ys) x p y w.written (last-differs x y ys d.0) c.0, Chain-next old new x y ys n v w d.1 c.1)
+    (HasLinks-other old new (last_of y ys) x p y w.written (last-differs x y ys d.0) c.0, Chain-next old new x y ys n v w d.1 c.1)
 
 -- with another before its first
 pub Chain-previous : (old new : Blocks) (p x : ℕ) (xs : List ℕ) (n v : ℕ) → WordWritten old new x 0 v → AreDistinct (x ∷ xs) → Chain old p (x ∷ xs) n → Chain new v (x ∷ xs) n
 Chain-previous old new p x xs n v w d c =
-    (Node-previous old new x p (first_of xs n) v w c.0, Chain-other old new x x xs n w.written d.0 c.1)
+    (HasLinks-previous old new x p (first_of xs n) v w c.0, Chain-other old new x x xs n w.written d.0 c.1)
 
 -- two parts of a chain, and the chain of two parts
 pub Chain-front : (b : Blocks) (p : ℕ) (xs ys : List ℕ) (n : ℕ) → Chain b p (xs ++ ys) n → Chain b p xs (first_of ys n)

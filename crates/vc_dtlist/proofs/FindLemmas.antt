@@ -1,22 +1,18 @@
 -- A walk along a list that looks for a key.
-use Rattle.std.proofs.Common.{◌≡◌, ◌≢◌, ℕ, ◌+◌, ◌<◌, ◌≤◌, ◌^◌, List, [], ◌∷◌, ◌++◌, Bool, true, false, Some, None, length, refl, sym, ap, ◌∙◌, arith, subst, cond, append_assoc, length-append, inl, inr}
-use Rattle.std.specs.List.{find, list_any, AllByRecursion, IsDistinct}
-use Rattle.std.proofs.Math.Dec.{eqb}
+use Rattle.std.proofs.Common.{◌≡◌, ◌≢◌, ℕ, ◌+◌, ◌<◌, ◌≤◌, ◌^◌, List, [], ◌∷◌, ◌++◌, Bool, true, false, Some, None, length, refl, sym, ap, ◌∙◌, arith, subst, cond, append_assoc, length-append}
+use Rattle.std.specs.List.{find}
 use Rattle.std.specs.declared.cmp.Ordering.{Ordering}
-use Rattle.std.proofs.lemmas.Bool.{true≢false, ne_eqb}
-use Rattle.std.proofs.lemmas.Bool.Decides.{eqb_tells}
-use Rattle.std.proofs.lemmas.Map.Steps.{length-le_from_distinct_below}
 use Rattle.vc_base.specs.declared.addr.Addr.{Addr}
 use Rattle.vc_base.specs.Cells.{Blocks, HasBytes, word_at}
-use Rattle.vc_base.specs.Holders.{AreDistinct, contains, first_of, last_of}
+use Rattle.vc_base.specs.Holders.{first_of, last_of}
 use Rattle.vc_dtdisc.specs.Finds.{object_at}
 use Rattle.vc_dtdisc.specs.Rules.{Rules}
 use Rattle.vc_dtlist.specs.declared.dt_list.DtList.{DtList}
 use Rattle.vc_dtlist.specs.declared.sought.Sought.{Sought}
 use Rattle.vc_dtlist.specs.Sought.{Seeks, is_sought, stands_so}
 use Rattle.vc_dtlist.specs.Linked.{Chain, StandsFor}
-use Rattle.vc_dtlist.proofs.HolderLemmas.{apart-head, apart-tail}
-use Rattle.vc_dtlist.proofs.ChainLemmas.{Chain-none, Chain-rest}
+use Rattle.vc_dtlist.proofs.AddressLemmas.{LinksFor-holders, few-holders}
+use Rattle.vc_dtlist.proofs.ChainLemmas.{Chain-rest}
 use Rattle.vc_dtlist.proofs.TurnLemmas.{first_fits, fewer}
 
 -- so many holders were passed, none of which has the key, by a step for each; the next one stands at that address
@@ -44,7 +40,7 @@ walk_start test list b holders before s = record {
   rest = holders;
   whole = refl;
   count = refl;
-  next = s.first;
+  next = s.links.first;
   none = refl;
   steps = omega arith;
 }
@@ -73,7 +69,7 @@ next_at b test holders passed at before now front (y ∷ ys) whole count e none 
 -- before the end
 pub walk_next : (test : ℕ → Bool) (list : DtList) (b : Blocks) (holders : List ℕ) (passed at before now : ℕ) → StandsFor list b holders → Walked test holders passed at before now → at ≢ 0 → Next b test holders passed at before now
 walk_next test list b holders passed at before now s w some =
-    next_at b test holders passed at before now w.front w.rest w.whole w.count w.next w.none w.steps s.chain some
+    next_at b test holders passed at before now w.front w.rest w.whole w.count w.next w.none w.steps s.links.chain some
 
 -- an end, by its address
 end_none : (b : Blocks) (p : ℕ) (test : ℕ → Bool) (rest : List ℕ) → Chain b p rest 0 → 0 ≡ first_of rest 0 → find test rest ≡ None
@@ -92,7 +88,7 @@ nothing test holders passed at before now w e =
 
 pub Seeks-none : (test : ℕ → Bool) (list : DtList) (b : Blocks) (holders : List ℕ) (passed at before now : ℕ) → StandsFor list b holders → Walked test holders passed at before now → at ≡ 0 → Seeks test holders None before now
 Seeks-none test list b holders passed at before now s w e =
-    let rest = Chain-rest b 0 w.front w.rest 0 (subst (λ z. Chain b 0 z 0) w.whole s.chain) in
+    let rest = Chain-rest b 0 w.front w.rest 0 (subst (λ z. Chain b 0 z 0) w.whole s.links.chain) in
     nothing test holders passed at before now w (w.none ∙ end_none b (last_of 0 w.front) test w.rest rest (sym e ∙ w.next))
 
 pub Seeks-some : (test : ℕ → Bool) (list : DtList) (b : Blocks) (holders : List ℕ) (passed before now after : ℕ) (at : Addr) → StandsFor list b holders → Walked test holders passed at.0 before now → at.0 ≢ 0 → test at.0 ≡ true → after ≡ now + 1 → Seeks test holders (Some at) before after
@@ -100,38 +96,9 @@ Seeks-some test list b holders passed before now after at s w some t step =
     let n = walk_next test list b holders passed at.0 before now s w some in
     record { first = sym (n.found t); steps = omega (arith, n.room, w.steps) }
 
--- a list has fewer than 2^32 holders: each has an address of its own, and none has 0
-apart_all : (x : ℕ) (xs : List ℕ) → contains xs x ≡ false → AllByRecursion (λ y. eqb x y ≡ false) xs
-apart_all x [] h = tt
-apart_all x (y ∷ ys) h = (ne_eqb x y (λ e. apart-head y ys x h (sym e)), apart_all x ys (apart-tail y ys x h))
-
-distinct_all : (xs : List ℕ) → AreDistinct xs → IsDistinct eqb xs
-unfolding IsDistinct
-distinct_all [] d = tt
-distinct_all (x ∷ xs) d = (apart_all x xs d.0, distinct_all xs d.1)
-
-below : (b : Blocks) (p : ℕ) (xs : List ℕ) (n q : ℕ) → Chain b p xs n → list_any (eqb q) xs ≡ true → q < 2 ^ 32
-below b p [] n q c h = absurd (true≢false (sym h))
-below b p (x ∷ xs) n q c h = elim (eqb_tells q x) as (λ _. q < 2 ^ 32) [
-  | inl same ↦ omega (arith, same.1, c.0.address.fits)
-  | inr apart ↦ below b x xs n q c.1 (rw apart.0 at h)
-]
-
-below_or_0 : (b : Blocks) (p : ℕ) (xs : List ℕ) (n q : ℕ) → Chain b p xs n → list_any (eqb q) (0 ∷ xs) ≡ true → q < 2 ^ 32
-below_or_0 b p xs n q c h = elim (eqb_tells q 0) as (λ _. q < 2 ^ 32) [
-  | inl same ↦ omega (arith, same.1)
-  | inr apart ↦ below b p xs n q c (rw apart.0 at h)
-]
-
-pub fewer_holders : (list : DtList) (b : Blocks) (xs : List ℕ) → StandsFor list b xs → length xs + 1 ≤ 2 ^ 32
-fewer_holders list b xs s =
-    let d : AreDistinct (0 ∷ xs) = (Chain-none b 0 xs 0 s.chain, s.distinct) in
-    let h : length (0 ∷ xs) ≤ 2 ^ 32 = length-le_from_distinct_below (0 ∷ xs) (2 ^ 32) (distinct_all (0 ∷ xs) d) (λ q. below_or_0 b 0 xs 0 q s.chain) in
-    omega arith
-
 pub Seeks-all_passed : (test : ℕ → Bool) (list : DtList) (b : Blocks) (holders : List ℕ) (passed at before now : ℕ) → StandsFor list b holders → Walked test holders passed at before now → 2 ^ 32 ≤ passed + 1 → Seeks test holders None before now
 Seeks-all_passed test list b holders passed at before now s w end =
-    let few = fewer_holders list b holders s in
+    let few = few-holders b holders (LinksFor-holders list b holders s.links) in
     let long : length holders ≡ length w.front + length w.rest = ap length w.whole ∙ length-append w.front w.rest in
     let short : length w.rest ≡ 0 = omega (arith, w.count) in
     nothing test holders passed at before now w (w.none ∙ short_none test w.rest short)

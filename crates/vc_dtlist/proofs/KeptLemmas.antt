@@ -1,12 +1,14 @@
 -- A list over blocks of which none of its holders changed, as those that a call on another list left.
 use Rattle.std.proofs.Common.{◌≡◌, ℕ, List, [], ◌∷◌, inl, inr, true, false, unwrap_or, is_some, length, refl, ap, ◌∙◌}
+use Rattle.std.specs.Prelude.{All}
 use Rattle.std.proofs.lemmas.Bool.{eq-eqb}
 use Rattle.std.proofs.lemmas.Bool.Decides.{eqb_tells}
+use Rattle.std.proofs.lemmas.List.Elements.{All-cons, All-head, All-nil, All-tail}
 use Rattle.vc_base.specs.Cells.{Blocks, HasBytes, word}
 use Rattle.vc_base.specs.Holders.{KeepsBut, contains, first_of}
 use Rattle.vc_dtlist.specs.declared.dt_list.DtList.{DtList}
 use Rattle.vc_dtlist.specs.Kept.{KeepsTables}
-use Rattle.vc_dtlist.specs.Linked.{Chain, Node, StandsFor}
+use Rattle.vc_dtlist.specs.Linked.{Chain, HasLinks, IsPlain, LinksFor, StandsFor}
 
 -- the first of a list is in it, and so is one of the rest
 pub within-head : (x : ℕ) (xs : List ℕ) → contains (x ∷ xs) x ≡ true
@@ -25,29 +27,43 @@ HasBytes-same old new a n e h = record {
   enough = rw (ap (λ o. length (unwrap_or o [])) e) h.enough;
 }
 
-Node-same : (old new : Blocks) (x p n : ℕ) → new x ≡ old x → Node old x p n → Node new x p n
-Node-same old new x p n e node = record {
-  address = node.address;
-  holder = HasBytes-same old new x 33 e node.holder;
-  previous = ap (λ o. word 0 (unwrap_or o [])) e ∙ node.previous;
-  next = ap (λ o. word 1 (unwrap_or o [])) e ∙ node.next;
-  third = ap (λ o. word 2 (unwrap_or o [])) e ∙ node.third;
-  fourth = ap (λ o. word 3 (unwrap_or o [])) e ∙ node.fourth;
+HasLinks-same : (old new : Blocks) (x p n : ℕ) → new x ≡ old x → HasLinks old x p n → HasLinks new x p n
+HasLinks-same old new x p n e links = record {
+  address = links.address;
+  holder = HasBytes-same old new x 33 e links.holder;
+  previous = ap (λ o. word 0 (unwrap_or o [])) e ∙ links.previous;
+  next = ap (λ o. word 1 (unwrap_or o [])) e ∙ links.next;
 }
 
 pub Chain-same : (old new : Blocks) (p : ℕ) (xs : List ℕ) (n : ℕ) → ((a : ℕ) → contains xs a ≡ true → new a ≡ old a) → Chain old p xs n → Chain new p xs n
 Chain-same old new p [] n e c = tt
 Chain-same old new p (x ∷ xs) n e c =
-    (Node-same old new x p (first_of xs n) (e x (within-head x xs)) c.0, Chain-same old new x xs n (λ a h. e a (within-tail x xs a h)) c.1)
+    (HasLinks-same old new x p (first_of xs n) (e x (within-head x xs)) c.0, Chain-same old new x xs n (λ a h. e a (within-tail x xs a h)) c.1)
+
+-- holders that stay are linked still, and plain still
+pub LinksFor-same : (list : DtList) (old new : Blocks) (xs : List ℕ) → ((a : ℕ) → contains xs a ≡ true → new a ≡ old a) → LinksFor list old xs → LinksFor list new xs
+LinksFor-same list old new xs e l = record {
+  first = l.first;
+  last = l.last;
+  chain = Chain-same old new 0 xs 0 e l.chain;
+  distinct = l.distinct;
+}
+
+IsPlain-same : (old new : Blocks) (x : ℕ) → new x ≡ old x → IsPlain old x → IsPlain new x
+IsPlain-same old new x e p = record {
+  third = ap (λ o. word 2 (unwrap_or o [])) e ∙ p.third;
+  fourth = ap (λ o. word 3 (unwrap_or o [])) e ∙ p.fourth;
+}
+
+pub plain-same : (old new : Blocks) (xs : List ℕ) → ((a : ℕ) → contains xs a ≡ true → new a ≡ old a) → All (IsPlain old) xs → All (IsPlain new) xs
+plain-same old new [] e p = All-nil (IsPlain new)
+plain-same old new (x ∷ xs) e p =
+    All-cons (IsPlain new) x xs (IsPlain-same old new x (e x (within-head x xs)) (All-head (IsPlain old) x xs p))
+    (plain-same old new xs (λ a h. e a (within-tail x xs a h)) (All-tail (IsPlain old) x xs p))
 
 -- a list whose holders stay stands for them still
 pub StandsFor-same : (list : DtList) (old new : Blocks) (xs : List ℕ) → ((a : ℕ) → contains xs a ≡ true → new a ≡ old a) → StandsFor list old xs → StandsFor list new xs
-StandsFor-same list old new xs e s = record {
-  first = s.first;
-  last = s.last;
-  chain = Chain-same old new 0 xs 0 e s.chain;
-  distinct = s.distinct;
-}
+StandsFor-same list old new xs e s = record { links = LinksFor-same list old new xs e s.links; plain = plain-same old new xs e s.plain }
 
 -- so does one that is apart from a list on which a call worked
 pub StandsFor-kept : (list : DtList) (old new : Blocks) (xs others : List ℕ) → KeepsBut others old new → ((a : ℕ) → contains xs a ≡ true → contains others a ≡ false) → StandsFor list old xs → StandsFor list new xs

@@ -2,6 +2,8 @@ pub mod WordLemmas
 pub mod HolderLemmas
 pub mod ChainLemmas
 pub mod LinkLemmas
+pub mod PlainLemmas
 pub mod TurnLemmas
-pub mod FindLemmas
 pub mod KeptLemmas
+pub mod AddressLemmas
+pub mod FindLemmas

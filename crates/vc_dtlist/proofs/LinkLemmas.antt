@@ -5,9 +5,9 @@ use Rattle.std.proofs.lemmas.Bool.{true≢false, ne_eqb}
 use Rattle.std.proofs.lemmas.Bool.Decides.{eqb_tells}
 use Rattle.vc_base.specs.Cells.{Blocks, WordWritten}
 use Rattle.vc_base.specs.Holders.{AreDistinct, KeepsBut, contains, first_of, last_of}
-use Rattle.vc_dtlist.specs.Linked.{Chain, Node}
+use Rattle.vc_dtlist.specs.Linked.{Chain, HasLinks}
 use Rattle.vc_dtlist.proofs.HolderLemmas.{apart-head, apart-front, apart-rest, distinct-front, distinct-rest, last-apart, last-differs, first-apart, last_of-append}
-use Rattle.vc_dtlist.proofs.ChainLemmas.{Node-other, Chain-other, Chain-next, Chain-previous, Chain-none}
+use Rattle.vc_dtlist.proofs.ChainLemmas.{HasLinks-other, Chain-other, Chain-next, Chain-previous, Chain-none}
 
 -- an address that is no last one and not 0 differs from the last one or 0, and likewise from the first
 pub not_last : (xs : List ℕ) (a : ℕ) → contains xs a ≡ false → a ≢ 0 → a ≢ last_of 0 xs
@@ -47,12 +47,12 @@ neighbours old mid new front rest q p to from w v d ls rs =
       rest-previous mid new p rest from v (distinct-rest front rest d) rs1,
     )
 
--- a holder that isn't one of them stays
-pub node_stays : (old mid new : Blocks) (front rest : List ℕ) (at p n to from : ℕ) → WordWritten old mid (last_of 0 front) 1 to → WordWritten mid new (first_of rest 0) 0 from → contains (front ++ rest) at ≡ false → Node old at p n → Node new at p n
-node_stays old mid new front rest at p n to from w v apart node =
-    let some : at ≢ 0 = λ e. absurd (omega (arith, node.address.some, e)) in
-    let one = Node-other old mid (last_of 0 front) at p n w.written (not_last front at (apart-front front rest at apart) some) node in
-    Node-other mid new (first_of rest 0) at p n v.written (not_first rest at (apart-rest front rest at apart) some) one
+-- the links of a holder that isn't one of them stay
+pub links_stay : (old mid new : Blocks) (front rest : List ℕ) (at p n to from : ℕ) → WordWritten old mid (last_of 0 front) 1 to → WordWritten mid new (first_of rest 0) 0 from → contains (front ++ rest) at ≡ false → HasLinks old at p n → HasLinks new at p n
+links_stay old mid new front rest at p n to from w v apart links =
+    let some : at ≢ 0 = λ e. absurd (omega (arith, links.address.some, e)) in
+    let one = HasLinks-other old mid (last_of 0 front) at p n w.written (not_last front at (apart-front front rest at apart) some) links in
+    HasLinks-other mid new (first_of rest 0) at p n v.written (not_first rest at (apart-rest front rest at apart) some) one
 
 -- nothing stands at no address, before or after
 both_none : (o p : Option (List ℕ)) → (IsSome o → ⊥) → is_some p ≡ is_some o → p ≡ o

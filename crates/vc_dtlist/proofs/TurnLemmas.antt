@@ -2,13 +2,14 @@
 use Rattle.std.proofs.Common.{◌≡◌, ◌≢◌, ℕ, ◌<◌, ◌^◌, List, [], ◌∷◌, ◌++◌, false, None, IsSome, refl, sym, ap, ◌∙◌, arith, subst}
 use Rattle.std.specs.Prelude.{◌==◌, if◌then◌else◌}
 use Rattle.vc_base.specs.Cells.{Blocks, HasBytes, IsAddress, IsHolder, WordWritten, WordsWritten, word_at}
-use Rattle.vc_base.specs.Holders.{contains, first_of, last_of, next_in, previous_in, some_address}
+use Rattle.vc_base.specs.Holders.{KeepsBut, contains, first_of, last_of, next_in, previous_in, some_address}
 use Rattle.vc_dtlist.specs.declared.dt_list.DtList.{DtList}
-use Rattle.vc_dtlist.specs.Linked.{CanAdd, Chain, IsIn, Node, StandsFor, Turned}
+use Rattle.vc_dtlist.specs.Linked.{CanAdd, Chain, HasLinks, IsIn, IsPlain, LinksFor, StandsFor, Turned}
 use Rattle.vc_dtlist.proofs.WordLemmas.{HasBytes-written}
 use Rattle.vc_dtlist.proofs.HolderLemmas.{Split, apart-head, apart-tail, apart-append, apart-front, apart-rest, distinct-insert, distinct-remove, last_of-append, next_in-split, previous_in-split, some-first, some-last, split}
 use Rattle.vc_dtlist.proofs.ChainLemmas.{Chain-other, Chain-front, Chain-rest, Chain-append, Chain-none}
-use Rattle.vc_dtlist.proofs.LinkLemmas.{first-joined, last-joined, last-parted, neighbours, neighbours_keep, node_stays}
+use Rattle.vc_dtlist.proofs.PlainLemmas.{All-inserted, All-removed, plain-link, plain-other}
+use Rattle.vc_dtlist.proofs.LinkLemmas.{first-joined, last-joined, last-parted, links_stay, neighbours, neighbours_keep}
 
 -- a holder of a chain is one, at an address
 last_holder : (b : Blocks) (p x : ℕ) (xs : List ℕ) (n : ℕ) → Chain b p (x ∷ xs) n → IsHolder b (last_of x xs)
@@ -40,15 +41,15 @@ pub first_fits : (b : Blocks) (p : ℕ) (xs : List ℕ) → Chain b p xs 0 → f
 first_fits b p [] c = omega arith
 first_fits b p (x ∷ xs) c = c.0.address.fits
 
--- one joined it between two neighbours
-pub Turned-joined : (old new : DtList) (m0 m1 m2 m3 : Blocks) (p at n : ℕ) (front rest : List ℕ)
-    → StandsFor old m0 (front ++ rest) → contains (front ++ rest) at ≡ false → p ≡ last_of 0 front → n ≡ first_of rest 0
+-- one joined it between two neighbours: the links
+Links-joined : (old new : DtList) (m0 m1 m2 m3 : Blocks) (p at n : ℕ) (front rest : List ℕ)
+    → LinksFor old m0 (front ++ rest) → contains (front ++ rest) at ≡ false → p ≡ last_of 0 front → n ≡ first_of rest 0
     → IsAddress at → IsHolder m0 at → (IsSome (m0 0) → ⊥)
-    → WordsWritten m0 m1 at → word_at m1 at 0 ≡ p → word_at m1 at 1 ≡ n → word_at m1 at 2 ≡ 0 → word_at m1 at 3 ≡ 0
+    → WordsWritten m0 m1 at → word_at m1 at 0 ≡ p → word_at m1 at 1 ≡ n
     → WordWritten m1 m2 p 1 at → WordWritten m2 m3 n 0 at
     → new.first.0 ≡ (if p == 0 then at else old.first.0) → new.last.0 ≡ (if n == 0 then at else old.last.0)
-    → Turned at (front ++ rest) m0 new m3 (front ++ at ∷ rest)
-Turned-joined old new m0 m1 m2 m3 p at n front rest s apart pe ne address holder none w1 previous next third fourth w2 w3 fe le =
+    → LinksFor new m3 (front ++ at ∷ rest) × KeepsBut (at ∷ (front ++ rest)) m0 m3
+Links-joined old new m0 m1 m2 m3 p at n front rest s apart pe ne address holder none w1 previous next w2 w3 fe le =
     let w : WordWritten m1 m2 (last_of 0 front) 1 at = subst (λ z. WordWritten m1 m2 z 1 at) pe w2 in
     let v : WordWritten m2 m3 (first_of rest 0) 0 at = subst (λ z. WordWritten m2 m3 z 0 at) ne w3 in
     let ls0 = Chain-front m0 0 front rest 0 s.chain in
@@ -56,40 +57,56 @@ Turned-joined old new m0 m1 m2 m3 p at n front rest s apart pe ne address holder
     let ls1 = Chain-other m0 m1 at 0 front (first_of rest 0) w1 (apart-front front rest at apart) ls0 in
     let rs1 = Chain-other m0 m1 at (last_of 0 front) rest 0 w1 (apart-rest front rest at apart) rs0 in
     let both = neighbours m1 m2 m3 front rest (first_of rest 0) (last_of 0 front) at at w v s.distinct ls1 rs1 in
-    let node1 : Node m1 at (last_of 0 front) (first_of rest 0) = record {
+    let links1 : HasLinks m1 at (last_of 0 front) (first_of rest 0) = record {
       address = address;
       holder = HasBytes-written m0 m1 at at 33 w1 holder;
       previous = previous ∙ pe;
       next = next ∙ ne;
-      third = third;
-      fourth = fourth;
     } in
-    let node3 = node_stays m1 m2 m3 front rest at (last_of 0 front) (first_of rest 0) at at w v apart node1 in
+    let links3 = links_stay m1 m2 m3 front rest at (last_of 0 front) (first_of rest 0) at at w v apart links1 in
     let kept = neighbours_keep m1 m2 m3 front rest at at w v (λ some. none (sym (w1.there 0) ∙ some)) in
     let no_front = Chain-none m0 0 front (first_of rest 0) ls0 in
-    let no_rest = Chain-none m0 (last_of 0 front) rest 0 rs0 in
-    record {
-      stands = record {
+    let no_rest = Chain-none m0 (last_of 0 front) rest 0 rs0 in (
+      record {
         first = fe ∙ ap (λ z. if z == 0 then at else old.first.0) pe ∙ ap (λ z. if last_of 0 front == 0 then at else z) s.first ∙ first-joined front rest (at ∷ rest) no_front;
         last = le ∙ ap (λ z. if z == 0 then at else old.last.0) ne ∙ ap (λ z. if first_of rest 0 == 0 then at else z) s.last ∙ last-joined front rest at no_rest ∙ sym (last_of-append 0 front (at ∷ rest));
-        chain = Chain-append m3 0 front (at ∷ rest) 0 both.0 (node3, both.1);
+        chain = Chain-append m3 0 front (at ∷ rest) 0 both.0 (links3, both.1);
         distinct = distinct-insert front rest at s.distinct apart;
-      };
-      keeps = record {
+      },
+      record {
         there = λ a. kept.there a ∙ w1.there a;
         sizes = λ a. kept.sizes a ∙ w1.sizes a;
         bodies = λ a. kept.bodies a ∙ w1.bodies a;
         others = λ a h. kept.others a (apart-tail at (front ++ rest) a h) ∙ w1.others a (λ e. apart-head at (front ++ rest) a h (sym e));
+      },
+    )
+
+-- and the list
+pub Turned-joined : (old new : DtList) (m0 m1 m2 m3 : Blocks) (p at n : ℕ) (front rest : List ℕ)
+    → StandsFor old m0 (front ++ rest) → contains (front ++ rest) at ≡ false → p ≡ last_of 0 front → n ≡ first_of rest 0
+    → IsAddress at → IsHolder m0 at → (IsSome (m0 0) → ⊥)
+    → WordsWritten m0 m1 at → word_at m1 at 0 ≡ p → word_at m1 at 1 ≡ n → IsPlain m1 at
+    → WordWritten m1 m2 p 1 at → WordWritten m2 m3 n 0 at
+    → new.first.0 ≡ (if p == 0 then at else old.first.0) → new.last.0 ≡ (if n == 0 then at else old.last.0)
+    → Turned at (front ++ rest) m0 new m3 (front ++ at ∷ rest)
+Turned-joined old new m0 m1 m2 m3 p at n front rest s apart pe ne address holder none w1 previous next plain w2 w3 fe le =
+    let joined = Links-joined old new m0 m1 m2 m3 p at n front rest s.links apart pe ne address holder none w1 previous next w2 w3 fe le in
+    let all = All-inserted (IsPlain m1) front rest at (plain-other m0 m1 at (front ++ rest) w1 apart s.plain) plain in
+    record {
+      stands = record {
+        links = joined.0;
+        plain = plain-link m2 m3 n 0 at (front ++ at ∷ rest) (omega arith) w3 (plain-link m1 m2 p 1 at (front ++ at ∷ rest) (omega arith) w2 all);
       };
+      keeps = joined.1;
     }
 
--- one left it
-pub Turned-parted : (old new : DtList) (m0 m1 m2 : Blocks) (p at n : ℕ) (front rest : List ℕ)
-    → StandsFor old m0 (front ++ at ∷ rest) → (IsSome (m0 0) → ⊥) → p ≡ word_at m0 at 0 → n ≡ word_at m0 at 1
+-- one left it: the links
+Links-parted : (old new : DtList) (m0 m1 m2 : Blocks) (p at n : ℕ) (front rest : List ℕ)
+    → LinksFor old m0 (front ++ at ∷ rest) → (IsSome (m0 0) → ⊥) → p ≡ word_at m0 at 0 → n ≡ word_at m0 at 1
     → WordWritten m0 m1 p 1 n → WordWritten m1 m2 n 0 p
     → new.first.0 ≡ (if p == 0 then n else old.first.0) → new.last.0 ≡ (if n == 0 then p else old.last.0)
-    → Turned at (front ++ at ∷ rest) m0 new m2 (front ++ rest)
-Turned-parted old new m0 m1 m2 p at n front rest s none pw nw w2 w3 fe le =
+    → LinksFor new m2 (front ++ rest) × KeepsBut (at ∷ (front ++ at ∷ rest)) m0 m2
+Links-parted old new m0 m1 m2 p at n front rest s none pw nw w2 w3 fe le =
     let c = Chain-rest m0 0 front (at ∷ rest) 0 s.chain in
     let pe : p ≡ last_of 0 front = pw ∙ c.0.previous in
     let ne : n ≡ first_of rest 0 = nw ∙ c.0.next in
@@ -100,20 +117,35 @@ Turned-parted old new m0 m1 m2 p at n front rest s none pw nw w2 w3 fe le =
     let both = neighbours m0 m1 m2 front rest at at n p w v d ls0 c.1 in
     let kept = neighbours_keep m0 m1 m2 front rest n p w v none in
     let no_front = Chain-none m0 0 front at ls0 in
-    let no_rest = Chain-none m0 at rest 0 c.1 in
-    record {
-      stands = record {
+    let no_rest = Chain-none m0 at rest 0 c.1 in (
+      record {
         first = fe ∙ ap (λ z. if z == 0 then n else old.first.0) pe ∙ ap (λ z. if last_of 0 front == 0 then z else old.first.0) ne ∙ ap (λ z. if last_of 0 front == 0 then first_of rest 0 else z) s.first ∙ first-joined front (at ∷ rest) rest no_front;
         last = le ∙ ap (λ z. if z == 0 then p else old.last.0) ne ∙ ap (λ z. if first_of rest 0 == 0 then z else old.last.0) pe ∙ ap (λ z. if first_of rest 0 == 0 then last_of 0 front else z) s.last ∙ last-parted front rest at no_rest;
         chain = Chain-append m2 0 front rest 0 (subst (λ z. Chain m2 0 front z) ne both.0) (subst (λ z. Chain m2 z rest 0) pe both.1);
         distinct = d;
-      };
-      keeps = record {
+      },
+      record {
         there = kept.there;
         sizes = kept.sizes;
         bodies = kept.bodies;
         others = λ a h. let t = apart-tail at (front ++ at ∷ rest) a h in kept.others a (apart-append front rest a (apart-front front (at ∷ rest) a t) (apart-tail at rest a (apart-rest front (at ∷ rest) a t)));
+      },
+    )
+
+-- and the list
+pub Turned-parted : (old new : DtList) (m0 m1 m2 : Blocks) (p at n : ℕ) (front rest : List ℕ)
+    → StandsFor old m0 (front ++ at ∷ rest) → (IsSome (m0 0) → ⊥) → p ≡ word_at m0 at 0 → n ≡ word_at m0 at 1
+    → WordWritten m0 m1 p 1 n → WordWritten m1 m2 n 0 p
+    → new.first.0 ≡ (if p == 0 then n else old.first.0) → new.last.0 ≡ (if n == 0 then p else old.last.0)
+    → Turned at (front ++ at ∷ rest) m0 new m2 (front ++ rest)
+Turned-parted old new m0 m1 m2 p at n front rest s none pw nw w2 w3 fe le =
+    let parted = Links-parted old new m0 m1 m2 p at n front rest s.links none pw nw w2 w3 fe le in
+    record {
+      stands = record {
+        links = parted.0;
+        plain = plain-link m1 m2 n 0 p (front ++ rest) (omega arith) w3 (plain-link m0 m1 p 1 n (front ++ rest) (omega arith) w2 (All-removed (IsPlain m0) front rest at s.plain));
       };
+      keeps = parted.1;
     }
 
 -- a list stands for one list of holders alone
@@ -125,8 +157,11 @@ Chain-unique b p q (x ∷ xs) (y ∷ ys) e c d =
     let next : first_of xs 0 ≡ first_of ys 0 = sym c.0.next ∙ ap (λ z. word_at b z 1) e ∙ d.0.next in
     ap (λ z. z ∷ xs) e ∙ ap (λ z. y ∷ z) (Chain-unique b x y xs ys next c.1 d.1)
 
+pub LinksFor-unique : (list : DtList) (b : Blocks) (xs ys : List ℕ) → LinksFor list b xs → LinksFor list b ys → xs ≡ ys
+LinksFor-unique list b xs ys s t = Chain-unique b 0 0 xs ys (sym s.first ∙ t.first) s.chain t.chain
+
 pub StandsFor-unique : (list : DtList) (b : Blocks) (xs ys : List ℕ) → StandsFor list b xs → StandsFor list b ys → xs ≡ ys
-StandsFor-unique list b xs ys s t = Chain-unique b 0 0 xs ys (sym s.first ∙ t.first) s.chain t.chain
+StandsFor-unique list b xs ys s t = LinksFor-unique list b xs ys s.links t.links
 
 -- where a holder of it is
 pub split_in : (list : DtList) (b : Blocks) (at : ℕ) (i : IsIn list b at) (xs : List ℕ) → StandsFor list b xs → Split xs at
@@ -155,7 +190,7 @@ at_chain b front at rest chain =
 pub at_in : (list : DtList) (b : Blocks) (at : ℕ) → IsIn list b at → At b at
 at_in list b at i =
     let p = split i.holders at i.within in
-    at_chain b p.front at p.rest (subst (λ z. Chain b 0 z 0) p.whole i.stands.chain)
+    at_chain b p.front at p.rest (subst (λ z. Chain b 0 z 0) p.whole i.stands.links.chain)
 
 -- one that may join it is none of its holders
 pub apart_in : (list : DtList) (b : Blocks) (at : ℕ) (r : CanAdd list b at) (xs : List ℕ) → StandsFor list b xs → contains xs at ≡ false
@@ -172,14 +207,14 @@ next_word b front at rest chain = let c = Chain-rest b 0 front (at ∷ rest) 0 c
 pub next_found : (list : DtList) (b : Blocks) (at : ℕ) (i : IsIn list b at) (xs : List ℕ) → StandsFor list b xs → some_address (word_at b at 1) ≡ next_in at xs
 next_found list b at i xs s =
     let p = split_in list b at i xs s in
-    let chain : Chain b 0 (p.front ++ at ∷ p.rest) 0 = subst (λ z. Chain b 0 z 0) p.whole s.chain in
+    let chain : Chain b 0 (p.front ++ at ∷ p.rest) 0 = subst (λ z. Chain b 0 z 0) p.whole s.links.chain in
     let c = Chain-rest b 0 p.front (at ∷ p.rest) 0 chain in
     ap some_address c.0.next ∙ some-first p.rest (Chain-none b at p.rest 0 c.1) ∙ sym (next_in-split p.front at p.rest p.before) ∙ ap (next_in at) (sym p.whole)
 
 pub previous_found : (list : DtList) (b : Blocks) (at : ℕ) (i : IsIn list b at) (xs : List ℕ) → StandsFor list b xs → some_address (word_at b at 0) ≡ previous_in None at xs
 previous_found list b at i xs s =
     let p = split_in list b at i xs s in
-    let chain : Chain b 0 (p.front ++ at ∷ p.rest) 0 = subst (λ z. Chain b 0 z 0) p.whole s.chain in
+    let chain : Chain b 0 (p.front ++ at ∷ p.rest) 0 = subst (λ z. Chain b 0 z 0) p.whole s.links.chain in
     let c = Chain-rest b 0 p.front (at ∷ p.rest) 0 chain in
     let ls = Chain-front b 0 p.front (at ∷ p.rest) 0 chain in
     ap some_address c.0.previous ∙ some-last p.front (Chain-none b 0 p.front at ls) ∙ sym (previous_in-split p.front at p.rest p.before) ∙ ap (previous_in None at) (sym p.whole)

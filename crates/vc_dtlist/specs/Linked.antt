@@ -1,5 +1,5 @@
 -- Which holders a linked list stands for: each names its neighbours in two of its words.
-use Rattle.std.specs.Prelude.{◌≡◌, ◌≢◌, ℕ, List, [], ◌∷◌, ◌++◌, ◌+◌, ◌≤◌, true, false, Option, length}
+use Rattle.std.specs.Prelude.{◌≡◌, ◌≢◌, ℕ, List, [], ◌∷◌, ◌++◌, ◌+◌, ◌≤◌, true, false, Option, length, All}
 use Rattle.std.specs.Option.{option_map}
 use Rattle.vc_base.specs.declared.addr.Addr.{Addr}
 use Rattle.vc_dtdisc.specs.Finds.{find_key}
@@ -8,26 +8,34 @@ use Rattle.vc_base.specs.Cells.{Blocks, HasBytes, IsAddress, IsHolder, word_at}
 use Rattle.vc_base.specs.Holders.{AreDistinct, KeepsBut, contains, first_of, last_of}
 use Rattle.vc_dtlist.specs.declared.dt_list.DtList.{DtList}
 
--- a holder whose words are the addresses before and behind it, and two zeros
-pub record Node (blocks : Blocks) (at before behind : ℕ) : Type 0 where
+-- a holder whose first two words are the addresses before and behind it
+pub record HasLinks (blocks : Blocks) (at before behind : ℕ) : Type 0 where
   pub address : IsAddress at
   pub holder : IsHolder blocks at
   pub previous : word_at blocks at 0 ≡ before
   pub next : word_at blocks at 1 ≡ behind
+
+-- its other two words are 0
+pub record IsPlain (blocks : Blocks) (at : ℕ) : Type 0 where
   pub third : word_at blocks at 2 ≡ 0
   pub fourth : word_at blocks at 3 ≡ 0
 
 -- each of these holders names its neighbours, the first the one before them and the last the one behind them
 abbrev pub Chain : Blocks → ℕ → List ℕ → ℕ → Type 0
 Chain blocks before [] behind = Unit {0}
-Chain blocks before (x ∷ xs) behind = Node blocks x before (first_of xs behind) × Chain blocks x xs behind
+Chain blocks before (x ∷ xs) behind = HasLinks blocks x before (first_of xs behind) × Chain blocks x xs behind
 
--- a list stands for these holders: its ends are theirs, none before the first and none behind the last
-pub record StandsFor (list : DtList) (blocks : Blocks) (holders : List ℕ) : Type 0 where
+-- a list's ends are those of these holders, which are linked: none before the first and none behind the last
+pub record LinksFor (list : DtList) (blocks : Blocks) (holders : List ℕ) : Type 0 where
   pub first : list.first.0 ≡ first_of holders 0
   pub last : list.last.0 ≡ last_of 0 holders
   pub chain : Chain blocks 0 holders 0
   pub distinct : AreDistinct holders
+
+-- a list stands for these holders: they are linked from end to end, and their other words are 0
+pub record StandsFor (list : DtList) (blocks : Blocks) (holders : List ℕ) : Type 0 where
+  pub links : LinksFor list blocks holders
+  pub plain : All (IsPlain blocks) holders
 
 -- it stands for some holders
 pub record IsList (list : DtList) (blocks : Blocks) : Type 0 where

@@ -1,5 +1,5 @@
 -- Sorted holders: over blocks with the same objects, with one more and with one less.
-use Rattle.std.proofs.Common.{◌≡◌, ℕ, List, [], ◌∷◌, Bool, true, false, refl, sym, ap, ◌∙◌, subst, inl, inr}
+use Rattle.std.proofs.Common.{◌≡◌, ℕ, List, [], ◌∷◌, Bool, true, false, unwrap_or, refl, sym, ap, ◌∙◌, subst, inl, inr}
 use Rattle.std.specs.List.{list_any}
 use Rattle.std.specs.Cmp.{IsTotalOrder}
 use Rattle.std.specs.Ordering.{is_gt, ordering_reverse}
@@ -8,13 +8,16 @@ use Rattle.std.specs.declared.cmp.Ordering.TheVariants.{Less, Equal, Greater}
 use Rattle.std.proofs.lemmas.Bool.{true≢false}
 use Rattle.std.proofs.lemmas.Cmp.{upto}
 use Rattle.std.proofs.lemmas.Bool.Decides.{eqb_tells}
-use Rattle.vc_base.specs.Cells.{Blocks}
+use Rattle.vc_base.specs.Cells.{Blocks, body_of}
 use Rattle.vc_base.specs.Holders.{KeepsBut, contains, without}
 use Rattle.vc_dtdisc.specs.Finds.{object_at}
 use Rattle.vc_dtdisc.specs.Rules.{Rules}
+use Rattle.vc_dtlist.proofs.AddressLemmas.{AreHolders, LinksFor-holders}
 use Rattle.vc_dtlist.proofs.HolderLemmas.{apart-cons}
-use Rattle.vc_dtlist.proofs.KeptLemmas.{within-head, within-tail}
-use Rattle.vc_dtord.specs.Ordered.{IsSorted, inserted_at, is_less, placed}
+use Rattle.vc_dtlist.proofs.KeptLemmas.{StandsFor-same, within-head, within-tail}
+use Rattle.vc_dtord.specs.declared.dt_ord.DtOrd.{DtOrd}
+use Rattle.vc_dtdisc.specs.Finding.{put_before}
+use Rattle.vc_dtord.specs.Ordered.{IsSorted, OrdFor, is_less, list_of, placed}
 use Rattle.vc_dtord.proofs.AnyLemmas.{any-cons, any-head, any-less, any-tail, any-without}
 
 -- an order of the objects is the same over blocks with the same objects
@@ -28,6 +31,16 @@ IsSorted-same rules b b' (x ∷ xs) e s = (
   any-less (λ y. is_less rules b y x) (λ y. is_less rules b' y x) xs (λ a w h. less-same rules b b' a x (e a (within-tail x xs a w)) (e x (within-head x xs)) ∙ h) s.0,
   IsSorted-same rules b b' xs (λ a w. e a (within-tail x xs a w)) s.1,
 )
+
+-- the holders of an ordered one, for which it stands still where what is at their addresses stays
+pub OrdFor-holders : (rules : Rules) (ord : DtOrd) (b : Blocks) (xs : List ℕ) → OrdFor rules ord b xs → AreHolders b xs
+OrdFor-holders rules ord b xs s = LinksFor-holders (list_of ord) b xs s.list.links
+
+pub OrdFor-same : (rules : Rules) (ord : DtOrd) (b b' : Blocks) (xs : List ℕ) → ((a : ℕ) → contains xs a ≡ true → b' a ≡ b a) → OrdFor rules ord b xs → OrdFor rules ord b' xs
+OrdFor-same rules ord b b' xs e s = record {
+  list = StandsFor-same (list_of ord) b b' xs e s.list;
+  sorted = IsSorted-same rules b b' xs (λ a h. ap (λ o. body_of (unwrap_or o [])) (e a h)) s.sorted;
+}
 
 -- without one of them
 pub IsSorted-without : (rules : Rules) (b : Blocks) (xs : List ℕ) (at : ℕ) → IsSorted rules b xs → IsSorted rules b (without at xs)
@@ -47,11 +60,11 @@ less-one : (rules : Rules) (b : Blocks) (x y : ℕ) → IsTotalOrder rules.compa
 less-one rules b x y order e =
     ap is_gt (order.antisymm (rules.key (object_at b x)) (rules.key (object_at b y))) ∙ reversed (rules.compare (rules.key (object_at b y)) (rules.key (object_at b x))) e
 
-inserted_by : (p test : ℕ → Bool) (at x : ℕ) (xs : List ℕ) (t : Bool) → test x ≡ t → p at ≡ false → list_any p (x ∷ xs) ≡ false → list_any p (inserted_at test at xs) ≡ false → list_any p (inserted_at test at (x ∷ xs)) ≡ false
+inserted_by : (p test : ℕ → Bool) (at x : ℕ) (xs : List ℕ) (t : Bool) → test x ≡ t → p at ≡ false → list_any p (x ∷ xs) ≡ false → list_any p (put_before test at xs) ≡ false → list_any p (put_before test at (x ∷ xs)) ≡ false
 inserted_by p test at x xs true t e h rest = rw t (any-cons p at (x ∷ xs) e h)
-inserted_by p test at x xs false t e h rest = rw t (any-cons p x (inserted_at test at xs) (any-head p x xs h) rest)
+inserted_by p test at x xs false t e h rest = rw t (any-cons p x (put_before test at xs) (any-head p x xs h) rest)
 
-pub any-inserted : (p test : ℕ → Bool) (at : ℕ) (xs : List ℕ) → p at ≡ false → list_any p xs ≡ false → list_any p (inserted_at test at xs) ≡ false
+pub any-inserted : (p test : ℕ → Bool) (at : ℕ) (xs : List ℕ) → p at ≡ false → list_any p xs ≡ false → list_any p (put_before test at xs) ≡ false
 any-inserted p test at [] e h = any-cons p at [] e refl
 any-inserted p test at (x ∷ xs) e h = inserted_by p test at x xs (test x) refl e h (any-inserted p test at xs e (any-tail p x xs h))
 

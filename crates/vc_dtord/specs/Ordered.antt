@@ -1,14 +1,13 @@
 -- Which holders an ordered set or bag stands for: they stand in order of their keys.
-use Rattle.std.specs.Prelude.{◌≡◌, ℕ, Bool, List, [], ◌∷◌, Option, Some, true, false, if◌then◌else◌}
-use Rattle.std.specs.List.{list_any}
+use Rattle.std.specs.Prelude.{◌≡◌, ℕ, Bool, List, Option, Some, true, false}
 use Rattle.vc_base.specs.Cells.{Blocks, IsHolder}
 use Rattle.vc_base.specs.Holders.{KeepsBut, contains}
 use Rattle.vc_dtdisc.specs.Finds.{object_at}
+use Rattle.vc_dtdisc.specs.Objects as objects
+use Rattle.vc_dtdisc.specs.Objects.{is_greater, placed_among}
 use Rattle.vc_dtdisc.specs.Rules.{Rules}
 use Rattle.vc_dtlist.specs.declared.dt_list.DtList.{DtList}
-use Rattle.vc_dtlist.specs.declared.sought.Sought.TheVariants.{Greater}
 use Rattle.vc_dtlist.specs.Linked.{StandsFor}
-use Rattle.vc_dtlist.specs.Sought.{stands_so}
 use Rattle.vc_dtord.specs.declared.dt_ord.DtOrd.{DtOrd}
 
 -- its holders, as a list
@@ -17,21 +16,15 @@ list_of ord = record { first = ord.first; last = ord.last }
 
 -- whether one holder's key is less than another's
 abbrev pub is_less : Rules → Blocks → ℕ → ℕ → Bool
-is_less rules blocks at = stands_so Greater rules blocks (rules.key (object_at blocks at))
+is_less rules blocks at other = is_greater rules (object_at blocks other) (object_at blocks at)
 
 -- no holder is less than one before it
 abbrev pub IsSorted : Rules → Blocks → List ℕ → Type 0
-IsSorted rules blocks [] = Unit {0}
-IsSorted rules blocks (x ∷ xs) = (list_any (λ y. is_less rules blocks y x) xs ≡ false) × IsSorted rules blocks xs
+IsSorted rules blocks holders = objects.IsSorted (object_at blocks) rules holders
 
--- with an address before the first one that passes the test, or last
-abbrev pub inserted_at : (ℕ → Bool) → ℕ → List ℕ → List ℕ
-inserted_at test at [] = at ∷ []
-inserted_at test at (x ∷ xs) = if test x then at ∷ x ∷ xs else x ∷ inserted_at test at xs
-
--- sorted holders with one more, behind the last that isn't greater: before the first that is
+-- sorted holders with one more, behind the last that isn't greater
 abbrev pub placed : Rules → Blocks → ℕ → List ℕ → List ℕ
-placed rules blocks at holders = inserted_at (is_less rules blocks at) at holders
+placed rules blocks at holders = placed_among (object_at blocks) rules at holders
 
 -- it stands for these holders, which stand in order of their keys
 pub record OrdFor (rules : Rules) (ord : DtOrd) (blocks : Blocks) (holders : List ℕ) : Type 0 where

@@ -6,7 +6,8 @@ ghost use Rattle.vc_base.specs.Holders.{first_in, last_in, next_in, previous_in,
 ghost use Rattle.vc_dtdisc.specs.Rules.{Rules};
 ghost use Rattle.vc_dtlist.specs.Linked.{CanAdd, Finds, StandsFor, Turned, number_of};
 ghost use Rattle.vc_dtlist.specs.Sought.{Seeks, stands_so};
-ghost use Rattle.vc_dtord.specs.Ordered.{CanLink, IsLinked, IsMark, IsOrd, IsOrdered, OrdFor, OrdTurned, list_of, inserted_at, placed};
+ghost use Rattle.vc_dtdisc.specs.Finding.{put_before};
+ghost use Rattle.vc_dtord.specs.Ordered.{CanLink, IsLinked, IsMark, IsOrd, IsOrdered, OrdFor, OrdTurned, list_of, placed};
 
 use vc_base::{Addr, Cells, Steps};
 use vc_dtdisc::DictDisc;
@@ -30,7 +31,7 @@ fn put_before<C: Cells>(list: &mut DtList, cells: &mut C, mark: Option<Addr>, at
         → StandsFor list.old (C.blocks cells.old) holders
         → option_map number_of mark ≡ find test holders
         → Turned at.0 holders (C.blocks cells.old) list.new (C.blocks cells.new)
-        (inserted_at test at.0 holders) }
+        (put_before test at.0 holders) }
     ensures rest { C.RestStays cells.old cells.new }
 {
     match mark {

@@ -5,7 +5,7 @@ use Rattle.std.specs.List.{AllByRecursion, filter, list_any}
 use Rattle.std.specs.Option.{option_or}
 use Rattle.std.proofs.lemmas.Bool.{true≢false, cases_Bool}
 use Rattle.vc_dtdisc.specs.Rules.{Rules}
-use Rattle.vc_paths.specs.Finding.{before_first, before_first_from, behind_last, first_of, last_from, last_of}
+use Rattle.vc_dtdisc.specs.Finding.{before_first, before_first_from, behind_last, first_of, last_from, last_of}
 use Rattle.vc_paths.specs.Ordered.{is_before, is_behind, is_level}
 use Rattle.vc_paths.specs.Visible.{Seen}
 use Rattle.vc_paths.proofs.OrderLemmas.{AreOrdered, all_weaker, filter_none, up}

@@ -4,15 +4,16 @@ use Rattle.std.specs.List.{find, list_any}
 use Rattle.std.specs.Option.{option_map}
 use Rattle.std.proofs.lemmas.Bool.{cases_Bool, eq-eqb, ne_eqb}
 use Rattle.vc_base.specs.declared.addr.Addr.{Addr}
-use Rattle.vc_dtlist.specs.Linked.{number_of}
-use Rattle.vc_paths.specs.Layers.{AreLayers, Layered, Placed, has_key, is_match, place_with, Same, Layer}
+use Rattle.vc_dtdisc.specs.Objects.{Object, has_key, is_match}
+use Rattle.vc_base.specs.Address.{number_of}
+use Rattle.vc_paths.specs.Layers.{AreLayers, Layered, place_with, Same, Layer}
 use Rattle.vc_paths.specs.Links.{ArePaths, Links, below}
 use Rattle.vc_paths.specs.Path.{IsAlike}
 use Rattle.vc_paths.specs.Shown.{above, down, has_match, is_covered}
 use Rattle.vc_paths.proofs.DownLemmas.{above-on, above-stop, down-none, down-step}
 
 -- something is found where something passes
-found-any : (t : Placed → Bool) (xs : List Placed) → is_some (find t xs) ≡ list_any t xs
+found-any : (t : Object → Bool) (xs : List Object) → is_some (find t xs) ≡ list_any t xs
 found-any t [] = refl
 found-any t (x ∷ xs) = elim (cases_Bool (t x)) as (λ _. is_some (find t (x ∷ xs)) ≡ list_any t (x ∷ xs)) [
   | inl h ↦ rw h refl

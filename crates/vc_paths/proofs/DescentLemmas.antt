@@ -3,7 +3,7 @@ use Rattle.std.proofs.Common.{◌≡◌, ℕ, List, ◌∷◌, true, false, Opti
 use Rattle.std.specs.List.{flat_map}
 use Rattle.std.specs.Option.{option_map, option_or}
 use Rattle.std.proofs.lemmas.Bool.{true≢false}
-use Rattle.vc_paths.specs.Finding.{first_of, last_from, last_of}
+use Rattle.vc_dtdisc.specs.Finding.{first_of, last_from, last_of}
 use Rattle.vc_paths.specs.Links.{ArePaths, Links, below, is_link_to}
 use Rattle.vc_paths.specs.Shown.{above, down}
 use Rattle.vc_paths.proofs.DownLemmas.{above-on, above-stop, down-none, down-step}

@@ -4,7 +4,7 @@ use Rattle.std.specs.List.{filter, flat_map, list_any}
 use Rattle.std.specs.Option.{option_map, option_or}
 use Rattle.std.proofs.lemmas.Bool.{cases_Bool, or_from, or_parts, or_right, true≢false}
 use Rattle.std.proofs.lemmas.List.Folds.{list_any-append}
-use Rattle.vc_paths.specs.Finding.{before_first_from, behind_last, first_of, last_from, last_of}
+use Rattle.vc_dtdisc.specs.Finding.{before_first_from, behind_last, first_of, last_from, last_of}
 
 -- the ends of joined lists
 pub first-append : {A : Type 0} (xs ys : List A) → first_of (xs ++ ys) ≡ option_or (first_of xs) (first_of ys)

@@ -4,11 +4,11 @@ use Rattle.std.specs.Prelude.{not, ◌||◌, map, if◌then◌else◌}
 use Rattle.std.specs.List.{AllByRecursion, filter, list_any}
 use Rattle.std.proofs.lemmas.Bool.{true≢false, cases_Bool}
 use Rattle.std.proofs.lemmas.List.Folds.{list_any-append}
+use Rattle.vc_dtdisc.specs.Objects.{is_greater, is_match, placed_among, placed_each}
 use Rattle.vc_dtdisc.specs.Rules.{Rules}
-use Rattle.vc_paths.specs.Finding.{last_from, last_of}
-use Rattle.vc_paths.specs.Layers.{is_greater, is_match}
+use Rattle.vc_dtdisc.specs.Finding.{last_from, last_of}
 use Rattle.vc_paths.specs.Ordered.{greater, is_behind}
-use Rattle.vc_paths.specs.Visible.{Seen, is_hidden, placed, sorted_onto, stacked}
+use Rattle.vc_paths.specs.Visible.{Seen, is_hidden, seen_bytes, stacked}
 use Rattle.vc_paths.proofs.OrderLemmas.{AreOrdered, all_append, all_kept, all_weaker, any_more, any_none, or_right, up}
 use Rattle.vc_paths.proofs.SortedLemmas.{AreSorted, IsUpto, filter_sorted, filter_stacked, itself, layers_filter, placed_sorted}
 
@@ -40,9 +40,9 @@ abbrev pub IsTop : Rules → Option (Seen ℕ) → List (Seen ℕ) → Type 0
 IsTop rules best xs = AllByRecursion (λ y. is_behind rules best y ≡ false) xs × IsAmong rules best xs
 
 -- what stands before is never last
-last_of_placed : (rules : Rules) (a b : Option (Seen ℕ)) (o : Seen ℕ) (xs : List (Seen ℕ)) → last_from a (placed rules o xs) ≡ last_from b (placed rules o xs)
+last_of_placed : (rules : Rules) (a b : Option (Seen ℕ)) (o : Seen ℕ) (xs : List (Seen ℕ)) → last_from a (placed_among seen_bytes rules o xs) ≡ last_from b (placed_among seen_bytes rules o xs)
 last_of_placed rules a b o [] = refl
-last_of_placed rules a b o (x ∷ xs) = elim (cases_Bool (is_greater rules x.bytes o.bytes)) as (λ _. last_from a (placed rules o (x ∷ xs)) ≡ last_from b (placed rules o (x ∷ xs))) [
+last_of_placed rules a b o (x ∷ xs) = elim (cases_Bool (is_greater rules x.bytes o.bytes)) as (λ _. last_from a (placed_among seen_bytes rules o (x ∷ xs)) ≡ last_from b (placed_among seen_bytes rules o (x ∷ xs))) [
   | inl t ↦ rw t refl
   | inr t ↦ rw t refl
 ]
@@ -61,9 +61,9 @@ last_more : (rules : Rules) (x o : Seen ℕ) (xs : List (Seen ℕ)) → is_great
 last_more rules x o [] t = rw t refl
 last_more rules x o (y ∷ ys) t = refl
 
-last_placed : (rules : Rules) → AreOrdered rules → (o : Seen ℕ) (xs : List (Seen ℕ)) → AreSorted rules xs → last_of (placed rules o xs) ≡ later rules (last_of xs) o
+last_placed : (rules : Rules) → AreOrdered rules → (o : Seen ℕ) (xs : List (Seen ℕ)) → AreSorted rules xs → last_of (placed_among seen_bytes rules o xs) ≡ later rules (last_of xs) o
 last_placed rules laws o [] s = refl
-last_placed rules laws o (x ∷ xs) s = elim (cases_Bool (is_greater rules x.bytes o.bytes)) as (λ _. last_of (placed rules o (x ∷ xs)) ≡ later rules (last_of (x ∷ xs)) o) [
+last_placed rules laws o (x ∷ xs) s = elim (cases_Bool (is_greater rules x.bytes o.bytes)) as (λ _. last_of (placed_among seen_bytes rules o (x ∷ xs)) ≡ later rules (last_of (x ∷ xs)) o) [
   | inl t ↦
       let some = some_last x xs in
       let far = all_last (λ y. is_greater rules y.bytes o.bytes ≡ true) x xs some.0 t (all_weaker (IsUpto rules x) (λ y. is_greater rules y.bytes o.bytes ≡ true) (λ y h. up rules x.bytes y.bytes o.bytes laws t h) xs s.0) some.1 in
@@ -71,9 +71,9 @@ last_placed rules laws o (x ∷ xs) s = elim (cases_Bool (is_greater rules x.byt
   | inr t ↦ rw t (last_of_placed rules (Some x) None o xs ∙ last_placed rules laws o xs s.1 ∙ last_more rules x o xs t)
 ]
 
-pub last_onto : (rules : Rules) → AreOrdered rules → (sorted xs : List (Seen ℕ)) → AreSorted rules sorted → last_of (sorted_onto rules sorted xs) ≡ greatest rules (last_of sorted) xs
+pub last_onto : (rules : Rules) → AreOrdered rules → (sorted xs : List (Seen ℕ)) → AreSorted rules sorted → last_of (placed_each seen_bytes rules sorted xs) ≡ greatest rules (last_of sorted) xs
 last_onto rules laws sorted [] s = refl
-last_onto rules laws sorted (x ∷ xs) s = last_onto rules laws (placed rules x sorted) xs (placed_sorted rules laws x sorted s) ∙ ap (λ z. greatest rules z xs) (last_placed rules laws x sorted s)
+last_onto rules laws sorted (x ∷ xs) s = last_onto rules laws (placed_among seen_bytes rules x sorted) xs (placed_sorted rules laws x sorted s) ∙ ap (λ z. greatest rules z xs) (last_placed rules laws x sorted s)
 
 greatest_append : (rules : Rules) (best : Option (Seen ℕ)) (xs ys : List (Seen ℕ)) → greatest rules best (xs ++ ys) ≡ greatest rules (greatest rules best xs) ys
 greatest_append rules best [] ys = refl
@@ -201,8 +201,8 @@ greatest_stacked rules laws best above (layer ∷ lower) h s =
     ∙ greatest_stacked rules laws (greater rules best (last_of layer)) (above ++ layer) lower (top_layer rules laws best above layer h s.0) s.1
 
 -- the last in order of keys that passes a test which matching objects share is the greatest of those of the layers
-pub last_passing : (rules : Rules) → AreOrdered rules → (p : Seen ℕ → Bool) (layers : List (List (Seen ℕ))) → ((o u : Seen ℕ) → is_match rules o.bytes u.bytes ≡ true → p o ≡ true → p u ≡ true) → AllByRecursion (AreSorted rules) layers → last_of (filter p (sorted_onto rules [] (stacked rules [] layers))) ≡ greatest_of rules None (map (filter p) layers)
+pub last_passing : (rules : Rules) → AreOrdered rules → (p : Seen ℕ → Bool) (layers : List (List (Seen ℕ))) → ((o u : Seen ℕ) → is_match rules o.bytes u.bytes ≡ true → p o ≡ true → p u ≡ true) → AllByRecursion (AreSorted rules) layers → last_of (filter p (placed_each seen_bytes rules [] (stacked rules [] layers))) ≡ greatest_of rules None (map (filter p) layers)
 last_passing rules laws p layers shared s =
-    ap last_of (filter_sorted rules laws p [] (stacked rules [] layers) tt ∙ ap (sorted_onto rules []) (filter_stacked rules p [] layers shared))
+    ap last_of (filter_sorted rules laws p [] (stacked rules [] layers) tt ∙ ap (placed_each seen_bytes rules []) (filter_stacked rules p [] layers shared))
     ∙ last_onto rules laws [] (stacked rules [] (map (filter p) layers)) tt
     ∙ greatest_stacked rules laws None [] (map (filter p) layers) (tt, tt) (layers_filter rules p layers s)

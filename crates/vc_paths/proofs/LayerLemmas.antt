@@ -6,46 +6,48 @@ use Rattle.std.specs.Option.{option_map}
 use Rattle.std.proofs.lemmas.Bool.{true≢false, cases_Bool, eq-eqb, eqb-true, ne_eqb}
 use Rattle.vc_base.specs.declared.addr.Addr.{Addr}
 use Rattle.vc_base.specs.Holders.{AreDistinct}
-use Rattle.vc_dtlist.specs.Linked.{number_of}
-use Rattle.vc_paths.specs.Finding.{before_first, before_first_from, behind_last, first_of, last_from, last_of}
-use Rattle.vc_paths.specs.Layers.{AreLayers, Layered, Placed, bytes_there, place_before, place_behind, place_in, stands_at}
+use Rattle.vc_dtdisc.specs.Objects.{Object}
+use Rattle.vc_base.specs.Address.{number_of}
+use Rattle.vc_dtdisc.specs.Finding.{before_first, before_first_from, behind_last, first_of, last_from, last_of}
+use Rattle.vc_paths.specs.Layers.{AreLayers, Layered, bytes_there, place_before, place_behind, place_in, stands_at}
 use Rattle.vc_paths.specs.Ordered.{IsStanding, Stands, named, object_at, object_there}
 use Rattle.vc_paths.specs.Path.{objects_of, seen_in}
 use Rattle.vc_paths.specs.Visible.{Seen}
 use Rattle.vc_paths.proofs.OrderLemmas.{any_none}
 
 -- the objects from an address on, and those up to it
-abbrev pub since : ℕ → List Placed → List Placed
+abbrev pub since : ℕ → List Object → List Object
 since a [] = []
 since a (x ∷ xs) = if stands_at a x then x ∷ xs else since a xs
 
-abbrev pub until : ℕ → List Placed → List Placed
+abbrev pub until : ℕ → List Object → List Object
 until a [] = []
 until a (x ∷ xs) = if stands_at a x then x ∷ [] else x ∷ until a xs
 
-abbrev pub since_place : Option Addr → List Placed → List Placed
+abbrev pub since_place : Option Addr → List Object → List Object
 since_place None xs = []
 since_place (Some a) xs = since a.0 xs
 
-abbrev pub until_place : Option Addr → List Placed → List Placed
+abbrev pub until_place : Option Addr → List Object → List Object
 until_place None xs = []
 until_place (Some a) xs = until a.0 xs
 
 -- none of these stands at the address
-abbrev pub AreElsewhere : ℕ → List Placed → Type 0
+abbrev pub AreElsewhere : ℕ → List Object → Type 0
 AreElsewhere a xs = AllByRecursion (λ o. stands_at a o ≡ false) xs
 
 -- the objects stand in two parts, with the one at the address between them
-pub record Split (objects : List Placed) (a : ℕ) : Type 0 where
-  pub front : List Placed
-  pub here : Placed
-  pub rest : List Placed
+pub record Split (objects : List Object) (a : ℕ) : Type 0 where
+  pub front : List Object
+  pub here : Object
+  pub rest : List Object
   pub whole : objects ≡ front ++ here ∷ rest
   pub place : stands_at a here ≡ true
   pub before : AreElsewhere a front
   pub behind : AreElsewhere a rest
 
-apart_from : (x : Placed) (a : ℕ) (ys rest : List Placed) → list_any (λ z. z == a) (map (λ o. o.at) (ys ++ x ∷ rest)) ≡ false → (x.at == a) ≡ false
+-- one of the objects stands elsewhere than at an address that is none of theirs
+pub apart_from : (x : Object) (a : ℕ) (ys rest : List Object) → list_any (λ z. z == a) (map (λ o. o.at) (ys ++ x ∷ rest)) ≡ false → (x.at == a) ≡ false
 apart_from x a [] rest h = elim (cases_Bool (x.at == a)) as (λ _. (x.at == a) ≡ false) [
   | inl t ↦ absurd (true≢false (rw t at h))
   | inr t ↦ t
@@ -55,27 +57,27 @@ apart_from x a (y ∷ ys) rest h = elim (cases_Bool (y.at == a)) as (λ _. (x.at
   | inr t ↦ apart_from x a ys rest (rw t at h)
 ]
 
-turned : (a b : ℕ) → (a == b) ≡ false → (b == a) ≡ false
+pub turned : (a b : ℕ) → (a == b) ≡ false → (b == a) ≡ false
 turned a b h = ne_eqb b a (λ e. true≢false (sym (eq-eqb a b (sym e)) ∙ h))
 
 -- where the places are distinct no other object stands there
-pub front_apart : (x : Placed) (front rest : List Placed) → AreDistinct (map (λ o. o.at) (front ++ x ∷ rest)) → AreElsewhere x.at front
+pub front_apart : (x : Object) (front rest : List Object) → AreDistinct (map (λ o. o.at) (front ++ x ∷ rest)) → AreElsewhere x.at front
 front_apart x [] rest d = tt
 front_apart x (y ∷ ys) rest d = (turned x.at y.at (apart_from x y.at ys rest d.0), front_apart x ys rest d.1)
 
-rest_none : (a : ℕ) (xs : List Placed) → list_any (λ z. z == a) (map (λ o. o.at) xs) ≡ false → AreElsewhere a xs
+rest_none : (a : ℕ) (xs : List Object) → list_any (λ z. z == a) (map (λ o. o.at) xs) ≡ false → AreElsewhere a xs
 rest_none a [] h = tt
 rest_none a (y ∷ ys) h = elim (cases_Bool (y.at == a)) as (λ _. AreElsewhere a (y ∷ ys)) [
   | inl t ↦ absurd (true≢false (rw t at h))
   | inr t ↦ (t, rest_none a ys (rw t at h))
 ]
 
-pub rest_apart : (x : Placed) (front rest : List Placed) → AreDistinct (map (λ o. o.at) (front ++ x ∷ rest)) → AreElsewhere x.at rest
+pub rest_apart : (x : Object) (front rest : List Object) → AreDistinct (map (λ o. o.at) (front ++ x ∷ rest)) → AreElsewhere x.at rest
 rest_apart x [] rest d = rest_none x.at rest d.0
 rest_apart x (y ∷ ys) rest d = rest_apart x ys rest d.1
 
 -- the parts before and behind an object
-abbrev pub split_of : (objects front : List Placed) (x : Placed) (rest : List Placed) (a : ℕ) → objects ≡ front ++ x ∷ rest → AreDistinct (map (λ o. o.at) objects) → x.at ≡ a → Split objects a
+abbrev pub split_of : (objects front : List Object) (x : Object) (rest : List Object) (a : ℕ) → objects ≡ front ++ x ∷ rest → AreDistinct (map (λ o. o.at) objects) → x.at ≡ a → Split objects a
 split_of objects front x rest a whole d same =
     let d' : AreDistinct (map (λ o. o.at) (front ++ x ∷ rest)) = subst (λ z. AreDistinct (map (λ o. o.at) z)) whole d in
     record {
@@ -89,45 +91,45 @@ split_of objects front x rest a whole d same =
     }
 
 -- what is found where an object stands
-find_front : (a : ℕ) (front : List Placed) (x : Placed) (rest : List Placed) → AreElsewhere a front → stands_at a x ≡ true → find (stands_at a) (front ++ x ∷ rest) ≡ Some x
+find_front : (a : ℕ) (front : List Object) (x : Object) (rest : List Object) → AreElsewhere a front → stands_at a x ≡ true → find (stands_at a) (front ++ x ∷ rest) ≡ Some x
 find_front a [] x rest h t = rw t refl
 find_front a (y ∷ ys) x rest h t = rw h.0 (find_front a ys x rest h.1 t)
 
-since_front : (a : ℕ) (front : List Placed) (x : Placed) (rest : List Placed) → AreElsewhere a front → stands_at a x ≡ true → since a (front ++ x ∷ rest) ≡ x ∷ rest
+since_front : (a : ℕ) (front : List Object) (x : Object) (rest : List Object) → AreElsewhere a front → stands_at a x ≡ true → since a (front ++ x ∷ rest) ≡ x ∷ rest
 since_front a [] x rest h t = rw t refl
 since_front a (y ∷ ys) x rest h t = rw h.0 (since_front a ys x rest h.1 t)
 
-until_front : (a : ℕ) (front : List Placed) (x : Placed) (rest : List Placed) → AreElsewhere a front → stands_at a x ≡ true → until a (front ++ x ∷ rest) ≡ front ++ x ∷ []
+until_front : (a : ℕ) (front : List Object) (x : Object) (rest : List Object) → AreElsewhere a front → stands_at a x ≡ true → until a (front ++ x ∷ rest) ≡ front ++ x ∷ []
 until_front a [] x rest h t = rw t refl
 until_front a (y ∷ ys) x rest h t = rw h.0 (ap (λ z. y ∷ z) (until_front a ys x rest h.1 t))
 
-behind_front : (a : ℕ) (front : List Placed) (x : Placed) (rest : List Placed) → AreElsewhere a front → stands_at a x ≡ true → AreElsewhere a rest → behind_last (stands_at a) (front ++ x ∷ rest) ≡ first_of rest
+behind_front : (a : ℕ) (front : List Object) (x : Object) (rest : List Object) → AreElsewhere a front → stands_at a x ≡ true → AreElsewhere a rest → behind_last (stands_at a) (front ++ x ∷ rest) ≡ first_of rest
 behind_front a [] x rest h t g = rw (t, any_none (stands_at a) rest g) refl
 behind_front a (y ∷ ys) x rest h t g = rw h.0 (behind_front a ys x rest h.1 t g)
 
-before_front : (a : ℕ) (before : Option Placed) (front : List Placed) (x : Placed) (rest : List Placed) → AreElsewhere a front → stands_at a x ≡ true → before_first_from before (stands_at a) (front ++ x ∷ rest) ≡ last_from before front
+before_front : (a : ℕ) (before : Option Object) (front : List Object) (x : Object) (rest : List Object) → AreElsewhere a front → stands_at a x ≡ true → before_first_from before (stands_at a) (front ++ x ∷ rest) ≡ last_from before front
 before_front a before [] x rest h t = rw t refl
 before_front a before (y ∷ ys) x rest h t = rw h.0 (before_front a (Some y) ys x rest h.1 t)
 
-pub find_split : (objects : List Placed) (a : ℕ) (s : Split objects a) → find (stands_at a) objects ≡ Some s.here
+pub find_split : (objects : List Object) (a : ℕ) (s : Split objects a) → find (stands_at a) objects ≡ Some s.here
 find_split objects a s = ap (find (stands_at a)) s.whole ∙ find_front a s.front s.here s.rest s.before s.place
 
-pub since_split : (objects : List Placed) (a : ℕ) (s : Split objects a) → since a objects ≡ s.here ∷ s.rest
+pub since_split : (objects : List Object) (a : ℕ) (s : Split objects a) → since a objects ≡ s.here ∷ s.rest
 since_split objects a s = ap (since a) s.whole ∙ since_front a s.front s.here s.rest s.before s.place
 
-pub until_split : (objects : List Placed) (a : ℕ) (s : Split objects a) → until a objects ≡ s.front ++ s.here ∷ []
+pub until_split : (objects : List Object) (a : ℕ) (s : Split objects a) → until a objects ≡ s.front ++ s.here ∷ []
 until_split objects a s = ap (until a) s.whole ∙ until_front a s.front s.here s.rest s.before s.place
 
-pub behind_split : (objects : List Placed) (a : ℕ) (s : Split objects a) → behind_last (stands_at a) objects ≡ first_of s.rest
+pub behind_split : (objects : List Object) (a : ℕ) (s : Split objects a) → behind_last (stands_at a) objects ≡ first_of s.rest
 behind_split objects a s = ap (behind_last (stands_at a)) s.whole ∙ behind_front a s.front s.here s.rest s.before s.place s.behind
 
-pub before_split : (objects : List Placed) (a : ℕ) (s : Split objects a) → before_first (stands_at a) objects ≡ last_of s.front
+pub before_split : (objects : List Object) (a : ℕ) (s : Split objects a) → before_first (stands_at a) objects ≡ last_of s.front
 before_split objects a s = ap (before_first (stands_at a)) s.whole ∙ before_front a None s.front s.here s.rest s.before s.place
 
 -- where an object is found the objects stand in two parts
-found_parts : (a : ℕ) (objects : List Placed) → is_some (find (stands_at a) objects) ≡ true → (front : List Placed) × (x : Placed) × (rest : List Placed) × (objects ≡ front ++ x ∷ rest) × (x.at ≡ a)
+found_parts : (a : ℕ) (objects : List Object) → is_some (find (stands_at a) objects) ≡ true → (front : List Object) × (x : Object) × (rest : List Object) × (objects ≡ front ++ x ∷ rest) × (x.at ≡ a)
 found_parts a [] h = absurd (true≢false (sym h))
-found_parts a (y ∷ ys) h = elim (cases_Bool (y.at == a)) as (λ _. (front : List Placed) × (x : Placed) × (rest : List Placed) × (y ∷ ys ≡ front ++ x ∷ rest) × (x.at ≡ a)) [
+found_parts a (y ∷ ys) h = elim (cases_Bool (y.at == a)) as (λ _. (front : List Object) × (x : Object) × (rest : List Object) × (y ∷ ys ≡ front ++ x ∷ rest) × (x.at ≡ a)) [
   | inl t ↦ ([], y, ys, refl, eqb-true y.at a t)
   | inr t ↦
       let more = found_parts a ys (rw t at h) in
@@ -138,7 +140,7 @@ some_mapped : {A B : Type 0} (f : A → B) (o : Option A) → is_some (option_ma
 some_mapped f None h = h
 some_mapped f (Some x) h = refl
 
-pub split_at : (objects : List Placed) (a : ℕ) → IsSome (bytes_there a objects) → AreDistinct (map (λ o. o.at) objects) → Split objects a
+pub split_at : (objects : List Object) (a : ℕ) → IsSome (bytes_there a objects) → AreDistinct (map (λ o. o.at) objects) → Split objects a
 split_at objects a h d =
     let parts = found_parts a objects (some_mapped (λ o. o.bytes) (find (stands_at a) objects) h) in
     split_of objects parts.0 parts.1 parts.2 a parts.3 d parts.4
@@ -148,11 +150,11 @@ pub there_split : (all : Layered) (e : ℕ) (at : Addr) (s : Split (all.layer e)
 there_split all e at s =
     let found = find_split (all.layer e).objects at.0 s in
     let same = eqb-true s.here.at at.0 s.place in
-    ap (λ o. option_map (λ (bytes : List ℕ). seen_in e (record { at = at.0; bytes = bytes })) (option_map (λ (o : Placed). o.bytes) o)) found
+    ap (λ o. option_map (λ (bytes : List ℕ). seen_in e (record { at = at.0; bytes = bytes })) (option_map (λ (o : Object). o.bytes) o)) found
     ∙ ap (λ z. Some (seen_in e (record { at = z; bytes = s.here.bytes }))) (sym same)
 
 -- a place beside one that stands in the layer, or at an end
-pub record Shows (all : Layered) (e : ℕ) (next : Option Addr) (o : Option Placed) : Type 0 where
+pub record Shows (all : Layered) (e : ℕ) (next : Option Addr) (o : Option Object) : Type 0 where
   pub stands : IsStanding all e (named e next)
   pub object : object_at all (named e next) ≡ option_map (seen_in e) o
 
@@ -160,11 +162,11 @@ some_there : (all : Layered) (e : ℕ) (at : Addr) → all.Has e → Split (all.
 some_there all e at h s = record {
   there = h;
   kind = refl;
-  object = ap (λ o. is_some (option_map (λ (o : Placed). o.bytes) o)) (find_split (all.layer e).objects at.0 s);
+  object = ap (λ o. is_some (option_map (λ (o : Object). o.bytes) o)) (find_split (all.layer e).objects at.0 s);
 }
 
 -- the place of the first of those behind
-pub since_shown : (all : Layered) (e : ℕ) (next : Option Addr) (front rest : List Placed) → all.Has e → AreDistinct (map (λ o. o.at) (all.layer e).objects) → (all.layer e).objects ≡ front ++ rest → option_map number_of next ≡ place_in (first_of rest) → Shows all e next (first_of rest) × (since_place next (all.layer e).objects ≡ rest)
+pub since_shown : (all : Layered) (e : ℕ) (next : Option Addr) (front rest : List Object) → all.Has e → AreDistinct (map (λ o. o.at) (all.layer e).objects) → (all.layer e).objects ≡ front ++ rest → option_map number_of next ≡ place_in (first_of rest) → Shows all e next (first_of rest) × (since_place next (all.layer e).objects ≡ rest)
 since_shown all e None front [] h d whole n = (record { stands = tt; object = refl }, refl)
 since_shown all e None front (x ∷ rest) h d whole n = cc
 since_shown all e (Some at) front [] h d whole n = cc
@@ -176,14 +178,14 @@ since_shown all e (Some at) front (x ∷ rest) h d whole n =
     )
 
 -- a list with objects has a last one
-some_end : (x : Placed) (xs : List Placed) → (front : List Placed) × (z : Placed) × (x ∷ xs ≡ front ++ z ∷ []) × (last_from (Some x) xs ≡ Some z)
+some_end : (x : Object) (xs : List Object) → (front : List Object) × (z : Object) × (x ∷ xs ≡ front ++ z ∷ []) × (last_from (Some x) xs ≡ Some z)
 some_end x [] = ([], x, refl, refl)
 some_end x (y ∷ ys) =
     let more = some_end y ys in
     (x ∷ more.0, more.1, ap (λ z. x ∷ z) more.2, more.3)
 
 -- the place of the last of those before
-pub until_shown : (all : Layered) (e : ℕ) (next : Option Addr) (front rest : List Placed) → all.Has e → AreDistinct (map (λ o. o.at) (all.layer e).objects) → (all.layer e).objects ≡ front ++ rest → option_map number_of next ≡ place_in (last_of front) → Shows all e next (last_of front) × (until_place next (all.layer e).objects ≡ front)
+pub until_shown : (all : Layered) (e : ℕ) (next : Option Addr) (front rest : List Object) → all.Has e → AreDistinct (map (λ o. o.at) (all.layer e).objects) → (all.layer e).objects ≡ front ++ rest → option_map number_of next ≡ place_in (last_of front) → Shows all e next (last_of front) × (until_place next (all.layer e).objects ≡ front)
 until_shown all e None [] rest h d whole n = (record { stands = tt; object = refl }, refl)
 until_shown all e None (x ∷ front) rest h d whole n =
     let end = some_end x front in
@@ -268,7 +270,7 @@ last_one p before (x ∷ xs) y = elim (cases_Bool (p x)) as (λ _. last_from bef
   | inr t ↦ rw t (last_one p before xs y)
 ]
 
-map_end : (e : ℕ) (xs : List Placed) (y : Placed) → map (seen_in e) (xs ++ y ∷ []) ≡ map (seen_in e) xs ++ seen_in e y ∷ []
+map_end : (e : ℕ) (xs : List Object) (y : Object) → map (seen_in e) (xs ++ y ∷ []) ≡ map (seen_in e) xs ++ seen_in e y ∷ []
 map_end e [] y = refl
 map_end e (x ∷ xs) y = ap (λ z. seen_in e x ∷ z) (map_end e xs y)
 

@@ -3,11 +3,11 @@ use Rattle.std.proofs.Common.{◌≡◌, ℕ, List, [], ◌∷◌, ◌++◌, Boo
 use Rattle.std.specs.Prelude.{not, map}
 use Rattle.std.specs.List.{AllByRecursion, filter}
 use Rattle.std.proofs.lemmas.Bool.{true≢false, cases_Bool}
+use Rattle.vc_dtdisc.specs.Objects.{is_greater, is_match, placed_among, placed_each}
 use Rattle.vc_dtdisc.specs.Rules.{Rules}
-use Rattle.vc_paths.specs.Finding.{first_of}
-use Rattle.vc_paths.specs.Layers.{is_greater, is_match}
+use Rattle.vc_dtdisc.specs.Finding.{first_of}
 use Rattle.vc_paths.specs.Ordered.{is_before, lesser}
-use Rattle.vc_paths.specs.Visible.{Seen, is_hidden, placed, sorted_onto, stacked}
+use Rattle.vc_paths.specs.Visible.{Seen, is_hidden, seen_bytes, stacked}
 use Rattle.vc_paths.proofs.OrderLemmas.{AreOrdered, all_append, all_filter, all_weaker, any_none}
 use Rattle.vc_paths.proofs.SortedLemmas.{AreSorted, IsUpto, filter_sorted, filter_stacked, itself, layers_filter}
 
@@ -25,16 +25,16 @@ least_of rules best (layer ∷ lower) = least_of rules (lesser rules best (first
 abbrev pub NoneBefore : Rules → Option (Seen ℕ) → List (Seen ℕ) → Type 0
 NoneBefore rules best xs = AllByRecursion (λ y. is_before rules best y ≡ false) xs
 
-first_placed : (rules : Rules) (o : Seen ℕ) (xs : List (Seen ℕ)) → first_of (placed rules o xs) ≡ lesser rules (first_of xs) (Some o)
+first_placed : (rules : Rules) (o : Seen ℕ) (xs : List (Seen ℕ)) → first_of (placed_among seen_bytes rules o xs) ≡ lesser rules (first_of xs) (Some o)
 first_placed rules o [] = refl
-first_placed rules o (x ∷ xs) = elim (cases_Bool (is_greater rules x.bytes o.bytes)) as (λ _. first_of (placed rules o (x ∷ xs)) ≡ lesser rules (Some x) (Some o)) [
+first_placed rules o (x ∷ xs) = elim (cases_Bool (is_greater rules x.bytes o.bytes)) as (λ _. first_of (placed_among seen_bytes rules o (x ∷ xs)) ≡ lesser rules (Some x) (Some o)) [
   | inl t ↦ rw t refl
   | inr t ↦ rw t refl
 ]
 
-pub first_onto : (rules : Rules) (sorted xs : List (Seen ℕ)) → first_of (sorted_onto rules sorted xs) ≡ least rules (first_of sorted) xs
+pub first_onto : (rules : Rules) (sorted xs : List (Seen ℕ)) → first_of (placed_each seen_bytes rules sorted xs) ≡ least rules (first_of sorted) xs
 first_onto rules sorted [] = refl
-first_onto rules sorted (x ∷ xs) = first_onto rules (placed rules x sorted) xs ∙ ap (λ z. least rules z xs) (first_placed rules x sorted)
+first_onto rules sorted (x ∷ xs) = first_onto rules (placed_among seen_bytes rules x sorted) xs ∙ ap (λ z. least rules z xs) (first_placed rules x sorted)
 
 least_append : (rules : Rules) (best : Option (Seen ℕ)) (xs ys : List (Seen ℕ)) → least rules best (xs ++ ys) ≡ least rules (least rules best xs) ys
 least_append rules best [] ys = refl
@@ -97,8 +97,8 @@ least_stacked rules laws best above (layer ∷ lower) h s =
     ∙ least_stacked rules laws (lesser rules best (first_of layer)) (above ++ layer) lower (before_layer rules laws best above layer h s.0) s.1
 
 -- the first in order of keys that passes a test which matching objects share is the least of those of the layers
-pub first_passing : (rules : Rules) → AreOrdered rules → (p : Seen ℕ → Bool) (layers : List (List (Seen ℕ))) → ((o u : Seen ℕ) → is_match rules o.bytes u.bytes ≡ true → p o ≡ true → p u ≡ true) → AllByRecursion (AreSorted rules) layers → first_of (filter p (sorted_onto rules [] (stacked rules [] layers))) ≡ least_of rules None (map (filter p) layers)
+pub first_passing : (rules : Rules) → AreOrdered rules → (p : Seen ℕ → Bool) (layers : List (List (Seen ℕ))) → ((o u : Seen ℕ) → is_match rules o.bytes u.bytes ≡ true → p o ≡ true → p u ≡ true) → AllByRecursion (AreSorted rules) layers → first_of (filter p (placed_each seen_bytes rules [] (stacked rules [] layers))) ≡ least_of rules None (map (filter p) layers)
 first_passing rules laws p layers shared s =
-    ap first_of (filter_sorted rules laws p [] (stacked rules [] layers) tt ∙ ap (sorted_onto rules []) (filter_stacked rules p [] layers shared))
+    ap first_of (filter_sorted rules laws p [] (stacked rules [] layers) tt ∙ ap (placed_each seen_bytes rules []) (filter_stacked rules p [] layers shared))
     ∙ first_onto rules [] (stacked rules [] (map (filter p) layers))
     ∙ least_stacked rules laws None [] (map (filter p) layers) tt (layers_filter rules p layers s)

@@ -10,15 +10,16 @@ use Rattle.std.proofs.lemmas.Cmp.{alike_right, tied_itself}
 use Rattle.std.proofs.lemmas.List.Elements.{filter-append}
 use Rattle.std.proofs.lemmas.Option.{none-some}
 use Rattle.vc_base.specs.Holders.{AreDistinct}
-use Rattle.vc_dict.specs.Methods.{is_ordered}
+use Rattle.vc_base.specs.Methods.{is_ordered}
+use Rattle.vc_dtdisc.specs.Objects.{Object, has_key, is_match, placed_each}
 use Rattle.vc_dtdisc.specs.Rules.{AreLawful, Rules}
-use Rattle.vc_paths.specs.Finding.{before_first, behind_last, first_of, last_from, last_of}
-use Rattle.vc_paths.specs.Layers.{AreLayers, Layered, Placed, bytes_there, has_key, is_match, place_behind, place_in}
+use Rattle.vc_dtdisc.specs.Finding.{before_first, behind_last, first_of, last_from, last_of}
+use Rattle.vc_paths.specs.Layers.{AreLayers, Layered, bytes_there, place_behind, place_in}
 use Rattle.vc_paths.specs.Links.{Links, path}
 use Rattle.vc_paths.specs.Path.{IsPath, is_at, objects_of, place_of, seen_in, visible_of}
 use Rattle.vc_paths.specs.Seek.{has_key_in}
 use Rattle.vc_paths.specs.Shown.{IsPlaceIn, objects_from}
-use Rattle.vc_paths.specs.Visible.{Seen, sorted_onto, stacked}
+use Rattle.vc_paths.specs.Visible.{Seen, seen_bytes, stacked}
 use Rattle.vc_paths.proofs.EndLemmas.{last-append, last-map, last-or}
 use Rattle.vc_paths.proofs.OrderLemmas.{all_filter, all_weaker, filter_kept, ordered, tied_keys}
 use Rattle.vc_paths.proofs.PlaceLemmas.{Standing, behind-here, from-first, from-here, place-first, standing, there}
@@ -29,10 +30,10 @@ use Rattle.vc_paths.proofs.SortedLemmas.{kept_sorted}
 use Rattle.vc_paths.proofs.StackedLemmas.{find-filter, first_having, stacked-key, with_key}
 
 -- up to a place or to the end, the last that passes a test is this one: where no other passes from there on, and else the last of these
-pub record IsLastHere (objects : List Placed) (test : Placed → Bool) (last : ℕ) (next : Option ℕ) : Type 0 where
+pub record IsLastHere (objects : List Object) (test : Object → Bool) (last : ℕ) (next : Option ℕ) : Type 0 where
   pub is_last : option_or (place_in (last_of (filter test (objects_from next objects)))) (Some last) ≡ place_in (last_of (filter test objects))
 
-place-or : (o p : Option Placed) → place_in (option_or o p) ≡ option_or (place_in o) (place_in p)
+place-or : (o p : Option Object) → place_in (option_or o p) ≡ option_or (place_in o) (place_in p)
 place-or None p = refl
 place-or (Some x) p = refl
 
@@ -41,30 +42,30 @@ or-twice None a b = refl
 or-twice (Some x) a b = refl
 
 -- the rest behind an object, and its place
-rest-behind : (objects : List Placed) (at : ℕ) (s : Standing objects at) → AreDistinct (map (λ o. o.at) objects) → objects_from (place_behind at objects) objects ≡ s.behind
+rest-behind : (objects : List Object) (at : ℕ) (s : Standing objects at) → AreDistinct (map (λ o. o.at) objects) → objects_from (place_behind at objects) objects ≡ s.behind
 rest-behind objects at s d =
     let whole : objects ≡ (s.before ++ s.one ∷ []) ++ s.behind = s.whole ∙ sym (append_assoc s.before (s.one ∷ []) s.behind) in
     ap (λ z. objects_from z objects) (behind-here objects at s)
     ∙ ap (objects_from (place_in (first_of s.behind))) whole
     ∙ from-first (s.before ++ s.one ∷ []) s.behind (subst (λ z. AreDistinct (map (λ o. o.at) z)) whole d)
 
-pub place-behind : (objects : List Placed) (at : ℕ) → AreDistinct (map (λ o. o.at) objects) → IsSome (bytes_there at objects) → IsPlaceIn objects (place_behind at objects)
+pub place-behind : (objects : List Object) (at : ℕ) → AreDistinct (map (λ o. o.at) objects) → IsSome (bytes_there at objects) → IsPlaceIn objects (place_behind at objects)
 place-behind objects at d h =
     let s = standing objects at d h in
     let whole : objects ≡ (s.before ++ s.one ∷ []) ++ s.behind = s.whole ∙ sym (append_assoc s.before (s.one ∷ []) s.behind) in
     subst (IsPlaceIn objects) (sym (behind-here objects at s)) (subst (λ z. IsPlaceIn z (place_in (first_of s.behind))) (sym whole) (place-first (s.before ++ s.one ∷ []) s.behind))
 
-pub shorter-behind : (objects : List Placed) (at : ℕ) → AreDistinct (map (λ o. o.at) objects) → IsSome (bytes_there at objects) → length (objects_from (place_behind at objects) objects) < length (objects_from (Some at) objects)
+pub shorter-behind : (objects : List Object) (at : ℕ) → AreDistinct (map (λ o. o.at) objects) → IsSome (bytes_there at objects) → length (objects_from (place_behind at objects) objects) < length (objects_from (Some at) objects)
 shorter-behind objects at d h =
     let s = standing objects at d h in
     omega (arith, ap length (rest-behind objects at s d), ap length (from-here objects at s))
 
 -- from an object on that passes
-passing-from : (test : Placed → Bool) (x : Placed) (xs : List Placed) → test x ≡ true → place_in (last_of (filter test (x ∷ xs))) ≡ option_or (place_in (last_of (filter test xs))) (Some x.at)
+passing-from : (test : Object → Bool) (x : Object) (xs : List Object) → test x ≡ true → place_in (last_of (filter test (x ∷ xs))) ≡ option_or (place_in (last_of (filter test xs))) (Some x.at)
 passing-from test x xs h =
     rw h (ap place_in (last-or (Some x) (filter test xs)) ∙ place-or (last_of (filter test xs)) (Some x))
 
-pub last-start : (objects : List Placed) (test : Placed → Bool) (at : ℕ) (bytes : List ℕ) → AreDistinct (map (λ o. o.at) objects) → bytes_there at objects ≡ Some bytes → ((o : Placed) → o.bytes ≡ bytes → test o ≡ true) → IsLastHere objects test at (place_behind at objects)
+pub last-start : (objects : List Object) (test : Object → Bool) (at : ℕ) (bytes : List ℕ) → AreDistinct (map (λ o. o.at) objects) → bytes_there at objects ≡ Some bytes → ((o : Object) → o.bytes ≡ bytes → test o ≡ true) → IsLastHere objects test at (place_behind at objects)
 last-start objects test at bytes d h passes =
     let s = standing objects at d (subst IsSome (sym h) refl) in
     let same : s.one.bytes ≡ bytes = some_same s.one.bytes bytes (sym (there objects at s) ∙ h) in
@@ -83,17 +84,17 @@ last-start objects test at bytes d h passes =
     some_same : (a b : List ℕ) → Some a ≡ Some b → a ≡ b
     some_same a b e = cc
 
-    last_past : (test : Placed → Bool) (x : Placed) (xs : List Placed) (o : Option Placed) → test x ≡ true → last_of (filter test (x ∷ xs)) ≡ last_from o (filter test (x ∷ xs))
+    last_past : (test : Object → Bool) (x : Object) (xs : List Object) (o : Option Object) → test x ≡ true → last_of (filter test (x ∷ xs)) ≡ last_from o (filter test (x ∷ xs))
     last_past test x xs o h = rw h refl
 
-or-passing : (test : Placed → Bool) (x : Placed) (xs : List Placed) (last other : ℕ) (t : Bool) → x.at ≡ other → test x ≡ t → option_or (place_in (last_of (filter test xs))) (Some (cond t other last)) ≡ option_or (place_in (last_of (filter test (x ∷ xs)))) (Some last)
+or-passing : (test : Object → Bool) (x : Object) (xs : List Object) (last other : ℕ) (t : Bool) → x.at ≡ other → test x ≡ t → option_or (place_in (last_of (filter test xs))) (Some (cond t other last)) ≡ option_or (place_in (last_of (filter test (x ∷ xs)))) (Some last)
 or-passing test x xs last other true e h =
     ap (λ z. option_or (place_in (last_of (filter test xs))) (Some z)) (sym e)
     ∙ sym (or-twice (place_in (last_of (filter test xs))) x.at last)
     ∙ ap (λ z. option_or z (Some last)) (sym (passing-from test x xs h))
 or-passing test x xs last other false e h = rw h refl
 
-pub last-next : (objects : List Placed) (test : Placed → Bool) (last other : ℕ) (bytes : List ℕ) (t : Bool) → AreDistinct (map (λ o. o.at) objects) → bytes_there other objects ≡ Some bytes → ((o : Placed) → o.bytes ≡ bytes → test o ≡ t) → IsLastHere objects test last (Some other) → IsLastHere objects test (cond t other last) (place_behind other objects)
+pub last-next : (objects : List Object) (test : Object → Bool) (last other : ℕ) (bytes : List ℕ) (t : Bool) → AreDistinct (map (λ o. o.at) objects) → bytes_there other objects ≡ Some bytes → ((o : Object) → o.bytes ≡ bytes → test o ≡ t) → IsLastHere objects test last (Some other) → IsLastHere objects test (cond t other last) (place_behind other objects)
 last-next objects test last other bytes t d h passes l =
     let s = standing objects other d (subst IsSome (sym h) refl) in
     let same : s.one.bytes ≡ bytes = some_same s.one.bytes bytes (sym (there objects other s) ∙ h) in
@@ -108,11 +109,11 @@ last-next objects test last other bytes t d h passes l =
     some_same : (a b : List ℕ) → Some a ≡ Some b → a ≡ b
     some_same a b e = cc
 
-pub last-end : (objects : List Placed) (test : Placed → Bool) (last : ℕ) → IsLastHere objects test last None → Some last ≡ place_in (last_of (filter test objects))
+pub last-end : (objects : List Object) (test : Object → Bool) (last : ℕ) → IsLastHere objects test last None → Some last ≡ place_in (last_of (filter test objects))
 last-end objects test last l = l.is_last
 
 -- an object that passes a test among those of a dictionary is one of the dictionary
-dict-of : (e : ℕ) (xs : List Placed) (test : Seen ℕ → Bool) (x : Seen ℕ) → find test (map (seen_in e) xs) ≡ Some x → x.dict ≡ e
+dict-of : (e : ℕ) (xs : List Object) (test : Seen ℕ → Bool) (x : Seen ℕ) → find test (map (seen_in e) xs) ≡ Some x → x.dict ≡ e
 dict-of e [] test x h = absurd (none-some x h)
 dict-of e (y ∷ ys) test x h = elim (cases_Bool (test (seen_in e y))) as (λ _. x.dict ≡ e) [
   | inl k ↦ let same : Some (seen_in e y) ≡ Some x = rw k at h in ap (λ o. dict_or e o) (sym same)
@@ -132,7 +133,7 @@ layer-of all test (e ∷ es) x h = elim (cases_Bool (list_any test (objects_of a
 ]
 
 -- all that is seen with a key stands in the layer of the first, in the same order
-key-ordered : (t : Bool) (rules : Rules) (key : List ℕ) (xs : List (Seen ℕ)) → AreLawful rules → filter (with_key rules key) (cond t (sorted_onto rules [] xs) xs) ≡ filter (with_key rules key) xs
+key-ordered : (t : Bool) (rules : Rules) (key : List ℕ) (xs : List (Seen ℕ)) → AreLawful rules → filter (with_key rules key) (cond t (placed_each seen_bytes rules [] xs) xs) ≡ filter (with_key rules key) xs
 key-ordered true rules key xs lawful = kept_sorted rules (ordered rules lawful.order) (with_key rules key) (λ x y h g. tied_keys rules lawful.order key x.bytes y.bytes h g) xs
 key-ordered false rules key xs lawful = refl
 
@@ -235,12 +236,12 @@ last-key all links d key x lawful is_path t k h =
     (λ o. ap (λ z. is_match z x.bytes o.bytes) rules ∙ match-key (all.layer d).rules key x.bytes laws k o.bytes)))
 
 -- a place of an object
-record AtObject (o : Option Placed) (l : ℕ) : Type 0 where
-  one : Placed
+record AtObject (o : Option Object) (l : ℕ) : Type 0 where
+  one : Object
   is : o ≡ Some one
   here : one.at ≡ l
 
-at-object : (o : Option Placed) (l : ℕ) → Some l ≡ place_in o → AtObject o l
+at-object : (o : Option Object) (l : ℕ) → Some l ≡ place_in o → AtObject o l
 at-object None l h = absurd (none-some l (sym h))
 at-object (Some x) l h = record { one = x; is = refl; here = let same : l ≡ x.at = cc in sym same }
 

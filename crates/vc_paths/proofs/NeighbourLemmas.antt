@@ -8,15 +8,16 @@ use Rattle.std.proofs.lemmas.List.Elements.{filter-append}
 use Rattle.std.proofs.lemmas.List.Folds.{list_any-append}
 use Rattle.vc_base.specs.declared.addr.Addr.{Addr}
 use Rattle.vc_base.specs.Holders.{AreDistinct}
-use Rattle.vc_dict.specs.Methods.{is_ordered}
+use Rattle.vc_base.specs.Methods.{is_ordered}
+use Rattle.vc_dtdisc.specs.Objects.{Object, is_greater, is_match, placed_each}
 use Rattle.vc_dtdisc.specs.Rules.{Rules}
-use Rattle.vc_dtlist.specs.Linked.{number_of}
-use Rattle.vc_paths.specs.Finding.{before_first, before_first_from, behind_last, first_of, last_from, last_of}
-use Rattle.vc_paths.specs.Layers.{AreLayers, Layered, Placed, bytes_there, is_greater, is_match, place_before, place_behind, stands_at}
+use Rattle.vc_base.specs.Address.{number_of}
+use Rattle.vc_dtdisc.specs.Finding.{before_first, before_first_from, behind_last, first_of, last_from, last_of}
+use Rattle.vc_paths.specs.Layers.{AreLayers, Layered, bytes_there, place_before, place_behind, stands_at}
 use Rattle.vc_paths.specs.Links.{Links, path}
 use Rattle.vc_paths.specs.Ordered.{Stands, if_level, is_before, is_behind, is_level, named, object_at, object_there}
 use Rattle.vc_paths.specs.Path.{Answers, IsAlike, IsPath, IsVisible, is_at, numbers_of, objects_of, place_of, seen_in, visible_of}
-use Rattle.vc_paths.specs.Visible.{Seen, is_hidden, sorted_onto, stacked}
+use Rattle.vc_paths.specs.Visible.{Seen, is_hidden, seen_bytes, stacked}
 use Rattle.vc_paths.proofs.BesideLemmas.{AreLevel, any_level, before_apart, before_beside, behind_apart, behind_beside, fails}
 use Rattle.vc_paths.proofs.LayerLemmas.{find_split, next_shown, previous_shown, split_at, split_of, there_split}
 use Rattle.vc_paths.proofs.OrderLemmas.{AreOrdered, all_append, all_both, all_filter, all_none, all_weaker, any_more, any_none, filter_kept, filter_none, or_left, or_right, ordered}
@@ -59,7 +60,7 @@ level_first rules laws x above layer h =
     ∙ none_hidden rules (filter (is_level rules x) layer)
 
 -- what stands in another dictionary isn't at a place
-at_elsewhere : (e f a : ℕ) (xs : List Placed) → (f == e) ≡ false → AllByRecursion (λ y. is_at (e, a) y ≡ false) (map (seen_in f) xs)
+at_elsewhere : (e f a : ℕ) (xs : List Object) → (f == e) ≡ false → AllByRecursion (λ y. is_at (e, a) y ≡ false) (map (seen_in f) xs)
 at_elsewhere e f a [] h = tt
 at_elsewhere e f a (x ∷ xs) h = (ap (λ z. z && (x.at == a)) h, at_elsewhere e f a xs h)
 
@@ -110,11 +111,11 @@ level_stacked rules all e a x above (f ∷ es) s l h any =
     ]
 
 -- each object of a layer is the one at its address
-pub all_there : (objects front rest : List Placed) → objects ≡ front ++ rest → AreDistinct (map (λ o. o.at) objects) → AllByRecursion (λ o. bytes_there o.at objects ≡ Some o.bytes) rest
+pub all_there : (objects front rest : List Object) → objects ≡ front ++ rest → AreDistinct (map (λ o. o.at) objects) → AllByRecursion (λ o. bytes_there o.at objects ≡ Some o.bytes) rest
 all_there objects front [] whole d = tt
 all_there objects front (x ∷ xs) whole d =
     let s = split_of objects front x xs x.at whole d refl in (
-      ap (option_map (λ (o : Placed). o.bytes)) (find_split objects x.at s),
+      ap (option_map (λ (o : Object). o.bytes)) (find_split objects x.at s),
       all_there objects (front ++ x ∷ []) xs (whole ∙ sym (append_assoc front (x ∷ []) xs)) d,
     )
 
@@ -173,7 +174,7 @@ in_level rules laws all d p x here y inner t =
     subst (λ z. is_match rules x.bytes z ≡ true) (some_same x.bytes y.bytes (sym here ∙ there)) (laws.tied x.bytes x.bytes (itself rules laws x) (itself rules laws x))
 
 -- an object of a layer passes the test on its place
-found_at : (e a : ℕ) (xs : List Placed) → is_some (option_map (λ (o : Placed). o.bytes) (find (stands_at a) xs)) ≡ true → list_any (is_at (e, a)) (map (seen_in e) xs) ≡ true
+found_at : (e a : ℕ) (xs : List Object) → is_some (option_map (λ (o : Object). o.bytes) (find (stands_at a) xs)) ≡ true → list_any (is_at (e, a)) (map (seen_in e) xs) ≡ true
 found_at e a [] h = absurd (true≢false (sym h))
 found_at e a (x ∷ xs) h = elim (cases_Bool (x.at == a)) as (λ _. list_any (is_at (e, a)) (map (seen_in e) (x ∷ xs)) ≡ true) [
   | inl t ↦ rw (t, eq-eqb e e refl) refl
@@ -199,7 +200,7 @@ pub record Visited (rules : Rules) (all : Layered) (p : ℕ × Addr) (x : Seen �
   pub layer_any : list_any (is_at (numbers_of p)) (objects_of all p.0) ≡ true
 
 -- by what is known of the layers
-visited_in : (rules : Rules) → AreOrdered rules → (all : Layered) (d : ℕ) (p : ℕ × Addr) (x : Seen ℕ) (es : List ℕ) → bytes_there p.1.0 (all.layer p.0).objects ≡ Some x.bytes → AllByRecursion (AllByRecursion (InLayer all d)) (map (objects_of all) es) → AllByRecursion (InLayer all d) (objects_of all p.0) → AreSorted rules (objects_of all p.0) → list_any (is_at (numbers_of p)) (sorted_onto rules [] (stacked rules [] (map (objects_of all) es))) ≡ true → Visited rules all p x (sorted_onto rules [] (stacked rules [] (map (objects_of all) es)))
+visited_in : (rules : Rules) → AreOrdered rules → (all : Layered) (d : ℕ) (p : ℕ × Addr) (x : Seen ℕ) (es : List ℕ) → bytes_there p.1.0 (all.layer p.0).objects ≡ Some x.bytes → AllByRecursion (AllByRecursion (InLayer all d)) (map (objects_of all) es) → AllByRecursion (InLayer all d) (objects_of all p.0) → AreSorted rules (objects_of all p.0) → list_any (is_at (numbers_of p)) (placed_each seen_bytes rules [] (stacked rules [] (map (objects_of all) es))) ≡ true → Visited rules all p x (placed_each seen_bytes rules [] (stacked rules [] (map (objects_of all) es)))
 visited_in rules laws all d p x es here layers layer layer_sorted any =
     let test = is_at (numbers_of p) in
     let heap = stacked rules [] (map (objects_of all) es) in
@@ -209,7 +210,7 @@ visited_in rules laws all d p x es here layers layer layer_sorted any =
     let in_seen = all_sorted rules (InLayer all d) [] heap tt in_heap in
     let same = kept_sorted rules laws (is_level rules x) (λ y u h g. level_upto rules laws x y u h g) heap in
     let heap_any : list_any test heap ≡ true =
-    sym (any_level rules x test heap (level_of heap in_heap)) ∙ ap (list_any test) (sym same) ∙ any_level rules x test (sorted_onto rules [] heap) (level_of (sorted_onto rules [] heap) in_seen) ∙ any in
+    sym (any_level rules x test heap (level_of heap in_heap)) ∙ ap (list_any test) (sym same) ∙ any_level rules x test (placed_each seen_bytes rules [] heap) (level_of (placed_each seen_bytes rules [] heap) in_seen) ∙ any in
     let layer_level = level_of (objects_of all p.0) layer in
     let layer_any = found_at p.0 p.1.0 (all.layer p.0).objects (ap is_some here) in
     let seeks : Seeks rules all p.0 p.1.0 x = record { laws = laws; present = any_along rules x test (objects_of all p.0) layer_level layer_any } in
@@ -217,7 +218,7 @@ visited_in rules laws all d p x es here layers layer layer_sorted any =
     record {
       laws = laws;
       sorted = onto_sorted rules laws [] heap tt;
-      level = level_of (sorted_onto rules [] heap) in_seen;
+      level = level_of (placed_each seen_bytes rules [] heap) in_seen;
       any = any;
       kept = same ∙ level_stacked rules all p.0 p.1.0 x [] es seeks levels tt heap_any;
       layer_sorted = layer_sorted;
@@ -283,18 +284,18 @@ previous_among rules all p x seen v =
     (ap (before_first test) v.kept ∙ sym same ∙ ap (if_level rules (Some x)) (sym (before_beside rules v.laws x test layer v.layer_sorted v.layer_level v.layer_any)))
 
 -- the neighbours in the layer, by its objects
-at_same : (e a : ℕ) (o : Placed) → is_at (e, a) (seen_in e o) ≡ stands_at a o
+at_same : (e a : ℕ) (o : Object) → is_at (e, a) (seen_in e o) ≡ stands_at a o
 at_same e a o = rw (eq-eqb e e refl) refl
 
-first_map : (e : ℕ) (xs : List Placed) → first_of (map (seen_in e) xs) ≡ option_map (seen_in e) (first_of xs)
+first_map : (e : ℕ) (xs : List Object) → first_of (map (seen_in e) xs) ≡ option_map (seen_in e) (first_of xs)
 first_map e [] = refl
 first_map e (x ∷ xs) = refl
 
-any_map : (e a : ℕ) (xs : List Placed) → list_any (is_at (e, a)) (map (seen_in e) xs) ≡ list_any (stands_at a) xs
+any_map : (e a : ℕ) (xs : List Object) → list_any (is_at (e, a)) (map (seen_in e) xs) ≡ list_any (stands_at a) xs
 any_map e a [] = refl
 any_map e a (x ∷ xs) = ap (λ z. z || list_any (is_at (e, a)) (map (seen_in e) xs)) (at_same e a x) ∙ ap (λ z. stands_at a x || z) (any_map e a xs)
 
-pub behind_map : (e a : ℕ) (xs : List Placed) → behind_last (is_at (e, a)) (map (seen_in e) xs) ≡ option_map (seen_in e) (behind_last (stands_at a) xs)
+pub behind_map : (e a : ℕ) (xs : List Object) → behind_last (is_at (e, a)) (map (seen_in e) xs) ≡ option_map (seen_in e) (behind_last (stands_at a) xs)
 behind_map e a [] = refl
 behind_map e a (x ∷ xs) =
     let one = at_same e a x in
@@ -304,7 +305,7 @@ behind_map e a (x ∷ xs) =
       | inr t ↦ rw (one, more, t) (behind_map e a xs)
     ]
 
-before_map : (e a : ℕ) (before : Option Placed) (xs : List Placed) → before_first_from (option_map (seen_in e) before) (is_at (e, a)) (map (seen_in e) xs) ≡ option_map (seen_in e) (before_first_from before (stands_at a) xs)
+before_map : (e a : ℕ) (before : Option Object) (xs : List Object) → before_first_from (option_map (seen_in e) before) (is_at (e, a)) (map (seen_in e) xs) ≡ option_map (seen_in e) (before_first_from before (stands_at a) xs)
 before_map e a before [] = refl
 before_map e a before (x ∷ xs) = elim (cases_Bool (stands_at a x)) as (λ _. before_first_from (option_map (seen_in e) before) (is_at (e, a)) (map (seen_in e) (x ∷ xs)) ≡ option_map (seen_in e) (before_first_from before (stands_at a) (x ∷ xs))) [
   | inl t ↦ rw (at_same e a x, t) refl
@@ -322,7 +323,7 @@ visited_at all links d p laws path' method visible' =
     let order = ordered rules (laws.lawful d h).order in
     let s = split_at (all.layer p.0).objects p.1.0 stands.object (laws.distinct p.0 stands.there) in
     let x = seen_in p.0 s.here in
-    let here : bytes_there p.1.0 (all.layer p.0).objects ≡ Some x.bytes = ap (option_map (λ (o : Placed). o.bytes)) (find_split (all.layer p.0).objects p.1.0 s) in
+    let here : bytes_there p.1.0 (all.layer p.0).objects ≡ Some x.bytes = ap (option_map (λ (o : Object). o.bytes)) (find_split (all.layer p.0).objects p.1.0 s) in
     let same = visible_ordered all links d method in (
       x,
       there_split all p.0 p.1 s,

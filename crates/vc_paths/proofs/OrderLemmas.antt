@@ -8,8 +8,8 @@ use Rattle.std.specs.declared.cmp.Ordering.{Ordering}
 use Rattle.std.specs.declared.cmp.Ordering.TheVariants.{Less, Equal, Greater}
 use Rattle.std.proofs.lemmas.Bool.{true≢false, cases_Bool}
 use Rattle.std.proofs.lemmas.Cmp.{upto}
+use Rattle.vc_dtdisc.specs.Objects.{has_key, is_greater, is_match}
 use Rattle.vc_dtdisc.specs.Rules.{Rules}
-use Rattle.vc_paths.specs.Layers.{has_key, is_greater, is_match}
 
 -- what the laws of an order say of the tests on objects
 pub record AreOrdered (rules : Rules) : Type 0 where

@@ -5,14 +5,15 @@ use Rattle.std.specs.List.{AllByRecursion, filter}
 use Rattle.std.specs.Option.{option_map}
 use Rattle.std.proofs.lemmas.Bool.{true≢false}
 use Rattle.vc_base.specs.declared.addr.Addr.{Addr}
-use Rattle.vc_dict.specs.Methods.{is_ordered}
+use Rattle.vc_base.specs.Methods.{is_ordered}
+use Rattle.vc_dtdisc.specs.Objects.{IsSorted, Object, bytes_of, is_greater, is_match, placed_each}
 use Rattle.vc_dtdisc.specs.Rules.{Rules}
-use Rattle.vc_paths.specs.Finding.{first_of, last_of}
-use Rattle.vc_paths.specs.Layers.{AreLayers, IsSorted, Layered, Placed, bytes_there, is_greater, is_match}
+use Rattle.vc_dtdisc.specs.Finding.{first_of, last_of}
+use Rattle.vc_paths.specs.Layers.{AreLayers, Layered, bytes_there}
 use Rattle.vc_paths.specs.Links.{ArePaths, Links, below, numbers, onward, path}
 use Rattle.vc_paths.specs.Ordered.{IsStanding, greater, is_before, is_behind, lesser, object_at}
 use Rattle.vc_paths.specs.Path.{Answers, IsAlike, IsPath, objects_of, place_of, seen_in, visible_of}
-use Rattle.vc_paths.specs.Visible.{Seen, sorted_onto, stacked}
+use Rattle.vc_paths.specs.Visible.{Seen, seen_bytes, stacked}
 use Rattle.vc_paths.proofs.LastLemmas.{greatest_of, last_passing}
 use Rattle.vc_paths.proofs.LeastLemmas.{first_passing, least_of}
 use Rattle.vc_paths.proofs.OrderLemmas.{AreOrdered, all_none, down, ordered, up}
@@ -23,7 +24,7 @@ pub all_map : {A B : Type 0} (P : B → Type 0) (f : A → B) (xs : List A) → 
 all_map P f [] h = tt
 all_map P f (x ∷ xs) h = (h.0, all_map P f xs h.1)
 
-pub objects_sorted : (rules : Rules) (e : ℕ) (xs : List Placed) → IsSorted rules xs → AreSorted rules (map (seen_in e) xs)
+pub objects_sorted : (rules : Rules) (e : ℕ) (xs : List Object) → IsSorted bytes_of rules xs → AreSorted rules (map (seen_in e) xs)
 objects_sorted rules e [] s = tt
 objects_sorted rules e (x ∷ xs) s = (
   all_map (IsUpto rules (seen_in e x)) (seen_in e) xs (all_none (λ y. is_greater rules x.bytes y.bytes) xs s.0),
@@ -37,7 +38,7 @@ same_rules all d e laws h alike = laws.kinds e d alike.there h alike.kind
 pub layer_sorted : (all : Layered) (d e : ℕ) → AreLayers all → all.Has d → is_ordered (all.layer d).method ≡ true → IsAlike all d e → AreSorted (all.layer d).rules (objects_of all e)
 layer_sorted all d e laws h method alike =
     let sorted = laws.sorted e alike.there (ap is_ordered alike.method ∙ method) in
-    objects_sorted (all.layer d).rules e (all.layer e).objects (subst (λ z. IsSorted z (all.layer e).objects) (same_rules all d e laws h alike) sorted)
+    objects_sorted (all.layer d).rules e (all.layer e).objects (subst (λ z. IsSorted bytes_of z (all.layer e).objects) (same_rules all d e laws h alike) sorted)
 
 pub layers_sorted : (all : Layered) (d : ℕ) (es : List ℕ) → AreLayers all → all.Has d → is_ordered (all.layer d).method ≡ true → AllByRecursion (IsAlike all d) es → AllByRecursion (AreSorted (all.layer d).rules) (map (objects_of all) es)
 layers_sorted all d [] laws h method alike = tt
@@ -47,7 +48,7 @@ layers_sorted all d (e ∷ es) laws h method alike = (layer_sorted all d e laws 
 pub path_head : (P : ℕ → Type 0) (links : Links) (d : ℕ) → AllByRecursion P (path links d) → P d
 path_head P links d h = h.0
 
-pub visible_ordered : (all : Layered) (links : Links) (d : ℕ) → is_ordered (all.layer d).method ≡ true → visible_of all links d ≡ sorted_onto (all.layer d).rules [] (stacked (all.layer d).rules [] (map (objects_of all) (path links d)))
+pub visible_ordered : (all : Layered) (links : Links) (d : ℕ) → is_ordered (all.layer d).method ≡ true → visible_of all links d ≡ placed_each seen_bytes (all.layer d).rules [] (stacked (all.layer d).rules [] (map (objects_of all) (path links d)))
 visible_ordered all links d method = rw method refl
 
 -- matching objects are both greater than another one, or both less

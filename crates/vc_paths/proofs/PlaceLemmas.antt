@@ -5,8 +5,9 @@ use Rattle.std.specs.List.{find, list_any}
 use Rattle.std.specs.Option.{option_map}
 use Rattle.std.proofs.lemmas.Bool.{cases_Bool, eq-eqb, eqb-true, ne_eqb, or_from, or_parts, true≢false}
 use Rattle.vc_base.specs.Holders.{AreDistinct, contains}
-use Rattle.vc_paths.specs.Finding.{first_of, last_of}
-use Rattle.vc_paths.specs.Layers.{Placed, bytes_there, place_before, place_behind, place_in, stands_at}
+use Rattle.vc_dtdisc.specs.Finding.{first_of, last_of}
+use Rattle.vc_dtdisc.specs.Objects.{Object}
+use Rattle.vc_paths.specs.Layers.{bytes_there, place_before, place_behind, place_in, stands_at}
 use Rattle.vc_paths.specs.Shown.{IsPlaceIn, from_at, objects_from, objects_up_to, up_to}
 use Rattle.vc_paths.proofs.EndLemmas.{any-map, before-at, behind-at, last-append, parted}
 
@@ -26,33 +27,33 @@ apart-once (x ∷ xs) y ys d =
     ]
 
 -- an object among others, at an address of its own
-pub record Standing (objects : List Placed) (at : ℕ) : Type 0 where
-  pub before : List Placed
-  pub one : Placed
-  pub behind : List Placed
+pub record Standing (objects : List Object) (at : ℕ) : Type 0 where
+  pub before : List Object
+  pub one : Object
+  pub behind : List Object
   pub whole : objects ≡ before ++ one ∷ behind
   pub here : one.at ≡ at
   pub first : list_any (stands_at at) before ≡ false
   pub last : list_any (stands_at at) behind ≡ false
 
-map-joined : (xs : List Placed) (y : Placed) (ys : List Placed) → map (λ o. o.at) (xs ++ y ∷ ys) ≡ map (λ o. o.at) xs ++ y.at ∷ map (λ o. o.at) ys
+map-joined : (xs : List Object) (y : Object) (ys : List Object) → map (λ o. o.at) (xs ++ y ∷ ys) ≡ map (λ o. o.at) xs ++ y.at ∷ map (λ o. o.at) ys
 map-joined [] y ys = refl
 map-joined (x ∷ xs) y ys = ap (λ z. x.at ∷ z) (map-joined xs y ys)
 
 -- the addresses of two parts and of what stands between them
-apart-object : (xs : List Placed) (y : Placed) (ys : List Placed) → AreDistinct (map (λ o. o.at) (xs ++ y ∷ ys)) → (list_any (stands_at y.at) xs ≡ false) × (list_any (stands_at y.at) ys ≡ false)
+apart-object : (xs : List Object) (y : Object) (ys : List Object) → AreDistinct (map (λ o. o.at) (xs ++ y ∷ ys)) → (list_any (stands_at y.at) xs ≡ false) × (list_any (stands_at y.at) ys ≡ false)
 apart-object xs y ys d =
     let w = apart-once (map (λ o. o.at) xs) y.at (map (λ o. o.at) ys) (subst AreDistinct (map-joined xs y ys) d) in
     (sym (any-map (λ o. o.at) (λ x. eqb x y.at) xs) ∙ w.0, sym (any-map (λ o. o.at) (λ x. eqb x y.at) ys) ∙ w.1)
 
-found-some : (at : ℕ) (objects : List Placed) → IsSome (bytes_there at objects) → list_any (stands_at at) objects ≡ true
+found-some : (at : ℕ) (objects : List Object) → IsSome (bytes_there at objects) → list_any (stands_at at) objects ≡ true
 found-some at [] h = absurd (true≢false (sym h))
 found-some at (x ∷ xs) h = elim (cases_Bool (stands_at at x)) as (λ _. list_any (stands_at at) (x ∷ xs) ≡ true) [
   | inl k ↦ rw k refl
   | inr k ↦ rw k (found-some at xs (rw k at h))
 ]
 
-pub standing-any : (objects : List Placed) (at : ℕ) → AreDistinct (map (λ o. o.at) objects) → list_any (stands_at at) objects ≡ true → Standing objects at
+pub standing-any : (objects : List Object) (at : ℕ) → AreDistinct (map (λ o. o.at) objects) → list_any (stands_at at) objects ≡ true → Standing objects at
 standing-any objects at d h =
     let w = parted (stands_at at) objects h in
     let same = eqb-true w.one.at at w.passes in
@@ -67,23 +68,23 @@ standing-any objects at d h =
       last = subst (λ z. list_any (stands_at z) w.back ≡ false) same apart.1;
     }
 
-pub standing : (objects : List Placed) (at : ℕ) → AreDistinct (map (λ o. o.at) objects) → IsSome (bytes_there at objects) → Standing objects at
+pub standing : (objects : List Object) (at : ℕ) → AreDistinct (map (λ o. o.at) objects) → IsSome (bytes_there at objects) → Standing objects at
 standing objects at d h = standing-any objects at d (found-some at objects h)
 
 -- past objects that stand elsewhere
-find-past : (at : ℕ) (xs ys : List Placed) → list_any (stands_at at) xs ≡ false → find (stands_at at) (xs ++ ys) ≡ find (stands_at at) ys
+find-past : (at : ℕ) (xs ys : List Object) → list_any (stands_at at) xs ≡ false → find (stands_at at) (xs ++ ys) ≡ find (stands_at at) ys
 find-past at [] ys none = refl
 find-past at (x ∷ xs) ys none = let w = or_parts (stands_at at x) (list_any (stands_at at) xs) none in rw w.0 (find-past at xs ys w.1)
 
-from-past : (at : ℕ) (xs : List Placed) (y : Placed) (ys : List Placed) → list_any (stands_at at) xs ≡ false → y.at ≡ at → from_at at (xs ++ y ∷ ys) ≡ y ∷ ys
+from-past : (at : ℕ) (xs : List Object) (y : Object) (ys : List Object) → list_any (stands_at at) xs ≡ false → y.at ≡ at → from_at at (xs ++ y ∷ ys) ≡ y ∷ ys
 from-past at [] y ys none e = rw (eq-eqb y.at at e) refl
 from-past at (x ∷ xs) y ys none e = let w = or_parts (stands_at at x) (list_any (stands_at at) xs) none in rw w.0 (from-past at xs y ys w.1 e)
 
-up_to-past : (at : ℕ) (xs : List Placed) (y : Placed) (ys : List Placed) → list_any (stands_at at) xs ≡ false → y.at ≡ at → up_to at (xs ++ y ∷ ys) ≡ xs ++ y ∷ []
+up_to-past : (at : ℕ) (xs : List Object) (y : Object) (ys : List Object) → list_any (stands_at at) xs ≡ false → y.at ≡ at → up_to at (xs ++ y ∷ ys) ≡ xs ++ y ∷ []
 up_to-past at [] y ys none e = rw (eq-eqb y.at at e) refl
 up_to-past at (x ∷ xs) y ys none e = let w = or_parts (stands_at at x) (list_any (stands_at at) xs) none in rw w.0 (ap (λ z. x ∷ z) (up_to-past at xs y ys w.1 e))
 
-module _ (objects : List Placed) (at : ℕ) (s : Standing objects at) where
+module _ (objects : List Object) (at : ℕ) (s : Standing objects at) where
   pub there : bytes_there at objects ≡ Some s.one.bytes
   there =
       let found : find (stands_at at) (s.one ∷ s.behind) ≡ Some s.one = rw (eq-eqb s.one.at at s.here) refl in
@@ -107,23 +108,23 @@ module _ (objects : List Placed) (at : ℕ) (s : Standing objects at) where
       ∙ ap place_in (before-at (stands_at at) None s.before s.one s.behind (eq-eqb s.one.at at s.here) s.first)
 
 -- the objects from the first of a rest on are that rest, and those up to the last of a front are that front
-pub from-first : (front rest : List Placed) → AreDistinct (map (λ o. o.at) (front ++ rest)) → objects_from (place_in (first_of rest)) (front ++ rest) ≡ rest
+pub from-first : (front rest : List Object) → AreDistinct (map (λ o. o.at) (front ++ rest)) → objects_from (place_in (first_of rest)) (front ++ rest) ≡ rest
 from-first front [] d = refl
 from-first front (y ∷ ys) d = from-past y.at front y ys (apart-object front y ys d).0 refl
 
 -- a list is empty, or it ends in its last
-pub data Ends (xs : List Placed) : Type 0 where
+pub data Ends (xs : List Object) : Type 0 where
   none : xs ≡ [] → Ends xs
-  some : (front : List Placed) (y : Placed) → xs ≡ front ++ y ∷ [] → Ends xs
+  some : (front : List Object) (y : Object) → xs ≡ front ++ y ∷ [] → Ends xs
 
-pub ends : (xs : List Placed) → Ends xs
+pub ends : (xs : List Object) → Ends xs
 ends [] = none refl
 ends (x ∷ xs) = elim (ends xs) as (λ _. Ends (x ∷ xs)) [
   | none e ↦ some [] x (ap (λ z. x ∷ z) e)
   | some front y e ↦ some (x ∷ front) y (ap (λ z. x ∷ z) e)
 ]
 
-pub up_to-last : (front rest : List Placed) → AreDistinct (map (λ o. o.at) (front ++ rest)) → objects_up_to (place_in (last_of front)) (front ++ rest) ≡ front
+pub up_to-last : (front rest : List Object) → AreDistinct (map (λ o. o.at) (front ++ rest)) → objects_up_to (place_in (last_of front)) (front ++ rest) ≡ front
 up_to-last front rest d = elim (ends front) as (λ _. objects_up_to (place_in (last_of front)) (front ++ rest) ≡ front) [
   | none e ↦ rw e refl
   | some less y e ↦
@@ -135,7 +136,7 @@ up_to-last front rest d = elim (ends front) as (λ _. objects_up_to (place_in (l
 ]
 
 -- an object of a list stands at a place
-there-first : (front : List Placed) (y : Placed) (rest : List Placed) → IsSome (bytes_there y.at (front ++ y ∷ rest))
+there-first : (front : List Object) (y : Object) (rest : List Object) → IsSome (bytes_there y.at (front ++ y ∷ rest))
 there-first [] y rest = rw (eq-eqb y.at y.at refl) refl
 there-first (x ∷ xs) y rest = elim (cases_Bool (stands_at y.at x)) as (λ _. IsSome (bytes_there y.at (x ∷ xs ++ y ∷ rest))) [
   | inl h ↦ rw h refl
@@ -145,14 +146,14 @@ there-first (x ∷ xs) y rest = elim (cases_Bool (stands_at y.at x)) as (λ _. I
 same-some : (x y : ℕ) → Some x ≡ Some y → x ≡ y
 same-some x y e = cc
 
-pub place-first : (front rest : List Placed) → IsPlaceIn (front ++ rest) (place_in (first_of rest))
+pub place-first : (front rest : List Object) → IsPlaceIn (front ++ rest) (place_in (first_of rest))
 place-first front [] = λ a e. absurd (none_some a e)
   where
     none_some : (a : ℕ) → ◌≡◌ {A = Option ℕ} None (Some a) → ⊥
     none_some a e = cc
 place-first front (y ∷ ys) = λ a e. subst (λ z. IsSome (bytes_there z (front ++ y ∷ ys))) (same-some y.at a e) (there-first front y ys)
 
-pub place-last : (front rest : List Placed) → IsPlaceIn (front ++ rest) (place_in (last_of front))
+pub place-last : (front rest : List Object) → IsPlaceIn (front ++ rest) (place_in (last_of front))
 place-last front rest = elim (ends front) as (λ _. IsPlaceIn (front ++ rest) (place_in (last_of front))) [
   | none e ↦ λ a h. absurd (none_some a (ap (λ z. place_in (last_of z)) (sym e) ∙ h))
   | some less y e ↦ λ a h.

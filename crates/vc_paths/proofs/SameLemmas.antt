@@ -3,7 +3,7 @@ use Rattle.std.proofs.Common.{◌≡◌, List, [], ◌∷◌, Bool, true, false,
 use Rattle.std.specs.List.{AllByRecursion, filter, find, list_any}
 use Rattle.std.proofs.lemmas.Bool.{cases_Bool, or_right, true≢false}
 use Rattle.std.proofs.lemmas.Option.{none-some}
-use Rattle.vc_paths.specs.Finding.{before_first, before_first_from, behind_last, first_of, last_from, last_of}
+use Rattle.vc_dtdisc.specs.Finding.{before_first, before_first_from, behind_last, first_of, last_from, last_of}
 use Rattle.vc_paths.proofs.StackedLemmas.{filter-none}
 
 -- what passes the second passes the first

@@ -3,13 +3,14 @@ use Rattle.std.proofs.Common.{◌≡◌, ℕ, ◌<◌, List, [], ◌∷◌, map,
 use Rattle.std.specs.List.{AllByRecursion, find, list_any}
 use Rattle.std.specs.Option.{option_map, option_or}
 use Rattle.std.proofs.lemmas.Bool.{cases_Bool}
-use Rattle.vc_dict.specs.Methods.{is_ordered}
+use Rattle.vc_base.specs.Methods.{is_ordered}
+use Rattle.vc_dtdisc.specs.Objects.{Object, has_key, placed_each}
 use Rattle.vc_dtdisc.specs.Rules.{AreLawful, Rules}
-use Rattle.vc_paths.specs.Layers.{AreLayers, Layered, Placed, has_key, place_in, place_with}
+use Rattle.vc_paths.specs.Layers.{AreLayers, Layered, place_in, place_with}
 use Rattle.vc_paths.specs.Links.{ArePaths, Links, below, numbers, onward, path, path_of}
 use Rattle.vc_paths.specs.Path.{IsAlike, IsPath, objects_of, place_of, seen_in, visible_of}
 use Rattle.vc_paths.specs.Seek.{has_key_in}
-use Rattle.vc_paths.specs.Visible.{Seen, sorted_onto, stacked}
+use Rattle.vc_paths.specs.Visible.{Seen, seen_bytes, stacked}
 use Rattle.vc_paths.proofs.PathLemmas.{path-step}
 use Rattle.vc_paths.proofs.SortedLemmas.{found_sorted}
 use Rattle.vc_paths.proofs.StackedLemmas.{first_having, stacked-found, with_key}
@@ -43,7 +44,7 @@ found-having all test (e ∷ es) = elim (found test (objects_of all e)) as (λ _
 ]
 
 -- the order of keys leaves what is found
-found-ordered : (t : Bool) (rules : Rules) (key : List ℕ) (xs : List (Seen ℕ)) → AreLawful rules → find (with_key rules key) (cond t (sorted_onto rules [] xs) xs) ≡ find (with_key rules key) xs
+found-ordered : (t : Bool) (rules : Rules) (key : List ℕ) (xs : List (Seen ℕ)) → AreLawful rules → find (with_key rules key) (cond t (placed_each seen_bytes rules [] xs) xs) ≡ find (with_key rules key) xs
 found-ordered true rules key xs lawful = found_sorted rules lawful.order key xs
 found-ordered false rules key xs lawful = refl
 
@@ -65,7 +66,7 @@ find-map f test (x ∷ xs) = elim (cases_Bool (test (f x))) as (λ _. find test 
 ]
 
 -- where it stands
-place-map : (e : ℕ) (o : Option Placed) → option_map place_of (option_map (seen_in e) o) ≡ option_map (λ a. (e, a)) (place_in o)
+place-map : (e : ℕ) (o : Option Object) → option_map place_of (option_map (seen_in e) o) ≡ option_map (λ a. (e, a)) (place_in o)
 place-map e None = refl
 place-map e (Some o) = refl
 

@@ -5,8 +5,9 @@ use Rattle.std.specs.Option.{option_map}
 use Rattle.std.proofs.lemmas.List.{append-nil}
 use Rattle.std.proofs.lemmas.List.Elements.{filter-append}
 use Rattle.vc_base.specs.Holders.{AreDistinct}
-use Rattle.vc_paths.specs.Finding.{first_of, last_of}
-use Rattle.vc_paths.specs.Layers.{Layered, Placed, bytes_there, place_before, place_behind, place_in, Same, Layer}
+use Rattle.vc_dtdisc.specs.Finding.{first_of, last_of}
+use Rattle.vc_dtdisc.specs.Objects.{Object}
+use Rattle.vc_paths.specs.Layers.{Layered, bytes_there, place_before, place_behind, place_in, Same, Layer}
 use Rattle.vc_paths.specs.Links.{Links}
 use Rattle.vc_paths.specs.Shown.{IsPlaceIn, is_covered, objects_from, objects_up_to, places}
 use Rattle.vc_paths.proofs.EndLemmas.{first-map, last-append, last-map}
@@ -14,10 +15,10 @@ use Rattle.vc_paths.proofs.PlaceLemmas.{Standing, before-here, behind-here, from
 use Rattle.vc_paths.proofs.StayLemmas.{covered-kept}
 
 -- those of some objects that aren't hidden
-abbrev pub unhidden : (List ℕ → Bool) → List Placed → List Placed
+abbrev pub unhidden : (List ℕ → Bool) → List Object → List Object
 unhidden hides objects = filter (λ o. not (hides o.bytes)) objects
 
-module _ (objects : List Placed) (apart : AreDistinct (map (λ o. o.at) objects)) (a : ℕ) (s : Standing objects a) where
+module _ (objects : List Object) (apart : AreDistinct (map (λ o. o.at) objects)) (a : ℕ) (s : Standing objects a) where
   in_front : objects ≡ (s.before ++ s.one ∷ []) ++ s.behind
   in_front = s.whole ∙ sym (append_assoc s.before (s.one ∷ []) s.behind)
 
@@ -90,10 +91,10 @@ module _ (objects : List Placed) (apart : AreDistinct (map (λ o. o.at) objects)
           ∙ ap (λ z. unhidden hides s.before ++ z) seen ∙ append-nil (unhidden hides s.before) ∙ ap (unhidden hides) (sym (up_to-previous previous e)))
 
 -- without a place there is none
-pub first-none : (hides : List ℕ → Bool) (objects : List Placed) (at : Option ℕ) → at ≡ None → None ≡ place_in (first_of (unhidden hides (objects_from at objects)))
+pub first-none : (hides : List ℕ → Bool) (objects : List Object) (at : Option ℕ) → at ≡ None → None ≡ place_in (first_of (unhidden hides (objects_from at objects)))
 first-none hides objects at is = ap (λ z. place_in (first_of (unhidden hides (objects_from z objects)))) (sym is)
 
-pub last-none : (hides : List ℕ → Bool) (objects : List Placed) (at : Option ℕ) → at ≡ None → None ≡ place_in (last_of (unhidden hides (objects_up_to at objects)))
+pub last-none : (hides : List ℕ → Bool) (objects : List Object) (at : Option ℕ) → at ≡ None → None ≡ place_in (last_of (unhidden hides (objects_up_to at objects)))
 last-none hides objects at is = ap (λ z. place_in (last_of (unhidden hides (objects_up_to z objects)))) (sym is)
 
 -- what a test of the object at a place was told, by a dictionary that stayed
@@ -104,29 +105,29 @@ covered-told now all links d e a r s same told =
     ∙ covered-kept links d e s.one.bytes same)
 
 -- the ends of a dictionary
-pub place-start : (objects : List Placed) (start : Option ℕ) → start ≡ place_in (first_of objects) → IsPlaceIn objects start
+pub place-start : (objects : List Object) (start : Option ℕ) → start ≡ place_in (first_of objects) → IsPlaceIn objects start
 place-start objects start e = subst (IsPlaceIn objects) (sym e) (place-first [] objects)
 
-pub place-end : (objects : List Placed) (end : Option ℕ) → end ≡ place_in (last_of objects) → IsPlaceIn objects end
+pub place-end : (objects : List Object) (end : Option ℕ) → end ≡ place_in (last_of objects) → IsPlaceIn objects end
 place-end objects end e =
     subst (IsPlaceIn objects) (sym e) (subst (λ z. IsPlaceIn z (place_in (last_of objects))) (append-nil objects) (place-last objects []))
 
-pub from-start : (objects : List Placed) (start : Option ℕ) → AreDistinct (map (λ o. o.at) objects) → start ≡ place_in (first_of objects) → objects_from start objects ≡ objects
+pub from-start : (objects : List Object) (start : Option ℕ) → AreDistinct (map (λ o. o.at) objects) → start ≡ place_in (first_of objects) → objects_from start objects ≡ objects
 from-start objects start apart e = ap (λ z. objects_from z objects) e ∙ from-first [] objects apart
 
-pub up_to-end : (objects : List Placed) (end : Option ℕ) → AreDistinct (map (λ o. o.at) objects) → end ≡ place_in (last_of objects) → objects_up_to end objects ≡ objects
+pub up_to-end : (objects : List Object) (end : Option ℕ) → AreDistinct (map (λ o. o.at) objects) → end ≡ place_in (last_of objects) → objects_up_to end objects ≡ objects
 up_to-end objects end apart e =
     ap (λ z. objects_up_to z objects) e
     ∙ ap (objects_up_to (place_in (last_of objects))) (sym (append-nil objects))
     ∙ up_to-last objects [] (subst (λ z. AreDistinct (map (λ o. o.at) z)) (sym (append-nil objects)) apart)
 
 -- the places of what is found
-place-told : (e : ℕ) (o : Option Placed) → option_map {U = ℕ × ℕ} (λ a. (e, a)) (place_in o) ≡ option_map {U = ℕ × ℕ} (λ x. (e, x.at)) o
+place-told : (e : ℕ) (o : Option Object) → option_map {U = ℕ × ℕ} (λ a. (e, a)) (place_in o) ≡ option_map {U = ℕ × ℕ} (λ x. (e, x.at)) o
 place-told e None = refl
 place-told e (Some x) = refl
 
-pub first-place : (e : ℕ) (xs : List Placed) → option_map {U = ℕ × ℕ} (λ a. (e, a)) (place_in (first_of xs)) ≡ first_of (places e xs)
+pub first-place : (e : ℕ) (xs : List Object) → option_map {U = ℕ × ℕ} (λ a. (e, a)) (place_in (first_of xs)) ≡ first_of (places e xs)
 first-place e xs = place-told e (first_of xs) ∙ sym (first-map {B = ℕ × ℕ} (λ x. (e, x.at)) xs)
 
-pub last-place : (e : ℕ) (xs : List Placed) → option_map {U = ℕ × ℕ} (λ a. (e, a)) (place_in (last_of xs)) ≡ last_of (places e xs)
+pub last-place : (e : ℕ) (xs : List Object) → option_map {U = ℕ × ℕ} (λ a. (e, a)) (place_in (last_of xs)) ≡ last_of (places e xs)
 last-place e xs = place-told e (last_of xs) ∙ sym (last-map {B = ℕ × ℕ} (λ x. (e, x.at)) None xs)

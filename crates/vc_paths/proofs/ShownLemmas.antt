@@ -5,9 +5,10 @@ use Rattle.std.proofs.lemmas.Bool.{cases_Bool, eq-eqb, ne_eqb, or_left, or_right
 use Rattle.std.proofs.lemmas.List.{append-nil, map-append}
 use Rattle.std.proofs.lemmas.List.Elements.{filter_agree}
 use Rattle.vc_base.specs.Holders.{AreDistinct, contains}
-use Rattle.vc_dict.specs.Methods.{is_ordered}
+use Rattle.vc_base.specs.Methods.{is_ordered}
+use Rattle.vc_dtdisc.specs.Objects.{Object, is_match}
 use Rattle.vc_dtdisc.specs.Rules.{Rules}
-use Rattle.vc_paths.specs.Layers.{Layered, Placed, is_match}
+use Rattle.vc_paths.specs.Layers.{Layered}
 use Rattle.vc_paths.specs.Links.{ArePaths, Links, path}
 use Rattle.vc_paths.specs.Path.{objects_of, place_of, seen_in, visible_of}
 use Rattle.vc_paths.specs.Shown.{above, down, has_match, is_covered, places, shown_in}
@@ -57,13 +58,13 @@ stacked-each rules layer upper (x ∷ xs) d =
     (stacked-each rules layer (upper ++ layer x) xs d.1 ∙ flat-agree (λ e. left_of rules layer ((upper ++ layer x) ++ flat_map layer (above (Some e) xs)) e) seen xs on)
 
 -- the objects of some layers hide one where some of them has a match
-hidden-match : (all : Layered) (d e : ℕ) (upper : List ℕ) (o : Placed) → is_hidden (all.layer d).rules (flat_map (objects_of all) upper) (seen_in e o) ≡ list_any (has_match all d o.bytes) upper
+hidden-match : (all : Layered) (d e : ℕ) (upper : List ℕ) (o : Object) → is_hidden (all.layer d).rules (flat_map (objects_of all) upper) (seen_in e o) ≡ list_any (has_match all d o.bytes) upper
 hidden-match all d e upper o =
     let test = λ (u : Seen ℕ). is_match (all.layer d).rules o.bytes u.bytes in
     any-flat_map test (objects_of all) upper
     ∙ any-agree (λ u. list_any test (objects_of all u)) (has_match all d o.bytes) upper (λ u. any-map (seen_in u) test (all.layer u).objects)
 
-placed-map : (e : ℕ) (xs : List Placed) → map place_of (map (seen_in e) xs) ≡ places e xs
+placed-map : (e : ℕ) (xs : List Object) → map place_of (map (seen_in e) xs) ≡ places e xs
 placed-map e [] = refl
 placed-map e (x ∷ xs) = ap (λ z. (e, x.at) ∷ z) (placed-map e xs)
 

@@ -5,14 +5,15 @@ use Rattle.std.specs.Prelude.{◌==◌}
 use Rattle.std.proofs.lemmas.Bool.{and_parts, cases_Bool, eq-eqb, eqb-true, ne_eqb}
 use Rattle.std.proofs.lemmas.Option.{none-some}
 use Rattle.vc_base.specs.Holders.{AreDistinct, contains}
-use Rattle.vc_dict.specs.Methods.{is_ordered}
+use Rattle.vc_base.specs.Methods.{is_ordered}
+use Rattle.vc_dtdisc.specs.Objects.{Object, placed_each}
 use Rattle.vc_dtdisc.specs.Rules.{Rules}
-use Rattle.vc_dtlist.proofs.HolderLemmas.{apart-head, apart-tail}
-use Rattle.vc_paths.specs.Finding.{before_first_from, behind_last, last_from, last_of}
-use Rattle.vc_paths.specs.Layers.{AreLayers, Layered, Placed, bytes_there}
+use Rattle.vc_dtdisc.specs.Finding.{before_first_from, behind_last, last_from, last_of}
+use Rattle.vc_paths.specs.Layers.{AreLayers, Layered, bytes_there}
 use Rattle.vc_paths.specs.Links.{Links, path}
 use Rattle.vc_paths.specs.Path.{IsAlike, IsPath, is_at, objects_of, place_of, seen_in, visible_of}
-use Rattle.vc_paths.specs.Visible.{Seen, sorted_onto, stacked}
+use Rattle.vc_paths.specs.Visible.{Seen, seen_bytes, stacked}
+use Rattle.vc_paths.proofs.LayerLemmas.{apart_from, turned}
 use Rattle.vc_paths.proofs.SortedLemmas.{all_sorted, all_stacked}
 
 -- an object that is seen stands in its dictionary, which is like the one that it is seen through
@@ -20,18 +21,12 @@ pub record IsThere (all : Layered) (d : ℕ) (o : Seen ℕ) : Type 0 where
   pub alike : IsAlike all d o.dict
   pub bytes : bytes_there o.at (all.layer o.dict).objects ≡ Some o.bytes
 
--- at an address of its own
-apart-in : (xs : List Placed) (y : Placed) (ys : List Placed) (a : ℕ) → contains (map (λ o. o.at) (xs ++ y ∷ ys)) a ≡ false → y.at ≢ a
-apart-in [] y ys a h = apart-head y.at (map (λ o. o.at) ys) a h
-apart-in (x ∷ xs) y ys a h = apart-in xs y ys a (apart-tail x.at (map (λ o. o.at) (xs ++ y ∷ ys)) a h)
-
-there-at : (xs : List Placed) (y : Placed) (ys : List Placed) → AreDistinct (map (λ o. o.at) (xs ++ y ∷ ys)) → bytes_there y.at (xs ++ y ∷ ys) ≡ Some y.bytes
+there-at : (xs : List Object) (y : Object) (ys : List Object) → AreDistinct (map (λ o. o.at) (xs ++ y ∷ ys)) → bytes_there y.at (xs ++ y ∷ ys) ≡ Some y.bytes
 there-at [] y ys d = rw (eq-eqb y.at y.at refl) refl
 there-at (x ∷ xs) y ys d =
-    let apart : x.at ≢ y.at = λ e. apart-in xs y ys x.at d.0 (sym e) in
-    rw (ne_eqb x.at y.at apart) (there-at xs y ys d.1)
+    rw (turned y.at x.at (apart_from y x.at xs ys d.0)) (there-at xs y ys d.1)
 
-each-there : (all : Layered) (d e : ℕ) (xs ys : List Placed) → IsAlike all d e → (all.layer e).objects ≡ xs ++ ys → AreDistinct (map (λ o. o.at) (all.layer e).objects) → AllByRecursion (IsThere all d) (map (seen_in e) ys)
+each-there : (all : Layered) (d e : ℕ) (xs ys : List Object) → IsAlike all d e → (all.layer e).objects ≡ xs ++ ys → AreDistinct (map (λ o. o.at) (all.layer e).objects) → AllByRecursion (IsThere all d) (map (seen_in e) ys)
 each-there all d e xs [] h w apart = tt
 each-there all d e xs (y ∷ ys) h w apart = (
   record {
@@ -48,7 +43,7 @@ layers-there all d (e ∷ es) lawful a = (
   layers-there all d es lawful a.1,
 )
 
-ordered-there : (all : Layered) (d : ℕ) (t : Bool) (rules : Rules) (xs : List (Seen ℕ)) → AllByRecursion (IsThere all d) xs → AllByRecursion (IsThere all d) (cond t (sorted_onto rules [] xs) xs)
+ordered-there : (all : Layered) (d : ℕ) (t : Bool) (rules : Rules) (xs : List (Seen ℕ)) → AllByRecursion (IsThere all d) xs → AllByRecursion (IsThere all d) (cond t (placed_each seen_bytes rules [] xs) xs)
 ordered-there all d true rules xs h = all_sorted rules (IsThere all d) [] xs tt h
 ordered-there all d false rules xs h = h
 

@@ -4,11 +4,11 @@ use Rattle.std.specs.List.{AllByRecursion, filter, find}
 use Rattle.std.specs.Prelude.{not, ◌||◌, map}
 use Rattle.std.proofs.lemmas.Bool.{true≢false, cases_Bool}
 use Rattle.std.proofs.lemmas.List.Elements.{filter-append}
+use Rattle.vc_dtdisc.specs.Objects.{has_key, is_greater, is_match, placed_among, placed_each}
 use Rattle.vc_dtdisc.specs.Rules.{Rules}
 use Rattle.std.specs.Cmp.{IsTotalOrder}
-use Rattle.vc_paths.specs.Finding.{first_of}
-use Rattle.vc_paths.specs.Layers.{has_key, is_greater, is_match}
-use Rattle.vc_paths.specs.Visible.{Seen, is_hidden, placed, sorted_onto, stacked}
+use Rattle.vc_dtdisc.specs.Finding.{first_of}
+use Rattle.vc_paths.specs.Visible.{Seen, is_hidden, seen_bytes, stacked}
 use Rattle.vc_paths.proofs.OrderLemmas.{AreOrdered, all_append, all_filter, all_weaker, filter_kept, ordered, tied_keys, up}
 
 -- one isn't greater than the other
@@ -28,16 +28,16 @@ sorted_filter rules p (x ∷ xs) s = elim (cases_Bool (p x)) as (λ _. AreSorted
 ]
 
 -- what holds of each object with one more among them, and of each of the layers
-pub all_placed : (rules : Rules) (P : Seen ℕ → Type 0) (o : Seen ℕ) (xs : List (Seen ℕ)) → P o → AllByRecursion P xs → AllByRecursion P (placed rules o xs)
+pub all_placed : (rules : Rules) (P : Seen ℕ → Type 0) (o : Seen ℕ) (xs : List (Seen ℕ)) → P o → AllByRecursion P xs → AllByRecursion P (placed_among seen_bytes rules o xs)
 all_placed rules P o [] h g = (h, tt)
-all_placed rules P o (x ∷ xs) h g = elim (cases_Bool (is_greater rules x.bytes o.bytes)) as (λ _. AllByRecursion P (placed rules o (x ∷ xs))) [
+all_placed rules P o (x ∷ xs) h g = elim (cases_Bool (is_greater rules x.bytes o.bytes)) as (λ _. AllByRecursion P (placed_among seen_bytes rules o (x ∷ xs))) [
   | inl t ↦ rw t (h, g)
   | inr t ↦ rw t (g.0, all_placed rules P o xs h g.1)
 ]
 
-pub all_sorted : (rules : Rules) (P : Seen ℕ → Type 0) (sorted xs : List (Seen ℕ)) → AllByRecursion P sorted → AllByRecursion P xs → AllByRecursion P (sorted_onto rules sorted xs)
+pub all_sorted : (rules : Rules) (P : Seen ℕ → Type 0) (sorted xs : List (Seen ℕ)) → AllByRecursion P sorted → AllByRecursion P xs → AllByRecursion P (placed_each seen_bytes rules sorted xs)
 all_sorted rules P sorted [] h g = h
-all_sorted rules P sorted (x ∷ xs) h g = all_sorted rules P (placed rules x sorted) xs (all_placed rules P x sorted g.0 h) g.1
+all_sorted rules P sorted (x ∷ xs) h g = all_sorted rules P (placed_among seen_bytes rules x sorted) xs (all_placed rules P x sorted g.0 h) g.1
 
 pub all_stacked : (rules : Rules) (P : Seen ℕ → Type 0) (above : List (Seen ℕ)) (layers : List (List (Seen ℕ))) → AllByRecursion (AllByRecursion P) layers → AllByRecursion P (stacked rules above layers)
 all_stacked rules P above [] h = tt
@@ -46,68 +46,68 @@ all_stacked rules P above (layer ∷ lower) h =
     (all_filter P (λ o. not (is_hidden rules above o)) layer h.0) (all_stacked rules P (above ++ layer) lower h.1)
 
 -- they stay sorted
-pub placed_sorted : (rules : Rules) → AreOrdered rules → (o : Seen ℕ) (xs : List (Seen ℕ)) → AreSorted rules xs → AreSorted rules (placed rules o xs)
+pub placed_sorted : (rules : Rules) → AreOrdered rules → (o : Seen ℕ) (xs : List (Seen ℕ)) → AreSorted rules xs → AreSorted rules (placed_among seen_bytes rules o xs)
 placed_sorted rules laws o [] s = (tt, tt)
-placed_sorted rules laws o (x ∷ xs) s = elim (cases_Bool (is_greater rules x.bytes o.bytes)) as (λ _. AreSorted rules (placed rules o (x ∷ xs))) [
+placed_sorted rules laws o (x ∷ xs) s = elim (cases_Bool (is_greater rules x.bytes o.bytes)) as (λ _. AreSorted rules (placed_among seen_bytes rules o (x ∷ xs))) [
   | inl t ↦
       let back = laws.one x.bytes o.bytes t in
       rw t ((back, all_weaker (IsUpto rules x) (IsUpto rules o) (λ y h. laws.upto o.bytes x.bytes y.bytes back h) xs s.0), s)
   | inr t ↦ rw t (all_placed rules (IsUpto rules x) o xs t s.0, placed_sorted rules laws o xs s.1)
 ]
 
-pub onto_sorted : (rules : Rules) → AreOrdered rules → (sorted xs : List (Seen ℕ)) → AreSorted rules sorted → AreSorted rules (sorted_onto rules sorted xs)
+pub onto_sorted : (rules : Rules) → AreOrdered rules → (sorted xs : List (Seen ℕ)) → AreSorted rules sorted → AreSorted rules (placed_each seen_bytes rules sorted xs)
 onto_sorted rules laws sorted [] s = s
-onto_sorted rules laws sorted (x ∷ xs) s = onto_sorted rules laws (placed rules x sorted) xs (placed_sorted rules laws x sorted s)
+onto_sorted rules laws sorted (x ∷ xs) s = onto_sorted rules laws (placed_among seen_bytes rules x sorted) xs (placed_sorted rules laws x sorted s)
 
 -- before those that are all greater
-placed_first : (rules : Rules) (o : Seen ℕ) (xs : List (Seen ℕ)) → AllByRecursion (λ y. is_greater rules y.bytes o.bytes ≡ true) xs → placed rules o xs ≡ o ∷ xs
+placed_first : (rules : Rules) (o : Seen ℕ) (xs : List (Seen ℕ)) → AllByRecursion (λ y. is_greater rules y.bytes o.bytes ≡ true) xs → placed_among seen_bytes rules o xs ≡ o ∷ xs
 placed_first rules o [] h = refl
 placed_first rules o (x ∷ xs) h = rw h.0 refl
 
 -- what a filter keeps with one more, and of objects in order
-pub filter_placed : (rules : Rules) → AreOrdered rules → (p : Seen ℕ → Bool) (o : Seen ℕ) (xs : List (Seen ℕ)) → AreSorted rules xs → filter p (placed rules o xs) ≡ cond (p o) (placed rules o (filter p xs)) (filter p xs)
-filter_placed rules laws p o [] s = elim (cases_Bool (p o)) as (λ _. filter p (placed rules o []) ≡ cond (p o) (placed rules o []) []) [
+pub filter_placed : (rules : Rules) → AreOrdered rules → (p : Seen ℕ → Bool) (o : Seen ℕ) (xs : List (Seen ℕ)) → AreSorted rules xs → filter p (placed_among seen_bytes rules o xs) ≡ cond (p o) (placed_among seen_bytes rules o (filter p xs)) (filter p xs)
+filter_placed rules laws p o [] s = elim (cases_Bool (p o)) as (λ _. filter p (placed_among seen_bytes rules o []) ≡ cond (p o) (placed_among seen_bytes rules o []) []) [
   | inl t ↦ rw t refl
   | inr t ↦ rw t refl
 ]
-filter_placed rules laws p o (x ∷ xs) s = elim (cases_Bool (is_greater rules x.bytes o.bytes)) as (λ _. filter p (placed rules o (x ∷ xs)) ≡ cond (p o) (placed rules o (filter p (x ∷ xs))) (filter p (x ∷ xs))) [
+filter_placed rules laws p o (x ∷ xs) s = elim (cases_Bool (is_greater rules x.bytes o.bytes)) as (λ _. filter p (placed_among seen_bytes rules o (x ∷ xs)) ≡ cond (p o) (placed_among seen_bytes rules o (filter p (x ∷ xs))) (filter p (x ∷ xs))) [
   | inl t ↦
       let far : AllByRecursion (λ y. is_greater rules y.bytes o.bytes ≡ true) (x ∷ xs) = (t, all_weaker (IsUpto rules x) (λ y. is_greater rules y.bytes o.bytes ≡ true) (λ y h. up rules x.bytes y.bytes o.bytes laws t h) xs s.0) in
       rw (placed_first rules o (x ∷ xs) far, placed_first rules o (filter p (x ∷ xs)) (all_filter (λ y. is_greater rules y.bytes o.bytes ≡ true) p (x ∷ xs) far)) refl
-  | inr t ↦ elim (cases_Bool (p x)) as (λ _. filter p (placed rules o (x ∷ xs)) ≡ cond (p o) (placed rules o (filter p (x ∷ xs))) (filter p (x ∷ xs))) [
-    | inl w ↦ elim (cases_Bool (p o)) as (λ _. filter p (placed rules o (x ∷ xs)) ≡ cond (p o) (placed rules o (filter p (x ∷ xs))) (filter p (x ∷ xs))) [
-      | inl v ↦ rw (t, w, v, t) (ap (λ z. x ∷ z) (filter_placed rules laws p o xs s.1 ∙ ap (λ z. cond z (placed rules o (filter p xs)) (filter p xs)) v))
-      | inr v ↦ rw (t, w, v) (ap (λ z. x ∷ z) (filter_placed rules laws p o xs s.1 ∙ ap (λ z. cond z (placed rules o (filter p xs)) (filter p xs)) v))
+  | inr t ↦ elim (cases_Bool (p x)) as (λ _. filter p (placed_among seen_bytes rules o (x ∷ xs)) ≡ cond (p o) (placed_among seen_bytes rules o (filter p (x ∷ xs))) (filter p (x ∷ xs))) [
+    | inl w ↦ elim (cases_Bool (p o)) as (λ _. filter p (placed_among seen_bytes rules o (x ∷ xs)) ≡ cond (p o) (placed_among seen_bytes rules o (filter p (x ∷ xs))) (filter p (x ∷ xs))) [
+      | inl v ↦ rw (t, w, v, t) (ap (λ z. x ∷ z) (filter_placed rules laws p o xs s.1 ∙ ap (λ z. cond z (placed_among seen_bytes rules o (filter p xs)) (filter p xs)) v))
+      | inr v ↦ rw (t, w, v) (ap (λ z. x ∷ z) (filter_placed rules laws p o xs s.1 ∙ ap (λ z. cond z (placed_among seen_bytes rules o (filter p xs)) (filter p xs)) v))
     ]
     | inr w ↦ rw (t, w) (filter_placed rules laws p o xs s.1)
   ]
 ]
 
-pub filter_sorted : (rules : Rules) → AreOrdered rules → (p : Seen ℕ → Bool) (sorted xs : List (Seen ℕ)) → AreSorted rules sorted → filter p (sorted_onto rules sorted xs) ≡ sorted_onto rules (filter p sorted) (filter p xs)
+pub filter_sorted : (rules : Rules) → AreOrdered rules → (p : Seen ℕ → Bool) (sorted xs : List (Seen ℕ)) → AreSorted rules sorted → filter p (placed_each seen_bytes rules sorted xs) ≡ placed_each seen_bytes rules (filter p sorted) (filter p xs)
 filter_sorted rules laws p sorted [] s = refl
 filter_sorted rules laws p sorted (x ∷ xs) s =
-    let rest = filter_sorted rules laws p (placed rules x sorted) xs (placed_sorted rules laws x sorted s) in
+    let rest = filter_sorted rules laws p (placed_among seen_bytes rules x sorted) xs (placed_sorted rules laws x sorted s) in
     let one = filter_placed rules laws p x sorted s in
-    elim (cases_Bool (p x)) as (λ _. filter p (sorted_onto rules sorted (x ∷ xs)) ≡ sorted_onto rules (filter p sorted) (filter p (x ∷ xs))) [
-      | inl t ↦ rw t (rest ∙ ap (λ z. sorted_onto rules z (filter p xs)) (one ∙ ap (λ z. cond z (placed rules x (filter p sorted)) (filter p sorted)) t))
-      | inr t ↦ rw t (rest ∙ ap (λ z. sorted_onto rules z (filter p xs)) (one ∙ ap (λ z. cond z (placed rules x (filter p sorted)) (filter p sorted)) t))
+    elim (cases_Bool (p x)) as (λ _. filter p (placed_each seen_bytes rules sorted (x ∷ xs)) ≡ placed_each seen_bytes rules (filter p sorted) (filter p (x ∷ xs))) [
+      | inl t ↦ rw t (rest ∙ ap (λ z. placed_each seen_bytes rules z (filter p xs)) (one ∙ ap (λ z. cond z (placed_among seen_bytes rules x (filter p sorted)) (filter p sorted)) t))
+      | inr t ↦ rw t (rest ∙ ap (λ z. placed_each seen_bytes rules z (filter p xs)) (one ∙ ap (λ z. cond z (placed_among seen_bytes rules x (filter p sorted)) (filter p sorted)) t))
     ]
 
 -- behind those that aren't greater
-placed_last : (rules : Rules) (o : Seen ℕ) (xs : List (Seen ℕ)) → AllByRecursion (λ y. is_greater rules y.bytes o.bytes ≡ false) xs → placed rules o xs ≡ xs ++ o ∷ []
+placed_last : (rules : Rules) (o : Seen ℕ) (xs : List (Seen ℕ)) → AllByRecursion (λ y. is_greater rules y.bytes o.bytes ≡ false) xs → placed_among seen_bytes rules o xs ≡ xs ++ o ∷ []
 placed_last rules o [] h = refl
 placed_last rules o (x ∷ xs) h = rw h.0 (ap (λ z. x ∷ z) (placed_last rules o xs h.1))
 
 -- those that match keep their order
-onto_tied : (rules : Rules) (q : Seen ℕ → Bool) → ((x y : Seen ℕ) → q x ≡ true → q y ≡ true → is_greater rules x.bytes y.bytes ≡ false) → (sorted xs : List (Seen ℕ)) → AllByRecursion (λ x. q x ≡ true) sorted → AllByRecursion (λ x. q x ≡ true) xs → sorted_onto rules sorted xs ≡ sorted ++ xs
+onto_tied : (rules : Rules) (q : Seen ℕ → Bool) → ((x y : Seen ℕ) → q x ≡ true → q y ≡ true → is_greater rules x.bytes y.bytes ≡ false) → (sorted xs : List (Seen ℕ)) → AllByRecursion (λ x. q x ≡ true) sorted → AllByRecursion (λ x. q x ≡ true) xs → placed_each seen_bytes rules sorted xs ≡ sorted ++ xs
 onto_tied rules q tied sorted [] h g = sym (append-nil sorted)
 onto_tied rules q tied sorted (x ∷ xs) h g =
     let last = placed_last rules x sorted (all_weaker (λ y. q y ≡ true) (λ y. is_greater rules y.bytes x.bytes ≡ false) (λ y k. tied y x k g.0) sorted h) in
     let more = all_append (λ y. q y ≡ true) sorted (x ∷ []) h (g.0, tt) in
-    ap (λ z. sorted_onto rules z xs) last ∙ onto_tied rules q tied (sorted ++ x ∷ []) xs more g.1 ∙ append_assoc sorted (x ∷ []) xs
+    ap (λ z. placed_each seen_bytes rules z xs) last ∙ onto_tied rules q tied (sorted ++ x ∷ []) xs more g.1 ∙ append_assoc sorted (x ∷ []) xs
 
 -- of objects in order of keys a test on the key keeps the same ones, in the same order
-pub kept_sorted : (rules : Rules) → AreOrdered rules → (q : Seen ℕ → Bool) → ((x y : Seen ℕ) → q x ≡ true → q y ≡ true → is_greater rules x.bytes y.bytes ≡ false) → (xs : List (Seen ℕ)) → filter q (sorted_onto rules [] xs) ≡ filter q xs
+pub kept_sorted : (rules : Rules) → AreOrdered rules → (q : Seen ℕ → Bool) → ((x y : Seen ℕ) → q x ≡ true → q y ≡ true → is_greater rules x.bytes y.bytes ≡ false) → (xs : List (Seen ℕ)) → filter q (placed_each seen_bytes rules [] xs) ≡ filter q xs
 kept_sorted rules laws q tied xs =
     filter_sorted rules laws q [] xs tt ∙ onto_tied rules q tied [] (filter q xs) tt (filter_kept q xs)
 
@@ -120,10 +120,10 @@ find_first q (x ∷ xs) = elim (cases_Bool (q x)) as (λ _. find q (x ∷ xs) �
 ]
 
 -- so the first object that has a key is the same
-pub found_sorted : (rules : Rules) → IsTotalOrder rules.compare → (key : List ℕ) (xs : List (Seen ℕ)) → find (λ o. has_key rules key o.bytes) (sorted_onto rules [] xs) ≡ find (λ o. has_key rules key o.bytes) xs
+pub found_sorted : (rules : Rules) → IsTotalOrder rules.compare → (key : List ℕ) (xs : List (Seen ℕ)) → find (λ o. has_key rules key o.bytes) (placed_each seen_bytes rules [] xs) ≡ find (λ o. has_key rules key o.bytes) xs
 found_sorted rules order key xs =
     let q : Seen ℕ → Bool = λ o. has_key rules key o.bytes in
-    find_first q (sorted_onto rules [] xs)
+    find_first q (placed_each seen_bytes rules [] xs)
     ∙ ap first_of (kept_sorted rules (ordered rules order) q (λ x y h g. tied_keys rules order key x.bytes y.bytes h g) xs)
     ∙ sym (find_first q xs)
 

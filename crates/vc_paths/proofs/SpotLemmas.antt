@@ -8,9 +8,10 @@ use Rattle.std.proofs.lemmas.List.Concat.{flat_map-append}
 use Rattle.std.proofs.lemmas.List.Elements.{filter-append}
 use Rattle.std.proofs.lemmas.List.Folds.{list_any-append}
 use Rattle.vc_base.specs.Holders.{AreDistinct, contains}
-use Rattle.vc_dict.specs.Methods.{is_ordered}
-use Rattle.vc_paths.specs.Finding.{before_first, behind_last, first_of, last_of}
-use Rattle.vc_paths.specs.Layers.{AreLayers, Layered, Placed, place_before, place_behind, place_in, stands_at}
+use Rattle.vc_base.specs.Methods.{is_ordered}
+use Rattle.vc_dtdisc.specs.Finding.{before_first, behind_last, first_of, last_of}
+use Rattle.vc_dtdisc.specs.Objects.{Object}
+use Rattle.vc_paths.specs.Layers.{AreLayers, Layered, place_before, place_behind, place_in, stands_at}
 use Rattle.vc_paths.specs.Links.{ArePaths, Links, below}
 use Rattle.vc_paths.specs.Path.{IsPath, IsVisible, is_at, place_of, visible_of, is_place}
 use Rattle.vc_paths.specs.Shown.{IsOnPath, above, down, is_covered, objects_from, objects_up_to, places, shown, shown_in}
@@ -35,16 +36,16 @@ pub record Spot (all : Layered) (links : Links) (d e a : ℕ) : Type 0 where
   pub last : list_any (is_place (e, a)) (flat_map (shown_in all links d) lower) ≡ false
 
 -- whether objects of a dictionary stand at a place
-any-here : (e a u : ℕ) (xs : List Placed) → eqb u e ≡ true → list_any (is_place (e, a)) (places u xs) ≡ list_any (stands_at a) xs
+any-here : (e a u : ℕ) (xs : List Object) → eqb u e ≡ true → list_any (is_place (e, a)) (places u xs) ≡ list_any (stands_at a) xs
 any-here e a u [] h = refl
 any-here e a u (x ∷ xs) h = ap (λ z. (z && eqb x.at a) || list_any (is_place (e, a)) (places u xs)) h ∙ ap (λ z. eqb x.at a || z) (any-here e a u xs h)
 
-any-apart : (e a u : ℕ) (xs : List Placed) → eqb u e ≡ false → list_any (is_place (e, a)) (places u xs) ≡ false
+any-apart : (e a u : ℕ) (xs : List Object) → eqb u e ≡ false → list_any (is_place (e, a)) (places u xs) ≡ false
 any-apart e a u [] h = refl
 any-apart e a u (x ∷ xs) h = ap (λ z. (z && eqb x.at a) || list_any (is_place (e, a)) (places u xs)) h ∙ any-apart e a u xs h
 
 -- none does where no layer has that number
-apart-none : (e a : ℕ) (objects : ℕ → List Placed) (us : List ℕ) → contains us e ≡ false → list_any (is_place (e, a)) (flat_map (λ u. places u (objects u)) us) ≡ false
+apart-none : (e a : ℕ) (objects : ℕ → List Object) (us : List ℕ) → contains us e ≡ false → list_any (is_place (e, a)) (flat_map (λ u. places u (objects u)) us) ≡ false
 apart-none e a objects [] h = refl
 apart-none e a objects (u ∷ us) h =
     let w = or_parts (eqb u e) (contains us e) h in

@@ -8,9 +8,9 @@ use Rattle.std.proofs.lemmas.Cmp.{alike_right}
 use Rattle.std.proofs.lemmas.List.{append-nil}
 use Rattle.std.proofs.lemmas.List.Elements.{filter-append}
 use Rattle.std.proofs.lemmas.List.Folds.{list_any-append}
+use Rattle.vc_dtdisc.specs.Objects.{has_key, is_match}
 use Rattle.vc_dtdisc.specs.Rules.{AreLawful, Rules}
-use Rattle.vc_paths.specs.Finding.{first_of}
-use Rattle.vc_paths.specs.Layers.{has_key, is_match}
+use Rattle.vc_dtdisc.specs.Finding.{first_of}
 use Rattle.vc_paths.specs.Visible.{Seen, is_hidden, stacked}
 
 -- the first layer in which some object passes a test

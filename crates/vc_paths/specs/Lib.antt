@@ -1,4 +1,3 @@
-pub mod Finding
 pub mod Layers
 pub mod Links
 pub mod Ordered

@@ -2,8 +2,9 @@
 use Rattle.std.specs.Prelude.{◌≡◌, ℕ, Bool, true, Option, Some, None, IsSome, if◌then◌else◌}
 use Rattle.std.specs.Option.{option_map}
 use Rattle.vc_base.specs.declared.addr.Addr.{Addr}
+use Rattle.vc_dtdisc.specs.Objects.{is_greater, is_match}
 use Rattle.vc_dtdisc.specs.Rules.{Rules}
-use Rattle.vc_paths.specs.Layers.{Layered, bytes_there, is_greater, is_match}
+use Rattle.vc_paths.specs.Layers.{Layered, bytes_there}
 use Rattle.vc_paths.specs.Visible.{Seen}
 
 -- the object at a place

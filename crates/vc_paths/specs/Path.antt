@@ -3,7 +3,8 @@ use Rattle.std.specs.Prelude.{◌≡◌, ℕ, ◌<◌, Bool, true, List, map, Op
 use Rattle.std.specs.List.{AllByRecursion, list_any}
 use Rattle.std.specs.Option.{option_map}
 use Rattle.vc_base.specs.declared.addr.Addr.{Addr}
-use Rattle.vc_paths.specs.Layers.{Layered, Placed}
+use Rattle.vc_dtdisc.specs.Objects.{Object}
+use Rattle.vc_paths.specs.Layers.{Layered}
 use Rattle.vc_paths.specs.Links.{Links, numbers, path}
 use Rattle.vc_paths.specs.Visible.{Seen, visible}
 
@@ -19,7 +20,7 @@ pub record IsPath (all : Layered) (links : Links) (d : ℕ) : Type 0 where
   pub alike : AllByRecursion (IsAlike all d) (path links d)
 
 -- an object of a dictionary as it is seen on a path
-abbrev pub seen_in : ℕ → Placed → Seen ℕ
+abbrev pub seen_in : ℕ → Object → Seen ℕ
 seen_in d o = record { dict = d; at = o.at; bytes = o.bytes }
 
 abbrev pub objects_of : Layered → ℕ → List (Seen ℕ)

@@ -3,10 +3,11 @@ use Rattle.std.specs.Prelude.{ℕ, zero, suc, List, [], ◌∷◌, map, Bool, Op
 use Rattle.std.specs.Option.{option_map}
 use Rattle.vc_base.specs.declared.dict_method.DictMethod.{DictMethod}
 use Rattle.vc_base.specs.declared.dict_method.DictMethod.TheVariants.{DtBag, DtOset}
+use Rattle.vc_dtdisc.specs.Objects.{has_key}
 use Rattle.vc_dtdisc.specs.Rules.{Rules}
 use Rattle.vc_dtdisc.specs.Shapes.{rules_of}
 use Rattle.vc_dtdisc.specs.declared.shape.Shape.TheVariants.{Field, Whole}
-use Rattle.vc_paths.specs.Layers.{Layer, Layered, has_key}
+use Rattle.vc_paths.specs.Layers.{Layer, Layered}
 use Rattle.vc_paths.specs.Links.{Links, linked, no_links}
 use Rattle.vc_paths.specs.Path.{place_of}
 use Rattle.vc_paths.specs.Visible.{Seen, visible}

@@ -1,7 +1,7 @@
 ghost use Rattle.std.specs.Prelude.{◌≡◌, ℕ, Some, IsSome, List};
 ghost use Rattle.std.specs.Option.{option_map};
-ghost use Rattle.vc_dtlist.specs.Linked.{number_of};
-ghost use Rattle.vc_paths.specs.Finding.{first_of, last_of};
+ghost use Rattle.vc_base.specs.Address.{number_of};
+ghost use Rattle.vc_dtdisc.specs.Finding.{first_of, last_of};
 ghost use Rattle.vc_paths.specs.Layers.{AreLayers, Layered, Same, bytes_there, place_before, place_behind, place_in, place_with};
 
 use std::cmp::Ordering;

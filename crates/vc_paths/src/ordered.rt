@@ -1,7 +1,7 @@
 ghost use Rattle.std.specs.Prelude.{◌≡◌, ℕ, true, Some};
 ghost use Rattle.std.specs.List.{filter};
-ghost use Rattle.vc_dict.specs.Methods.{is_ordered};
-ghost use Rattle.vc_paths.specs.Finding.{before_first, behind_last, first_of, last_of};
+ghost use Rattle.vc_base.specs.Methods.{is_ordered};
+ghost use Rattle.vc_dtdisc.specs.Finding.{before_first, behind_last, first_of, last_of};
 ghost use Rattle.vc_paths.specs.Ordered.{IsStanding, Stands, greater, if_level, is_before, is_behind, lesser, named, object_at, object_there};
 ghost use Rattle.vc_paths.specs.Path.{Answers, IsPath, IsVisible, is_at, numbers_of, objects_of, visible_of};
 ghost use Rattle.vc_paths.specs.Visible.{Seen};

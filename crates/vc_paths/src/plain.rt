@@ -1,9 +1,9 @@
 // What is found through view paths where the method is not ordered.
 ghost use Rattle.std.specs.Prelude.{◌≡◌, ℕ, false, List, Some, IsSome, option_map};
 ghost use Rattle.std.specs.List.{flat_map};
-ghost use Rattle.vc_dict.specs.Methods.{is_ordered};
-ghost use Rattle.vc_dtlist.specs.Linked.{number_of};
-ghost use Rattle.vc_paths.specs.Finding.{before_first, behind_last, first_of, last_of};
+ghost use Rattle.vc_base.specs.Methods.{is_ordered};
+ghost use Rattle.vc_base.specs.Address.{number_of};
+ghost use Rattle.vc_dtdisc.specs.Finding.{before_first, behind_last, first_of, last_of};
 ghost use Rattle.vc_paths.specs.Layers.{Same, bytes_there, place_in};
 ghost use Rattle.vc_paths.specs.Path.{Answers, IsAlike, IsPath, IsVisible, is_at, numbers_of, visible_of};
 ghost use Rattle.vc_paths.specs.Shown.{IsOnPath, IsPlaceIn, above, down, has_match, is_covered, objects_from, objects_up_to, shown, shown_in};

@@ -1,23 +1,13 @@
 ghost use Rattle.std.specs.Prelude.{◌≡◌, ℕ, List, Some, IsSome, if◌then◌else◌};
 ghost use Rattle.std.specs.List.{filter, find};
-ghost use Rattle.vc_dict.specs.Methods.{is_ordered};
-ghost use Rattle.vc_paths.specs.Finding.{before_first, behind_last, first_of, last_of};
-ghost use Rattle.vc_paths.specs.Layers.{Same, bytes_there, is_match, place_in};
+ghost use Rattle.vc_dtdisc.specs.Finding.{before_first, behind_last, first_of, last_of};
+ghost use Rattle.vc_dtdisc.specs.Objects.{is_match};
+ghost use Rattle.vc_paths.specs.Layers.{Same, bytes_there, place_in};
 ghost use Rattle.vc_paths.specs.Path.{Answers, IsPath, IsVisible, is_at, numbers_of, visible_of};
 ghost use Rattle.vc_paths.specs.Seek.{has_key_in};
 
 use crate::{Layers, Paths, ordered, plain};
-use vc_base::{Addr, DictMethod, Steps};
-
-// Whether objects stand in order of their keys.
-fn is_ordered(method: DictMethod) -> bool
-    ensures { result ≡ is_ordered method }
-{
-    match method {
-        DictMethod::DtOset | DictMethod::DtObag => true,
-        _ => false,
-    }
-}
+use vc_base::{Addr, Steps};
 
 /// The first object that is seen through a dictionary and has a key; none where none has it.
 pub fn search<Y: Layers, L>(
@@ -100,7 +90,7 @@ pub fn first<Y: Layers, L>(
     ensures layers { Same (Y.layered layers.old) (Y.layered layers.new) }
     ensures stays { Y.Stays layers.old layers.new }
 {
-    if is_ordered(layers.method(d)) {
+    if layers.method(d).is_ordered() {
         ordered::first(paths, layers, d, steps)
     } else {
         plain::first(paths, layers, d, steps)
@@ -120,7 +110,7 @@ pub fn last<Y: Layers, L>(
     ensures layers { Same (Y.layered layers.old) (Y.layered layers.new) }
     ensures stays { Y.Stays layers.old layers.new }
 {
-    if is_ordered(layers.method(d)) {
+    if layers.method(d).is_ordered() {
         ordered::last(paths, layers, d, steps)
     } else {
         plain::last(paths, layers, d, steps)
@@ -142,7 +132,7 @@ pub fn walk_next<Y: Layers, L>(
     ensures layers { Same (Y.layered layers.old) (Y.layered layers.new) }
     ensures stays { Y.Stays layers.old layers.new }
 {
-    if is_ordered(layers.method(d)) {
+    if layers.method(d).is_ordered() {
         ordered::walk_next(paths, layers, d, from, steps)
     } else {
         plain::walk_next(paths, layers, d, from, steps)
@@ -164,7 +154,7 @@ fn walk_prev<Y: Layers, L>(
     ensures layers { Same (Y.layered layers.old) (Y.layered layers.new) }
     ensures stays { Y.Stays layers.old layers.new }
 {
-    if is_ordered(layers.method(d)) {
+    if layers.method(d).is_ordered() {
         ordered::walk_prev(paths, layers, d, from, steps)
     } else {
         plain::walk_prev(paths, layers, d, from, steps)

@@ -1,5 +1,5 @@
 use Rattle.std.proofs.Common.{ℕ, List, subst}
-use Rattle.vc_paths.specs.Finding.{last_of}
+use Rattle.vc_dtdisc.specs.Finding.{last_of}
 use Rattle.vc_paths.specs.Path.{Answers, visible_of}
 use Rattle.vc_paths.specs.Visible.{Seen}
 use Rattle.vc_paths.proofs.OrderedLemmas.{before_none}

@@ -1,5 +1,5 @@
 use Rattle.std.proofs.Common.{ap, sym, ◌∙◌}
-use Rattle.vc_paths.specs.Finding.{first_of}
+use Rattle.vc_dtdisc.specs.Finding.{first_of}
 use Rattle.vc_paths.specs.Path.{place_of, visible_of}
 use Rattle.vc_paths.proofs.DownLemmas.{on-start}
 use Rattle.vc_paths.proofs.EndLemmas.{first-map}

@@ -1,6 +1,6 @@
 use Rattle.std.proofs.Common.{Some, ap, refl, sym, ◌∙◌}
 use Rattle.std.specs.Option.{option_map}
-use Rattle.vc_paths.specs.Finding.{first_of}
+use Rattle.vc_dtdisc.specs.Finding.{first_of}
 use Rattle.vc_paths.specs.Path.{numbers_of}
 use Rattle.vc_paths.specs.Shown.{shown_in}
 use Rattle.vc_paths.proofs.DescentLemmas.{below-end, below-found, below-past, some-mapped}

@@ -1,6 +1,6 @@
 use Rattle.std.proofs.Common.{◌≡◌, length}
 use Rattle.std.specs.List.{flat_map}
-use Rattle.vc_paths.specs.Finding.{first_of}
+use Rattle.vc_dtdisc.specs.Finding.{first_of}
 use Rattle.vc_paths.specs.Shown.{IsOnPath, down, shown_in}
 use Rattle.vc_paths.specs.Layers.{Same}
 use Rattle.vc_paths.proofs.plain.first_below.Given as goal

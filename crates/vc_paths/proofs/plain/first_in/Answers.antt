@@ -1,7 +1,7 @@
 use Rattle.std.proofs.Common.{ℕ, ap, ◌∙◌}
 use Rattle.std.specs.Option.{option_map}
-use Rattle.vc_dtlist.specs.Linked.{number_of}
-use Rattle.vc_paths.specs.Finding.{first_of}
+use Rattle.vc_base.specs.Address.{number_of}
+use Rattle.vc_dtdisc.specs.Finding.{first_of}
 use Rattle.vc_paths.specs.Layers.{place_in}
 use Rattle.vc_paths.specs.Shown.{shown}
 use Rattle.vc_paths.proofs.SeenLemmas.{first-place, from-start, place-start}

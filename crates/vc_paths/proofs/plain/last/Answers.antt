@@ -1,6 +1,6 @@
 use Rattle.std.proofs.Common.{None, Some, ap, sym, ◌∙◌}
 use Rattle.std.specs.List.{flat_map}
-use Rattle.vc_paths.specs.Finding.{last_of}
+use Rattle.vc_dtdisc.specs.Finding.{last_of}
 use Rattle.vc_paths.specs.Path.{place_of, visible_of}
 use Rattle.vc_paths.specs.Shown.{down, shown_in}
 use Rattle.vc_paths.proofs.DownLemmas.{above-none, on-start}

@@ -1,7 +1,7 @@
 use Rattle.std.proofs.Common.{ap, sym, ◌∙◌}
 use Rattle.std.specs.List.{flat_map}
 use Rattle.std.specs.Option.{option_map}
-use Rattle.vc_paths.specs.Finding.{last_from, last_of}
+use Rattle.vc_dtdisc.specs.Finding.{last_from, last_of}
 use Rattle.vc_paths.specs.Path.{numbers_of}
 use Rattle.vc_paths.specs.Shown.{above, down, shown_in}
 use Rattle.vc_paths.proofs.DescentLemmas.{above-end, above-last, above-past, or-mapped}

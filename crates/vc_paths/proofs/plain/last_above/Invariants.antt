@@ -1,7 +1,7 @@
 use Rattle.std.proofs.Common.{◌≡◌, Some, length}
 use Rattle.std.specs.List.{flat_map}
 use Rattle.std.specs.Option.{option_map}
-use Rattle.vc_paths.specs.Finding.{last_from, last_of}
+use Rattle.vc_dtdisc.specs.Finding.{last_from, last_of}
 use Rattle.vc_paths.specs.Path.{numbers_of}
 use Rattle.vc_paths.specs.Shown.{IsOnPath, above, down, shown_in}
 use Rattle.vc_paths.specs.Layers.{Same}

@@ -1,7 +1,7 @@
 use Rattle.std.proofs.Common.{Some, ap, refl, sym, subst, ◌∙◌, ℕ}
 use Rattle.std.specs.Prelude.{IsSome}
 use Rattle.std.specs.Option.{option_map}
-use Rattle.vc_dtlist.specs.Linked.{number_of}
+use Rattle.vc_base.specs.Address.{number_of}
 use Rattle.vc_paths.specs.Layers.{bytes_there, place_before, Layer}
 use Rattle.vc_paths.specs.Shown.{is_covered}
 use Rattle.vc_paths.proofs.PlaceLemmas.{standing}

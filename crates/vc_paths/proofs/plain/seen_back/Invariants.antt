@@ -1,7 +1,7 @@
 use Rattle.std.proofs.Common.{◌≡◌, length}
 use Rattle.std.specs.Option.{option_map}
-use Rattle.vc_dtlist.specs.Linked.{number_of}
-use Rattle.vc_paths.specs.Finding.{last_of}
+use Rattle.vc_base.specs.Address.{number_of}
+use Rattle.vc_dtdisc.specs.Finding.{last_of}
 use Rattle.vc_paths.specs.Shown.{IsPlaceIn, objects_up_to, shown}
 use Rattle.vc_paths.specs.Layers.{Same}
 use Rattle.vc_paths.proofs.plain.seen_back.Given as goal

@@ -1,7 +1,7 @@
 use Rattle.std.proofs.Common.{◌≡◌, length}
 use Rattle.std.specs.Option.{option_map}
-use Rattle.vc_dtlist.specs.Linked.{number_of}
-use Rattle.vc_paths.specs.Finding.{first_of}
+use Rattle.vc_base.specs.Address.{number_of}
+use Rattle.vc_dtdisc.specs.Finding.{first_of}
 use Rattle.vc_paths.specs.Shown.{IsPlaceIn, objects_from, shown}
 use Rattle.vc_paths.specs.Layers.{Same}
 use Rattle.vc_paths.proofs.plain.seen_from.Given as goal

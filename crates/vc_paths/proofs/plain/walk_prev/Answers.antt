@@ -1,8 +1,8 @@
 use Rattle.std.proofs.Common.{None, Some, ap, refl, sym, ◌∙◌}
 use Rattle.std.specs.List.{flat_map}
 use Rattle.std.specs.Option.{is_some, option_map}
-use Rattle.vc_dtlist.specs.Linked.{number_of}
-use Rattle.vc_paths.specs.Finding.{last_of}
+use Rattle.vc_base.specs.Address.{number_of}
+use Rattle.vc_dtdisc.specs.Finding.{last_of}
 use Rattle.vc_paths.specs.Shown.{above, down}
 use Rattle.vc_paths.proofs.DownLemmas.{on-head, on-start}
 use Rattle.vc_paths.proofs.PlaceLemmas.{there}

@@ -1,7 +1,8 @@
 use Rattle.std.proofs.Common.{◌<◌, length, sym, ap, subst, subst₂}
 use Rattle.std.specs.Option.{option_map}
-use Rattle.vc_dtlist.specs.Linked.{number_of}
-use Rattle.vc_paths.specs.Layers.{bytes_there, is_match}
+use Rattle.vc_dtdisc.specs.Objects.{is_match}
+use Rattle.vc_base.specs.Address.{number_of}
+use Rattle.vc_paths.specs.Layers.{bytes_there}
 use Rattle.vc_paths.specs.Shown.{IsPlaceIn, objects_from}
 use Rattle.vc_paths.proofs.MatchLemmas.{IsLastHere, bytes-of, last-end, last-next, last-start, match-itself, place-behind, shorter-behind}
 use Rattle.vc_paths.proofs.views.last_match.Goals as goal

@@ -1,7 +1,8 @@
 use Rattle.std.proofs.Common.{◌≡◌, ℕ, List, Some, length}
 use Rattle.std.specs.Option.{option_map}
-use Rattle.vc_dtlist.specs.Linked.{number_of}
-use Rattle.vc_paths.specs.Layers.{bytes_there, is_match}
+use Rattle.vc_dtdisc.specs.Objects.{is_match}
+use Rattle.vc_base.specs.Address.{number_of}
+use Rattle.vc_paths.specs.Layers.{bytes_there}
 use Rattle.vc_paths.specs.Shown.{IsPlaceIn, objects_from}
 use Rattle.vc_paths.proofs.MatchLemmas.{IsLastHere}
 use Rattle.vc_paths.proofs.views.last_match.Given as goal

@@ -2,8 +2,9 @@ use Rattle.std.proofs.Common.{◌≡◌, ℕ, List, Some, None, refl, sym, ap, �
 use Rattle.std.specs.List.{filter, find}
 use Rattle.std.specs.Option.{option_map}
 use Rattle.std.specs.Prelude.{IsSome}
-use Rattle.vc_paths.specs.Finding.{behind_last, last_of}
-use Rattle.vc_paths.specs.Layers.{bytes_there, is_match, place_in, Layer}
+use Rattle.vc_dtdisc.specs.Finding.{behind_last, last_of}
+use Rattle.vc_dtdisc.specs.Objects.{is_match}
+use Rattle.vc_paths.specs.Layers.{bytes_there, place_in, Layer}
 use Rattle.vc_paths.specs.Path.{Answers, is_at, numbers_of, place_of, visible_of}
 use Rattle.vc_paths.specs.Seek.{has_key_in}
 use Rattle.vc_paths.proofs.MatchLemmas.{behind-key, key-at}

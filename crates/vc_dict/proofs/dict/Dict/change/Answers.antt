@@ -1,7 +1,7 @@
 use Rattle.std.proofs.Common.{sym, ap, ◌∙◌, length, subst}
 use Rattle.vc_base.specs.Holders.{KeepsBut}
 use Rattle.vc_dtlist.specs.Linked.{StandsFor}
-use Rattle.vc_dict.specs.Methods.{has_table}
+use Rattle.vc_base.specs.Methods.{has_table}
 use Rattle.std.specs.Prelude.{◌&&◌}
 use Rattle.vc_dict.specs.Orders.{ordered_by}
 use Rattle.vc_dict.specs.Turned.{Remethoded}
@@ -15,7 +15,7 @@ weed_by-weeded-requires g c =
     let rules = g.D.DictDisc.rules c.args.kind.now in
     let b = g.C.Cells.blocks c.args.cells.now in
     let r = c.requires in
-    let list : StandsFor c.list.result b r.holders = rw c.list.ensures r.stands.list in
+    let list : StandsFor c.list.result b r.holders = c.list.ensures rules b r.holders (c.heads.ensures.stands rules b r.holders r.stands) in
     record {
       holders = ordered_by c.args.method rules b r.holders;
       stands = (c.order_by-ordered.ensures.sorted r.holders list).stands;
@@ -33,7 +33,7 @@ returns-clause-dict g c = λ holders s.
     let w = c.weed_by-weeded.result in
     let new = c.turn-left.new.self in
     let both = has_table method && has_table d.method in
-    let list : StandsFor c.list.result b holders = rw c.list.ensures s.list in
+    let list : StandsFor c.list.result b holders = c.list.ensures rules b holders (c.heads.ensures.stands rules b holders s) in
     let o = c.order_by-ordered.ensures.sorted holders list in
     let xs = ordered_by method rules b holders in
     let a = c.weed_by-weeded.ensures.weeded xs o.stands in

@@ -27,7 +27,7 @@ link-requires g c =
       apart = apart_in list b c.args.at.0 c.requires.at ((p.front ++ mark ∷ []) ++ p.rest) s;
       holder = c.requires.at.holder;
       previous = sym (last_of-append 0 p.front (mark ∷ []));
-      next = c.neighbour-next.ensures ∙ next_word b p.front mark p.rest one.chain;
+      next = c.neighbour-next.ensures ∙ next_word b p.front mark p.rest one.links.chain;
     }
 
 pub returns-clause-list : goal.returns-clause-list
@@ -44,4 +44,4 @@ returns-clause-list g c = λ holders h.
     ((p.front ++ mark ∷ []) ++ at ∷ p.rest) (inserted_after mark at holders) (e ∙ sym p.whole)
     (append_assoc p.front (mark ∷ []) (at ∷ p.rest) ∙ sym (inserted_after-split p.front mark p.rest at p.before) ∙ ap (inserted_after mark at) (sym p.whole))
     (c.link.ensures.list (p.front ++ mark ∷ []) p.rest s (apart_in list b at c.requires.at ((p.front ++ mark ∷ []) ++ p.rest) s)
-    (sym (last_of-append 0 p.front (mark ∷ []))) (c.neighbour-next.ensures ∙ next_word b p.front mark p.rest one.chain))
+    (sym (last_of-append 0 p.front (mark ∷ []))) (c.neighbour-next.ensures ∙ next_word b p.front mark p.rest one.links.chain))

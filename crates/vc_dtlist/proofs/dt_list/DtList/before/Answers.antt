@@ -25,7 +25,7 @@ link-requires g c =
       stands = s;
       apart = apart_in list b c.args.at.0 c.requires.at (p.front ++ mark ∷ p.rest) s;
       holder = c.requires.at.holder;
-      previous = c.neighbour-previous.ensures ∙ previous_word b p.front mark p.rest s.chain;
+      previous = c.neighbour-previous.ensures ∙ previous_word b p.front mark p.rest s.links.chain;
       next = refl;
     }
 
@@ -41,4 +41,4 @@ returns-clause-list g c = λ holders h.
     (p.front ++ at ∷ mark ∷ p.rest) (inserted_before mark at holders) (sym p.whole)
     (sym (inserted_before-split p.front mark p.rest at p.before) ∙ ap (inserted_before mark at) (sym p.whole))
     (c.link.ensures.list p.front (mark ∷ p.rest) s (apart_in list b at c.requires.at (p.front ++ mark ∷ p.rest) s)
-    (c.neighbour-previous.ensures ∙ previous_word b p.front mark p.rest s.chain) refl)
+    (c.neighbour-previous.ensures ∙ previous_word b p.front mark p.rest s.links.chain) refl)

@@ -5,4 +5,4 @@ use Rattle.vc_dtlist.proofs.HolderLemmas.{some-last}
 use Rattle.vc_dtlist.proofs.dt_list.DtList.last.Goals as goal
 
 pub returns : goal.returns
-returns c = λ blocks holders s. c.found.ensures ∙ ap some_address s.last ∙ some-last holders (Chain-none blocks 0 holders 0 s.chain)
+returns c = λ blocks holders s. c.found.ensures ∙ ap some_address s.links.last ∙ some-last holders (Chain-none blocks 0 holders 0 s.links.chain)

@@ -9,7 +9,7 @@ pub set_link-requires-clause-holder : goal.set_link-requires-clause-holder
 set_link-requires-clause-holder g c = λ some.
     let old = g.C.Cells.blocks c.args.cells.now in
     let r = c.requires in
-    let ls = Chain-front old 0 r.front r.rest 0 r.stands.chain in
+    let ls = Chain-front old 0 r.front r.rest 0 r.stands.links.chain in
     HasBytes-written old (g.C.Cells.blocks c.set_node.new.cells) c.args.at.0 c.args.before.0 32 c.set_node.ensures.written
     (last_words old r.front (first_of r.rest 0) c.args.before.0 ls r.previous some)
 
@@ -18,7 +18,7 @@ set_link-requires-2-clause-holder g c = λ some.
     let old = g.C.Cells.blocks c.args.cells.now in
     let mid = g.C.Cells.blocks c.set_node.new.cells in
     let r = c.requires in
-    let rs = Chain-rest old 0 r.front r.rest 0 r.stands.chain in
+    let rs = Chain-rest old 0 r.front r.rest 0 r.stands.links.chain in
     HasBytes-written mid (g.C.Cells.blocks c.set_link.new.cells) c.args.before.0 c.args.behind.0 32 c.set_link.ensures.written.written
     (HasBytes-written old mid c.args.at.0 c.args.behind.0 32 c.set_node.ensures.written
     (first_words old (last_of 0 r.front) r.rest c.args.behind.0 rs r.next some))
@@ -31,5 +31,5 @@ returns-clause-list g c = λ front rest s apart pe ne.
     Turned-joined c.args.self.now _ (blocks c.args.cells.now) (blocks c.set_node.new.cells) (blocks c.set_link.new.cells) (blocks c.set_link-2.new.cells)
     c.args.before.0 c.args.at.0 c.args.behind.0 front rest s apart pe ne
     (law c.args.cells.now c.args.at.0 c.requires.holder.there) c.requires.holder (λ some. absurd (omega (arith, (law c.args.cells.now 0 some).some)))
-    made.written made.previous made.next made.third made.fourth c.set_link.ensures.written c.set_link-2.ensures.written
+    made.written made.previous made.next (record { third = made.third; fourth = made.fourth }) c.set_link.ensures.written c.set_link-2.ensures.written
     c.end_of-self.ensures c.end_of-self-2.ensures

@@ -14,7 +14,7 @@ link-requires g c =
       stands = subst (λ z. StandsFor c.args.self.now (g.C.Cells.blocks c.args.cells.now) z) e r.stands;
       apart = subst (λ z. contains z c.args.at.0 ≡ false) e r.apart;
       holder = r.holder;
-      previous = r.stands.last;
+      previous = r.stands.links.last;
       next = refl;
     }
 
@@ -25,4 +25,4 @@ returns-clause-list g c = λ holders s.
     let e = append-nil holders in
     let apart = apart_in c.args.self.now (blocks c.args.cells.now) at c.requires holders s in
     subst (λ z. Turned at z (blocks c.args.cells.now) c.link.new.self (blocks c.link.new.cells) (holders ++ at ∷ [])) e
-    (c.link.ensures.list holders [] (subst (λ z. StandsFor c.args.self.now (blocks c.args.cells.now) z) (sym e) s) (subst (λ z. contains z at ≡ false) (sym e) apart) s.last refl)
+    (c.link.ensures.list holders [] (subst (λ z. StandsFor c.args.self.now (blocks c.args.cells.now) z) (sym e) s) (subst (λ z. contains z at ≡ false) (sym e) apart) s.links.last refl)

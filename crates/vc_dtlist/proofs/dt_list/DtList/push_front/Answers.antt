@@ -4,4 +4,4 @@ use Rattle.vc_dtlist.proofs.dt_list.DtList.push_front.Goals as goal
 
 pub returns-clause-list : goal.returns-clause-list
 returns-clause-list g c = λ holders s.
-    c.link.ensures.list [] holders s (apart_in c.args.self.now (g.C.Cells.blocks c.args.cells.now) c.args.at.0 c.requires holders s) refl s.first
+    c.link.ensures.list [] holders s (apart_in c.args.self.now (g.C.Cells.blocks c.args.cells.now) c.args.at.0 c.requires holders s) refl s.links.first
