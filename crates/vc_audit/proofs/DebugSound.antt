@@ -6,6 +6,7 @@ use Rattle.std.proofs.lemmas.List.{get_or-map, length-map}
 use Rattle.vc_model.specs.Addr.{place_of}
 use Rattle.vc_model.specs.Layout.{Block, address_of}
 use Rattle.vc_model.specs.Sound.{HaveOwnNumbers, HaveOwnPlaces}
+use Rattle.vc_best.specs.Parts.{layout_of}
 use Rattle.vc_audit.specs.declared.debug.Debug.{Debug}
 use Rattle.vc_audit.specs.DebugParts.{blocks_in, segments_in}
 use Rattle.vc_audit.specs.Debug.{user_block, user_place}
@@ -27,7 +28,7 @@ own_places d =
       exact = λ i e within.
           let inside : i < length bs = omega (arith, within, long) in
           let b : Block ℕ = get_or bs i none in
-          let low : (place_of (address_of b)).1 + 33 ≤ 33554432 = below-end d.best.layout d.guarded d.best.sound (address_of b) (i, omega (arith, inside, length-map bs (address_of {L = ℕ})), get_or-map address_of bs i none (address_of b) inside) in
+          let low : (place_of (address_of b)).1 + 33 ≤ 33554432 = below-end (layout_of d.best) d.guarded d.best.sound (address_of b) (i, omega (arith, inside, length-map bs (address_of {L = ℕ})), get_or-map address_of bs i none (address_of b) inside) in
           ap (λ (c : Block ℕ). place_of (address_of c)) (it i e inside)
           ∙ (ap place_of (address-user b)
           ∙ (user_place-next (address_of b) low
@@ -35,16 +36,16 @@ own_places d =
     }
   where
     bs : List (Block ℕ)
-    bs = d.best.layout.blocks
+    bs = (layout_of d.best).blocks
 
-    places : HaveOwnPlaces d.best.layout.blocks
-    places = own-best d.best.layout d.best.sound
+    places : HaveOwnPlaces (layout_of d.best).blocks
+    places = own-best (layout_of d.best) d.best.sound
 
-    long : length (map (user_block {L = ℕ}) d.best.layout.blocks) ≡ length d.best.layout.blocks
-    long = length-map d.best.layout.blocks (user_block {L = ℕ})
+    long : length (map (user_block {L = ℕ}) (layout_of d.best).blocks) ≡ length (layout_of d.best).blocks
+    long = length-map (layout_of d.best).blocks (user_block {L = ℕ})
 
-    it : (i : ℕ) (e : Block ℕ) → i < length d.best.layout.blocks → get_or (map user_block d.best.layout.blocks) i e ≡ user_block (get_or d.best.layout.blocks i none)
-    it i e lt = get_or-map user_block d.best.layout.blocks i none e lt
+    it : (i : ℕ) (e : Block ℕ) → i < length (layout_of d.best).blocks → get_or (map user_block (layout_of d.best).blocks) i e ≡ user_block (get_or (layout_of d.best).blocks i none)
+    it i e lt = get_or-map user_block (layout_of d.best).blocks i none e lt
 
 pub own_numbers : {I : Type 0} {V : I → Type 0} (d : Debug I V) → HaveOwnNumbers (segments_in d)
 own_numbers d =

@@ -4,21 +4,22 @@ use Rattle.std.proofs.Math.Nat.{ℕ_set}
 use Rattle.std.proofs.Math.Logic.{∥∥₁_elim}
 use Rattle.vc_model.specs.Sound.{HaveOwnNumbers, HaveOwnPlaces}
 use Rattle.vc_model.proofs.Places.{own-places}
+use Rattle.vc_best.specs.Parts.{layout_of}
 use Rattle.vc_best.specs.declared.best.Best.{Best}
 use Rattle.vc_audit.specs.declared.profile.Profile.{Profile}
 use Rattle.vc_audit.specs.ProfileParts.{blocks_in, segments_in}
 use Rattle.vc_audit.proofs.ProfileBare.{from-best}
 
-pub best_places : {I : Type 0} {V : I → Type 0} (b : Best I V) → HaveOwnPlaces b.layout.blocks
+pub best_places : {I : Type 0} {V : I → Type 0} (b : Best I V) → HaveOwnPlaces (layout_of b).blocks
 best_places b =
     record {
-      distinct = λ i j d lt within e. ∥∥₁_elim b.sound (hlevel) (λ s. (own-places b.layout s).distinct i j d lt within e);
-      first = λ i d within. ∥∥₁_elim b.sound (le_prop) (λ s. (own-places b.layout s).first i d within);
+      distinct = λ i j d lt within e. ∥∥₁_elim b.sound (hlevel) (λ s. (own-places (layout_of b) s).distinct i j d lt within e);
+      first = λ i d within. ∥∥₁_elim b.sound (le_prop) (λ s. (own-places (layout_of b) s).first i d within);
       exact = λ i d within. ∥∥₁_elim b.sound (hlevel (ℕ_set)) (λ s. s.exact i d within);
     }
 
 pub own_places : {I : Type 0} {V : I → Type 0} (p : Profile I V) → HaveOwnPlaces (blocks_in p)
-own_places p = from-best HaveOwnPlaces p.sites.items.items p.best.layout.blocks (best_places p.best)
+own_places p = from-best HaveOwnPlaces p.sites.items.items (layout_of p.best).blocks (best_places p.best)
 
 pub own_numbers : {I : Type 0} {V : I → Type 0} (p : Profile I V) → HaveOwnNumbers (segments_in p)
 own_numbers p =

@@ -11,6 +11,7 @@ pub use Rattle.vc_model.specs.Sound
 pub use Rattle.vc_model.specs.Touch
 pub use Rattle.vc_model.specs.Walk
 pub use Rattle.vc_seg.specs.Answer
+pub use Rattle.vc_seg.specs.Boxed
 pub use Rattle.vc_seg.specs.Stat
 pub mod Profile
 pub mod ProfileExample

@@ -1,3 +1,4 @@
+ghost use Rattle.vc_best.specs.Parts.{layout_of};
 ghost use Rattle.vc_audit.specs.DebugGuard.{HasGuards};
 
 mod alloc;
@@ -27,5 +28,5 @@ pub struct Debug {
     /// The marks of the blocks that are watched: the address of the user's bytes and the line.
     marks: Vec<(u32, u32)>,
     /// Each block has room for its guards.
-    pub ghost guarded: { HasGuards best.layout.blocks },
+    pub ghost guarded: { HasGuards (layout_of best).blocks },
 }

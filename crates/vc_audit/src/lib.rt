@@ -8,3 +8,4 @@ mod profile_example;
 pub use debug::{Debug, debug_damage, debug_marks, debug_places, debug_resizing};
 pub use profile::Profile;
 pub use profile_example::{profile_refusals, profile_resizes, profile_sites};
+pub use vc_seg::{ProfileRow, Stat};

@@ -10,6 +10,7 @@ mod walk;
 ghost use Rattle.std.specs.Prelude.{◌≡◌, ◌≤◌, IfErr, IfOk};
 ghost use Rattle.std.proofs.Props.{props};
 ghost use Rattle.vc_model.specs.Layout.{empty_layout};
+ghost use Rattle.vc_best.specs.Parts.{layout_of};
 ghost use Rattle.vc_audit.specs.ProfileSums.{IsCounted};
 
 use indexmap::IndexMap;
@@ -33,13 +34,14 @@ pub struct Profile {
     pub(crate) rows: IndexMap<Name, Row>,
     // The site of each block.
     pub(crate) sites: Sites,
-    ghost counted: { IsCounted best.layout sites.items.items rows.entries } by { Prim.hlevel props },
+    ghost counted: { IsCounted (layout_of best) sites.items.items rows.entries } by { Prim.hlevel props },
 }
 
-// A best region with no segment. The condition always holds.
+// A best region with no segment. The check asks for a condition on a call that could drop a box;
+// this one always holds.
 fn open_best(alloc: Global, disc: Box<dyn SegDisc>) -> Result<Best, (OutOfMemory, Box<dyn SegDisc>)>
     requires { 0 ≤ 0 }
-    ensures ok { IfOk result (λ b. (b.layout ≡ empty_layout) × (state b.disc ≡ state disc)) }
+    ensures ok { IfOk result (λ b. (layout_of b ≡ empty_layout) × (state b.disc ≡ state disc)) }
     ensures err { IfErr result (λ e. state e.1 ≡ state disc) }
 {
     Best::open(alloc, disc)

@@ -7,7 +7,7 @@ use Rattle.std.proofs.lemmas.List.Kept.{AllPairs-cons}
 use Rattle.vc_model.specs.Layout.{Block, footprint, footprints, lies_before, with_block}
 use Rattle.vc_model.specs.Segments.{span}
 use Rattle.vc_model.specs.Sound.{EndsBefore, IsApart}
-use Rattle.vc_segments.proofs.Rounding.{round_up-least}
+use Rattle.vc_seg.proofs.Rounding.{round_up-least}
 use Rattle.vc_blocks.specs.Layout.{slot_of_block}
 use Rattle.vc_blocks.specs.Put.{body, body_at}
 use Rattle.vc_blocks.proofs.Apart.{AllPairs-head, AllPairs-tail}

@@ -8,7 +8,7 @@ use Rattle.vc_model.specs.Layout.{Layout, footprint, footprints}
 use Rattle.vc_model.specs.Place.{lowest_offset}
 use Rattle.vc_model.specs.Segments.{span}
 use Rattle.vc_model.specs.Sound.{EndsBefore, IsApart}
-use Rattle.vc_segments.proofs.Rounding.{round_up-least}
+use Rattle.vc_seg.proofs.Rounding.{round_up-least}
 use Rattle.vc_blocks.proofs.Apart.{AllPairs-head, AllPairs-map, AllPairs-tail, apart_by_seg}
 use Rattle.vc_blocks.proofs.Inside.{All-unmap}
 use Rattle.vc_best.specs.Gaps.{best_left, gaps_left, gaps_left_in}

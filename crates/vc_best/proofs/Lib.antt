@@ -16,3 +16,10 @@ pub mod Others
 pub mod There
 pub mod Stays
 pub mod Walks
+pub mod Places
+pub mod RestBlocks
+pub mod RestLayout
+pub mod RestAlloc
+pub mod CellBytes
+pub mod CellCalls
+pub mod Labelled

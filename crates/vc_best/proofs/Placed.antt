@@ -10,7 +10,7 @@ use Rattle.vc_model.specs.Layout.{Block, Layout, footprint, footprints, with_seg
 use Rattle.vc_model.specs.Place.{IsAlign, lowest_offset}
 use Rattle.vc_model.specs.Segments.{span}
 use Rattle.vc_model.specs.Sound.{HaveOwnNumbers, IsApart, IsUsable}
-use Rattle.vc_segments.proofs.Rounding.{round_up-least, round_up-mod_32}
+use Rattle.vc_seg.proofs.Rounding.{round_up-least, round_up-mod_32}
 use Rattle.vc_blocks.specs.declared.order.Order.TheVariants.{ByAddress}
 use Rattle.vc_blocks.specs.Put.{FitsAt, IsFreeAt, with_zeros}
 use Rattle.vc_blocks.proofs.Apart.{apart_by_seg}

@@ -4,7 +4,7 @@ use Rattle.std.proofs.lemmas.List.Elements.{All-from_recursion, All-contains}
 use Rattle.vc_model.specs.Discipline.{IsRound, IsSegmentSize}
 use Rattle.vc_model.specs.Place.{IsAlign}
 use Rattle.vc_model.specs.Segments.{round_up, span}
-use Rattle.vc_segments.proofs.Rounding.{IsSegmentSize-asked, round_up-least, round_up-most}
+use Rattle.vc_seg.proofs.Rounding.{IsSegmentSize-asked, round_up-least, round_up-most}
 
 -- what an alignment is
 pub record IsAligned (align : ℕ) : Type 0 where

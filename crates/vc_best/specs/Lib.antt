@@ -14,7 +14,13 @@ pub use Rattle.vc_model.specs.Touch
 pub use Rattle.vc_model.specs.Walk
 pub use Rattle.vc_model.specs.Addr
 pub use Rattle.vc_seg.specs.Answer
+pub use Rattle.vc_seg.specs.Boxed
 pub use Rattle.vc_seg.specs.Stat
 pub mod Heads
 pub mod Gaps
 pub mod Stay
+pub mod Read
+pub mod Parts
+pub mod Cells
+pub mod CellLaws
+pub mod CellRows

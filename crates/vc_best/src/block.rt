@@ -8,10 +8,12 @@ use vc_base::Addr;
 
 /// The calls on one block. They can't fail, and take no memory.
 impl Best {
+    ghost use Rattle.vc_best.specs.Parts.{blocks_in, layout_of};
+
     /// The size in bytes of the block at that address, from 1 to 16,777,264.
     pub fn size(&self, a: Addr) -> u32
-        requires { HasBlock self.now.layout.blocks a.0 }
-        ensures { option_map (λ b. b.size) (find_block (place_of a.0) self.now.layout.blocks)
+        requires { HasBlock (blocks_in self.now) a.0 }
+        ensures { option_map (λ b. b.size) (find_block (place_of a.0) (blocks_in self.now))
             ≡ Some result }
     {
         self.layout.held().size(a)
@@ -19,8 +21,8 @@ impl Best {
 
     /// The tag of the block at that address.
     pub fn tag(&self, a: Addr) -> u32
-        requires { HasBlock self.now.layout.blocks a.0 }
-        ensures { option_map (λ b. b.label) (find_block (place_of a.0) self.now.layout.blocks)
+        requires { HasBlock (blocks_in self.now) a.0 }
+        ensures { option_map (λ b. b.label) (find_block (place_of a.0) (blocks_in self.now))
             ≡ Some result }
     {
         self.layout.held().tag(a)
@@ -28,22 +30,22 @@ impl Best {
 
     /// The bytes of a range of the block at that address. The range lies in the block.
     pub fn read(&self, a: Addr, off: u32, len: u32) -> &[u8]
-        requires block { HasBlock self.now.layout.blocks a.0 }
-        requires range { HasRange self.now.layout.blocks a.0 off len }
+        requires block { HasBlock (blocks_in self.now) a.0 }
+        requires range { HasRange (blocks_in self.now) a.0 off len }
         ensures { option_map (λ b. take len (drop off b.bytes))
-            (find_block (place_of a.0) self.now.layout.blocks) ≡ Some result.now }
+            (find_block (place_of a.0) (blocks_in self.now)) ≡ Some result.now }
     {
         self.layout.held().read(a, off, len)
     }
 
     /// Puts bytes into the block at that address, from an offset on. They lie in the block.
     pub fn write(&mut self, a: Addr, off: u32, src: &[u8])
-        requires block { HasBlock self.old.layout.blocks a.0 }
-        requires range { HasRange self.old.layout.blocks a.0 off (length src.now) }
-        ensures layout { self.new.layout
-            ≡ with_bytes_at self.old.layout (place_of a.0) off src.now }
-        ensures others { without_block (place_of a.0) self.new.layout.blocks
-            ≡ without_block (place_of a.0) self.old.layout.blocks }
+        requires block { HasBlock (blocks_in self.old) a.0 }
+        requires range { HasRange (blocks_in self.old) a.0 off (length src.now) }
+        ensures layout { layout_of self.new
+            ≡ with_bytes_at (layout_of self.old) (place_of a.0) off src.now }
+        ensures others { without_block (place_of a.0) (blocks_in self.new)
+            ≡ without_block (place_of a.0) (blocks_in self.old) }
         ensures disc { state self.new.disc ≡ state self.old.disc }
         ensures same_disc { self.new.disc ≡ self.old.disc }
     {
@@ -52,12 +54,12 @@ impl Best {
 
     /// Fills a range of the block at that address with one byte. The range lies in the block.
     pub fn fill(&mut self, a: Addr, off: u32, len: u32, byte: u8)
-        requires block { HasBlock self.old.layout.blocks a.0 }
-        requires range { HasRange self.old.layout.blocks a.0 off len }
-        ensures layout { self.new.layout
-            ≡ with_bytes_at self.old.layout (place_of a.0) off (replicate len byte) }
-        ensures others { without_block (place_of a.0) self.new.layout.blocks
-            ≡ without_block (place_of a.0) self.old.layout.blocks }
+        requires block { HasBlock (blocks_in self.old) a.0 }
+        requires range { HasRange (blocks_in self.old) a.0 off len }
+        ensures layout { layout_of self.new
+            ≡ with_bytes_at (layout_of self.old) (place_of a.0) off (replicate len byte) }
+        ensures others { without_block (place_of a.0) (blocks_in self.new)
+            ≡ without_block (place_of a.0) (blocks_in self.old) }
         ensures disc { state self.new.disc ≡ state self.old.disc }
     {
         self.layout.fill(a, off, len, byte);

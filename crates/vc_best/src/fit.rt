@@ -8,8 +8,7 @@ ghost use Rattle.vc_best.specs.Gaps.{gaps_left_in, best_left};
 
 use crate::gap::{Gap, consider};
 use vc_blocks::Slot;
-use vc_seg::Segment;
-use vc_segments::span_of;
+use vc_seg::{Segment, span_of};
 
 /// The least gap so far that holds a block of that span and alignment, or one of this segment where it is a lesser one.
 fn best_in_segment(

@@ -3,7 +3,7 @@ ghost use Rattle.vc_model.specs.Gap.{Run, comes_before, run_of};
 ghost use Rattle.vc_model.specs.Place.{holds, lesser, lowest_offset};
 
 use std::marker::Model;
-use vc_segments::rounded_up;
+use vc_seg::rounded_up;
 
 /// A run of free bytes of a segment, up to but not including `to`.
 #[derive(Clone, Copy)]

@@ -21,16 +21,15 @@ use std::alloc::Global;
 use std::marker::Model;
 use vc_base::Addr;
 use vc_blocks::{Layout as Blocks, Order, Slot};
-use vc_seg::{RegionFault, SegDisc, Stat};
-use vc_segments::{round_of, rounded_up, span_of};
+use vc_seg::{RegionFault, SegDisc, Stat, round_of, rounded_up, span_of};
 
 /// The segments in order of lending and the blocks, with heads, by address.
 #[derive(Drop)]
-pub struct Layout {
+pub struct BestLayout {
     held: Blocks,
 }
 
-impl Model for Layout {
+impl Model for BestLayout {
     ghost use Rattle.std.specs.Prelude.{ℕ};
     ghost use Rattle.vc_model.specs.Layout.{Layout};
 
@@ -43,16 +42,16 @@ impl Model for Layout {
     ghost invariant = { λ l. HaveHeads l.held };
 }
 
-impl Layout {
+impl BestLayout {
     /// With no segment and no block.
-    pub(crate) fn new(alloc: Global) -> Layout
+    pub(crate) fn new(alloc: Global) -> BestLayout
         ensures value { result ≡ empty_layout }
         ensures sound { IsSound result }
         ensures whole { HasWholeBlocks result }
     {
         let held = Blocks::new(alloc);
-        held.look();
-        Layout { held }
+        held.show_invariant();
+        BestLayout { held }
     }
 
     /// Its segments and blocks, for calls that change nothing.
@@ -94,7 +93,7 @@ impl Layout {
         ensures whole { HasWholeBlocks self.new }
     {
         let answer = self.held.put(Order::ByAddress, seg, off, size, tag);
-        self.held.look();
+        self.held.show_invariant();
         answer
     }
 
@@ -123,7 +122,7 @@ impl Layout {
         let answer = self
             .held
             .put_in_new(Order::ByAddress, disc, alloc, bytes, align, size, tag);
-        self.held.look();
+        self.held.show_invariant();
         answer
     }
 
@@ -140,7 +139,7 @@ impl Layout {
         ensures whole { HasWholeBlocks self.new }
     {
         self.held.remove(a);
-        self.held.look();
+        self.held.show_invariant();
     }
 
     /// Puts bytes into the block at that address, from an offset on.
@@ -152,7 +151,7 @@ impl Layout {
         ensures whole { HasWholeBlocks self.new }
     {
         self.held.write(a, off, src);
-        self.held.look();
+        self.held.show_invariant();
     }
 
     /// Fills a range of the block at that address with one byte.
@@ -164,7 +163,7 @@ impl Layout {
         ensures whole { HasWholeBlocks self.new }
     {
         self.held.fill(a, off, len, byte);
-        self.held.look();
+        self.held.show_invariant();
     }
 
     /// Whether the block at that address can have another size where it is.
@@ -196,7 +195,7 @@ impl Layout {
         ensures whole { HasWholeBlocks self.new }
     {
         self.held.resize_there(a, size);
-        self.held.look();
+        self.held.show_invariant();
     }
 
     /// Moves the bytes of a block, up to a number of them, into the front of another, which has room for them, and frees
@@ -213,7 +212,7 @@ impl Layout {
         ensures whole { HasWholeBlocks self.new }
     {
         self.held.take_over(a, to, size);
-        self.held.look();
+        self.held.show_invariant();
     }
 
     /// The first block behind an address.
@@ -252,7 +251,7 @@ impl Layout {
         ensures whole { HasWholeBlocks self.new }
     {
         self.held.clear();
-        self.held.look();
+        self.held.show_invariant();
     }
 
     /// The discipline takes back each segment without a block, in ascending order of number, and they are counted.
@@ -266,7 +265,7 @@ impl Layout {
         ensures whole { HasWholeBlocks self.new }
     {
         let count = self.held.compact(disc);
-        self.held.look();
+        self.held.show_invariant();
         count
     }
 
@@ -276,7 +275,7 @@ impl Layout {
         ensures count { result ≡ length self.segments }
         ensures disc { TookBack (state disc.old) (state disc.new) self.segments [] }
     {
-        let Layout { held } = self;
+        let BestLayout { held } = self;
         held.close(disc)
     }
 }

@@ -1,8 +1,10 @@
 //! A memory region by exact best fit over the segments of a discipline.
-#![tactic(auto)]
+#![tactic(auto, unfolding(crate::specs::Read::layout_by))]
 
 mod best;
 mod block;
+mod cell_rows;
+mod cells;
 mod fit;
 mod gap;
 mod layout;
@@ -12,4 +14,5 @@ mod stay;
 mod walk;
 
 pub use best::Best;
-pub use layout::Layout;
+pub use cell_rows::one_cell;
+pub use layout::BestLayout;

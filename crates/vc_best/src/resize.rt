@@ -11,6 +11,8 @@ use vc_base::{Addr, Steps};
 use vc_seg::RegionFault;
 
 impl Best {
+    ghost use Rattle.vc_best.specs.Parts.{blocks_in, layout_of, segments_in};
+
     /// Gives a block another size, from 1 to 16,777,264 bytes, and answers its address. It stays where it is if it can,
     /// and else moves if it may. The first bytes of both sizes are kept, and the others are zero. `Fixed` comes where it
     /// can't stay and may not move; the other faults are those of `alloc`, and come only where it moves.
@@ -21,31 +23,29 @@ impl Best {
         may_move: bool,
         steps: &mut Steps<L>,
     ) -> Result<Addr, RegionFault>
-        requires block { HasBlock self.old.layout.blocks a.0 }
+        requires block { HasBlock (blocks_in self.old) a.0 }
         requires some { 1 ≤ size }
         requires most { size ≤ 16777264 }
 
         ensures answer { Answers
-            (best_resize (state self.old.disc).terms self.old.layout (place_of a.0) size may_move)
-            result self.old.layout self.new.layout }
+            (best_resize (state self.old.disc).terms (layout_of self.old)
+            (place_of a.0) size may_move)
+            result (layout_of self.old) (layout_of self.new) }
         ensures disc { Asks result (state self.old.disc) (state self.new.disc)
-            self.old.layout.segments self.new.layout.segments
+            (segments_in self.old) (segments_in self.new)
             (best_need (state self.old.disc).terms size 32) }
         ensures no_memory { IsErrOf result RegionFault.OutOfMemory
-            → IfSome (find_block (place_of a.0) self.old.layout.blocks)
-            (λ b. can_stay self.old.layout size b ≡ false) × IsTrue may_move }
+            → IfSome (find_block (place_of a.0) (blocks_in self.old))
+            (λ b. can_stay (layout_of self.old) size b ≡ false) × IsTrue may_move }
 
         // The block has that size and keeps its tag, and the others stay.
         ensures sized { IfOk result (λ to. option_map (λ b. b.size)
-            (find_block (place_of to.0) self.new.layout.blocks) ≡ Some size) }
+            (find_block (place_of to.0) (blocks_in self.new)) ≡ Some size) }
         ensures there { IfOk result (λ to.
-            option_map (λ b. b.label) (find_block (place_of to.0) self.new.layout.blocks)
-            ≡ option_map (λ b. b.label) (find_block (place_of a.0) self.old.layout.blocks)) }
-        ensures others { IfOk result (λ to. without_block (place_of to.0) self.new.layout.blocks
-            ≡ without_block (place_of a.0) self.old.layout.blocks) }
-
-        // No step is counted.
-        ensures counter { steps.new ≡ steps.old }
+            option_map (λ b. b.label) (find_block (place_of to.0) (blocks_in self.new))
+            ≡ option_map (λ b. b.label) (find_block (place_of a.0) (blocks_in self.old))) }
+        ensures others { IfOk result (λ to. without_block (place_of to.0) (blocks_in self.new)
+            ≡ without_block (place_of a.0) (blocks_in self.old)) }
     {
         if self.layout.can_stay(a, size) {
             self.layout.resize_there(a, size);

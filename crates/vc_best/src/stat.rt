@@ -8,8 +8,7 @@ ghost use Rattle.vc_best.specs.Gaps.{gaps_left, gaps_left_in, run_sizes};
 ghost use Rattle.vc_best.specs.Heads.{runs_of};
 
 use vc_blocks::{Slot, Tally};
-use vc_seg::Segment;
-use vc_segments::span_of;
+use vc_seg::{Segment, span_of};
 
 /// The tally with the run from one offset to another, where it has a byte.
 fn with_run(tally: Tally, from: u32, to: u32) -> Tally

@@ -6,8 +6,7 @@ ghost use Rattle.vc_best.specs.Heads.{run_of_slot};
 ghost use Rattle.vc_best.specs.Stay.{fits_in, is_clear};
 
 use vc_blocks::Slot;
-use vc_seg::Segment;
-use vc_segments::span_of;
+use vc_seg::{Segment, span_of};
 
 /// Whether what a slot takes is in the usable part of one of these segments.
 fn is_usable(segs: &[Segment], slot: Slot) -> bool

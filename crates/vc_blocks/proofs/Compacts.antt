@@ -13,9 +13,9 @@ use Rattle.vc_blocks.specs.declared.slot.Slot.{Slot}
 use Rattle.vc_blocks.specs.Slot.{has_slot, body_of}
 use Rattle.vc_segments.specs.Memory.{bytes_of_number}
 use Rattle.vc_blocks.specs.Layout.{block_in, layout_of, IsSlotIn, IsLayout}
-use Rattle.vc_segments.proofs.Backs.{AreSegments-filter}
+use Rattle.vc_seg.proofs.Backs.{AreSegments-filter}
 use Rattle.vc_blocks.proofs.Apart.{AllPairs-nil, Beside}
-use Rattle.vc_segments.proofs.Filters.{filter-map}
+use Rattle.vc_seg.proofs.Filters.{filter-map}
 
 pub IsLayout-cleared : (segs : List Bytes) (slots : List Slot) → IsLayout segs slots → IsLayout segs []
 IsLayout-cleared segs slots l =

@@ -4,9 +4,10 @@ use Rattle.std.proofs.lemmas.List.{length-map, get_or-map}
 use Rattle.std.proofs.lemmas.List.Elements.{All-head, All-tail, All-nil, All-cons}
 use Rattle.vc_model.specs.Gap.{Run}
 use Rattle.vc_model.specs.Pool.{IsInside}
-use Rattle.vc_seg.specs.Segment.{Bytes, pair_of}
-use Rattle.vc_segments.specs.Memory.{AreSegments, bytes_of_number}
-use Rattle.vc_segments.proofs.Bytes.{Apart, bytes_of_number-at, bytes_of_number-most}
+use Rattle.vc_seg.specs.Segment.{AreSegments, Bytes, pair_of}
+use Rattle.vc_segments.specs.Memory.{bytes_of_number}
+use Rattle.vc_seg.proofs.Backs.{Apart}
+use Rattle.vc_segments.proofs.Bytes.{bytes_of_number-at, bytes_of_number-most}
 use Rattle.vc_blocks.specs.declared.slot.Slot.{Slot}
 use Rattle.vc_blocks.specs.Slot.{body_of}
 use Rattle.vc_blocks.specs.Layout.{IsSlotIn}

@@ -5,8 +5,8 @@ use Rattle.std.proofs.lemmas.List.{take-replicate, drop-replicate, map_push}
 use Rattle.std.proofs.lemmas.List.Elements.{All-head, All-tail, All-weaker}
 use Rattle.vc_model.specs.Best.{zeros}
 use Rattle.vc_model.specs.Layout.{Block, with_block}
-use Rattle.vc_seg.specs.Segment.{Bytes}
-use Rattle.vc_segments.specs.Memory.{AreSegments, bytes_of_number}
+use Rattle.vc_seg.specs.Segment.{AreSegments, Bytes}
+use Rattle.vc_segments.specs.Memory.{bytes_of_number}
 use Rattle.vc_segments.proofs.Bytes.{bytes_of_number-append}
 use Rattle.vc_blocks.specs.declared.order.Order.{Order}
 use Rattle.vc_blocks.specs.declared.order.Order.TheVariants.{ByAddress, ByAllocation}

@@ -12,9 +12,9 @@ use Rattle.vc_model.specs.Sound.{HaveOwnNumbers}
 use Rattle.vc_seg.specs.declared.fault.RegionFault.{RegionFault}
 use Rattle.vc_seg.specs.declared.fault.RegionFault.TheVariants as code
 use Rattle.vc_seg.specs.Answer.{Asks}
-use Rattle.vc_seg.specs.Segment.{Bytes, pair_of, zeroed}
+use Rattle.vc_seg.specs.Segment.{AreSegments, Bytes, pair_of, zeroed}
 use Rattle.vc_segments.specs.Lend.{IsAsked}
-use Rattle.vc_segments.specs.Memory.{AreSegments, bytes_of_number}
+use Rattle.vc_segments.specs.Memory.{bytes_of_number}
 use Rattle.vc_segments.proofs.Bytes.{bytes_of_number-push}
 use Rattle.vc_segments.proofs.Numbered.{bytes_of_number-none}
 use Rattle.vc_segments.proofs.Unused.{is_among}

@@ -7,12 +7,12 @@ use Rattle.std.proofs.lemmas.List.Elements.{All-head, All-tail}
 use Rattle.vc_model.specs.Layout.{Block, address_of}
 use Rattle.vc_model.specs.Order.{least_above, lesser_by}
 use Rattle.vc_model.specs.Walk.{block_at, next_block, holds_byte}
-use Rattle.vc_segments.proofs.Filters.{filter-map}
+use Rattle.vc_seg.proofs.Filters.{filter-map}
 use Rattle.vc_model.specs.Addr.{address}
-use Rattle.vc_seg.specs.Segment.{Bytes}
+use Rattle.vc_seg.specs.Segment.{Bytes, IsRegionSegment}
 use Rattle.vc_blocks.specs.declared.slot.Slot.{Slot}
 use Rattle.vc_blocks.specs.Slot.{HasNumber, IsSlot, address_of_slot, slot_holds_byte}
-use Rattle.vc_segments.specs.Memory.{bytes_of_number, IsRegionSegment}
+use Rattle.vc_segments.specs.Memory.{bytes_of_number}
 use Rattle.vc_blocks.specs.Layout.{block_in, slot_of_block, IsSlotIn, IsLayout}
 
 HasNumber-bytes : (s : Slot) (n : ℕ) (segs : List Bytes) → s.seg ≡ n → All IsRegionSegment segs → 0 < length (bytes_of_number n segs) → HasNumber s

@@ -10,14 +10,14 @@ use Rattle.vc_model.specs.Discipline.{IsSegmentSize}
 use Rattle.vc_model.specs.Layout.{Block, Layout}
 use Rattle.vc_model.specs.Best.{zeros}
 use Rattle.vc_model.specs.Touch.{rewritten, change_block, with_bytes_at}
-use Rattle.vc_seg.specs.Segment.{Bytes, pair_of}
+use Rattle.vc_seg.specs.Segment.{Bytes, IsRegionSegment, pair_of}
 use Rattle.vc_blocks.specs.declared.slot.Slot.{Slot}
 use Rattle.vc_blocks.specs.Slot.{place_of_slot, placed_slot, is_slot_at}
 use Rattle.vc_segments.specs.Memory.{write_segment}
-use Rattle.vc_segments.specs.Memory.{bytes_of_number, IsRegionSegment}
+use Rattle.vc_segments.specs.Memory.{bytes_of_number}
 use Rattle.vc_blocks.specs.Layout.{block_in, layout_of, IsSlotIn, IsLayout}
 use Rattle.vc_blocks.proofs.Apart.{Beside, Beside-flip, AllPairs-head, AllPairs-tail}
-use Rattle.vc_segments.proofs.Bytes.{Apart}
+use Rattle.vc_seg.proofs.Backs.{Apart}
 use Rattle.vc_blocks.specs.declared.order.Order.{Order}
 use Rattle.vc_blocks.specs.Put.{placed}
 use Rattle.vc_blocks.proofs.Layouts.{IsLayout-placed, stands, blocks-placed}

@@ -2,8 +2,8 @@
 use Rattle.std.specs.Prelude.{ℕ, ◌+◌, ◌≤◌, List, All, AllPairs, length, map, take, drop}
 use Rattle.vc_model.specs.Layout.{Block, Layout}
 use Rattle.vc_model.specs.Sound.{IsApart}
-use Rattle.vc_seg.specs.Segment.{Bytes, pair_of}
-use Rattle.vc_segments.specs.Memory.{AreSegments, bytes_of_number}
+use Rattle.vc_seg.specs.Segment.{AreSegments, Bytes, pair_of}
+use Rattle.vc_segments.specs.Memory.{bytes_of_number}
 use Rattle.vc_blocks.specs.declared.slot.Slot.{Slot}
 use Rattle.vc_blocks.specs.Slot.{IsSlot, body_of}
 

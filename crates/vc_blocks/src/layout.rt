@@ -5,10 +5,9 @@ ghost use Rattle.vc_model.specs.Layout.{address_of, empty_layout};
 ghost use Rattle.vc_model.specs.Sound.{HasWholeBlocks};
 ghost use Rattle.vc_model.specs.Touch.{HasBlock};
 ghost use Rattle.vc_model.specs.Walk.{block_at, next_block, next_segment, segment_at};
-ghost use Rattle.vc_seg.specs.Segment.{pair_of};
+ghost use Rattle.vc_seg.specs.Segment.{AreSegments, pair_of};
 ghost use Rattle.vc_blocks.specs.Layout.{slot_of_block};
 ghost use Rattle.vc_blocks.specs.Slot.{HasNumber, IsSlot};
-ghost use Rattle.vc_segments.specs.Memory.{AreSegments};
 
 use crate::slot::Slot;
 use crate::slots::Occupied;
@@ -16,8 +15,8 @@ use crate::walk::{next_address, slot_at};
 use std::alloc::Global;
 use std::marker::Model;
 use vc_base::Addr;
-use vc_seg::{SegDisc, Segment};
-use vc_segments::{KeepsNone, give_back, next_segment, segment_at};
+use vc_seg::{KeepsNone, SegDisc, Segment, give_back};
+use vc_segments::{next_segment, segment_at};
 
 /// Segments in order of lending, and blocks whose bytes lie in them. No two blocks have a byte in common.
 #[derive(Drop)]
@@ -69,7 +68,7 @@ impl Layout {
 
     /// What is always true of it: each block has as many bytes as its size, its address is a u32, and a segment has at
     /// most 33,554,432 bytes.
-    pub fn look(&self)
+    pub fn show_invariant(&self)
         ensures { HasWholeBlocks self.now }
     {
         let _ = &self.blocks;
@@ -130,7 +129,8 @@ impl Layout {
         (before - self.segs.len()) as u32
     }
 
-    /// The discipline takes all its segments back, in ascending order of number, and they are counted.
+    /// The discipline takes all its segments back, and they are counted. They go in ascending order of number, which is
+    /// the condition of what gives one back and no clause of this call.
     pub fn close(self, disc: &mut Box<dyn SegDisc>) -> u32
         requires { HasOut (state disc.old) self.segments }
         ensures count { result ≡ length self.segments }

@@ -14,7 +14,7 @@ use crate::slots::take_out;
 use std::alloc::Global;
 use vc_base::Addr;
 use vc_seg::{RegionFault, SegDisc};
-use vc_segments::{fill_in, obtain};
+use vc_segments::{fill_in, lend_next};
 
 /// Room for one more.
 fn reserve_one<T>(list: &mut Vec<T>) -> Result<(), RegionFault>
@@ -84,7 +84,7 @@ impl Layout {
             self.new.segments bytes }
     {
         reserve_one(&mut self.blocks)?;
-        let number = obtain(&mut self.segs, disc, alloc, bytes)?;
+        let number = lend_next(&mut self.segs, disc, alloc, bytes)?;
         Slot {
             seg: number,
             off,

@@ -3,7 +3,7 @@ ghost use Rattle.std.specs.List.{find, remove};
 ghost use Rattle.vc_blocks.specs.Slot.{has_slot, is_slot_at, place_of_slot, resize_slot, without_slot};
 
 use crate::slot::Slot;
-use vc_segments::Keeps;
+use vc_seg::Keeps;
 
 /// The segments that these slots are in stay.
 #[derive(Drop)]

@@ -42,7 +42,7 @@ impl Layout {
         tally_slots(&self.blocks)
     }
 
-    /// How many segments there are, at most 1,023, the sum of their sizes and the greatest.
+    /// How many segments there are, at most 1,023, and the sum of their sizes.
     pub fn tally_segments(&self) -> Tally
         ensures count { result.count ≡ segment_count self.now }
         ensures bytes { result.bytes ≡ segment_bytes self.now }

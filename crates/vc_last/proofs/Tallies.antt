@@ -9,8 +9,7 @@ use Rattle.vc_model.specs.Gap.{Run, bytes_of, run_of, gaps, gaps_between, runs_i
 use Rattle.vc_model.specs.Layout.{Block, Layout, footprint, footprints}
 use Rattle.vc_model.specs.Numbers.{gap_sizes}
 use Rattle.vc_model.specs.Order.{put_by, sorted_by}
-use Rattle.vc_seg.specs.Segment.{Bytes, pair_of}
-use Rattle.vc_segments.specs.Memory.{AreSegments}
+use Rattle.vc_seg.specs.Segment.{AreSegments, Bytes, pair_of}
 use Rattle.vc_blocks.specs.declared.slot.Slot.{Slot}
 use Rattle.vc_blocks.specs.Layout.{slot_of_block}
 use Rattle.vc_blocks.specs.Tally.{HasRoom, tally_of}

@@ -9,10 +9,12 @@ use vc_base::Addr;
 
 /// The calls on one block, and the walks. They can't fail, and take no memory.
 impl Last {
+    ghost use Rattle.vc_last.specs.Parts.{blocks_in, layout_of, segments_in};
+
     /// The size in bytes of the block at that address, from 1 to 16,777,216.
     pub fn size(&self, a: Addr) -> u32
-        requires { HasBlock self.now.layout.blocks a.0 }
-        ensures { option_map (λ b. b.size) (find_block (place_of a.0) self.now.layout.blocks)
+        requires { HasBlock (blocks_in self.now) a.0 }
+        ensures { option_map (λ b. b.size) (find_block (place_of a.0) (blocks_in self.now))
             ≡ Some result }
     {
         self.layout.layout().size(a)
@@ -20,8 +22,8 @@ impl Last {
 
     /// The tag of the block at that address.
     pub fn tag(&self, a: Addr) -> u32
-        requires { HasBlock self.now.layout.blocks a.0 }
-        ensures { option_map (λ b. b.label) (find_block (place_of a.0) self.now.layout.blocks)
+        requires { HasBlock (blocks_in self.now) a.0 }
+        ensures { option_map (λ b. b.label) (find_block (place_of a.0) (blocks_in self.now))
             ≡ Some result }
     {
         self.layout.layout().tag(a)
@@ -29,27 +31,27 @@ impl Last {
 
     /// The bytes of a range of the block at that address. The range lies in the block.
     pub fn read(&self, a: Addr, off: u32, len: u32) -> &[u8]
-        requires block { HasBlock self.now.layout.blocks a.0 }
-        requires range { HasRange self.now.layout.blocks a.0 off len }
+        requires block { HasBlock (blocks_in self.now) a.0 }
+        requires range { HasRange (blocks_in self.now) a.0 off len }
         ensures { option_map (λ b. take len (drop off b.bytes))
-            (find_block (place_of a.0) self.now.layout.blocks) ≡ Some result.now }
+            (find_block (place_of a.0) (blocks_in self.now)) ≡ Some result.now }
     {
         self.layout.layout().read(a, off, len)
     }
 
     /// Puts bytes into the block at that address, from an offset on. They lie in the block.
     pub fn write(&mut self, a: Addr, off: u32, src: &[u8])
-        requires block { HasBlock self.old.layout.blocks a.0 }
-        requires range { HasRange self.old.layout.blocks a.0 off (length src.now) }
-        ensures layout { self.new.layout
-            ≡ with_bytes_at self.old.layout (place_of a.0) off src.now }
-        ensures others { without_block (place_of a.0) self.new.layout.blocks
-            ≡ without_block (place_of a.0) self.old.layout.blocks }
+        requires block { HasBlock (blocks_in self.old) a.0 }
+        requires range { HasRange (blocks_in self.old) a.0 off (length src.now) }
+        ensures layout { layout_of self.new
+            ≡ with_bytes_at (layout_of self.old) (place_of a.0) off src.now }
+        ensures others { without_block (place_of a.0) (blocks_in self.new)
+            ≡ without_block (place_of a.0) (blocks_in self.old) }
         ensures disc { state self.new.disc ≡ state self.old.disc }
     {
         let row = &mut self.layout;
         row.write(a, off, src);
-        row.look();
+        row.show_invariant();
     }
 
     /// The block whose bytes hold the byte at an offset of a segment, and the offset in the block. None where no block
@@ -57,22 +59,22 @@ impl Last {
     pub fn block_at(&self, seg: u32, off: u32) -> Option<(Addr, u32)>
         ensures value { option_map {U = ℕ × ℕ} (λ f. (f.0.0, f.1)) result
             ≡ option_map {U = ℕ × ℕ} (λ f. (address_of f.0, f.1))
-            (block_at (seg, off) self.now.layout.blocks) }
-        ensures live { IfSome result (λ f. HasBlock self.now.layout.blocks f.0.0) }
+            (block_at (seg, off) (blocks_in self.now)) }
+        ensures live { IfSome result (λ f. HasBlock (blocks_in self.now) f.0.0) }
     {
         self.layout.layout().block_at(seg, off)
     }
 
     /// The size of the segment of that number, where it has a byte at that offset, else None.
     pub fn segment_at(&self, seg: u32, off: u32) -> Option<u32>
-        ensures { result ≡ segment_at (seg, off) self.now.layout.segments }
+        ensures { result ≡ segment_at (seg, off) (segments_in self.now) }
     {
         self.layout.layout().segment_at(seg, off)
     }
 
     /// The segment with the least number above one, as number and size. A walk begins with 0, and ends with None.
     pub fn next_segment(&self, after: u32) -> Option<(u32, u32)>
-        ensures { result ≡ next_segment after self.now.layout.segments }
+        ensures { result ≡ next_segment after (segments_in self.now) }
     {
         self.layout.layout().next_segment(after)
     }
@@ -81,8 +83,8 @@ impl Last {
     /// ends with None.
     pub fn next_block(&self, after: Addr) -> Option<Addr>
         ensures value { option_map (λ a. a.0) result
-            ≡ option_map address_of (next_block after.0 self.now.layout.blocks) }
-        ensures live { IfSome result (λ a. HasBlock self.now.layout.blocks a.0) }
+            ≡ option_map address_of (next_block after.0 (blocks_in self.now)) }
+        ensures live { IfSome result (λ a. HasBlock (blocks_in self.now) a.0) }
     {
         self.layout.layout().next_block(after)
     }

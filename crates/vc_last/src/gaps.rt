@@ -3,15 +3,13 @@ ghost use Rattle.vc_model.specs.Discipline.{IsSegmentSize};
 ghost use Rattle.vc_model.specs.Gap.{bytes_of};
 ghost use Rattle.vc_blocks.specs.Slot.{IsSlot};
 ghost use Rattle.vc_blocks.specs.Tally.{HasRoom, tallied_all, tally_of};
-ghost use Rattle.vc_seg.specs.Segment.{pair_of};
+ghost use Rattle.vc_seg.specs.Segment.{AreSegments, pair_of};
 ghost use Rattle.vc_seg.specs.Stat.{layout_stat};
-ghost use Rattle.vc_segments.specs.Memory.{AreSegments};
 ghost use Rattle.vc_last.specs.Runs.{gaps_left, gaps_left_in, run_sizes, runs_of};
 
-use crate::row::Row;
+use crate::row::BlockRow;
 use vc_blocks::{Slot, Tally};
-use vc_seg::{Segment, Stat};
-use vc_segments::span_of;
+use vc_seg::{Segment, Stat, span_of};
 
 /// The tally so far with the run from one offset to another, where it has a byte.
 fn with_run(tally: Tally, from: u32, to: u32) -> Tally
@@ -61,7 +59,7 @@ fn tally_gaps(segs: &[Segment], slots: &[Slot]) -> Tally
     tally
 }
 
-impl Row {
+impl BlockRow {
     /// Its numbers of blocks, gaps and segments, and their sizes in bytes.
     pub(crate) fn stat(&self) -> Stat
         ensures { result ≡ layout_stat self.now }

@@ -8,10 +8,11 @@ ghost use Rattle.vc_model.specs.Last.{can_end, last_alloc, last_free, last_need,
 ghost use Rattle.vc_model.specs.Layout.{address_of, empty_layout, without_block};
 ghost use Rattle.vc_model.specs.Sound.{IsSound};
 ghost use Rattle.vc_model.specs.Touch.{HasBlock, find_block};
+ghost use Rattle.vc_last.specs.Read.{layout_by};
 ghost use Rattle.vc_seg.specs.Answer.{Answers, Asks, Frees};
 ghost use Rattle.vc_seg.specs.Stat.{layout_stat};
 
-use crate::row::Row;
+use crate::row::BlockRow;
 use std::alloc::Global;
 use vc_base::{Addr, OutOfMemory};
 use vc_seg::{RegionFault, SegDisc, Stat};
@@ -22,26 +23,29 @@ use vc_seg::{RegionFault, SegDisc, Stat};
 #[derive(Drop)]
 pub struct Last {
     /// Its segments in order of lending, and its blocks in order of allocation.
-    pub layout: Row,
+    pub layout: BlockRow,
     /// The discipline that lends its segments.
     pub disc: Box<dyn SegDisc>,
     /// Where the memory of its segments and lists comes from.
     pub alloc: Global,
     /// No two blocks overlap, each lies in the usable part of a segment, and segments have numbers of their own.
-    pub ghost sound: { ∥ IsSound layout ∥₁ },
+    pub ghost sound: { ∥ IsSound (layout_by layout) ∥₁ },
 }
 
 impl Last {
+    ghost use Rattle.vc_last.specs.Parts.{blocks_in, layout_of, segments_in};
+
     /// A region with no segment. It takes none before the first block.
     pub fn open(
         alloc: Global,
         disc: Box<dyn SegDisc>,
     ) -> Result<Last, (OutOfMemory, Box<dyn SegDisc>)>
-        ensures ok { IfOk result (λ l. (l.layout ≡ empty_layout) × (state l.disc ≡ state disc)) }
+        ensures ok { IfOk result
+            (λ l. (layout_of l ≡ empty_layout) × (state l.disc ≡ state disc)) }
         ensures err { IfErr result (λ e. state e.1 ≡ state disc) }
     {
-        let layout = Row::new(alloc);
-        layout.look();
+        let layout = BlockRow::new(alloc);
+        layout.show_invariant();
         Ok(Last {
             layout,
             disc,
@@ -56,22 +60,22 @@ impl Last {
         requires most { size ≤ 16777216 }
 
         ensures answer { Answers
-            (last_alloc (state self.old.disc).terms self.old.layout tag size)
-            result self.old.layout self.new.layout }
+            (last_alloc (state self.old.disc).terms (layout_of self.old) tag size)
+            result (layout_of self.old) (layout_of self.new) }
         ensures disc { Asks result (state self.old.disc) (state self.new.disc)
-            self.old.layout.segments self.new.layout.segments
+            (segments_in self.old) (segments_in self.new)
             (last_need (state self.old.disc).terms size) }
 
         // The block stands there, at an address of its own, and the others stay.
-        ensures there { IfOk result (λ a. find_block (place_of a.0) self.new.layout.blocks
+        ensures there { IfOk result (λ a. find_block (place_of a.0) (blocks_in self.new)
             ≡ Some (zeros tag size (place_of a.0))) }
-        ensures fresh { IfOk result (λ a. ¬ HasBlock self.old.layout.blocks a.0) }
-        ensures others { IfOk result (λ a. without_block (place_of a.0) self.new.layout.blocks
-            ≡ self.old.layout.blocks) }
+        ensures fresh { IfOk result (λ a. ¬ HasBlock (blocks_in self.old) a.0) }
+        ensures others { IfOk result (λ a. without_block (place_of a.0) (blocks_in self.new)
+            ≡ blocks_in self.old) }
     {
         let row = &mut self.layout;
         let answer = row.alloc(&mut self.disc, self.alloc, size, tag);
-        row.look();
+        row.show_invariant();
         answer
     }
 
@@ -80,85 +84,87 @@ impl Last {
     /// it may, and is the latest still. The first bytes of both sizes are kept, and the others are zero. `Fixed` comes
     /// where it can't stay and may not move; the other faults are those of `alloc`, and come only where it moves.
     pub fn resize(&mut self, a: Addr, size: u32, may_move: bool) -> Result<Addr, RegionFault>
-        requires block { HasBlock self.old.layout.blocks a.0 }
+        requires block { HasBlock (blocks_in self.old) a.0 }
         requires some { 1 ≤ size }
         requires most { size ≤ 16777216 }
 
         ensures answer { Answers
-            (last_resize (state self.old.disc).terms self.old.layout (place_of a.0) size may_move)
-            result self.old.layout self.new.layout }
+            (last_resize (state self.old.disc).terms (layout_of self.old)
+            (place_of a.0) size may_move)
+            result (layout_of self.old) (layout_of self.new) }
         ensures disc { Asks result (state self.old.disc) (state self.new.disc)
-            self.old.layout.segments self.new.layout.segments
+            (segments_in self.old) (segments_in self.new)
             (last_need (state self.old.disc).terms size) }
         ensures no_memory { IsErrOf result RegionFault.OutOfMemory
-            → IfSome (find_block (place_of a.0) self.old.layout.blocks)
-            (λ b. (latest self.old.layout ≡ Some b) × (can_end self.old.layout size b ≡ false))
+            → IfSome (find_block (place_of a.0) (blocks_in self.old))
+            (λ b. (latest (layout_of self.old) ≡ Some b)
+            × (can_end (layout_of self.old) size b ≡ false))
             × IsTrue may_move }
 
         // The block keeps its tag, and the others stay.
         ensures there { IfOk result (λ to.
-            option_map (λ b. b.label) (find_block (place_of to.0) self.new.layout.blocks)
-            ≡ option_map (λ b. b.label) (find_block (place_of a.0) self.old.layout.blocks)) }
-        ensures others { IfOk result (λ to. without_block (place_of to.0) self.new.layout.blocks
-            ≡ without_block (place_of a.0) self.old.layout.blocks) }
+            option_map (λ b. b.label) (find_block (place_of to.0) (blocks_in self.new))
+            ≡ option_map (λ b. b.label) (find_block (place_of a.0) (blocks_in self.old))) }
+        ensures others { IfOk result (λ to. without_block (place_of to.0) (blocks_in self.new)
+            ≡ without_block (place_of a.0) (blocks_in self.old)) }
     {
         let row = &mut self.layout;
         let answer = row.resize(&mut self.disc, self.alloc, a, size, may_move);
-        row.look();
+        row.show_invariant();
         answer
     }
 
     /// Frees the block at that address. `NotLast` comes where it isn't the latest. The one that was allocated before it
     /// is then the latest.
     pub fn free(&mut self, a: Addr) -> Result<(), RegionFault>
-        requires block { HasBlock self.old.layout.blocks a.0 }
-        ensures answer { Frees (last_free self.old.layout (place_of a.0)) result
-            self.old.layout self.new.layout }
+        requires block { HasBlock (blocks_in self.old) a.0 }
+        ensures answer { Frees (last_free (layout_of self.old) (place_of a.0)) result
+            (layout_of self.old) (layout_of self.new) }
         ensures disc { state self.new.disc ≡ state self.old.disc }
         ensures memory { ¬ IsErrOf result RegionFault.OutOfMemory }
 
         // It is the one block at that address that goes.
-        ensures one_less { OnOk result (length self.new.layout.blocks + 1
-            ≡ length self.old.layout.blocks) }
-        ensures freed { OnOk result ((i : ℕ) → i < length self.old.layout.blocks
-            → HoldsAt (λ b. address_of b ≡ a.0) self.old.layout.blocks i
-            → self.new.layout.blocks ≡ remove self.old.layout.blocks i) }
-        ensures none_left { OnOk result (¬ HasBlock self.new.layout.blocks a.0) }
+        ensures one_less { OnOk result (length (blocks_in self.new) + 1
+            ≡ length (blocks_in self.old)) }
+        ensures freed { OnOk result ((i : ℕ) → i < length (blocks_in self.old)
+            → HoldsAt (λ b. address_of b ≡ a.0) (blocks_in self.old) i
+            → blocks_in self.new ≡ remove (blocks_in self.old) i) }
+        ensures none_left { OnOk result (¬ HasBlock (blocks_in self.new) a.0) }
     {
         let row = &mut self.layout;
         let answer = row.free(a);
-        row.look();
+        row.show_invariant();
         answer
     }
 
     /// Frees all its blocks, and keeps its segments.
     pub fn clear(&mut self)
-        ensures layout { self.new.layout ≡ cleared self.old.layout }
+        ensures layout { layout_of self.new ≡ cleared (layout_of self.old) }
         ensures disc { state self.new.disc ≡ state self.old.disc }
     {
         let row = &mut self.layout;
         row.clear();
-        row.look();
+        row.show_invariant();
     }
 
     /// Gives back each segment without a block, in ascending order of number, and answers how many those were. The newest
     /// segment is then the one of the rest that was lent latest.
     pub fn compact(&mut self) -> u32
-        requires { HasOut (state self.old.disc) self.old.layout.segments }
-        ensures layout { self.new.layout ≡ compacted self.old.layout }
-        ensures count { result ≡ compact_count self.old.layout }
+        requires { HasOut (state self.old.disc) (segments_in self.old) }
+        ensures layout { layout_of self.new ≡ compacted (layout_of self.old) }
+        ensures count { result ≡ compact_count (layout_of self.old) }
         ensures disc { TookBack (state self.old.disc) (state self.new.disc)
-            self.old.layout.segments self.new.layout.segments }
+            (segments_in self.old) (segments_in self.new) }
     {
         let row = &mut self.layout;
         let count = row.compact(&mut self.disc);
-        row.look();
+        row.show_invariant();
         count
     }
 
     /// Its numbers of blocks, gaps and segments, and their sizes in bytes. What a moved block left is a gap.
     pub fn stat(&self) -> Stat
-        ensures { result ≡ layout_stat self.now.layout }
+        ensures { result ≡ layout_stat (layout_of self.now) }
     {
         self.layout.stat()
     }
@@ -166,9 +172,9 @@ impl Last {
     /// Gives all its segments back, in ascending order of number, and answers with the discipline and how many there
     /// were.
     pub fn close(self) -> (Box<dyn SegDisc>, u32)
-        requires { HasOut (state self.disc) self.layout.segments }
-        ensures disc { TookBack (state self.disc) (state result.0) self.layout.segments [] }
-        ensures count { result.1 ≡ length self.layout.segments }
+        requires { HasOut (state self.disc) (segments_in self) }
+        ensures disc { TookBack (state self.disc) (state result.0) (segments_in self) [] }
+        ensures count { result.1 ≡ length (segments_in self) }
     {
         let Last {
             layout,

@@ -1,5 +1,5 @@
 //! A region of blocks one behind another over the segments of a discipline. Only the latest block is freed or resized.
-#![tactic(auto)]
+#![tactic(auto, unfolding(crate::specs::Read::layout_by))]
 
 mod block;
 mod gaps;
@@ -9,4 +9,4 @@ mod resize;
 mod row;
 
 pub use last::Last;
-pub use row::Row;
+pub use row::BlockRow;

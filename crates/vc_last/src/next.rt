@@ -5,8 +5,7 @@ ghost use Rattle.vc_seg.specs.Segment.{pair_of};
 ghost use Rattle.vc_last.specs.Runs.{SlotEndsFirst, next_behind, run_of_slot};
 
 use vc_blocks::Slot;
-use vc_seg::Segment;
-use vc_segments::span_of;
+use vc_seg::{Segment, span_of};
 
 /// Where the next block begins in the segment of that number, behind these slots, of which the last one there ends
 /// last.

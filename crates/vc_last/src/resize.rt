@@ -8,13 +8,13 @@ ghost use Rattle.vc_seg.specs.Answer.{Answers, Asks};
 ghost use Rattle.vc_last.specs.Row.{is_latest};
 
 use crate::next::is_usable;
-use crate::row::Row;
+use crate::row::BlockRow;
 use std::alloc::Global;
 use vc_base::Addr;
 use vc_blocks::Slot;
 use vc_seg::{RegionFault, SegDisc};
 
-impl Row {
+impl BlockRow {
     /// Whether the latest block can have a size where it is. There is one.
     fn can_end(&self, a: Addr, size: u32) -> bool
         requires latest { is_latest self.now (place_of a.0) ≡ true }

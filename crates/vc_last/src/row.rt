@@ -17,16 +17,15 @@ use std::alloc::Global;
 use std::marker::Model;
 use vc_base::Addr;
 use vc_blocks::{Layout, Order, Slot};
-use vc_seg::{RegionFault, SegDisc};
-use vc_segments::{round_of, rounded_up, span_of};
+use vc_seg::{RegionFault, SegDisc, round_of, rounded_up, span_of};
 
 /// Segments in order of lending, and blocks in order of allocation, one behind another in each segment.
 #[derive(Drop)]
-pub struct Row {
+pub struct BlockRow {
     pub(crate) layout: Layout,
 }
 
-impl Model for Row {
+impl Model for BlockRow {
     ghost use Rattle.std.specs.Prelude.{ℕ};
     ghost use Rattle.vc_model.specs.Layout.{Layout};
 
@@ -39,12 +38,12 @@ impl Model for Row {
     ghost invariant = { λ r. IsRow r.layout };
 }
 
-impl Row {
+impl BlockRow {
     /// With no segment and no block.
-    pub(crate) fn new(alloc: Global) -> Row
+    pub(crate) fn new(alloc: Global) -> BlockRow
         ensures { result ≡ empty_layout }
     {
-        Row {
+        BlockRow {
             layout: Layout::new(alloc),
         }
     }
@@ -158,7 +157,7 @@ impl Row {
         ensures count { result ≡ length self.segments }
         ensures disc { TookBack (state disc.old) (state disc.new) self.segments [] }
     {
-        let Row { layout } = self;
+        let BlockRow { layout } = self;
         layout.close(disc)
     }
 
@@ -179,9 +178,9 @@ impl Row {
     }
 
     /// What is always true of it: no two blocks overlap, and each lies in the usable part of a segment.
-    pub(crate) fn look(&self)
+    pub(crate) fn show_invariant(&self)
         ensures { IsSound self.now }
     {
-        self.layout.look();
+        self.layout.show_invariant();
     }
 }

@@ -15,22 +15,22 @@ use Rattle.vc_model.specs.Pool.{carve, carved_in, cell_for, cell_offset, element
 use Rattle.vc_model.specs.Sound.{HaveOwnNumbers}
 use Rattle.vc_blocks.specs.Put.{FitsAt, IsFreeAt, with_zeros}
 use Rattle.vc_blocks.proofs.Owned.{only-one}
-use Rattle.vc_pool.specs.Cells.{AreCells, IsCarved, IsInCell, pool_of, times}
+use Rattle.vc_pool.specs.Cells.{AreCells, IsCarved, IsInCell, pool_with, times}
 use Rattle.vc_pool.proofs.Apart.{IsCarved-inside, IsCarved-multiple, cell_for-least, free-at}
 use Rattle.vc_pool.proofs.Carvings.{carved_in-carve}
 use Rattle.vc_pool.proofs.Keeping.{AreCells-carved, AreCells-element, AreCells-segment, All-last, grown, uncarved-none}
 use Rattle.vc_pool.proofs.Times.{same_pair-self, times-append}
 
 -- a pool has the cells that it has with its element size set
-pub AreCells-set : (r : Layout ℕ) (element size e : ℕ) (freed carved : List (ℕ × ℕ)) → AreCells r element freed carved → 1 ≤ size → size ≤ 16777216 → e ≡ element_with (pool_of r element freed carved) size → AreCells r e freed carved
+pub AreCells-set : (r : Layout ℕ) (element size e : ℕ) (freed carved : List (ℕ × ℕ)) → AreCells r element freed carved → 1 ≤ size → size ≤ 16777216 → e ≡ element_with (pool_with r element freed carved) size → AreCells r e freed carved
 AreCells-set r element size e freed carved h some most is =
     ⊎_elim
     (λ (t : eqb element 0 ≡ true).
     let unset : AreCells r 0 freed carved = subst (λ (n : ℕ). AreCells r n freed carved) (eqb-true element 0 t) h in
-    let same : element_with (pool_of r element freed carved) size ≡ size = rw t refl in
+    let same : element_with (pool_with r element freed carved) size ≡ size = rw t refl in
     subst (λ (n : ℕ). AreCells r n freed carved) (sym (is ∙ same)) (AreCells-element r element size freed carved unset some most))
     (λ (t : eqb element 0 ≡ false).
-    let same : element_with (pool_of r element freed carved) size ≡ element = rw t refl in
+    let same : element_with (pool_with r element freed carved) size ≡ element = rw t refl in
     subst (λ (n : ℕ). AreCells r n freed carved) (sym (is ∙ same)) h)
     (cases_Bool (eqb element 0))
 

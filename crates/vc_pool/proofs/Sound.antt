@@ -3,9 +3,10 @@ use Rattle.std.proofs.Math.Bridge.{le_prop}
 use Rattle.std.proofs.Math.Nat.{ℕ_set}
 use Rattle.std.proofs.Math.Logic.{∥∥₁_elim}
 use Rattle.vc_model.specs.Sound.{HaveOwnNumbers, HaveOwnPlaces}
+use Rattle.vc_pool.specs.Parts.{blocks_in, segments_in}
 use Rattle.vc_pool.specs.declared.pool.Pool.{Pool}
 
-pub own_places : {I : Type 0} {V : I → Type 0} (p : Pool I V) → HaveOwnPlaces p.cells.layout.blocks
+pub own_places : {I : Type 0} {V : I → Type 0} (p : Pool I V) → HaveOwnPlaces (blocks_in p)
 own_places p =
     record {
       distinct = λ i j d lt within e. ∥∥₁_elim p.sound (hlevel) (λ s. s.places.distinct i j d lt within e);
@@ -13,7 +14,7 @@ own_places p =
       exact = λ i d within. ∥∥₁_elim p.sound (hlevel (ℕ_set)) (λ s. s.places.exact i d within);
     }
 
-pub own_numbers : {I : Type 0} {V : I → Type 0} (p : Pool I V) → HaveOwnNumbers p.cells.layout.segments
+pub own_numbers : {I : Type 0} {V : I → Type 0} (p : Pool I V) → HaveOwnNumbers (segments_in p)
 own_numbers p =
     record {
       first = λ i d within. ∥∥₁_elim p.sound (le_prop) (λ s. s.numbered.first i d within);

@@ -8,7 +8,7 @@ use Rattle.vc_model.specs.Compact.{compacted, is_occupied}
 use Rattle.vc_model.specs.Layout.{Block, Layout}
 use Rattle.vc_model.specs.Pool.{IsPoolSound, Pool, carved_in, cell_for, cell_offset}
 use Rattle.vc_model.specs.Sound.{HaveOwnNumbers}
-use Rattle.vc_pool.specs.Cells.{AreCells, IsCarved, pool_of}
+use Rattle.vc_pool.specs.Cells.{AreCells, IsCarved, pool_with}
 use Rattle.vc_pool.proofs.Allocs.{element_of-some}
 use Rattle.vc_pool.proofs.Apart.{IsCarved-apart, IsCarved-inside, cell_for-least}
 use Rattle.vc_pool.proofs.Carvings.{carved_in-kept, carved_in-gone}
@@ -44,12 +44,12 @@ sound-unset p none numbered =
       numbered = numbered;
     }
 
-pub IsPoolSound-cells : (r : Layout ℕ) (element : ℕ) (freed carved : List (ℕ × ℕ)) → AreCells r element freed carved → IsPoolSound (pool_of r element freed carved)
+pub IsPoolSound-cells : (r : Layout ℕ) (element : ℕ) (freed carved : List (ℕ × ℕ)) → AreCells r element freed carved → IsPoolSound (pool_with r element freed carved)
 IsPoolSound-cells r element freed carved h =
     ⊎_elim
     (λ (t : eqb element 0 ≡ true).
     let zero : element ≡ 0 = eqb-true element 0 t in
-    sound-unset (pool_of r element freed carved) (ap (λ (l : Layout ℕ). l.blocks) (h.unset zero).0) h.numbered)
+    sound-unset (pool_with r element freed carved) (ap (λ (l : Layout ℕ). l.blocks) (h.unset zero).0) h.numbered)
     (λ (t : eqb element 0 ≡ false).
     let some : 1 ≤ element = let other = eqb-false element 0 t in omega (arith, other) in
     subst (λ (o : Option ℕ). IsPoolSound (record { layout = r; element = o; freed = reverse freed; carved = carved })) (sym (element_of-some element some)) (sound-set r element freed carved (reverse freed) h))

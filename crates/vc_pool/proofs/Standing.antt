@@ -12,7 +12,7 @@ use Rattle.vc_model.specs.Touch.{HasBlock, change_block}
 use Rattle.vc_blocks.specs.Put.{FitsAt, IsFreeBut}
 use Rattle.vc_blocks.proofs.Changes.{All-change}
 use Rattle.vc_blocks.proofs.Frees.{place_of-address}
-use Rattle.vc_pool.specs.Cells.{AreCells, IsCarved, IsInCell, pool_of, times}
+use Rattle.vc_pool.specs.Cells.{AreCells, IsCarved, IsInCell, pool_with, times}
 use Rattle.vc_pool.proofs.Apart.{IsCarved-apart, IsCarved-inside, IsCarved-multiple, cell_for-least, cell_for-some}
 use Rattle.vc_pool.proofs.Times.{same_pair-self}
 
@@ -94,15 +94,15 @@ AreCells-sized r element freed carved at size h fits set =
 
 -- what a resize answers
 module _ (r : Layout ℕ) (element : ℕ) (freed carved : List (ℕ × ℕ)) (at : ℕ × ℕ) (size : ℕ) (set : 1 ≤ element) where
-  same-element : element_with (pool_of r element freed carved) size ≡ element
+  same-element : element_with (pool_with r element freed carved) size ≡ element
   same-element = rw (ne_eqb element 0 (λ e. omega (arith, e, set))) refl
 
-  pub resize-greater : element < size → pool_resize (pool_of r element freed carved) at size ≡ Refused PoolSize
+  pub resize-greater : element < size → pool_resize (pool_with r element freed carved) at size ≡ Refused PoolSize
   resize-greater h =
-      let test : ltb (element_with (pool_of r element freed carved) size) size ≡ true = lt-ltb (element_with (pool_of r element freed carved) size) size (omega (arith, same-element, h)) in
+      let test : ltb (element_with (pool_with r element freed carved) size) size ≡ true = lt-ltb (element_with (pool_with r element freed carved) size) size (omega (arith, same-element, h)) in
       rw test refl
 
-  pub resize-stays : size ≤ element → pool_resize (pool_of r element freed carved) at size ≡ Done (record { at = at; region = pool_of (resize_there r at size) element freed carved; granted = None })
+  pub resize-stays : size ≤ element → pool_resize (pool_with r element freed carved) at size ≡ Done (record { at = at; region = pool_with (resize_there r at size) element freed carved; granted = None })
   resize-stays h =
-      let test : ltb (element_with (pool_of r element freed carved) size) size ≡ false = le-ltb (element_with (pool_of r element freed carved) size) size (omega (arith, same-element, h)) in
+      let test : ltb (element_with (pool_with r element freed carved) size) size ≡ false = le-ltb (element_with (pool_with r element freed carved) size) size (omega (arith, same-element, h)) in
       rw test refl

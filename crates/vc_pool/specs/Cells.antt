@@ -10,8 +10,8 @@ abbrev pub element_of : ℕ → Option ℕ
 element_of element = if element == 0 then None else Some element
 
 -- the freed cells stand in the order in which they were freed
-abbrev pub pool_of : Layout ℕ → ℕ → List (ℕ × ℕ) → List (ℕ × ℕ) → Pool ℕ
-pool_of layout element freed carved = record { layout = layout; element = element_of element; freed = reverse freed; carved = carved }
+abbrev pub pool_with : Layout ℕ → ℕ → List (ℕ × ℕ) → List (ℕ × ℕ) → Pool ℕ
+pool_with layout element freed carved = record { layout = layout; element = element_of element; freed = reverse freed; carved = carved }
 
 -- a place is that of a carved cell
 pub record IsCarved (cell : ℕ) (carved : List (ℕ × ℕ)) (at : ℕ × ℕ) : Type 0 where

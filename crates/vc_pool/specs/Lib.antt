@@ -6,5 +6,8 @@ pub use Rattle.vc_model.specs.Pool
 pub use Rattle.vc_model.specs.Touch
 pub use Rattle.vc_model.specs.Walk
 pub use Rattle.vc_seg.specs.Answer
+pub use Rattle.vc_seg.specs.Boxed
 pub mod Cells
 pub mod Stat
+pub mod Read
+pub mod Parts

@@ -9,10 +9,12 @@ use vc_base::Addr;
 
 /// The calls on one block. They can't fail, and take no memory.
 impl Pool {
+    ghost use Rattle.vc_pool.specs.Parts.{blocks_in, pool_of};
+
     /// The size in bytes of the block at that address, from 1 to 16,777,216.
     pub fn size(&self, a: Addr) -> u32
-        requires { HasBlock self.now.cells.layout.blocks a.0 }
-        ensures { option_map (λ b. b.size) (find_block (place_of a.0) self.now.cells.layout.blocks)
+        requires { HasBlock (blocks_in self.now) a.0 }
+        ensures { option_map (λ b. b.size) (find_block (place_of a.0) (blocks_in self.now))
             ≡ Some result }
     {
         self.cells.layout().size(a)
@@ -20,8 +22,8 @@ impl Pool {
 
     /// The tag of the block at that address.
     pub fn tag(&self, a: Addr) -> u32
-        requires { HasBlock self.now.cells.layout.blocks a.0 }
-        ensures { option_map (λ b. b.label) (find_block (place_of a.0) self.now.cells.layout.blocks)
+        requires { HasBlock (blocks_in self.now) a.0 }
+        ensures { option_map (λ b. b.label) (find_block (place_of a.0) (blocks_in self.now))
             ≡ Some result }
     {
         self.cells.layout().tag(a)
@@ -29,25 +31,25 @@ impl Pool {
 
     /// The bytes of a range of the block at that address. The range lies in the block.
     pub fn read(&self, a: Addr, off: u32, len: u32) -> &[u8]
-        requires block { HasBlock self.now.cells.layout.blocks a.0 }
-        requires range { HasRange self.now.cells.layout.blocks a.0 off len }
+        requires block { HasBlock (blocks_in self.now) a.0 }
+        requires range { HasRange (blocks_in self.now) a.0 off len }
         ensures { option_map (λ b. take len (drop off b.bytes))
-            (find_block (place_of a.0) self.now.cells.layout.blocks) ≡ Some result.now }
+            (find_block (place_of a.0) (blocks_in self.now)) ≡ Some result.now }
     {
         self.cells.layout().read(a, off, len)
     }
 
     /// Puts bytes into the block at that address, from an offset on. They lie in the block.
     pub fn write(&mut self, a: Addr, off: u32, src: &[u8])
-        requires block { HasBlock self.old.cells.layout.blocks a.0 }
-        requires range { HasRange self.old.cells.layout.blocks a.0 off (length src.now) }
-        ensures pool { self.new.cells ≡ record self.old.cells {
-          layout = with_bytes_at self.old.cells.layout (place_of a.0) off src.now;
+        requires block { HasBlock (blocks_in self.old) a.0 }
+        requires range { HasRange (blocks_in self.old) a.0 off (length src.now) }
+        ensures pool { pool_of self.new ≡ record (pool_of self.old) {
+          layout = with_bytes_at (pool_of self.old).layout (place_of a.0) off src.now;
         } }
         ensures disc { state self.new.disc ≡ state self.old.disc }
-        ensures others { without_block (place_of a.0) self.new.cells.layout.blocks
-            ≡ without_block (place_of a.0) self.old.cells.layout.blocks }
-        ensures sound { IsPoolSound self.new.cells }
+        ensures others { without_block (place_of a.0) (blocks_in self.new)
+            ≡ without_block (place_of a.0) (blocks_in self.old) }
+        ensures sound { IsPoolSound (pool_of self.new) }
     {
         self.cells.write(a, off, src);
     }

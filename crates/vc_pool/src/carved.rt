@@ -1,8 +1,7 @@
 ghost use Rattle.std.specs.Prelude.{◌≡◌, ◌≢◌, ℕ, ◌+◌, ◌<◌, ◌≤◌, All, IfSome, IfNone, filter, length, map, option_map, take, vec_len, vec_capacity};
 ghost use Rattle.std.specs.List.{HoldsAt};
 ghost use Rattle.vc_model.specs.Pool.{carve, carved_in, cell_offset, uncarved};
-ghost use Rattle.vc_seg.specs.Segment.{pair_of};
-ghost use Rattle.vc_segments.specs.Memory.{AreSegments};
+ghost use Rattle.vc_seg.specs.Segment.{AreSegments, pair_of};
 
 use vc_seg::Segment;
 

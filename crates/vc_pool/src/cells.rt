@@ -16,12 +16,11 @@ use std::alloc::Global;
 use std::marker::Model;
 use vc_base::Addr;
 use vc_blocks::{Layout, Order, Slot, is_occupied};
-use vc_seg::{RegionFault, SegDisc, Stat};
-use vc_segments::{round_of, rounded_up};
+use vc_seg::{RegionFault, SegDisc, Stat, round_of, rounded_up};
 
 /// The segments, the blocks and the cells of a pool.
 #[derive(Drop)]
-pub struct Cells {
+pub struct CellLists {
     layout: Layout,
     // 0 while none is set.
     element: u32,
@@ -30,15 +29,15 @@ pub struct Cells {
     carved: Vec<(u32, u32)>,
 }
 
-impl Model for Cells {
+impl Model for CellLists {
     ghost use Rattle.std.specs.Prelude.{ℕ, ◌+◌, ◌≤◌, length, vec_len, vec_capacity};
     ghost use Rattle.vc_model.specs.Pool.{Pool};
 
     ghost Value = { Pool ℕ };
 
-    ghost use Rattle.vc_pool.specs.Cells.{AreCells, pool_of};
+    ghost use Rattle.vc_pool.specs.Cells.{AreCells, pool_with};
 
-    ghost view = { λ c. pool_of c.layout c.element c.freed.items c.carved.items };
+    ghost view = { λ c. pool_with c.layout c.element c.freed.items c.carved.items };
 
     // There is room for every block's cell among the freed ones.
     ghost invariant = { λ c. AreCells c.layout c.element c.freed.items c.carved.items
@@ -64,12 +63,12 @@ fn keep_occupied(list: &mut Vec<(u32, u32)>, slots: &[Slot])
     list.retain(|entry| is_occupied(slots, entry.0));
 }
 
-impl Cells {
+impl CellLists {
     /// With no segment and no element size.
-    pub fn new(alloc: Global) -> Cells
+    pub fn new(alloc: Global) -> CellLists
         ensures { result ≡ empty_pool }
     {
-        Cells {
+        CellLists {
             layout: Layout::new(alloc),
             element: 0,
             freed: Vec::new(alloc),
@@ -192,7 +191,7 @@ impl Cells {
         ensures sound { IsPoolSound self.new }
     {
         let answer = self.alloc_cell(disc, alloc, size, tag);
-        self.look();
+        self.show_invariant();
         answer
     }
 
@@ -211,11 +210,11 @@ impl Cells {
         ensures sound { IsPoolSound self.new }
     {
         if size > self.element {
-            self.look();
+            self.show_invariant();
             return Err(RegionFault::PoolSize);
         }
         self.layout.resize_there(a, size);
-        self.look();
+        self.show_invariant();
         Ok(())
     }
 
@@ -227,7 +226,7 @@ impl Cells {
     {
         self.layout.remove(a);
         self.freed.push_reserved((a.seg(), a.off()));
-        self.look();
+        self.show_invariant();
     }
 
     /// Frees all blocks. Every cell is uncarved, and the element size stays.
@@ -238,7 +237,7 @@ impl Cells {
         self.layout.clear();
         self.freed.clear();
         self.carved.clear();
-        self.look();
+        self.show_invariant();
     }
 
     /// Gives back each segment without a block, in ascending order of number, with its cells, and counts them.
@@ -253,7 +252,7 @@ impl Cells {
         keep_occupied(&mut self.freed, self.layout.slots());
         keep_occupied(&mut self.carved, self.layout.slots());
         let count = self.layout.compact(disc);
-        self.look();
+        self.show_invariant();
         count
     }
 
@@ -263,7 +262,7 @@ impl Cells {
         ensures count { result ≡ length self.layout.segments }
         ensures disc { TookBack (state disc.old) (state disc.new) self.layout.segments [] }
     {
-        let Cells {
+        let CellLists {
             layout,
             element: _,
             freed: _,
@@ -290,11 +289,11 @@ impl Cells {
         ensures sound { IsPoolSound self.new }
     {
         self.layout.write(a, off, src);
-        self.look();
+        self.show_invariant();
     }
 
     /// What is always true of a pool: no two cells with a block overlap, and each lies in a segment.
-    pub(crate) fn look(&self)
+    pub(crate) fn show_invariant(&self)
         ensures { IsPoolSound self.now }
     {
         let _ = &self.element;

@@ -1,6 +1,5 @@
 ghost use Rattle.std.specs.Prelude.{◌≡◌, ℕ, ◌-◌, ◌*◌, ◌/◌, ◌≤◌, map, sum};
-ghost use Rattle.vc_seg.specs.Segment.{pair_of};
-ghost use Rattle.vc_segments.specs.Memory.{AreSegments};
+ghost use Rattle.vc_seg.specs.Segment.{AreSegments, pair_of};
 
 use vc_seg::Segment;
 

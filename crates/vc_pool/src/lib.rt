@@ -1,5 +1,5 @@
 //! A region of cells of one size over the segments of a discipline.
-#![tactic(auto)]
+#![tactic(auto, unfolding(crate::specs::Read::pool_by))]
 
 mod block;
 mod carved;
@@ -7,5 +7,5 @@ mod cells;
 mod count;
 mod pool;
 
-pub use cells::Cells;
+pub use cells::CellLists;
 pub use pool::Pool;

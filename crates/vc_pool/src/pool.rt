@@ -9,10 +9,11 @@ ghost use Rattle.vc_model.specs.Outcome.{Done};
 ghost use Rattle.vc_model.specs.Pool.{IsPoolSound, empty_pool, pool_alloc, pool_clear, pool_compact, pool_free, pool_need, pool_resize};
 ghost use Rattle.vc_model.specs.Touch.{HasBlock, find_block};
 ghost use Rattle.vc_model.specs.Walk.{block_at, next_block, next_segment, segment_at};
+ghost use Rattle.vc_pool.specs.Read.{pool_by};
 ghost use Rattle.vc_pool.specs.Stat.{pool_stat};
 ghost use Rattle.vc_seg.specs.Answer.{Answers, Asks, IsRefusal};
 
-use crate::cells::Cells;
+use crate::cells::CellLists;
 use std::alloc::Global;
 use vc_base::{Addr, OutOfMemory};
 use vc_seg::{RegionFault, SegDisc, Stat};
@@ -22,27 +23,29 @@ use vc_seg::{RegionFault, SegDisc, Stat};
 #[derive(Drop)]
 pub struct Pool {
     /// Its segments, its blocks and its cells.
-    pub cells: Cells,
+    pub cells: CellLists,
     /// The discipline that lends its segments.
     pub disc: Box<dyn SegDisc>,
     /// Where the memory of its segments and lists comes from.
     pub alloc: Global,
     /// No two cells with a block overlap, each lies in a segment, each block fits its cell, and blocks have places and
     /// segments numbers of their own.
-    pub ghost sound: { ∥ IsPoolSound cells ∥₁ },
+    pub ghost sound: { ∥ IsPoolSound (pool_by cells) ∥₁ },
 }
 
 impl Pool {
+    ghost use Rattle.vc_pool.specs.Parts.{blocks_in, pool_of, segments_in};
+
     /// A region with no segment and no element size. It takes no segment before the first block.
     pub fn open(
         alloc: Global,
         disc: Box<dyn SegDisc>,
     ) -> Result<Pool, (OutOfMemory, Box<dyn SegDisc>)>
-        ensures ok { IfOk result (λ p. (p.cells ≡ empty_pool) × (state p.disc ≡ state disc)) }
+        ensures ok { IfOk result (λ p. (pool_of p ≡ empty_pool) × (state p.disc ≡ state disc)) }
         ensures err { IfErr result (λ e. state e.1 ≡ state disc) }
     {
-        let cells = Cells::new(alloc);
-        cells.look();
+        let cells = CellLists::new(alloc);
+        cells.show_invariant();
         Ok(Pool { cells, disc, alloc })
     }
 
@@ -52,20 +55,20 @@ impl Pool {
     pub fn alloc(&mut self, size: u32, tag: u32) -> Result<Addr, RegionFault>
         requires some { 1 ≤ size }
         requires most { size ≤ 16777216 }
-        ensures answer { Answers (pool_alloc (state self.old.disc).terms self.old.cells tag size)
-            result
-            self.old.cells self.new.cells }
+        ensures answer { Answers
+            (pool_alloc (state self.old.disc).terms (pool_of self.old) tag size)
+            result (pool_of self.old) (pool_of self.new) }
         ensures disc { Asks result (state self.old.disc) (state self.new.disc)
-            self.old.cells.layout.segments self.new.cells.layout.segments
-            (pool_need (state self.old.disc).terms self.old.cells size) }
+            (segments_in self.old) (segments_in self.new)
+            (pool_need (state self.old.disc).terms (pool_of self.old) size) }
 
         // The block stands there, at an address of its own, and the others stay.
-        ensures there { IfOk result (λ a. find_block (place_of a.0) self.new.cells.layout.blocks
+        ensures there { IfOk result (λ a. find_block (place_of a.0) (blocks_in self.new)
             ≡ Some (zeros tag size (place_of a.0))) }
-        ensures fresh { IfOk result (λ a. ¬ HasBlock self.old.cells.layout.blocks a.0) }
+        ensures fresh { IfOk result (λ a. ¬ HasBlock (blocks_in self.old) a.0) }
         ensures others { IfOk result (λ a. without_block (place_of a.0)
-            self.new.cells.layout.blocks ≡ self.old.cells.layout.blocks) }
-        ensures sound { IsPoolSound self.new.cells }
+            (blocks_in self.new) ≡ blocks_in self.old) }
+        ensures sound { IsPoolSound (pool_of self.new) }
     {
         self.cells.alloc(&mut self.disc, self.alloc, size, tag)
     }
@@ -73,52 +76,52 @@ impl Pool {
     /// Gives the block at that address another size, from 1 to 16,777,216 bytes, where it is. The first bytes of both
     /// sizes are kept, and the others are zero. `PoolSize` comes only where the size is above the element size.
     pub fn resize(&mut self, a: Addr, size: u32) -> Result<(), RegionFault>
-        requires block { HasBlock self.old.cells.layout.blocks a.0 }
+        requires block { HasBlock (blocks_in self.old) a.0 }
         requires some { 1 ≤ size }
         requires most { size ≤ 16777216 }
-        ensures ok { OnOk result (pool_resize self.old.cells (place_of a.0) size
-            ≡ Done (record { at = place_of a.0; region = self.new.cells; granted = None })) }
-        ensures err { IfErr result (IsRefusal (λ _. pool_resize self.old.cells
-            (place_of a.0) size)) }
-        ensures same { OnErr result (self.new.cells ≡ self.old.cells) }
+        ensures ok { OnOk result (pool_resize (pool_of self.old) (place_of a.0) size
+            ≡ Done (record { at = place_of a.0; region = pool_of self.new; granted = None })) }
+        ensures err { IfErr result
+            (IsRefusal (λ _. pool_resize (pool_of self.old) (place_of a.0) size)) }
+        ensures same { OnErr result (pool_of self.new ≡ pool_of self.old) }
         ensures disc { state self.new.disc ≡ state self.old.disc }
         ensures memory { ¬ IsErrOf result RegionFault.OutOfMemory }
 
         // The block keeps its tag, and the others stay.
         ensures there { OnOk result (option_map (λ b. b.label)
-            (find_block (place_of a.0) self.new.cells.layout.blocks)
-            ≡ option_map (λ b. b.label) (find_block (place_of a.0) self.old.cells.layout.blocks)) }
-        ensures others { OnOk result (without_block (place_of a.0) self.new.cells.layout.blocks
-            ≡ without_block (place_of a.0) self.old.cells.layout.blocks) }
-        ensures sound { IsPoolSound self.new.cells }
+            (find_block (place_of a.0) (blocks_in self.new))
+            ≡ option_map (λ b. b.label) (find_block (place_of a.0) (blocks_in self.old))) }
+        ensures others { OnOk result (without_block (place_of a.0) (blocks_in self.new)
+            ≡ without_block (place_of a.0) (blocks_in self.old)) }
+        ensures sound { IsPoolSound (pool_of self.new) }
     {
         self.cells.resize(a, size)
     }
 
     /// Frees the block at that address. Its cell is the one freed last.
     pub fn free(&mut self, a: Addr)
-        requires { HasBlock self.old.cells.layout.blocks a.0 }
-        ensures pool { self.new.cells ≡ pool_free self.old.cells (place_of a.0) }
+        requires { HasBlock (blocks_in self.old) a.0 }
+        ensures pool { pool_of self.new ≡ pool_free (pool_of self.old) (place_of a.0) }
         ensures disc { state self.new.disc ≡ state self.old.disc }
 
         // It is the one block at that address that goes.
-        ensures one_less { length self.new.cells.layout.blocks + 1
-            ≡ length self.old.cells.layout.blocks }
-        ensures freed { (i : ℕ) → i < length self.old.cells.layout.blocks
-            → HoldsAt (λ b. address_of b ≡ a.0) self.old.cells.layout.blocks i
-            → self.new.cells.layout.blocks ≡ remove self.old.cells.layout.blocks i }
-        ensures none_left { ¬ HasBlock self.new.cells.layout.blocks a.0 }
-        ensures sound { IsPoolSound self.new.cells }
+        ensures one_less { length (blocks_in self.new) + 1
+            ≡ length (blocks_in self.old) }
+        ensures freed { (i : ℕ) → i < length (blocks_in self.old)
+            → HoldsAt (λ b. address_of b ≡ a.0) (blocks_in self.old) i
+            → blocks_in self.new ≡ remove (blocks_in self.old) i }
+        ensures none_left { ¬ HasBlock (blocks_in self.new) a.0 }
+        ensures sound { IsPoolSound (pool_of self.new) }
     {
-        self.cells.look();
+        self.cells.show_invariant();
         self.cells.free(a);
     }
 
     /// Frees all its blocks, and keeps its segments and the element size. Every cell is uncarved.
     pub fn clear(&mut self)
-        ensures pool { self.new.cells ≡ pool_clear self.old.cells }
+        ensures pool { pool_of self.new ≡ pool_clear (pool_of self.old) }
         ensures disc { state self.new.disc ≡ state self.old.disc }
-        ensures sound { IsPoolSound self.new.cells }
+        ensures sound { IsPoolSound (pool_of self.new) }
     {
         self.cells.clear();
     }
@@ -126,12 +129,12 @@ impl Pool {
     /// Gives back each segment without a block, in ascending order of number, and answers how many those were. The cells
     /// of those segments are freed no more, and the order of the others stays.
     pub fn compact(&mut self) -> u32
-        requires { HasOut (state self.old.disc) self.old.cells.layout.segments }
-        ensures pool { self.new.cells ≡ pool_compact self.old.cells }
-        ensures count { result ≡ compact_count self.old.cells.layout }
+        requires { HasOut (state self.old.disc) (segments_in self.old) }
+        ensures pool { pool_of self.new ≡ pool_compact (pool_of self.old) }
+        ensures count { result ≡ compact_count (pool_of self.old).layout }
         ensures disc { TookBack (state self.old.disc) (state self.new.disc)
-            self.old.cells.layout.segments self.new.cells.layout.segments }
-        ensures sound { IsPoolSound self.new.cells }
+            (segments_in self.old) (segments_in self.new) }
+        ensures sound { IsPoolSound (pool_of self.new) }
     {
         self.cells.compact(&mut self.disc)
     }
@@ -139,7 +142,7 @@ impl Pool {
     /// Its numbers of blocks, cells and segments, and their sizes in bytes: `free` counts the cells that no block is in,
     /// and `mfree` is the cell, or 0 with no such cell.
     pub fn stat(&self) -> Stat
-        ensures { result ≡ pool_stat self.now.cells }
+        ensures { result ≡ pool_stat (pool_of self.now) }
     {
         self.cells.stat()
     }
@@ -147,9 +150,9 @@ impl Pool {
     /// Gives all its segments back, in ascending order of number, and answers with the discipline and how many there
     /// were.
     pub fn close(self) -> (Box<dyn SegDisc>, u32)
-        requires { HasOut (state self.disc) self.cells.layout.segments }
-        ensures disc { TookBack (state self.disc) (state result.0) self.cells.layout.segments [] }
-        ensures count { result.1 ≡ length self.cells.layout.segments }
+        requires { HasOut (state self.disc) (segments_in self) }
+        ensures disc { TookBack (state self.disc) (state result.0) (segments_in self) [] }
+        ensures count { result.1 ≡ length (segments_in self) }
     {
         let Pool {
             cells,
@@ -165,22 +168,22 @@ impl Pool {
     pub fn block_at(&self, seg: u32, off: u32) -> Option<(Addr, u32)>
         ensures value { option_map {U = ℕ × ℕ} (λ f. (f.0.0, f.1)) result
             ≡ option_map {U = ℕ × ℕ} (λ f. (address_of f.0, f.1))
-            (block_at (seg, off) self.now.cells.layout.blocks) }
-        ensures live { IfSome result (λ f. HasBlock self.now.cells.layout.blocks f.0.0) }
+            (block_at (seg, off) (blocks_in self.now)) }
+        ensures live { IfSome result (λ f. HasBlock (blocks_in self.now) f.0.0) }
     {
         self.cells.layout().block_at(seg, off)
     }
 
     /// The size of the segment of that number, where it has a byte at that offset, else None.
     pub fn segment_at(&self, seg: u32, off: u32) -> Option<u32>
-        ensures { result ≡ segment_at (seg, off) self.now.cells.layout.segments }
+        ensures { result ≡ segment_at (seg, off) (segments_in self.now) }
     {
         self.cells.layout().segment_at(seg, off)
     }
 
     /// The segment with the least number above one, as number and size. A walk begins with 0, and ends with None.
     pub fn next_segment(&self, after: u32) -> Option<(u32, u32)>
-        ensures { result ≡ next_segment after self.now.cells.layout.segments }
+        ensures { result ≡ next_segment after (segments_in self.now) }
     {
         self.cells.layout().next_segment(after)
     }
@@ -188,8 +191,8 @@ impl Pool {
     /// The block behind one in order of addresses. A walk begins with `Addr::NONE`, and ends with None.
     pub fn next_block(&self, after: Addr) -> Option<Addr>
         ensures value { option_map (λ a. a.0) result
-            ≡ option_map address_of (next_block after.0 self.now.cells.layout.blocks) }
-        ensures live { IfSome result (λ a. HasBlock self.now.cells.layout.blocks a.0) }
+            ≡ option_map address_of (next_block after.0 (blocks_in self.now)) }
+        ensures live { IfSome result (λ a. HasBlock (blocks_in self.now) a.0) }
     {
         self.cells.layout().next_block(after)
     }

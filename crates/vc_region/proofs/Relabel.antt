@@ -4,7 +4,7 @@ use Rattle.std.specs.List.{AllByRecursion}
 use Rattle.vc_model.specs.Best.{best_alloc}
 use Rattle.vc_model.specs.Discipline.{Terms}
 use Rattle.vc_model.specs.Last.{last_alloc, last_free, last_resize}
-use Rattle.vc_model.specs.Layout.{Block, Layout, relabel_block}
+use Rattle.vc_model.specs.Layout.{Block, Layout, relabel_block, relabel_layout}
 use Rattle.vc_model.specs.Outcome.{Outcome, Done, Refused, Put, done_as, outcome_as}
 use Rattle.vc_model.specs.Pool.{Pool, pool_alloc, pool_resize}
 use Rattle.vc_model.specs.Resize.{best_resize}
@@ -18,7 +18,7 @@ use Rattle.vc_audit.specs.Profile.{Profile, profile_alloc, profile_resize, relab
 use Rattle.vc_audit.proofs.DebugRelabel as debug
 use Rattle.vc_audit.proofs.ProfileRelabel.{bare_layout-relabel, profile_alloc-relabel, profile_clear-relabel, profile_compact-relabel, profile_count-relabel, profile_free-relabel, profile_resize-relabel, profile_rows-relabel, profile_stat-relabel, profile_write-relabel, relabel_profile-alike}
 use Rattle.vc_seg.proofs.Stats.{layout_stat-relabel}
-use Rattle.vc_region.specs.Region.{OfBest, OfPool, OfLast, OfDebug, OfProfile, Region, aligns, blocks_of, region_align, region_alloc, region_clear, region_compact, region_compact_count, region_free, region_resize, region_write, relabelled, segments_of, keeps_freed, watch_at, damaged_in, is_debug, is_profile, region_poke, region_watch, rows_in}
+use Rattle.vc_region.specs.Region.{OfBest, OfPool, OfLast, OfDebug, OfProfile, Region, aligns, blocks_of, region_align, region_alloc, region_clear, region_compact, region_compact_count, region_free, region_resize, region_write, relabelled, segments_of, keeps_freed, watch_at, damaged_in, is_debug, is_profile, layout_in, region_poke, region_watch, rows_in}
 use Rattle.vc_region.specs.Stat.{stat_of}
 
 module _ {L M : Type 0} (f : L → M) where
@@ -58,6 +58,10 @@ module _ {L M : Type 0} (f : L → M) where
   blocks-relabelled (OfLast l) = refl
   blocks-relabelled (OfDebug d) = debug.blocks-relabelled f d
   blocks-relabelled (OfProfile p) = ap (λ (l : Layout M). l.blocks) (bare_layout-relabel f p)
+
+  pub layout-relabelled : (r : Region L) → layout_in (relabelled f r) ≡ relabel_layout f (layout_in r)
+  layout-relabelled r =
+      ap (λ ss. layout ss (blocks_of (relabelled f r))) (segments-relabelled r) ∙ ap (layout (segments_of r)) (blocks-relabelled r)
 
   pub alloc-relabelled : (terms : Terms) (r : Region L) (label : L) (site : List ℕ) (size : ℕ) (refused : Bool) → region_alloc terms (relabelled f r) (f label) site size refused ≡ outcome_as (relabelled f) (region_alloc terms r label site size refused)
   alloc-relabelled terms (OfBest l) label site size refused =

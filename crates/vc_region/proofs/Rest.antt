@@ -9,11 +9,12 @@ use Rattle.vc_model.specs.Pool.{pool_alloc}
 use Rattle.vc_model.specs.Touch.{find_block, rewritten}
 use Rattle.vc_audit.specs.Debug.{debug_alloc}
 use Rattle.vc_audit.specs.Profile.{profile_alloc}
-use Rattle.vc_region.specs.Cells.{rest_of, zeroed_layout}
-use Rattle.vc_region.specs.Region.{OfBest, OfPool, OfLast, OfDebug, OfProfile, Region, aligns, blocks_of, damaged_in, is_debug, is_profile, keeps_freed, next_damaged_in, region_align, region_alloc, region_clear, region_compact, region_compact_count, region_free, region_need, region_poke, region_watch, region_write, row_in, rows_in, segments_of, stays_in, watch_at}
+use Rattle.vc_best.specs.Cells.{zeroed_layout}
+use Rattle.vc_region.specs.Cells.{rest_of}
+use Rattle.vc_region.specs.Region.{OfBest, OfPool, OfLast, OfDebug, OfProfile, Region, aligns, blocks_of, damaged_in, is_debug, is_profile, keeps_freed, next_damaged_in, region_align, region_alloc, region_clear, region_compact, region_compact_count, region_free, region_need, region_poke, region_watch, region_write, row_in, rows_in, segments_of, watch_at}
 use Rattle.vc_region.specs.Stat.{method_of, stat_of}
-use Rattle.vc_region.proofs.RestBlocks.{change_block-labelled, without_block-zeroed}
-use Rattle.vc_region.proofs.RestLayout.{best_alloc-zeroed, can_stay-zeroed, compact_count-zeroed, compacted-zeroed, layout, layout_stat-zeroed}
+use Rattle.vc_best.proofs.RestBlocks.{change_block-labelled, without_block-zeroed}
+use Rattle.vc_best.proofs.RestLayout.{best_alloc-zeroed, compact_count-zeroed, compacted-zeroed, layout, layout_stat-zeroed}
 
 -- what a call of a best region gives, and one of a region of another method
 pub as_best : (o : Outcome (Put (Layout ℕ))) → outcome_as OfBest (outcome_as zeroed_layout o) ≡ outcome_as rest_of (outcome_as OfBest o)
@@ -98,13 +99,6 @@ rest-need terms (OfPool p) size align = refl
 rest-need terms (OfLast l) size align = refl
 rest-need terms (OfDebug d) size align = refl
 rest-need terms (OfProfile p) size align = refl
-
-pub rest-stays_in : (r : Region ℕ) (size : ℕ) (b : Block ℕ) → stays_in (rest_of r) size b ≡ stays_in r size b
-rest-stays_in (OfBest l) size b = can_stay-zeroed l size b
-rest-stays_in (OfPool p) size b = refl
-rest-stays_in (OfLast l) size b = refl
-rest-stays_in (OfDebug d) size b = refl
-rest-stays_in (OfProfile p) size b = refl
 
 pub rest-segments : (r : Region ℕ) → segments_of (rest_of r) ≡ segments_of r
 rest-segments (OfBest l) = refl

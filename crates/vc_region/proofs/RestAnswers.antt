@@ -1,47 +1,28 @@
 -- What a call answers, a region answers too that shows zeros for the bytes of its unlabelled blocks.
-use Rattle.std.proofs.Common.{◌≡◌, ◌≢◌, ℕ, Bool, true, false, List, Option, Some, option_map, sym, ap, ◌∙◌, subst}
+use Rattle.std.proofs.Common.{◌≡◌, ◌≢◌, ℕ, Bool, false, List, Option, Some, option_map, sym, ap, ◌∙◌, subst}
 use Rattle.std.specs.Prelude.{IfOk, Result, Ok, Err}
 use Rattle.vc_model.specs.Addr.{place_of}
 use Rattle.vc_model.specs.Discipline.{Terms}
 use Rattle.vc_model.specs.Layout.{Block}
-use Rattle.vc_model.specs.Outcome.{Outcome, Done, Fault, Refused, Put, done_as, outcome_as}
+use Rattle.vc_model.specs.Outcome.{Done, Fault, Refused, Put, done_as, outcome_as}
 use Rattle.vc_model.specs.Touch.{find_block}
 use Rattle.vc_base.specs.declared.addr.Addr.{Addr}
-use Rattle.vc_seg.specs.Answer.{Answers, Frees, IsPut, IsRefusal}
+use Rattle.vc_seg.specs.Answer.{Answers, Frees, IsPut}
 use Rattle.vc_seg.specs.declared.fault.RegionFault.{RegionFault}
-use Rattle.vc_seg.specs.declared.fault.RegionFault.TheVariants as code
+use Rattle.vc_best.proofs.RestAlloc.{answers-as, put-as, refusal-kept}
 use Rattle.vc_region.specs.Cells.{rest_of}
 use Rattle.vc_region.specs.Region.{Region, blocks_of, region_align, region_alloc, region_free, region_resize}
 use Rattle.vc_region.proofs.Rest.{rest-align, rest-alloc, rest-free}
 use Rattle.vc_region.proofs.RestResize.{rest-resize}
 
--- a refusal of one call that is one of another
-refusal-kept : {A B : Type 0} (call : Bool → Outcome A) (call' : Bool → Outcome B) → ((refused : Bool) (why : Fault) → call refused ≡ Refused why → call' refused ≡ Refused why) → (why : RegionFault) → IsRefusal call why → IsRefusal call' why
-refusal-kept call call' kept code.TooManySegments h = kept false _ h
-refusal-kept call call' kept code.NoSegment h = kept true _ h
-refusal-kept call call' kept code.OutOfMemory h = tt
-refusal-kept call call' kept code.Fixed h = kept false _ h
-refusal-kept call call' kept code.PoolSize h = kept false _ h
-refusal-kept call call' kept code.NotLast h = kept false _ h
-refusal-kept call call' kept code.WrongMethod h = kept false _ h
-
-put-rest : (o : Outcome (Put (Region ℕ))) (a : ℕ) (r : Region ℕ) → IsPut o a r → IsPut (outcome_as rest_of o) a (rest_of r)
-put-rest (Done p) a r is = (is.0, is.1, ap rest_of is.2)
-put-rest (Refused why) a r is = absurd is
-
 -- the answer of a call that puts or keeps a block
-answers-as : (call call' : Bool → Outcome (Put (Region ℕ))) (result : Result Addr RegionFault) (r r' : Region ℕ) → ((refused : Bool) → call' refused ≡ outcome_as rest_of (call refused)) → Answers call result r r' → Answers call' result (rest_of r) (rest_of r')
-answers-as call call' (Ok a) r r' same is = subst (λ o. IsPut o a.0 (rest_of r')) (sym (same false)) (put-rest (call false) a.0 r' is)
-answers-as call call' (Err why) r r' same is =
-    (refusal-kept call call' (λ refused fault e. same refused ∙ ap (outcome_as rest_of) e) why is.0, ap rest_of is.1)
-
 pub answers-rest-alloc : (terms : Terms) (r r' : Region ℕ) (tag : ℕ) (site : List ℕ) (size : ℕ) (result : Result Addr RegionFault) → Answers (region_alloc terms r tag site size) result r r' → Answers (region_alloc terms (rest_of r) tag site size) result (rest_of r) (rest_of r')
 answers-rest-alloc terms r r' tag site size result is =
-    answers-as (region_alloc terms r tag site size) (region_alloc terms (rest_of r) tag site size) result r r' (λ refused. rest-alloc terms r tag site size refused) is
+    answers-as rest_of (region_alloc terms r tag site size) (region_alloc terms (rest_of r) tag site size) result r r' (λ refused. rest-alloc terms r tag site size refused) is
 
 pub answers-rest-align : (terms : Terms) (r r' : Region ℕ) (tag : ℕ) (site : List ℕ) (size align : ℕ) (result : Result Addr RegionFault) → Answers (region_align terms r tag site size align) result r r' → Answers (region_align terms (rest_of r) tag site size align) result (rest_of r) (rest_of r')
 answers-rest-align terms r r' tag site size align result is =
-    answers-as (region_align terms r tag site size align) (region_align terms (rest_of r) tag site size align) result r r' (λ refused. rest-align terms r tag site size align refused) is
+    answers-as rest_of (region_align terms r tag site size align) (region_align terms (rest_of r) tag site size align) result r r' (λ refused. rest-align terms r tag site size align refused) is
 
 -- of a call that frees one
 pub frees-rest : (r r' : Region ℕ) (at : ℕ × ℕ) (result : Result Unit RegionFault) → Frees (region_free r at) result r r' → Frees (region_free (rest_of r) at) result (rest_of r) (rest_of r')
@@ -58,7 +39,7 @@ module _ (terms : Terms) (r r' : Region ℕ) (at : ℕ × ℕ) (size : ℕ) (may
       (λ p e.
       let put : IsPut (Done p) a.0 r' = subst (λ o. IsPut o a.0 r') e is in
       ap (λ q. label q p.region) put.1 ∙ (ap (label (place_of a.0)) (sym put.2) ∙ (there ∙ ap (option_map (λ (c : Block ℕ). c.label)) found))) in
-      subst (λ o. IsPut o a.0 (rest_of r')) (sym same) (put-rest (region_resize terms r at size may_move false) a.0 r' is)
+      subst (λ o. IsPut o a.0 (rest_of r')) (sym same) (put-as rest_of (region_resize terms r at size may_move false) a.0 r' is)
   answers-rest-resize (Err why) there is = (
     refusal-kept (region_resize terms r at size may_move) (region_resize terms (rest_of r) at size may_move)
         (λ refused fault e. rest-resize terms r at size may_move refused b found labelled (λ p d. absurd (refused-done fault p (sym e ∙ d))) ∙ ap (outcome_as rest_of) e)

@@ -9,11 +9,12 @@ use Rattle.vc_model.specs.Sound.{HaveOwnPlaces}
 use Rattle.vc_model.specs.Touch.{find_block}
 use Rattle.vc_seg.specs.declared.method.Method.{Method}
 use Rattle.vc_seg.specs.declared.method.Method.TheVariants.{VmBest}
-use Rattle.vc_region.specs.Cells.{cells_of, no_cells, region_cells, without_cell}
+use Rattle.vc_best.specs.Cells.{cells_of, without_cell}
+use Rattle.vc_region.specs.Cells.{no_cells, region_cells}
 use Rattle.vc_region.specs.Region.{OfBest, OfPool, OfLast, OfDebug, OfProfile, Region, blocks_of, region_clear, region_compact, region_free, region_poke, region_watch, region_write}
 use Rattle.vc_region.specs.Stat.{method_of}
-use Rattle.vc_region.proofs.CellBytes.{same-cells}
-use Rattle.vc_region.proofs.CellCalls.{cells-freed, cells-freed-labelled, cells-more, cells-more-labelled, cells-resized-labelled, cells-written-labelled, no-cell}
+use Rattle.vc_best.proofs.CellBytes.{same-cells}
+use Rattle.vc_best.proofs.CellCalls.{cells-freed, cells-freed-labelled, cells-more, cells-more-labelled, cells-resized-labelled, cells-written-labelled, no-cell}
 use Rattle.vc_region.proofs.Freeing.{freed-region, without_block_in}
 use Rattle.vc_region.proofs.RestFound.{has_cells}
 

@@ -8,10 +8,11 @@ use Rattle.vc_model.specs.Touch.{HasBlock, HasRange, find_block}
 use Rattle.vc_model.specs.Walk.{block_at, by_address, next_block}
 use Rattle.vc_seg.specs.declared.method.Method.{Method}
 use Rattle.vc_seg.specs.declared.method.Method.TheVariants.{VmBest, VmPool, VmLast, VmDebug, VmProfile}
-use Rattle.vc_region.specs.Cells.{rest_of, zeroed}
+use Rattle.vc_best.specs.Cells.{zeroed}
+use Rattle.vc_region.specs.Cells.{rest_of}
 use Rattle.vc_region.specs.Region.{OfBest, OfPool, OfLast, OfDebug, OfProfile, Region, blocks_of}
 use Rattle.vc_region.specs.Stat.{method_of}
-use Rattle.vc_region.proofs.RestBlocks.{addresses-zeroed, found-labelled, without_block-zeroed}
+use Rattle.vc_best.proofs.RestBlocks.{addresses-zeroed, found-labelled, without_block-zeroed}
 use Rattle.vc_region.proofs.RestList.{next_block-zeroed, own-zeroed, range-zeroed, view-block_at, view-by_address, view-found, view-option, zeroed-range, zeros-found}
 
 -- the method whose unlabelled blocks are cells

@@ -10,8 +10,8 @@ use Rattle.vc_model.specs.Order.{lesser_by}
 use Rattle.vc_model.specs.Sound.{HaveOwnPlaces}
 use Rattle.vc_model.specs.Touch.{HasRange, find_block}
 use Rattle.vc_model.specs.Walk.{block_at, by_address, next_block}
-use Rattle.vc_region.specs.Cells.{zeroed}
-use Rattle.vc_region.proofs.RestBlocks.{block_at-zeroed, by_address-zeroed, find_block-zeroed, zeroed-zeros}
+use Rattle.vc_best.specs.Cells.{zeroed}
+use Rattle.vc_best.proofs.RestBlocks.{block_at-zeroed, by_address-zeroed, find_block-zeroed, zeroed-zeros}
 
 pub own-zeroed : (bs : List (Block ℕ)) → HaveOwnPlaces bs → HaveOwnPlaces (map zeroed bs)
 own-zeroed bs own =

@@ -14,12 +14,13 @@ use Rattle.vc_model.specs.Touch.{change_block, find_block, rewritten}
 use Rattle.vc_model.proofs.Owned.{found-is}
 use Rattle.vc_audit.specs.Debug.{debug_resize}
 use Rattle.vc_audit.specs.Profile.{profile_resize}
-use Rattle.vc_region.specs.Cells.{rest_of, zeroed_layout}
+use Rattle.vc_best.specs.Cells.{zeroed_layout}
+use Rattle.vc_region.specs.Cells.{rest_of}
 use Rattle.vc_region.specs.Region.{OfBest, OfPool, OfLast, OfDebug, OfProfile, Region, blocks_of, region_resize}
-use Rattle.vc_region.proofs.CellCalls.{find-written}
+use Rattle.vc_best.proofs.CellCalls.{find-written}
 use Rattle.vc_region.proofs.Rest.{as_best, as_same}
-use Rattle.vc_region.proofs.RestBlocks.{change-labelled, change_block-zeroed, found-labelled, plain, without_block-zeroed}
-use Rattle.vc_region.proofs.RestLayout.{best_alloc-zeroed, can_stay-zeroed, layout, stays-zeroed}
+use Rattle.vc_best.proofs.RestBlocks.{change-labelled, change_block-zeroed, found-labelled, plain, without_block-zeroed}
+use Rattle.vc_best.proofs.RestLayout.{best_alloc-zeroed, can_stay-zeroed, layout, stays-zeroed}
 use Rattle.vc_region.proofs.Writing.{label_at}
 
 -- the blocks where one was put among them

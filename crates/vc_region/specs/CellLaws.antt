@@ -1,34 +1,14 @@
 -- No cell of a region stands at the address 0, and what stays but for cells stays over one call after another.
-use Rattle.std.proofs.Common.{◌≡◌, ℕ, ◌^◌, true, false, Option, Some, None, IsSome, cond, refl, sym, ◌∙◌, subst, ⊎_elim}
-use Rattle.std.proofs.Math.Bridge.{le_prop}
-use Rattle.std.proofs.Math.Logic.{∥∥₁_elim}
-use Rattle.std.proofs.lemmas.Bool.{cases_Bool, true≢false}
+use Rattle.std.proofs.Common.{ℕ, IsSome, refl, sym, ◌∙◌}
+use Rattle.std.proofs.lemmas.Bool.{true≢false}
 use Rattle.vc_base.specs.Cells.{IsAddress}
-use Rattle.vc_model.specs.Addr.{place_of}
-use Rattle.vc_model.specs.Layout.{Block}
-use Rattle.vc_model.specs.Touch.{find_block}
-use Rattle.vc_model.proofs.Owned.{found-below, found-first}
-use Rattle.vc_model.proofs.Places.{own-places}
-use Rattle.vc_region.specs.Cells.{StaysButCells, cell_bytes, cells_in, is_unlabelled}
+use Rattle.vc_best.specs.CellLaws as best
+use Rattle.vc_region.specs.Cells.{StaysButCells, cells_in}
 use Rattle.vc_region.specs.declared.region.Region.{Region}
 use Rattle.vc_region.specs.declared.region.Region.TheVariants.{Best, Pool, Last, Debug, Profile}
 
--- the block that shows bytes as a cell
-pub cell-of : (o : Option (Block ℕ)) → IsSome (cell_bytes o) → (b : Block ℕ) × (o ≡ Some b) × (is_unlabelled b ≡ true)
-cell-of None h = absurd (true≢false (sym h))
-cell-of (Some b) h =
-    ⊎_elim
-    (λ (t : is_unlabelled b ≡ true). (b, refl, t))
-    (λ (t : is_unlabelled b ≡ false). absurd (true≢false (sym (subst (λ v. IsSome (cond v (Some b.bytes) None)) t h))))
-    (cases_Bool (is_unlabelled b))
-
 pub cells-addresses : {I : Type 0} {V : I → Type 0} (r : Region I V) (a : ℕ) → IsSome (cells_in r a) → IsAddress a
-cells-addresses (Best best) a h =
-    let c = cell-of (find_block (place_of a) best.layout.blocks) h in
-    record {
-      some = ∥∥₁_elim best.sound (le_prop) (λ s. found-first a best.layout.blocks c.0 c.1 (own-places best.layout s).first);
-      fits = ∥∥₁_elim best.whole (le_prop) (λ s. found-below a (2 ^ 32) best.layout.blocks c.0 c.1 s.fits);
-    }
+cells-addresses (Best b) a h = best.cells-addresses b a h
 cells-addresses (Pool pool) a h = absurd (true≢false (sym h))
 cells-addresses (Last last) a h = absurd (true≢false (sym h))
 cells-addresses (Debug debug) a h = absurd (true≢false (sym h))

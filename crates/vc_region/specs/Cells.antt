@@ -1,37 +1,11 @@
--- The unlabelled blocks of a best region as cells: their bytes, by their addresses. A region of another method has none.
-use Rattle.std.specs.Prelude.{◌≡◌, ℕ, List, Option, Some, None, Bool, filter, map, nat_lt, replicate, ◌==◌, if◌then◌else◌}
+-- The unlabelled blocks of a best region as cells. A region of another method has none.
+use Rattle.std.specs.Prelude.{◌≡◌, ℕ, List, None, filter, nat_lt}
 use Rattle.vc_base.specs.Cells.{Blocks}
-use Rattle.vc_model.specs.Addr.{place_of}
-use Rattle.vc_model.specs.Layout.{Block, Layout}
-use Rattle.vc_model.specs.Touch.{find_block}
+use Rattle.vc_model.specs.Layout.{Block}
+use Rattle.vc_best.specs.Cells.{cells_of, zeroed_layout}
 use Rattle.vc_region.specs.Parts.{disc_of, region_of}
 use Rattle.vc_region.specs.Region as model
 use Rattle.vc_region.specs.declared.region.Region.{Region}
-
--- an unlabelled block has the tag 0
-abbrev pub is_unlabelled : Block ℕ → Bool
-is_unlabelled b = b.label == 0
-
--- the bytes of a block where it is unlabelled
-abbrev pub cell_bytes : Option (Block ℕ) → Option (List ℕ)
-cell_bytes None = None
-cell_bytes (Some b) = if is_unlabelled b then Some b.bytes else None
-
--- the bytes of the unlabelled block at each address
-abbrev pub cells_of : List (Block ℕ) → Blocks
-cells_of blocks = λ a. cell_bytes (find_block (place_of a) blocks)
-
--- the cells without the one at an address
-abbrev pub without_cell : ℕ → Blocks → Blocks
-without_cell at blocks = λ a. if a == at then None else blocks a
-
--- a block that shows zeros where it is unlabelled
-abbrev pub zeroed : Block ℕ → Block ℕ
-zeroed b = record b { bytes = if is_unlabelled b then replicate b.size 0 else b.bytes }
-
--- a layout but for the bytes of its unlabelled blocks
-abbrev pub zeroed_layout : Layout ℕ → Layout ℕ
-zeroed_layout r = record { segments = r.segments; blocks = map zeroed r.blocks }
 
 -- no cell
 abbrev pub no_cells : Blocks

@@ -12,9 +12,9 @@ pub use Rattle.vc_model.specs.Sound
 pub use Rattle.vc_model.specs.Touch
 pub use Rattle.vc_model.specs.Walk
 pub use Rattle.vc_seg.specs.Answer
+pub use Rattle.vc_seg.specs.Boxed
 pub mod Region
 pub mod Stat
 pub mod Parts
 pub mod Cells
 pub mod CellLaws
-pub mod CellRows

@@ -4,6 +4,10 @@ use Rattle.std.specs.declared.dyn_box.DynBox.{DynBox}
 use Rattle.std.specs.declared.alloc.Global.{Global}
 use Rattle.vc_model.specs.Discipline.{Discipline}
 use Rattle.vc_model.specs.Layout.{Block}
+use Rattle.vc_seg.specs.Boxed.{boxed}
+use Rattle.vc_best.specs.Parts.{layout_of}
+use Rattle.vc_last.specs.Parts.{layout_of as last_of}
+use Rattle.vc_pool.specs.Parts.{pool_of}
 use Rattle.vc_audit.specs.DebugParts.{debug_of}
 use Rattle.vc_audit.specs.ProfileParts.{profile_of}
 use Rattle.vc_region.specs.Region as model
@@ -12,9 +16,9 @@ use Rattle.vc_region.specs.declared.region.Region.TheVariants.{Best, Pool, Last,
 
 -- what it is by its method
 abbrev pub region_of : {I : Type 0} {V : I → Type 0} → Region I V → model.Region ℕ
-region_of (Best b) = model.OfBest b.layout
-region_of (Pool p) = model.OfPool p.cells
-region_of (Last l) = model.OfLast l.layout
+region_of (Best b) = model.OfBest (layout_of b)
+region_of (Pool p) = model.OfPool (pool_of p)
+region_of (Last l) = model.OfLast (last_of l)
 region_of (Debug d) = model.OfDebug (debug_of d)
 region_of (Profile p) = model.OfProfile (profile_of p)
 
@@ -25,10 +29,6 @@ disc_of (Pool p) = p.disc
 disc_of (Last l) = l.disc
 disc_of (Debug d) = d.best.disc
 disc_of (Profile p) = p.best.disc
-
--- what the discipline in a box means, by what each discipline means
-abbrev pub boxed : {I : Type 0} {V : I → Type 0} → ((x : I) × V x → Discipline) → DynBox I Global V → Discipline
-boxed meaning b = meaning (b.vtable, b.value)
 
 -- what the discipline of a region means
 abbrev pub disc_in : {I : Type 0} {V : I → Type 0} → ((x : I) × V x → Discipline) → Region I V → Discipline

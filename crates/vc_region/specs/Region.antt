@@ -1,5 +1,5 @@
 -- A region by its method, and each call of it by cases on the method.
-use Rattle.std.specs.Prelude.{ℕ, ℤ, List, [], Bool, true, false, nat_le, Option, None}
+use Rattle.std.specs.Prelude.{◌≡◌, ℕ, ℤ, List, [], Bool, true, false, Option, Some, None}
 use Rattle.vc_model.specs.Discipline.{Terms}
 use Rattle.vc_model.specs.Layout.{Block, Layout, relabel_layout}
 use Rattle.vc_model.specs.Outcome.{Outcome, Done, Refused, Put, WrongMethod, done_as, outcome_as}
@@ -7,8 +7,8 @@ use Rattle.vc_model.specs.Best.{best_alloc, best_need, without_block_at}
 use Rattle.vc_model.specs.Resize.{best_resize, can_stay}
 use Rattle.vc_model.specs.Touch.{with_bytes_at}
 use Rattle.vc_model.specs.Compact.{cleared, compact_count, compacted}
-use Rattle.vc_model.specs.Pool.{Pool, element_with, pool_alloc, pool_clear, pool_compact, pool_free, pool_need, pool_resize, relabel_pool}
-use Rattle.vc_model.specs.Last.{can_end, last_alloc, last_free, last_need, last_resize}
+use Rattle.vc_model.specs.Pool.{Pool, pool_alloc, pool_clear, pool_compact, pool_free, pool_need, pool_resize, relabel_pool}
+use Rattle.vc_model.specs.Last.{can_end, last_alloc, last_free, last_need, last_resize, latest}
 use Rattle.vc_seg.specs.declared.profile_row.ProfileRow.{ProfileRow}
 use Rattle.vc_audit.specs.Debug.{Debug, damaged, debug_alloc, debug_clear, debug_compact, debug_compact_count, debug_free, debug_need, debug_resize, debug_write, next_damaged, poked, relabel_debug, stays_debug, user_layout, watched_at, with_watch}
 use Rattle.vc_audit.specs.Profile.{Profile, bare_layout, profile_alloc, profile_clear, profile_compact, profile_free, profile_resize, profile_rows, profile_write, relabel_profile, row_at}
@@ -74,13 +74,13 @@ region_resize terms (OfDebug debug) at size may_move refused =
 region_resize terms (OfProfile profile) at size may_move refused =
     outcome_as OfProfile (profile_resize terms profile at size may_move refused)
 
--- whether the block stays where it is then
-abbrev pub stays_in : {L : Type 0} → Region L → ℕ → Block L → Bool
-stays_in (OfBest layout) size b = can_stay layout size b
-stays_in (OfPool pool) size b = nat_le size (element_with pool size)
-stays_in (OfLast layout) size b = can_end layout size b
-stays_in (OfDebug debug) size b = stays_debug debug size b
-stays_in (OfProfile profile) size b = can_stay (bare_layout profile) size b
+-- a block can't have a size where it is, and so goes elsewhere where it may: in a last region the latest alone, in a pool none
+abbrev pub MustMove : {L : Type 0} → Region L → ℕ → Block L → Type 0
+MustMove (OfBest layout) size b = can_stay layout size b ≡ false
+MustMove (OfPool pool) size b = ⊥
+MustMove (OfLast layout) size b = (latest layout ≡ Some b) × (can_end layout size b ≡ false)
+MustMove (OfDebug debug) size b = stays_debug debug size b ≡ false
+MustMove (OfProfile profile) size b = can_stay (bare_layout profile) size b ≡ false
 
 -- the bytes of the segment that a call asks for, where it needs one
 abbrev pub region_need : {L : Type 0} → Terms → Region L → ℕ → ℕ → ℕ
@@ -129,6 +129,14 @@ region_compact_count (OfPool pool) = compact_count pool.layout
 region_compact_count (OfLast layout) = compact_count layout
 region_compact_count (OfDebug debug) = debug_compact_count debug
 region_compact_count (OfProfile profile) = compact_count (bare_layout profile)
+
+-- whether it is a best region, in which alone dictionaries lie
+abbrev pub is_best : {L : Type 0} → Region L → Bool
+is_best (OfBest layout) = true
+is_best (OfPool pool) = false
+is_best (OfLast layout) = false
+is_best (OfDebug debug) = false
+is_best (OfProfile profile) = false
 
 -- whether it is a debug region, which alone has guards, watches and the names of freed blocks
 abbrev pub is_debug : {L : Type 0} → Region L → Bool

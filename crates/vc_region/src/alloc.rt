@@ -1,9 +1,9 @@
-ghost use Rattle.std.specs.Prelude.{◌≡◌, ◌≤◌, Some, IfOk, length};
+ghost use Rattle.std.specs.Prelude.{◌≡◌, ◌≤◌, Some, IfOk, IsErrOf, IsTrue, length};
 ghost use Rattle.vc_model.specs.Addr.{place_of};
 ghost use Rattle.vc_model.specs.Best.{zeros};
 ghost use Rattle.vc_model.specs.Layout.{without_block};
 ghost use Rattle.vc_model.specs.Place.{IsAlign};
-ghost use Rattle.vc_region.specs.Region.{region_align, region_alloc, region_need};
+ghost use Rattle.vc_region.specs.Region.{aligns, region_align, region_alloc, region_need};
 ghost use Rattle.vc_model.specs.Touch.{HasBlock, find_block};
 ghost use Rattle.vc_seg.specs.Answer.{Answers, Asks};
 ghost use Rattle.vc_region.specs.Parts.{blocks_in, disc_in, region_of, segments_in};
@@ -49,7 +49,7 @@ impl Region {
     }
 
     /// A block as `alloc` gives it, at an offset that the alignment divides, a power of two from 32 to 4,096.
-    /// `WrongMethod` comes exactly in a pool, in a last region and in a debug region.
+    /// `WrongMethod` comes exactly in a pool, in a last region and in a debug region, and no other fault comes there.
     pub fn align(
         &mut self,
         size: u32,
@@ -69,6 +69,8 @@ impl Region {
         ensures disc { Asks result (disc_in state self.old) (disc_in state self.new)
             (segments_in self.old) (segments_in self.new)
             (region_need (disc_in state self.old).terms (region_of self.old) size align) }
+        ensures no_memory { IsErrOf result RegionFault.OutOfMemory
+            → IsTrue (aligns (region_of self.old)) }
 
         // The block has an address of its own, and the others stay.
         ensures there { IfOk result (λ a. find_block (place_of a.0) (blocks_in self.new)

@@ -12,7 +12,11 @@ ghost use Rattle.vc_audit.specs.ProfileParts.{profile_of};
 ghost use Rattle.vc_region.specs.Region.{region_clear, region_compact, region_compact_count, region_free};
 ghost use Rattle.vc_model.specs.Touch.{HasBlock};
 ghost use Rattle.vc_seg.specs.Answer.{Frees};
-ghost use Rattle.vc_region.specs.Parts.{blocks_in, boxed, disc_in, region_of, segments_in};
+ghost use Rattle.vc_best.specs.Parts.{layout_of};
+ghost use Rattle.vc_last.specs.Parts.{layout_of as last_of};
+ghost use Rattle.vc_pool.specs.Parts.{pool_of};
+ghost use Rattle.vc_seg.specs.Boxed.{boxed};
+ghost use Rattle.vc_region.specs.Parts.{blocks_in, disc_in, region_of, segments_in};
 
 use crate::region::{Region, Uncounted};
 use vc_audit::{Debug, Profile};
@@ -22,10 +26,11 @@ use vc_last::Last;
 use vc_pool::Pool;
 use vc_seg::{BoxedDisc, RegionFault, SegDisc};
 
-// Frees all blocks of a best region. The condition always holds.
+// Frees all blocks of a best region. The check asks for a condition on a call that could drop a box;
+// this one always holds.
 fn clear_best(best: &mut Best)
     requires { 0 ≤ 0 }
-    ensures layout { best.new.layout ≡ cleared best.old.layout }
+    ensures layout { layout_of best.new ≡ cleared (layout_of best.old) }
     ensures disc { boxed state best.new.disc ≡ boxed state best.old.disc }
 {
     let mut steps = Steps::<Uncounted>::new(best.alloc);
@@ -35,7 +40,7 @@ fn clear_best(best: &mut Best)
 // The same of a pool.
 fn clear_pool(pool: &mut Pool)
     requires { 0 ≤ 0 }
-    ensures pool { pool.new.cells ≡ pool_clear pool.old.cells }
+    ensures pool { pool_of pool.new ≡ pool_clear (pool_of pool.old) }
     ensures disc { boxed state pool.new.disc ≡ boxed state pool.old.disc }
 {
     pool.clear();
@@ -44,7 +49,7 @@ fn clear_pool(pool: &mut Pool)
 // The same of a last region.
 fn clear_last(last: &mut Last)
     requires { 0 ≤ 0 }
-    ensures layout { last.new.layout ≡ cleared last.old.layout }
+    ensures layout { last_of last.new ≡ cleared (last_of last.old) }
     ensures disc { boxed state last.new.disc ≡ boxed state last.old.disc }
 {
     last.clear();

@@ -4,12 +4,11 @@
 mod alloc;
 mod audit;
 mod block;
-mod cell_rows;
 mod cells;
 mod free;
 mod region;
 mod resize;
 mod walk;
 
-pub use cell_rows::one_cell;
 pub use region::Region;
+pub use vc_seg::{Method, ProfileRow, Stat};

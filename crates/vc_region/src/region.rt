@@ -30,7 +30,8 @@ pub enum Region {
     Profile(Profile),
 }
 
-// A region of that method. The condition always holds.
+// A region of that method. The check asks for a condition on a call that could drop a box;
+// this one always holds.
 fn open_by(
     alloc: Global,
     method: Method,

@@ -1,11 +1,13 @@
-ghost use Rattle.std.specs.Prelude.{◌≡◌, ◌≤◌, IfOk, IfSome, IsErrOf, IsTrue, false, option_map};
+ghost use Rattle.std.specs.Prelude.{◌≡◌, ◌≤◌, IfOk, IfSome, IsErrOf, IsTrue, option_map};
 ghost use Rattle.vc_model.specs.Addr.{place_of};
 ghost use Rattle.vc_model.specs.Layout.{without_block};
 ghost use Rattle.vc_model.specs.Pool.{pool_resize};
-ghost use Rattle.vc_region.specs.Region.{region_need, region_resize, stays_in};
+ghost use Rattle.vc_region.specs.Region.{MustMove, region_need, region_resize};
 ghost use Rattle.vc_model.specs.Touch.{HasBlock, find_block};
 ghost use Rattle.vc_seg.specs.Answer.{Answers, Asks};
-ghost use Rattle.vc_region.specs.Parts.{blocks_in, boxed, disc_in, region_of, segments_in};
+ghost use Rattle.vc_pool.specs.Parts.{pool_of};
+ghost use Rattle.vc_seg.specs.Boxed.{boxed};
+ghost use Rattle.vc_region.specs.Parts.{blocks_in, disc_in, region_of, segments_in};
 
 use crate::region::{Region, Uncounted};
 use vc_base::{Addr, Steps};
@@ -14,19 +16,19 @@ use vc_seg::{BoxedDisc, RegionFault, SegDisc};
 
 // A block of a pool gets another size where it is.
 fn resize_in_pool(pool: &mut Pool, a: Addr, size: u32) -> Result<Addr, RegionFault>
-    requires block { HasBlock pool.old.cells.layout.blocks a.0 }
+    requires block { HasBlock (pool_of pool.old).layout.blocks a.0 }
     requires some { 1 ≤ size }
     requires most { size ≤ 16777216 }
-    ensures answer { Answers (λ _. pool_resize pool.old.cells (place_of a.0) size) result
-        pool.old.cells pool.new.cells }
+    ensures answer { Answers (λ _. pool_resize (pool_of pool.old) (place_of a.0) size) result
+        (pool_of pool.old) (pool_of pool.new) }
     ensures disc { boxed state pool.new.disc ≡ boxed state pool.old.disc }
     ensures memory { ¬ IsErrOf result RegionFault.OutOfMemory }
     ensures address { IfOk result (λ to. to ≡ a) }
     ensures there { IfOk result (λ _. option_map (λ b. b.label)
-        (find_block (place_of a.0) pool.new.cells.layout.blocks)
-        ≡ option_map (λ b. b.label) (find_block (place_of a.0) pool.old.cells.layout.blocks)) }
-    ensures others { IfOk result (λ _. without_block (place_of a.0) pool.new.cells.layout.blocks
-        ≡ without_block (place_of a.0) pool.old.cells.layout.blocks) }
+        (find_block (place_of a.0) (pool_of pool.new).layout.blocks)
+        ≡ option_map (λ b. b.label) (find_block (place_of a.0) (pool_of pool.old).layout.blocks)) }
+    ensures others { IfOk result (λ _. without_block (place_of a.0) (pool_of pool.new).layout.blocks
+        ≡ without_block (place_of a.0) (pool_of pool.old).layout.blocks) }
 {
     match pool.resize(a, size) {
         Ok(()) => Ok(a),
@@ -38,8 +40,8 @@ impl Region {
     /// Gives a block another size, from 1 to 16,777,216 bytes, and answers its address. It stays where it is if it can,
     /// and else moves if it may. The first bytes of both sizes are kept, and the others are zero. In a pool `PoolSize`
     /// comes where the size is above the element size, and nothing else. In a last region `NotLast` comes where the block
-    /// isn't the one allocated latest. `Fixed` comes where it can't stay and may not move; the other faults are those of
-    /// `alloc`, and come only where it moves.
+    /// isn't the one allocated latest. `Fixed` comes where it can't stay and may not move; the other faults, want of
+    /// memory among them, are those of `alloc`, and come only where it moves.
     pub fn resize(&mut self, a: Addr, size: u32, may_move: bool) -> Result<Addr, RegionFault>
         requires block { HasBlock (blocks_in self.old) a.0 }
         requires some { 1 ≤ size }
@@ -54,7 +56,7 @@ impl Region {
             (region_need (disc_in state self.old).terms (region_of self.old) size 32) }
         ensures no_memory { IsErrOf result RegionFault.OutOfMemory
             → IfSome (find_block (place_of a.0) (blocks_in self.old))
-            (λ b. stays_in (region_of self.old) size b ≡ false) × IsTrue may_move }
+            (MustMove (region_of self.old) size) × IsTrue may_move }
 
         // The block keeps its tag, and the others stay.
         ensures there { IfOk result (λ to. option_map (λ b. b.label)

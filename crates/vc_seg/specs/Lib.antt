@@ -4,6 +4,8 @@ pub use Rattle.vc_model.specs.Discipline
 pub use Rattle.vc_model.specs.Outcome
 pub use Rattle.vc_model.specs.Segments
 pub mod Segment
+pub mod Boxed
+pub mod Back
 pub mod Lend
 pub mod Budget
 pub mod Answer

@@ -1,5 +1,6 @@
--- A segment as a number and a list of bytes.
-use Rattle.std.specs.Prelude.{ℕ, List, length, replicate}
+-- A segment as a number and a list of bytes, and those of a region in order of lending.
+use Rattle.std.specs.Prelude.{◌≢◌, ℕ, ◌≤◌, List, All, AllPairs, length, replicate}
+use Rattle.vc_model.specs.Discipline.{IsSegmentSize}
 
 pub record Bytes : Type 0 where
   pub number : ℕ
@@ -12,3 +13,15 @@ zeroed number size = record { number = number; bytes = replicate size 0 }
 -- its number and its size in bytes
 abbrev pub pair_of : Bytes → ℕ × ℕ
 pair_of s = (s.number, length s.bytes)
+
+-- the numbers and sizes that a region's segment can have
+pub record IsRegionSegment (s : Bytes) : Type 0 where
+  pub first : 1 ≤ s.number
+  pub last : s.number ≤ 1023
+  pub size : IsSegmentSize (length s.bytes)
+
+-- at most 1,023 segments, each of another number
+pub record AreSegments (segs : List Bytes) : Type 0 where
+  pub few : length segs ≤ 1023
+  pub legal : All IsRegionSegment segs
+  pub distinct : AllPairs (λ a b. a.number ≢ b.number) segs

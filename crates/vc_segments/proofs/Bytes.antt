@@ -3,8 +3,9 @@ use Rattle.std.proofs.Common.{◌≡◌, ℕ, zero, suc, ◌<◌, ◌≤◌, ◌
 use Rattle.std.proofs.lemmas.Bool.{cases_Bool, or_parts, eq-eqb, ne_eqb}
 use Rattle.std.proofs.lemmas.List.Elements.{All-head, All-tail}
 use Rattle.vc_model.specs.Segments.{numbers}
-use Rattle.vc_seg.specs.Segment.{Bytes, pair_of}
-use Rattle.vc_segments.specs.Memory.{bytes_of_number, IsRegionSegment}
+use Rattle.vc_seg.specs.Segment.{Bytes, IsRegionSegment, pair_of}
+use Rattle.vc_seg.proofs.Backs.{Apart, Apart-tail}
+use Rattle.vc_segments.specs.Memory.{bytes_of_number}
 use Rattle.vc_segments.proofs.Unused.{is_among}
 
 pub bytes_of_number-most : (n : ℕ) (segs : List Bytes) → All IsRegionSegment segs → length (bytes_of_number n segs) ≤ 33554432
@@ -37,12 +38,6 @@ bytes_of_number-append n (s ∷ ss) more h =
     (λ e. rw e refl)
     (λ e. rw e (bytes_of_number-append n ss more (rw e at h)))
     (cases_Bool (eqb s.number n))
-
-abbrev pub Apart : Bytes → Bytes → Type 0
-Apart a b = a.number ≢ b.number
-
-pub Apart-tail : (s : Bytes) (ss : List Bytes) → AllPairs Apart (s ∷ ss) → AllPairs Apart ss
-Apart-tail s ss h = λ i j d lt within. h (suc i) (suc j) d (omega arith) (omega arith)
 
 -- each segment is the one of its number
 pub bytes_of_number-at : (segs : List Bytes) (k : ℕ) (d : Bytes) → AllPairs Apart segs → k < length segs → bytes_of_number (get_or segs k d).number segs ≡ (get_or segs k d).bytes

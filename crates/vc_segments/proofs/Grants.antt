@@ -6,9 +6,8 @@ use Rattle.std.proofs.lemmas.List.Elements.{All-push}
 use Rattle.std.proofs.lemmas.List.Quantifiers.{all_pairs_push}
 use Rattle.vc_model.specs.Discipline.{IsSegmentSize}
 use Rattle.vc_model.specs.Segments.{lowest_unused, numbers}
-use Rattle.vc_seg.specs.Segment.{Bytes, pair_of, zeroed}
-use Rattle.vc_segments.specs.Memory.{IsRegionSegment, AreSegments}
-use Rattle.vc_segments.proofs.Bytes.{Apart}
+use Rattle.vc_seg.specs.Segment.{AreSegments, Bytes, IsRegionSegment, pair_of, zeroed}
+use Rattle.vc_seg.proofs.Backs.{Apart}
 use Rattle.vc_segments.proofs.Unused.{is_among, lowest_unused-unused}
 
 pub apart_from_among : (n : ℕ) (segs : List Bytes) → is_among n (numbers (map pair_of segs)) ≡ false → (k : ℕ) (d : Bytes) → k < length segs → (get_or segs k d).number ≢ n

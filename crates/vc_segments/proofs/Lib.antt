@@ -1,9 +1,6 @@
 pub mod Unused
 pub mod Bytes
-pub mod Filters
-pub mod Backs
 pub mod Numbered
 pub mod Copies
 pub mod Overwrites
-pub mod Rounding
 pub mod Grants

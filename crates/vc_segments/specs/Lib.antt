@@ -5,5 +5,4 @@ pub use Rattle.vc_model.specs.Segments
 pub use Rattle.vc_model.specs.Walk
 pub use Rattle.vc_seg.specs.Segment
 pub mod Memory
-pub mod Back
 pub mod Lend

@@ -1,7 +1,6 @@
 -- The segments of a region with their bytes, in order of lending.
-use Rattle.std.specs.Prelude.{◌≢◌, ℕ, ◌≤◌, List, [], ◌∷◌, All, AllPairs, length, take, drop, ◌==◌, if◌then◌else◌}
+use Rattle.std.specs.Prelude.{ℕ, List, [], ◌∷◌, take, drop, ◌==◌, if◌then◌else◌}
 use Rattle.vc_model.specs.Bytes.{with_bytes}
-use Rattle.vc_model.specs.Discipline.{IsSegmentSize}
 use Rattle.vc_seg.specs.Segment.{Bytes}
 
 -- the bytes of the segment of that number, or none
@@ -18,15 +17,3 @@ write_segment number off src (s ∷ ss) =
 -- a segment with a copy of a range of one, from an offset on
 abbrev pub copied : Bytes → ℕ → ℕ → ℕ → Bytes → Bytes
 copied source from len to s = record { number = s.number; bytes = with_bytes to (take len (drop from source.bytes)) s.bytes }
-
--- the numbers and sizes that a region's segment can have
-pub record IsRegionSegment (s : Bytes) : Type 0 where
-  pub first : 1 ≤ s.number
-  pub last : s.number ≤ 1023
-  pub size : IsSegmentSize (length s.bytes)
-
--- at most 1,023 segments, each of another number
-pub record AreSegments (segs : List Bytes) : Type 0 where
-  pub few : length segs ≤ 1023
-  pub legal : All IsRegionSegment segs
-  pub distinct : AllPairs (λ a b. a.number ≢ b.number) segs

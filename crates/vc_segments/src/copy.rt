@@ -3,8 +3,7 @@ ghost use Rattle.std.specs.List.{HoldsAt};
 ghost use Rattle.vc_seg.specs.Segment.{Bytes};
 ghost use Rattle.vc_segments.specs.Memory.{bytes_of_number, copied, write_segment};
 
-use crate::back::find_number;
-use vc_seg::Segment;
+use vc_seg::{Segment, find_number};
 
 /// Copies a range of one segment into one, which may be the same.
 fn copy_between(segs: &mut [Segment], source: usize, from: u32, target: usize, to: u32, len: u32)

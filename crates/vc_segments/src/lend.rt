@@ -1,21 +1,12 @@
 ghost use Rattle.std.specs.Prelude.{◌≡◌, ℕ, ◌%◌, ◌≤◌, ◌⊎◌, ◌≢◌, [], ◌∷◌, ◌++◌, All, IfOk, IfErr, IsErrOf, OnErr, OnOk, false, map, vec_len, vec_capacity, ◌<◌};
-ghost use Rattle.vc_model.specs.Discipline.{IsRound, IsSegmentSize, Lent, Unserved};
+ghost use Rattle.vc_model.specs.Discipline.{IsSegmentSize, Lent, Unserved};
 ghost use Rattle.vc_model.specs.Segments.{Granted, ask};
-ghost use Rattle.vc_seg.specs.Segment.{pair_of, zeroed};
+ghost use Rattle.vc_seg.specs.Segment.{AreSegments, pair_of, zeroed};
 ghost use Rattle.vc_segments.specs.Lend.{IsAsked, IsNoGrant};
-ghost use Rattle.vc_segments.specs.Memory.{AreSegments};
 
 use crate::number::lowest_unused;
 use std::alloc::Global;
-use vc_seg::{LendFault, RegionFault, SegDisc, Segment};
-
-/// The discipline's round.
-pub fn round_of(disc: &Box<dyn SegDisc>) -> u32
-    ensures value { result ≡ (state disc.now).terms.round }
-    ensures legal { IsRound result }
-{
-    disc.round()
-}
+use vc_seg::{LendFault, RegionFault, SegDisc, Segment, obtain};
 
 /// A segment that the discipline lends to a region.
 fn lend_segment(
@@ -35,7 +26,7 @@ fn lend_segment(
         → Unserved (state disc.old) (state disc.new) bytes }
     ensures no_memory { IsErrOf result RegionFault.OutOfMemory → state disc.new ≡ state disc.old }
 {
-    match disc.lend(alloc, number, bytes) {
+    match obtain(disc, alloc, number, bytes) {
         Ok(segment) => Ok(segment),
         Err(LendFault::Refused) => Err(RegionFault::NoSegment),
         Err(LendFault::OutOfMemory) => Err(RegionFault::OutOfMemory),
@@ -53,7 +44,7 @@ fn reserve_one<T>(list: &mut Vec<T>) -> Result<(), RegionFault>
 
 /// Asks for a segment of that many bytes under the least number that no segment has, puts it behind the others and
 /// answers its number. `TooManySegments` comes exactly where there are 1,023, `NoSegment` where the discipline refuses.
-pub fn obtain(
+pub fn lend_next(
     segs: &mut Vec<Segment>,
     disc: &mut Box<dyn SegDisc>,
     alloc: Global,

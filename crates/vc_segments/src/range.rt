@@ -1,8 +1,7 @@
 ghost use Rattle.std.specs.Prelude.{◌≡◌, ℕ, ◌+◌, ◌<◌, ◌≤◌, length, take, drop, replicate};
 ghost use Rattle.vc_segments.specs.Memory.{bytes_of_number, write_segment};
 
-use crate::back::find_number;
-use vc_seg::Segment;
+use vc_seg::{Segment, find_number};
 
 /// The bytes of a range of the segment of that number. There is one.
 pub fn bytes_in(segs: &[Segment], number: u32, off: u32, len: u32) -> &[u8]

@@ -2,6 +2,7 @@ ghost use Rattle.std.specs.Prelude.{◌≡◌, ℕ, ◌≤◌, ℤ, pos, ◌-ℤ
 ghost use Rattle.vc_model.specs.Addr.{place_of};
 ghost use Rattle.vc_model.specs.Layout.{address_of};
 ghost use Rattle.vc_model.specs.Touch.{HasBlock, find_block};
+ghost use Rattle.vc_best.specs.Parts.{layout_of};
 ghost use Rattle.vc_audit.specs.Debug.{damage, damaged_place, is_damaged, next_damaged};
 ghost use Rattle.vc_audit.specs.DebugParts.{blocks_in, debug_of};
 
@@ -38,8 +39,9 @@ fn offset_of(place: u32) -> i64
 impl Debug {
     // The place in the block with guards at an address of the first damaged byte of its guards.
     fn damaged_place(&self, at: Addr) -> Option<u32>
-        requires { HasBlock self.now.best.layout.blocks at.0 }
-        ensures { option_map damaged_place (find_block (place_of at.0) self.now.best.layout.blocks)
+        requires { HasBlock (layout_of self.now.best).blocks at.0 }
+        ensures { option_map damaged_place
+            (find_block (place_of at.0) (layout_of self.now.best).blocks)
             ≡ Some result }
     {
         if let Some(n) = first_damaged(self.best.read(at, 0, 32)) {
@@ -54,8 +56,8 @@ impl Debug {
 
     // The least offset from the user's bytes on of a damaged byte in the guards of the block with guards at an address.
     fn damage_at(&self, at: Addr) -> Option<i64>
-        requires { HasBlock self.now.best.layout.blocks at.0 }
-        ensures { option_map damage (find_block (place_of at.0) self.now.best.layout.blocks)
+        requires { HasBlock (layout_of self.now.best).blocks at.0 }
+        ensures { option_map damage (find_block (place_of at.0) (layout_of self.now.best).blocks)
             ≡ Some result }
     {
         match self.damaged_place(at) {

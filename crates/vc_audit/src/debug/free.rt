@@ -5,8 +5,10 @@ ghost use Rattle.vc_model.specs.Compact.{cleared};
 ghost use Rattle.vc_model.specs.Discipline.{HasOut, TookBack};
 ghost use Rattle.vc_model.specs.Layout.{address_of};
 ghost use Rattle.vc_model.specs.Touch.{HasBlock};
+ghost use Rattle.vc_best.specs.Parts.{layout_of};
 ghost use Rattle.vc_audit.specs.Debug.{debug_clear, debug_compact, debug_compact_count, debug_free};
-ghost use Rattle.vc_audit.specs.DebugParts.{blocks_in, boxed, debug_of, disc_in, segments_in};
+ghost use Rattle.vc_seg.specs.Boxed.{boxed};
+ghost use Rattle.vc_audit.specs.DebugParts.{blocks_in, debug_of, disc_in, segments_in};
 
 use crate::debug::guard::guarded_addr;
 use crate::debug::mark::drop_mark;
@@ -15,10 +17,11 @@ use vc_base::{Addr, Steps};
 use vc_best::Best;
 use vc_seg::{BoxedDisc, SegDisc};
 
-// Frees all blocks of a best region. The condition always holds.
+// Frees all blocks of a best region. The check asks for a condition on a call that could drop a box;
+// this one always holds.
 fn clear_best(best: &mut Best)
     requires { 0 ≤ 0 }
-    ensures layout { best.new.layout ≡ cleared best.old.layout }
+    ensures layout { layout_of best.new ≡ cleared (layout_of best.old) }
     ensures disc { boxed state best.new.disc ≡ boxed state best.old.disc }
 {
     let mut steps = Steps::<Uncounted>::new(best.alloc);

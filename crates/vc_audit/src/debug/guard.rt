@@ -2,7 +2,8 @@ ghost use Rattle.std.specs.Prelude.{◌≡◌, ◌+◌, ◌-◌, ◌≤◌};
 ghost use Rattle.vc_model.specs.Addr.{place_of};
 ghost use Rattle.vc_model.specs.Layout.{without_block};
 ghost use Rattle.vc_model.specs.Touch.{HasBlock, HasRange};
-ghost use Rattle.vc_audit.specs.DebugParts.{boxed};
+ghost use Rattle.vc_best.specs.Parts.{blocks_in, layout_of};
+ghost use Rattle.vc_seg.specs.Boxed.{boxed};
 ghost use Rattle.vc_audit.specs.Debug.{with_back_guard, with_guards, with_zeros};
 
 use vc_base::Addr;
@@ -37,12 +38,13 @@ pub(super) fn user_addr(a: Addr) -> Addr
 
 /// Writes the back guard of a block.
 fn write_back_guard(best: &mut Best, at: Addr, size: u32)
-    requires block { HasBlock best.old.layout.blocks at.0 }
-    requires range { HasRange best.old.layout.blocks at.0 (32 + size) 16 }
+    requires block { HasBlock (blocks_in best.old) at.0 }
+    requires range { HasRange (blocks_in best.old) at.0 (32 + size) 16 }
     requires most { size ≤ 16777216 }
-    ensures layout { best.new.layout ≡ with_back_guard best.old.layout (place_of at.0) size }
-    ensures others { without_block (place_of at.0) best.new.layout.blocks
-        ≡ without_block (place_of at.0) best.old.layout.blocks }
+    ensures layout { layout_of best.new
+        ≡ with_back_guard (layout_of best.old) (place_of at.0) size }
+    ensures others { without_block (place_of at.0) (blocks_in best.new)
+        ≡ without_block (place_of at.0) (blocks_in best.old) }
     ensures disc { boxed state best.new.disc ≡ boxed state best.old.disc }
 {
     best.fill(at, 32 + size, 16, GUARD);
@@ -50,12 +52,12 @@ fn write_back_guard(best: &mut Best, at: Addr, size: u32)
 
 /// Writes both guards of a block.
 pub(super) fn write_guards(best: &mut Best, at: Addr, size: u32)
-    requires block { HasBlock best.old.layout.blocks at.0 }
-    requires range { HasRange best.old.layout.blocks at.0 0 (size + 48) }
+    requires block { HasBlock (blocks_in best.old) at.0 }
+    requires range { HasRange (blocks_in best.old) at.0 0 (size + 48) }
     requires most { size ≤ 16777216 }
-    ensures layout { best.new.layout ≡ with_guards best.old.layout (place_of at.0) size }
-    ensures others { without_block (place_of at.0) best.new.layout.blocks
-        ≡ without_block (place_of at.0) best.old.layout.blocks }
+    ensures layout { layout_of best.new ≡ with_guards (layout_of best.old) (place_of at.0) size }
+    ensures others { without_block (place_of at.0) (blocks_in best.new)
+        ≡ without_block (place_of at.0) (blocks_in best.old) }
     ensures disc { boxed state best.new.disc ≡ boxed state best.old.disc }
 {
     best.fill(at, 0, 32, GUARD);
@@ -64,13 +66,14 @@ pub(super) fn write_guards(best: &mut Best, at: Addr, size: u32)
 
 /// Writes zeros behind the user's bytes that are kept of a block, and the back guard.
 pub(super) fn write_zeros(best: &mut Best, at: Addr, kept: u32, size: u32)
-    requires block { HasBlock best.old.layout.blocks at.0 }
-    requires range { HasRange best.old.layout.blocks at.0 0 (size + 48) }
+    requires block { HasBlock (blocks_in best.old) at.0 }
+    requires range { HasRange (blocks_in best.old) at.0 0 (size + 48) }
     requires within { kept ≤ size }
     requires most { size ≤ 16777216 }
-    ensures layout { best.new.layout ≡ with_zeros best.old.layout (place_of at.0) kept size }
-    ensures others { without_block (place_of at.0) best.new.layout.blocks
-        ≡ without_block (place_of at.0) best.old.layout.blocks }
+    ensures layout { layout_of best.new
+        ≡ with_zeros (layout_of best.old) (place_of at.0) kept size }
+    ensures others { without_block (place_of at.0) (blocks_in best.new)
+        ≡ without_block (place_of at.0) (blocks_in best.old) }
     ensures disc { boxed state best.new.disc ≡ boxed state best.old.disc }
 {
     best.fill(at, 32 + kept, size - kept, 0);

@@ -1,6 +1,7 @@
 ghost use Rattle.std.specs.Prelude.{◌≡◌, ◌≤◌, [], IfOk, IfErr, length};
 ghost use Rattle.vc_model.specs.Discipline.{HasOut, TookBack};
 ghost use Rattle.vc_model.specs.Layout.{empty_layout};
+ghost use Rattle.vc_best.specs.Parts.{layout_of};
 ghost use Rattle.vc_audit.specs.Debug.{empty_debug};
 ghost use Rattle.vc_audit.specs.DebugParts.{debug_of, segments_in};
 
@@ -10,10 +11,11 @@ use vc_base::OutOfMemory;
 use vc_best::Best;
 use vc_seg::{BoxedDisc, SegDisc};
 
-// A best region with no segment. The condition always holds.
+// A best region with no segment. The check asks for a condition on a call that could drop a box;
+// this one always holds.
 fn open_best(alloc: Global, disc: Box<dyn SegDisc>) -> Result<Best, (OutOfMemory, Box<dyn SegDisc>)>
     requires { 0 ≤ 0 }
-    ensures ok { IfOk result (λ b. (b.layout ≡ empty_layout) × (state b.disc ≡ state disc)) }
+    ensures ok { IfOk result (λ b. (layout_of b ≡ empty_layout) × (state b.disc ≡ state disc)) }
     ensures err { IfErr result (λ e. state e.1 ≡ state disc) }
 {
     Best::open(alloc, disc)

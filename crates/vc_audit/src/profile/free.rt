@@ -5,8 +5,10 @@ ghost use Rattle.vc_model.specs.Compact.{cleared, compact_count};
 ghost use Rattle.vc_model.specs.Discipline.{HasOut, TookBack};
 ghost use Rattle.vc_model.specs.Layout.{address_of};
 ghost use Rattle.vc_model.specs.Touch.{HasBlock};
+ghost use Rattle.vc_best.specs.Parts.{layout_of};
 ghost use Rattle.vc_audit.specs.Profile.{profile_clear, profile_compact, profile_free};
-ghost use Rattle.vc_audit.specs.ProfileParts.{blocks_in, boxed, disc_in, layout_in, profile_of, segments_in};
+ghost use Rattle.vc_seg.specs.Boxed.{boxed};
+ghost use Rattle.vc_audit.specs.ProfileParts.{blocks_in, disc_in, layout_in, profile_of, segments_in};
 
 use crate::profile::rows::{clear_rows, put_row, row_for};
 use crate::profile::{Profile, Uncounted};
@@ -14,10 +16,11 @@ use vc_base::{Addr, Steps};
 use vc_best::Best;
 use vc_seg::{BoxedDisc, SegDisc};
 
-// Frees all blocks of a best region. The condition always holds.
+// Frees all blocks of a best region. The check asks for a condition on a call that could drop a box;
+// this one always holds.
 fn clear_best(best: &mut Best)
     requires { 0 ≤ 0 }
-    ensures layout { best.new.layout ≡ cleared best.old.layout }
+    ensures layout { layout_of best.new ≡ cleared (layout_of best.old) }
     ensures disc { boxed state best.new.disc ≡ boxed state best.old.disc }
 {
     let mut steps = Steps::<Uncounted>::new(best.alloc);

@@ -1,15 +1,16 @@
 use Rattle.std.proofs.Common.{ℕ, arith}
 use Rattle.vc_model.specs.Layout.{Layout}
+use Rattle.vc_best.specs.Parts.{layout_of}
 use Rattle.vc_audit.specs.Debug.{Debug, with_guards}
 use Rattle.vc_audit.proofs.DebugPuts.{below-guarded, fresh-guarded, guards-guarded, live-found, others-guarded, put-by, there-guarded, user-guarded}
 use Rattle.vc_audit.proofs.debug.Debug.alloc.Goals as goal
 
 pub write_guards-requires-clause-block : goal.write_guards-requires-clause-block
-write_guards-requires-clause-block g c = live-found c.alloc.new.self.layout.blocks c.in_ok-at.at.0 _ c.in_ok-at.ensures.there
+write_guards-requires-clause-block g c = live-found (layout_of c.alloc.new.self).blocks c.in_ok-at.at.0 _ c.in_ok-at.ensures.there
 
 pub invariant_of-self-2 : goal.invariant_of-self-2
 invariant_of-self-2 g c = record {
-  guarded = guards-guarded c.args.self.now.best.layout c.alloc.new.self.layout c.write_guards.new.best.layout c.args.tag c.args.size c.in_ok-at.at.0 (record {
+  guarded = guards-guarded (layout_of c.args.self.now.best) (layout_of c.alloc.new.self) (layout_of c.write_guards.new.best) c.args.tag c.args.size c.in_ok-at.at.0 (record {
     some = c.requires.some;
     most = c.requires.most;
     guards = c.args.self.now.guarded;
@@ -22,7 +23,7 @@ invariant_of-self-2 g c = record {
 }
 
 pub user_addr-requires : goal.user_addr-requires
-user_addr-requires g c = let low = below-guarded c.args.self.now.best.layout c.alloc.new.self.layout c.write_guards.new.best.layout c.args.tag c.args.size c.in_ok-at.at.0 (record {
+user_addr-requires g c = let low = below-guarded (layout_of c.args.self.now.best) (layout_of c.alloc.new.self) (layout_of c.write_guards.new.best) c.args.tag c.args.size c.in_ok-at.at.0 (record {
   some = c.requires.some;
   most = c.requires.most;
   guards = c.args.self.now.guarded;
@@ -35,7 +36,7 @@ user_addr-requires g c = let low = below-guarded c.args.self.now.best.layout c.a
 
 pub returns-clause-answer : goal.returns-clause-answer
 returns-clause-answer g c =
-    let u = user-guarded c.args.self.now.best.layout c.alloc.new.self.layout c.write_guards.new.best.layout c.args.tag c.args.size c.in_ok-at.at.0 (record {
+    let u = user-guarded (layout_of c.args.self.now.best) (layout_of c.alloc.new.self) (layout_of c.write_guards.new.best) c.args.tag c.args.size c.in_ok-at.at.0 (record {
       some = c.requires.some;
       most = c.requires.most;
       guards = c.args.self.now.guarded;
@@ -47,11 +48,11 @@ returns-clause-answer g c =
     }) c.user_addr.result.0 c.user_addr.ensures in
     let F : ℕ × ℕ → Layout ℕ → Debug ℕ = λ at r. record { best = with_guards r at c.args.size; marks = c.args.self.now.marks.items } in
     let D : Layout ℕ → Debug ℕ = λ r. record { best = r; marks = c.args.self.now.marks.items } in
-    let placed = put-by F _ c.in_ok-at.at.0 c.user_addr.result.0 c.alloc.new.self.layout c.user_addr.ensures u.place c.in_ok-at.ensures.answer in
+    let placed = put-by F _ c.in_ok-at.at.0 c.user_addr.result.0 (layout_of c.alloc.new.self) c.user_addr.ensures u.place c.in_ok-at.ensures.answer in
     rw c.write_guards.ensures.layout placed
 
 pub returns-clause-there : goal.returns-clause-there
-returns-clause-there g c = there-guarded c.args.self.now.best.layout c.alloc.new.self.layout c.write_guards.new.best.layout c.args.tag c.args.size c.in_ok-at.at.0 (record {
+returns-clause-there g c = there-guarded (layout_of c.args.self.now.best) (layout_of c.alloc.new.self) (layout_of c.write_guards.new.best) c.args.tag c.args.size c.in_ok-at.at.0 (record {
   some = c.requires.some;
   most = c.requires.most;
   guards = c.args.self.now.guarded;
@@ -63,7 +64,7 @@ returns-clause-there g c = there-guarded c.args.self.now.best.layout c.alloc.new
 }) c.user_addr.result.0 c.user_addr.ensures
 
 pub returns-clause-fresh : goal.returns-clause-fresh
-returns-clause-fresh g c = fresh-guarded c.args.self.now.best.layout c.alloc.new.self.layout c.write_guards.new.best.layout c.args.tag c.args.size c.in_ok-at.at.0 (record {
+returns-clause-fresh g c = fresh-guarded (layout_of c.args.self.now.best) (layout_of c.alloc.new.self) (layout_of c.write_guards.new.best) c.args.tag c.args.size c.in_ok-at.at.0 (record {
   some = c.requires.some;
   most = c.requires.most;
   guards = c.args.self.now.guarded;
@@ -75,7 +76,7 @@ returns-clause-fresh g c = fresh-guarded c.args.self.now.best.layout c.alloc.new
 }) c.user_addr.result.0 c.user_addr.ensures
 
 pub returns-clause-others : goal.returns-clause-others
-returns-clause-others g c = others-guarded c.args.self.now.best.layout c.alloc.new.self.layout c.write_guards.new.best.layout c.args.tag c.args.size c.in_ok-at.at.0 (record {
+returns-clause-others g c = others-guarded (layout_of c.args.self.now.best) (layout_of c.alloc.new.self) (layout_of c.write_guards.new.best) c.args.tag c.args.size c.in_ok-at.at.0 (record {
   some = c.requires.some;
   most = c.requires.most;
   guards = c.args.self.now.guarded;

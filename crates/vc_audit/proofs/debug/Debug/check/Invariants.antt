@@ -1,5 +1,6 @@
 use Rattle.std.proofs.Common.{◌≡◌, ◌⊎◌, length}
 use Rattle.vc_model.specs.Touch.{HasBlock}
+use Rattle.vc_best.specs.Parts.{layout_of}
 use Rattle.vc_audit.specs.Debug.{next_damaged}
 use Rattle.vc_audit.specs.DebugParts.{debug_of}
 use Rattle.vc_audit.proofs.DebugChecks.{above, damaged_above}
@@ -9,9 +10,9 @@ use Rattle.vc_audit.proofs.debug.Debug.check.Given as goal
 abbrev pub invariant-loop-next : goal.invariant-loop-next
 invariant-loop-next g l =
     record {
-      same : next_damaged l.fn.after.0 (debug_of l.self) ≡ damaged_above l.at.0 l.self.best.layout.blocks;
-      from : (l.at.0 ≡ 0) ⊎ HasBlock l.self.best.layout.blocks l.at.0;
+      same : next_damaged l.fn.after.0 (debug_of l.self) ≡ damaged_above l.at.0 (layout_of l.self.best).blocks;
+      from : (l.at.0 ≡ 0) ⊎ HasBlock (layout_of l.self.best).blocks l.at.0;
     }
 
 abbrev pub decreases-loop-next : goal.decreases-loop-next
-decreases-loop-next g l = length (above l.at.0 l.self.best.layout.blocks)
+decreases-loop-next g l = length (above l.at.0 (layout_of l.self.best).blocks)

@@ -1,20 +1,21 @@
 use Rattle.std.proofs.Common.{arith}
 use Rattle.vc_model.specs.Addr.{place_of}
 use Rattle.vc_model.specs.Touch.{find_block}
+use Rattle.vc_best.specs.Parts.{layout_of}
 use Rattle.vc_audit.proofs.DebugFills.{guards-size}
 use Rattle.vc_audit.proofs.DebugChecks.{back-range, front-range, part-length}
 use Rattle.vc_audit.proofs.debug.Debug.damaged_place.Goals as goal
 
 pub read-requires-clause-range : goal.read-requires-clause-range
-read-requires-clause-range g c = front-range c.args.self.now.best.layout.blocks (place_of c.args.at.0) c.args.self.now.guarded
+read-requires-clause-range g c = front-range (layout_of c.args.self.now.best).blocks (place_of c.args.at.0) c.args.self.now.guarded
 
 pub first_damaged-requires : goal.first_damaged-requires
-first_damaged-requires g c = part-length (find_block (place_of c.args.at.0) c.args.self.now.best.layout.blocks) 0 32 c.read.result.now c.read.ensures
+first_damaged-requires g c = part-length (find_block (place_of c.args.at.0) (layout_of c.args.self.now.best).blocks) 0 32 c.read.result.now c.read.ensures
 
 pub overflow_sub-back : goal.overflow_sub-back
-overflow_sub-back g c = let bounds = guards-size c.args.self.now.best.layout.blocks (place_of c.args.at.0) c.size-back.result c.args.self.now.guarded c.size-back.ensures in omega (arith, bounds.0)
+overflow_sub-back g c = let bounds = guards-size (layout_of c.args.self.now.best).blocks (place_of c.args.at.0) c.size-back.result c.args.self.now.guarded c.size-back.ensures in omega (arith, bounds.0)
 
 pub read-requires-2-clause-range : goal.read-requires-2-clause-range
 read-requires-2-clause-range g c =
-    let bounds = guards-size c.args.self.now.best.layout.blocks (place_of c.args.at.0) c.size-back.result c.args.self.now.guarded c.size-back.ensures in
-    back-range (find_block (place_of c.args.at.0) c.args.self.now.best.layout.blocks) c.size-back.result bounds.0 c.size-back.ensures
+    let bounds = guards-size (layout_of c.args.self.now.best).blocks (place_of c.args.at.0) c.size-back.result c.args.self.now.guarded c.size-back.ensures in
+    back-range (find_block (place_of c.args.at.0) (layout_of c.args.self.now.best).blocks) c.size-back.result bounds.0 c.size-back.ensures

@@ -2,30 +2,31 @@ use Rattle.std.proofs.Common.{◌+◌, Some, option_map, sym, ap, ◌∙◌, sub
 use Rattle.vc_model.specs.Layout.{address_of}
 use Rattle.vc_model.specs.Touch.{HasBlock}
 use Rattle.vc_model.specs.Walk.{next_block}
+use Rattle.vc_best.specs.Parts.{layout_of}
 use Rattle.vc_audit.proofs.DebugBlocks.{below-end, live-up}
 use Rattle.vc_audit.proofs.DebugWalks.{address-told, from-before, next-user, own-best}
 use Rattle.vc_audit.proofs.debug.Debug.next_block.Goals as goal
 
 pub next_block-requires : goal.next_block-requires
-next_block-requires g c = from-before c.args.self.now.best.layout.blocks c.args.after.0 c.guarded_after.result.0 c.guarded_after.ensures c.requires
+next_block-requires g c = from-before (layout_of c.args.self.now.best).blocks c.args.after.0 c.guarded_after.result.0 c.guarded_after.ensures c.requires
 
 pub user_addr-requires : goal.user_addr-requires
-user_addr-requires g c = below-end c.args.self.now.best.layout c.args.self.now.guarded c.args.self.now.best.sound c.in-Some.at.0 c.in-Some.ensures.live
+user_addr-requires g c = below-end (layout_of c.args.self.now.best) c.args.self.now.guarded c.args.self.now.best.sound c.in-Some.at.0 c.in-Some.ensures.live
 
 pub returns-in-Some-clause-value : goal.returns-in-Some-clause-value
 returns-in-Some-clause-value g c =
-    let r = c.args.self.now.best.layout in
+    let r = layout_of c.args.self.now.best in
     let k = c.guarded_after.result.0 in
     ap Some c.user_addr.ensures
     ∙ (ap (option_map (λ n. n + 1)) c.in-Some.ensures.value
     ∙ sym (ap (option_map address_of) (next-user c.args.after.0 k r.blocks c.guarded_after.ensures (own-best r c.args.self.now.best.sound)) ∙ address-told (next_block k r.blocks)))
 
 pub returns-in-Some-clause-live : goal.returns-in-Some-clause-live
-returns-in-Some-clause-live g c = subst (HasBlock _) (sym c.user_addr.ensures) (live-up c.args.self.now.best.layout.blocks c.in-Some.at.0 c.in-Some.ensures.live)
+returns-in-Some-clause-live g c = subst (HasBlock _) (sym c.user_addr.ensures) (live-up (layout_of c.args.self.now.best).blocks c.in-Some.at.0 c.in-Some.ensures.live)
 
 pub returns-in-None-clause-value : goal.returns-in-None-clause-value
 returns-in-None-clause-value g c =
-    let r = c.args.self.now.best.layout in
+    let r = layout_of c.args.self.now.best in
     let k = c.guarded_after.result.0 in
     ap (option_map (λ n. n + 1)) c.in-None.ensures.value
     ∙ sym (ap (option_map address_of) (next-user c.args.after.0 k r.blocks c.guarded_after.ensures (own-best r c.args.self.now.best.sound)) ∙ address-told (next_block k r.blocks))

@@ -5,6 +5,7 @@ use Rattle.vc_model.specs.Addr.{place_of}
 use Rattle.vc_model.specs.Best.{zeros}
 use Rattle.vc_model.specs.Layout.{without_block}
 use Rattle.vc_model.specs.Touch.{HasBlock, find_block}
+use Rattle.vc_best.specs.Parts.{layout_of}
 use Rattle.vc_audit.specs.ProfileSites.{site_at}
 use Rattle.vc_audit.specs.ProfileSums.{IsCounted, row_for}
 use Rattle.vc_audit.specs.declared.profile.rows.Row.{Row}
@@ -16,7 +17,7 @@ use Rattle.vc_audit.proofs.profile.Profile.alloc.Goals as goal
 pub overflow_add-bytes : goal.overflow_add-bytes
 overflow_add-bytes g c =
     let me = c.args.self.now in
-    let few : c.row_for-row.result.bytes ≤ 16777216 * 4294967295 = subst (λ (v : Row). v.bytes ≤ 16777216 * 4294967295) (sym c.row_for-row.ensures.row) (few-bytes me.best.layout me.sites.items.items me.rows.entries c.new-site.result me.counted) in
+    let few : c.row_for-row.result.bytes ≤ 16777216 * 4294967295 = subst (λ (v : Row). v.bytes ≤ 16777216 * 4294967295) (sym c.row_for-row.ensures.row) (few-bytes (layout_of me.best) me.sites.items.items me.rows.entries c.new-site.result me.counted) in
     omega (arith, few, c.requires.most)
 
 pub invariant_of-self-in-Ok : goal.invariant_of-self-in-Ok
@@ -27,8 +28,8 @@ invariant_of-self-in-Ok g c =
     let few : (row_for c.new-site.result me.rows.entries).blocks < 4294967295 = subst (λ (v : Row). v.blocks < 4294967295) row c.if-row-ge4294967295.false in
     let rows = c.put_row.ensures ∙ ap (λ es. insert_entry bytes_eq es c.new-site.result c.with.result) c.reserve.ensures.entries in
     record {
-      counted = subst (IsCounted c.alloc.new.self.layout c.put.new.self.items.items) (sym rows)
-          (counted-put me.best.layout me.sites.items.items me.rows.entries me.counted c.row_for-row.ensures.distinct _ c.args.tag c.new-site.result c.args.size c.args.align c.requires.most c.in-Ok.a.0 c.in-Ok.ensures.fresh c.alloc.new.self.layout c.in-Ok.ensures.answer
+      counted = subst (IsCounted (layout_of c.alloc.new.self) c.put.new.self.items.items) (sym rows)
+          (counted-put (layout_of me.best) me.sites.items.items me.rows.entries me.counted c.row_for-row.ensures.distinct _ c.args.tag c.new-site.result c.args.size c.args.align c.requires.most c.in-Ok.a.0 c.in-Ok.ensures.fresh (layout_of c.alloc.new.self) c.in-Ok.ensures.answer
           c.put.new.self.items.items kept c.with.result few (c.with.ensures.blocks ∙ ap (λ (v : Row). v.blocks + 1) row) (c.with.ensures.bytes ∙ ap (λ (v : Row). v.bytes + c.args.size) row)
           (c.with.ensures.peak ∙ (ap (λ n. max c.row_for-row.result.peak n) (sym c.with.ensures.bytes) ∙ ap (λ (v : Row). max v.peak c.with.result.bytes) row)));
     }
@@ -40,28 +41,28 @@ returns-in-Ok-clause-answer g c =
     let kept : (q : ℕ) → site_at q c.put.new.self.items.items ≡ cond (eqb c.in-Ok.a.0 q) (Some c.new-site.result) (site_at q me.sites.items.items) = λ q. c.put.ensures q ∙ ap (λ ss. cond (eqb c.in-Ok.a.0 q) (Some c.new-site.result) (site_at q ss)) c.reserve-2.ensures.same in
     let few : (row_for c.new-site.result me.rows.entries).blocks < 4294967295 = subst (λ (v : Row). v.blocks < 4294967295) row c.if-row-ge4294967295.false in
     let rows = c.put_row.ensures ∙ ap (λ es. insert_entry bytes_eq es c.new-site.result c.with.result) c.reserve.ensures.entries in
-    profile-put me.best.layout me.sites.items.items me.rows.entries me.counted c.row_for-row.ensures.distinct _ c.args.tag c.new-site.result c.args.size c.args.align c.requires.most c.in-Ok.a.0 c.in-Ok.ensures.fresh c.alloc.new.self.layout c.in-Ok.ensures.answer
+    profile-put (layout_of me.best) me.sites.items.items me.rows.entries me.counted c.row_for-row.ensures.distinct _ c.args.tag c.new-site.result c.args.size c.args.align c.requires.most c.in-Ok.a.0 c.in-Ok.ensures.fresh (layout_of c.alloc.new.self) c.in-Ok.ensures.answer
     c.put.new.self.items.items kept c.with.result few (c.with.ensures.blocks ∙ ap (λ (v : Row). v.blocks + 1) row) (c.with.ensures.bytes ∙ ap (λ (v : Row). v.bytes + c.args.size) row)
     (c.with.ensures.peak ∙ (ap (λ n. max c.row_for-row.result.peak n) (sym c.with.ensures.bytes) ∙ ap (λ (v : Row). max v.peak c.with.result.bytes) row)) c.args.site.now c.new-site.ensures c.put_row.new.rows.entries rows
 
 pub returns-in-Ok-clause-there : goal.returns-in-Ok-clause-there
 returns-in-Ok-clause-there g c =
-    from-best (λ bs. find_block (place_of c.in-Ok.a.0) bs ≡ Some (zeros c.args.tag c.args.size (place_of c.in-Ok.a.0))) c.put.new.self.items.items c.alloc.new.self.layout.blocks c.in-Ok.ensures.there
+    from-best (λ bs. find_block (place_of c.in-Ok.a.0) bs ≡ Some (zeros c.args.tag c.args.size (place_of c.in-Ok.a.0))) c.put.new.self.items.items (layout_of c.alloc.new.self).blocks c.in-Ok.ensures.there
 
 pub returns-in-Ok-clause-fresh : goal.returns-in-Ok-clause-fresh
-returns-in-Ok-clause-fresh g c = from-best (λ bs. HasBlock bs c.in-Ok.a.0 → ⊥) c.args.self.now.sites.items.items c.args.self.now.best.layout.blocks c.in-Ok.ensures.fresh
+returns-in-Ok-clause-fresh g c = from-best (λ bs. HasBlock bs c.in-Ok.a.0 → ⊥) c.args.self.now.sites.items.items (layout_of c.args.self.now.best).blocks c.in-Ok.ensures.fresh
 
 pub returns-in-Ok-clause-others : goal.returns-in-Ok-clause-others
 returns-in-Ok-clause-others g c =
     let me = c.args.self.now in
-    from-both (λ xs ys. without_block (place_of c.in-Ok.a.0) xs ≡ ys) c.put.new.self.items.items me.sites.items.items c.alloc.new.self.layout.blocks me.best.layout.blocks c.in-Ok.ensures.others
+    from-both (λ xs ys. without_block (place_of c.in-Ok.a.0) xs ≡ ys) c.put.new.self.items.items me.sites.items.items (layout_of c.alloc.new.self).blocks (layout_of me.best).blocks c.in-Ok.ensures.others
 
 pub returns-clause-answer : goal.returns-clause-answer
 returns-clause-answer g c =
     let me = c.args.self.now in
-    let refused = alloc-refused me.sites.items.items me.best.layout me.rows.entries _ c.args.tag c.new-site.result c.args.size c.args.align c.in-Err.fault c.args.site.now c.new-site.ensures c.in-Err.ensures.answer.0 in (
+    let refused = alloc-refused me.sites.items.items (layout_of me.best) me.rows.entries _ c.args.tag c.new-site.result c.args.size c.args.align c.in-Err.fault c.args.site.now c.new-site.ensures c.in-Err.ensures.answer.0 in (
       refused,
-      ap (λ ss. profile ss c.alloc.new.self.layout c.reserve.new.self.entries) c.reserve-2.ensures.same
+      ap (λ ss. profile ss (layout_of c.alloc.new.self) c.reserve.new.self.entries) c.reserve-2.ensures.same
           ∙ (ap (λ l. profile me.sites.items.items l c.reserve.new.self.entries) c.in-Err.ensures.answer.1
-          ∙ ap (profile me.sites.items.items me.best.layout) c.reserve.ensures.entries),
+          ∙ ap (profile me.sites.items.items (layout_of me.best)) c.reserve.ensures.entries),
     )

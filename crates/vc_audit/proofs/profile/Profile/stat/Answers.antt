@@ -1,8 +1,9 @@
 use Rattle.std.proofs.Common.{ℕ, sym, ap, ◌∙◌}
 use Rattle.vc_model.specs.Layout.{Layout}
 use Rattle.vc_seg.specs.Stat.{layout_stat}
+use Rattle.vc_best.specs.Parts.{layout_of}
 use Rattle.vc_audit.proofs.ProfileBare.{bare-layout}
 use Rattle.vc_audit.proofs.profile.Profile.stat.Goals as goal
 
 pub returns : goal.returns
-returns g c = c.stat.ensures ∙ ap (λ (l : Layout ℕ). layout_stat l) (sym (bare-layout c.args.self.now.sites.items.items c.args.self.now.best.layout))
+returns g c = c.stat.ensures ∙ ap (λ (l : Layout ℕ). layout_stat l) (sym (bare-layout c.args.self.now.sites.items.items (layout_of c.args.self.now.best)))

@@ -1,0 +1,170 @@
+-- What the calls of a best region do to its cells: one on an unlabelled block does it to the cell there, and one on a labelled block does nothing.
+use Rattle.std.proofs.Common.{◌≡◌, ◌≢◌, ℕ, Bool, List, [], ◌∷◌, true, false, cond, All, Option, Some, None, map, option_map, eqb, replicate, refl, sym, ap, ◌∙◌, subst, inl, inr, ⊎_elim}
+use Rattle.std.proofs.lemmas.Bool.{cases_Bool, eq-eqb, ne_eqb}
+use Rattle.std.proofs.lemmas.Bool.Decides.{eqb_tells}
+use Rattle.std.proofs.lemmas.List.Elements.{All-head, All-tail}
+use Rattle.std.proofs.lemmas.Option.{none-some, same_Some}
+use Rattle.vc_base.specs.Cells.{put}
+use Rattle.vc_base.proofs.CellsLemmas.{put_other, put_same}
+use Rattle.vc_model.specs.Addr.{place_of}
+use Rattle.vc_model.specs.Best.{best_alloc, place_in, without_block_at, zeros}
+use Rattle.vc_model.specs.Compact.{cleared}
+use Rattle.vc_model.specs.Discipline.{Discipline, Terms}
+use Rattle.vc_model.specs.Layout.{Block, Layout, address_of, is_at, without_block}
+use Rattle.vc_model.specs.Sound.{HaveOwnPlaces}
+use Rattle.vc_model.specs.Touch.{change_block, find_block, rewritten, with_bytes_at}
+use Rattle.vc_model.proofs.Owned.{at-address, left-elsewhere, not-there, put-others, put-there}
+use Rattle.vc_best.proofs.Resizes.{place-new}
+use Rattle.vc_seg.specs.Answer.{IsPut}
+use Rattle.vc_seg.specs.Boxed.{boxed}
+use Rattle.vc_best.specs.Parts.{disc_in, segments_in}
+use Rattle.vc_best.specs.declared.best.Best.{Best}
+use Rattle.vc_best.specs.Cells.{StaysButCells, zeroed, cell_bytes, cells_of, is_unlabelled, without_cell}
+use Rattle.vc_best.proofs.CellBytes.{cell-shows, find-written-other, same-cells}
+use Rattle.vc_best.proofs.RestBlocks.{find_block-zeroed, zeroed-labelled}
+
+-- a labelled block is no cell
+pub no-cell : (bs : List (Block ℕ)) (a label : ℕ) → option_map (λ b. b.label) (find_block (place_of a) bs) ≡ Some label → label ≢ 0 → cells_of bs a ≡ None
+no-cell bs a label is labelled = none (find_block (place_of a) bs) is
+  where
+    none : (o : Option (Block ℕ)) → option_map (λ b. b.label) o ≡ Some label → cell_bytes o ≡ None
+    none None e = absurd (none-some label e)
+    none (Some b) e =
+        let zero : is_unlabelled b ≡ false = ne_eqb b.label 0 (λ z. labelled (sym (label-of b e) ∙ z)) in
+        ap (λ v. cond v (Some b.bytes) None) zero
+      where
+        label-of : (b : Block ℕ) → Some b.label ≡ Some label → b.label ≡ label
+        label-of b e = cc
+
+find-none : (a : ℕ) (bs : List (Block ℕ)) → All (λ b. address_of b ≢ a) bs → find_block (place_of a) bs ≡ None
+find-none a [] h = refl
+find-none a (b ∷ bs) h =
+    let P : Block ℕ → Type 0 = λ c. address_of c ≢ a in
+    rw (not-there a b (All-head P b bs h)) (find-none a bs (All-tail P b bs h))
+
+find-gone-other : (x a : ℕ) → x ≢ a → (bs : List (Block ℕ)) → find_block (place_of x) (without_block (place_of a) bs) ≡ find_block (place_of x) bs
+find-gone-other x a ne [] = refl
+find-gone-other x a ne (c ∷ cs) =
+    ⊎_elim
+    (λ (t : is_at (place_of a) c ≡ true).
+    ⊎_elim
+    (λ (u : is_at (place_of x) c ≡ true). absurd (ne (sym (at-address x c u) ∙ at-address a c t)))
+    (λ (u : is_at (place_of x) c ≡ false). rw t (rw u refl))
+    (cases_Bool (is_at (place_of x) c)))
+    (λ (t : is_at (place_of a) c ≡ false). rw t (ap (cond (is_at (place_of x) c) (Some c)) (find-gone-other x a ne cs)))
+    (cases_Bool (is_at (place_of a) c))
+
+-- the block at an address goes
+gone-there : (a : ℕ) (bs : List (Block ℕ)) → HaveOwnPlaces bs → cells_of (without_block (place_of a) bs) a ≡ None
+gone-there a bs own = ap cell_bytes (find-none a (without_block (place_of a) bs) (left-elsewhere a bs own.distinct own.exact))
+
+gone-other : (x a : ℕ) → x ≢ a → (bs : List (Block ℕ)) → cells_of (without_block (place_of a) bs) x ≡ cells_of bs x
+gone-other x a ne bs = ap cell_bytes (find-gone-other x a ne bs)
+
+pub cells-without : (a : ℕ) (bs : List (Block ℕ)) → HaveOwnPlaces bs → cells_of (without_block (place_of a) bs) ≡ without_cell a (cells_of bs)
+cells-without a bs own =
+    let after = without_block (place_of a) bs in
+    same-cells (cells_of after) (without_cell a (cells_of bs))
+    (λ x. elim (eqb_tells x a) as (λ _. cells_of after x ≡ without_cell a (cells_of bs) x) [
+      | inl same ↦ subst (λ (n : ℕ). cells_of after n ≡ without_cell a (cells_of bs) n) (sym same.1) (gone-there a bs own ∙ sym (ap (λ t. cond t None (cells_of bs a)) (eq-eqb a a refl)))
+      | inr apart ↦ gone-other x a apart.1 bs ∙ sym (ap (λ t. cond t None (cells_of bs x)) (ne_eqb x a apart.1))
+    ])
+
+pub cells-kept : (a : ℕ) (bs : List (Block ℕ)) → HaveOwnPlaces bs → cells_of bs a ≡ None → cells_of (without_block (place_of a) bs) ≡ cells_of bs
+cells-kept a bs own none =
+    let after = without_block (place_of a) bs in
+    same-cells (cells_of after) (cells_of bs)
+    (λ x. elim (eqb_tells x a) as (λ _. cells_of after x ≡ cells_of bs x) [
+      | inl same ↦ subst (λ (n : ℕ). cells_of after n ≡ cells_of bs n) (sym same.1) (gone-there a bs own ∙ sym none)
+      | inr apart ↦ gone-other x a apart.1 bs
+    ])
+
+-- freeing, of an unlabelled block and of a labelled one
+pub cells-freed : (r : Layout ℕ) (a : ℕ) → HaveOwnPlaces r.blocks → cells_of (without_block_at r (place_of a)).blocks ≡ without_cell a (cells_of r.blocks)
+cells-freed r a own = cells-without a r.blocks own
+
+pub cells-freed-labelled : (r : Layout ℕ) (a : ℕ) → HaveOwnPlaces r.blocks → cells_of r.blocks a ≡ None → cells_of (without_block_at r (place_of a)).blocks ≡ cells_of r.blocks
+cells-freed-labelled r a own none = cells-kept a r.blocks own none
+
+-- a block that stands there over the others, unlabelled and labelled
+pub cells-more : (a size : ℕ) (old new : List (Block ℕ)) → find_block (place_of a) new ≡ Some (zeros 0 size (place_of a)) → without_block (place_of a) new ≡ old → cells_of new ≡ put a (replicate size 0) (cells_of old)
+cells-more a size old new there others =
+    let bytes : List ℕ = replicate size 0 in
+    same-cells (cells_of new) (put a bytes (cells_of old))
+    (λ x. elim (eqb_tells x a) as (λ _. cells_of new x ≡ put a bytes (cells_of old) x) [
+      | inl same ↦ subst (λ (n : ℕ). cells_of new n ≡ put a bytes (cells_of old) n) (sym same.1)
+          (cell-shows new a (zeros 0 size (place_of a)) (record { found = there; plain = refl }) ∙ sym (put_same a bytes (cells_of old)))
+      | inr apart ↦ sym (gone-other x a apart.1 new) ∙ (ap (λ bs. cells_of bs x) others ∙ sym (put_other x a bytes (cells_of old) apart.1))
+    ])
+
+pub cells-more-labelled : (a label size : ℕ) (old new : List (Block ℕ)) → label ≢ 0 → HaveOwnPlaces new → find_block (place_of a) new ≡ Some (zeros label size (place_of a)) → without_block (place_of a) new ≡ old → cells_of new ≡ cells_of old
+cells-more-labelled a label size old new labelled own there others =
+    sym (cells-kept a new own (no-cell new a label (ap (option_map (λ (b : Block ℕ). b.label)) there) labelled)) ∙ ap cells_of others
+
+-- allocating, of an unlabelled block and of a labelled one
+module _ (terms : Terms) (old new : Layout ℕ) (size align : ℕ) (refused : Bool) (a : ℕ) (own : HaveOwnPlaces new.blocks) where
+  pub cells-alloc : IsPut (best_alloc terms old 0 size align refused) a new → cells_of new.blocks ≡ put a (replicate size 0) (cells_of old.blocks)
+  cells-alloc placed =
+      let blocks = (place-new terms old 0 size align refused a (place_in old size align) new placed).blocks in
+      cells-more a size old.blocks new.blocks (put-there a 0 size old.blocks new.blocks blocks own) (put-others a 0 size old.blocks new.blocks blocks own)
+
+  pub cells-alloc-labelled : (label : ℕ) → label ≢ 0 → IsPut (best_alloc terms old label size align refused) a new → cells_of new.blocks ≡ cells_of old.blocks
+  cells-alloc-labelled label labelled placed =
+      let blocks = (place-new terms old label size align refused a (place_in old size align) new placed).blocks in
+      cells-more-labelled a label size old.blocks new.blocks labelled own (put-there a label size old.blocks new.blocks blocks own) (put-others a label size old.blocks new.blocks blocks own)
+
+-- a labelled block gets another size, and may move
+pub cells-resized-labelled : (a to : ℕ) (old new : List (Block ℕ)) → HaveOwnPlaces old → HaveOwnPlaces new → cells_of old a ≡ None → cells_of new to ≡ None → without_block (place_of to) new ≡ without_block (place_of a) old → cells_of new ≡ cells_of old
+cells-resized-labelled a to old new own own' none none' others = sym (cells-kept to new own' none') ∙ (ap cells_of others ∙ cells-kept a old own none)
+
+-- bytes are written into a labelled block
+pub find-written : (off : ℕ) (src : List ℕ) (at : ℕ × ℕ) (bs : List (Block ℕ)) → find_block at (change_block (rewritten off src) at bs) ≡ option_map (rewritten off src) (find_block at bs)
+find-written off src at [] = refl
+find-written off src at (b ∷ bs) =
+    ⊎_elim
+    (λ (t : is_at at b ≡ true). rw t (rw t refl))
+    (λ (t : is_at at b ≡ false). rw t (rw t (find-written off src at bs)))
+    (cases_Bool (is_at at b))
+
+none-written : (off : ℕ) (src : List ℕ) (o : Option (Block ℕ)) → cell_bytes o ≡ None → cell_bytes (option_map (rewritten off src) o) ≡ None
+none-written off src None none = refl
+none-written off src (Some b) none =
+    ⊎_elim
+    (λ (t : is_unlabelled b ≡ true). absurd (none-some b.bytes (sym none ∙ ap (λ v. cond v (Some b.bytes) None) t)))
+    (λ (t : is_unlabelled b ≡ false). rw t refl)
+    (cases_Bool (is_unlabelled b))
+
+pub cells-written-labelled : (r : Layout ℕ) (a off : ℕ) (src : List ℕ) → cells_of r.blocks a ≡ None → cells_of (with_bytes_at r (place_of a) off src).blocks ≡ cells_of r.blocks
+cells-written-labelled r a off src none =
+    let after = change_block (rewritten off src) (place_of a) r.blocks in
+    same-cells (cells_of after) (cells_of r.blocks)
+    (λ x. elim (eqb_tells x a) as (λ _. cells_of after x ≡ cells_of r.blocks x) [
+      | inl same ↦ subst (λ (n : ℕ). cells_of after n ≡ cells_of r.blocks n) (sym same.1)
+          (ap cell_bytes (find-written off src (place_of a) r.blocks) ∙ (none-written off src (find_block (place_of a) r.blocks) none ∙ sym none))
+      | inr apart ↦ ap cell_bytes (find-written-other off src a x apart.1 r.blocks)
+    ])
+
+-- no cell is left where all blocks go
+pub cells-cleared : (r : Layout ℕ) (a : ℕ) → cells_of (cleared r).blocks a ≡ None
+cells-cleared r a = refl
+
+-- what stays over writes into cells: the meaning of the discipline, and the segments
+pub stays-disc : {I : Type 0} {V : I → Type 0} (meaning : (x : I) × V x → Discipline) (old new : Best I V) → StaysButCells old new → disc_in meaning new ≡ disc_in meaning old
+stays-disc meaning old new s = ap (boxed meaning) s.disc
+
+pub stays-segments : {I : Type 0} {V : I → Type 0} (old new : Best I V) → StaysButCells old new → segments_in new ≡ segments_in old
+stays-segments old new s = ap (λ (r : Layout ℕ). r.segments) s.layout
+
+-- a block that is the same but for what it shows as a cell, where one of both is labelled
+labelled-same : (b : Block ℕ) (o : Option (Block ℕ)) → is_unlabelled b ≡ false → option_map zeroed o ≡ Some (zeroed b) → o ≡ Some b
+labelled-same b None h e = absurd (none-some (zeroed b) e)
+labelled-same b (Some c) h e =
+    let same : zeroed c ≡ zeroed b = same_Some (zeroed c) (zeroed b) e in
+    let label : c.label ≡ b.label = ap (λ (d : Block ℕ). d.label) same in
+    let plain : is_unlabelled c ≡ false = ap (λ n. eqb n 0) label ∙ h in
+    ap Some (sym (zeroed-labelled c plain) ∙ (same ∙ zeroed-labelled b h))
+
+pub same-labelled : (at : ℕ × ℕ) (old new : List (Block ℕ)) (b : Block ℕ) → map zeroed new ≡ map zeroed old → find_block at old ≡ Some b → b.label ≢ 0 → find_block at new ≡ Some b
+same-labelled at old new b same found labelled =
+    labelled-same b (find_block at new) (ne_eqb b.label 0 labelled)
+    (sym (find_block-zeroed at new) ∙ (ap (find_block at) same ∙ (find_block-zeroed at old ∙ ap (option_map zeroed) found)))

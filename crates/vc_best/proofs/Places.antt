@@ -1,0 +1,16 @@
+-- The blocks of a best region have places of their own.
+use Rattle.std.proofs.Math.Bridge.{le_prop}
+use Rattle.std.proofs.Math.Nat.{ℕ_set}
+use Rattle.std.proofs.Math.Logic.{∥∥₁_elim}
+use Rattle.vc_model.specs.Sound.{HaveOwnPlaces}
+use Rattle.vc_model.proofs.Places.{own-places}
+use Rattle.vc_best.specs.Parts.{blocks_in, layout_of}
+use Rattle.vc_best.specs.declared.best.Best.{Best}
+
+pub own_places : {I : Type 0} {V : I → Type 0} (b : Best I V) → HaveOwnPlaces (blocks_in b)
+own_places b =
+    record {
+      distinct = λ i j d lt within e. ∥∥₁_elim b.sound (hlevel) (λ s. (own-places (layout_of b) s).distinct i j d lt within e);
+      first = λ i d within. ∥∥₁_elim b.sound (le_prop) (λ s. (own-places (layout_of b) s).first i d within);
+      exact = λ i d within. ∥∥₁_elim b.sound (hlevel (ℕ_set)) (λ s. s.exact i d within);
+    }
