@@ -12,8 +12,8 @@ use Rattle.vc_dtlist.proofs.KeptLemmas.{within-head, within-tail}
 use Rattle.vc_dict.specs.declared.dict.Dict.{Dict}
 use Rattle.vc_dict.specs.Listed.{holders_from, holders_of}
 use Rattle.vc_dict.proofs.OwnLemmas.{holder-address, holder-there}
-use Rattle.vc_region.specs.Cells.{cells_in}
-use Rattle.vc_region.specs.declared.region.Region.{Region}
+use Rattle.vc_best.specs.Cells.{cells_in}
+use Rattle.vc_best.specs.declared.best.Best.{Best}
 use Rattle.vc_objects.specs.Lists.{before_key, before_key_from, behind_key, first_object, first_with, has_key, last_object, last_or}
 use Rattle.vc_objects.specs.Objects.{Dictionary, Object}
 use Rattle.vc_objects.specs.Parts.{IsWhole, dictionary_in, object_of}
@@ -67,7 +67,7 @@ held-each b xs [] among = tt
 held-each b xs (y ∷ ys) among =
     (record { within = among y (within-head y ys); same = refl }, held-each b xs ys (λ a h. among a (within-tail y ys a h)))
 
-module _ {I : Type 0} {V : I → Type 0} (d : Dict) (r : Region I V) where
+module _ {I : Type 0} {V : I → Type 0} (d : Dict) (r : Best I V) where
   pub each-held : AllByRecursion (IsHeld (cells_in r) (holders_of d (cells_in r))) (dictionary_in d r).objects
   each-held = held-each (cells_in r) (holders_of d (cells_in r)) (holders_of d (cells_in r)) (λ a h. h)
 
@@ -119,5 +119,5 @@ counted-from : (b : Blocks) (count at : ℕ) → length (map (object_of b) (hold
 counted-from b zero at = refl
 counted-from b (suc count) at = ap suc (counted-from b count (word_at b at 1))
 
-pub counted : {I : Type 0} {V : I → Type 0} (d : Dict) (r : Region I V) → length (dictionary_in d r).objects ≡ d.count
+pub counted : {I : Type 0} {V : I → Type 0} (d : Dict) (r : Best I V) → length (dictionary_in d r).objects ≡ d.count
 counted d r = counted-from (cells_in r) d.count d.first.0

@@ -2,10 +2,10 @@
 use Rattle.std.proofs.Common.{◌≡◌, ℕ, List, [], Bool, true, false, Option, Some, None, length, cond, refl, sym, ap, ◌∙◌, subst}
 use Rattle.vc_base.specs.declared.dict_method.DictMethod.{DictMethod}
 use Rattle.vc_model.specs.Discipline.{Discipline}
+use Rattle.vc_model.specs.Layout.{Layout, relabel_layout}
 use Rattle.vc_model.specs.Outcome as model
 use Rattle.vc_model.specs.Outcome.{Outcome, done_as}
-use Rattle.vc_dict.specs.Methods.{is_list}
-use Rattle.vc_region.specs.Region.{Region, relabelled}
+use Rattle.vc_base.specs.Methods.{is_list}
 use Rattle.vc_objects.specs.Insert.{Inserted}
 use Rattle.vc_objects.specs.Leaves.{LacksHolder, LacksTable}
 use Rattle.vc_objects.specs.Lists.{before_key, behind_key, first_object, first_with, last_object}
@@ -26,10 +26,10 @@ use Rattle.vc_commands.specs.Seat.{DictChanged, Seat, declined}
 module _ {L M : Type 0} (f : L → M) where
   -- a seat, and what a command gives, with other labels
   abbrev pub relabel_seat : Seat L → Seat M
-  relabel_seat s = record { rules = s.rules; terms = s.terms; none = f s.none; region = relabelled f s.region; dict = s.dict }
+  relabel_seat s = record { rules = s.rules; terms = s.terms; none = f s.none; region = relabel_layout f s.region; dict = s.dict }
 
   abbrev pub relabel_changed : DictChanged L → DictChanged M
-  relabel_changed c = record { region = relabelled f c.region; dict = c.dict; reply = c.reply; told = c.told; granted = c.granted }
+  relabel_changed c = record { region = relabel_layout f c.region; dict = c.dict; reply = c.reply; told = c.told; granted = c.granted }
 
   -- by whether a word is an object
   by_size : (s : Seat L) (c : DictChanged L) (fits : Bool) → cond fits (relabel_changed c) (declined (relabel_seat s) Size) ≡ relabel_changed (cond fits c (declined s Size))
@@ -72,7 +72,7 @@ module _ {L M : Type 0} (f : L → M) where
 
   empty_in-named : (s : Seat L) (name : List ℕ) → empty_in (relabel_seat s) name ≡ relabel_changed (empty_in s name)
   empty_in-named s name =
-      ap (λ (r : Region M). record { region = r; dict = emptied s.dict; reply = Emptied name (length s.dict.objects); told = bytes_of s.dict.objects; granted = [] }) (freed_all-named f s.region s.dict.objects)
+      ap (λ (r : Layout M). record { region = r; dict = emptied s.dict; reply = Emptied name (length s.dict.objects); told = bytes_of s.dict.objects; granted = [] }) (freed_all-named f s.region s.dict.objects)
 
   turned_as-named : (s : Seat L) (name : List ℕ) (method : DictMethod) (o : Outcome (Turned L)) → turned_as (relabel_seat s) name method (done_as (relabel_turned f) o) ≡ relabel_changed (turned_as s name method o)
   turned_as-named s name method (model.Refused fault) = refl

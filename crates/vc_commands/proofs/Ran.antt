@@ -2,15 +2,16 @@
 use Rattle.std.proofs.Common.{◌≡◌, ℕ, List, [], Bool, true, false, Option, None, refl, sym, ap, ◌∙◌, subst, inl}
 use Rattle.std.specs.Prelude.{IfOk, OnErr, Result, Ok, Err, length}
 use Rattle.std.proofs.lemmas.Bool.{false≢true}
+use Rattle.vc_model.specs.Layout.{Layout}
 use Rattle.vc_base.specs.declared.dict_method.DictMethod.{DictMethod}
 use Rattle.vc_base.specs.declared.dict_method.DictMethod.TheVariants.{DtSet, DtBag, DtOset, DtObag, DtList, DtStack, DtQueue}
 use Rattle.vc_model.specs.Discipline.{Discipline}
-use Rattle.vc_dict.specs.Methods.{is_list, wanted_by}
+use Rattle.vc_base.specs.Methods.{is_list}
+use Rattle.vc_dict.specs.Methods.{wanted_by}
 use Rattle.vc_dtdisc.specs.Rules.{Gone}
 use Rattle.vc_dict.specs.declared.dict.Dict.{Dict}
-use Rattle.vc_region.specs.Cells.{rest_in}
-use Rattle.vc_region.specs.Region as model
-use Rattle.vc_region.specs.declared.region.Region.{Region}
+use Rattle.vc_best.specs.Cells.{rest_in}
+use Rattle.vc_best.specs.declared.best.Best.{Best}
 use Rattle.vc_objects.specs.Insert.{slots_wanted}
 use Rattle.vc_objects.specs.Objects.{Dictionary, slots_of}
 use Rattle.vc_objects.specs.Parts.{dictionary_in}
@@ -51,23 +52,23 @@ spent-put (Ok reply) gone gone' Spent same h = tt
 spent-put (Err why) gone gone' Spent same h = (same, h)
 
 -- where nothing can change nothing is spent
-pub spent-none : {E : Type 0} (result : Result Reply E) (gone : Gone) (r : model.Region ℕ) (d : Dictionary) → OnErr result ((gone ≡ gone) × ((r ≡ r) × (d ≡ d)))
+pub spent-none : {E : Type 0} (result : Result Reply E) (gone : Gone) (r : Layout ℕ) (d : Dictionary) → OnErr result ((gone ≡ gone) × ((r ≡ r) × (d ≡ d)))
 spent-none (Ok reply) gone r d = tt
 spent-none (Err why) gone r d = (refl, (refl, refl))
 
 -- where nothing changed nothing is spent
-pub spent-still : {E : Type 0} {I : Type 0} {V : I → Type 0} (result : Result Reply E) (r r' : Region I V) (d d' : Dict) (gone gone' : Gone) → gone' ≡ gone
+pub spent-still : {E : Type 0} {I : Type 0} {V : I → Type 0} (result : Result Reply E) (r r' : Best I V) (d d' : Dict) (gone gone' : Gone) → gone' ≡ gone
     → OnErr result (IsStill r d r' d') → OnErr result ((gone' ≡ gone) × ((rest_in r' ≡ rest_in r) × (dictionary_in d' r' ≡ dictionary_in d r)))
 spent-still (Ok reply) r r' d d' gone gone' same h = tt
 spent-still (Err why) r r' d d' gone gone' same h = (same, (h.region, h.dict))
 
-pub spent-told : {E : Type 0} {I : Type 0} {V : I → Type 0} (result : Result Reply E) (r r' : Region I V) (d d' : Dict) (gone gone' : Gone)
+pub spent-told : {E : Type 0} {I : Type 0} {V : I → Type 0} (result : Result Reply E) (r r' : Best I V) (d d' : Dict) (gone gone' : Gone)
     → OnErr result ((gone' ≡ gone) × IsStill r d r' d') → OnErr result ((gone' ≡ gone) × ((rest_in r' ≡ rest_in r) × (dictionary_in d' r' ≡ dictionary_in d r)))
 spent-told (Ok reply) r r' d d' gone gone' h = tt
 spent-told (Err why) r r' d d' gone gone' h = (h.0, (h.1.region, h.1.dict))
 
 -- where a command puts no object in a set or bag nothing is spent, and else nothing or the table
-pub spent-by : (s : Seat ℕ) (command : Command) (r : model.Region ℕ) (d : Dictionary) → IsSpentBy s command r d → IsSpent s r d
+pub spent-by : (s : Seat ℕ) (command : Command) (r : Layout ℕ) (d : Dictionary) → IsSpentBy s command r d → IsSpent s r d
 spent-by s (Insert name bytes) r d h = h
 spent-by s (Attach name bytes) r d h = h
 spent-by s command r d h = inl h
@@ -82,7 +83,7 @@ no-table DtList slots count more h = refl
 no-table DtStack slots count more h = refl
 no-table DtQueue slots count more h = refl
 
-by-method : (is : Bool) (s : Seat ℕ) (bytes object : List ℕ) (reply : Reply) (r : model.Region ℕ) (d : Dictionary) (gone gone' : Gone) (old new : Discipline) → is_list s.dict.method ≡ is
+by-method : (is : Bool) (s : Seat ℕ) (bytes object : List ℕ) (reply : Reply) (r : Layout ℕ) (d : Dictionary) (gone gone' : Gone) (old new : Discipline) → is_list s.dict.method ≡ is
     → GivesDict (append_in s bytes (need_shown reply)) r d reply gone gone' → LacksFor (slots_wanted s.dict) object reply old new → LacksFor None object reply old new
 by-method true s bytes object reply r d gone gone' old new is g h =
     subst (λ o. LacksFor o object reply old new) (no-table s.dict.method (slots_of s.dict.table) (length s.dict.objects) 1 is) h
@@ -91,7 +92,7 @@ by-method false s bytes object reply r d gone gone' old new is g h =
     let same : new.faults ≡ old.faults = subst (λ x. LacksFor (slots_wanted s.dict) object x old new) (sym answer) h in
     subst (λ x. LacksFor None object x old new) answer same
 
-pub append-asked : {E : Type 0} (result : Result Reply E) (s : Seat ℕ) (bytes object : List ℕ) (r : model.Region ℕ) (d : Dictionary) (gone gone' : Gone) (old new : Discipline)
+pub append-asked : {E : Type 0} (result : Result Reply E) (s : Seat ℕ) (bytes object : List ℕ) (r : Layout ℕ) (d : Dictionary) (gone gone' : Gone) (old new : Discipline)
     → IfOk result (λ reply. GivesDict (append_in s bytes (need_shown reply)) r d reply gone gone') → AskedFor result (slots_wanted s.dict) object old new → AskedFor result None object old new
 append-asked (Ok reply) s bytes object r d gone gone' old new g h = by-method (is_list s.dict.method) s bytes object reply r d gone gone' old new refl g h
 append-asked (Err why) s bytes object r d gone gone' old new g h = h

@@ -1,6 +1,7 @@
 -- What one call after another does to a dictionary and its region.
-use Rattle.std.proofs.Common.{◌≡◌, ℕ, List, [], Bool, true, false, Option, Some, None, refl, sym, ap, ◌∙◌, subst, arith}
+use Rattle.std.proofs.Common.{◌≡◌, ℕ, List, [], Bool, true, false, Option, Some, None, refl, sym, ap, ◌∙◌, subst}
 use Rattle.std.specs.Prelude.{IfOk, Result, Ok, Err, if◌then◌else◌}
+use Rattle.vc_model.specs.Layout.{Layout}
 use Rattle.vc_base.specs.Holders.{contains}
 use Rattle.vc_base.specs.declared.dict_method.DictMethod.{DictMethod}
 use Rattle.vc_model.specs.Discipline.{Discipline, Terms}
@@ -8,15 +9,15 @@ use Rattle.vc_model.specs.Outcome as model
 use Rattle.vc_model.specs.Outcome.{Fault, Outcome}
 use Rattle.vc_dtdisc.specs.Rules.{Gone, Rules}
 use Rattle.vc_dict.specs.declared.dict.Dict.{Dict}
-use Rattle.vc_region.specs.Cells.{cells_in, rest_in}
-use Rattle.vc_region.specs.Parts.{disc_in, segments_in}
-use Rattle.vc_region.specs.Region as regions
-use Rattle.vc_region.specs.declared.region.Region.{Region}
+use Rattle.vc_best.specs.Cells.{cells_in, rest_in}
+use Rattle.vc_best.specs.Parts.{disc_in, segments_in}
+use Rattle.vc_best.specs.declared.best.Best.{Best}
 use Rattle.vc_objects.specs.Insert.{insert, want_of}
-use Rattle.vc_objects.specs.Leaves.{GivesInserted, GivesRemoved, GivesTurned, KeepsDisc, LeavesRest, Looks, no_holder, no_table, told_each, told_if}
+use Rattle.vc_objects.specs.Leaves.{GivesInserted, GivesRemoved, GivesTurned, LeavesRest, Looks, no_holder, no_table, told_each, told_if}
 use Rattle.vc_objects.specs.Objects.{Dictionary, Object, listed, owned}
 use Rattle.vc_objects.specs.Parts.{dictionary_in}
 use Rattle.vc_objects.specs.Remove.{Removed}
+use Rattle.vc_objects.proofs.Leaving.{keeps-trans}
 use Rattle.vc_objects.specs.Turn.{Turned}
 use Rattle.vc_objects.specs.declared.fate.Fate.{Fate}
 use Rattle.vc_objects.specs.declared.fate.Fate.TheVariants.{Stored, NoTable, NoHolder}
@@ -28,32 +29,23 @@ use Rattle.vc_commands.specs.Commands.{fate_reply, found_in, gone_reply, put_obj
 use Rattle.vc_commands.specs.Run.{GivesDict, IsStill, seat_in}
 use Rattle.vc_commands.specs.Seat.{DictChanged, Seat}
 
-abbrev seat_by : Rules → Terms → regions.Region ℕ → Dictionary → Seat ℕ
+abbrev seat_by : Rules → Terms → Layout ℕ → Dictionary → Seat ℕ
 seat_by rules terms region dict = record { rules = rules; terms = terms; none = 0; region = region; dict = dict }
 
-keeps-trans : (a b c : Discipline) (s t u : List (ℕ × ℕ)) → KeepsDisc a b s t → KeepsDisc b c t u → KeepsDisc a c s u
-keeps-trans a b c s t u first second =
-    let more = first.kept.faults in
-    let most = second.kept.faults in
-    record {
-      kept = record { terms = second.kept.terms ∙ first.kept.terms; faults = omega (arith, more, most) };
-      out = λ rest is. second.out rest (first.out rest is);
-    }
-
-module _ {I : Type 0} {V : I → Type 0} (meaning : (x : I) × V x → Discipline) (rules : Rules) (r : Region I V) (d : Dict) (r' : Region I V) (d' : Dict) (l : Looks meaning rules r d r' d') where
+module _ {I : Type 0} {V : I → Type 0} (meaning : (x : I) × V x → Discipline) (rules : Rules) (r : Best I V) (d : Dict) (r' : Best I V) (d' : Dict) (l : Looks meaning rules r d r' d') where
   pub seat-looked : seat_in meaning rules r' d' ≡ seat_in meaning rules r d
   seat-looked =
       ap (λ (x : Discipline). seat_by rules x.terms (rest_in r') (dictionary_in d' r')) l.disc
       ∙ (ap (λ x. seat_by rules (disc_in meaning r).terms x (dictionary_in d' r')) l.region
       ∙ ap (λ x. seat_by rules (disc_in meaning r).terms (rest_in r) x) l.dict)
 
-  pub still-looked : (r'' : Region I V) (d'' : Dict) → IsStill r' d' r'' d'' → IsStill r d r'' d''
+  pub still-looked : (r'' : Best I V) (d'' : Dict) → IsStill r' d' r'' d'' → IsStill r d r'' d''
   still-looked r'' d'' s = record { region = s.region ∙ l.region; dict = s.dict ∙ l.dict }
 
   same-owned : owned (dictionary_in d' r') ≡ owned (dictionary_in d r)
   same-owned = ap owned l.dict
 
-  pub leaves-looked : (r'' : Region I V) (d'' : Dict) → LeavesRest meaning rules r' d' r'' d'' → LeavesRest meaning rules r d r'' d''
+  pub leaves-looked : (r'' : Best I V) (d'' : Dict) → LeavesRest meaning rules r' d' r'' d'' → LeavesRest meaning rules r d r'' d''
   leaves-looked r'' d'' s =
       let one = l.leaves.rest in
       let two = s.rest in
@@ -65,7 +57,6 @@ module _ {I : Type 0} {V : I → Type 0} (meaning : (x : I) × V x → Disciplin
         whole = s.whole;
         kind = s.kind ∙ l.leaves.kind;
         rest = record {
-          best = two.best;
           disc = keeps-trans (disc_in meaning r) (disc_in meaning r') (disc_in meaning r'') (segments_in r) (segments_in r') (segments_in r'') one.disc two.disc;
           labelled = two.labelled ∙ one.labelled;
           others = λ a h h'. two.others a (ap (λ (xs : List ℕ). contains xs a) same-owned ∙ h) h' ∙ before a h;
@@ -78,7 +69,7 @@ module _ {I : Type 0} {V : I → Type 0} (meaning : (x : I) × V x → Disciplin
   gives-looked F P h = subst (λ s. P (F s)) seat-looked h
 
 -- what is put is told by its reply
-pub put-told : (rules : Rules) (terms : Terms) (q : regions.Region ℕ) (c : Dictionary) (append : Bool) (bytes : List ℕ) (fate : Fate) (r : regions.Region ℕ) (d : Dictionary) (gone : Gone)
+pub put-told : (rules : Rules) (terms : Terms) (q : Layout ℕ) (c : Dictionary) (append : Bool) (bytes : List ℕ) (fate : Fate) (r : Layout ℕ) (d : Dictionary) (gone : Gone)
     → GivesInserted (insert rules terms q 0 c append bytes (no_table fate) (no_holder fate)) r d fate
     → GivesDict (put_object (seat_by rules terms q c) append bytes (need_shown (fate_reply bytes fate))) r d (fate_reply bytes fate) gone gone
 put-told rules terms q c append bytes Stored r d gone g = record { region = g.region; dict = g.dict; reply = ap (fate_reply bytes) g.fate; told = refl }
@@ -88,13 +79,13 @@ put-told rules terms q c append bytes (NoHolder want.TooManySegments) r d gone g
 put-told rules terms q c append bytes (NoHolder want.NoSegment) r d gone g = record { region = g.region; dict = g.dict; reply = ap (fate_reply bytes) g.fate; told = refl }
 
 -- what is turned is told by its reply
-pub turn-told : (s : Seat ℕ) (name : List ℕ) (method : DictMethod) (o : Outcome (Turned ℕ)) (r : regions.Region ℕ) (d : Dictionary) (gone gone' : Gone)
+pub turn-told : (s : Seat ℕ) (name : List ℕ) (method : DictMethod) (o : Outcome (Turned ℕ)) (r : Layout ℕ) (d : Dictionary) (gone gone' : Gone)
     → GivesTurned o r d gone gone' → GivesDict (turned_as s name method o) r d (MethodIs name method) gone gone'
 turn-told s name method (model.Done t) r d gone gone' h = record { region = h.0; dict = h.1; reply = refl; told = h.2 }
 turn-told s name method (model.Refused why) r d gone gone' h = absurd h
 
 -- what was not turned, too
-pub turn-refused : (s : Seat ℕ) (name : List ℕ) (method : DictMethod) (o : Outcome (Turned ℕ)) (fault : Fault) (r : regions.Region ℕ) (d : Dictionary) (gone gone' : Gone)
+pub turn-refused : (s : Seat ℕ) (name : List ℕ) (method : DictMethod) (o : Outcome (Turned ℕ)) (fault : Fault) (r : Layout ℕ) (d : Dictionary) (gone gone' : Gone)
     → o ≡ model.Refused fault → r ≡ s.region → d ≡ s.dict → gone' ≡ gone → GivesDict (turned_as s name method o) r d (Refused (table_refusal (want_of fault))) gone gone'
 turn-refused s name method o fault r d gone gone' is e f h = rw is (record { region = sym e; dict = sym f; reply = refl; told = h })
 
@@ -105,7 +96,7 @@ told-listed true (Some bytes) gone = refl
 told-listed false None gone = refl
 told-listed false (Some bytes) gone = refl
 
-pub take-told : (tells : Bool) (c : Removed ℕ) (o : Option (List ℕ)) (r : regions.Region ℕ) (d : Dictionary) (answer : Reply) (gone gone' : Gone)
+pub take-told : (tells : Bool) (c : Removed ℕ) (o : Option (List ℕ)) (r : Layout ℕ) (d : Dictionary) (answer : Reply) (gone gone' : Gone)
     → GivesRemoved c r d o → gone' ≡ told_if tells o gone → answer ≡ gone_reply tells o → GivesDict (removed_as tells c) r d answer gone gone'
 take-told tells c o r d answer gone gone' g e f = record {
   region = g.region;
@@ -115,17 +106,17 @@ take-told tells c o r d answer gone gone' g e f = record {
 }
 
 -- what is found in a region and a dictionary is found in those that are the same
-found-moved : (s s' : Seat ℕ) (o : Option Object) (r : regions.Region ℕ) (d : Dictionary) (answer : Reply) (g g' : Gone) → s'.region ≡ s.region → s'.dict ≡ s.dict
+found-moved : (s s' : Seat ℕ) (o : Option Object) (r : Layout ℕ) (d : Dictionary) (answer : Reply) (g g' : Gone) → s'.region ≡ s.region → s'.dict ≡ s.dict
     → GivesDict (found_in s' o) r d answer g g' → GivesDict (found_in s o) r d answer g g'
 found-moved s s' None r d answer g g' e f h = record { region = sym e ∙ h.region; dict = sym f ∙ h.dict; reply = h.reply; told = h.told }
 found-moved s s' (Some o) r d answer g g' e f h =
     record { region = sym e ∙ h.region; dict = ap (λ (x : Dictionary). record x { current = Some o.at }) (sym f) ∙ h.dict; reply = h.reply; told = h.told }
 
 -- the terms of a seat don't matter there
-abbrev seat_found : Rules → regions.Region ℕ → Dictionary → Seat ℕ
+abbrev seat_found : Rules → Layout ℕ → Dictionary → Seat ℕ
 seat_found rules region dict = seat_by rules (record { round = 0 }) region dict
 
-pub found-looked : {E : Type 0} (result : Result Reply E) (rules : Rules) (q q' : regions.Region ℕ) (c c' : Dictionary) (o o' : Option Object) (r : regions.Region ℕ) (d : Dictionary) (g g' : Gone) → q' ≡ q → c' ≡ c → o' ≡ o
+pub found-looked : {E : Type 0} (result : Result Reply E) (rules : Rules) (q q' : Layout ℕ) (c c' : Dictionary) (o o' : Option Object) (r : Layout ℕ) (d : Dictionary) (g g' : Gone) → q' ≡ q → c' ≡ c → o' ≡ o
     → IfOk result (λ answer. GivesDict (found_in (seat_found rules q' c') o') r d answer g g') → IfOk result (λ answer. GivesDict (found_in (seat_found rules q c) o) r d answer g g')
 found-looked (Ok answer) rules q q' c c' o o' r d g g' e f same h =
     found-moved (seat_found rules q c) (seat_found rules q' c') o r d answer g g' e f (subst (λ x. GivesDict (found_in (seat_found rules q' c') x) r d answer g g') same h)

@@ -3,7 +3,8 @@ use Rattle.std.specs.Prelude.{ℕ, List, [], Bool, true, false, Option, Some, No
 use Rattle.vc_base.specs.declared.dict_method.DictMethod.{DictMethod}
 use Rattle.vc_model.specs.Outcome as model
 use Rattle.vc_model.specs.Outcome.{Outcome}
-use Rattle.vc_dict.specs.Methods.{is_list, is_set, slots_between}
+use Rattle.vc_base.specs.Methods.{is_list, is_set}
+use Rattle.vc_dict.specs.Methods.{slots_between}
 use Rattle.vc_objects.specs.Insert.{Inserted, insert, slots_wanted, want_of}
 use Rattle.vc_objects.specs.Lists.{before_key, behind_key, first_object, first_with, last_object}
 use Rattle.vc_objects.specs.Objects.{Object, listed}

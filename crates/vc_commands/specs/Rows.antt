@@ -1,9 +1,9 @@
 -- Worked dictionaries for the rows of commands.
 use Rattle.std.specs.Prelude.{ℕ, List, [], ◌∷◌, None, Some, codes}
+use Rattle.vc_model.specs.Layout.{Layout}
 use Rattle.vc_base.specs.declared.dict_method.DictMethod.{DictMethod}
 use Rattle.vc_base.specs.declared.dict_method.DictMethod.TheVariants.{DtSet}
 use Rattle.vc_dtdisc.specs.Rules.{Rules}
-use Rattle.vc_region.specs.Region.{Region}
 use Rattle.vc_objects.specs.Objects.{Dictionary}
 use Rattle.vc_objects.specs.Rows.{bag, bag_of, by_fold, by_page, first_table, held_region, lower_a, lower_b, of_three, segment_of, table_in, three_holders}
 use Rattle.vc_script.specs.Needs.{Need}
@@ -13,7 +13,7 @@ use Rattle.vc_commands.specs.Commands.{in_dict}
 use Rattle.vc_commands.specs.Seat.{Seat}
 
 -- a dictionary in a region, by keys without regard to case
-abbrev pub seat_of : Region ℕ → Dictionary → Seat ℕ
+abbrev pub seat_of : Layout ℕ → Dictionary → Seat ℕ
 seat_of r d = record { rules = by_fold; terms = by_page; none = 0; region = r; dict = d }
 
 -- b, a and B in a bag, in one segment of 4,096 bytes

@@ -1,8 +1,8 @@
 -- Where a command on a dictionary works, and what it gives.
 use Rattle.std.specs.Prelude.{ℕ, List, []}
+use Rattle.vc_model.specs.Layout.{Layout}
 use Rattle.vc_model.specs.Discipline.{Terms}
 use Rattle.vc_dtdisc.specs.Rules.{Rules}
-use Rattle.vc_region.specs.Region.{Region}
 use Rattle.vc_objects.specs.Objects.{Dictionary}
 use Rattle.vc_script.specs.declared.refusal.Refusal.{Refusal}
 use Rattle.vc_script.specs.declared.reply.Reply.{Reply}
@@ -13,12 +13,12 @@ pub record Seat (L : Type 0) : Type 0 where
   pub rules : Rules
   pub terms : Terms
   pub none : L
-  pub region : Region L
+  pub region : Layout L
   pub dict : Dictionary
 
 -- the region and the dictionary after it, the reply, the objects that the kind is told of, and the segments that were granted, as number and bytes
 pub record DictChanged (L : Type 0) : Type 0 where
-  pub region : Region L
+  pub region : Layout L
   pub dict : Dictionary
   pub reply : Reply
   pub told : List (List ℕ)

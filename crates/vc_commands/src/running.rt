@@ -1,10 +1,9 @@
 // Running a command on a dictionary.
 ghost use Rattle.std.specs.Prelude.{◌≡◌, true, false, IfOk, OnErr};
 ghost use Rattle.vc_dtdisc.specs.Rules.{Gone, Rules};
-ghost use Rattle.vc_region.specs.Cells.{cells_in, rest_in};
-ghost use Rattle.vc_region.specs.Parts.{disc_in};
+ghost use Rattle.vc_best.specs.Cells.{cells_in, rest_in};
+ghost use Rattle.vc_best.specs.Parts.{disc_in};
 ghost use Rattle.vc_objects.specs.Leaves.{LeavesRest};
-ghost use Rattle.vc_objects.specs.Objects.{is_best};
 ghost use Rattle.vc_objects.specs.Parts.{IsWhole, dictionary_in};
 ghost use Rattle.vc_script.specs.Needs.{need_shown};
 ghost use Rattle.vc_commands.specs.Commands.{asks, in_dict};
@@ -17,9 +16,9 @@ use crate::taking::{delete, take};
 use crate::turning::{empty, remethod};
 use std::alloc::Global;
 use vc_base::OutOfMemory;
+use vc_best::Best;
 use vc_dict::Dict;
 use vc_dtdisc::DictDisc;
-use vc_region::Region;
 use vc_script::{Command, Refusal, Reply};
 use vc_seg::{BoxedDisc, SegDisc};
 
@@ -27,50 +26,49 @@ use vc_seg::{BoxedDisc, SegDisc};
 /// memory nothing changes, save that `insert` and `attach` may leave a larger table.
 pub fn run<D: DictDisc>(
     alloc: Global,
-    region: &mut Region,
+    best: &mut Best,
     dict: &mut Dict,
     kind: &mut D,
     command: &Command,
 ) -> Result<Reply, OutOfMemory>
-    requires best { is_best (rest_in region.old) ≡ true }
-    requires whole { IsWhole (D.rules kind.old) dict.old (cells_in region.old) }
+    requires whole { IsWhole (D.rules kind.old) dict.old (cells_in best.old) }
 
     ensures step { IfOk result (λ reply. GivesDict
-        (in_dict (seat_in state (D.rules kind.old) region.old dict.old) command.now
+        (in_dict (seat_in state (D.rules kind.old) best.old dict.old) command.now
         (need_shown reply))
-        (rest_in region.new) (dictionary_in dict.new region.new) reply
+        (rest_in best.new) (dictionary_in dict.new best.new) reply
         (D.gone kind.old) (D.gone kind.new)) }
-    ensures leaves { LeavesRest state (D.rules kind.old) region.old dict.old region.new dict.new }
+    ensures leaves { LeavesRest state (D.rules kind.old) best.old dict.old best.new dict.new }
     ensures rules { D.rules kind.new ≡ D.rules kind.old }
 
     // A segment that was refused was asked for; where none was, no fault was counted.
     ensures asked { AskedBy result
-        (seat_in state (D.rules kind.old) region.old dict.old) command.now
-        (disc_in state region.old) (disc_in state region.new) }
+        (seat_in state (D.rules kind.old) best.old dict.old) command.now
+        (disc_in state best.old) (disc_in state best.new) }
     ensures disc { asks command.now ≡ false
-        → disc_in state region.new ≡ disc_in state region.old }
+        → disc_in state best.new ≡ disc_in state best.old }
 
     // With no memory the kind was told of nothing.
     ensures err { OnErr result ((D.gone kind.new ≡ D.gone kind.old)
-        × IsSpentBy (seat_in state (D.rules kind.old) region.old dict.old) command.now
-        (rest_in region.new) (dictionary_in dict.new region.new)) }
+        × IsSpentBy (seat_in state (D.rules kind.old) best.old dict.old) command.now
+        (rest_in best.new) (dictionary_in dict.new best.new)) }
 {
     match command {
-        Command::Insert(_, object) => insert(alloc, region, dict, kind, object.as_slice()),
-        Command::Append(_, object) => append(alloc, region, dict, kind, object.as_slice()),
-        Command::Attach(_, object) => attach(alloc, region, dict, kind, object.as_slice()),
-        Command::Delete(_, object) => delete(alloc, region, dict, kind, object),
-        Command::Detach(_, object) => take(alloc, region, dict, kind, object.as_slice(), false),
-        Command::Search(_, object) => search(alloc, region, dict, kind, object.as_slice()),
-        Command::MatchKey(_, key) => match_key(alloc, region, dict, kind, key.as_slice()),
-        Command::First(_) => first(alloc, region, dict, kind),
-        Command::Last(_) => last(alloc, region, dict, kind),
-        Command::Next(_, object) => next(alloc, region, dict, kind, object.as_slice()),
-        Command::Prev(_, object) => prev(alloc, region, dict, kind, object.as_slice()),
-        Command::Walk(_) => walk(alloc, region, dict, kind),
-        Command::Count(_) => Ok(count(region, dict)),
-        Command::Remethod(name, method) => remethod(alloc, region, dict, kind, *name, *method),
-        Command::Empty(name) => Ok(empty(region, dict, kind, *name)),
+        Command::Insert(_, object) => insert(alloc, best, dict, kind, object.as_slice()),
+        Command::Append(_, object) => append(alloc, best, dict, kind, object.as_slice()),
+        Command::Attach(_, object) => attach(alloc, best, dict, kind, object.as_slice()),
+        Command::Delete(_, object) => delete(alloc, best, dict, kind, object),
+        Command::Detach(_, object) => take(alloc, best, dict, kind, object.as_slice(), false),
+        Command::Search(_, object) => search(alloc, best, dict, kind, object.as_slice()),
+        Command::MatchKey(_, key) => match_key(alloc, best, dict, kind, key.as_slice()),
+        Command::First(_) => first(alloc, best, dict, kind),
+        Command::Last(_) => last(alloc, best, dict, kind),
+        Command::Next(_, object) => next(alloc, best, dict, kind, object.as_slice()),
+        Command::Prev(_, object) => prev(alloc, best, dict, kind, object.as_slice()),
+        Command::Walk(_) => walk(alloc, best, dict, kind),
+        Command::Count(_) => Ok(count(best, dict)),
+        Command::Remethod(name, method) => remethod(alloc, best, dict, kind, *name, *method),
+        Command::Empty(name) => Ok(empty(best, dict, kind, *name)),
         _ => Ok(Reply::Refused(Refusal::NotYet)),
     }
 }

@@ -2,10 +2,9 @@
 ghost use Rattle.std.specs.Prelude.{◌≡◌, ◌≤◌, [], None, Some, true, false, if◌then◌else◌, IfOk, OnErr, OnOk};
 ghost use Rattle.std.specs.Vec.{vec_capacity};
 ghost use Rattle.vc_dtdisc.specs.Rules.{Gone, Rules};
-ghost use Rattle.vc_region.specs.Cells.{cells_in, rest_in};
-ghost use Rattle.vc_region.specs.Parts.{disc_in};
+ghost use Rattle.vc_best.specs.Cells.{cells_in, rest_in};
+ghost use Rattle.vc_best.specs.Parts.{disc_in};
 ghost use Rattle.vc_objects.specs.Leaves.{LeavesRest};
-ghost use Rattle.vc_objects.specs.Objects.{is_best};
 ghost use Rattle.vc_objects.specs.Parts.{IsWhole, dictionary_in};
 ghost use Rattle.vc_objects.specs.Remove.{remove, remove_unnamed};
 ghost use Rattle.vc_script.specs.Needs.{NoNeed, need_shown};
@@ -16,9 +15,9 @@ use crate::Uncounted;
 use crate::looking::is_object;
 use std::alloc::Global;
 use vc_base::{Addr, Cells, OutOfMemory, Steps};
+use vc_best::Best;
 use vc_dict::Dict;
 use vc_dtdisc::DictDisc;
-use vc_region::Region;
 use vc_script::{Bytes, Refusal, Reply};
 use vc_seg::{BoxedDisc, SegDisc};
 
@@ -50,24 +49,23 @@ fn gone_reply(is_gone: bool, object: Vec<u8>, tells: bool) -> Reply
 // Takes out the first match of an object, telling the kind where that is wanted.
 pub(crate) fn take<D: DictDisc>(
     alloc: Global,
-    region: &mut Region,
+    best: &mut Best,
     dict: &mut Dict,
     kind: &mut D,
     object: &[u8],
     tells: bool,
 ) -> Result<Reply, OutOfMemory>
-    requires best { is_best (rest_in region.old) ≡ true }
-    requires whole { IsWhole (D.rules kind.old) dict.old (cells_in region.old) }
+    requires whole { IsWhole (D.rules kind.old) dict.old (cells_in best.old) }
 
     ensures step { IfOk result (λ reply. Gives
-        (remove_in (seat_in state (D.rules kind.old) region.old dict.old) tells object.now)
-        region.new dict.new reply (D.gone kind.old) (D.gone kind.new)) }
+        (remove_in (seat_in state (D.rules kind.old) best.old dict.old) tells object.now)
+        best.new dict.new reply (D.gone kind.old) (D.gone kind.new)) }
     ensures need { IfOk result (λ reply. need_shown reply ≡ NoNeed) }
-    ensures leaves { LeavesRest state (D.rules kind.old) region.old dict.old region.new dict.new }
-    ensures disc { disc_in state region.new ≡ disc_in state region.old }
+    ensures leaves { LeavesRest state (D.rules kind.old) best.old dict.old best.new dict.new }
+    ensures disc { disc_in state best.new ≡ disc_in state best.old }
     ensures rules { D.rules kind.new ≡ D.rules kind.old }
     ensures err { OnErr result ((D.gone kind.new ≡ D.gone kind.old)
-        × IsStill region.old dict.old region.new dict.new) }
+        × IsStill best.old dict.old best.new dict.new) }
 {
     if !is_object(object) {
         return Ok(Reply::Refused(Refusal::Size));
@@ -75,59 +73,57 @@ pub(crate) fn take<D: DictDisc>(
     let mut out = with_room(alloc)?;
     let mut steps = Steps::<Uncounted>::new(alloc);
     let key = kind.key(object);
-    let is_gone = vc_objects::remove(region, dict, kind, key, tells, &mut out, &mut steps);
+    let is_gone = vc_objects::remove(best, dict, kind, key, tells, &mut out, &mut steps);
     Ok(gone_reply(is_gone, out, tells))
 }
 
 // Takes out the first object of a stack or queue, telling the kind.
 fn take_unnamed<D: DictDisc>(
     alloc: Global,
-    region: &mut Region,
+    best: &mut Best,
     dict: &mut Dict,
     kind: &mut D,
 ) -> Result<Reply, OutOfMemory>
-    requires best { is_best (rest_in region.old) ≡ true }
-    requires whole { IsWhole (D.rules kind.old) dict.old (cells_in region.old) }
+    requires whole { IsWhole (D.rules kind.old) dict.old (cells_in best.old) }
 
     ensures step { IfOk result (λ reply. Gives
         (removed_as true
-        (remove_unnamed (rest_in region.old) (dictionary_in dict.old region.old)))
-        region.new dict.new reply (D.gone kind.old) (D.gone kind.new)) }
+        (remove_unnamed (rest_in best.old) (dictionary_in dict.old best.old)))
+        best.new dict.new reply (D.gone kind.old) (D.gone kind.new)) }
     ensures need { IfOk result (λ reply. need_shown reply ≡ NoNeed) }
-    ensures leaves { LeavesRest state (D.rules kind.old) region.old dict.old region.new dict.new }
-    ensures disc { disc_in state region.new ≡ disc_in state region.old }
+    ensures leaves { LeavesRest state (D.rules kind.old) best.old dict.old best.new dict.new }
+    ensures disc { disc_in state best.new ≡ disc_in state best.old }
     ensures rules { D.rules kind.new ≡ D.rules kind.old }
     ensures err { OnErr result ((D.gone kind.new ≡ D.gone kind.old)
-        × IsStill region.old dict.old region.new dict.new) }
+        × IsStill best.old dict.old best.new dict.new) }
 {
     let mut out = with_room(alloc)?;
-    let is_gone = vc_objects::remove_unnamed(region, dict, kind, &mut out);
+    let is_gone = vc_objects::remove_unnamed(best, dict, kind, &mut out);
     Ok(gone_reply(is_gone, out, true))
 }
 
 // `delete`: takes out the first match of an object, or the first object of a stack or queue, and tells the kind.
 pub(crate) fn delete<D: DictDisc>(
     alloc: Global,
-    region: &mut Region,
+    best: &mut Best,
     dict: &mut Dict,
     kind: &mut D,
     object: &Option<Bytes>,
 ) -> Result<Reply, OutOfMemory>
-    requires best { is_best (rest_in region.old) ≡ true }
-    requires whole { IsWhole (D.rules kind.old) dict.old (cells_in region.old) }
+    requires whole { IsWhole (D.rules kind.old) dict.old (cells_in best.old) }
 
     ensures step { IfOk result (λ reply. Gives
-        (delete_in (seat_in state (D.rules kind.old) region.old dict.old) object.now)
-        region.new dict.new reply (D.gone kind.old) (D.gone kind.new)) }
+        (delete_in (seat_in state (D.rules kind.old) best.old dict.old) object.now)
+        best.new dict.new reply (D.gone kind.old) (D.gone kind.new)) }
     ensures need { IfOk result (λ reply. need_shown reply ≡ NoNeed) }
-    ensures leaves { LeavesRest state (D.rules kind.old) region.old dict.old region.new dict.new }
-    ensures disc { disc_in state region.new ≡ disc_in state region.old }
+    ensures leaves { LeavesRest state (D.rules kind.old) best.old dict.old best.new dict.new }
+    ensures disc { disc_in state best.new ≡ disc_in state best.old }
     ensures rules { D.rules kind.new ≡ D.rules kind.old }
     ensures err { OnErr result ((D.gone kind.new ≡ D.gone kind.old)
-        × IsStill region.old dict.old region.new dict.new) }
+        × IsStill best.old dict.old best.new dict.new) }
 {
     match object {
-        Some(bytes) => take(alloc, region, dict, kind, bytes.as_slice(), true),
-        None => take_unnamed(alloc, region, dict, kind),
+        Some(bytes) => take(alloc, best, dict, kind, bytes.as_slice(), true),
+        None => take_unnamed(alloc, best, dict, kind),
     }
 }

@@ -16,7 +16,7 @@ use Rattle.vc_dtlist.proofs.HolderLemmas.{apart-cons}
 use Rattle.vc_dict.specs.Listed.{holders_of}
 use Rattle.vc_dict.specs.Stands.{Adopted, CanAdopt, Stands}
 use Rattle.vc_dict.specs.declared.dict.Dict.{Dict}
-use Rattle.vc_dict.proofs.OwnLemmas.{Stands-own, holder-there, holders-told, table-apart}
+use Rattle.vc_dict.proofs.OwnLemmas.{Stands-own, Stands-table, holder-there, holders-told, table-apart}
 use Rattle.vc_objects.specs.Objects.{Dictionary, Object, Table, owned}
 use Rattle.vc_objects.specs.Parts.{CanGrow, IsWhole, dictionary_of, object_of, table_of}
 use Rattle.vc_objects.proofs.Mapped.{objects-kept}
@@ -54,7 +54,7 @@ module _ (rules : Rules) (d0 : Dict) (B0 B1 : Blocks) (t slots : ℕ) (can : Can
   other-table : d0.table.0 ≢ t
   other-table = elim (eqb_tells d0.table.0 0) as (λ _. d0.table.0 ≢ t) [
     | inl same ↦ λ e. let some = address.some in let z = same.1 in omega (arith, e, some, z)
-    | inr apart ↦ cell-apart d0.table.0 (can.stands.table.some apart.1).there
+    | inr apart ↦ cell-apart d0.table.0 ((Stands-table _ _ _ _ can.stands).some apart.1).there
   ]
 
   own-apart : (a : ℕ) → contains (d0.table.0 ∷ hs) a ≡ true → a ≢ t
@@ -90,7 +90,7 @@ module _ (rules : Rules) (d0 : Dict) (B0 B1 : Blocks) (t slots : ℕ) (can : Can
   -- the table before it stands still
   pub old-there : (d1 : Dict) (B2 : Blocks) → Adopted rules t slots (holders_of d0 B0) d0 B1 d1 B2 → (a : ℕ) → a ≡ d0.table.0 → a ≢ 0 → IsSome (B2 a)
   old-there d1 B2 adopted a is some =
-      let there : IsSome (B0 a) = subst (λ n. IsSome (B0 n)) (sym is) (can.stands.table.some (λ z. some (is ∙ z))).there in
+      let there : IsSome (B0 a) = subst (λ n. IsSome (B0 n)) (sym is) ((Stands-table _ _ _ _ can.stands).some (λ z. some (is ∙ z))).there in
       adopted.keeps.there a ∙ (ap is_some (kept-placed a (cell-apart a there)) ∙ there)
 
   module _ (d1 : Dict) (B2 B3 : Blocks) (adopted : Adopted rules t slots (holders_of d0 B0) d0 B1 d1 B2) (after : (a : ℕ) → a ≢ d0.table.0 → B3 a ≡ B2 a) where

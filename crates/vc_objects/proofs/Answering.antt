@@ -1,7 +1,8 @@
 -- What the definitions give for an object, by the answers of the calls that put its table and its holder.
-use Rattle.std.proofs.Common.{◌≡◌, ℕ, ◌*◌, Bool, true, false, List, Option, Some, None, length, map, refl, sym, ap, ◌∙◌, subst}
+use Rattle.std.proofs.Common.{◌≡◌, ℕ, ◌*◌, Bool, false, List, Option, Some, None, length, map, refl, sym, ap, ◌∙◌, subst}
 use Rattle.std.specs.Prelude.{IfErr, OnOk, Result, Ok, Err}
 use Rattle.std.proofs.lemmas.Option.{none-some, same_Some}
+use Rattle.vc_model.specs.Layout.{Layout}
 use Rattle.vc_base.specs.Holders.{contains}
 use Rattle.vc_base.specs.declared.fault.OutOfMemory.{OutOfMemory}
 use Rattle.vc_model.specs.Best.{best_need}
@@ -15,8 +16,8 @@ use Rattle.vc_dtlist.proofs.HolderLemmas.{apart-append, apart-front, apart-rest}
 use Rattle.vc_seg.specs.Answer.{Asks, IsPut, IsRefusal}
 use Rattle.vc_seg.specs.declared.fault.RegionFault.{RegionFault}
 use Rattle.vc_seg.specs.declared.fault.RegionFault.TheVariants as code
-use Rattle.vc_region.specs.Region.{Region}
-use Rattle.vc_region.specs.declared.region.Region as code_region
+use Rattle.vc_best.specs.declared.best.Best.{Best}
+use Rattle.vc_best.proofs.RestAlloc.{refusal-kept}
 use Rattle.vc_objects.specs.declared.fate.Fate.TheVariants.{Stored, NoTable, NoHolder}
 use Rattle.vc_objects.specs.declared.fate.Want.{Want}
 use Rattle.vc_objects.specs.declared.fate.Want.TheVariants.{TooManySegments, NoSegment}
@@ -27,41 +28,32 @@ use Rattle.vc_objects.specs.Parts.{dictionary_in}
 use Rattle.vc_objects.proofs.Leaving.{leaves-trans}
 
 -- a block that was put is the table
-pub grown-put : (o : Outcome (Put (Region ℕ))) (D : Dictionary) (slots a : ℕ) (r R : Region ℕ) (E : Dictionary) → IsPut o a r → R ≡ without_table r D.table
+pub grown-put : (o : Outcome (Put (Layout ℕ))) (D : Dictionary) (slots a : ℕ) (r R : Layout ℕ) (E : Dictionary) → IsPut o a r → R ≡ without_table r D.table
     → E ≡ record D { table = Some (record { at = a; slots = slots }) } → HasGrown (grown_with D slots o) R E
 grown-put (Done p) D slots a r R E is region dict =
     (region ∙ ap (λ q. without_table q D.table) is.2, dict ∙ ap (λ n. record D { table = Some (record { at = n; slots = slots }) }) is.0)
 grown-put (Refused why) D slots a r R E is region dict = absurd is
 
--- the refusal of one call is that of another
-pub refusal-as : {A B : Type 0} (call : Bool → Outcome A) (call' : Bool → Outcome B) → ((refused : Bool) (why : Fault) → call refused ≡ Refused why → call' refused ≡ Refused why) → (why : RegionFault) → IsRefusal call why → IsRefusal call' why
-refusal-as call call' kept code.TooManySegments h = kept false _ h
-refusal-as call call' kept code.NoSegment h = kept true _ h
-refusal-as call call' kept code.OutOfMemory h = tt
-refusal-as call call' kept code.Fixed h = kept false _ h
-refusal-as call call' kept code.PoolSize h = kept false _ h
-refusal-as call call' kept code.NotLast h = kept false _ h
-refusal-as call call' kept code.WrongMethod h = kept false _ h
-
-pub grown-refused : (call : Bool → Outcome (Put (Region ℕ))) (D : Dictionary) (slots : ℕ) (why : RegionFault) → IsRefusal call why → IsRefusal (λ refused. grown_with D slots (call refused)) why
-grown-refused call D slots why is = refusal-as call (λ refused. grown_with D slots (call refused)) (λ refused fault e. ap (grown_with D slots) e) why is
+-- so is the refusal of such a block that of growth
+pub grown-refused : (call : Bool → Outcome (Put (Layout ℕ))) (D : Dictionary) (slots : ℕ) (why : RegionFault) → IsRefusal call why → IsRefusal (λ refused. grown_with D slots (call refused)) why
+grown-refused call D slots why is = refusal-kept call (λ refused. grown_with D slots (call refused)) (λ refused fault e. ap (grown_with D slots) e) why is
 
 -- what is wanted of the table then
-pub grown-wants : (o : Outcome (Put (Region ℕ))) (D : Dictionary) (slots : ℕ) (R : Region ℕ) (E : Dictionary) → HasGrown (grown_with D slots o) R E → slots_wanted E ≡ wanted_by D.method slots (length D.objects) 1
+pub grown-wants : (o : Outcome (Put (Layout ℕ))) (D : Dictionary) (slots : ℕ) (R : Layout ℕ) (E : Dictionary) → HasGrown (grown_with D slots o) R E → slots_wanted E ≡ wanted_by D.method slots (length D.objects) 1
 grown-wants (Done p) D slots R E h = ap slots_wanted h.1
 grown-wants (Refused why) D slots R E h = absurd h
 
 -- the method and the objects stay
-pub grown-kept : (terms : Terms) (r : Region ℕ) (D : Dictionary) (wanted : Option ℕ) (R : Region ℕ) (E : Dictionary) → HasGrown (grown_to terms r 0 D false wanted) R E → (E.method ≡ D.method) × (E.objects ≡ D.objects)
+pub grown-kept : (terms : Terms) (r : Layout ℕ) (D : Dictionary) (wanted : Option ℕ) (R : Layout ℕ) (E : Dictionary) → HasGrown (grown_to terms r 0 D false wanted) R E → (E.method ≡ D.method) × (E.objects ≡ D.objects)
 grown-kept terms r D None R E h = (ap (λ (d : Dictionary). d.method) h.1, ap (λ (d : Dictionary). d.objects) h.1)
 grown-kept terms r D (Some slots) R E h = by (alloc_unlabelled terms r 0 (8 * slots) false) h
   where
-    by : (o : Outcome (Put (Region ℕ))) → HasGrown (grown_with D slots o) R E → (E.method ≡ D.method) × (E.objects ≡ D.objects)
+    by : (o : Outcome (Put (Layout ℕ))) → HasGrown (grown_with D slots o) R E → (E.method ≡ D.method) × (E.objects ≡ D.objects)
     by (Done p) h = (ap (λ (d : Dictionary). d.method) h.1, ap (λ (d : Dictionary). d.objects) h.1)
     by (Refused why) h = absurd h
 
 -- what is told of the table that is wanted is told of growth
-pub grow-refused : (terms : Terms) (r : Region ℕ) (D : Dictionary) (slots : ℕ) (why : RegionFault) → slots_wanted D ≡ Some slots
+pub grow-refused : (terms : Terms) (r : Layout ℕ) (D : Dictionary) (slots : ℕ) (why : RegionFault) → slots_wanted D ≡ Some slots
     → IsRefusal (λ refused. grown_to terms r 0 D refused (Some slots)) why → IsRefusal (grow terms r 0 D) why
 grow-refused terms r D slots why e is = subst (λ o. IsRefusal (λ refused. grown_to terms r 0 D refused o) why) (sym e) is
 
@@ -75,7 +67,7 @@ then-err P Q (Ok done) f p = tt
 then-err P Q (Err why) f p = f why p
 
 -- the object stands in the block that was put
-pub held-put : (rules : Rules) (append : Bool) (bytes : List ℕ) (E : Dictionary) (o : Outcome (Put (Region ℕ))) (at : ℕ) (r R : Region ℕ) (D : Dictionary) → IsPut o at r → R ≡ r
+pub held-put : (rules : Rules) (append : Bool) (bytes : List ℕ) (E : Dictionary) (o : Outcome (Put (Layout ℕ))) (at : ℕ) (r R : Layout ℕ) (D : Dictionary) → IsPut o at r → R ≡ r
     → D ≡ with_object rules append bytes E at → HasHeld rules append bytes E o R D
 held-put rules append bytes E (Done p) at r R D is region dict = (region ∙ is.2, dict ∙ ap (with_object rules append bytes E) is.0)
 held-put rules append bytes E (Refused why) at r R D is region dict = absurd is
@@ -96,13 +88,13 @@ refusal-found {A} call fault want is e = by fault is e
     by code.NotLast is e = subst (Found call) (same_Some TooManySegments want e) (model.NotLast, is, refl)
     by code.WrongMethod is e = subst (Found call) (same_Some TooManySegments want e) (model.WrongMethod, is, refl)
 
-module _ (rules : Rules) (terms : Terms) (r : Region ℕ) (d : Dictionary) (append : Bool) (bytes : List ℕ) where
-  stored-in : (g : Grown ℕ) (o : Outcome (Put (Region ℕ))) (R : Region ℕ) (D : Dictionary) → HasHeld rules append bytes g.dict o R D → GivesInserted (held rules append bytes g o) R D Stored
+module _ (rules : Rules) (terms : Terms) (r : Layout ℕ) (d : Dictionary) (append : Bool) (bytes : List ℕ) where
+  stored-in : (g : Grown ℕ) (o : Outcome (Put (Layout ℕ))) (R : Layout ℕ) (D : Dictionary) → HasHeld rules append bytes g.dict o R D → GivesInserted (held rules append bytes g o) R D Stored
   stored-in g (Done p) R D h = record { region = sym h.0; dict = sym h.1; fate = refl }
   stored-in g (Refused why) R D h = absurd h
 
   -- the object is stored
-  pub inserted-stored : (o : Outcome (Grown ℕ)) (terms' : Terms) (Q : Region ℕ) (E : Dictionary) (R : Region ℕ) (D : Dictionary) → terms' ≡ terms → HasGrown o Q E
+  pub inserted-stored : (o : Outcome (Grown ℕ)) (terms' : Terms) (Q : Layout ℕ) (E : Dictionary) (R : Layout ℕ) (D : Dictionary) → terms' ≡ terms → HasGrown o Q E
       → HasHeld rules append bytes E (alloc_unlabelled terms' Q 0 (holder_size bytes) false) R D → GivesInserted (held_in rules terms r 0 d append bytes false o) R D Stored
   inserted-stored (Done g) terms' Q E R D same grown k =
       let h = subst (λ t. HasHeld rules append bytes E (alloc_unlabelled t Q 0 (holder_size bytes) false) R D) same k in
@@ -111,11 +103,11 @@ module _ (rules : Rules) (terms : Terms) (r : Region ℕ) (d : Dictionary) (appe
       (subst (λ q. HasHeld rules append bytes E (alloc_unlabelled terms q 0 (holder_size bytes) false) R D) grown.0 h))
   inserted-stored (Refused why) terms' Q E R D same grown k = absurd grown
 
-  no-holder-in : (g : Grown ℕ) (o : Outcome (Put (Region ℕ))) (why : Fault) (want : Want) → o ≡ Refused why → want_of why ≡ want → GivesInserted (held rules append bytes g o) g.region g.dict (NoHolder want)
+  no-holder-in : (g : Grown ℕ) (o : Outcome (Put (Layout ℕ))) (why : Fault) (want : Want) → o ≡ Refused why → want_of why ≡ want → GivesInserted (held rules append bytes g o) g.region g.dict (NoHolder want)
   no-holder-in g o why want e w = subst (λ p. GivesInserted (held rules append bytes g p) g.region g.dict (NoHolder want)) (sym e) (record { region = refl; dict = refl; fate = ap NoHolder w })
 
   -- its holder isn't put
-  pub inserted-no_holder : (o : Outcome (Grown ℕ)) (terms' : Terms) (Q : Region ℕ) (E : Dictionary) (R : Region ℕ) (D : Dictionary) (fault : RegionFault) (want : Want) → terms' ≡ terms → HasGrown o Q E
+  pub inserted-no_holder : (o : Outcome (Grown ℕ)) (terms' : Terms) (Q : Layout ℕ) (E : Dictionary) (R : Layout ℕ) (D : Dictionary) (fault : RegionFault) (want : Want) → terms' ≡ terms → HasGrown o Q E
       → IsRefusal (alloc_unlabelled terms' Q 0 (holder_size bytes)) fault → want_by fault ≡ Some want → R ≡ Q → D ≡ E → GivesInserted (held_in rules terms r 0 d append bytes (lacks_segment want) o) R D (NoHolder want)
   inserted-no_holder (Done g) terms' Q E R D fault want same grown k w region dict =
       let is = subst (λ t. IsRefusal (alloc_unlabelled t Q 0 (holder_size bytes)) fault) same k in
@@ -125,7 +117,7 @@ module _ (rules : Rules) (terms : Terms) (r : Region ℕ) (d : Dictionary) (appe
   inserted-no_holder (Refused why) terms' Q E R D fault want same grown k w region dict = absurd grown
 
   -- its table isn't
-  pub inserted-no_table : (R : Region ℕ) (D : Dictionary) (fault : RegionFault) (want : Want) → IsRefusal (grow terms r 0 d) fault → want_by fault ≡ Some want → R ≡ r → D ≡ d
+  pub inserted-no_table : (R : Layout ℕ) (D : Dictionary) (fault : RegionFault) (want : Want) → IsRefusal (grow terms r 0 d) fault → want_by fault ≡ Some want → R ≡ r → D ≡ d
       → GivesInserted (insert rules terms r 0 d append bytes (lacks_segment want) false) R D (NoTable want)
   inserted-no_table R D fault want is w region dict =
       let found = refusal-found (grow terms r 0 d) fault want is w in
@@ -190,7 +182,7 @@ abbrev holders : Dictionary → List ℕ
 holders g = map (λ (o : Object). o.at) g.objects
 
 -- one call on a dictionary after another, where the first keeps the objects and the second the table
-module _ {I : Type 0} {V : I → Type 0} (meaning : (x : I) × V x → Discipline) (rules : Rules) (r s t : code_region.Region I V) (d e f : Dict) where
+module _ {I : Type 0} {V : I → Type 0} (meaning : (x : I) × V x → Discipline) (rules : Rules) (r s t : Best I V) (d e f : Dict) where
   pub rest-trans : LeavesRest meaning rules r d s e → LeavesRest meaning rules s e t f → (dictionary_in e s).objects ≡ (dictionary_in d r).objects → (dictionary_in f t).table ≡ (dictionary_in e s).table
       → LeavesRest meaning rules r d t f
   rest-trans first second objects table = record {

@@ -16,9 +16,10 @@ use Rattle.vc_dthash.specs.Hashed.{IsTable}
 use Rattle.vc_dthash.specs.Slots.{IsSlots, most_slots, slots_for}
 use Rattle.vc_dict.specs.declared.dict.Dict.{Dict}
 use Rattle.vc_dict.specs.Listed.{holders_of}
-use Rattle.vc_dict.specs.Methods.{has_table, slots_between}
+use Rattle.vc_base.specs.Methods.{has_table}
+use Rattle.vc_dict.specs.Methods.{slots_between}
 use Rattle.vc_dict.specs.Stands.{Stands}
-use Rattle.vc_dict.proofs.OwnLemmas.{Stands-own, holder-address, holder-there, holders-told}
+use Rattle.vc_dict.proofs.OwnLemmas.{Stands-own, Stands-table, holder-address, holder-there, holders-told}
 use Rattle.vc_objects.specs.Objects.{Dictionary, Object}
 use Rattle.vc_objects.specs.Parts.{IsWhole, dictionary_of, object_of}
 use Rattle.vc_objects.specs.Turning.{BringsCell, CanTurn}
@@ -45,7 +46,7 @@ module _ (rules : Rules) (method : DictMethod) (d : Dict) (b b1 : Blocks) (t s :
 
   own-there : (a : ℕ) → a ≢ 0 → contains (d.table.0 ∷ hs) a ≡ true → IsSome (b a)
   own-there a some w = elim (eqb_tells d.table.0 a) as (λ _. IsSome (b a)) [
-    | inl same ↦ subst (λ z. IsSome (b z)) same.1 (whole.stands.table.some (λ z. some (sym same.1 ∙ z))).there
+    | inl same ↦ subst (λ z. IsSome (b z)) same.1 ((Stands-table _ _ _ _ whole.stands).some (λ z. some (sym same.1 ∙ z))).there
     | inr apart ↦ (holder-there rules d b hs a whole.stands (rw apart.0 at w)).there
   ]
 

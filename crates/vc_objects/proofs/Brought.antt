@@ -2,6 +2,7 @@
 use Rattle.std.proofs.Common.{◌≡◌, ◌≢◌, ℕ, ◌*◌, [], Bool, false, Some, None, length, replicate, refl, sym, ap, ◌∙◌, subst}
 use Rattle.std.specs.Prelude.{◌==◌, if◌then◌else◌}
 use Rattle.std.proofs.lemmas.Bool.{eq-eqb, ne_eqb}
+use Rattle.vc_model.specs.Layout.{Layout}
 use Rattle.vc_base.specs.declared.dict_method.DictMethod.{DictMethod}
 use Rattle.vc_base.specs.declared.dict_method.DictMethod.TheVariants.{DtSet, DtBag, DtOset, DtObag, DtList, DtStack, DtQueue}
 use Rattle.vc_base.specs.Cells.{Blocks, put}
@@ -9,7 +10,6 @@ use Rattle.vc_model.specs.Discipline.{Terms}
 use Rattle.vc_model.specs.Outcome.{Outcome, Done, Refused, Put}
 use Rattle.vc_dict.specs.Methods.{slots_between}
 use Rattle.vc_dtdisc.specs.Rules.{Gone, Rules}
-use Rattle.vc_region.specs.Region.{Region}
 use Rattle.vc_seg.specs.Answer.{IsPut, IsRefusal}
 use Rattle.vc_seg.specs.declared.fault.RegionFault.{RegionFault}
 use Rattle.vc_objects.specs.Insert.{without_table}
@@ -17,12 +17,13 @@ use Rattle.vc_objects.specs.Leaves.{GivesTurned, told_each}
 use Rattle.vc_objects.specs.Objects.{Dictionary, Table}
 use Rattle.vc_objects.specs.Parts.{table_of}
 use Rattle.vc_objects.specs.Remove.{bytes_of, freed_all}
-use Rattle.vc_objects.specs.Turn.{Brought, Turned, bring, bring_of, brought, number_of, objects_dropped, table_left, turn, turned_to, turned_with}
+use Rattle.vc_base.specs.Methods.{method_number}
+use Rattle.vc_objects.specs.Turn.{Brought, Turned, bring, bring_of, brought, objects_dropped, table_left, turn, turned_to, turned_with}
 use Rattle.vc_objects.specs.Turning.{BringsCell, HasBrought}
-use Rattle.vc_objects.proofs.Answering.{refusal-as}
+use Rattle.vc_best.proofs.RestAlloc.{refusal-kept}
 
 -- a block that was put is the table
-pub put-brought : (slots : ℕ) (o : Outcome (Put (Region ℕ))) (a : ℕ) (r : Region ℕ) → a ≢ 0 → IsPut o a r → HasBrought (brought slots o) r a slots
+pub put-brought : (slots : ℕ) (o : Outcome (Put (Layout ℕ))) (a : ℕ) (r : Layout ℕ) → a ≢ 0 → IsPut o a r → HasBrought (brought slots o) r a slots
 put-brought slots (Done p) a r some h = (
   sym h.2,
   ap (λ z. let t : Table = record { at = z; slots = slots } in Some t) (sym h.0) ∙ sym (ap (λ z. if z then None else Some (record { at = a; slots = slots })) (ne_eqb a 0 some)),
@@ -43,7 +44,7 @@ method_of : ℕ → DictMethod
 method_of n =
     if n == 0 then DtSet else (if n == 1 then DtBag else (if n == 2 then DtOset else (if n == 3 then DtObag else (if n == 4 then DtList else (if n == 5 then DtStack else DtQueue)))))
 
-method-back : (m : DictMethod) → method_of (number_of m) ≡ m
+method-back : (m : DictMethod) → method_of (method_number m) ≡ m
 unfolding method_of
 method-back DtSet = refl
 method-back DtBag = refl
@@ -53,15 +54,15 @@ method-back DtList = refl
 method-back DtStack = refl
 method-back DtQueue = refl
 
-pub other-number : (m n : DictMethod) → m ≢ n → (number_of m == number_of n) ≡ false
-other-number m n ne = ne_eqb (number_of m) (number_of n) (λ e. ne (sym (method-back m) ∙ (ap method_of e ∙ method-back n)))
+pub other-number : (m n : DictMethod) → m ≢ n → (method_number m == method_number n) ≡ false
+other-number m n ne = ne_eqb (method_number m) (method_number n) (λ e. ne (sym (method-back m) ∙ (ap method_of e ∙ method-back n)))
 
-module _ (rules : Rules) (terms : Terms) (method : DictMethod) (r : Region ℕ) (d : Dictionary) (count : ℕ) (other : method ≢ d.method) (counts : length d.objects ≡ count) where
+module _ (rules : Rules) (terms : Terms) (method : DictMethod) (r : Layout ℕ) (d : Dictionary) (count : ℕ) (other : method ≢ d.method) (counts : length d.objects ≡ count) where
   abbrev stays : Outcome (Turned ℕ)
   stays = Done (record { region = r; dict = d; gone = []; granted = [] })
 
   -- with it the dictionary is turned
-  given : (o : Outcome (Brought ℕ)) (r1 r2 : Region ℕ) (d1 d2 : Dictionary) (t s : ℕ) (gone gone' : Gone) → d1 ≡ d → HasBrought o r1 t s
+  given : (o : Outcome (Brought ℕ)) (r1 r2 : Layout ℕ) (d1 d2 : Dictionary) (t s : ℕ) (gone gone' : Gone) → d1 ≡ d → HasBrought o r1 t s
       → r2 ≡ without_table (freed_all r1 (objects_dropped rules method d1)) (table_left d1 method) → d2 ≡ turned_to rules method d1 (table_of t s)
       → gone' ≡ told_each (bytes_of (objects_dropped rules method d1)) gone → GivesTurned (turned_with rules method d o) r2 d2 gone gone'
   given (Done b) r1 r2 d1 d2 t s gone gone' same h e f k = (
@@ -72,7 +73,7 @@ module _ (rules : Rules) (terms : Terms) (method : DictMethod) (r : Region ℕ) 
   )
   given (Refused why) r1 r2 d1 d2 t s gone gone' same h e f k = absurd h
 
-  pub gives-turned : (r1 r2 : Region ℕ) (d1 d2 : Dictionary) (t s : ℕ) (gone gone' : Gone) → d1 ≡ d → HasBrought (bring_of terms r 0 false (slots_between d.method method count)) r1 t s
+  pub gives-turned : (r1 r2 : Layout ℕ) (d1 d2 : Dictionary) (t s : ℕ) (gone gone' : Gone) → d1 ≡ d → HasBrought (bring_of terms r 0 false (slots_between d.method method count)) r1 t s
       → r2 ≡ without_table (freed_all r1 (objects_dropped rules method d1)) (table_left d1 method) → d2 ≡ turned_to rules method d1 (table_of t s)
       → gone' ≡ told_each (bytes_of (objects_dropped rules method d1)) gone → GivesTurned (turn rules terms r 0 d method false) r2 d2 gone gone'
   gives-turned r1 r2 d1 d2 t s gone gone' same h e f k =
@@ -84,11 +85,11 @@ module _ (rules : Rules) (terms : Terms) (method : DictMethod) (r : Region ℕ) 
   pub refuses-turned : (why : RegionFault) → IsRefusal (λ refused. bring_of terms r 0 refused (slots_between d.method method count)) why → IsRefusal (turn rules terms r 0 d method) why
   refuses-turned why h =
       subst (λ z. IsRefusal (λ (t : Bool). if z then stays else turned_with rules method d (bring terms r 0 d method t)) why) (sym (other-number method d.method other))
-      (refusal-as (λ (t : Bool). bring terms r 0 d method t) (λ (t : Bool). turned_with rules method d (bring terms r 0 d method t)) (λ refused fault e. ap (turned_with rules method d) e) why
+      (refusal-kept (λ (t : Bool). bring terms r 0 d method t) (λ (t : Bool). turned_with rules method d (bring terms r 0 d method t)) (λ refused fault e. ap (turned_with rules method d) e) why
       (subst (λ n. IsRefusal (λ (t : Bool). bring_of terms r 0 t (slots_between d.method method n)) why) (sym counts) h))
 
 -- the present method changes nothing
-pub gives-same : (rules : Rules) (terms : Terms) (method : DictMethod) (r : Region ℕ) (d : Dictionary) (gone : Gone) → method ≡ d.method → GivesTurned (turn rules terms r 0 d method false) r d gone gone
+pub gives-same : (rules : Rules) (terms : Terms) (method : DictMethod) (r : Layout ℕ) (d : Dictionary) (gone : Gone) → method ≡ d.method → GivesTurned (turn rules terms r 0 d method false) r d gone gone
 gives-same rules terms method r d gone e =
     subst (λ z. GivesTurned (if z then Done (record { region = r; dict = d; gone = []; granted = [] }) else turned_with rules method d (bring terms r 0 d method false)) r d gone gone)
-    (sym (eq-eqb (number_of method) (number_of d.method) (ap number_of e))) (refl, refl, refl)
+    (sym (eq-eqb (method_number method) (method_number d.method) (ap method_number e))) (refl, refl, refl)

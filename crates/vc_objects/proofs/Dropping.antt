@@ -1,5 +1,6 @@
 -- Holders that were dropped are freed one after another.
 use Rattle.std.proofs.Common.{◌≡◌, ℕ, ◌+◌, ◌<◌, ◌≤◌, List, [], ◌∷◌, true, false, length, map, unwrap_or, refl, sym, ap, ◌∙◌, subst, arith}
+use Rattle.vc_model.specs.Layout.{Layout}
 use Rattle.vc_base.specs.Cells.{Blocks, IsHolder, body_of}
 use Rattle.vc_base.specs.Holders.{AreDistinct, contains}
 use Rattle.vc_dtdisc.specs.Finds.{object_at}
@@ -8,8 +9,7 @@ use Rattle.vc_dtlist.proofs.HolderLemmas.{apart-head, apart-tail}
 use Rattle.vc_dtlist.proofs.KeptLemmas.{HasBytes-same, within-head, within-tail}
 use Rattle.vc_dict.proofs.PassLemmas.{differs}
 use Rattle.vc_dict.specs.Turned.{AreDropped, behind_dropped}
-use Rattle.vc_region.specs.Cells.{without_cell}
-use Rattle.vc_region.specs.Region.{Region}
+use Rattle.vc_best.specs.Cells.{without_cell}
 use Rattle.vc_objects.specs.Insert.{freed}
 use Rattle.vc_objects.specs.Leaves.{told_each}
 use Rattle.vc_objects.specs.Parts.{object_of}
@@ -18,7 +18,7 @@ use Rattle.vc_objects.specs.Turning.{Frees}
 use Rattle.vc_objects.proofs.Unlabelled.{left-cell}
 
 -- so many of these holders are freed, and the others are left
-pub record Dropping (holders : List ℕ) (before : Blocks) (old : Region ℕ) (gone : Gone) (passed at : ℕ) (cells : Blocks) (region : Region ℕ) (told : Gone) : Type 0 where
+pub record Dropping (holders : List ℕ) (before : Blocks) (old : Layout ℕ) (gone : Gone) (passed at : ℕ) (cells : Blocks) (region : Layout ℕ) (told : Gone) : Type 0 where
   pub left : List ℕ
   pub count : passed + length left ≡ length holders
   pub dropped : AreDropped cells at left
@@ -37,7 +37,7 @@ AreDropped-same old new at (x ∷ xs) e d =
     let behind : behind_dropped new x ≡ behind_dropped old x = rw here refl in
     (d.0, HasBytes-same old new x 33 here d.1, rw behind (AreDropped-same old new (behind_dropped old x) xs (λ a h. e a (within-tail x xs a h)) d.2))
 
-pub dropping-start : (holders : List ℕ) (before : Blocks) (old : Region ℕ) (gone : Gone) (at : ℕ) → AreDropped before at holders → AreDistinct holders → Dropping holders before old gone 0 at before old gone
+pub dropping-start : (holders : List ℕ) (before : Blocks) (old : Layout ℕ) (gone : Gone) (at : ℕ) → AreDropped before at holders → AreDistinct holders → Dropping holders before old gone 0 at before old gone
 dropping-start holders before old gone at d distinct = record {
   left = holders;
   count = omega arith;
@@ -55,11 +55,11 @@ next_of : (xs : List ℕ) (c : Blocks) (at : ℕ) → AreDropped c at xs → 0 <
 next_of [] c at d h = absurd (omega arith)
 next_of (x ∷ xs) c at d h = subst (λ z. IsHolder c z) (sym d.0) d.1
 
-pub dropping-holder : (holders : List ℕ) (before : Blocks) (old : Region ℕ) (gone : Gone) (passed at : ℕ) (c : Blocks) (r : Region ℕ) (told : Gone) → Dropping holders before old gone passed at c r told → passed < length holders → IsHolder c at
+pub dropping-holder : (holders : List ℕ) (before : Blocks) (old : Layout ℕ) (gone : Gone) (passed at : ℕ) (c : Blocks) (r : Layout ℕ) (told : Gone) → Dropping holders before old gone passed at c r told → passed < length holders → IsHolder c at
 dropping-holder holders before old gone passed at c r told s more = next_of s.left c at s.dropped (omega (arith, s.count, more))
 
 -- it goes
-next_by : (left holders : List ℕ) (before : Blocks) (old : Region ℕ) (gone : Gone) (passed at : ℕ) (c : Blocks) (r : Region ℕ) (told : Gone)
+next_by : (left holders : List ℕ) (before : Blocks) (old : Layout ℕ) (gone : Gone) (passed at : ℕ) (c : Blocks) (r : Layout ℕ) (told : Gone)
     → passed + length left ≡ length holders → AreDropped c at left → AreDistinct left
     → freed_all r (map (object_of before) left) ≡ freed_all old (map (object_of before) holders)
     → told_each (bytes_of (map (object_of before) left)) told ≡ told_each (bytes_of (map (object_of before) holders)) gone
@@ -85,7 +85,7 @@ next_by (x ∷ xs) holders before old gone passed at c r told count d distinct f
       others = λ a h. left-cell c x a (apart-head x xs a (within a h)) ∙ others a h;
     })
 
-pub dropping-next : (holders : List ℕ) (before : Blocks) (old : Region ℕ) (gone : Gone) (passed at : ℕ) (c : Blocks) (r : Region ℕ) (told : Gone) (at' : ℕ) (c' : Blocks) (r' : Region ℕ) (told' : Gone)
+pub dropping-next : (holders : List ℕ) (before : Blocks) (old : Layout ℕ) (gone : Gone) (passed at : ℕ) (c : Blocks) (r : Layout ℕ) (told : Gone) (at' : ℕ) (c' : Blocks) (r' : Layout ℕ) (told' : Gone)
     → Dropping holders before old gone passed at c r told → passed < length holders
     → at' ≡ behind_dropped c at → c' ≡ without_cell at c → r' ≡ freed r at → told' ≡ gone_after told (object_at c at)
     → Dropping holders before old gone (passed + 1) at' c' r' told'
@@ -97,11 +97,11 @@ dropping-next holders before old gone passed at c r told at' c' r' told' s more 
     (subst (λ z. Dropping holders before old gone (passed + 1) (behind_dropped c at) (without_cell at c) (freed r at) z) (sym h) next)))
 
 -- none is left
-none_left : (xs : List ℕ) (before : Blocks) (r r' : Region ℕ) (told gone' : Gone) → length xs ≡ 0 → freed_all r (map (object_of before) xs) ≡ r' → told_each (bytes_of (map (object_of before) xs)) told ≡ gone' → (r ≡ r') × (told ≡ gone')
+none_left : (xs : List ℕ) (before : Blocks) (r r' : Layout ℕ) (told gone' : Gone) → length xs ≡ 0 → freed_all r (map (object_of before) xs) ≡ r' → told_each (bytes_of (map (object_of before) xs)) told ≡ gone' → (r ≡ r') × (told ≡ gone')
 none_left [] before r r' told gone' h e f = (e, f)
 none_left (x ∷ xs) before r r' told gone' h e f = absurd (omega arith)
 
-pub dropping-end : (holders : List ℕ) (before : Blocks) (old : Region ℕ) (gone : Gone) (passed at : ℕ) (c : Blocks) (r : Region ℕ) (told : Gone)
+pub dropping-end : (holders : List ℕ) (before : Blocks) (old : Layout ℕ) (gone : Gone) (passed at : ℕ) (c : Blocks) (r : Layout ℕ) (told : Gone)
     → Dropping holders before old gone passed at c r told → length holders ≤ passed → Frees holders before old gone c r told
 dropping-end holders before old gone passed at c r told s all =
     let n : length s.left ≡ 0 = omega (arith, s.count, all) in

@@ -3,6 +3,7 @@ use Rattle.std.proofs.Common.{◌≡◌, ◌≢◌, ℕ, ◌+◌, ◌<◌, ◌�
 use Rattle.std.specs.Prelude.{if◌then◌else◌}
 use Rattle.std.proofs.lemmas.Bool.{true≢false, eq-eqb}
 use Rattle.std.proofs.lemmas.Bool.Decides.{eqb_tells}
+use Rattle.vc_model.specs.Layout.{Layout}
 use Rattle.vc_base.specs.Cells.{Blocks}
 use Rattle.vc_base.specs.Holders.{contains, some_address}
 use Rattle.vc_model.specs.Discipline.{Discipline}
@@ -11,15 +12,14 @@ use Rattle.vc_dtlist.proofs.HolderLemmas.{apart-append, apart-cons, apart-front}
 use Rattle.vc_dtlist.proofs.KeptLemmas.{within-head}
 use Rattle.vc_dict.specs.Listed.{holders_of}
 use Rattle.vc_dict.specs.declared.dict.Dict.{Dict}
-use Rattle.vc_region.specs.Cells.{cells_in, rest_in}
-use Rattle.vc_region.specs.Parts.{disc_in, segments_in}
-use Rattle.vc_region.specs.Region as model
-use Rattle.vc_region.specs.declared.region.Region.{Region}
+use Rattle.vc_best.specs.Cells.{cells_in, rest_in}
+use Rattle.vc_best.specs.Parts.{disc_in, segments_in}
+use Rattle.vc_best.specs.declared.best.Best.{Best}
 use Rattle.vc_objects.specs.Freed.{FreesCell}
 use Rattle.vc_objects.specs.Insert.{freed}
 use Rattle.vc_objects.specs.Leaves.{Leaves, LeavesRest, told_each, told_if}
 use Rattle.vc_objects.specs.Lists.{first_object, without_object}
-use Rattle.vc_objects.specs.Objects.{Dictionary, Object, Table, is_best, listed, owned}
+use Rattle.vc_objects.specs.Objects.{Dictionary, Object, Table, listed, owned}
 use Rattle.vc_objects.specs.Parts.{IsWhole, dictionary_in, dictionary_of, object_of, table_of}
 use Rattle.vc_objects.specs.Remove.{bytes_of, emptied, freed_all, remove_first}
 use Rattle.vc_objects.proofs.Leaving.{keeps-same, leaves-self, leaves-trans}
@@ -35,19 +35,19 @@ with_objects d os = record { method = d.method; objects = os; current = d.curren
 objects-first : (o : Object) (os : List Object) → without_object o.at (o ∷ os) ≡ os
 objects-first o os = ap (λ t. if t then os else o ∷ without_object o.at os) (eq-eqb o.at o.at refl)
 
-first-freed : (r : model.Region ℕ) (d : Dictionary) (os : List Object) → freed_all (remove_first r (with_objects d os)).region (remove_first r (with_objects d os)).dict.objects ≡ freed_all r os
+first-freed : (r : Layout ℕ) (d : Dictionary) (os : List Object) → freed_all (remove_first r (with_objects d os)).region (remove_first r (with_objects d os)).dict.objects ≡ freed_all r os
 first-freed r d [] = refl
 first-freed r d (o ∷ os) = ap (λ z. freed_all (freed r o.at) z) (objects-first o os)
 
-first-told : (r : model.Region ℕ) (d : Dictionary) (os : List Object) (gone : Gone) → told_each (bytes_of (remove_first r (with_objects d os)).dict.objects) (told_if true (remove_first r (with_objects d os)).gone gone) ≡ told_each (bytes_of os) gone
+first-told : (r : Layout ℕ) (d : Dictionary) (os : List Object) (gone : Gone) → told_each (bytes_of (remove_first r (with_objects d os)).dict.objects) (told_if true (remove_first r (with_objects d os)).gone gone) ≡ told_each (bytes_of os) gone
 first-told r d [] gone = refl
 first-told r d (o ∷ os) gone = ap (λ z. told_each (bytes_of z) (gone_after gone o.bytes)) (objects-first o os)
 
-first-count : (r : model.Region ℕ) (d : Dictionary) (os : List Object) → 0 < length os → length (remove_first r (with_objects d os)).dict.objects + 1 ≡ length os
+first-count : (r : Layout ℕ) (d : Dictionary) (os : List Object) → 0 < length os → length (remove_first r (with_objects d os)).dict.objects + 1 ≡ length os
 first-count r d [] some = absurd (omega arith)
 first-count r d (o ∷ os) some = let e : length (without_object o.at (o ∷ os)) ≡ length os = ap (λ (z : List Object). length z) (objects-first o os) in omega (arith, e)
 
-first-emptied : (r : model.Region ℕ) (d : Dictionary) (os : List Object) → emptied (remove_first r (with_objects d os)).dict ≡ emptied d
+first-emptied : (r : Layout ℕ) (d : Dictionary) (os : List Object) → emptied (remove_first r (with_objects d os)).dict ≡ emptied d
 first-emptied r d [] = refl
 first-emptied r d (o ∷ os) = refl
 
@@ -80,9 +80,8 @@ emptied-fewer d a h =
 
 module _ {I : Type 0} {V : I → Type 0} (meaning : (x : I) × V x → Discipline) where
   -- the table goes, too
-  pub leaves-table : (r s : Region I V) (d : Dict) → d.table.0 ≢ 0 → FreesCell meaning r d.table.0 s → Leaves meaning r s (owned (dictionary_in d r)) []
+  pub leaves-table : (r s : Best I V) (d : Dict) → d.table.0 ≢ 0 → FreesCell meaning r d.table.0 s → Leaves meaning r s (owned (dictionary_in d r)) []
   leaves-table r s d ne free = record {
-    best = free.best;
     disc = keeps-same (disc_in meaning r) (disc_in meaning s) (segments_in r) (segments_in s) free.disc free.segments;
     labelled = free.labelled;
     others = λ a apart _.
@@ -91,9 +90,8 @@ module _ {I : Type 0} {V : I → Type 0} (meaning : (x : I) × V x → Disciplin
     fresh = λ a within _. absurd (true≢false (sym within));
   }
 
-  pub leaves-none : (r : Region I V) (mine : List ℕ) → is_best (rest_in r) ≡ true → Leaves meaning r r mine []
-  leaves-none r mine best = record {
-    best = best;
+  pub leaves-none : (r : Best I V) (mine : List ℕ) → Leaves meaning r r mine []
+  leaves-none r mine = record {
     disc = keeps-same (disc_in meaning r) (disc_in meaning r) (segments_in r) (segments_in r) refl refl;
     labelled = refl;
     others = λ a _ _. refl;
@@ -101,7 +99,7 @@ module _ {I : Type 0} {V : I → Type 0} (meaning : (x : I) × V x → Disciplin
   }
 
 -- so many objects were taken out, and the others are left
-pub record Emptying {I : Type 0} {V : I → Type 0} (meaning : (x : I) × V x → Discipline) (rules : Rules) (before : Region I V) (old : Dict) (gone : Gone) (passed : ℕ) (after : Region I V) (new : Dict) (told : Gone) : Type 0 where
+pub record Emptying {I : Type 0} {V : I → Type 0} (meaning : (x : I) × V x → Discipline) (rules : Rules) (before : Best I V) (old : Dict) (gone : Gone) (passed : ℕ) (after : Best I V) (new : Dict) (told : Gone) : Type 0 where
   pub count : passed + length (dictionary_in new after).objects ≡ length (dictionary_in old before).objects
   pub region : freed_all (rest_in after) (dictionary_in new after).objects ≡ freed_all (rest_in before) (dictionary_in old before).objects
   pub dict : emptied (dictionary_in new after) ≡ emptied (dictionary_in old before)
@@ -110,21 +108,21 @@ pub record Emptying {I : Type 0} {V : I → Type 0} (meaning : (x : I) × V x �
   pub fewer : (a : ℕ) → contains (owned (dictionary_in old before)) a ≡ false → contains (owned (dictionary_in new after)) a ≡ false
   pub tells : told_each (bytes_of (dictionary_in new after).objects) told ≡ told_each (bytes_of (dictionary_in old before).objects) gone
 
-module _ {I : Type 0} {V : I → Type 0} (meaning : (x : I) × V x → Discipline) (rules : Rules) (before : Region I V) (old : Dict) (gone : Gone) where
-  pub emptying-start : is_best (rest_in before) ≡ true → IsWhole rules old (cells_in before) → Emptying meaning rules before old gone 0 before old gone
-  emptying-start best whole = record {
+module _ {I : Type 0} {V : I → Type 0} (meaning : (x : I) × V x → Discipline) (rules : Rules) (before : Best I V) (old : Dict) (gone : Gone) where
+  pub emptying-start : IsWhole rules old (cells_in before) → Emptying meaning rules before old gone 0 before old gone
+  emptying-start whole = record {
     count = omega arith;
     region = refl;
     dict = refl;
-    leaves = leaves-self meaning rules before old best whole;
+    leaves = leaves-self meaning rules before old whole;
     disc = refl;
     fewer = λ a h. h;
     tells = refl;
   }
 
-  module _ (passed : ℕ) (mid : Region I V) (dict : Dict) (told : Gone) (e : Emptying meaning rules before old gone passed mid dict told) where
+  module _ (passed : ℕ) (mid : Best I V) (dict : Dict) (told : Gone) (e : Emptying meaning rules before old gone passed mid dict told) where
     -- one more goes
-    pub emptying-next : (rules' : Rules) (after : Region I V) (new : Dict) (told' : Gone) → rules' ≡ rules → passed < length (dictionary_in old before).objects → rest_in after ≡ (remove_first (rest_in mid) (dictionary_in dict mid)).region
+    pub emptying-next : (rules' : Rules) (after : Best I V) (new : Dict) (told' : Gone) → rules' ≡ rules → passed < length (dictionary_in old before).objects → rest_in after ≡ (remove_first (rest_in mid) (dictionary_in dict mid)).region
         → dictionary_in new after ≡ (remove_first (rest_in mid) (dictionary_in dict mid)).dict → LeavesRest meaning rules' mid dict after new → disc_in meaning after ≡ disc_in meaning mid → told' ≡ told_if true (remove_first (rest_in mid) (dictionary_in dict mid)).gone told
         → Emptying meaning rules before old gone (passed + 1) after new told'
     emptying-next rules' after new told' same more region dict' leaves' disc tells =

@@ -3,17 +3,20 @@ use Rattle.std.proofs.Common.{◌≡◌, ℕ, Bool, true, false, [], ◌∷◌, 
 use Rattle.std.specs.Prelude.{if◌then◌else◌}
 use Rattle.std.specs.List.{AllByRecursion}
 use Rattle.std.proofs.lemmas.Option.{none-some, same_Some}
+use Rattle.vc_model.specs.Layout.{Layout}
 use Rattle.vc_base.specs.declared.dict_method.DictMethod.{DictMethod}
 use Rattle.vc_base.specs.Cells.{Blocks}
 use Rattle.vc_base.specs.Holders.{contains, some_address}
 use Rattle.vc_dtdisc.specs.Rules.{IsObject, Rules}
 use Rattle.vc_dict.specs.Listed.{holders_of}
-use Rattle.vc_dict.specs.Methods.{has_table, wanted_by}
+use Rattle.vc_base.specs.Methods.{has_table}
+use Rattle.vc_dict.specs.Methods.{wanted_by}
 use Rattle.vc_dict.specs.Stands.{Stands}
 use Rattle.vc_dict.specs.declared.dict.Dict.{Dict}
 use Rattle.vc_dict.proofs.OwnLemmas.{holders-told}
 use Rattle.vc_model.specs.Discipline.{Terms}
-use Rattle.vc_region.specs.Region.{Region}
+use Rattle.vc_seg.specs.Answer.{IsRefusal}
+use Rattle.vc_seg.specs.declared.fault.RegionFault.{RegionFault}
 use Rattle.vc_objects.specs.Insert.{empty_dictionary, grown_to, open_dictionary}
 use Rattle.vc_objects.specs.Leaves.{HasGrown}
 use Rattle.vc_objects.specs.Objects.{Dictionary, owned}
@@ -84,11 +87,16 @@ module _ (rules : Rules) (d : Dict) (b : Blocks) (method : DictMethod) (empty : 
   }
 
   -- what opening gives, without a table and with one
-  pub opened-plain : (terms : Terms) (R : Region ℕ) → wanted_by d.method d.slots d.count 1 ≡ None → HasGrown (open_dictionary terms R 0 method false) R (dictionary_of d b)
+  pub opened-plain : (terms : Terms) (R : Layout ℕ) → wanted_by d.method d.slots d.count 1 ≡ None → HasGrown (open_dictionary terms R 0 method false) R (dictionary_of d b)
   opened-plain terms R wants =
       subst (λ o. HasGrown (grown_to terms R 0 (empty_dictionary method) false o) R (dictionary_of d b)) (sym (sym wants-first ∙ wants)) (refl, dictionary-empty)
 
-  pub opened-table : (terms : Terms) (R R' : Region ℕ) (D' : Dictionary) (n : ℕ) → wanted_by d.method d.slots d.count 1 ≡ Some n → HasGrown (grown_to terms R 0 (dictionary_of d b) false (Some n)) R' D'
+  pub opened-refused : (terms : Terms) (R : Layout ℕ) (n : ℕ) (why : RegionFault) → wanted_by d.method d.slots d.count 1 ≡ Some n → IsRefusal (λ refused. grown_to terms R 0 (dictionary_of d b) refused (Some n)) why → IsRefusal (open_dictionary terms R 0 method) why
+  opened-refused terms R n why wants h =
+      subst (λ o. IsRefusal (λ refused. grown_to terms R 0 (empty_dictionary method) refused o) why) (sym (sym wants-first ∙ wants))
+      (subst (λ D. IsRefusal (λ refused. grown_to terms R 0 D refused (Some n)) why) dictionary-empty h)
+
+  pub opened-table : (terms : Terms) (R R' : Layout ℕ) (D' : Dictionary) (n : ℕ) → wanted_by d.method d.slots d.count 1 ≡ Some n → HasGrown (grown_to terms R 0 (dictionary_of d b) false (Some n)) R' D'
       → HasGrown (open_dictionary terms R 0 method false) R' D'
   opened-table terms R R' D' n wants h =
       subst (λ o. HasGrown (grown_to terms R 0 (empty_dictionary method) false o) R' D') (sym (sym wants-first ∙ wants))

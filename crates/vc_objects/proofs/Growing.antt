@@ -10,10 +10,11 @@ use Rattle.vc_base.specs.Cells.{Blocks}
 use Rattle.vc_dtdisc.specs.Rules.{Rules}
 use Rattle.vc_dthash.specs.Slots.{IsSlots, most_slots, slots_for, wanted}
 use Rattle.vc_dict.specs.Listed.{holders_of}
-use Rattle.vc_dict.specs.Methods.{has_table, wanted_by}
+use Rattle.vc_base.specs.Methods.{has_table}
+use Rattle.vc_dict.specs.Methods.{wanted_by}
 use Rattle.vc_dict.specs.Stands.{Stands}
 use Rattle.vc_dict.specs.declared.dict.Dict.{Dict}
-use Rattle.vc_dict.proofs.OwnLemmas.{holders-told}
+use Rattle.vc_dict.proofs.OwnLemmas.{Stands-table, holders-told}
 use Rattle.vc_objects.specs.Insert.{slots_wanted}
 use Rattle.vc_objects.specs.Objects.{slots_of}
 use Rattle.vc_objects.specs.Parts.{CanGrow, IsWhole, dictionary_of, object_of, table_of}
@@ -31,7 +32,7 @@ slots-told at slots none =
 -- what a dictionary wants is what its heads want
 pub wanted-told : (rules : Rules) (d : Dict) (b : Blocks) (xs : List ℕ) → Stands rules d b xs → slots_wanted (dictionary_of d b) ≡ wanted_by d.method d.slots d.count 1
 wanted-told rules d b xs s =
-    ap (λ slots. wanted_by d.method slots (length (map (object_of b) (holders_of d b))) 1) (slots-told d.table.0 d.slots s.table.none)
+    ap (λ slots. wanted_by d.method slots (length (map (object_of b) (holders_of d b))) 1) (slots-told d.table.0 d.slots (Stands-table _ _ _ _ s).none)
     ∙ ap (λ count. wanted_by d.method d.slots count 1) (length-map (holders_of d b) (object_of b) ∙ (ap length (holders-told rules d b xs s) ∙ sym s.count))
 
 by_grow : (p q : Bool) (m n : ℕ) → (if p && q then Some m else None) ≡ Some n → (n ≡ m) × (q ≡ true)
@@ -78,14 +79,14 @@ module _ (rules : Rules) (d : Dict) (b : Blocks) (n : ℕ) (whole : IsWhole rule
   grows : (n ≡ 2 * d.slots) × (d.slots < most_slots)
   grows =
       let by = by_table (has_table d.method) (wanted d.slots d.count 1) n wants in
-      let t = whole.stands.table.some (whole.table by.0) in
+      let t = (Stands-table _ _ _ _ whole.stands).some (whole.table by.0) in
       let some = slots-least d.slots t.slots_allowed in
       doubles d.slots d.count n (λ e. let z = e in omega (arith, some, z)) by.1
 
   pub can-grow : CanGrow rules d b n
   can-grow =
       let by = by_table (has_table d.method) (wanted d.slots d.count 1) n wants in
-      let t = whole.stands.table.some (whole.table by.0) in
+      let t = (Stands-table _ _ _ _ whole.stands).some (whole.table by.0) in
       let fits = t.enough grows.1 in
       record {
         stands = whole.stands;
@@ -99,7 +100,7 @@ module _ (rules : Rules) (d : Dict) (b : Blocks) (n : ℕ) (whole : IsWhole rule
   pub no-more : wanted n d.count 1 ≡ None
   no-more =
       let by = by_table (has_table d.method) (wanted d.slots d.count 1) n wants in
-      let t = whole.stands.table.some (whole.table by.0) in
+      let t = (Stands-table _ _ _ _ whole.stands).some (whole.table by.0) in
       let some = slots-least d.slots t.slots_allowed in
       let fits = t.enough grows.1 in
       let twice = grows.0 in

@@ -16,11 +16,11 @@ use Rattle.vc_dtlist.proofs.HolderLemmas.{apart-cons}
 use Rattle.vc_dtlist.proofs.KeptLemmas.{within-tail}
 use Rattle.vc_dict.specs.Changes as changes
 use Rattle.vc_dict.specs.Listed.{holders_of}
-use Rattle.vc_dict.specs.Methods.{has_table, is_list, is_set}
+use Rattle.vc_base.specs.Methods.{has_table, is_list, is_set}
 use Rattle.vc_dict.specs.Stands.{Became, CanLink, Stands}
 use Rattle.vc_dict.specs.declared.dict.Dict.{Dict}
 use Rattle.vc_dict.proofs.CurrentLemmas.{apart-linked, within-linked}
-use Rattle.vc_dict.proofs.OwnLemmas.{Stands-own, holder-there, holders-told, table-apart}
+use Rattle.vc_dict.proofs.OwnLemmas.{Stands-own, Stands-table, holder-there, holders-told, table-apart}
 use Rattle.vc_objects.specs.Insert.{slots_wanted, with_object}
 use Rattle.vc_objects.specs.Lists.{first_with, linked}
 use Rattle.vc_objects.specs.Objects.{Object, owned}
@@ -90,7 +90,7 @@ module _ (rules : Rules) (d0 : Dict) (B0 B1 B2 : Blocks) (at : ℕ) (bytes : Lis
   other-table : d0.table.0 ≢ at
   other-table = elim (eqb_tells d0.table.0 0) as (λ _. d0.table.0 ≢ at) [
     | inl same ↦ λ e. let some = address.some in let z = same.1 in omega (arith, e, some, z)
-    | inr apart ↦ cell-apart d0.table.0 (whole.stands.table.some apart.1).there
+    | inr apart ↦ cell-apart d0.table.0 ((Stands-table _ _ _ _ whole.stands).some apart.1).there
   ]
 
   own-apart : (a : ℕ) → contains (d0.table.0 ∷ hs) a ≡ true → a ≢ at

@@ -10,16 +10,17 @@ use Rattle.vc_model.specs.Discipline.{Discipline}
 use Rattle.vc_dtdisc.specs.Rules.{IsObject, Rules}
 use Rattle.vc_dtlist.proofs.HolderLemmas.{apart-cons, apart-head, apart-tail}
 use Rattle.vc_dict.specs.Listed.{holders_of}
-use Rattle.vc_dict.specs.Methods.{has_table}
+use Rattle.vc_base.specs.Methods.{has_table}
 use Rattle.vc_dict.specs.Stands.{Became, Stands}
 use Rattle.vc_dict.specs.declared.dict.Dict.{Dict}
 use Rattle.vc_dict.proofs.OwnLemmas.{holders-told, table-apart}
-use Rattle.vc_region.specs.Cells.{StaysButCells, cells_in, labelled, rest_in}
-use Rattle.vc_region.specs.Parts.{boxed, disc_in, segments_in}
-use Rattle.vc_region.specs.declared.region.Region.{Region}
-use Rattle.vc_region.proofs.CellCalls.{stays-segments}
+use Rattle.vc_best.specs.Cells.{StaysButCells, cells_in, labelled_blocks}
+use Rattle.vc_seg.specs.Boxed.{boxed}
+use Rattle.vc_best.specs.Parts.{disc_in, segments_in}
+use Rattle.vc_best.specs.declared.best.Best.{Best}
+use Rattle.vc_best.proofs.CellCalls.{stays-segments}
 use Rattle.vc_objects.specs.Leaves.{Looks}
-use Rattle.vc_objects.specs.Objects.{Dictionary, Object, is_best, owned}
+use Rattle.vc_objects.specs.Objects.{Dictionary, Object, owned}
 use Rattle.vc_objects.specs.Parts.{IsWhole, dictionary_in, dictionary_of, object_of, table_of}
 use Rattle.vc_objects.proofs.Leaving.{keeps-same, none-at}
 use Rattle.vc_objects.proofs.Mapped.{addresses-mapped, objects-kept}
@@ -53,7 +54,7 @@ pub apart-table : (rules : Rules) (d : Dict) (b : Blocks) (xs : List ℕ) (a : �
 apart-table rules d b xs a s w =
     apart-cons d.table.0 [] a (λ e. true≢false (sym w ∙ ap (λ z. contains xs z) (sym e) ∙ table-apart rules d b xs s)) refl
 
-module _ {I : Type 0} {V : I → Type 0} (meaning : (x : I) × V x → Discipline) (rules : Rules) (before after : Region I V) (old new : Dict) (best : is_best (rest_in before) ≡ true) (whole : IsWhole rules old (cells_in before))
+module _ {I : Type 0} {V : I → Type 0} (meaning : (x : I) × V x → Discipline) (rules : Rules) (before after : Best I V) (old new : Dict) (whole : IsWhole rules old (cells_in before))
     (t : Became rules (holders_of old (cells_in before)) old (cells_in before) new (cells_in after) (holders_of old (cells_in before)) old.current.0) (stays : StaysButCells before after) where
   same-objects : map (object_of (cells_in after)) (holders_of old (cells_in before)) ≡ map (object_of (cells_in before)) (holders_of old (cells_in before))
   same-objects =
@@ -89,16 +90,15 @@ module _ {I : Type 0} {V : I → Type 0} (meaning : (x : I) × V x → Disciplin
   Looks-became =
       let disc : disc_in meaning after ≡ disc_in meaning before = ap (boxed meaning) stays.disc in
       record {
-        region = stays.region;
+        region = stays.layout;
         dict = same-dictionary;
         disc = disc;
         leaves = record {
           whole = still-whole;
           kind = t.kind;
           rest = record {
-            best = ap is_best stays.region ∙ best;
             disc = keeps-same (disc_in meaning before) (disc_in meaning after) (segments_in before) (segments_in after) disc (stays-segments before after stays);
-            labelled = ap labelled stays.region;
+            labelled = ap labelled_blocks stays.layout;
             others = λ a apart _. others-stay a apart;
             fresh = λ a within apart. absurd (true≢false (sym within ∙ ap (λ d. contains (owned d) a) same-dictionary ∙ apart));
           };

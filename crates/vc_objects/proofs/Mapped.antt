@@ -6,17 +6,20 @@ use Rattle.std.proofs.lemmas.List.{map-append}
 use Rattle.vc_base.specs.declared.dict_method.DictMethod.{DictMethod}
 use Rattle.vc_base.specs.declared.dict_method.DictMethod.TheVariants.{DtSet, DtBag, DtOset, DtObag, DtList, DtStack, DtQueue}
 use Rattle.vc_base.specs.Cells.{Blocks}
-use Rattle.vc_base.specs.Holders.{AreDistinct, contains, first_in, inserted_after, inserted_before, last_in, last_of, next_in, previous_in, some_address, without}
+use Rattle.vc_base.specs.Holders.{AreDistinct, contains, first_in, last_in, last_of, next_in, previous_in, some_address, without}
+use Rattle.vc_dtdisc.specs.Finding as finding
 use Rattle.vc_dtdisc.specs.Finds as finds
 use Rattle.vc_dtdisc.specs.Finds.{find_key}
+use Rattle.vc_dtdisc.specs.Objects as objects
 use Rattle.vc_dtdisc.specs.Rules.{Rules}
 use Rattle.vc_dtlist.proofs.KeptLemmas.{within-head, within-tail}
 use Rattle.vc_dtord.specs.Ordered as ordered
 use Rattle.vc_dtord.specs.Ordered.{is_less}
 use Rattle.vc_dtord.proofs.FirstLemmas as first_lemmas
 use Rattle.vc_dict.specs.Changes as changes
-use Rattle.vc_dict.specs.Methods.{is_ordered, is_set}
+use Rattle.vc_base.specs.Methods.{is_ordered, is_set}
 use Rattle.vc_dict.specs.Orders as orders
+use Rattle.vc_dict.proofs.CurrentLemmas.{current-told}
 use Rattle.vc_objects.specs.Lists.{before_current, before_key, before_key_from, behind_current, behind_object, current_without, first_object, first_with, inserted, last_object, last_or, linked, placed, put_before, put_behind, without_object}
 use Rattle.vc_objects.specs.Objects.{Object}
 use Rattle.vc_objects.specs.Parts.{object_of}
@@ -96,26 +99,26 @@ module _ (b : Blocks) where
   next-told at xs = ap (λ o. option_map (λ (z : Object). z.at) o) (behind_object-mapped at xs) ∙ address-mapped (next_in at xs)
 
   -- where one goes
-  pub put_before-mapped : (mark at : ℕ) (xs : List ℕ) → put_before mark (object_of b at) (map (object_of b) xs) ≡ map (object_of b) (inserted_before mark at xs)
+  pub put_before-mapped : (mark at : ℕ) (xs : List ℕ) → put_before mark (object_of b at) (map (object_of b) xs) ≡ map (object_of b) (finding.put_before (λ y. y == mark) at xs)
   put_before-mapped mark at [] = refl
   put_before-mapped mark at (x ∷ xs) =
-      list_by (object_of b) (x == mark) (at ∷ x ∷ xs) (x ∷ inserted_before mark at xs) (map (object_of b) (at ∷ x ∷ xs)) (object_of b x ∷ put_before mark (object_of b at) (map (object_of b) xs)) refl
+      list_by (object_of b) (x == mark) (at ∷ x ∷ xs) (x ∷ finding.put_before (λ y. y == mark) at xs) (map (object_of b) (at ∷ x ∷ xs)) (object_of b x ∷ put_before mark (object_of b at) (map (object_of b) xs)) refl
       (ap (λ os. object_of b x ∷ os) (put_before-mapped mark at xs))
 
-  pub put_behind-mapped : (mark at : ℕ) (xs : List ℕ) → put_behind mark (object_of b at) (map (object_of b) xs) ≡ map (object_of b) (inserted_after mark at xs)
+  pub put_behind-mapped : (mark at : ℕ) (xs : List ℕ) → put_behind mark (object_of b at) (map (object_of b) xs) ≡ map (object_of b) (finding.put_behind (λ y. y == mark) at xs)
   put_behind-mapped mark at [] = refl
   put_behind-mapped mark at (x ∷ xs) =
-      list_by (object_of b) (x == mark) (x ∷ at ∷ xs) (x ∷ inserted_after mark at xs) (map (object_of b) (x ∷ at ∷ xs)) (object_of b x ∷ put_behind mark (object_of b at) (map (object_of b) xs)) refl
+      list_by (object_of b) (x == mark) (x ∷ at ∷ xs) (x ∷ finding.put_behind (λ y. y == mark) at xs) (map (object_of b) (x ∷ at ∷ xs)) (object_of b x ∷ put_behind mark (object_of b at) (map (object_of b) xs)) refl
       (ap (λ os. object_of b x ∷ os) (put_behind-mapped mark at xs))
 
-  before_by : (t : Bool) (current at : ℕ) (xs : List ℕ) → before_current (if t then None else Some current) (object_of b at) (map (object_of b) xs) ≡ map (object_of b) (if t then at ∷ xs else inserted_before current at xs)
+  before_by : (t : Bool) (current at : ℕ) (xs : List ℕ) → before_current (if t then None else Some current) (object_of b at) (map (object_of b) xs) ≡ map (object_of b) (objects.before_current (λ a. a) (if t then None else Some current) at xs)
   before_by true current at xs = refl
   before_by false current at xs = put_before-mapped current at xs
 
   pub before_current-mapped : (current at : ℕ) (xs : List ℕ) → before_current (some_address current) (object_of b at) (map (object_of b) xs) ≡ map (object_of b) (changes.before_current current at xs)
   before_current-mapped current at xs = before_by (current == 0) current at xs
 
-  behind_by : (t : Bool) (current at : ℕ) (xs : List ℕ) → behind_current (if t then None else Some current) (object_of b at) (map (object_of b) xs) ≡ map (object_of b) (if t then xs ++ at ∷ [] else inserted_after current at xs)
+  behind_by : (t : Bool) (current at : ℕ) (xs : List ℕ) → behind_current (if t then None else Some current) (object_of b at) (map (object_of b) xs) ≡ map (object_of b) (objects.behind_current (λ a. a) (if t then None else Some current) at xs)
   behind_by true current at xs = last-mapped xs at
   behind_by false current at xs = put_behind-mapped current at xs
 
@@ -162,6 +165,7 @@ module _ (b : Blocks) where
   current_without-mapped at current xs zero ne =
       current_by (current == at) (current == 0) at current xs (λ e. ne_eqb current at (λ same. ne (sym same ∙ eqb-true current 0 e))) refl
       (λ e. true≢false (sym (next-within at xs 0 e) ∙ zero)) refl
+      ∙ ap some_address (sym (current-told at current xs ne))
 
   -- the object before the first one that has a key
   from_by : (t : Bool) (rules : Rules) (key : List ℕ) (before : Option ℕ) (x at : ℕ) (xs : List ℕ) → finds.has_key rules b key x ≡ t → AreDistinct (x ∷ xs)

@@ -10,7 +10,7 @@ use Rattle.vc_dtdisc.specs.Rules.{Rules}
 use Rattle.vc_dtlist.proofs.HolderLemmas.{apart-append, apart-cons, apart-front, apart-head, apart-removed, apart-rest, apart-tail, distinct-remove}
 use Rattle.vc_dtlist.proofs.KeptLemmas.{within-head, within-tail}
 use Rattle.vc_dtord.specs.Ordered.{is_less, placed}
-use Rattle.vc_dict.specs.Methods.{is_ordered, is_set}
+use Rattle.vc_base.specs.Methods.{is_ordered, is_set}
 use Rattle.vc_dict.specs.Orders.{dropped, dropped_by, has_match, kept, kept_by, ordered_by, placed_each}
 use Rattle.vc_dict.proofs.PassLemmas.{apart-placed, differs}
 use Rattle.vc_dict.proofs.TurnedLemmas.{length-ordered, within_kept_by, within_ordered}

@@ -14,12 +14,13 @@ use Rattle.vc_dthash.specs.Slots.{slots_for}
 use Rattle.vc_model.specs.Discipline.{Discipline}
 use Rattle.vc_dict.specs.declared.dict.Dict.{Dict}
 use Rattle.vc_dict.specs.Listed.{holders_of}
-use Rattle.vc_dict.specs.Methods.{has_table, slots_between}
-use Rattle.vc_region.specs.Cells.{cells_in, labelled, rest_in}
-use Rattle.vc_region.specs.Parts.{disc_in, segments_in}
-use Rattle.vc_region.specs.declared.region.Region.{Region}
+use Rattle.vc_base.specs.Methods.{has_table}
+use Rattle.vc_dict.specs.Methods.{slots_between}
+use Rattle.vc_best.specs.Cells.{cells_in, labelled_blocks, rest_in}
+use Rattle.vc_best.specs.Parts.{disc_in, segments_in}
+use Rattle.vc_best.specs.declared.best.Best.{Best}
 use Rattle.vc_objects.specs.Leaves.{KeepsDisc, LeavesRest}
-use Rattle.vc_objects.specs.Objects.{is_best, owned}
+use Rattle.vc_objects.specs.Objects.{owned}
 use Rattle.vc_objects.specs.Parts.{IsWhole, dictionary_in, dictionary_of, object_of}
 use Rattle.vc_objects.specs.Turning.{BringsCell}
 use Rattle.vc_objects.proofs.Bringing.{other-brought, told-brought}
@@ -42,16 +43,16 @@ which_by false at t x e = inr e
 
 module _ {I : Type 0} {V : I → Type 0} (meaning : (x : I) × V x → Discipline) (rules : Rules) (d : Dict) where
   -- nothing was turned
-  pub leaves-refused : (r r' : Region I V) → is_best (rest_in r) ≡ true → IsWhole rules d (cells_in r) → KeepsDisc (disc_in meaning r) (disc_in meaning r') (segments_in r) (segments_in r')
+  pub leaves-refused : (r r' : Best I V) → IsWhole rules d (cells_in r) → KeepsDisc (disc_in meaning r) (disc_in meaning r') (segments_in r) (segments_in r')
       → rest_in r' ≡ rest_in r → cells_in r' ≡ cells_in r → LeavesRest meaning rules r d r' d
-  leaves-refused r r' best whole disc rest cells = record {
+  leaves-refused r r' whole disc rest cells = record {
     whole = subst (λ b. IsWhole rules d b) (sym cells) whole;
     kind = refl;
-    rest = leaves-still meaning r r' (owned (dictionary_in d r)) (owned (dictionary_in d r')) best disc rest cells (ap (λ b. owned (dictionary_of d b)) cells);
+    rest = leaves-still meaning r r' (owned (dictionary_in d r)) (owned (dictionary_in d r')) disc rest cells (ap (λ b. owned (dictionary_of d b)) cells);
   }
 
   -- it was turned
-  module _ (method : DictMethod) (d' : Dict) (r r1 r2 : Region I V) (t s : ℕ) (whole : IsWhole rules d (cells_in r)) (brought : BringsCell (slots_between d.method method d.count) (cells_in r) (cells_in r1) t s)
+  module _ (method : DictMethod) (d' : Dict) (r r1 r2 : Best I V) (t s : ℕ) (whole : IsWhole rules d (cells_in r)) (brought : BringsCell (slots_between d.method method d.count) (cells_in r) (cells_in r1) t s)
       (table : d'.table.0 ≡ (if has_table method && has_table d.method then d.table.0 else t))
       (within : (a : ℕ) → contains (holders_of d (cells_in r1)) a ≡ false → contains (holders_of d' (cells_in r2)) a ≡ false)
       (others : (a : ℕ) → a ≢ 0 → a ≢ t → a ≢ d.table.0 → contains (holders_of d (cells_in r1)) a ≡ false → cells_in r2 a ≡ cells_in r1 a) where
@@ -94,14 +95,13 @@ module _ {I : Type 0} {V : I → Type 0} (meaning : (x : I) × V x → Disciplin
           ]
     ]
 
-    pub leaves-turned : is_best (rest_in r2) ≡ true → IsWhole rules d' (cells_in r2) → d'.kind ≡ d.kind
+    pub leaves-turned : IsWhole rules d' (cells_in r2) → d'.kind ≡ d.kind
         → KeepsDisc (disc_in meaning r) (disc_in meaning r1) (segments_in r) (segments_in r1) → disc_in meaning r2 ≡ disc_in meaning r1 → segments_in r2 ≡ segments_in r1
-        → labelled (rest_in r1) ≡ labelled (rest_in r) → labelled (rest_in r2) ≡ labelled (rest_in r1) → LeavesRest meaning rules r d r2 d'
-    leaves-turned best now kind disc discs segments label label' = record {
+        → labelled_blocks (rest_in r1) ≡ labelled_blocks (rest_in r) → labelled_blocks (rest_in r2) ≡ labelled_blocks (rest_in r1) → LeavesRest meaning rules r d r2 d'
+    leaves-turned now kind disc discs segments label label' = record {
       whole = now;
       kind = kind;
       rest = record {
-        best = best;
         disc = keeps-trans (disc_in meaning r) (disc_in meaning r1) (disc_in meaning r2) (segments_in r) (segments_in r1) (segments_in r2) disc
             (keeps-same (disc_in meaning r1) (disc_in meaning r2) (segments_in r1) (segments_in r2) discs segments);
         labelled = label' ∙ label;

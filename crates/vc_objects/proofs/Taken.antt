@@ -4,26 +4,26 @@ use Rattle.std.specs.Prelude.{◌==◌, if◌then◌else◌}
 use Rattle.std.specs.List.{AllByRecursion}
 use Rattle.std.proofs.lemmas.Bool.{cases_Bool, true≢false}
 use Rattle.std.proofs.lemmas.Bool.Decides.{eqb_tells}
+use Rattle.vc_model.specs.Layout.{Layout}
 use Rattle.vc_base.specs.Cells.{Blocks, IsHolder, body_of}
 use Rattle.vc_base.specs.Holders.{AreDistinct, contains, first_in, without}
 use Rattle.vc_model.specs.Discipline.{Discipline}
 use Rattle.vc_dtdisc.specs.Finds.{object_at}
 use Rattle.vc_dtdisc.specs.Rules.{IsObject, Rules}
-use Rattle.vc_dtlist.proofs.ChainLemmas.{Chain-none}
 use Rattle.vc_dtlist.proofs.HolderLemmas.{apart-append, apart-cons, apart-front, apart-head, apart-rest, apart-tail, apart-without}
 use Rattle.vc_dtlist.proofs.KeptLemmas.{within-head}
 use Rattle.vc_dict.specs.Changes as changes
 use Rattle.vc_dict.specs.Listed.{holders_of}
-use Rattle.vc_dict.specs.Methods.{has_table}
+use Rattle.vc_base.specs.Methods.{has_table}
 use Rattle.vc_dict.specs.Stands.{Became, Stands}
 use Rattle.vc_dict.specs.declared.dict.Dict.{Dict}
 use Rattle.vc_dict.proofs.CurrentLemmas.{current-removed}
-use Rattle.vc_dict.proofs.OwnLemmas.{Stands-own, holder-there, table-apart}
-use Rattle.vc_region.specs.Cells.{StaysButCells, cells_in, labelled, rest_in}
-use Rattle.vc_region.specs.Parts.{boxed, disc_in, segments_in}
-use Rattle.vc_region.specs.Region as model
-use Rattle.vc_region.specs.declared.region.Region.{Region}
-use Rattle.vc_region.proofs.CellCalls.{stays-segments}
+use Rattle.vc_dict.proofs.OwnLemmas.{Stands-own, holder-there, holders-distinct, none-at_0, table-apart}
+use Rattle.vc_best.specs.Cells.{StaysButCells, cells_in, labelled_blocks, rest_in}
+use Rattle.vc_seg.specs.Boxed.{boxed}
+use Rattle.vc_best.specs.Parts.{disc_in, segments_in}
+use Rattle.vc_best.specs.declared.best.Best.{Best}
+use Rattle.vc_best.proofs.CellCalls.{stays-segments}
 use Rattle.vc_objects.specs.Freed.{FreesCell}
 use Rattle.vc_objects.specs.Insert.{freed}
 use Rattle.vc_objects.specs.Leaves.{GivesRemoved, LeavesRest}
@@ -77,7 +77,7 @@ apart-objects at (x ∷ xs) a h =
     (apart-cons x.at (map (λ (o : Object). o.at) (without_object at xs)) a (apart-head x.at (map (λ (o : Object). o.at) xs) a h) (apart-objects at xs a behind))
 
 -- a dictionary that an object is taken out of owns no more than before
-pub fewer-owned : (r : model.Region ℕ) (d : Dictionary) (o : Option Object) (a : ℕ) → contains (owned d) a ≡ false → contains (owned (remove_found r d o).dict) a ≡ false
+pub fewer-owned : (r : Layout ℕ) (d : Dictionary) (o : Option Object) (a : ℕ) → contains (owned d) a ≡ false → contains (owned (remove_found r d o).dict) a ≡ false
 fewer-owned r d None a h = h
 fewer-owned r d (Some o) a h =
     let front = map (λ (t : Table). t.at) (listed d.table) in
@@ -85,7 +85,7 @@ fewer-owned r d (Some o) a h =
     (apart-objects o.at d.objects a (apart-rest front (map (λ (o : Object). o.at) d.objects) a h))
 
 -- a holder was taken out
-module _ {I : Type 0} {V : I → Type 0} (rules : Rules) (before mid : Region I V) (old new : Dict) (at : ℕ) (whole : IsWhole rules old (cells_in before)) (within : contains (holders_of old (cells_in before)) at ≡ true)
+module _ {I : Type 0} {V : I → Type 0} (rules : Rules) (before mid : Best I V) (old new : Dict) (at : ℕ) (whole : IsWhole rules old (cells_in before)) (within : contains (holders_of old (cells_in before)) at ≡ true)
     (became : Became rules (holders_of old (cells_in before)) old (cells_in before) new (cells_in mid) (without at (holders_of old (cells_in before)))
     (changes.current_without (Some at) old.current.0 (holders_of old (cells_in before)))) where
   -- its object stays
@@ -102,14 +102,14 @@ module _ {I : Type 0} {V : I → Type 0} (rules : Rules) (before mid : Region I 
       record { there = became.keeps.there at ∙ h.there; enough = subst (λ n. 33 ≤ n) (sym (became.keeps.sizes at)) h.enough }
 
   -- and it is freed
-  module _ (meaning : (x : I) × V x → Discipline) (after : Region I V) (stays : StaysButCells before mid) (free : FreesCell meaning mid at after) where
+  module _ (meaning : (x : I) × V x → Discipline) (after : Best I V) (stays : StaysButCells before mid) (free : FreesCell meaning mid at after) where
     left : (a : ℕ) → at ≢ a → cells_in after a ≡ cells_in mid a
     left a ne = ap (λ (f : Blocks). f a) free.cells ∙ left-cell (cells_in mid) at a ne
 
     others_apart : (a : ℕ) → contains (without at (holders_of old (cells_in before))) a ≡ true → at ≢ a
     others_apart a h e =
         let xs = holders_of old (cells_in before) in
-        true≢false (sym h ∙ ap (contains (without at xs)) (sym e) ∙ gone-apart at xs whole.stands.list.distinct)
+        true≢false (sym h ∙ ap (contains (without at xs)) (sym e) ∙ gone-apart at xs (holders-distinct _ _ _ _ whole.stands))
 
     table_differs : at ≢ new.table.0
     table_differs e =
@@ -138,7 +138,7 @@ module _ {I : Type 0} {V : I → Type 0} (rules : Rules) (before mid : Region I 
     dict-after =
         let xs = holders_of old (cells_in before) in
         let os = without_object at (dictionary_in old before).objects in
-        let zero : contains xs 0 ≡ false = Chain-none (cells_in before) 0 xs 0 whole.stands.list.chain in
+        let zero : contains xs 0 ≡ false = none-at_0 _ _ _ _ whole.stands in
         let with : Option ℕ → Dictionary = λ c. record { method = old.method; objects = os; current = c; table = table_of old.table.0 old.slots } in
         dictionary-told rules new (cells_in after) (without at xs) stands-after
         ∙ dictionary-same new.method old.method (map (object_of (cells_in after)) (without at xs)) os new.current.0 (changes.current_without (Some at) old.current.0 xs) new.table.0 old.table.0 new.slots old.slots
@@ -168,9 +168,8 @@ module _ {I : Type 0} {V : I → Type 0} (rules : Rules) (before mid : Region I 
       whole = whole-after;
       kind = became.kind;
       rest = record {
-        best = free.best;
         disc = keeps-same (disc_in meaning before) (disc_in meaning after) (segments_in before) (segments_in after) (free.disc ∙ ap (boxed meaning) stays.disc) (free.segments ∙ stays-segments before mid stays);
-        labelled = free.labelled ∙ ap labelled stays.region;
+        labelled = free.labelled ∙ ap labelled_blocks stays.layout;
         others = λ a old_apart _. others-after a old_apart;
         fresh = λ a new_within old_apart.
             absurd (true≢false (sym new_within ∙ ap (λ d. contains (owned d) a) dict-after ∙ fewer-owned (rest_in before) (dictionary_in old before) (Some (object_of (cells_in before) at)) a old_apart));
@@ -178,7 +177,7 @@ module _ {I : Type 0} {V : I → Type 0} (rules : Rules) (before mid : Region I 
     }
 
     pub region-taken : rest_in after ≡ freed (rest_in before) at
-    region-taken = free.rest ∙ ap (λ r. freed r at) stays.region
+    region-taken = free.rest ∙ ap (λ r. freed r at) stays.layout
 
     pub gives-taken : GivesRemoved (remove_found (rest_in before) (dictionary_in old before) (Some (object_of (cells_in before) at))) (rest_in after) (dictionary_in new after) (Some (object_at (cells_in mid) at))
     gives-taken = record { region = sym region-taken; dict = sym dict-after; gone = ap (λ z. Some z) (sym object-stays) }
@@ -190,7 +189,7 @@ module _ {I : Type 0} {V : I → Type 0} (rules : Rules) (before mid : Region I 
         (subst (λ z. GivesRemoved (remove_found (rest_in before) (dictionary_in old before) (Some (object_of (cells_in before) at))) (rest_in after) (dictionary_in new after) (Some z)) (sym f) gives-taken)
 
 -- none was asked for
-pub gives-none : (r r' : model.Region ℕ) (d d' : Dictionary) (o : Option Object) → o ≡ None → r' ≡ r → d' ≡ d → GivesRemoved (remove_found r d o) r' d' None
+pub gives-none : (r r' : Layout ℕ) (d d' : Dictionary) (o : Option Object) → o ≡ None → r' ≡ r → d' ≡ d → GivesRemoved (remove_found r d o) r' d' None
 gives-none r r' d d' o e f h = subst (λ z. GivesRemoved (remove_found r d z) r' d' None) (sym e) (record { region = sym f; dict = sym h; gone = refl })
 
 -- the first holder is one of them

@@ -4,24 +4,23 @@ use Rattle.std.specs.Prelude.{IsSome, not, ◌==◌, ◌&&◌, if◌then◌else�
 use Rattle.std.specs.List.{AllByRecursion}
 use Rattle.std.proofs.lemmas.Bool.{true≢false, eq-eqb}
 use Rattle.std.proofs.lemmas.Bool.Decides.{eqb_tells}
+use Rattle.vc_model.specs.Layout.{Layout}
 use Rattle.vc_base.specs.declared.dict_method.DictMethod.{DictMethod}
 use Rattle.vc_base.specs.Cells.{Blocks, body_of}
 use Rattle.vc_base.specs.Holders.{contains, some_address}
 use Rattle.vc_dtdisc.specs.Finds.{object_at}
 use Rattle.vc_dtdisc.specs.Rules.{IsObject, Rules}
-use Rattle.vc_dtlist.proofs.ChainLemmas.{Chain-none}
 use Rattle.vc_dtlist.proofs.HolderLemmas.{apart-cons}
 use Rattle.vc_dthash.specs.Slots.{slots_for}
 use Rattle.vc_dict.specs.declared.dict.Dict.{Dict}
 use Rattle.vc_dict.specs.declared.dict.Dropped.{Dropped}
 use Rattle.vc_dict.specs.Listed.{holders_of}
-use Rattle.vc_dict.specs.Methods.{has_table}
+use Rattle.vc_base.specs.Methods.{has_table}
 use Rattle.vc_dict.specs.Orders as orders
 use Rattle.vc_dict.specs.Stands.{Stands}
 use Rattle.vc_dict.specs.Turned.{CanRemethod, Remethoded}
-use Rattle.vc_dict.proofs.OwnLemmas.{Stands-own, holder-address, holders-told, table-apart}
+use Rattle.vc_dict.proofs.OwnLemmas.{Stands-own, Stands-table, holder-address, holders-distinct, holders-told, none-at_0, table-apart}
 use Rattle.vc_dict.proofs.PassLemmas.{differs}
-use Rattle.vc_region.specs.Region.{Region}
 use Rattle.vc_objects.specs.Insert.{without_table}
 use Rattle.vc_objects.specs.Objects.{Dictionary, Object, Table}
 use Rattle.vc_objects.specs.Parts.{IsWhole, dictionary_of, object_of, table_of}
@@ -86,7 +85,7 @@ module _ (rules : Rules) (method : DictMethod) (d : Dict) (b : Blocks) (t s : �
 
   new-apart : contains hs t ≡ false
   new-apart = elim (eqb_tells t 0) as (λ _. contains hs t ≡ false) [
-    | inl same ↦ subst (λ z. contains hs z ≡ false) (sym same.1) (Chain-none b 0 hs 0 can.whole.stands.list.chain)
+    | inl same ↦ subst (λ z. contains hs z ≡ false) (sym same.1) (none-at_0 _ _ _ _ can.whole.stands)
     | inr apart ↦ (can.fits apart.1).apart
   ]
 
@@ -113,7 +112,7 @@ module _ (rules : Rules) (method : DictMethod) (d : Dict) (b : Blocks) (t s : �
     has-dropped = record {
       holders = gs;
       dropped = done.dropped;
-      distinct = distinct-drops method rules b hs can.whole.stands.list.distinct;
+      distinct = distinct-drops method rules b hs (holders-distinct _ _ _ _ can.whole.stands);
       many = count-dropped;
     }
 
@@ -134,16 +133,16 @@ module _ (rules : Rules) (method : DictMethod) (d : Dict) (b : Blocks) (t s : �
     left-there b3 same ne =
         let e = (left-told ne).1 in
         subst (λ z. IsSome (b3 z)) (sym e)
-        (ap is_some (same d.table.0 (apart-drops method rules b hs d.table.0 old-apart)) ∙ (done.keeps.there d.table.0 ∙ (can.whole.stands.table.some (λ z. ne (e ∙ z))).there))
+        (ap is_some (same d.table.0 (apart-drops method rules b hs d.table.0 old-apart)) ∙ (done.keeps.there d.table.0 ∙ ((Stands-table _ _ _ _ can.whole.stands).some (λ z. ne (e ∙ z))).there))
 
-    pub left-table : (r : Region ℕ) → without_table r (table_of answer.table.0 d.slots) ≡ without_table r (table_left (dictionary_of d b) method)
+    pub left-table : (r : Layout ℕ) → without_table r (table_of answer.table.0 d.slots) ≡ without_table r (table_left (dictionary_of d b) method)
     left-table r = ap (without_table r) (ap (λ z. table_of z d.slots) done.left ∙ gone_by (has_table method) d.table.0 d.slots)
 
     not-left : (a : ℕ) → a ≢ 0 → a ≢ d.table.0 → a ≢ answer.table.0
     not-left a some ne e = ne (e ∙ (left-told (λ z. some (e ∙ z))).1)
 
     table-zero : has_table method ≡ false → d'.table.0 ≡ 0
-    table-zero h = done.stands.plain (ap has_table done.method ∙ h)
+    table-zero h = (done.stands.plain (ap has_table done.method ∙ h)).table
 
     own-apart : contains hs d'.table.0 ≡ false
     own-apart = subst (λ z. contains hs z ≡ false) (sym done.table) (apart_by (has_table method && has_table d.method) hs d.table.0 t old-apart new-apart)
@@ -156,7 +155,7 @@ module _ (rules : Rules) (method : DictMethod) (d : Dict) (b : Blocks) (t s : �
 
       holder-stays : (a : ℕ) → a ≢ 0 → contains ks a ≡ true → b' a ≡ b2 a
       holder-stays a some h =
-          stays a (keeps-apart method rules b hs can.whole.stands.list.distinct a h)
+          stays a (keeps-apart method rules b hs (holders-distinct _ _ _ _ can.whole.stands) a h)
           (not-left a some (λ e. differs hs a d.table.0 (within-keeps method rules b hs a h) old-apart (sym e)))
 
       own-stays : (a : ℕ) → a ≢ 0 → contains (d'.table.0 ∷ ks) a ≡ true → b' a ≡ b2 a

@@ -1,17 +1,15 @@
 -- What freeing a cell of a best region does to the region.
-use Rattle.std.specs.Prelude.{◌≡◌, ℕ, true}
+use Rattle.std.specs.Prelude.{◌≡◌, ℕ}
 use Rattle.vc_model.specs.Discipline.{Discipline}
-use Rattle.vc_region.specs.Cells.{cells_in, labelled, rest_in, without_cell}
-use Rattle.vc_region.specs.Parts.{disc_in, segments_in}
-use Rattle.vc_region.specs.declared.region.Region.{Region}
+use Rattle.vc_best.specs.Cells.{cells_in, labelled_blocks, rest_in, without_cell}
+use Rattle.vc_best.specs.Parts.{disc_in, segments_in}
+use Rattle.vc_best.specs.declared.best.Best.{Best}
 use Rattle.vc_objects.specs.Insert.{freed}
-use Rattle.vc_objects.specs.Objects.{is_best}
 
 -- the cell at an address goes; its segments, its discipline and all other blocks stay
-pub record FreesCell {I : Type 0} {V : I → Type 0} (meaning : (x : I) × V x → Discipline) (before : Region I V) (at : ℕ) (after : Region I V) : Type 0 where
+pub record FreesCell {I : Type 0} {V : I → Type 0} (meaning : (x : I) × V x → Discipline) (before : Best I V) (at : ℕ) (after : Best I V) : Type 0 where
   pub rest : rest_in after ≡ freed (rest_in before) at
-  pub best : is_best (rest_in after) ≡ true
   pub disc : disc_in meaning after ≡ disc_in meaning before
   pub segments : segments_in after ≡ segments_in before
   pub cells : cells_in after ≡ without_cell at (cells_in before)
-  pub labelled : labelled (rest_in after) ≡ labelled (rest_in before)
+  pub labelled : labelled_blocks (rest_in after) ≡ labelled_blocks (rest_in before)

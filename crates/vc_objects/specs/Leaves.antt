@@ -1,5 +1,6 @@
 -- What a call on a dictionary answers, and what it leaves as it was.
 use Rattle.std.specs.Prelude.{◌≡◌, ℕ, ◌⊎◌, List, ◌++◌, Bool, true, false, Option, Some, None, Result, Ok, Err, fold, if◌then◌else◌}
+use Rattle.vc_model.specs.Layout.{Layout}
 use Rattle.vc_base.specs.Holders.{contains}
 use Rattle.vc_model.specs.Addr.{address}
 use Rattle.vc_model.specs.Best.{best_need}
@@ -9,16 +10,15 @@ use Rattle.vc_dtdisc.specs.Rules.{Gone, Rules, gone_after}
 use Rattle.vc_dict.specs.declared.dict.Dict.{Dict}
 use Rattle.vc_seg.specs.declared.fault.RegionFault.{RegionFault}
 use Rattle.vc_seg.specs.declared.fault.RegionFault.TheVariants as code
-use Rattle.vc_region.specs.Cells.{cells_in, labelled, rest_in}
-use Rattle.vc_region.specs.Parts.{disc_in, segments_in}
-use Rattle.vc_region.specs.Region as model
-use Rattle.vc_region.specs.declared.region.Region.{Region}
+use Rattle.vc_best.specs.Cells.{cells_in, labelled_blocks, rest_in}
+use Rattle.vc_best.specs.Parts.{disc_in, segments_in}
+use Rattle.vc_best.specs.declared.best.Best.{Best}
 use Rattle.vc_objects.specs.declared.fate.Fate.{Fate}
 use Rattle.vc_objects.specs.declared.fate.Fate.TheVariants.{Stored, NoTable, NoHolder}
 use Rattle.vc_objects.specs.declared.fate.Want.{Want}
 use Rattle.vc_objects.specs.declared.fate.Want.TheVariants.{TooManySegments, NoSegment}
 use Rattle.vc_objects.specs.Insert.{Grown, Inserted, with_object}
-use Rattle.vc_objects.specs.Objects.{Dictionary, holder_size, is_best, owned, table_size}
+use Rattle.vc_objects.specs.Objects.{Dictionary, holder_size, owned, table_size}
 use Rattle.vc_objects.specs.Parts.{IsWhole, dictionary_in}
 use Rattle.vc_objects.specs.Remove.{Removed}
 use Rattle.vc_objects.specs.Turn.{Turned}
@@ -29,49 +29,44 @@ pub record KeepsDisc (old new : Discipline) (segments segments' : List (ℕ × �
   pub out : (rest : List (ℕ × ℕ)) → old.out ≡ rest ++ segments → new.out ≡ rest ++ segments'
 
 -- a best region but for the blocks at these addresses before and at those after: the labelled blocks stay, the other cells do, and what is new was no cell
-pub record Leaves {I : Type 0} {V : I → Type 0} (meaning : (x : I) × V x → Discipline) (before after : Region I V) (mine mine' : List ℕ) : Type 0 where
-  pub best : is_best (rest_in after) ≡ true
+pub record Leaves {I : Type 0} {V : I → Type 0} (meaning : (x : I) × V x → Discipline) (before after : Best I V) (mine mine' : List ℕ) : Type 0 where
   pub disc : KeepsDisc (disc_in meaning before) (disc_in meaning after) (segments_in before) (segments_in after)
-  pub labelled : labelled (rest_in after) ≡ labelled (rest_in before)
+  pub labelled : labelled_blocks (rest_in after) ≡ labelled_blocks (rest_in before)
   pub others : (a : ℕ) → contains mine a ≡ false → contains mine' a ≡ false → cells_in after a ≡ cells_in before a
   pub fresh : (a : ℕ) → contains mine' a ≡ true → contains mine a ≡ false → cells_in before a ≡ None
 
 -- a call on a dictionary leaves all else, its kind's number among it, and the dictionary whole
-pub record LeavesRest {I : Type 0} {V : I → Type 0} (meaning : (x : I) × V x → Discipline) (rules : Rules) (before : Region I V) (old : Dict) (after : Region I V) (new : Dict) : Type 0 where
+pub record LeavesRest {I : Type 0} {V : I → Type 0} (meaning : (x : I) × V x → Discipline) (rules : Rules) (before : Best I V) (old : Dict) (after : Best I V) (new : Dict) : Type 0 where
   pub whole : IsWhole rules new (cells_in after)
   pub kind : new.kind ≡ old.kind
   pub rest : Leaves meaning before after (owned (dictionary_in old before)) (owned (dictionary_in new after))
 
 -- a call that only looks leaves the region and the dictionary, too
-pub record Looks {I : Type 0} {V : I → Type 0} (meaning : (x : I) × V x → Discipline) (rules : Rules) (before : Region I V) (old : Dict) (after : Region I V) (new : Dict) : Type 0 where
+pub record Looks {I : Type 0} {V : I → Type 0} (meaning : (x : I) × V x → Discipline) (rules : Rules) (before : Best I V) (old : Dict) (after : Best I V) (new : Dict) : Type 0 where
   pub region : rest_in after ≡ rest_in before
   pub dict : dictionary_in new after ≡ dictionary_in old before
   pub disc : disc_in meaning after ≡ disc_in meaning before
   pub leaves : LeavesRest meaning rules before old after new
 
 -- the region and the dictionary are those of an outcome
-abbrev pub HasGrown : Outcome (Grown ℕ) → model.Region ℕ → Dictionary → Type 0
+abbrev pub HasGrown : Outcome (Grown ℕ) → Layout ℕ → Dictionary → Type 0
 HasGrown (Done g) region d = (region ≡ g.region) × (d ≡ g.dict)
 HasGrown (Refused why) region d = ⊥
 
 -- they are those with an object in the block that was put
-abbrev pub HasHeld : Rules → Bool → List ℕ → Dictionary → Outcome (Put (model.Region ℕ)) → model.Region ℕ → Dictionary → Type 0
+abbrev pub HasHeld : Rules → Bool → List ℕ → Dictionary → Outcome (Put (Layout ℕ)) → Layout ℕ → Dictionary → Type 0
 HasHeld rules append bytes old (Done p) region d = (region ≡ p.region) × (d ≡ with_object rules append bytes old (address p.at))
 HasHeld rules append bytes old (Refused why) region d = ⊥
 
 -- with no memory for an object nothing changed, or the table grew for it
-abbrev pub IsHalted : Outcome (Grown ℕ) → model.Region ℕ → Dictionary → model.Region ℕ → Dictionary → Type 0
+abbrev pub IsHalted : Outcome (Grown ℕ) → Layout ℕ → Dictionary → Layout ℕ → Dictionary → Type 0
 IsHalted grown region d region' d' = ((region' ≡ region) × (d' ≡ d)) ⊎ HasGrown grown region' d'
 
 -- what a block wants by the fault of a best region; want of memory is none
 abbrev pub want_by : RegionFault → Option Want
-want_by code.TooManySegments = Some TooManySegments
 want_by code.NoSegment = Some NoSegment
 want_by code.OutOfMemory = None
-want_by code.Fixed = Some TooManySegments
-want_by code.PoolSize = Some TooManySegments
-want_by code.NotLast = Some TooManySegments
-want_by code.WrongMethod = Some TooManySegments
+want_by fault = Some TooManySegments
 
 -- whether a segment was refused for the table, and for the holder
 abbrev pub lacks_segment : Want → Bool
@@ -89,7 +84,7 @@ no_holder (NoTable want) = false
 no_holder (NoHolder want) = lacks_segment want
 
 -- what an object's putting gives is this
-pub record GivesInserted (c : Inserted ℕ) (r : model.Region ℕ) (d : Dictionary) (told : Fate) : Type 0 where
+pub record GivesInserted (c : Inserted ℕ) (r : Layout ℕ) (d : Dictionary) (told : Fate) : Type 0 where
   pub region : c.region ≡ r
   pub dict : c.dict ≡ d
   pub fate : c.fate ≡ told
@@ -133,7 +128,7 @@ Asked (Ok (NoHolder NoSegment)) wanted bytes old new = LacksHolder wanted bytes 
 Asked answer wanted bytes old new = new.faults ≡ old.faults
 
 -- what taking an object out gives is this
-pub record GivesRemoved (c : Removed ℕ) (r : model.Region ℕ) (d : Dictionary) (bytes : Option (List ℕ)) : Type 0 where
+pub record GivesRemoved (c : Removed ℕ) (r : Layout ℕ) (d : Dictionary) (bytes : Option (List ℕ)) : Type 0 where
   pub region : c.region ≡ r
   pub dict : c.dict ≡ d
   pub gone : c.gone ≡ bytes
@@ -147,6 +142,6 @@ told_if tells None gone = gone
 told_if tells (Some object) gone = if tells then gone_after gone object else gone
 
 -- what turning a dictionary gives is this
-abbrev pub GivesTurned : Outcome (Turned ℕ) → model.Region ℕ → Dictionary → Gone → Gone → Type 0
+abbrev pub GivesTurned : Outcome (Turned ℕ) → Layout ℕ → Dictionary → Gone → Gone → Type 0
 GivesTurned (Done t) region d gone gone' = (t.region ≡ region) × (t.dict ≡ d) × (gone' ≡ told_each t.gone gone)
 GivesTurned (Refused why) region d gone gone' = ⊥

@@ -1,5 +1,4 @@
-pub use Rattle.vc_region.specs.Region
-pub use Rattle.vc_region.specs.Cells
+pub use Rattle.vc_best.specs.Cells
 pub use Rattle.vc_dict.specs.Methods
 pub use Rattle.vc_dtdisc.specs.Rules
 pub mod Objects

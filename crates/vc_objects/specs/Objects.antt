@@ -1,7 +1,6 @@
 -- A dictionary and its objects, each in its holder, an unlabelled block of a best region.
-use Rattle.std.specs.Prelude.{ℕ, ◌+◌, ◌*◌, List, [], ◌∷◌, ◌++◌, Bool, true, false, Option, Some, None, length, map}
+use Rattle.std.specs.Prelude.{ℕ, ◌+◌, ◌*◌, List, [], ◌∷◌, ◌++◌, Option, Some, None, length, map}
 use Rattle.vc_base.specs.declared.dict_method.DictMethod.{DictMethod}
-use Rattle.vc_region.specs.Region.{OfBest, OfDebug, OfLast, OfPool, OfProfile, Region}
 
 -- an object: the address of its holder, and its bytes
 pub record Object : Type 0 where
@@ -40,11 +39,3 @@ listed (Some x) = x ∷ []
 -- the addresses of its blocks: of its table and of its holders
 abbrev pub owned : Dictionary → List ℕ
 owned d = map (λ t. t.at) (listed d.table) ++ map (λ o. o.at) d.objects
-
--- dictionaries lie in best regions
-abbrev pub is_best : {L : Type 0} → Region L → Bool
-is_best (OfBest layout) = true
-is_best (OfPool pool) = false
-is_best (OfLast layout) = false
-is_best (OfDebug debug) = false
-is_best (OfProfile profile) = false

@@ -7,11 +7,11 @@ use Rattle.vc_dtdisc.specs.Finds.{object_at}
 use Rattle.vc_dtdisc.specs.Rules.{IsObject, Rules}
 use Rattle.vc_dthash.specs.Slots.{IsSlots, most_slots}
 use Rattle.vc_dict.specs.Listed.{holders_of}
-use Rattle.vc_dict.specs.Methods.{has_table}
+use Rattle.vc_base.specs.Methods.{has_table}
 use Rattle.vc_dict.specs.Stands.{Stands}
 use Rattle.vc_dict.specs.declared.dict.Dict.{Dict}
-use Rattle.vc_region.specs.Cells.{cells_in}
-use Rattle.vc_region.specs.declared.region.Region.{Region}
+use Rattle.vc_best.specs.Cells.{cells_in}
+use Rattle.vc_best.specs.declared.best.Best.{Best}
 use Rattle.vc_objects.specs.Objects.{Dictionary, Object, Table}
 
 -- the object in a holder
@@ -33,7 +33,7 @@ dictionary_of dict blocks =
     }
 
 -- over the cells of a region
-abbrev pub dictionary_in : {I : Type 0} {V : I → Type 0} → Dict → Region I V → Dictionary
+abbrev pub dictionary_in : {I : Type 0} {V : I → Type 0} → Dict → Best I V → Dictionary
 dictionary_in dict region = dictionary_of dict (cells_in region)
 
 -- it stands for its holders by some kind's rules; the current one is none or one of them; a set or bag has a table; and each object has 1 to 1,024 bytes

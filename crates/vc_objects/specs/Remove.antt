@@ -1,20 +1,20 @@
 -- Taking objects out of a dictionary: their holders go.
 use Rattle.std.specs.Prelude.{ℕ, List, [], ◌∷◌, Option, Some, None, map}
+use Rattle.vc_model.specs.Layout.{Layout}
 use Rattle.vc_base.specs.declared.dict_method.DictMethod.{DictMethod}
 use Rattle.vc_base.specs.declared.dict_method.DictMethod.TheVariants.{DtSet, DtBag, DtOset, DtObag, DtList, DtStack, DtQueue}
 use Rattle.vc_dtdisc.specs.Rules.{Rules}
-use Rattle.vc_region.specs.Region.{Region}
 use Rattle.vc_objects.specs.Insert.{freed, without_table}
 use Rattle.vc_objects.specs.Lists.{current_without, first_object, first_with, without_object}
 use Rattle.vc_objects.specs.Objects.{Dictionary, Object}
 
 -- a region and a dictionary in it after an object was taken out, and that object's bytes, where there was one
 pub record Removed (L : Type 0) : Type 0 where
-  pub region : Region L
+  pub region : Layout L
   pub dict : Dictionary
   pub gone : Option (List ℕ)
 
-abbrev pub remove_found : {L : Type 0} → Region L → Dictionary → Option Object → Removed L
+abbrev pub remove_found : {L : Type 0} → Layout L → Dictionary → Option Object → Removed L
 remove_found r d None = record { region = r; dict = d; gone = None }
 remove_found r d (Some o) =
     record {
@@ -29,11 +29,11 @@ remove_found r d (Some o) =
     }
 
 -- the first object that has a key is taken out
-abbrev pub remove : {L : Type 0} → Rules → Region L → Dictionary → List ℕ → Removed L
+abbrev pub remove : {L : Type 0} → Rules → Layout L → Dictionary → List ℕ → Removed L
 remove rules r d key = remove_found r d (first_with rules key d.objects)
 
 -- the first object is taken out
-abbrev pub remove_first : {L : Type 0} → Region L → Dictionary → Removed L
+abbrev pub remove_first : {L : Type 0} → Layout L → Dictionary → Removed L
 remove_first r d = remove_found r d (first_object d.objects)
 
 -- the object that goes where none is named: the first one of a stack or queue
@@ -47,11 +47,11 @@ unnamed DtStack objects = first_object objects
 unnamed DtQueue objects = first_object objects
 
 -- the first object is taken out, of a stack or queue
-abbrev pub remove_unnamed : {L : Type 0} → Region L → Dictionary → Removed L
+abbrev pub remove_unnamed : {L : Type 0} → Layout L → Dictionary → Removed L
 remove_unnamed r d = remove_found r d (unnamed d.method d.objects)
 
 -- the holders of these objects go
-abbrev pub freed_all : {L : Type 0} → Region L → List Object → Region L
+abbrev pub freed_all : {L : Type 0} → Layout L → List Object → Layout L
 freed_all r [] = r
 freed_all r (o ∷ os) = freed_all (freed r o.at) os
 
@@ -64,5 +64,5 @@ abbrev pub emptied : Dictionary → Dictionary
 emptied d = record { method = d.method; objects = []; current = None; table = d.table }
 
 -- the region when a dictionary ends: without its holders and its table
-abbrev pub region_without : {L : Type 0} → Region L → Dictionary → Region L
+abbrev pub region_without : {L : Type 0} → Layout L → Dictionary → Layout L
 region_without r d = without_table (freed_all r d.objects) d.table

@@ -4,12 +4,11 @@ use Rattle.vc_base.specs.declared.dict_method.DictMethod.{DictMethod}
 use Rattle.vc_base.specs.declared.dict_method.DictMethod.TheVariants.{DtBag}
 use Rattle.vc_model.specs.Best.{zeros}
 use Rattle.vc_model.specs.Discipline.{Terms}
-use Rattle.vc_model.specs.Layout.{Block}
+use Rattle.vc_model.specs.Layout.{Block, Layout}
 use Rattle.vc_model.specs.Outcome.{Outcome}
 use Rattle.vc_dtdisc.specs.Rules.{Rules}
 use Rattle.vc_dtdisc.specs.Shapes.{rules_of}
 use Rattle.vc_dtdisc.specs.declared.shape.Shape.TheVariants.{Fold}
-use Rattle.vc_region.specs.Region.{OfBest, Region, blocks_of}
 use Rattle.vc_objects.specs.Insert.{Inserted, insert}
 use Rattle.vc_objects.specs.Lists.{linked}
 use Rattle.vc_objects.specs.Objects.{Dictionary, Object, Table}
@@ -48,11 +47,11 @@ abbrev pub with_upper : Bool → DictMethod → Option ℕ → List Object → L
 with_upper append method current objects = linked append method by_fold current upper_b objects
 
 -- a best region of segment 1, with blocks
-abbrev pub segment_of : ℕ → List (Block ℕ) → Region ℕ
-segment_of bytes blocks = OfBest (record { segments = (1, bytes) ∷ []; blocks = blocks })
+abbrev pub segment_of : ℕ → List (Block ℕ) → Layout ℕ
+segment_of bytes blocks = record { segments = (1, bytes) ∷ []; blocks = blocks }
 
 -- with no block
-abbrev pub one_segment : Region ℕ
+abbrev pub one_segment : Layout ℕ
 one_segment = segment_of 4096 []
 
 -- an unlabelled block of zeros at an offset of segment 1
@@ -63,7 +62,7 @@ at_offset size off = zeros 0 size (1, off)
 abbrev pub three_holders : List (Block ℕ)
 three_holders = at_offset 33 32 ∷ at_offset 33 96 ∷ at_offset 33 160 ∷ []
 
-abbrev pub held_region : Region ℕ
+abbrev pub held_region : Layout ℕ
 held_region = segment_of 4096 (three_holders ++ at_offset 128 224 ∷ [])
 
 abbrev pub first_table : Table
@@ -89,7 +88,7 @@ abbrev pub full_bag : Dictionary
 full_bag = bag_of 32
 
 -- that table alone, in a segment of so many bytes
-abbrev pub table_in : ℕ → Region ℕ
+abbrev pub table_in : ℕ → Layout ℕ
 table_in bytes = segment_of bytes (at_offset 128 224 ∷ [])
 
 -- so many segments of 64 bytes, from a number on
@@ -98,15 +97,15 @@ small_segments n zero = []
 small_segments n (suc more) = (n, 64) ∷ small_segments (n + 1) more
 
 -- a best region that can have no more segments, and has no room
-abbrev pub full_region : Region ℕ
-full_region = OfBest (record { segments = small_segments 1 1023; blocks = [] })
+abbrev pub full_region : Layout ℕ
+full_region = record { segments = small_segments 1 1023; blocks = [] }
 
 -- the offsets of the blocks of a region
-abbrev pub offsets_in : Region ℕ → List ℕ
-offsets_in r = map (λ b. b.off) (blocks_of r)
+abbrev pub offsets_in : Layout ℕ → List ℕ
+offsets_in r = map (λ b. b.off) r.blocks
 
 -- an object is put into a dictionary in a region
-abbrev pub put_in : Region ℕ → Dictionary → List ℕ → Bool → Bool → Inserted ℕ
+abbrev pub put_in : Layout ℕ → Dictionary → List ℕ → Bool → Bool → Inserted ℕ
 put_in r d bytes no_table no_holder = insert by_fold by_page r 0 d false bytes no_table no_holder
 
 -- that bag of three is turned to a method

@@ -1,13 +1,14 @@
 -- Turning a dictionary to another method.
 use Rattle.std.specs.Prelude.{ℕ, List, [], ◌∷◌, ◌++◌, Bool, Option, Some, None, is_some, length, ◌==◌, if◌then◌else◌}
+use Rattle.vc_model.specs.Layout.{Layout}
 use Rattle.vc_base.specs.declared.dict_method.DictMethod.{DictMethod}
 use Rattle.vc_base.specs.declared.dict_method.DictMethod.TheVariants.{DtSet, DtBag, DtOset, DtObag, DtList, DtStack, DtQueue}
 use Rattle.vc_model.specs.Addr.{address}
 use Rattle.vc_model.specs.Discipline.{Terms}
 use Rattle.vc_model.specs.Outcome.{Outcome, Done, Refused, Put}
-use Rattle.vc_dict.specs.Methods.{has_table, is_ordered, is_set, slots_between}
+use Rattle.vc_base.specs.Methods.{has_table, is_ordered, is_set, method_number}
+use Rattle.vc_dict.specs.Methods.{slots_between}
 use Rattle.vc_dtdisc.specs.Rules.{Rules}
-use Rattle.vc_region.specs.Region.{Region}
 use Rattle.vc_objects.specs.Insert.{alloc_unlabelled, without_table}
 use Rattle.vc_objects.specs.Lists.{first_with, placed}
 use Rattle.vc_objects.specs.Objects.{Dictionary, Object, Table, listed, table_size}
@@ -43,40 +44,30 @@ kept_by method rules objects = if is_set method then kept rules [] objects else 
 abbrev pub dropped_by : DictMethod → Rules → List Object → List Object
 dropped_by method rules objects = if is_set method then dropped rules [] objects else []
 
--- the methods in their order
-abbrev pub number_of : DictMethod → ℕ
-number_of DtSet = 0
-number_of DtBag = 1
-number_of DtOset = 2
-number_of DtObag = 3
-number_of DtList = 4
-number_of DtStack = 5
-number_of DtQueue = 6
-
 -- a region and a dictionary in it, turned; the bytes of the objects that were dropped; and the segments that were granted
 pub record Turned (L : Type 0) : Type 0 where
-  pub region : Region L
+  pub region : Layout L
   pub dict : Dictionary
   pub gone : List (List ℕ)
   pub granted : List (ℕ × ℕ)
 
 -- a region with the table that the new method brings, where it brings one
 pub record Brought (L : Type 0) : Type 0 where
-  pub region : Region L
+  pub region : Layout L
   pub table : Option Table
   pub granted : List (ℕ × ℕ)
 
-abbrev pub brought : {L : Type 0} → ℕ → Outcome (Put (Region L)) → Outcome (Brought L)
+abbrev pub brought : {L : Type 0} → ℕ → Outcome (Put (Layout L)) → Outcome (Brought L)
 brought slots (Refused why) = Refused why
 brought slots (Done p) =
     Done (record { region = p.region; table = Some (record { at = address p.at; slots = slots }); granted = listed p.granted })
 
-abbrev pub bring_of : {L : Type 0} → Terms → Region L → L → Bool → Option ℕ → Outcome (Brought L)
+abbrev pub bring_of : {L : Type 0} → Terms → Layout L → L → Bool → Option ℕ → Outcome (Brought L)
 bring_of terms r none refused None = Done (record { region = r; table = None; granted = [] })
 bring_of terms r none refused (Some slots) = brought slots (alloc_unlabelled terms r none (table_size slots) refused)
 
 -- the table comes before all else, with slots for the count before any object is dropped
-abbrev pub bring : {L : Type 0} → Terms → Region L → L → Dictionary → DictMethod → Bool → Outcome (Brought L)
+abbrev pub bring : {L : Type 0} → Terms → Layout L → L → Dictionary → DictMethod → Bool → Outcome (Brought L)
 bring terms r none d method refused = bring_of terms r none refused (slots_between d.method method (length d.objects))
 
 -- between set and bag the table stays, and else it is the one that was brought
@@ -111,8 +102,8 @@ turned_with rules method d (Done b) =
     })
 
 -- a dictionary is turned to a method; the present one changes nothing
-abbrev pub turn : {L : Type 0} → Rules → Terms → Region L → L → Dictionary → DictMethod → Bool → Outcome (Turned L)
+abbrev pub turn : {L : Type 0} → Rules → Terms → Layout L → L → Dictionary → DictMethod → Bool → Outcome (Turned L)
 turn rules terms r none d method refused =
-    if number_of method == number_of d.method
+    if method_number method == method_number d.method
     then Done (record { region = r; dict = d; gone = []; granted = [] })
     else turned_with rules method d (bring terms r none d method refused)

@@ -1,5 +1,6 @@
 -- The steps of turning a dictionary to another method: a table is brought, the heads turn, and what is left over goes.
 use Rattle.std.specs.Prelude.{◌≡◌, ◌≢◌, ℕ, List, false, Option, Some, None, length, map, replicate, ◌==◌, if◌then◌else◌}
+use Rattle.vc_model.specs.Layout.{Layout}
 use Rattle.vc_base.specs.declared.dict_method.DictMethod.{DictMethod}
 use Rattle.vc_base.specs.Cells.{Blocks, put}
 use Rattle.vc_base.specs.Holders.{AreDistinct, contains}
@@ -10,7 +11,6 @@ use Rattle.vc_dict.specs.declared.dict.Dict.{Dict}
 use Rattle.vc_dict.specs.Listed.{holders_of}
 use Rattle.vc_dict.specs.Methods.{slots_between}
 use Rattle.vc_dict.specs.Turned.{AreDropped}
-use Rattle.vc_region.specs.Region as model
 use Rattle.vc_objects.specs.Leaves.{told_each}
 use Rattle.vc_objects.specs.Objects.{table_size}
 use Rattle.vc_objects.specs.Parts.{IsWhole, object_of, table_of}
@@ -18,7 +18,7 @@ use Rattle.vc_objects.specs.Remove.{bytes_of, freed_all}
 use Rattle.vc_objects.specs.Turn.{Brought}
 
 -- the region and the table are those of an outcome
-abbrev pub HasBrought : Outcome (Brought ℕ) → model.Region ℕ → ℕ → ℕ → Type 0
+abbrev pub HasBrought : Outcome (Brought ℕ) → Layout ℕ → ℕ → ℕ → Type 0
 HasBrought (Done b) region table slots = (b.region ≡ region) × (b.table ≡ table_of table slots)
 HasBrought (Refused why) region table slots = ⊥
 
@@ -45,7 +45,7 @@ pub record HasDropped (blocks : Blocks) (first count : ℕ) : Type 0 where
   pub many : count ≡ length holders
 
 -- these holders were freed, and the kind was told of their objects; the other cells stay
-pub record Frees (holders : List ℕ) (before : Blocks) (old : model.Region ℕ) (gone : Gone) (after : Blocks) (new : model.Region ℕ) (gone' : Gone) : Type 0 where
+pub record Frees (holders : List ℕ) (before : Blocks) (old : Layout ℕ) (gone : Gone) (after : Blocks) (new : Layout ℕ) (gone' : Gone) : Type 0 where
   pub region : new ≡ freed_all old (map (object_of before) holders)
   pub told : gone' ≡ told_each (bytes_of (map (object_of before) holders)) gone
   pub others : (a : ℕ) → contains holders a ≡ false → after a ≡ before a

@@ -1,23 +1,23 @@
 // Putting objects into a dictionary.
 ghost use Rattle.std.specs.Prelude.{◌≡◌, None, true, false, IfOk, IfErr, OnErr, OnOk};
 ghost use Rattle.vc_dtdisc.specs.Rules.{IsObject};
-ghost use Rattle.vc_dict.specs.Methods.{is_list, is_set};
-ghost use Rattle.vc_region.specs.Cells.{cells_in, rest_in};
-ghost use Rattle.vc_region.specs.Parts.{disc_in};
+ghost use Rattle.vc_base.specs.Methods.{is_list, is_set};
+ghost use Rattle.vc_best.specs.Cells.{cells_in, rest_in};
+ghost use Rattle.vc_best.specs.Parts.{disc_in};
 ghost use Rattle.vc_seg.specs.Answer.{IsRefusal};
 ghost use Rattle.vc_objects.specs.Insert.{alloc_unlabelled, grow, insert, slots_wanted};
 ghost use Rattle.vc_objects.specs.Leaves.{Asked, AskedHolder, AskedTable, GivesInserted, HasGrown, HasHeld, IsHalted, LeavesRest, no_holder, no_table, want_by};
 ghost use Rattle.vc_objects.specs.Lists.{first_with};
-ghost use Rattle.vc_objects.specs.Objects.{holder_size, is_best};
+ghost use Rattle.vc_objects.specs.Objects.{holder_size};
 ghost use Rattle.vc_objects.specs.Parts.{IsWhole, dictionary_in};
 
 use crate::cells::alloc_cell;
 use crate::fate::{Fate, Want};
 use crate::tables::put_table;
 use vc_base::{Cells, OutOfMemory, Steps};
+use vc_best::Best;
 use vc_dict::Dict;
 use vc_dtdisc::DictDisc;
-use vc_region::Region;
 use vc_seg::{BoxedDisc, RegionFault, SegDisc};
 
 // What a block wants by the fault of a best region; want of memory is none.
@@ -32,73 +32,71 @@ fn want_of(fault: RegionFault) -> Option<Want>
 }
 
 // The table grows where one more object wants it.
-fn grow<D: DictDisc>(region: &mut Region, dict: &mut Dict, kind: &D) -> Result<(), RegionFault>
-    requires best { is_best (rest_in region.old) ≡ true }
-    requires whole { IsWhole (D.rules kind.now) dict.old (cells_in region.old) }
+fn grow<D: DictDisc>(best: &mut Best, dict: &mut Dict, kind: &D) -> Result<(), RegionFault>
+    requires whole { IsWhole (D.rules kind.now) dict.old (cells_in best.old) }
 
     ensures ok { OnOk result (HasGrown
-        (grow (disc_in state region.old).terms (rest_in region.old) 0
-        (dictionary_in dict.old region.old) false)
-        (rest_in region.new) (dictionary_in dict.new region.new)) }
-    ensures room { OnOk result (slots_wanted (dictionary_in dict.new region.new) ≡ None) }
-    ensures leaves { LeavesRest state (D.rules kind.now) region.old dict.old region.new dict.new }
-    ensures same { slots_wanted (dictionary_in dict.old region.old) ≡ None
-        → disc_in state region.new ≡ disc_in state region.old }
+        (grow (disc_in state best.old).terms (rest_in best.old) 0
+        (dictionary_in dict.old best.old) false)
+        (rest_in best.new) (dictionary_in dict.new best.new)) }
+    ensures room { OnOk result (slots_wanted (dictionary_in dict.new best.new) ≡ None) }
+    ensures leaves { LeavesRest state (D.rules kind.now) best.old dict.old best.new dict.new }
+    ensures same { slots_wanted (dictionary_in dict.old best.old) ≡ None
+        → disc_in state best.new ≡ disc_in state best.old }
 
     // With no block for the table nothing changed.
     ensures err { IfErr result (λ why. IsRefusal
-        (grow (disc_in state region.old).terms (rest_in region.old) 0
-        (dictionary_in dict.old region.old)) why
-        × (rest_in region.new ≡ rest_in region.old)
-        × (dictionary_in dict.new region.new ≡ dictionary_in dict.old region.old)) }
-    ensures asked { AskedTable result (slots_wanted (dictionary_in dict.old region.old))
-        (disc_in state region.old) (disc_in state region.new) }
+        (grow (disc_in state best.old).terms (rest_in best.old) 0
+        (dictionary_in dict.old best.old)) why
+        × (rest_in best.new ≡ rest_in best.old)
+        × (dictionary_in dict.new best.new ≡ dictionary_in dict.old best.old)) }
+    ensures asked { AskedTable result (slots_wanted (dictionary_in dict.old best.old))
+        (disc_in state best.old) (disc_in state best.new) }
 {
     match dict.wants_table(1) {
         None => Ok(()),
-        Some(slots) => put_table(region, dict, kind, slots),
+        Some(slots) => put_table(best, dict, kind, slots),
     }
 }
 
 // An object gets a holder, and joins a dictionary whose table has room.
 fn hold<D: DictDisc, L>(
-    region: &mut Region,
+    best: &mut Best,
     dict: &mut Dict,
     kind: &D,
     object: &[u8],
     append: bool,
     steps: &mut Steps<L>,
 ) -> Result<(), RegionFault>
-    requires best { is_best (rest_in region.old) ≡ true }
-    requires whole { IsWhole (D.rules kind.now) dict.old (cells_in region.old) }
-    requires room { slots_wanted (dictionary_in dict.old region.old) ≡ None }
+    requires whole { IsWhole (D.rules kind.now) dict.old (cells_in best.old) }
+    requires room { slots_wanted (dictionary_in dict.old best.old) ≡ None }
     requires lone { is_set dict.old.method ≡ true → first_with (D.rules kind.now)
-        ((D.rules kind.now).key object.now) (dictionary_in dict.old region.old).objects ≡ None }
+        ((D.rules kind.now).key object.now) (dictionary_in dict.old best.old).objects ≡ None }
     requires object { IsObject object.now }
     requires append { append ≡ true → is_list dict.old.method ≡ true }
 
     ensures ok { OnOk result (HasHeld (D.rules kind.now) append object.now
-        (dictionary_in dict.old region.old)
-        (alloc_unlabelled (disc_in state region.old).terms (rest_in region.old) 0
+        (dictionary_in dict.old best.old)
+        (alloc_unlabelled (disc_in state best.old).terms (rest_in best.old) 0
         (holder_size object.now) false)
-        (rest_in region.new) (dictionary_in dict.new region.new)) }
-    ensures leaves { LeavesRest state (D.rules kind.now) region.old dict.old region.new dict.new }
-    ensures table { (dictionary_in dict.new region.new).table
-        ≡ (dictionary_in dict.old region.old).table }
+        (rest_in best.new) (dictionary_in dict.new best.new)) }
+    ensures leaves { LeavesRest state (D.rules kind.now) best.old dict.old best.new dict.new }
+    ensures table { (dictionary_in dict.new best.new).table
+        ≡ (dictionary_in dict.old best.old).table }
 
     // With no block for the holder nothing changed.
     ensures err { IfErr result (λ why. IsRefusal
-        (alloc_unlabelled (disc_in state region.old).terms (rest_in region.old) 0
+        (alloc_unlabelled (disc_in state best.old).terms (rest_in best.old) 0
         (holder_size object.now)) why
-        × (rest_in region.new ≡ rest_in region.old)
-        × (dictionary_in dict.new region.new ≡ dictionary_in dict.old region.old)) }
+        × (rest_in best.new ≡ rest_in best.old)
+        × (dictionary_in dict.new best.new ≡ dictionary_in dict.old best.old)) }
     ensures asked { AskedHolder result object.now
-        (disc_in state region.old) (disc_in state region.new) }
+        (disc_in state best.old) (disc_in state best.new) }
 {
-    match alloc_cell(region, 32 + object.len() as u32) {
+    match alloc_cell(best, 32 + object.len() as u32) {
         Ok(at) => {
-            region.set_body(at, object);
-            dict.link(region, kind, at, append, steps);
+            best.set_body(at, object);
+            dict.link(best, kind, at, append, steps);
             Ok(())
         }
         Err(fault) => Err(fault),
@@ -109,40 +107,39 @@ fn hold<D: DictDisc, L>(
 /// lists, and makes it current. In a set or ordered set no object matches. The table of a set or bag grows first where it
 /// must; then comes the holder. What either wants is told, and nothing else is changed then.
 pub fn insert<D: DictDisc, L>(
-    region: &mut Region,
+    best: &mut Best,
     dict: &mut Dict,
     kind: &D,
     object: &[u8],
     append: bool,
     steps: &mut Steps<L>,
 ) -> Result<Fate, OutOfMemory>
-    requires best { is_best (rest_in region.old) ≡ true }
-    requires whole { IsWhole (D.rules kind.now) dict.old (cells_in region.old) }
+    requires whole { IsWhole (D.rules kind.now) dict.old (cells_in best.old) }
     requires lone { is_set dict.old.method ≡ true → first_with (D.rules kind.now)
-        ((D.rules kind.now).key object.now) (dictionary_in dict.old region.old).objects ≡ None }
+        ((D.rules kind.now).key object.now) (dictionary_in dict.old best.old).objects ≡ None }
     requires object { IsObject object.now }
     requires append { append ≡ true → is_list dict.old.method ≡ true }
 
     ensures ok { IfOk result (λ fate. GivesInserted
-        (insert (D.rules kind.now) (disc_in state region.old).terms (rest_in region.old) 0
-        (dictionary_in dict.old region.old) append object.now (no_table fate) (no_holder fate))
-        (rest_in region.new) (dictionary_in dict.new region.new) fate) }
-    ensures leaves { LeavesRest state (D.rules kind.now) region.old dict.old region.new dict.new }
+        (insert (D.rules kind.now) (disc_in state best.old).terms (rest_in best.old) 0
+        (dictionary_in dict.old best.old) append object.now (no_table fate) (no_holder fate))
+        (rest_in best.new) (dictionary_in dict.new best.new) fate) }
+    ensures leaves { LeavesRest state (D.rules kind.now) best.old dict.old best.new dict.new }
 
     // What was refused was asked for, and no segment else was refused.
     ensures asked { Asked result
-        (slots_wanted (dictionary_in dict.old region.old)) object.now
-        (disc_in state region.old) (disc_in state region.new) }
+        (slots_wanted (dictionary_in dict.old best.old)) object.now
+        (disc_in state best.old) (disc_in state best.new) }
 
     // With no memory nothing changed, or the table grew.
     ensures err { OnErr result (IsHalted
-        (grow (disc_in state region.old).terms (rest_in region.old) 0
-        (dictionary_in dict.old region.old) false)
-        (rest_in region.old) (dictionary_in dict.old region.old)
-        (rest_in region.new) (dictionary_in dict.new region.new)) }
+        (grow (disc_in state best.old).terms (rest_in best.old) 0
+        (dictionary_in dict.old best.old) false)
+        (rest_in best.old) (dictionary_in dict.old best.old)
+        (rest_in best.new) (dictionary_in dict.new best.new)) }
 {
-    match grow(region, dict, kind) {
-        Ok(()) => match hold(region, dict, kind, object, append, steps) {
+    match grow(best, dict, kind) {
+        Ok(()) => match hold(best, dict, kind, object, append, steps) {
             Ok(()) => Ok(Fate::Stored),
             Err(fault) => match want_of(fault) {
                 Some(want) => Ok(Fate::NoHolder(want)),

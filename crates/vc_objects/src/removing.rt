@@ -3,19 +3,18 @@ ghost use Rattle.std.specs.Prelude.{◌≡◌, ◌≤◌, [], Some, None, true, 
 ghost use Rattle.std.specs.Vec.{vec_capacity};
 ghost use Rattle.vc_base.specs.Cells.{IsHolder};
 ghost use Rattle.vc_dtdisc.specs.Finds.{object_at};
-ghost use Rattle.vc_region.specs.Cells.{cells_in, rest_in};
-ghost use Rattle.vc_region.specs.Parts.{disc_in};
+ghost use Rattle.vc_best.specs.Cells.{cells_in, rest_in};
+ghost use Rattle.vc_best.specs.Parts.{disc_in};
 ghost use Rattle.vc_objects.specs.Freed.{FreesCell};
 ghost use Rattle.vc_objects.specs.Leaves.{GivesRemoved, LeavesRest, told_if};
-ghost use Rattle.vc_objects.specs.Objects.{is_best};
 ghost use Rattle.vc_objects.specs.Parts.{IsWhole, dictionary_in};
 ghost use Rattle.vc_objects.specs.Remove.{remove, remove_first, remove_unnamed};
 
 use crate::cells::free_cell;
 use vc_base::{Addr, Cells, DictMethod, Steps};
+use vc_best::Best;
 use vc_dict::Dict;
 use vc_dtdisc::DictDisc;
-use vc_region::Region;
 use vc_seg::{BoxedDisc, SegDisc};
 
 // Tells the kind of an object where that is wanted.
@@ -29,31 +28,30 @@ fn tell<D: DictDisc>(kind: &mut D, object: &[u8], tells: bool)
 }
 
 // Copies the object of a holder that was taken out, tells the kind of it where that is wanted, and frees the holder.
-fn release<D: DictDisc>(region: &mut Region, kind: &mut D, at: Addr, tells: bool, out: &mut Vec<u8>)
-    requires best { is_best (rest_in region.old) ≡ true }
-    requires holder { IsHolder (cells_in region.old) at.0 }
-    requires small { length (object_at (cells_in region.old) at.0) ≤ 1024 }
+fn release<D: DictDisc>(best: &mut Best, kind: &mut D, at: Addr, tells: bool, out: &mut Vec<u8>)
+    requires holder { IsHolder (cells_in best.old) at.0 }
+    requires small { length (object_at (cells_in best.old) at.0) ≤ 1024 }
     requires empty { out.old.items ≡ [] }
     requires room { 1024 ≤ vec_capacity out.old }
 
-    ensures out { out.new.items ≡ object_at (cells_in region.old) at.0 }
-    ensures freed { FreesCell state region.old at.0 region.new }
+    ensures out { out.new.items ≡ object_at (cells_in best.old) at.0 }
+    ensures freed { FreesCell state best.old at.0 best.new }
     ensures rules { D.rules kind.new ≡ D.rules kind.old }
     ensures gone { D.gone kind.new ≡ told_if tells
-        (Some (object_at (cells_in region.old) at.0)) (D.gone kind.old) }
+        (Some (object_at (cells_in best.old) at.0)) (D.gone kind.old) }
 {
-    let object = region.body(at);
+    let object = best.body(at);
     // There is room, so this takes no memory and cannot fail.
     let _ = out.extend_from_slice(object);
     tell(kind, object, tells);
-    free_cell(region, at);
+    free_cell(best, at);
 }
 
 /// Takes out the first object that has a key, and answers whether there is one. Its bytes come into `out`, which is empty
 /// and has room for 1,024; the kind is told of it where that is wanted; and its holder goes. Where it was current, the one
 /// behind it is, or none.
 pub fn remove<D: DictDisc, L>(
-    region: &mut Region,
+    best: &mut Best,
     dict: &mut Dict,
     kind: &mut D,
     key: &[u8],
@@ -61,25 +59,24 @@ pub fn remove<D: DictDisc, L>(
     out: &mut Vec<u8>,
     steps: &mut Steps<L>,
 ) -> bool
-    requires best { is_best (rest_in region.old) ≡ true }
-    requires whole { IsWhole (D.rules kind.old) dict.old (cells_in region.old) }
+    requires whole { IsWhole (D.rules kind.old) dict.old (cells_in best.old) }
     requires empty { out.old.items ≡ [] }
     requires room { 1024 ≤ vec_capacity out.old }
 
     ensures gives { GivesRemoved
-        (remove (D.rules kind.old) (rest_in region.old) (dictionary_in dict.old region.old) key.now)
-        (rest_in region.new) (dictionary_in dict.new region.new)
+        (remove (D.rules kind.old) (rest_in best.old) (dictionary_in dict.old best.old) key.now)
+        (rest_in best.new) (dictionary_in dict.new best.new)
         (if result then Some out.new.items else None) }
-    ensures leaves { LeavesRest state (D.rules kind.old) region.old dict.old region.new dict.new }
-    ensures disc { disc_in state region.new ≡ disc_in state region.old }
+    ensures leaves { LeavesRest state (D.rules kind.old) best.old dict.old best.new dict.new }
+    ensures disc { disc_in state best.new ≡ disc_in state best.old }
     ensures rules { D.rules kind.new ≡ D.rules kind.old }
     ensures gone { D.gone kind.new ≡ told_if tells
         (if result then Some out.new.items else None) (D.gone kind.old) }
     ensures nothing { result ≡ false → out.new.items ≡ [] }
 {
-    match dict.unlink(region, kind, key, steps) {
+    match dict.unlink(best, kind, key, steps) {
         Some(at) => {
-            release(region, kind, at, tells, out);
+            release(best, kind, at, tells, out);
             true
         }
         None => false,
@@ -88,30 +85,29 @@ pub fn remove<D: DictDisc, L>(
 
 // Takes out the first object, telling the kind.
 fn remove_first<D: DictDisc>(
-    region: &mut Region,
+    best: &mut Best,
     dict: &mut Dict,
     kind: &mut D,
     out: &mut Vec<u8>,
 ) -> bool
-    requires best { is_best (rest_in region.old) ≡ true }
-    requires whole { IsWhole (D.rules kind.old) dict.old (cells_in region.old) }
+    requires whole { IsWhole (D.rules kind.old) dict.old (cells_in best.old) }
     requires empty { out.old.items ≡ [] }
     requires room { 1024 ≤ vec_capacity out.old }
 
     ensures gives { GivesRemoved
-        (remove_first (rest_in region.old) (dictionary_in dict.old region.old))
-        (rest_in region.new) (dictionary_in dict.new region.new)
+        (remove_first (rest_in best.old) (dictionary_in dict.old best.old))
+        (rest_in best.new) (dictionary_in dict.new best.new)
         (if result then Some out.new.items else None) }
-    ensures leaves { LeavesRest state (D.rules kind.old) region.old dict.old region.new dict.new }
-    ensures disc { disc_in state region.new ≡ disc_in state region.old }
+    ensures leaves { LeavesRest state (D.rules kind.old) best.old dict.old best.new dict.new }
+    ensures disc { disc_in state best.new ≡ disc_in state best.old }
     ensures rules { D.rules kind.new ≡ D.rules kind.old }
     ensures gone { D.gone kind.new ≡ told_if true
         (if result then Some out.new.items else None) (D.gone kind.old) }
     ensures nothing { result ≡ false → out.new.items ≡ [] }
 {
-    match dict.take_first(region, kind) {
+    match dict.take_first(best, kind) {
         Some(at) => {
-            release(region, kind, at, true, out);
+            release(best, kind, at, true, out);
             true
         }
         None => false,
@@ -120,29 +116,28 @@ fn remove_first<D: DictDisc>(
 
 /// Takes out the first object of a stack or queue as `remove` does, telling the kind; of another method none.
 pub fn remove_unnamed<D: DictDisc>(
-    region: &mut Region,
+    best: &mut Best,
     dict: &mut Dict,
     kind: &mut D,
     out: &mut Vec<u8>,
 ) -> bool
-    requires best { is_best (rest_in region.old) ≡ true }
-    requires whole { IsWhole (D.rules kind.old) dict.old (cells_in region.old) }
+    requires whole { IsWhole (D.rules kind.old) dict.old (cells_in best.old) }
     requires empty { out.old.items ≡ [] }
     requires room { 1024 ≤ vec_capacity out.old }
 
     ensures gives { GivesRemoved
-        (remove_unnamed (rest_in region.old) (dictionary_in dict.old region.old))
-        (rest_in region.new) (dictionary_in dict.new region.new)
+        (remove_unnamed (rest_in best.old) (dictionary_in dict.old best.old))
+        (rest_in best.new) (dictionary_in dict.new best.new)
         (if result then Some out.new.items else None) }
-    ensures leaves { LeavesRest state (D.rules kind.old) region.old dict.old region.new dict.new }
-    ensures disc { disc_in state region.new ≡ disc_in state region.old }
+    ensures leaves { LeavesRest state (D.rules kind.old) best.old dict.old best.new dict.new }
+    ensures disc { disc_in state best.new ≡ disc_in state best.old }
     ensures rules { D.rules kind.new ≡ D.rules kind.old }
     ensures gone { D.gone kind.new ≡ told_if true
         (if result then Some out.new.items else None) (D.gone kind.old) }
     ensures nothing { result ≡ false → out.new.items ≡ [] }
 {
     match dict.method {
-        DictMethod::DtStack | DictMethod::DtQueue => remove_first(region, dict, kind, out),
+        DictMethod::DtStack | DictMethod::DtQueue => remove_first(best, dict, kind, out),
         _ => false,
     }
 }

@@ -4,7 +4,7 @@ use Rattle.vc_commands.proofs.listing.copied.Goals as goal
 
 pub body-requires : goal.body-requires
 body-requires g c =
-    holder-bytes c.args.dict.now c.args.region.now (g.D.DictDisc.rules c.args._kind.now) c.args.at.0 c.requires.whole c.requires.within
+    holder-bytes c.args.dict.now c.args.best.now (g.D.DictDisc.rules c.args._kind.now) c.args.at.0 c.requires.whole c.requires.within
 
 pub returns : goal.returns
 returns g c =

@@ -4,4 +4,4 @@ use Rattle.vc_commands.proofs.Found.{counted}
 use Rattle.vc_commands.proofs.listing.count.Goals as goal
 
 pub returns : goal.returns
-returns g c = ap Number (sym (counted c.args.dict.now c.args._region.now))
+returns g c = ap Number (sym (counted c.args.dict.now c.args._best.now))

@@ -7,12 +7,12 @@ use Rattle.vc_commands.proofs.looking.first.Goals as goal
 
 pub show-requires-clause-within : goal.show-requires-clause-within
 show-requires-clause-within g c =
-    within-looked c.args.dict.now c.args.region.now (λ os. first_object os) (λ P os all. first-each P os all)
-    (dictionary_in c.args.dict.now c.args.region.now) refl c.first-at.result c.first-at.ensures
+    within-looked c.args.dict.now c.args.best.now (λ os. first_object os) (λ P os all. first-each P os all)
+    (dictionary_in c.args.dict.now c.args.best.now) refl c.first-at.result c.first-at.ensures
 
 pub returns-clause-step : goal.returns-clause-step
 returns-clause-step g c =
     let told =
-    there-looked c.args.dict.now c.args.region.now (λ os. first_object os) (λ P os all. first-each P os all)
-    (dictionary_in c.args.dict.now c.args.region.now) refl c.first-at.result c.first-at.ensures in
+    there-looked c.args.dict.now c.args.best.now (λ os. first_object os) (λ P os all. first-each P os all)
+    (dictionary_in c.args.dict.now c.args.best.now) refl c.first-at.result c.first-at.ensures in
     found-looked c.show.result (g.D.DictDisc.rules c.args.kind.now) _ _ _ _ _ _ _ _ _ _ refl refl told c.show.ensures.step

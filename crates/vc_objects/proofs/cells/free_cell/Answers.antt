@@ -1,16 +1,23 @@
-use Rattle.vc_region.specs.Parts.{region_of}
-use Rattle.vc_region.proofs.Sound.{own_places}
-use Rattle.vc_objects.proofs.Unlabelled.{cell-has, free-cells, free-labelled, free-rest}
+use Rattle.std.proofs.Common.{ℕ, ap, ◌∙◌}
+use Rattle.vc_model.specs.Layout.{Layout}
+use Rattle.vc_best.specs.Cells.{cells_of, labelled_blocks, zeroed_layout}
+use Rattle.vc_best.specs.Parts.{blocks_in, layout_of}
+use Rattle.vc_best.proofs.CellCalls.{cells-freed}
+use Rattle.vc_best.proofs.Labelled.{labelled-freed}
+use Rattle.vc_best.proofs.Places.{own_places}
+use Rattle.vc_objects.proofs.Unlabelled.{cell-has, cell-label, freed-zeroed}
 use Rattle.vc_objects.proofs.cells.free_cell.Goals as goal
 
 pub free-requires : goal.free-requires
-free-requires g c = cell-has (region_of c.args.region.now) c.args.at.0 c.requires.there
+free-requires g c = record { block = cell-has (blocks_in c.args.best.now) c.args.at.0 c.requires }
 
 pub returns-clause-rest : goal.returns-clause-rest
-returns-clause-rest g c = free-rest (region_of c.args.region.now) (region_of c.free.new.self) c.args.at.0 c.requires.best c.free.result c.free.ensures.answer c.free.ensures.memory
+returns-clause-rest g c = ap zeroed_layout c.free.ensures.layout ∙ freed-zeroed (layout_of c.args.best.now) c.args.at.0
 
 pub returns-clause-cells : goal.returns-clause-cells
-returns-clause-cells g c = free-cells (region_of c.args.region.now) (region_of c.free.new.self) c.args.at.0 c.requires.best c.free.result c.free.ensures.answer c.free.ensures.memory (own_places c.args.region.now)
+returns-clause-cells g c = ap (λ (r : Layout ℕ). cells_of r.blocks) c.free.ensures.layout ∙ cells-freed (layout_of c.args.best.now) c.args.at.0 (own_places c.args.best.now)
 
 pub returns-clause-labelled : goal.returns-clause-labelled
-returns-clause-labelled g c = free-labelled (region_of c.args.region.now) (region_of c.free.new.self) c.args.at.0 c.requires.best c.free.result c.free.ensures.answer c.free.ensures.memory (own_places c.args.region.now) c.requires.there c.free.ensures.freed
+returns-clause-labelled g c =
+    ap (λ (r : Layout ℕ). labelled_blocks (zeroed_layout r)) c.free.ensures.layout
+    ∙ labelled-freed (layout_of c.args.best.now) c.args.at.0 (cell-label (blocks_in c.args.best.now) c.args.at.0 c.requires)

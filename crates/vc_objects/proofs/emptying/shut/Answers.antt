@@ -11,30 +11,29 @@ use Rattle.vc_objects.proofs.emptying.shut.Goals as goal
 
 pub returns-then-ne-clause-leaves : goal.returns-then-ne-clause-leaves
 returns-then-ne-clause-leaves g c =
-    let mine = owned (dictionary_in c.args.dict c.args.region.now) in
-    let left = owned (dictionary_in c.empty.new.dict c.empty.new.region) in
+    let mine = owned (dictionary_in c.args.dict c.args.best.now) in
+    let left = owned (dictionary_in c.empty.new.dict c.empty.new.best) in
     let fewer : (a : ℕ) → contains mine a ≡ false → contains left a ≡ false =
-    λ a h. ap (λ (d : Dictionary). contains (owned d) a) c.empty.ensures.dict ∙ emptied-fewer (dictionary_in c.args.dict c.args.region.now) a h in
+    λ a h. ap (λ (d : Dictionary). contains (owned d) a) c.empty.ensures.dict ∙ emptied-fewer (dictionary_in c.args.dict c.args.best.now) a h in
     let some : c.empty.new.dict.table.0 ≢ 0 =
     λ zero. true≢false (sym c.if-ne.true ∙ c.ne.ensures ∙ ap (λ z. not (z == 0)) (ap (λ a. a.0) c.table-table.ensures ∙ zero)) in
-    let free : FreesCell (λ z. (goal.SegDisc-dyn g z).state z.1) c.empty.new.region c.table-table.result.0 c.free_cell.new.region = record {
+    let free : FreesCell (λ z. (goal.SegDisc-dyn g z).state z.1) c.empty.new.best c.table-table.result.0 c.free_cell.new.best = record {
       rest = c.free_cell.ensures.rest;
-      best = c.free_cell.ensures.best;
       disc = c.free_cell.ensures.disc;
       segments = c.free_cell.ensures.segments;
       cells = c.free_cell.ensures.cells;
       labelled = c.free_cell.ensures.labelled;
     } in
-    leaves-trans (λ z. (goal.SegDisc-dyn g z).state z.1) c.args.region.now c.empty.new.region c.free_cell.new.region mine left [] c.empty.ensures.leaves.rest
-    (leaves-table (λ z. (goal.SegDisc-dyn g z).state z.1) c.empty.new.region c.free_cell.new.region c.empty.new.dict some
-    (subst (λ t. FreesCell (λ z. (goal.SegDisc-dyn g z).state z.1) c.empty.new.region t.0 c.free_cell.new.region) c.table-table.ensures free))
+    leaves-trans (λ z. (goal.SegDisc-dyn g z).state z.1) c.args.best.now c.empty.new.best c.free_cell.new.best mine left [] c.empty.ensures.leaves.rest
+    (leaves-table (λ z. (goal.SegDisc-dyn g z).state z.1) c.empty.new.best c.free_cell.new.best c.empty.new.dict some
+    (subst (λ t. FreesCell (λ z. (goal.SegDisc-dyn g z).state z.1) c.empty.new.best t.0 c.free_cell.new.best) c.table-table.ensures free))
     (λ a apart _. fewer a apart)
 
 pub returns-else-ne-clause-leaves : goal.returns-else-ne-clause-leaves
 returns-else-ne-clause-leaves g c =
-    let mine = owned (dictionary_in c.args.dict c.args.region.now) in
-    let left = owned (dictionary_in c.empty.new.dict c.empty.new.region) in
+    let mine = owned (dictionary_in c.args.dict c.args.best.now) in
+    let left = owned (dictionary_in c.empty.new.dict c.empty.new.best) in
     let fewer : (a : ℕ) → contains mine a ≡ false → contains left a ≡ false =
-    λ a h. ap (λ (d : Dictionary). contains (owned d) a) c.empty.ensures.dict ∙ emptied-fewer (dictionary_in c.args.dict c.args.region.now) a h in
-    leaves-trans (λ z. (goal.SegDisc-dyn g z).state z.1) c.args.region.now c.empty.new.region c.empty.new.region mine left [] c.empty.ensures.leaves.rest
-    (leaves-none (λ z. (goal.SegDisc-dyn g z).state z.1) c.empty.new.region left c.empty.ensures.leaves.rest.best) (λ a apart _. fewer a apart)
+    λ a h. ap (λ (d : Dictionary). contains (owned d) a) c.empty.ensures.dict ∙ emptied-fewer (dictionary_in c.args.dict c.args.best.now) a h in
+    leaves-trans (λ z. (goal.SegDisc-dyn g z).state z.1) c.args.best.now c.empty.new.best c.empty.new.best mine left [] c.empty.ensures.leaves.rest
+    (leaves-none (λ z. (goal.SegDisc-dyn g z).state z.1) c.empty.new.best left) (λ a apart _. fewer a apart)

@@ -1,7 +1,7 @@
 use Rattle.std.proofs.Common.{None, Some, ap, sym, ◌∙◌}
 use Rattle.std.specs.Option.{option_map}
 use Rattle.vc_dict.specs.Listed.{holders_of}
-use Rattle.vc_region.specs.Cells.{cells_in}
+use Rattle.vc_best.specs.Cells.{cells_in}
 use Rattle.vc_objects.specs.Lists.{behind_key, first_with}
 use Rattle.vc_objects.specs.Objects.{Object}
 use Rattle.vc_objects.proofs.Behind.{behind_key-none}
@@ -11,7 +11,7 @@ use Rattle.vc_objects.proofs.finding.behind_key.Goals as goal
 pub behind_last-requires : goal.behind_last-requires
 behind_last-requires g c =
     let rules = g.D.DictDisc.rules c.args.kind.now in
-    let b' = cells_in c.find.new.region in
+    let b' = cells_in c.find.new.best in
     let at = c.in-Some.at.0 in
     record {
       whole = c.in-Some.ensures.looks.leaves.whole;
@@ -22,7 +22,7 @@ behind_last-requires g c =
 pub returns-in-None-clause-found : goal.returns-in-None-clause-found
 returns-in-None-clause-found g c =
     let rules = g.D.DictDisc.rules c.args.kind.now in
-    let b = cells_in c.args.region.now in
+    let b = cells_in c.args.best.now in
     let xs = holders_of c.args.dict.now b in
     sym (ap (λ o. option_map (λ (z : Object). z.at) o) (behind_key-none b rules c.args.key.now xs (key-found b rules c.args.key.now xs None c.in-None.ensures.found)))
 

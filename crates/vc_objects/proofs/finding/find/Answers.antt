@@ -2,7 +2,7 @@ use Rattle.std.proofs.Common.{ap, sym, ◌∙◌}
 use Rattle.std.specs.Option.{option_map}
 use Rattle.vc_dict.specs.Listed.{holders_of}
 use Rattle.vc_dtdisc.specs.Finds.{find_key}
-use Rattle.vc_region.specs.Cells.{cells_in}
+use Rattle.vc_best.specs.Cells.{cells_in}
 use Rattle.vc_objects.proofs.Looking.{Looks-became}
 use Rattle.vc_objects.proofs.Mapped.{address-mapped, first_with-mapped}
 use Rattle.vc_objects.proofs.finding.find.Goals as goal
@@ -10,7 +10,7 @@ use Rattle.vc_objects.proofs.finding.find.Goals as goal
 pub returns-clause-found : goal.returns-clause-found
 returns-clause-found g c =
     let rules = g.D.DictDisc.rules c.args.kind.now in
-    let b = cells_in c.args.region.now in
+    let b = cells_in c.args.best.now in
     let xs = holders_of c.args.dict.now b in
     (c.find.ensures.found xs c.requires.whole.stands).first
     ∙ sym (ap (λ o. option_map (λ z. z.at) o) (first_with-mapped b rules c.args.key.now xs) ∙ address-mapped b (find_key rules b c.args.key.now xs))
@@ -18,6 +18,6 @@ returns-clause-found g c =
 pub returns-clause-looks : goal.returns-clause-looks
 returns-clause-looks g c =
     let rules = g.D.DictDisc.rules c.args.kind.now in
-    let xs = holders_of c.args.dict.now (cells_in c.args.region.now) in
-    Looks-became _ rules c.args.region.now c.find.new.cells c.args.dict.now c.find.new.self c.requires.best c.requires.whole
+    let xs = holders_of c.args.dict.now (cells_in c.args.best.now) in
+    Looks-became _ rules c.args.best.now c.find.new.cells c.args.dict.now c.find.new.self c.requires.whole
     (c.find.ensures.dict xs c.requires.whole.stands) c.find.ensures.rest

@@ -1,7 +1,7 @@
 use Rattle.std.proofs.Common.{None, sym, ap, ◌∙◌}
-use Rattle.vc_dict.specs.Methods.{is_set}
-use Rattle.vc_region.specs.Cells.{rest_in}
-use Rattle.vc_region.specs.Parts.{disc_in}
+use Rattle.vc_base.specs.Methods.{is_set}
+use Rattle.vc_best.specs.Cells.{rest_in}
+use Rattle.vc_best.specs.Parts.{disc_in}
 use Rattle.vc_objects.specs.Insert.{slots_wanted}
 use Rattle.vc_objects.specs.Leaves.{LacksHolder, LacksTable}
 use Rattle.vc_objects.specs.Lists.{first_with}
@@ -11,52 +11,52 @@ use Rattle.vc_objects.proofs.inserting.insert.Goals as goal
 
 pub hold-requires-clause-lone : goal.hold-requires-clause-lone
 hold-requires-clause-lone g c set =
-    let kept = grown-kept _ (rest_in c.args.region.now) (dictionary_in c.args.dict.now c.args.region.now) (slots_wanted (dictionary_in c.args.dict.now c.args.region.now)) (rest_in c.grow.new.region) (dictionary_in c.grow.new.dict c.grow.new.region) c.in-Ok.ensures.ok in
+    let kept = grown-kept _ (rest_in c.args.best.now) (dictionary_in c.args.dict.now c.args.best.now) (slots_wanted (dictionary_in c.args.dict.now c.args.best.now)) (rest_in c.grow.new.best) (dictionary_in c.grow.new.dict c.grow.new.best) c.in-Ok.ensures.ok in
     ap (first_with (g.D.DictDisc.rules c.args.kind.now) ((g.D.DictDisc.rules c.args.kind.now).key c.args.object.now)) kept.1 ∙ c.requires.lone (sym (ap is_set kept.0) ∙ set)
 
 pub returns-in-Ok-hold-clause-ok : goal.returns-in-Ok-hold-clause-ok
 returns-in-Ok-hold-clause-ok g c =
-    inserted-stored _ _ (rest_in c.args.region.now) (dictionary_in c.args.dict.now c.args.region.now) c.args.append c.args.object.now _ _ (rest_in c.grow.new.region) (dictionary_in c.grow.new.dict c.grow.new.region)
-    (rest_in c.hold.new.region) (dictionary_in c.hold.new.dict c.hold.new.region) c.grow.ensures.leaves.rest.disc.kept.terms c.in-Ok.ensures.ok c.in-Ok-hold.ensures.ok
+    inserted-stored _ _ (rest_in c.args.best.now) (dictionary_in c.args.dict.now c.args.best.now) c.args.append c.args.object.now _ _ (rest_in c.grow.new.best) (dictionary_in c.grow.new.dict c.grow.new.best)
+    (rest_in c.hold.new.best) (dictionary_in c.hold.new.dict c.hold.new.best) c.grow.ensures.leaves.rest.disc.kept.terms c.in-Ok.ensures.ok c.in-Ok-hold.ensures.ok
 
 pub returns-in-Ok-hold-clause-leaves : goal.returns-in-Ok-hold-clause-leaves
 returns-in-Ok-hold-clause-leaves g c =
-    rest-trans _ _ c.args.region.now c.grow.new.region c.hold.new.region c.args.dict.now c.grow.new.dict c.hold.new.dict c.grow.ensures.leaves c.hold.ensures.leaves
-    (grown-kept _ (rest_in c.args.region.now) (dictionary_in c.args.dict.now c.args.region.now) (slots_wanted (dictionary_in c.args.dict.now c.args.region.now)) (rest_in c.grow.new.region) (dictionary_in c.grow.new.dict c.grow.new.region) c.in-Ok.ensures.ok).1 c.hold.ensures.table
+    rest-trans _ _ c.args.best.now c.grow.new.best c.hold.new.best c.args.dict.now c.grow.new.dict c.hold.new.dict c.grow.ensures.leaves c.hold.ensures.leaves
+    (grown-kept _ (rest_in c.args.best.now) (dictionary_in c.args.dict.now c.args.best.now) (slots_wanted (dictionary_in c.args.dict.now c.args.best.now)) (rest_in c.grow.new.best) (dictionary_in c.grow.new.dict c.grow.new.best) c.in-Ok.ensures.ok).1 c.hold.ensures.table
 
 pub returns-in-Some-clause-ok : goal.returns-in-Some-clause-ok
 returns-in-Some-clause-ok g c =
-    inserted-no_holder _ _ (rest_in c.args.region.now) (dictionary_in c.args.dict.now c.args.region.now) c.args.append c.args.object.now _ _ (rest_in c.grow.new.region) (dictionary_in c.grow.new.dict c.grow.new.region)
-    (rest_in c.hold.new.region) (dictionary_in c.hold.new.dict c.hold.new.region) c.in-Err-hold.fault c.in-Some.want c.grow.ensures.leaves.rest.disc.kept.terms c.in-Ok.ensures.ok c.in-Err-hold.ensures.err.0 (sym c.in-Some.ensures)
+    inserted-no_holder _ _ (rest_in c.args.best.now) (dictionary_in c.args.dict.now c.args.best.now) c.args.append c.args.object.now _ _ (rest_in c.grow.new.best) (dictionary_in c.grow.new.dict c.grow.new.best)
+    (rest_in c.hold.new.best) (dictionary_in c.hold.new.dict c.hold.new.best) c.in-Err-hold.fault c.in-Some.want c.grow.ensures.leaves.rest.disc.kept.terms c.in-Ok.ensures.ok c.in-Err-hold.ensures.err.0 (sym c.in-Some.ensures)
     c.in-Err-hold.ensures.err.1 c.in-Err-hold.ensures.err.2
 
 pub returns-in-Some-clause-leaves : goal.returns-in-Some-clause-leaves
 returns-in-Some-clause-leaves g c =
-    rest-trans _ _ c.args.region.now c.grow.new.region c.hold.new.region c.args.dict.now c.grow.new.dict c.hold.new.dict c.grow.ensures.leaves c.hold.ensures.leaves
-    (grown-kept _ (rest_in c.args.region.now) (dictionary_in c.args.dict.now c.args.region.now) (slots_wanted (dictionary_in c.args.dict.now c.args.region.now)) (rest_in c.grow.new.region) (dictionary_in c.grow.new.dict c.grow.new.region) c.in-Ok.ensures.ok).1 c.hold.ensures.table
+    rest-trans _ _ c.args.best.now c.grow.new.best c.hold.new.best c.args.dict.now c.grow.new.dict c.hold.new.dict c.grow.ensures.leaves c.hold.ensures.leaves
+    (grown-kept _ (rest_in c.args.best.now) (dictionary_in c.args.dict.now c.args.best.now) (slots_wanted (dictionary_in c.args.dict.now c.args.best.now)) (rest_in c.grow.new.best) (dictionary_in c.grow.new.dict c.grow.new.best) c.in-Ok.ensures.ok).1 c.hold.ensures.table
 
 pub returns-in-Some-clause-asked : goal.returns-in-Some-clause-asked
 returns-in-Some-clause-asked g c =
-    asked-no_holder (slots_wanted (dictionary_in c.args.dict.now c.args.region.now)) c.args.object.now (disc_in (λ z. (goal.SegDisc-dyn g z).state z.1) c.args.region.now) (disc_in (λ z. (goal.SegDisc-dyn g z).state z.1) c.grow.new.region) (disc_in (λ z. (goal.SegDisc-dyn g z).state z.1) c.hold.new.region) c.in-Err-hold.fault c.in-Some.want (sym c.in-Some.ensures) c.grow.ensures.same c.grow.ensures.leaves.rest.disc.kept.terms c.in-Ok.ensures.asked c.in-Err-hold.ensures.asked
+    asked-no_holder (slots_wanted (dictionary_in c.args.dict.now c.args.best.now)) c.args.object.now (disc_in (λ z. (goal.SegDisc-dyn g z).state z.1) c.args.best.now) (disc_in (λ z. (goal.SegDisc-dyn g z).state z.1) c.grow.new.best) (disc_in (λ z. (goal.SegDisc-dyn g z).state z.1) c.hold.new.best) c.in-Err-hold.fault c.in-Some.want (sym c.in-Some.ensures) c.grow.ensures.same c.grow.ensures.leaves.rest.disc.kept.terms c.in-Ok.ensures.asked c.in-Err-hold.ensures.asked
 
 pub returns-in-None-clause-leaves : goal.returns-in-None-clause-leaves
 returns-in-None-clause-leaves g c =
-    rest-trans _ _ c.args.region.now c.grow.new.region c.hold.new.region c.args.dict.now c.grow.new.dict c.hold.new.dict c.grow.ensures.leaves c.hold.ensures.leaves
-    (grown-kept _ (rest_in c.args.region.now) (dictionary_in c.args.dict.now c.args.region.now) (slots_wanted (dictionary_in c.args.dict.now c.args.region.now)) (rest_in c.grow.new.region) (dictionary_in c.grow.new.dict c.grow.new.region) c.in-Ok.ensures.ok).1 c.hold.ensures.table
+    rest-trans _ _ c.args.best.now c.grow.new.best c.hold.new.best c.args.dict.now c.grow.new.dict c.hold.new.dict c.grow.ensures.leaves c.hold.ensures.leaves
+    (grown-kept _ (rest_in c.args.best.now) (dictionary_in c.args.dict.now c.args.best.now) (slots_wanted (dictionary_in c.args.dict.now c.args.best.now)) (rest_in c.grow.new.best) (dictionary_in c.grow.new.dict c.grow.new.best) c.in-Ok.ensures.ok).1 c.hold.ensures.table
 
 pub returns-in-Some-want_of-clause-ok : goal.returns-in-Some-want_of-clause-ok
 returns-in-Some-want_of-clause-ok g c =
-    inserted-no_table (g.D.DictDisc.rules c.args.kind.now) _ (rest_in c.args.region.now) (dictionary_in c.args.dict.now c.args.region.now) c.args.append c.args.object.now (rest_in c.grow.new.region) (dictionary_in c.grow.new.dict c.grow.new.region)
+    inserted-no_table (g.D.DictDisc.rules c.args.kind.now) _ (rest_in c.args.best.now) (dictionary_in c.args.dict.now c.args.best.now) c.args.append c.args.object.now (rest_in c.grow.new.best) (dictionary_in c.grow.new.dict c.grow.new.best)
     c.in-Err.fault c.in-Some-want_of.want c.in-Err.ensures.err.0 (sym c.in-Some-want_of.ensures) c.in-Err.ensures.err.1 c.in-Err.ensures.err.2
 
 pub returns-in-None-clause-asked : goal.returns-in-None-clause-asked
 returns-in-None-clause-asked g c =
-    asked-spent (LacksHolder None c.args.object.now (disc_in (λ z. (goal.SegDisc-dyn g z).state z.1) c.grow.new.region) (disc_in (λ z. (goal.SegDisc-dyn g z).state z.1) c.hold.new.region)) (disc_in (λ z. (goal.SegDisc-dyn g z).state z.1) c.grow.new.region) (disc_in (λ z. (goal.SegDisc-dyn g z).state z.1) c.hold.new.region) c.in-Err-hold.fault (sym c.in-None.ensures) c.in-Err-hold.ensures.asked ∙ c.in-Ok.ensures.asked
+    asked-spent (LacksHolder None c.args.object.now (disc_in (λ z. (goal.SegDisc-dyn g z).state z.1) c.grow.new.best) (disc_in (λ z. (goal.SegDisc-dyn g z).state z.1) c.hold.new.best)) (disc_in (λ z. (goal.SegDisc-dyn g z).state z.1) c.grow.new.best) (disc_in (λ z. (goal.SegDisc-dyn g z).state z.1) c.hold.new.best) c.in-Err-hold.fault (sym c.in-None.ensures) c.in-Err-hold.ensures.asked ∙ c.in-Ok.ensures.asked
 
 pub returns-in-Some-want_of-clause-asked : goal.returns-in-Some-want_of-clause-asked
 returns-in-Some-want_of-clause-asked g c =
-    asked-no_table (slots_wanted (dictionary_in c.args.dict.now c.args.region.now)) c.args.object.now (disc_in (λ z. (goal.SegDisc-dyn g z).state z.1) c.args.region.now) (disc_in (λ z. (goal.SegDisc-dyn g z).state z.1) c.grow.new.region) c.in-Err.fault c.in-Some-want_of.want (sym c.in-Some-want_of.ensures) c.in-Err.ensures.asked
+    asked-no_table (slots_wanted (dictionary_in c.args.dict.now c.args.best.now)) c.args.object.now (disc_in (λ z. (goal.SegDisc-dyn g z).state z.1) c.args.best.now) (disc_in (λ z. (goal.SegDisc-dyn g z).state z.1) c.grow.new.best) c.in-Err.fault c.in-Some-want_of.want (sym c.in-Some-want_of.ensures) c.in-Err.ensures.asked
 
 pub returns-in-None-want_of-clause-asked : goal.returns-in-None-want_of-clause-asked
 returns-in-None-want_of-clause-asked g c =
-    asked-spent (LacksTable (slots_wanted (dictionary_in c.args.dict.now c.args.region.now)) (disc_in (λ z. (goal.SegDisc-dyn g z).state z.1) c.args.region.now) (disc_in (λ z. (goal.SegDisc-dyn g z).state z.1) c.grow.new.region)) (disc_in (λ z. (goal.SegDisc-dyn g z).state z.1) c.args.region.now) (disc_in (λ z. (goal.SegDisc-dyn g z).state z.1) c.grow.new.region) c.in-Err.fault (sym c.in-None-want_of.ensures) c.in-Err.ensures.asked
+    asked-spent (LacksTable (slots_wanted (dictionary_in c.args.dict.now c.args.best.now)) (disc_in (λ z. (goal.SegDisc-dyn g z).state z.1) c.args.best.now) (disc_in (λ z. (goal.SegDisc-dyn g z).state z.1) c.grow.new.best)) (disc_in (λ z. (goal.SegDisc-dyn g z).state z.1) c.args.best.now) (disc_in (λ z. (goal.SegDisc-dyn g z).state z.1) c.grow.new.best) c.in-Err.fault (sym c.in-None-want_of.ensures) c.in-Err.ensures.asked
