@@ -1,5 +1,5 @@
 -- What a region's answer leaves of its discipline, and what a fault of it tells.
-use Rattle.std.proofs.Common.{◌≡◌, ℕ, Bool, List, ◌++◌, Some, Result, Ok, Err, IfOk, option_map, refl, sym, ap, ◌∙◌, subst, arith}
+use Rattle.std.proofs.Common.{◌≡◌, ◌≢◌, ℕ, Bool, List, ◌++◌, Some, Result, Ok, Err, IfOk, option_map, refl, sym, ap, ◌∙◌, subst, arith}
 use Rattle.std.proofs.lemmas.Option.{same_Some, none-some}
 use Rattle.vc_base.specs.declared.addr.Addr.{Addr}
 use Rattle.vc_base.specs.Cells.{Blocks}
@@ -18,7 +18,7 @@ use Rattle.vc_script.specs.declared.refusal.Refusal.TheVariants as why
 use Rattle.vc_session.specs.declared.labels.Labels.{Labels}
 use Rattle.vc_session.specs.Account.{Held, IsChange, IsNamed}
 use Rattle.vc_session.specs.Blocks.{fault_of, refusal_of}
-use Rattle.vc_session.specs.Naming.{TellsFault}
+use Rattle.vc_session.specs.Naming.{NamesPut, TellsFault}
 use Rattle.vc_session.specs.State.{Changed, Home, Label, changed_to, unchanged}
 use Rattle.vc_session.specs.Step.{Gives, is_for_block}
 use Rattle.vc_session.proofs.Closing.{front-out}
@@ -135,6 +135,16 @@ IsAn (Err e) = ⊥
 pub told-no_segment : {E : Type 0} (fault : RegionFault) (result : Result Reply E) → TellsFault fault result → result ≡ Ok (reply.Refused why.NoSegment) → IsNoSegment fault
 told-no_segment fault (Ok told) tells is = fault-no_segment fault told tells (ap (get_ok told) is)
 told-no_segment fault (Err e) tells is = absurd (subst IsAn (sym is) tt)
+
+-- where no refused segment is told, none was refused
+pub told-served : {E : Type 0} (fault : RegionFault) (result : Result Reply E) (d e : Discipline) (s s' : List (ℕ × ℕ)) (n : ℕ) → TellsFault fault result → Asks (Err fault) d e s s' n → result ≢ Ok (reply.Refused why.NoSegment) → e.faults ≡ d.faults
+told-served code.NoSegment (Ok told) d e s s' n tells asks other = absurd (other (ap (λ q. Ok q) (sym (same_Some (reply.Refused why.NoSegment) told tells))))
+told-served code.NoSegment (Err x) d e s s' n tells asks other = absurd (none-some model.NoSegment (sym tells))
+told-served fault result d e s s' n tells asks other = asks.faults
+
+pub put-served : {E : Type 0} (tag : ℕ) (x : List ℕ) (put : Result Addr RegionFault) (old new : Labels) (result : Result Reply E) (d e : Discipline) (s s' : List (ℕ × ℕ)) (n : ℕ) → NamesPut tag x put old new result → Asks put d e s s' n → result ≢ Ok (reply.Refused why.NoSegment) → e.faults ≡ d.faults
+put-served tag x (Ok a) old new result d e s s' n named asks other = asks.faults
+put-served tag x (Err fault) old new result d e s s' n named asks other = told-served fault result d e s s' n named.0 asks other
 
 -- what holds of an answer under each name of a region
 pub if_ok-all : {E : Type 0} (result : Result Reply E) (P : List ℕ → Reply → Type 0) → ((name : List ℕ) → IfOk result (P name)) → IfOk result (λ told. (name : List ℕ) → P name told)

@@ -194,7 +194,7 @@ module _ {I : Type 0} {V : I → Type 0} where
   damaged-next (Best q) after x e = absurd (none-some x e)
   damaged-next (Pool q) after x e = absurd (none-some x e)
   damaged-next (Last q) after x e = absurd (none-some x e)
-  damaged-next (Debug d) after x e = next-passes (debug_of d) after x (own-best d.best.layout d.best.sound) e
+  damaged-next (Debug d) after x e = next-passes (debug_of d) after x (own-best (debug_of d).best d.best.sound) e
   damaged-next (Profile q) after x e = absurd (none-some x e)
 
   damaged-among : (r : made.Region I V) (after : ℕ) (x : Block ℕ × ℤ) → next_damaged_in after (region_of r) ≡ Some x → Among x.0 (blocks_in r)
@@ -202,7 +202,7 @@ module _ {I : Type 0} {V : I → Type 0} where
   damaged-among (Pool q) after x e = absurd (none-some x e)
   damaged-among (Last q) after x e = absurd (none-some x e)
   damaged-among (Debug d) after x e =
-      let bs = d.best.layout.blocks in
+      let bs = (debug_of d).best.blocks in
       let all = map user_block bs in
       among-all (λ f. Among f.0 all) x (damaged_in (region_of (Debug d))) (among-find (behind after) (damaged_in (region_of (Debug d))) x e)
       (found-among all (by_address bs)

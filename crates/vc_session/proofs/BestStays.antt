@@ -10,8 +10,7 @@ use Rattle.vc_model.specs.Pool.{pool_alloc, pool_resize}
 use Rattle.vc_model.specs.Resize.{best_resize}
 use Rattle.vc_audit.specs.Debug.{debug_alloc, debug_resize}
 use Rattle.vc_audit.specs.Profile.{profile_alloc, profile_resize}
-use Rattle.vc_objects.specs.Objects.{is_best}
-use Rattle.vc_region.specs.Region.{OfBest, OfPool, OfLast, OfDebug, OfProfile, Region, blocks_of, is_debug, is_profile, region_align, region_alloc, region_clear, region_compact, region_free, region_poke, region_resize, region_watch, region_write, relabelled, watch_at}
+use Rattle.vc_region.specs.Region.{OfBest, OfPool, OfLast, OfDebug, OfProfile, Region, blocks_of, is_debug, is_profile, region_align, region_alloc, region_clear, region_compact, region_free, region_poke, region_resize, region_watch, region_write, relabelled, watch_at, is_best}
 use Rattle.vc_script.specs.Needs.{Need}
 use Rattle.vc_script.specs.declared.command.Command.{Command}
 use Rattle.vc_script.specs.declared.command.Command.TheVariants.{ClearRegion, Compact, Alloc, Align, Resize, Free, WriteBlock, ReadBlock, SizeOf, AddrOf, SegmentOf, StatOf, Segments, Blocks, Poke, Check, Watch, ProfileOf}

@@ -25,11 +25,12 @@ use Rattle.vc_session.specs.Step.{Gives, GivesStep, cleared_or, in_region, opene
 use Rattle.vc_session.specs.Run.{refusal_at, place_named, home_place}
 use Rattle.vc_session.specs.Told.{tell}
 use Rattle.vc_session.proofs.Firsts.{IsFirst, first-unmap}
-use Rattle.vc_session.specs.Account.{Account, Held, Lacks, LacksSegment, held_named, IsChange, IsHeld, IsSession, RoseBy, Settles, account, accounts, account_after, cells_left, home_of, settled, state_of, without_faults}
+use Rattle.vc_session.specs.Account.{Account, CountsFaults, Held, Lacks, LacksSegment, held_named, IsChange, IsHeld, IsSession, Settles, account, accounts, account_after, cells_left, home_of, settled, state_of, without_faults}
 use Rattle.vc_session.proofs.Cells.{at_number-from_one, at_number_some, map-set_alike, set_same}
 use Rattle.vc_session.proofs.Firsts.{find-first, find-set, with_region-first}
 use Rattle.vc_session.proofs.Settle.{settled-change, settled-at}
-use Rattle.vc_session.proofs.Settling.{OnlyAt, settles-set}
+use Rattle.vc_session.proofs.Grants.{IsPlain}
+use Rattle.vc_session.proofs.Settling.{OnlyAt, counts-equal, counts-one, settles-set}
 use Rattle.vc_session.proofs.Sessions.{Slots, apart-session, held-at, session-set}
 
 one_here : (p : ℕ) → count_by (λ q. q == p) (p ∷ []) ≡ 1
@@ -44,10 +45,6 @@ one_refusal p = record { here = one_here p; elsewhere = λ q other. none_elsewhe
 
 no_refusal : (p : ℕ) → OnlyAt p 0 []
 no_refusal p = record { here = refl; elsewhere = λ q other. refl }
-
-pub rose-by_one : (a b : ℕ) → Rose a b → RoseBy 1 a b
-rose-by_one a b (inl more) = inl (omega (arith, more))
-rose-by_one a b (inr last) = inr (omega (arith, last))
 
 -- a step that gives a reply and a state, and tells no kind
 pub gives-same : (t : Stepped) (gone : List Gone) (reply : Reply) (after : State) → t ≡ stepped after reply → GivesStep t gone reply after gone
@@ -102,7 +99,7 @@ module _ (slots : Slots) (hs : List Held) (i : ℕ) (h g : Held) (at : slice_get
       session-set slots hs i h g at change.place
       (record { place = ap (at_number slots) change.place ∙ held.place; lent = change.lent; names = change.names }) session
 
-  pub settles-change : (n : ℕ) (refusals : List ℕ) → RoseBy n h.disc.faults g.disc.faults → OnlyAt h.place n refusals → Settles (settled (accounts slots) hs) (settled (accounts slots) (set hs i g)) refusals
+  pub settles-change : (n : ℕ) (refusals : List ℕ) → CountsFaults n h.disc.faults g.disc.faults → OnlyAt h.place n refusals → Settles (settled (accounts slots) hs) (settled (accounts slots) (set hs i g)) refusals
   settles-change n refusals rose only =
       let found = at_number_some slots h.place None held.place in
       let there : slice_get (accounts slots) (h.place - 1) ≡ Some None = slice_get-map (option_map account) slots (h.place - 1) ∙ ap (option_map (option_map account)) found.1 in
@@ -116,21 +113,22 @@ module _ (slots : Slots) (hs : List Held) (i : ℕ) (h g : Held) (at : slice_get
       subst (λ s. Settles (settled (accounts slots) hs) s refusals) (sym after)
       (settles-set (settled (accounts slots) hs) h.place n (account_after h) (account_after g) refusals has same rose only)
 
-  quiet : Settles (settled (accounts slots) hs) (settled (accounts slots) (set hs i g)) []
-  quiet = settles-change 0 [] (inl (omega (arith, change.kept.faults))) (no_refusal h.place)
+  -- where no fault was counted
+  pub settles-none : g.disc.faults ≡ h.disc.faults → Settles (settled (accounts slots) hs) (settled (accounts slots) (set hs i g)) []
+  settles-none same = settles-change 0 [] (counts-equal h.disc.faults g.disc.faults same) (no_refusal h.place)
 
-  -- with no reply no refusal counts
-  pub settles-none : Settles (settled (accounts slots) hs) (settled (accounts slots) (set hs i g)) []
-  settles-none = quiet
+  -- and where one was for a refusal
+  pub settles-one : Rose h.disc.faults g.disc.faults → Settles (settled (accounts slots) hs) (settled (accounts slots) (set hs i g)) (h.place ∷ [])
+  settles-one rose = settles-change 1 (h.place ∷ []) (counts-one h.disc.faults g.disc.faults change.kept.faults rose) (one_refusal h.place)
 
-  pub settles-reply : (kinds : List Rules) (ds : List DictHome) (r : List ℕ) (command : Command) (reply : Reply) → region_asked (state_of kinds slots hs ds) command ≡ Some r → home_named r (state_of kinds slots hs ds).homes ≡ Some (home_of h) → (reply ≡ Refused NoSegment → Rose h.disc.faults g.disc.faults) → (reply ≡ Refused NoSegmentForTable → ⊥) → (reply ≡ Refused NoSegmentForObject → ⊥) → Settles (settled (accounts slots) hs) (settled (accounts slots) (set hs i g)) (refusal_at (state_of kinds slots hs ds) command reply)
-  settles-reply kinds ds r command (Refused NoSegment) works found rose no_table no_object =
+  pub settles-reply : (kinds : List Rules) (ds : List DictHome) (r : List ℕ) (command : Command) (reply : Reply) → region_asked (state_of kinds slots hs ds) command ≡ Some r → home_named r (state_of kinds slots hs ds).homes ≡ Some (home_of h) → (reply ≡ Refused NoSegment → Rose h.disc.faults g.disc.faults) → (reply ≢ Refused NoSegment → g.disc.faults ≡ h.disc.faults) → IsPlain reply → Settles (settled (accounts slots) hs) (settled (accounts slots) (set hs i g)) (refusal_at (state_of kinds slots hs ds) command reply)
+  settles-reply kinds ds r command (Refused NoSegment) works found rose none plain =
       subst (λ o. Settles (settled (accounts slots) hs) (settled (accounts slots) (set hs i g)) (place_named (state_of kinds slots hs ds) o)) (sym works)
       (subst (λ o. Settles (settled (accounts slots) hs) (settled (accounts slots) (set hs i g)) (home_place o)) (sym found)
-      (settles-change 1 (h.place ∷ []) (rose-by_one h.disc.faults g.disc.faults (rose refl)) (one_refusal h.place)))
-  settles-reply kinds ds r command (Refused NoSegmentForTable) works found rose no_table no_object = absurd (no_table refl)
-  settles-reply kinds ds r command (Refused NoSegmentForObject) works found rose no_table no_object = absurd (no_object refl)
-  settles-reply kinds ds r command reply works found rose no_table no_object = quiet
+      (settles-one (rose refl)))
+  settles-reply kinds ds r command (Refused NoSegmentForTable) works found rose none plain = absurd plain
+  settles-reply kinds ds r command (Refused NoSegmentForObject) works found rose none plain = absurd plain
+  settles-reply kinds ds r command reply works found rose none plain = settles-none (none (λ e. cc))
 
   -- where its discipline has no more faults, the settled shelf is the same
   pub settled-same : g.disc.faults ≡ h.disc.faults → settled (accounts slots) (set hs i g) ≡ settled (accounts slots) hs

@@ -7,8 +7,9 @@ use Rattle.std.proofs.lemmas.Bool.{cases_Bool, false_from_ne_true, false≢true}
 use Rattle.std.proofs.lemmas.Option.{none-some, same_Some}
 use Rattle.vc_base.specs.Holders.{contains}
 use Rattle.vc_dtdisc.specs.Rules.{Rules}
-use Rattle.vc_objects.specs.Objects.{Dictionary, is_best, owned}
+use Rattle.vc_objects.specs.Objects.{Dictionary, owned}
 use Rattle.vc_objects.specs.Parts.{IsWhole, dictionary_of}
+use Rattle.vc_region.specs.Region.{is_best}
 use Rattle.vc_session.specs.Account.{Held, held_named}
 use Rattle.vc_session.specs.DictHomes.{AreApart, AreDicts, IsDictOf, cells_held, dict_home, dicts_in}
 use Rattle.vc_session.specs.State.{DictHome}

@@ -10,7 +10,7 @@ use Rattle.vc_dtdisc.specs.Rules.{IsObject, Rules}
 use Rattle.vc_dict.specs.Listed.{holders_of}
 use Rattle.vc_dict.specs.Stands.{Stands}
 use Rattle.vc_dict.specs.declared.dict.Dict.{Dict}
-use Rattle.vc_dict.proofs.OwnLemmas.{Stands-own, holder-address, holder-there, holders-told}
+use Rattle.vc_dict.proofs.OwnLemmas.{Stands-own, Stands-table, holder-address, holder-there, holders-told}
 use Rattle.vc_objects.specs.Objects.{Dictionary, owned}
 use Rattle.vc_objects.specs.Parts.{IsWhole, dictionary_of, object_of}
 use Rattle.vc_objects.proofs.Mapped.{objects-kept}
@@ -35,7 +35,7 @@ module _ (rules : Rules) (d : Dict) (b : Blocks) (whole : IsWhole rules d b) whe
 
   own-there : (a : ℕ) → a ≢ 0 → contains (d.table.0 ∷ xs) a ≡ true → IsSome (b a)
   own-there a ne h = elim (eqb_tells d.table.0 a) as (λ _. IsSome (b a)) [
-    | inl same ↦ subst (λ z. IsSome (b z)) same.1 (whole.stands.table.some (λ e. ne (sym same.1 ∙ e))).there
+    | inl same ↦ subst (λ z. IsSome (b z)) same.1 ((Stands-table _ _ _ _ whole.stands).some (λ e. ne (sym same.1 ∙ e))).there
     | inr apart ↦ (holder-there rules d b xs a whole.stands (rw apart.0 at h)).there
   ]
 

@@ -12,7 +12,9 @@ use Rattle.vc_model.specs.Numbered.{at_number}
 use Rattle.vc_model.specs.Outcome as model
 use Rattle.vc_model.specs.Outcome.{Fault, Outcome, done_as}
 use Rattle.vc_dtdisc.specs.Rules.{Gone, Rules}
-use Rattle.vc_region.specs.Region.{Region, relabelled}
+use Rattle.vc_model.specs.Layout.{Layout, relabel_layout}
+use Rattle.vc_region.specs.Region.{OfBest, Region, layout_in, relabelled}
+use Rattle.vc_region.proofs.Relabel.{layout-relabelled}
 use Rattle.vc_seg.specs.Answer.{IsRefusal}
 use Rattle.vc_seg.specs.declared.fault.RegionFault.{RegionFault}
 use Rattle.vc_seg.specs.declared.fault.RegionFault.TheVariants as code
@@ -39,8 +41,11 @@ use Rattle.vc_session.specs.Naming.{TellsTable, table_reply}
 use Rattle.vc_session.specs.Run.{home_place, refusal_at}
 use Rattle.vc_session.specs.State.{DictHome, Home, Label, State, Stepped, home_named, is_home, with_region}
 use Rattle.vc_session.specs.Step.{GivesStep}
+use Rattle.vc_session.proofs.RegionSteps.{moment_over}
+use Rattle.vc_session.specs.Steps.{StepsBy}
 use Rattle.vc_session.specs.Told.{tell}
-use Rattle.vc_session.proofs.Changing.{gives-same, homes-change, one_refusal, rose-by_one, settles-change, settles-none, state-same}
+use Rattle.vc_session.proofs.BestRegions.{best-named}
+use Rattle.vc_session.proofs.Changing.{gives-same, homes-change, settles-none, settles-one, state-same}
 use Rattle.vc_session.proofs.DictChange.{Touches, clear-none, dicts-kept, dicts-push, homes-kept, homes-push, now-named, was-named}
 use Rattle.vc_session.proofs.DictsStay.{Entry}
 use Rattle.vc_session.proofs.Firsts.{IsFirst, find-first, first-unmap}
@@ -64,19 +69,6 @@ table-told call code.Fixed told same is = told-by call model.Fixed (reply.Refuse
 table-told call code.PoolSize told same is = told-by call model.PoolSize (reply.Refused why.TooManySegments) told same is refl
 table-told call code.NotLast told same is = told-by call model.NotLast (reply.Refused why.TooManySegments) told same is refl
 table-told call code.WrongMethod told same is = told-by call model.WrongMethod (reply.Refused why.TooManySegments) told same is refl
-
--- where a fault tells of a refused segment, it was refused for the table
-pub table-lacks : (fault : RegionFault) (wanted : Option ℕ) (old new : Discipline) → RefusedBy fault (LacksTable wanted old new) old new → fault ≡ code.NoSegment → LacksTable wanted old new
-table-lacks fault wanted old new refused same = subst (λ f. RefusedBy f (LacksTable wanted old new) old new) same refused
-
--- what holds of the reply to a fault at a table
-pub told-ok : {E : Type 0} (P : Reply → Type 0) (fault : RegionFault) (result : Result Reply E) → TellsTable fault result → ((told : Reply) → table_reply fault ≡ Some told → P told) → IfOk result P
-told-ok P fault (Ok told) tells each = each told tells
-told-ok P fault (Err e) tells each = tt
-
-pub on-error : {T E P : Type 0} (r : Result T E) → P → OnErr r P
-on-error (Ok x) p = tt
-on-error (Err e) p = p
 
 -- with no region of the name
 pub open-none : (s : State) (gone : List Gone) (d r : List ℕ) (method : DictMethod) (k : ℕ) (need : Need) → home_named r s.homes ≡ None → GivesStep (open_dict_step s d method r k need) gone (reply.Refused why.NoRegion) s gone
@@ -105,20 +97,21 @@ module _ (kinds : List Rules) (slots : Slots) (hs : List Held) (es : List Entry)
       gives-same (open_dict_step s d method r k need) gone (reply.Refused refusal) s
       (ap (open_dict_in s d method k need) home-found ∙ ap (open_dict_unless s (home_of h) d method k need) is)
 
-  named : (b : Bool) → open_dictionary h.disc.terms (home_of h).region None method b ≡ done_as (relabel_grown (name_of h.labels)) (open_dictionary h.disc.terms h.region 0 method b)
+  named : (b : Bool) → open_dictionary h.disc.terms (layout_in (home_of h).region) None method b ≡ done_as (relabel_grown (name_of h.labels)) (open_dictionary h.disc.terms (layout_in h.region) 0 method b)
   named b =
-      ap (λ o. open_dictionary h.disc.terms (home_of h).region o method b) (sym (name-none h.labels 0 refl))
-      ∙ open_dictionary-named (name_of h.labels) h.disc.terms h.region 0 method b
+      ap (λ (q : Layout Label). open_dictionary h.disc.terms q None method b) (layout-relabelled (name_of h.labels) h.region)
+      ∙ (ap (λ o. open_dictionary h.disc.terms (relabel_layout (name_of h.labels) (layout_in h.region)) o method b) (sym (name-none h.labels 0 refl))
+      ∙ open_dictionary-named (name_of h.labels) h.disc.terms (layout_in h.region) 0 method b)
 
-  step-open : (need : Need) → dict_refused s (home_of h) d k ≡ None → open_dict_step s d method r k need ≡ dict_opened s (home_of h) d k (done_as (relabel_grown (name_of h.labels)) (open_dictionary h.disc.terms h.region 0 method (is_for_table need)))
+  step-open : (need : Need) → dict_refused s (home_of h) d k ≡ None → open_dict_step s d method r k need ≡ dict_opened s (home_of h) d k (done_as (relabel_grown (name_of h.labels)) (open_dictionary h.disc.terms (layout_in h.region) 0 method (is_for_table need)))
   step-open need is =
       ap (open_dict_in s d method k need) home-found
       ∙ (ap (open_dict_unless s (home_of h) d method k need) is ∙ ap (dict_opened s (home_of h) d k) (named (is_for_table need)))
 
   -- no block is put for its table
-  pub open-failed : (gone : List Gone) (fault : RegionFault) (told : Reply) (after : State) → after ≡ s → dict_refused s (home_of h) d k ≡ None → table_reply fault ≡ Some told → IsRefusal (open_dictionary h.disc.terms h.region 0 method) fault → GivesStep (open_dict_step s d method r k (need_shown told)) gone told after gone
+  pub open-failed : (gone : List Gone) (fault : RegionFault) (told : Reply) (after : State) → after ≡ s → dict_refused s (home_of h) d k ≡ None → table_reply fault ≡ Some told → IsRefusal (open_dictionary h.disc.terms (layout_in h.region) 0 method) fault → GivesStep (open_dict_step s d method r k (need_shown told)) gone told after gone
   open-failed gone fault told after same none tells refusal =
-      let t = table-told (open_dictionary h.disc.terms h.region 0 method) fault told tells refusal in
+      let t = table-told (open_dictionary h.disc.terms (layout_in h.region) 0 method) fault told tells refusal in
       gives-same (open_dict_step s d method r k (need_shown told)) gone told after
       (step-open (need_shown told) none
       ∙ (ap (λ o. dict_opened s (home_of h) d k (done_as (relabel_grown (name_of h.labels)) o)) t.refused
@@ -133,41 +126,24 @@ module _ (kinds : List Rules) (slots : Slots) (hs : List Held) (es : List Entry)
     Settled refusals = Settles (settled (accounts slots) hs) (settled (accounts slots) gs) refusals
 
     -- a refusal of its discipline counts
-    pub settles-failed : (fault : RegionFault) (told : Reply) → table_reply fault ≡ Some told → (fault ≡ code.NoSegment → LacksTable (Some 16) h.disc g.disc) → Settled (refusal_at s (OpenDict d method r k) told)
-    settles-failed code.OutOfMemory told same lacks = absurd (none-some told same)
-    settles-failed code.NoSegment told same lacks =
+    pub settles-failed : (fault : RegionFault) (told : Reply) → table_reply fault ≡ Some told → RefusedBy fault (LacksTable (Some 16) h.disc g.disc) h.disc g.disc → Settled (refusal_at s (OpenDict d method r k) told)
+    settles-failed code.OutOfMemory told same asked = absurd (none-some told same)
+    settles-failed code.NoSegment told same asked =
         subst (λ x. Settled (refusal_at s (OpenDict d method r k) x)) (same_Some (reply.Refused NoSegmentForTable) told same)
-        (subst (λ o. Settled (home_place o)) (sym home-found)
-        (settles-change slots hs j h g at session change 1 (h.place ∷ []) (rose-by_one h.disc.faults g.disc.faults (lacks refl).rose) (one_refusal h.place)))
-    settles-failed code.TooManySegments told same lacks =
-        subst (λ x. Settled (refusal_at s (OpenDict d method r k) x)) (same_Some (reply.Refused why.TooManySegments) told same) (settles-none slots hs j h g at session change)
-    settles-failed code.Fixed told same lacks =
-        subst (λ x. Settled (refusal_at s (OpenDict d method r k) x)) (same_Some (reply.Refused why.TooManySegments) told same) (settles-none slots hs j h g at session change)
-    settles-failed code.PoolSize told same lacks =
-        subst (λ x. Settled (refusal_at s (OpenDict d method r k) x)) (same_Some (reply.Refused why.TooManySegments) told same) (settles-none slots hs j h g at session change)
-    settles-failed code.NotLast told same lacks =
-        subst (λ x. Settled (refusal_at s (OpenDict d method r k) x)) (same_Some (reply.Refused why.TooManySegments) told same) (settles-none slots hs j h g at session change)
-    settles-failed code.WrongMethod told same lacks =
-        subst (λ x. Settled (refusal_at s (OpenDict d method r k) x)) (same_Some (reply.Refused why.TooManySegments) told same) (settles-none slots hs j h g at session change)
+        (subst (λ o. Settled (home_place o)) (sym home-found) (settles-one slots hs j h g at session change asked.rose))
+    settles-failed fault told same asked =
+        subst (λ x. Settled (refusal_at s (OpenDict d method r k) x)) (same_Some (reply.Refused why.TooManySegments) told same) (settles-none slots hs j h g at session change asked)
 
     -- and was wanting for the table
-    pub lacks-failed : (fault : RegionFault) (told : Reply) → table_reply fault ≡ Some told → (fault ≡ code.NoSegment → LacksTable (Some 16) h.disc g.disc) → Touches h g [] [] → StepLacksFor s hs gs (OpenDict d method r k) told
-    lacks-failed code.OutOfMemory told same lacks touch = absurd (none-some told same)
-    lacks-failed code.NoSegment told same lacks touch =
+    pub lacks-failed : (fault : RegionFault) (told : Reply) → table_reply fault ≡ Some told → RefusedBy fault (LacksTable (Some 16) h.disc g.disc) h.disc g.disc → Touches h g [] [] → StepLacksFor s hs gs (OpenDict d method r k) told
+    lacks-failed code.OutOfMemory told same asked touch = absurd (none-some told same)
+    lacks-failed code.NoSegment told same asked touch =
         let P : Discipline → Discipline → Type 0 = λ old new. LacksTable (Some 16) old new in
         let now : held_named gs (Some r) ≡ Some g = subst (λ n. held_named gs (Some n) ≡ Some g) name-is (now-named kinds hs j h g [] [] named-first at touch) in
         let was : held_named hs (Some r) ≡ Some h = subst (λ n. held_named hs (Some n) ≡ Some h) name-is (was-named kinds hs j h g [] [] named-first at touch) in
         subst (λ x. StepLacksFor s hs gs (OpenDict d method r k) x) (same_Some (reply.Refused NoSegmentForTable) told same)
-        (subst (λ o. InHeld o (held_named gs (Some r)) P) (sym was) (subst (λ o. InHeld (Some h) o P) (sym now) (lacks refl)))
-    lacks-failed code.TooManySegments told same lacks touch =
-        subst (λ x. StepLacksFor s hs gs (OpenDict d method r k) x) (same_Some (reply.Refused why.TooManySegments) told same) tt
-    lacks-failed code.Fixed told same lacks touch =
-        subst (λ x. StepLacksFor s hs gs (OpenDict d method r k) x) (same_Some (reply.Refused why.TooManySegments) told same) tt
-    lacks-failed code.PoolSize told same lacks touch =
-        subst (λ x. StepLacksFor s hs gs (OpenDict d method r k) x) (same_Some (reply.Refused why.TooManySegments) told same) tt
-    lacks-failed code.NotLast told same lacks touch =
-        subst (λ x. StepLacksFor s hs gs (OpenDict d method r k) x) (same_Some (reply.Refused why.TooManySegments) told same) tt
-    lacks-failed code.WrongMethod told same lacks touch =
+        (subst (λ o. InHeld o (held_named gs (Some r)) P) (sym was) (subst (λ o. InHeld (Some h) o P) (sym now) asked))
+    lacks-failed fault told same asked touch =
         subst (λ x. StepLacksFor s hs gs (OpenDict d method r k) x) (same_Some (reply.Refused why.TooManySegments) told same) tt
 
     -- all else stays
@@ -180,6 +156,27 @@ module _ (kinds : List Rules) (slots : Slots) (hs : List Held) (es : List Entry)
         ∙ state-same slots hs j h g at session change kinds (dicts_in hs es)
         (ap (λ q. let p : Region Label × Kept = (relabelled (name_of g.labels) q, kept_of g.labels) in p) region
         ∙ ap (λ l. let p : Region Label × Kept = (relabelled (name_of l) h.region, kept_of l) in p) labels)
+
+  -- no block is put for its table, by the answer to the fault
+  module _ (g : Held) {cells : Blocks} (change : IsChange (record h { cells = cells }) g) (gone : List Gone) where
+    no-fault : (fault : RegionFault) → table_reply fault ≡ None → RefusedBy fault (LacksTable (Some 16) h.disc g.disc) h.disc g.disc → g.disc.faults ≡ h.disc.faults
+    no-fault code.OutOfMemory none asked = asked
+    no-fault code.NoSegment none asked = absurd (none-some _ (sym none))
+    no-fault fault none asked = asked
+
+    pub steps-failed : {E : Type 0} (fault : RegionFault) (answer : Result Reply E) → TellsTable fault answer → RefusedBy fault (LacksTable (Some 16) h.disc g.disc) h.disc g.disc → IsRefusal (open_dictionary h.disc.terms (layout_in h.region) 0 method) fault → dict_refused s (home_of h) d k ≡ None → Touches h g [] [] → g.region ≡ h.region → g.labels ≡ h.labels → StepsBy answer (moment_over slots es kinds gone hs) (moment_over slots es kinds gone (set hs j g)) (OpenDict d method r k) (λ st. open_dict_step st d method r k)
+    steps-failed fault (Ok told) tells asked refusal none touch region labels =
+        record {
+          gives = open-failed gone fault told (state_of kinds slots (set hs j g) (dicts_in (set hs j g) es)) (state-failed g change touch region labels) none tells refusal;
+          settles = settles-failed g change fault told tells asked;
+          lacks = lacks-failed g change fault told tells asked touch;
+        }
+    steps-failed fault (Err e) tells asked refusal none touch region labels =
+        record {
+          state = state-failed g change touch region labels;
+          gone = refl;
+          settles = settles-none slots hs j h g at session change (no-fault fault tells asked);
+        }
 
   -- its table is put
   module _ (g : Held) (new : Dict) {cells : Blocks} (change : IsChange (record h { cells = cells }) g) (touch : Touches h g [] (owned (dictionary_of new g.cells))) (labels : g.labels ≡ h.labels) (kind : new.kind ≡ k) (rules : Rules) (by : at_number kinds k ≡ Some rules) (whole : IsWhole rules new g.cells) where
@@ -228,13 +225,13 @@ module _ (kinds : List Rules) (slots : Slots) (hs : List Held) (es : List Entry)
         ap (λ n. one n k dict) name-is
         ∙ (ap (λ m. one r m dict) (sym kind) ∙ ap (one r new.kind) (same ∙ sym (ap (λ o. dictionary_of new (cells_held o)) opened-held)))
 
-    region-opened : (region : Region ℕ) → g.region ≡ region → with_region h.name (relabelled (name_of h.labels) region) (home_of h).kept s.homes ≡ map home_of after_hs
+    region-opened : (region : Layout ℕ) → layout_in g.region ≡ region → with_region h.name (OfBest (relabel_layout (name_of h.labels) region)) (home_of h).kept s.homes ≡ map home_of after_hs
     region-opened region same =
-        ap (λ q. with_region h.name (relabelled (name_of h.labels) q) (home_of h).kept s.homes) (sym same)
+        ap (λ (q : Region Label). with_region h.name q (home_of h).kept s.homes) (best-named (name_of h.labels) g.region region touch.best (sym same))
         ∙ (ap (λ l. with_region h.name (relabelled (name_of l) g.region) (kept_of l) s.homes) (sym labels)
         ∙ homes-change slots hs j h g at session change h.name (subst (λ n. IsFirst (is_home n) (map home_of hs) j) (sym name-is) first))
 
-    gives-opened : (gone : List Gone) (o : Outcome (Grown ℕ)) (t : Stepped) → HasGrown o g.region (dictionary_of new g.cells) → t ≡ dict_opened s (home_of h) d k (done_as (relabel_grown (name_of h.labels)) o) → GivesStep t gone (reply.Opened d) opened_state gone
+    gives-opened : (gone : List Gone) (o : Outcome (Grown ℕ)) (t : Stepped) → HasGrown o (layout_in g.region) (dictionary_of new g.cells) → t ≡ dict_opened s (home_of h) d k (done_as (relabel_grown (name_of h.labels)) o) → GivesStep t gone (reply.Opened d) opened_state gone
     gives-opened gone (model.Refused fault) t grown is = absurd grown
     gives-opened gone (model.Done x) t grown is =
         record {
@@ -247,6 +244,6 @@ module _ (kinds : List Rules) (slots : Slots) (hs : List Held) (es : List Entry)
           told = sym (ap (λ (q : Stepped). tell q.told gone) is);
         }
 
-    pub open-done : (gone : List Gone) → dict_refused s (home_of h) d k ≡ None → HasGrown (open_dictionary h.disc.terms h.region 0 method false) g.region (dictionary_of new g.cells) → GivesStep (open_dict_step s d method r k (need_shown (reply.Opened d))) gone (reply.Opened d) opened_state gone
+    pub open-done : (gone : List Gone) → dict_refused s (home_of h) d k ≡ None → HasGrown (open_dictionary h.disc.terms (layout_in h.region) 0 method false) (layout_in g.region) (dictionary_of new g.cells) → GivesStep (open_dict_step s d method r k (need_shown (reply.Opened d))) gone (reply.Opened d) opened_state gone
     open-done gone none grown =
-        gives-opened gone (open_dictionary h.disc.terms h.region 0 method false) (open_dict_step s d method r k (need_shown (reply.Opened d))) grown (step-open (need_shown (reply.Opened d)) none)
+        gives-opened gone (open_dictionary h.disc.terms (layout_in h.region) 0 method false) (open_dict_step s d method r k (need_shown (reply.Opened d))) grown (step-open (need_shown (reply.Opened d)) none)

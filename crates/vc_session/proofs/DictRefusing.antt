@@ -2,8 +2,7 @@
 use Rattle.std.proofs.Common.{◌≡◌, ℕ, Bool, true, false, cond, List, Option, Some, None, length, sym, ap, ◌∙◌, refl}
 use Rattle.std.specs.Prelude.{nat_le, not}
 use Rattle.std.specs.List.{list_any}
-use Rattle.vc_region.specs.Region.{OfBest, OfDebug, OfLast, OfPool, OfProfile, Region, relabelled}
-use Rattle.vc_objects.specs.Objects.{is_best}
+use Rattle.vc_region.specs.Region.{OfBest, OfDebug, OfLast, OfPool, OfProfile, Region, relabelled, is_best}
 use Rattle.vc_script.specs.declared.refusal.Refusal.{Refusal}
 use Rattle.vc_script.specs.declared.refusal.Refusal.TheVariants as why
 use Rattle.vc_session.specs.Dicts.{dict_limit, dict_refused, is_dict, is_kind}

@@ -1,5 +1,5 @@
 -- A command on a dictionary, over the regions and dictionaries of a session as they are stored.
-use Rattle.std.proofs.Common.{◌≡◌, ℕ, ◌-◌, ◌<◌, zero, suc, true, List, [], ◌∷◌, Some, Result, Ok, Err, IfOk, length, map, set, refl, sym, ap, ◌∙◌, subst, arith}
+use Rattle.std.proofs.Common.{◌≡◌, ℕ, ◌-◌, ◌<◌, zero, suc, true, List, [], ◌∷◌, Some, None, Result, Ok, Err, IfOk, OnErr, length, map, set, refl, sym, ap, ◌∙◌, subst, arith}
 use Rattle.std.specs.Prelude.{slice_get}
 use Rattle.std.specs.List.{position}
 use Rattle.std.specs.Str.{bytes_eq}
@@ -11,11 +11,11 @@ use Rattle.vc_model.specs.Discipline.{Discipline}
 use Rattle.vc_model.specs.Numbered.{at_number}
 use Rattle.vc_dict.specs.declared.dict.Dict.{Dict}
 use Rattle.vc_dtdisc.specs.Rules.{Gone, Rules}
-use Rattle.vc_region.specs.Cells.{cells_in, rest_in}
-use Rattle.vc_region.specs.Parts.{disc_in}
-use Rattle.vc_region.specs.declared.region.Region.{Region}
+use Rattle.vc_best.specs.Cells.{cells_in, rest_in}
+use Rattle.vc_best.specs.Parts.{disc_in}
+use Rattle.vc_best.specs.declared.best.Best.{Best}
 use Rattle.vc_objects.specs.Leaves.{LeavesRest}
-use Rattle.vc_objects.specs.Objects.{is_best, owned}
+use Rattle.vc_objects.specs.Objects.{owned}
 use Rattle.vc_objects.specs.Parts.{IsWhole, dictionary_in}
 use Rattle.vc_commands.specs.Commands.{in_dict}
 use Rattle.vc_commands.specs.Run.{AskedBy, GivesDict, IsSpentBy, LacksBy, seat_in}
@@ -34,14 +34,16 @@ use Rattle.vc_session.specs.Homes.{held_all, held_of}
 use Rattle.vc_session.specs.Lacks.{IsCutOff, StepLacksFor}
 use Rattle.vc_session.specs.Run.{refusal_at}
 use Rattle.vc_session.specs.State.{DictHome, Home, State, is_home}
+use Rattle.vc_session.specs.Moment.{Moment}
 use Rattle.vc_session.specs.Step.{GivesStep}
-use Rattle.vc_session.proofs.Cells.{set_same}
+use Rattle.vc_session.specs.Steps.{StepsBy}
+use Rattle.vc_session.proofs.Cells.{at_number_some, set_same}
 use Rattle.vc_session.proofs.Changing.{session-change, settles-none}
 use Rattle.vc_session.proofs.DictChange.{Touches, dict-at}
 use Rattle.vc_session.proofs.DictNamed.{first-dict, key-at, value-set}
-use Rattle.vc_session.proofs.DictRegion.{region-change, touches}
+use Rattle.vc_session.proofs.DictRegion.{best_entry, region-change, touches}
 use Rattle.vc_session.proofs.DictReplies.{IsOther, other-dict}
-use Rattle.vc_session.proofs.DictStep.{best-here, cut-after, dicts-after, lacks-after, settles-after, step-after, whole-here}
+use Rattle.vc_session.proofs.DictStep.{cut-after, dicts-after, lacks-after, settles-after, step-after, whole-here}
 use Rattle.vc_session.proofs.DictsStay.{Entry}
 use Rattle.vc_session.proofs.Firsts.{IsFirst}
 use Rattle.vc_session.proofs.Helds.{first-named, held-read, held-set, index-within, length-set, name-at, some-at}
@@ -53,17 +55,12 @@ pair-read [] i k x key value = absurd (none-some k key)
 pair-read (e ∷ es) zero k x key value = ap (λ n. Some (n, e.1)) (same_Some e.0 k key) ∙ ap (λ y. Some (k, y)) (same_Some e.1 x value)
 pair-read (e ∷ es) (suc i) k x key value = pair-read es i k x key value
 
--- what an answer asked for, by its reply
-pub asked-ok : {E L : Type 0} (answer : Result Reply E) (s : Seat L) (command : Command) (old new : Discipline) → AskedBy answer s command old new → IfOk answer (λ reply. LacksBy s command reply old new)
-asked-ok (Ok reply) s command old new asked = asked
-asked-ok (Err e) s command old new asked = tt
-
 -- any command but the one that ends a dictionary
 pub plain-command : (s : State) (command : Command) (need : Need) (d : DictHome) (h : Home) (rules : Rules) → ((x : List ℕ) → command ≡ Shut x → ⊥) → dict_command s command need d h rules ≡ dict_changed s d h (in_dict (seat_of d h rules) command need)
 plain-command s (Shut x) need d h rules other = absurd (other x refl)
 plain-command s command need d h rules other = refl
 
-module _ {I : Type 0} {V : I → Type 0} (meaning : (x : I) × V x → Discipline) (kinds : List Rules) (slots : Slots) (homes : List (List ℕ × HomeEntry I V)) (labels : List Labels) (es : List Entry) (name : List ℕ) (entry : DictEntry) (hv : HomeEntry I V) (j i : ℕ) (named : length labels ≡ length homes) (held : IsSession slots (held_all meaning homes labels)) (dicts : AreDicts kinds (held_all meaning homes labels) es) (at_home : position (bytes_eq entry.home) (keys_of homes) ≡ Some j) (home : slice_get (values_of homes) j ≡ Some hv) (at_dict : position (bytes_eq name) (keys_of es) ≡ Some i) (dict : slice_get (values_of es) i ≡ Some entry) where
+module _ {I : Type 0} {V : I → Type 0} (meaning : (x : I) × V x → Discipline) (kinds : List Rules) (slots : Slots) (homes : List (List ℕ × HomeEntry I V)) (labels : List Labels) (es : List Entry) (name : List ℕ) (entry : DictEntry) (place : ℕ) (before : Best I V) (j i : ℕ) (named : length labels ≡ length homes) (held : IsSession slots (held_all meaning homes labels)) (dicts : AreDicts kinds (held_all meaning homes labels) es) (at_home : position (bytes_eq entry.home) (keys_of homes) ≡ Some j) (home : slice_get (values_of homes) j ≡ Some (best_entry place before)) (at_dict : position (bytes_eq name) (keys_of es) ≡ Some i) (dict : slice_get (values_of es) i ≡ Some entry) where
   abbrev hs : List Held
   hs = held_all meaning homes labels
 
@@ -77,13 +74,13 @@ module _ {I : Type 0} {V : I → Type 0} (meaning : (x : I) × V x → Disciplin
   l = some-label.0
 
   abbrev h : Held
-  h = held_of meaning entry.home hv l
+  h = held_of meaning entry.home (best_entry place before) l
 
   abbrev e : Entry
   e = (name, entry)
 
   at : slice_get hs j ≡ Some h
-  at = held-read meaning homes labels j entry.home hv l (name-at meaning homes entry.home j at_home) home some-label.1
+  at = held-read meaning homes labels j entry.home (best_entry place before) l (name-at meaning homes entry.home j at_home) home some-label.1
 
   there : slice_get es i ≡ Some e
   there = pair-read es i name entry (key-at es name i at_dict) dict
@@ -100,27 +97,21 @@ module _ {I : Type 0} {V : I → Type 0} (meaning : (x : I) × V x → Disciplin
   abbrev is : IsDictOf kinds hs e
   is = dict-at kinds hs es i e there dicts
 
-  pub kind-there : (r : Rules) × (at_number kinds entry.dict.kind ≡ Some r)
-  kind-there = (is.rules, is.kind)
-
-  pub best-there : is_best (rest_in hv.region) ≡ true
-  best-there = best-here kinds slots hs es j i h e at there first first_dict held dicts refl
-
   module _ (rules : Rules) (at_rules : at_number kinds entry.dict.kind ≡ Some rules) where
     rules-is : rules ≡ is.rules
     rules-is = same_Some rules is.rules (sym at_rules ∙ is.kind)
 
-    pub whole-there : IsWhole rules entry.dict (cells_in hv.region)
+    pub whole-there : IsWhole rules entry.dict (cells_in before)
     whole-there =
-        subst (λ r. IsWhole r entry.dict (cells_in hv.region)) (sym rules-is)
+        subst (λ r. IsWhole r entry.dict (cells_in before)) (sym rules-is)
         (whole-here kinds slots hs es j i h e at there first first_dict held dicts refl)
 
-    module _ (after : Region I V) (new : Dict) (leaves : LeavesRest meaning rules hv.region entry.dict after new) (kinds' : List Rules) (same_kinds : kinds' ≡ kinds) where
+    module _ (after : Best I V) (new : Dict) (leaves : LeavesRest meaning rules before entry.dict after new) (kinds' : List Rules) (same_kinds : kinds' ≡ kinds) where
       abbrev g : Held
-      g = held_of meaning entry.home (record { place = hv.place; region = after }) l
+      g = held_of meaning entry.home (best_entry place after) l
 
       abbrev mine : List ℕ
-      mine = owned (dictionary_in entry.dict hv.region)
+      mine = owned (dictionary_in entry.dict before)
 
       abbrev mine' : List ℕ
       mine' = owned (dictionary_in new after)
@@ -128,10 +119,10 @@ module _ {I : Type 0} {V : I → Type 0} (meaning : (x : I) × V x → Disciplin
       change : IsChange (let k : Held = record h { cells = cells_in after } in k) g
       change =
           let is_held : IsHeld slots h = held-at slots hs j h at held in
-          region-change meaning entry.home hv after l mine mine' best-there leaves.rest is_held.lent is_held.names
+          region-change meaning entry.home place before after l mine mine' leaves.rest is_held.lent is_held.names
 
       touch : Touches h g mine mine'
-      touch = touches meaning entry.home hv after l mine mine' best-there leaves.rest
+      touch = touches meaning entry.home place before after l mine mine' leaves.rest
 
       whole-new : IsWhole is.rules new (cells_in after)
       whole-new = subst (λ r. IsWhole r new (cells_in after)) rules-is leaves.whole
@@ -140,15 +131,15 @@ module _ {I : Type 0} {V : I → Type 0} (meaning : (x : I) × V x → Disciplin
       n = (name, record { home = entry.home; dict = new })
 
       abbrev hs' : List Held
-      hs' = held_all meaning (set_value_at homes j (record { place = hv.place; region = after })) labels
+      hs' = held_all meaning (set_value_at homes j (best_entry place after)) labels
 
       abbrev es' : List Entry
       es' = set_value_at es i (record { home = entry.home; dict = new })
 
       held-is : hs' ≡ set hs j g
       held-is =
-          ap (held_all meaning (set_value_at homes j (record { place = hv.place; region = after }))) (sym (set_same labels j l some-label.1))
-          ∙ held-set meaning homes labels j entry.home (record { place = hv.place; region = after }) l named (name-at meaning homes entry.home j at_home)
+          ap (held_all meaning (set_value_at homes j (best_entry place after))) (sym (set_same labels j l some-label.1))
+          ∙ held-set meaning homes labels j entry.home (best_entry place after) l named (name-at meaning homes entry.home j at_home)
 
       es-is : es' ≡ set es i n
       es-is = value-set es i name entry (record { home = entry.home; dict = new }) there
@@ -159,23 +150,24 @@ module _ {I : Type 0} {V : I → Type 0} (meaning : (x : I) × V x → Disciplin
       pub session-ran : IsSession slots hs'
       session-ran = carry (λ ks xs ys. IsSession slots xs) (session-change slots hs j h g at held change)
 
-      pub named-ran : length labels ≡ length (set_value_at homes j (record { place = hv.place; region = after }))
+      pub named-ran : length labels ≡ length (set_value_at homes j (best_entry place after))
       named-ran =
           ap length (sym (set_same labels j l some-label.1))
-          ∙ length-set meaning homes labels j (record { place = hv.place; region = after }) l named
+          ∙ length-set meaning homes labels j (best_entry place after) l named
 
       pub dicts-ran : AreDicts kinds' hs' es'
       dicts-ran =
           carry AreDicts
           (dicts-after kinds slots hs es j i h e at there first first_dict held dicts refl g new change touch refl leaves.kind whole-new)
 
-      pub keeps-ran : Settles (settled (accounts slots) hs) (settled (accounts slots) hs') []
-      keeps-ran =
+      -- with no fault counted
+      pub quiet-ran : (disc_in meaning after).faults ≡ (disc_in meaning before).faults → Settles (settled (accounts slots) hs) (settled (accounts slots) hs') []
+      quiet-ran same =
           carry (λ ks xs ys. Settles (settled (accounts slots) hs) (settled (accounts slots) xs) [])
-          (settles-none slots hs j h g at held change)
+          (settles-none slots hs j h g at held change same)
 
       abbrev tags : Seat ℕ
-      tags = seat_in meaning rules hv.region entry.dict
+      tags = seat_in meaning rules before entry.dict
 
       -- the seat by the rules that the kind has
       abbrev seat_by : Rules → Seat ℕ
@@ -189,18 +181,18 @@ module _ {I : Type 0} {V : I → Type 0} (meaning : (x : I) × V x → Disciplin
           (subst (λ r. GivesDict (in_dict (seat_by r) command (need_shown reply)) (rest_in after) (dictionary_in new after) reply old told) rules-is gives)
           at_gone is_gone)
 
-      lacks-by : (command : Command) (reply : Reply) → LacksBy tags command reply (disc_in meaning hv.region) (disc_in meaning after) → LacksBy (seat_by is.rules) command reply (disc_in meaning hv.region) (disc_in meaning after)
-      lacks-by command reply lacks = subst (λ r. LacksBy (seat_by r) command reply (disc_in meaning hv.region) (disc_in meaning after)) rules-is lacks
+      lacks-by : (command : Command) (reply : Reply) → LacksBy tags command reply (disc_in meaning before) (disc_in meaning after) → LacksBy (seat_by is.rules) command reply (disc_in meaning before) (disc_in meaning after)
+      lacks-by command reply lacks = subst (λ r. LacksBy (seat_by r) command reply (disc_in meaning before) (disc_in meaning after)) rules-is lacks
 
-      pub settles-ran : (command : Command) (reply : Reply) → dict_of command ≡ Some name → IsOther reply → LacksBy tags command reply (disc_in meaning hv.region) (disc_in meaning after) → Settles (settled (accounts slots) hs) (settled (accounts slots) hs') (refusal_at s command reply)
+      pub settles-ran : (command : Command) (reply : Reply) → dict_of command ≡ Some name → IsOther reply → LacksBy tags command reply (disc_in meaning before) (disc_in meaning after) → Settles (settled (accounts slots) hs) (settled (accounts slots) hs') (refusal_at s command reply)
       settles-ran command reply works other lacks =
           carry (λ ks xs ys. Settles (settled (accounts slots) hs) (settled (accounts slots) xs) (refusal_at s command reply))
           (settles-after kinds slots hs es j i h e at there first first_dict held dicts refl g new change touch refl leaves.kind whole-new command reply works other (lacks-by command reply lacks))
 
-      pub lacks-ran : (command : Command) (reply : Reply) → dict_of command ≡ Some name → LacksBy tags command reply (disc_in meaning hv.region) (disc_in meaning after) → StepLacksFor s hs hs' command reply
-      lacks-ran command reply works lacks =
+      pub lacks-ran : (command : Command) (reply : Reply) → dict_of command ≡ Some name → IsOther reply → LacksBy tags command reply (disc_in meaning before) (disc_in meaning after) → StepLacksFor s hs hs' command reply
+      lacks-ran command reply works other lacks =
           carry (λ ks xs ys. StepLacksFor s hs xs command reply)
-          (lacks-after kinds slots hs es j i h e at there first first_dict held dicts refl g new change touch refl leaves.kind whole-new command reply works (lacks-by command reply lacks))
+          (lacks-after kinds slots hs es j i h e at there first first_dict held dicts refl g new change touch refl leaves.kind whole-new command reply works other (lacks-by command reply lacks))
 
       pub cut-ran : (command : Command) → dict_of command ≡ Some name → IsSpentBy tags command (rest_in after) (dictionary_in new after) → IsCutOff s command (state_of kinds' slots hs' (dicts_in hs' es'))
       cut-ran command works spent =
@@ -211,3 +203,25 @@ module _ {I : Type 0} {V : I → Type 0} (meaning : (x : I) × V x → Disciplin
       -- its reply is of no block's segment
       pub other-ran : (command : Command) (reply : Reply) (old told : Gone) → GivesDict (in_dict tags command (need_shown reply)) (rest_in after) (dictionary_in new after) reply old told → IsOther reply
       other-ran command reply old told gives = subst IsOther gives.reply (other-dict tags command (need_shown reply))
+
+      abbrev moment_after : List Gone → Moment
+      moment_after gone = record { state = state_of kinds' slots hs' (dicts_in hs' es'); regions = hs'; written = None; accounts = settled (accounts slots) hs'; gone = gone }
+
+      abbrev moment_before : List Gone → Moment
+      moment_before gone = record { state = s; regions = hs; written = None; accounts = settled (accounts slots) hs; gone = gone }
+
+      -- the step by what the command answered
+      pub steps-ran : {E : Type 0} (answer : Result Reply E) (command : Command) (gone gone' : List Gone) (old told : Gone) → dict_of command ≡ Some name → ((x : List ℕ) → command ≡ Shut x → ⊥) → at_number gone entry.dict.kind ≡ Some old → gone' ≡ set gone (entry.dict.kind - 1) told → IfOk answer (λ reply. GivesDict (in_dict tags command (need_shown reply)) (rest_in after) (dictionary_in new after) reply old told) → OnErr answer ((told ≡ old) × IsSpentBy tags command (rest_in after) (dictionary_in new after)) → AskedBy answer tags command (disc_in meaning before) (disc_in meaning after) → StepsBy answer (moment_before gone) (moment_after gone') command (λ st. dict_step st name command)
+      steps-ran (Ok reply) command gone gone' old told works other at_gone is_gone gives err asked =
+          let plain = other-ran command reply old told gives in
+          record {
+            gives = step-ran command reply gone gone' old told other gives at_gone is_gone;
+            settles = settles-ran command reply works plain asked;
+            lacks = lacks-ran command reply works plain asked;
+          }
+      steps-ran (Err e) command gone gone' old told works other at_gone is_gone gives err asked =
+          record {
+            state = cut-ran command works err.1;
+            gone = is_gone ∙ (ap (set gone (entry.dict.kind - 1)) err.0 ∙ set_same gone (entry.dict.kind - 1) old (at_number_some gone entry.dict.kind old at_gone).1);
+            settles = quiet-ran asked;
+          }

@@ -9,8 +9,10 @@ use Rattle.std.proofs.lemmas.Option.{none-some, same_Some, slice_get-map}
 use Rattle.std.proofs.lemmas.Slice.Eq.{bytes_eq-Decides}
 use Rattle.vc_base.specs.Cells.{Blocks}
 use Rattle.vc_dtdisc.specs.Rules.{Rules}
-use Rattle.vc_region.specs.Region.{relabelled}
-use Rattle.vc_objects.specs.Objects.{Dictionary, is_best, owned}
+use Rattle.vc_model.specs.Layout.{Layout}
+use Rattle.vc_region.specs.Region.{OfBest, is_best, layout_in, relabelled}
+use Rattle.vc_region.proofs.Relabel.{layout-relabelled}
+use Rattle.vc_objects.specs.Objects.{Dictionary, owned}
 use Rattle.vc_objects.specs.Parts.{IsWhole, dictionary_of}
 use Rattle.vc_objects.specs.Remove.{region_without}
 use Rattle.vc_objects.proofs.Named.{region_without-named}
@@ -18,7 +20,8 @@ use Rattle.vc_session.specs.Account.{Held, IsChange, IsSession, held_named, home
 use Rattle.vc_session.specs.DictHomes.{AreDicts, IsDictOf, cells_held, dict_home, dicts_in}
 use Rattle.vc_session.specs.Dicts.{is_dict, shut_in, shut_state, without_dict}
 use Rattle.vc_session.specs.Labels.{kept_of, name_of}
-use Rattle.vc_session.specs.State.{DictHome, Home, State, home_named, is_home, with_region}
+use Rattle.vc_session.specs.State.{DictHome, Home, Label, State, home_named, is_home, with_region}
+use Rattle.vc_session.proofs.BestRegions.{best-named}
 use Rattle.vc_session.proofs.Cells.{map-remove}
 use Rattle.vc_session.proofs.Changing.{homes-change}
 use Rattle.vc_session.proofs.DictChange.{IsClear, Touches, clear-others, dict-at, dicts-kept, dicts-remove, homes-kept}
@@ -87,7 +90,7 @@ module _ (kinds : List Rules) (slots : Slots) (hs : List Held) (es : List Entry)
   dict-is = ap (λ o. dictionary_of e.1.dict (cells_held o)) found-held
 
   -- its blocks go
-  module _ (g : Held) {cells : Blocks} (change : IsChange (record h { cells = cells }) g) (touch : Touches h g (owned was) []) (labels : g.labels ≡ h.labels) (region : g.region ≡ region_without h.region was) where
+  module _ (g : Held) {cells : Blocks} (change : IsChange (record h { cells = cells }) g) (touch : Touches h g (owned was) []) (labels : g.labels ≡ h.labels) (region : layout_in g.region ≡ region_without (layout_in h.region) was) where
     abbrev gs : List Held
     gs = set hs j g
 
@@ -105,13 +108,15 @@ module _ (kinds : List Rules) (slots : Slots) (hs : List Held) (es : List Entry)
     abbrev made : List Home → List DictHome → State
     made homes ds = record { shelf = (state_of kinds slots hs []).shelf; homes = homes; kinds = kinds; dicts = ds }
 
-    region-is : region_without (home_of h).region d.dict ≡ (home_of g).region
+    region-is : OfBest (region_without (layout_in (home_of h).region) d.dict) ≡ (home_of g).region
     region-is =
-        ap (λ (x : Dictionary). region_without (home_of h).region x) dict-is
-        ∙ (region_without-named (name_of h.labels) h.region was
-        ∙ (ap (relabelled (name_of h.labels)) (sym region) ∙ ap (λ l. relabelled (name_of l) g.region) (sym labels)))
+        ap (λ (x : Dictionary). OfBest (region_without (layout_in (home_of h).region) x)) dict-is
+        ∙ (ap (λ (q : Layout Label). OfBest (region_without q was)) (layout-relabelled (name_of h.labels) h.region)
+        ∙ (ap (λ (q : Layout Label). OfBest q) (region_without-named (name_of h.labels) (layout_in h.region) was)
+        ∙ (best-named (name_of h.labels) g.region (region_without (layout_in h.region) was) touch.best (sym region)
+        ∙ ap (λ l. relabelled (name_of l) g.region) (sym labels))))
 
-    region-shut : with_region h.name (region_without (home_of h).region d.dict) (home_of h).kept (map home_of hs) ≡ map home_of gs
+    region-shut : with_region h.name (OfBest (region_without (layout_in (home_of h).region) d.dict)) (home_of h).kept (map home_of hs) ≡ map home_of gs
     region-shut =
         ap (λ q. with_region h.name q (home_of h).kept (map home_of hs)) region-is
         ∙ (ap (λ l. with_region h.name (home_of g).region (kept_of l) (map home_of hs)) (sym labels)

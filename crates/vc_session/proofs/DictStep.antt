@@ -13,10 +13,12 @@ use Rattle.vc_model.specs.Outcome as model
 use Rattle.vc_model.specs.Outcome.{Outcome, done_as}
 use Rattle.vc_dict.specs.declared.dict.Dict.{Dict}
 use Rattle.vc_dtdisc.specs.Rules.{Gone, Rules}
-use Rattle.vc_region.specs.Region.{Region, relabelled}
+use Rattle.vc_model.specs.Layout.{Layout, relabel_layout}
+use Rattle.vc_region.specs.Region.{OfBest, Region, is_best, layout_in, relabelled}
+use Rattle.vc_region.proofs.Relabel.{layout-relabelled}
 use Rattle.vc_objects.specs.Insert.{Grown, grow}
 use Rattle.vc_objects.specs.Leaves.{HasGrown, LacksHolder, LacksTable}
-use Rattle.vc_objects.specs.Objects.{Dictionary, is_best, owned}
+use Rattle.vc_objects.specs.Objects.{Dictionary, owned}
 use Rattle.vc_objects.specs.Parts.{IsWhole, dictionary_of}
 use Rattle.vc_objects.proofs.Named.{grow-named, relabel_grown}
 use Rattle.vc_commands.specs.Commands.{in_dict, object_asked, table_asked}
@@ -38,8 +40,9 @@ use Rattle.vc_session.specs.Run.{home_place, place_named, refusal_at}
 use Rattle.vc_session.specs.State.{DictHome, Home, Label, State, Stepped, home_named, is_home, with_region}
 use Rattle.vc_session.specs.Step.{GivesStep, opened_in, region_asked}
 use Rattle.vc_session.specs.Told.{tell}
+use Rattle.vc_session.proofs.BestRegions.{best-is, best-named}
 use Rattle.vc_session.proofs.Cells.{set_same}
-use Rattle.vc_session.proofs.Changing.{homes-change, one_refusal, rose-by_one, settles-change, settles-none}
+use Rattle.vc_session.proofs.Changing.{homes-change, settles-none, settles-one}
 use Rattle.vc_session.proofs.DictChange.{IsClear, Touches, clear-others, dict-at, dicts-set, homes-set, now-named}
 use Rattle.vc_session.proofs.DictNamed.{dict-found, dict-set, home-at}
 use Rattle.vc_session.proofs.DictReplies.{IsOther}
@@ -109,13 +112,14 @@ module _ (kinds : List Rules) (slots : Slots) (hs : List Held) (es : List Entry)
 
   -- the seat of a command, with tags for labels
   abbrev pub tags : Seat ℕ
-  tags = record { rules = is.rules; terms = h.disc.terms; none = 0; region = h.region; dict = was }
+  tags = record { rules = is.rules; terms = h.disc.terms; none = 0; region = layout_in h.region; dict = was }
 
   seat-is : seat_of d (home_of h) is.rules ≡ relabel_seat (name_of h.labels) tags
   seat-is =
-      let made : Label → Dictionary → Seat Label = λ o x.
-      record { rules = is.rules; terms = h.disc.terms; none = o; region = relabelled (name_of h.labels) h.region; dict = x } in
-      ap (made None) dict-is ∙ ap (λ o. made o was) (sym (name-none h.labels 0 refl))
+      let made : Label → Layout Label → Dictionary → Seat Label = λ o r x. record { rules = is.rules; terms = h.disc.terms; none = o; region = r; dict = x } in
+      ap (made None (layout_in (home_of h).region)) dict-is
+      ∙ (ap (λ r. made None r was) (layout-relabelled (name_of h.labels) h.region)
+      ∙ ap (λ o. made o (relabel_layout (name_of h.labels) (layout_in h.region)) was) (sym (name-none h.labels 0 refl)))
 
   pub step-seat : (command : Command) (need : Need) → dict_step s e.0 command need ≡ dict_command s command need d (home_of h) is.rules
   step-seat command need =
@@ -192,10 +196,10 @@ module _ (kinds : List Rules) (slots : Slots) (hs : List Held) (es : List Entry)
         ∙ (ap (set (dicts_in hs es) i) (entry-home dict same_dict) ∙ sym homes-after) in
         ap (λ x. made x (with_dict e.0 dict s.dicts)) homes ∙ ap (made (map home_of gs)) ds
 
-    relabel-after : (region : Region ℕ) → region ≡ g.region → relabelled (name_of h.labels) region ≡ (home_of g).region
-    relabel-after region same = ap (relabelled (name_of h.labels)) same ∙ ap (λ l. relabelled (name_of l) g.region) (sym labels)
+    relabel-after : (region : Layout ℕ) → region ≡ layout_in g.region → OfBest (relabel_layout (name_of h.labels) region) ≡ (home_of g).region
+    relabel-after region same = best-named (name_of h.labels) g.region region touch.best same ∙ ap (λ l. relabelled (name_of l) g.region) (sym labels)
 
-    pub step-after : (command : Command) (reply : Reply) (gone gone' : List Gone) (old told : Gone) → dict_command s command (need_shown reply) d (home_of h) is.rules ≡ dict_changed s d (home_of h) (in_dict (seat_of d (home_of h) is.rules) command (need_shown reply)) → GivesDict (in_dict tags command (need_shown reply)) g.region now reply old told → at_number gone e.1.dict.kind ≡ Some old → gone' ≡ set gone (e.1.dict.kind - 1) told → GivesStep (dict_step s e.0 command (need_shown reply)) gone reply after gone'
+    pub step-after : (command : Command) (reply : Reply) (gone gone' : List Gone) (old told : Gone) → dict_command s command (need_shown reply) d (home_of h) is.rules ≡ dict_changed s d (home_of h) (in_dict (seat_of d (home_of h) is.rules) command (need_shown reply)) → GivesDict (in_dict tags command (need_shown reply)) (layout_in g.region) now reply old told → at_number gone e.1.dict.kind ≡ Some old → gone' ≡ set gone (e.1.dict.kind - 1) told → GivesStep (dict_step s e.0 command (need_shown reply)) gone reply after gone'
     step-after command reply gone gone' old told plain gives at_gone is_gone =
         let need = need_shown reply in
         let c : DictChanged ℕ = in_dict tags command need in
@@ -203,7 +207,7 @@ module _ (kinds : List Rules) (slots : Slots) (hs : List Held) (es : List Entry)
         step-seat command need ∙ (plain ∙ ap (dict_changed s d (home_of h)) (changed-is command need)) in
         record {
           replied = ap (λ (t : Stepped). t.reply) same ∙ gives.reply;
-          state_after = ap (λ (t : Stepped). t.state) same ∙ state-after (relabelled (name_of h.labels) c.region) c.dict (relabel-after c.region gives.region) gives.dict;
+          state_after = ap (λ (t : Stepped). t.state) same ∙ state-after (OfBest (relabel_layout (name_of h.labels) c.region)) c.dict (relabel-after c.region gives.region) gives.dict;
           told =
               is_gone
               ∙ (ap (set gone (e.1.dict.kind - 1)) gives.told
@@ -217,7 +221,7 @@ module _ (kinds : List Rules) (slots : Slots) (hs : List Held) (es : List Entry)
     settled-here command works rose =
         subst (λ o. Settled (place_named s o)) (sym (asked-home command works))
         (subst (λ o. Settled (home_place o)) (sym found-home)
-        (settles-change slots hs j h g at session change 1 (h.place ∷ []) (rose-by_one h.disc.faults g.disc.faults rose) (one_refusal h.place)))
+        (settles-one slots hs j h g at session change rose))
 
     -- a refusal of its discipline counts
     pub settles-after : (command : Command) (reply : Reply) → dict_of command ≡ Some e.0 → IsOther reply → LacksBy tags command reply h.disc g.disc → Settled (refusal_at s command reply)
@@ -226,7 +230,7 @@ module _ (kinds : List Rules) (slots : Slots) (hs : List Held) (es : List Entry)
         settled-here command works (table-rose (table_asked tags command) h.disc g.disc lacks)
     settles-after command (Refused NoSegmentForObject) works other lacks =
         settled-here command works (object-rose (table_asked tags command) (object_asked tags command) h.disc g.disc lacks)
-    settles-after command reply works other lacks = settles-none slots hs j h g at session change
+    settles-after command reply works other lacks = settles-none slots hs j h g at session change lacks
 
     in-held : (command : Command) (reply : Reply) → dict_of command ≡ Some e.0 → LacksBy tags command reply h.disc g.disc → InHeld (held_named hs (region_asked s command)) (held_named gs (region_asked s command)) (CommandLacks s command reply)
     in-held command reply works lacks =
@@ -244,10 +248,11 @@ module _ (kinds : List Rules) (slots : Slots) (hs : List Held) (es : List Entry)
         (subst (λ o. InHeld (Some h) o P) (sym now-held) (command-lacks s command reply h.disc g.disc e.0 works at_dict)))
 
     -- what the segment was wanting for
-    pub lacks-after : (command : Command) (reply : Reply) → dict_of command ≡ Some e.0 → LacksBy tags command reply h.disc g.disc → StepLacksFor s hs gs command reply
-    lacks-after command (Refused NoSegmentForTable) works lacks = in-held command (Refused NoSegmentForTable) works lacks
-    lacks-after command (Refused NoSegmentForObject) works lacks = in-held command (Refused NoSegmentForObject) works lacks
-    lacks-after command reply works lacks = tt
+    pub lacks-after : (command : Command) (reply : Reply) → dict_of command ≡ Some e.0 → IsOther reply → LacksBy tags command reply h.disc g.disc → StepLacksFor s hs gs command reply
+    lacks-after command (Refused NoSegment) works other lacks = absurd other
+    lacks-after command (Refused NoSegmentForTable) works other lacks = in-held command (Refused NoSegmentForTable) works lacks
+    lacks-after command (Refused NoSegmentForObject) works other lacks = in-held command (Refused NoSegmentForObject) works lacks
+    lacks-after command reply works other lacks = tt
 
     same-state : made (with_region h.name (home_of h).region (home_of h).kept s.homes) (with_dict e.0 d.dict s.dicts) ≡ s
     same-state =
@@ -259,15 +264,15 @@ module _ (kinds : List Rules) (slots : Slots) (hs : List Held) (es : List Entry)
         dict-set hs es e.0 i e there first_dict d.dict ∙ set_same s.dicts i d (home-at hs es i e there) in
         ap (λ x. made x (with_dict e.0 d.dict s.dicts)) homes ∙ ap (made s.homes) ds
 
-    grew-for : (o : Outcome (Grown ℕ)) → HasGrown o g.region now → GrewFor (done_as (relabel_grown (name_of h.labels)) o) s d (home_of h) after
+    grew-for : (o : Outcome (Grown ℕ)) → HasGrown o (layout_in g.region) now → GrewFor (done_as (relabel_grown (name_of h.labels)) o) s d (home_of h) after
     grew-for (model.Done x) grown =
-        sym (state-after (relabelled (name_of h.labels) x.region) x.dict (relabel-after x.region (sym grown.0)) (sym grown.1))
+        sym (state-after (OfBest (relabel_layout (name_of h.labels) x.region)) x.dict (relabel-after x.region (sym grown.0)) (sym grown.1))
     grew-for (model.Refused why) grown = absurd grown
 
-    grew-by : (command : Command) → dict_of command ≡ Some e.0 → HasGrown (grow tags.terms tags.region tags.none tags.dict false) g.region now → GrewBy s (dict_at s (dict_of command)) after
+    grew-by : (command : Command) → dict_of command ≡ Some e.0 → HasGrown (grow tags.terms tags.region tags.none tags.dict false) (layout_in g.region) now → GrewBy s (dict_at s (dict_of command)) after
     grew-by command works grown =
         let named = grow-named (name_of h.labels) tags.terms tags.region tags.none tags.dict false in
-        let seat : GrewFor (grow h.disc.terms (home_of h).region None d.dict false) s d (home_of h) after =
+        let seat : GrewFor (grow h.disc.terms (layout_in (home_of h).region) None d.dict false) s d (home_of h) after =
         subst (λ (q : Seat Label). GrewFor (grow q.terms q.region q.none q.dict false) s d (home_of h) after) (sym seat-is)
         (subst (λ o. GrewFor o s d (home_of h) after) (sym named) (grew-for (grow tags.terms tags.region tags.none tags.dict false) grown)) in
         subst (λ o. GrewBy s (dict_at s o) after) (sym works)
@@ -275,16 +280,16 @@ module _ (kinds : List Rules) (slots : Slots) (hs : List Held) (es : List Entry)
         (subst (λ o. GrewIn s d o after) (sym found-home) seat))
 
     -- with no memory
-    same-after : (g.region ≡ tags.region) × (now ≡ tags.dict) → after ≡ s
+    same-after : (layout_in g.region ≡ tags.region) × (now ≡ tags.dict) → after ≡ s
     same-after same =
-        sym (state-after (home_of h).region d.dict (relabel-after h.region (sym same.0)) (dict-is ∙ sym same.1))
+        sym (state-after (home_of h).region d.dict (ap (relabelled (name_of h.labels)) (best-is h.region best-here) ∙ relabel-after tags.region (sym same.0)) (dict-is ∙ sym same.1))
         ∙ same-state
 
-    halted-after : (command : Command) → dict_of command ≡ Some e.0 → IsSpent tags g.region now → (after ≡ s) ⊎ GrewBy s (dict_at s (dict_of command)) after
+    halted-after : (command : Command) → dict_of command ≡ Some e.0 → IsSpent tags (layout_in g.region) now → (after ≡ s) ⊎ GrewBy s (dict_at s (dict_of command)) after
     halted-after command works (inl same) = inl (same-after same)
     halted-after command works (inr grown) = inr (grew-by command works grown)
 
-    pub cut-after : (command : Command) → dict_of command ≡ Some e.0 → IsSpentBy tags command g.region now → IsCutOff s command after
+    pub cut-after : (command : Command) → dict_of command ≡ Some e.0 → IsSpentBy tags command (layout_in g.region) now → IsCutOff s command after
     cut-after (Insert x bytes) works spent = halted-after (Insert x bytes) works spent
     cut-after (Attach x bytes) works spent = halted-after (Attach x bytes) works spent
     cut-after command works same = same-after same

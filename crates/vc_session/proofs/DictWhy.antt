@@ -6,11 +6,11 @@ use Rattle.std.specs.Prelude.{nat_le, not}
 use Rattle.std.specs.List.{list_any}
 use Rattle.std.proofs.lemmas.Option.{none-some, same_Some}
 use Rattle.vc_base.specs.declared.dict_method.DictMethod.{DictMethod}
-use Rattle.vc_objects.specs.Objects.{is_best}
 use Rattle.vc_script.specs.declared.command.Command.TheVariants.{OpenDict}
 use Rattle.vc_script.specs.declared.refusal.Refusal.{Refusal}
 use Rattle.vc_script.specs.declared.refusal.Refusal.TheVariants as why
 use Rattle.vc_script.specs.declared.reply.Reply.TheVariants.{Refused}
+use Rattle.vc_region.specs.Region.{is_best}
 use Rattle.vc_session.specs.Account.{Account, Held, Settles}
 use Rattle.vc_session.specs.Dicts.{dict_limit, dict_refused, is_dict, is_kind}
 use Rattle.vc_session.specs.Lacks.{StepLacksFor}

@@ -7,8 +7,9 @@ use Rattle.std.proofs.lemmas.Bool.{cases_Bool}
 use Rattle.std.proofs.lemmas.Option.{none-some, same_Some}
 use Rattle.vc_base.specs.Holders.{contains}
 use Rattle.vc_dtdisc.specs.Rules.{Rules}
-use Rattle.vc_objects.specs.Objects.{is_best, owned}
+use Rattle.vc_objects.specs.Objects.{owned}
 use Rattle.vc_objects.specs.Parts.{IsWhole, dictionary_of}
+use Rattle.vc_region.specs.Region.{is_best}
 use Rattle.vc_session.specs.declared.dicts.DictEntry.{DictEntry}
 use Rattle.vc_session.specs.Account.{Held, held_named, home_of}
 use Rattle.vc_session.specs.DictHomes.{AreApart, AreDicts, IsDictOf, cells_held, dict_home, dicts_in, lies_in}

@@ -7,7 +7,7 @@ use Rattle.vc_model.specs.Numbered.{at_number}
 use Rattle.vc_model.specs.Outcome as model
 use Rattle.vc_model.specs.Outcome.{Fault, Outcome}
 use Rattle.vc_dtdisc.specs.Rules.{Gone, Rules}
-use Rattle.vc_region.specs.Region.{Region}
+use Rattle.vc_region.specs.Region.{Region, layout_in}
 use Rattle.vc_region.specs.Stat.{opened}
 use Rattle.vc_objects.specs.Insert.{Grown, open_dictionary, want_of}
 use Rattle.vc_objects.specs.declared.fate.Want.{Want}
@@ -29,21 +29,11 @@ use Rattle.vc_session.specs.declared.session.Session.{Session}
 use Rattle.vc_seg.specs.declared.shelf.Shelf.{Shelf}
 use Rattle.vc_session.specs.Run.{refusal_at}
 use Rattle.vc_session.specs.State.{DictHome, Home, Label, State, Stepped, close_home, close_step, closed, home_named, is_busy, is_home, open_step, opened_over, refused, stepped}
-use Rattle.vc_session.specs.Step.{GivesStep, StepsTo, region_of, shelf_step, step_of, step_on}
+use Rattle.vc_session.specs.Step.{GivesStep, shelf_step}
 use Rattle.vc_session.proofs.CutOff.{cut-same}
 use Rattle.vc_session.proofs.DictReplies.{IsOther, other-dict}
 use Rattle.vc_session.proofs.Grants.{IsGranted}
 use Rattle.vc_session.proofs.OnShelf.{if_ok, ok-at, on_error}
-
--- the step of a command is that of its part
-module _ (s after : State) (gone gone' : List Gone) (line : ℕ) (command : Command) (reply : Reply) where
-  pub on-dict : (name : List ℕ) → dict_of command ≡ Some name → GivesStep (dict_step s name command (need_shown reply)) gone reply after gone' → StepsTo s gone line command reply after gone'
-  on-dict name works gives = subst (λ o. GivesStep (step_on s line command (need_shown reply) o) gone reply after gone') (sym works) gives
-
-  pub on-region : (region : Option (List ℕ)) → dict_of command ≡ None → region_of command ≡ region → GivesStep (step_of s line command (need_shown reply) region) gone reply after gone' → StepsTo s gone line command reply after gone'
-  on-region region none works gives =
-      subst (λ o. GivesStep (step_on s line command (need_shown reply) o) gone reply after gone') (sym none)
-      (subst (λ o. GivesStep (step_of s line command (need_shown reply) o) gone reply after gone') (sym works) gives)
 
 -- a step that tells no kind and is granted no segment
 pub gives-stepped : (t : Stepped) (after : State) (reply : Reply) (gone : List Gone) → t ≡ stepped after reply → GivesStep t gone reply after gone
@@ -52,6 +42,7 @@ gives-stepped t after reply gone e =
 
 -- where no segment is refused none is lacking
 pub granted-lacks : (s : State) (before after : List Held) (command : Command) (reply : Reply) → IsGranted reply → StepLacksFor s before after command reply
+granted-lacks s before after command (Refused why.NoSegment) granted = absurd granted
 granted-lacks s before after command (Refused why.NoSegmentForTable) granted = absurd granted
 granted-lacks s before after command (Refused why.NoSegmentForObject) granted = absurd granted
 granted-lacks s before after command reply granted = tt
@@ -119,7 +110,7 @@ other-refused false false false true = tt
 other-refused false false false false = tt
 
 other-unless : (s : State) (h : Home) (d : List ℕ) (method : DictMethod) (k : ℕ) (need : Need) (o : Option Refusal) → IsOtherWhy o → IsOther (open_dict_unless s h d method k need o).reply
-other-unless s h d method k need None other = other-dict_opened s h d k (open_dictionary h.terms h.region None method (is_for_table need))
+other-unless s h d method k need None other = other-dict_opened s h d k (open_dictionary h.terms (layout_in h.region) None method (is_for_table need))
 other-unless s h d method k need (Some refusal) other = other
 
 other-open_in : (s : State) (d : List ℕ) (method : DictMethod) (k : ℕ) (need : Need) (o : Option Home) → IsOther (open_dict_in s d method k need o).reply
@@ -155,48 +146,3 @@ dict-served s after gone gone' name command need reply gives =
 pub shelf-served : (s after : State) (gone gone' : List Gone) (command : Command) (need : Need) (reply : Reply) → GivesStep (shelf_step s command need) gone reply after gone' → reply ≡ Refused why.NoSegment → ⊥
 shelf-served s after gone gone' command need reply gives =
     other-told (shelf_step s command need) gone gone' after reply (other-shelf s command need) gives
-
--- over any kinds, and so over those of a session
-module _ {I : Type 0} {V : I → Type 0} {D : Type 0} (meaning : (x : I) × V x → Discipline) (kinds : List Rules) (shelf shelf' : Shelf I V) (session session' : Session D I V) (dicts : HoldsDicts meaning kinds session) where
-  abbrev before : List Rules → State
-  before ks = state_over meaning ks shelf session
-
-  abbrev after : List Rules → State
-  after ks = state_over meaning ks shelf' session'
-
-  pub open-lacks : {E : Type 0} (r : List ℕ) (method : Method) (n : ℕ) (command : Command) (res : Result Reply E) → IfOk res (λ reply. (ks : List Rules) → HoldsDicts meaning ks session → open_step (before ks) r method n ≡ stepped (after ks) reply) → IfOk res (λ reply. StepLacksFor (before kinds) (held_in meaning session) (held_in meaning session') command reply)
-  open-lacks r method n command res each =
-      if_ok res (λ reply. (ks : List Rules) → HoldsDicts meaning ks session → open_step (before ks) r method n ≡ stepped (after ks) reply) (λ reply. StepLacksFor (before kinds) (held_in meaning session) (held_in meaning session') command reply)
-      (λ reply e. granted-lacks (before kinds) (held_in meaning session) (held_in meaning session') command reply (open-granted (before kinds) (after kinds) r method n reply (e kinds dicts))) each
-
-  pub close-lacks : (r : List ℕ) (command : Command) (reply : Reply) → ((ks : List Rules) → HoldsDicts meaning ks session → close_step (before ks) r ≡ stepped (after ks) reply) → StepLacksFor (before kinds) (held_in meaning session) (held_in meaning session') command reply
-  close-lacks r command reply e =
-      granted-lacks (before kinds) (held_in meaning session) (held_in meaning session') command reply (close-granted (before kinds) (after kinds) r reply (e kinds dicts))
-
-  pub any-err : {E : Type 0} (res : Result Reply E) → OnErr res ((ks : List Rules) → HoldsDicts meaning ks session → after ks ≡ before ks) → OnErr res (after kinds ≡ before kinds)
-  any-err res each = on_error res ((ks : List Rules) → HoldsDicts meaning ks session → after ks ≡ before ks) (after kinds ≡ before kinds) (λ e. e kinds dicts) each
-
-  pub region-steps : {E : Type 0} (gone : List Gone) (line : ℕ) (command : Command) (name : List ℕ) (res : Result Reply E) → dict_of command ≡ None → region_of command ≡ Some name → IfOk res (λ reply. (ks : List Rules) → HoldsDicts meaning ks session → (told : List Gone) → GivesStep (step_of (before ks) line command (need_shown reply) (Some name)) told reply (after ks) told) → IfOk res (λ reply. StepsTo (before kinds) gone line command reply (after kinds) gone)
-  region-steps gone line command name res none works each =
-      if_ok res (λ reply. (ks : List Rules) → HoldsDicts meaning ks session → (told : List Gone) → GivesStep (step_of (before ks) line command (need_shown reply) (Some name)) told reply (after ks) told) (λ reply. StepsTo (before kinds) gone line command reply (after kinds) gone)
-      (λ reply gives. on-region (before kinds) (after kinds) gone gone line command reply (Some name) none works (gives kinds dicts gone)) each
-
-  pub region-err : {E : Type 0} (gone : List Gone) (command : Command) (res : Result Reply E) → OnErr res ((ks : List Rules) → HoldsDicts meaning ks session → after ks ≡ before ks) → OnErr res ((gone ≡ gone) × IsCutOff (before kinds) command (after kinds))
-  region-err gone command res each =
-      on_error res ((ks : List Rules) → HoldsDicts meaning ks session → after ks ≡ before ks) ((gone ≡ gone) × IsCutOff (before kinds) command (after kinds)) (λ e. (refl, cut-same (before kinds) command (after kinds) (e kinds dicts))) each
-
-  pub region-settles : {E : Type 0} (command : Command) (res : Result Reply E) → IfOk res (λ reply. (ks : List Rules) → Settles (settled_over meaning shelf session) (settled_over meaning shelf' session') (refusal_at (before ks) command reply)) → IfOk res (λ reply. Settles (settled_over meaning shelf session) (settled_over meaning shelf' session') (refusal_at (before kinds) command reply))
-  region-settles command res each =
-      if_ok res (λ reply. (ks : List Rules) → Settles (settled_over meaning shelf session) (settled_over meaning shelf' session') (refusal_at (before ks) command reply)) (λ reply. Settles (settled_over meaning shelf session) (settled_over meaning shelf' session') (refusal_at (before kinds) command reply))
-      (λ reply e. e kinds) each
-
-  pub region-lacks : {E : Type 0} (command : Command) (res : Result Reply E) → IfOk res (λ reply. (ks : List Rules) → StepLacksFor (before ks) (held_in meaning session) (held_in meaning session') command reply) → IfOk res (λ reply. StepLacksFor (before kinds) (held_in meaning session) (held_in meaning session') command reply)
-  region-lacks command res each =
-      if_ok res (λ reply. (ks : List Rules) → StepLacksFor (before ks) (held_in meaning session) (held_in meaning session') command reply) (λ reply. StepLacksFor (before kinds) (held_in meaning session) (held_in meaning session') command reply)
-      (λ reply e. e kinds) each
-
--- a command on a dictionary is refused no segment for a block
-pub dict-unserved : {E : Type 0} (s after : State) (gone gone' : List Gone) (name : List ℕ) (command : Command) (res : Result Reply E) → IfOk res (λ reply. GivesStep (dict_step s name command (need_shown reply)) gone reply after gone') → res ≡ Ok (Refused why.NoSegment) → ⊥
-dict-unserved s after gone gone' name command res each is =
-    dict-served s after gone gone' name command (need_shown (Refused why.NoSegment)) (Refused why.NoSegment)
-    (ok-at res (Refused why.NoSegment) (λ reply. GivesStep (dict_step s name command (need_shown reply)) gone reply after gone') is each) refl

@@ -3,15 +3,14 @@ use Rattle.std.proofs.Common.{◌≡◌, ℕ, ◌&&◌, Bool, true, false, List,
 use Rattle.std.specs.Prelude.{slice_get}
 use Rattle.std.specs.List.{AllByRecursion}
 use Rattle.vc_dtdisc.specs.Rules.{Rules}
-use Rattle.vc_objects.specs.Objects.{is_best}
 use Rattle.vc_script.specs.Needs.{need_shown}
 use Rattle.vc_script.specs.declared.command.Command.{Command}
 use Rattle.vc_script.specs.declared.command.Command.TheVariants.{ClearRegion}
-use Rattle.vc_script.specs.declared.refusal.Refusal.TheVariants.{NoSegmentForTable, NoSegmentForObject}
+use Rattle.vc_script.specs.declared.refusal.Refusal.TheVariants.{NoSegment, NoSegmentForTable, NoSegmentForObject}
 use Rattle.vc_script.specs.declared.reply.Reply.{Reply}
 use Rattle.vc_script.specs.declared.reply.Reply.TheVariants.{Refused}
-use Rattle.vc_region.specs.Region.{Region}
-use Rattle.vc_session.specs.Account.{Held, cells_left, home_of}
+use Rattle.vc_region.specs.Region.{Region, is_best}
+use Rattle.vc_session.specs.Account.{Held, StepLacks, cells_left, home_of}
 use Rattle.vc_session.specs.DictHomes.{lies_in}
 use Rattle.vc_session.specs.Kept.{Kept}
 use Rattle.vc_session.specs.Labels.{name_of}
@@ -45,10 +44,11 @@ pub clear-free : (command : Command) (b : Bool) → (is_clear command && b) ≡ 
 clear-free command b none x is = sym (ap (λ c. is_clear c && b) is) ∙ none
 
 -- a reply that tells of no table and no object
-pub lacks-plain : (s : State) (before after : List Held) (command : Command) (reply : Reply) → IsPlain reply → StepLacksFor s before after command reply
-lacks-plain s before after command (Refused NoSegmentForTable) plain = absurd plain
-lacks-plain s before after command (Refused NoSegmentForObject) plain = absurd plain
-lacks-plain s before after command reply plain = tt
+pub lacks-plain : (s : State) (before after : List Held) (command : Command) (reply : Reply) → IsPlain reply → (reply ≡ Refused NoSegment → StepLacks before after command) → StepLacksFor s before after command reply
+lacks-plain s before after command (Refused NoSegment) plain lacks = lacks refl
+lacks-plain s before after command (Refused NoSegmentForTable) plain lacks = absurd plain
+lacks-plain s before after command (Refused NoSegmentForObject) plain lacks = absurd plain
+lacks-plain s before after command reply plain lacks = tt
 
 -- the region is best, if it was
 pub run-best : {E : Type 0} (h k : Held) (line : ℕ) (command : Command) (r : Result Reply E) → IfOk r (λ reply. Gives (in_region (home_of h) line command (need_shown reply)) ((home_of k).region, (home_of k).kept) reply) → OnErr r ((let p : Region Label × Kept = ((home_of k).region, (home_of k).kept) in p) ≡ ((home_of h).region, (home_of h).kept)) → is_best k.region ≡ is_best h.region

@@ -12,10 +12,12 @@ pub mod DictKept
 pub mod DictNamed
 pub mod DictOpening
 pub mod DictRefusing
+pub mod BestRegions
 pub mod DictRegion
 pub mod DictReplies
 pub mod DictShut
 pub mod DictRun
+pub mod DictThere
 pub mod DictStep
 pub mod DictTold
 pub mod DictWhy
@@ -32,6 +34,7 @@ pub mod Helds
 pub mod Listing
 pub mod InRegion
 pub mod Keeping
+pub mod Lasting
 pub mod Lists
 pub mod Moving
 pub mod Names
@@ -43,6 +46,7 @@ pub mod ProperDicts
 pub mod ProperSites
 pub mod ProperSteps
 pub mod Putting
+pub mod RegionSteps
 pub mod Resizing
 pub mod Running
 pub mod Rest
@@ -52,6 +56,7 @@ pub mod Sessions
 pub mod Settle
 pub mod Settling
 pub mod SoFar
+pub mod Steps
 pub mod Told
 pub mod Touching
 pub mod Unlabelled

@@ -9,7 +9,7 @@ use Rattle.std.specs.List.{AllByRecursion, cons_option, filter_map, list_any}
 use Rattle.vc_model.specs.Discipline.{Terms}
 use Rattle.vc_model.specs.Layout.{Block, relabel_block}
 use Rattle.vc_model.specs.Outcome.{Outcome, Done, Refused, Put, outcome_as}
-use Rattle.vc_region.specs.Region.{Region, blocks_of, region_align, region_alloc, region_clear, region_compact, region_free, region_resize, region_write, aligns, damaged_in, is_debug, is_profile, keeps_freed, region_poke, region_watch, relabelled, rows_in, watch_at}
+use Rattle.vc_region.specs.Region.{Region, blocks_of, region_align, region_alloc, region_clear, region_compact, region_free, region_resize, region_write, aligns, damaged_in, is_debug, is_profile, keeps_freed, region_poke, region_watch, relabelled, rows_in, watch_at, OfBest, layout_in}
 use Rattle.vc_model.specs.Numbered.{at_number}
 use Rattle.vc_model.specs.Walk.{block_at, by_address, segment_at}
 use Rattle.vc_region.specs.Region.{segments_of}
@@ -35,7 +35,7 @@ use Rattle.vc_session.specs.Whole.{addr_reply, item_of, kept_cleared, segment_re
 use Rattle.vc_session.specs.Kept.{Kept, by_name, line_of, with_line, without_name}
 use Rattle.vc_session.specs.Step.{cleared_or, in_region, is_for_block, region_of, region_step, shelf_step, step, step_of, step_on}
 use Rattle.vc_session.specs.Dicts.{dict_changed, dict_command, dict_named, dict_of, dict_opened, dict_refused, is_dict, on_found, on_seat, open_dict_in, open_dict_unless, seat_of, shut_in}
-use Rattle.vc_session.proofs.ProperDicts.{IsProperGrown, proper-in_dict, proper-open, proper-region_without}
+use Rattle.vc_session.proofs.ProperDicts.{IsProperGrown, proper-best, proper-in_dict, proper-layout, proper-open, proper-region_without}
 use Rattle.std.proofs.lemmas.Slice.Eq.{bytes_eq-Decides}
 use Rattle.vc_base.specs.declared.dict_method.DictMethod.{DictMethod}
 use Rattle.vc_dtdisc.specs.Rules.{Rules}
@@ -373,12 +373,13 @@ sites-new VmProfile = tt
 
 proper-dict_opened : (s : State) (h : Home) (d : List ℕ) (k : ℕ) (o : Outcome (Grown Label)) → IsName d → IsProperState s → IsProperHome h → IsProperGrown o → IsProperStep (dict_opened s h d k o)
 proper-dict_opened s h d k (Refused fault) name all here there = (tt, all)
-proper-dict_opened s h d k (Done g) name all here there = (name, proper-with_region h.name g.region h.kept s.homes there.0 here.1 there.1 all)
+proper-dict_opened s h d k (Done g) name all here there = (name, proper-with_region h.name (OfBest g.region) h.kept s.homes (proper-best g.region there) here.1 tt all)
 
 proper-dict_unless : (s : State) (h : Home) (d : List ℕ) (method : DictMethod) (k : ℕ) (need : Need) (o : Option Refusal) → IsName d → IsProperState s → IsProperHome h → IfSome o (λ w. IsProperReply (reply.Refused w)) → IsProperStep (open_dict_unless s h d method k need o)
 proper-dict_unless s h d method k need (Some refusal) name all here proper = (proper, all)
 proper-dict_unless s h d method k need None name all here proper =
-    proper-dict_opened s h d k (open_dictionary h.terms h.region None method (is_for_table need)) name all here (proper-open h.terms h.region method (is_for_table need) (here.0, here.2))
+    proper-dict_opened s h d k (open_dictionary h.terms (layout_in h.region) None method (is_for_table need)) name all here
+    (proper-open h.terms (layout_in h.region) method (is_for_table need) (proper-layout h.region here.0))
 
 -- a refusal has no names
 proper-any : (w : Refusal) → IsProperReply (reply.Refused w)
@@ -428,13 +429,14 @@ proper-dict_named name (h ∷ hs) proper = found-name (is_dict name h) name h (d
 proper-shut : (s : State) (d : DictHome) (o : Option Home) → IsProperState s → IfSome o IsProperHome → IsProperState (shut_in s d o)
 proper-shut s d None all here = all
 proper-shut s d (Some h) all here =
-    let left = proper-region_without h.region d.dict (here.0, here.2) in
-    proper-with_region h.name (region_without h.region d.dict) h.kept s.homes left.0 here.1 left.1 all
+    let left = region_without (layout_in h.region) d.dict in
+    proper-with_region h.name (OfBest left) h.kept s.homes (proper-best left (proper-region_without (layout_in h.region) d.dict (proper-layout h.region here.0))) here.1 tt all
 
 proper-dict_changed : (s : State) (d : DictHome) (h : Home) (rules : Rules) (c : Command) (need : Need) → IsProperCommand c → IsProperState s → IsProperHome h → IsProperStep (dict_changed s d h (in_dict (seat_of d h rules) c need))
 proper-dict_changed s d h rules c need proper all here =
-    let done = proper-in_dict rules h.terms h.region d.dict c need proper (here.0, here.2) in
-    (done.0, proper-with_region h.name (in_dict (seat_of d h rules) c need).region h.kept s.homes done.1.0 here.1 done.1.1 all)
+    let done = proper-in_dict rules h.terms (layout_in h.region) d.dict c need proper (proper-layout h.region here.0) in
+    let after = (in_dict (seat_of d h rules) c need).region in
+    (done.0, proper-with_region h.name (OfBest after) h.kept s.homes (proper-best after done.1) here.1 tt all)
 
 proper-dict_command : (s : State) (c : Command) (need : Need) (d : DictHome) (h : Home) (rules : Rules) → IsProperCommand c → IsName d.name → IsProperState s → IsProperHome h → IsProperStep (dict_command s c need d h rules)
 proper-dict_command s (Shut name) need d h rules proper known all here =

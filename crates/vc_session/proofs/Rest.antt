@@ -10,10 +10,14 @@ use Rattle.vc_script.specs.declared.line_fault.LineFault.{LineFault}
 use Rattle.vc_script.specs.declared.tool.Tool.{Tool}
 use Rattle.vc_session.specs.Account.{Held, IsSession, Settles, accounts, home_of, settled, state_of}
 use Rattle.vc_session.specs.DictHomes.{AreDicts, dicts_in}
-use Rattle.vc_session.specs.Homes.{IsSessionOver, held_entry, held_in, slots_on, state_over}
-use Rattle.vc_session.specs.Moment.{Moment, at_rest, moment}
-use Rattle.vc_session.specs.ProperState.{IsProperHome, IsProperState}
+use Rattle.vc_session.specs.Homes.{held_entry, held_in, slots_on}
+use Rattle.vc_session.specs.Moment.{Moment, moment, over_sink, rest_of}
+use Rattle.vc_session.specs.ProperState.{IsProperHome, IsProperOver}
 use Rattle.vc_session.specs.Replay.{IsCutShort, IsReplay, IsRun, Told, run_by}
+use Rattle.vc_session.specs.Engine.{RunsScript}
+use Rattle.vc_session.specs.Streams.{Flows}
+use Rattle.vc_session.specs.declared.engine.Stop.{Stop}
+use Rattle.vc_session.specs.declared.engine.Stop.TheVariants.{Read}
 use Rattle.vc_session.specs.Told.{gone_in, rules_in}
 use Rattle.vc_session.specs.declared.dicts.DictEntry.{DictEntry}
 use Rattle.vc_session.specs.declared.session.Session.{Session}
@@ -60,45 +64,49 @@ ok-each : {T E : Type 0} (r : Result T E) (P Q : T → Type 0) → ((x : T) → 
 ok-each (Ok x) P Q f p = f x p
 ok-each (Err e) P Q f p = tt
 
--- the same of an answer, from the same start
-module _ (tool : Tool) (start before now after : Moment) (left left' : Option (List ℕ)) (same : start ≡ before) (rests : Rests now after) where
-  pub replays : {E : Type 0} (r : Result (Option (ℕ × LineFault)) E) → IfOk r (λ bad. IfSome left (λ input. IsReplay tool start now input bad left')) → IfOk r (λ bad. IfSome left (λ input. IsReplay tool before after input bad left'))
-  replays r done =
-      ok-each r (λ bad. IfSome left (λ input. IsReplay tool start now input bad left')) (λ bad. IfSome left (λ input. IsReplay tool before after input bad left'))
-      (λ bad. some-each left (λ input. IsReplay tool start now input bad left') (λ input. IsReplay tool before after input bad left')
-      (λ input ran. subst (λ m. IsReplay tool m after input bad left') same (replay-rest rests ran))) done
-
-  pub cuts : {T E : Type 0} (r : Result T E) (A : E → Type 0) → IfErr r (λ stop. A stop → IfSome left (λ input. IsCutShort tool start now input left')) → IfErr r (λ stop. A stop → IfSome left (λ input. IsCutShort tool before after input left'))
-  cuts r A done =
-      err-each r A (IfSome left (λ input. IsCutShort tool start now input left')) (IfSome left (λ input. IsCutShort tool before after input left'))
-      (some-each left (λ input. IsCutShort tool start now input left') (λ input. IsCutShort tool before after input left')
-      (λ input ran. subst (λ m. IsCutShort tool m after input left') same (cut_short-rest rests ran))) done
+-- what a run of a script promises at its last line it promises behind its session's end, from the same start
+pub runs-rest : (tool : Tool) (start before now after : Moment) (old new : Flows) (answer : Result (Option (ℕ × LineFault)) Stop) → start ≡ before → ((written : Option (List ℕ)) → Rests (over_sink now written) (over_sink after written)) → RunsScript tool answer start now old new → RunsScript tool answer before after old new
+runs-rest tool start before now after old new answer same rests r =
+    record {
+      replay =
+          ok-each answer (λ bad. IfSome old.left (λ input. IsReplay tool (over_sink start old.written) (over_sink now new.written) input bad new.left)) (λ bad. IfSome old.left (λ input. IsReplay tool (over_sink before old.written) (over_sink after new.written) input bad new.left))
+          (λ bad. some-each old.left (λ input. IsReplay tool (over_sink start old.written) (over_sink now new.written) input bad new.left) (λ input. IsReplay tool (over_sink before old.written) (over_sink after new.written) input bad new.left)
+          (λ input ran. subst (λ m. IsReplay tool (over_sink m old.written) (over_sink after new.written) input bad new.left) same (replay-rest (rests new.written) ran))) r.replay;
+      cut_short =
+          err-each answer (λ stop. stop ≡ Read) (IfSome old.left (λ input. IsCutShort tool (over_sink start old.written) (over_sink now new.written) input new.left)) (IfSome old.left (λ input. IsCutShort tool (over_sink before old.written) (over_sink after new.written) input new.left))
+          (some-each old.left (λ input. IsCutShort tool (over_sink start old.written) (over_sink now new.written) input new.left) (λ input. IsCutShort tool (over_sink before old.written) (over_sink after new.written) input new.left)
+          (λ input ran. subst (λ m. IsCutShort tool (over_sink m old.written) (over_sink after new.written) input new.left) same (cut_short-rest (rests new.written) ran))) r.cut_short;
+      read = r.read;
+      write = r.write;
+      reads = r.reads;
+      writes = r.writes;
+    }
 
 -- a session in which nothing is open
 module _ {I : Type 0} {V : I → Type 0} {D : Type 0} (meaning : (x : I) × V x → Discipline) (rules : D → Rules) (gone : D → Gone) (shelf : Shelf I V) (session : Session D I V) (kinds : List D) (none : (session.homes.entries ≡ []) × (session.labels.items ≡ []) × (session.dicts.entries ≡ [])) where
   no_held : held_in meaning session ≡ []
   no_held = ap (λ es. map (held_entry meaning) (zip es session.labels.items)) none.0
 
-  pub new-session : IsSessionOver meaning (rules_in rules kinds) shelf session
+  pub new-session : IsProperOver meaning rules shelf session kinds
   new-session = record {
-    regions = record {
-      named = ap length none.1 ∙ sym (ap length none.0);
-      held = subst (IsSession (slots_on meaning shelf)) (sym no_held) tt;
+    stands = record {
+      regions = record {
+        named = ap length none.1 ∙ sym (ap length none.0);
+        held = subst (IsSession (slots_on meaning shelf)) (sym no_held) tt;
+      };
+      dicts = subst (AreDicts (rules_in rules kinds) (held_in meaning session)) (sym none.2) tt;
     };
-    dicts = subst (AreDicts (rules_in rules kinds) (held_in meaning session)) (sym none.2) tt;
+    proper = subst (λ hs. AllByRecursion IsProperHome (map home_of hs)) (sym no_held) tt;
   }
 
-  pub new-proper : IsProperState (state_over meaning (rules_in rules kinds) shelf session)
-  new-proper = subst (λ hs. AllByRecursion IsProperHome (map home_of hs)) (sym no_held) tt
-
-  abbrev moment_of : Option (List ℕ) → List Held → List (List ℕ × DictEntry) → Moment
-  moment_of written hs es = record {
+  abbrev moment_of : List Held → List (List ℕ × DictEntry) → Moment
+  moment_of hs es = record {
     state = state_of (rules_in rules kinds) (slots_on meaning shelf) hs (dicts_in hs es);
-    written = written;
+    regions = hs;
+    written = None;
     accounts = settled (accounts (slots_on meaning shelf)) hs;
     gone = gone_in gone kinds;
   }
 
-  pub new-moment : (written : Option (List ℕ)) → moment meaning rules gone shelf session kinds written ≡ at_rest meaning (rules_in rules kinds) (gone_in gone kinds) shelf written
-  new-moment written =
-      ap (λ hs. moment_of written hs session.dicts.entries) no_held ∙ ap (λ es. moment_of written [] es) none.2
+  pub new-moment : moment meaning rules gone shelf session kinds ≡ rest_of meaning rules gone shelf kinds
+  new-moment = ap (λ hs. moment_of hs session.dicts.entries) no_held ∙ ap (λ es. moment_of [] es) none.2

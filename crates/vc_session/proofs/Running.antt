@@ -18,7 +18,7 @@ use Rattle.vc_script.specs.Needs.{IsAscending, Need, ShowsNeeds, need_at, need_s
 use Rattle.vc_script.specs.Print.{line_of, text}
 use Rattle.vc_script.proofs.ProperCommands.{IsProperCommand-answer}
 use Rattle.vc_script.proofs.Texts.{ascending-push, shows-text}
-use Rattle.vc_session.specs.Account.{Account, RoseBy, Settles, faults_of}
+use Rattle.vc_session.specs.Account.{Settles}
 use Rattle.vc_session.specs.Engine.{IsIdle, IsStep, LineRan}
 use Rattle.vc_session.specs.Moment.{Moment, ended, over_sink}
 use Rattle.vc_session.specs.ProperState.{IsProperState}
@@ -41,16 +41,6 @@ pub told-more : (before now after : Option (List ℕ)) (front piece : List ℕ) 
 told-more None now after front piece p q = tt
 told-more (Some w) now after front piece p q =
     subst (λ (o : Option (List ℕ)). Told o after piece) p q ∙ ap Some (append_assoc w front piece)
-
-any-rise : (n before after : ℕ) → RoseBy n before after → RoseBy 0 before after
-any-rise n before after (inl rose) = inl (omega (arith, rose))
-any-rise n before after (inr top) = inr top
-
-pub settles-any : {entry accounts : List (Option Account)} {refusals : List ℕ} → Settles entry accounts refusals → Settles entry accounts []
-settles-any {entry} {accounts} {refusals} s = record {
-  same = s.same;
-  faults = λ place. any-rise (count_by (λ p. p == place) refusals) (faults_of (at_number entry place)) (faults_of (at_number accounts place)) (s.faults place);
-}
 
 -- facts of each item
 all-push : {A : Type 0} (P : A → Type 0) (xs : List A) (x : A) → AllByRecursion P xs → P x → AllByRecursion P (xs ++ x ∷ [])
@@ -147,7 +137,7 @@ running-same {start = start} {now = now} {next = next} r idle = record {
   good = r.good;
   run = r.run;
   state = r.state ∙ sym idle.state;
-  settles = subst (Settles start.accounts next.accounts) (append-nil r.ran.refusals) (settles-trans start.accounts now.accounts next.accounts r.ran.refusals [] r.settles idle.keeps);
+  settles = subst (Settles start.accounts next.accounts) (append-nil r.ran.refusals) (settles-trans start.accounts now.accounts next.accounts r.ran.refusals [] r.settles idle.settles);
   gone = idle.gone ∙ r.gone;
   told = r.told;
 }
@@ -196,7 +186,7 @@ module _ {tool : Tool} {start now : Moment} {front : List ℕ} {count : ℕ} {wh
     proper_next : IsProperReply i.reply × IsProperState next.state
     proper_next =
         let proper = proper-step now.state n c (need_shown i.reply) (IsProperCommand-answer tool line c is) r.proper_state in
-        (subst IsProperReply i.steps.replied proper.0, subst IsProperState i.steps.state_after proper.1)
+        (subst IsProperReply i.steps.gives.replied proper.0, subst IsProperState i.steps.gives.state_after proper.1)
 
     lines_next : lines_of (r.done ++ (n, c) ∷ []) ≡ lines_of r.done ++ n ∷ []
     lines_next = map-append (λ (d : ℕ × Command). d.0) r.done ((n, c) ∷ [])
@@ -209,8 +199,8 @@ module _ {tool : Tool} {start now : Moment} {front : List ℕ} {count : ℕ} {wh
         ∙ (ap (λ s. one_more r.ran (n, c) (step s n c (need_at needs n))) r.state
         ∙ (ap (λ need. one_more r.ran (n, c) (step now.state n c need)) parts.1
         ∙ (ap (λ s. let e : Ran = record { replies = r.ran.replies ++ (n, t.reply) ∷ []; state = t.state; refusals = r.ran.refusals ++ refusal_at s c t.reply; told = r.ran.told ++ t.told; granted = r.ran.granted ++ t.granted } in e) r.state
-        ∙ (ap (λ reply. let e : Ran = record { replies = r.ran.replies ++ (n, reply) ∷ []; state = t.state; refusals = r.ran.refusals ++ refusal_at now.state c reply; told = r.ran.told ++ t.told; granted = r.ran.granted ++ t.granted } in e) i.steps.replied
-        ∙ ap (λ s. let e : Ran = record { replies = r.ran.replies ++ (n, i.reply) ∷ []; state = s; refusals = r.ran.refusals ++ refusal_at now.state c i.reply; told = r.ran.told ++ t.told; granted = r.ran.granted ++ t.granted } in e) i.steps.state_after)))))
+        ∙ (ap (λ reply. let e : Ran = record { replies = r.ran.replies ++ (n, reply) ∷ []; state = t.state; refusals = r.ran.refusals ++ refusal_at now.state c reply; told = r.ran.told ++ t.told; granted = r.ran.granted ++ t.granted } in e) i.steps.gives.replied
+        ∙ ap (λ s. let e : Ran = record { replies = r.ran.replies ++ (n, i.reply) ∷ []; state = s; refusals = r.ran.refusals ++ refusal_at now.state c i.reply; told = r.ran.told ++ t.told; granted = r.ran.granted ++ t.granted } in e) i.steps.gives.state_after)))))
 
     -- a line with a command
     running-step : Running tool start next (front ++ line_of i.reply) n (whole ++ (n, Ok line) ∷ [])
@@ -231,9 +221,9 @@ module _ {tool : Tool} {start now : Moment} {front : List ℕ} {count : ℕ} {wh
       good = λ behind. ap (fault_in tool) (append_assoc whole ((n, Ok line) ∷ []) behind) ∙ (r.good ((n, Ok line) ∷ behind) ∙ ap (λ a. fault_then n a (fault_in tool behind)) is);
       run = run_next;
       state = refl;
-      settles = settles-trans start.accounts now.accounts next.accounts r.ran.refusals (refusal_at now.state c i.reply) r.settles i.settles;
+      settles = settles-trans start.accounts now.accounts next.accounts r.ran.refusals (refusal_at now.state c i.reply) r.settles i.steps.settles;
       gone =
-          i.steps.told
+          i.steps.gives.told
           ∙ (ap (λ g. tell t.told g) r.gone
           ∙ sym (tell-append r.ran.told t.told start.gone));
       told =
@@ -281,12 +271,3 @@ bad-by tool n line fault (Bad why) is ran = record {
 
 pub bad-line : {now next : Moment} (tool : Tool) (n : ℕ) (line : List ℕ) (fault : LineFault) → LineRan now next n (answer tool line) (Some fault) → BadLine tool now next n line fault
 bad-line tool n line fault ran = bad-by tool n line fault (answer tool line) refl ran
-
-keeps-by : (now next : Moment) (n : ℕ) (a : LineAnswer) (fault : Option LineFault) → LineRan now next n a fault → Settles now.accounts next.accounts []
-keeps-by now next n Blank fault ran = ran.1.keeps
-keeps-by now next n (Bad why) fault ran = ran.1.keeps
-keeps-by now next n (Is c) fault ran = settles-any ran.1.settles
-
--- running a line keeps the disciplines, but for their faults
-pub line-keeps : (now next : Moment) (n : ℕ) (a : LineAnswer) (fault : Option LineFault) (first : List (Option Account)) → LineRan now next n a fault → Settles first now.accounts [] → Settles first next.accounts []
-line-keeps now next n a fault first ran before = settles-trans first now.accounts next.accounts [] [] before (keeps-by now next n a fault ran)

@@ -10,13 +10,14 @@ use Rattle.vc_model.specs.Layout.{Block, without_block}
 use Rattle.vc_model.specs.Outcome.{Done, Outcome, Put}
 use Rattle.vc_model.specs.Sound.{HaveOwnPlaces}
 use Rattle.vc_model.specs.Touch.{find_block}
-use Rattle.vc_region.specs.Cells.{region_cells, rest_of, zeroed}
+use Rattle.vc_best.specs.Cells.{zeroed}
+use Rattle.vc_region.specs.Cells.{region_cells, rest_of}
 use Rattle.vc_region.specs.Region.{Region, blocks_of, region_align, region_alloc, region_free, region_need, region_poke, region_resize, region_write, segments_of}
 use Rattle.vc_region.specs.Stat.{method_of}
 use Rattle.vc_region.proofs.Methods.{align-method, alloc-method, free-method, poke-method, resize-method, write-method}
 use Rattle.vc_region.proofs.Rest.{rest-need, rest-segments, rest-write}
 use Rattle.vc_region.proofs.RestAnswers.{answers-rest-align, answers-rest-alloc, answers-rest-resize, frees-rest}
-use Rattle.vc_region.proofs.RestBlocks.{find_block-zeroed, plain, zeroed-labelled}
+use Rattle.vc_best.proofs.RestBlocks.{find_block-zeroed, plain, zeroed-labelled}
 use Rattle.vc_region.proofs.RestCells.{free-cells_kept, put-cells_kept, resize-cells_kept, write-cells_kept}
 use Rattle.vc_region.proofs.RestFound.{by-blocks, rest-label, rest-own, rest-without, rest-without_both, rest-zeros}
 use Rattle.vc_seg.specs.Answer.{Answers, Asks, IsPut, IsRefusal}

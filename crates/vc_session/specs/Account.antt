@@ -152,10 +152,25 @@ faults_of (Some (Some a)) = a.faults
 abbrev pub RoseBy : ℕ → ℕ → ℕ → Type 0
 RoseBy n before after = (before + n ≤ after) ⊎ (last_count ≤ after)
 
+-- the faults of a place by the refusals there: they never fall, stand where nothing was refused, and else rose by as many or more
+pub record CountsFaults (refusals before after : ℕ) : Type 0 where
+  pub never_falls : before ≤ after
+  pub none : refusals ≡ 0 → after ≡ before
+  pub rose : RoseBy refusals before after
+
 abbrev pub without_faults : Account → List (ℕ × ℕ) × Terms
 without_faults a = (a.out, a.terms)
 
--- from an earlier time to a later one: every place has its discipline with the same segments out and the same terms, and its faults rose by at least the refusals at that place
+-- every place has its discipline with the segments out and the terms that it had
+abbrev pub SameButFaults : List (Option Account) → List (Option Account) → Type 0
+SameButFaults before after = map (option_map without_faults) after ≡ map (option_map without_faults) before
+
+-- from an earlier time to a later one with these refusals, each by its place: the disciplines are the same, and no fault was counted but for a refusal
 pub record Settles (before after : List (Option Account)) (refusals : List ℕ) : Type 0 where
-  pub same : map (option_map without_faults) after ≡ map (option_map without_faults) before
-  pub faults : (place : ℕ) → RoseBy (count_by (λ p. p == place) refusals) (faults_of (at_number before place)) (faults_of (at_number after place))
+  pub same : SameButFaults before after
+  pub faults : (place : ℕ) → CountsFaults (count_by (λ p. p == place) refusals) (faults_of (at_number before place)) (faults_of (at_number after place))
+
+-- with any refusals the disciplines are the same, and no fault is less
+pub record KeepsAccounts (before after : List (Option Account)) : Type 0 where
+  pub same : SameButFaults before after
+  pub faults : (place : ℕ) → faults_of (at_number before place) ≤ faults_of (at_number after place)

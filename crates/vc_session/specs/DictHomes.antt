@@ -1,13 +1,15 @@
 -- What the dictionaries of a session stand for.
 use Rattle.std.specs.Prelude.{◌≡◌, ℕ, List, [], ◌∷◌, Bool, Option, Some, None, true, false, map}
-use Rattle.std.specs.List.{AllByRecursion, list_any}
+use Rattle.std.specs.List.{AllByRecursion, list_any, position}
+use Rattle.std.specs.Map.{keys_of}
 use Rattle.std.specs.Str.{bytes_eq}
 use Rattle.vc_base.specs.Cells.{Blocks}
 use Rattle.vc_base.specs.Holders.{contains}
 use Rattle.vc_model.specs.Numbered.{at_number}
 use Rattle.vc_dtdisc.specs.Rules.{Rules}
-use Rattle.vc_objects.specs.Objects.{is_best, owned}
+use Rattle.vc_objects.specs.Objects.{owned}
 use Rattle.vc_objects.specs.Parts.{IsWhole, dictionary_of}
+use Rattle.vc_region.specs.Region.{is_best}
 use Rattle.vc_session.specs.declared.dicts.DictEntry.{DictEntry}
 use Rattle.vc_session.specs.Account.{Held, held_named}
 use Rattle.vc_session.specs.State.{DictHome}
@@ -58,3 +60,7 @@ AreDicts kinds held (e ∷ es) = IsDictOf kinds held e × AllByRecursion (AreApa
 -- whether one of these dictionaries lies in the region of that name
 abbrev pub lies_in : List ℕ → List (List ℕ × DictEntry) → Bool
 lies_in r entries = list_any (λ e. bytes_eq e.1.home r) entries
+
+-- the index of the dictionary of that name, from 0 on
+abbrev pub dict_index : List ℕ → List (List ℕ × DictEntry) → Option ℕ
+dict_index d entries = position (bytes_eq d) (keys_of entries)

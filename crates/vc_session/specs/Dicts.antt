@@ -8,7 +8,7 @@ use Rattle.vc_model.specs.Outcome as model
 use Rattle.vc_model.specs.Outcome.{Outcome}
 use Rattle.vc_dtdisc.specs.Rules.{Rules}
 use Rattle.vc_objects.specs.Insert.{Grown, open_dictionary, want_of}
-use Rattle.vc_objects.specs.Objects.{Dictionary, is_best}
+use Rattle.vc_objects.specs.Objects.{Dictionary}
 use Rattle.vc_objects.specs.Remove.{bytes_of, region_without}
 use Rattle.vc_commands.specs.Commands.{in_dict, is_for_table, table_refusal}
 use Rattle.vc_commands.specs.Seat.{DictChanged, Seat}
@@ -18,6 +18,7 @@ use Rattle.vc_script.specs.declared.command.Command.TheVariants.{Insert, Append,
 use Rattle.vc_script.specs.declared.refusal.Refusal.{Refusal}
 use Rattle.vc_script.specs.declared.refusal.Refusal.TheVariants as why
 use Rattle.vc_script.specs.declared.reply.Reply.TheVariants.{Opened, ShutDown}
+use Rattle.vc_region.specs.Region.{OfBest, is_best, layout_in}
 use Rattle.vc_session.specs.State.{DictHome, Home, Label, State, Stepped, home_named, refused, with_region}
 
 -- the dictionary that a command works on
@@ -59,15 +60,15 @@ without_dict d (h ∷ hs) = if is_dict d h then hs else h ∷ without_dict d hs
 abbrev pub told_of : ℕ → List (List ℕ) → List (ℕ × List ℕ)
 told_of kind objects = map (λ o. (kind, o)) objects
 
--- where a command on a dictionary works
+-- where a command on a dictionary works, in its best region
 abbrev pub seat_of : DictHome → Home → Rules → Seat Label
-seat_of d h rules = record { rules = rules; terms = h.terms; none = None; region = h.region; dict = d.dict }
+seat_of d h rules = record { rules = rules; terms = h.terms; none = None; region = layout_in h.region; dict = d.dict }
 
 -- the state with the change of a dictionary and of its region
 abbrev pub dict_changed : State → DictHome → Home → DictChanged Label → Stepped
 dict_changed s d h c =
     record {
-      state = record s { homes = with_region h.name c.region h.kept s.homes; dicts = with_dict d.name c.dict s.dicts };
+      state = record s { homes = with_region h.name (OfBest c.region) h.kept s.homes; dicts = with_dict d.name c.dict s.dicts };
       reply = c.reply;
       told = told_of d.kind c.told;
       granted = c.granted;
@@ -77,7 +78,10 @@ dict_changed s d h c =
 abbrev pub shut_in : State → DictHome → Option Home → State
 shut_in s d None = s
 shut_in s d (Some h) =
-    record s { homes = with_region h.name (region_without h.region d.dict) h.kept s.homes; dicts = without_dict d.name s.dicts }
+    record s {
+      homes = with_region h.name (OfBest (region_without (layout_in h.region) d.dict)) h.kept s.homes;
+      dicts = without_dict d.name s.dicts;
+    }
 
 abbrev pub shut_state : State → DictHome → State
 shut_state s d = shut_in s d (home_named d.home s.homes)
@@ -131,7 +135,7 @@ dict_opened s h d k (model.Refused fault) = refused s (table_refusal (want_of fa
 dict_opened s h d k (model.Done g) =
     record {
       state = record s {
-        homes = with_region h.name g.region h.kept s.homes;
+        homes = with_region h.name (OfBest g.region) h.kept s.homes;
         dicts = s.dicts ++ record { name = d; home = h.name; kind = k; dict = g.dict } ∷ [];
       };
       reply = Opened d;
@@ -142,7 +146,7 @@ dict_opened s h d k (model.Done g) =
 abbrev pub open_dict_unless : State → Home → List ℕ → DictMethod → ℕ → Need → Option Refusal → Stepped
 open_dict_unless s h d method k need (Some refusal) = refused s refusal
 open_dict_unless s h d method k need None =
-    dict_opened s h d k (open_dictionary h.terms h.region None method (is_for_table need))
+    dict_opened s h d k (open_dictionary h.terms (layout_in h.region) None method (is_for_table need))
 
 abbrev pub open_dict_in : State → List ℕ → DictMethod → ℕ → Need → Option Home → Stepped
 open_dict_in s d method k need None = refused s why.NoRegion

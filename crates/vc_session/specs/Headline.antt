@@ -5,17 +5,9 @@ use Rattle.vc_script.specs.declared.line_fault.LineFault.{LineFault}
 use Rattle.vc_script.specs.declared.tool.Tool.{Tool}
 use Rattle.vc_session.specs.declared.status.Status.{Status}
 use Rattle.vc_session.specs.declared.status.Status.TheVariants.{Ok, Script, Usage, Read, Write, Memory}
-use Rattle.vc_session.specs.Moment.{Moment, over_sink}
+use Rattle.vc_session.specs.Moment.{Keeps, Moment, over_sink}
+use Rattle.vc_session.specs.Streams.{Streams}
 use Rattle.vc_session.specs.Replay.{Broke, IsCutShort, IsReplay, Told, Tried, err_line, message}
-
--- what the three streams mean: what the source has left and how often a read failed; what the replies' sink tells and how often a write failed; and the same of the faults' sink
-pub record Streams : Type 0 where
-  pub left : Option (List ℕ)
-  pub reads : ℕ
-  pub written : Option (List ℕ)
-  pub writes : ℕ
-  pub told : Option (List ℕ)
-  pub errors : ℕ
 
 -- from one moment and what the streams mean then to another
 abbrev pub Replays : Tool → Moment → Moment → Streams → Streams → Option (ℕ × LineFault) → Type 0
@@ -51,3 +43,7 @@ pub record Headline (tool : Tool) (words : ℕ) (start last : Moment) (old new :
   -- the counts of failures never fall
   pub reads : old.reads ≤ new.reads
   pub writes : (old.writes ≤ new.writes) × (old.errors ≤ new.errors)
+  -- on every exit each place has its discipline, with the segments out and the terms that it had, and no fault less
+  pub keeps : Keeps start last
+  -- and the kinds have the rules that they had
+  pub rules : last.state.kinds ≡ start.state.kinds

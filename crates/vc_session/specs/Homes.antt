@@ -9,7 +9,8 @@ use Rattle.vc_seg.specs.declared.shelf.Shelf.{Shelf}
 use Rattle.vc_seg.specs.declared.shelf.ShelfPlace.{ShelfPlace}
 use Rattle.vc_seg.specs.declared.shelf.ShelfPlace.TheVariants.{Missing, Taken, Here}
 use Rattle.vc_region.specs.Cells.{cells_in, rest_in}
-use Rattle.vc_region.specs.Parts.{boxed, disc_in}
+use Rattle.vc_seg.specs.Boxed.{boxed}
+use Rattle.vc_region.specs.Parts.{disc_in}
 use Rattle.vc_script.specs.declared.command.Command.{Command}
 use Rattle.vc_script.specs.declared.refusal.Refusal.{Refusal}
 use Rattle.vc_script.specs.declared.refusal.Refusal.TheVariants.{NoSuchDiscipline, DisciplineInUse}
@@ -89,10 +90,17 @@ pub record HoldsRegions {I : Type 0} {V : I → Type 0} {D : Type 0} (meaning : 
 abbrev pub HoldsDicts : {I : Type 0} {V : I → Type 0} {D : Type 0} → ((x : I) × V x → Discipline) → List Rules → Session D I V → Type 0
 HoldsDicts meaning kinds session = AreDicts kinds (held_in meaning session) session.dicts.entries
 
--- a session stands over a shelf and kinds
-pub record IsSessionOver {I : Type 0} {V : I → Type 0} {D : Type 0} (meaning : (x : I) × V x → Discipline) (kinds : List Rules) (shelf : Shelf I V) (session : Session D I V) : Type 0 where
+-- a session stands over a shelf and kinds of these rules
+pub record IsSessionOver {I : Type 0} {V : I → Type 0} {D : Type 0} (meaning : (x : I) × V x → Discipline) (rules : D → Rules) (shelf : Shelf I V) (session : Session D I V) (kinds : List D) : Type 0 where
   pub regions : HoldsRegions meaning shelf session
-  pub dicts : HoldsDicts meaning kinds session
+  pub dicts : HoldsDicts meaning (map rules kinds) session
+
+-- the regions of a session and its dictionaries are whole over a shelf, if they were
+pub record KeepsRegions {I : Type 0} {V : I → Type 0} {D : Type 0} (meaning : (x : I) × V x → Discipline) (session : Session D I V) (shelf' : Shelf I V) (session' : Session D I V) : Type 0 where
+  pub regions : HoldsRegions meaning shelf' session'
+  pub dicts : (kinds : List Rules) → HoldsDicts meaning kinds session → HoldsDicts meaning kinds session'
+  -- whether it found no memory stays
+  pub spent : session'.is_spent ≡ session.is_spent
 
 -- the accounts on the shelf when every open region is closed
 abbrev pub settled_over : {I : Type 0} {V : I → Type 0} {D : Type 0} → ((x : I) × V x → Discipline) → Shelf I V → Session D I V → List (Option Account)

@@ -5,15 +5,16 @@ use Rattle.vc_model.specs.Numbered.{at_number}
 use Rattle.vc_dtdisc.specs.Rules.{Rules}
 use Rattle.vc_model.specs.Outcome as model
 use Rattle.vc_model.specs.Outcome.{Outcome}
+use Rattle.vc_region.specs.Region.{OfBest, layout_in}
 use Rattle.vc_objects.specs.Insert.{Grown, grow}
 use Rattle.vc_objects.specs.Leaves.{LacksTable}
 use Rattle.vc_commands.specs.Run.{LacksBy}
 use Rattle.vc_script.specs.declared.command.Command.{Command}
 use Rattle.vc_script.specs.declared.command.Command.TheVariants.{Insert, Attach, OpenDict}
-use Rattle.vc_script.specs.declared.refusal.Refusal.TheVariants.{NoSegmentForTable, NoSegmentForObject}
+use Rattle.vc_script.specs.declared.refusal.Refusal.TheVariants.{NoSegment, NoSegmentForTable, NoSegmentForObject}
 use Rattle.vc_script.specs.declared.reply.Reply.{Reply}
 use Rattle.vc_script.specs.declared.reply.Reply.TheVariants.{Refused}
-use Rattle.vc_session.specs.Account.{Held, held_named}
+use Rattle.vc_session.specs.Account.{Held, StepLacks, held_named}
 use Rattle.vc_session.specs.Dicts.{dict_named, dict_of, seat_of, with_dict}
 use Rattle.vc_session.specs.State.{DictHome, Home, Label, State, home_named, with_region}
 use Rattle.vc_session.specs.Step.{region_asked}
@@ -43,8 +44,9 @@ InHeld (Some h) (Some g) P = P h.disc g.disc
 InHeld (Some h) None P = ⊥
 InHeld None g P = ⊥
 
--- from before a step to after it, the discipline of the region was asked for the segment that a table or an object needs
+-- from before a step to after it, the discipline of the region was asked for the segment that a block, a table or an object needs
 abbrev pub StepLacksFor : State → List Held → List Held → Command → Reply → Type 0
+StepLacksFor s before after command (Refused NoSegment) = StepLacks before after command
 StepLacksFor s before after command (Refused NoSegmentForTable) =
     InHeld (held_named before (region_asked s command)) (held_named after (region_asked s command)) (CommandLacks s command (Refused NoSegmentForTable))
 StepLacksFor s before after command (Refused NoSegmentForObject) =
@@ -54,12 +56,12 @@ StepLacksFor s before after command reply = Unit {0}
 -- the state in which the table grew for an object
 abbrev pub GrewFor : Outcome (Grown Label) → State → DictHome → Home → State → Type 0
 GrewFor (model.Done g) s d h after =
-    after ≡ record s { homes = with_region h.name g.region h.kept s.homes; dicts = with_dict d.name g.dict s.dicts }
+    after ≡ record s { homes = with_region h.name (OfBest g.region) h.kept s.homes; dicts = with_dict d.name g.dict s.dicts }
 GrewFor (model.Refused fault) s d h after = ⊥
 
 abbrev pub GrewIn : State → DictHome → Option Home → State → Type 0
 GrewIn s d None after = ⊥
-GrewIn s d (Some h) after = GrewFor (grow h.terms h.region None d.dict false) s d h after
+GrewIn s d (Some h) after = GrewFor (grow h.terms (layout_in h.region) None d.dict false) s d h after
 
 abbrev pub GrewBy : State → Option DictHome → State → Type 0
 GrewBy s None after = ⊥

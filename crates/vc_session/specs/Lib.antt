@@ -25,11 +25,14 @@ pub mod Account
 pub mod Naming
 pub mod Homes
 pub mod Moment
+pub mod Steps
+pub mod Closes
 pub use Rattle.vc_script.specs.Answer
 pub use Rattle.vc_script.specs.Judged
 pub use Rattle.vc_script.specs.Needs
 pub use Rattle.vc_script.specs.Print
 pub mod Replay
+pub mod Streams
 pub mod Headline
 pub mod Engine
 pub mod SoFar

@@ -1,11 +1,17 @@
 -- States whose blocks are labelled by names or not at all, whose kept names are names, and whose sites are names or a hyphen.
-use Rattle.std.specs.Prelude.{◌≡◌, Some, None, IsTrue, if◌then◌else◌}
+use Rattle.std.specs.Prelude.{◌≡◌, List, Some, None, IsTrue, if◌then◌else◌}
 use Rattle.std.specs.List.{AllByRecursion}
 use Rattle.vc_region.specs.Region.{Region, relabelled, rows_in}
 use Rattle.vc_script.specs.Words.{is_name}
 use Rattle.vc_script.specs.Proper.{IsName}
 use Rattle.vc_script.specs.ProperReply.{is_row_site}
 use Rattle.vc_session.specs.Kept.{Kept}
+use Rattle.vc_model.specs.Discipline.{Discipline}
+use Rattle.vc_dtdisc.specs.Rules.{Rules}
+use Rattle.vc_seg.specs.declared.shelf.Shelf.{Shelf}
+use Rattle.vc_session.specs.declared.session.Session.{Session}
+use Rattle.vc_session.specs.Homes.{IsSessionOver, state_over}
+use Rattle.vc_session.specs.Told.{rules_in}
 use Rattle.vc_session.specs.State.{Home, Label, State}
 
 -- a label that is a name; none in place of any other
@@ -31,3 +37,8 @@ IsProperHome h = IsProperRegion h.region × AreProperNames h.kept × HasProperSi
 -- the labels of every region and the names that it keeps are names, and its sites are
 abbrev pub IsProperState : State → Type 0
 IsProperState s = AllByRecursion IsProperHome s.homes
+
+-- a session stands over a shelf and kinds, and its state is such a one
+pub record IsProperOver {I : Type 0} {V : I → Type 0} {D : Type 0} (meaning : (x : I) × V x → Discipline) (rules : D → Rules) (shelf : Shelf I V) (session : Session D I V) (kinds : List D) : Type 0 where
+  pub stands : IsSessionOver meaning rules shelf session kinds
+  pub proper : IsProperState (state_over meaning (rules_in rules kinds) shelf session)

@@ -5,6 +5,8 @@ use Rattle.vc_model.specs.Layout.{Block}
 use Rattle.vc_dtdisc.specs.Shapes.{rules_of}
 use Rattle.vc_dtdisc.specs.declared.shape.Shape.TheVariants.{Whole, Field, Text, Fold, Reverse, Clip}
 use Rattle.vc_region.specs.Region.{OfBest}
+use Rattle.vc_script.specs.declared.tool.Tool.TheVariants.{Vmreplay}
+use Rattle.vc_session.specs.Run.{run, script, text_of}
 use Rattle.vc_session.specs.State.{Label, State}
 
 -- of a discipline that rounds to 4,096 bytes
@@ -97,3 +99,7 @@ moved =
     ∷ block_with (codes "buf") 1 864 1000 []
     ∷ block_with (codes "line") 1 1888 200 (codes "GET /index")
     ∷ [])
+
+-- what a script of regions writes from a state, where no segment is refused
+abbrev pub text_from : State → List ℕ → List ℕ
+text_from s input = text_of (run s (script Vmreplay input) [])

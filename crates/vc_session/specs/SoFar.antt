@@ -1,10 +1,11 @@
 -- A run in its middle, of lines that come in pieces.
-use Rattle.std.specs.Prelude.{◌≡◌, ℕ, ◌+◌, ◌-◌, ◌*◌, ◌≤◌, List, [], ◌++◌, Option, Some, Result, IfSome, IsOk, length, map}
+use Rattle.std.specs.Prelude.{◌≡◌, ℕ, ◌+◌, ◌-◌, ◌*◌, ◌≤◌, List, [], ◌++◌, Option, Some, None, Result, Ok, IfSome, IsOk, IsTrue, length, map}
 use Rattle.std.specs.List.{AllByRecursion}
+use Rattle.vc_base.specs.declared.fault.OutOfMemory.{OutOfMemory}
 use Rattle.vc_script.specs.declared.command.Command.{Command}
 use Rattle.vc_script.specs.declared.line_fault.LineFault.{LineFault}
 use Rattle.vc_script.specs.declared.tool.Tool.{Tool}
-use Rattle.vc_script.specs.Cutting.{Cutting}
+use Rattle.vc_script.specs.Cutting.{Cutting, IsCutting}
 use Rattle.vc_script.specs.Judged.{judged, judged_from, last_number, line_limit}
 use Rattle.vc_script.specs.Lines.{ended_after, lines_after}
 use Rattle.vc_script.specs.Needs.{IsAscending, Need, ShowsNeeds}
@@ -76,6 +77,20 @@ pub record Ends (tool : Tool) (first now : Moment) (gathered : List ℕ) (s : Cu
 pub record EndsAll (tool : Tool) (first now : Moment) (gathered : List ℕ) (s : Cutting) (bad : Option (ℕ × LineFault)) : Type 0 where
   pub end : {start : Moment} {text : List ℕ} {told left : Option (List ℕ)} (after : Option (List ℕ)) → SoFar tool start first text told left s [] → IfSome told (λ input. left ≡ Some []) → Told start.written after (text ++ gathered) → IfSome told (λ input. IsReplay tool start (ended (over_sink now after)) input bad left)
 
+-- more may be fed to a cutter
+pub record CanFeed (s : Cutting) : Type 0 where
+  pub is_open : IsTrue s.is_open
+  pub cutting : IsCutting s
+
 -- the bytes that can still be taken without a fault
 abbrev pub fuel : Cutting → ℕ
 fuel s = (last_number - s.count) * 4097 + (line_limit - length s.kept)
+
+-- what running the lines that a piece ends promises by its answer; `gathered` are the replies
+pub record RunsPiece (tool : Tool) (answer : Result (Option (ℕ × LineFault)) OutOfMemory) (first now : Moment) (gathered : List ℕ) (s next : Cutting) (piece : List ℕ) : Type 0 where
+  -- each run so far goes on, or ends at the first bad line
+  pub good : answer ≡ Ok None → GoesOn tool first now gathered s next piece []
+  pub bad : (found : ℕ × LineFault) → answer ≡ Ok (Some found) → Ends tool first now gathered s piece found
+  -- with no bad line more can be fed, but for the bytes that were taken
+  pub open_is : answer ≡ Ok None → CanFeed next
+  pub less : answer ≡ Ok None → fuel next + length piece ≤ fuel s

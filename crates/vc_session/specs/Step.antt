@@ -119,11 +119,6 @@ pub record GivesStep (t : Stepped) (gone : List Gone) (answer : Reply) (after : 
   pub state_after : t.state ≡ after
   pub told : gone_after ≡ tell t.told gone
 
--- for the need that a reply shows, the step of the command at a line gives that reply, leaves this state, and tells the kinds so
-abbrev pub StepsTo : State → List Gone → ℕ → Command → Reply → State → List Gone → Type 0
-StepsTo before gone line command reply after gone_after =
-    GivesStep (step before line command (need_shown reply)) gone reply after gone_after
-
 -- the size and the alignment of the block that a command puts
 abbrev pub block_asked : Command → ℕ × ℕ
 block_asked (Alloc r x size site) = (size, 32)

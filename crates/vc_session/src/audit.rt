@@ -94,6 +94,8 @@ impl HomeEntry {
         ensures change { Changes state
             self.old labels.now self.new labels.now }
         ensures granted { result ≡ Reply.Refused Refusal.NoSegment → ⊥ }
+        ensures faults { (disc_in state self.new.region).faults
+            ≡ (disc_in state self.old.region).faults }
     {
         let Some(at) = labels.find(name) else {
             return Reply::Refused(no_block(labels, name));
@@ -128,6 +130,8 @@ impl HomeEntry {
         ensures change { Changes state
             self.old labels.now self.new labels.now }
         ensures granted { result ≡ Ok (Reply.Refused Refusal.NoSegment) → ⊥ }
+        ensures faults { (disc_in state self.new.region).faults
+            ≡ (disc_in state self.old.region).faults }
     {
         let Some(at) = labels.find(name) else {
             return Ok(Reply::Refused(no_block(labels, name)));

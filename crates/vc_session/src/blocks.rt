@@ -1,5 +1,5 @@
 // The commands that put, move and free blocks.
-ghost use Rattle.std.specs.Prelude.{◌≡◌, ◌<◌, ◌+◌, ◌^◌, ◌≤◌, length, [], Some, None, Ok, IfOk, OnErr, option_map};
+ghost use Rattle.std.specs.Prelude.{◌≡◌, ◌≢◌, ◌<◌, ◌+◌, ◌^◌, ◌≤◌, length, [], Some, None, Ok, IfOk, OnErr, option_map};
 ghost use Rattle.std.specs.HashMap.{spare};
 ghost use Rattle.slab.specs.Slab.{HasRoomFor, slab_len};
 ghost use Rattle.vc_model.specs.Discipline.{HasOut};
@@ -177,6 +177,8 @@ impl HomeEntry {
             (held_of state [] self.old labels.old)
             (held_of state [] self.new labels.new)
             (size, 32) }
+        ensures faults { result ≢ Ok (Reply.Refused Refusal.NoSegment)
+            → (disc_in state self.new.region).faults ≡ (disc_in state self.old.region).faults }
     {
         match new_refused(labels, &name, size_refused(size)) {
             Some(why) => Ok(Reply::Refused(why)),
@@ -211,6 +213,8 @@ impl HomeEntry {
             (held_of state [] self.old labels.old)
             (held_of state [] self.new labels.new)
             (size, align) }
+        ensures faults { result ≢ Ok (Reply.Refused Refusal.NoSegment)
+            → (disc_in state self.new.region).faults ≡ (disc_in state self.old.region).faults }
     {
         let words = align_refused(&self.region, size, align);
         match new_refused(labels, &name, words) {
@@ -246,6 +250,8 @@ impl HomeEntry {
             (held_of state [] self.old labels.old)
             (held_of state [] self.new labels.new)
             (size, 32) }
+        ensures faults { result ≢ Ok (Reply.Refused Refusal.NoSegment)
+            → (disc_in state self.new.region).faults ≡ (disc_in state self.old.region).faults }
     {
         let Some(at) = labels.find(name) else {
             return Ok(Reply::Refused(no_block(labels, name)));
@@ -282,6 +288,8 @@ impl HomeEntry {
         ensures change { Changes state
             self.old labels.old self.new labels.new }
         ensures granted { result ≡ Ok (Reply.Refused Refusal.NoSegment) → ⊥ }
+        ensures faults { (disc_in state self.new.region).faults
+            ≡ (disc_in state self.old.region).faults }
     {
         let Some(at) = labels.find(name) else {
             return Ok(Reply::Refused(no_block(labels, name)));

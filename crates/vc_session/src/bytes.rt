@@ -31,6 +31,8 @@ impl HomeEntry {
         ensures change { Changes state
             self.old labels.now self.new labels.now }
         ensures granted { result ≡ Reply.Refused Refusal.NoSegment → ⊥ }
+        ensures faults { (disc_in state self.new.region).faults
+            ≡ (disc_in state self.old.region).faults }
     {
         match labels.find(name) {
             None => Reply::Refused(no_block(labels, name)),

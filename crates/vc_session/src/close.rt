@@ -7,9 +7,10 @@ ghost use Rattle.vc_region.specs.Region.{segments_of};
 ghost use Rattle.vc_seg.specs.Shelf.{place_at};
 ghost use Rattle.vc_region.specs.Cells.{rest_in};
 ghost use Rattle.vc_region.specs.Parts.{disc_in};
-ghost use Rattle.vc_session.specs.Account.{account_after, account_back};
-ghost use Rattle.vc_session.specs.Homes.{HoldsDicts, HoldsRegions, accounts_on, held_in, settled_over, slots_on, state_over};
+ghost use Rattle.vc_session.specs.Account.{account_back};
+ghost use Rattle.vc_session.specs.Homes.{HoldsDicts, HoldsRegions, KeepsRegions, accounts_on, held_in, settled_over, slots_on, state_over};
 ghost use Rattle.vc_session.specs.DictHomes.{lies_in};
+ghost use Rattle.vc_session.specs.Closes.{ClosesAt};
 ghost use Rattle.vc_session.specs.State.{close_step, stepped};
 
 use crate::home::HomeEntry;
@@ -45,22 +46,10 @@ impl<D> Session<D> {
         requires within { i < length self.old.homes.entries }
         requires free { IfSome (slice_get (held_in state self.old) i)
             (λ h. lies_in h.name self.old.dicts.entries ≡ false) }
-        ensures count { IfSome (slice_get (held_in state self.old) i)
-            (λ h. result ≡ length (segments_of h.region)) }
-        ensures here { IfSome (slice_get (held_in state self.old) i)
-            (λ h. accounts_on state shelf.new
-            ≡ slice_set (accounts_on state shelf.old) (h.place - 1)
-            (Some (account_after h))) }
-        ensures others { held_in state self.new
-            ≡ remove (held_in state self.old) i }
-        ensures fewer { length self.new.homes.entries + 1 ≡ length self.old.homes.entries }
-        ensures entries { self.new.dicts.entries ≡ self.old.dicts.entries }
-        ensures session { HoldsRegions state shelf.new self.new }
-        ensures dicts { (kinds : List Rules) → HoldsDicts state kinds self.old
-            → HoldsDicts state kinds self.new }
+        ensures closes { ClosesAt state shelf.old self.old shelf.new self.new i result }
+        ensures regions { KeepsRegions state self.old shelf.new self.new }
         ensures settled { settled_over state shelf.new self.new
             ≡ settled_over state shelf.old self.old }
-        ensures spent { self.new.is_spent ≡ self.old.is_spent }
     {
         let _ = self.labels.remove(i);
         match self.homes.shift_remove_index(i) {
@@ -76,12 +65,9 @@ impl<D> Session<D> {
             → HoldsDicts state kinds self.old
             → close_step (state_over state kinds shelf.old self.old) name.now
             ≡ stepped (state_over state kinds shelf.new self.new) result }
-        ensures session { HoldsRegions state shelf.new self.new }
-        ensures dicts { (kinds : List Rules) → HoldsDicts state kinds self.old
-            → HoldsDicts state kinds self.new }
+        ensures regions { KeepsRegions state self.old shelf.new self.new }
         ensures settled { settled_over state shelf.new self.new
             ≡ settled_over state shelf.old self.old }
-        ensures spent { self.new.is_spent ≡ self.old.is_spent }
     {
         match self.homes.get_index_of(name) {
             None => Reply::Refused(Refusal::NoRegion),

@@ -1,18 +1,16 @@
 // The opening of dictionaries.
-ghost use Rattle.std.specs.Prelude.{◌≡◌, ◌<◌, ◌&&◌, [], IfOk, IfSome, OnErr, length, nat_le, slice_get};
-ghost use Rattle.vc_objects.specs.Objects.{is_best};
+ghost use Rattle.std.specs.Prelude.{◌≡◌, ◌<◌, ◌&&◌, [], IfSome, length, nat_le, slice_get};
 ghost use Rattle.vc_region.specs.Cells.{rest_in};
-ghost use Rattle.vc_script.specs.Needs.{need_shown};
+ghost use Rattle.vc_region.specs.Region.{is_best};
 ghost use Rattle.vc_script.specs.declared.command.Command.TheVariants.{OpenDict};
-ghost use Rattle.vc_session.specs.Account.{Settles, home_of, state_of};
+ghost use Rattle.vc_session.specs.Account.{home_of, state_of};
 ghost use Rattle.vc_session.specs.Dicts.{dict_refused, open_dict_step};
 ghost use Rattle.vc_session.specs.DictHomes.{dicts_in};
-ghost use Rattle.vc_session.specs.Homes.{IsSessionOver, held_in, settled_over, state_over};
-ghost use Rattle.vc_session.specs.Lacks.{StepLacksFor};
+ghost use Rattle.vc_session.specs.Homes.{IsSessionOver, held_in};
+ghost use Rattle.vc_session.specs.Moment.{moment};
 ghost use Rattle.vc_session.specs.Naming.{TellsTable};
-ghost use Rattle.vc_session.specs.Run.{refusal_at};
-ghost use Rattle.vc_session.specs.Step.{GivesStep};
-ghost use Rattle.vc_session.specs.Told.{gone_in, rules_in};
+ghost use Rattle.vc_session.specs.Steps.{Stays, StepsBy};
+ghost use Rattle.vc_session.specs.Told.{rules_in};
 
 use crate::dicts::DictEntry;
 use crate::session::Session;
@@ -85,32 +83,14 @@ impl<D: DictDisc> Session<D> {
         region: Name,
         kind: u32,
     ) -> Result<Reply, OutOfMemory>
-        requires session { IsSessionOver state (rules_in D.rules kinds.now.items)
-            shelf.now self.old }
-        ensures step { IfOk result (λ reply. GivesStep
-            (open_dict_step (state_over state (rules_in D.rules kinds.now.items) shelf.now self.old)
-            name method region kind (need_shown reply))
-            (gone_in D.gone kinds.now.items) reply
-            (state_over state (rules_in D.rules kinds.now.items) shelf.now self.new)
-            (gone_in D.gone kinds.now.items)) }
-        ensures session { IsSessionOver state (rules_in D.rules kinds.now.items)
-            shelf.now self.new }
-        ensures spent { self.new.is_spent ≡ self.old.is_spent }
-        ensures keeps { Settles
-            (settled_over state shelf.now self.old)
-            (settled_over state shelf.now self.new) [] }
-        ensures settles { IfOk result (λ reply. Settles
-            (settled_over state shelf.now self.old)
-            (settled_over state shelf.now self.new)
-            (refusal_at (state_over state (rules_in D.rules kinds.now.items) shelf.now self.old)
-            (OpenDict name method region kind) reply)) }
-        ensures lacks { IfOk result (λ reply. StepLacksFor
-            (state_over state (rules_in D.rules kinds.now.items) shelf.now self.old)
-            (held_in state self.old) (held_in state self.new)
-            (OpenDict name method region kind) reply) }
-        ensures err { OnErr result
-            (state_over state (rules_in D.rules kinds.now.items) shelf.now self.new
-            ≡ state_over state (rules_in D.rules kinds.now.items) shelf.now self.old) }
+        requires session { IsSessionOver state D.rules shelf.now self.old kinds.now.items }
+        ensures steps { StepsBy result
+            (moment state D.rules D.gone shelf.now self.old kinds.now.items)
+            (moment state D.rules D.gone shelf.now self.new kinds.now.items)
+            (OpenDict name method region kind)
+            (λ s. open_dict_step s name method region kind) }
+        ensures stays { Stays state D.rules shelf.now self.old kinds.now.items
+            shelf.now self.new kinds.now.items }
     {
         let Some(j) = self.homes.get_index_of(&region) else {
             return Ok(Reply::Refused(Refusal::NoRegion));
@@ -119,8 +99,10 @@ impl<D: DictDisc> Session<D> {
             return Ok(Reply::Refused(why));
         }
         self.dicts.reserve(1)?;
-        let at = &mut self.homes[j].region;
-        match open(at, method, kind, &kinds[kind as usize - 1]) {
+        let Region::Best(best) = &mut self.homes[j].region else {
+            unreachable!()
+        };
+        match open(best, method, kind, &kinds[kind as usize - 1]) {
             Ok(dict) => {
                 // There is room, so this takes no memory and cannot fail.
                 let _ = self.dicts.insert(name, DictEntry { home: region, dict });

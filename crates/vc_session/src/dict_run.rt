@@ -1,20 +1,15 @@
 // The commands on a dictionary.
-ghost use Rattle.std.specs.List.{position};
-ghost use Rattle.std.specs.Map.{keys_of};
-ghost use Rattle.std.specs.Prelude.{◌≡◌, ℕ, List, [], Some, IfOk, OnErr};
-ghost use Rattle.std.specs.Str.{bytes_eq};
-ghost use Rattle.vc_script.specs.Needs.{need_shown};
-ghost use Rattle.vc_session.specs.Account.{Settles};
+ghost use Rattle.std.specs.Prelude.{◌≡◌, ℕ, List, Some};
+ghost use Rattle.vc_session.specs.DictHomes.{dict_index};
 ghost use Rattle.vc_session.specs.Dicts.{dict_of, dict_step};
-ghost use Rattle.vc_session.specs.Homes.{IsSessionOver, held_in, settled_over, state_over};
-ghost use Rattle.vc_session.specs.Lacks.{IsCutOff, StepLacksFor};
-ghost use Rattle.vc_session.specs.Run.{refusal_at};
-ghost use Rattle.vc_session.specs.Step.{GivesStep};
-ghost use Rattle.vc_session.specs.Told.{KeepRules, gone_in, rules_in};
+ghost use Rattle.vc_session.specs.Homes.{IsSessionOver};
+ghost use Rattle.vc_session.specs.Moment.{moment};
+ghost use Rattle.vc_session.specs.Steps.{Stays, StepsBy};
 
 use crate::session::Session;
 use vc_base::{Name, OutOfMemory};
 use vc_dtdisc::DictDisc;
+use vc_region::Region;
 use vc_script::{Command, Refusal, Reply};
 use vc_seg::{BoxedDisc, SegDisc, Shelf};
 
@@ -27,35 +22,14 @@ impl<D: DictDisc> Session<D> {
         name: &Name,
         command: &Command,
     ) -> Result<Reply, OutOfMemory>
-        requires session { IsSessionOver state (rules_in D.rules kinds.old.items)
-            shelf.now self.old }
+        requires session { IsSessionOver state D.rules shelf.now self.old kinds.old.items }
         requires command { dict_of command.now ≡ Some name.now }
-        ensures step { IfOk result (λ reply. GivesStep
-            (dict_step (state_over state (rules_in D.rules kinds.old.items) shelf.now self.old)
-            name.now command.now (need_shown reply))
-            (gone_in D.gone kinds.old.items) reply
-            (state_over state (rules_in D.rules kinds.new.items) shelf.now self.new)
-            (gone_in D.gone kinds.new.items)) }
-        ensures session { IsSessionOver state (rules_in D.rules kinds.new.items)
-            shelf.now self.new }
-        ensures rules { KeepRules D.rules kinds.old.items kinds.new.items }
-        ensures spent { self.new.is_spent ≡ self.old.is_spent }
-        ensures keeps { Settles
-            (settled_over state shelf.now self.old)
-            (settled_over state shelf.now self.new) [] }
-        ensures settles { IfOk result (λ reply. Settles
-            (settled_over state shelf.now self.old)
-            (settled_over state shelf.now self.new)
-            (refusal_at (state_over state (rules_in D.rules kinds.old.items) shelf.now self.old)
-            command.now reply)) }
-        ensures lacks { IfOk result (λ reply. StepLacksFor
-            (state_over state (rules_in D.rules kinds.old.items) shelf.now self.old)
-            (held_in state self.old) (held_in state self.new) command.now reply) }
-        ensures err { OnErr result
-            ((gone_in D.gone kinds.new.items ≡ gone_in D.gone kinds.old.items)
-            × IsCutOff
-            (state_over state (rules_in D.rules kinds.old.items) shelf.now self.old) command.now
-            (state_over state (rules_in D.rules kinds.new.items) shelf.now self.new)) }
+        ensures steps { StepsBy result
+            (moment state D.rules D.gone shelf.now self.old kinds.old.items)
+            (moment state D.rules D.gone shelf.now self.new kinds.new.items)
+            command.now (λ s. dict_step s name.now command.now) }
+        ensures stays { Stays state D.rules shelf.now self.old kinds.old.items
+            shelf.now self.new kinds.new.items }
     {
         let Some(i) = self.dicts.get_index_of(name) else {
             return Ok(Reply::Refused(Refusal::NoDictionary));
@@ -78,46 +52,28 @@ impl<D: DictDisc> Session<D> {
         i: usize,
         command: &Command,
     ) -> Result<Reply, OutOfMemory>
-        requires session { IsSessionOver state (rules_in D.rules kinds.old.items)
-            shelf.now self.old }
-        requires command { dict_of command.now ≡ Some name.now }
-        requires index { position (bytes_eq name.now) (keys_of self.old.dicts.entries) ≡ Some i }
+        requires session { IsSessionOver state D.rules shelf.now self.old kinds.old.items }
+        requires name { dict_of command.now ≡ Some name.now }
+        requires index { dict_index name.now self.old.dicts.entries ≡ Some i }
         requires other { (x : List ℕ) → command.now ≡ Command.Shut x → ⊥ }
-        ensures step { IfOk result (λ reply. GivesStep
-            (dict_step (state_over state (rules_in D.rules kinds.old.items) shelf.now self.old)
-            name.now command.now (need_shown reply))
-            (gone_in D.gone kinds.old.items) reply
-            (state_over state (rules_in D.rules kinds.new.items) shelf.now self.new)
-            (gone_in D.gone kinds.new.items)) }
-        ensures session { IsSessionOver state (rules_in D.rules kinds.new.items)
-            shelf.now self.new }
-        ensures rules { KeepRules D.rules kinds.old.items kinds.new.items }
-        ensures spent { self.new.is_spent ≡ self.old.is_spent }
-        ensures keeps { Settles
-            (settled_over state shelf.now self.old)
-            (settled_over state shelf.now self.new) [] }
-        ensures settles { IfOk result (λ reply. Settles
-            (settled_over state shelf.now self.old)
-            (settled_over state shelf.now self.new)
-            (refusal_at (state_over state (rules_in D.rules kinds.old.items) shelf.now self.old)
-            command.now reply)) }
-        ensures lacks { IfOk result (λ reply. StepLacksFor
-            (state_over state (rules_in D.rules kinds.old.items) shelf.now self.old)
-            (held_in state self.old) (held_in state self.new) command.now reply) }
-        ensures err { OnErr result
-            ((gone_in D.gone kinds.new.items ≡ gone_in D.gone kinds.old.items)
-            × IsCutOff
-            (state_over state (rules_in D.rules kinds.old.items) shelf.now self.old) command.now
-            (state_over state (rules_in D.rules kinds.new.items) shelf.now self.new)) }
+        ensures steps { StepsBy result
+            (moment state D.rules D.gone shelf.now self.old kinds.old.items)
+            (moment state D.rules D.gone shelf.now self.new kinds.new.items)
+            command.now (λ s. dict_step s name.now command.now) }
+        ensures stays { Stays state D.rules shelf.now self.old kinds.old.items
+            shelf.now self.new kinds.new.items }
     {
         let entry = &self.dicts[i];
         let Some(j) = self.homes.get_index_of(&entry.home) else {
             unreachable!()
         };
         let k = entry.dict.kind as usize - 1;
+        let Region::Best(best) = &mut self.homes[j].region else {
+            unreachable!()
+        };
         vc_commands::run(
             self.alloc,
-            &mut self.homes[j].region,
+            best,
             &mut self.dicts[i].dict,
             &mut kinds[k],
             command,

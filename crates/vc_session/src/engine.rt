@@ -1,17 +1,16 @@
 // The lines of a source, run in order as they come.
-ghost use Rattle.std.specs.Prelude.{◌≡◌, ℕ, ◌+◌, ◌≤◌, [], Ok, Some, None, IsTrue, IfSome, IfOk, IfErr, OnErr, OnOk, length};
-ghost use Rattle.vc_model.specs.Count.{Rose};
+ghost use Rattle.std.specs.Prelude.{◌≡◌, [], Some, IfOk, OnOk};
 ghost use Rattle.vc_script.specs.Answer.{answer};
-ghost use Rattle.vc_script.specs.Cutting.{IsCutting, new_cutting};
+ghost use Rattle.vc_script.specs.Cutting.{new_cutting};
 ghost use Rattle.vc_script.specs.Print.{line_of};
-ghost use Rattle.vc_script.specs.declared.line_fault.LineFault.{LineFault};
-ghost use Rattle.vc_session.specs.Engine.{IsStep, LineRan};
-ghost use Rattle.vc_session.specs.Homes.{IsSessionOver, state_over};
-ghost use Rattle.vc_session.specs.Moment.{Keeps, ended, moment};
-ghost use Rattle.vc_session.specs.ProperState.{IsProperState};
-ghost use Rattle.vc_session.specs.Replay.{IsCutShort, IsReplay, Told};
-ghost use Rattle.vc_session.specs.SoFar.{Ends, EndsAll, GoesOn, fuel};
-ghost use Rattle.vc_session.specs.Told.{KeepRules, rules_in};
+ghost use Rattle.vc_session.specs.Engine.{IsStep, LineRan, RunsScript};
+ghost use Rattle.vc_session.specs.Homes.{IsSessionOver};
+ghost use Rattle.vc_session.specs.Moment.{ended, moment, over_sink};
+ghost use Rattle.vc_session.specs.ProperState.{IsProperOver};
+ghost use Rattle.vc_session.specs.Replay.{Told};
+ghost use Rattle.vc_session.specs.SoFar.{CanFeed, EndsAll, RunsPiece};
+ghost use Rattle.vc_session.specs.Steps.{Lasts};
+ghost use Rattle.vc_session.specs.Streams.{flows};
 
 use crate::session::Session;
 use crate::stream::write_all;
@@ -81,16 +80,15 @@ fn run_answer<D: DictDisc>(
     command: &Command,
     replies: &mut Vec<u8>,
 ) -> Result<(), OutOfMemory>
-    requires { IsSessionOver state (rules_in D.rules kinds.old.items) shelf.old session.old }
+    requires { IsSessionOver state D.rules shelf.old session.old kinds.old.items }
     ensures ran { OnOk result (IsStep
-        (moment state D.rules D.gone shelf.old session.old kinds.old.items (Some replies.old.items))
-        (moment state D.rules D.gone shelf.new session.new kinds.new.items (Some replies.new.items))
+        (over_sink (moment state D.rules D.gone shelf.old session.old kinds.old.items)
+        (Some replies.old.items))
+        (over_sink (moment state D.rules D.gone shelf.new session.new kinds.new.items)
+        (Some replies.new.items))
         n command.now) }
-    ensures session { IsSessionOver state (rules_in D.rules kinds.new.items) shelf.new session.new }
-    ensures rules { KeepRules D.rules kinds.old.items kinds.new.items }
-    ensures keeps { Keeps
-        (moment state D.rules D.gone shelf.old session.old kinds.old.items None)
-        (moment state D.rules D.gone shelf.new session.new kinds.new.items None) }
+    ensures lasts { Lasts state D.rules shelf.old session.old kinds.old.items
+        shelf.new session.new kinds.new.items }
 {
     let reply = session.step(shelf, kinds, n, command)?;
     gather(alloc, &reply, replies)
@@ -107,16 +105,15 @@ fn run_line<D: DictDisc>(
     line: &[u8],
     replies: &mut Vec<u8>,
 ) -> Result<Option<LineFault>, OutOfMemory>
-    requires { IsSessionOver state (rules_in D.rules kinds.old.items) shelf.old session.old }
+    requires { IsSessionOver state D.rules shelf.old session.old kinds.old.items }
     ensures ran { IfOk result (λ fault. LineRan
-        (moment state D.rules D.gone shelf.old session.old kinds.old.items (Some replies.old.items))
-        (moment state D.rules D.gone shelf.new session.new kinds.new.items (Some replies.new.items))
+        (over_sink (moment state D.rules D.gone shelf.old session.old kinds.old.items)
+        (Some replies.old.items))
+        (over_sink (moment state D.rules D.gone shelf.new session.new kinds.new.items)
+        (Some replies.new.items))
         n (answer tool line.now) fault) }
-    ensures session { IsSessionOver state (rules_in D.rules kinds.new.items) shelf.new session.new }
-    ensures rules { KeepRules D.rules kinds.old.items kinds.new.items }
-    ensures keeps { OnErr result (Keeps
-        (moment state D.rules D.gone shelf.old session.old kinds.old.items None)
-        (moment state D.rules D.gone shelf.new session.new kinds.new.items None)) }
+    ensures lasts { Lasts state D.rules shelf.old session.old kinds.old.items
+        shelf.new session.new kinds.new.items }
 {
     match read_line(alloc, tool, line)? {
         LineAnswer::Blank => Ok(None),
@@ -139,26 +136,17 @@ fn run_piece<D: DictDisc>(
     piece: &[u8],
     replies: &mut Vec<u8>,
 ) -> Result<Option<(u32, LineFault)>, OutOfMemory>
-    requires session { IsSessionOver state (rules_in D.rules kinds.old.items)
-        shelf.old session.old }
-    requires fed { IsTrue cutter.old.is_open }
-    requires cutting { IsCutting cutter.old }
+    requires session { IsSessionOver state D.rules shelf.old session.old kinds.old.items }
+    requires feeds { CanFeed cutter.old }
     requires none { replies.old.items ≡ [] }
-    ensures good { result ≡ Ok None → GoesOn tool
-        (moment state D.rules D.gone shelf.old session.old kinds.old.items (Some replies.old.items))
-        (moment state D.rules D.gone shelf.new session.new kinds.new.items (Some replies.new.items))
-        replies.new.items cutter.old cutter.new piece.now [] }
-    ensures bad { (bad : ℕ × LineFault) → result ≡ Ok (Some bad) → Ends tool
-        (moment state D.rules D.gone shelf.old session.old kinds.old.items (Some replies.old.items))
-        (moment state D.rules D.gone shelf.new session.new kinds.new.items (Some replies.new.items))
-        replies.new.items cutter.old piece.now bad }
-    ensures open { result ≡ Ok None → IsTrue cutter.new.is_open × IsCutting cutter.new }
-    ensures less { result ≡ Ok None → fuel cutter.new + length piece.now ≤ fuel cutter.old }
-    ensures session { IsSessionOver state (rules_in D.rules kinds.new.items) shelf.new session.new }
-    ensures rules { KeepRules D.rules kinds.old.items kinds.new.items }
-    ensures keeps { Keeps
-        (moment state D.rules D.gone shelf.old session.old kinds.old.items None)
-        (moment state D.rules D.gone shelf.new session.new kinds.new.items None) }
+    ensures runs { RunsPiece tool result
+        (over_sink (moment state D.rules D.gone shelf.old session.old kinds.old.items)
+        (Some replies.old.items))
+        (over_sink (moment state D.rules D.gone shelf.new session.new kinds.new.items)
+        (Some replies.new.items))
+        replies.new.items cutter.old cutter.new piece.now }
+    ensures lasts { Lasts state D.rules shelf.old session.old kinds.old.items
+        shelf.new session.new kinds.new.items }
 {
     let mut rest = piece;
     while !rest.is_empty() {
@@ -197,20 +185,17 @@ fn run_last<D: DictDisc>(
     cutter: &mut LineCutter,
     replies: &mut Vec<u8>,
 ) -> Result<Option<(u32, LineFault)>, OutOfMemory>
-    requires session { IsSessionOver state (rules_in D.rules kinds.old.items)
-        shelf.old session.old }
-    requires fed { IsTrue cutter.old.is_open }
-    requires cutting { IsCutting cutter.old }
+    requires session { IsSessionOver state D.rules shelf.old session.old kinds.old.items }
+    requires feeds { CanFeed cutter.old }
     requires none { replies.old.items ≡ [] }
     ensures ends { IfOk result (EndsAll tool
-        (moment state D.rules D.gone shelf.old session.old kinds.old.items (Some replies.old.items))
-        (moment state D.rules D.gone shelf.new session.new kinds.new.items (Some replies.new.items))
+        (over_sink (moment state D.rules D.gone shelf.old session.old kinds.old.items)
+        (Some replies.old.items))
+        (over_sink (moment state D.rules D.gone shelf.new session.new kinds.new.items)
+        (Some replies.new.items))
         replies.new.items cutter.old) }
-    ensures session { IsSessionOver state (rules_in D.rules kinds.new.items) shelf.new session.new }
-    ensures rules { KeepRules D.rules kinds.old.items kinds.new.items }
-    ensures keeps { Keeps
-        (moment state D.rules D.gone shelf.old session.old kinds.old.items None)
-        (moment state D.rules D.gone shelf.new session.new kinds.new.items None) }
+    ensures lasts { Lasts state D.rules shelf.old session.old kinds.old.items
+        shelf.new session.new kinds.new.items }
 {
     match cutter.end() {
         Cut::Whole => match run_line(
@@ -244,32 +229,16 @@ pub(crate) fn run_lines<D: DictDisc, S: Source, O: Sink>(
     cutter: &mut LineCutter,
     replies: &mut Vec<u8>,
 ) -> Result<Option<(u32, LineFault)>, Stop>
-    requires session { IsSessionOver state (rules_in D.rules kinds.old.items)
-        shelf.old session.old }
-    requires proper { IsProperState (state_over state (rules_in D.rules kinds.old.items)
-        shelf.old session.old) }
-    requires cutter { cutter.old ≡ new_cutting }
+    requires session { IsProperOver state D.rules shelf.old session.old kinds.old.items }
+    requires new { cutter.old ≡ new_cutting }
     requires none { replies.old.items ≡ [] }
-    ensures replay { IfOk result (λ bad. IfSome (S.left source.old) (λ input. IsReplay tool
-        (moment state D.rules D.gone shelf.old session.old kinds.old.items (O.written out.old))
-        (ended (moment state D.rules D.gone shelf.new session.new kinds.new.items
-        (O.written out.new))) input bad (S.left source.new))) }
-    ensures cut_short { IfErr result (λ stop. stop ≡ Stop.Read
-        → IfSome (S.left source.old) (λ input. IsCutShort tool
-        (moment state D.rules D.gone shelf.old session.old kinds.old.items (O.written out.old))
-        (ended (moment state D.rules D.gone shelf.new session.new kinds.new.items
-        (O.written out.new))) input (S.left source.new))) }
-    ensures session { IsSessionOver state (rules_in D.rules kinds.new.items) shelf.new session.new }
-    ensures rules { KeepRules D.rules kinds.old.items kinds.new.items }
-    ensures keeps { Keeps
-        (moment state D.rules D.gone shelf.old session.old kinds.old.items None)
-        (moment state D.rules D.gone shelf.new session.new kinds.new.items None) }
-    ensures read { IfErr result (λ stop. stop ≡ Stop.Read
-        → Rose (S.failures source.old) (S.failures source.new)) }
-    ensures write { IfErr result (λ stop. stop ≡ Stop.Write
-        → Rose (O.failures out.old) (O.failures out.new)) }
-    ensures reads { S.failures source.old ≤ S.failures source.new }
-    ensures writes { O.failures out.old ≤ O.failures out.new }
+    ensures runs { RunsScript tool result
+        (moment state D.rules D.gone shelf.old session.old kinds.old.items)
+        (ended (moment state D.rules D.gone shelf.new session.new kinds.new.items))
+        (flows S.left S.failures O.written O.failures source.old out.old)
+        (flows S.left S.failures O.written O.failures source.new out.new) }
+    ensures lasts { Lasts state D.rules shelf.old session.old kinds.old.items
+        shelf.new session.new kinds.new.items }
 {
     let mut buf = [0u8; 4096];
     loop {

@@ -1,5 +1,5 @@
 // A region that is open.
-ghost use Rattle.std.specs.Prelude.{◌≡◌, [], Ok, IfOk, OnErr};
+ghost use Rattle.std.specs.Prelude.{◌≡◌, ◌≢◌, [], Ok, IfOk, OnErr};
 ghost use Rattle.vc_model.specs.Addr.{place_of};
 ghost use Rattle.vc_model.specs.Discipline.{HasOut};
 ghost use Rattle.vc_region.specs.Cells.{rest_in};
@@ -63,6 +63,8 @@ impl HomeEntry {
             (held_of state [] self.old labels.old)
             (held_of state [] self.new labels.new)
             (block_asked command.now) }
+        ensures faults { result ≢ Ok (Reply.Refused Refusal.NoSegment)
+            → (disc_in state self.new.region).faults ≡ (disc_in state self.old.region).faults }
     {
         match command {
             Command::ClearRegion(name) => Ok(self.clear(labels, *name, line)),

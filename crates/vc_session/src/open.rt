@@ -1,8 +1,11 @@
 // The opening of regions.
-ghost use Rattle.std.specs.Prelude.{◌≡◌, List, IfOk, OnErr};
-ghost use Rattle.vc_dtdisc.specs.Rules.{Rules};
-ghost use Rattle.vc_session.specs.Homes.{HoldsDicts, HoldsRegions, not_here, settled_over, state_over};
-ghost use Rattle.vc_session.specs.State.{open_step, stepped};
+ghost use Rattle.std.specs.Prelude.{◌≡◌, List};
+ghost use Rattle.vc_dtdisc.specs.Rules.{Gone, Rules};
+ghost use Rattle.vc_script.specs.declared.command.Command.TheVariants.{OpenRegion};
+ghost use Rattle.vc_session.specs.Homes.{HoldsDicts, HoldsRegions, KeepsRegions, not_here, settled_over};
+ghost use Rattle.vc_session.specs.Moment.{moment_by};
+ghost use Rattle.vc_session.specs.State.{open_step};
+ghost use Rattle.vc_session.specs.Steps.{StepsBy};
 
 use crate::home::HomeEntry;
 use crate::labels::Labels;
@@ -32,20 +35,14 @@ impl<D> Session<D> {
         n: u32,
     ) -> Result<Reply, OutOfMemory>
         requires { HoldsRegions state shelf.old self.old }
-        ensures step { IfOk result (λ reply. (kinds : List Rules)
-            → HoldsDicts state kinds self.old
-            → open_step (state_over state kinds shelf.old self.old) name method n
-            ≡ stepped (state_over state kinds shelf.new self.new) reply) }
-        ensures session { HoldsRegions state shelf.new self.new }
-        ensures dicts { (kinds : List Rules) → HoldsDicts state kinds self.old
-            → HoldsDicts state kinds self.new }
+        ensures steps { (kinds : List Rules) (gone : List Gone) → HoldsDicts state kinds self.old
+            → StepsBy result
+            (moment_by state kinds gone shelf.old self.old)
+            (moment_by state kinds gone shelf.new self.new)
+            (OpenRegion name method n) (λ s need. open_step s name method n) }
+        ensures regions { KeepsRegions state self.old shelf.new self.new }
         ensures settled { settled_over state shelf.new self.new
             ≡ settled_over state shelf.old self.old }
-        ensures spent { self.new.is_spent ≡ self.old.is_spent }
-        ensures err { OnErr result ((kinds : List Rules)
-            → HoldsDicts state kinds self.old
-            → state_over state kinds shelf.new self.new
-            ≡ state_over state kinds shelf.old self.old) }
     {
         if self.homes.contains_key(&name) {
             return Ok(Reply::Refused(Refusal::RegionExists));

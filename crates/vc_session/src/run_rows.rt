@@ -135,14 +135,18 @@ pub fn grown()
 
 /// One parse of a longer script.
 pub fn parse()
-    ensures replies { text_of (run at_first (script Vmreplay
+    ensures { text_of (run at_first (script Vmreplay
         (codes "# one parse and one report\nopen heap best 1\nalloc heap conf 512\n"
         ++ codes "alloc heap line 80\nwrite heap line 0 GET%20/index\n"
         ++ codes "alloc heap word1 3\nalloc heap word2 6\nalloc heap node1 48\n"
         ++ codes "alloc heap node2 48\nalloc heap buf 1000\n")) [])
         ≡ codes "heap open\nconf 1:32\nline 1:576\nline written 10\nword1 1:672\n"
         ++ codes "word2 1:704\nnode1 1:736\nnode2 1:800\nbuf 1:864\n" }
-    ensures state { (run at_first (script Vmreplay
+{}
+
+/// And what it leaves.
+pub fn parse_state()
+    ensures { (run at_first (script Vmreplay
         (codes "# one parse and one report\nopen heap best 1\nalloc heap conf 512\n"
         ++ codes "alloc heap line 80\nwrite heap line 0 GET%20/index\n"
         ++ codes "alloc heap word1 3\nalloc heap word2 6\nalloc heap node1 48\n"

@@ -1,14 +1,12 @@
 // A session: its open regions and dictionaries, over a shelf.
-ghost use Rattle.std.specs.Prelude.{◌≡◌, ◌&&◌, [], List, None, Some, false, Ok, IfOk, OnErr, OnOk, IsTrue};
+ghost use Rattle.std.specs.Prelude.{◌≡◌, ◌&&◌, [], List, None, Some, false, IfOk, OnErr, OnOk, IsTrue};
 ghost use Rattle.vc_dtdisc.specs.Rules.{Gone, Rules};
-ghost use Rattle.vc_session.specs.Account.{Settles, StepLacks};
-ghost use Rattle.vc_session.specs.Homes.{HoldsDicts, HoldsRegions, IsSessionOver, accounts_on, held_in, settled_over, state_over};
-ghost use Rattle.vc_script.specs.Needs.{need_shown};
+ghost use Rattle.vc_session.specs.Homes.{HoldsDicts, HoldsRegions, IsSessionOver, KeepsRegions, accounts_on, settled_over, state_over};
 ghost use Rattle.vc_session.specs.DictHomes.{lies_in};
 ghost use Rattle.vc_session.specs.Dicts.{dict_of};
-ghost use Rattle.vc_session.specs.Lacks.{IsCutOff, StepLacksFor};
-ghost use Rattle.vc_session.specs.Run.{refusal_at};
-ghost use Rattle.vc_session.specs.Step.{GivesStep, StepsTo, is_clear, region_of, shelf_step, step_of};
+ghost use Rattle.vc_session.specs.Moment.{moment, moment_by};
+ghost use Rattle.vc_session.specs.Step.{is_clear, region_of, shelf_step, step, step_of};
+ghost use Rattle.vc_session.specs.Steps.{Lasts, Stays, StepsBy};
 ghost use Rattle.vc_session.specs.Told.{KeepRules, ended_told, gone_in, rules_in, tell};
 
 use crate::dicts::DictEntry;
@@ -126,33 +124,15 @@ impl<D: DictDisc> Session<D> {
         kinds: &Vec<D>,
         command: &Command,
     ) -> Result<Reply, OutOfMemory>
-        requires session { IsSessionOver state (rules_in D.rules kinds.now.items)
-            shelf.old self.old }
+        requires session { IsSessionOver state D.rules shelf.old self.old kinds.now.items }
         requires dict { dict_of command.now ≡ None }
         requires region { region_of command.now ≡ None }
-        ensures step { IfOk result (λ reply. GivesStep
-            (shelf_step (state_over state (rules_in D.rules kinds.now.items) shelf.old self.old)
-            command.now (need_shown reply))
-            (gone_in D.gone kinds.now.items) reply
-            (state_over state (rules_in D.rules kinds.now.items) shelf.new self.new)
-            (gone_in D.gone kinds.now.items)) }
-        ensures session { IsSessionOver state (rules_in D.rules kinds.now.items)
-            shelf.new self.new }
-        ensures spent { self.new.is_spent ≡ self.old.is_spent }
-        ensures err { OnErr result
-            (state_over state (rules_in D.rules kinds.now.items) shelf.new self.new
-            ≡ state_over state (rules_in D.rules kinds.now.items) shelf.old self.old) }
-        ensures keeps { Settles
-            (settled_over state shelf.old self.old)
-            (settled_over state shelf.new self.new) [] }
-        ensures settles { IfOk result (λ reply. Settles
-            (settled_over state shelf.old self.old)
-            (settled_over state shelf.new self.new)
-            (refusal_at (state_over state (rules_in D.rules kinds.now.items) shelf.old self.old)
-            command.now reply)) }
-        ensures lacks { IfOk result (λ reply. StepLacksFor
-            (state_over state (rules_in D.rules kinds.now.items) shelf.old self.old)
-            (held_in state self.old) (held_in state self.new) command.now reply) }
+        ensures steps { StepsBy result
+            (moment state D.rules D.gone shelf.old self.old kinds.now.items)
+            (moment state D.rules D.gone shelf.new self.new kinds.now.items)
+            command.now (λ s. shelf_step s command.now) }
+        ensures stays { Stays state D.rules shelf.old self.old kinds.now.items
+            shelf.new self.new kinds.now.items }
     {
         match command {
             Command::OpenRegion(name, method, n) => self.open_region(shelf, *name, *method, *n),
@@ -182,31 +162,12 @@ impl<D: DictDisc> Session<D> {
         requires regions { HoldsRegions state shelf.now self.old }
         requires dict { dict_of command.now ≡ None }
         requires region { region_of command.now ≡ Some name.now }
-        ensures step { IfOk result (λ reply. (kinds : List Rules)
-            → HoldsDicts state kinds self.old → (gone : List Gone) → GivesStep
-            (step_of (state_over state kinds shelf.now self.old) line command.now
-            (need_shown reply) (Some name.now))
-            gone reply (state_over state kinds shelf.now self.new) gone) }
-        ensures regions { HoldsRegions state shelf.now self.new }
-        ensures dicts { (kinds : List Rules) → HoldsDicts state kinds self.old
-            → HoldsDicts state kinds self.new }
-        ensures spent { self.new.is_spent ≡ self.old.is_spent }
-        ensures err { OnErr result ((kinds : List Rules) → HoldsDicts state kinds self.old
-            → state_over state kinds shelf.now self.new
-            ≡ state_over state kinds shelf.now self.old) }
-        ensures keeps { Settles
-            (settled_over state shelf.now self.old)
-            (settled_over state shelf.now self.new) [] }
-        ensures settles { IfOk result (λ reply. (kinds : List Rules) → Settles
-            (settled_over state shelf.now self.old)
-            (settled_over state shelf.now self.new)
-            (refusal_at (state_over state kinds shelf.now self.old) command.now reply)) }
-        ensures unserved { result ≡ Ok (Reply.Refused Refusal.NoSegment)
-            → StepLacks (held_in state self.old)
-            (held_in state self.new) command.now }
-        ensures lacks { IfOk result (λ reply. (kinds : List Rules) → StepLacksFor
-            (state_over state kinds shelf.now self.old)
-            (held_in state self.old) (held_in state self.new) command.now reply) }
+        ensures steps { (kinds : List Rules) (gone : List Gone) → HoldsDicts state kinds self.old
+            → StepsBy result
+            (moment_by state kinds gone shelf.now self.old)
+            (moment_by state kinds gone shelf.now self.new)
+            command.now (λ s need. step_of s line command.now need (Some name.now)) }
+        ensures regions { KeepsRegions state self.old shelf.now self.new }
     {
         let Some(i) = self.homes.get_index_of(name) else {
             return Ok(Reply::Refused(Refusal::NoRegion));
@@ -225,37 +186,13 @@ impl<D: DictDisc> Session<D> {
         line: u32,
         command: &Command,
     ) -> Result<Reply, OutOfMemory>
-        requires { IsSessionOver state (rules_in D.rules kinds.old.items) shelf.old self.old }
-        ensures step { IfOk result (λ reply. StepsTo
-            (state_over state (rules_in D.rules kinds.old.items) shelf.old self.old)
-            (gone_in D.gone kinds.old.items) line command.now reply
-            (state_over state (rules_in D.rules kinds.new.items) shelf.new self.new)
-            (gone_in D.gone kinds.new.items)) }
-        ensures rules { KeepRules D.rules kinds.old.items kinds.new.items }
-        ensures session { IsSessionOver state (rules_in D.rules kinds.new.items)
-            shelf.new self.new }
-        ensures spent { self.new.is_spent ≡ self.old.is_spent }
-        ensures err { OnErr result
-            ((gone_in D.gone kinds.new.items ≡ gone_in D.gone kinds.old.items)
-            × IsCutOff
-            (state_over state (rules_in D.rules kinds.old.items) shelf.old self.old) command.now
-            (state_over state (rules_in D.rules kinds.new.items) shelf.new self.new)) }
-
-        // The disciplines are the same, but for the faults of the one that refused.
-        ensures settles { IfOk result (λ reply. Settles
-            (settled_over state shelf.old self.old)
-            (settled_over state shelf.new self.new)
-            (refusal_at (state_over state (rules_in D.rules kinds.old.items) shelf.old self.old)
-            command.now reply)) }
-        ensures keeps { Settles
-            (settled_over state shelf.old self.old)
-            (settled_over state shelf.new self.new) [] }
-        ensures unserved { result ≡ Ok (Reply.Refused Refusal.NoSegment)
-            → StepLacks (held_in state self.old)
-            (held_in state self.new) command.now }
-        ensures lacks { IfOk result (λ reply. StepLacksFor
-            (state_over state (rules_in D.rules kinds.old.items) shelf.old self.old)
-            (held_in state self.old) (held_in state self.new) command.now reply) }
+        requires { IsSessionOver state D.rules shelf.old self.old kinds.old.items }
+        ensures steps { StepsBy result
+            (moment state D.rules D.gone shelf.old self.old kinds.old.items)
+            (moment state D.rules D.gone shelf.new self.new kinds.new.items)
+            command.now (λ s. step s line command.now) }
+        ensures stays { Stays state D.rules shelf.old self.old kinds.old.items
+            shelf.new self.new kinds.new.items }
     {
         if let Some(name) = dict_of(command) {
             return self.run_on_dict(shelf, kinds, &name, command);
@@ -276,42 +213,16 @@ impl<D: DictDisc> Session<D> {
         line: u32,
         command: &Command,
     ) -> Result<Reply, OutOfMemory>
-        requires { IsSessionOver state (rules_in D.rules kinds.old.items) shelf.old self.old }
-        ensures step { IfOk result (λ reply. StepsTo
-            (state_over state (rules_in D.rules kinds.old.items) shelf.old self.old)
-            (gone_in D.gone kinds.old.items) line command.now reply
-            (state_over state (rules_in D.rules kinds.new.items) shelf.new self.new)
-            (gone_in D.gone kinds.new.items)) }
-        ensures rules { KeepRules D.rules kinds.old.items kinds.new.items }
-        ensures session { IsSessionOver state (rules_in D.rules kinds.new.items)
-            shelf.new self.new }
-
-        // With no memory nothing changes, now or later, but that the table of the command's dictionary may have grown.
-        ensures err { OnErr result
-            ((gone_in D.gone kinds.new.items ≡ gone_in D.gone kinds.old.items)
-            × IsCutOff
-            (state_over state (rules_in D.rules kinds.old.items) shelf.old self.old) command.now
-            (state_over state (rules_in D.rules kinds.new.items) shelf.new self.new)) }
+        requires { IsSessionOver state D.rules shelf.old self.old kinds.old.items }
+        ensures steps { StepsBy result
+            (moment state D.rules D.gone shelf.old self.old kinds.old.items)
+            (moment state D.rules D.gone shelf.new self.new kinds.new.items)
+            command.now (λ s. step s line command.now) }
+        ensures lasts { Lasts state D.rules shelf.old self.old kinds.old.items
+            shelf.new self.new kinds.new.items }
         ensures spent { IsTrue self.old.is_spent → OnOk result ⊥ }
         ensures stays_spent { OnErr result (IsTrue self.new.is_spent) }
         ensures not_spent { OnOk result (self.new.is_spent ≡ false) }
-
-        // The disciplines are the same, but for the faults of the one that refused. That one was asked for the segment
-        // that the block needs, and its room was below that, where it is told.
-        ensures settles { IfOk result (λ reply. Settles
-            (settled_over state shelf.old self.old)
-            (settled_over state shelf.new self.new)
-            (refusal_at (state_over state (rules_in D.rules kinds.old.items)
-            shelf.old self.old) command.now reply)) }
-        ensures keeps { Settles
-            (settled_over state shelf.old self.old)
-            (settled_over state shelf.new self.new) [] }
-        ensures unserved { result ≡ Ok (Reply.Refused Refusal.NoSegment)
-            → StepLacks (held_in state self.old)
-            (held_in state self.new) command.now }
-        ensures lacks { IfOk result (λ reply. StepLacksFor
-            (state_over state (rules_in D.rules kinds.old.items) shelf.old self.old)
-            (held_in state self.old) (held_in state self.new) command.now reply) }
     {
         if self.is_spent {
             return Err(OutOfMemory);
@@ -339,7 +250,7 @@ impl<D: DictDisc> Session<D> {
     /// Shuts every dictionary and closes every region, and gives each discipline back to its place. It cannot fail. Both
     /// go in order of opening; the kinds are told of all objects, and each region gives its segments back in ascending order of number.
     pub fn end(self, shelf: &mut Shelf, kinds: &mut Vec<D>)
-        requires { IsSessionOver state (rules_in D.rules kinds.old.items) shelf.old self }
+        requires { IsSessionOver state D.rules shelf.old self kinds.old.items }
         ensures shelf { accounts_on state shelf.new ≡ settled_over state shelf.old self }
         ensures gone { gone_in D.gone kinds.new.items ≡ tell
             (ended_told (state_over state (rules_in D.rules kinds.old.items) shelf.old self))

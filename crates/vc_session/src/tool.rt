@@ -1,11 +1,12 @@
 // The top calls: a script from a source, its replies to one sink, a fault to another.
-ghost use Rattle.std.specs.Prelude.{◌≡◌, ◌<◌, ◌≤◌, [], None, IfSome, IfOk, IfErr, OnErr, OnOk, length};
-ghost use Rattle.vc_model.specs.Count.{Rose};
+ghost use Rattle.std.specs.Prelude.{◌≡◌, ◌<◌, ◌≤◌, [], OnErr, OnOk, length};
 ghost use Rattle.vc_script.specs.declared.tool.Tool.TheVariants.{Dtrun, Vmreplay};
+ghost use Rattle.vc_session.specs.Engine.{RunsScript};
 ghost use Rattle.vc_session.specs.Headline.{Headline};
-ghost use Rattle.vc_session.specs.Moment.{Keeps, at_rest};
-ghost use Rattle.vc_session.specs.Replay.{Broke, IsCutShort, IsReplay, Told, err_line, fault_text, message, tool_name};
-ghost use Rattle.vc_session.specs.Told.{KeepRules, gone_in, rules_in};
+ghost use Rattle.vc_session.specs.Moment.{Keeps, rest_by, rest_of};
+ghost use Rattle.vc_session.specs.Replay.{Broke, Told, err_line, fault_text, message, tool_name};
+ghost use Rattle.vc_session.specs.Streams.{flows, streams};
+ghost use Rattle.vc_session.specs.Told.{KeepRules};
 
 use crate::Status;
 use crate::engine::{Stop, run_lines};
@@ -28,31 +29,15 @@ fn run_source<D: DictDisc, S: Source, O: Sink>(
     source: &mut S,
     out: &mut O,
 ) -> Result<Option<(u32, LineFault)>, Stop>
-    ensures replay { IfOk result (λ bad. IfSome (S.left source.old) (λ input. IsReplay tool
-        (at_rest state (rules_in D.rules kinds.old.items) (gone_in D.gone kinds.old.items)
-        shelf.old (O.written out.old))
-        (at_rest state (rules_in D.rules kinds.new.items) (gone_in D.gone kinds.new.items)
-        shelf.new (O.written out.new))
-        input bad (S.left source.new))) }
-    ensures cut_short { IfErr result (λ stop. stop ≡ Stop.Read
-        → IfSome (S.left source.old) (λ input. IsCutShort tool
-        (at_rest state (rules_in D.rules kinds.old.items) (gone_in D.gone kinds.old.items)
-        shelf.old (O.written out.old))
-        (at_rest state (rules_in D.rules kinds.new.items) (gone_in D.gone kinds.new.items)
-        shelf.new (O.written out.new))
-        input (S.left source.new))) }
-    ensures read { IfErr result (λ stop. stop ≡ Stop.Read
-        → Rose (S.failures source.old) (S.failures source.new)) }
-    ensures write { IfErr result (λ stop. stop ≡ Stop.Write
-        → Rose (O.failures out.old) (O.failures out.new)) }
+    ensures runs { RunsScript tool result
+        (rest_of state D.rules D.gone shelf.old kinds.old.items)
+        (rest_of state D.rules D.gone shelf.new kinds.new.items)
+        (flows S.left S.failures O.written O.failures source.old out.old)
+        (flows S.left S.failures O.written O.failures source.new out.new) }
     ensures keeps { Keeps
-        (at_rest state (rules_in D.rules kinds.old.items) (gone_in D.gone kinds.old.items)
-        shelf.old None)
-        (at_rest state (rules_in D.rules kinds.new.items) (gone_in D.gone kinds.new.items)
-        shelf.new None) }
+        (rest_of state D.rules D.gone shelf.old kinds.old.items)
+        (rest_of state D.rules D.gone shelf.new kinds.new.items) }
     ensures rules { KeepRules D.rules kinds.old.items kinds.new.items }
-    ensures reads { S.failures source.old ≤ S.failures source.new }
-    ensures writes { O.failures out.old ≤ O.failures out.new }
 {
     let mut cutter = LineCutter::new(alloc)?;
     let mut replies = Vec::new(alloc);
@@ -147,42 +132,16 @@ fn run_tool<D: DictDisc, S: Source, O: Sink, E: Sink>(
     out: &mut O,
     err: &mut E,
 ) -> Status
-    // What is read and written by each status.
     ensures headline { Headline tool (length words.now)
-        (at_rest state (rules_in D.rules kinds.old.items) (gone_in D.gone kinds.old.items)
-        shelf.old None)
-        (at_rest state (rules_in D.rules kinds.new.items) (gone_in D.gone kinds.new.items)
-        shelf.new None)
-        (record {
-          left = S.left source.old;
-          reads = S.failures source.old;
-          written = O.written out.old;
-          writes = O.failures out.old;
-          told = E.written err.old;
-          errors = E.failures err.old;
-        })
-        (record {
-          left = S.left source.new;
-          reads = S.failures source.new;
-          written = O.written out.new;
-          writes = O.failures out.new;
-          told = E.written err.new;
-          errors = E.failures err.new;
-        })
-        result }
-
-    // Where nothing was wrong err has nothing, and with words nothing but err is touched.
+        (rest_of state D.rules D.gone shelf.old kinds.old.items)
+        (rest_of state D.rules D.gone shelf.new kinds.new.items)
+        (streams S.left S.failures O.written O.failures E.written E.failures
+        source.old out.old err.old)
+        (streams S.left S.failures O.written O.failures E.written E.failures
+        source.new out.new err.new) result }
     ensures quiet { result ≡ Status.Ok → err.new ≡ err.old }
     ensures words { 0 < length words.now → (source.new ≡ source.old) × (out.new ≡ out.old)
         × (shelf.new ≡ shelf.old) × (kinds.new ≡ kinds.old) }
-
-    // On every exit each place has its discipline, with the segments out and the terms that it had, and no fault less.
-    ensures keeps { Keeps
-        (at_rest state (rules_in D.rules kinds.old.items) (gone_in D.gone kinds.old.items)
-        shelf.old None)
-        (at_rest state (rules_in D.rules kinds.new.items) (gone_in D.gone kinds.new.items)
-        shelf.new None) }
-    ensures rules { KeepRules D.rules kinds.old.items kinds.new.items }
 {
     if !words.is_empty() {
         return match tell(err, tool, "bad arguments") {
@@ -213,7 +172,8 @@ fn run_tool<D: DictDisc, S: Source, O: Sink, E: Sink>(
 
 /// Runs the script that the source gives over the disciplines of a shelf, and ends with a status. The source is read in
 /// pieces of at most 4,096 bytes. The replies to the lines of one piece are gathered and go to `out` before the next read;
-/// gathering them takes memory. A fault goes to `err`, as one line.
+/// gathering them takes memory. A fault goes to `err`, as one line. Where nothing was wrong nothing is written to `err`, and
+/// with words nothing but `err` is touched.
 pub fn replay<S: Source, O: Sink, E: Sink>(
     alloc: Global,
     words: &[String],
@@ -222,37 +182,15 @@ pub fn replay<S: Source, O: Sink, E: Sink>(
     out: &mut O,
     err: &mut E,
 ) -> Status
-    // What is read and written by each status.
     ensures headline { Headline Vmreplay (length words.now)
-        (at_rest state [] [] shelf.old None)
-        (at_rest state [] [] shelf.new None)
-        (record {
-          left = S.left source.old;
-          reads = S.failures source.old;
-          written = O.written out.old;
-          writes = O.failures out.old;
-          told = E.written err.old;
-          errors = E.failures err.old;
-        })
-        (record {
-          left = S.left source.new;
-          reads = S.failures source.new;
-          written = O.written out.new;
-          writes = O.failures out.new;
-          told = E.written err.new;
-          errors = E.failures err.new;
-        })
-        result }
-
-    // Where nothing was wrong err has nothing, and with words nothing but err is touched.
+        (rest_by state [] [] shelf.old) (rest_by state [] [] shelf.new)
+        (streams S.left S.failures O.written O.failures E.written E.failures
+        source.old out.old err.old)
+        (streams S.left S.failures O.written O.failures E.written E.failures
+        source.new out.new err.new) result }
     ensures quiet { result ≡ Status.Ok → err.new ≡ err.old }
     ensures words { 0 < length words.now → (source.new ≡ source.old) × (out.new ≡ out.old)
         × (shelf.new ≡ shelf.old) }
-
-    // On every exit each place has its discipline, with the segments out and the terms that it had, and no fault less.
-    ensures keeps { Keeps
-        (at_rest state [] [] shelf.old None)
-        (at_rest state [] [] shelf.new None) }
 {
     let mut kinds: Vec<BuiltIn> = Vec::new(alloc);
     run_tool(
@@ -278,42 +216,16 @@ pub fn dtrun<D: DictDisc, S: Source, O: Sink, E: Sink>(
     out: &mut O,
     err: &mut E,
 ) -> Status
-    // What is read and written by each status.
     ensures headline { Headline Dtrun (length words.now)
-        (at_rest state (rules_in D.rules kinds.old.items) (gone_in D.gone kinds.old.items)
-        shelf.old None)
-        (at_rest state (rules_in D.rules kinds.new.items) (gone_in D.gone kinds.new.items)
-        shelf.new None)
-        (record {
-          left = S.left source.old;
-          reads = S.failures source.old;
-          written = O.written out.old;
-          writes = O.failures out.old;
-          told = E.written err.old;
-          errors = E.failures err.old;
-        })
-        (record {
-          left = S.left source.new;
-          reads = S.failures source.new;
-          written = O.written out.new;
-          writes = O.failures out.new;
-          told = E.written err.new;
-          errors = E.failures err.new;
-        })
-        result }
-
-    // Where nothing was wrong err has nothing, and with words nothing but err is touched.
+        (rest_of state D.rules D.gone shelf.old kinds.old.items)
+        (rest_of state D.rules D.gone shelf.new kinds.new.items)
+        (streams S.left S.failures O.written O.failures E.written E.failures
+        source.old out.old err.old)
+        (streams S.left S.failures O.written O.failures E.written E.failures
+        source.new out.new err.new) result }
     ensures quiet { result ≡ Status.Ok → err.new ≡ err.old }
     ensures words { 0 < length words.now → (source.new ≡ source.old) × (out.new ≡ out.old)
         × (shelf.new ≡ shelf.old) × (kinds.new ≡ kinds.old) }
-
-    // On every exit each place has its discipline, with the segments out and the terms that it had, and no fault less.
-    ensures keeps { Keeps
-        (at_rest state (rules_in D.rules kinds.old.items) (gone_in D.gone kinds.old.items)
-        shelf.old None)
-        (at_rest state (rules_in D.rules kinds.new.items) (gone_in D.gone kinds.new.items)
-        shelf.new None) }
-    ensures rules { KeepRules D.rules kinds.old.items kinds.new.items }
 {
     run_tool(alloc, Tool::Dtrun, words, shelf, kinds, source, out, err)
 }

@@ -29,6 +29,8 @@ impl HomeEntry {
             self.old labels.old (region_with self.new labels.new) result }
         ensures change { Leaves state (Command.ClearRegion name)
             self.old labels.old self.new labels.new }
+        ensures faults { (disc_in state self.new.region).faults
+            ≡ (disc_in state self.old.region).faults }
     {
         labels.clear(keeps_freed(&self.region), line);
         self.region.clear();
@@ -47,6 +49,8 @@ impl HomeEntry {
         ensures change { (labels : Labels) → IsNamed (rest_in self.old.region) labels
             → Changes state
             self.old labels self.new labels }
+        ensures faults { (disc_in state self.new.region).faults
+            ≡ (disc_in state self.old.region).faults }
     {
         Reply::Compacted(name, self.region.compact())
     }

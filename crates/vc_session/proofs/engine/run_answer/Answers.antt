@@ -8,5 +8,5 @@ on_ok-map (Err e) f holds = tt
 pub returns-clause-ran : goal.returns-clause-ran
 returns-clause-ran g c =
     on_ok-map c.gather.result
-    (λ told. record { reply = c.in_ok-reply.reply; steps = c.in_ok-reply.ensures.step; told = told; settles = c.in_ok-reply.ensures.settles })
+    (λ told. record { reply = c.in_ok-reply.reply; steps = let s = c.in_ok-reply.ensures.steps in record { gives = s.gives; settles = s.settles; lacks = s.lacks }; told = told })
     c.gather.ensures

@@ -1,13 +1,23 @@
 use Rattle.std.proofs.Common.{sym, ◌∙◌, refl}
+use Rattle.vc_session.proofs.Lasting.{lasts-same}
 use Rattle.vc_session.proofs.Settling.{settles-same}
 use Rattle.vc_session.proofs.engine.run_line.Goals as goal
 
 pub returns-in-Blank-clause-ran : goal.returns-in-Blank-clause-ran
 returns-in-Blank-clause-ran g c =
     rw (sym c.in_ok-read_line.ensures.value ∙ c.in-Blank.is)
-    (refl, record { state = refl; told = refl; keeps = settles-same _; gone = refl })
+    (refl, record { state = refl; told = refl; settles = settles-same _; gone = refl })
 
 pub returns-in-Bad-clause-ran : goal.returns-in-Bad-clause-ran
 returns-in-Bad-clause-ran g c =
     rw (sym c.in_ok-read_line.ensures.value ∙ c.in-Bad.is)
-    (refl, record { state = refl; told = refl; keeps = settles-same _; gone = refl })
+    (refl, record { state = refl; told = refl; settles = settles-same _; gone = refl })
+
+pub returns-in_err-read_line-clause-lasts : goal.returns-in_err-read_line-clause-lasts
+returns-in_err-read_line-clause-lasts g c = lasts-same c.requires
+
+pub returns-in-Blank-clause-lasts : goal.returns-in-Blank-clause-lasts
+returns-in-Blank-clause-lasts g c = lasts-same c.requires
+
+pub returns-in-Bad-clause-lasts : goal.returns-in-Bad-clause-lasts
+returns-in-Bad-clause-lasts g c = lasts-same c.requires

@@ -1,11 +1,8 @@
-use Rattle.std.proofs.Common.{◌≡◌, ◌≤◌, ℕ, List, [], None, length}
-use Rattle.std.specs.Prelude.{IsTrue}
-use Rattle.vc_script.specs.Cutting.{IsCutting}
-use Rattle.vc_session.specs.Homes.{IsSessionOver}
-use Rattle.vc_session.specs.Moment.{Keeps, moment}
+use Rattle.std.proofs.Common.{◌≡◌, ◌≤◌, ℕ, List, [], length}
+use Rattle.vc_session.specs.Moment.{moment, over_sink}
 use Rattle.vc_session.specs.Replay.{Told}
-use Rattle.vc_session.specs.SoFar.{SoFar, fuel}
-use Rattle.vc_session.specs.Told.{rules_in}
+use Rattle.vc_session.specs.SoFar.{CanFeed, SoFar, fuel}
+use Rattle.vc_session.specs.Steps.{Lasts}
 use Rattle.vc_session.proofs.engine.run_lines.Given as goal
 
 -- what was read is run, up to the line that has begun, and its replies are written
@@ -14,19 +11,14 @@ invariant-loop-n g l =
     record {
       room : length l.buf ≡ 4096;
       none : l.replies.items ≡ [];
-      fed : IsTrue l.cutter.is_open;
-      cutting : IsCutting l.cutter;
-      session : IsSessionOver (λ z. (goal.SegDisc-dyn g z).state z.1) (rules_in g.D.DictDisc.rules l.kinds.items) l.shelf l.session;
-      rules : rules_in g.D.DictDisc.rules l.kinds.items ≡ rules_in g.D.DictDisc.rules l.fn.kinds.items;
+      feeds : CanFeed l.cutter;
+      lasts : Lasts (λ z. (goal.SegDisc-dyn g z).state z.1) g.D.DictDisc.rules l.fn.shelf l.fn.session l.fn.kinds.items l.shelf l.session l.kinds.items;
       text : List ℕ;
       so_far : SoFar l.tool
-          (moment (λ z. (goal.SegDisc-dyn g z).state z.1) g.D.DictDisc.rules g.D.DictDisc.gone l.fn.shelf l.fn.session l.fn.kinds.items (g.O.Sink.written l.fn.out))
-          (moment (λ z. (goal.SegDisc-dyn g z).state z.1) g.D.DictDisc.rules g.D.DictDisc.gone l.shelf l.session l.kinds.items (g.O.Sink.written l.out))
+          (over_sink (moment (λ z. (goal.SegDisc-dyn g z).state z.1) g.D.DictDisc.rules g.D.DictDisc.gone l.fn.shelf l.fn.session l.fn.kinds.items) (g.O.Sink.written l.fn.out))
+          (over_sink (moment (λ z. (goal.SegDisc-dyn g z).state z.1) g.D.DictDisc.rules g.D.DictDisc.gone l.shelf l.session l.kinds.items) (g.O.Sink.written l.out))
           text (g.S.Source.left l.fn.source) (g.S.Source.left l.source) l.cutter [];
       told : Told (g.O.Sink.written l.fn.out) (g.O.Sink.written l.out) text;
-      keeps : Keeps
-          (moment (λ z. (goal.SegDisc-dyn g z).state z.1) g.D.DictDisc.rules g.D.DictDisc.gone l.fn.shelf l.fn.session l.fn.kinds.items None)
-          (moment (λ z. (goal.SegDisc-dyn g z).state z.1) g.D.DictDisc.rules g.D.DictDisc.gone l.shelf l.session l.kinds.items None);
       reads : g.S.Source.failures l.fn.source ≤ g.S.Source.failures l.source;
       writes : g.O.Sink.failures l.fn.out ≤ g.O.Sink.failures l.out;
     }

@@ -1,21 +1,17 @@
-use Rattle.std.proofs.Common.{◌+◌, sym, ap, ◌∙◌, refl, subst, arith, None}
+use Rattle.std.proofs.Common.{◌+◌, sym, ap, ◌∙◌, refl, rules, subst, arith, None}
 use Rattle.std.specs.Prelude.{IsTrue}
 use Rattle.std.proofs.lemmas.List.{length-drop, take_rest}
 use Rattle.vc_script.specs.Answer.{answer}
 use Rattle.vc_session.specs.SoFar.{Ends}
-use Rattle.vc_session.proofs.Running.{line-keeps}
-use Rattle.vc_session.proofs.Settling.{settles-same}
+use Rattle.vc_session.proofs.Lasting.{lasts-same, lasts-trans}
 use Rattle.vc_session.proofs.SoFar.{fed-is, more-kept, ok-some, so_far-bad_cut, so_far-bad_line, so_far-line, so_far-more, so_far-none, whole-kept}
 use Rattle.vc_session.proofs.engine.run_piece.Goals as goal
 
 pub loop-rest-init : goal.loop-rest-init
 loop-rest-init g c = record {
-  fed = c.requires.fed;
-  cutting = c.requires.cutting;
-  session = c.requires.session;
-  rules = refl;
+  feeds = c.requires.feeds;
+  lasts = lasts-same c.requires.session;
   goes_on = record { on = λ r. so_far-none _ c.requires.none r };
-  keeps = settles-same _;
   less = omega arith;
 }
 
@@ -24,53 +20,58 @@ loop-rest-preserved-in-More g c =
     let inv = c.loop-rest.invariant in
     let next = c.feed-cut.new.self in
     let e = fed-is c.loop-rest.cutter c.loop-rest.rest.now next _ _ c.feed-cut.result.1 c.feed-cut.ensures.fed c.in-More.is in
-    let kept = more-kept c.loop-rest.cutter c.loop-rest.rest.now next c.feed-cut.result.1 inv.cutting e in
+    let kept = more-kept c.loop-rest.cutter c.loop-rest.rest.now next c.feed-cut.result.1 inv.feeds.cutting e in
     rw take_rest
     (record {
-      fed = subst IsTrue (sym kept.fed) inv.fed;
-      cutting = kept.cutting;
-      session = inv.session;
-      rules = inv.rules;
-      goes_on = record { on = λ r. so_far-more next c.feed-cut.result.1 inv.cutting (inv.goes_on.on r) e };
-      keeps = inv.keeps;
+      feeds = record { is_open = subst IsTrue (sym kept.fed) inv.feeds.is_open; cutting = kept.cutting };
+      lasts = inv.lasts;
+      goes_on = record { on = λ r. so_far-more next c.feed-cut.result.1 inv.feeds.cutting (inv.goes_on.on r) e };
       less = omega (arith, inv.less, kept.less, c.feed-cut.ensures.within, length-drop c.feed-cut.result.1 c.loop-rest.rest.now);
     })
 
-pub returns-in-Bad-clause-bad : goal.returns-in-Bad-clause-bad
-returns-in-Bad-clause-bad g c = λ bad same.
+pub returns-in-Bad-clause-runs : goal.returns-in-Bad-clause-runs
+returns-in-Bad-clause-runs g c =
     let inv = c.loop-rest.invariant in
     let next = c.feed-cut.new.self in
     let e = fed-is c.loop-rest.cutter c.loop-rest.rest.now next _ _ c.feed-cut.result.1 c.feed-cut.ensures.fed c.in-Bad.is in
-    subst (Ends _ _ _ _ _ _) (ap (λ n. (n + 1, c.in-Bad.fault)) (sym c.number.ensures.value) ∙ ok-some (c.number.result + 1, c.in-Bad.fault) bad same)
-    (record { end = λ after r written. so_far-bad_cut next c.feed-cut.result.1 inv.cutting c.in-Bad.fault after (inv.goes_on.on r) e written })
+    record {
+      good = λ is. absurd (cc is);
+      bad = λ bad same.
+          subst (Ends _ _ _ _ _ _) (ap (λ n. (n + 1, c.in-Bad.fault)) (sym c.number.ensures.value) ∙ ok-some (c.number.result + 1, c.in-Bad.fault) bad same)
+          (record { end = λ after r written. so_far-bad_cut next c.feed-cut.result.1 inv.feeds.cutting c.in-Bad.fault after (inv.goes_on.on r) e written });
+      open_is = λ is. absurd (cc is);
+      less = λ is. absurd (cc is);
+    }
 
-pub returns-in-Some-clause-bad : goal.returns-in-Some-clause-bad
-returns-in-Some-clause-bad g c = λ bad same.
+pub returns-in-Some-clause-runs : goal.returns-in-Some-clause-runs
+returns-in-Some-clause-runs g c =
     let inv = c.loop-rest.invariant in
     let next = c.feed-cut.new.self in
     let e = fed-is c.loop-rest.cutter c.loop-rest.rest.now next _ _ c.feed-cut.result.1 c.feed-cut.ensures.fed c.in-Whole.is in
     let ran = rw (c.line.ensures, c.number-in-Whole.ensures.value, c.in-Some.is) at c.in_ok-fault-in-Whole.ensures.ran in
-    subst (Ends _ _ _ _ _ _) (ap (λ n. (n, c.in-Some.fault)) (sym c.number-in-Some.ensures.value) ∙ ok-some (c.number-in-Some.result, c.in-Some.fault) bad same)
-    (record { end = λ after r written. so_far-bad_line _ _ _ _ next c.feed-cut.result.1 c.in-Some.fault after refl refl inv.cutting (inv.goes_on.on r) e ran written })
+    record {
+      good = λ is. absurd (cc is);
+      bad = λ bad same.
+          subst (Ends _ _ _ _ _ _) (ap (λ n. (n, c.in-Some.fault)) (sym c.number-in-Some.ensures.value) ∙ ok-some (c.number-in-Some.result, c.in-Some.fault) bad same)
+          (record { end = λ after r written. so_far-bad_line _ _ _ _ next c.feed-cut.result.1 c.in-Some.fault after refl refl inv.feeds.cutting (inv.goes_on.on r) e ran written });
+      open_is = λ is. absurd (cc is);
+      less = λ is. absurd (cc is);
+    }
 
-pub returns-in-Some-clause-keeps : goal.returns-in-Some-clause-keeps
-returns-in-Some-clause-keeps g c =
-    line-keeps _ _ _ (answer c.args.tool c.line.result.now) c.in_ok-fault-in-Whole.field-0 _ c.in_ok-fault-in-Whole.ensures.ran c.loop-rest.invariant.keeps
+pub returns-in-Some-clause-lasts : goal.returns-in-Some-clause-lasts
+returns-in-Some-clause-lasts g c = lasts-trans c.loop-rest.invariant.lasts c.run_line.ensures.lasts
 
 pub loop-rest-preserved : goal.loop-rest-preserved
 loop-rest-preserved g c =
     let inv = c.loop-rest.invariant in
     let next = c.feed-cut.new.self in
     let e = fed-is c.loop-rest.cutter c.loop-rest.rest.now next _ _ c.feed-cut.result.1 c.feed-cut.ensures.fed c.in-Whole.is in
-    let kept = whole-kept c.loop-rest.cutter c.loop-rest.rest.now next c.feed-cut.result.1 inv.cutting e in
+    let kept = whole-kept c.loop-rest.cutter c.loop-rest.rest.now next c.feed-cut.result.1 inv.feeds.cutting e in
     let ran = rw (c.line.ensures, c.number-in-Whole.ensures.value, c.in-None.is) at c.in_ok-fault-in-Whole.ensures.ran in
     rw take_rest
     (record {
-      fed = subst IsTrue (sym kept.fed) inv.fed;
-      cutting = kept.cutting;
-      session = c.run_line.ensures.session;
-      rules = c.run_line.ensures.rules ∙ inv.rules;
-      goes_on = record { on = λ r. so_far-line _ _ _ _ next c.feed-cut.result.1 refl refl inv.cutting (inv.goes_on.on r) e ran };
-      keeps = line-keeps _ _ _ (answer c.args.tool next.line) None _ ran inv.keeps;
+      feeds = record { is_open = subst IsTrue (sym kept.fed) inv.feeds.is_open; cutting = kept.cutting };
+      lasts = lasts-trans inv.lasts c.run_line.ensures.lasts;
+      goes_on = record { on = λ r. so_far-line _ _ _ _ next c.feed-cut.result.1 refl refl inv.feeds.cutting (inv.goes_on.on r) e ran };
       less = omega (arith, inv.less, kept.less, c.feed-cut.ensures.within, length-drop c.feed-cut.result.1 c.loop-rest.rest.now);
     })

@@ -3,10 +3,6 @@ use Rattle.std.specs.Fmt.{digits}
 use Rattle.percent_encoding.specs.Percent.{percent_decode}
 use Rattle.vc_session.proofs.run_rows.parse.Goals as goal
 
-pub returns-clause-replies : goal.returns-clause-replies
+pub returns : goal.returns
 unfolding digits percent_decode
-returns-clause-replies c = refl
-
-pub returns-clause-state : goal.returns-clause-state
-unfolding digits percent_decode
-returns-clause-state c = refl
+returns c = refl

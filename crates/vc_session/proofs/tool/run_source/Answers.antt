@@ -1,9 +1,8 @@
-use Rattle.std.proofs.Common.{◌≡◌, refl}
+use Rattle.std.proofs.Common.{◌≡◌, refl, ◌∙◌, subst, sym}
 use Rattle.vc_model.specs.Discipline.{Discipline}
-use Rattle.vc_session.specs.Moment.{at_rest, ended, moment}
-use Rattle.vc_session.specs.Told.{gone_in, rules_in}
-use Rattle.vc_session.specs.declared.engine.Stop.TheVariants.{Read}
-use Rattle.vc_session.proofs.Rest.{cuts, new-moment, new-proper, new-session, replays}
+use Rattle.vc_session.specs.Account.{KeepsAccounts}
+use Rattle.vc_session.specs.Moment.{Moment, ended, moment, rest_of}
+use Rattle.vc_session.proofs.Rest.{new-moment, new-session, runs-rest}
 use Rattle.vc_session.proofs.tool.run_source.Given as given
 use Rattle.vc_session.proofs.tool.run_source.Goals as goal
 
@@ -14,30 +13,22 @@ pub run_lines-ended-requires-clause-session : goal.run_lines-ended-requires-clau
 run_lines-ended-requires-clause-session g c =
     new-session (meaning g) g.D.DictDisc.rules g.D.DictDisc.gone c.args.shelf.now c.in_ok-session.session c.args.kinds.now.items c.in_ok-session.ensures.none
 
-pub run_lines-ended-requires-clause-proper : goal.run_lines-ended-requires-clause-proper
-run_lines-ended-requires-clause-proper g c =
-    new-proper (meaning g) g.D.DictDisc.rules g.D.DictDisc.gone c.args.shelf.now c.in_ok-session.session c.args.kinds.now.items c.in_ok-session.ensures.none
-
-pub returns-clause-replay : goal.returns-clause-replay
-returns-clause-replay g c =
-    replays c.args.tool
-    (moment (meaning g) g.D.DictDisc.rules g.D.DictDisc.gone c.args.shelf.now c.in_ok-session.session c.args.kinds.now.items (g.O.Sink.written c.args.out.now))
-    (at_rest (meaning g) (rules_in g.D.DictDisc.rules c.args.kinds.now.items) (gone_in g.D.DictDisc.gone c.args.kinds.now.items) c.args.shelf.now (g.O.Sink.written c.args.out.now))
-    (ended (moment (meaning g) g.D.DictDisc.rules g.D.DictDisc.gone c.run_lines-ended.new.shelf c.run_lines-ended.new.session c.run_lines-ended.new.kinds.items (g.O.Sink.written c.run_lines-ended.new.out)))
-    (at_rest (meaning g) (rules_in g.D.DictDisc.rules c.end.new.kinds.items) (gone_in g.D.DictDisc.gone c.end.new.kinds.items) c.end.new.shelf (g.O.Sink.written c.run_lines-ended.new.out))
-    (g.S.Source.left c.args.source.now) (g.S.Source.left c.run_lines-ended.new.source)
-    (new-moment (meaning g) g.D.DictDisc.rules g.D.DictDisc.gone c.args.shelf.now c.in_ok-session.session c.args.kinds.now.items c.in_ok-session.ensures.none (g.O.Sink.written c.args.out.now))
-    (record { written = refl; accounts = c.end.ensures.shelf; gone = c.end.ensures.gone })
-    _ c.run_lines-ended.ensures.replay
-
-pub returns-clause-cut_short : goal.returns-clause-cut_short
-returns-clause-cut_short g c =
-    cuts c.args.tool
-    (moment (meaning g) g.D.DictDisc.rules g.D.DictDisc.gone c.args.shelf.now c.in_ok-session.session c.args.kinds.now.items (g.O.Sink.written c.args.out.now))
-    (at_rest (meaning g) (rules_in g.D.DictDisc.rules c.args.kinds.now.items) (gone_in g.D.DictDisc.gone c.args.kinds.now.items) c.args.shelf.now (g.O.Sink.written c.args.out.now))
-    (ended (moment (meaning g) g.D.DictDisc.rules g.D.DictDisc.gone c.run_lines-ended.new.shelf c.run_lines-ended.new.session c.run_lines-ended.new.kinds.items (g.O.Sink.written c.run_lines-ended.new.out)))
-    (at_rest (meaning g) (rules_in g.D.DictDisc.rules c.end.new.kinds.items) (gone_in g.D.DictDisc.gone c.end.new.kinds.items) c.end.new.shelf (g.O.Sink.written c.run_lines-ended.new.out))
-    (g.S.Source.left c.args.source.now) (g.S.Source.left c.run_lines-ended.new.source)
-    (new-moment (meaning g) g.D.DictDisc.rules g.D.DictDisc.gone c.args.shelf.now c.in_ok-session.session c.args.kinds.now.items c.in_ok-session.ensures.none (g.O.Sink.written c.args.out.now))
-    (record { written = refl; accounts = c.end.ensures.shelf; gone = c.end.ensures.gone })
-    _ (λ stop. stop ≡ Read) c.run_lines-ended.ensures.cut_short
+pub returns : goal.returns
+returns g c =
+    let M = meaning g in
+    let rules = g.D.DictDisc.rules in
+    let gone = g.D.DictDisc.gone in
+    let start = moment M rules gone c.args.shelf.now c.in_ok-session.session c.args.kinds.now.items in
+    let last = moment M rules gone c.run_lines-ended.new.shelf c.run_lines-ended.new.session c.run_lines-ended.new.kinds.items in
+    let before = rest_of M rules gone c.args.shelf.now c.args.kinds.now.items in
+    let after = rest_of M rules gone c.end.new.shelf c.end.new.kinds.items in
+    let same : start ≡ before = new-moment M rules gone c.args.shelf.now c.in_ok-session.session c.args.kinds.now.items c.in_ok-session.ensures.none in
+    record {
+      runs =
+          runs-rest c.args.tool start before (ended last) after _ _ c.run_lines-ended.result same
+          (λ written. record { written = refl; accounts = c.end.ensures.shelf; gone = c.end.ensures.gone }) c.run_lines-ended.ensures.runs;
+      keeps =
+          subst (λ a. KeepsAccounts before.accounts a) (sym c.end.ensures.shelf)
+          (subst (λ (m : Moment). KeepsAccounts m.accounts last.accounts) same c.run_lines-ended.ensures.lasts.accounts);
+      rules = c.end.ensures.rules ∙ c.run_lines-ended.ensures.lasts.keeps_rules;
+    }

@@ -1,4 +1,5 @@
-use Rattle.std.proofs.Common.{rules, inr}
+use Rattle.std.proofs.Common.{rules, refl, inr}
+use Rattle.vc_session.proofs.Settling.{keeps-same}
 use Rattle.vc_session.proofs.tool.run_tool.Goals as goal
 
 pub returns-in-Ok-clause-headline : goal.returns-in-Ok-clause-headline
@@ -13,6 +14,8 @@ returns-in-Ok-clause-headline g c = record {
   memory = λ other. absurd (cc other);
   reads = search rules;
   writes = search rules;
+  keeps = keeps-same _;
+  rules = refl;
 }
 
 pub returns-in-Err-clause-headline : goal.returns-in-Err-clause-headline
@@ -27,6 +30,8 @@ returns-in-Err-clause-headline g c = record {
   memory = λ other. absurd (cc other);
   reads = search rules;
   writes = search rules;
+  keeps = keeps-same _;
+  rules = refl;
 }
 
 pub returns-in-Ok-None-clause-headline : goal.returns-in-Ok-None-clause-headline
@@ -39,22 +44,26 @@ returns-in-Ok-None-clause-headline g c = record {
   cut_short = λ other. absurd (cc other);
   write = λ other. absurd (cc other);
   memory = λ other. absurd (cc other);
-  reads = c.in-Ok-None.ensures.reads;
+  reads = c.in-Ok-None.ensures.runs.reads;
   writes = search rules;
+  keeps = c.in-Ok-None.ensures.keeps;
+  rules = c.in-Ok-None.ensures.rules;
 }
 
 pub returns-in-Ok-tell_fault-clause-headline : goal.returns-in-Ok-tell_fault-clause-headline
 returns-in-Ok-tell_fault-clause-headline g c = record {
   ok = λ other. absurd (cc other);
-  script = λ script. (search rules, ((c.in-Ok-Some.n, c.in-Ok-Some.fault), c.in-Ok-tell_fault.ensures.told, rw c.in-Ok-Some.field-0-is at c.in-Ok-Some.ensures.replay));
+  script = λ script. (search rules, ((c.in-Ok-Some.n, c.in-Ok-Some.fault), c.in-Ok-tell_fault.ensures.told, rw c.in-Ok-Some.field-0-is at c.in-Ok-Some.ensures.runs.replay));
   words_refused = search rules;
   usage = λ other. absurd (cc other);
   read = λ other. absurd (cc other);
   cut_short = λ other. absurd (cc other);
   write = λ other. absurd (cc other);
   memory = λ other. absurd (cc other);
-  reads = c.in-Ok-Some.ensures.reads;
-  writes = (c.in-Ok-Some.ensures.writes, c.in-Ok-tell_fault.ensures.never_falls);
+  reads = c.in-Ok-Some.ensures.runs.reads;
+  writes = (c.in-Ok-Some.ensures.runs.writes, c.in-Ok-tell_fault.ensures.never_falls);
+  keeps = c.in-Ok-Some.ensures.keeps;
+  rules = c.in-Ok-Some.ensures.rules;
 }
 
 pub returns-in-Err-tell_fault-clause-headline : goal.returns-in-Err-tell_fault-clause-headline
@@ -65,10 +74,12 @@ returns-in-Err-tell_fault-clause-headline g c = record {
   usage = λ other. absurd (cc other);
   read = λ other. absurd (cc other);
   cut_short = λ other. absurd (cc other);
-  write = λ write no_words. inr ((c.in-Ok-Some.n, c.in-Ok-Some.fault), c.in-Err-tell_fault.ensures.broke, rw c.in-Ok-Some.field-0-is at c.in-Ok-Some.ensures.replay);
+  write = λ write no_words. inr ((c.in-Ok-Some.n, c.in-Ok-Some.fault), c.in-Err-tell_fault.ensures.broke, rw c.in-Ok-Some.field-0-is at c.in-Ok-Some.ensures.runs.replay);
   memory = λ other. absurd (cc other);
-  reads = c.in-Ok-Some.ensures.reads;
-  writes = (c.in-Ok-Some.ensures.writes, c.in-Err-tell_fault.ensures.never_falls);
+  reads = c.in-Ok-Some.ensures.runs.reads;
+  writes = (c.in-Ok-Some.ensures.runs.writes, c.in-Err-tell_fault.ensures.never_falls);
+  keeps = c.in-Ok-Some.ensures.keeps;
+  rules = c.in-Ok-Some.ensures.rules;
 }
 
 pub returns-in-Err-Read-clause-headline : goal.returns-in-Err-Read-clause-headline
@@ -83,6 +94,8 @@ returns-in-Err-Read-clause-headline g c = record {
   memory = λ other. absurd (cc other);
   reads = search rules;
   writes = search rules;
+  keeps = c.run_source.ensures.keeps;
+  rules = c.run_source.ensures.rules;
 }
 
 pub returns-in-Err-Write-clause-headline : goal.returns-in-Err-Write-clause-headline
@@ -97,6 +110,8 @@ returns-in-Err-Write-clause-headline g c = record {
   memory = λ other. absurd (cc other);
   reads = search rules;
   writes = search rules;
+  keeps = c.run_source.ensures.keeps;
+  rules = c.run_source.ensures.rules;
 }
 
 pub returns-in-Err-Memory-clause-headline : goal.returns-in-Err-Memory-clause-headline
@@ -111,4 +126,6 @@ returns-in-Err-Memory-clause-headline g c = record {
   memory = search rules;
   reads = search rules;
   writes = search rules;
+  keeps = c.run_source.ensures.keeps;
+  rules = c.run_source.ensures.rules;
 }

@@ -12,7 +12,7 @@ use Rattle.vc_session.specs.Blocks.{align_refused, is_align, is_size, put_new}
 use Rattle.vc_session.specs.Step.{is_for_block}
 use Rattle.vc_session.specs.Homes.{held_of}
 use Rattle.vc_session.specs.Naming.{NamesPut, new_refused}
-use Rattle.vc_session.proofs.Answers.{change-same, gives-unchanged, if_ok-all, none-no_segment}
+use Rattle.vc_session.proofs.Answers.{put-served, change-same, gives-unchanged, if_ok-all, none-no_segment}
 use Rattle.vc_session.proofs.Found.{align-in, both-parts}
 use Rattle.vc_session.proofs.Names.{isnamed-same}
 use Rattle.vc_session.proofs.Putting.{align-commutes, new-name, align-legal, align-words, change-put, err-put, new-words, put_new-refused, refused-other, size-range, step-put, unserved-put}
@@ -115,3 +115,7 @@ pub name_put-requires-clause-new : goal.name_put-requires-clause-new
 name_put-requires-clause-new g c =
     c.reserve.ensures.same.by_name c.args.name
     ∙ new-name c.args.labels.now c.args.name c.align_refused-words.result (sym c.new_refused.ensures ∙ c.in-None.is)
+
+pub returns-in_ok-tag-in-None-clause-faults : goal.returns-in_ok-tag-in-None-clause-faults
+returns-in_ok-tag-in-None-clause-faults g c = λ other.
+    put-served _ c.args.name c.align.result _ _ c.name_put.result _ _ _ _ _ c.name_put.ensures c.align.ensures.disc other

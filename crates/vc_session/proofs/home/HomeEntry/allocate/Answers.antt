@@ -12,7 +12,7 @@ use Rattle.vc_session.specs.Blocks.{put_new, site_of, size_refused}
 use Rattle.vc_session.specs.Step.{is_for_block}
 use Rattle.vc_session.specs.Homes.{held_of}
 use Rattle.vc_session.specs.Naming.{NamesPut, new_refused}
-use Rattle.vc_session.proofs.Answers.{change-same, gives-unchanged, if_ok-all}
+use Rattle.vc_session.proofs.Answers.{put-served, change-same, gives-unchanged, if_ok-all}
 use Rattle.vc_session.proofs.Names.{isnamed-same}
 use Rattle.vc_session.proofs.Putting.{alloc-commutes, change-put, err-put, new-words, put_new-refused, size-legal, size-range, step-put, unserved-put}
 use Rattle.vc_session.proofs.Seen.{seen-alloc, seen-asks}
@@ -96,3 +96,7 @@ pub returns-in_err-tag-in-None-clause-change : goal.returns-in_err-tag-in-None-c
 returns-in_err-tag-in-None-clause-change g c = λ r.
     let h = held_of (meaning g) r c.args.self.now c.args.labels.now in
     change-same h c.reserve.new.self c.requires.lent (isnamed-same h.region h.labels c.reserve.new.self c.reserve.ensures.same c.reserve.ensures.agree c.requires.names)
+
+pub returns-in_ok-tag-in-None-clause-faults : goal.returns-in_ok-tag-in-None-clause-faults
+returns-in_ok-tag-in-None-clause-faults g c = λ other.
+    put-served _ c.args.name c.alloc.result _ _ c.name_put.result _ _ _ _ _ c.name_put.ensures c.alloc.ensures.disc other

@@ -14,7 +14,7 @@ use Rattle.vc_session.specs.Homes.{held_of}
 use Rattle.vc_session.specs.Labels.{MovesLabel, kept_of, name_of}
 use Rattle.vc_session.specs.State.{unchanged}
 use Rattle.vc_session.specs.declared.labels.Label.{Label}
-use Rattle.vc_session.proofs.Answers.{asks-kept, asks-out, asks-unserved, changed-by, gives-unchanged, if_ok-all, none-no_segment, told-no_segment}
+use Rattle.vc_session.proofs.Answers.{told-served, asks-kept, asks-out, asks-unserved, changed-by, gives-unchanged, if_ok-all, none-no_segment, told-no_segment}
 use Rattle.vc_session.proofs.Found.{on_block-none, the_block}
 use Rattle.vc_session.proofs.Resizing.{call, gives-place, gives-resized, named-resized, resize-size, step-fault}
 use Rattle.vc_region.proofs.RestFound.{has-rest}
@@ -119,3 +119,9 @@ returns-in-Err-clause-unserved g c = λ e.
     let disc = disc_in (meaning g) c.resize.new.self in
     asks-unserved c.in-Err.fault h.disc disc (segments_of h.region) (segments_of new) (region_need h.disc.terms h.region c.args.size 32) (told-no_segment c.in-Err.fault c.refused.result c.refused.ensures e)
     (seen-asks (Err c.in-Err.fault) h.disc disc (region_of c.args.self.now.region) (region_of c.resize.new.self) c.args.size 32 c.in-Err.ensures.disc)
+
+pub returns-in-Ok-clause-faults : goal.returns-in-Ok-clause-faults
+returns-in-Ok-clause-faults g c = λ other. c.in-Ok.ensures.disc.faults
+
+pub returns-in-Err-clause-faults : goal.returns-in-Err-clause-faults
+returns-in-Err-clause-faults g c = λ other. told-served c.in-Err.fault c.refused.result _ _ _ _ _ c.refused.ensures c.in-Err.ensures.disc other

@@ -9,9 +9,9 @@ pub loop-self-preserved : goal.loop-self-preserved
 loop-self-preserved g c =
     let M = meaning g in
     record {
-      session = c.close_at.ensures.session;
+      session = c.close_at.ensures.regions.regions;
       none =
           no-dicts (held_in M c.close_at.new.self) c.close_at.new.self.dicts.entries
-          (c.close_at.ensures.dicts [] (subst (AreDicts [] (held_in M c.loop-self.self)) (sym c.loop-self.invariant.none) tt));
+          (c.close_at.ensures.regions.dicts [] (subst (AreDicts [] (held_in M c.loop-self.self)) (sym c.loop-self.invariant.none) tt));
       settled = c.close_at.ensures.settled ∙ c.loop-self.invariant.settled;
     }

@@ -1,4 +1,4 @@
-use Rattle.std.proofs.Common.{◌≡◌, ◌-◌, Some, IfSome, set, length, arith, ap, ◌∙◌, subst, sym, false}
+use Rattle.std.proofs.Common.{◌≡◌, ◌<◌, ◌-◌, refl, Some, IfSome, set, length, arith, ap, ◌∙◌, subst, sym, false}
 use Rattle.std.specs.Prelude.{remove}
 use Rattle.vc_model.specs.Discipline.{Discipline}
 use Rattle.vc_region.specs.Region.{segments_of}
@@ -16,117 +16,60 @@ use Rattle.vc_session.proofs.session.Session.close_at.Goals as goal
 abbrev meaning : (g : given.Over) → (x : g.dyn-1.0.I) × (g.dyn-1.0.entry x).0.Denot → Discipline
 meaning g p = (g.dyn-1.0.entry p.0).1.state p.1
 
-pub close_region-requires-clause-taken : goal.close_region-requires-clause-taken
-close_region-requires-clause-taken g c =
+pub close_region-requires : goal.close_region-requires
+close_region-requires g c =
     let M = meaning g in
-    let slots = slots_on M c.args.shelf.now in
-    let helds = held_in M c.args.self.now in
-    let entries = c.args.self.now.homes.entries in
     let labels = c.args.self.now.labels.items in
     let own = slice-or labels c.args.i c.remove.result (omega (arith, c.requires.session.named, c.requires.within)) c.remove.ensures.value in
     let h = held_of M c.in-Some.field-0-0 c.in-Some.home c.remove.result in
-    let at = held-entry M entries labels c.args.i (c.in-Some.field-0-0, c.in-Some.home) c.remove.result (sym c.in-Some.ensures.entry) own in
-    ap standing (held-at slots helds c.args.i h at c.requires.session.held).place
+    let at = held-entry M c.args.self.now.homes.entries labels c.args.i (c.in-Some.field-0-0, c.in-Some.home) c.remove.result (sym c.in-Some.ensures.entry) own in
+    let held = held-at (slots_on M c.args.shelf.now) (held_in M c.args.self.now) c.args.i h at c.requires.session.held in
+    record { taken = ap standing held.place; lent = held.lent }
 
-pub close_region-requires-clause-lent : goal.close_region-requires-clause-lent
-close_region-requires-clause-lent g c =
+pub returns : goal.returns
+returns g c =
     let M = meaning g in
     let slots = slots_on M c.args.shelf.now in
     let helds = held_in M c.args.self.now in
     let entries = c.args.self.now.homes.entries in
     let labels = c.args.self.now.labels.items in
-    let own = slice-or labels c.args.i c.remove.result (omega (arith, c.requires.session.named, c.requires.within)) c.remove.ensures.value in
-    let h = held_of M c.in-Some.field-0-0 c.in-Some.home c.remove.result in
-    let at = held-entry M entries labels c.args.i (c.in-Some.field-0-0, c.in-Some.home) c.remove.result (sym c.in-Some.ensures.entry) own in
-    (held-at slots helds c.args.i h at c.requires.session.held).lent
-
-pub returns-clause-count : goal.returns-clause-count
-returns-clause-count g c =
-    let M = meaning g in
-    let entries = c.args.self.now.homes.entries in
-    let labels = c.args.self.now.labels.items in
-    let own = slice-or labels c.args.i c.remove.result (omega (arith, c.requires.session.named, c.requires.within)) c.remove.ensures.value in
-    let at = held-entry M entries labels c.args.i (c.in-Some.field-0-0, c.in-Some.home) c.remove.result (sym c.in-Some.ensures.entry) own in
-    subst (λ o. IfSome o (λ (k : Held). c.close_region.result ≡ length (segments_of k.region))) (sym at) c.close_region.ensures.count
-
-pub returns-clause-here : goal.returns-clause-here
-returns-clause-here g c =
-    let M = meaning g in
-    let slots = slots_on M c.args.shelf.now in
-    let entries = c.args.self.now.homes.entries in
-    let labels = c.args.self.now.labels.items in
-    let own = slice-or labels c.args.i c.remove.result (omega (arith, c.requires.session.named, c.requires.within)) c.remove.ensures.value in
-    let at = held-entry M entries labels c.args.i (c.in-Some.field-0-0, c.in-Some.home) c.remove.result (sym c.in-Some.ensures.entry) own in
-    subst (λ o. IfSome o (λ (k : Held). accounts_on M c.close_region.new.shelf ≡ set (accounts slots) (k.place - 1) (Some (account_after k)))) (sym at) c.close_region.ensures.here
-
-pub returns-clause-others : goal.returns-clause-others
-returns-clause-others g c =
-    let M = meaning g in
-    let helds = held_in M c.args.self.now in
-    let entries = c.args.self.now.homes.entries in
-    let labels = c.args.self.now.labels.items in
-    let rest : held_all M c.shift_remove_index.new.self.entries c.remove.new.self.items ≡ remove helds c.args.i =
-    ap (λ es. held_all M es c.remove.new.self.items) c.shift_remove_index.ensures.entries
-    ∙ (ap (λ ls. held_all M (remove entries c.args.i) ls) c.remove.ensures.items ∙ held-remove M entries labels c.args.i c.requires.session.named) in
-    rest
-
-pub returns-clause-session : goal.returns-clause-session
-returns-clause-session g c =
-    let M = meaning g in
-    let slots = slots_on M c.args.shelf.now in
-    let helds = held_in M c.args.self.now in
-    let entries = c.args.self.now.homes.entries in
-    let labels = c.args.self.now.labels.items in
-    let own = slice-or labels c.args.i c.remove.result (omega (arith, c.requires.session.named, c.requires.within)) c.remove.ensures.value in
+    let few : c.args.i < length labels = omega (arith, c.requires.session.named, c.requires.within) in
+    let own = slice-or labels c.args.i c.remove.result few c.remove.ensures.value in
     let h = held_of M c.in-Some.field-0-0 c.in-Some.home c.remove.result in
     let at = held-entry M entries labels c.args.i (c.in-Some.field-0-0, c.in-Some.home) c.remove.result (sym c.in-Some.ensures.entry) own in
     let rest : held_all M c.shift_remove_index.new.self.entries c.remove.new.self.items ≡ remove helds c.args.i =
     ap (λ es. held_all M es c.remove.new.self.items) c.shift_remove_index.ensures.entries
     ∙ (ap (λ ls. held_all M (remove entries c.args.i) ls) c.remove.ensures.items ∙ held-remove M entries labels c.args.i c.requires.session.named) in
     let slots' = slots_on M c.close_region.new.shelf in
+    let fewer = length-remove entries c.args.i c.requires.within in
     let named : length c.remove.new.self.items ≡ length c.shift_remove_index.new.self.entries = omega (
       arith,
       ap length c.remove.ensures.items,
       ap length c.shift_remove_index.ensures.entries,
-      length-remove labels c.args.i (omega (arith, c.requires.session.named, c.requires.within)),
-      length-remove entries c.args.i c.requires.within,
+      length-remove labels c.args.i few,
+      fewer,
       c.requires.session.named,
     ) in
-    record {
-      named = named;
-      held = subst (λ hs. IsSession slots' hs) (sym rest) (session-close slots slots' helds c.args.i h at c.requires.session.held c.close_region.ensures.here c.close_region.ensures.elsewhere);
-    }
-
-pub returns-clause-dicts : goal.returns-clause-dicts
-returns-clause-dicts g c = λ kinds dicts.
-    let M = meaning g in
-    let helds = held_in M c.args.self.now in
-    let entries = c.args.self.now.homes.entries in
-    let labels = c.args.self.now.labels.items in
-    let own = slice-or labels c.args.i c.remove.result (omega (arith, c.requires.session.named, c.requires.within)) c.remove.ensures.value in
-    let h = held_of M c.in-Some.field-0-0 c.in-Some.home c.remove.result in
-    let at = held-entry M entries labels c.args.i (c.in-Some.field-0-0, c.in-Some.home) c.remove.result (sym c.in-Some.ensures.entry) own in
-    let rest : held_all M c.shift_remove_index.new.self.entries c.remove.new.self.items ≡ remove helds c.args.i =
-    ap (λ es. held_all M es c.remove.new.self.items) c.shift_remove_index.ensures.entries
-    ∙ (ap (λ ls. held_all M (remove entries c.args.i) ls) c.remove.ensures.items ∙ held-remove M entries labels c.args.i c.requires.session.named) in
     let es = c.args.self.now.dicts.entries in
     let none : lies_in h.name es ≡ false = subst (λ o. IfSome o (λ (k : Held). lies_in k.name es ≡ false)) at c.requires.free in
-    subst (λ hs. AreDicts kinds hs es) (sym rest)
-    (dicts-stay kinds helds (remove helds c.args.i) es
-    (all-other kinds helds (remove helds c.args.i) h.name (λ e other. stays-remove kinds helds c.args.i h at e other) es none) dicts)
-
-pub returns-clause-settled : goal.returns-clause-settled
-returns-clause-settled g c =
-    let M = meaning g in
-    let slots = slots_on M c.args.shelf.now in
-    let helds = held_in M c.args.self.now in
-    let entries = c.args.self.now.homes.entries in
-    let labels = c.args.self.now.labels.items in
-    let own = slice-or labels c.args.i c.remove.result (omega (arith, c.requires.session.named, c.requires.within)) c.remove.ensures.value in
-    let h = held_of M c.in-Some.field-0-0 c.in-Some.home c.remove.result in
-    let at = held-entry M entries labels c.args.i (c.in-Some.field-0-0, c.in-Some.home) c.remove.result (sym c.in-Some.ensures.entry) own in
-    let rest : held_all M c.shift_remove_index.new.self.entries c.remove.new.self.items ≡ remove helds c.args.i =
-    ap (λ es. held_all M es c.remove.new.self.items) c.shift_remove_index.ensures.entries
-    ∙ (ap (λ ls. held_all M (remove entries c.args.i) ls) c.remove.ensures.items ∙ held-remove M entries labels c.args.i c.requires.session.named) in
-    let slots' = slots_on M c.close_region.new.shelf in
-    ap (λ hs. settled (accounts slots') hs) rest ∙ settled-close slots slots' helds c.args.i h at c.requires.session.held c.close_region.ensures.here
+    record {
+      closes = record {
+        count_is = subst (λ o. IfSome o (λ (k : Held). c.close_region.result ≡ length (segments_of k.region))) (sym at) c.close_region.ensures.count;
+        here = subst (λ o. IfSome o (λ (k : Held). accounts_on M c.close_region.new.shelf ≡ set (accounts slots) (k.place - 1) (Some (account_after k)))) (sym at) c.close_region.ensures.here;
+        others = rest;
+        entries = refl;
+        fewer = omega (arith, ap length c.shift_remove_index.ensures.entries, fewer);
+      };
+      regions = record {
+        regions = record {
+          named = named;
+          held = subst (λ hs. IsSession slots' hs) (sym rest) (session-close slots slots' helds c.args.i h at c.requires.session.held c.close_region.ensures.here c.close_region.ensures.elsewhere);
+        };
+        dicts = λ kinds dicts.
+            subst (λ hs. AreDicts kinds hs es) (sym rest)
+            (dicts-stay kinds helds (remove helds c.args.i) es
+            (all-other kinds helds (remove helds c.args.i) h.name (λ e other. stays-remove kinds helds c.args.i h at e other) es none) dicts);
+        spent = refl;
+      };
+      settled = ap (λ hs. settled (accounts slots') hs) rest ∙ settled-close slots slots' helds c.args.i h at c.requires.session.held c.close_region.ensures.here;
+    }

@@ -72,12 +72,12 @@ returns-else-is_busy-clause-step g c = λ kinds dicts.
     let at = some.1 in
     let slots' = slots_on M c.close_at.new.shelf in
     let first = first-named M entries labels r i c.requires.named (sym c.in-Some.ensures.index) in
-    let here = subst (λ o. IfSome o (λ (k : Held). accounts_on M c.close_at.new.shelf ≡ set (accounts slots) (k.place - 1) (Some (account_after k)))) at c.close_at.ensures.here in
-    let count = subst (λ o. IfSome o (λ (k : Held). c.close_at.result ≡ length (segments_of k.region))) at c.close_at.ensures.count in
+    let here = subst (λ o. IfSome o (λ (k : Held). accounts_on M c.close_at.new.shelf ≡ set (accounts slots) (k.place - 1) (Some (account_after k)))) at c.close_at.ensures.closes.here in
+    let count = subst (λ o. IfSome o (λ (k : Held). c.close_at.result ≡ length (segments_of k.region))) at c.close_at.ensures.closes.count_is in
     let free : lies_in r es ≡ false = sym c.if-is_busy.ensures in
     let none : lies_in h.name es ≡ false = ap (λ n. lies_in n es) (same_bytes h.name r (its-name helds i h h at refl r first)) ∙ free in
     let stays = dicts_in-stay kinds helds (remove helds i) es (all-other kinds helds (remove helds i) h.name (λ e other. stays-remove kinds helds i h at e other) es none) dicts in
     step-close slots slots' helds i h at c.requires.held here kinds (dicts_in helds es) r c.close_at.result first (busy-lies helds es r ∙ free) count
     ∙ (ap (λ ds. stepped (state_of kinds slots' (remove helds i) ds) (Closed r c.close_at.result)) (sym stays)
-    ∙ (ap (λ hs. stepped (state_of kinds slots' hs (dicts_in hs es)) (Closed r c.close_at.result)) (sym c.close_at.ensures.others)
-    ∙ ap (λ ds. stepped (state_of kinds slots' (held_in M c.close_at.new.self) (dicts_in (held_in M c.close_at.new.self) ds)) (Closed r c.close_at.result)) (sym c.close_at.ensures.entries)))
+    ∙ (ap (λ hs. stepped (state_of kinds slots' hs (dicts_in hs es)) (Closed r c.close_at.result)) (sym c.close_at.ensures.closes.others)
+    ∙ ap (λ ds. stepped (state_of kinds slots' (held_in M c.close_at.new.self) (dicts_in (held_in M c.close_at.new.self) ds)) (Closed r c.close_at.result)) (sym c.close_at.ensures.closes.entries)))

@@ -1,4 +1,4 @@
-use Rattle.std.proofs.Common.{◌≡◌, ◌-◌, ◌++◌, ◌∷◌, [], length, false, set, Some, None, is_some, sym, ap, arith, ◌∙◌, subst}
+use Rattle.std.proofs.Common.{◌≡◌, ◌-◌, ◌++◌, ◌∷◌, [], length, false, set, Some, None, is_some, refl, sym, ap, arith, ◌∙◌, subst}
 use Rattle.std.specs.Map.{lookup}
 use Rattle.std.specs.Str.{bytes_eq}
 use Rattle.std.proofs.lemmas.Bool.{false≢true}
@@ -6,8 +6,9 @@ use Rattle.std.proofs.lemmas.List.{set-set}
 use Rattle.indexmap.proofs.CallerLemmas.{insert_entry-new}
 use Rattle.vc_model.specs.Discipline.{Discipline}
 use Rattle.vc_seg.specs.Shelf.{place_at, slots_of}
-use Rattle.vc_script.specs.declared.reply.Reply.TheVariants.{Refused}
-use Rattle.vc_region.specs.Parts.{boxed}
+use Rattle.vc_script.specs.declared.reply.Reply.TheVariants.{Opened, Refused}
+use Rattle.vc_script.specs.declared.refusal.Refusal.TheVariants.{RegionExists}
+use Rattle.vc_seg.specs.Boxed.{boxed}
 use Rattle.vc_session.specs.declared.home.HomeEntry.{HomeEntry}
 use Rattle.vc_session.specs.Account.{accounts, settled, state_of, IsSession}
 use Rattle.vc_session.specs.DictHomes.{AreDicts, dicts_in}
@@ -17,6 +18,8 @@ use Rattle.vc_session.proofs.Agreeing.{from_ok}
 use Rattle.vc_session.proofs.Cells.{at_number_some, set_same}
 use Rattle.vc_session.proofs.Helds.{any-named, none_of}
 use Rattle.vc_session.proofs.Newest.{IsNewest, newest-dicts, newest-named, newest-session, newest-settled, newest-step}
+use Rattle.vc_session.proofs.Dispatch.{open-granted}
+use Rattle.vc_session.proofs.Steps.{halts-same, steps-quiet}
 use Rattle.vc_session.proofs.Opening.{open_step-named, open_step-not_here}
 use Rattle.vc_session.proofs.session.Session.open_region.Given as given
 use Rattle.vc_session.proofs.session.Session.open_region.Goals as goal
@@ -24,15 +27,17 @@ use Rattle.vc_session.proofs.session.Session.open_region.Goals as goal
 abbrev meaning : (g : given.Over) → (x : g.dyn-1.0.I) × (g.dyn-1.0.entry x).0.Denot → Discipline
 meaning g p = (g.dyn-1.0.entry p.0).1.state p.1
 
-pub returns-then-contains_key-clause-step : goal.returns-then-contains_key-clause-step
-returns-then-contains_key-clause-step g c = λ kinds dicts.
+pub returns-then-contains_key-clause-steps : goal.returns-then-contains_key-clause-steps
+returns-then-contains_key-clause-steps g c = λ kinds gone dicts.
     let slots = slots_on (meaning g) c.args.shelf.now in
     let helds = held_in (meaning g) c.args.self.now in
+    let is =
     open_step-named (state_of kinds slots helds (dicts_in helds c.args.self.now.dicts.entries)) c.args.name c.args.method c.args.n
-    (any-named (meaning g) c.args.self.now.homes.entries c.args.self.now.labels.items c.args.name c.requires.named ∙ sym c.if-contains_key.ensures)
+    (any-named (meaning g) c.args.self.now.homes.entries c.args.self.now.labels.items c.args.name c.requires.named ∙ sym c.if-contains_key.ensures) in
+    steps-quiet _ _ _ _ (Refused RegionExists) is refl refl tt
 
-pub returns-in_default-clause-step : goal.returns-in_default-clause-step
-returns-in_default-clause-step g c = λ kinds dicts.
+pub returns-in_default-clause-steps : goal.returns-in_default-clause-steps
+returns-in_default-clause-steps g c = λ kinds gone dicts.
     let M = meaning g in
     let slots = slots_on M c.args.shelf.now in
     let helds = held_in M c.args.self.now in
@@ -45,149 +50,96 @@ returns-in_default-clause-step g c = λ kinds dicts.
     ap (λ es. held_all M es c.reserve-2.new.self.items) c.reserve.ensures.entries ∙ ap (λ ls. held_all M entries ls) c.reserve-2.ensures.items in
     let es = c.args.self.now.dicts.entries in
     let ds = dicts_in helds es in
+    let is =
     open_step-not_here kinds slots helds ds c.args.name c.args.method c.args.n (any-named M entries labels c.args.name c.requires.named ∙ absent) (λ e. false≢true (c.in_default.ensures.here.1 e))
     ∙ (ap (λ w. stepped (state_of kinds slots helds ds) (Refused w)) (sym why)
     ∙ (ap (λ hs. stepped (state_of kinds slots hs (dicts_in hs es)) (Refused c.not_here.result)) (sym held)
-    ∙ ap (λ s. let hs = held_all M c.reserve.new.self.entries c.reserve-2.new.self.items in stepped (state_of kinds s hs (dicts_in hs es)) (Refused c.not_here.result)) (sym same)))
+    ∙ ap (λ s. let hs = held_all M c.reserve.new.self.entries c.reserve-2.new.self.items in stepped (state_of kinds s hs (dicts_in hs es)) (Refused c.not_here.result)) (sym same))) in
+    steps-quiet _ _ _ _ (Refused c.not_here.result) is refl
+    (ap (λ s. settled (accounts s) (held_all M c.reserve.new.self.entries c.reserve-2.new.self.items)) same ∙ ap (λ hs. settled (accounts slots) hs) held)
+    (open-granted _ _ c.args.name c.args.method c.args.n (Refused c.not_here.result) is)
 
-pub returns-in-Ok-clause-step : goal.returns-in-Ok-clause-step
-returns-in-Ok-clause-step g c = λ kinds dicts.
+pub returns-in_err-reserve-clause-regions : goal.returns-in_err-reserve-clause-regions
+returns-in_err-reserve-clause-regions g c =
     let M = meaning g in
-    let entries = c.args.self.now.homes.entries in
     let labels = c.args.self.now.labels.items in
-    let absent : is_some (lookup (bytes_eq c.args.name) entries) ≡ false = sym c.if-contains_key.ensures in
-    let home : HomeEntry _ _ = record { place = c.args.n; region = c.in-Ok.region } in
-    let put = from_ok c.insert.result (c.insert.ensures.succeeds (omega (arith, c.in_ok-reserve.ensures.ok))) c.insert.ensures.entries in
-    let gone = none_of (lookup (bytes_eq c.args.name) c.reserve.new.self.entries) (ap (λ es. is_some (lookup (bytes_eq c.args.name) es)) c.reserve.ensures.entries ∙ absent) in
-    let newest : IsNewest M (slots_on M c.args.shelf.now) (slots_on M c.take.new.self) entries c.insert.new.self.entries labels c.push_reserved.new.self.items c.args.name c.args.method home c.new.result = record {
-      named = c.requires.named;
-      session = c.requires.held;
-      absent = absent;
-      last = put ∙ (insert_entry-new bytes_eq c.reserve.new.self c.args.name home gone ∙ ap (λ es. es ++ (c.args.name, home) ∷ []) c.reserve.ensures.entries);
-      more = c.push_reserved.ensures.items ∙ ap (λ ls. ls ++ c.new.result ∷ []) c.reserve-2.ensures.items;
-      newly = c.in-Ok.ensures.ok.0;
-      taken = c.in-Some.ensures.taken ∙ ap (λ d. Some (Some d)) (sym c.in-Ok.ensures.ok.1);
-      emptied = c.in-Some.ensures.emptied;
-      none = record { agree = c.new.ensures.agree; names = c.new.ensures.no_names; count = c.new.ensures.count; kept = c.new.ensures.kept };
-    } in
-    newest-step M (slots_on M c.args.shelf.now) (slots_on M c.take.new.self) entries c.insert.new.self.entries labels c.push_reserved.new.self.items c.args.name c.args.method home c.new.result newest kinds c.args.self.now.dicts.entries dicts
+    let kept = c.reserve.ensures.entries in
+    record {
+      regions = record {
+        named = c.requires.named ∙ sym (ap length kept);
+        held = subst (λ es. IsSession (slots_on M c.args.shelf.now) (held_all M es labels)) (sym kept) c.requires.held;
+      };
+      dicts = λ kinds dicts. subst (λ es. AreDicts kinds (held_all M es labels) c.args.self.now.dicts.entries) (sym kept) dicts;
+      spent = refl;
+    }
 
-pub returns-in-Ok-clause-dicts : goal.returns-in-Ok-clause-dicts
-returns-in-Ok-clause-dicts g c = λ kinds dicts.
+pub returns-in_err-reserve-2-clause-regions : goal.returns-in_err-reserve-2-clause-regions
+returns-in_err-reserve-2-clause-regions g c =
     let M = meaning g in
     let entries = c.args.self.now.homes.entries in
-    let labels = c.args.self.now.labels.items in
-    let absent : is_some (lookup (bytes_eq c.args.name) entries) ≡ false = sym c.if-contains_key.ensures in
-    let home : HomeEntry _ _ = record { place = c.args.n; region = c.in-Ok.region } in
-    let put = from_ok c.insert.result (c.insert.ensures.succeeds (omega (arith, c.in_ok-reserve.ensures.ok))) c.insert.ensures.entries in
-    let gone = none_of (lookup (bytes_eq c.args.name) c.reserve.new.self.entries) (ap (λ es. is_some (lookup (bytes_eq c.args.name) es)) c.reserve.ensures.entries ∙ absent) in
-    let newest : IsNewest M (slots_on M c.args.shelf.now) (slots_on M c.take.new.self) entries c.insert.new.self.entries labels c.push_reserved.new.self.items c.args.name c.args.method home c.new.result = record {
-      named = c.requires.named;
-      session = c.requires.held;
-      absent = absent;
-      last = put ∙ (insert_entry-new bytes_eq c.reserve.new.self c.args.name home gone ∙ ap (λ es. es ++ (c.args.name, home) ∷ []) c.reserve.ensures.entries);
-      more = c.push_reserved.ensures.items ∙ ap (λ ls. ls ++ c.new.result ∷ []) c.reserve-2.ensures.items;
-      newly = c.in-Ok.ensures.ok.0;
-      taken = c.in-Some.ensures.taken ∙ ap (λ d. Some (Some d)) (sym c.in-Ok.ensures.ok.1);
-      emptied = c.in-Some.ensures.emptied;
-      none = record { agree = c.new.ensures.agree; names = c.new.ensures.no_names; count = c.new.ensures.count; kept = c.new.ensures.kept };
-    } in
-    newest-dicts M (slots_on M c.args.shelf.now) (slots_on M c.take.new.self) entries c.insert.new.self.entries labels c.push_reserved.new.self.items c.args.name c.args.method home c.new.result newest kinds c.args.self.now.dicts.entries dicts
-
-pub returns-in-Ok-clause-session : goal.returns-in-Ok-clause-session
-returns-in-Ok-clause-session g c =
-    let M = meaning g in
-    let entries = c.args.self.now.homes.entries in
-    let labels = c.args.self.now.labels.items in
-    let absent : is_some (lookup (bytes_eq c.args.name) entries) ≡ false = sym c.if-contains_key.ensures in
-    let home : HomeEntry _ _ = record { place = c.args.n; region = c.in-Ok.region } in
-    let put = from_ok c.insert.result (c.insert.ensures.succeeds (omega (arith, c.in_ok-reserve.ensures.ok))) c.insert.ensures.entries in
-    let gone = none_of (lookup (bytes_eq c.args.name) c.reserve.new.self.entries) (ap (λ es. is_some (lookup (bytes_eq c.args.name) es)) c.reserve.ensures.entries ∙ absent) in
-    let newest : IsNewest M (slots_on M c.args.shelf.now) (slots_on M c.take.new.self) entries c.insert.new.self.entries labels c.push_reserved.new.self.items c.args.name c.args.method home c.new.result = record {
-      named = c.requires.named;
-      session = c.requires.held;
-      absent = absent;
-      last = put ∙ (insert_entry-new bytes_eq c.reserve.new.self c.args.name home gone ∙ ap (λ es. es ++ (c.args.name, home) ∷ []) c.reserve.ensures.entries);
-      more = c.push_reserved.ensures.items ∙ ap (λ ls. ls ++ c.new.result ∷ []) c.reserve-2.ensures.items;
-      newly = c.in-Ok.ensures.ok.0;
-      taken = c.in-Some.ensures.taken ∙ ap (λ d. Some (Some d)) (sym c.in-Ok.ensures.ok.1);
-      emptied = c.in-Some.ensures.emptied;
-      none = record { agree = c.new.ensures.agree; names = c.new.ensures.no_names; count = c.new.ensures.count; kept = c.new.ensures.kept };
-    } in
-    record { named = newest-named M (slots_on M c.args.shelf.now) (slots_on M c.take.new.self) entries c.insert.new.self.entries labels c.push_reserved.new.self.items c.args.name c.args.method home c.new.result newest; held = newest-session M (slots_on M c.args.shelf.now) (slots_on M c.take.new.self) entries c.insert.new.self.entries labels c.push_reserved.new.self.items c.args.name c.args.method home c.new.result newest }
-
-pub returns-in-Ok-clause-settled : goal.returns-in-Ok-clause-settled
-returns-in-Ok-clause-settled g c =
-    let M = meaning g in
-    let entries = c.args.self.now.homes.entries in
-    let labels = c.args.self.now.labels.items in
-    let absent : is_some (lookup (bytes_eq c.args.name) entries) ≡ false = sym c.if-contains_key.ensures in
-    let home : HomeEntry _ _ = record { place = c.args.n; region = c.in-Ok.region } in
-    let put = from_ok c.insert.result (c.insert.ensures.succeeds (omega (arith, c.in_ok-reserve.ensures.ok))) c.insert.ensures.entries in
-    let gone = none_of (lookup (bytes_eq c.args.name) c.reserve.new.self.entries) (ap (λ es. is_some (lookup (bytes_eq c.args.name) es)) c.reserve.ensures.entries ∙ absent) in
-    let newest : IsNewest M (slots_on M c.args.shelf.now) (slots_on M c.take.new.self) entries c.insert.new.self.entries labels c.push_reserved.new.self.items c.args.name c.args.method home c.new.result = record {
-      named = c.requires.named;
-      session = c.requires.held;
-      absent = absent;
-      last = put ∙ (insert_entry-new bytes_eq c.reserve.new.self c.args.name home gone ∙ ap (λ es. es ++ (c.args.name, home) ∷ []) c.reserve.ensures.entries);
-      more = c.push_reserved.ensures.items ∙ ap (λ ls. ls ++ c.new.result ∷ []) c.reserve-2.ensures.items;
-      newly = c.in-Ok.ensures.ok.0;
-      taken = c.in-Some.ensures.taken ∙ ap (λ d. Some (Some d)) (sym c.in-Ok.ensures.ok.1);
-      emptied = c.in-Some.ensures.emptied;
-      none = record { agree = c.new.ensures.agree; names = c.new.ensures.no_names; count = c.new.ensures.count; kept = c.new.ensures.kept };
-    } in
-    newest-settled M (slots_on M c.args.shelf.now) (slots_on M c.take.new.self) entries c.insert.new.self.entries labels c.push_reserved.new.self.items c.args.name c.args.method home c.new.result newest
-
-pub returns-in-Err-clause-session : goal.returns-in-Err-clause-session
-returns-in-Err-clause-session g c =
-    let M = meaning g in
-    let slots = slots_on M c.args.shelf.now in
-    let entries = c.args.self.now.homes.entries in
-    let d = boxed M c.in-Some.disc in
-    let e = boxed M c.in-Err.disc in
-    let back : slots_on M c.give_back.new.self ≡ slots =
-    c.give_back.ensures.filled
-    ∙ (ap (λ s. set s (c.args.n - 1) (Some e)) c.in-Some.ensures.emptied
-    ∙ (set-set slots (c.args.n - 1) None (Some e)
-    ∙ (ap (λ x. set slots (c.args.n - 1) (Some x)) c.in-Err.ensures.err
-    ∙ set_same slots (c.args.n - 1) (Some d) (at_number_some slots c.args.n (Some d) c.in-Some.ensures.taken).1))) in
     let held : held_all M c.reserve.new.self.entries c.reserve-2.new.self.items ≡ held_in M c.args.self.now =
     ap (λ es. held_all M es c.reserve-2.new.self.items) c.reserve.ensures.entries ∙ ap (λ ls. held_all M entries ls) c.reserve-2.ensures.items in
     record {
-      named = ap length c.reserve-2.ensures.items ∙ (c.requires.named ∙ sym (ap length c.reserve.ensures.entries));
-      held =
-          subst (λ s. IsSession s (held_all M c.reserve.new.self.entries c.reserve-2.new.self.items)) (sym back)
-          (subst (λ hs. IsSession slots hs) (sym held) c.requires.held);
+      regions = record {
+        named = ap length c.reserve-2.ensures.items ∙ (c.requires.named ∙ sym (ap length c.reserve.ensures.entries));
+        held = subst (λ hs. IsSession (slots_on M c.args.shelf.now) hs) (sym held) c.requires.held;
+      };
+      dicts = λ kinds dicts. subst (λ hs. AreDicts kinds hs c.args.self.now.dicts.entries) (sym held) dicts;
+      spent = refl;
     }
 
-pub returns-in-Err-clause-dicts : goal.returns-in-Err-clause-dicts
-returns-in-Err-clause-dicts g c = λ kinds dicts.
-    let M = meaning g in
-    let entries = c.args.self.now.homes.entries in
-    let held : held_all M c.reserve.new.self.entries c.reserve-2.new.self.items ≡ held_in M c.args.self.now =
-    ap (λ es. held_all M es c.reserve-2.new.self.items) c.reserve.ensures.entries ∙ ap (λ ls. held_all M entries ls) c.reserve-2.ensures.items in
-    subst (λ hs. AreDicts kinds hs c.args.self.now.dicts.entries) (sym held) dicts
-
-pub returns-in-Err-clause-settled : goal.returns-in-Err-clause-settled
-returns-in-Err-clause-settled g c =
+pub returns-in_default-clause-regions : goal.returns-in_default-clause-regions
+returns-in_default-clause-regions g c =
     let M = meaning g in
     let slots = slots_on M c.args.shelf.now in
     let entries = c.args.self.now.homes.entries in
-    let d = boxed M c.in-Some.disc in
-    let e = boxed M c.in-Err.disc in
-    let back : slots_on M c.give_back.new.self ≡ slots =
-    c.give_back.ensures.filled
-    ∙ (ap (λ s. set s (c.args.n - 1) (Some e)) c.in-Some.ensures.emptied
-    ∙ (set-set slots (c.args.n - 1) None (Some e)
-    ∙ (ap (λ x. set slots (c.args.n - 1) (Some x)) c.in-Err.ensures.err
-    ∙ set_same slots (c.args.n - 1) (Some d) (at_number_some slots c.args.n (Some d) c.in-Some.ensures.taken).1))) in
-    let held : held_all M c.reserve.new.self.entries c.reserve-2.new.self.items ≡ held_in M c.args.self.now =
+    let same : slots_on M c.take.new.self ≡ slots = ap (slots_of (boxed M)) c.in_default.ensures.none in
+    let hs' = held_all M c.reserve.new.self.entries c.reserve-2.new.self.items in
+    let held : hs' ≡ held_in M c.args.self.now =
     ap (λ es. held_all M es c.reserve-2.new.self.items) c.reserve.ensures.entries ∙ ap (λ ls. held_all M entries ls) c.reserve-2.ensures.items in
-    ap (λ s. settled (accounts s) (held_all M c.reserve.new.self.entries c.reserve-2.new.self.items)) back
-    ∙ ap (λ hs. settled (accounts slots) hs) held
+    record {
+      regions = record {
+        named = ap length c.reserve-2.ensures.items ∙ (c.requires.named ∙ sym (ap length c.reserve.ensures.entries));
+        held = subst (λ s. IsSession s hs') (sym same) (subst (λ hs. IsSession slots hs) (sym held) c.requires.held);
+      };
+      dicts = λ kinds dicts. subst (λ hs. AreDicts kinds hs c.args.self.now.dicts.entries) (sym held) dicts;
+      spent = refl;
+    }
 
-pub returns-in-Err-clause-err : goal.returns-in-Err-clause-err
-returns-in-Err-clause-err g c = λ kinds dicts.
+pub returns-in-Ok : goal.returns-in-Ok
+returns-in-Ok g c =
+    let M = meaning g in
+    let entries = c.args.self.now.homes.entries in
+    let labels = c.args.self.now.labels.items in
+    let absent : is_some (lookup (bytes_eq c.args.name) entries) ≡ false = sym c.if-contains_key.ensures in
+    let home : HomeEntry _ _ = record { place = c.args.n; region = c.in-Ok.region } in
+    let put = from_ok c.insert.result (c.insert.ensures.succeeds (omega (arith, c.in_ok-reserve.ensures.ok))) c.insert.ensures.entries in
+    let gone = none_of (lookup (bytes_eq c.args.name) c.reserve.new.self.entries) (ap (λ es. is_some (lookup (bytes_eq c.args.name) es)) c.reserve.ensures.entries ∙ absent) in
+    let newest : IsNewest M (slots_on M c.args.shelf.now) (slots_on M c.take.new.self) entries c.insert.new.self.entries labels c.push_reserved.new.self.items c.args.name c.args.method home c.new.result = record {
+      named = c.requires.named;
+      session = c.requires.held;
+      absent = absent;
+      last = put ∙ (insert_entry-new bytes_eq c.reserve.new.self c.args.name home gone ∙ ap (λ es. es ++ (c.args.name, home) ∷ []) c.reserve.ensures.entries);
+      more = c.push_reserved.ensures.items ∙ ap (λ ls. ls ++ c.new.result ∷ []) c.reserve-2.ensures.items;
+      newly = c.in-Ok.ensures.ok.0;
+      taken = c.in-Some.ensures.taken ∙ ap (λ d. Some (Some d)) (sym c.in-Ok.ensures.ok.1);
+      emptied = c.in-Some.ensures.emptied;
+      none = record { agree = c.new.ensures.agree; names = c.new.ensures.no_names; count = c.new.ensures.count; kept = c.new.ensures.kept };
+    } in
+    let es = c.args.self.now.dicts.entries in
+    let settled_is = newest-settled M (slots_on M c.args.shelf.now) (slots_on M c.take.new.self) entries c.insert.new.self.entries labels c.push_reserved.new.self.items c.args.name c.args.method home c.new.result newest in
+    record {
+      steps = λ kinds gone dicts. steps-quiet _ _ _ _ (Opened c.args.name) (newest-step M (slots_on M c.args.shelf.now) (slots_on M c.take.new.self) entries c.insert.new.self.entries labels c.push_reserved.new.self.items c.args.name c.args.method home c.new.result newest kinds es dicts) refl settled_is tt;
+      regions = record {
+        regions = record { named = newest-named M (slots_on M c.args.shelf.now) (slots_on M c.take.new.self) entries c.insert.new.self.entries labels c.push_reserved.new.self.items c.args.name c.args.method home c.new.result newest; held = newest-session M (slots_on M c.args.shelf.now) (slots_on M c.take.new.self) entries c.insert.new.self.entries labels c.push_reserved.new.self.items c.args.name c.args.method home c.new.result newest };
+        dicts = λ kinds dicts. newest-dicts M (slots_on M c.args.shelf.now) (slots_on M c.take.new.self) entries c.insert.new.self.entries labels c.push_reserved.new.self.items c.args.name c.args.method home c.new.result newest kinds es dicts;
+        spent = refl;
+      };
+      settled = settled_is;
+    }
+
+pub returns-in-Err : goal.returns-in-Err
+returns-in-Err g c =
     let M = meaning g in
     let slots = slots_on M c.args.shelf.now in
     let entries = c.args.self.now.homes.entries in
@@ -202,5 +154,18 @@ returns-in-Err-clause-err g c = λ kinds dicts.
     let held : held_all M c.reserve.new.self.entries c.reserve-2.new.self.items ≡ held_in M c.args.self.now =
     ap (λ es. held_all M es c.reserve-2.new.self.items) c.reserve.ensures.entries ∙ ap (λ ls. held_all M entries ls) c.reserve-2.ensures.items in
     let es = c.args.self.now.dicts.entries in
-    ap (λ s. let hs = held_all M c.reserve.new.self.entries c.reserve-2.new.self.items in state_of kinds s hs (dicts_in hs es)) back
-    ∙ ap (λ hs. state_of kinds slots hs (dicts_in hs es)) held
+    let hs' = held_all M c.reserve.new.self.entries c.reserve-2.new.self.items in
+    let settled_is = ap (λ s. settled (accounts s) hs') back ∙ ap (λ hs. settled (accounts slots) hs) held in
+    record {
+      steps = λ kinds gone dicts.
+          halts-same _ _ _ (ap (λ s. state_of kinds s hs' (dicts_in hs' es)) back ∙ ap (λ hs. state_of kinds slots hs (dicts_in hs es)) held) refl settled_is;
+      regions = record {
+        regions = record {
+          named = ap length c.reserve-2.ensures.items ∙ (c.requires.named ∙ sym (ap length c.reserve.ensures.entries));
+          held = subst (λ s. IsSession s hs') (sym back) (subst (λ hs. IsSession slots hs) (sym held) c.requires.held);
+        };
+        dicts = λ kinds dicts. subst (λ hs. AreDicts kinds hs es) (sym held) dicts;
+        spent = refl;
+      };
+      settled = settled_is;
+    }

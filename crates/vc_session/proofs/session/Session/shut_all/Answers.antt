@@ -4,7 +4,9 @@ use Rattle.vc_objects.specs.Remove.{bytes_of}
 use Rattle.vc_session.specs.Dicts.{shut_state, told_of}
 use Rattle.vc_session.specs.DictHomes.{AreDicts, dict_home, dicts_in}
 use Rattle.vc_session.specs.Homes.{held_in, slots_on, state_over}
+use Rattle.vc_session.specs.Moment.{moment}
 use Rattle.vc_session.specs.State.{DictHome}
+use Rattle.vc_session.specs.Steps.{Shuts}
 use Rattle.vc_session.specs.Told.{gone_in, rules_in, tell}
 use Rattle.vc_session.proofs.Ending.{gone-shut, if_some-at, nothing-left}
 use Rattle.vc_session.proofs.Helds.{some-at}
@@ -23,24 +25,22 @@ loop-self-preserved g c =
     let kinds = c.loop-self.kinds.items in
     let after = c.shut_at.new.kinds.items in
     let held = held_in M old in
-    let front = some-at old.dicts.entries 0 (omega (arith, c.shut_at.ensures.fewer)) in
+    let front = some-at old.dicts.entries 0 (omega (arith, c.shut_at.ensures.shuts.fewer)) in
     let e = front.0 in
-    let shut : state_over M (rules after) shelf new ≡ shut_state (state_over M (rules kinds) shelf old) (dict_home held e) =
-    if_some-at (λ x. state_over M (rules after) shelf new ≡ shut_state (state_over M (rules kinds) shelf old) (dict_home held x)) _ e front.1 c.shut_at.ensures.state in
-    let told : gone after ≡ tell (told_of e.1.dict.kind (bytes_of (dict_home held e).dict.objects)) (gone kinds) =
-    if_some-at (λ x. gone after ≡ tell (told_of x.1.dict.kind (bytes_of (dict_home held x).dict.objects)) (gone kinds)) _ e front.1 c.shut_at.ensures.gone in
-    let same : rules after ≡ rules first = c.shut_at.ensures.rules ∙ c.loop-self.invariant.rules in
+    let shuts : Shuts (moment M g.D.DictDisc.rules g.D.DictDisc.gone shelf old kinds) (moment M g.D.DictDisc.rules g.D.DictDisc.gone shelf new after) (dict_home held e) =
+    if_some-at (λ x. Shuts (moment M g.D.DictDisc.rules g.D.DictDisc.gone shelf old kinds) (moment M g.D.DictDisc.rules g.D.DictDisc.gone shelf new after) (dict_home held x)) _ e front.1 c.shut_at.ensures.shuts.shuts in
+    let same : rules after ≡ rules first = c.shut_at.ensures.stays.lasts.keeps_rules ∙ c.loop-self.invariant.rules in
     record {
-      session = c.shut_at.ensures.session;
+      session = c.shut_at.ensures.stays.lasts.stands;
       rules = same;
       gone =
           gone-shut (rules first) (slots_on M shelf) held old.dicts.entries (state_over M (rules first) shelf new) (gone kinds) (gone after)
           (subst (λ r. AreDicts r held old.dicts.entries) c.loop-self.invariant.rules c.loop-self.invariant.session.dicts)
           e front.1
-          (ap (λ r. state_over M r shelf new) (sym same) ∙ (shut ∙ ap (λ r. shut_state (state_over M r shelf old) (dict_home held e)) c.loop-self.invariant.rules))
-          told
+          (ap (λ r. state_over M r shelf new) (sym same) ∙ (shuts.state ∙ ap (λ r. shut_state (state_over M r shelf old) (dict_home held e)) c.loop-self.invariant.rules))
+          shuts.gone
           ∙ c.loop-self.invariant.gone;
-      settled = c.shut_at.ensures.settled ∙ c.loop-self.invariant.settled;
+      settled = shuts.accounts ∙ c.loop-self.invariant.settled;
     }
 
 pub returns-clause-none : goal.returns-clause-none

@@ -11,7 +11,7 @@ meaning g p = (g.dyn-1.0.entry p.0).1.state p.1
 abbrev pub invariant-loop-self : goal.invariant-loop-self
 invariant-loop-self g l =
     record {
-      session : IsSessionOver (meaning g) (rules_in g.D.DictDisc.rules l.kinds.items) l.shelf l.self;
+      session : IsSessionOver (meaning g) g.D.DictDisc.rules l.shelf l.self l.kinds.items;
       rules : rules_in g.D.DictDisc.rules l.kinds.items ≡ rules_in g.D.DictDisc.rules l.initial.kinds.items;
       gone :
           tell (ended_told (state_over (meaning g) (rules_in g.D.DictDisc.rules l.initial.kinds.items) l.shelf l.self)) (gone_in g.D.DictDisc.gone l.kinds.items)

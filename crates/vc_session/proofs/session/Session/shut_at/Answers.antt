@@ -1,4 +1,4 @@
-use Rattle.std.proofs.Common.{◌≡◌, ◌-◌, ◌<◌, is_some, [], Some, length, option_map, set, refl, sym, ap, ◌∙◌, subst, arith}
+use Rattle.std.proofs.Common.{◌≡◌, ◌-◌, ◌<◌, is_some, [], Some, None, length, option_map, set, refl, sym, ap, ◌∙◌, subst, arith}
 use Rattle.std.specs.Prelude.{slice_get}
 use Rattle.std.specs.Map.{lookup}
 use Rattle.std.specs.Str.{bytes_eq}
@@ -16,18 +16,22 @@ use Rattle.vc_session.specs.DictHomes.{AreDicts, dict_home, dicts_in}
 use Rattle.vc_session.specs.Dicts.{shut_state, told_of}
 use Rattle.vc_session.specs.Homes.{held_all, held_in, held_of, slots_on}
 use Rattle.vc_session.specs.State.{is_home}
+use Rattle.vc_session.specs.Moment.{Moment, moment}
+use Rattle.vc_session.specs.Steps.{Shuts}
 use Rattle.vc_session.specs.Told.{gone_in, rules_in, tell}
+use Rattle.vc_session.proofs.BestRegions.{no-other}
 use Rattle.vc_session.proofs.Cells.{at_number-from_one, at_number_some, map-set_alike, set_same}
 use Rattle.vc_session.proofs.Changing.{session-change, settled-same}
 use Rattle.vc_session.proofs.DictChange.{dict-at}
-use Rattle.vc_session.proofs.DictRegion.{held_after, region-change, touches}
+use Rattle.vc_session.proofs.DictRegion.{best_entry, entry-best, held_after, region-change, touches}
 use Rattle.vc_session.proofs.DictShut.{dict-is, dicts-shut, none-left, shut-best, shut-whole, state-shut}
 use Rattle.vc_session.proofs.DictTold.{tell-each}
 use Rattle.vc_session.proofs.DictsStay.{Entry}
 use Rattle.vc_session.proofs.Ending.{if_some-to, within-map}
 use Rattle.vc_session.proofs.Firsts.{find-none, none-unmap}
-use Rattle.vc_session.proofs.Helds.{any-named, first-named, held-read, held-set, index-within, length-set, name-at, slice-or}
+use Rattle.vc_session.proofs.Helds.{any-named, first-named, held-read, held-set, index-within, length-remove, length-set, name-at, slice-or}
 use Rattle.vc_session.proofs.Placed.{labels-at}
+use Rattle.vc_session.proofs.Settling.{keeps-equal}
 use Rattle.vc_session.proofs.Sessions.{held-at}
 use Rattle.vc_session.proofs.session.Session.shut_at.Given as given
 use Rattle.vc_session.proofs.session.Session.shut_at.Goals as goal
@@ -86,8 +90,8 @@ index_mut-requires-2 g c =
     let within = within-map g.D.DictDisc.rules items (n - 1) own.rules (at_number_some kinds n own.rules own.kind).1 in
     omega (arith, within, c.args.kinds.now.ok.0)
 
-pub shut-requires-clause-best : goal.shut-requires-clause-best
-shut-requires-clause-best g c =
+pub unreachable-requires-in_default-region : goal.unreachable-requires-in_default-region
+unreachable-requires-in_default-region g c =
     let M = meaning g in
     let items = c.args.kinds.now.items in
     let kinds = rules_in g.D.DictDisc.rules items in
@@ -111,10 +115,10 @@ shut-requires-clause-best g c =
     let h = held_of M r home l.0 in
     let at = held-read M entries labels j r home l.0 name c.index_mut.ensures.value l.1 in
     let first = first-named M entries labels r j named index in
-    shut-best kinds slots helds ds j i h e at there first session dicts refl
+    no-other home.region (shut-best kinds slots helds ds j i h e at there first session dicts refl) c.in_default-region.not-Best
 
-pub shut-requires-clause-whole : goal.shut-requires-clause-whole
-shut-requires-clause-whole g c =
+pub shut-requires : goal.shut-requires
+shut-requires g c =
     let M = meaning g in
     let items = c.args.kinds.now.items in
     let kinds = rules_in g.D.DictDisc.rules items in
@@ -135,21 +139,24 @@ shut-requires-clause-whole g c =
     let item = g.D.DictDisc.rules in
     let j = c.in-Some-get_index_of.j in
     let index = sym c.get_index_of.ensures.index ∙ c.in-Some-get_index_of.is in
-    let home = c.index_mut.result.now in
+    let old = c.in-Best.best in
+    let place = c.index_mut.result.now.place in
+    let home = best_entry place old in
+    let at_home = entry-best _ c.index_mut.result.now old c.index_mut.ensures.value c.in-Best.is in
     let l = labels-at entries j (index-within M entries r j index) labels named in
     let name = name-at M entries r j index in
     let h = held_of M r home l.0 in
-    let at = held-read M entries labels j r home l.0 name c.index_mut.ensures.value l.1 in
+    let at = held-read M entries labels j r home l.0 name at_home l.1 in
     let first = first-named M entries labels r j named index in
     let kind = c.index_mut-2.result.now in
     let number = at_number_some kinds n own.rules own.kind in
     let its_place : n - 1 < length items = within-map item items (n - 1) own.rules number.1 in
     let its_kind : slice_get items (n - 1) ≡ Some kind = slice-or items (n - 1) kind its_place c.index_mut-2.ensures.value in
     let rules_are : own.rules ≡ item kind = same_Some own.rules (item kind) (sym number.1 ∙ (slice_get-map item items (n - 1) ∙ ap (option_map item) its_kind)) in
-    subst (λ q. IsWhole q e.1.dict h.cells) rules_are (shut-whole kinds slots helds ds j i h e at there first session dicts refl)
+    record { whole = subst (λ q. IsWhole q e.1.dict h.cells) rules_are (shut-whole kinds slots helds ds j i h e at there first session dicts refl) }
 
-pub returns-clause-state : goal.returns-clause-state
-returns-clause-state g c =
+pub returns : goal.returns
+returns g c =
     let M = meaning g in
     let items = c.args.kinds.now.items in
     let kinds = rules_in g.D.DictDisc.rules items in
@@ -170,199 +177,78 @@ returns-clause-state g c =
     let item = g.D.DictDisc.rules in
     let j = c.in-Some-get_index_of.j in
     let index = sym c.get_index_of.ensures.index ∙ c.in-Some-get_index_of.is in
-    let home = c.index_mut.result.now in
+    let old = c.in-Best.best in
+    let place = c.index_mut.result.now.place in
+    let home = best_entry place old in
+    let at_home = entry-best _ c.index_mut.result.now old c.index_mut.ensures.value c.in-Best.is in
     let l = labels-at entries j (index-within M entries r j index) labels named in
     let name = name-at M entries r j index in
     let h = held_of M r home l.0 in
-    let at = held-read M entries labels j r home l.0 name c.index_mut.ensures.value l.1 in
+    let at = held-read M entries labels j r home l.0 name at_home l.1 in
     let first = first-named M entries labels r j named index in
     let kind = c.index_mut-2.result.now in
     let number = at_number_some kinds n own.rules own.kind in
     let its_place : n - 1 < length items = within-map item items (n - 1) own.rules number.1 in
     let its_kind : slice_get items (n - 1) ≡ Some kind = slice-or items (n - 1) kind its_place c.index_mut-2.ensures.value in
-    let after = c.shut.new.region in
-    let best = shut-best kinds slots helds ds j i h e at there first session dicts refl in
+    let after = c.shut.new.best in
     let leaves = c.shut.ensures.leaves in
     let held = held-at slots helds j h at session in
-    let g' = held_after M r home after l.0 (owned (dictionary_of e.1.dict h.cells)) [] best leaves in
-    let touch = touches M r home after l.0 (owned (dictionary_of e.1.dict h.cells)) [] best leaves in
-    let change = region-change M r home after l.0 (owned (dictionary_of e.1.dict h.cells)) [] best leaves held.lent held.names in
-    let entry : HomeEntry _ _ = record { place = home.place; region = after } in
+    let g' = held_after M r place old after l.0 (owned (dictionary_of e.1.dict h.cells)) [] leaves in
+    let touch = touches M r place old after l.0 (owned (dictionary_of e.1.dict h.cells)) [] leaves in
+    let change = region-change M r place old after l.0 (owned (dictionary_of e.1.dict h.cells)) [] leaves held.lent held.names in
+    let entry = best_entry place after in
     let helds' : held_all M (set_value_at entries j entry) labels ≡ set helds j g' =
     ap (λ ls. held_all M (set_value_at entries j entry) ls) (sym (set_same labels j l.0 l.1)) ∙ held-set M entries labels j r entry l.0 named name in
     let left = c.shift_remove_index.ensures.entries in
     let kinds' : rules_in item (set items (n - 1) c.shut.new.kind) ≡ kinds = map-set_alike item items (n - 1) kind c.shut.new.kind its_kind c.shut.ensures.rules in
     let none = none-left helds ds e.0 i (ap (λ x. lookup (bytes_eq e.0) x) (sym left) ∙ c.in-Some.ensures.updates.1) in
-    if_some-to (λ (x : Entry). state_of (rules_in item (set items (n - 1) c.shut.new.kind)) slots (held_all M (set_value_at entries j entry) labels) (dicts_in (held_all M (set_value_at entries j entry) labels) c.shift_remove_index.new.self.entries) ≡ shut_state (state_of kinds slots helds (dicts_in helds ds)) (dict_home helds x)) (slice_get ds i) e there
-    (ap (λ q. state_of q slots (held_all M (set_value_at entries j entry) labels) (dicts_in (held_all M (set_value_at entries j entry) labels) c.shift_remove_index.new.self.entries)) kinds'
-    ∙ (ap (λ hs. state_of kinds slots hs (dicts_in hs c.shift_remove_index.new.self.entries)) helds'
-    ∙ (ap (λ x. state_of kinds slots (set helds j g') (dicts_in (set helds j g') x)) left
-    ∙ state-shut kinds slots helds ds j i h e at there first session dicts refl g' change touch refl c.shut.ensures.region none)))
-
-pub returns-clause-gone : goal.returns-clause-gone
-returns-clause-gone g c =
-    let M = meaning g in
-    let items = c.args.kinds.now.items in
-    let kinds = rules_in g.D.DictDisc.rules items in
-    let slots = slots_on M c.args.shelf.now in
-    let helds = held_in M c.args.self.now in
-    let entries = c.args.self.now.homes.entries in
-    let labels = c.args.self.now.labels.items in
-    let named = c.requires.session.regions.named in
-    let session = c.requires.session.regions.held in
-    let dicts = c.requires.session.dicts in
-    let ds = c.args.self.now.dicts.entries in
-    let i = c.args.i in
-    let e : Entry = (c.in-Some.field-0-0, c.in-Some.entry) in
-    let there : slice_get ds i ≡ Some e = sym c.in-Some.ensures.entry in
-    let r = c.in-Some.entry.home in
-    let n = c.in-Some.entry.dict.kind in
-    let own = dict-at kinds helds ds i e there dicts in
-    let item = g.D.DictDisc.rules in
-    let j = c.in-Some-get_index_of.j in
-    let index = sym c.get_index_of.ensures.index ∙ c.in-Some-get_index_of.is in
-    let home = c.index_mut.result.now in
-    let l = labels-at entries j (index-within M entries r j index) labels named in
-    let name = name-at M entries r j index in
-    let h = held_of M r home l.0 in
-    let at = held-read M entries labels j r home l.0 name c.index_mut.ensures.value l.1 in
-    let first = first-named M entries labels r j named index in
-    let kind = c.index_mut-2.result.now in
-    let number = at_number_some kinds n own.rules own.kind in
-    let its_place : n - 1 < length items = within-map item items (n - 1) own.rules number.1 in
-    let its_kind : slice_get items (n - 1) ≡ Some kind = slice-or items (n - 1) kind its_place c.index_mut-2.ensures.value in
     let gone = g.D.DictDisc.gone in
     let was : at_number (gone_in gone items) n ≡ Some (gone kind) =
     at_number-from_one (gone_in gone items) n number.0 ∙ (slice_get-map gone items (n - 1) ∙ ap (option_map gone) its_kind) in
     let objects = bytes_of (dictionary_of e.1.dict h.cells).objects in
-    if_some-to (λ (x : Entry). gone_in gone (set items (n - 1) c.shut.new.kind) ≡ tell (told_of x.1.dict.kind (bytes_of (dict_home helds x).dict.objects)) (gone_in gone items)) (slice_get ds i) e there
-    (map-set gone items (n - 1) c.shut.new.kind
-    ∙ (ap (set (gone_in gone items) (n - 1)) c.shut.ensures.gone
-    ∙ (sym (tell-each objects (gone_in gone items) n (gone kind) was)
-    ∙ ap (λ (x : Dictionary). tell (told_of n (bytes_of x.objects)) (gone_in gone items)) (sym (dict-is kinds slots helds ds j i h e at there first session dicts refl)))))
-
-pub returns-clause-homes : goal.returns-clause-homes
-returns-clause-homes g c =
-    let M = meaning g in
-    let entries = c.args.self.now.homes.entries in
-    let labels = c.args.self.now.labels.items in
-    let named = c.requires.session.regions.named in
-    let r = c.in-Some.entry.home in
-    let j = c.in-Some-get_index_of.j in
-    let index = sym c.get_index_of.ensures.index ∙ c.in-Some-get_index_of.is in
-    let home = c.index_mut.result.now in
-    let l = labels-at entries j (index-within M entries r j index) labels named in
-    let after = c.shut.new.region in
-    let entry : HomeEntry _ _ = record { place = home.place; region = after } in
-    sym (length-set M entries labels j entry l.0 named) ∙ (ap length (set_same labels j l.0 l.1) ∙ named)
-
-pub returns-clause-session : goal.returns-clause-session
-returns-clause-session g c =
-    let M = meaning g in
-    let items = c.args.kinds.now.items in
-    let kinds = rules_in g.D.DictDisc.rules items in
-    let slots = slots_on M c.args.shelf.now in
-    let helds = held_in M c.args.self.now in
-    let entries = c.args.self.now.homes.entries in
-    let labels = c.args.self.now.labels.items in
-    let named = c.requires.session.regions.named in
-    let session = c.requires.session.regions.held in
-    let dicts = c.requires.session.dicts in
-    let ds = c.args.self.now.dicts.entries in
-    let i = c.args.i in
-    let e : Entry = (c.in-Some.field-0-0, c.in-Some.entry) in
-    let there : slice_get ds i ≡ Some e = sym c.in-Some.ensures.entry in
-    let r = c.in-Some.entry.home in
-    let n = c.in-Some.entry.dict.kind in
-    let own = dict-at kinds helds ds i e there dicts in
-    let item = g.D.DictDisc.rules in
-    let j = c.in-Some-get_index_of.j in
-    let index = sym c.get_index_of.ensures.index ∙ c.in-Some-get_index_of.is in
-    let home = c.index_mut.result.now in
-    let l = labels-at entries j (index-within M entries r j index) labels named in
-    let name = name-at M entries r j index in
-    let h = held_of M r home l.0 in
-    let at = held-read M entries labels j r home l.0 name c.index_mut.ensures.value l.1 in
-    let first = first-named M entries labels r j named index in
-    let kind = c.index_mut-2.result.now in
-    let number = at_number_some kinds n own.rules own.kind in
-    let its_place : n - 1 < length items = within-map item items (n - 1) own.rules number.1 in
-    let its_kind : slice_get items (n - 1) ≡ Some kind = slice-or items (n - 1) kind its_place c.index_mut-2.ensures.value in
-    let after = c.shut.new.region in
-    let best = shut-best kinds slots helds ds j i h e at there first session dicts refl in
-    let leaves = c.shut.ensures.leaves in
-    let held = held-at slots helds j h at session in
-    let g' = held_after M r home after l.0 (owned (dictionary_of e.1.dict h.cells)) [] best leaves in
-    let touch = touches M r home after l.0 (owned (dictionary_of e.1.dict h.cells)) [] best leaves in
-    let change = region-change M r home after l.0 (owned (dictionary_of e.1.dict h.cells)) [] best leaves held.lent held.names in
-    let entry : HomeEntry _ _ = record { place = home.place; region = after } in
-    let helds' : held_all M (set_value_at entries j entry) labels ≡ set helds j g' =
-    ap (λ ls. held_all M (set_value_at entries j entry) ls) (sym (set_same labels j l.0 l.1)) ∙ held-set M entries labels j r entry l.0 named name in
-    let left = c.shift_remove_index.ensures.entries in
-    let kinds' : rules_in item (set items (n - 1) c.shut.new.kind) ≡ kinds = map-set_alike item items (n - 1) kind c.shut.new.kind its_kind c.shut.ensures.rules in
+    let settled_is = ap (settled (accounts slots)) helds' ∙ settled-same slots helds j h g' at session change (ap (λ (d : Discipline). d.faults) c.shut.ensures.disc) in
     record {
-      regions = record {
-        named = named ∙ sym (sym (length-set M entries labels j entry l.0 named) ∙ (ap length (set_same labels j l.0 l.1) ∙ named));
-        held = subst (IsSession slots) (sym helds') (session-change slots helds j h g' at session change);
+      shuts = record {
+        shuts =
+            if_some-to
+            (λ (x : Entry). Shuts (moment M item gone c.args.shelf.now c.args.self.now items) (record {
+              state = state_of (rules_in item (set items (n - 1) c.shut.new.kind)) slots (held_all M (set_value_at entries j entry) labels) (dicts_in (held_all M (set_value_at entries j entry) labels) c.shift_remove_index.new.self.entries);
+              regions = held_all M (set_value_at entries j entry) labels;
+              written = None;
+              accounts = settled (accounts slots) (held_all M (set_value_at entries j entry) labels);
+              gone = gone_in gone (set items (n - 1) c.shut.new.kind);
+            }) (dict_home helds x)) (slice_get ds i) e there
+            (record {
+              state =
+                  (ap (λ q. state_of q slots (held_all M (set_value_at entries j entry) labels) (dicts_in (held_all M (set_value_at entries j entry) labels) c.shift_remove_index.new.self.entries)) kinds'
+                  ∙ (ap (λ hs. state_of kinds slots hs (dicts_in hs c.shift_remove_index.new.self.entries)) helds'
+                  ∙ (ap (λ x. state_of kinds slots (set helds j g') (dicts_in (set helds j g') x)) left
+                  ∙ state-shut kinds slots helds ds j i h e at there first session dicts refl g' change touch refl c.shut.ensures.region none)));
+              gone =
+                  (map-set gone items (n - 1) c.shut.new.kind
+                  ∙ (ap (set (gone_in gone items) (n - 1)) c.shut.ensures.gone
+                  ∙ (sym (tell-each objects (gone_in gone items) n (gone kind) was)
+                  ∙ ap (λ (x : Dictionary). tell (told_of n (bytes_of x.objects)) (gone_in gone items)) (sym (dict-is kinds slots helds ds j i h e at there first session dicts refl)))));
+              accounts = settled_is;
+            });
+        fewer = omega (arith, ap length left, length-remove ds i c.requires.within);
+        homes = sym (length-set M entries labels j entry l.0 named) ∙ (ap length (set_same labels j l.0 l.1) ∙ named);
       };
-      dicts =
-          subst (λ q. AreDicts q (held_all M (set_value_at entries j entry) labels) c.shift_remove_index.new.self.entries) (sym kinds')
-          (subst (λ hs. AreDicts kinds hs c.shift_remove_index.new.self.entries) (sym helds')
-          (subst (AreDicts kinds (set helds j g')) (sym left) (dicts-shut kinds slots helds ds j i h e at there first session dicts refl g' change touch refl c.shut.ensures.region)));
+      stays = record {
+        lasts = record {
+          stands = record {
+            regions = record {
+              named = named ∙ sym (sym (length-set M entries labels j entry l.0 named) ∙ (ap length (set_same labels j l.0 l.1) ∙ named));
+              held = subst (IsSession slots) (sym helds') (session-change slots helds j h g' at session change);
+            };
+            dicts =
+                subst (λ q. AreDicts q (held_all M (set_value_at entries j entry) labels) c.shift_remove_index.new.self.entries) (sym kinds')
+                (subst (λ hs. AreDicts kinds hs c.shift_remove_index.new.self.entries) (sym helds')
+                (subst (AreDicts kinds (set helds j g')) (sym left) (dicts-shut kinds slots helds ds j i h e at there first session dicts refl g' change touch refl c.shut.ensures.region)));
+          };
+          keeps_rules = kinds';
+          accounts = keeps-equal _ _ settled_is;
+        };
+        spent = refl;
+      };
     }
-
-pub returns-clause-rules : goal.returns-clause-rules
-returns-clause-rules g c =
-    let M = meaning g in
-    let items = c.args.kinds.now.items in
-    let kinds = rules_in g.D.DictDisc.rules items in
-    let helds = held_in M c.args.self.now in
-    let dicts = c.requires.session.dicts in
-    let ds = c.args.self.now.dicts.entries in
-    let i = c.args.i in
-    let e : Entry = (c.in-Some.field-0-0, c.in-Some.entry) in
-    let there : slice_get ds i ≡ Some e = sym c.in-Some.ensures.entry in
-    let n = c.in-Some.entry.dict.kind in
-    let own = dict-at kinds helds ds i e there dicts in
-    let item = g.D.DictDisc.rules in
-    let kind = c.index_mut-2.result.now in
-    let number = at_number_some kinds n own.rules own.kind in
-    let its_place : n - 1 < length items = within-map item items (n - 1) own.rules number.1 in
-    let its_kind : slice_get items (n - 1) ≡ Some kind = slice-or items (n - 1) kind its_place c.index_mut-2.ensures.value in
-    map-set_alike item items (n - 1) kind c.shut.new.kind its_kind c.shut.ensures.rules
-
-pub returns-clause-settled : goal.returns-clause-settled
-returns-clause-settled g c =
-    let M = meaning g in
-    let items = c.args.kinds.now.items in
-    let kinds = rules_in g.D.DictDisc.rules items in
-    let slots = slots_on M c.args.shelf.now in
-    let helds = held_in M c.args.self.now in
-    let entries = c.args.self.now.homes.entries in
-    let labels = c.args.self.now.labels.items in
-    let named = c.requires.session.regions.named in
-    let session = c.requires.session.regions.held in
-    let dicts = c.requires.session.dicts in
-    let ds = c.args.self.now.dicts.entries in
-    let i = c.args.i in
-    let e : Entry = (c.in-Some.field-0-0, c.in-Some.entry) in
-    let there : slice_get ds i ≡ Some e = sym c.in-Some.ensures.entry in
-    let r = c.in-Some.entry.home in
-    let j = c.in-Some-get_index_of.j in
-    let index = sym c.get_index_of.ensures.index ∙ c.in-Some-get_index_of.is in
-    let home = c.index_mut.result.now in
-    let l = labels-at entries j (index-within M entries r j index) labels named in
-    let name = name-at M entries r j index in
-    let h = held_of M r home l.0 in
-    let at = held-read M entries labels j r home l.0 name c.index_mut.ensures.value l.1 in
-    let first = first-named M entries labels r j named index in
-    let after = c.shut.new.region in
-    let best = shut-best kinds slots helds ds j i h e at there first session dicts refl in
-    let leaves = c.shut.ensures.leaves in
-    let held = held-at slots helds j h at session in
-    let g' = held_after M r home after l.0 (owned (dictionary_of e.1.dict h.cells)) [] best leaves in
-    let change = region-change M r home after l.0 (owned (dictionary_of e.1.dict h.cells)) [] best leaves held.lent held.names in
-    let entry : HomeEntry _ _ = record { place = home.place; region = after } in
-    let helds' : held_all M (set_value_at entries j entry) labels ≡ set helds j g' =
-    ap (λ ls. held_all M (set_value_at entries j entry) ls) (sym (set_same labels j l.0 l.1)) ∙ held-set M entries labels j r entry l.0 named name in
-    ap (settled (accounts slots)) helds' ∙ settled-same slots helds j h g' at session change (ap (λ (d : Discipline). d.faults) c.shut.ensures.disc)
