@@ -1,32 +1,17 @@
 //! Runs a script over regions, from standard input to standard output.
 #![tactic(auto)]
 
-ghost use Rattle.std.specs.Prelude.{◌≡◌};
+ghost use Rattle.std.specs.Prelude.{◌≡◌, ◌<◌, length, vec_len};
 ghost use Rattle.std.specs.Process.{exit_status};
 ghost use Rattle.vc_session.specs.Replay.{number};
 
-use std::alloc::{AllocError, Global};
-use std::env::{self, Env};
-use std::io::ErrorKind;
+use std::alloc::Global;
+use std::io::{Stderr, Stdin, Stdout};
 use std::process::ExitCode;
 use vc_base::{StdSink, StdSource};
-use vc_seg::{BudgetDisc, HeapDisc, Shelf};
+use vc_main::{budgeted, heap_at, words_of};
+use vc_seg::Shelf;
 use vc_session::{Status, replay};
-
-// The words behind the program's name. Where one isn't UTF-8 there's no list, and an empty word is refused in its place.
-fn words_of<R: Env + Alloc<A = Global>>(rt: &R) -> Result<Vec<String>, AllocError> {
-    let alloc = rt.alloc();
-    let mut words = Vec::new(alloc);
-    match env::args(rt) {
-        Ok(mut all) => {
-            let _ = all.next();
-            words = all.collect(alloc)?;
-        }
-        Err(e) if e.kind() == ErrorKind::OutOfMemory => return Err(AllocError),
-        Err(_) => words.push(String::new(alloc))?,
-    }
-    Ok(words)
-}
 
 // What the program ends with: the number of the status.
 fn exit(status: Status) -> ExitCode
@@ -35,8 +20,23 @@ fn exit(status: Status) -> ExitCode
     ExitCode::from(status.number())
 }
 
-// Disciplines 1 to 8 round to 4,096 bytes, 9 to 12 to 65,536, and 13 to 16 to 4,096 with a budget of 1,048,576 bytes each.
-// With no memory for them, nothing is read or written.
+// Runs the tool over the disciplines of sixteen places, from standard input to standard output and error.
+fn run(
+    alloc: Global,
+    words: &[String],
+    shelf: &mut Shelf,
+    source: &mut StdSource<Stdin>,
+    out: &mut StdSink<Stdout>,
+    err: &mut StdSink<Stderr>,
+) -> Status
+    requires places { vec_len shelf.old.slots ≡ 16 }
+    ensures words { 0 < length words.now → (source.new ≡ source.old) × (out.new ≡ out.old) }
+    ensures quiet { result ≡ Status.Ok → err.new ≡ err.old }
+{
+    replay(alloc, words, shelf, source, out, err)
+}
+
+// Disciplines 1 to 12 never refuse a segment, and 13 to 16 have a budget. With no memory for them nothing is read or written.
 fn main(rt: HostRuntime) -> ExitCode {
     let alloc = rt.alloc();
     let Ok(words) = words_of(&rt) else {
@@ -44,26 +44,25 @@ fn main(rt: HostRuntime) -> ExitCode {
     };
     let mut shelf = Shelf::new(alloc);
     for i in 0..12u32 {
-        let round = if i < 8 { 4096 } else { 65536 };
-        let Ok(disc) = Box::new(alloc, HeapDisc::new(round)) else {
+        let Ok(disc) = Box::new(alloc, heap_at(i + 1)) else {
             return exit(Status::Memory);
         };
-        if shelf.put(disc).is_err() {
+        let Ok(_) = shelf.put(disc) else {
             return exit(Status::Memory);
-        }
+        };
     }
     for _budgeted in 0..4u32 {
-        let Ok(disc) = Box::new(alloc, BudgetDisc::new(4096, 1_048_576)) else {
+        let Ok(disc) = Box::new(alloc, budgeted()) else {
             return exit(Status::Memory);
         };
-        if shelf.put(disc).is_err() {
+        let Ok(_) = shelf.put(disc) else {
             return exit(Status::Memory);
-        }
+        };
     }
     let mut source = StdSource::new(rt.stdin());
     let mut out = StdSink::new(rt.stdout());
     let mut err = StdSink::new(rt.stderr());
-    exit(replay(
+    exit(run(
         alloc,
         words.as_slice(),
         &mut shelf,
