@@ -1,5 +1,7 @@
 // Public calls that no script of the other tests reaches, or whose answers none shows, once each, with ample memory.
 use crate::same::same_bytes;
+use std::io::{ErrorKind, Read, Write};
+use std::process::Abort;
 use std::test::Fail;
 use vc_base::{
     Addr, Name, NeverSink, NeverSource, Sink, Source, StdSink, StdSource, Steps, one_more,
@@ -77,4 +79,71 @@ fn writer(rt: HostRuntime) -> Result<(), Fail> {
     assert!(rt; sink.write(b"abc").unwrap_or(0) == 3);
     assert!(rt; sink.faults() == 0);
     Ok(())
+}
+
+// A stream of std whose first call fails, and no later one.
+#[derive(Drop)]
+struct FailsFirst {
+    kind: ErrorKind,
+    calls: u32,
+}
+
+impl FailsFirst {
+    fn call(&mut self) -> std::io::Result<()> {
+        self.calls = self.calls.wrapping_add(1);
+        if self.calls == 1 {
+            return Err(self.kind.into());
+        }
+        Ok(())
+    }
+}
+
+impl Read for FailsFirst {
+    fn read(&mut self, buf: &mut [u8]) -> std::io::Result<usize> {
+        if buf.is_empty() {
+            return Ok(0);
+        }
+        self.call()?;
+        Ok(1)
+    }
+}
+
+impl Write for FailsFirst {
+    fn write(&mut self, buf: &[u8]) -> std::io::Result<usize> {
+        if buf.is_empty() {
+            return Ok(0);
+        }
+        self.call()?;
+        Ok(1)
+    }
+
+    fn flush(&mut self) -> std::io::Result<()> {
+        Ok(())
+    }
+}
+
+// A failed read of a stream of std isn't made again: the second would not fail.
+fn reads_once(rt: &impl Abort, kind: ErrorKind) {
+    let mut source = StdSource::new(FailsFirst { kind, calls: 0 });
+    let mut buf = [0; 2];
+    assert!(rt; source.read(&mut buf).is_err());
+    assert!(rt; source.faults() == 1);
+    assert!(rt; source.read(&mut buf).is_ok());
+    assert!(rt; source.faults() == 1);
+}
+
+fn writes_once(rt: &impl Abort, kind: ErrorKind) {
+    let mut sink = StdSink::new(FailsFirst { kind, calls: 0 });
+    assert!(rt; sink.write(b"ab").is_err());
+    assert!(rt; sink.faults() == 1);
+    assert!(rt; sink.write(b"ab").is_ok());
+    assert!(rt; sink.faults() == 1);
+}
+
+#[test]
+fn failing_streams(rt: HostRuntime) {
+    for kind in [ErrorKind::Interrupted, ErrorKind::Other] {
+        reads_once(&rt, kind);
+        writes_once(&rt, kind);
+    }
 }

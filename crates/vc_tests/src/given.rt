@@ -137,13 +137,16 @@ fn kinds(alloc: Global) -> Result<Vec<BuiltIn>, AllocError> {
     Ok(kinds)
 }
 
-// Runs a script over dictionaries of these kinds with no failing call, and gives what was written.
-pub(crate) fn run_kinds<D: DictDisc>(
+// Runs a script over dictionaries of these kinds with no failing call, looks at the status and at the line of what is wrong,
+// and gives what was written.
+pub(crate) fn run_to<D: DictDisc>(
     rt: &impl Abort,
     alloc: Global,
     shelf: &mut Shelf,
     kinds: &mut Vec<D>,
     script: &[u8],
+    end: Status,
+    err: &[u8],
 ) -> Result<Vec<u8>, AllocError> {
     let mut streams = open_streams(rt, alloc, ample(script, 4096))?;
     let words = Vec::new(alloc);
@@ -156,9 +159,20 @@ pub(crate) fn run_kinds<D: DictDisc>(
         &mut streams.out,
         &mut streams.err,
     );
-    assert!(rt; status == Status::Ok);
-    assert!(rt; streams.err.bytes().is_empty());
+    assert!(rt; status == end);
+    assert!(rt; streams.err.bytes() == err);
     streams.out.bytes().to_vec(alloc)
+}
+
+// The same of a script that is good.
+pub(crate) fn run_kinds<D: DictDisc>(
+    rt: &impl Abort,
+    alloc: Global,
+    shelf: &mut Shelf,
+    kinds: &mut Vec<D>,
+    script: &[u8],
+) -> Result<Vec<u8>, AllocError> {
+    run_to(rt, alloc, shelf, kinds, script, Status::Ok, b"")
 }
 
 // The same over one kind of each shape, and two disciplines that round to 4,096 bytes and refuse these lends.

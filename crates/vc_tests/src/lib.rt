@@ -2,6 +2,8 @@
 #![tactic(auto)]
 
 #[cfg(test)]
+mod ahead;
+#[cfg(test)]
 mod blocks;
 #[cfg(test)]
 mod calls;
@@ -12,6 +14,8 @@ mod forms;
 #[cfg(test)]
 mod given;
 #[cfg(test)]
+mod large;
+#[cfg(test)]
 mod lends;
 #[cfg(test)]
 mod long;
@@ -19,6 +23,8 @@ mod long;
 mod methods;
 #[cfg(test)]
 mod order;
+#[cfg(test)]
+mod refusals;
 #[cfg(test)]
 mod rows;
 #[cfg(test)]

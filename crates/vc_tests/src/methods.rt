@@ -47,7 +47,7 @@ const ROWS: &[Row] = &[
         script: b"open r last 1\nalloc r a 4000\nalloc r b 4000\nalloc r c 4000\nfree r c\nfree r b\ncompact r\nalloc r d 10\nresize r d 16 fixed\nresize r a 1 move\nalloc r e 10\nresize r e 20 fixed\nresize r d 1 fixed\nfree r e\nresize r d 20 fixed\nresize r d 20 move\nsegments r\nblocks r\nstat r\nfree r a\nfree r d\nfree r a\n",
         out: b"r open\na 1:32\nb 2:32\nc 3:32\nc freed\nb freed\nr compacted 2\nd 1:4064\nd 1:4064\nrefused: not last\ne 2:32\ne 2:32\nrefused: not last\ne freed\nrefused: cannot grow here\nd 2:32\nsegments 2 1:4096 2:4096\nblocks 2 a@1:32+4000 d@2:32+20\nbusy 2 free 2 sbusy 4020 sfree 4032 mbusy 4000 mfree 4000 segs 2 extent 8192\nrefused: not last\nd freed\na freed\n",
     },
-    // A move within the newest segment leaves a hole.
+    // A block that moves to a new segment leaves a gap in the older one, which is counted and isn't used again.
     Row {
         script: b"open r last 1\nalloc r a 2000\nalloc r b 10\nwrite r b 0 hello\nresize r b 3000 move\nread r b 3 3\nstat r\nfree r b\nalloc r c 1\nblocks r\n",
         out: b"r open\na 1:32\nb 1:2048\nb written 5\nb 2:32\nb 6c6f00\nbusy 2 free 2 sbusy 5000 sfree 3072 mbusy 3000 mfree 2048 segs 2 extent 8192\nb freed\nc 2:32\nblocks 2 a@1:32+2000 c@2:32+1\n",

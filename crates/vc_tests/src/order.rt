@@ -66,6 +66,7 @@ free r c\n\
 free r a\n\
 compact r\n\
 alloc r e 4000\n\
+free s y\n\
 close s\n\
 open s best 2\n\
 alloc s x 4000\n\
@@ -73,6 +74,7 @@ alloc s y 4000\n\
 alloc s z 4000\n\
 alloc s w 4000\n\
 alloc s v 4000\n\
+free r b\n\
 ";
 
 const REPLIES: &[u8] = b"\
@@ -89,6 +91,7 @@ c freed\n\
 a freed\n\
 r compacted 2\n\
 e 1:32\n\
+y freed\n\
 s closed 3\n\
 s open\n\
 x 1:32\n\
@@ -96,6 +99,52 @@ y 2:32\n\
 z 3:32\n\
 w 4:32\n\
 refused: no segment\n\
+b freed\n\
+";
+
+// In regions of the other methods too, the second of three segments has no block at the end.
+const OTHER_METHODS: &[u8] = b"\
+open p pool 1\n\
+open l last 2\n\
+open d debug 3\n\
+open f profile 4\n\
+alloc p a 4000\n\
+alloc p b 4000\n\
+alloc p c 4000\n\
+free p b\n\
+alloc l a 4000\n\
+alloc l b 4000\n\
+resize l b 5000 move\n\
+alloc d a 3900\n\
+alloc d b 3900\n\
+alloc d c 3900\n\
+free d b\n\
+alloc f a 4000\n\
+alloc f b 4000\n\
+alloc f c 4000\n\
+free f b\n\
+";
+
+const OTHER_REPLIES: &[u8] = b"\
+p open\n\
+l open\n\
+d open\n\
+f open\n\
+a 1:32\n\
+b 2:32\n\
+c 3:32\n\
+b freed\n\
+a 1:32\n\
+b 2:32\n\
+b 3:32\n\
+a 1:64\n\
+b 2:64\n\
+c 3:64\n\
+b freed\n\
+a 1:32\n\
+b 2:32\n\
+c 3:32\n\
+b freed\n\
 ";
 
 // Puts the discipline of that digit.
@@ -117,13 +166,20 @@ fn put_noting(
 
 fn shelf_of(rt: &impl Abort, alloc: Global, notes: &Rc<Cell<u128>>) -> Result<Shelf, AllocError> {
     let mut shelf = Shelf::new(alloc);
-    put_noting(rt, alloc, &mut shelf, 1, notes)?;
-    put_noting(rt, alloc, &mut shelf, 2, notes)?;
+    for digit in [1, 2, 3, 4] {
+        put_noting(rt, alloc, &mut shelf, digit, notes)?;
+    }
     Ok(shelf)
 }
 
-// What two disciplines note of the script in pieces of so many bytes.
-fn noted(rt: &impl Abort, alloc: Global, piece: usize) -> Result<u128, AllocError> {
+// What the disciplines note of a script with these replies, in pieces of so many bytes.
+fn noted(
+    rt: &impl Abort,
+    alloc: Global,
+    script: &[u8],
+    replies: &[u8],
+    piece: usize,
+) -> Result<u128, AllocError> {
     let notes = Rc::new(alloc, Cell::new(0))?;
     let mut shelf = shelf_of(rt, alloc, &notes)?;
     let ran = run(
@@ -131,20 +187,24 @@ fn noted(rt: &impl Abort, alloc: Global, piece: usize) -> Result<u128, AllocErro
         alloc,
         &[],
         &mut shelf,
-        ample(SCRIPT, piece),
-        fine(REPLIES),
+        ample(script, piece),
+        fine(replies),
     );
     let found = notes.get();
     ran?;
     Ok(found)
 }
 
-// compact gives back 1 and 3 of the first, close 1 to 3 of the second, and the end 1, 2 and 4 of the first and then 1 to 4
-// of the second. The second has room for four segments of 4,096 bytes.
+// compact gives back 1 and 3 of the first, close 1 to 3 of the second, whose 2 has no block, and the end 1, 2 and 4 of the
+// first, whose 2 has none, and then 1 to 4 of the second. The second has room for four segments of 4,096 bytes.
 #[test]
 fn order(rt: HostRuntime) -> Result<(), Fail> {
+    let alloc = rt.alloc();
     for piece in [1, 4096] {
-        assert!(rt; noted(&rt, rt.alloc(), piece)? == 111_321_222_311_121_421_222_324);
+        let found = noted(&rt, alloc, SCRIPT, REPLIES, piece)?;
+        assert!(rt; found == 111_321_222_311_121_421_222_324);
     }
+    let found = noted(&rt, alloc, OTHER_METHODS, OTHER_REPLIES, 4096)?;
+    assert!(rt; found == 111_213_212_223_313_233_414_243);
     Ok(())
 }

@@ -79,6 +79,18 @@ const ROWS: &[Row] = &[
         out: b"r open\n",
         err: b"vmrep",
     },
+    // That line is one write, behind which a second would fail.
+    Row {
+        script: BAD,
+        piece: 4096,
+        reads: &[],
+        writes: &[],
+        err_writes: &[2],
+        room: 100,
+        status: Status::Script,
+        out: b"r open\n",
+        err: BAD_LINE,
+    },
     // That of the line of another fault.
     Row {
         script: ROW,
@@ -303,6 +315,35 @@ fn gathered(rt: HostRuntime) -> Result<(), Fail> {
     Ok(())
 }
 
+// Three replies to what one read gives, together of 6,149 bytes.
+fn long_replies(alloc: Global) -> Result<Talk, AllocError> {
+    let zeros = Vec::from_elem(alloc, b'0', 2048)?;
+    let mut talk = Talk::new(alloc);
+    talk.say(b"open r best 1\nalloc r a 1024\n", REPLIES)?;
+    for _ in 0..3 {
+        talk.say(b"read r a 0 1024\n", b"a ")?;
+        talk.say(b"", zeros.as_slice())?;
+        talk.say(b"", b"\n")?;
+    }
+    Ok(talk)
+}
+
+// They are one write, behind which a second would fail.
+#[test]
+fn one_write(rt: HostRuntime) -> Result<(), Fail> {
+    let alloc = rt.alloc();
+    let talk = long_replies(alloc)?;
+    let mut shelf = Shelf::new(alloc);
+    put(&rt, &mut shelf, Box::new(alloc, HeapDisc::new(4096))?);
+    let given = Given {
+        writes: &[2],
+        ..ample(talk.script.as_slice(), 10_000)
+    };
+    let expected = fine(talk.out.as_slice());
+    run(&rt, alloc, &[], &mut shelf, given, expected)?;
+    Ok(())
+}
+
 const TOO_LONG: &[u8] = b"vmreplay: line 1: line too long\n";
 
 const UNKNOWN: &[u8] = b"vmreplay: line 1: unknown command\n";
@@ -345,7 +386,7 @@ fn one_word(alloc: Global) -> Result<Vec<String>, AllocError> {
     Ok(words)
 }
 
-// Words behind the program's name are bad, also where that can't be written.
+// Words behind the program's name are bad, also where that can't be written, which is tried in one write.
 #[test]
 fn words(rt: HostRuntime) -> Result<(), Fail> {
     let alloc = rt.alloc();
@@ -359,12 +400,13 @@ fn words(rt: HostRuntime) -> Result<(), Fail> {
             2,
             b"vmreplay: bad arguments\n".as_slice(),
         ),
+        (&[2], Status::Usage, 2, b"vmreplay: bad arguments\n"),
         (&[1], Status::Write, 4, b""),
     ] {
         assert_eq!(rt; status.number(), number);
         let given = Given {
             err_writes,
-            ..ample(ROW, 1)
+            ..ample(ROW, 4096)
         };
         let expected = Expected {
             status,

@@ -1,10 +1,11 @@
-// In what order dictionaries are shut and kinds are told of objects.
+// In what order dictionaries are shut, which objects kinds make, and of which they are told.
 ghost use Rattle.vc_dtdisc.specs.ShapeLaws.{rules-lawful};
 ghost use Rattle.vc_dtdisc.specs.Shapes.{rules_of};
 
 use crate::given::{put, run_kinds};
+use crate::same::same_bytes;
 use std::alloc::{AllocError, Global};
-use std::cell::Cell;
+use std::cell::RefCell;
 use std::cmp::Ordering;
 use std::process::Abort;
 use std::rc::Rc;
@@ -13,13 +14,24 @@ use vc_base::{OutOfMemory, Steps};
 use vc_dtdisc::{BuiltIn, DictDisc, Shape};
 use vc_seg::{HeapDisc, Shelf};
 
-// A kind that notes each object that it is told of, by two digits behind those of earlier ones: its own, and the object's last
-// byte. A u128 has room for 19 notes.
+// Notes behind earlier ones, with ample memory.
+fn note(notes: &Rc<RefCell<Vec<u8>>>, digit: u8, sign: u8, obj: &[u8]) {
+    if let Ok(mut notes) = notes.try_borrow_mut() {
+        let text = &mut *notes;
+        let _ = text.push(digit);
+        let _ = text.push(sign);
+        let _ = text.extend_from_slice(obj);
+        let _ = text.push(b' ');
+    }
+}
+
+// A kind that notes, behind its digit, each prototype that it makes an object of by a plus, and each object that it is told of
+// by a minus.
 #[derive(Drop)]
 struct Noting {
     inner: BuiltIn,
-    digit: u128,
-    notes: Rc<Cell<u128>>,
+    digit: u8,
+    notes: Rc<RefCell<Vec<u8>>>,
 }
 
 impl DictDisc for Noting {
@@ -42,39 +54,52 @@ impl DictDisc for Noting {
     }
 
     fn make(&self, obj: &[u8], out: &mut Vec<u8>) -> Result<(), OutOfMemory> {
+        note(&self.notes, self.digit, b'+', obj);
         self.inner.make(obj, out)
     }
 
     fn freed(&mut self, obj: &[u8]) {
-        let last = obj.last().copied().unwrap_or(b'0');
-        let note = self
-            .digit
-            .wrapping_mul(10)
-            .wrapping_add(u128::from(last.wrapping_sub(b'0')));
-        self.notes
-            .set(self.notes.get().wrapping_mul(100).wrapping_add(note));
+        note(&self.notes, self.digit, b'-', obj);
         self.inner.freed(obj);
     }
 }
 
-// Runs a script that is good over two disciplines and two kinds, whose keys are an object's first byte, and answers what
-// these noted.
-fn noted(rt: &impl Abort, alloc: Global, script: &[u8]) -> Result<u128, AllocError> {
-    let notes = Rc::new(alloc, Cell::new(0))?;
-    let mut shelf = Shelf::new(alloc);
-    for _ in 0..2 {
-        put(rt, &mut shelf, Box::new(alloc, HeapDisc::new(4096))?);
-    }
+// Two kinds whose keys are an object's first byte, and one that makes objects of two bytes.
+fn kinds(alloc: Global, notes: &Rc<RefCell<Vec<u8>>>) -> Result<Vec<Noting>, AllocError> {
     let mut kinds = Vec::new(alloc);
-    for digit in [1, 2] {
+    for (digit, shape) in [
+        (b'1', Shape::Field { off: 0, size: 1 }),
+        (b'2', Shape::Field { off: 0, size: 1 }),
+        (b'3', Shape::Clip { n: 2 }),
+    ] {
         kinds.push(Noting {
-            inner: BuiltIn::new(Shape::Field { off: 0, size: 1 }),
+            inner: BuiltIn::new(shape),
             digit,
             notes: notes.clone()?,
         })?;
     }
+    Ok(kinds)
+}
+
+// Runs a script that is good over two disciplines and these kinds, and looks at what they noted.
+fn is_noted(
+    rt: &impl Abort,
+    alloc: Global,
+    script: &[u8],
+    expected: &[u8],
+) -> Result<(), AllocError> {
+    let notes = Rc::new(alloc, RefCell::new(Vec::new(alloc)))?;
+    let mut shelf = Shelf::new(alloc);
+    for _ in 0..2 {
+        put(rt, &mut shelf, Box::new(alloc, HeapDisc::new(4096))?);
+    }
+    let mut kinds = kinds(alloc, &notes)?;
     run_kinds(rt, alloc, &mut shelf, &mut kinds, script)?;
-    Ok(notes.get())
+    match notes.try_borrow() {
+        Ok(found) => same_bytes(rt, found.as_slice(), expected),
+        Err(_) => assert!(rt; false),
+    }
+    Ok(())
 }
 
 // At the end a stack, an ordered set of the other kind and a queue are shut in order of opening, each told as it is walked.
@@ -91,6 +116,11 @@ insert q c3\n\
 insert q b4\n\
 insert t b7\n\
 insert p a6\n\
+";
+
+const ENDED_NOTES: &[u8] = b"\
+1+a5 1+a1 1+b2 2+c3 2+b4 1+b7 1+a6 \
+1-a6 1-b2 1-a1 2-b4 2-c3 1-a5 1-b7 \
 ";
 
 // A bag becomes a set, which drops 3, 4 and 5; a queue becomes an ordered set, which drops 4 and 3 by their keys; the set is
@@ -120,10 +150,75 @@ detach d a\n\
 insert d b9\n\
 ";
 
+const TAKEN_NOTES: &[u8] = b"\
+1+a1 1+b2 1+a3 1+b4 1+a5 1-a3 1-b4 1-a5 \
+2+b1 2+a2 2+b3 2+a4 2-a4 2-b3 \
+1+c6 1-a1 1-b2 1-c6 \
+1+c7 1+a8 2-a2 2-b1 1-c7 1+b9 1-b9 \
+";
+
+// Of every command that puts an object, takes one out or looks for one: `insert` and `append` make one, `attach` makes none,
+// and the kind is told of the bytes that are there.
+const EACH: &[u8] = b"\
+open r best 1\n\
+dict l list r 3\n\
+insert l a1x\n\
+append l b2x\n\
+attach l c3x\n\
+search l a1x\n\
+match l b2\n\
+first l\n\
+last l\n\
+next l a1x\n\
+prev l b2x\n\
+walk l\n\
+count l\n\
+method l oset\n\
+delete l b2y\n\
+detach l c3y\n\
+delete l z\n\
+delete l\n\
+detach l z\n\
+empty l\n\
+attach l d4x\n\
+insert l e5x\n\
+shut l\n\
+";
+
+const EACH_NOTES: &[u8] = b"3+a1x 3+b2x 3-b2 3-a1 3+e5x 3-d4x 3-e5 ";
+
+// Commands whose object has a byte too many, and of a list two whose method or dictionary isn't right.
+fn refused(alloc: Global) -> Result<Vec<u8>, AllocError> {
+    let long = Vec::from_elem(alloc, b'x', 1025)?;
+    let mut script =
+        b"open r best 1\ndict l list r 1\ndict q queue r 1\nappend q a\ninsert m a\n".to_vec(
+            alloc,
+        )?;
+    for command in [
+        b"insert l ".as_slice(),
+        b"append l ",
+        b"attach l ",
+        b"delete l ",
+        b"detach l ",
+        b"search l ",
+        b"match l ",
+        b"next l ",
+        b"prev l ",
+    ] {
+        script.extend_from_slice(command)?;
+        script.extend_from_slice(long.as_slice())?;
+        script.push(b'\n')?;
+    }
+    Ok(script)
+}
+
 #[test]
 fn told(rt: HostRuntime) -> Result<(), Fail> {
     let alloc = rt.alloc();
-    assert_eq!(rt; noted(&rt, alloc, ENDED)?, 16_121_124_231_517);
-    assert_eq!(rt; noted(&rt, alloc, TAKEN)?, 131_415_242_311_121_622_211_719);
+    is_noted(&rt, alloc, ENDED, ENDED_NOTES)?;
+    is_noted(&rt, alloc, TAKEN, TAKEN_NOTES)?;
+    is_noted(&rt, alloc, EACH, EACH_NOTES)?;
+    let script = refused(alloc)?;
+    is_noted(&rt, alloc, script.as_slice(), b"")?;
     Ok(())
 }

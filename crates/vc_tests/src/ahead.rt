@@ -1,0 +1,207 @@
+// Nothing is read ahead: a read comes when the replies to what came before are written, and none behind a failed write, a bad
+// line or the end of the input.
+ghost use Rattle.std.specs.Prelude.{◌≡◌, ◌≤◌, Some, IfOk, OnErr};
+ghost use Rattle.vc_model.specs.Count.{Rose};
+ghost use Rattle.vc_model.specs.Stream.{Reads, Writes};
+
+use crate::given::put;
+use std::alloc::{AllocError, Global};
+use std::cell::Cell;
+use std::process::Abort;
+use std::rc::Rc;
+use std::test::Fail;
+use vc_base::{MemSink, MemSource, ReadFailed, Sink, Source, WriteFailed};
+use vc_seg::{HeapDisc, Shelf};
+use vc_session::{Status, replay};
+
+// Notes a call, by a digit behind those of earlier ones.
+fn note(notes: &Rc<Cell<u64>>, digit: u64) {
+    notes.set(notes.get().wrapping_mul(10).wrapping_add(digit));
+}
+
+// A source that notes each read as 1.
+#[derive(Drop)]
+struct NotingSource {
+    inner: MemSource,
+    notes: Rc<Cell<u64>>,
+}
+
+impl Source for NotingSource {
+    ghost left = { λ s. Some s.inner.left };
+
+    ghost failures = { λ s. s.inner.faults };
+
+    fn read(&mut self, buf: &mut [u8]) -> Result<usize, ReadFailed> {
+        note(&self.notes, 1);
+        self.inner.read(buf)
+    }
+
+    fn faults(&self) -> u64 {
+        self.inner.faults()
+    }
+}
+
+// A sink that notes each write as a digit.
+#[derive(Drop)]
+struct NotingSink {
+    inner: MemSink,
+    digit: u64,
+    notes: Rc<Cell<u64>>,
+}
+
+impl Sink for NotingSink {
+    ghost written = { λ s. Some s.inner.written };
+
+    ghost failures = { λ s. s.inner.faults };
+
+    fn write(&mut self, piece: &[u8]) -> Result<usize, WriteFailed> {
+        note(&self.notes, self.digit);
+        self.inner.write(piece)
+    }
+
+    fn faults(&self) -> u64 {
+        self.inner.faults()
+    }
+}
+
+fn sink(
+    alloc: Global,
+    fails: &[u64],
+    digit: u64,
+    notes: &Rc<Cell<u64>>,
+) -> Result<NotingSink, AllocError> {
+    match MemSink::new(alloc, 100, 4096, fails.to_vec(alloc)?) {
+        Ok(inner) => Ok(NotingSink {
+            inner,
+            digit,
+            notes: notes.clone()?,
+        }),
+        Err(_) => Err(AllocError),
+    }
+}
+
+// A script that comes in pieces of 14 bytes, each a line; the reads and writes that fail; and how it ends: the calls in order,
+// where 1 is a read, 2 a write of replies and 3 one of the line of what is wrong, and what is left to be read.
+struct Row {
+    script: &'static [u8],
+    reads: &'static [u64],
+    writes: &'static [u64],
+    status: Status,
+    notes: u64,
+    left: &'static [u8],
+}
+
+const ROW: &[u8] = b"open r best 1\nalloc r a 100\n";
+
+const SECOND: &[u8] = b"alloc r a 100\n";
+
+const ROWS: &[Row] = &[
+    Row {
+        script: ROW,
+        reads: &[],
+        writes: &[],
+        status: Status::Ok,
+        notes: 12_121,
+        left: b"",
+    },
+    // A read behind the end would fail.
+    Row {
+        script: ROW,
+        reads: &[4],
+        writes: &[],
+        status: Status::Ok,
+        notes: 12_121,
+        left: b"",
+    },
+    Row {
+        script: ROW,
+        reads: &[3],
+        writes: &[],
+        status: Status::Read,
+        notes: 121_213,
+        left: b"",
+    },
+    Row {
+        script: ROW,
+        reads: &[2],
+        writes: &[],
+        status: Status::Read,
+        notes: 1_213,
+        left: SECOND,
+    },
+    // A write fails.
+    Row {
+        script: ROW,
+        reads: &[],
+        writes: &[1],
+        status: Status::Write,
+        notes: 123,
+        left: SECOND,
+    },
+    Row {
+        script: ROW,
+        reads: &[],
+        writes: &[2],
+        status: Status::Write,
+        notes: 12_123,
+        left: b"",
+    },
+    // The second line is bad.
+    Row {
+        script: b"open r best 1\nfrobnicate it\nalloc r a 100\n",
+        reads: &[],
+        writes: &[],
+        status: Status::Script,
+        notes: 1_213,
+        left: SECOND,
+    },
+    // The first has no reply.
+    Row {
+        script: b"# no reply it\nopen r best 1\nalloc r a 100\n",
+        reads: &[],
+        writes: &[],
+        status: Status::Ok,
+        notes: 112_121,
+        left: b"",
+    },
+];
+
+fn is_run(rt: &impl Abort, alloc: Global, row: &Row) -> Result<(), AllocError> {
+    let notes = Rc::new(alloc, Cell::new(0))?;
+    let mut shelf = Shelf::new(alloc);
+    put(rt, &mut shelf, Box::new(alloc, HeapDisc::new(4096))?);
+    let mut source = NotingSource {
+        inner: MemSource::new(row.script.to_vec(alloc)?, 14, row.reads.to_vec(alloc)?),
+        notes: notes.clone()?,
+    };
+    let mut out = sink(alloc, row.writes, 2, &notes)?;
+    let mut err = sink(alloc, &[], 3, &notes)?;
+    let words = Vec::new(alloc);
+    let status = replay(
+        alloc,
+        words.as_slice(),
+        &mut shelf,
+        &mut source,
+        &mut out,
+        &mut err,
+    );
+    assert!(rt; status == row.status);
+    assert!(rt; notes.get() == row.notes);
+    is_left(rt, &mut source, row.left);
+    Ok(())
+}
+
+// The next read gives that.
+fn is_left(rt: &impl Abort, source: &mut NotingSource, left: &[u8]) {
+    let mut buf = [0; 14];
+    assert!(rt; source.read(&mut buf).unwrap_or(0) == left.len());
+    assert!(rt; buf.starts_with(left));
+}
+
+#[test]
+fn ahead(rt: HostRuntime) -> Result<(), Fail> {
+    for row in ROWS {
+        is_run(&rt, rt.alloc(), row)?;
+    }
+    Ok(())
+}

@@ -1,0 +1,219 @@
+// A lend that is refused, or that finds no memory, isn't made again.
+ghost use Rattle.std.specs.Prelude.{◌≡◌, ◌%◌, Contains, IfOk, OnOk, IsErrOf};
+ghost use Rattle.vc_model.specs.Discipline.{IsRound, IsSegmentSize, Lent, Unserved};
+ghost use Rattle.vc_seg.specs.Budget.{discipline_of};
+ghost use Rattle.vc_seg.specs.Lend.{Returned};
+ghost use Rattle.vc_seg.specs.Segment.{pair_of, zeroed};
+
+use crate::given::{Talk, put, put_number, run_to};
+use crate::same::same_bytes;
+use std::alloc::{AllocError, Global};
+use std::cell::Cell;
+use std::process::Abort;
+use std::rc::Rc;
+use std::test::Fail;
+use vc_dtdisc::{BuiltIn, Shape};
+use vc_seg::{BudgetDisc, LendFault, SegDisc, Segment, Shelf};
+use vc_session::Status;
+
+// A discipline that tells its room and counts its lends. The lend of one number finds no memory.
+#[derive(Drop)]
+struct Counting {
+    inner: BudgetDisc,
+    lends: Rc<Cell<u32>>,
+    without_memory: u32,
+}
+
+impl SegDisc for Counting {
+    ghost state = { λ d. discipline_of d.inner };
+
+    fn round(&self) -> u32 {
+        self.inner.round()
+    }
+
+    fn faults(&self) -> u64 {
+        self.inner.faults()
+    }
+
+    fn room(&self) -> Option<u64> {
+        self.inner.room()
+    }
+
+    fn lend(&mut self, alloc: Global, number: u32, size: u32) -> Result<Segment, LendFault> {
+        let count = self.lends.get().wrapping_add(1);
+        self.lends.set(count);
+        if count == self.without_memory {
+            return Err(LendFault::OutOfMemory);
+        }
+        self.inner.lend(alloc, number, size)
+    }
+
+    fn take_back(&mut self, seg: Segment) {
+        self.inner.take_back(seg);
+    }
+}
+
+// What is run over such a discipline, and how it ends.
+#[derive(Clone, Copy)]
+struct Ends {
+    without_memory: u32,
+    status: Status,
+    err: &'static [u8],
+    lends: u32,
+}
+
+// With memory for every lend.
+fn served(lends: u32) -> Ends {
+    Ends {
+        without_memory: 0,
+        status: Status::Ok,
+        err: b"",
+        lends,
+    }
+}
+
+// With none for the last of so many.
+fn unserved(lends: u32) -> Ends {
+    Ends {
+        without_memory: lends,
+        status: Status::Memory,
+        err: b"dtrun: out of memory\n",
+        lends,
+    }
+}
+
+// Runs a script over one discipline with a budget of 4,096 bytes, looks at its end and at the number of lends, and gives what
+// was written.
+fn ran(rt: &impl Abort, alloc: Global, script: &[u8], ends: Ends) -> Result<Vec<u8>, AllocError> {
+    let lends = Rc::new(alloc, Cell::new(0))?;
+    let disc = Counting {
+        inner: BudgetDisc::new(4096, 4096),
+        lends: lends.clone()?,
+        without_memory: ends.without_memory,
+    };
+    let mut shelf = Shelf::new(alloc);
+    put(rt, &mut shelf, Box::new(alloc, disc)?);
+    let mut kinds = Vec::new(alloc);
+    kinds.push(BuiltIn::new(Shape::Whole))?;
+    let out = run_to(
+        rt,
+        alloc,
+        &mut shelf,
+        &mut kinds,
+        script,
+        ends.status,
+        ends.err,
+    )?;
+    assert!(rt; lends.get() == ends.lends);
+    Ok(out)
+}
+
+// A script and its replies. One segment is lent, and each refusal is one lend more.
+struct Row {
+    script: &'static [u8],
+    out: &'static [u8],
+    lends: u32,
+}
+
+const ROWS: &[Row] = &[
+    Row {
+        script: b"open r best 1\nalloc r a 4000\nalloc r b 4000\n",
+        out: b"r open\na 1:32\nrefused: no segment\n",
+        lends: 2,
+    },
+    Row {
+        script: b"open r best 1\nalloc r a 4000\nalign r b 4000 64\n",
+        out: b"r open\na 1:32\nrefused: no segment\n",
+        lends: 2,
+    },
+    Row {
+        script: b"open r best 1\nalloc r a 4000\nresize r a 5000 move\n",
+        out: b"r open\na 1:32\nrefused: no segment\n",
+        lends: 2,
+    },
+    Row {
+        script: b"open r pool 1\nalloc r a 4000\nalloc r b 4000\n",
+        out: b"r open\na 1:32\nrefused: no segment\n",
+        lends: 2,
+    },
+    Row {
+        script: b"open r last 1\nalloc r a 4000\nalloc r b 4000\nresize r a 5000 move\n",
+        out: b"r open\na 1:32\nrefused: no segment\nrefused: no segment\n",
+        lends: 3,
+    },
+    Row {
+        script: b"open r debug 1\nalloc r a 3900\nalloc r b 3900\nresize r a 5000 move\n",
+        out: b"r open\na 1:64\nrefused: no segment\nrefused: no segment\n",
+        lends: 3,
+    },
+    Row {
+        script: b"open r profile 1\nalloc r a 4000\nalloc r b 4000\nalign r b 4000 64\nresize r a 5000 move\n",
+        out: b"r open\na 1:32\nrefused: no segment\nrefused: no segment\nrefused: no segment\n",
+        lends: 4,
+    },
+    Row {
+        script: b"open r best 1\nalloc r a 4000\ndict d list r 1\ninsert d x\n",
+        out: b"r open\na 1:32\nd open\nrefused: no segment for object\n",
+        lends: 2,
+    },
+    Row {
+        script: b"open r best 1\nalloc r a 4000\ndict d list r 1\nappend d x\nattach d x\n",
+        out: b"r open\na 1:32\nd open\nrefused: no segment for object\nrefused: no segment for object\n",
+        lends: 3,
+    },
+    Row {
+        script: b"open r best 1\nalloc r a 4000\ndict d list r 1\nmethod d set\n",
+        out: b"r open\na 1:32\nd open\nrefused: no segment for table\n",
+        lends: 2,
+    },
+    Row {
+        script: b"open r best 1\nalloc r a 4000\ndict d set r 1\n",
+        out: b"r open\na 1:32\nrefused: no segment for table\n",
+        lends: 2,
+    },
+];
+
+// The 33rd object of a set wants a larger table, for which no gap is left.
+fn full_table(alloc: Global) -> Result<Talk, AllocError> {
+    let mut talk = Talk::new(alloc);
+    talk.say(b"open r best 1\ndict d set r 1\n", b"r open\nd open\n")?;
+    for i in 0..32 {
+        talk.say(b"insert d k", b"new k")?;
+        put_number(&mut talk.script, i)?;
+        put_number(&mut talk.out, i)?;
+        talk.say(b"\n", b"\n")?;
+    }
+    talk.say(
+        b"alloc r f 1840\ninsert d k32\n",
+        b"f 1:2240\nrefused: no segment for table\n",
+    )?;
+    Ok(talk)
+}
+
+#[test]
+fn refused(rt: HostRuntime) -> Result<(), Fail> {
+    let alloc = rt.alloc();
+    for row in ROWS {
+        let out = ran(&rt, alloc, row.script, served(row.lends))?;
+        same_bytes(&rt, out.as_slice(), row.out);
+    }
+    let talk = full_table(alloc)?;
+    let out = ran(&rt, alloc, talk.script.as_slice(), served(2))?;
+    same_bytes(&rt, out.as_slice(), talk.out.as_slice());
+    Ok(())
+}
+
+// The last lend of each script finds no memory, and a further one would.
+#[test]
+fn without_memory(rt: HostRuntime) -> Result<(), Fail> {
+    for (script, lends) in [
+        (b"open r best 1\nalloc r a 100\n".as_slice(), 1),
+        (b"open r best 1\nalign r a 100 64\n", 1),
+        (b"open r best 1\nalloc r a 100\nresize r a 5000 move\n", 2),
+        (b"open r best 1\ndict d list r 1\ninsert d x\n", 1),
+        (b"open r best 1\ndict d list r 1\nmethod d set\n", 1),
+    ] {
+        let _ = ran(&rt, rt.alloc(), script, unserved(lends))?;
+    }
+    Ok(())
+}
