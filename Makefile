@@ -1,9 +1,14 @@
 .POSIX:
 .PHONY: all run test install uninstall
 
+CC = cc
+BIN = bin
 PREFIX = /usr/local
 BINDIR = $(PREFIX)/bin
+LIBDIR = $(BINDIR)/../lib/kolbista
 MANDIR = $(PREFIX)/share/man
+DOCDIR = $(PREFIX)/share/doc/kolbista
+PAGES = vmreplay.1 dtrun.1 vmrecord.1 vmpicture.1 vmcurve.1
 
 # Proves both programs and all below them, runs each on its sample script, and leaves them in bin/.
 all:
@@ -24,24 +29,35 @@ run:
 	@echo 'and the replies:'
 	@cd crates/dtrun && rt try < stdin
 
-# The whole gate.
+# The whole gate, and then the examples and the tools by the programs that it leaves.
 test:
-	rt ci
+	.ci/run
 
-# Installs what make left in bin/, and makes it first where it isn't there.
-install: bin/vmreplay bin/dtrun
-	mkdir -p $(DESTDIR)$(BINDIR) $(DESTDIR)$(MANDIR)/man1
-	cp -f bin/vmreplay bin/dtrun $(DESTDIR)$(BINDIR)
-	chmod 755 $(DESTDIR)$(BINDIR)/vmreplay $(DESTDIR)$(BINDIR)/dtrun
-	cp -f man/vmreplay.1 man/dtrun.1 $(DESTDIR)$(MANDIR)/man1
-	chmod 644 $(DESTDIR)$(MANDIR)/man1/vmreplay.1 $(DESTDIR)$(MANDIR)/man1/dtrun.1
+# Installs what make left in bin/, and makes it first where it isn't there; and the tools, which record needs a C compiler for.
+install: $(BIN)/vmreplay $(BIN)/dtrun
+	mkdir -p $(DESTDIR)$(BINDIR) $(DESTDIR)$(MANDIR)/man1 $(DESTDIR)$(DOCDIR)/examples
+	cp -f $(BIN)/vmreplay $(BIN)/dtrun $(DESTDIR)$(BINDIR)
+	for tool in record picture curve; do cp -f tools/$$tool $(DESTDIR)$(BINDIR)/vm$$tool || exit 1; done
+	cd $(DESTDIR)$(BINDIR) && chmod 755 vmreplay dtrun vmrecord vmpicture vmcurve
+	for page in $(PAGES); do cp -f man/$$page $(DESTDIR)$(MANDIR)/man1 || exit 1; done
+	cp -f docs/script.md $(DESTDIR)$(DOCDIR)
+	cp -f examples/*.vm examples/*.dt examples/*.replies $(DESTDIR)$(DOCDIR)/examples
+	cd $(DESTDIR)$(MANDIR)/man1 && chmod 644 $(PAGES)
+	chmod 644 $(DESTDIR)$(DOCDIR)/script.md $(DESTDIR)$(DOCDIR)/examples/*
+	if command -v $(CC) > /dev/null; then \
+	    mkdir -p $(DESTDIR)$(LIBDIR) && \
+	    $(CC) -O2 -fno-builtin -shared -fPIC -o $(DESTDIR)$(LIBDIR)/record.so tools/record.c -ldl -lpthread; \
+	else \
+	    echo 'vmrecord has no library: there is no C compiler $(CC)'; \
+	fi
 
 uninstall:
-	rm -f $(DESTDIR)$(BINDIR)/vmreplay $(DESTDIR)$(MANDIR)/man1/vmreplay.1
-	rm -f $(DESTDIR)$(BINDIR)/dtrun $(DESTDIR)$(MANDIR)/man1/dtrun.1
+	for name in vmreplay dtrun vmrecord vmpicture vmcurve; do rm -f $(DESTDIR)$(BINDIR)/$$name; done
+	for page in $(PAGES); do rm -f $(DESTDIR)$(MANDIR)/man1/$$page; done
+	rm -rf $(DESTDIR)$(LIBDIR) $(DESTDIR)$(DOCDIR)
 
-bin/vmreplay:
+$(BIN)/vmreplay:
 	$(MAKE) all
 
-bin/dtrun: bin/vmreplay
-	test -x bin/dtrun || $(MAKE) all
+$(BIN)/dtrun: $(BIN)/vmreplay
+	test -x $(BIN)/dtrun || $(MAKE) all

@@ -8,6 +8,7 @@ programs=${1:-$here/../bin}
 for program in vmreplay dtrun; do
     if [ ! -x "$programs/$program" ]; then
         echo "examples/run.sh: no program $programs/$program: run make first" >&2
+        echo '0 passed, 1 failed'
         exit 1
     fi
 done
@@ -33,5 +34,5 @@ for script in "$here"/*.vm "$here"/*.dt; do
         failed=$((failed + 1))
     fi
 done
-echo "$passed scripts gave their replies, $failed did not"
+echo "$passed passed, $failed failed"
 test "$failed" -eq 0 && test "$passed" -gt 0
