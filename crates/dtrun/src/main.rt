@@ -4,7 +4,7 @@
 ghost use Rattle.std.specs.Prelude.{◌≡◌, ◌<◌, length, map, vec_len};
 ghost use Rattle.std.specs.Process.{exit_status};
 ghost use Rattle.vc_main.specs.Places.{shapes};
-ghost use Rattle.vc_session.specs.Replay.{number};
+ghost use Rattle.vc_session.specs.Status.{number};
 
 use std::alloc::Global;
 use std::io::{Stderr, Stdin, Stdout};

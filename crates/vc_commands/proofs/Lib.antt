@@ -1,5 +1,22 @@
 pub mod Named
-mod Found
 mod Ran
 mod Seats
 mod Walked
+pub mod Agreeing
+pub mod Answers
+pub mod Auditing
+pub mod Emptying
+pub mod Firsts
+pub mod FoundBlocks
+pub mod FoundObjects
+pub mod Gone
+pub mod Grants
+pub mod Keeping
+pub mod Listing
+pub mod Lists
+pub mod Moving
+pub mod Names
+pub mod PutBlocks
+pub mod Resizing
+pub mod Seen
+pub mod Touching

@@ -19,8 +19,8 @@ use Rattle.vc_script.specs.declared.command.Command.TheVariants.{Insert, Append,
 use Rattle.vc_script.specs.declared.refusal.Refusal.TheVariants.{NoSegmentForTable, NoSegmentForObject, Size, WrongMethod}
 use Rattle.vc_script.specs.declared.reply.Reply.{Reply}
 use Rattle.vc_script.specs.declared.reply.Reply.TheVariants.{Emptied, Refused}
-use Rattle.vc_commands.specs.Commands.{append_in, delete_in, empty_in, found_in, in_dict, insert_in, is_for_object, is_for_table, is_object, object_asked, put_as, put_object, put_unless, remove_in, removed_as, standing, table_asked, turned_as, where_object}
-use Rattle.vc_commands.specs.Run.{LacksBy}
+use Rattle.vc_commands.specs.DictCommands.{append_in, delete_in, empty_in, found_in, in_dict, insert_in, is_for_object, is_for_table, is_object, object_asked, put_as, put_object, put_unless, remove_in, removed_as, standing, table_asked, turned_as, where_object}
+use Rattle.vc_commands.specs.DictRun.{LacksBy}
 use Rattle.vc_commands.specs.Seat.{DictChanged, Seat, declined}
 
 module _ {L M : Type 0} (f : L → M) where

@@ -22,8 +22,8 @@ use Rattle.vc_script.specs.declared.command.Command.TheVariants.{Insert, Append,
 use Rattle.vc_script.specs.declared.refusal.Refusal.TheVariants.{NoSegmentForTable, NoSegmentForObject, NotYet, WrongMethod}
 use Rattle.vc_script.specs.declared.reply.Reply.{Reply}
 use Rattle.vc_script.specs.declared.reply.Reply.TheVariants.{Objects, Refused}
-use Rattle.vc_commands.specs.Commands.{append_in, asks, in_dict}
-use Rattle.vc_commands.specs.Run.{AskedFor, GivesDict, IsSpent, IsSpentBy, IsStill, LacksFor}
+use Rattle.vc_commands.specs.DictCommands.{append_in, asks, in_dict}
+use Rattle.vc_commands.specs.DictRun.{AskedFor, GivesDict, IsSpent, IsSpentBy, IsStill, LacksFor}
 use Rattle.vc_commands.specs.Seat.{Seat, declined}
 
 -- a reply that needs nothing lacks nothing

@@ -25,8 +25,8 @@ use Rattle.vc_objects.specs.declared.fate.Want.TheVariants as want
 use Rattle.vc_script.specs.Needs.{need_shown}
 use Rattle.vc_script.specs.declared.reply.Reply.{Reply}
 use Rattle.vc_script.specs.declared.reply.Reply.TheVariants.{MethodIs, Refused}
-use Rattle.vc_commands.specs.Commands.{fate_reply, found_in, gone_reply, put_object, removed_as, table_refusal, turned_as}
-use Rattle.vc_commands.specs.Run.{GivesDict, IsStill, seat_in}
+use Rattle.vc_commands.specs.DictCommands.{fate_reply, found_in, gone_reply, put_object, removed_as, table_refusal, turned_as}
+use Rattle.vc_commands.specs.DictRun.{GivesDict, IsStill, seat_in}
 use Rattle.vc_commands.specs.Seat.{DictChanged, Seat}
 
 abbrev seat_by : Rules → Terms → Layout ℕ → Dictionary → Seat ℕ

@@ -1,15 +1,11 @@
-//! The commands on one dictionary: refusals and replies.
+//! The commands on one region, and those on one dictionary: refusals and replies.
 #![tactic(auto)]
 
-mod listing;
-mod looking;
-mod putting;
-mod rows;
-mod running;
-mod taking;
-mod turning;
+mod dict;
+mod region;
 
-pub use running::run;
+pub use dict::{DictEntry, run};
+pub use region::{HomeEntry, Labels};
 
 /// Marks a counter of steps that no one reads.
 struct Uncounted;

@@ -16,11 +16,11 @@ use Rattle.vc_script.specs.declared.command.Command.{Command}
 use Rattle.vc_script.specs.declared.command.Command.TheVariants.{ClearRegion, Compact, Alloc, Align, Resize, Free, WriteBlock, ReadBlock, SizeOf, AddrOf, SegmentOf, StatOf, Segments, Blocks, Poke, Check, Watch, ProfileOf}
 use Rattle.vc_script.specs.declared.refusal.Refusal.{Refusal}
 use Rattle.vc_script.specs.declared.refusal.Refusal.TheVariants as why
-use Rattle.vc_session.specs.Audit.{is_poke, poke_block, poke_byte, watch_block}
-use Rattle.vc_session.specs.Blocks.{align_refused, free_block, freed, has_label, has_room, is_block, is_size, kept_freed, put_by, put_in, put_new, read_block, resize_block, site_of, size_refused, with_named, write_block}
-use Rattle.vc_session.specs.Kept.{Kept, without_name}
-use Rattle.vc_session.specs.State.{Changed, Home, Label, unchanged}
-use Rattle.vc_session.specs.Step.{in_region, is_for_block}
+use Rattle.vc_commands.specs.Audit.{is_poke, poke_block, poke_byte, watch_block}
+use Rattle.vc_commands.specs.Blocks.{align_refused, free_block, freed, has_label, has_room, is_block, is_size, kept_freed, put_by, put_in, put_new, read_block, resize_block, site_of, size_refused, with_named, write_block}
+use Rattle.vc_commands.specs.Kept.{Kept, without_name}
+use Rattle.vc_commands.specs.Home.{Changed, Home, Label, unchanged}
+use Rattle.vc_commands.specs.RegionCommands.{in_region, is_for_block}
 
 abbrev pub IsAs : Bool → Changed → Type 0
 IsAs best c = is_best c.region ≡ best

@@ -17,19 +17,24 @@ use Rattle.vc_script.specs.declared.reply.Reply.TheVariants.{Refused}
 use Rattle.vc_script.specs.declared.refusal.Refusal.TheVariants.{Busy, NoRegion, NoSegment, NoSegmentForTable, NoSegmentForObject}
 use Rattle.vc_script.specs.Needs.{Need, NoNeed, need_shown}
 use Rattle.vc_dtdisc.specs.Rules.{Gone, Rules}
-use Rattle.vc_session.specs.State.{DictHome, Label, State, Stepped, Home, changed, home_named, is_busy, is_home, refused, stepped, with_region}
+use Rattle.vc_session.specs.State.{DictHome, State, Stepped, changed, home_named, is_busy, refused, stepped, with_region}
+use Rattle.vc_commands.specs.Home.{Label, Home, is_home}
 use Rattle.vc_region.specs.Region.{Region}
-use Rattle.vc_session.specs.Kept.{Kept}
+use Rattle.vc_commands.specs.Kept.{Kept}
 use Rattle.vc_session.specs.Dicts.{dict_of, region_named}
-use Rattle.vc_session.specs.Step.{Gives, GivesStep, cleared_or, in_region, opened_in, region_asked, region_of, region_step, shelf_step, step, step_of, step_on}
+use Rattle.vc_commands.specs.RegionRun.{GivesRegion}
+use Rattle.vc_session.specs.Step.{GivesStep, cleared_or, opened_in, region_asked, region_of, region_step, shelf_step, step, step_of, step_on}
+use Rattle.vc_commands.specs.RegionCommands.{in_region}
 use Rattle.vc_session.specs.Run.{refusal_at, place_named, home_place}
 use Rattle.vc_session.specs.Told.{tell}
-use Rattle.vc_session.proofs.Firsts.{IsFirst, first-unmap}
-use Rattle.vc_session.specs.Account.{Account, CountsFaults, Held, Lacks, LacksSegment, held_named, IsChange, IsHeld, IsSession, Settles, account, accounts, account_after, cells_left, home_of, settled, state_of, without_faults}
+use Rattle.vc_commands.proofs.Firsts.{IsFirst, first-unmap}
+use Rattle.vc_session.specs.Account.{Account, CountsFaults, Lacks, held_named, IsHeld, IsSession, Settles, account, accounts, account_after, settled, state_of, without_faults}
+use Rattle.vc_commands.specs.Held.{Held, LacksSegment, IsChange, cells_left, home_of}
 use Rattle.vc_session.proofs.Cells.{at_number-from_one, at_number_some, map-set_alike, set_same}
-use Rattle.vc_session.proofs.Firsts.{find-first, find-set, with_region-first}
+use Rattle.vc_commands.proofs.Firsts.{find-first, find-set}
+use Rattle.vc_session.proofs.FirstHome.{with_region-first}
 use Rattle.vc_session.proofs.Settle.{settled-change, settled-at}
-use Rattle.vc_session.proofs.Grants.{IsPlain}
+use Rattle.vc_commands.proofs.Grants.{IsPlain}
 use Rattle.vc_session.proofs.Settling.{OnlyAt, counts-equal, counts-one, settles-set}
 use Rattle.vc_session.proofs.Sessions.{Slots, apart-session, held-at, session-set}
 
@@ -163,7 +168,7 @@ module _ (slots : Slots) (hs : List Held) (i : ℕ) (h g : Held) (at : slice_get
       let item : first.item ≡ home_of h = same_Some first.item (home_of h) (sym first.at ∙ (slice_get-map home_of hs i ∙ ap (option_map home_of) at)) in
       find-first (is_home r) (map home_of hs) i first ∙ ap (λ k. Some k) item
 
-  pub step-change : (kinds : List Rules) (ds : List DictHome) (gone : List Gone) (r : List ℕ) (line : ℕ) (command : Command) (reply : Reply) → IsFirst (is_home r) (map home_of hs) i → ((x : List ℕ) → command ≡ ClearRegion x → is_busy (state_of kinds slots hs ds) r ≡ false) → Gives (in_region (home_of h) line command (need_shown reply)) ((home_of g).region, (home_of g).kept) reply → GivesStep (step_of (state_of kinds slots hs ds) line command (need_shown reply) (Some r)) gone reply (state_of kinds slots (set hs i g) ds) gone
+  pub step-change : (kinds : List Rules) (ds : List DictHome) (gone : List Gone) (r : List ℕ) (line : ℕ) (command : Command) (reply : Reply) → IsFirst (is_home r) (map home_of hs) i → ((x : List ℕ) → command ≡ ClearRegion x → is_busy (state_of kinds slots hs ds) r ≡ false) → GivesRegion (in_region (home_of h) line command (need_shown reply)) ((home_of g).region, (home_of g).kept) reply → GivesStep (step_of (state_of kinds slots hs ds) line command (need_shown reply) (Some r)) gone reply (state_of kinds slots (set hs i g) ds) gone
   step-change kinds ds gone r line command reply first free gives =
       let s = state_of kinds slots hs ds in
       let need = need_shown reply in

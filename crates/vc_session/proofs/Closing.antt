@@ -1,8 +1,8 @@
 -- What closing a region leaves.
-use Rattle.std.proofs.Common.{◌≡◌, ◌≢◌, ℕ, ◌-◌, ◌≤◌, true, false, cond, List, [], ◌∷◌, ◌++◌, Option, Some, None, length, map, option_map, set, take, zero, suc, refl, sym, ap, ◌∙◌, subst, arith}
+use Rattle.std.proofs.Common.{◌≡◌, ◌≢◌, ℕ, ◌-◌, ◌≤◌, true, false, cond, List, [], ◌∷◌, Option, Some, None, length, map, option_map, set, take, zero, suc, refl, sym, ap, ◌∙◌, subst, arith}
 use Rattle.std.specs.Prelude.{remove, slice_get}
 use Rattle.std.specs.List.{AllByRecursion, list_any}
-use Rattle.std.proofs.lemmas.List.{append-nil, length-append, map-set, set_comm, take_at}
+use Rattle.std.proofs.lemmas.List.{append-nil, map-set, set_comm}
 use Rattle.std.proofs.lemmas.Option.{none-some, same_Some, slice_get-map}
 use Rattle.vc_model.specs.Discipline.{Discipline, TookBack, HasOut}
 use Rattle.vc_region.specs.Region.{segments_of}
@@ -11,21 +11,18 @@ use Rattle.vc_script.specs.declared.refusal.Refusal.TheVariants.{Busy}
 use Rattle.vc_script.specs.declared.reply.Reply.TheVariants.{Closed}
 use Rattle.vc_region.proofs.Relabel.{segments-relabelled}
 use Rattle.vc_dtdisc.specs.Rules.{Rules}
-use Rattle.vc_session.specs.Labels.{name_of}
-use Rattle.vc_session.specs.State.{DictHome, Home, State, stepped, close_home, close_step, closed, home_named, is_busy, is_home, refused, without_home}
-use Rattle.vc_session.specs.Account.{Account, Held, IsSession, account, accounts, account_after, account_back, home_of, settled, state_of}
+use Rattle.vc_commands.specs.Labels.{name_of}
+use Rattle.vc_session.specs.State.{DictHome, State, stepped, close_home, close_step, closed, home_named, is_busy, refused, without_home}
+use Rattle.vc_commands.specs.Home.{Home, is_home}
+use Rattle.vc_session.specs.Account.{Account, IsSession, account, accounts, account_after, account_back, settled, state_of}
+use Rattle.vc_commands.specs.Held.{Held, home_of}
 use Rattle.vc_session.proofs.Cells.{all-remove, at_number-from_one, at_number-zero, at_number_some, map-remove, slice_get-set_other}
-use Rattle.vc_session.proofs.Firsts.{IsFirst, find-first, or-false}
+use Rattle.vc_commands.proofs.Firsts.{IsFirst, find-first, or-false}
 use Rattle.vc_session.proofs.Settle.{IsApart, away-at, low-at}
 use Rattle.vc_seg.specs.Shelf.{place_at, standing}
 use Rattle.vc_seg.specs.declared.shelf.ShelfPlace.TheVariants.{Taken}
 use Rattle.vc_session.proofs.Sessions.{Slots, apart-session}
-
--- what is left of segments that are out, when those of a region are back
-pub front-out : (rest segments out : List (ℕ × ℕ)) → out ≡ rest ++ segments → take (length out - length segments) out ≡ rest
-front-out rest segments out e =
-    ap (λ o. take (length o - length segments) o) e
-    ∙ take_at rest segments (length (rest ++ segments) - length segments) (omega (arith, length-append rest segments))
+use Rattle.vc_commands.proofs.Answers.{front-out}
 
 -- the account of a discipline that has its segments back
 pub account-closed : (d e : Discipline) (segments : List (ℕ × ℕ)) → HasOut d segments → TookBack d e segments [] → account e ≡ account_back d segments

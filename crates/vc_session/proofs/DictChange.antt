@@ -10,15 +10,16 @@ use Rattle.vc_dtdisc.specs.Rules.{Rules}
 use Rattle.vc_objects.specs.Objects.{Dictionary, owned}
 use Rattle.vc_objects.specs.Parts.{IsWhole, dictionary_of}
 use Rattle.vc_region.specs.Region.{is_best}
-use Rattle.vc_session.specs.Account.{Held, held_named}
+use Rattle.vc_commands.specs.Held.{Held}
+use Rattle.vc_session.specs.Account.{held_named}
 use Rattle.vc_session.specs.DictHomes.{AreApart, AreDicts, IsDictOf, cells_held, dict_home, dicts_in}
 use Rattle.vc_session.specs.State.{DictHome}
 use Rattle.vc_session.proofs.Cells.{all-remove}
 use Rattle.vc_session.proofs.DictsStay.{Entry, find-set_other}
 use Rattle.vc_session.proofs.DictKept.{dictionary-kept, owned-there, whole-kept}
-use Rattle.vc_session.proofs.Firsts.{IsFirst, find-first, find-set}
-use Rattle.vc_session.proofs.Keeping.{swapped}
-use Rattle.vc_session.proofs.Names.{same_bytes}
+use Rattle.vc_commands.proofs.Firsts.{IsFirst, find-first, find-set}
+use Rattle.vc_commands.proofs.Keeping.{swapped}
+use Rattle.vc_commands.proofs.Names.{same_bytes}
 
 -- a region keeps its name and its cells, but for the blocks at these addresses before and at those after, and what is new was no cell
 pub record Touches (h g : Held) (mine mine' : List ℕ) : Type 0 where

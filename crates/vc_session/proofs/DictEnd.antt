@@ -15,17 +15,19 @@ use Rattle.vc_script.specs.Needs.{Need, NoNeed}
 use Rattle.vc_script.specs.declared.command.Command.{Command}
 use Rattle.vc_script.specs.declared.command.Command.TheVariants.{Shut}
 use Rattle.vc_script.specs.declared.reply.Reply.TheVariants.{ShutDown}
-use Rattle.vc_session.specs.declared.dicts.DictEntry.{DictEntry}
-use Rattle.vc_session.specs.Account.{Held, held_named, home_of, state_of}
+use Rattle.vc_commands.specs.declared.dict.entry.DictEntry.{DictEntry}
+use Rattle.vc_commands.specs.Held.{Held, home_of}
+use Rattle.vc_session.specs.Account.{held_named, state_of}
 use Rattle.vc_session.specs.DictHomes.{AreDicts, IsDictOf, dict_home, dicts_in}
 use Rattle.vc_session.specs.Dicts.{dict_command, dict_step, is_dict, on_found, on_seat, shut_state, told_of}
-use Rattle.vc_session.specs.State.{State, Stepped, home_named, is_home}
+use Rattle.vc_session.specs.State.{State, Stepped, home_named}
+use Rattle.vc_commands.specs.Home.{is_home}
 use Rattle.vc_session.specs.Step.{GivesStep}
 use Rattle.vc_session.specs.Told.{tell}
 use Rattle.vc_session.proofs.DictChange.{dict-at}
 use Rattle.vc_session.proofs.DictNamed.{dict-found, key-at}
 use Rattle.vc_session.proofs.DictsStay.{Entry}
-use Rattle.vc_session.proofs.Firsts.{IsFirst, find-none}
+use Rattle.vc_commands.proofs.Firsts.{IsFirst, find-none}
 use Rattle.vc_session.proofs.Helds.{some-at}
 use Rattle.vc_session.proofs.Sessions.{Slots}
 

@@ -9,14 +9,14 @@ use Rattle.std.proofs.lemmas.List.Quantifiers.{position-Some}
 use Rattle.std.proofs.lemmas.Option.{none-some, same_Some}
 use Rattle.indexmap.specs.IndexMap.{set_value_at}
 use Rattle.vc_objects.specs.Objects.{Dictionary}
-use Rattle.vc_session.specs.Account.{Held}
+use Rattle.vc_commands.specs.Held.{Held}
 use Rattle.vc_session.specs.DictHomes.{dict_home, dicts_in}
 use Rattle.vc_session.specs.Dicts.{dict_named, is_dict, with_dict}
 use Rattle.vc_session.specs.State.{DictHome}
 use Rattle.vc_session.proofs.DictsStay.{Entry}
-use Rattle.vc_session.proofs.Firsts.{IsFirst, find-first, find-none, first-unmap, or-false}
-use Rattle.vc_session.proofs.Keeping.{swapped}
-use Rattle.vc_session.proofs.Names.{same_bytes}
+use Rattle.vc_commands.proofs.Firsts.{IsFirst, find-first, find-none, first-unmap, or-false}
+use Rattle.vc_commands.proofs.Keeping.{swapped}
+use Rattle.vc_commands.proofs.Names.{same_bytes}
 
 dict-set_at : (d : List ℕ) (dict : Dictionary) (ks : List DictHome) (i : ℕ) (k : DictHome) → slice_get ks i ≡ Some k → is_dict d k ≡ true → list_any (is_dict d) (take i ks) ≡ false → with_dict d dict ks ≡ set ks i (record k { dict = dict })
 dict-set_at d dict [] i k at passes none = absurd (none-some k at)

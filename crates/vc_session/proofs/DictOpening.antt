@@ -23,7 +23,7 @@ use Rattle.vc_objects.specs.Leaves.{HasGrown, LacksTable, RefusedBy}
 use Rattle.vc_objects.specs.Objects.{Dictionary, owned}
 use Rattle.vc_objects.specs.Parts.{IsWhole, dictionary_of}
 use Rattle.vc_objects.proofs.Named.{open_dictionary-named, relabel_grown}
-use Rattle.vc_commands.specs.Commands.{is_for_table, table_refusal}
+use Rattle.vc_commands.specs.DictCommands.{is_for_table, table_refusal}
 use Rattle.vc_script.specs.Needs.{Need, need_shown}
 use Rattle.vc_script.specs.declared.command.Command.TheVariants.{OpenDict}
 use Rattle.vc_script.specs.declared.refusal.Refusal.{Refusal}
@@ -31,15 +31,17 @@ use Rattle.vc_script.specs.declared.refusal.Refusal.TheVariants.{NoSegmentForTab
 use Rattle.vc_script.specs.declared.refusal.Refusal.TheVariants as why
 use Rattle.vc_script.specs.declared.reply.Reply.{Reply}
 use Rattle.vc_script.specs.declared.reply.Reply.TheVariants as reply
-use Rattle.vc_session.specs.Account.{Held, IsChange, IsSession, Settles, accounts, held_named, home_of, settled, state_of}
+use Rattle.vc_commands.specs.Held.{Held, IsChange, home_of}
+use Rattle.vc_session.specs.Account.{IsSession, Settles, accounts, held_named, settled, state_of}
 use Rattle.vc_session.specs.DictHomes.{AreDicts, IsDictOf, cells_held, dict_home, dicts_in}
 use Rattle.vc_session.specs.Dicts.{dict_opened, dict_refused, open_dict_in, open_dict_step, open_dict_unless}
-use Rattle.vc_session.specs.Kept.{Kept}
-use Rattle.vc_session.specs.Labels.{kept_of, name_of}
+use Rattle.vc_commands.specs.Kept.{Kept}
+use Rattle.vc_commands.specs.Labels.{kept_of, name_of}
 use Rattle.vc_session.specs.Lacks.{InHeld, StepLacksFor}
-use Rattle.vc_session.specs.Naming.{TellsTable, table_reply}
+use Rattle.vc_session.specs.Table.{TellsTable, table_reply}
 use Rattle.vc_session.specs.Run.{home_place, refusal_at}
-use Rattle.vc_session.specs.State.{DictHome, Home, Label, State, Stepped, home_named, is_home, with_region}
+use Rattle.vc_session.specs.State.{DictHome, State, Stepped, home_named, with_region}
+use Rattle.vc_commands.specs.Home.{Home, Label, is_home}
 use Rattle.vc_session.specs.Step.{GivesStep}
 use Rattle.vc_session.proofs.RegionSteps.{moment_over}
 use Rattle.vc_session.specs.Steps.{StepsBy}
@@ -48,8 +50,8 @@ use Rattle.vc_session.proofs.BestRegions.{best-named}
 use Rattle.vc_session.proofs.Changing.{gives-same, homes-change, settles-none, settles-one, state-same}
 use Rattle.vc_session.proofs.DictChange.{Touches, clear-none, dicts-kept, dicts-push, homes-kept, homes-push, now-named, was-named}
 use Rattle.vc_session.proofs.DictsStay.{Entry}
-use Rattle.vc_session.proofs.Firsts.{IsFirst, find-first, first-unmap}
-use Rattle.vc_session.proofs.Names.{name-none, same_bytes}
+use Rattle.vc_commands.proofs.Firsts.{IsFirst, find-first, first-unmap}
+use Rattle.vc_commands.proofs.Names.{name-none, same_bytes}
 use Rattle.vc_session.proofs.Sessions.{Slots}
 
 -- what a fault tells where no table is put

@@ -6,7 +6,8 @@ use Rattle.vc_region.specs.Region.{OfBest, OfDebug, OfLast, OfPool, OfProfile, R
 use Rattle.vc_script.specs.declared.refusal.Refusal.{Refusal}
 use Rattle.vc_script.specs.declared.refusal.Refusal.TheVariants as why
 use Rattle.vc_session.specs.Dicts.{dict_limit, dict_refused, is_dict, is_kind}
-use Rattle.vc_session.specs.State.{Home, State}
+use Rattle.vc_commands.specs.Home.{Home}
+use Rattle.vc_session.specs.State.{State}
 
 pub best-relabelled : {L M : Type 0} (f : L → M) (r : Region L) → is_best (relabelled f r) ≡ is_best r
 best-relabelled f (OfBest layout) = refl

@@ -10,11 +10,11 @@ use Rattle.vc_region.proofs.Rest.{rest-segments}
 use Rattle.vc_region.proofs.RestFound.{rest-own}
 use Rattle.vc_region.proofs.Sound.{own_places}
 use Rattle.vc_objects.specs.Leaves.{Leaves}
-use Rattle.vc_session.specs.declared.home.HomeEntry.{HomeEntry}
-use Rattle.vc_session.specs.declared.labels.Labels.{Labels}
-use Rattle.vc_session.specs.Account.{Held, IsChange, IsNamed}
-use Rattle.vc_session.specs.Homes.{held_of}
-use Rattle.vc_session.proofs.Answers.{KeepsOut, changed-by}
+use Rattle.vc_commands.specs.declared.region.home.HomeEntry.{HomeEntry}
+use Rattle.vc_commands.specs.declared.region.labels.Labels.{Labels}
+use Rattle.vc_commands.specs.Held.{Held, IsChange, IsNamed}
+use Rattle.vc_commands.specs.RegionRun.{held_of}
+use Rattle.vc_commands.proofs.Answers.{KeepsOut, changed-by}
 use Rattle.vc_session.proofs.DictChange.{Touches}
 use Rattle.vc_session.proofs.Unlabelled.{named-labelled}
 

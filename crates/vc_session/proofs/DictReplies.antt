@@ -19,7 +19,7 @@ use Rattle.vc_script.specs.declared.command.Command.TheVariants.{Insert, Append,
 use Rattle.vc_script.specs.declared.refusal.Refusal.TheVariants as why
 use Rattle.vc_script.specs.declared.reply.Reply.{Reply}
 use Rattle.vc_script.specs.declared.reply.Reply.TheVariants as reply
-use Rattle.vc_commands.specs.Commands.{delete_in, fate_reply, found_in, gone_reply, in_dict, insert_in, is_for_object, is_for_table, is_object, object_refusal, put_object, put_unless, removed_as, standing, table_refusal, turned_as, where_object}
+use Rattle.vc_commands.specs.DictCommands.{delete_in, fate_reply, found_in, gone_reply, in_dict, insert_in, is_for_object, is_for_table, is_object, object_refusal, put_object, put_unless, removed_as, standing, table_refusal, turned_as, where_object}
 use Rattle.vc_commands.specs.Seat.{DictChanged, Seat, declined}
 
 abbrev pub IsOther : Reply → Type 0

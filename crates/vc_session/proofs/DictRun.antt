@@ -17,23 +17,26 @@ use Rattle.vc_best.specs.declared.best.Best.{Best}
 use Rattle.vc_objects.specs.Leaves.{LeavesRest}
 use Rattle.vc_objects.specs.Objects.{owned}
 use Rattle.vc_objects.specs.Parts.{IsWhole, dictionary_in}
-use Rattle.vc_commands.specs.Commands.{in_dict}
-use Rattle.vc_commands.specs.Run.{AskedBy, GivesDict, IsSpentBy, LacksBy, seat_in}
+use Rattle.vc_commands.specs.DictCommands.{in_dict}
+use Rattle.vc_commands.specs.DictRun.{AskedBy, GivesDict, IsSpentBy, LacksBy, seat_in}
 use Rattle.vc_commands.specs.Seat.{Seat}
 use Rattle.vc_script.specs.Needs.{Need, need_shown}
 use Rattle.vc_script.specs.declared.command.Command.{Command}
 use Rattle.vc_script.specs.declared.command.Command.TheVariants.{Shut}
 use Rattle.vc_script.specs.declared.reply.Reply.{Reply}
-use Rattle.vc_session.specs.declared.dicts.DictEntry.{DictEntry}
-use Rattle.vc_session.specs.declared.home.HomeEntry.{HomeEntry}
-use Rattle.vc_session.specs.declared.labels.Labels.{Labels}
-use Rattle.vc_session.specs.Account.{Held, IsChange, IsHeld, IsSession, Settles, accounts, home_of, settled, state_of}
+use Rattle.vc_commands.specs.declared.dict.entry.DictEntry.{DictEntry}
+use Rattle.vc_commands.specs.declared.region.home.HomeEntry.{HomeEntry}
+use Rattle.vc_commands.specs.declared.region.labels.Labels.{Labels}
+use Rattle.vc_commands.specs.Held.{Held, IsChange, home_of}
+use Rattle.vc_session.specs.Account.{IsHeld, IsSession, Settles, accounts, settled, state_of}
 use Rattle.vc_session.specs.DictHomes.{AreDicts, IsDictOf, dict_home, dicts_in}
 use Rattle.vc_session.specs.Dicts.{dict_changed, dict_command, dict_of, dict_step, is_dict, seat_of}
-use Rattle.vc_session.specs.Homes.{held_all, held_of}
+use Rattle.vc_session.specs.Homes.{held_all}
+use Rattle.vc_commands.specs.RegionRun.{held_of}
 use Rattle.vc_session.specs.Lacks.{IsCutOff, StepLacksFor}
 use Rattle.vc_session.specs.Run.{refusal_at}
-use Rattle.vc_session.specs.State.{DictHome, Home, State, is_home}
+use Rattle.vc_session.specs.State.{DictHome, State}
+use Rattle.vc_commands.specs.Home.{Home, is_home}
 use Rattle.vc_session.specs.Moment.{Moment}
 use Rattle.vc_session.specs.Step.{GivesStep}
 use Rattle.vc_session.specs.Steps.{StepsBy}
@@ -45,7 +48,7 @@ use Rattle.vc_session.proofs.DictRegion.{best_entry, region-change, touches}
 use Rattle.vc_session.proofs.DictReplies.{IsOther, other-dict}
 use Rattle.vc_session.proofs.DictStep.{cut-after, dicts-after, lacks-after, settles-after, step-after, whole-here}
 use Rattle.vc_session.proofs.DictsStay.{Entry}
-use Rattle.vc_session.proofs.Firsts.{IsFirst}
+use Rattle.vc_commands.proofs.Firsts.{IsFirst}
 use Rattle.vc_session.proofs.Helds.{first-named, held-read, held-set, index-within, length-set, name-at, some-at}
 use Rattle.vc_session.proofs.Sessions.{Slots, held-at}
 

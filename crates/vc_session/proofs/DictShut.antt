@@ -16,19 +16,21 @@ use Rattle.vc_objects.specs.Objects.{Dictionary, owned}
 use Rattle.vc_objects.specs.Parts.{IsWhole, dictionary_of}
 use Rattle.vc_objects.specs.Remove.{region_without}
 use Rattle.vc_objects.proofs.Named.{region_without-named}
-use Rattle.vc_session.specs.Account.{Held, IsChange, IsSession, held_named, home_of, state_of}
+use Rattle.vc_commands.specs.Held.{Held, IsChange, home_of}
+use Rattle.vc_session.specs.Account.{IsSession, held_named, state_of}
 use Rattle.vc_session.specs.DictHomes.{AreDicts, IsDictOf, cells_held, dict_home, dicts_in}
 use Rattle.vc_session.specs.Dicts.{is_dict, shut_in, shut_state, without_dict}
-use Rattle.vc_session.specs.Labels.{kept_of, name_of}
-use Rattle.vc_session.specs.State.{DictHome, Home, Label, State, home_named, is_home, with_region}
+use Rattle.vc_commands.specs.Labels.{kept_of, name_of}
+use Rattle.vc_session.specs.State.{DictHome, State, home_named, with_region}
+use Rattle.vc_commands.specs.Home.{Home, Label, is_home}
 use Rattle.vc_session.proofs.BestRegions.{best-named}
 use Rattle.vc_session.proofs.Cells.{map-remove}
 use Rattle.vc_session.proofs.Changing.{homes-change}
 use Rattle.vc_session.proofs.DictChange.{IsClear, Touches, clear-others, dict-at, dicts-kept, dicts-remove, homes-kept}
 use Rattle.vc_session.proofs.DictNamed.{home-at}
 use Rattle.vc_session.proofs.DictsStay.{Entry}
-use Rattle.vc_session.proofs.Firsts.{IsFirst, find-first, first-unmap, or-false}
-use Rattle.vc_session.proofs.Keeping.{swapped}
+use Rattle.vc_commands.proofs.Firsts.{IsFirst, find-first, first-unmap, or-false}
+use Rattle.vc_commands.proofs.Keeping.{swapped}
 use Rattle.vc_session.proofs.Sessions.{Slots}
 
 without-at : (d : List ℕ) (ks : List DictHome) (i : ℕ) (k : DictHome) → slice_get ks i ≡ Some k → is_dict d k ≡ true → list_any (is_dict d) (take i ks) ≡ false → without_dict d ks ≡ remove ks i

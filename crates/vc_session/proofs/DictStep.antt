@@ -21,8 +21,8 @@ use Rattle.vc_objects.specs.Leaves.{HasGrown, LacksHolder, LacksTable}
 use Rattle.vc_objects.specs.Objects.{Dictionary, owned}
 use Rattle.vc_objects.specs.Parts.{IsWhole, dictionary_of}
 use Rattle.vc_objects.proofs.Named.{grow-named, relabel_grown}
-use Rattle.vc_commands.specs.Commands.{in_dict, object_asked, table_asked}
-use Rattle.vc_commands.specs.Run.{GivesDict, IsSpent, IsSpentBy, LacksBy}
+use Rattle.vc_commands.specs.DictCommands.{in_dict, object_asked, table_asked}
+use Rattle.vc_commands.specs.DictRun.{GivesDict, IsSpent, IsSpentBy, LacksBy}
 use Rattle.vc_commands.specs.Seat.{DictChanged, Seat}
 use Rattle.vc_commands.proofs.Named.{in_dict-named, lacks-named, relabel_changed, relabel_seat}
 use Rattle.vc_script.specs.Needs.{Need, need_shown}
@@ -31,13 +31,15 @@ use Rattle.vc_script.specs.declared.command.Command.TheVariants.{Insert, Attach,
 use Rattle.vc_script.specs.declared.refusal.Refusal.TheVariants.{NoSegment, NoSegmentForTable, NoSegmentForObject}
 use Rattle.vc_script.specs.declared.reply.Reply.{Reply}
 use Rattle.vc_script.specs.declared.reply.Reply.TheVariants.{Refused}
-use Rattle.vc_session.specs.Account.{Held, IsChange, IsSession, Settles, accounts, held_named, home_of, settled, state_of}
+use Rattle.vc_commands.specs.Held.{Held, IsChange, home_of}
+use Rattle.vc_session.specs.Account.{IsSession, Settles, accounts, held_named, settled, state_of}
 use Rattle.vc_session.specs.DictHomes.{AreDicts, IsDictOf, cells_held, dict_home, dicts_in}
 use Rattle.vc_session.specs.Dicts.{dict_changed, dict_command, dict_named, dict_of, dict_step, is_dict, on_found, on_seat, region_named, seat_of, with_dict}
-use Rattle.vc_session.specs.Labels.{kept_of, name_of}
+use Rattle.vc_commands.specs.Labels.{kept_of, name_of}
 use Rattle.vc_session.specs.Lacks.{CommandLacks, DictLacks, GrewBy, GrewFor, GrewIn, InHeld, IsCutOff, SeatLacks, StepLacksFor, dict_at}
 use Rattle.vc_session.specs.Run.{home_place, place_named, refusal_at}
-use Rattle.vc_session.specs.State.{DictHome, Home, Label, State, Stepped, home_named, is_home, with_region}
+use Rattle.vc_session.specs.State.{DictHome, State, Stepped, home_named, with_region}
+use Rattle.vc_commands.specs.Home.{Home, Label, is_home}
 use Rattle.vc_session.specs.Step.{GivesStep, opened_in, region_asked}
 use Rattle.vc_session.specs.Told.{tell}
 use Rattle.vc_session.proofs.BestRegions.{best-is, best-named}
@@ -48,8 +50,9 @@ use Rattle.vc_session.proofs.DictNamed.{dict-found, dict-set, home-at}
 use Rattle.vc_session.proofs.DictReplies.{IsOther}
 use Rattle.vc_session.proofs.DictTold.{tell-each}
 use Rattle.vc_session.proofs.DictsStay.{Entry}
-use Rattle.vc_session.proofs.Firsts.{IsFirst, find-first, first-unmap, with_region-first}
-use Rattle.vc_session.proofs.Names.{name-none}
+use Rattle.vc_commands.proofs.Firsts.{IsFirst, find-first, first-unmap}
+use Rattle.vc_session.proofs.FirstHome.{with_region-first}
+use Rattle.vc_commands.proofs.Names.{name-none}
 use Rattle.vc_session.proofs.Sessions.{Slots}
 
 table-rose : (o : Option ℕ) (old new : Discipline) → LacksTable o old new → Rose old.faults new.faults

@@ -10,20 +10,22 @@ use Rattle.vc_model.specs.Numbered.{at_number}
 use Rattle.vc_dtdisc.specs.Rules.{Rules}
 use Rattle.vc_region.specs.Cells.{rest_in}
 use Rattle.vc_region.specs.Region.{is_best}
-use Rattle.vc_session.specs.declared.dicts.DictEntry.{DictEntry}
-use Rattle.vc_session.specs.declared.home.HomeEntry.{HomeEntry}
-use Rattle.vc_session.specs.declared.labels.Labels.{Labels}
-use Rattle.vc_session.specs.Account.{Held, IsSession, home_of}
+use Rattle.vc_commands.specs.declared.dict.entry.DictEntry.{DictEntry}
+use Rattle.vc_commands.specs.declared.region.home.HomeEntry.{HomeEntry}
+use Rattle.vc_commands.specs.declared.region.labels.Labels.{Labels}
+use Rattle.vc_commands.specs.Held.{Held, home_of}
+use Rattle.vc_session.specs.Account.{IsSession}
 use Rattle.vc_session.specs.DictHomes.{AreDicts, IsDictOf, dicts_in}
 use Rattle.vc_session.specs.Dicts.{is_dict}
-use Rattle.vc_session.specs.Homes.{held_all, held_of}
-use Rattle.vc_session.specs.State.{is_home}
+use Rattle.vc_session.specs.Homes.{held_all}
+use Rattle.vc_commands.specs.RegionRun.{held_of}
+use Rattle.vc_commands.specs.Home.{is_home}
 use Rattle.vc_session.proofs.DictChange.{dict-at}
 use Rattle.vc_session.proofs.DictNamed.{first-dict, key-at}
 use Rattle.vc_session.proofs.DictRun.{pair-read}
 use Rattle.vc_session.proofs.DictStep.{best-here}
 use Rattle.vc_session.proofs.DictsStay.{Entry}
-use Rattle.vc_session.proofs.Firsts.{IsFirst}
+use Rattle.vc_commands.proofs.Firsts.{IsFirst}
 use Rattle.vc_session.proofs.Helds.{first-named, held-read, index-within, name-at, some-at}
 use Rattle.vc_session.proofs.Sessions.{Slots}
 

@@ -11,11 +11,13 @@ use Rattle.vc_script.specs.declared.refusal.Refusal.{Refusal}
 use Rattle.vc_script.specs.declared.refusal.Refusal.TheVariants as why
 use Rattle.vc_script.specs.declared.reply.Reply.TheVariants.{Refused}
 use Rattle.vc_region.specs.Region.{is_best}
-use Rattle.vc_session.specs.Account.{Account, Held, Settles}
+use Rattle.vc_session.specs.Account.{Account, Settles}
+use Rattle.vc_commands.specs.Held.{Held}
 use Rattle.vc_session.specs.Dicts.{dict_limit, dict_refused, is_dict, is_kind}
 use Rattle.vc_session.specs.Lacks.{StepLacksFor}
 use Rattle.vc_session.specs.Run.{refusal_at}
-use Rattle.vc_session.specs.State.{Home, State}
+use Rattle.vc_commands.specs.Home.{Home}
+use Rattle.vc_session.specs.State.{State}
 use Rattle.vc_session.proofs.Settling.{settles-same}
 
 -- none of them is the want of a segment

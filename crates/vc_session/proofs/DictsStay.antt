@@ -10,13 +10,15 @@ use Rattle.vc_dtdisc.specs.Rules.{Rules}
 use Rattle.vc_objects.specs.Objects.{owned}
 use Rattle.vc_objects.specs.Parts.{IsWhole, dictionary_of}
 use Rattle.vc_region.specs.Region.{is_best}
-use Rattle.vc_session.specs.declared.dicts.DictEntry.{DictEntry}
-use Rattle.vc_session.specs.Account.{Held, held_named, home_of}
+use Rattle.vc_commands.specs.declared.dict.entry.DictEntry.{DictEntry}
+use Rattle.vc_commands.specs.Held.{Held, home_of}
+use Rattle.vc_session.specs.Account.{held_named}
 use Rattle.vc_session.specs.DictHomes.{AreApart, AreDicts, IsDictOf, cells_held, dict_home, dicts_in, lies_in}
-use Rattle.vc_session.specs.State.{DictHome, is_home}
-use Rattle.vc_session.proofs.Firsts.{IsFirst, any-unmap, find-first, find-set, first-unmap, or-false}
-use Rattle.vc_session.proofs.Keeping.{swapped}
-use Rattle.vc_session.proofs.Names.{same_bytes}
+use Rattle.vc_session.specs.State.{DictHome}
+use Rattle.vc_commands.specs.Home.{is_home}
+use Rattle.vc_commands.proofs.Firsts.{IsFirst, any-unmap, find-first, find-set, first-unmap, or-false}
+use Rattle.vc_commands.proofs.Keeping.{swapped}
+use Rattle.vc_commands.proofs.Names.{same_bytes}
 
 abbrev pub Entry : Type 0
 Entry = List ℕ × DictEntry

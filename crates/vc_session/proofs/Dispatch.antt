@@ -12,7 +12,7 @@ use Rattle.vc_region.specs.Stat.{opened}
 use Rattle.vc_objects.specs.Insert.{Grown, open_dictionary, want_of}
 use Rattle.vc_objects.specs.declared.fate.Want.{Want}
 use Rattle.vc_objects.specs.declared.fate.Want.TheVariants as want
-use Rattle.vc_commands.specs.Commands.{is_for_table, table_refusal}
+use Rattle.vc_commands.specs.DictCommands.{is_for_table, table_refusal}
 use Rattle.vc_script.specs.Needs.{Need, need_shown}
 use Rattle.vc_script.specs.declared.command.Command.{Command}
 use Rattle.vc_script.specs.declared.command.Command.TheVariants.{OpenRegion, CloseRegion, OpenDict, Shut}
@@ -21,18 +21,20 @@ use Rattle.vc_script.specs.declared.refusal.Refusal.TheVariants as why
 use Rattle.vc_script.specs.declared.reply.Reply.{Reply}
 use Rattle.vc_script.specs.declared.reply.Reply.TheVariants.{Refused}
 use Rattle.vc_seg.specs.declared.method.Method.{Method}
-use Rattle.vc_session.specs.Account.{Account, Held, Settles}
+use Rattle.vc_session.specs.Account.{Account, Settles}
+use Rattle.vc_commands.specs.Held.{Held}
 use Rattle.vc_session.specs.Dicts.{dict_command, dict_named, dict_of, dict_opened, dict_refused, dict_step, on_found, on_seat, open_dict_in, open_dict_unless, seat_of}
 use Rattle.vc_session.specs.Homes.{HoldsDicts, held_in, settled_over, state_over}
 use Rattle.vc_session.specs.Lacks.{IsCutOff, StepLacksFor}
 use Rattle.vc_session.specs.declared.session.Session.{Session}
 use Rattle.vc_seg.specs.declared.shelf.Shelf.{Shelf}
 use Rattle.vc_session.specs.Run.{refusal_at}
-use Rattle.vc_session.specs.State.{DictHome, Home, Label, State, Stepped, close_home, close_step, closed, home_named, is_busy, is_home, open_step, opened_over, refused, stepped}
+use Rattle.vc_session.specs.State.{DictHome, State, Stepped, close_home, close_step, closed, home_named, is_busy, open_step, opened_over, refused, stepped}
+use Rattle.vc_commands.specs.Home.{Home, Label, is_home}
 use Rattle.vc_session.specs.Step.{GivesStep, shelf_step}
 use Rattle.vc_session.proofs.CutOff.{cut-same}
 use Rattle.vc_session.proofs.DictReplies.{IsOther, other-dict}
-use Rattle.vc_session.proofs.Grants.{IsGranted}
+use Rattle.vc_commands.proofs.Grants.{IsGranted}
 use Rattle.vc_session.proofs.OnShelf.{if_ok, ok-at, on_error}
 
 -- a step that tells no kind and is granted no segment

@@ -9,11 +9,13 @@ use Rattle.std.proofs.lemmas.Slice.Eq.{bytes_eq-Decides}
 use Rattle.vc_model.specs.Discipline.{Discipline}
 use Rattle.vc_dtdisc.specs.Rules.{Gone, Rules}
 use Rattle.vc_objects.specs.Remove.{bytes_of}
-use Rattle.vc_session.specs.declared.dicts.DictEntry.{DictEntry}
-use Rattle.vc_session.specs.Account.{Held, held_named, home_of, state_of}
+use Rattle.vc_commands.specs.declared.dict.entry.DictEntry.{DictEntry}
+use Rattle.vc_commands.specs.Held.{Held, home_of}
+use Rattle.vc_session.specs.Account.{held_named, state_of}
 use Rattle.vc_session.specs.DictHomes.{AreDicts, dict_home, dicts_in}
 use Rattle.vc_session.specs.Dicts.{shut_in, shut_state, told_of, without_dict}
-use Rattle.vc_session.specs.State.{DictHome, Home, State, home_named}
+use Rattle.vc_session.specs.State.{DictHome, State, home_named}
+use Rattle.vc_commands.specs.Home.{Home}
 use Rattle.vc_session.specs.Told.{ended_told, tell}
 use Rattle.vc_session.proofs.Cells.{at_number_some}
 use Rattle.vc_session.proofs.Told.{tell-append}

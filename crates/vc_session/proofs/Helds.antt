@@ -10,13 +10,14 @@ use Rattle.std.proofs.lemmas.Option.{same_Some, none-some}
 use Rattle.std.proofs.lemmas.Slice.Eq.{bytes_eq-Decides}
 use Rattle.indexmap.specs.IndexMap.{set_value_at}
 use Rattle.vc_model.specs.Discipline.{Discipline}
-use Rattle.vc_session.specs.declared.home.HomeEntry.{HomeEntry}
-use Rattle.vc_session.specs.declared.labels.Labels.{Labels}
-use Rattle.vc_session.specs.State.{Home, is_home}
-use Rattle.vc_session.specs.Account.{home_of}
-use Rattle.vc_session.specs.Homes.{held_of, held_all}
-use Rattle.vc_session.proofs.Firsts.{IsFirst, first-unmap}
-use Rattle.vc_session.proofs.Names.{other_bytes, same_bytes}
+use Rattle.vc_commands.specs.declared.region.home.HomeEntry.{HomeEntry}
+use Rattle.vc_commands.specs.declared.region.labels.Labels.{Labels}
+use Rattle.vc_commands.specs.Home.{Home, is_home}
+use Rattle.vc_commands.specs.Held.{home_of}
+use Rattle.vc_commands.specs.RegionRun.{held_of}
+use Rattle.vc_session.specs.Homes.{held_all}
+use Rattle.vc_commands.proofs.Firsts.{IsFirst, first-unmap}
+use Rattle.vc_commands.proofs.Names.{other_bytes, same_bytes}
 
 pub swapped : (x y : List ℕ) → bytes_eq x y ≡ bytes_eq y x
 swapped x y =

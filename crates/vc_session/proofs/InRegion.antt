@@ -10,18 +10,22 @@ use Rattle.vc_script.specs.declared.refusal.Refusal.TheVariants.{NoSegment, NoSe
 use Rattle.vc_script.specs.declared.reply.Reply.{Reply}
 use Rattle.vc_script.specs.declared.reply.Reply.TheVariants.{Refused}
 use Rattle.vc_region.specs.Region.{Region, is_best}
-use Rattle.vc_session.specs.Account.{Held, StepLacks, cells_left, home_of}
+use Rattle.vc_commands.specs.Held.{Held, cells_left, home_of}
+use Rattle.vc_session.specs.Account.{StepLacks}
 use Rattle.vc_session.specs.DictHomes.{lies_in}
-use Rattle.vc_session.specs.Kept.{Kept}
-use Rattle.vc_session.specs.Labels.{name_of}
+use Rattle.vc_commands.specs.Kept.{Kept}
+use Rattle.vc_commands.specs.Labels.{name_of}
 use Rattle.vc_session.specs.Lacks.{StepLacksFor}
-use Rattle.vc_session.specs.State.{Label, State, is_home}
-use Rattle.vc_session.specs.Step.{Gives, in_region, is_clear}
+use Rattle.vc_commands.specs.Home.{Label, is_home}
+use Rattle.vc_session.specs.State.{State}
+use Rattle.vc_commands.specs.RegionRun.{GivesRegion}
+use Rattle.vc_commands.specs.RegionCommands.{in_region}
+use Rattle.vc_session.specs.Step.{is_clear}
 use Rattle.vc_session.proofs.BestStays.{region-best, relabelled-best}
 use Rattle.vc_session.proofs.DictsStay.{Entry, Stays, all-other, all-stay, its-name, stays-elsewhere, stays-set_cells}
-use Rattle.vc_session.proofs.Firsts.{IsFirst}
-use Rattle.vc_session.proofs.Grants.{IsPlain}
-use Rattle.vc_session.proofs.Names.{same_bytes}
+use Rattle.vc_commands.proofs.Firsts.{IsFirst}
+use Rattle.vc_commands.proofs.Grants.{IsPlain}
+use Rattle.vc_commands.proofs.Names.{same_bytes}
 
 -- a fact of each answer follows from another
 pub if_ok_at : {T E : Type 0} (r : Result T E) (P Q : T → Type 0) → ((x : T) → r ≡ Ok x → P x → Q x) → IfOk r P → IfOk r Q
@@ -51,7 +55,7 @@ lacks-plain s before after command (Refused NoSegmentForObject) plain lacks = ab
 lacks-plain s before after command reply plain lacks = tt
 
 -- the region is best, if it was
-pub run-best : {E : Type 0} (h k : Held) (line : ℕ) (command : Command) (r : Result Reply E) → IfOk r (λ reply. Gives (in_region (home_of h) line command (need_shown reply)) ((home_of k).region, (home_of k).kept) reply) → OnErr r ((let p : Region Label × Kept = ((home_of k).region, (home_of k).kept) in p) ≡ ((home_of h).region, (home_of h).kept)) → is_best k.region ≡ is_best h.region
+pub run-best : {E : Type 0} (h k : Held) (line : ℕ) (command : Command) (r : Result Reply E) → IfOk r (λ reply. GivesRegion (in_region (home_of h) line command (need_shown reply)) ((home_of k).region, (home_of k).kept) reply) → OnErr r ((let p : Region Label × Kept = ((home_of k).region, (home_of k).kept) in p) ≡ ((home_of h).region, (home_of h).kept)) → is_best k.region ≡ is_best h.region
 run-best h k line command (Ok reply) ok err =
     sym (relabelled-best (name_of k.labels) k.region)
     ∙ (ap (λ (r : Region Label). is_best r) (sym ok.region_after)

@@ -11,11 +11,13 @@ use Rattle.vc_region.specs.Parts.{disc_in, region_of}
 use Rattle.vc_region.specs.Stat.{opened}
 use Rattle.vc_seg.specs.declared.method.Method.{Method}
 use Rattle.vc_script.specs.declared.reply.Reply.TheVariants.{Opened}
-use Rattle.vc_session.specs.declared.home.HomeEntry.{HomeEntry}
-use Rattle.vc_session.specs.declared.labels.Labels.{Labels}
-use Rattle.vc_session.specs.Account.{Held, IsSession, accounts, settled, state_of}
+use Rattle.vc_commands.specs.declared.region.home.HomeEntry.{HomeEntry}
+use Rattle.vc_commands.specs.declared.region.labels.Labels.{Labels}
+use Rattle.vc_commands.specs.Held.{Held}
+use Rattle.vc_session.specs.Account.{IsSession, accounts, settled, state_of}
 use Rattle.vc_session.specs.DictHomes.{AreDicts, dicts_in}
-use Rattle.vc_session.specs.Homes.{held_all, held_of}
+use Rattle.vc_session.specs.Homes.{held_all}
+use Rattle.vc_commands.specs.RegionRun.{held_of}
 use Rattle.vc_session.specs.State.{open_step, stepped}
 use Rattle.vc_session.proofs.DictsStay.{Entry, all-stay, dicts-stay, dicts_in-stay, stays-push}
 use Rattle.vc_session.proofs.Helds.{any-named, held-new}

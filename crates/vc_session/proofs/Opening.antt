@@ -19,15 +19,17 @@ use Rattle.vc_seg.specs.Shelf.{place_at, standing}
 use Rattle.vc_seg.specs.declared.shelf.ShelfPlace.TheVariants.{Here}
 use Rattle.vc_script.specs.declared.reply.Reply.TheVariants.{Opened}
 use Rattle.vc_script.specs.declared.refusal.Refusal.TheVariants.{RegionExists}
-use Rattle.vc_session.specs.State.{DictHome, Home, Label, State, is_home, open_step, opened_over, refused, stepped}
+use Rattle.vc_session.specs.State.{DictHome, State, open_step, opened_over, refused, stepped}
+use Rattle.vc_commands.specs.Home.{Home, Label, is_home}
 use Rattle.slab.specs.Slab.{slab_len}
-use Rattle.vc_session.specs.declared.labels.Labels.{Labels}
-use Rattle.vc_session.specs.Labels.{AreLabels, kept_of, name_of, tag_of}
-use Rattle.vc_session.specs.Account.{Account, Held, IsLive, IsNamed, IsSession, account, accounts, account_after, home_of, settled, state_of, tag_count}
-use Rattle.vc_session.specs.Homes.{not_here as why_not}
+use Rattle.vc_commands.specs.declared.region.labels.Labels.{Labels}
+use Rattle.vc_commands.specs.Labels.{AreLabels, kept_of, name_of, tag_of}
+use Rattle.vc_session.specs.Account.{Account, IsSession, account, accounts, account_after, settled, state_of}
+use Rattle.vc_commands.specs.Held.{Held, IsLive, IsNamed, home_of, tag_count}
+use Rattle.vc_session.specs.State.{not_here as why_not}
 use Rattle.vc_session.proofs.Cells.{at_number-from_one, at_number_some, slice_get-set_same, at_number-map, set_same}
-use Rattle.vc_session.proofs.Closing.{front-out}
-use Rattle.vc_session.proofs.Names.{has-label-any, named_by}
+use Rattle.vc_commands.proofs.Answers.{front-out}
+use Rattle.vc_commands.proofs.Names.{has-label-any, named_by}
 use Rattle.vc_session.proofs.Settle.{settled-push, settled-set, settled-keeps, off-apart, Off}
 use Rattle.vc_session.proofs.Sessions.{Slots, apart-session, away-session, session-push}
 

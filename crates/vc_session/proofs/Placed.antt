@@ -3,8 +3,8 @@ use Rattle.std.proofs.Common.{◌≡◌, ℕ, ◌<◌, List, Some, length, arith
 use Rattle.std.specs.Prelude.{slice_get}
 use Rattle.std.specs.Map.{keys_of, values_of}
 use Rattle.std.proofs.lemmas.List.{length-map}
-use Rattle.vc_session.specs.declared.home.HomeEntry.{HomeEntry}
-use Rattle.vc_session.specs.declared.labels.Labels.{Labels}
+use Rattle.vc_commands.specs.declared.region.home.HomeEntry.{HomeEntry}
+use Rattle.vc_commands.specs.declared.region.labels.Labels.{Labels}
 use Rattle.vc_session.proofs.Helds.{some-at}
 
 module _ {I : Type 0} {V : I → Type 0} (homes : List (List ℕ × HomeEntry I V)) (j : ℕ) (within : j < length (keys_of homes)) where

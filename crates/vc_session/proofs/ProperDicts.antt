@@ -17,7 +17,7 @@ use Rattle.vc_objects.specs.Turn.{Turned, turn}
 use Rattle.vc_objects.specs.declared.fate.Fate.{Fate}
 use Rattle.vc_objects.specs.declared.fate.Fate.TheVariants.{Stored, NoTable, NoHolder}
 use Rattle.vc_objects.proofs.Named.{open_dictionary-named, region_without-named, relabel_grown}
-use Rattle.vc_commands.specs.Commands.{append_in, delete_in, fate_reply, found_in, gone_reply, in_dict, insert_in, is_for_object, is_for_table, is_object, put_object, put_unless, remove_in, removed_as, standing, turned_as, where_object}
+use Rattle.vc_commands.specs.DictCommands.{append_in, delete_in, fate_reply, found_in, gone_reply, in_dict, insert_in, is_for_object, is_for_table, is_object, put_object, put_unless, remove_in, removed_as, standing, turned_as, where_object}
 use Rattle.vc_commands.specs.Seat.{DictChanged, Seat, declined}
 use Rattle.vc_commands.proofs.Named.{in_dict-named}
 use Rattle.vc_script.specs.Needs.{Need}
@@ -27,7 +27,7 @@ use Rattle.vc_script.specs.declared.command.Command.{Command}
 use Rattle.vc_script.specs.declared.command.Command.TheVariants.{Insert, Append, Attach, Delete, Detach, Search, MatchKey, First, Last, Next, Prev, Walk, Count, Remethod, Empty}
 use Rattle.vc_script.specs.declared.refusal.Refusal.TheVariants as why
 use Rattle.vc_session.specs.ProperState.{IsProperRegion, name_or_none}
-use Rattle.vc_session.specs.State.{Label}
+use Rattle.vc_commands.specs.Home.{Label}
 
 -- the names in a reply are names
 abbrev IsGood : DictChanged Label → Type 0

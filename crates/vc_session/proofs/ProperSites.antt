@@ -17,9 +17,9 @@ use Rattle.vc_audit.specs.Profile.{Profile, peaked, profile_after, row_of, with_
 use Rattle.vc_region.specs.Region.{OfBest, OfPool, OfLast, OfDebug, OfProfile, Region, region_align, region_alloc, region_clear, region_compact, region_free, region_poke, region_resize, region_watch, region_write}
 use Rattle.vc_script.specs.Proper.{IsSite}
 use Rattle.vc_script.specs.ProperReply.{is_row_site}
-use Rattle.vc_session.specs.Blocks.{site_of}
+use Rattle.vc_commands.specs.Blocks.{site_of}
 use Rattle.vc_session.specs.ProperState.{HasProperSites}
-use Rattle.vc_session.specs.State.{Label}
+use Rattle.vc_commands.specs.Home.{Label}
 
 -- the site of a command is one of a row
 pub row-site_of : (site : Option (List ℕ)) → IsSite site → IsTrue (is_row_site (site_of site))

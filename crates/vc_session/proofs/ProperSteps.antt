@@ -29,11 +29,13 @@ use Rattle.vc_script.specs.Needs.{Need}
 use Rattle.vc_script.specs.Proper.{IsName, IsProperCommand, IsSite}
 use Rattle.vc_script.specs.ProperReply.{IsProperReply, is_row_site}
 use Rattle.vc_script.specs.Words.{is_name}
-use Rattle.vc_session.specs.State.{Changed, DictHome, Home, Label, State, Stepped, changed, changed_to, close_home, closed, is_busy, unless_busy, home_named, is_home, opened_over, refused, told, unchanged, with_region, without_home}
-use Rattle.vc_session.specs.Blocks.{freed, free_block, has_label, has_room, is_align, is_block, is_size, kept_freed, no_block, align_refused, put_by, site_of, size_refused, put_in, put_new, read_block, resize_block, with_named, write_block}
-use Rattle.vc_session.specs.Whole.{addr_reply, item_of, kept_cleared, segment_reply, with_label, with_labels}
-use Rattle.vc_session.specs.Kept.{Kept, by_name, line_of, with_line, without_name}
-use Rattle.vc_session.specs.Step.{cleared_or, in_region, is_for_block, region_of, region_step, shelf_step, step, step_of, step_on}
+use Rattle.vc_commands.specs.Home.{Changed, Home, Label, changed_to, is_home, told, unchanged}
+use Rattle.vc_session.specs.State.{DictHome, State, Stepped, changed, close_home, closed, is_busy, unless_busy, home_named, opened_over, refused, with_region, without_home}
+use Rattle.vc_commands.specs.Blocks.{freed, free_block, has_label, has_room, is_align, is_block, is_size, kept_freed, no_block, align_refused, put_by, site_of, size_refused, put_in, put_new, read_block, resize_block, with_named, write_block}
+use Rattle.vc_commands.specs.Whole.{addr_reply, item_of, kept_cleared, segment_reply, with_label, with_labels}
+use Rattle.vc_commands.specs.Kept.{Kept, by_name, line_of, with_line, without_name}
+use Rattle.vc_session.specs.Step.{cleared_or, region_of, region_step, shelf_step, step, step_of, step_on}
+use Rattle.vc_commands.specs.RegionCommands.{in_region, is_for_block}
 use Rattle.vc_session.specs.Dicts.{dict_changed, dict_command, dict_named, dict_of, dict_opened, dict_refused, is_dict, on_found, on_seat, open_dict_in, open_dict_unless, seat_of, shut_in}
 use Rattle.vc_session.proofs.ProperDicts.{IsProperGrown, proper-best, proper-in_dict, proper-layout, proper-open, proper-region_without}
 use Rattle.std.proofs.lemmas.Slice.Eq.{bytes_eq-Decides}
@@ -41,10 +43,10 @@ use Rattle.vc_base.specs.declared.dict_method.DictMethod.{DictMethod}
 use Rattle.vc_dtdisc.specs.Rules.{Rules}
 use Rattle.vc_objects.specs.Insert.{Grown, open_dictionary}
 use Rattle.vc_objects.specs.Remove.{region_without}
-use Rattle.vc_commands.specs.Commands.{in_dict, is_for_table}
+use Rattle.vc_commands.specs.DictCommands.{in_dict, is_for_table}
 use Rattle.std.specs.Str.{bytes_eq}
 use Rattle.vc_session.specs.ProperState.{AreProperNames, HasProperSites, IsProperHome, IsProperRegion, IsProperState, name_or_none}
-use Rattle.vc_session.specs.Audit.{check_in, damage_item, is_poke, poke_block, poke_byte, profile_in, watch_block}
+use Rattle.vc_commands.specs.Audit.{check_in, damage_item, is_poke, poke_block, poke_byte, profile_in, watch_block}
 use Rattle.vc_session.proofs.ProperSites.{HasSitesAfter, HasSitesFreed, clear-sites, compact-sites, free-sites, poke-sites, resize-sites, row-site_of, sites-align, sites-alloc, watch-sites, write-sites}
 
 -- a name stays, and what stays is a name

@@ -10,19 +10,23 @@ use Rattle.vc_script.specs.declared.refusal.Refusal.TheVariants.{NoSegment}
 use Rattle.vc_script.specs.declared.reply.Reply.{Reply}
 use Rattle.vc_script.specs.declared.reply.Reply.TheVariants.{Refused}
 use Rattle.vc_region.specs.Region.{Region, is_best}
-use Rattle.vc_session.specs.Account.{Held, IsChange, IsSession, Lacks, LacksSegment, StepLacks, accounts, held_named, home_of, left_by, settled, state_of}
+use Rattle.vc_commands.specs.Held.{Held, IsChange, LacksSegment, home_of, left_by}
+use Rattle.vc_session.specs.Account.{IsSession, Lacks, StepLacks, accounts, held_named, settled, state_of}
 use Rattle.vc_session.specs.DictHomes.{AreDicts, dicts_in, lies_in}
 use Rattle.vc_session.specs.Dicts.{dict_of}
-use Rattle.vc_session.specs.Kept.{Kept}
+use Rattle.vc_commands.specs.Kept.{Kept}
 use Rattle.vc_session.specs.Moment.{Moment}
-use Rattle.vc_session.specs.State.{Label, State, Stepped, is_home}
-use Rattle.vc_session.specs.Step.{Gives, GivesStep, block_asked, in_region, region_of, step_of}
+use Rattle.vc_commands.specs.Home.{Label, is_home}
+use Rattle.vc_session.specs.State.{State, Stepped}
+use Rattle.vc_commands.specs.RegionRun.{GivesRegion}
+use Rattle.vc_session.specs.Step.{GivesStep, region_of, step_of}
+use Rattle.vc_commands.specs.RegionCommands.{block_asked, in_region}
 use Rattle.vc_session.specs.Steps.{Halts, Steps, StepsBy}
 use Rattle.vc_session.proofs.Changing.{asked-region, found-change, lacks-change, settles-none, settles-reply, state-same, step-change}
 use Rattle.vc_session.proofs.CutOff.{cut-same}
 use Rattle.vc_session.proofs.DictsStay.{Entry, Stays, busy-lies, dicts-stay, dicts_in-stay}
-use Rattle.vc_session.proofs.Firsts.{IsFirst}
-use Rattle.vc_session.proofs.Grants.{IsPlain, plain-region}
+use Rattle.vc_commands.proofs.Firsts.{IsFirst}
+use Rattle.vc_commands.proofs.Grants.{IsPlain, plain-region}
 use Rattle.vc_session.proofs.InRegion.{lacks-plain, run-best, run-stays}
 use Rattle.vc_session.proofs.OnShelf.{error-at, ok-at}
 use Rattle.vc_session.proofs.Sessions.{Slots}
@@ -47,7 +51,7 @@ by-answer : {E : Type 0} (answer : Result Reply E) (now next : Moment) (command 
 by-answer (Ok reply) now next command given ok err s is = subst (λ f. Steps now next command (f (need_shown reply)) reply) (sym is) (ok reply refl)
 by-answer (Err e) now next command given ok err s is = err e refl
 
-module _ (slots : Slots) (hs : List Held) (es : List Entry) (i : ℕ) (h g : Held) (at : slice_get hs i ≡ Some h) (session : IsSession slots hs) (line : ℕ) (command : Command) (change : IsChange (left_by command h) g) (r : List ℕ) (first : IsFirst (is_home r) (map home_of hs) i) (dict : dict_of command ≡ None) (works : region_of command ≡ Some r) (free : (x : List ℕ) → command ≡ ClearRegion x → lies_in r es ≡ false) {E : Type 0} (answer : Result Reply E) (gives : IfOk answer (λ reply. Gives (in_region (home_of h) line command (need_shown reply)) ((home_of g).region, (home_of g).kept) reply)) (err : OnErr answer ((let p : Region Label × Kept = ((home_of g).region, (home_of g).kept) in p) ≡ ((home_of h).region, (home_of h).kept))) (unserved : answer ≡ Ok (Refused NoSegment) → LacksSegment h g (block_asked command)) (faults : answer ≢ Ok (Refused NoSegment) → g.disc.faults ≡ h.disc.faults) where
+module _ (slots : Slots) (hs : List Held) (es : List Entry) (i : ℕ) (h g : Held) (at : slice_get hs i ≡ Some h) (session : IsSession slots hs) (line : ℕ) (command : Command) (change : IsChange (left_by command h) g) (r : List ℕ) (first : IsFirst (is_home r) (map home_of hs) i) (dict : dict_of command ≡ None) (works : region_of command ≡ Some r) (free : (x : List ℕ) → command ≡ ClearRegion x → lies_in r es ≡ false) {E : Type 0} (answer : Result Reply E) (gives : IfOk answer (λ reply. GivesRegion (in_region (home_of h) line command (need_shown reply)) ((home_of g).region, (home_of g).kept) reply)) (err : OnErr answer ((let p : Region Label × Kept = ((home_of g).region, (home_of g).kept) in p) ≡ ((home_of h).region, (home_of h).kept))) (unserved : answer ≡ Ok (Refused NoSegment) → LacksSegment h g (block_asked command)) (faults : answer ≢ Ok (Refused NoSegment) → g.disc.faults ≡ h.disc.faults) where
   abbrev gs : List Held
   gs = set hs i g
 
@@ -71,7 +75,7 @@ module _ (slots : Slots) (hs : List Held) (es : List Entry) (i : ℕ) (h g : Hel
 
     step-ok : (reply : Reply) → answer ≡ Ok reply → Steps (moment_over slots es kinds gone hs) (moment_over slots es kinds gone gs) command (step_of s line command (need_shown reply) (Some r)) reply
     step-ok reply is =
-        let run = ok-at answer reply (λ q. Gives (in_region (home_of h) line command (need_shown q)) ((home_of g).region, (home_of g).kept) q) is gives in
+        let run = ok-at answer reply (λ q. GivesRegion (in_region (home_of h) line command (need_shown q)) ((home_of g).region, (home_of g).kept) q) is gives in
         let plain = subst IsPlain run.replied (plain-region (home_of h) line command (need_shown reply)) in
         record {
           gives = subst (λ ds. GivesStep (step_of s line command (need_shown reply) (Some r)) gone reply (state_of kinds slots gs ds) gone) (sym dicts-same)

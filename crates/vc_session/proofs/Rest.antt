@@ -8,7 +8,8 @@ use Rattle.vc_seg.specs.declared.shelf.Shelf.{Shelf}
 use Rattle.vc_script.specs.declared.command.Command.{Command}
 use Rattle.vc_script.specs.declared.line_fault.LineFault.{LineFault}
 use Rattle.vc_script.specs.declared.tool.Tool.{Tool}
-use Rattle.vc_session.specs.Account.{Held, IsSession, Settles, accounts, home_of, settled, state_of}
+use Rattle.vc_commands.specs.Held.{Held, home_of}
+use Rattle.vc_session.specs.Account.{IsSession, Settles, accounts, settled, state_of}
 use Rattle.vc_session.specs.DictHomes.{AreDicts, dicts_in}
 use Rattle.vc_session.specs.Homes.{held_entry, held_in, slots_on}
 use Rattle.vc_session.specs.Moment.{Moment, moment, over_sink, rest_of}
@@ -19,7 +20,7 @@ use Rattle.vc_session.specs.Streams.{Flows}
 use Rattle.vc_session.specs.declared.engine.Stop.{Stop}
 use Rattle.vc_session.specs.declared.engine.Stop.TheVariants.{Read}
 use Rattle.vc_session.specs.Told.{gone_in, rules_in}
-use Rattle.vc_session.specs.declared.dicts.DictEntry.{DictEntry}
+use Rattle.vc_commands.specs.declared.dict.entry.DictEntry.{DictEntry}
 use Rattle.vc_session.specs.declared.session.Session.{Session}
 
 -- from the moment of a run's last line to the one behind its session's end

@@ -6,7 +6,8 @@ use Rattle.std.specs.List.{AllByRecursion}
 use Rattle.std.proofs.lemmas.Option.{same_Some, none-some}
 use Rattle.vc_model.specs.Numbered.{at_number}
 use Rattle.vc_model.specs.Discipline.{Discipline}
-use Rattle.vc_session.specs.Account.{Held, IsHeld, IsSession}
+use Rattle.vc_commands.specs.Held.{Held}
+use Rattle.vc_session.specs.Account.{IsHeld, IsSession}
 use Rattle.vc_session.proofs.Cells.{at_number-from_one, at_number_some, slice_get-set_same, slice_get-set_other}
 use Rattle.vc_session.proofs.Settle.{IsApart}
 

@@ -5,7 +5,8 @@ use Rattle.std.specs.List.{AllByRecursion}
 use Rattle.std.proofs.lemmas.List.{set_comm, set-set}
 use Rattle.std.proofs.lemmas.Option.{same_Some, none-some}
 use Rattle.vc_session.proofs.Cells.{slice_get-set_same, slice_get-set_other}
-use Rattle.vc_session.specs.Account.{Account, Held, account_after, settled}
+use Rattle.vc_session.specs.Account.{Account, account_after, settled}
+use Rattle.vc_commands.specs.Held.{Held}
 
 -- a place that is not an open region's keeps what is put there
 pub settled-set : (shelf : List (Option Account)) (k : ℕ) (a : Option Account) (hs : List Held) → AllByRecursion (λ g. g.place - 1 ≢ k) hs → settled (set shelf k a) hs ≡ set (settled shelf hs) k a

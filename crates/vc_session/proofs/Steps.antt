@@ -14,7 +14,7 @@ use Rattle.vc_session.specs.Told.{tell}
 use Rattle.vc_session.specs.Steps.{Halts, Steps, StepsBy}
 use Rattle.vc_session.proofs.CutOff.{cut-same}
 use Rattle.vc_session.proofs.Dispatch.{granted-lacks, granted-settles}
-use Rattle.vc_session.proofs.Grants.{IsGranted}
+use Rattle.vc_commands.proofs.Grants.{IsGranted}
 use Rattle.vc_session.proofs.Settling.{keeps-settles, settles-equal}
 
 -- no fault is less after a step

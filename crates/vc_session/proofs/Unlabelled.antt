@@ -14,11 +14,11 @@ use Rattle.vc_region.proofs.Labelled.{labelled-rest}
 use Rattle.vc_region.proofs.Relabel.{blocks-relabelled}
 use Rattle.vc_region.proofs.Rest.{rest-keeps}
 use Rattle.vc_region.proofs.RestFound.{rest-own}
-use Rattle.vc_session.specs.Account.{IsLive, IsNamed, tag_count}
-use Rattle.vc_session.specs.Blocks.{has_label, is_block, is_name_of, label_count}
-use Rattle.vc_session.specs.Labels.{name_of}
-use Rattle.vc_session.specs.declared.labels.Labels.{Labels}
-use Rattle.vc_session.proofs.Names.{has-label-any, label-count, name-none, named_by}
+use Rattle.vc_commands.specs.Held.{IsLive, IsNamed, tag_count}
+use Rattle.vc_commands.specs.Blocks.{has_label, is_block, is_name_of, label_count}
+use Rattle.vc_commands.specs.Labels.{name_of}
+use Rattle.vc_commands.specs.declared.region.labels.Labels.{Labels}
+use Rattle.vc_commands.proofs.Names.{has-label-any, label-count, name-none, named_by}
 
 -- a test that fails for what is left out passes for the same items of the rest
 module _ {A : Type 0} (keeps test : A → Bool) (fails : (x : A) → keeps x ≡ false → test x ≡ false) where

@@ -10,8 +10,9 @@ use Rattle.vc_dtdisc.specs.Rules.{Rules}
 use Rattle.vc_objects.specs.Objects.{owned}
 use Rattle.vc_objects.specs.Parts.{IsWhole, dictionary_of}
 use Rattle.vc_region.specs.Region.{is_best}
-use Rattle.vc_session.specs.declared.dicts.DictEntry.{DictEntry}
-use Rattle.vc_session.specs.Account.{Held, held_named}
+use Rattle.vc_commands.specs.declared.dict.entry.DictEntry.{DictEntry}
+use Rattle.vc_commands.specs.Held.{Held}
+use Rattle.vc_session.specs.Account.{held_named}
 use Rattle.vc_session.specs.State.{DictHome}
 
 -- the cells of a region, where it is open

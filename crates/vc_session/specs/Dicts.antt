@@ -10,7 +10,7 @@ use Rattle.vc_dtdisc.specs.Rules.{Rules}
 use Rattle.vc_objects.specs.Insert.{Grown, open_dictionary, want_of}
 use Rattle.vc_objects.specs.Objects.{Dictionary}
 use Rattle.vc_objects.specs.Remove.{bytes_of, region_without}
-use Rattle.vc_commands.specs.Commands.{in_dict, is_for_table, table_refusal}
+use Rattle.vc_commands.specs.DictCommands.{in_dict, is_for_table, table_refusal}
 use Rattle.vc_commands.specs.Seat.{DictChanged, Seat}
 use Rattle.vc_script.specs.Needs.{Need}
 use Rattle.vc_script.specs.declared.command.Command.{Command}
@@ -19,7 +19,8 @@ use Rattle.vc_script.specs.declared.refusal.Refusal.{Refusal}
 use Rattle.vc_script.specs.declared.refusal.Refusal.TheVariants as why
 use Rattle.vc_script.specs.declared.reply.Reply.TheVariants.{Opened, ShutDown}
 use Rattle.vc_region.specs.Region.{OfBest, is_best, layout_in}
-use Rattle.vc_session.specs.State.{DictHome, Home, Label, State, Stepped, home_named, refused, with_region}
+use Rattle.vc_session.specs.State.{DictHome, State, Stepped, home_named, refused, with_region}
+use Rattle.vc_commands.specs.Home.{Home, Label}
 
 -- the dictionary that a command works on
 abbrev pub dict_of : Command → Option (List ℕ)

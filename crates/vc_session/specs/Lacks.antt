@@ -8,15 +8,17 @@ use Rattle.vc_model.specs.Outcome.{Outcome}
 use Rattle.vc_region.specs.Region.{OfBest, layout_in}
 use Rattle.vc_objects.specs.Insert.{Grown, grow}
 use Rattle.vc_objects.specs.Leaves.{LacksTable}
-use Rattle.vc_commands.specs.Run.{LacksBy}
+use Rattle.vc_commands.specs.DictRun.{LacksBy}
 use Rattle.vc_script.specs.declared.command.Command.{Command}
 use Rattle.vc_script.specs.declared.command.Command.TheVariants.{Insert, Attach, OpenDict}
 use Rattle.vc_script.specs.declared.refusal.Refusal.TheVariants.{NoSegment, NoSegmentForTable, NoSegmentForObject}
 use Rattle.vc_script.specs.declared.reply.Reply.{Reply}
 use Rattle.vc_script.specs.declared.reply.Reply.TheVariants.{Refused}
-use Rattle.vc_session.specs.Account.{Held, StepLacks, held_named}
+use Rattle.vc_commands.specs.Held.{Held}
+use Rattle.vc_session.specs.Account.{StepLacks, held_named}
 use Rattle.vc_session.specs.Dicts.{dict_named, dict_of, seat_of, with_dict}
-use Rattle.vc_session.specs.State.{DictHome, Home, Label, State, home_named, with_region}
+use Rattle.vc_session.specs.State.{DictHome, State, home_named, with_region}
+use Rattle.vc_commands.specs.Home.{Home, Label}
 use Rattle.vc_session.specs.Step.{region_asked}
 
 -- by where a command on a dictionary works

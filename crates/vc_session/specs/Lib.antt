@@ -10,19 +10,13 @@ pub use Rattle.vc_region.specs.Cells
 pub use Rattle.vc_region.specs.Region
 pub use Rattle.vc_model.specs.Sound
 pub use Rattle.vc_region.specs.Parts
-pub mod Kept
-pub mod Labels
 pub mod State
 pub mod Told
-pub mod Blocks
-pub mod Audit
-pub mod Whole
 pub mod Step
 pub mod ProperState
 pub mod Run
 pub mod Rows
 pub mod Account
-pub mod Naming
 pub mod Homes
 pub mod Moment
 pub mod Steps
@@ -39,3 +33,5 @@ pub mod SoFar
 pub mod Dicts
 pub mod DictHomes
 pub mod Lacks
+pub mod Status
+pub mod Table

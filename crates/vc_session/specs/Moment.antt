@@ -5,7 +5,8 @@ use Rattle.vc_dtdisc.specs.Rules.{Gone, Rules}
 use Rattle.vc_seg.specs.declared.shelf.Shelf.{Shelf}
 use Rattle.vc_session.specs.declared.session.Session.{Session}
 use Rattle.vc_session.specs.State.{State}
-use Rattle.vc_session.specs.Account.{Account, Held, KeepsAccounts}
+use Rattle.vc_session.specs.Account.{Account, KeepsAccounts}
+use Rattle.vc_commands.specs.Held.{Held}
 use Rattle.vc_session.specs.Homes.{accounts_on, held_in, settled_over, state_on, state_over}
 use Rattle.vc_session.specs.Told.{ended_told, gone_in, rules_in, tell}
 

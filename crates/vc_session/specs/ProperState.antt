@@ -5,14 +5,15 @@ use Rattle.vc_region.specs.Region.{Region, relabelled, rows_in}
 use Rattle.vc_script.specs.Words.{is_name}
 use Rattle.vc_script.specs.Proper.{IsName}
 use Rattle.vc_script.specs.ProperReply.{is_row_site}
-use Rattle.vc_session.specs.Kept.{Kept}
+use Rattle.vc_commands.specs.Kept.{Kept}
 use Rattle.vc_model.specs.Discipline.{Discipline}
 use Rattle.vc_dtdisc.specs.Rules.{Rules}
 use Rattle.vc_seg.specs.declared.shelf.Shelf.{Shelf}
 use Rattle.vc_session.specs.declared.session.Session.{Session}
 use Rattle.vc_session.specs.Homes.{IsSessionOver, state_over}
 use Rattle.vc_session.specs.Told.{rules_in}
-use Rattle.vc_session.specs.State.{Home, Label, State}
+use Rattle.vc_commands.specs.Home.{Home, Label}
+use Rattle.vc_session.specs.State.{State}
 
 -- a label that is a name; none in place of any other
 abbrev pub name_or_none : Label → Label

@@ -7,23 +7,12 @@ use Rattle.vc_script.specs.declared.line_fault.LineFault.{LineFault}
 use Rattle.vc_script.specs.declared.line_fault.LineFault.TheVariants.{UnknownCommand, WordCount, BadName, BadNumber, BadAddress, BadBytes, UnknownMethod, LineTooLong, TooManyLines}
 use Rattle.vc_script.specs.declared.tool.Tool.{Tool}
 use Rattle.vc_script.specs.declared.tool.Tool.TheVariants.{Vmreplay, Dtrun}
-use Rattle.vc_session.specs.declared.status.Status.{Status}
-use Rattle.vc_session.specs.declared.status.Status.TheVariants.{Ok, Script, Usage, Read, Write, Memory}
 use Rattle.vc_session.specs.Account.{Settles}
 use Rattle.vc_session.specs.Moment.{Moment}
 use Rattle.vc_session.specs.Told.{ended_told, tell}
 use Rattle.vc_script.specs.Judged.{judged}
 use Rattle.vc_script.specs.Needs.{needs_of}
 use Rattle.vc_session.specs.Run.{Ran, commands, fault_in, first_bad, lines_of, run, script, text_of, wholly_read}
-
--- the number that a program ends with
-abbrev pub number : Status → ℕ
-number Ok = 0
-number Script = 1
-number Usage = 2
-number Read = 3
-number Write = 4
-number Memory = 5
 
 -- what a sink told, followed by a piece
 abbrev pub Told : Option (List ℕ) → Option (List ℕ) → List ℕ → Type 0

@@ -7,7 +7,8 @@ use Rattle.vc_dtdisc.specs.declared.shape.Shape.TheVariants.{Whole, Field, Text,
 use Rattle.vc_region.specs.Region.{OfBest}
 use Rattle.vc_script.specs.declared.tool.Tool.TheVariants.{Vmreplay}
 use Rattle.vc_session.specs.Run.{run, script, text_of}
-use Rattle.vc_session.specs.State.{Label, State}
+use Rattle.vc_commands.specs.Home.{Label}
+use Rattle.vc_session.specs.State.{State}
 
 -- of a discipline that rounds to 4,096 bytes
 abbrev pub terms : Terms

@@ -13,7 +13,8 @@ use Rattle.vc_script.specs.Judged.{judged, judged_from}
 use Rattle.vc_script.specs.Answer.{answer}
 use Rattle.vc_script.specs.Needs.{Need, need_at}
 use Rattle.vc_script.specs.Print.{text}
-use Rattle.vc_session.specs.State.{State, Home, Stepped, home_named}
+use Rattle.vc_session.specs.State.{State, Stepped, home_named}
+use Rattle.vc_commands.specs.Home.{Home}
 use Rattle.vc_session.specs.Step.{region_asked, step}
 
 -- what a line's answer leaves of the commands behind it: none behind a bad line

@@ -5,7 +5,7 @@ use Rattle.std.specs.Str.{bytes_eq}
 use Rattle.vc_model.specs.Discipline.{Terms}
 use Rattle.vc_model.specs.Numbered.{at_number}
 use Rattle.vc_dtdisc.specs.Rules.{Rules}
-use Rattle.vc_objects.specs.Objects.{Dictionary}
+use Rattle.vc_objects.specs.Objects.{Dictionary, listed}
 use Rattle.vc_region.specs.Region.{Region, segments_of}
 use Rattle.vc_region.specs.Stat.{opened}
 use Rattle.vc_seg.specs.declared.method.Method.{Method}
@@ -13,19 +13,11 @@ use Rattle.vc_script.specs.declared.reply.Reply.{Reply}
 use Rattle.vc_script.specs.declared.reply.Reply.TheVariants.{Opened, Closed, Refused}
 use Rattle.vc_script.specs.declared.refusal.Refusal.{Refusal}
 use Rattle.vc_script.specs.declared.refusal.Refusal.TheVariants as why
-use Rattle.vc_session.specs.Kept.{Kept}
-
--- the label of a block in a session: its name, or none
-abbrev pub Label : Type 0
-Label = Option (List ℕ)
-
--- a region of the session: its name, the place of its discipline on the shelf, from 1 on, that discipline's terms, what it is by its method, and the names that it keeps as freed
-pub record Home : Type 0 where
-  pub name : List ℕ
-  pub place : ℕ
-  pub terms : Terms
-  pub region : Region Label
-  pub kept : Kept
+use Rattle.vc_commands.specs.Kept.{Kept}
+use Rattle.vc_seg.specs.declared.shelf.ShelfPlace.{ShelfPlace}
+use Rattle.vc_seg.specs.declared.shelf.ShelfPlace.TheVariants.{Missing, Taken, Here}
+use Rattle.vc_script.specs.declared.refusal.Refusal.TheVariants.{NoSuchDiscipline, DisciplineInUse}
+use Rattle.vc_commands.specs.Home.{Changed, Home, Label, is_home}
 
 -- a dictionary of the session: its name, the region that it lies in, the number of its kind, from 1 on, and what it is by its method
 pub record DictHome : Type 0 where
@@ -52,17 +44,9 @@ pub record Stepped : Type 0 where
 abbrev pub stepped : State → Reply → Stepped
 stepped s reply = record { state = s; reply = reply; told = []; granted = [] }
 
--- an item, where there is one
-abbrev pub listed : {A : Type 0} → Option A → List A
-listed None = []
-listed (Some x) = x ∷ []
-
 -- a refusal changes nothing
 abbrev pub refused : State → Refusal → Stepped
 refused s why = stepped s (Refused why)
-
-abbrev pub is_home : List ℕ → Home → Bool
-is_home r h = bytes_eq h.name r
 
 abbrev pub home_named : List ℕ → List Home → Option Home
 home_named r homes = find (is_home r) homes
@@ -115,24 +99,6 @@ close_home s r (Some h) = unless_busy s r (closed s r h)
 abbrev pub close_step : State → List ℕ → Stepped
 close_step s r = close_home s r (home_named r s.homes)
 
--- what a command on one region gives: the region and the names that it keeps after it, the reply, and the segment that was granted
-pub record Changed : Type 0 where
-  pub region : Region Label
-  pub kept : Kept
-  pub reply : Reply
-  pub granted : Option (ℕ × ℕ)
-
--- a command that is granted no segment, and neither frees a name nor takes one
-abbrev pub changed_to : Home → Region Label → Reply → Changed
-changed_to h region reply = record { region = region; kept = h.kept; reply = reply; granted = None }
-
-abbrev pub unchanged : Home → Refusal → Changed
-unchanged h why = changed_to h h.region (Refused why)
-
--- a command that changes nothing tells something
-abbrev pub told : Home → Reply → Changed
-told h reply = changed_to h h.region reply
-
 -- the regions, with another one of that name, and the names that it keeps
 abbrev pub with_region : List ℕ → Region Label → Kept → List Home → List Home
 with_region r region kept [] = []
@@ -148,3 +114,9 @@ changed s r c =
       told = [];
       granted = listed c.granted;
     }
+
+-- why no discipline is taken from a place of the shelf
+abbrev pub not_here : ShelfPlace → Refusal
+not_here Missing = NoSuchDiscipline
+not_here Taken = DisciplineInUse
+not_here Here = DisciplineInUse

@@ -3,23 +3,14 @@ use Rattle.std.specs.Prelude.{◌≡◌, ℕ, List, Option, Some, None, Bool, tr
 use Rattle.vc_script.specs.declared.command.Command.{Command}
 use Rattle.vc_script.specs.declared.command.Command.TheVariants.{OpenRegion, CloseRegion, OpenDict, ClearRegion, Compact, Alloc, Align, Resize, Free, WriteBlock, ReadBlock, SizeOf, AddrOf, SegmentOf, StatOf, Segments, Blocks, Poke, Check, Watch, ProfileOf}
 use Rattle.vc_script.specs.declared.refusal.Refusal.TheVariants as why
-use Rattle.vc_script.specs.Needs.{Need, NoNeed, ForBlock, ForTable, ForObject, need_shown}
+use Rattle.vc_script.specs.Needs.{Need}
 use Rattle.vc_script.specs.declared.reply.Reply.{Reply}
-use Rattle.vc_region.specs.Region.{Region}
 use Rattle.vc_dtdisc.specs.Rules.{Gone}
-use Rattle.vc_session.specs.Kept.{Kept}
-use Rattle.vc_session.specs.State.{Changed, Home, Label, State, Stepped, changed, close_step, home_named, open_step, refused, unchanged, unless_busy}
+use Rattle.vc_commands.specs.Home.{Home}
+use Rattle.vc_session.specs.State.{State, Stepped, changed, close_step, home_named, open_step, refused, unless_busy}
 use Rattle.vc_session.specs.Dicts.{dict_of, dict_step, open_dict_step, region_named}
-use Rattle.vc_session.specs.Blocks.{align_in, alloc_in, free_in, read_in, resize_in, size_in, write_in}
-use Rattle.vc_session.specs.Audit.{check_in, poke_in, profile_in, watch_in}
 use Rattle.vc_session.specs.Told.{tell}
-use Rattle.vc_session.specs.Whole.{addr_in, clear_in, compact_in, list_blocks, list_segments, segment_in, stat_in}
-
-abbrev pub is_for_block : Need → Bool
-is_for_block NoNeed = false
-is_for_block ForBlock = true
-is_for_block ForTable = false
-is_for_block ForObject = false
+use Rattle.vc_commands.specs.RegionCommands.{in_region}
 
 -- the region that a command works in
 abbrev pub region_of : Command → Option (List ℕ)
@@ -42,28 +33,6 @@ region_of (Check r) = Some r
 region_of (Watch r x) = Some r
 region_of (ProfileOf r) = Some r
 region_of command = None
-
--- a command at a line in its region; the need is the one free choice
-abbrev pub in_region : Home → ℕ → Command → Need → Changed
-in_region h line (ClearRegion r) need = clear_in h r line
-in_region h line (Compact r) need = compact_in h r
-in_region h line (Alloc r x size site) need = alloc_in h x site size (is_for_block need)
-in_region h line (Align r x size align) need = align_in h x size align (is_for_block need)
-in_region h line (Resize r x size may_move) need = resize_in h x size may_move (is_for_block need)
-in_region h line (Free r x) need = free_in h x line
-in_region h line (WriteBlock r x off bytes) need = write_in h x off bytes
-in_region h line (ReadBlock r x off len) need = read_in h x off len
-in_region h line (SizeOf r x) need = size_in h x
-in_region h line (AddrOf r at) need = addr_in h at
-in_region h line (SegmentOf r at) need = segment_in h at
-in_region h line (StatOf r) need = stat_in h
-in_region h line (Segments r) need = list_segments h
-in_region h line (Blocks r) need = list_blocks h
-in_region h line (Poke r x off byte) need = poke_in h x off byte
-in_region h line (Check r) need = check_in h
-in_region h line (Watch r x) need = watch_in h line x
-in_region h line (ProfileOf r) need = profile_in h
-in_region h line command need = unchanged h why.NotYet
 
 -- whether a command clears a region
 abbrev pub is_clear : Command → Bool
@@ -107,21 +76,8 @@ opened_in command = region_of command
 abbrev pub region_asked : State → Command → Option (List ℕ)
 region_asked s command = region_named s (dict_of command) (opened_in command)
 
--- what a command on one region gives is this reply, and after it the region and the names that it keeps are these
-pub record Gives (c : Changed) (after : Region Label × Kept) (reply : Reply) : Type 0 where
-  pub region_after : c.region ≡ after.0
-  pub kept_after : c.kept ≡ after.1
-  pub replied : c.reply ≡ reply
-
 -- what a step gives is this reply and this state, and the kinds are told so
 pub record GivesStep (t : Stepped) (gone : List Gone) (answer : Reply) (after : State) (gone_after : List Gone) : Type 0 where
   pub replied : t.reply ≡ answer
   pub state_after : t.state ≡ after
   pub told : gone_after ≡ tell t.told gone
-
--- the size and the alignment of the block that a command puts
-abbrev pub block_asked : Command → ℕ × ℕ
-block_asked (Alloc r x size site) = (size, 32)
-block_asked (Align r x size align) = (size, align)
-block_asked (Resize r x size may_move) = (size, 32)
-block_asked command = (0, 32)

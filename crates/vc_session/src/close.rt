@@ -13,9 +13,9 @@ ghost use Rattle.vc_session.specs.DictHomes.{lies_in};
 ghost use Rattle.vc_session.specs.Closes.{ClosesAt};
 ghost use Rattle.vc_session.specs.State.{close_step, stepped};
 
-use crate::home::HomeEntry;
 use crate::session::Session;
 use vc_base::Name;
+use vc_commands::HomeEntry;
 use vc_script::{Refusal, Reply};
 use vc_seg::{BoxedDisc, SegDisc, Shelf, ShelfPlace};
 

@@ -3,18 +3,19 @@ ghost use Rattle.std.specs.Prelude.{◌≡◌, ◌<◌, ◌&&◌, [], IfSome, le
 ghost use Rattle.vc_region.specs.Cells.{rest_in};
 ghost use Rattle.vc_region.specs.Region.{is_best};
 ghost use Rattle.vc_script.specs.declared.command.Command.TheVariants.{OpenDict};
-ghost use Rattle.vc_session.specs.Account.{home_of, state_of};
+ghost use Rattle.vc_commands.specs.Held.{home_of};
+ghost use Rattle.vc_session.specs.Account.{state_of};
 ghost use Rattle.vc_session.specs.Dicts.{dict_refused, open_dict_step};
 ghost use Rattle.vc_session.specs.DictHomes.{dicts_in};
 ghost use Rattle.vc_session.specs.Homes.{IsSessionOver, held_in};
 ghost use Rattle.vc_session.specs.Moment.{moment};
-ghost use Rattle.vc_session.specs.Naming.{TellsTable};
+ghost use Rattle.vc_session.specs.Table.{TellsTable};
 ghost use Rattle.vc_session.specs.Steps.{Stays, StepsBy};
 ghost use Rattle.vc_session.specs.Told.{rules_in};
 
-use crate::dicts::DictEntry;
 use crate::session::Session;
 use vc_base::{DictMethod, Name, OutOfMemory};
+use vc_commands::DictEntry;
 use vc_dtdisc::DictDisc;
 use vc_objects::open;
 use vc_region::Region;

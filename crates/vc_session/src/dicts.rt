@@ -3,16 +3,6 @@ ghost use Rattle.std.specs.Prelude.{◌≡◌};
 
 use crate::session::Session;
 use vc_base::Name;
-use vc_dict::Dict;
-
-/// A dictionary that is open.
-#[derive(Drop)]
-pub struct DictEntry {
-    /// The name of the region that it lies in.
-    pub home: Name,
-    /// Its heads and its method.
-    pub dict: Dict,
-}
 
 impl<D> Session<D> {
     ghost use Rattle.vc_session.specs.DictHomes.{lies_in};

@@ -2,15 +2,15 @@
 ghost use Rattle.std.specs.Prelude.{◌≡◌, List};
 ghost use Rattle.vc_dtdisc.specs.Rules.{Gone, Rules};
 ghost use Rattle.vc_script.specs.declared.command.Command.TheVariants.{OpenRegion};
-ghost use Rattle.vc_session.specs.Homes.{HoldsDicts, HoldsRegions, KeepsRegions, not_here, settled_over};
+ghost use Rattle.vc_session.specs.Homes.{HoldsDicts, HoldsRegions, KeepsRegions, settled_over};
+ghost use Rattle.vc_session.specs.State.{not_here};
 ghost use Rattle.vc_session.specs.Moment.{moment_by};
 ghost use Rattle.vc_session.specs.State.{open_step};
 ghost use Rattle.vc_session.specs.Steps.{StepsBy};
 
-use crate::home::HomeEntry;
-use crate::labels::Labels;
 use crate::session::Session;
 use vc_base::{Name, OutOfMemory};
+use vc_commands::{HomeEntry, Labels};
 use vc_region::Region;
 use vc_script::{Refusal, Reply};
 use vc_seg::{BoxedDisc, Method, SegDisc, Shelf, ShelfPlace};

@@ -2,9 +2,9 @@
 ghost use Rattle.std.specs.Prelude.{◌≡◌, ◌++◌, ℕ, [], ◌∷◌, Some, None, codes, List};
 ghost use Rattle.vc_script.specs.Needs.{ForBlock};
 ghost use Rattle.vc_session.specs.Run.{first_bad, run, script, text_of};
-ghost use Rattle.vc_session.specs.Kept.{with_line, without_name};
+ghost use Rattle.vc_commands.specs.Kept.{with_line, without_name};
 ghost use Rattle.vc_session.specs.Rows.{at_first, block_with, gap_behind, moved, parsed, with_kept};
-ghost use Rattle.vc_session.specs.Whole.{with_labels};
+ghost use Rattle.vc_commands.specs.Whole.{with_labels};
 ghost use Rattle.vc_script.specs.declared.tool.Tool.TheVariants.{Vmreplay};
 ghost use Rattle.vc_script.specs.declared.line_fault.LineFault.TheVariants.{UnknownCommand, LineTooLong};
 

@@ -9,13 +9,11 @@ ghost use Rattle.vc_session.specs.Step.{is_clear, region_of, shelf_step, step, s
 ghost use Rattle.vc_session.specs.Steps.{Lasts, Stays, StepsBy};
 ghost use Rattle.vc_session.specs.Told.{KeepRules, ended_told, gone_in, rules_in, tell};
 
-use crate::dicts::DictEntry;
-use crate::home::HomeEntry;
-use crate::labels::Labels;
 use indexmap::IndexMap;
 use std::alloc::Global;
 use std::marker::PhantomData;
 use vc_base::{Name, OutOfMemory};
+use vc_commands::{DictEntry, HomeEntry, Labels};
 use vc_dtdisc::DictDisc;
 use vc_script::{Command, Refusal, Reply, Tool};
 use vc_seg::{BoxedDisc, SegDisc, Shelf};

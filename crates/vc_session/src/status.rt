@@ -23,7 +23,7 @@ pub enum Status {
 }
 
 impl Status {
-    ghost use Rattle.vc_session.specs.Replay.{number};
+    ghost use Rattle.vc_session.specs.Status.{number};
 
     /// The number that a program ends with, from 0 to 5.
     pub fn number(self) -> u8

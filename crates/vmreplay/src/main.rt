@@ -3,7 +3,7 @@
 
 ghost use Rattle.std.specs.Prelude.{◌≡◌, ◌<◌, length, vec_len};
 ghost use Rattle.std.specs.Process.{exit_status};
-ghost use Rattle.vc_session.specs.Replay.{number};
+ghost use Rattle.vc_session.specs.Status.{number};
 
 use std::alloc::Global;
 use std::io::{Stderr, Stdin, Stdout};

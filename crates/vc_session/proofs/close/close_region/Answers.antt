@@ -7,7 +7,7 @@ use Rattle.vc_session.specs.Account.{account, account_back, accounts}
 use Rattle.vc_session.specs.Homes.{slots_on}
 use Rattle.vc_session.proofs.Closing.{account-closed, elsewhere, taken-at}
 use Rattle.vc_region.proofs.Rest.{rest-segments}
-use Rattle.vc_session.proofs.Seen.{seen-out}
+use Rattle.vc_commands.proofs.Seen.{seen-out}
 use Rattle.vc_session.proofs.close.close_region.Given as given
 use Rattle.vc_session.proofs.close.close_region.Goals as goal
 

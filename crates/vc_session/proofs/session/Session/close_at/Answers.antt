@@ -3,9 +3,11 @@ use Rattle.std.specs.Prelude.{remove}
 use Rattle.vc_model.specs.Discipline.{Discipline}
 use Rattle.vc_region.specs.Region.{segments_of}
 use Rattle.vc_seg.specs.Shelf.{standing}
-use Rattle.vc_session.specs.Account.{Held, IsSession, account_after, accounts, settled}
+use Rattle.vc_commands.specs.Held.{Held}
+use Rattle.vc_session.specs.Account.{IsSession, account_after, accounts, settled}
 use Rattle.vc_session.specs.DictHomes.{AreDicts, lies_in}
-use Rattle.vc_session.specs.Homes.{accounts_on, held_all, held_in, held_of, slots_on}
+use Rattle.vc_session.specs.Homes.{accounts_on, held_all, held_in, slots_on}
+use Rattle.vc_commands.specs.RegionRun.{held_of}
 use Rattle.vc_session.proofs.Closing.{session-close, settled-close}
 use Rattle.vc_session.proofs.DictsStay.{all-other, dicts-stay, stays-remove}
 use Rattle.vc_session.proofs.Helds.{held-entry, held-remove, length-remove, slice-or}

@@ -4,16 +4,18 @@ use Rattle.std.proofs.lemmas.List.{length-map}
 use Rattle.vc_model.specs.Discipline.{Discipline}
 use Rattle.vc_region.specs.Region.{segments_of}
 use Rattle.vc_script.specs.declared.reply.Reply.TheVariants.{Closed}
-use Rattle.vc_session.specs.declared.home.HomeEntry.{HomeEntry}
-use Rattle.vc_session.specs.Account.{Held, account_after, accounts, state_of}
+use Rattle.vc_commands.specs.declared.region.home.HomeEntry.{HomeEntry}
+use Rattle.vc_commands.specs.Held.{Held}
+use Rattle.vc_session.specs.Account.{account_after, accounts, state_of}
 use Rattle.vc_session.specs.DictHomes.{dicts_in, lies_in}
 use Rattle.vc_session.specs.Homes.{accounts_on, held_in, slots_on}
-use Rattle.vc_session.specs.State.{close_home, is_home, stepped}
+use Rattle.vc_session.specs.State.{close_home, stepped}
+use Rattle.vc_commands.specs.Home.{is_home}
 use Rattle.vc_session.proofs.Closing.{close-busy, step-close}
 use Rattle.vc_session.proofs.DictsStay.{all-other, busy-lies, dicts_in-stay, its-name, stays-remove}
-use Rattle.vc_session.proofs.Firsts.{find-none}
+use Rattle.vc_commands.proofs.Firsts.{find-none}
 use Rattle.vc_session.proofs.Helds.{any-named, first-named, index-within, length-held, some-at}
-use Rattle.vc_session.proofs.Names.{same_bytes}
+use Rattle.vc_commands.proofs.Names.{same_bytes}
 use Rattle.vc_session.proofs.session.Session.close_named.Given as given
 use Rattle.vc_session.proofs.session.Session.close_named.Goals as goal
 

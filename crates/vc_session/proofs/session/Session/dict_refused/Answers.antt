@@ -6,12 +6,14 @@ use Rattle.std.proofs.lemmas.List.{length-map}
 use Rattle.vc_model.specs.Discipline.{Discipline}
 use Rattle.vc_region.specs.Cells.{rest_in}
 use Rattle.vc_script.specs.declared.refusal.Refusal.TheVariants as why
-use Rattle.vc_session.specs.declared.home.HomeEntry.{HomeEntry}
-use Rattle.vc_session.specs.Account.{Held, home_of, state_of}
+use Rattle.vc_commands.specs.declared.region.home.HomeEntry.{HomeEntry}
+use Rattle.vc_commands.specs.Held.{Held, home_of}
+use Rattle.vc_session.specs.Account.{state_of}
 use Rattle.vc_session.specs.DictHomes.{dict_home, dicts_in}
 use Rattle.vc_session.specs.Dicts.{dict_refused}
-use Rattle.vc_session.specs.Homes.{held_in, held_of}
-use Rattle.vc_session.specs.Labels.{name_of}
+use Rattle.vc_session.specs.Homes.{held_in}
+use Rattle.vc_commands.specs.RegionRun.{held_of}
+use Rattle.vc_commands.specs.Labels.{name_of}
 use Rattle.vc_session.specs.Told.{rules_in}
 use Rattle.vc_session.proofs.DictNamed.{any-dict}
 use Rattle.vc_session.proofs.DictRefusing.{best-relabelled, refused-by, refused-exists, refused-kind, refused-method}

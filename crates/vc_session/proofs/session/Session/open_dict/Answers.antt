@@ -18,20 +18,22 @@ use Rattle.vc_script.specs.Needs.{NoNeed, need_shown}
 use Rattle.vc_script.specs.declared.command.Command.TheVariants.{OpenDict}
 use Rattle.vc_script.specs.declared.reply.Reply.TheVariants.{Opened, Refused}
 use Rattle.vc_region.specs.Region.{is_best}
-use Rattle.vc_session.specs.declared.dicts.DictEntry.{DictEntry}
-use Rattle.vc_session.specs.declared.home.HomeEntry.{HomeEntry}
-use Rattle.vc_session.specs.Account.{Held, IsSession, Settles, accounts, home_of, settled, state_of}
+use Rattle.vc_commands.specs.declared.dict.entry.DictEntry.{DictEntry}
+use Rattle.vc_commands.specs.declared.region.home.HomeEntry.{HomeEntry}
+use Rattle.vc_commands.specs.Held.{Held, home_of}
+use Rattle.vc_session.specs.Account.{IsSession, Settles, accounts, settled, state_of}
 use Rattle.vc_session.specs.DictHomes.{AreDicts, dicts_in}
 use Rattle.vc_session.specs.Dicts.{dict_refused, open_dict_step}
-use Rattle.vc_session.specs.Homes.{held_all, held_in, held_of, slots_on}
-use Rattle.vc_session.specs.Labels.{name_of}
+use Rattle.vc_session.specs.Homes.{held_all, held_in, slots_on}
+use Rattle.vc_commands.specs.RegionRun.{held_of}
+use Rattle.vc_commands.specs.Labels.{name_of}
 use Rattle.vc_session.specs.Lacks.{StepLacksFor}
 use Rattle.vc_session.specs.Run.{refusal_at}
-use Rattle.vc_session.specs.State.{is_home}
+use Rattle.vc_commands.specs.Home.{is_home}
 use Rattle.vc_session.specs.Step.{GivesStep}
 use Rattle.vc_session.specs.Steps.{StepsBy}
 use Rattle.vc_session.specs.Told.{gone_in, rules_in}
-use Rattle.vc_session.proofs.Agreeing.{from_ok}
+use Rattle.vc_commands.proofs.Agreeing.{from_ok}
 use Rattle.vc_session.proofs.BestRegions.{no-other}
 use Rattle.vc_session.proofs.Cells.{at_number-from_one, set_same}
 use Rattle.vc_session.proofs.Changing.{session-change, settles-none}
@@ -41,7 +43,7 @@ use Rattle.vc_session.proofs.DictRefusing.{best-relabelled}
 use Rattle.vc_session.proofs.DictRegion.{best_entry, entry-best, held_after, region-change, touches}
 use Rattle.vc_session.proofs.DictWhy.{kind-within, lacks-early, refused-early, refused-none, settles-early}
 use Rattle.vc_session.proofs.Ending.{if_some-at}
-use Rattle.vc_session.proofs.Firsts.{find-none}
+use Rattle.vc_commands.proofs.Firsts.{find-none}
 use Rattle.vc_session.proofs.Helds.{any-named, first-named, held-read, held-set, index-within, length-set, name-at, none_of, slice-or}
 use Rattle.vc_session.proofs.Placed.{home-at, labels-at}
 use Rattle.vc_session.proofs.Sessions.{held-at}

@@ -9,12 +9,13 @@ use Rattle.vc_seg.specs.Shelf.{place_at, slots_of}
 use Rattle.vc_script.specs.declared.reply.Reply.TheVariants.{Opened, Refused}
 use Rattle.vc_script.specs.declared.refusal.Refusal.TheVariants.{RegionExists}
 use Rattle.vc_seg.specs.Boxed.{boxed}
-use Rattle.vc_session.specs.declared.home.HomeEntry.{HomeEntry}
+use Rattle.vc_commands.specs.declared.region.home.HomeEntry.{HomeEntry}
 use Rattle.vc_session.specs.Account.{accounts, settled, state_of, IsSession}
 use Rattle.vc_session.specs.DictHomes.{AreDicts, dicts_in}
-use Rattle.vc_session.specs.Homes.{held_all, held_in, not_here, slots_on}
+use Rattle.vc_session.specs.Homes.{held_all, held_in, slots_on}
+use Rattle.vc_session.specs.State.{not_here}
 use Rattle.vc_session.specs.State.{stepped}
-use Rattle.vc_session.proofs.Agreeing.{from_ok}
+use Rattle.vc_commands.proofs.Agreeing.{from_ok}
 use Rattle.vc_session.proofs.Cells.{at_number_some, set_same}
 use Rattle.vc_session.proofs.Helds.{any-named, none_of}
 use Rattle.vc_session.proofs.Newest.{IsNewest, newest-dicts, newest-named, newest-session, newest-settled, newest-step}

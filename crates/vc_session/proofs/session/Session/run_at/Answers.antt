@@ -7,7 +7,7 @@ use Rattle.std.specs.Map.{keys_of}
 use Rattle.std.specs.Str.{bytes_eq}
 use Rattle.vc_model.specs.Discipline.{Discipline}
 use Rattle.vc_region.specs.Parts.{disc_in}
-use Rattle.vc_commands.specs.Run.{seat_in}
+use Rattle.vc_commands.specs.DictRun.{seat_in}
 use Rattle.vc_session.specs.Homes.{held_in, slots_on}
 use Rattle.vc_session.specs.Told.{gone_in, rules_in}
 use Rattle.vc_session.proofs.BestRegions.{no-other}

@@ -2,16 +2,18 @@ use Rattle.std.proofs.Common.{◌<◌, ℕ, List, [], Ok, Some, length, map, set
 use Rattle.std.proofs.lemmas.List.{length-map}
 use Rattle.vc_model.specs.Discipline.{Discipline}
 use Rattle.vc_script.specs.Needs.{need_shown}
-use Rattle.vc_session.specs.declared.home.HomeEntry.{HomeEntry}
-use Rattle.vc_session.specs.Account.{Held, IsSession, accounts, home_of, settled, state_of}
+use Rattle.vc_commands.specs.declared.region.home.HomeEntry.{HomeEntry}
+use Rattle.vc_commands.specs.Held.{Held, home_of}
+use Rattle.vc_session.specs.Account.{IsSession, accounts, settled, state_of}
 use Rattle.vc_session.specs.DictHomes.{AreDicts, dicts_in, lies_in}
-use Rattle.vc_session.specs.Homes.{held_in, held_of, slots_on}
-use Rattle.vc_session.specs.State.{is_home}
+use Rattle.vc_session.specs.Homes.{held_in, slots_on}
+use Rattle.vc_commands.specs.RegionRun.{held_of}
+use Rattle.vc_commands.specs.Home.{is_home}
 use Rattle.vc_session.specs.Step.{is_clear, step_of}
 use Rattle.vc_session.specs.Steps.{StepsBy}
 use Rattle.vc_session.proofs.Changing.{session-change, step-busy, step-none}
 use Rattle.vc_session.proofs.DictsStay.{busy-lies}
-use Rattle.vc_session.proofs.Firsts.{find-first, find-none}
+use Rattle.vc_commands.proofs.Firsts.{find-first, find-none}
 use Rattle.vc_session.proofs.Helds.{any-named, first-named, held-read, held-set, index-within, length-set, name-at, slice-or}
 use Rattle.vc_session.proofs.InRegion.{both-true, clear-free, clear-is, if_ok_at}
 use Rattle.vc_session.proofs.RegionSteps.{moment_over, region-dicts, steps-region}

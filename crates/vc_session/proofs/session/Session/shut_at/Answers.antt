@@ -10,12 +10,14 @@ use Rattle.vc_model.specs.Numbered.{at_number}
 use Rattle.vc_objects.specs.Objects.{Dictionary, owned}
 use Rattle.vc_objects.specs.Parts.{IsWhole, dictionary_of}
 use Rattle.vc_objects.specs.Remove.{bytes_of}
-use Rattle.vc_session.specs.declared.home.HomeEntry.{HomeEntry}
-use Rattle.vc_session.specs.Account.{IsSession, accounts, home_of, settled, state_of}
+use Rattle.vc_commands.specs.declared.region.home.HomeEntry.{HomeEntry}
+use Rattle.vc_session.specs.Account.{IsSession, accounts, settled, state_of}
+use Rattle.vc_commands.specs.Held.{home_of}
 use Rattle.vc_session.specs.DictHomes.{AreDicts, dict_home, dicts_in}
 use Rattle.vc_session.specs.Dicts.{shut_state, told_of}
-use Rattle.vc_session.specs.Homes.{held_all, held_in, held_of, slots_on}
-use Rattle.vc_session.specs.State.{is_home}
+use Rattle.vc_session.specs.Homes.{held_all, held_in, slots_on}
+use Rattle.vc_commands.specs.RegionRun.{held_of}
+use Rattle.vc_commands.specs.Home.{is_home}
 use Rattle.vc_session.specs.Moment.{Moment, moment}
 use Rattle.vc_session.specs.Steps.{Shuts}
 use Rattle.vc_session.specs.Told.{gone_in, rules_in, tell}
@@ -28,7 +30,7 @@ use Rattle.vc_session.proofs.DictShut.{dict-is, dicts-shut, none-left, shut-best
 use Rattle.vc_session.proofs.DictTold.{tell-each}
 use Rattle.vc_session.proofs.DictsStay.{Entry}
 use Rattle.vc_session.proofs.Ending.{if_some-to, within-map}
-use Rattle.vc_session.proofs.Firsts.{find-none, none-unmap}
+use Rattle.vc_commands.proofs.Firsts.{find-none, none-unmap}
 use Rattle.vc_session.proofs.Helds.{any-named, first-named, held-read, held-set, index-within, length-remove, length-set, name-at, slice-or}
 use Rattle.vc_session.proofs.Placed.{labels-at}
 use Rattle.vc_session.proofs.Settling.{keeps-equal}

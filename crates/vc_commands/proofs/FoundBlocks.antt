@@ -1,0 +1,101 @@
+-- The block of a name, in a region with tags and in the one with names.
+use Rattle.std.proofs.Common.{◌≡◌, ℕ, ◌≤◌, suc, Bool, true, false, ◌||◌, ◌&&◌, is_some, List, [], ◌∷◌, Some, None, option_map, map, refl, sym, ap, ◌∙◌, ⊎_elim, arith}
+use Rattle.std.specs.Prelude.{Contains, find, ◌==◌}
+use Rattle.std.specs.List.{list_any}
+use Rattle.std.specs.Str.{bytes_eq}
+use Rattle.std.proofs.lemmas.Bool.{cases_Bool, eqb-true, false≢true}
+use Rattle.std.proofs.lemmas.Option.{same_Some}
+use Rattle.vc_model.specs.Addr.{place_of}
+use Rattle.vc_model.specs.Layout.{Block, address_of, relabel_block}
+use Rattle.vc_region.specs.Region.{Region, blocks_of, relabelled}
+use Rattle.vc_model.specs.Place.{IsAlign}
+use Rattle.vc_model.specs.Touch.{find_block}
+use Rattle.vc_model.proofs.Places.{Among, among-all, among-find, found-there, place-of}
+use Rattle.vc_model.proofs.Relabel.{find-relabel}
+use Rattle.vc_region.proofs.Relabel.{blocks-relabelled}
+use Rattle.vc_commands.specs.Home as home
+use Rattle.vc_commands.specs.Home.{Changed, Home, unchanged}
+use Rattle.vc_commands.specs.Blocks.{is_align, is_block, is_name_of, no_block, on_block, with_named}
+use Rattle.vc_commands.specs.Kept.{line_of}
+use Rattle.vc_commands.specs.declared.region.labels.Label.{Label}
+use Rattle.vc_commands.specs.declared.region.labels.Labels.{Labels}
+use Rattle.vc_commands.specs.Labels.{kept_of, label_at, name_of, tag_of}
+use Rattle.vc_commands.specs.Held.{Held, IsLive, IsNamed, home_of}
+use Rattle.vc_commands.proofs.Firsts.{find-none}
+use Rattle.vc_commands.proofs.Lists.{Passes, contains-among, found-any}
+use Rattle.vc_commands.proofs.Names.{has-label-any, name-first, name-here, named_by, same_bytes}
+
+-- no block has the name
+pub on_block-none : (h : Held) (x : List ℕ) (act : Block home.Label → Changed) → IsNamed h.region h.labels → tag_of h.labels x ≡ None → on_block (home_of h) x act ≡ unchanged (home_of h) (no_block (line_of x (kept_of h.labels)))
+on_block-none h x act names none =
+    ap (λ o. with_named (home_of h) x o act) (find-none (is_block x) (blocks_of (home_of h).region) (sym (names.known x) ∙ ap is_some none))
+
+name-some : (x : List ℕ) (o : home.Label) → is_name_of x o ≡ true → (y : List ℕ) × (o ≡ Some y) × (bytes_eq y x ≡ true)
+name-some x None e = absurd cc
+name-some x (Some y) e = (y, refl, e)
+
+-- the block of a name
+pub record TheBlock (r : Region ℕ) (labels : Labels) (x : List ℕ) (tag a : ℕ) : Type 0 where
+  pub block : Block ℕ
+  pub first : 1 ≤ block.label
+  pub is_tag : block.label ≡ tag
+  pub name : name_of labels block.label ≡ Some x
+  pub address : address_of block ≡ a
+  pub place : place_of a ≡ (block.seg, block.off)
+  pub found : find_block (place_of a) (blocks_of r) ≡ Some block
+  pub there : Contains (map address_of (blocks_of r)) a
+  pub named : find (is_block x) (blocks_of (relabelled (name_of labels) r)) ≡ Some (relabel_block (name_of labels) block)
+
+module _ (r : Region ℕ) (labels : Labels) (x : List ℕ) (tag : ℕ) (label : Label) (names : IsNamed r labels) (is_named : label.name ≡ x) (was_named : tag_of labels x ≡ Some tag) (was_at : label_at labels tag ≡ Some label) where
+  passes : Passes (named_by (name_of labels) x) (blocks_of r)
+  passes = found-any (named_by (name_of labels) x) (blocks_of r) (sym (has-label-any (name_of labels) x r) ∙ (sym (names.known x) ∙ ap is_some was_named))
+
+  pub the_block : TheBlock r labels x tag label.at.0
+  the_block =
+      let f = name_of labels in
+      let b = passes.item in
+      let among : Among b (blocks_of r) = among-find (named_by f x) (blocks_of r) b passes.found in
+      let some = name-some x (f b.label) passes.passes in
+      let first : 1 ≤ b.label = name-first labels b.label some.0 some.1 in
+      let live : IsLive labels b = among-all (λ c. 1 ≤ c.label → IsLive labels c) b (blocks_of r) among names.live first in
+      let own : live.label.name ≡ x = same_Some live.label.name some.0 (sym (name-here labels b.label live.label first live.here) ∙ some.1) ∙ same_bytes some.0 x some.2 in
+      let is_tag : b.label ≡ tag = same_Some b.label tag (sym (names.agree.named b.label live.label first live.here) ∙ (ap (tag_of labels) own ∙ was_named)) in
+      let same : live.label ≡ label = same_Some live.label label (sym live.here ∙ (ap (label_at labels) is_tag ∙ was_at)) in
+      let address : address_of b ≡ label.at.0 = sym live.at ∙ ap (λ (k : Label). k.at.0) same in
+      record {
+        block = b;
+        first = first;
+        is_tag = is_tag;
+        name = some.1 ∙ ap (λ n. Some n) (same_bytes some.0 x some.2);
+        address = address;
+        place = ap place_of (sym address) ∙ place-of (blocks_of r) b names.places among;
+        found = found-there (blocks_of r) b label.at.0 names.places among address;
+        there = contains-among label.at.0 b (blocks_of r) among address;
+        named =
+            ap (find (is_block x)) (blocks-relabelled f r)
+            ∙ (find-relabel f (named_by f x) (is_block x) (λ c. refl) (blocks_of r)
+            ∙ ap (option_map (relabel_block f)) passes.found);
+      }
+
+-- what is done with it
+pub on_block-there : (h : Held) (x : List ℕ) (tag a : ℕ) (b : TheBlock h.region h.labels x tag a) (act : Block home.Label → Changed) → on_block (home_of h) x act ≡ act (relabel_block (name_of h.labels) b.block)
+on_block-there h x tag a b act = ap (λ o. with_named (home_of h) x o act) b.named
+
+-- a script's alignment is one of a region
+pub align-in : (align : ℕ) → is_align align ≡ true → IsAlign align
+align-in align passes = among (32 ∷ 64 ∷ 128 ∷ 256 ∷ 512 ∷ 1024 ∷ 2048 ∷ 4096 ∷ []) passes
+  where
+    among : (xs : List ℕ) → list_any (λ n. align == n) xs ≡ true → Contains xs align
+    among [] any = absurd (false≢true any)
+    among (y ∷ ys) any =
+        ⊎_elim
+        (λ e. (0, omega arith, sym (eqb-true align y e)))
+        (λ e.
+        let rest = among ys (sym (ap (λ b. b || list_any (λ n. align == n) ys) e) ∙ any) in
+        (suc rest.0, omega (arith, rest.1), rest.2))
+        (cases_Bool (align == y))
+
+pub both-parts : (a b : Bool) → (a && b) ≡ true → (a ≡ true) × (b ≡ true)
+both-parts true true e = (refl, refl)
+both-parts true false e = absurd cc
+both-parts false b e = absurd cc

@@ -1,0 +1,54 @@
+use Rattle.std.proofs.Common.{SFits, rules, ℕ, ◌++◌, [], length, option_map, List, Option, inr, sym, ap, ◌∙◌, append-nil, arith}
+use Rattle.std.specs.Prelude.{ℤ}
+use Rattle.std.specs.List.{cons_option}
+use Rattle.std.specs.Int.{w64}
+use Rattle.std.proofs.lemmas.Int.{to_z-of_z}
+use Rattle.vc_model.specs.Layout.{Block, address_of}
+use Rattle.vc_region.proofs.Sound.{own_places}
+use Rattle.vc_region.specs.Cells.{rest_in}
+use Rattle.vc_region.specs.Parts.{region_of}
+use Rattle.vc_region.specs.Region.{next_damaged_in}
+use Rattle.vc_commands.proofs.Auditing.{between, damage-told, damaged-all, damaged-end, damaged_behind, found_items, list-damage}
+use Rattle.vc_commands.proofs.Listing.{from_none}
+use Rattle.vc_region.proofs.Rest.{rest-damaged, rest-debug}
+use Rattle.vc_commands.proofs.region.audit.damage_items.Goals as goal
+
+pub loop-block-smaller : goal.loop-block-smaller
+loop-block-smaller g c =
+    let r = c.args.region.now in
+    let next = damage-told r c.args.labels.now c.loop-block.after.0 c.in-Some.block.0 c.tag.result c.name.result c.in-Some.off (own_places r) (sym c.in-Some.ensures.value) c.tag.ensures c.name.ensures in
+    omega (arith, ap length next.row)
+
+pub loop-block-preserved : goal.loop-block-preserved
+loop-block-preserved g c =
+    let r = c.args.region.now in
+    let labels = c.args.labels.now in
+    let items = c.loop-block.items.items in
+    let next = damage-told r c.args.labels.now c.loop-block.after.0 c.in-Some.block.0 c.tag.result c.name.result c.in-Some.off (own_places r) (sym c.in-Some.ensures.value) c.tag.ensures c.name.ensures in
+    let rest = found_items labels (damaged_behind c.in-Some.block.0 (region_of r)) in
+    let fits : SFits w64 c.in-Some.off = search rules in
+    let item : Option (List ℕ × ℤ) = option_map {U = List ℕ × ℤ} (λ x. (x, c.in-Some.off)) c.name.result in
+    record {
+      items =
+          ap (λ is. is ++ rest) (c.in_ok-push_damage.ensures ∙ ap (λ z. items ++ cons_option (option_map {U = List ℕ × ℤ} (λ x. (x, z)) c.name.result) []) (to_z-of_z w64 c.in-Some.off fits))
+          ∙ (between items item rest
+          ∙ (ap (λ o. items ++ cons_option o rest) (sym next.item_is)
+          ∙ (ap (λ fs. items ++ found_items labels fs) (sym next.row)
+          ∙ c.loop-block.invariant.items)));
+      from = inr c.in-Some.ensures.live;
+    }
+
+pub returns : goal.returns
+returns g c =
+    let r = c.args.region.now in
+    let labels = c.args.labels.now in
+    let items = c.loop-block.items.items in
+    let at : Block ℕ × ℤ → ℕ × ℤ = λ f. (address_of f.0, f.1) in
+    let none = from_none at (next_damaged_in c.loop-block.after.0 (region_of r)) (sym c.in_default.ensures.value) in
+    sym (append-nil items)
+    ∙ (ap (λ fs. items ++ found_items labels fs) (sym (damaged-end r c.loop-block.after.0 none))
+    ∙ (c.loop-block.invariant.items
+    ∙ (ap (found_items labels) (damaged-all r ∙ sym (rest-damaged (region_of r))) ∙ sym (list-damage (rest_in r) labels))))
+
+pub check-requires-clause-method : goal.check-requires-clause-method
+check-requires-clause-method g c = sym (rest-debug (region_of c.args.region.now)) ∙ c.requires.method

@@ -1,0 +1,72 @@
+use Rattle.std.proofs.Common.{◌+◌, ◌≤◌, Some, ◌&&◌, refl, sym, ap, ◌∙◌, arith}
+use Rattle.std.specs.Prelude.{nat_le}
+use Rattle.vc_model.specs.Addr.{place_of}
+use Rattle.vc_model.specs.Discipline.{Discipline}
+use Rattle.vc_region.specs.Cells.{rest_in}
+use Rattle.vc_region.specs.Parts.{region_of}
+use Rattle.vc_script.specs.declared.refusal.Refusal.TheVariants as why
+use Rattle.vc_commands.specs.Held.{home_of}
+use Rattle.vc_commands.specs.Blocks.{read_block, read_in}
+use Rattle.vc_commands.specs.RegionRun.{held_of}
+use Rattle.vc_commands.specs.Home.{unchanged}
+use Rattle.vc_commands.specs.declared.region.labels.Label.{Label}
+use Rattle.vc_commands.proofs.Answers.{gives-unchanged}
+use Rattle.vc_commands.proofs.FoundBlocks.{on_block-none, the_block}
+use Rattle.vc_region.proofs.RestFound.{has-rest, rest-size}
+use Rattle.vc_commands.proofs.Seen.{seen-bytes}
+use Rattle.vc_commands.proofs.Touching.{b, bytes-told, gives-read, range-beyond, range-many, range-none, range-within, read-range, size-told}
+use Rattle.vc_commands.proofs.region.home.HomeEntry.read.Given as given
+use Rattle.vc_commands.proofs.region.home.HomeEntry.read.Goals as goal
+use Rattle.vc_commands.proofs.region.home.HomeEntry.read.Goals.{then-len-eq0-via-then-len-eq0, then-len-eq0-via-else-len-eq0+then-len-gt4096, then-len-eq0-via-else-len-eq0+else-len-gt4096+then-off-len}
+
+abbrev meaning : (g : given.Over) → (x : g.dyn-1.0.I) × (g.dyn-1.0.entry x).0.Denot → Discipline
+meaning g p = (g.dyn-1.0.entry p.0).1.state p.1
+
+pub size-requires : goal.size-requires
+size-requires g c =
+    let label : Label = record { name = c.args.name.now; at = c.in-Some.at } in
+    let f = c.in-Some.ensures.some in
+    has-rest (region_of c.args.self.now.region) label.at.0 (the_block (rest_in c.args.self.now.region) c.args.labels.now c.args.name.now f.0 label c.requires.names refl f.1 f.2).there
+
+pub read-requires-clause-block : goal.read-requires-clause-block
+read-requires-clause-block g c =
+    let label : Label = record { name = c.args.name.now; at = c.in-Some.at } in
+    let f = c.in-Some.ensures.some in
+    has-rest (region_of c.args.self.now.region) label.at.0 (the_block (rest_in c.args.self.now.region) c.args.labels.now c.args.name.now f.0 label c.requires.names refl f.1 f.2).there
+
+pub returns-in-None : goal.returns-in-None
+returns-in-None g c = λ r.
+    let h = held_of (meaning g) r c.args.self.now c.args.labels.now in
+    gives-unchanged (home_of h) (read_in (home_of h) c.args.name.now c.args.off c.args.len) c.no_block.result
+    (on_block-none h c.args.name.now (read_block (home_of h) c.args.name.now c.args.off c.args.len) c.requires.names c.in-None.ensures.none ∙ ap (unchanged (home_of h)) (sym c.no_block.ensures.value))
+
+pub returns-then-len-eq0 : goal.returns-then-len-eq0
+returns-then-len-eq0 g c = λ r.
+    let h = held_of (meaning g) r c.args.self.now c.args.labels.now in
+    let label : Label = record { name = c.args.name.now; at = c.in-Some.at } in
+    let f = c.in-Some.ensures.some in
+    let block = (b h c.args.name.now f.0 label c.requires.names refl f.1 f.2).block in
+    gives-unchanged (home_of h) (read_in (home_of h) c.args.name.now c.args.off c.args.len) why.Range
+    (read-range h c.args.name.now f.0 label c.requires.names refl f.1 f.2 c.args.off c.args.len
+    (elim c.then-len-eq0.branch [
+      | then-len-eq0-via-then-len-eq0 w ↦ range-none c.args.off c.args.len block.size (omega arith)
+      | then-len-eq0-via-else-len-eq0+then-len-gt4096 w ↦ range-many c.args.off c.args.len block.size (omega arith)
+      | then-len-eq0-via-else-len-eq0+else-len-gt4096+then-off-len w ↦
+          let same = size-told h c.args.name.now f.0 label c.requires.names refl f.1 f.2 w.size.result (rest-size (region_of c.args.self.now.region) (place_of label.at.0) ∙ w.size.ensures) in
+          range-beyond c.args.off c.args.len block.size (omega (arith, same))
+    ]))
+
+pub returns-in_ok-bytes-in-Some : goal.returns-in_ok-bytes-in-Some
+returns-in_ok-bytes-in-Some g c = λ r.
+    let h = held_of (meaning g) r c.args.self.now c.args.labels.now in
+    let label : Label = record { name = c.args.name.now; at = c.in-Some.at } in
+    let f = c.in-Some.ensures.some in
+    let block = b h c.args.name.now f.0 label c.requires.names refl f.1 f.2 in
+    let few : c.args.len ≤ 4096 = omega arith in
+    let some : 1 ≤ c.args.len = omega arith in
+    let within : c.args.off + c.args.len ≤ c.size.result = omega arith in
+    let size = size-told h c.args.name.now f.0 label c.requires.names refl f.1 f.2 c.size.result (rest-size (region_of c.args.self.now.region) (place_of label.at.0) ∙ c.size.ensures) in
+    gives-read h c.args.name.now f.0 label c.requires.names refl f.1 f.2 c.args.off c.args.len c.from_vec.result
+    (ap (λ n. (nat_le 1 c.args.len && nat_le c.args.len 4096) && nat_le (c.args.off + c.args.len) n) size ∙ range-within c.args.off c.args.len c.size.result some few within)
+    (bytes-told h c.args.name.now f.0 label c.requires.names refl f.1 f.2 c.args.off c.args.len c.from_vec.result
+    (seen-bytes (region_of c.args.self.now.region) label.at.0 block.block block.found block.first c.args.off c.args.len ∙ (c.read.ensures ∙ ap (λ bs. Some bs) (sym (c.from_vec.ensures ∙ c.in_ok-bytes-in-Some.ensures.items_if_clones_equal (λ x y same. same))))))

@@ -1,0 +1,88 @@
+-- What running a command on a dictionary promises.
+use Rattle.std.specs.Prelude.{◌≡◌, ℕ, List, false, true, Option, Some, None, Result, Ok, Err, option_map}
+use Rattle.vc_model.specs.Layout.{Layout}
+use Rattle.vc_base.specs.declared.addr.Addr.{Addr}
+use Rattle.vc_base.specs.Holders.{contains}
+use Rattle.vc_model.specs.Discipline.{Discipline}
+use Rattle.vc_dtdisc.specs.Rules.{Gone, Rules}
+use Rattle.vc_dtlist.specs.Linked.{number_of}
+use Rattle.vc_dict.specs.Listed.{holders_of}
+use Rattle.vc_dict.specs.declared.dict.Dict.{Dict}
+use Rattle.vc_best.specs.Cells.{cells_in, rest_in}
+use Rattle.vc_best.specs.Parts.{disc_in}
+use Rattle.vc_best.specs.declared.best.Best.{Best}
+use Rattle.vc_objects.specs.Insert.{grow}
+use Rattle.vc_objects.specs.Leaves.{IsHalted, LacksHolder, LacksTable, told_each}
+use Rattle.vc_objects.specs.Objects.{Dictionary, Object}
+use Rattle.vc_objects.specs.Parts.{dictionary_in, object_of}
+use Rattle.vc_script.specs.declared.command.Command.{Command}
+use Rattle.vc_script.specs.declared.command.Command.TheVariants.{Insert, Attach}
+use Rattle.vc_script.specs.declared.refusal.Refusal.TheVariants.{NoSegmentForTable, NoSegmentForObject}
+use Rattle.vc_script.specs.declared.reply.Reply.{Reply}
+use Rattle.vc_script.specs.declared.reply.Reply.TheVariants.{Refused}
+use Rattle.vc_commands.specs.DictCommands.{object_asked, table_asked}
+use Rattle.vc_commands.specs.Seat.{DictChanged, Seat}
+
+-- the seat of a dictionary in a region whose blocks have tags for labels
+abbrev pub seat_in : {I : Type 0} {V : I → Type 0} → ((x : I) × V x → Discipline) → Rules → Best I V → Dict → Seat ℕ
+seat_in meaning rules region dict =
+    record {
+      rules = rules;
+      terms = (disc_in meaning region).terms;
+      none = 0;
+      region = rest_in region;
+      dict = dictionary_in dict region;
+    }
+
+-- what a command gives is this region, dictionary and reply, and the kind was told so
+pub record GivesDict (c : DictChanged ℕ) (r : Layout ℕ) (d : Dictionary) (answer : Reply) (gone gone' : Gone) : Type 0 where
+  pub region : c.region ≡ r
+  pub dict : c.dict ≡ d
+  pub reply : c.reply ≡ answer
+  pub told : gone' ≡ told_each c.told gone
+
+-- it is what a region and a dictionary in it then are
+abbrev pub Gives : {I : Type 0} {V : I → Type 0} → DictChanged ℕ → Best I V → Dict → Reply → Gone → Gone → Type 0
+Gives c region dict answer gone gone' = GivesDict c (rest_in region) (dictionary_in dict region) answer gone gone'
+
+-- neither a region nor a dictionary in it changed
+pub record IsStill {I : Type 0} {V : I → Type 0} (before : Best I V) (old : Dict) (after : Best I V) (new : Dict) : Type 0 where
+  pub region : rest_in after ≡ rest_in before
+  pub dict : dictionary_in new after ≡ dictionary_in old before
+
+-- the object in a holder, where there is one
+abbrev pub object_there : {I : Type 0} {V : I → Type 0} → Best I V → Option Addr → Option Object
+object_there region at = option_map (object_of (cells_in region)) (option_map number_of at)
+
+-- where there is an address, it is that of one of the dictionary's holders
+abbrev pub IsOfHolder : {I : Type 0} {V : I → Type 0} → Dict → Best I V → Option Addr → Type 0
+IsOfHolder dict region None = Unit {0}
+IsOfHolder dict region (Some at) = contains (holders_of dict (cells_in region)) at.0 ≡ true
+
+-- with no memory nothing changed, or the table grew for an object
+abbrev pub IsSpent : Seat ℕ → Layout ℕ → Dictionary → Type 0
+IsSpent s region d = IsHalted (grow s.terms s.region s.none s.dict false) s.region s.dict region d
+
+-- by the command: only `insert` and `attach` put an object where a table can grow
+abbrev pub IsSpentBy : Seat ℕ → Command → Layout ℕ → Dictionary → Type 0
+IsSpentBy s (Insert name bytes) region d = IsSpent s region d
+IsSpentBy s (Attach name bytes) region d = IsSpent s region d
+IsSpentBy s command region d = (region ≡ s.region) × (d ≡ s.dict)
+
+-- by a reply: a segment that was refused was asked for, for a table of these slots or a holder of this object, and else no fault was counted
+abbrev pub LacksFor : Option ℕ → List ℕ → Reply → Discipline → Discipline → Type 0
+LacksFor slots object (Refused NoSegmentForTable) old new = LacksTable slots old new
+LacksFor slots object (Refused NoSegmentForObject) old new = LacksHolder slots object old new
+LacksFor slots object reply old new = new.faults ≡ old.faults
+
+-- by what a command asks for
+abbrev pub LacksBy : {L : Type 0} → Seat L → Command → Reply → Discipline → Discipline → Type 0
+LacksBy s command reply old new = LacksFor (table_asked s command) (object_asked s command) reply old new
+
+-- by an answer: with no memory, too, no fault was counted
+abbrev pub AskedFor : {E : Type 0} → Result Reply E → Option ℕ → List ℕ → Discipline → Discipline → Type 0
+AskedFor (Ok reply) slots object old new = LacksFor slots object reply old new
+AskedFor (Err why) slots object old new = new.faults ≡ old.faults
+
+abbrev pub AskedBy : {E L : Type 0} → Result Reply E → Seat L → Command → Discipline → Discipline → Type 0
+AskedBy result s command old new = AskedFor result (table_asked s command) (object_asked s command) old new

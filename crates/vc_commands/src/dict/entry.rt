@@ -1,0 +1,12 @@
+// A dictionary that is open.
+use vc_base::Name;
+use vc_dict::Dict;
+
+/// A dictionary that is open.
+#[derive(Drop)]
+pub struct DictEntry {
+    /// The name of the region that it lies in.
+    pub home: Name,
+    /// Its heads and its method.
+    pub dict: Dict,
+}

@@ -1,0 +1,217 @@
+// The commands that put an object into a dictionary.
+ghost use Rattle.std.specs.Prelude.{◌≡◌, None, true, false, IfOk, OnErr, OnOk};
+ghost use Rattle.vc_base.specs.Methods.{is_list, is_set};
+ghost use Rattle.vc_dtdisc.specs.Rules.{Gone, IsObject, Rules};
+ghost use Rattle.vc_best.specs.Cells.{cells_in, rest_in};
+ghost use Rattle.vc_best.specs.Parts.{disc_in};
+ghost use Rattle.vc_objects.specs.Insert.{slots_wanted};
+ghost use Rattle.vc_objects.specs.Leaves.{LeavesRest, Looks};
+ghost use Rattle.vc_objects.specs.Lists.{first_with};
+ghost use Rattle.vc_objects.specs.Parts.{IsWhole, dictionary_in};
+ghost use Rattle.vc_script.specs.Needs.{need_shown};
+ghost use Rattle.vc_commands.specs.DictCommands.{append_in, fate_reply, insert_in, put_object, put_unless, standing, where_object};
+ghost use Rattle.vc_commands.specs.DictRun.{AskedFor, Gives, IsOfHolder, IsSpent, IsStill, object_there, seat_in};
+
+use crate::Uncounted;
+use crate::dict::looking::is_object;
+use std::alloc::Global;
+use vc_base::{Addr, Cells, OutOfMemory, Steps};
+use vc_best::Best;
+use vc_dict::Dict;
+use vc_dtdisc::DictDisc;
+use vc_objects::{Fate, Want};
+use vc_script::{Bytes, Refusal, Reply};
+use vc_seg::{BoxedDisc, SegDisc};
+
+// The reply to an object that was put.
+fn fate_reply(object: Vec<u8>, fate: Fate) -> Reply
+    ensures { result ≡ fate_reply object.items fate }
+{
+    match fate {
+        Fate::Stored => Reply::New(Bytes::from_vec(object)),
+        Fate::NoTable(Want::TooManySegments) | Fate::NoHolder(Want::TooManySegments) => {
+            Reply::Refused(Refusal::TooManySegments)
+        }
+        Fate::NoTable(Want::NoSegment) => Reply::Refused(Refusal::NoSegmentForTable),
+        Fate::NoHolder(Want::NoSegment) => Reply::Refused(Refusal::NoSegmentForObject),
+    }
+}
+
+// Puts an object that none of a set matches.
+fn put<D: DictDisc>(
+    alloc: Global,
+    best: &mut Best,
+    dict: &mut Dict,
+    kind: &D,
+    object: Vec<u8>,
+    append: bool,
+) -> Result<Reply, OutOfMemory>
+    requires whole { IsWhole (D.rules kind.now) dict.old (cells_in best.old) }
+    requires lone { is_set dict.old.method ≡ true → first_with (D.rules kind.now)
+        ((D.rules kind.now).key object.items) (dictionary_in dict.old best.old).objects ≡ None }
+    requires object { IsObject object.items }
+    requires append { append ≡ true → is_list dict.old.method ≡ true }
+
+    ensures step { IfOk result (λ reply. Gives
+        (put_object (seat_in state (D.rules kind.now) best.old dict.old) append object.items
+        (need_shown reply))
+        best.new dict.new reply (D.gone kind.now) (D.gone kind.now)) }
+    ensures leaves { LeavesRest state (D.rules kind.now) best.old dict.old best.new dict.new }
+    ensures asked { AskedFor result (slots_wanted (dictionary_in dict.old best.old)) object.items
+        (disc_in state best.old) (disc_in state best.new) }
+    ensures err { OnErr result (IsSpent (seat_in state (D.rules kind.now) best.old dict.old)
+        (rest_in best.new) (dictionary_in dict.new best.new)) }
+{
+    let mut steps = Steps::<Uncounted>::new(alloc);
+    let fate = vc_objects::insert(best, dict, kind, &object, append, &mut steps)?;
+    Ok(fate_reply(object, fate))
+}
+
+// The holder of the object of a set that an object matches.
+fn standing<D: DictDisc>(
+    alloc: Global,
+    best: &mut Best,
+    dict: &mut Dict,
+    kind: &D,
+    object: &[u8],
+) -> Option<Addr>
+    requires whole { IsWhole (D.rules kind.now) dict.old (cells_in best.old) }
+
+    ensures found { object_there best.new result ≡ standing
+        (seat_in state (D.rules kind.now) best.old dict.old) object.now }
+    ensures within { IsOfHolder dict.new best.new result }
+    ensures looks { Looks state (D.rules kind.now) best.old dict.old best.new dict.new }
+{
+    if dict.method.is_set() {
+        let mut steps = Steps::<Uncounted>::new(alloc);
+        vc_objects::find(best, dict, kind, kind.key(object), &mut steps)
+    } else {
+        None
+    }
+}
+
+// Puts an object, unless one of a set matches it.
+fn put_unless<D: DictDisc>(
+    alloc: Global,
+    best: &mut Best,
+    dict: &mut Dict,
+    kind: &D,
+    object: Vec<u8>,
+) -> Result<Reply, OutOfMemory>
+    requires whole { IsWhole (D.rules kind.now) dict.old (cells_in best.old) }
+    requires object { IsObject object.items }
+
+    ensures step { IfOk result (λ reply. Gives
+        (insert_in (seat_in state (D.rules kind.now) best.old dict.old) object.items
+        (need_shown reply))
+        best.new dict.new reply (D.gone kind.now) (D.gone kind.now)) }
+    ensures leaves { LeavesRest state (D.rules kind.now) best.old dict.old best.new dict.new }
+    ensures asked { AskedFor result (slots_wanted (dictionary_in dict.old best.old)) object.items
+        (disc_in state best.old) (disc_in state best.new) }
+    ensures err { OnErr result (IsSpent (seat_in state (D.rules kind.now) best.old dict.old)
+        (rest_in best.new) (dictionary_in dict.new best.new)) }
+{
+    match standing(alloc, best, dict, kind, &object) {
+        Some(at) => {
+            let bytes = best.body(at).to_vec(alloc)?;
+            Ok(Reply::Old(Bytes::from_vec(bytes)))
+        }
+        None => put(alloc, best, dict, kind, object, false),
+    }
+}
+
+// The object that is made of these bytes.
+fn made_object<D: DictDisc>(alloc: Global, kind: &D, bytes: &[u8]) -> Result<Vec<u8>, OutOfMemory>
+    ensures { IfOk result (λ out. out.items ≡ (D.rules kind.now).made bytes.now) }
+{
+    let mut out = Vec::new(alloc);
+    kind.make(bytes, &mut out)?;
+    Ok(out)
+}
+
+// `insert`: puts the object that is made of these bytes, unless one of a set matches it.
+pub(crate) fn insert<D: DictDisc>(
+    alloc: Global,
+    best: &mut Best,
+    dict: &mut Dict,
+    kind: &D,
+    object: &[u8],
+) -> Result<Reply, OutOfMemory>
+    requires whole { IsWhole (D.rules kind.now) dict.old (cells_in best.old) }
+
+    ensures step { IfOk result (λ reply. Gives
+        (where_object (seat_in state (D.rules kind.now) best.old dict.old) object.now
+        (insert_in (seat_in state (D.rules kind.now) best.old dict.old)
+        ((D.rules kind.now).made object.now) (need_shown reply)))
+        best.new dict.new reply (D.gone kind.now) (D.gone kind.now)) }
+    ensures leaves { LeavesRest state (D.rules kind.now) best.old dict.old best.new dict.new }
+    ensures asked { AskedFor result (slots_wanted (dictionary_in dict.old best.old))
+        ((D.rules kind.now).made object.now)
+        (disc_in state best.old) (disc_in state best.new) }
+    ensures err { OnErr result (IsSpent (seat_in state (D.rules kind.now) best.old dict.old)
+        (rest_in best.new) (dictionary_in dict.new best.new)) }
+{
+    if !is_object(object) {
+        return Ok(Reply::Refused(Refusal::Size));
+    }
+    let out = made_object(alloc, kind, object)?;
+    put_unless(alloc, best, dict, kind, out)
+}
+
+// `attach`: puts the object itself, unless one of a set matches it.
+pub(crate) fn attach<D: DictDisc>(
+    alloc: Global,
+    best: &mut Best,
+    dict: &mut Dict,
+    kind: &D,
+    object: &[u8],
+) -> Result<Reply, OutOfMemory>
+    requires whole { IsWhole (D.rules kind.now) dict.old (cells_in best.old) }
+
+    ensures step { IfOk result (λ reply. Gives
+        (where_object (seat_in state (D.rules kind.now) best.old dict.old) object.now
+        (insert_in (seat_in state (D.rules kind.now) best.old dict.old) object.now
+        (need_shown reply)))
+        best.new dict.new reply (D.gone kind.now) (D.gone kind.now)) }
+    ensures leaves { LeavesRest state (D.rules kind.now) best.old dict.old best.new dict.new }
+    ensures asked { AskedFor result (slots_wanted (dictionary_in dict.old best.old)) object.now
+        (disc_in state best.old) (disc_in state best.new) }
+    ensures err { OnErr result (IsSpent (seat_in state (D.rules kind.now) best.old dict.old)
+        (rest_in best.new) (dictionary_in dict.new best.new)) }
+{
+    if !is_object(object) {
+        return Ok(Reply::Refused(Refusal::Size));
+    }
+    let out = object.to_vec(alloc)?;
+    put_unless(alloc, best, dict, kind, out)
+}
+
+// `append`: puts the object that is made of these bytes behind the current one of a list.
+pub(crate) fn append<D: DictDisc>(
+    alloc: Global,
+    best: &mut Best,
+    dict: &mut Dict,
+    kind: &D,
+    object: &[u8],
+) -> Result<Reply, OutOfMemory>
+    requires whole { IsWhole (D.rules kind.now) dict.old (cells_in best.old) }
+
+    ensures step { IfOk result (λ reply. Gives
+        (append_in (seat_in state (D.rules kind.now) best.old dict.old) object.now
+        (need_shown reply))
+        best.new dict.new reply (D.gone kind.now) (D.gone kind.now)) }
+    ensures leaves { LeavesRest state (D.rules kind.now) best.old dict.old best.new dict.new }
+    ensures asked { AskedFor result (slots_wanted (dictionary_in dict.old best.old))
+        ((D.rules kind.now).made object.now)
+        (disc_in state best.old) (disc_in state best.new) }
+    ensures err { OnErr result (IsStill best.old dict.old best.new dict.new) }
+{
+    if !dict.method.is_list() {
+        return Ok(Reply::Refused(Refusal::WrongMethod));
+    }
+    if !is_object(object) {
+        return Ok(Reply::Refused(Refusal::Size));
+    }
+    let out = made_object(alloc, kind, object)?;
+    put(alloc, best, dict, kind, out, true)
+}

@@ -1,0 +1,74 @@
+// Running a command on a dictionary.
+ghost use Rattle.std.specs.Prelude.{◌≡◌, true, false, IfOk, OnErr};
+ghost use Rattle.vc_dtdisc.specs.Rules.{Gone, Rules};
+ghost use Rattle.vc_best.specs.Cells.{cells_in, rest_in};
+ghost use Rattle.vc_best.specs.Parts.{disc_in};
+ghost use Rattle.vc_objects.specs.Leaves.{LeavesRest};
+ghost use Rattle.vc_objects.specs.Parts.{IsWhole, dictionary_in};
+ghost use Rattle.vc_script.specs.Needs.{need_shown};
+ghost use Rattle.vc_commands.specs.DictCommands.{asks, in_dict};
+ghost use Rattle.vc_commands.specs.DictRun.{AskedBy, GivesDict, IsSpentBy, seat_in};
+
+use crate::dict::listing::{count, walk};
+use crate::dict::looking::{first, last, match_key, next, prev, search};
+use crate::dict::putting::{append, attach, insert};
+use crate::dict::taking::{delete, take};
+use crate::dict::turning::{empty, remethod};
+use std::alloc::Global;
+use vc_base::OutOfMemory;
+use vc_best::Best;
+use vc_dict::Dict;
+use vc_dtdisc::DictDisc;
+use vc_script::{Command, Refusal, Reply};
+use vc_seg::{BoxedDisc, SegDisc};
+
+/// Runs a command on a dictionary in its best region, by its kind. `dict`, `shut` and `view` are no such command. With no
+/// memory nothing changes, save that `insert` and `attach` may leave a larger table.
+pub fn run<D: DictDisc>(
+    alloc: Global,
+    best: &mut Best,
+    dict: &mut Dict,
+    kind: &mut D,
+    command: &Command,
+) -> Result<Reply, OutOfMemory>
+    requires whole { IsWhole (D.rules kind.old) dict.old (cells_in best.old) }
+
+    ensures step { IfOk result (λ reply. GivesDict
+        (in_dict (seat_in state (D.rules kind.old) best.old dict.old) command.now
+        (need_shown reply))
+        (rest_in best.new) (dictionary_in dict.new best.new) reply
+        (D.gone kind.old) (D.gone kind.new)) }
+    ensures leaves { LeavesRest state (D.rules kind.old) best.old dict.old best.new dict.new }
+    ensures rules { D.rules kind.new ≡ D.rules kind.old }
+
+    // A segment that was refused was asked for; where none was, no fault was counted.
+    ensures asked { AskedBy result
+        (seat_in state (D.rules kind.old) best.old dict.old) command.now
+        (disc_in state best.old) (disc_in state best.new) }
+    ensures disc { asks command.now ≡ false
+        → disc_in state best.new ≡ disc_in state best.old }
+
+    // With no memory the kind was told of nothing.
+    ensures err { OnErr result ((D.gone kind.new ≡ D.gone kind.old)
+        × IsSpentBy (seat_in state (D.rules kind.old) best.old dict.old) command.now
+        (rest_in best.new) (dictionary_in dict.new best.new)) }
+{
+    match command {
+        Command::Insert(_, object) => insert(alloc, best, dict, kind, object.as_slice()),
+        Command::Append(_, object) => append(alloc, best, dict, kind, object.as_slice()),
+        Command::Attach(_, object) => attach(alloc, best, dict, kind, object.as_slice()),
+        Command::Delete(_, object) => delete(alloc, best, dict, kind, object),
+        Command::Detach(_, object) => take(alloc, best, dict, kind, object.as_slice(), false),
+        Command::Search(_, object) => search(alloc, best, dict, kind, object.as_slice()),
+        Command::MatchKey(_, key) => match_key(alloc, best, dict, kind, key.as_slice()),
+        Command::First(_) => first(alloc, best, dict, kind),
+        Command::Last(_) => last(alloc, best, dict, kind),
+        Command::Next(_, object) => next(alloc, best, dict, kind, object.as_slice()),
+        Command::Prev(_, object) => prev(alloc, best, dict, kind, object.as_slice()),
+        Command::Walk(_) => walk(alloc, best, dict, kind),
+        Command::Count(_) => Ok(count(best, dict)),
+        Command::Remethod(name, method) => remethod(alloc, best, dict, kind, *name, *method),
+        Command::Empty(name) => Ok(empty(best, dict, kind, *name)),
+        _ => Ok(Reply::Refused(Refusal::NotYet)),
+    }
+}

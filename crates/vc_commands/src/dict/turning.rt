@@ -1,0 +1,74 @@
+// The commands on all of a dictionary: another method, and no objects.
+ghost use Rattle.std.specs.Prelude.{◌≡◌, [], length, true, IfOk, OnErr};
+ghost use Rattle.vc_dict.specs.Methods.{slots_between};
+ghost use Rattle.vc_dtdisc.specs.Rules.{Gone, Rules};
+ghost use Rattle.vc_best.specs.Cells.{cells_in, rest_in};
+ghost use Rattle.vc_best.specs.Parts.{disc_in};
+ghost use Rattle.vc_objects.specs.Leaves.{LeavesRest};
+ghost use Rattle.vc_objects.specs.Parts.{IsWhole, dictionary_in};
+ghost use Rattle.vc_objects.specs.Turn.{turn};
+ghost use Rattle.vc_script.specs.Needs.{NoNeed, need_shown};
+ghost use Rattle.vc_commands.specs.DictCommands.{empty_in, is_for_table, turned_as};
+ghost use Rattle.vc_commands.specs.DictRun.{AskedFor, Gives, IsStill, seat_in};
+
+use crate::Uncounted;
+use std::alloc::Global;
+use vc_base::{Addr, Cells, DictMethod, Name, OutOfMemory, Steps};
+use vc_best::Best;
+use vc_dict::Dict;
+use vc_dtdisc::DictDisc;
+use vc_script::{Refusal, Reply};
+use vc_seg::{BoxedDisc, RegionFault, SegDisc};
+
+// `method`: turns a dictionary of that name to a method.
+pub(crate) fn remethod<D: DictDisc>(
+    alloc: Global,
+    best: &mut Best,
+    dict: &mut Dict,
+    kind: &mut D,
+    name: Name,
+    method: DictMethod,
+) -> Result<Reply, OutOfMemory>
+    requires whole { IsWhole (D.rules kind.old) dict.old (cells_in best.old) }
+
+    ensures step { IfOk result (λ reply. Gives
+        (turned_as (seat_in state (D.rules kind.old) best.old dict.old) name method
+        (turn (D.rules kind.old) (disc_in state best.old).terms (rest_in best.old) 0
+        (dictionary_in dict.old best.old) method (is_for_table (need_shown reply))))
+        best.new dict.new reply (D.gone kind.old) (D.gone kind.new)) }
+    ensures leaves { LeavesRest state (D.rules kind.old) best.old dict.old best.new dict.new }
+    ensures rules { D.rules kind.new ≡ D.rules kind.old }
+    ensures asked { AskedFor result
+        (slots_between dict.old.method method (length (dictionary_in dict.old best.old).objects))
+        [] (disc_in state best.old) (disc_in state best.new) }
+    ensures err { OnErr result ((D.gone kind.new ≡ D.gone kind.old)
+        × IsStill best.old dict.old best.new dict.new) }
+{
+    let mut steps = Steps::<Uncounted>::new(alloc);
+    match vc_objects::turn(best, dict, kind, method, &mut steps) {
+        Ok(()) => Ok(Reply::MethodIs(name, method)),
+        Err(RegionFault::OutOfMemory) => Err(OutOfMemory),
+        Err(RegionFault::NoSegment) => Ok(Reply::Refused(Refusal::NoSegmentForTable)),
+        // No other refusal comes.
+        Err(_) => Ok(Reply::Refused(Refusal::TooManySegments)),
+    }
+}
+
+// `empty`: takes all objects out of a dictionary of that name, and tells the kind of each.
+pub(crate) fn empty<D: DictDisc>(
+    best: &mut Best,
+    dict: &mut Dict,
+    kind: &mut D,
+    name: Name,
+) -> Reply
+    requires whole { IsWhole (D.rules kind.old) dict.old (cells_in best.old) }
+
+    ensures step { Gives (empty_in (seat_in state (D.rules kind.old) best.old dict.old) name)
+        best.new dict.new result (D.gone kind.old) (D.gone kind.new) }
+    ensures need { need_shown result ≡ NoNeed }
+    ensures leaves { LeavesRest state (D.rules kind.old) best.old dict.old best.new dict.new }
+    ensures disc { disc_in state best.new ≡ disc_in state best.old }
+    ensures rules { D.rules kind.new ≡ D.rules kind.old }
+{
+    Reply::Emptied(name, vc_objects::empty(best, dict, kind))
+}

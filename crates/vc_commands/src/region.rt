@@ -1,0 +1,12 @@
+// The commands on one region.
+mod audit;
+mod blocks;
+mod bytes;
+mod home;
+mod labels;
+mod marks;
+mod tells;
+mod whole;
+
+pub use home::HomeEntry;
+pub use labels::Labels;

@@ -1,0 +1,100 @@
+// A region that is open.
+ghost use Rattle.std.specs.Prelude.{◌≡◌, ◌≢◌, [], Ok, IfOk, OnErr};
+ghost use Rattle.vc_model.specs.Addr.{place_of};
+ghost use Rattle.vc_model.specs.Discipline.{HasOut};
+ghost use Rattle.vc_region.specs.Cells.{rest_in};
+ghost use Rattle.vc_region.specs.Parts.{disc_in};
+ghost use Rattle.vc_region.specs.Region.{segments_of};
+ghost use Rattle.vc_script.specs.Needs.{need_shown};
+ghost use Rattle.vc_commands.specs.Held.{IsNamed, LacksSegment};
+ghost use Rattle.vc_commands.specs.RegionCommands.{block_asked, in_region};
+
+use crate::region::labels::Labels;
+use std::alloc::Global;
+use vc_base::{Addr, OutOfMemory};
+use vc_region::Region;
+use vc_script::{Command, Place, Refusal, Reply};
+use vc_seg::{BoxedDisc, SegDisc};
+
+/// A region that is open.
+#[derive(Drop)]
+pub struct HomeEntry {
+    /// The number of its discipline on the shelf.
+    pub place: u32,
+    /// The region, whose blocks have tags: 0 is that of a block without a name.
+    pub region: Region,
+}
+
+// The segment and the offset of an address.
+pub(crate) fn place_of(at: Addr) -> Place
+    ensures seg { result.seg ≡ (place_of at.0).0 }
+    ensures off { result.off ≡ (place_of at.0).1 }
+{
+    Place {
+        seg: at.seg(),
+        off: at.off(),
+    }
+}
+
+impl HomeEntry {
+    ghost use Rattle.vc_commands.specs.RegionRun.{LeavesRegion, RunsRegion, held_of, region_with};
+
+    /// Runs the command of a line, numbered from 1 on, in the region whose names these are, and answers its reply. A command
+    /// that works in no region is refused as not built. A refusal changes neither the region nor its names; want of memory,
+    /// the one error, neither blocks nor names.
+    pub fn run(
+        &mut self,
+        alloc: Global,
+        labels: &mut Labels,
+        line: u32,
+        command: &Command,
+    ) -> Result<Reply, OutOfMemory>
+        requires names { IsNamed (rest_in self.old.region) labels.old }
+        requires lent { HasOut (disc_in state self.old.region)
+            (segments_of (rest_in self.old.region)) }
+
+        ensures step { IfOk result (λ reply. RunsRegion state
+            (λ h. in_region h line command.now (need_shown reply))
+            self.old labels.old (region_with self.new labels.new) reply) }
+        ensures err { OnErr result (region_with self.new labels.new
+            ≡ region_with self.old labels.old) }
+        ensures change { LeavesRegion state command.now
+            self.old labels.old self.new labels.new }
+        ensures unserved { result ≡ Ok (Reply.Refused Refusal.NoSegment)
+            → LacksSegment
+            (held_of state [] self.old labels.old)
+            (held_of state [] self.new labels.new)
+            (block_asked command.now) }
+        ensures faults { result ≢ Ok (Reply.Refused Refusal.NoSegment)
+            → (disc_in state self.new.region).faults ≡ (disc_in state self.old.region).faults }
+    {
+        match command {
+            Command::ClearRegion(name) => Ok(self.clear(labels, *name, line)),
+            Command::Compact(name) => Ok(self.compact(*name)),
+            Command::Alloc(_, block, size, site) => self.allocate(labels, *block, *site, *size),
+            Command::Align(_, block, size, align) => self.align(labels, *block, *size, *align),
+            Command::Resize(_, block, size, may_move) => self.resize(
+                labels, block, *size, *may_move,
+            ),
+            Command::Free(_, block) => self.free(labels, block, line),
+            Command::WriteBlock(_, block, off, bytes) => Ok(self.write(
+                labels,
+                block,
+                *off,
+                bytes.as_slice(),
+            )),
+            Command::ReadBlock(_, block, off, len) => self.read(alloc, labels, block, *off, *len),
+            Command::SizeOf(_, block) => Ok(self.size(labels, block)),
+            Command::AddrOf(_, at) => Ok(self.addr(labels, *at)),
+            Command::SegmentOf(_, at) => Ok(self.segment(*at)),
+            Command::StatOf(_) => Ok(self.stat()),
+            Command::Segments(_) => self.segments(alloc),
+            Command::Blocks(_) => self.blocks(labels, alloc),
+            Command::Poke(_, block, off, byte) => Ok(self.poke(labels, block, *off, *byte)),
+            Command::Check(_) => self.check(labels, alloc),
+            Command::Watch(_, block) => self.watch(labels, block, line),
+            Command::ProfileOf(_) => self.profile(alloc),
+            _ => Ok(Reply::Refused(Refusal::NotYet)),
+        }
+    }
+}
