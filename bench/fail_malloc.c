@@ -1,13 +1,15 @@
 /* Between a program and the C library: the allocation whose number FAIL_AT gives, from 1 on, finds no memory. At the end
-   the file REPORT gets the number of allocations and how many of them were not freed. */
+   the file REPORT gets the number of allocations, how many of them were not freed, and how many did not begin at a
+   multiple of 8. */
 #define _GNU_SOURCE
 #include <dlfcn.h>
+#include <stdint.h>
 #include <stdio.h>
 #include <stdlib.h>
 #include <fcntl.h>
 #include <unistd.h>
 
-static long made, held, fail_at;
+static long made, held, odd, fail_at;
 static int is_set;
 
 static int fails(void)
@@ -28,6 +30,7 @@ void *malloc(size_t size)
     if (fails()) return NULL;
     p = real(size);
     if (p) held++;
+    if ((uintptr_t)p % 8) odd++;
     return p;
 }
 
@@ -39,6 +42,7 @@ void *realloc(void *old, size_t size)
     if (fails()) return NULL;
     p = real(old, size);
     if (p && !old) held++;
+    if ((uintptr_t)p % 8) odd++;
     return p;
 }
 
@@ -54,11 +58,11 @@ __attribute__((destructor)) static void report(void)
 {
     const char *path = getenv("REPORT");
     char text[64];
-    long m = made, h = held;
+    long m = made, h = held, o = odd;
     int file;
     if (!path) return;
     file = open(path, O_WRONLY | O_CREAT | O_TRUNC, 0600);
     if (file < 0) return;
-    if (write(file, text, (size_t)snprintf(text, sizeof text, "%ld %ld\n", m, h)) < 0) _exit(99);
+    if (write(file, text, (size_t)snprintf(text, sizeof text, "%ld %ld %ld\n", m, h, o)) < 0) _exit(99);
     close(file);
 }

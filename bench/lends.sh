@@ -10,12 +10,12 @@ cc -shared -fPIC -O1 -o "$dir/fail.so" bench/fail_malloc.c -ldl
 run() {
     FAIL_AT=$1 LD_PRELOAD="$dir/fail.so" REPORT="$dir/report" \
         crates/vc_tests/out/vc_tests_tests lends::lend_once > "$dir/out" || { cat "$dir/out"; exit 1; }
-    read -r made held < "$dir/report"
+    read -r made held odd < "$dir/report"
 }
 
 run 0
 all=$made
-test "$held" = 0
+test "$held" = 0 && test "$odd" = 0
 n=1
 while [ "$n" -le "$all" ]; do
     run "$n"

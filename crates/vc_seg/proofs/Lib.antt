@@ -4,3 +4,6 @@ pub mod Stats
 pub mod Filters
 pub mod Backs
 pub mod Rounding
+pub mod Values
+pub mod Walks
+pub mod Lodging

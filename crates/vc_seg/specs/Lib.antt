@@ -4,6 +4,9 @@ pub use Rattle.vc_model.specs.Discipline
 pub use Rattle.vc_model.specs.Outcome
 pub use Rattle.vc_model.specs.Segments
 pub mod Segment
+pub mod Owned
+pub mod Lends
+pub mod Kept
 pub mod Boxed
 pub mod Back
 pub mod Lend

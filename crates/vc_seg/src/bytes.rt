@@ -9,7 +9,7 @@ impl Segment {
         requires { off + len ≤ length self.now.bytes }
         ensures { result.now ≡ take len (drop off self.now.bytes) }
     {
-        &self.bytes[off as usize..off as usize + len as usize]
+        &self.block.all(self.at, self.size as usize)[off as usize..off as usize + len as usize]
     }
 
     /// Puts bytes there from an offset on. They fit behind it.
@@ -19,7 +19,9 @@ impl Segment {
         ensures number { self.new.number ≡ self.old.number }
     {
         let from = off as usize;
-        self.bytes[from..from + src.len()].copy_from_slice(src);
+        self.block.all_mut(self.at, self.size as usize)[from..from + src.len()].copy_from_slice(
+            src,
+        );
     }
 
     /// Fills a range that lies in the segment with one byte.
@@ -29,7 +31,7 @@ impl Segment {
         ensures number { self.new.number ≡ self.old.number }
     {
         let from = off as usize;
-        self.bytes[from..from + len as usize].fill(byte);
+        self.block.all_mut(self.at, self.size as usize)[from..from + len as usize].fill(byte);
     }
 
     /// Copies a range within the segment, also where the two ranges overlap. Both lie in the segment.
@@ -41,7 +43,8 @@ impl Segment {
         ensures number { self.new.number ≡ self.old.number }
     {
         let start = from as usize;
-        self.bytes
+        self.block
+            .all_mut(self.at, self.size as usize)
             .copy_within(start..start + len as usize, to as usize);
     }
 

@@ -2,6 +2,7 @@
 #![tactic(auto)]
 
 mod back;
+mod block;
 mod boxed;
 mod budget;
 mod bytes;

@@ -2,27 +2,42 @@ ghost use Rattle.std.specs.Prelude.{◌≡◌, ℕ, ◌%◌, ◌≤◌, length, 
 ghost use Rattle.vc_model.specs.Discipline.{IsSegmentSize};
 ghost use Rattle.vc_seg.specs.Segment.{zeroed};
 
+use crate::block::{Block, take};
 use std::alloc::Global;
 use std::marker::Model;
 use vc_base::OutOfMemory;
 
 /// A segment of memory: a number and its bytes. Its memory is freed when it is dropped.
-#[derive(Drop)]
 pub struct Segment {
     number: u32,
-    pub(crate) bytes: Vec<u8>,
+    pub(crate) size: u32,
+    pub(crate) at: *const u8,
+    alloc: Global,
+    pub(crate) block: Block,
 }
 
 impl Model for Segment {
-    ghost use Rattle.std.specs.Prelude.{length};
-    ghost use Rattle.vc_model.specs.Discipline.{IsSegmentSize};
+    ghost use Rattle.vc_seg.specs.Kept.{IsKept};
     ghost use Rattle.vc_seg.specs.Segment.{Bytes};
 
     ghost Value = { Bytes };
 
-    ghost view = { λ s. record { number = s.number; bytes = s.bytes.items } };
+    ghost view = { λ s. record { number = s.number; bytes = s.block.bytes } };
 
-    ghost invariant = { λ s. IsSegmentSize (length s.bytes.items) };
+    ghost invariant = { λ s. IsKept s.size s.at s.alloc s.block };
+}
+
+impl Drop for Segment {
+    fn drop(self) {
+        let Segment {
+            number: _,
+            size,
+            at,
+            alloc,
+            block,
+        } = self;
+        block.free(at, size as usize, &alloc);
+    }
 }
 
 impl Segment {
@@ -31,8 +46,16 @@ impl Segment {
         requires { IsSegmentSize size }
         ensures { IfOk result (λ segment. segment ≡ zeroed number size) }
     {
-        let bytes = vec![in alloc; 0u8; size as usize]?;
-        Ok(Segment { number, bytes })
+        match take(&alloc, size as usize) {
+            Some((at, block)) => Ok(Segment {
+                number,
+                size,
+                at,
+                alloc,
+                block,
+            }),
+            None => Err(OutOfMemory),
+        }
     }
 
     /// Its number in its region.
@@ -47,6 +70,6 @@ impl Segment {
         ensures value { result ≡ length self.now.bytes }
         ensures legal { IsSegmentSize result }
     {
-        self.bytes.len() as u32
+        self.size
     }
 }
