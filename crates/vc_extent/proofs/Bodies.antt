@@ -1,0 +1,125 @@
+-- Bytes written into a busy extent, and a link into a free one.
+use Rattle.std.proofs.Common.{◌≡◌, ℕ, zero, suc, ◌+◌, ◌-◌, ◌*◌, ◌<◌, ◌≤◌, List, [], ◌∷◌, ◌++◌, cond, length, take, drop, ap, sym, subst, ◌∙◌, arith}
+use Rattle.std.proofs.lemmas.Bool.{eq-eqb}
+use Rattle.std.proofs.lemmas.List.{drop-append-le, drop-drop, drop-take, length-append, length-drop, length-take-le, take-take}
+use Rattle.vc_model.specs.Bytes.{with_bytes}
+use Rattle.vc_seg.specs.Segment.{Bytes}
+use Rattle.vc_extent.specs.Extent.{Extent, busy_extent, extent_at, extents, free_extent, links_at, no_links}
+use Rattle.vc_extent.specs.Change.{Changes, behind, extent_in, link_in, set_link, with_link, write}
+use Rattle.vc_extent.specs.Field.{field_at}
+use Rattle.vc_extent.specs.Frame.{StaysOutside}
+use Rattle.vc_extent.specs.Tiles.{IsTiled, Tiles}
+use Rattle.vc_extent.proofs.Frames.{field-back, field-front, only-below, stays-written}
+use Rattle.vc_extent.proofs.Tiled.{busy-is, free-is, legal-free, tiles-back}
+use Rattle.vc_extent.proofs.Changed.{IsWithin, changed, here, within}
+
+take-past : (n k : ℕ) (xs ys : List ℕ) → n ≡ length xs + k → take n (xs ++ ys) ≡ xs ++ take k ys
+take-past n k [] ys e = ap (λ j. take j ys) (omega arith)
+take-past zero k (x ∷ xs) ys e = absurd (omega arith)
+take-past (suc n) k (x ∷ xs) ys e = ap (λ (zs : List ℕ). x ∷ zs) (take-past n k xs ys (omega arith))
+
+-- a part of bytes after a write within the part
+pub part-written : (from size off : ℕ) (src b : List ℕ) → off + length src ≤ size → from + size ≤ length b → take size (drop from (with_bytes (from + off) src b)) ≡ with_bytes off src (take size (drop from b))
+part-written from size off src b within fits =
+    let y : List ℕ = drop from b in
+    let long : length y ≡ length b - from = length-drop from b in
+    let front : length (take (from + off) b) ≡ from + off = length-take-le (from + off) b (omega arith) in
+    let both : length (take (from + off) b ++ src) ≡ from + off + length src = length-append (take (from + off) b) src ∙ ap (λ k. k + length src) front in
+    let rest : drop (from + off + length src) b ≡ drop (off + length src) y = ap (λ k. drop k b) (omega arith) ∙ sym (drop-drop (off + length src) from b) in
+    let one : drop from (with_bytes (from + off) src b) ≡ (take off y ++ src) ++ drop (off + length src) y =
+    drop-append-le from (take (from + off) b ++ src) (drop (from + off + length src) b) (omega arith)
+    ∙ (ap (λ (zs : List ℕ). zs ++ drop (from + off + length src) b) (drop-append-le from (take (from + off) b) src (omega arith) ∙ ap (λ (zs : List ℕ). zs ++ src) (drop-take from off b))
+    ∙ ap (λ (zs : List ℕ). (take off y ++ src) ++ zs) rest) in
+    let head : length (take off y ++ src) ≡ off + length src = length-append (take off y) src ∙ ap (λ k. k + length src) (length-take-le off y (omega arith)) in
+    let k : ℕ = size - (off + length src) in
+    let whole : off + length src + (size - (off + length src)) ≡ size = omega arith in
+    let two : take size ((take off y ++ src) ++ drop (off + length src) y) ≡ (take off y ++ src) ++ take (size - (off + length src)) (drop (off + length src) y) =
+    take-past size (size - (off + length src)) (take off y ++ src) (drop (off + length src) y) (omega arith) in
+    let three : take (size - (off + length src)) (drop (off + length src) y) ≡ drop (off + length src) (take size y) = sym (drop-take (off + length src) (size - (off + length src)) y) ∙ ap (λ j. drop (off + length src) (take j y)) whole in
+    let four : take off y ≡ take off (take size y) = sym (take-take off size y (omega arith)) in
+    ap (take size) one ∙ (two ∙ (ap (λ (zs : List ℕ). (take off y ++ src) ++ zs) three ∙ ap (λ (zs : List ℕ). (zs ++ src) ++ drop (off + length src) (take size y)) four))
+
+-- a segment after a write into a busy extent
+pub body-changed : (o n : Bytes) (at off : ℕ) (src : List ℕ) → IsTiled o.bytes → 0 < (extent_in (at + 16) (extents o.bytes)).span → 0 < (extent_in (at + 16) (extents o.bytes)).size → off + length src ≤ (extent_in (at + 16) (extents o.bytes)).size →
+    n.bytes ≡ with_bytes (at + 16 + off) src o.bytes → n.number ≡ o.number → Changes (at + 16) (write off src) o n
+body-changed o n at off src t named busy inside bytes number =
+    let e : Extent = extent_in (at + 16) (extents o.bytes) in
+    let es : List Extent = behind (at + 16) (extents o.bytes) in
+    let p = here o.bytes at t named in
+    let w : IsWithin o.bytes at e = within o.bytes at t named in
+    let end = w.end in
+    let fits = w.fits in
+    let s : StaysOutside (at + 16 + off) (at + 16 + off + length src) o n = stays-written o n (at + 16 + off) src (omega arith) bytes number in
+    let f : (i : ℕ) → i + 4 ≤ at + 16 + off → field_at i n.bytes ≡ field_at i o.bytes = field-front o.bytes n.bytes (at + 16 + off) s.below in
+    let body : take e.size (drop (at + 16) n.bytes) ≡ with_bytes off src e.body =
+    ap (λ (b : List ℕ). take e.size (drop (at + 16) b)) bytes ∙ (part-written (at + 16) e.size off src o.bytes inside (omega arith) ∙ ap (with_bytes off src) (sym w.body)) in
+    let is : busy_extent (at + 16) e.span e.size e.tag (with_bytes off src e.body) ≡ extent_at at n.bytes =
+    busy-is n.bytes (with_bytes off src e.body) at e.span e.size e.tag (f at (omega arith) ∙ sym w.span) (f (at + 4) (omega arith) ∙ sym w.size) (f (at + 8) (omega arith) ∙ sym w.tag) (omega arith) body in
+    let first : busy_extent e.off e.span e.size e.tag (with_bytes off src e.body) ≡ extent_at at n.bytes = ap (λ k. busy_extent k e.span e.size e.tag (with_bytes off src e.body)) w.off ∙ is in
+    let legal = p.head.legal in
+    let rest : Tiles n.bytes (length n.bytes - 16) e.span (at + e.span) es =
+    subst (λ k. Tiles n.bytes (k - 16) e.span (at + e.span) es) (sym s.len) (tiles-back o.bytes n.bytes (at + 16 + off + length src) s.above (length o.bytes - 16) e.span (at + e.span) es (omega arith) p.rest) in
+    changed o n at (write off src) t named (only-below (at + 16 + off) (at + 16 + off + length src) at o n s (omega arith)) (
+      record {
+        extent = first;
+        boundary = f (at + 12) (omega arith);
+        legal = record { multiple = legal.multiple; least = legal.least; busy = legal.busy; free = legal.free };
+      },
+      rest,
+    )
+
+-- the links of a free extent
+pub links-of : (at : ℕ) (b : List ℕ) → (extent_at at b).size ≡ 0 → (extent_at at b).links ≡ links_at (at + 16) b
+unfolding extent_at
+links-of at b z = ap (λ v. cond v (links_at (at + 16) b) no_links) (eq-eqb (field_at (at + 4) b) 0 z)
+
+pub links-there : (b : List ℕ) (at : ℕ) → IsTiled b → 0 < (extent_in (at + 16) (extents b)).span → (extent_in (at + 16) (extents b)).size ≡ 0 → (extent_in (at + 16) (extents b)).links ≡ links_at (at + 16) b
+links-there b at t named free =
+    let same : extent_in (at + 16) (extents b) ≡ extent_at at b = (here b at t named).head.extent in
+    ap (λ (x : Extent). x.links) same ∙ links-of at b (sym (ap (λ (x : Extent). x.size) same) ∙ free)
+
+pub link-is : (b : List ℕ) (at k : ℕ) → k < 3 → field_at (at + 4 * k) b ≡ link_in k (links_at at b)
+link-is b at zero lt = ap (λ j. field_at j b) (omega arith)
+link-is b at (suc zero) lt = ap (λ j. field_at j b) (omega arith)
+link-is b at (suc (suc zero)) lt = ap (λ j. field_at j b) (omega arith)
+link-is b at (suc (suc (suc k))) lt = absurd (omega arith)
+
+with-link-is : (o n : List ℕ) (at k v : ℕ) → k < 3 → field_at (at + 4 * k) n ≡ v → ((i : ℕ) → i + 4 ≤ at + 4 * k → field_at i n ≡ field_at i o) → ((i : ℕ) → at + 4 * k + 4 ≤ i → field_at i n ≡ field_at i o) → links_at at n ≡ with_link k v (links_at at o)
+with-link-is o n at zero v lt value front back =
+    let a : field_at at n ≡ v = ap (λ j. field_at j n) (omega arith) ∙ value in
+    let b : field_at (at + 4) n ≡ field_at (at + 4) o = back (at + 4) (omega arith) in
+    let c : field_at (at + 8) n ≡ field_at (at + 8) o = back (at + 8) (omega arith) in
+    λ i. record { first = a i; second = b i; third = c i }
+with-link-is o n at (suc zero) v lt value front back =
+    let a : field_at at n ≡ field_at at o = front at (omega arith) in
+    let b : field_at (at + 4) n ≡ v = ap (λ j. field_at j n) (omega arith) ∙ value in
+    let c : field_at (at + 8) n ≡ field_at (at + 8) o = back (at + 8) (omega arith) in
+    λ i. record { first = a i; second = b i; third = c i }
+with-link-is o n at (suc (suc zero)) v lt value front back =
+    let a : field_at at n ≡ field_at at o = front at (omega arith) in
+    let b : field_at (at + 4) n ≡ field_at (at + 4) o = front (at + 4) (omega arith) in
+    let c : field_at (at + 8) n ≡ v = ap (λ j. field_at j n) (omega arith) ∙ value in
+    λ i. record { first = a i; second = b i; third = c i }
+with-link-is o n at (suc (suc (suc k))) v lt value front back = absurd (omega arith)
+
+-- a segment after a link of a free extent was written
+pub link-changed : (o n : Bytes) (at k v : ℕ) → IsTiled o.bytes → 0 < (extent_in (at + 16) (extents o.bytes)).span → (extent_in (at + 16) (extents o.bytes)).size ≡ 0 → k < 3 →
+    field_at (at + 16 + 4 * k) n.bytes ≡ v → StaysOutside (at + 16 + 4 * k) (at + 16 + 4 * k + 4) o n → Changes (at + 16) (set_link k v) o n
+link-changed o n at k v t named free lt value s =
+    let e : Extent = extent_in (at + 16) (extents o.bytes) in
+    let es : List Extent = behind (at + 16) (extents o.bytes) in
+    let p = here o.bytes at t named in
+    let w : IsWithin o.bytes at e = within o.bytes at t named in
+    let end = w.end in
+    let legal = p.head.legal in
+    let least = legal.least in
+    let f : (i : ℕ) → i + 4 ≤ at + 16 + 4 * k → field_at i n.bytes ≡ field_at i o.bytes = field-front o.bytes n.bytes (at + 16 + 4 * k) s.below in
+    let g : (i : ℕ) → at + 16 + 4 * k + 4 ≤ i → field_at i n.bytes ≡ field_at i o.bytes = field-back o.bytes n.bytes (at + 16 + 4 * k + 4) s.above in
+    let links : links_at (at + 16) n.bytes ≡ with_link k v e.links = with-link-is o.bytes n.bytes (at + 16) k v lt value f g ∙ ap (with_link k v) (sym (links-there o.bytes at t named free)) in
+    let is : free_extent (at + 16) e.span (with_link k v e.links) ≡ extent_at at n.bytes =
+    free-is n.bytes at e.span (with_link k v e.links) (f at (omega arith) ∙ sym w.span) (f (at + 4) (omega arith) ∙ (sym w.size ∙ free)) (f (at + 8) (omega arith) ∙ (sym w.tag ∙ legal.free free)) links in
+    let first : free_extent e.off e.span (with_link k v e.links) ≡ extent_at at n.bytes = ap (λ j. free_extent j e.span (with_link k v e.links)) w.off ∙ is in
+    let rest : Tiles n.bytes (length n.bytes - 16) e.span (at + e.span) es =
+    subst (λ j. Tiles n.bytes (j - 16) e.span (at + e.span) es) (sym s.len) (tiles-back o.bytes n.bytes (at + 16 + 4 * k + 4) s.above (length o.bytes - 16) e.span (at + e.span) es (omega arith) p.rest) in
+    changed o n at (set_link k v) t named (only-below (at + 16 + 4 * k) (at + 16 + 4 * k + 4) at o n s (omega arith))
+    (record { extent = first; boundary = f (at + 12) (omega arith); legal = legal-free e.off e.span (with_link k v e.links) least legal.multiple }, rest)

@@ -1,0 +1,16 @@
+pub mod Frames
+pub mod Tiled
+pub mod Changed
+pub mod Joined
+pub mod Marked
+pub mod Neighbours
+pub mod Places
+pub mod Propositions
+pub mod Sets
+pub mod Pushes
+pub mod Bodies
+pub mod Stretched
+pub mod Copies
+pub mod Removes
+pub mod Resets
+pub mod Unused

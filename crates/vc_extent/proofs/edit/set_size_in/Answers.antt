@@ -1,0 +1,64 @@
+use Rattle.std.proofs.Common.{◌≡◌, ℕ, List, ◌+◌, ◌-◌, ◌∷◌, length, take, drop, refl, ap, sym, subst, ◌∙◌, arith}
+use Rattle.std.proofs.lemmas.List.{take-take}
+use Rattle.vc_seg.specs.Segment.{Bytes}
+use Rattle.vc_extent.specs.Extent.{Extent, extents, busy_extent}
+use Rattle.vc_extent.specs.Change.{Changes, behind, extent_in, set_size}
+use Rattle.vc_extent.specs.Field.{field_at}
+use Rattle.vc_extent.specs.Tiles.{Tiles}
+use Rattle.vc_extent.proofs.Changed.{changed, here, within, renamed}
+use Rattle.vc_extent.proofs.Marked.{part-length}
+use Rattle.vc_extent.proofs.edit.set_size_in.Goals as goal
+use Rattle.vc_extent.proofs.edit.set_size_in.Goals.{After-lay_busy}
+
+abbrev body : (c : After-lay_busy) → List ℕ
+body c = take c.args.size (drop (c.args.at + 16) c.args.seg.now.bytes)
+
+made : (c : After-lay_busy) → Changes (c.args.at + 16) (set_size c.args.size (body c)) c.args.seg.now c.lay_busy.new.seg
+made c =
+    let at = c.args.at in
+    let o : Bytes = c.args.seg.now in
+    let n : Bytes = c.lay_busy.new.seg in
+    let e : Extent = extent_in (at + 16) (extents o.bytes) in
+    let es : List Extent = behind (at + 16) (extents o.bytes) in
+    let p = here o.bytes at c.requires.tiled c.requires.named in
+    let w = within o.bytes at c.requires.tiled c.requires.named in
+    let span : e.span ≡ c.span_in-bytes.result = sym c.span_in-bytes.ensures.value in
+    let old : Tiles o.bytes (length o.bytes - 16) c.span_in-bytes.result (at + c.span_in-bytes.result) es = subst (λ (k : ℕ). Tiles o.bytes (length o.bytes - 16) k (at + k) es) span p.rest in
+    let tag : c.tag_in-tag.result ≡ e.tag = c.tag_in-tag.ensures in
+    let one' = c.lay_busy.ensures.tiles es old in
+    let list : ℕ → ℕ → List Extent = λ off k. busy_extent off k c.args.size e.tag (take c.args.size (drop (at + 16) o.bytes)) ∷ es in
+    let one : Tiles n.bytes (length n.bytes - 16) (field_at (at + 12) o.bytes) at (list (at + 16) c.span_in-bytes.result) =
+    subst (λ (t : ℕ). Tiles n.bytes (length n.bytes - 16) (field_at (at + 12) o.bytes) at (busy_extent (at + 16) c.span_in-bytes.result c.args.size t (take c.args.size (drop (at + 16) o.bytes)) ∷ es)) tag one' in
+    let two : Tiles n.bytes (length n.bytes - 16) (field_at (at + 12) o.bytes) at (list e.off e.span) =
+    subst (λ (k : ℕ). Tiles n.bytes (length n.bytes - 16) (field_at (at + 12) o.bytes) at (list k e.span)) (sym w.off)
+    (subst (λ (k : ℕ). Tiles n.bytes (length n.bytes - 16) (field_at (at + 12) o.bytes) at (list (at + 16) k)) (sym span) one) in
+    changed o n at (set_size c.args.size (take c.args.size (drop (at + 16) o.bytes))) c.requires.tiled c.requires.named c.lay_busy.ensures.rest two
+
+is : (c : After-lay_busy) → (extent_in (c.args.at + 16) (extents c.lay_busy.new.seg.bytes)).body ≡ body c
+is c =
+    let at = c.args.at in
+    let o : Bytes = c.args.seg.now in
+    let e : Extent = extent_in (at + 16) (extents o.bytes) in
+    let w = within o.bytes at c.requires.tiled c.requires.named in
+    ap (λ (x : Extent). x.body) (renamed o c.lay_busy.new.seg at (set_size c.args.size (body c)) (busy_extent e.off e.span c.args.size e.tag (body c)) (behind (at + 16) (extents o.bytes)) c.requires.tiled c.requires.named (made c) refl w.off)
+
+pub returns-clause-change : goal.returns-clause-change
+returns-clause-change c =
+    let h = (goal.at.returns-clause-change c).After-lay_busy in
+    subst (λ (b : List ℕ). Changes (c.args.at + 16) (set_size c.args.size b) c.args.seg.now c.lay_busy.new.seg) (sym (is h)) (made h)
+
+pub returns-clause-len : goal.returns-clause-len
+returns-clause-len c =
+    let h = (goal.at.returns-clause-len c).After-lay_busy in
+    let w = within c.args.seg.now.bytes c.args.at c.requires.tiled c.requires.named in
+    let end = w.end in
+    ap length (is h) ∙ part-length c.args.seg.now.bytes (c.args.at + 16) c.args.size (omega (arith, c.requires.span))
+
+pub returns-clause-kept : goal.returns-clause-kept
+returns-clause-kept c =
+    λ k new old.
+    let h = (goal.at.returns-clause-kept c).After-lay_busy in
+    let o : Bytes = c.args.seg.now in
+    let e : Extent = extent_in (c.args.at + 16) (extents o.bytes) in
+    let w = within o.bytes c.args.at c.requires.tiled c.requires.named in
+    ap (take k) (is h) ∙ (take-take k c.args.size (drop (c.args.at + 16) o.bytes) new ∙ sym (ap (take k) w.body ∙ take-take k e.size (drop (c.args.at + 16) o.bytes) old))

@@ -1,0 +1,17 @@
+use Rattle.std.proofs.Math.Logic.{∥∥₁_map}
+use Rattle.vc_extent.specs.Change.{write}
+use Rattle.vc_extent.proofs.Sets.{extents-changed, pairs-changed, tiling-changed}
+use Rattle.vc_extent.proofs.extents.Extents.put.Goals as goal
+
+pub invariant_of-self : goal.invariant_of-self
+invariant_of-self c =
+    record {
+      kept = ∥∥₁_map c.args.self.now.kept (extents-changed c.args.a.0 c.find-place.result.0 c.find-place.result.1 c.args.self.now.segs.items c.index_mut.result.now c.put_in.new.seg (write c.args.off c.args.src.now) c.find-place.ensures.found c.index_mut.ensures.value c.put_in.ensures c.args.self.now.index.items);
+      reserved = c.args.self.now.reserved;
+    }
+
+pub returns-clause-tiling : goal.returns-clause-tiling
+returns-clause-tiling c = tiling-changed c.args.a.0 c.find-place.result.0 c.find-place.result.1 c.args.self.now.segs.items c.index_mut.result.now c.put_in.new.seg (write c.args.off c.args.src.now) c.find-place.ensures.found c.index_mut.ensures.value c.put_in.ensures
+
+pub returns-clause-pairs : goal.returns-clause-pairs
+returns-clause-pairs c = pairs-changed c.args.a.0 c.find-place.result.0 c.find-place.result.1 c.args.self.now.segs.items c.index_mut.result.now c.put_in.new.seg (write c.args.off c.args.src.now) c.find-place.ensures.found c.index_mut.ensures.value c.put_in.ensures

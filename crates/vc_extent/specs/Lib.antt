@@ -1,0 +1,6 @@
+pub mod Field
+pub mod Extent
+pub mod Tiles
+pub mod Frame
+pub mod Change
+pub mod Tiling

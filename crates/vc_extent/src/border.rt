@@ -1,0 +1,58 @@
+ghost use Rattle.std.specs.Prelude.{◌≡◌, ◌+◌, ◌<◌, ◌≤◌, ◌==◌, IfSome, IsSomeAnd, if◌then◌else◌, length, map, take};
+ghost use Rattle.vc_model.specs.Addr.{address, place_of};
+ghost use Rattle.vc_model.specs.Segments.{span};
+ghost use Rattle.vc_seg.specs.Segment.{pair_of};
+ghost use Rattle.vc_extent.specs.Change.{shrink, stretch};
+ghost use Rattle.vc_extent.specs.Tiling.{IsBusy, change_extent, extent_of, next_of, tiling};
+
+use crate::edit::{shrink_in, stretch_in};
+use crate::extents::Extents;
+use vc_base::Addr;
+use vc_seg::span_of;
+
+impl Extents {
+    /// Gives a busy extent a size that wants a larger span, of which the free extent behind it has enough. Its bytes stay,
+    /// and what the bytes behind them are isn't said. It answers the address of the rest of the free extent, or `NONE`
+    /// where that is used up.
+    pub fn stretch(&mut self, a: Addr, size: u32) -> Addr
+        requires busy { IsBusy (tiling self.old.segs.items) a.0 }
+        requires next { IsSomeAnd (next_of (tiling self.old.segs.items) a.0) (λ e. e.size ≡ 0) }
+        requires above { (extent_of (tiling self.old.segs.items) a.0).span < span size }
+        requires fits { IfSome (next_of (tiling self.old.segs.items) a.0)
+            (λ e. span size ≤ (extent_of (tiling self.old.segs.items) a.0).span + e.span) }
+        ensures tiling { tiling self.new.segs.items
+            ≡ change_extent a.0 (stretch size (extent_of (tiling self.new.segs.items) a.0).body)
+            (tiling self.old.segs.items) }
+        ensures len { length (extent_of (tiling self.new.segs.items) a.0).body ≡ size }
+        ensures kept { take (extent_of (tiling self.old.segs.items) a.0).size
+            (extent_of (tiling self.new.segs.items) a.0).body
+            ≡ (extent_of (tiling self.old.segs.items) a.0).body }
+        ensures rest { IfSome (next_of (tiling self.old.segs.items) a.0) (λ e. result.0
+            ≡ (if (extent_of (tiling self.old.segs.items) a.0).span + e.span == span size
+            then 0 else address ((place_of a.0).0, (place_of a.0).1 + span size))) }
+        ensures pairs { map pair_of self.new.segs.items ≡ map pair_of self.old.segs.items }
+    {
+        let (place, at) = self.find(a);
+        let left = stretch_in(&mut self.segs[place], at, size);
+        if left == 0 {
+            return Addr::NONE;
+        }
+        Addr::new(a.seg(), at + 16 + span_of(size))
+    }
+
+    /// Gives a busy extent a size from 1 on that wants a lesser span. Its bytes up to that size stay. It answers the address
+    /// of the free extent that its tail becomes.
+    pub fn shrink(&mut self, a: Addr, size: u32) -> Addr
+        requires busy { IsBusy (tiling self.old.segs.items) a.0 }
+        requires some { 1 ≤ size }
+        requires below { span size < (extent_of (tiling self.old.segs.items) a.0).span }
+        ensures tiling { tiling self.new.segs.items
+            ≡ change_extent a.0 (shrink size) (tiling self.old.segs.items) }
+        ensures rest { result.0 ≡ address ((place_of a.0).0, (place_of a.0).1 + span size) }
+        ensures pairs { map pair_of self.new.segs.items ≡ map pair_of self.old.segs.items }
+    {
+        let (place, at) = self.find(a);
+        shrink_in(&mut self.segs[place], at, size);
+        Addr::new(a.seg(), at + 16 + span_of(size))
+    }
+}

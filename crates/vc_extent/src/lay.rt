@@ -1,0 +1,105 @@
+ghost use Rattle.std.specs.Prelude.{◌≡◌, ℕ, ◌+◌, ◌-◌, ◌<◌, ◌≤◌, ◌%◌, List, [], ◌∷◌, length, take, drop};
+ghost use Rattle.vc_model.specs.Discipline.{IsSegmentSize};
+ghost use Rattle.vc_model.specs.Segments.{span};
+ghost use Rattle.vc_extent.specs.Field.{field_at};
+ghost use Rattle.vc_extent.specs.Extent.{Extent, busy_extent, extents, free_extent, no_links};
+ghost use Rattle.vc_extent.specs.Frame.{StaysBelow, StaysOutside};
+ghost use Rattle.vc_extent.specs.Tiles.{IsTiled, Tiles};
+
+use crate::field::set_field;
+use vc_seg::Segment;
+
+/// Tells the extent from a place on, where there is one, that the one before it has that span.
+pub(crate) fn set_boundary(seg: &mut Segment, at: u32, before: u32)
+    requires within { at + 16 ≤ length seg.old.bytes }
+    requires most { length seg.old.bytes ≤ 33554432 }
+    ensures tiles { (p : ℕ) (es : List Extent)
+        → Tiles seg.old.bytes (length seg.old.bytes - 16) p at es
+        → Tiles seg.new.bytes (length seg.new.bytes - 16) before at es }
+    ensures rest { StaysBelow (at + 12) seg.old seg.new }
+{
+    if at + 16 < seg.size() {
+        set_field(seg, at + 12, before);
+    }
+}
+
+/// Writes the span, the size and the tag of an extent from a place on.
+fn set_head(seg: &mut Segment, at: u32, span: u32, size: u32, tag: u32)
+    requires within { at + 12 ≤ length seg.old.bytes }
+    requires most { length seg.old.bytes ≤ 33554432 }
+    ensures span { field_at at seg.new.bytes ≡ span }
+    ensures size { field_at (at + 4) seg.new.bytes ≡ size }
+    ensures tag { field_at (at + 8) seg.new.bytes ≡ tag }
+    ensures rest { StaysOutside at (at + 12) seg.old seg.new }
+{
+    set_field(seg, at, span);
+    set_field(seg, at + 4, size);
+    set_field(seg, at + 8, tag);
+}
+
+/// Makes a busy extent of a span from a place on, before what tiles the segment from its end on.
+pub(crate) fn lay_busy(seg: &mut Segment, at: u32, bytes: u32, size: u32, tag: u32)
+    requires within { at + bytes + 16 ≤ length seg.old.bytes }
+    requires most { length seg.old.bytes ≤ 33554432 }
+    requires some { 1 ≤ size }
+    requires span { bytes ≡ span size }
+    ensures tiles { (es : List Extent)
+        → Tiles seg.old.bytes (length seg.old.bytes - 16) bytes (at + bytes) es
+        → Tiles seg.new.bytes (length seg.new.bytes - 16) (field_at (at + 12) seg.old.bytes) at
+        (busy_extent (at + 16) bytes size tag (take size (drop (at + 16) seg.old.bytes)) ∷ es) }
+    ensures rest { StaysBelow at seg.old seg.new }
+{
+    set_head(seg, at, bytes, size, tag);
+}
+
+/// Makes a free extent of a span from a place on, before what tiles the segment from its end on. Its links are 0.
+pub(crate) fn lay_free(seg: &mut Segment, at: u32, bytes: u32)
+    requires within { at + bytes + 16 ≤ length seg.old.bytes }
+    requires most { length seg.old.bytes ≤ 33554432 }
+    requires least { 32 ≤ bytes }
+    requires multiple { bytes % 32 ≡ 0 }
+    ensures tiles { (es : List Extent)
+        → Tiles seg.old.bytes (length seg.old.bytes - 16) bytes (at + bytes) es
+        → Tiles seg.new.bytes (length seg.new.bytes - 16) (field_at (at + 12) seg.old.bytes) at
+        (free_extent (at + 16) bytes no_links ∷ es) }
+    ensures rest { StaysBelow at seg.old seg.new }
+{
+    set_head(seg, at, bytes, 0, 0);
+    set_field(seg, at + 16, 0);
+    set_field(seg, at + 20, 0);
+    set_field(seg, at + 24, 0);
+}
+
+/// Makes a free extent of what is left of a whole behind its first bytes, before what tiles the segment from the end of
+/// the whole on.
+pub(crate) fn lay_rest(seg: &mut Segment, at: u32, whole: u32, bytes: u32)
+    requires within { at + whole + 16 ≤ length seg.old.bytes }
+    requires most { length seg.old.bytes ≤ 33554432 }
+    requires less { bytes < whole }
+    requires whole { whole % 32 ≡ 0 }
+    requires multiple { bytes % 32 ≡ 0 }
+    ensures tiles { (p : ℕ) (es : List Extent)
+        → Tiles seg.old.bytes (length seg.old.bytes - 16) p (at + whole) es
+        → Tiles seg.new.bytes (length seg.new.bytes - 16) bytes (at + bytes)
+        (free_extent (at + 16 + bytes) (whole - bytes) no_links ∷ es) }
+    ensures rest { StaysBelow (at + bytes) seg.old seg.new }
+{
+    let left = whole - bytes;
+    set_boundary(seg, at + whole, left);
+    lay_free(seg, at + bytes, left);
+    set_boundary(seg, at + bytes, bytes);
+}
+
+/// Makes a segment one free extent, whatever lies in it.
+pub(crate) fn format(seg: &mut Segment)
+    ensures number { seg.new.number ≡ seg.old.number }
+    ensures len { length seg.new.bytes ≡ length seg.old.bytes }
+    ensures size { IsSegmentSize (length seg.old.bytes) }
+    ensures tiled { IsTiled seg.new.bytes }
+    ensures extents { extents seg.new.bytes
+        ≡ free_extent 32 (length seg.old.bytes - 32) no_links ∷ [] }
+{
+    let size = seg.size();
+    set_field(seg, 28, 0);
+    lay_free(seg, 16, size - 32);
+}

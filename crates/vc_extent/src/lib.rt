@@ -1,0 +1,17 @@
+//! Segments that are tiled by extents, free or busy. Their heads, boundary words and free links lie in the bytes of the
+//! segments themselves.
+#![tactic(auto)]
+
+mod body;
+mod border;
+mod bytes;
+mod change;
+mod copied;
+mod edit;
+mod extents;
+mod field;
+mod lay;
+mod next;
+mod read;
+
+pub use extents::Extents;

@@ -1,0 +1,7 @@
+//! Tests of extents over one segment of 256 bytes.
+#![tactic(auto)]
+
+#[cfg(test)]
+mod borders;
+#[cfg(test)]
+mod heads;
