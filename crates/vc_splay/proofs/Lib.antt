@@ -1,0 +1,16 @@
+pub mod StoreLemmas
+pub mod TallyLemmas
+pub mod StandsLemmas
+pub mod LiftLemmas
+pub mod RotationLemmas
+pub mod StepLemmas
+pub mod PlugLemmas
+pub mod SplayLemmas
+pub mod CaseLemmas
+pub mod FewLemmas
+pub mod WalkLemmas
+pub mod NeighbourLemmas
+pub mod GuideLemmas
+pub mod SearchLemmas
+pub mod LinkLemmas
+pub mod UnlinkLemmas

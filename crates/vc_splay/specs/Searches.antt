@@ -1,0 +1,47 @@
+-- What a walk down a tree ends with.
+use Rattle.std.specs.Prelude.{◌++◌, Bool, ◌≡◌, ◌≢◌, ℕ, ◌+◌, true}
+use Rattle.std.specs.Ordering.{is_ge, is_gt}
+use Rattle.std.specs.declared.cmp.Ordering.{Ordering}
+use Rattle.vc_base.specs.Holders.{AreDistinct, contains, some_address}
+use Rattle.vc_splay.specs.Store.{Store}
+use Rattle.vc_splay.specs.Stands.{IsTree, Stands}
+use Rattle.vc_splay.specs.Tree.{Tree, Leaf, Node, names, name_of}
+use Rattle.vc_splay.specs.Guide.{asked, least_at, linked}
+use Rattle.vc_splay.specs.Moves.{Context, name_at, plug, side_in}
+
+-- the deepest node that was read and the first that isn't before what is sought, or 0, by a step for each node read
+pub record Search (side : ℕ → Ordering) (tree : Tree) (deepest found before now : ℕ) : Type 0 where
+  pub first : some_address found ≡ least_at side (names tree)
+  pub found_in : found ≢ 0 → contains (names tree) found ≡ true
+  pub deepest_in : contains (names tree) deepest ≡ true
+  pub steps : now ≡ before + asked (λ n. is_ge (side n)) tree
+
+-- it stands for a tree with this name in it, and another one that is in it too or is 0
+pub record CanReach (s : Store) (root deepest found : ℕ) : Type 0 where
+  pub tree : Tree
+  pub is_tree : IsTree s root tree
+  pub deepest_in : contains (names tree) deepest ≡ true
+  pub found_in : found ≢ 0 → contains (names tree) found ≡ true
+
+-- where a name is to hang: in a place with no node, below the last node that was read, on this side, by a step for each
+-- node read
+pub record Gap (side : ℕ → Ordering) (tree : Tree) (above : ℕ) (left : Bool) (start now : ℕ) : Type 0 where
+  pub context : Context
+  pub whole : plug context Leaf ≡ tree
+  pub above_is : above ≡ name_at context
+  pub side_is : left ≡ side_in context
+  pub list : (at : ℕ) → names (plug context (Node Leaf at Leaf)) ≡ linked side at (names tree)
+  pub steps : now ≡ start + asked (λ n. is_gt (side n)) tree
+
+-- two trees, the second one below some node, that have no name in common
+pub record IsPair (s : Store) (left right : ℕ) (front back : Tree) : Type 0 where
+  pub up : ℕ
+  pub front_is : IsTree s left front
+  pub back_stands : Stands s up back
+  pub back_top : right ≡ name_of back
+  pub distinct : AreDistinct (names front ++ names back)
+
+pub record CanJoin (s : Store) (left right : ℕ) : Type 0 where
+  pub front : Tree
+  pub back : Tree
+  pub pair : IsPair s left right front back

@@ -1,0 +1,136 @@
+ghost use Rattle.std.specs.Prelude.{◌≡◌, ◌≢◌, ℕ, ◌+◌, ◌≤◌, true, length, if◌then◌else◌, ◌==◌, ◌&&◌, not};
+ghost use Rattle.std.specs.Ordering.{is_eq};
+ghost use Rattle.vc_base.specs.Holders.{some_address};
+ghost use Rattle.vc_splay.specs.Guide.{CanFind, first_at, least_at};
+ghost use Rattle.vc_splay.specs.Searches.{CanReach, Search};
+ghost use Rattle.vc_splay.specs.Stands.{IsTree, TreeAfter};
+ghost use Rattle.vc_splay.specs.Tree.{Tree, names};
+
+use crate::sides::kid;
+use crate::splaying::splay;
+use crate::{Guide, Nodes};
+use vc_base::Steps;
+
+/// The new root, and the first node that is what the guide seeks, or 0 where none is. It takes one step for each node
+/// that it asks the guide of: at least one where there is a node, and at most one more than there are. Condition: along
+/// the tree the guide's answers never fall.
+pub fn find_first<N: Nodes, G: Guide<N>, L>(
+    nodes: &mut N,
+    root: u32,
+    guide: &G,
+    steps: &mut Steps<L>,
+) -> (u32, u32)
+    requires { CanFind (N.store nodes.old) (G.side_of guide.now nodes.old) root }
+    ensures tree { (tree : Tree) → IsTree (N.store nodes.old) root tree
+        → TreeAfter (N.store nodes.old) (N.store nodes.new) (names tree) result.0 (names tree) }
+    ensures answer { (tree : Tree) → IsTree (N.store nodes.old) root tree
+        → some_address result.1 ≡ first_at (G.side_of guide.now nodes.old) (names tree) }
+    ensures least_steps { root ≢ 0 → steps.old + 1 ≤ steps.new }
+    ensures most_steps { (tree : Tree) → IsTree (N.store nodes.old) root tree
+        → steps.new ≤ steps.old + length (names tree) + 1 }
+    ensures held { (N.store nodes.new).has ≡ (N.store nodes.old).has }
+    ensures rest { N.stays nodes.old nodes.new }
+{
+    if root == 0 {
+        return (0, 0);
+    }
+    let (deepest, least) = descend(nodes, root, guide, steps);
+    let found = equal_or_none(nodes, least, guide, steps);
+    (reach(nodes, root, deepest, found), found)
+}
+
+/// The new root, and the first node that isn't before what the guide seeks, or 0 where each is. It takes one step for
+/// each node that it asks the guide of: at least one where there is a node, and at most as many as there are.
+/// Condition: along the tree the guide's answers never fall.
+pub fn find_least_at<N: Nodes, G: Guide<N>, L>(
+    nodes: &mut N,
+    root: u32,
+    guide: &G,
+    steps: &mut Steps<L>,
+) -> (u32, u32)
+    requires { CanFind (N.store nodes.old) (G.side_of guide.now nodes.old) root }
+    ensures tree { (tree : Tree) → IsTree (N.store nodes.old) root tree
+        → TreeAfter (N.store nodes.old) (N.store nodes.new) (names tree) result.0 (names tree) }
+    ensures answer { (tree : Tree) → IsTree (N.store nodes.old) root tree
+        → some_address result.1 ≡ least_at (G.side_of guide.now nodes.old) (names tree) }
+    ensures least_steps { root ≢ 0 → steps.old + 1 ≤ steps.new }
+    ensures most_steps { (tree : Tree) → IsTree (N.store nodes.old) root tree
+        → steps.new ≤ steps.old + length (names tree) }
+    ensures held { (N.store nodes.new).has ≡ (N.store nodes.old).has }
+    ensures rest { N.stays nodes.old nodes.new }
+{
+    if root == 0 {
+        return (0, 0);
+    }
+    let (deepest, least) = descend(nodes, root, guide, steps);
+    (reach(nodes, root, deepest, least), least)
+}
+
+// Reads down to the first node that isn't before what is sought: the deepest node that was read, and that one or 0.
+#[inline(always)]
+fn descend<N: Nodes, G: Guide<N>, L>(
+    nodes: &N,
+    root: u32,
+    guide: &G,
+    steps: &mut Steps<L>,
+) -> (u32, u32)
+    requires tree { CanFind (N.store nodes.now) (G.side_of guide.now nodes.now) root }
+    requires some { root ≢ 0 }
+    ensures { (tree : Tree) → IsTree (N.store nodes.now) root tree
+        → Search (G.side_of guide.now nodes.now) tree result.0 result.1 steps.old steps.new }
+{
+    let mut deepest = root;
+    let mut least = 0;
+    let mut at = root;
+    while at != 0 {
+        deepest = at;
+        let left = guide.side(nodes, at, steps).is_ge();
+        least = chosen(left, at, least);
+        at = kid(nodes, left, at);
+    }
+    (deepest, least)
+}
+
+// One of two names.
+#[inline(always)]
+fn chosen(first: bool, a: u32, b: u32) -> u32
+    ensures { result ≡ (if first then a else b) }
+{
+    if first { a } else { b }
+}
+
+// That node where it is what is sought, and otherwise 0.
+#[inline(always)]
+fn equal_or_none<N: Nodes, G: Guide<N>, L>(
+    nodes: &N,
+    least: u32,
+    guide: &G,
+    steps: &mut Steps<L>,
+) -> u32
+    requires { least ≢ 0 → (N.store nodes.now).has least ≡ true }
+    ensures value { result
+        ≡ (if not (least == 0) && is_eq (G.side_of guide.now nodes.now least) then least else 0) }
+    ensures steps { steps.new ≡ steps.old + (if least == 0 then 0 else 1) }
+{
+    if least != 0 && guide.side(nodes, least, steps).is_eq() {
+        least
+    } else {
+        0
+    }
+}
+
+// Splays the deepest node that was read, and then the one that is answered, where there is one.
+#[inline(always)]
+fn reach<N: Nodes>(nodes: &mut N, root: u32, deepest: u32, found: u32) -> u32
+    requires { CanReach (N.store nodes.old) root deepest found }
+    ensures tree { (tree : Tree) → IsTree (N.store nodes.old) root tree
+        → TreeAfter (N.store nodes.old) (N.store nodes.new) (names tree) result (names tree) }
+    ensures held { (N.store nodes.new).has ≡ (N.store nodes.old).has }
+    ensures rest { N.stays nodes.old nodes.new }
+{
+    let top = splay(nodes, root, deepest);
+    if found == 0 {
+        return top;
+    }
+    splay(nodes, top, found)
+}

@@ -1,0 +1,23 @@
+//! Splay trees over a store of nodes that are named by numbers: each node's three links lie in the store.
+#![tactic(auto)]
+
+mod ends;
+mod finding;
+mod guide;
+mod linking;
+mod links;
+mod neighbours;
+mod nodes;
+mod sides;
+mod splaying;
+mod unlinking;
+
+pub use ends::{first, last};
+pub use finding::{find_first, find_least_at};
+pub use guide::Guide;
+pub use linking::link_after_equals;
+pub use links::Links;
+pub use neighbours::{next, prev};
+pub use nodes::Nodes;
+pub use splaying::splay;
+pub use unlinking::unlink;

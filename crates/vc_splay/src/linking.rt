@@ -1,0 +1,79 @@
+ghost use Rattle.std.specs.Prelude.{◌≡◌, ◌≢◌, ℕ, ◌+◌, ◌≤◌, ◌∷◌, true, false, length};
+ghost use Rattle.vc_splay.specs.Guide.{CanFind, CanLink, linked};
+ghost use Rattle.vc_splay.specs.Searches.{Gap};
+ghost use Rattle.vc_splay.specs.Stands.{IsTree, TreeAfter};
+ghost use Rattle.vc_splay.specs.Store.{with_kid, with_parent};
+ghost use Rattle.vc_splay.specs.Tree.{Tree, names};
+
+use crate::sides::{kid, set_kid};
+use crate::splaying::splay;
+use crate::{Guide, Nodes};
+use vc_base::Steps;
+
+/// Puts a node behind the last one that isn't behind what the guide seeks, as a leaf, and makes it the root: it and the
+/// root that is answered are one. What its links were counts for nothing. It takes one step for each node that it asks
+/// the guide of: at least one where there is a node, and at most as many as there are. Condition: its name is there and
+/// isn't in the tree, along which the guide's answers never fall.
+pub fn link_after_equals<N: Nodes, G: Guide<N>, L>(
+    nodes: &mut N,
+    root: u32,
+    at: u32,
+    guide: &G,
+    steps: &mut Steps<L>,
+) -> u32
+    requires { CanLink (N.store nodes.old) (G.side_of guide.now nodes.old) root at }
+    ensures tree { (tree : Tree) → IsTree (N.store nodes.old) root tree
+        → TreeAfter (N.store nodes.old) (N.store nodes.new) (at ∷ names tree) result
+        (linked (G.side_of guide.now nodes.old) at (names tree)) }
+    ensures root { result ≡ at }
+    ensures least_steps { root ≢ 0 → steps.old + 1 ≤ steps.new }
+    ensures most_steps { (tree : Tree) → IsTree (N.store nodes.old) root tree
+        → steps.new ≤ steps.old + length (names tree) }
+    ensures held { (N.store nodes.new).has ≡ (N.store nodes.old).has }
+    ensures rest { N.stays nodes.old nodes.new }
+{
+    let (above, left) = descend_behind(nodes, root, guide, steps);
+    make_leaf(nodes, at, above);
+    if above == 0 {
+        return at;
+    }
+    set_kid(nodes, left, above, at);
+    splay(nodes, root, at)
+}
+
+// Reads down to the place right behind the last node that isn't behind what is sought: the node above that place, 0
+// where there is none, and whether the place is on the left of it.
+#[inline(always)]
+fn descend_behind<N: Nodes, G: Guide<N>, L>(
+    nodes: &N,
+    root: u32,
+    guide: &G,
+    steps: &mut Steps<L>,
+) -> (u32, bool)
+    requires { CanFind (N.store nodes.now) (G.side_of guide.now nodes.now) root }
+    ensures { (tree : Tree) → IsTree (N.store nodes.now) root tree
+        → Gap (G.side_of guide.now nodes.now) tree result.0 result.1 steps.old steps.new }
+{
+    let mut above = 0;
+    let mut left = false;
+    let mut at = root;
+    while at != 0 {
+        above = at;
+        left = guide.side(nodes, at, steps).is_gt();
+        at = kid(nodes, left, at);
+    }
+    (above, left)
+}
+
+// Gives a node no child, and this parent.
+#[inline(always)]
+fn make_leaf<N: Nodes>(nodes: &mut N, at: u32, above: u32)
+    requires { (N.store nodes.old).has at ≡ true }
+    ensures store { N.store nodes.new
+        ≡ with_parent at above (with_kid false at 0 (with_kid true at 0 (N.store nodes.old))) }
+    ensures rest { N.stays nodes.old nodes.new }
+{
+    nodes.set_left(at, 0);
+    nodes.set_right(at, 0);
+    nodes.set_up(at, above);
+}

@@ -1,0 +1,53 @@
+ghost use Rattle.std.specs.Prelude.{◌≡◌, ◌++◌};
+ghost use Rattle.vc_base.specs.Holders.{without};
+ghost use Rattle.vc_splay.specs.Searches.{CanJoin, IsPair};
+ghost use Rattle.vc_splay.specs.Stands.{IsIn, IsTree, TreeAfter};
+ghost use Rattle.vc_splay.specs.Tree.{Tree, names};
+
+use crate::Nodes;
+use crate::ends::last;
+use crate::sides::set_up_of;
+use crate::splaying::splay;
+
+/// Takes a node out, and answers the new root, 0 where no node is left: the last node before it, or the tree that is
+/// left on one side where there is none on the other. What its links are then isn't said. Condition: its name is in the
+/// tree.
+pub fn unlink<N: Nodes>(nodes: &mut N, root: u32, at: u32) -> u32
+    requires { IsIn (N.store nodes.old) root at }
+    ensures tree { (tree : Tree) → IsTree (N.store nodes.old) root tree
+        → TreeAfter (N.store nodes.old) (N.store nodes.new) (names tree) result
+        (without at (names tree)) }
+    ensures held { (N.store nodes.new).has ≡ (N.store nodes.old).has }
+    ensures rest { N.stays nodes.old nodes.new }
+{
+    splay(nodes, root, at);
+    let left = nodes.left(at);
+    let right = nodes.right(at);
+    set_up_of(nodes, left, 0);
+    join(nodes, left, right)
+}
+
+// Joins two trees, of which the second stands behind the first and is below some node: the first one's last node gets
+// the second one's root as its right child.
+#[inline(always)]
+fn join<N: Nodes>(nodes: &mut N, left: u32, right: u32) -> u32
+    requires { CanJoin (N.store nodes.old) left right }
+    ensures tree { (front back : Tree) → IsPair (N.store nodes.old) left right front back
+        → TreeAfter (N.store nodes.old) (N.store nodes.new) (names front ++ names back) result
+        (names front ++ names back) }
+    ensures held { (N.store nodes.new).has ≡ (N.store nodes.old).has }
+    ensures rest { N.stays nodes.old nodes.new }
+{
+    if left == 0 {
+        set_up_of(nodes, right, 0);
+        return right;
+    }
+    if right == 0 {
+        return left;
+    }
+    let end = last(nodes, left);
+    let top = splay(nodes, left, end);
+    nodes.set_right(top, right);
+    nodes.set_up(right, top);
+    top
+}
