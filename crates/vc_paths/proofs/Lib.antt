@@ -1,3 +1,4 @@
+pub mod AloneLemmas
 pub mod BesideLemmas
 pub mod CoverLemmas
 pub mod DescentLemmas
@@ -13,6 +14,7 @@ pub mod OrderLemmas
 pub mod OrderedLemmas
 pub mod PathLemmas
 pub mod PlaceLemmas
+pub mod Renamed
 pub mod SameLemmas
 pub mod SeekLemmas
 pub mod SeenLemmas
@@ -21,4 +23,5 @@ pub mod SightLemmas
 pub mod SortedLemmas
 pub mod SpotLemmas
 pub mod StackedLemmas
+pub mod StartLemmas
 pub mod StayLemmas

@@ -48,7 +48,7 @@ level_hidden rules laws x above (layer ∷ lower) h =
     (filter (λ o. not (is_hidden rules above o)) layer) (filter_kept (λ o. not (is_hidden rules above o)) layer))
     (level_hidden rules laws x (above ++ layer) lower (list_any-append (is_level rules x) above layer ∙ or_left (list_any (is_level rules x) above) (list_any (is_level rules x) layer) h))
 
-none_hidden : (rules : Rules) (xs : List (Seen ℕ)) → filter (λ o. not (is_hidden rules [] o)) xs ≡ xs
+pub none_hidden : (rules : Rules) (xs : List (Seen ℕ)) → filter (λ o. not (is_hidden rules [] o)) xs ≡ xs
 none_hidden rules [] = refl
 none_hidden rules (x ∷ xs) = ap (λ z. x ∷ z) (none_hidden rules xs)
 
@@ -60,7 +60,7 @@ level_first rules laws x above layer h =
     ∙ none_hidden rules (filter (is_level rules x) layer)
 
 -- what stands in another dictionary isn't at a place
-at_elsewhere : (e f a : ℕ) (xs : List Object) → (f == e) ≡ false → AllByRecursion (λ y. is_at (e, a) y ≡ false) (map (seen_in f) xs)
+pub at_elsewhere : (e f a : ℕ) (xs : List Object) → (f == e) ≡ false → AllByRecursion (λ y. is_at (e, a) y ≡ false) (map (seen_in f) xs)
 at_elsewhere e f a [] h = tt
 at_elsewhere e f a (x ∷ xs) h = (ap (λ z. z && (x.at == a)) h, at_elsewhere e f a xs h)
 
@@ -291,7 +291,7 @@ first_map : (e : ℕ) (xs : List Object) → first_of (map (seen_in e) xs) ≡ o
 first_map e [] = refl
 first_map e (x ∷ xs) = refl
 
-any_map : (e a : ℕ) (xs : List Object) → list_any (is_at (e, a)) (map (seen_in e) xs) ≡ list_any (stands_at a) xs
+pub any_map : (e a : ℕ) (xs : List Object) → list_any (is_at (e, a)) (map (seen_in e) xs) ≡ list_any (stands_at a) xs
 any_map e a [] = refl
 any_map e a (x ∷ xs) = ap (λ z. z || list_any (is_at (e, a)) (map (seen_in e) xs)) (at_same e a x) ∙ ap (λ z. stands_at a x || z) (any_map e a xs)
 
@@ -305,7 +305,7 @@ behind_map e a (x ∷ xs) =
       | inr t ↦ rw (one, more, t) (behind_map e a xs)
     ]
 
-before_map : (e a : ℕ) (before : Option Object) (xs : List Object) → before_first_from (option_map (seen_in e) before) (is_at (e, a)) (map (seen_in e) xs) ≡ option_map (seen_in e) (before_first_from before (stands_at a) xs)
+pub before_map : (e a : ℕ) (before : Option Object) (xs : List Object) → before_first_from (option_map (seen_in e) before) (is_at (e, a)) (map (seen_in e) xs) ≡ option_map (seen_in e) (before_first_from before (stands_at a) xs)
 before_map e a before [] = refl
 before_map e a before (x ∷ xs) = elim (cases_Bool (stands_at a x)) as (λ _. before_first_from (option_map (seen_in e) before) (is_at (e, a)) (map (seen_in e) (x ∷ xs)) ≡ option_map (seen_in e) (before_first_from before (stands_at a) (x ∷ xs))) [
   | inl t ↦ rw (at_same e a x, t) refl

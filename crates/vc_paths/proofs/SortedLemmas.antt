@@ -94,7 +94,7 @@ filter_sorted rules laws p sorted (x ∷ xs) s =
     ]
 
 -- behind those that aren't greater
-placed_last : (rules : Rules) (o : Seen ℕ) (xs : List (Seen ℕ)) → AllByRecursion (λ y. is_greater rules y.bytes o.bytes ≡ false) xs → placed_among seen_bytes rules o xs ≡ xs ++ o ∷ []
+pub placed_last : (rules : Rules) (o : Seen ℕ) (xs : List (Seen ℕ)) → AllByRecursion (λ y. is_greater rules y.bytes o.bytes ≡ false) xs → placed_among seen_bytes rules o xs ≡ xs ++ o ∷ []
 placed_last rules o [] h = refl
 placed_last rules o (x ∷ xs) h = rw h.0 (ap (λ z. x ∷ z) (placed_last rules o xs h.1))
 

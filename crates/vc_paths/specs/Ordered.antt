@@ -1,10 +1,11 @@
 -- What a search through ordered layers compares: objects at places, before or behind another one where there is one.
-use Rattle.std.specs.Prelude.{◌≡◌, ℕ, Bool, true, Option, Some, None, IsSome, if◌then◌else◌}
+use Rattle.std.specs.Prelude.{◌≡◌, ℕ, Bool, true, Option, Some, None, IsSome, ◌==◌, if◌then◌else◌}
 use Rattle.std.specs.Option.{option_map}
 use Rattle.vc_base.specs.declared.addr.Addr.{Addr}
+use Rattle.vc_dtdisc.specs.Finding.{first_of, last_of}
 use Rattle.vc_dtdisc.specs.Objects.{is_greater, is_match}
 use Rattle.vc_dtdisc.specs.Rules.{Rules}
-use Rattle.vc_paths.specs.Layers.{Layered, bytes_there}
+use Rattle.vc_paths.specs.Layers.{Layered, bytes_there, place_before, place_behind, place_in}
 use Rattle.vc_paths.specs.Visible.{Seen}
 
 -- the object at a place
@@ -32,6 +33,18 @@ pub record Stands (all : Layered) (d : ℕ) (p : ℕ × Addr) : Type 0 where
 abbrev pub IsStanding : Layered → ℕ → Option (ℕ × Addr) → Type 0
 IsStanding all d None = Unit {0}
 IsStanding all d (Some p) = Stands all d p
+
+-- where a search of a dictionary for what is greater than the object at a place begins: behind it in its own, else first
+abbrev pub start_behind : Layered → ℕ → Option (ℕ × Addr) → Option ℕ
+start_behind all e None = place_in (first_of (all.layer e).objects)
+start_behind all e (Some p) =
+    if p.0 == e then place_behind p.1.0 (all.layer e).objects else place_in (first_of (all.layer e).objects)
+
+-- and one for what is less: before it in its own, else last
+abbrev pub start_before : Layered → ℕ → Option (ℕ × Addr) → Option ℕ
+start_before all e None = place_in (last_of (all.layer e).objects)
+start_before all e (Some p) =
+    if p.0 == e then place_before p.1.0 (all.layer e).objects else place_in (last_of (all.layer e).objects)
 
 -- whether an object matches another one
 abbrev pub is_level : Rules → Seen ℕ → Seen ℕ → Bool

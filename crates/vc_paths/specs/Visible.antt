@@ -12,6 +12,10 @@ pub record Seen (N : Type 0) : Type 0 where
   pub at : ℕ
   pub bytes : List ℕ
 
+-- it, under another name for its dictionary
+abbrev pub rename : {N M : Type 0} → (N → M) → Seen N → Seen M
+rename r o = record { dict = r o.dict; at = o.at; bytes = o.bytes }
+
 -- what it is
 abbrev pub seen_bytes : {N : Type 0} → Seen N → List ℕ
 seen_bytes o = o.bytes

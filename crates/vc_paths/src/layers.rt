@@ -7,10 +7,11 @@ ghost use Rattle.vc_paths.specs.Layers.{AreLayers, Layered, Same, bytes_there, p
 use std::cmp::Ordering;
 use vc_base::{Addr, DictMethod, Steps};
 
-/// Dictionaries by number, each a layer that a view path may have: its objects stand at places, which are the addresses
-/// of their holders. Each number that a call is handed is that of a dictionary, and each place one of the dictionary named
-/// with it. None of the calls can fail or needs memory, and none changes an object, an order, a method or a kind. This
-/// project's own.
+/// Dictionaries by number, from 0 to 255, each a layer that a view path may have: its objects stand at places, which are
+/// the addresses of their holders, in bytes. Each number that a call is handed (`d`, `e`, `of`) is that of a dictionary,
+/// and each place (`at`, `a`, `b`) one of the dictionary named with it. None of the calls can be refused or needs memory,
+/// and none changes an object, an order, a method or a kind. `steps` counts the compares that a call makes, of which
+/// nothing here says how many. This project's own.
 pub trait Layers {
     /// Which numbers are dictionaries, and what each of these is.
     ghost layered: { Self → Layered };
@@ -18,23 +19,23 @@ pub trait Layers {
     /// All stayed the same but the links inside holders and the roots of ordered dictionaries.
     ghost Stays: { Self → Self → Type 0 };
 
-    /// The method of a dictionary.
+    /// The method of `d`.
     fn method(&self, d: u32) -> DictMethod
         requires { (layered self.now).Has d }
         ensures { result ≡ ((layered self.now).layer d).method };
 
-    /// The number of its kind.
+    /// The number of the kind of `d`.
     fn kind_number(&self, d: u32) -> u32
         requires { (layered self.now).Has d }
         ensures { result ≡ ((layered self.now).layer d).kind };
 
-    /// The bytes of the object at a place.
+    /// The bytes of the object of `d` at the place `at`.
     fn object(&self, d: u32, at: Addr) -> &[u8]
         requires dict { (layered self.now).Has d }
         requires place { IsSome (bytes_there at.0 ((layered self.now).layer d).objects) }
         ensures { bytes_there at.0 ((layered self.now).layer d).objects ≡ Some result.now };
 
-    /// The place of the first object that has a key; none where none has it.
+    /// The place of the first object of `d` that has a key; none where none has it.
     fn find<L>(&mut self, d: u32, key: &[u8], steps: &mut Steps<L>) -> Option<Addr>
         requires { (layered self.old).Has d }
         ensures found { option_map number_of result ≡ place_with ((layered self.old).layer d).rules
@@ -42,8 +43,8 @@ pub trait Layers {
         ensures layers { Same (layered self.old) (layered self.new) }
         ensures stays { Stays self.old self.new };
 
-    /// The place of the first object of `d` that matches the object at a place of `of`, a dictionary of the same kind;
-    /// none where none matches.
+    /// The place of the first object of `d` that matches the object at the place `at` of `of`, a dictionary of the same
+    /// kind; none where none matches.
     fn find_like<L>(&mut self, d: u32, of: u32, at: Addr, steps: &mut Steps<L>) -> Option<Addr>
         requires dict { (layered self.old).Has d }
         requires other { (layered self.old).Has of }
@@ -56,7 +57,7 @@ pub trait Layers {
         ensures layers { Same (layered self.old) (layered self.new) }
         ensures stays { Stays self.old self.new };
 
-    /// How the object at a place of `d` stands to the one at a place of `e`, a dictionary of the same kind.
+    /// How the object at the place `a` of `d` stands to the one at the place `b` of `e`, a dictionary of the same kind.
     fn compare_at<L>(&self, d: u32, a: Addr, e: u32, b: Addr, steps: &mut Steps<L>) -> Ordering
         requires dict { (layered self.now).Has d }
         requires other { (layered self.now).Has e }
@@ -69,26 +70,26 @@ pub trait Layers {
             → result ≡ ((layered self.now).layer d).rules.compare
             (((layered self.now).layer d).rules.key x) (((layered self.now).layer d).rules.key y) };
 
-    /// The place of the first object; none where there is none.
+    /// The place of the first object of `d`; none where there is none.
     fn first(&self, d: u32) -> Option<Addr>
         requires { (layered self.now).Has d }
         ensures { option_map number_of result
             ≡ place_in (first_of ((layered self.now).layer d).objects) };
 
-    /// The place of the last object; none where there is none.
+    /// The place of the last object of `d`; none where there is none.
     fn last(&self, d: u32) -> Option<Addr>
         requires { (layered self.now).Has d }
         ensures { option_map number_of result
             ≡ place_in (last_of ((layered self.now).layer d).objects) };
 
-    /// The place behind another one; none behind the last.
+    /// The place behind `at` in `d`; none behind the last.
     fn next(&self, d: u32, at: Addr) -> Option<Addr>
         requires dict { (layered self.now).Has d }
         requires place { IsSome (bytes_there at.0 ((layered self.now).layer d).objects) }
         ensures { option_map number_of result
             ≡ place_behind at.0 ((layered self.now).layer d).objects };
 
-    /// The place before another one; none before the first.
+    /// The place before `at` in `d`; none before the first.
     fn prev(&self, d: u32, at: Addr) -> Option<Addr>
         requires dict { (layered self.now).Has d }
         requires place { IsSome (bytes_there at.0 ((layered self.now).layer d).objects) }

@@ -1,8 +1,10 @@
 ghost use Rattle.std.specs.Prelude.{◌≡◌, ℕ, true, Some};
 ghost use Rattle.std.specs.List.{filter};
+ghost use Rattle.std.specs.Option.{option_map};
+ghost use Rattle.vc_base.specs.Address.{number_of};
 ghost use Rattle.vc_base.specs.Methods.{is_ordered};
 ghost use Rattle.vc_dtdisc.specs.Finding.{before_first, behind_last, first_of, last_of};
-ghost use Rattle.vc_paths.specs.Ordered.{IsStanding, Stands, greater, if_level, is_before, is_behind, lesser, named, object_at, object_there};
+ghost use Rattle.vc_paths.specs.Ordered.{IsStanding, Stands, greater, if_level, is_before, is_behind, lesser, named, object_at, object_there, start_before, start_behind};
 ghost use Rattle.vc_paths.specs.Path.{Answers, IsPath, IsVisible, is_at, numbers_of, objects_of, visible_of};
 ghost use Rattle.vc_paths.specs.Visible.{Seen};
 
@@ -47,6 +49,43 @@ fn stands_behind<Y: Layers, L>(
     }
 }
 
+// Where a search of a dictionary for what is greater than the object at another place begins: in that one's own layer
+// nothing up to it is.
+fn start_behind<Y: Layers>(layers: &Y, e: u32, other: Option<(u32, Addr)>) -> Option<Addr>
+    requires dict { (Y.layered layers.now).Has e }
+    requires other { IsStanding (Y.layered layers.now) e other }
+    ensures { option_map number_of result ≡ start_behind (Y.layered layers.now) e other }
+{
+    match other {
+        Some((f, mark)) => {
+            if f == e {
+                layers.next(f, mark)
+            } else {
+                layers.first(e)
+            }
+        }
+        None => layers.first(e),
+    }
+}
+
+// Where one for what is less begins: in that one's own layer nothing from it on is.
+fn start_before<Y: Layers>(layers: &Y, e: u32, other: Option<(u32, Addr)>) -> Option<Addr>
+    requires dict { (Y.layered layers.now).Has e }
+    requires other { IsStanding (Y.layered layers.now) e other }
+    ensures { option_map number_of result ≡ start_before (Y.layered layers.now) e other }
+{
+    match other {
+        Some((f, mark)) => {
+            if f == e {
+                layers.prev(f, mark)
+            } else {
+                layers.last(e)
+            }
+        }
+        None => layers.last(e),
+    }
+}
+
 // The first place in a dictionary whose object is greater than the one at another place, where there is one.
 fn first_behind<Y: Layers, L>(
     layers: &Y,
@@ -55,13 +94,14 @@ fn first_behind<Y: Layers, L>(
     steps: &mut Steps<L>,
 ) -> Option<(u32, Addr)>
     requires dict { (Y.layered layers.now).Has e }
+    requires method { is_ordered ((Y.layered layers.now).layer e).method ≡ true }
     requires other { IsStanding (Y.layered layers.now) e other }
     ensures object { object_at (Y.layered layers.now) result ≡ first_of (filter
         (is_behind ((Y.layered layers.now).layer e).rules (object_at (Y.layered layers.now) other))
         (objects_of (Y.layered layers.now) e)) }
     ensures stands { IsStanding (Y.layered layers.now) e result }
 {
-    let mut next = layers.first(e);
+    let mut next = start_behind(layers, e, other);
     while let Some(at) = next {
         if stands_behind(layers, (e, at), other, steps) {
             return Some((e, at));
@@ -79,13 +119,14 @@ fn last_before<Y: Layers, L>(
     steps: &mut Steps<L>,
 ) -> Option<(u32, Addr)>
     requires dict { (Y.layered layers.now).Has e }
+    requires method { is_ordered ((Y.layered layers.now).layer e).method ≡ true }
     requires other { IsStanding (Y.layered layers.now) e other }
     ensures object { object_at (Y.layered layers.now) result ≡ last_of (filter
         (is_before ((Y.layered layers.now).layer e).rules (object_at (Y.layered layers.now) other))
         (objects_of (Y.layered layers.now) e)) }
     ensures stands { IsStanding (Y.layered layers.now) e result }
 {
-    let mut next = layers.last(e);
+    let mut next = start_before(layers, e, other);
     while let Some(at) = next {
         if stands_before(layers, (e, at), other, steps) {
             return Some((e, at));
@@ -104,6 +145,7 @@ fn lesser_with<Y: Layers, L>(
     steps: &mut Steps<L>,
 ) -> Option<(u32, Addr)>
     requires dict { (Y.layered layers.now).Has e }
+    requires method { is_ordered ((Y.layered layers.now).layer e).method ≡ true }
     requires best { IsStanding (Y.layered layers.now) e best }
     requires other { IsStanding (Y.layered layers.now) e other }
     ensures object { object_at (Y.layered layers.now) result
@@ -134,6 +176,7 @@ fn greater_with<Y: Layers, L>(
     steps: &mut Steps<L>,
 ) -> Option<(u32, Addr)>
     requires dict { (Y.layered layers.now).Has e }
+    requires method { is_ordered ((Y.layered layers.now).layer e).method ≡ true }
     requires best { IsStanding (Y.layered layers.now) e best }
     requires other { IsStanding (Y.layered layers.now) e other }
     ensures object { object_at (Y.layered layers.now) result
@@ -170,7 +213,7 @@ fn least_behind<Y: Layers, L>(
         (is_behind ((Y.layered layers.now).layer d).rules (object_at (Y.layered layers.now) other))
         (visible_of (Y.layered layers.now) paths.now d))) }
 {
-    paths.keep();
+    paths.show_invariant();
     let mut best = None;
     let mut next = Some(d);
     while let Some(e) = next {
@@ -195,7 +238,7 @@ fn greatest_before<Y: Layers, L>(
         (is_before ((Y.layered layers.now).layer d).rules (object_at (Y.layered layers.now) other))
         (visible_of (Y.layered layers.now) paths.now d))) }
 {
-    paths.keep();
+    paths.show_invariant();
     let mut best = None;
     let mut next = Some(d);
     while let Some(e) = next {

@@ -54,7 +54,7 @@ fn are_alike<Y: Layers>(layers: &Y, d: u32, e: u32) -> bool
 }
 
 impl Paths {
-    /// No dictionary views another. There is room for 256 of them.
+    /// No dictionary views another. There is room for 256 of them. Refused where the memory for that isn't granted.
     pub fn new(alloc: Global) -> Result<Paths, OutOfMemory>
         ensures { IfOk result (λ paths. paths ≡ no_links) }
     {
@@ -65,7 +65,7 @@ impl Paths {
         Ok(Paths { links })
     }
 
-    /// What a dictionary views, if anything.
+    /// What `d`, the number of a dictionary from 0 to 255, views: such a number, or none. It can't be refused.
     pub fn below(&self, d: u32) -> Option<u32>
         requires { d < numbers }
         ensures { result ≡ below self.now d }
@@ -73,14 +73,14 @@ impl Paths {
         self.links[d as usize]
     }
 
-    /// No path is too long, and links lead to numbers.
-    pub fn keep(&self)
+    /// What is always true of it: no path has more than 16 dictionaries, and each link leads to a number from 0 to 255.
+    pub fn show_invariant(&self)
         ensures { ArePaths self.now }
     {
         let _links = &self.links;
     }
 
-    /// Whether some dictionary views this one.
+    /// Whether some dictionary views `d`, the number of one from 0 to 255. It can't be refused.
     pub fn is_viewed(&self, d: u32) -> bool
         requires { d < numbers }
         ensures { result ≡ is_viewed self.now d }
@@ -88,12 +88,12 @@ impl Paths {
         self.links.iter().any(|link| is_link_to(d, *link))
     }
 
-    /// How many dictionaries are on the path of one, itself included.
+    /// How many dictionaries, from 1 to 16, are on the path of `d`, the number of one from 0 to 255. It can't be refused.
     pub fn length(&self, d: u32) -> u32
         requires { d < numbers }
         ensures { result ≡ length (path self.now d) }
     {
-        self.keep();
+        self.show_invariant();
         let mut count = 1;
         let mut at = d;
         while let Some(e) = self.below(at) {
@@ -108,7 +108,7 @@ impl Paths {
         requires { e < numbers }
         ensures { result ≡ contains (path self.now e) d }
     {
-        self.keep();
+        self.show_invariant();
         let mut at = e;
         while at != d {
             match self.below(at) {
@@ -119,26 +119,26 @@ impl Paths {
         true
     }
 
-    // What a dictionary would view if `d` viewed `e`.
-    fn below_with(&self, d: u32, e: u32, x: u32) -> Option<u32>
+    // What the dictionary `from` would view if `d` viewed `e`.
+    fn below_with(&self, d: u32, e: u32, from: u32) -> Option<u32>
         requires first { d < numbers }
-        requires other { x < numbers }
-        ensures { result ≡ below (linked d (Some e) self.now) x }
+        requires other { from < numbers }
+        ensures { result ≡ below (linked d (Some e) self.now) from }
     {
-        self.keep();
-        let old = self.below(x);
-        if x == d { Some(e) } else { old }
+        self.show_invariant();
+        let old = self.below(from);
+        if from == d { Some(e) } else { old }
     }
 
-    // Whether the path of a dictionary would be too long if `d` viewed `e`.
-    fn is_too_long_with(&self, d: u32, e: u32, x: u32) -> bool
+    // Whether the path of the dictionary `from` would be too long if `d` viewed `e`.
+    fn is_too_long_with(&self, d: u32, e: u32, from: u32) -> bool
         requires first { d < numbers }
         requires second { e < numbers }
-        requires other { x < numbers }
-        ensures { result ≡ is_too_long (linked d (Some e) self.now) x }
+        requires other { from < numbers }
+        ensures { result ≡ is_too_long (linked d (Some e) self.now) from }
     {
-        self.keep();
-        let mut at = x;
+        self.show_invariant();
+        let mut at = from;
         for _step in 0..PATH_LIMIT {
             match self.below_with(d, e, at) {
                 Some(next) => at = next,
@@ -154,17 +154,17 @@ impl Paths {
         requires second { e < numbers }
         ensures { result ≡ are_too_long (linked d (Some e) self.now) }
     {
-        for x in 0..NUMBERS {
-            if self.is_too_long_with(d, e, x) {
+        for from in 0..NUMBERS {
+            if self.is_too_long_with(d, e, from) {
                 return true;
             }
         }
         false
     }
 
-    /// Lets a dictionary view another one, in place of what it viewed before. Refused with nothing changed where their
-    /// methods or kinds differ, where it is on the path of that one, and where some path would have more than 16
-    /// dictionaries.
+    /// Lets `d` view `e`, both numbers of dictionaries from 0 to 255, in place of what `d` viewed before. Refused with
+    /// nothing changed, in this order: as `Differs` where their methods or kinds differ, as `Cycle` where `d` is on the
+    /// path of `e`, and as `TooDeep` where some path would have more than 16 dictionaries.
     pub fn view<Y: Layers>(&mut self, layers: &Y, d: u32, e: u32) -> Result<(), ViewFault>
         requires first { IsPath (Y.layered layers.now) self.old d }
         requires second { IsPath (Y.layered layers.now) self.old e }
@@ -185,7 +185,7 @@ impl Paths {
         Ok(())
     }
 
-    /// Lets a dictionary view no other one.
+    /// Lets `d`, the number of a dictionary from 0 to 255, view no other one. It can't be refused.
     pub fn end(&mut self, d: u32)
         requires { d < numbers }
         ensures { self.new ≡ linked d None self.old }

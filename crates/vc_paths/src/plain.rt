@@ -45,7 +45,7 @@ fn is_hidden<Y: Layers, L>(
     ensures layers { Same (Y.layered layers.old) (Y.layered layers.new) }
     ensures stays { Y.Stays layers.old layers.new }
 {
-    paths.keep();
+    paths.show_invariant();
     let mut upper = Some(d);
     while let Some(u) = upper {
         if e == u {
@@ -116,7 +116,7 @@ fn seen_back<Y: Layers, L>(
 }
 
 // The place of an object of e, where there is one.
-fn placed(e: u32, at: Option<Addr>) -> Option<(u32, Addr)>
+pub(crate) fn placed(e: u32, at: Option<Addr>) -> Option<(u32, Addr)>
     ensures { option_map numbers_of result ≡ option_map (λ a. (e, a)) (option_map number_of at) }
 {
     match at {
@@ -178,7 +178,7 @@ fn first_below<Y: Layers, L>(
     ensures layers { Same (Y.layered layers.old) (Y.layered layers.new) }
     ensures stays { Y.Stays layers.old layers.new }
 {
-    paths.keep();
+    paths.show_invariant();
     let mut layer = from;
     while let Some(e) = layer {
         let found = first_in(paths, layers, d, e, steps);
@@ -204,7 +204,7 @@ fn last_above<Y: Layers, L>(
     ensures layers { Same (Y.layered layers.old) (Y.layered layers.new) }
     ensures stays { Y.Stays layers.old layers.new }
 {
-    paths.keep();
+    paths.show_invariant();
     let mut best = None;
     let mut layer = Some(d);
     while let Some(e) = layer {
@@ -230,7 +230,7 @@ pub(crate) fn first<Y: Layers, L>(
     ensures layers { Same (Y.layered layers.old) (Y.layered layers.new) }
     ensures stays { Y.Stays layers.old layers.new }
 {
-    paths.keep();
+    paths.show_invariant();
     first_below(paths, layers, d, Some(d), steps)
 }
 
@@ -247,7 +247,7 @@ pub(crate) fn last<Y: Layers, L>(
     ensures layers { Same (Y.layered layers.old) (Y.layered layers.new) }
     ensures stays { Y.Stays layers.old layers.new }
 {
-    paths.keep();
+    paths.show_invariant();
     last_above(paths, layers, d, None, steps)
 }
 
@@ -267,7 +267,7 @@ pub(crate) fn walk_next<Y: Layers, L>(
     ensures layers { Same (Y.layered layers.old) (Y.layered layers.new) }
     ensures stays { Y.Stays layers.old layers.new }
 {
-    paths.keep();
+    paths.show_invariant();
     let (e, at) = from;
     let start = layers.next(e, at);
     match seen_from(paths, layers, d, e, start, steps) {
@@ -292,7 +292,7 @@ pub(crate) fn walk_prev<Y: Layers, L>(
     ensures layers { Same (Y.layered layers.old) (Y.layered layers.new) }
     ensures stays { Y.Stays layers.old layers.new }
 {
-    paths.keep();
+    paths.show_invariant();
     let (e, at) = from;
     let end = layers.prev(e, at);
     match seen_back(paths, layers, d, e, end, steps) {

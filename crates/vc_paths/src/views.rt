@@ -1,15 +1,19 @@
-ghost use Rattle.std.specs.Prelude.{◌≡◌, ℕ, List, Some, IsSome, if◌then◌else◌};
+ghost use Rattle.std.specs.Prelude.{◌≡◌, ℕ, List, Some, None, IsSome, if◌then◌else◌};
 ghost use Rattle.std.specs.List.{filter, find};
 ghost use Rattle.vc_dtdisc.specs.Finding.{before_first, behind_last, first_of, last_of};
 ghost use Rattle.vc_dtdisc.specs.Objects.{is_match};
 ghost use Rattle.vc_paths.specs.Layers.{Same, bytes_there, place_in};
+ghost use Rattle.vc_paths.specs.Links.{below};
 ghost use Rattle.vc_paths.specs.Path.{Answers, IsPath, IsVisible, is_at, numbers_of, visible_of};
 ghost use Rattle.vc_paths.specs.Seek.{has_key_in};
 
+use crate::plain::placed;
 use crate::{Layers, Paths, ordered, plain};
 use vc_base::{Addr, Steps};
 
-/// The first object that is seen through a dictionary and has a key; none where none has it.
+/// The first object that is seen through `d`, the number of a dictionary from 0 to 255, and has a key; none where none has
+/// it. The answer is the number of the object's own dictionary and its place there, the address of its holder in bytes.
+/// `steps` counts the compares. It can't be refused and needs no memory.
 pub fn search<Y: Layers, L>(
     paths: &Paths,
     layers: &mut Y,
@@ -23,7 +27,7 @@ pub fn search<Y: Layers, L>(
     ensures layers { Same (Y.layered layers.old) (Y.layered layers.new) }
     ensures stays { Y.Stays layers.old layers.new }
 {
-    paths.keep();
+    paths.show_invariant();
     let mut at = Some(d);
     while let Some(e) = at {
         if let Some(place) = layers.find(e, key, steps) {
@@ -77,7 +81,8 @@ fn last_match<Y: Layers, L>(layers: &Y, e: u32, at: Addr, steps: &mut Steps<L>) 
     last
 }
 
-/// The first object that is seen through a dictionary; none where none is.
+/// The first object that is seen through `d`, the number of a dictionary from 0 to 255; none where none is. Answered and
+/// counted as by `search`.
 pub fn first<Y: Layers, L>(
     paths: &Paths,
     layers: &mut Y,
@@ -97,7 +102,8 @@ pub fn first<Y: Layers, L>(
     }
 }
 
-/// The last object that is seen through a dictionary; none where none is.
+/// The last object that is seen through `d`, the number of a dictionary from 0 to 255; none where none is. Answered and
+/// counted as by `search`.
 pub fn last<Y: Layers, L>(
     paths: &Paths,
     layers: &mut Y,
@@ -117,7 +123,8 @@ pub fn last<Y: Layers, L>(
     }
 }
 
-/// The object behind one that is seen through a dictionary; none behind the last.
+/// The object behind the one at `from`, a place that is seen through `d`, the number of a dictionary from 0 to 255; none
+/// behind the last. Answered and counted as by `search`; where `d` views nothing, no object is compared.
 pub fn walk_next<Y: Layers, L>(
     paths: &Paths,
     layers: &mut Y,
@@ -129,10 +136,13 @@ pub fn walk_next<Y: Layers, L>(
     requires place { IsVisible (Y.layered layers.old) paths.now d (numbers_of from) }
     ensures found { Answers result (behind_last (is_at (numbers_of from))
         (visible_of (Y.layered layers.old) paths.now d)) }
+    ensures alone { below paths.now d ≡ None → steps.new ≡ steps.old }
     ensures layers { Same (Y.layered layers.old) (Y.layered layers.new) }
     ensures stays { Y.Stays layers.old layers.new }
 {
-    if layers.method(d).is_ordered() {
+    if paths.below(d).is_none() {
+        placed(d, layers.next(d, from.1))
+    } else if layers.method(d).is_ordered() {
         ordered::walk_next(paths, layers, d, from, steps)
     } else {
         plain::walk_next(paths, layers, d, from, steps)
@@ -154,15 +164,17 @@ fn walk_prev<Y: Layers, L>(
     ensures layers { Same (Y.layered layers.old) (Y.layered layers.new) }
     ensures stays { Y.Stays layers.old layers.new }
 {
-    if layers.method(d).is_ordered() {
+    if paths.below(d).is_none() {
+        placed(d, layers.prev(d, from.1))
+    } else if layers.method(d).is_ordered() {
         ordered::walk_prev(paths, layers, d, from, steps)
     } else {
         plain::walk_prev(paths, layers, d, from, steps)
     }
 }
 
-/// The object behind the last that is seen through a dictionary and has a key; none where that is the last of all, or
-/// none has the key.
+/// The object behind the last that is seen through `d`, the number of a dictionary from 0 to 255, and has a key; none where
+/// that is the last of all, or none has the key. Answered and counted as by `search`.
 pub fn next<Y: Layers, L>(
     paths: &Paths,
     layers: &mut Y,
@@ -185,8 +197,8 @@ pub fn next<Y: Layers, L>(
     }
 }
 
-/// The object before the first that is seen through a dictionary and has a key; none where that is the first of all, or
-/// none has the key.
+/// The object before the first that is seen through `d`, the number of a dictionary from 0 to 255, and has a key; none
+/// where that is the first of all, or none has the key. Answered and counted as by `search`.
 pub fn prev<Y: Layers, L>(
     paths: &Paths,
     layers: &mut Y,

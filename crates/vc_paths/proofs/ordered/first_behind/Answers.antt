@@ -1,11 +1,11 @@
 use Rattle.vc_paths.specs.Ordered.{is_behind, object_at}
-use Rattle.vc_paths.proofs.LayerLemmas.{onward_here, onward_next, onward_start}
+use Rattle.vc_paths.proofs.LayerLemmas.{onward_here, onward_next}
+use Rattle.vc_paths.proofs.StartLemmas.{onward_from}
 use Rattle.vc_paths.proofs.ordered.first_behind.Goals as goal
 
 pub loop-next-init : goal.loop-next-init
 loop-next-init g c =
-    let all = g.Y.Layers.layered c.args.layers.now in
-    onward_start all c.args.e (is_behind (all.layer c.args.e).rules (object_at all c.args.other)) c.first-next.result (g.met.Y.Layers.lawful c.args.layers.now) c.requires.dict c.first-next.ensures
+    onward_from (g.Y.Layers.layered c.args.layers.now) c.args.e c.args.other c.start_behind-next.result (g.met.Y.Layers.lawful c.args.layers.now) c.requires.dict c.requires.method c.requires.other c.start_behind-next.ensures
 
 pub returns-then-stands_behind-clause-object : goal.returns-then-stands_behind-clause-object
 returns-then-stands_behind-clause-object g c =

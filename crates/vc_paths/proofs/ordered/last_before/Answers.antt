@@ -1,11 +1,11 @@
 use Rattle.vc_paths.specs.Ordered.{is_before, object_at}
-use Rattle.vc_paths.proofs.LayerLemmas.{backward_here, backward_next, backward_start}
+use Rattle.vc_paths.proofs.LayerLemmas.{backward_here, backward_next}
+use Rattle.vc_paths.proofs.StartLemmas.{backward_from}
 use Rattle.vc_paths.proofs.ordered.last_before.Goals as goal
 
 pub loop-next-init : goal.loop-next-init
 loop-next-init g c =
-    let all = g.Y.Layers.layered c.args.layers.now in
-    backward_start all c.args.e (is_before (all.layer c.args.e).rules (object_at all c.args.other)) c.last-next.result (g.met.Y.Layers.lawful c.args.layers.now) c.requires.dict c.last-next.ensures
+    backward_from (g.Y.Layers.layered c.args.layers.now) c.args.e c.args.other c.start_before-next.result (g.met.Y.Layers.lawful c.args.layers.now) c.requires.dict c.requires.method c.requires.other c.start_before-next.ensures
 
 pub returns-then-stands_before-clause-object : goal.returns-then-stands_before-clause-object
 returns-then-stands_before-clause-object g c =

@@ -17,5 +17,5 @@ returns-clause-found g c =
     let all = g.Y.Layers.layered c.args.layers.now in
     let links = c.args.paths.now in
     c.first_below.ensures.found
-    ∙ ap first_of (sym (visible-places all links c.args.d c.keep.ensures c.requires.method))
+    ∙ ap first_of (sym (visible-places all links c.args.d c.show_invariant.ensures c.requires.method))
     ∙ first-map place_of (visible_of all links c.args.d)

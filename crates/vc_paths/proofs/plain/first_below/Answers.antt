@@ -20,7 +20,7 @@ first_in-found-requires g c =
     let e = c.in-Some.e in
     record {
       path = on-kept links d (Some d) i.same c.requires.path;
-      other = alike-kept d e i.same (on-head all links d c.loop-layer.layer e c.keep.ensures c.in-Some.is i.path);
+      other = alike-kept d e i.same (on-head all links d c.loop-layer.layer e c.show_invariant.ensures c.in-Some.is i.path);
     }
 
 pub returns-then-is_some : goal.returns-then-is_some
@@ -33,7 +33,7 @@ returns-then-is_some g c =
     let r = option_map numbers_of c.first_in-found.result in
     let found = c.first_in-found.ensures.found ∙ ap (λ z. first_of (z e)) (shown-kept links d i.same) in
     record {
-      found = below-found (shown_in all links d) links c.loop-layer.layer e r c.keep.ensures c.in-Some.is found (some-mapped numbers_of c.first_in-found.result ∙ sym c.is_some.ensures ∙ c.if-is_some.true) ∙ sym i.answer;
+      found = below-found (shown_in all links d) links c.loop-layer.layer e r c.show_invariant.ensures c.in-Some.is found (some-mapped numbers_of c.first_in-found.result ∙ sym c.is_some.ensures ∙ c.if-is_some.true) ∙ sym i.answer;
       layers = same-over i.same c.first_in-found.ensures.layers;
       stays = g.met.Y.Layers.transitive c.args.layers.now c.loop-layer.layers c.first_in-found.new.layers i.stays c.first_in-found.ensures.stays;
     }
@@ -42,7 +42,7 @@ pub below-layer-requires : goal.below-layer-requires
 below-layer-requires g c = c.loop-layer.invariant.path.number c.in-Some.e c.in-Some.is
 
 pub loop-layer-smaller : goal.loop-layer-smaller
-loop-layer-smaller g c = down-next c.args.paths.now c.loop-layer.layer c.in-Some.e c.below-layer.result c.keep.ensures c.in-Some.is c.below-layer.ensures
+loop-layer-smaller g c = down-next c.args.paths.now c.loop-layer.layer c.in-Some.e c.below-layer.result c.show_invariant.ensures c.in-Some.is c.below-layer.ensures
 
 pub loop-layer-preserved : goal.loop-layer-preserved
 loop-layer-preserved g c =
@@ -56,9 +56,9 @@ loop-layer-preserved g c =
     record {
       same = same-over i.same c.first_in-found.ensures.layers;
       stays = g.met.Y.Layers.transitive c.args.layers.now c.loop-layer.layers c.first_in-found.new.layers i.stays c.first_in-found.ensures.stays;
-      path = on-next all links d c.loop-layer.layer e c.below-layer.result c.keep.ensures c.in-Some.is c.below-layer.ensures i.path;
+      path = on-next all links d c.loop-layer.layer e c.below-layer.result c.show_invariant.ensures c.in-Some.is c.below-layer.ensures i.path;
       answer = i.answer
-          ∙ below-past (shown_in all links d) links c.loop-layer.layer e c.below-layer.result r c.keep.ensures c.in-Some.is c.below-layer.ensures found (some-mapped numbers_of c.first_in-found.result ∙ sym c.is_some.ensures ∙ c.if-is_some.false);
+          ∙ below-past (shown_in all links d) links c.loop-layer.layer e c.below-layer.result r c.show_invariant.ensures c.in-Some.is c.below-layer.ensures found (some-mapped numbers_of c.first_in-found.result ∙ sym c.is_some.ensures ∙ c.if-is_some.false);
     }
 
 pub returns : goal.returns

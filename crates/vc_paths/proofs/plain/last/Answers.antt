@@ -18,5 +18,5 @@ returns-clause-found g c =
     let d = c.args.d in
     c.last_above.ensures.found
     ∙ ap (λ z. last_of (flat_map (shown_in all links d) z)) (above-none (down links (Some d)))
-    ∙ ap last_of (sym (visible-places all links d c.keep.ensures c.requires.method))
+    ∙ ap last_of (sym (visible-places all links d c.show_invariant.ensures c.requires.method))
     ∙ last-map place_of None (visible_of all links d)

@@ -15,7 +15,7 @@ returns-then-is_link_to-clause-found g c =
     let all = g.Y.Layers.layered c.args.layers.now in
     let links = c.args.paths.now in
     let shows = shown_in all links c.args.d in
-    sym (i.answer ∙ above-last shows links c.args.end c.loop-layer.layer c.in-Some.e (option_map numbers_of c.loop-layer.best) c.keep.ensures c.in-Some.is (sym c.is_link_to.ensures ∙ c.if-is_link_to.true))
+    sym (i.answer ∙ above-last shows links c.args.end c.loop-layer.layer c.in-Some.e (option_map numbers_of c.loop-layer.best) c.show_invariant.ensures c.in-Some.is (sym c.is_link_to.ensures ∙ c.if-is_link_to.true))
 
 pub last_in-requires-clause-other : goal.last_in-requires-clause-other
 last_in-requires-clause-other g c =
@@ -23,10 +23,10 @@ last_in-requires-clause-other g c =
     let all = g.Y.Layers.layered c.args.layers.now in
     let d = c.args.d in
     let e = c.in-Some.e in
-    alike-kept d e i.same (on-head all c.args.paths.now d c.loop-layer.layer e c.keep.ensures c.in-Some.is i.path)
+    alike-kept d e i.same (on-head all c.args.paths.now d c.loop-layer.layer e c.show_invariant.ensures c.in-Some.is i.path)
 
 pub loop-layer-smaller : goal.loop-layer-smaller
-loop-layer-smaller g c = down-next c.args.paths.now c.loop-layer.layer c.in-Some.e c.below-layer.result c.keep.ensures c.in-Some.is c.below-layer.ensures
+loop-layer-smaller g c = down-next c.args.paths.now c.loop-layer.layer c.in-Some.e c.below-layer.result c.show_invariant.ensures c.in-Some.is c.below-layer.ensures
 
 pub loop-layer-preserved : goal.loop-layer-preserved
 loop-layer-preserved g c =
@@ -43,9 +43,9 @@ loop-layer-preserved g c =
     record {
       same = same-over i.same c.last_in.ensures.layers;
       stays = g.met.Y.Layers.transitive c.args.layers.now c.loop-layer.layers c.last_in.new.layers i.stays c.last_in.ensures.stays;
-      path = on-next all links d c.loop-layer.layer e c.below-layer.result c.keep.ensures c.in-Some.is c.below-layer.ensures i.path;
+      path = on-next all links d c.loop-layer.layer e c.below-layer.result c.show_invariant.ensures c.in-Some.is c.below-layer.ensures i.path;
       answer = i.answer
-          ∙ above-past shows links c.args.end c.loop-layer.layer e c.below-layer.result best r c.keep.ensures c.in-Some.is c.below-layer.ensures (sym c.is_link_to.ensures ∙ c.if-is_link_to.false) found
+          ∙ above-past shows links c.args.end c.loop-layer.layer e c.below-layer.result best r c.show_invariant.ensures c.in-Some.is c.below-layer.ensures (sym c.is_link_to.ensures ∙ c.if-is_link_to.false) found
           ∙ ap (λ z. last_from z rest) (sym (ap (option_map numbers_of) c.or-best.ensures ∙ or-mapped numbers_of c.last_in.result c.loop-layer.best));
     }
 

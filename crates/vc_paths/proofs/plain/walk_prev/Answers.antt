@@ -18,9 +18,9 @@ prev-end-requires g c =
     let d = c.args.d in
     let e = c.args.from.0 in
     let a = c.args.from.1.0 in
-    let s = spot all links d e a (g.met.Y.Layers.lawful c.args.layers.now) c.keep.ensures c.requires.path c.requires.method c.requires.from in
+    let s = spot all links d e a (g.met.Y.Layers.lawful c.args.layers.now) c.show_invariant.ensures c.requires.path c.requires.method c.requires.from in
     record {
-      dict = (on-head all links d (Some e) e c.keep.ensures refl s.on).there;
+      dict = (on-head all links d (Some e) e c.show_invariant.ensures refl s.on).there;
       place = ap is_some (there (all.layer e).objects a s.around);
     }
 
@@ -32,8 +32,8 @@ seen_back-requires g c =
     let e = c.args.from.0 in
     let a = c.args.from.1.0 in
     let laws = g.met.Y.Layers.lawful c.args.layers.now in
-    let s = spot all links d e a laws c.keep.ensures c.requires.path c.requires.method c.requires.from in
-    let like = on-head all links d (Some e) e c.keep.ensures refl s.on in
+    let s = spot all links d e a laws c.show_invariant.ensures c.requires.path c.requires.method c.requires.from in
+    let like = on-head all links d (Some e) e c.show_invariant.ensures refl s.on in
     record {
       path = on-start all links d c.requires.path;
       other = like;
@@ -56,8 +56,8 @@ returns-in-Some-clause-found g c =
     let e = c.args.from.0 in
     let a = c.args.from.1.0 in
     let laws = g.met.Y.Layers.lawful c.args.layers.now in
-    let s = spot all links d e a laws c.keep.ensures c.requires.path c.requires.method c.requires.from in
-    sym (walked-previous all links d e a (option_map number_of c.prev-end.result) (Some c.in-Some.place.0) laws c.keep.ensures c.requires.method s c.prev-end.ensures
+    let s = spot all links d e a laws c.show_invariant.ensures c.requires.path c.requires.method c.requires.from in
+    sym (walked-previous all links d e a (option_map number_of c.prev-end.result) (Some c.in-Some.place.0) laws c.show_invariant.ensures c.requires.method s c.prev-end.ensures
     (sym (ap (option_map number_of) c.in-Some.is) ∙ c.seen_back.ensures.found))
 
 pub returns-in-None : goal.returns-in-None
@@ -68,11 +68,11 @@ returns-in-None g c =
     let e = c.args.from.0 in
     let a = c.args.from.1.0 in
     let laws = g.met.Y.Layers.lawful c.args.layers.now in
-    let s = spot all links d e a laws c.keep.ensures c.requires.path c.requires.method c.requires.from in
+    let s = spot all links d e a laws c.show_invariant.ensures c.requires.path c.requires.method c.requires.from in
     record {
       found = c.last_above.ensures.found
           ∙ ap (λ z. last_of (flat_map z (above (Some e) (down links (Some d))))) (shown-kept links d c.seen_back.ensures.layers)
-          ∙ sym (walked-previous all links d e a (option_map number_of c.prev-end.result) None laws c.keep.ensures c.requires.method s c.prev-end.ensures
+          ∙ sym (walked-previous all links d e a (option_map number_of c.prev-end.result) None laws c.show_invariant.ensures c.requires.method s c.prev-end.ensures
           (sym (ap (option_map number_of) c.in-None.is) ∙ c.seen_back.ensures.found));
       layers = same-over c.seen_back.ensures.layers c.last_above.ensures.layers;
       stays = g.met.Y.Layers.transitive c.args.layers.now c.seen_back.new.layers c.last_above.new.layers c.seen_back.ensures.stays c.last_above.ensures.stays;

@@ -27,7 +27,7 @@ returns-in-Some-find-clause-found g c =
 pub loop-at-smaller : goal.loop-at-smaller
 loop-at-smaller g c =
     subst₂ (λ a b. length (onward (path c.args.paths.now) a) < length (onward (path c.args.paths.now) b)) (sym c.below-at.ensures) (sym c.in-Some.is)
-    (onward-shorter c.args.paths.now c.in-Some.e c.keep.ensures)
+    (onward-shorter c.args.paths.now c.in-Some.e c.show_invariant.ensures)
 
 pub loop-at-preserved : goal.loop-at-preserved
 loop-at-preserved g c =
@@ -40,7 +40,7 @@ loop-at-preserved g c =
       stays = g.met.Y.Layers.transitive c.args.layers.now c.loop-at.layers c.find.new.self c.loop-at.invariant.stays c.find.ensures.stays;
       sought =
           subst (IsSought all c.args.paths.now c.args.d c.args.key.now) (sym c.below-at.ensures)
-          (IsSought-next all c.args.paths.now c.args.d c.in-Some.e c.args.key.now (g.met.Y.Layers.lawful c.args.layers.now) c.keep.ensures
+          (IsSought-next all c.args.paths.now c.args.d c.in-Some.e c.args.key.now (g.met.Y.Layers.lawful c.args.layers.now) c.show_invariant.ensures
           (path-first all c.args.paths.now c.args.d c.requires).there
           (subst (IsSought all c.args.paths.now c.args.d c.args.key.now) c.in-Some.is c.loop-at.invariant.sought) missed);
     }

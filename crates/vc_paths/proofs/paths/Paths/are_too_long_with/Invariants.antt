@@ -2,5 +2,5 @@ use Rattle.std.proofs.Common.{◌≡◌, ◌<◌, ℕ, Some, false}
 use Rattle.vc_paths.specs.Links.{is_too_long, linked}
 use Rattle.vc_paths.proofs.paths.Paths.are_too_long_with.Given as goal
 
-abbrev pub invariant-loop-x : goal.invariant-loop-x
-invariant-loop-x l = (k : ℕ) → k < l.x → is_too_long (linked l.d (Some l.e) l.self) k ≡ false
+abbrev pub invariant-loop-from : goal.invariant-loop-from
+invariant-loop-from l = (k : ℕ) → k < l.from → is_too_long (linked l.d (Some l.e) l.self) k ≡ false

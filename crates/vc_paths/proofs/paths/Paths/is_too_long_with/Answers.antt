@@ -9,7 +9,7 @@ loop-step-preserved c =
     let within : c.loop-step._step < 16 = omega arith in
     record {
       within =
-          within-viewed c.args.self.now c.args.d c.args.e c.loop-step.at c.in-Some.next c.keep.ensures c.requires.first c.requires.second
+          within-viewed c.args.self.now c.args.d c.args.e c.loop-step.at c.in-Some.next c.show_invariant.ensures c.requires.first c.requires.second
           (sym c.in-Some.ensures);
       same =
           too_long-step (linked c.args.d (Some c.args.e) c.args.self.now) c.loop-step._step c.loop-step.at c.in-Some.next (sym c.in-Some.ensures) within

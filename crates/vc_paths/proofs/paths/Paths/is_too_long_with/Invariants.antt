@@ -6,5 +6,5 @@ abbrev pub invariant-loop-step : goal.invariant-loop-step
 invariant-loop-step l = record {
   within : l.at < numbers;
   same : nat_lt (16 - l._step) (length (path_of (17 - l._step) (linked l.d (Some l.e) l.self) l.at))
-      ≡ is_too_long (linked l.d (Some l.e) l.self) l.fn.x;
+      ≡ is_too_long (linked l.d (Some l.e) l.self) l.fn.from;
 }

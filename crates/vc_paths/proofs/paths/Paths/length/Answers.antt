@@ -7,10 +7,10 @@ pub overflow_add-count : goal.overflow_add-count
 overflow_add-count c = let few : length (path c.args.self.now c.args.d) ≤ 16 = path-short c.args.self.now c.args.d in omega arith
 
 pub loop-e-smaller : goal.loop-e-smaller
-loop-e-smaller c = omega (arith, path-longer c.args.self.now c.loop-e.at c.in-Some.e c.keep.ensures (sym c.in-Some.ensures))
+loop-e-smaller c = omega (arith, path-longer c.args.self.now c.loop-e.at c.in-Some.e c.show_invariant.ensures (sym c.in-Some.ensures))
 
 pub loop-e-preserved : goal.loop-e-preserved
 loop-e-preserved c = record {
-  within = c.keep.ensures.within c.loop-e.at c.in-Some.e (sym c.in-Some.ensures);
-  same = omega (arith, path-longer c.args.self.now c.loop-e.at c.in-Some.e c.keep.ensures (sym c.in-Some.ensures), c.loop-e.invariant.same);
+  within = c.show_invariant.ensures.within c.loop-e.at c.in-Some.e (sym c.in-Some.ensures);
+  same = omega (arith, path-longer c.args.self.now c.loop-e.at c.in-Some.e c.show_invariant.ensures (sym c.in-Some.ensures), c.loop-e.invariant.same);
 }

@@ -1,0 +1,54 @@
+-- What is seen through a view path is the same list, renamed, where each layer's dictionary has another name.
+use Rattle.std.proofs.Common.{◌≡◌, List, [], ◌∷◌, ◌++◌, Bool, not, map, refl, sym, ap, ◌∙◌}
+use Rattle.std.specs.Prelude.{if◌then◌else◌}
+use Rattle.std.specs.List.{filter}
+use Rattle.std.proofs.lemmas.List.{map-append}
+use Rattle.vc_base.specs.declared.dict_method.DictMethod.{DictMethod}
+use Rattle.vc_base.specs.Methods.{is_ordered}
+use Rattle.vc_dtdisc.specs.Objects.{is_match, placed_each}
+use Rattle.vc_dtdisc.specs.Rules.{Rules}
+use Rattle.vc_dtdisc.proofs.FindingLemmas.{list_any-map, list_by}
+use Rattle.vc_dtdisc.proofs.ObjectsLemmas.{placed_each-map}
+use Rattle.vc_paths.specs.Visible.{Seen, is_hidden, rename, seen_bytes, stacked, visible}
+
+filter-map : {A B : Type 0} (h : A → B) (test : B → Bool) (xs : List A) → filter test (map h xs) ≡ map h (filter (λ x. test (h x)) xs)
+filter-map h test [] = refl
+filter-map h test (x ∷ xs) =
+    list_by h (test (h x)) (x ∷ filter (λ y. test (h y)) xs) (filter (λ y. test (h y)) xs) (h x ∷ filter test (map h xs)) (filter test (map h xs))
+    (ap (λ ys. h x ∷ ys) (filter-map h test xs)) (filter-map h test xs)
+
+filter-same : {A : Type 0} (test other : A → Bool) (xs : List A) → ((x : A) → test x ≡ other x) → filter test xs ≡ filter other xs
+filter-same test other [] same = refl
+filter-same test other (x ∷ xs) same =
+    ap (λ t. if t then x ∷ filter test xs else filter test xs) (same x)
+    ∙ ap (λ ys. if other x then x ∷ ys else ys) (filter-same test other xs same)
+
+module _ {N M : Type 0} (r : N → M) (rules : Rules) where
+  pub is_hidden-renamed : (above : List (Seen N)) (o : Seen N) → is_hidden rules (map (rename r) above) (rename r o) ≡ is_hidden rules above o
+  is_hidden-renamed above o = list_any-map (rename r) (λ u. is_match rules o.bytes u.bytes) above
+
+  shown-renamed : (above layer : List (Seen N))
+      → filter (λ o. not (is_hidden rules (map (rename r) above) o)) (map (rename r) layer) ≡ map (rename r) (filter (λ o. not (is_hidden rules above o)) layer)
+  shown-renamed above layer =
+      filter-map (rename r) (λ o. not (is_hidden rules (map (rename r) above) o)) layer
+      ∙ ap (λ os. map (rename r) os) (filter-same (λ o. not (is_hidden rules (map (rename r) above) (rename r o))) (λ o. not (is_hidden rules above o)) layer
+      (λ o. ap (λ t. not t) (is_hidden-renamed above o)))
+
+  pub stacked-renamed : (above : List (Seen N)) (layers : List (List (Seen N)))
+      → stacked rules (map (rename r) above) (map (map (rename r)) layers) ≡ map (rename r) (stacked rules above layers)
+  stacked-renamed above [] = refl
+  stacked-renamed above (layer ∷ lower) =
+      ap (λ os. os ++ stacked rules (map (rename r) above ++ map (rename r) layer) (map (map (rename r)) lower)) (shown-renamed above layer)
+      ∙ ap (λ us. map (rename r) (filter (λ o. not (is_hidden rules above o)) layer) ++ stacked rules us (map (map (rename r)) lower)) (sym (map-append (rename r) above layer))
+      ∙ ap (λ os. map (rename r) (filter (λ o. not (is_hidden rules above o)) layer) ++ os) (stacked-renamed (above ++ layer) lower)
+      ∙ sym (map-append (rename r) (filter (λ o. not (is_hidden rules above o)) layer) (stacked rules (above ++ layer) lower))
+
+  -- the same list, renamed
+  pub visible-renamed : (method : DictMethod) (layers : List (List (Seen N)))
+      → visible method rules (map (map (rename r)) layers) ≡ map (rename r) (visible method rules layers)
+  visible-renamed method layers =
+      let low = stacked rules [] layers in
+      list_by (rename r) (is_ordered method) (placed_each seen_bytes rules [] low) low
+      (placed_each seen_bytes rules [] (stacked rules [] (map (map (rename r)) layers))) (stacked rules [] (map (map (rename r)) layers))
+      (ap (λ os. placed_each seen_bytes rules [] os) (stacked-renamed [] layers) ∙ placed_each-map (rename r) seen_bytes rules [] low)
+      (stacked-renamed [] layers)
