@@ -1,7 +1,7 @@
 -- An object that is found lies in one of the holders.
-use Rattle.std.proofs.Common.{◌≡◌, ℕ, zero, suc, List, [], ◌∷◌, Bool, true, false, Option, Some, None, length, map, not, ◌&&◌, refl, sym, ap, ◌∙◌, inl, inr, arith}
+use Rattle.std.proofs.Common.{◌≡◌, ℕ, zero, suc, List, [], ◌∷◌, Bool, true, false, Option, Some, None, length, map, refl, sym, ap, ◌∙◌, inl, inr, arith}
 use Rattle.std.specs.Prelude.{IfSome, option_map, if◌then◌else◌}
-use Rattle.std.specs.List.{AllByRecursion, find, list_any}
+use Rattle.std.specs.List.{AllByRecursion, find}
 use Rattle.std.proofs.lemmas.Bool.Decides.{eqb_tells}
 use Rattle.vc_base.specs.declared.addr.Addr.{Addr}
 use Rattle.vc_base.specs.Cells.{Blocks, HasBytes, word_at}
@@ -14,7 +14,7 @@ use Rattle.vc_dict.specs.Listed.{holders_from, holders_of}
 use Rattle.vc_dict.proofs.OwnLemmas.{holder-address, holder-there}
 use Rattle.vc_best.specs.Cells.{cells_in}
 use Rattle.vc_best.specs.declared.best.Best.{Best}
-use Rattle.vc_objects.specs.Lists.{before_key, before_key_from, behind_key, first_object, first_with, has_key, last_object, last_or}
+use Rattle.vc_objects.specs.Lists.{first_with, has_key}
 use Rattle.vc_objects.specs.Objects.{Dictionary, Object}
 use Rattle.vc_objects.specs.Parts.{IsWhole, dictionary_in, object_of}
 use Rattle.vc_commands.specs.DictRun.{IsOfHolder, object_there}
@@ -31,31 +31,6 @@ module _ (P : Object → Type 0) where
 
   pub with-each : (rules : Rules) (key : List ℕ) (os : List Object) → AllByRecursion P os → IfSome (first_with rules key os) P
   with-each rules key os all = find-each (has_key rules key) os all
-
-  pub first-each : (os : List Object) → AllByRecursion P os → IfSome (first_object os) P
-  first-each [] all = tt
-  first-each (o ∷ os) all = all.0
-
-  last_or-each : (o : Object) (os : List Object) → P o → AllByRecursion P os → P (last_or o os)
-  last_or-each o [] here all = here
-  last_or-each o (x ∷ xs) here all = last_or-each x xs all.0 all.1
-
-  pub last-each : (os : List Object) → AllByRecursion P os → IfSome (last_object os) P
-  last-each [] all = tt
-  last-each (o ∷ os) all = last_or-each o os all.0 all.1
-
-  pub behind-each : (rules : Rules) (key : List ℕ) (os : List Object) → AllByRecursion P os → IfSome (behind_key rules key os) P
-  behind-each rules key [] all = tt
-  behind-each rules key (o ∷ os) all =
-      either (has_key rules key o && not (list_any (has_key rules key) os)) (first_object os) (behind_key rules key os) (first-each os all.1) (behind-each rules key os all.1)
-
-  before_from-each : (before : Option Object) (rules : Rules) (key : List ℕ) (os : List Object) → IfSome before P → AllByRecursion P os → IfSome (before_key_from before rules key os) P
-  before_from-each before rules key [] one all = tt
-  before_from-each before rules key (o ∷ os) one all =
-      either (has_key rules key o) before (before_key_from (Some o) rules key os) one (before_from-each (Some o) rules key os all.0 all.1)
-
-  pub before-each : (rules : Rules) (key : List ℕ) (os : List Object) → AllByRecursion P os → IfSome (before_key rules key os) P
-  before-each rules key os all = before_from-each None rules key os tt all
 
 -- an object is that of one of the holders
 pub record IsHeld (b : Blocks) (xs : List ℕ) (o : Object) : Type 0 where

@@ -1,7 +1,8 @@
 pub mod Named
 mod Ran
 mod Seats
-mod Walked
+mod Apart
+mod Walking
 pub mod Agreeing
 pub mod Answers
 pub mod Auditing

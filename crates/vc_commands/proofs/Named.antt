@@ -8,18 +8,17 @@ use Rattle.vc_model.specs.Outcome.{Outcome, done_as}
 use Rattle.vc_base.specs.Methods.{is_list}
 use Rattle.vc_objects.specs.Insert.{Inserted}
 use Rattle.vc_objects.specs.Leaves.{LacksHolder, LacksTable}
-use Rattle.vc_objects.specs.Lists.{before_key, behind_key, first_object, first_with, last_object}
 use Rattle.vc_objects.specs.Objects.{Object}
 use Rattle.vc_objects.specs.Remove.{Removed, bytes_of, emptied, remove}
 use Rattle.vc_objects.specs.Turn.{Turned, turn}
 use Rattle.vc_objects.proofs.Named.{freed_all-named, insert-named, relabel_turned, remove-named, remove_unnamed-named, turn-named}
 use Rattle.vc_script.specs.Needs.{Need}
 use Rattle.vc_script.specs.declared.command.Command.{Command}
-use Rattle.vc_script.specs.declared.command.Command.TheVariants.{Insert, Append, Attach, Delete, Detach, Search, MatchKey, First, Last, Next, Prev, Walk, Count, Remethod, Empty}
+use Rattle.vc_script.specs.declared.command.Command.TheVariants.{Insert, Append, Attach, Delete, Detach, Count, Remethod, Empty}
 use Rattle.vc_script.specs.declared.refusal.Refusal.TheVariants.{NoSegmentForTable, NoSegmentForObject, Size, WrongMethod}
 use Rattle.vc_script.specs.declared.reply.Reply.{Reply}
 use Rattle.vc_script.specs.declared.reply.Reply.TheVariants.{Emptied, Refused}
-use Rattle.vc_commands.specs.DictCommands.{append_in, delete_in, empty_in, found_in, in_dict, insert_in, is_for_object, is_for_table, is_object, object_asked, put_as, put_object, put_unless, remove_in, removed_as, standing, table_asked, turned_as, where_object}
+use Rattle.vc_commands.specs.DictCommands.{append_in, delete_in, empty_in, in_dict, insert_in, is_for_object, is_for_table, is_object, object_asked, put_as, put_object, put_unless, remove_in, removed_as, standing, table_asked, turned_as, where_object}
 use Rattle.vc_commands.specs.DictRun.{LacksBy}
 use Rattle.vc_commands.specs.Seat.{DictChanged, Seat, declined}
 
@@ -66,10 +65,6 @@ module _ {L M : Type 0} (f : L → M) where
   delete_in-named s None = ap (λ (c : Removed M). removed_as true c) (remove_unnamed-named f s.region s.dict)
   delete_in-named s (Some bytes) = remove_in-named s true bytes
 
-  found_in-named : (s : Seat L) (found : Option Object) → found_in (relabel_seat s) found ≡ relabel_changed (found_in s found)
-  found_in-named s None = refl
-  found_in-named s (Some o) = refl
-
   empty_in-named : (s : Seat L) (name : List ℕ) → empty_in (relabel_seat s) name ≡ relabel_changed (empty_in s name)
   empty_in-named s name =
       ap (λ (r : Layout M). record { region = r; dict = emptied s.dict; reply = Emptied name (length s.dict.objects); told = bytes_of s.dict.objects; granted = [] }) (freed_all-named f s.region s.dict.objects)
@@ -83,10 +78,6 @@ module _ {L M : Type 0} (f : L → M) where
       ap (λ (o : Outcome (Turned M)). turned_as (relabel_seat s) name method o) (turn-named f s.rules s.terms s.region s.none s.dict method (is_for_table need))
       ∙ turned_as-named s name method (turn s.rules s.terms s.region s.none s.dict method (is_for_table need))
 
-  -- what is looked for, where the word is an object
-  look-named : (s : Seat L) (bytes : List ℕ) (found : Option Object) → where_object (relabel_seat s) bytes (found_in (relabel_seat s) found) ≡ relabel_changed (where_object s bytes (found_in s found))
-  look-named s bytes found = where_object-named s bytes (found_in s found) _ (found_in-named s found)
-
   put-named : (s : Seat L) (word bytes : List ℕ) (need : Need) → where_object (relabel_seat s) word (insert_in (relabel_seat s) bytes need) ≡ relabel_changed (where_object s word (insert_in s bytes need))
   put-named s word bytes need = where_object-named s word (insert_in s bytes need) _ (insert_in-named s bytes need)
 
@@ -96,13 +87,6 @@ module _ {L M : Type 0} (f : L → M) where
   in_dict-named s (Attach d bytes) need = put-named s bytes bytes need
   in_dict-named s (Delete d object) need = delete_in-named s object
   in_dict-named s (Detach d bytes) need = remove_in-named s false bytes
-  in_dict-named s (Search d bytes) need = look-named s bytes (first_with s.rules (s.rules.key bytes) s.dict.objects)
-  in_dict-named s (MatchKey d key) need = look-named s key (first_with s.rules key s.dict.objects)
-  in_dict-named s (First d) need = found_in-named s (first_object s.dict.objects)
-  in_dict-named s (Last d) need = found_in-named s (last_object s.dict.objects)
-  in_dict-named s (Next d bytes) need = look-named s bytes (behind_key s.rules (s.rules.key bytes) s.dict.objects)
-  in_dict-named s (Prev d bytes) need = look-named s bytes (before_key s.rules (s.rules.key bytes) s.dict.objects)
-  in_dict-named s (Walk d) need = refl
   in_dict-named s (Count d) need = refl
   in_dict-named s (Remethod d method) need = turn_in-named s d method need
   in_dict-named s (Empty d) need = empty_in-named s d

@@ -1,5 +1,5 @@
 -- What running a command promises, from what its own function does.
-use Rattle.std.proofs.Common.{◌≡◌, ℕ, List, [], Bool, true, false, Option, None, refl, sym, ap, ◌∙◌, subst, inl}
+use Rattle.std.proofs.Common.{◌≡◌, ℕ, List, Bool, true, false, Option, None, refl, sym, ap, ◌∙◌, subst, inl}
 use Rattle.std.specs.Prelude.{IfOk, OnErr, Result, Ok, Err, length}
 use Rattle.std.proofs.lemmas.Bool.{false≢true}
 use Rattle.vc_model.specs.Layout.{Layout}
@@ -15,13 +15,12 @@ use Rattle.vc_best.specs.declared.best.Best.{Best}
 use Rattle.vc_objects.specs.Insert.{slots_wanted}
 use Rattle.vc_objects.specs.Objects.{Dictionary, slots_of}
 use Rattle.vc_objects.specs.Parts.{dictionary_in}
-use Rattle.vc_objects.specs.Remove.{bytes_of}
 use Rattle.vc_script.specs.Needs.{Need, ForObject, ForTable, NoNeed, need_shown}
 use Rattle.vc_script.specs.declared.command.Command.{Command}
-use Rattle.vc_script.specs.declared.command.Command.TheVariants.{Insert, Append, Attach, Delete, Detach, Search, MatchKey, First, Last, Next, Prev, Walk, Count, Remethod, Empty}
-use Rattle.vc_script.specs.declared.refusal.Refusal.TheVariants.{NoSegmentForTable, NoSegmentForObject, NotYet, WrongMethod}
+use Rattle.vc_script.specs.declared.command.Command.TheVariants.{Insert, Append, Attach, Delete, Detach, Count, Remethod, Empty}
+use Rattle.vc_script.specs.declared.refusal.Refusal.TheVariants.{NoDictionary, NoSegmentForTable, NoSegmentForObject, WrongMethod}
 use Rattle.vc_script.specs.declared.reply.Reply.{Reply}
-use Rattle.vc_script.specs.declared.reply.Reply.TheVariants.{Objects, Refused}
+use Rattle.vc_script.specs.declared.reply.Reply.TheVariants.{Refused}
 use Rattle.vc_commands.specs.DictCommands.{append_in, asks, in_dict}
 use Rattle.vc_commands.specs.DictRun.{AskedFor, GivesDict, IsSpent, IsSpentBy, IsStill, LacksFor}
 use Rattle.vc_commands.specs.Seat.{Seat, declined}
@@ -50,11 +49,6 @@ asking command one other = absurd (false≢true (sym other ∙ one))
 pub spent-put : {E : Type 0} (result : Result Reply E) (gone gone' : Gone) (Spent : Type 0) → gone' ≡ gone → OnErr result Spent → OnErr result ((gone' ≡ gone) × Spent)
 spent-put (Ok reply) gone gone' Spent same h = tt
 spent-put (Err why) gone gone' Spent same h = (same, h)
-
--- where nothing can change nothing is spent
-pub spent-none : {E : Type 0} (result : Result Reply E) (gone : Gone) (r : Layout ℕ) (d : Dictionary) → OnErr result ((gone ≡ gone) × ((r ≡ r) × (d ≡ d)))
-spent-none (Ok reply) gone r d = tt
-spent-none (Err why) gone r d = (refl, (refl, refl))
 
 -- where nothing changed nothing is spent
 pub spent-still : {E : Type 0} {I : Type 0} {V : I → Type 0} (result : Result Reply E) (r r' : Best I V) (d d' : Dict) (gone gone' : Gone) → gone' ≡ gone
@@ -97,49 +91,23 @@ pub append-asked : {E : Type 0} (result : Result Reply E) (s : Seat ℕ) (bytes 
 append-asked (Ok reply) s bytes object r d gone gone' old new g h = by-method (is_list s.dict.method) s bytes object reply r d gone gone' old new refl g h
 append-asked (Err why) s bytes object r d gone gone' old new g h = h
 
--- a command that is none of a dictionary is not there yet
+-- a command that is none on one dictionary is refused
 pub other-told : (s : Seat ℕ) (command : Command) (need : Need)
     → ((d : List ℕ) (x : List ℕ) → command ≡ Insert d x → ⊥)
     → ((d : List ℕ) (x : List ℕ) → command ≡ Append d x → ⊥)
     → ((d : List ℕ) (x : List ℕ) → command ≡ Attach d x → ⊥)
     → ((d : List ℕ) (x : Option (List ℕ)) → command ≡ Delete d x → ⊥)
     → ((d : List ℕ) (x : List ℕ) → command ≡ Detach d x → ⊥)
-    → ((d : List ℕ) (x : List ℕ) → command ≡ Search d x → ⊥)
-    → ((d : List ℕ) (x : List ℕ) → command ≡ MatchKey d x → ⊥)
-    → ((d : List ℕ) → command ≡ First d → ⊥)
-    → ((d : List ℕ) → command ≡ Last d → ⊥)
-    → ((d : List ℕ) (x : List ℕ) → command ≡ Next d x → ⊥)
-    → ((d : List ℕ) (x : List ℕ) → command ≡ Prev d x → ⊥)
-    → ((d : List ℕ) → command ≡ Walk d → ⊥)
     → ((d : List ℕ) → command ≡ Count d → ⊥)
     → ((d : List ℕ) (x : DictMethod) → command ≡ Remethod d x → ⊥)
     → ((d : List ℕ) → command ≡ Empty d → ⊥)
-    → in_dict s command need ≡ declined s NotYet
-other-told s (Insert d x) need n0 n1 n2 n3 n4 n5 n6 n7 n8 n9 n10 n11 n12 n13 n14 = absurd (n0 d x refl)
-other-told s (Append d x) need n0 n1 n2 n3 n4 n5 n6 n7 n8 n9 n10 n11 n12 n13 n14 = absurd (n1 d x refl)
-other-told s (Attach d x) need n0 n1 n2 n3 n4 n5 n6 n7 n8 n9 n10 n11 n12 n13 n14 = absurd (n2 d x refl)
-other-told s (Delete d x) need n0 n1 n2 n3 n4 n5 n6 n7 n8 n9 n10 n11 n12 n13 n14 = absurd (n3 d x refl)
-other-told s (Detach d x) need n0 n1 n2 n3 n4 n5 n6 n7 n8 n9 n10 n11 n12 n13 n14 = absurd (n4 d x refl)
-other-told s (Search d x) need n0 n1 n2 n3 n4 n5 n6 n7 n8 n9 n10 n11 n12 n13 n14 = absurd (n5 d x refl)
-other-told s (MatchKey d x) need n0 n1 n2 n3 n4 n5 n6 n7 n8 n9 n10 n11 n12 n13 n14 = absurd (n6 d x refl)
-other-told s (First d) need n0 n1 n2 n3 n4 n5 n6 n7 n8 n9 n10 n11 n12 n13 n14 = absurd (n7 d refl)
-other-told s (Last d) need n0 n1 n2 n3 n4 n5 n6 n7 n8 n9 n10 n11 n12 n13 n14 = absurd (n8 d refl)
-other-told s (Next d x) need n0 n1 n2 n3 n4 n5 n6 n7 n8 n9 n10 n11 n12 n13 n14 = absurd (n9 d x refl)
-other-told s (Prev d x) need n0 n1 n2 n3 n4 n5 n6 n7 n8 n9 n10 n11 n12 n13 n14 = absurd (n10 d x refl)
-other-told s (Walk d) need n0 n1 n2 n3 n4 n5 n6 n7 n8 n9 n10 n11 n12 n13 n14 = absurd (n11 d refl)
-other-told s (Count d) need n0 n1 n2 n3 n4 n5 n6 n7 n8 n9 n10 n11 n12 n13 n14 = absurd (n12 d refl)
-other-told s (Remethod d x) need n0 n1 n2 n3 n4 n5 n6 n7 n8 n9 n10 n11 n12 n13 n14 = absurd (n13 d x refl)
-other-told s (Empty d) need n0 n1 n2 n3 n4 n5 n6 n7 n8 n9 n10 n11 n12 n13 n14 = absurd (n14 d refl)
-other-told s command need n0 n1 n2 n3 n4 n5 n6 n7 n8 n9 n10 n11 n12 n13 n14 = refl
-
--- all objects are told of
-pub walk-told : {E : Type 0} (result : Result Reply E) (s : Seat ℕ) (d : List ℕ) (gone : Gone) → IfOk result (λ reply. reply ≡ Objects (bytes_of s.dict.objects))
-    → IfOk result (λ reply. GivesDict (in_dict s (Walk d) (need_shown reply)) s.region s.dict reply gone gone)
-walk-told (Ok reply) s d gone h = record { region = refl; dict = refl; reply = sym h; told = refl }
-walk-told (Err why) s d gone h = tt
-
-pub walk-asked : {E : Type 0} (result : Result Reply E) (bytes : List (List ℕ)) (disc : Discipline) → IfOk result (λ reply. reply ≡ Objects bytes) → AskedFor result None [] disc disc
-walk-asked (Ok reply) bytes disc h =
-    let same : disc.faults ≡ disc.faults = refl in
-    subst (λ x. LacksFor None [] x disc disc) (sym h) same
-walk-asked (Err why) bytes disc h = refl
+    → in_dict s command need ≡ declined s NoDictionary
+other-told s (Insert d x) need n0 n1 n2 n3 n4 n5 n6 n7 = absurd (n0 d x refl)
+other-told s (Append d x) need n0 n1 n2 n3 n4 n5 n6 n7 = absurd (n1 d x refl)
+other-told s (Attach d x) need n0 n1 n2 n3 n4 n5 n6 n7 = absurd (n2 d x refl)
+other-told s (Delete d x) need n0 n1 n2 n3 n4 n5 n6 n7 = absurd (n3 d x refl)
+other-told s (Detach d x) need n0 n1 n2 n3 n4 n5 n6 n7 = absurd (n4 d x refl)
+other-told s (Count d) need n0 n1 n2 n3 n4 n5 n6 n7 = absurd (n5 d refl)
+other-told s (Remethod d x) need n0 n1 n2 n3 n4 n5 n6 n7 = absurd (n6 d x refl)
+other-told s (Empty d) need n0 n1 n2 n3 n4 n5 n6 n7 = absurd (n7 d refl)
+other-told s command need n0 n1 n2 n3 n4 n5 n6 n7 = refl

@@ -1,6 +1,6 @@
 -- What one call after another does to a dictionary and its region.
-use Rattle.std.proofs.Common.{◌≡◌, ℕ, List, [], Bool, true, false, Option, Some, None, refl, sym, ap, ◌∙◌, subst}
-use Rattle.std.specs.Prelude.{IfOk, Result, Ok, Err, if◌then◌else◌}
+use Rattle.std.proofs.Common.{◌≡◌, ℕ, List, [], Bool, true, false, Option, Some, None, refl, sym, ap, ◌∙◌}
+use Rattle.std.specs.Prelude.{if◌then◌else◌}
 use Rattle.vc_model.specs.Layout.{Layout}
 use Rattle.vc_base.specs.Holders.{contains}
 use Rattle.vc_base.specs.declared.dict_method.DictMethod.{DictMethod}
@@ -9,12 +9,12 @@ use Rattle.vc_model.specs.Outcome as model
 use Rattle.vc_model.specs.Outcome.{Fault, Outcome}
 use Rattle.vc_dtdisc.specs.Rules.{Gone, Rules}
 use Rattle.vc_dict.specs.declared.dict.Dict.{Dict}
-use Rattle.vc_best.specs.Cells.{cells_in, rest_in}
+use Rattle.vc_best.specs.Cells.{cells_in}
 use Rattle.vc_best.specs.Parts.{disc_in, segments_in}
 use Rattle.vc_best.specs.declared.best.Best.{Best}
 use Rattle.vc_objects.specs.Insert.{insert, want_of}
 use Rattle.vc_objects.specs.Leaves.{GivesInserted, GivesRemoved, GivesTurned, LeavesRest, Looks, no_holder, no_table, told_each, told_if}
-use Rattle.vc_objects.specs.Objects.{Dictionary, Object, listed, owned}
+use Rattle.vc_objects.specs.Objects.{Dictionary, listed, owned}
 use Rattle.vc_objects.specs.Parts.{dictionary_in}
 use Rattle.vc_objects.specs.Remove.{Removed}
 use Rattle.vc_objects.proofs.Leaving.{keeps-trans}
@@ -25,23 +25,14 @@ use Rattle.vc_objects.specs.declared.fate.Want.TheVariants as want
 use Rattle.vc_script.specs.Needs.{need_shown}
 use Rattle.vc_script.specs.declared.reply.Reply.{Reply}
 use Rattle.vc_script.specs.declared.reply.Reply.TheVariants.{MethodIs, Refused}
-use Rattle.vc_commands.specs.DictCommands.{fate_reply, found_in, gone_reply, put_object, removed_as, table_refusal, turned_as}
-use Rattle.vc_commands.specs.DictRun.{GivesDict, IsStill, seat_in}
-use Rattle.vc_commands.specs.Seat.{DictChanged, Seat}
+use Rattle.vc_commands.specs.DictCommands.{fate_reply, gone_reply, put_object, removed_as, table_refusal, turned_as}
+use Rattle.vc_commands.specs.DictRun.{GivesDict}
+use Rattle.vc_commands.specs.Seat.{Seat}
 
 abbrev seat_by : Rules → Terms → Layout ℕ → Dictionary → Seat ℕ
 seat_by rules terms region dict = record { rules = rules; terms = terms; none = 0; region = region; dict = dict }
 
 module _ {I : Type 0} {V : I → Type 0} (meaning : (x : I) × V x → Discipline) (rules : Rules) (r : Best I V) (d : Dict) (r' : Best I V) (d' : Dict) (l : Looks meaning rules r d r' d') where
-  pub seat-looked : seat_in meaning rules r' d' ≡ seat_in meaning rules r d
-  seat-looked =
-      ap (λ (x : Discipline). seat_by rules x.terms (rest_in r') (dictionary_in d' r')) l.disc
-      ∙ (ap (λ x. seat_by rules (disc_in meaning r).terms x (dictionary_in d' r')) l.region
-      ∙ ap (λ x. seat_by rules (disc_in meaning r).terms (rest_in r) x) l.dict)
-
-  pub still-looked : (r'' : Best I V) (d'' : Dict) → IsStill r' d' r'' d'' → IsStill r d r'' d''
-  still-looked r'' d'' s = record { region = s.region ∙ l.region; dict = s.dict ∙ l.dict }
-
   same-owned : owned (dictionary_in d' r') ≡ owned (dictionary_in d r)
   same-owned = ap owned l.dict
 
@@ -63,10 +54,6 @@ module _ {I : Type 0} {V : I → Type 0} (meaning : (x : I) × V x → Disciplin
           fresh = λ a h' h. sym (before a h) ∙ two.fresh a h' (ap (λ (xs : List ℕ). contains xs a) same-owned ∙ h);
         };
       }
-
-  -- what is given by the seat then is given by the one before
-  pub gives-looked : (F : Seat ℕ → DictChanged ℕ) (P : DictChanged ℕ → Type 0) → P (F (seat_in meaning rules r' d')) → P (F (seat_in meaning rules r d))
-  gives-looked F P h = subst (λ s. P (F s)) seat-looked h
 
 -- what is put is told by its reply
 pub put-told : (rules : Rules) (terms : Terms) (q : Layout ℕ) (c : Dictionary) (append : Bool) (bytes : List ℕ) (fate : Fate) (r : Layout ℕ) (d : Dictionary) (gone : Gone)
@@ -104,20 +91,3 @@ take-told tells c o r d answer gone gone' g e f = record {
   reply = ap (gone_reply tells) g.gone ∙ sym f;
   told = e ∙ (told-listed tells o gone ∙ ap (λ x. told_each (if tells then listed x else []) gone) (sym g.gone));
 }
-
--- what is found in a region and a dictionary is found in those that are the same
-found-moved : (s s' : Seat ℕ) (o : Option Object) (r : Layout ℕ) (d : Dictionary) (answer : Reply) (g g' : Gone) → s'.region ≡ s.region → s'.dict ≡ s.dict
-    → GivesDict (found_in s' o) r d answer g g' → GivesDict (found_in s o) r d answer g g'
-found-moved s s' None r d answer g g' e f h = record { region = sym e ∙ h.region; dict = sym f ∙ h.dict; reply = h.reply; told = h.told }
-found-moved s s' (Some o) r d answer g g' e f h =
-    record { region = sym e ∙ h.region; dict = ap (λ (x : Dictionary). record x { current = Some o.at }) (sym f) ∙ h.dict; reply = h.reply; told = h.told }
-
--- the terms of a seat don't matter there
-abbrev seat_found : Rules → Layout ℕ → Dictionary → Seat ℕ
-seat_found rules region dict = seat_by rules (record { round = 0 }) region dict
-
-pub found-looked : {E : Type 0} (result : Result Reply E) (rules : Rules) (q q' : Layout ℕ) (c c' : Dictionary) (o o' : Option Object) (r : Layout ℕ) (d : Dictionary) (g g' : Gone) → q' ≡ q → c' ≡ c → o' ≡ o
-    → IfOk result (λ answer. GivesDict (found_in (seat_found rules q' c') o') r d answer g g') → IfOk result (λ answer. GivesDict (found_in (seat_found rules q c) o) r d answer g g')
-found-looked (Ok answer) rules q q' c c' o o' r d g g' e f same h =
-    found-moved (seat_found rules q c) (seat_found rules q' c') o r d answer g g' e f (subst (λ x. GivesDict (found_in (seat_found rules q' c') x) r d answer g g') same h)
-found-looked (Err why) rules q q' c c' o o' r d g g' e f same h = h

@@ -6,7 +6,7 @@ use Rattle.vc_model.specs.Outcome.{Outcome}
 use Rattle.vc_base.specs.Methods.{is_list, is_set}
 use Rattle.vc_dict.specs.Methods.{slots_between}
 use Rattle.vc_objects.specs.Insert.{Inserted, insert, slots_wanted, want_of}
-use Rattle.vc_objects.specs.Lists.{before_key, behind_key, first_object, first_with, last_object}
+use Rattle.vc_objects.specs.Lists.{first_with}
 use Rattle.vc_objects.specs.Objects.{Object, listed}
 use Rattle.vc_objects.specs.Remove.{Removed, bytes_of, emptied, freed_all, remove, remove_unnamed}
 use Rattle.vc_objects.specs.Turn.{Turned, turn}
@@ -16,12 +16,12 @@ use Rattle.vc_objects.specs.declared.fate.Want.{Want}
 use Rattle.vc_objects.specs.declared.fate.Want.TheVariants as want
 use Rattle.vc_script.specs.Needs.{Need, NoNeed, ForBlock, ForTable, ForObject}
 use Rattle.vc_script.specs.declared.command.Command.{Command}
-use Rattle.vc_script.specs.declared.command.Command.TheVariants.{Insert, Append, Attach, Delete, Detach, Search, MatchKey, First, Last, Next, Prev, Walk, Count, Remethod, Empty}
+use Rattle.vc_script.specs.declared.command.Command.TheVariants.{Insert, Append, Attach, Delete, Detach, Count, Remethod, Empty}
 use Rattle.vc_script.specs.declared.refusal.Refusal.{Refusal}
 use Rattle.vc_script.specs.declared.refusal.Refusal.TheVariants as why
 use Rattle.vc_script.specs.declared.reply.Reply.{Reply}
-use Rattle.vc_script.specs.declared.reply.Reply.TheVariants.{New, Old, Gone, Out, Found, Nothing, Objects, Number, MethodIs, Emptied, Refused}
-use Rattle.vc_commands.specs.Seat.{DictChanged, Seat, answered, declined, looked}
+use Rattle.vc_script.specs.declared.reply.Reply.TheVariants.{New, Old, Gone, Out, Nothing, Number, MethodIs, Emptied, Refused}
+use Rattle.vc_commands.specs.Seat.{DictChanged, Seat, answered, declined}
 
 abbrev pub is_for_table : Need → Bool
 is_for_table NoNeed = false
@@ -105,11 +105,6 @@ abbrev pub delete_in : {L : Type 0} → Seat L → Option (List ℕ) → DictCha
 delete_in s None = removed_as true (remove_unnamed s.region s.dict)
 delete_in s (Some bytes) = remove_in s true bytes
 
--- an object that is found is current
-abbrev pub found_in : {L : Type 0} → Seat L → Option Object → DictChanged L
-found_in s None = answered s Nothing
-found_in s (Some o) = looked s (record s.dict { current = Some o.at }) (Found o.bytes)
-
 -- all objects go, and the kind is told of each
 abbrev pub empty_in : {L : Type 0} → Seat L → List ℕ → DictChanged L
 empty_in s name =
@@ -127,25 +122,18 @@ turned_as s name method (model.Refused fault) = declined s (table_refusal (want_
 turned_as s name method (model.Done t) =
     record { region = t.region; dict = t.dict; reply = MethodIs name method; told = t.gone; granted = t.granted }
 
--- a command on a dictionary; the need is the one free choice
+-- a command on one dictionary; the need is the one free choice. The others look through a view path, begin or end a dictionary or a view
 abbrev pub in_dict : {L : Type 0} → Seat L → Command → Need → DictChanged L
 in_dict s (Insert d bytes) need = where_object s bytes (insert_in s (s.rules.made bytes) need)
 in_dict s (Append d bytes) need = append_in s bytes need
 in_dict s (Attach d bytes) need = where_object s bytes (insert_in s bytes need)
 in_dict s (Delete d object) need = delete_in s object
 in_dict s (Detach d bytes) need = remove_in s false bytes
-in_dict s (Search d bytes) need = where_object s bytes (found_in s (first_with s.rules (s.rules.key bytes) s.dict.objects))
-in_dict s (MatchKey d key) need = where_object s key (found_in s (first_with s.rules key s.dict.objects))
-in_dict s (First d) need = found_in s (first_object s.dict.objects)
-in_dict s (Last d) need = found_in s (last_object s.dict.objects)
-in_dict s (Next d bytes) need = where_object s bytes (found_in s (behind_key s.rules (s.rules.key bytes) s.dict.objects))
-in_dict s (Prev d bytes) need = where_object s bytes (found_in s (before_key s.rules (s.rules.key bytes) s.dict.objects))
-in_dict s (Walk d) need = answered s (Objects (bytes_of s.dict.objects))
 in_dict s (Count d) need = answered s (Number (length s.dict.objects))
 in_dict s (Remethod d method) need =
     turned_as s d method (turn s.rules s.terms s.region s.none s.dict method (is_for_table need))
 in_dict s (Empty d) need = empty_in s d
-in_dict s command need = declined s why.NotYet
+in_dict s command need = declined s why.NoDictionary
 
 -- whether a command may ask for a segment: it puts an object, or turns the dictionary
 abbrev pub asks : Command → Bool

@@ -15,6 +15,8 @@ pub mod Held
 pub mod Home
 pub mod Kept
 pub mod Labels
+pub mod Looking
+pub mod LookRows
 pub mod Naming
 pub mod RegionCommands
 pub mod RegionRun

@@ -36,7 +36,7 @@ in_region h line (Poke r x off byte) need = poke_in h x off byte
 in_region h line (Check r) need = check_in h
 in_region h line (Watch r x) need = watch_in h line x
 in_region h line (ProfileOf r) need = profile_in h
-in_region h line command need = unchanged h why.NotYet
+in_region h line command need = unchanged h why.NoRegion
 
 -- the size and the alignment of the block that a command puts
 abbrev pub block_asked : Command → ℕ × ℕ

@@ -24,13 +24,9 @@ pub record DictChanged (L : Type 0) : Type 0 where
   pub told : List (List ℕ)
   pub granted : List (ℕ × ℕ)
 
--- a reply that changes nothing but the dictionary
-abbrev pub looked : {L : Type 0} → Seat L → Dictionary → Reply → DictChanged L
-looked s dict reply = record { region = s.region; dict = dict; reply = reply; told = []; granted = [] }
-
--- one that changes nothing
+-- a reply that changes nothing
 abbrev pub answered : {L : Type 0} → Seat L → Reply → DictChanged L
-answered s reply = looked s s.dict reply
+answered s reply = record { region = s.region; dict = s.dict; reply = reply; told = []; granted = [] }
 
 abbrev pub declined : {L : Type 0} → Seat L → Refusal → DictChanged L
 declined s why = answered s (Refused why)

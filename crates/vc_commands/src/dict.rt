@@ -1,6 +1,7 @@
 // The commands on one dictionary.
 mod entry;
 mod listing;
+mod look_rows;
 mod looking;
 mod putting;
 mod rows;
@@ -9,4 +10,5 @@ mod taking;
 mod turning;
 
 pub use entry::DictEntry;
+pub use looking::look;
 pub use running::run;

@@ -4,7 +4,7 @@
 mod dict;
 mod region;
 
-pub use dict::{DictEntry, run};
+pub use dict::{DictEntry, look, run};
 pub use region::{HomeEntry, Labels};
 
 /// Marks a counter of steps that no one reads.

@@ -3,7 +3,6 @@ pub mod Mapped
 pub mod Owning
 pub mod Leaving
 pub mod Looking
-pub mod Behind
 pub mod Growing
 pub mod Adopting
 pub mod Holding

@@ -1,12 +1,12 @@
 -- What is done with a list of objects is done with their holders.
 use Rattle.std.proofs.Common.{◌≡◌, ◌≢◌, ℕ, List, [], ◌∷◌, ◌++◌, Bool, true, false, Option, Some, None, map, unwrap_or, option_map, is_some, refl, sym, ap, ◌∙◌, subst}
 use Rattle.std.specs.Prelude.{◌==◌, if◌then◌else◌}
-use Rattle.std.proofs.lemmas.Bool.{true≢false, eq-eqb, eqb-true, ne_eqb}
+use Rattle.std.proofs.lemmas.Bool.{true≢false, eqb-true, ne_eqb}
 use Rattle.std.proofs.lemmas.List.{map-append}
 use Rattle.vc_base.specs.declared.dict_method.DictMethod.{DictMethod}
 use Rattle.vc_base.specs.declared.dict_method.DictMethod.TheVariants.{DtSet, DtBag, DtOset, DtObag, DtList, DtStack, DtQueue}
 use Rattle.vc_base.specs.Cells.{Blocks}
-use Rattle.vc_base.specs.Holders.{AreDistinct, contains, first_in, last_in, last_of, next_in, previous_in, some_address, without}
+use Rattle.vc_base.specs.Holders.{contains, first_in, next_in, some_address, without}
 use Rattle.vc_dtdisc.specs.Finding as finding
 use Rattle.vc_dtdisc.specs.Finds as finds
 use Rattle.vc_dtdisc.specs.Finds.{find_key}
@@ -20,7 +20,7 @@ use Rattle.vc_dict.specs.Changes as changes
 use Rattle.vc_base.specs.Methods.{is_ordered, is_set}
 use Rattle.vc_dict.specs.Orders as orders
 use Rattle.vc_dict.proofs.CurrentLemmas.{current-told}
-use Rattle.vc_objects.specs.Lists.{before_current, before_key, before_key_from, behind_current, behind_object, current_without, first_object, first_with, inserted, last_object, last_or, linked, placed, put_before, put_behind, without_object}
+use Rattle.vc_objects.specs.Lists.{before_current, behind_current, behind_object, current_without, first_object, first_with, inserted, linked, placed, put_before, put_behind, without_object}
 use Rattle.vc_objects.specs.Objects.{Object}
 use Rattle.vc_objects.specs.Parts.{object_of}
 use Rattle.vc_objects.specs.Turn.{dropped, dropped_by, has_match, kept, kept_by, ordered_by, placed_each}
@@ -74,29 +74,14 @@ module _ (b : Blocks) where
   first_with-mapped rules key (x ∷ xs) =
       option_by (object_of b) (finds.has_key rules b key x) (Some x) (find_key rules b key xs) (Some (object_of b x)) (first_with rules key (map (object_of b) xs)) refl (first_with-mapped rules key xs)
 
-  pub key-found : (rules : Rules) (key xs : List ℕ) (o : Option ℕ) → o ≡ option_map (λ (x : Object). x.at) (first_with rules key (map (object_of b) xs)) → find_key rules b key xs ≡ o
-  key-found rules key xs o e =
-      sym (e ∙ ap (λ z. option_map (λ (x : Object). x.at) z) (first_with-mapped rules key xs) ∙ address-mapped (find_key rules b key xs))
-
   pub first_object-mapped : (xs : List ℕ) → first_object (map (object_of b) xs) ≡ option_map (object_of b) (first_in xs)
   first_object-mapped [] = refl
   first_object-mapped (x ∷ xs) = refl
-
-  last_or-mapped : (x : ℕ) (xs : List ℕ) → last_or (object_of b x) (map (object_of b) xs) ≡ object_of b (last_of x xs)
-  last_or-mapped x [] = refl
-  last_or-mapped x (y ∷ ys) = last_or-mapped y ys
-
-  pub last_object-mapped : (xs : List ℕ) → last_object (map (object_of b) xs) ≡ option_map (object_of b) (last_in xs)
-  last_object-mapped [] = refl
-  last_object-mapped (x ∷ xs) = ap (λ o. Some o) (last_or-mapped x xs)
 
   pub behind_object-mapped : (at : ℕ) (xs : List ℕ) → behind_object at (map (object_of b) xs) ≡ option_map (object_of b) (next_in at xs)
   behind_object-mapped at [] = refl
   behind_object-mapped at (x ∷ xs) =
       option_by (object_of b) (x == at) (first_in xs) (next_in at xs) (first_object (map (object_of b) xs)) (behind_object at (map (object_of b) xs)) (first_object-mapped xs) (behind_object-mapped at xs)
-
-  pub next-told : (at : ℕ) (xs : List ℕ) → option_map (λ (o : Object). o.at) (behind_object at (map (object_of b) xs)) ≡ next_in at xs
-  next-told at xs = ap (λ o. option_map (λ (z : Object). z.at) o) (behind_object-mapped at xs) ∙ address-mapped (next_in at xs)
 
   -- where one goes
   pub put_before-mapped : (mark at : ℕ) (xs : List ℕ) → put_before mark (object_of b at) (map (object_of b) xs) ≡ map (object_of b) (finding.put_before (λ y. y == mark) at xs)
@@ -166,43 +151,6 @@ module _ (b : Blocks) where
       current_by (current == at) (current == 0) at current xs (λ e. ne_eqb current at (λ same. ne (sym same ∙ eqb-true current 0 e))) refl
       (λ e. true≢false (sym (next-within at xs 0 e) ∙ zero)) refl
       ∙ ap some_address (sym (current-told at current xs ne))
-
-  -- the object before the first one that has a key
-  from_by : (t : Bool) (rules : Rules) (key : List ℕ) (before : Option ℕ) (x at : ℕ) (xs : List ℕ) → finds.has_key rules b key x ≡ t → AreDistinct (x ∷ xs)
-      → (find_key rules b key xs ≡ Some at → before_key_from (Some (object_of b x)) rules key (map (object_of b) xs) ≡ option_map (object_of b) (previous_in (Some x) at xs))
-      → find_key rules b key (x ∷ xs) ≡ Some at → before_key_from (option_map (object_of b) before) rules key (map (object_of b) (x ∷ xs)) ≡ option_map (object_of b) (previous_in before at (x ∷ xs))
-  from_by true rules key before x at xs t d rest e =
-      let h : Some x ≡ Some at = ap (λ z. if z then Some x else find_key rules b key xs) (sym t) ∙ e in
-      ap (λ z. if z then option_map (object_of b) before else before_key_from (Some (object_of b x)) rules key (map (object_of b) xs)) t
-      ∙ ap (λ z. option_map (object_of b) (if z then before else previous_in (Some x) at xs)) (sym (eq-eqb x at (ap (λ o. unwrap_or o 0) h)))
-  from_by false rules key before x at xs t d rest e =
-      let h : find_key rules b key xs ≡ Some at = ap (λ z. if z then Some x else find_key rules b key xs) (sym t) ∙ e in
-      let ne : x ≢ at = λ same. true≢false (sym (first_lemmas.found-within (finds.has_key rules b key) xs at h) ∙ ap (λ z. contains xs z) (sym same) ∙ d.0) in
-      ap (λ z. if z then option_map (object_of b) before else before_key_from (Some (object_of b x)) rules key (map (object_of b) xs)) t ∙ rest h
-      ∙ ap (λ z. option_map (object_of b) (if z then before else previous_in (Some x) at xs)) (sym (ne_eqb x at ne))
-
-  from-mapped : (rules : Rules) (key : List ℕ) (before : Option ℕ) (xs : List ℕ) (at : ℕ) → AreDistinct xs → find_key rules b key xs ≡ Some at → before_key_from (option_map (object_of b) before) rules key (map (object_of b) xs) ≡ option_map (object_of b) (previous_in before at xs)
-  from-mapped rules key before [] at d e = cc
-  from-mapped rules key before (x ∷ xs) at d e =
-      from_by (finds.has_key rules b key x) rules key before x at xs refl d (λ h. from-mapped rules key (Some x) xs at d.1 h) e
-
-  pub before_key-mapped : (rules : Rules) (key xs : List ℕ) (at : ℕ) → AreDistinct xs → find_key rules b key xs ≡ Some at → before_key rules key (map (object_of b) xs) ≡ option_map (object_of b) (previous_in None at xs)
-  before_key-mapped rules key xs at d e = from-mapped rules key None xs at d e
-
-  none_by : (t : Bool) (rules : Rules) (key : List ℕ) (before : Option Object) (x : ℕ) (xs : List ℕ) → finds.has_key rules b key x ≡ t
-      → (find_key rules b key xs ≡ None → before_key_from (Some (object_of b x)) rules key (map (object_of b) xs) ≡ None)
-      → find_key rules b key (x ∷ xs) ≡ None → before_key_from before rules key (map (object_of b) (x ∷ xs)) ≡ None
-  none_by true rules key before x xs t rest e = let h : Some x ≡ None = ap (λ z. if z then Some x else find_key rules b key xs) (sym t) ∙ e in cc
-  none_by false rules key before x xs t rest e =
-      ap (λ z. if z then before else before_key_from (Some (object_of b x)) rules key (map (object_of b) xs)) t
-      ∙ rest (ap (λ z. if z then Some x else find_key rules b key xs) (sym t) ∙ e)
-
-  from-none : (rules : Rules) (key : List ℕ) (before : Option Object) (xs : List ℕ) → find_key rules b key xs ≡ None → before_key_from before rules key (map (object_of b) xs) ≡ None
-  from-none rules key before [] e = refl
-  from-none rules key before (x ∷ xs) e = none_by (finds.has_key rules b key x) rules key before x xs refl (λ h. from-none rules key (Some (object_of b x)) xs h) e
-
-  pub before_key-none : (rules : Rules) (key xs : List ℕ) → find_key rules b key xs ≡ None → before_key rules key (map (object_of b) xs) ≡ None
-  before_key-none rules key xs e = from-none rules key None xs e
 
   -- the methods' orders
   pub placed_each-mapped : (rules : Rules) (done xs : List ℕ) → placed_each rules (map (object_of b) done) (map (object_of b) xs) ≡ map (object_of b) (orders.placed_each rules b done xs)

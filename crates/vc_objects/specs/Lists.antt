@@ -1,6 +1,6 @@
 -- Where objects are found, and where they go.
-use Rattle.std.specs.Prelude.{ℕ, List, [], ◌∷◌, ◌++◌, Bool, Option, Some, None, option_map, not, ◌==◌, ◌&&◌, if◌then◌else◌}
-use Rattle.std.specs.List.{find, list_any}
+use Rattle.std.specs.Prelude.{ℕ, List, [], ◌∷◌, ◌++◌, Bool, Option, Some, None, option_map, ◌==◌, if◌then◌else◌}
+use Rattle.std.specs.List.{find}
 use Rattle.std.specs.Ordering.{is_eq, is_gt}
 use Rattle.vc_base.specs.declared.dict_method.DictMethod.{DictMethod}
 use Rattle.vc_base.specs.declared.dict_method.DictMethod.TheVariants.{DtSet, DtBag, DtOset, DtObag, DtList, DtStack, DtQueue}
@@ -15,33 +15,10 @@ has_key rules key o = is_eq (rules.compare (rules.key o.bytes) key)
 abbrev pub first_with : Rules → List ℕ → List Object → Option Object
 first_with rules key objects = find (has_key rules key) objects
 
--- the first object, and the last
+-- the first object
 abbrev pub first_object : List Object → Option Object
 first_object [] = None
 first_object (o ∷ os) = Some o
-
-abbrev pub last_or : Object → List Object → Object
-last_or o [] = o
-last_or o (x ∷ xs) = last_or x xs
-
-abbrev pub last_object : List Object → Option Object
-last_object [] = None
-last_object (o ∷ os) = Some (last_or o os)
-
--- the object behind the last one that has a key
-abbrev pub behind_key : Rules → List ℕ → List Object → Option Object
-behind_key rules key [] = None
-behind_key rules key (o ∷ os) =
-    if has_key rules key o && not (list_any (has_key rules key) os) then first_object os else behind_key rules key os
-
--- the object before the first one that has a key, in a list behind another object or none
-abbrev pub before_key_from : Option Object → Rules → List ℕ → List Object → Option Object
-before_key_from before rules key [] = None
-before_key_from before rules key (o ∷ os) =
-    if has_key rules key o then before else before_key_from (Some o) rules key os
-
-abbrev pub before_key : Rules → List ℕ → List Object → Option Object
-before_key rules key objects = before_key_from None rules key objects
 
 -- with an object directly before the one at an address, or last where that isn't there
 abbrev pub put_before : ℕ → Object → List Object → List Object

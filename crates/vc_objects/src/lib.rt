@@ -15,7 +15,7 @@ mod turning;
 
 pub use emptying::{empty, shut};
 pub use fate::{Fate, Want};
-pub use finding::{before_key, behind_key, find, first, last, next};
+pub use finding::find;
 pub use inserting::insert;
 pub use opening::open;
 pub use removing::{remove, remove_unnamed};

@@ -4,7 +4,7 @@ ghost use Rattle.vc_model.specs.Outcome as model;
 ghost use Rattle.vc_model.specs.Outcome.{Done, done_as};
 ghost use Rattle.vc_dtdisc.specs.Shapes.{rules_of};
 ghost use Rattle.vc_objects.specs.Insert.{open_dictionary, slots_wanted};
-ghost use Rattle.vc_objects.specs.Lists.{before_key, behind_key, current_without, first_with};
+ghost use Rattle.vc_objects.specs.Lists.{current_without, first_with};
 ghost use Rattle.vc_objects.specs.Lists.{linked};
 ghost use Rattle.vc_objects.specs.Remove.{freed_all, region_without, remove, remove_unnamed};
 ghost use Rattle.vc_objects.specs.Rows.{after_growth, at_place, b_a_b, bag, bag_of, bag_turned};
@@ -64,20 +64,10 @@ pub fn whole_row()
         (lower_a ∷ lower_b ∷ []) ≡ upper_b ∷ lower_a ∷ lower_b ∷ [] }
 {}
 
-/// Among objects of equal keys a search finds the first, `next` looks behind the last and `prev` before the first.
-pub fn equal_rows()
-    ensures found { first_with by_fold (66 ∷ []) (lower_a ∷ lower_b ∷ upper_b ∷ lower_c ∷ [])
+/// Among objects of equal keys a search finds the first.
+pub fn equal_row()
+    ensures { first_with by_fold (66 ∷ []) (lower_a ∷ lower_b ∷ upper_b ∷ lower_c ∷ [])
         ≡ Some lower_b }
-    ensures behind { behind_key by_fold (98 ∷ []) (lower_a ∷ lower_b ∷ upper_b ∷ lower_c ∷ [])
-        ≡ Some lower_c }
-    ensures last { behind_key by_fold (98 ∷ []) (lower_a ∷ lower_b ∷ upper_b ∷ []) ≡ None }
-    ensures apart { behind_key by_fold (98 ∷ []) (lower_b ∷ lower_a ∷ upper_b ∷ lower_c ∷ [])
-        ≡ Some lower_c }
-    ensures before { before_key by_fold (66 ∷ []) (lower_a ∷ lower_b ∷ upper_b ∷ [])
-        ≡ Some lower_a }
-    ensures first { before_key by_fold (66 ∷ []) (lower_b ∷ lower_a ∷ upper_b ∷ []) ≡ None }
-    ensures nothing { behind_key by_fold (99 ∷ []) b_a_b ≡ None }
-    ensures no_key { before_key by_fold (99 ∷ []) b_a_b ≡ None }
 {}
 
 /// When the current object goes, the one behind it is current, or none; another one's going leaves it.

@@ -42,7 +42,6 @@ refusal_text why.TooManySegments = codes "too many segments"
 refusal_text why.NoSegment = codes "no segment"
 refusal_text why.NoSegmentForTable = codes "no segment for table"
 refusal_text why.NoSegmentForObject = codes "no segment for object"
-refusal_text why.NotYet = codes "not built"
 
 abbrev pub method_word : DictMethod → List ℕ
 method_word DtSet = codes "set"

@@ -37,6 +37,5 @@ pub(crate) fn refused(alloc: Global, why: Refusal) -> Result<Vec<u8>, AllocError
         Refusal::NoSegment => Vec::from_slice(alloc, b"refused: no segment"),
         Refusal::NoSegmentForTable => Vec::from_slice(alloc, b"refused: no segment for table"),
         Refusal::NoSegmentForObject => Vec::from_slice(alloc, b"refused: no segment for object"),
-        Refusal::NotYet => Vec::from_slice(alloc, b"refused: not built"),
     }
 }

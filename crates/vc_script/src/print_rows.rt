@@ -162,7 +162,6 @@ pub fn printed_refusals()
     ensures too_many_segments { printed (reply.Refused why.TooManySegments)
         ≡ codes "refused: too many segments" }
     ensures no_segment { printed (reply.Refused why.NoSegment) ≡ codes "refused: no segment" }
-    ensures not_built { printed (reply.Refused why.NotYet) ≡ codes "refused: not built" }
 {}
 
 /// Refusals over dictionaries.

@@ -1,5 +1,5 @@
-/// Why a command was refused, in the order in which refusals are looked for, `NotYet` aside. R is the region that the
-/// command names, X the block, D the dictionary, E the one that it is to view, and K the kind.
+/// Why a command was refused, in the order in which refusals are looked for. R is the region that the command names, X the
+/// block, D the dictionary, E the one that it is to view, and K the kind.
 #[derive(Clone, Copy, Debug, PartialEq, Eq)]
 pub enum Refusal {
     /// R isn't the name of a region.
@@ -58,6 +58,4 @@ pub enum Refusal {
     NoSegmentForTable,
     /// A segment was needed for an object of a dictionary, and the discipline refused it.
     NoSegmentForObject,
-    /// The command isn't built yet.
-    NotYet,
 }

@@ -1,5 +1,5 @@
 -- What a change of one region's lists does to the state, and to the settled shelf.
-use Rattle.std.proofs.Common.{◌≡◌, ◌≢◌, ℕ, ◌-◌, true, false, cond, List, [], ◌∷◌, Some, None, map, option_map, set, refl, sym, ap, ◌∙◌, subst, arith, inl, inr}
+use Rattle.std.proofs.Common.{◌≡◌, ◌≢◌, ℕ, ◌-◌, true, false, cond, List, [], ◌∷◌, Some, None, map, option_map, set, refl, sym, ap, ◌∙◌, subst, arith}
 use Rattle.std.specs.Prelude.{slice_get, count_by, ◌==◌}
 use Rattle.std.specs.Str.{bytes_eq}
 use Rattle.std.proofs.lemmas.List.{map-set}
@@ -17,7 +17,8 @@ use Rattle.vc_script.specs.declared.reply.Reply.TheVariants.{Refused}
 use Rattle.vc_script.specs.declared.refusal.Refusal.TheVariants.{Busy, NoRegion, NoSegment, NoSegmentForTable, NoSegmentForObject}
 use Rattle.vc_script.specs.Needs.{Need, NoNeed, need_shown}
 use Rattle.vc_dtdisc.specs.Rules.{Gone, Rules}
-use Rattle.vc_session.specs.State.{DictHome, State, Stepped, changed, home_named, is_busy, refused, stepped, with_region}
+use Rattle.vc_session.specs.State.{State, Stepped, changed, home_named, is_busy, refused, stepped, with_region}
+use Rattle.vc_views.specs.Views.{DictHome}
 use Rattle.vc_commands.specs.Home.{Label, Home, is_home}
 use Rattle.vc_region.specs.Region.{Region}
 use Rattle.vc_commands.specs.Kept.{Kept}

@@ -12,7 +12,8 @@ use Rattle.vc_script.specs.declared.reply.Reply.TheVariants.{Closed}
 use Rattle.vc_region.proofs.Relabel.{segments-relabelled}
 use Rattle.vc_dtdisc.specs.Rules.{Rules}
 use Rattle.vc_commands.specs.Labels.{name_of}
-use Rattle.vc_session.specs.State.{DictHome, State, stepped, close_home, close_step, closed, home_named, is_busy, refused, without_home}
+use Rattle.vc_session.specs.State.{State, stepped, close_home, close_step, closed, home_named, is_busy, refused, without_home}
+use Rattle.vc_views.specs.Views.{DictHome}
 use Rattle.vc_commands.specs.Home.{Home, is_home}
 use Rattle.vc_session.specs.Account.{Account, IsSession, account, accounts, account_after, account_back, settled, state_of}
 use Rattle.vc_commands.specs.Held.{Held, home_of}

@@ -12,10 +12,9 @@ use Rattle.vc_objects.specs.Parts.{IsWhole, dictionary_of}
 use Rattle.vc_region.specs.Region.{is_best}
 use Rattle.vc_commands.specs.Held.{Held}
 use Rattle.vc_session.specs.Account.{held_named}
-use Rattle.vc_session.specs.DictHomes.{AreApart, AreDicts, IsDictOf, cells_held, dict_home, dicts_in}
-use Rattle.vc_session.specs.State.{DictHome}
+use Rattle.vc_session.specs.DictHomes.{AreApart, AreDicts, IsDictOf, cells_held, dict_home, dicts_in, dict_over}
 use Rattle.vc_session.proofs.Cells.{all-remove}
-use Rattle.vc_session.proofs.DictsStay.{Entry, find-set_other}
+use Rattle.vc_session.proofs.DictsStay.{Entry, Vs, find-set_other, home_of_entry}
 use Rattle.vc_session.proofs.DictKept.{dictionary-kept, owned-there, whole-kept}
 use Rattle.vc_commands.proofs.Firsts.{IsFirst, find-first, find-set}
 use Rattle.vc_commands.proofs.Keeping.{swapped}
@@ -31,11 +30,7 @@ pub record Touches (h g : Held) (mine mine' : List ℕ) : Type 0 where
 -- a dictionary has none of these blocks, where it lies in the region of that name
 abbrev pub IsClear : List Held → List ℕ → List ℕ → Entry → Type 0
 IsClear held r mine f =
-    bytes_eq r f.1.home ≡ true → (a : ℕ) → contains mine a ≡ true → contains (owned (dict_home held f).dict) a ≡ false
-
--- a dictionary under its name
-abbrev under : Entry → Dictionary → DictHome
-under e dict = record { name = e.0; home = e.1.home; kind = e.1.dict.kind; dict = dict }
+    bytes_eq r f.1.home ≡ true → (a : ℕ) → contains mine a ≡ true → contains (owned (dict_over held f)) a ≡ false
 
 -- where the cell is none no block is there
 not-there : (o : Option (List ℕ)) → is_some o ≡ true → o ≡ None → ⊥
@@ -71,7 +66,7 @@ module _ (kinds : List Rules) (hs : List Held) (j : ℕ) (h g : Held) (mine mine
       whole-was : IsWhole d.rules f.1.dict h.cells
       whole-was = subst (λ (k : Held). IsWhole d.rules f.1.dict k.cells) (same_Some d.home h (sym d.found ∙ was)) d.whole
 
-      own-was : (dict_home hs f).dict ≡ dictionary_of f.1.dict h.cells
+      own-was : (dict_over hs f) ≡ dictionary_of f.1.dict h.cells
       own-was = ap (λ o. dictionary_of f.1.dict (cells_held o)) was
 
       module _ (clear : IsClear hs h.name mine f) where
@@ -88,11 +83,10 @@ module _ (kinds : List Rules) (hs : List Held) (j : ℕ) (h g : Held) (mine mine
         cells-kept : (a : ℕ) → contains (owned (dictionary_of f.1.dict h.cells)) a ≡ true → g.cells a ≡ h.cells a
         cells-kept a own = t.others a (apart-mine a own) (apart-new a own)
 
-        home-here : dict_home gs f ≡ dict_home hs f
+        home-here : dict_over gs f ≡ dict_over hs f
         home-here =
-            ap (under f)
-            (ap (λ o. dictionary_of f.1.dict (cells_held o)) now
-            ∙ (dictionary-kept d.rules f.1.dict h.cells whole-was g.cells cells-kept ∙ sym own-was))
+            ap (λ o. dictionary_of f.1.dict (cells_held o)) now
+            ∙ (dictionary-kept d.rules f.1.dict h.cells whole-was g.cells cells-kept ∙ sym own-was)
 
         dict-here : IsDictOf kinds gs f
         dict-here = record {
@@ -106,8 +100,8 @@ module _ (kinds : List Rules) (hs : List Held) (j : ℕ) (h g : Held) (mine mine
 
     -- it lies in another one
     module _ (away : bytes_eq h.name f.1.home ≡ false) where
-      home-away : dict_home gs f ≡ dict_home hs f
-      home-away = ap (λ o. under f (dictionary_of f.1.dict (cells_held o))) (other-named f.1.home away)
+      home-away : dict_over gs f ≡ dict_over hs f
+      home-away = ap (λ o. dictionary_of f.1.dict (cells_held o)) (other-named f.1.home away)
 
       dict-away : IsDictOf kinds gs f
       dict-away = record {
@@ -120,7 +114,7 @@ module _ (kinds : List Rules) (hs : List Held) (j : ℕ) (h g : Held) (mine mine
       }
 
     -- it stays, and none of the new blocks is its own
-    pub home-kept : IsClear hs h.name mine f → dict_home gs f ≡ dict_home hs f
+    pub home-kept : IsClear hs h.name mine f → dict_over gs f ≡ dict_over hs f
     home-kept clear = ⊎_elim (λ e. home-here e clear) (λ e. home-away e) (cases_Bool (bytes_eq h.name f.1.home))
 
     pub dict-kept : IsClear hs h.name mine f → IsDictOf kinds gs f
@@ -128,13 +122,13 @@ module _ (kinds : List Rules) (hs : List Held) (j : ℕ) (h g : Held) (mine mine
 
     pub clear-after : IsClear hs h.name mine f → IsClear hs h.name mine' f
     clear-after clear = λ here a m.
-        false_from_ne_true (contains (owned (dict_home hs f).dict) a)
+        false_from_ne_true (contains (owned (dict_over hs f)) a)
         (λ own. false≢true (sym (apart-new here clear a (subst (λ (x : Dictionary). contains (owned x) a ≡ true) (own-was here) own)) ∙ m))
 
   apart-one : (f x : Entry) → IsDictOf kinds hs f → IsClear hs h.name mine f → IsDictOf kinds hs x → IsClear hs h.name mine x → AreApart hs f x → AreApart gs f x
   apart-one f x df cf dx cx apart = λ here a own.
-      subst (λ (k : DictHome). contains (owned k.dict) a ≡ false) (sym (home-kept x dx cx))
-      (apart here a (subst (λ (k : DictHome). contains (owned k.dict) a ≡ true) (home-kept f df cf) own))
+      subst (λ (k : Dictionary). contains (owned k) a ≡ false) (sym (home-kept x dx cx))
+      (apart here a (subst (λ (k : Dictionary). contains (owned k) a ≡ true) (home-kept f df cf) own))
 
   apart-all : (f : Entry) → IsDictOf kinds hs f → IsClear hs h.name mine f → (es : List Entry) → AreDicts kinds hs es → AllByRecursion (IsClear hs h.name mine) es → AllByRecursion (AreApart hs f) es → AllByRecursion (AreApart gs f) es
   apart-all f df cf [] ds cs ps = tt
@@ -145,21 +139,21 @@ module _ (kinds : List Rules) (hs : List Held) (j : ℕ) (h g : Held) (mine mine
   dicts-kept [] ds cs = tt
   dicts-kept (e ∷ es) ds cs = (dict-kept e ds.0 cs.0, apart-all e ds.0 cs.0 es ds.2 cs.1 ds.1, dicts-kept es ds.2 cs.1)
 
-  pub homes-kept : (es : List Entry) → AreDicts kinds hs es → AllByRecursion (IsClear hs h.name mine) es → dicts_in gs es ≡ dicts_in hs es
-  homes-kept [] ds cs = refl
-  homes-kept (e ∷ es) ds cs =
-      ap (λ k. k ∷ dicts_in gs es) (home-kept e ds.0 cs.0) ∙ ap (λ ks. dict_home hs e ∷ ks) (homes-kept es ds.2 cs.1)
+  pub homes-kept : (vs : Vs) (es : List Entry) → AreDicts kinds hs es → AllByRecursion (IsClear hs h.name mine) es → dicts_in gs vs es ≡ dicts_in hs vs es
+  homes-kept vs [] ds cs = refl
+  homes-kept vs (e ∷ es) ds cs =
+      ap (λ k. home_of_entry vs e k ∷ dicts_in gs vs es) (home-kept e ds.0 cs.0) ∙ ap (λ ks. dict_home hs vs e ∷ ks) (homes-kept vs es ds.2 cs.1)
 
   -- the dictionary that has the new blocks
-  module _ (n : Entry) (dn : IsDictOf kinds gs n) (lies : bytes_eq h.name n.1.home ≡ true) (own : owned (dict_home gs n).dict ≡ mine') where
+  module _ (n : Entry) (dn : IsDictOf kinds gs n) (lies : bytes_eq h.name n.1.home ≡ true) (own : owned (dict_over gs n) ≡ mine') where
     new-before : (f : Entry) → IsDictOf kinds hs f → IsClear hs h.name mine f → AreApart gs n f
     new-before f df cf = λ here a m.
-        subst (λ (k : DictHome). contains (owned k.dict) a ≡ false) (sym (home-kept f df cf))
+        subst (λ (k : Dictionary). contains (owned k) a ≡ false) (sym (home-kept f df cf))
         (clear-after f df cf (ap (λ r. bytes_eq r f.1.home) (same_bytes h.name n.1.home lies) ∙ here) a (subst (λ xs. contains xs a ≡ true) own m))
 
     new-behind : (f : Entry) → IsDictOf kinds hs f → IsClear hs h.name mine f → AreApart gs f n
     new-behind f df cf = λ here a m.
-        false_from_ne_true (contains (owned (dict_home gs n).dict) a)
+        false_from_ne_true (contains (owned (dict_over gs n)) a)
         (λ m'. false≢true (sym (new-before f df cf (swapped n.1.home f.1.home ∙ here) a m') ∙ m))
 
     new-apart : (es : List Entry) → AreDicts kinds hs es → AllByRecursion (IsClear hs h.name mine) es → AllByRecursion (AreApart gs n) es
@@ -175,10 +169,10 @@ module _ (kinds : List Rules) (hs : List Held) (j : ℕ) (h g : Held) (mine mine
     dicts-push [] ds cs = (dn, tt, tt)
     dicts-push (e ∷ es) ds cs = (dict-kept e ds.0 cs.0, apart-push e ds.0 cs.0 es ds.2 cs.1 ds.1, dicts-push es ds.2 cs.1)
 
-    pub homes-push : (es : List Entry) → AreDicts kinds hs es → AllByRecursion (IsClear hs h.name mine) es → dicts_in gs (es ++ n ∷ []) ≡ dicts_in hs es ++ dict_home gs n ∷ []
-    homes-push [] ds cs = refl
-    homes-push (e ∷ es) ds cs =
-        ap (λ k. k ∷ dicts_in gs (es ++ n ∷ [])) (home-kept e ds.0 cs.0) ∙ ap (λ ks. dict_home hs e ∷ ks) (homes-push es ds.2 cs.1)
+    pub homes-push : (vs : Vs) (es : List Entry) → AreDicts kinds hs es → AllByRecursion (IsClear hs h.name mine) es → dicts_in gs vs (es ++ n ∷ []) ≡ dicts_in hs vs es ++ dict_home gs vs n ∷ []
+    homes-push vs [] ds cs = refl
+    homes-push vs (e ∷ es) ds cs =
+        ap (λ k. home_of_entry vs e k ∷ dicts_in gs vs (es ++ n ∷ [])) (home-kept e ds.0 cs.0) ∙ ap (λ ks. dict_home hs vs e ∷ ks) (homes-push vs es ds.2 cs.1)
 
     apart-set : (f : Entry) → IsDictOf kinds hs f → IsClear hs h.name mine f → (es : List Entry) (i : ℕ) (e : Entry) → slice_get es i ≡ Some e → AreDicts kinds hs es → AllByRecursion (IsClear hs h.name mine) (remove es i) → AllByRecursion (AreApart hs f) es → AllByRecursion (AreApart gs f) (set es i n)
     apart-set f df cf [] i e there ds cs ps = absurd (none-some e there)
@@ -191,11 +185,11 @@ module _ (kinds : List Rules) (hs : List Held) (j : ℕ) (h g : Held) (mine mine
     dicts-set (x ∷ es) zero e there ds cs = (dn, new-apart es ds.2 cs, dicts-kept es ds.2 cs)
     dicts-set (x ∷ es) (suc i) e there ds cs = (dict-kept x ds.0 cs.0, apart-set x ds.0 cs.0 es i e there ds.2 cs.1 ds.1, dicts-set es i e there ds.2 cs.1)
 
-    pub homes-set : (es : List Entry) (i : ℕ) (e : Entry) → slice_get es i ≡ Some e → AreDicts kinds hs es → AllByRecursion (IsClear hs h.name mine) (remove es i) → dicts_in gs (set es i n) ≡ set (dicts_in hs es) i (dict_home gs n)
-    homes-set [] i e there ds cs = absurd (none-some e there)
-    homes-set (x ∷ es) zero e there ds cs = ap (λ ks. dict_home gs n ∷ ks) (homes-kept es ds.2 cs)
-    homes-set (x ∷ es) (suc i) e there ds cs =
-        ap (λ k. k ∷ dicts_in gs (set es i n)) (home-kept x ds.0 cs.0) ∙ ap (λ ks. dict_home hs x ∷ ks) (homes-set es i e there ds.2 cs.1)
+    pub homes-set : (vs : Vs) (es : List Entry) (i : ℕ) (e : Entry) → slice_get es i ≡ Some e → AreDicts kinds hs es → AllByRecursion (IsClear hs h.name mine) (remove es i) → dicts_in gs vs (set es i n) ≡ set (dicts_in hs vs es) i (dict_home gs vs n)
+    homes-set vs [] i e there ds cs = absurd (none-some e there)
+    homes-set vs (x ∷ es) zero e there ds cs = ap (λ ks. dict_home gs vs n ∷ ks) (homes-kept vs es ds.2 cs)
+    homes-set vs (x ∷ es) (suc i) e there ds cs =
+        ap (λ k. home_of_entry vs x k ∷ dicts_in gs vs (set es i n)) (home-kept x ds.0 cs.0) ∙ ap (λ ks. dict_home hs vs x ∷ ks) (homes-set vs es i e there ds.2 cs.1)
 
 -- no block is everyone's
 pub clear-none : (hs : List Held) (r : List ℕ) (es : List Entry) → AllByRecursion (IsClear hs r []) es
@@ -222,22 +216,22 @@ module _ (kinds : List Rules) (hs : List Held) where
   dicts-remove (e ∷ es) (suc i) ds = (ds.0, all-remove (AreApart hs e) es i ds.1, dicts-remove es i ds.2)
 
   module _ (r : List ℕ) (e : Entry) (lies : bytes_eq r e.1.home ≡ true) where
-    clear-behind : (f : Entry) → AreApart hs e f → IsClear hs r (owned (dict_home hs e).dict) f
+    clear-behind : (f : Entry) → AreApart hs e f → IsClear hs r (owned (dict_over hs e)) f
     clear-behind f apart = λ here a m. apart (ap (λ n. bytes_eq n f.1.home) (sym (same_bytes r e.1.home lies)) ∙ here) a m
 
-    clear-before : (f : Entry) → AreApart hs f e → IsClear hs r (owned (dict_home hs e).dict) f
+    clear-before : (f : Entry) → AreApart hs f e → IsClear hs r (owned (dict_over hs e)) f
     clear-before f apart = λ here a m.
-        false_from_ne_true (contains (owned (dict_home hs f).dict) a)
+        false_from_ne_true (contains (owned (dict_over hs f)) a)
         (λ own.
         false≢true
         (sym (apart (swapped f.1.home e.1.home ∙ (ap (λ n. bytes_eq n f.1.home) (sym (same_bytes r e.1.home lies)) ∙ here)) a own) ∙ m))
 
-    clear-all : (es : List Entry) → AllByRecursion (AreApart hs e) es → AllByRecursion (IsClear hs r (owned (dict_home hs e).dict)) es
+    clear-all : (es : List Entry) → AllByRecursion (AreApart hs e) es → AllByRecursion (IsClear hs r (owned (dict_over hs e))) es
     clear-all [] ps = tt
     clear-all (x ∷ es) ps = (clear-behind x ps.0, clear-all es ps.1)
 
     -- all others have none of its blocks
-    pub clear-others : (es : List Entry) (i : ℕ) → slice_get es i ≡ Some e → AreDicts kinds hs es → AllByRecursion (IsClear hs r (owned (dict_home hs e).dict)) (remove es i)
+    pub clear-others : (es : List Entry) (i : ℕ) → slice_get es i ≡ Some e → AreDicts kinds hs es → AllByRecursion (IsClear hs r (owned (dict_over hs e))) (remove es i)
     clear-others [] i there ds = absurd (none-some e there)
     clear-others (x ∷ es) zero there ds =
         clear-all es (subst (λ z. AllByRecursion (AreApart hs z) es) (same_Some x e there) ds.1)

@@ -14,19 +14,21 @@ use Rattle.vc_objects.specs.Remove.{bytes_of}
 use Rattle.vc_script.specs.Needs.{Need, NoNeed}
 use Rattle.vc_script.specs.declared.command.Command.{Command}
 use Rattle.vc_script.specs.declared.command.Command.TheVariants.{Shut}
+use Rattle.vc_script.specs.declared.refusal.Refusal.TheVariants as why
 use Rattle.vc_script.specs.declared.reply.Reply.TheVariants.{ShutDown}
 use Rattle.vc_commands.specs.declared.dict.entry.DictEntry.{DictEntry}
 use Rattle.vc_commands.specs.Held.{Held, home_of}
 use Rattle.vc_session.specs.Account.{held_named, state_of}
 use Rattle.vc_session.specs.DictHomes.{AreDicts, IsDictOf, dict_home, dicts_in}
-use Rattle.vc_session.specs.Dicts.{dict_command, dict_step, is_dict, on_found, on_seat, shut_state, told_of}
-use Rattle.vc_session.specs.State.{State, Stepped, home_named}
+use Rattle.vc_session.specs.Dicts.{dict_command, dict_shut, dict_step, on_found, on_seat, shut_state, told_of}
+use Rattle.vc_views.specs.Views.{is_dict, is_viewed_in}
+use Rattle.vc_session.specs.State.{State, Stepped, home_named, refused}
 use Rattle.vc_commands.specs.Home.{is_home}
 use Rattle.vc_session.specs.Step.{GivesStep}
 use Rattle.vc_session.specs.Told.{tell}
 use Rattle.vc_session.proofs.DictChange.{dict-at}
 use Rattle.vc_session.proofs.DictNamed.{dict-found, key-at}
-use Rattle.vc_session.proofs.DictsStay.{Entry}
+use Rattle.vc_session.proofs.DictsStay.{Entry, Vs}
 use Rattle.vc_commands.proofs.Firsts.{IsFirst, find-none}
 use Rattle.vc_session.proofs.Helds.{some-at}
 use Rattle.vc_session.proofs.Sessions.{Slots}
@@ -54,9 +56,9 @@ entry-at es d i at =
 pub some-case : {A : Type 0} (o : Option A) (x : A) (P : A → Type 0) → o ≡ Some x → IfSome o P → P x
 some-case o x P is holds = subst (λ q. IfSome q P) is holds
 
-module _ (kinds : List Rules) (slots : Slots) (hs : List Held) (es : List Entry) (i : ℕ) (e : Entry) (there : slice_get es i ≡ Some e) (first : IsFirst (is_dict e.0) (dicts_in hs es) i) (dicts : AreDicts kinds hs es) where
+module _ (kinds : List Rules) (slots : Slots) (hs : List Held) (es : List Entry) (vs : Vs) (i : ℕ) (e : Entry) (there : slice_get es i ≡ Some e) (first : IsFirst (is_dict e.0) (dicts_in hs vs es) i) (dicts : AreDicts kinds hs es) where
   abbrev s : State
-  s = state_of kinds slots hs (dicts_in hs es)
+  s = state_of kinds slots hs (dicts_in hs vs es)
 
   abbrev is : IsDictOf kinds hs e
   is = dict-at kinds hs es i e there dicts
@@ -67,18 +69,20 @@ module _ (kinds : List Rules) (slots : Slots) (hs : List Held) (es : List Entry)
       none-some (home_of is.home)
       (sym (find-none (is_home e.1.home) (map home_of hs) none) ∙ (home-held hs e.1.home ∙ ap (option_map home_of) is.found))
 
-  pub step-dict : (command : Command) (need : Need) → dict_step s e.0 command need ≡ dict_command s command need (dict_home hs e) (home_of is.home) is.rules
+  pub step-dict : (command : Command) (need : Need) → dict_step s e.0 command need ≡ dict_command s command need (dict_home hs vs e) (home_of is.home) is.rules
   step-dict command need =
       let act = dict_command s command need in
-      let d = dict_home hs e in
-      ap (on_found s act) (dict-found hs es e.0 i e there first)
+      let d = dict_home hs vs e in
+      ap (on_found s act) (dict-found hs vs es e.0 i e there first)
       ∙ (ap (λ o. on_seat s d act o (at_number kinds e.1.dict.kind)) (home-held hs e.1.home ∙ ap (option_map home_of) is.found)
       ∙ ap (λ o. on_seat s d act (Some (home_of is.home)) o) is.kind)
 
-  pub step-shut : (command : Command) (x : List ℕ) (after : State) (gone gone' : List Gone) → command ≡ Shut x → after ≡ shut_state s (dict_home hs e) → gone' ≡ tell (told_of e.1.dict.kind (bytes_of (dict_home hs e).dict.objects)) gone → GivesStep (dict_step s e.0 command NoNeed) gone (ShutDown e.0) after gone'
-  step-shut command x after gone gone' shuts state_is gone_is =
-      let same : dict_step s e.0 command NoNeed ≡ dict_command s (Shut x) NoNeed (dict_home hs e) (home_of is.home) is.rules =
-      step-dict command NoNeed ∙ ap (λ c. dict_command s c NoNeed (dict_home hs e) (home_of is.home) is.rules) shuts in
+  pub step-shut : (command : Command) (x : List ℕ) (after : State) (gone gone' : List Gone) → command ≡ Shut x → is_viewed_in s.dicts e.0 ≡ false → after ≡ shut_state s (dict_home hs vs e) → gone' ≡ tell (told_of e.1.dict.kind (bytes_of (dict_home hs vs e).dict.objects)) gone → GivesStep (dict_step s e.0 command NoNeed) gone (ShutDown e.0) after gone'
+  step-shut command x after gone gone' shuts unviewed state_is gone_is =
+      let same : dict_step s e.0 command NoNeed ≡ dict_shut s (dict_home hs vs e) =
+      step-dict command NoNeed
+      ∙ (ap (λ c. dict_command s c NoNeed (dict_home hs vs e) (home_of is.home) is.rules) shuts
+      ∙ ap (λ t. cond t (refused s why.Viewed) (dict_shut s (dict_home hs vs e))) unviewed) in
       record {
         replied = ap (λ (t : Stepped). t.reply) same;
         state_after = ap (λ (t : Stepped). t.state) same ∙ sym state_is;

@@ -11,9 +11,9 @@ use Rattle.indexmap.specs.IndexMap.{set_value_at}
 use Rattle.vc_objects.specs.Objects.{Dictionary}
 use Rattle.vc_commands.specs.Held.{Held}
 use Rattle.vc_session.specs.DictHomes.{dict_home, dicts_in}
-use Rattle.vc_session.specs.Dicts.{dict_named, is_dict, with_dict}
-use Rattle.vc_session.specs.State.{DictHome}
-use Rattle.vc_session.proofs.DictsStay.{Entry}
+use Rattle.vc_session.specs.Dicts.{with_dict}
+use Rattle.vc_views.specs.Views.{dict_named, is_dict, DictHome}
+use Rattle.vc_session.proofs.DictsStay.{Entry, Vs}
 use Rattle.vc_commands.proofs.Firsts.{IsFirst, find-first, find-none, first-unmap, or-false}
 use Rattle.vc_commands.proofs.Keeping.{swapped}
 use Rattle.vc_commands.proofs.Names.{same_bytes}
@@ -54,16 +54,16 @@ none-of r (x ∷ xs) (suc i) none =
     ap (λ b. b || list_any (λ n. bytes_eq n r) (take i xs)) (swapped x r ∙ none 0 (omega arith))
     ∙ none-of r xs i (λ k lt. none (suc k) (omega (arith, lt)))
 
-module _ (hs : List Held) where
-  names-dicts : (es : List Entry) → keys_of es ≡ map (λ (k : DictHome). k.name) (dicts_in hs es)
+module _ (hs : List Held) (vs : Vs) where
+  names-dicts : (es : List Entry) → keys_of es ≡ map (λ (k : DictHome). k.name) (dicts_in hs vs es)
   names-dicts [] = refl
   names-dicts (e ∷ es) = ap (λ ns. e.0 ∷ ns) (names-dicts es)
 
   -- some dictionary has the name
-  pub any-dict : (es : List Entry) (d : List ℕ) → list_any (is_dict d) (dicts_in hs es) ≡ is_some (lookup (bytes_eq d) es)
+  pub any-dict : (es : List Entry) (d : List ℕ) → list_any (is_dict d) (dicts_in hs vs es) ≡ is_some (lookup (bytes_eq d) es)
   any-dict [] d = refl
   any-dict (e ∷ es) d =
-      ap (λ b. b || list_any (is_dict d) (dicts_in hs es)) (swapped e.0 d)
+      ap (λ b. b || list_any (is_dict d) (dicts_in hs vs es)) (swapped e.0 d)
       ∙ (ap (λ b. bytes_eq d e.0 || b) (any-dict es d)
       ∙ ⊎_elim
       (λ y. ap (λ b. b || is_some (lookup (bytes_eq d) es)) y ∙ sym (ap (λ b. is_some (cond b (Some e.1) (lookup (bytes_eq d) es))) y))
@@ -71,11 +71,11 @@ module _ (hs : List Held) where
       (cases_Bool (bytes_eq d e.0)))
 
   -- none has it
-  pub dict-none : (es : List Entry) (d : List ℕ) → is_some (lookup (bytes_eq d) es) ≡ false → dict_named d (dicts_in hs es) ≡ None
-  dict-none es d none = find-none (is_dict d) (dicts_in hs es) (any-dict es d ∙ none)
+  pub dict-none : (es : List Entry) (d : List ℕ) → is_some (lookup (bytes_eq d) es) ≡ false → dict_named d (dicts_in hs vs es) ≡ None
+  dict-none es d none = find-none (is_dict d) (dicts_in hs vs es) (any-dict es d ∙ none)
 
   -- the first key is that of the first dictionary of the name
-  pub first-dict : (es : List Entry) (d : List ℕ) (i : ℕ) → position (bytes_eq d) (keys_of es) ≡ Some i → IsFirst (is_dict d) (dicts_in hs es) i
+  pub first-dict : (es : List Entry) (d : List ℕ) (i : ℕ) → position (bytes_eq d) (keys_of es) ≡ Some i → IsFirst (is_dict d) (dicts_in hs vs es) i
   first-dict es d i at =
       let p = position-Some (bytes_eq d) (keys_of es) i [] at in
       let first : IsFirst (λ n. bytes_eq n d) (keys_of es) i = record {
@@ -84,26 +84,26 @@ module _ (hs : List Held) where
         passes = swapped (get_or (keys_of es) i []) d ∙ p.1;
         before = none-of d (keys_of es) i p.2;
       } in
-      first-unmap (λ n. bytes_eq n d) (λ (k : DictHome). k.name) (dicts_in hs es) i
+      first-unmap (λ n. bytes_eq n d) (λ (k : DictHome). k.name) (dicts_in hs vs es) i
       (subst (λ ns. IsFirst (λ n. bytes_eq n d) ns i) (names-dicts es) first)
 
-  pub home-at : (es : List Entry) (i : ℕ) (e : Entry) → slice_get es i ≡ Some e → slice_get (dicts_in hs es) i ≡ Some (dict_home hs e)
+  pub home-at : (es : List Entry) (i : ℕ) (e : Entry) → slice_get es i ≡ Some e → slice_get (dicts_in hs vs es) i ≡ Some (dict_home hs vs e)
   home-at [] i e at = absurd (none-some e at)
-  home-at (x ∷ es) zero e at = ap (λ z. Some (dict_home hs z)) (same_Some x e at)
+  home-at (x ∷ es) zero e at = ap (λ z. Some (dict_home hs vs z)) (same_Some x e at)
   home-at (x ∷ es) (suc i) e at = home-at es i e at
 
-  module _ (es : List Entry) (d : List ℕ) (i : ℕ) (e : Entry) (at : slice_get es i ≡ Some e) (first : IsFirst (is_dict d) (dicts_in hs es) i) where
-    same-home : first.item ≡ dict_home hs e
-    same-home = same_Some first.item (dict_home hs e) (sym first.at ∙ home-at es i e at)
+  module _ (es : List Entry) (d : List ℕ) (i : ℕ) (e : Entry) (at : slice_get es i ≡ Some e) (first : IsFirst (is_dict d) (dicts_in hs vs es) i) where
+    same-home : first.item ≡ dict_home hs vs e
+    same-home = same_Some first.item (dict_home hs vs e) (sym first.at ∙ home-at es i e at)
 
-    pub dict-found : dict_named d (dicts_in hs es) ≡ Some (dict_home hs e)
-    dict-found = find-first (is_dict d) (dicts_in hs es) i first ∙ ap (λ k. Some k) same-home
+    pub dict-found : dict_named d (dicts_in hs vs es) ≡ Some (dict_home hs vs e)
+    dict-found = find-first (is_dict d) (dicts_in hs vs es) i first ∙ ap (λ k. Some k) same-home
 
     -- the name is its own
     pub dict-name : e.0 ≡ d
     dict-name = same_bytes e.0 d (ap (is_dict d) (sym same-home) ∙ first.passes)
 
-    pub dict-set : (dict : Dictionary) → with_dict d dict (dicts_in hs es) ≡ set (dicts_in hs es) i (record (dict_home hs e) { dict = dict })
+    pub dict-set : (dict : Dictionary) → with_dict d dict (dicts_in hs vs es) ≡ set (dicts_in hs vs es) i (record (dict_home hs vs e) { dict = dict })
     dict-set dict =
-        dict-set_at d dict (dicts_in hs es) i first.item first.at first.passes first.before
-        ∙ ap (λ (k : DictHome). set (dicts_in hs es) i (record k { dict = dict })) same-home
+        dict-set_at d dict (dicts_in hs vs es) i first.item first.at first.passes first.before
+        ∙ ap (λ (k : DictHome). set (dicts_in hs vs es) i (record k { dict = dict })) same-home

@@ -1,5 +1,5 @@
 -- What the opening of a dictionary leaves of a session.
-use Rattle.std.proofs.Common.{◌≡◌, ℕ, false, Bool, List, [], ◌∷◌, ◌++◌, Option, Some, None, Result, Ok, Err, IfOk, OnErr, map, option_map, set, refl, sym, ap, ◌∙◌, subst}
+use Rattle.std.proofs.Common.{◌≡◌, ℕ, false, Bool, List, [], ◌∷◌, ◌++◌, Option, Some, None, Result, Ok, Err, map, option_map, set, refl, sym, ap, ◌∙◌, subst}
 use Rattle.std.specs.Prelude.{slice_get}
 use Rattle.std.specs.Str.{bytes_eq}
 use Rattle.std.proofs.lemmas.Option.{none-some, same_Some, slice_get-map}
@@ -33,14 +33,15 @@ use Rattle.vc_script.specs.declared.reply.Reply.{Reply}
 use Rattle.vc_script.specs.declared.reply.Reply.TheVariants as reply
 use Rattle.vc_commands.specs.Held.{Held, IsChange, home_of}
 use Rattle.vc_session.specs.Account.{IsSession, Settles, accounts, held_named, settled, state_of}
-use Rattle.vc_session.specs.DictHomes.{AreDicts, IsDictOf, cells_held, dict_home, dicts_in}
+use Rattle.vc_session.specs.DictHomes.{AreDicts, IsDictOf, cells_held, dict_home, dicts_in, dict_over}
 use Rattle.vc_session.specs.Dicts.{dict_opened, dict_refused, open_dict_in, open_dict_step, open_dict_unless}
 use Rattle.vc_commands.specs.Kept.{Kept}
 use Rattle.vc_commands.specs.Labels.{kept_of, name_of}
 use Rattle.vc_session.specs.Lacks.{InHeld, StepLacksFor}
 use Rattle.vc_session.specs.Table.{TellsTable, table_reply}
 use Rattle.vc_session.specs.Run.{home_place, refusal_at}
-use Rattle.vc_session.specs.State.{DictHome, State, Stepped, home_named, with_region}
+use Rattle.vc_session.specs.State.{State, Stepped, home_named, with_region}
+use Rattle.vc_views.specs.Views.{DictHome}
 use Rattle.vc_commands.specs.Home.{Home, Label, is_home}
 use Rattle.vc_session.specs.Step.{GivesStep}
 use Rattle.vc_session.proofs.RegionSteps.{moment_over}
@@ -49,7 +50,7 @@ use Rattle.vc_session.specs.Told.{tell}
 use Rattle.vc_session.proofs.BestRegions.{best-named}
 use Rattle.vc_session.proofs.Changing.{gives-same, homes-change, settles-none, settles-one, state-same}
 use Rattle.vc_session.proofs.DictChange.{Touches, clear-none, dicts-kept, dicts-push, homes-kept, homes-push, now-named, was-named}
-use Rattle.vc_session.proofs.DictsStay.{Entry}
+use Rattle.vc_session.proofs.DictsStay.{Entry, Vs}
 use Rattle.vc_commands.proofs.Firsts.{IsFirst, find-first, first-unmap}
 use Rattle.vc_commands.proofs.Names.{name-none, same_bytes}
 use Rattle.vc_session.proofs.Sessions.{Slots}
@@ -77,9 +78,9 @@ pub open-none : (s : State) (gone : List Gone) (d r : List ℕ) (method : DictMe
 open-none s gone d r method k need none =
     gives-same (open_dict_step s d method r k need) gone (reply.Refused why.NoRegion) s (ap (open_dict_in s d method k need) none)
 
-module _ (kinds : List Rules) (slots : Slots) (hs : List Held) (es : List Entry) (j : ℕ) (h : Held) (at : slice_get hs j ≡ Some h) (r : List ℕ) (first : IsFirst (is_home r) (map home_of hs) j) (session : IsSession slots hs) (dicts : AreDicts kinds hs es) (d : List ℕ) (method : DictMethod) (k : ℕ) where
+module _ (kinds : List Rules) (slots : Slots) (hs : List Held) (es : List Entry) (vs : Vs) (j : ℕ) (h : Held) (at : slice_get hs j ≡ Some h) (r : List ℕ) (first : IsFirst (is_home r) (map home_of hs) j) (session : IsSession slots hs) (dicts : AreDicts kinds hs es) (d : List ℕ) (method : DictMethod) (k : ℕ) where
   abbrev s : State
-  s = state_of kinds slots hs (dicts_in hs es)
+  s = state_of kinds slots hs (dicts_in hs vs es)
 
   item-is : first.item ≡ home_of h
   item-is = same_Some first.item (home_of h) (sym first.at ∙ (slice_get-map home_of hs j ∙ ap (option_map home_of) at))
@@ -152,10 +153,10 @@ module _ (kinds : List Rules) (slots : Slots) (hs : List Held) (es : List Entry)
     pub dicts-failed : Touches h g [] [] → AreDicts kinds gs es
     dicts-failed touch = dicts-kept kinds hs j h g [] [] named-first at touch es dicts (clear-none hs h.name es)
 
-    pub state-failed : Touches h g [] [] → g.region ≡ h.region → g.labels ≡ h.labels → state_of kinds slots gs (dicts_in gs es) ≡ s
+    pub state-failed : Touches h g [] [] → g.region ≡ h.region → g.labels ≡ h.labels → state_of kinds slots gs (dicts_in gs vs es) ≡ s
     state-failed touch region labels =
-        ap (state_of kinds slots gs) (homes-kept kinds hs j h g [] [] named-first at touch es dicts (clear-none hs h.name es))
-        ∙ state-same slots hs j h g at session change kinds (dicts_in hs es)
+        ap (state_of kinds slots gs) (homes-kept kinds hs j h g [] [] named-first at touch vs es dicts (clear-none hs h.name es))
+        ∙ state-same slots hs j h g at session change kinds (dicts_in hs vs es)
         (ap (λ q. let p : Region Label × Kept = (relabelled (name_of g.labels) q, kept_of g.labels) in p) region
         ∙ ap (λ l. let p : Region Label × Kept = (relabelled (name_of l) h.region, kept_of l) in p) labels)
 
@@ -166,10 +167,10 @@ module _ (kinds : List Rules) (slots : Slots) (hs : List Held) (es : List Entry)
     no-fault code.NoSegment none asked = absurd (none-some _ (sym none))
     no-fault fault none asked = asked
 
-    pub steps-failed : {E : Type 0} (fault : RegionFault) (answer : Result Reply E) → TellsTable fault answer → RefusedBy fault (LacksTable (Some 16) h.disc g.disc) h.disc g.disc → IsRefusal (open_dictionary h.disc.terms (layout_in h.region) 0 method) fault → dict_refused s (home_of h) d k ≡ None → Touches h g [] [] → g.region ≡ h.region → g.labels ≡ h.labels → StepsBy answer (moment_over slots es kinds gone hs) (moment_over slots es kinds gone (set hs j g)) (OpenDict d method r k) (λ st. open_dict_step st d method r k)
+    pub steps-failed : {E : Type 0} (fault : RegionFault) (answer : Result Reply E) → TellsTable fault answer → RefusedBy fault (LacksTable (Some 16) h.disc g.disc) h.disc g.disc → IsRefusal (open_dictionary h.disc.terms (layout_in h.region) 0 method) fault → dict_refused s (home_of h) d k ≡ None → Touches h g [] [] → g.region ≡ h.region → g.labels ≡ h.labels → StepsBy answer (moment_over slots es vs kinds gone hs) (moment_over slots es vs kinds gone (set hs j g)) (OpenDict d method r k) (λ st. open_dict_step st d method r k)
     steps-failed fault (Ok told) tells asked refusal none touch region labels =
         record {
-          gives = open-failed gone fault told (state_of kinds slots (set hs j g) (dicts_in (set hs j g) es)) (state-failed g change touch region labels) none tells refusal;
+          gives = open-failed gone fault told (state_of kinds slots (set hs j g) (dicts_in (set hs j g) vs es)) (state-failed g change touch region labels) none tells refusal;
           settles = settles-failed g change fault told tells asked;
           lacks = lacks-failed g change fault told tells asked touch;
         }
@@ -181,12 +182,12 @@ module _ (kinds : List Rules) (slots : Slots) (hs : List Held) (es : List Entry)
         }
 
   -- its table is put
-  module _ (g : Held) (new : Dict) {cells : Blocks} (change : IsChange (record h { cells = cells }) g) (touch : Touches h g [] (owned (dictionary_of new g.cells))) (labels : g.labels ≡ h.labels) (kind : new.kind ≡ k) (rules : Rules) (by : at_number kinds k ≡ Some rules) (whole : IsWhole rules new g.cells) where
+  module _ (g : Held) (new : Dict) (n : ℕ) (free : vs n ≡ None) {cells : Blocks} (change : IsChange (record h { cells = cells }) g) (touch : Touches h g [] (owned (dictionary_of new g.cells))) (labels : g.labels ≡ h.labels) (kind : new.kind ≡ k) (rules : Rules) (by : at_number kinds k ≡ Some rules) (whole : IsWhole rules new g.cells) where
     abbrev after_hs : List Held
     after_hs = set hs j g
 
     abbrev pub entry_opened : Entry
-    entry_opened = (d, record { home = r; dict = new })
+    entry_opened = (d, record { home = r; number = n; dict = new })
 
     abbrev mine : List ℕ
     mine = owned (dictionary_of new g.cells)
@@ -204,28 +205,28 @@ module _ (kinds : List Rules) (slots : Slots) (hs : List Held) (es : List Entry)
       whole = whole;
     }
 
-    opened-own : owned (dict_home after_hs entry_opened).dict ≡ mine
+    opened-own : owned (dict_over after_hs entry_opened) ≡ mine
     opened-own = ap (λ o. owned (dictionary_of new (cells_held o))) opened-held
 
     pub dicts-opened : AreDicts kinds after_hs (es ++ entry_opened ∷ [])
     dicts-opened =
         dicts-push kinds hs j h g [] mine named-first at touch entry_opened opened-is ((bytes_eq-Decides h.name r).1 name-is) opened-own es dicts (clear-none hs h.name es)
 
-    homes-opened : dicts_in after_hs (es ++ entry_opened ∷ []) ≡ dicts_in hs es ++ dict_home after_hs entry_opened ∷ []
+    homes-opened : dicts_in after_hs vs (es ++ entry_opened ∷ []) ≡ dicts_in hs vs es ++ dict_home after_hs vs entry_opened ∷ []
     homes-opened =
-        homes-push kinds hs j h g [] mine named-first at touch entry_opened opened-is ((bytes_eq-Decides h.name r).1 name-is) opened-own es dicts (clear-none hs h.name es)
+        homes-push kinds hs j h g [] mine named-first at touch entry_opened opened-is ((bytes_eq-Decides h.name r).1 name-is) opened-own vs es dicts (clear-none hs h.name es)
 
     abbrev pub opened_state : State
-    opened_state = state_of kinds slots after_hs (dicts_in after_hs (es ++ entry_opened ∷ []))
+    opened_state = state_of kinds slots after_hs (dicts_in after_hs vs (es ++ entry_opened ∷ []))
 
     abbrev with_both : List Home → List DictHome → State
     with_both homes ds = record { shelf = s.shelf; homes = homes; kinds = kinds; dicts = ds }
 
-    entry-is : (dict : Dictionary) → dict ≡ dictionary_of new g.cells → (let x : DictHome = record { name = d; home = h.name; kind = k; dict = dict } in x) ≡ dict_home after_hs entry_opened
+    entry-is : (dict : Dictionary) → dict ≡ dictionary_of new g.cells → (let x : DictHome = record { name = d; home = h.name; kind = k; views = None; dict = dict } in x) ≡ dict_home after_hs vs entry_opened
     entry-is dict same =
-        let one : List ℕ → ℕ → Dictionary → DictHome = λ n m x. record { name = d; home = n; kind = m; dict = x } in
-        ap (λ n. one n k dict) name-is
-        ∙ (ap (λ m. one r m dict) (sym kind) ∙ ap (one r new.kind) (same ∙ sym (ap (λ o. dictionary_of new (cells_held o)) opened-held)))
+        let one : List ℕ → ℕ → Option (List ℕ) → Dictionary → DictHome = λ n m v x. record { name = d; home = n; kind = m; views = v; dict = x } in
+        ap (λ n. one n k None dict) name-is
+        ∙ (ap (λ m. one r m None dict) (sym kind) ∙ (ap (λ v. one r new.kind v dict) (sym free) ∙ ap (one r new.kind (vs n)) (same ∙ sym (ap (λ o. dictionary_of new (cells_held o)) opened-held))))
 
     region-opened : (region : Layout ℕ) → layout_in g.region ≡ region → with_region h.name (OfBest (relabel_layout (name_of h.labels) region)) (home_of h).kept s.homes ≡ map home_of after_hs
     region-opened region same =
@@ -240,7 +241,7 @@ module _ (kinds : List Rules) (slots : Slots) (hs : List Held) (es : List Entry)
           replied = ap (λ (q : Stepped). q.reply) is;
           state_after =
               ap (λ (q : Stepped). q.state) is
-              ∙ (ap (λ q. with_both q (s.dicts ++ (let y : DictHome = record { name = d; home = h.name; kind = k; dict = x.dict } in y) ∷ [])) (region-opened x.region grown.0)
+              ∙ (ap (λ q. with_both q (s.dicts ++ (let y : DictHome = record { name = d; home = h.name; kind = k; views = None; dict = x.dict } in y) ∷ [])) (region-opened x.region grown.0)
               ∙ (ap (λ q. with_both (map home_of after_hs) (s.dicts ++ q ∷ [])) (entry-is x.dict (sym grown.1))
               ∙ ap (with_both (map home_of after_hs)) (sym homes-opened)));
           told = sym (ap (λ (q : Stepped). tell q.told gone) is);

@@ -5,7 +5,8 @@ use Rattle.std.specs.List.{list_any}
 use Rattle.vc_region.specs.Region.{OfBest, OfDebug, OfLast, OfPool, OfProfile, Region, relabelled, is_best}
 use Rattle.vc_script.specs.declared.refusal.Refusal.{Refusal}
 use Rattle.vc_script.specs.declared.refusal.Refusal.TheVariants as why
-use Rattle.vc_session.specs.Dicts.{dict_limit, dict_refused, is_dict, is_kind}
+use Rattle.vc_session.specs.Dicts.{dict_limit, dict_refused, is_kind}
+use Rattle.vc_views.specs.Views.{is_dict}
 use Rattle.vc_commands.specs.Home.{Home}
 use Rattle.vc_session.specs.State.{State}
 

@@ -5,7 +5,6 @@ use Rattle.vc_base.specs.Methods.{is_list}
 use Rattle.vc_model.specs.Outcome as model
 use Rattle.vc_model.specs.Outcome.{Outcome}
 use Rattle.vc_objects.specs.Insert.{insert, want_of}
-use Rattle.vc_objects.specs.Lists.{before_key, behind_key, first_object, first_with, last_object}
 use Rattle.vc_objects.specs.Objects.{Object}
 use Rattle.vc_objects.specs.Remove.{remove, remove_unnamed}
 use Rattle.vc_objects.specs.Turn.{Turned, turn}
@@ -15,11 +14,11 @@ use Rattle.vc_objects.specs.declared.fate.Want.{Want}
 use Rattle.vc_objects.specs.declared.fate.Want.TheVariants as want
 use Rattle.vc_script.specs.Needs.{Need}
 use Rattle.vc_script.specs.declared.command.Command.{Command}
-use Rattle.vc_script.specs.declared.command.Command.TheVariants.{Insert, Append, Attach, Delete, Detach, Search, MatchKey, First, Last, Next, Prev, Walk, Count, Remethod, Empty}
+use Rattle.vc_script.specs.declared.command.Command.TheVariants.{Insert, Append, Attach, Delete, Detach, Count, Remethod, Empty}
 use Rattle.vc_script.specs.declared.refusal.Refusal.TheVariants as why
 use Rattle.vc_script.specs.declared.reply.Reply.{Reply}
 use Rattle.vc_script.specs.declared.reply.Reply.TheVariants as reply
-use Rattle.vc_commands.specs.DictCommands.{delete_in, fate_reply, found_in, gone_reply, in_dict, insert_in, is_for_object, is_for_table, is_object, object_refusal, put_object, put_unless, removed_as, standing, table_refusal, turned_as, where_object}
+use Rattle.vc_commands.specs.DictCommands.{delete_in, fate_reply, gone_reply, in_dict, insert_in, is_for_object, is_for_table, is_object, object_refusal, put_object, put_unless, removed_as, standing, table_refusal, turned_as, where_object}
 use Rattle.vc_commands.specs.Seat.{DictChanged, Seat, declined}
 
 abbrev pub IsOther : Reply → Type 0
@@ -73,13 +72,6 @@ module _ {L : Type 0} (s : Seat L) where
   other-delete None = other-gone true (remove_unnamed s.region s.dict).gone
   other-delete (Some bytes) = other-remove true bytes
 
-  other-found : (o : Option Object) → IsOther (found_in s o).reply
-  other-found None = tt
-  other-found (Some o) = tt
-
-  other-look : (bytes : List ℕ) (o : Option Object) → IsOther (where_object s bytes (found_in s o)).reply
-  other-look bytes o = other-sized bytes (found_in s o) (other-found o)
-
   other-turned : (name : List ℕ) (method : DictMethod) (o : Outcome (Turned L)) → IsOther (turned_as s name method o).reply
   other-turned name method (model.Done t) = tt
   other-turned name method (model.Refused fault) = other-table (want_of fault)
@@ -92,13 +84,6 @@ module _ {L : Type 0} (s : Seat L) where
   other-dict (Attach d bytes) need = other-insert bytes bytes need
   other-dict (Delete d object) need = other-delete object
   other-dict (Detach d bytes) need = other-remove false bytes
-  other-dict (Search d bytes) need = other-look bytes (first_with s.rules (s.rules.key bytes) s.dict.objects)
-  other-dict (MatchKey d key) need = other-look key (first_with s.rules key s.dict.objects)
-  other-dict (First d) need = other-found (first_object s.dict.objects)
-  other-dict (Last d) need = other-found (last_object s.dict.objects)
-  other-dict (Next d bytes) need = other-look bytes (behind_key s.rules (s.rules.key bytes) s.dict.objects)
-  other-dict (Prev d bytes) need = other-look bytes (before_key s.rules (s.rules.key bytes) s.dict.objects)
-  other-dict (Walk d) need = tt
   other-dict (Count d) need = tt
   other-dict (Remethod d method) need = other-turned d method (turn s.rules s.terms s.region s.none s.dict method (is_for_table need))
   other-dict (Empty d) need = tt

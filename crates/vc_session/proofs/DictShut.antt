@@ -19,16 +19,17 @@ use Rattle.vc_objects.proofs.Named.{region_without-named}
 use Rattle.vc_commands.specs.Held.{Held, IsChange, home_of}
 use Rattle.vc_session.specs.Account.{IsSession, held_named, state_of}
 use Rattle.vc_session.specs.DictHomes.{AreDicts, IsDictOf, cells_held, dict_home, dicts_in}
-use Rattle.vc_session.specs.Dicts.{is_dict, shut_in, shut_state, without_dict}
+use Rattle.vc_session.specs.Dicts.{shut_in, shut_state, without_dict}
+use Rattle.vc_views.specs.Views.{is_dict, DictHome}
 use Rattle.vc_commands.specs.Labels.{kept_of, name_of}
-use Rattle.vc_session.specs.State.{DictHome, State, home_named, with_region}
+use Rattle.vc_session.specs.State.{State, home_named, with_region}
 use Rattle.vc_commands.specs.Home.{Home, Label, is_home}
 use Rattle.vc_session.proofs.BestRegions.{best-named}
 use Rattle.vc_session.proofs.Cells.{map-remove}
 use Rattle.vc_session.proofs.Changing.{homes-change}
 use Rattle.vc_session.proofs.DictChange.{IsClear, Touches, clear-others, dict-at, dicts-kept, dicts-remove, homes-kept}
 use Rattle.vc_session.proofs.DictNamed.{home-at}
-use Rattle.vc_session.proofs.DictsStay.{Entry}
+use Rattle.vc_session.proofs.DictsStay.{Entry, Vs}
 use Rattle.vc_commands.proofs.Firsts.{IsFirst, find-first, first-unmap, or-false}
 use Rattle.vc_commands.proofs.Keeping.{swapped}
 use Rattle.vc_session.proofs.Sessions.{Slots}
@@ -41,22 +42,22 @@ without-at d (l ∷ ks) (suc i) k at passes none =
     ap (λ b. cond b ks (l ∷ without_dict d ks)) parts.0 ∙ ap (λ zs. l ∷ zs) (without-at d ks i k at passes parts.1)
 
 -- no other one has the name, where none that is left has it
-pub none-left : (hs : List Held) (es : List Entry) (d : List ℕ) (i : ℕ) → lookup (bytes_eq d) (remove es i) ≡ None → list_any (is_dict d) (take i (dicts_in hs es)) ≡ false
-none-left hs [] d zero none = refl
-none-left hs [] d (suc i) none = refl
-none-left hs (e ∷ es) d zero none = refl
-none-left hs (e ∷ es) d (suc i) none =
+pub none-left : (hs : List Held) (vs : Vs) (es : List Entry) (d : List ℕ) (i : ℕ) → lookup (bytes_eq d) (remove es i) ≡ None → list_any (is_dict d) (take i (dicts_in hs vs es)) ≡ false
+none-left hs vs [] d zero none = refl
+none-left hs vs [] d (suc i) none = refl
+none-left hs vs (e ∷ es) d zero none = refl
+none-left hs vs (e ∷ es) d (suc i) none =
     ⊎_elim
     (λ is. absurd (none-some e.1 (sym none ∙ ap (λ b. cond b (Some e.1) (lookup (bytes_eq d) (remove es i))) is)))
     (λ is.
-    ap (λ b. b || list_any (is_dict d) (take i (dicts_in hs es))) (swapped e.0 d ∙ is)
-    ∙ none-left hs es d i (sym (ap (λ b. cond b (Some e.1) (lookup (bytes_eq d) (remove es i))) is) ∙ none))
+    ap (λ b. b || list_any (is_dict d) (take i (dicts_in hs vs es))) (swapped e.0 d ∙ is)
+    ∙ none-left hs vs es d i (sym (ap (λ b. cond b (Some e.1) (lookup (bytes_eq d) (remove es i))) is) ∙ none))
     (cases_Bool (bytes_eq d e.0))
 
 -- a dictionary of a session, and the region that it lies in
-module _ (kinds : List Rules) (slots : Slots) (hs : List Held) (es : List Entry) (j i : ℕ) (h : Held) (e : Entry) (at : slice_get hs j ≡ Some h) (there : slice_get es i ≡ Some e) (first : IsFirst (is_home h.name) (map home_of hs) j) (session : IsSession slots hs) (dicts : AreDicts kinds hs es) (lies : h.name ≡ e.1.home) where
+module _ (kinds : List Rules) (slots : Slots) (hs : List Held) (es : List Entry) (vs : Vs) (j i : ℕ) (h : Held) (e : Entry) (at : slice_get hs j ≡ Some h) (there : slice_get es i ≡ Some e) (first : IsFirst (is_home h.name) (map home_of hs) j) (session : IsSession slots hs) (dicts : AreDicts kinds hs es) (lies : h.name ≡ e.1.home) where
   abbrev d : DictHome
-  d = dict_home hs e
+  d = dict_home hs vs e
 
   abbrev was : Dictionary
   was = dictionary_of e.1.dict h.cells
@@ -104,8 +105,8 @@ module _ (kinds : List Rules) (slots : Slots) (hs : List Held) (es : List Entry)
     pub dicts-shut : AreDicts kinds gs (remove es i)
     dicts-shut = dicts-kept kinds hs j h g (owned was) [] held-first at touch (remove es i) (dicts-remove kinds hs es i dicts) clear
 
-    homes-shut : dicts_in gs (remove es i) ≡ dicts_in hs (remove es i)
-    homes-shut = homes-kept kinds hs j h g (owned was) [] held-first at touch (remove es i) (dicts-remove kinds hs es i dicts) clear
+    homes-shut : dicts_in gs vs (remove es i) ≡ dicts_in hs vs (remove es i)
+    homes-shut = homes-kept kinds hs j h g (owned was) [] held-first at touch vs (remove es i) (dicts-remove kinds hs es i dicts) clear
 
     abbrev made : List Home → List DictHome → State
     made homes ds = record { shelf = (state_of kinds slots hs []).shelf; homes = homes; kinds = kinds; dicts = ds }
@@ -124,11 +125,11 @@ module _ (kinds : List Rules) (slots : Slots) (hs : List Held) (es : List Entry)
         ∙ (ap (λ l. with_region h.name (home_of g).region (kept_of l) (map home_of hs)) (sym labels)
         ∙ homes-change slots hs j h g at session change h.name first)
 
-    pub state-shut : list_any (is_dict e.0) (take i (dicts_in hs es)) ≡ false → state_of kinds slots gs (dicts_in gs (remove es i)) ≡ shut_state (state_of kinds slots hs (dicts_in hs es)) d
+    pub state-shut : list_any (is_dict e.0) (take i (dicts_in hs vs es)) ≡ false → state_of kinds slots gs (dicts_in gs vs (remove es i)) ≡ shut_state (state_of kinds slots hs (dicts_in hs vs es)) d
     state-shut none =
-        let ds : without_dict e.0 (dicts_in hs es) ≡ dicts_in gs (remove es i) =
-        without-at e.0 (dicts_in hs es) i d (home-at hs es i e there) ((bytes_eq-Decides e.0 e.0).1 refl) none
-        ∙ (sym (map-remove (dict_home hs) es i) ∙ sym homes-shut) in
+        let ds : without_dict e.0 (dicts_in hs vs es) ≡ dicts_in gs vs (remove es i) =
+        without-at e.0 (dicts_in hs vs es) i d (home-at hs vs es i e there) ((bytes_eq-Decides e.0 e.0).1 refl) none
+        ∙ (sym (map-remove (dict_home hs vs) es i) ∙ sym homes-shut) in
         sym
-        (ap (shut_in (state_of kinds slots hs (dicts_in hs es)) d) found-home
-        ∙ (ap (λ x. made x (without_dict e.0 (dicts_in hs es))) region-shut ∙ ap (made (map home_of gs)) ds))
+        (ap (shut_in (state_of kinds slots hs (dicts_in hs vs es)) d) found-home
+        ∙ (ap (λ x. made x (without_dict e.0 (dicts_in hs vs es))) region-shut ∙ ap (made (map home_of gs)) ds))

@@ -1,5 +1,5 @@
 -- What a command on a dictionary does to the state, to its kind and to the settled shelf.
-use Rattle.std.proofs.Common.{◌≡◌, ℕ, ◌-◌, true, false, List, [], ◌∷◌, Option, Some, None, map, option_map, set, refl, sym, ap, ◌∙◌, subst, inl, inr}
+use Rattle.std.proofs.Common.{◌≡◌, ℕ, ◌-◌, true, false, List, Option, Some, None, map, option_map, set, refl, sym, ap, ◌∙◌, subst, inl, inr}
 use Rattle.std.specs.Prelude.{◌⊎◌, remove, slice_get}
 use Rattle.std.specs.List.{AllByRecursion}
 use Rattle.std.specs.Str.{bytes_eq}
@@ -33,12 +33,13 @@ use Rattle.vc_script.specs.declared.reply.Reply.{Reply}
 use Rattle.vc_script.specs.declared.reply.Reply.TheVariants.{Refused}
 use Rattle.vc_commands.specs.Held.{Held, IsChange, home_of}
 use Rattle.vc_session.specs.Account.{IsSession, Settles, accounts, held_named, settled, state_of}
-use Rattle.vc_session.specs.DictHomes.{AreDicts, IsDictOf, cells_held, dict_home, dicts_in}
-use Rattle.vc_session.specs.Dicts.{dict_changed, dict_command, dict_named, dict_of, dict_step, is_dict, on_found, on_seat, region_named, seat_of, with_dict}
+use Rattle.vc_session.specs.DictHomes.{AreDicts, IsDictOf, cells_held, dict_home, dicts_in, dict_over}
+use Rattle.vc_session.specs.Dicts.{dict_changed, dict_command, dict_of, dict_step, on_found, on_seat, region_named, seat_of, with_dict}
+use Rattle.vc_views.specs.Views.{dict_named, is_dict, DictHome}
 use Rattle.vc_commands.specs.Labels.{kept_of, name_of}
 use Rattle.vc_session.specs.Lacks.{CommandLacks, DictLacks, GrewBy, GrewFor, GrewIn, InHeld, IsCutOff, SeatLacks, StepLacksFor, dict_at}
 use Rattle.vc_session.specs.Run.{home_place, place_named, refusal_at}
-use Rattle.vc_session.specs.State.{DictHome, State, Stepped, home_named, with_region}
+use Rattle.vc_session.specs.State.{State, Stepped, home_named, with_region}
 use Rattle.vc_commands.specs.Home.{Home, Label, is_home}
 use Rattle.vc_session.specs.Step.{GivesStep, opened_in, region_asked}
 use Rattle.vc_session.specs.Told.{tell}
@@ -49,7 +50,7 @@ use Rattle.vc_session.proofs.DictChange.{IsClear, Touches, clear-others, dict-at
 use Rattle.vc_session.proofs.DictNamed.{dict-found, dict-set, home-at}
 use Rattle.vc_session.proofs.DictReplies.{IsOther}
 use Rattle.vc_session.proofs.DictTold.{tell-each}
-use Rattle.vc_session.proofs.DictsStay.{Entry}
+use Rattle.vc_session.proofs.DictsStay.{Entry, Vs}
 use Rattle.vc_commands.proofs.Firsts.{IsFirst, find-first, first-unmap}
 use Rattle.vc_session.proofs.FirstHome.{with_region-first}
 use Rattle.vc_commands.proofs.Names.{name-none}
@@ -68,18 +69,18 @@ command-lacks s (OpenDict x method r k) reply old new d works lacks = absurd (no
 command-lacks s command reply old new d works lacks = lacks
 
 -- a dictionary of a session, and the region that it lies in
-module _ (kinds : List Rules) (slots : Slots) (hs : List Held) (es : List Entry) (j i : ℕ) (h : Held) (e : Entry) (at : slice_get hs j ≡ Some h) (there : slice_get es i ≡ Some e) (first : IsFirst (is_home h.name) (map home_of hs) j) (first_dict : IsFirst (is_dict e.0) (dicts_in hs es) i) (session : IsSession slots hs) (dicts : AreDicts kinds hs es) (lies : h.name ≡ e.1.home) where
+module _ (kinds : List Rules) (slots : Slots) (hs : List Held) (es : List Entry) (vs : Vs) (j i : ℕ) (h : Held) (e : Entry) (at : slice_get hs j ≡ Some h) (there : slice_get es i ≡ Some e) (first : IsFirst (is_home h.name) (map home_of hs) j) (first_dict : IsFirst (is_dict e.0) (dicts_in hs vs es) i) (session : IsSession slots hs) (dicts : AreDicts kinds hs es) (lies : h.name ≡ e.1.home) where
   abbrev s : State
-  s = state_of kinds slots hs (dicts_in hs es)
+  s = state_of kinds slots hs (dicts_in hs vs es)
 
   abbrev d : DictHome
-  d = dict_home hs e
+  d = dict_home hs vs e
 
   abbrev was : Dictionary
   was = dictionary_of e.1.dict h.cells
 
-  found-dict : dict_named e.0 (dicts_in hs es) ≡ Some d
-  found-dict = dict-found hs es e.0 i e there first_dict
+  found-dict : dict_named e.0 (dicts_in hs vs es) ≡ Some d
+  found-dict = dict-found hs vs es e.0 i e there first_dict
 
   home-item : first.item ≡ home_of h
   home-item = same_Some first.item (home_of h) (sym first.at ∙ (slice_get-map home_of hs j ∙ ap (option_map home_of) at))
@@ -142,7 +143,7 @@ module _ (kinds : List Rules) (slots : Slots) (hs : List Held) (es : List Entry)
     gs = set hs j g
 
     abbrev pub entry_new : Entry
-    entry_new = (e.0, record { home = e.1.home; dict = new })
+    entry_new = (e.0, record { home = e.1.home; number = e.1.number; dict = new })
 
     abbrev now : Dictionary
     now = dictionary_of new g.cells
@@ -163,7 +164,7 @@ module _ (kinds : List Rules) (slots : Slots) (hs : List Held) (es : List Entry)
     here : bytes_eq h.name e.1.home ≡ true
     here = (bytes_eq-Decides h.name e.1.home).1 lies
 
-    own-new : owned (dict_home gs entry_new).dict ≡ owned now
+    own-new : owned (dict_over gs entry_new) ≡ owned now
     own-new = ap (λ o. owned (dictionary_of new (cells_held o))) now-held
 
     others-clear : AllByRecursion (IsClear hs h.name (owned was)) (remove es i)
@@ -174,15 +175,15 @@ module _ (kinds : List Rules) (slots : Slots) (hs : List Held) (es : List Entry)
     pub dicts-after : AreDicts kinds gs (set es i entry_new)
     dicts-after = dicts-set kinds hs j h g (owned was) (owned now) held-first at touch entry_new is-new here own-new es i e there dicts others-clear
 
-    homes-after : dicts_in gs (set es i entry_new) ≡ set (dicts_in hs es) i (dict_home gs entry_new)
-    homes-after = homes-set kinds hs j h g (owned was) (owned now) held-first at touch entry_new is-new here own-new es i e there dicts others-clear
+    homes-after : dicts_in gs vs (set es i entry_new) ≡ set (dicts_in hs vs es) i (dict_home gs vs entry_new)
+    homes-after = homes-set kinds hs j h g (owned was) (owned now) held-first at touch entry_new is-new here own-new vs es i e there dicts others-clear
 
     abbrev pub after : State
-    after = state_of kinds slots gs (dicts_in gs (set es i entry_new))
+    after = state_of kinds slots gs (dicts_in gs vs (set es i entry_new))
 
-    entry-home : (dict : Dictionary) → dict ≡ now → (let k : DictHome = record d { dict = dict } in k) ≡ dict_home gs entry_new
+    entry-home : (dict : Dictionary) → dict ≡ now → (let k : DictHome = record d { dict = dict } in k) ≡ dict_home gs vs entry_new
     entry-home dict same =
-        let made : ℕ → Dictionary → DictHome = λ k x. record { name = e.0; home = e.1.home; kind = k; dict = x } in
+        let made : ℕ → Dictionary → DictHome = λ k x. record { name = e.0; home = e.1.home; kind = k; views = vs e.1.number; dict = x } in
         ap (λ k. made k dict) (sym kind) ∙ ap (made new.kind) (same ∙ sym (ap (λ o. dictionary_of new (cells_held o)) now-held))
 
     abbrev made : List Home → List DictHome → State
@@ -194,9 +195,9 @@ module _ (kinds : List Rules) (slots : Slots) (hs : List Held) (es : List Entry)
         ap (λ q. with_region h.name q (home_of h).kept s.homes) same
         ∙ (ap (λ l. with_region h.name (home_of g).region (kept_of l) s.homes) (sym labels)
         ∙ homes-change slots hs j h g at session change h.name first) in
-        let ds : with_dict e.0 dict s.dicts ≡ dicts_in gs (set es i entry_new) =
-        dict-set hs es e.0 i e there first_dict dict
-        ∙ (ap (set (dicts_in hs es) i) (entry-home dict same_dict) ∙ sym homes-after) in
+        let ds : with_dict e.0 dict s.dicts ≡ dicts_in gs vs (set es i entry_new) =
+        dict-set hs vs es e.0 i e there first_dict dict
+        ∙ (ap (set (dicts_in hs vs es) i) (entry-home dict same_dict) ∙ sym homes-after) in
         ap (λ x. made x (with_dict e.0 dict s.dicts)) homes ∙ ap (made (map home_of gs)) ds
 
     relabel-after : (region : Layout ℕ) → region ≡ layout_in g.region → OfBest (relabel_layout (name_of h.labels) region) ≡ (home_of g).region
@@ -264,7 +265,7 @@ module _ (kinds : List Rules) (slots : Slots) (hs : List Held) (es : List Entry)
         ∙ (ap (λ (k : Home). set s.homes j (record k { region = (home_of h).region; kept = (home_of h).kept })) home-item
         ∙ set_same s.homes j (home_of h) (slice_get-map home_of hs j ∙ ap (option_map home_of) at)) in
         let ds : with_dict e.0 d.dict s.dicts ≡ s.dicts =
-        dict-set hs es e.0 i e there first_dict d.dict ∙ set_same s.dicts i d (home-at hs es i e there) in
+        dict-set hs vs es e.0 i e there first_dict d.dict ∙ set_same s.dicts i d (home-at hs vs es i e there) in
         ap (λ x. made x (with_dict e.0 d.dict s.dicts)) homes ∙ ap (made s.homes) ds
 
     grew-for : (o : Outcome (Grown ℕ)) → HasGrown o (layout_in g.region) now → GrewFor (done_as (relabel_grown (name_of h.labels)) o) s d (home_of h) after

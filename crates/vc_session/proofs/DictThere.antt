@@ -16,7 +16,7 @@ use Rattle.vc_commands.specs.declared.region.labels.Labels.{Labels}
 use Rattle.vc_commands.specs.Held.{Held, home_of}
 use Rattle.vc_session.specs.Account.{IsSession}
 use Rattle.vc_session.specs.DictHomes.{AreDicts, IsDictOf, dicts_in}
-use Rattle.vc_session.specs.Dicts.{is_dict}
+use Rattle.vc_views.specs.Views.{is_dict}
 use Rattle.vc_session.specs.Homes.{held_all}
 use Rattle.vc_commands.specs.RegionRun.{held_of}
 use Rattle.vc_commands.specs.Home.{is_home}
@@ -24,12 +24,12 @@ use Rattle.vc_session.proofs.DictChange.{dict-at}
 use Rattle.vc_session.proofs.DictNamed.{first-dict, key-at}
 use Rattle.vc_session.proofs.DictRun.{pair-read}
 use Rattle.vc_session.proofs.DictStep.{best-here}
-use Rattle.vc_session.proofs.DictsStay.{Entry}
+use Rattle.vc_session.proofs.DictsStay.{Entry, Vs}
 use Rattle.vc_commands.proofs.Firsts.{IsFirst}
 use Rattle.vc_session.proofs.Helds.{first-named, held-read, index-within, name-at, some-at}
 use Rattle.vc_session.proofs.Sessions.{Slots}
 
-module _ {I : Type 0} {V : I → Type 0} (meaning : (x : I) × V x → Discipline) (kinds : List Rules) (slots : Slots) (homes : List (List ℕ × HomeEntry I V)) (labels : List Labels) (es : List Entry) (name : List ℕ) (entry : DictEntry) (hv : HomeEntry I V) (j i : ℕ) (named : length labels ≡ length homes) (held : IsSession slots (held_all meaning homes labels)) (dicts : AreDicts kinds (held_all meaning homes labels) es) (at_home : position (bytes_eq entry.home) (keys_of homes) ≡ Some j) (home : slice_get (values_of homes) j ≡ Some hv) (at_dict : position (bytes_eq name) (keys_of es) ≡ Some i) (dict : slice_get (values_of es) i ≡ Some entry) where
+module _ {I : Type 0} {V : I → Type 0} (meaning : (x : I) × V x → Discipline) (kinds : List Rules) (slots : Slots) (homes : List (List ℕ × HomeEntry I V)) (labels : List Labels) (es : List Entry) (vs : Vs) (name : List ℕ) (entry : DictEntry) (hv : HomeEntry I V) (j i : ℕ) (named : length labels ≡ length homes) (held : IsSession slots (held_all meaning homes labels)) (dicts : AreDicts kinds (held_all meaning homes labels) es) (at_home : position (bytes_eq entry.home) (keys_of homes) ≡ Some j) (home : slice_get (values_of homes) j ≡ Some hv) (at_dict : position (bytes_eq name) (keys_of es) ≡ Some i) (dict : slice_get (values_of es) i ≡ Some entry) where
   abbrev hs : List Held
   hs = held_all meaning homes labels
 
@@ -57,8 +57,8 @@ module _ {I : Type 0} {V : I → Type 0} (meaning : (x : I) × V x → Disciplin
   first : IsFirst (is_home entry.home) (map home_of hs) j
   first = first-named meaning homes labels entry.home j named at_home
 
-  first_dict : IsFirst (is_dict name) (dicts_in hs es) i
-  first_dict = first-dict hs es name i at_dict
+  first_dict : IsFirst (is_dict name) (dicts_in hs vs es) i
+  first_dict = first-dict hs vs es name i at_dict
 
   abbrev is : IsDictOf kinds hs e
   is = dict-at kinds hs es i e there dicts
@@ -68,4 +68,4 @@ module _ {I : Type 0} {V : I → Type 0} (meaning : (x : I) × V x → Disciplin
 
   -- its region is a best one
   pub best-there : is_best (rest_in hv.region) ≡ true
-  best-there = best-here kinds slots hs es j i h e at there first first_dict held dicts refl
+  best-there = best-here kinds slots hs es vs j i h e at there first first_dict held dicts refl

@@ -1,5 +1,5 @@
 -- The four reasons for which no dictionary is opened before its table is asked for.
-use Rattle.std.proofs.Common.{◌≡◌, ℕ, Bool, true, false, ◌≤◌, ◌&&◌, cond, List, Option, Some, None, length, refl, sym, subst, arith}
+use Rattle.std.proofs.Common.{◌≡◌, ◌<◌, ℕ, Bool, true, false, ◌≤◌, ◌&&◌, cond, List, Option, Some, None, length, refl, sym, subst, arith}
 use Rattle.std.proofs.lemmas.Bool.{false≢true}
 use Rattle.std.proofs.lemmas.Bool.Decides.{nat_tests}
 use Rattle.std.specs.Prelude.{nat_le, not}
@@ -13,7 +13,8 @@ use Rattle.vc_script.specs.declared.reply.Reply.TheVariants.{Refused}
 use Rattle.vc_region.specs.Region.{is_best}
 use Rattle.vc_session.specs.Account.{Account, Settles}
 use Rattle.vc_commands.specs.Held.{Held}
-use Rattle.vc_session.specs.Dicts.{dict_limit, dict_refused, is_dict, is_kind}
+use Rattle.vc_session.specs.Dicts.{dict_limit, dict_refused, is_kind}
+use Rattle.vc_views.specs.Views.{is_dict}
 use Rattle.vc_session.specs.Lacks.{StepLacksFor}
 use Rattle.vc_session.specs.Run.{refusal_at}
 use Rattle.vc_commands.specs.Home.{Home}
@@ -52,22 +53,24 @@ lacks-early s before after d r method k why.WrongMethod is = tt
 lacks-early s before after d r method k why.TooManyDictionaries is = tt
 lacks-early s before after d r method k x is = absurd is
 
--- with no reason no dictionary has the name, the kind is there, and the region is a best one
+-- with no reason no dictionary has the name, the kind is there, the region is a best one, and there are not too many
 pub record IsAllowed (s : State) (h : Home) (d : List ℕ) (k : ℕ) : Type 0 where
   pub new : list_any (is_dict d) s.dicts ≡ false
   pub kind : is_kind s k ≡ true
   pub best : is_best h.region ≡ true
+  pub few : nat_le dict_limit (length s.dicts) ≡ false
 
-allowed : (exists kind best full : Bool) → cond exists (Some why.DictionaryExists) (cond (not kind) (Some why.NoSuchKind) (cond (not best) (Some why.WrongMethod) (cond full (Some why.TooManyDictionaries) None))) ≡ None → (exists ≡ false) × (kind ≡ true) × (best ≡ true)
+allowed : (exists kind best full : Bool) → cond exists (Some why.DictionaryExists) (cond (not kind) (Some why.NoSuchKind) (cond (not best) (Some why.WrongMethod) (cond full (Some why.TooManyDictionaries) None))) ≡ None → (exists ≡ false) × (kind ≡ true) × (best ≡ true) × (full ≡ false)
 allowed true kind best full is = absurd (none-some why.DictionaryExists (sym is))
 allowed false false best full is = absurd (none-some why.NoSuchKind (sym is))
 allowed false true false full is = absurd (none-some why.WrongMethod (sym is))
-allowed false true true full is = (refl, refl, refl)
+allowed false true true true is = absurd (none-some why.TooManyDictionaries (sym is))
+allowed false true true false is = (refl, refl, refl, refl)
 
 pub refused-none : (s : State) (h : Home) (d : List ℕ) (k : ℕ) → dict_refused s h d k ≡ None → IsAllowed s h d k
 refused-none s h d k is =
     let parts = allowed (list_any (is_dict d) s.dicts) (is_kind s k) (is_best h.region) (nat_le dict_limit (length s.dicts)) is in
-    record { new = parts.0; kind = parts.1; best = parts.2 }
+    record { new = parts.0; kind = parts.1; best = parts.2; few = parts.3 }
 
 both : (a b : Bool) → (a && b) ≡ true → (a ≡ true) × (b ≡ true)
 both true b is = (refl, is)
@@ -77,3 +80,6 @@ pub kind-within : (k n : ℕ) → (nat_le 1 k && nat_le k n) ≡ true → (1 ≤
 kind-within k n is =
     let parts = both (nat_le 1 k) (nat_le k n) is in
     (let low : 1 ≤ k = grind (arith, nat_tests, parts.0) in low, let high : k ≤ n = grind (arith, nat_tests, parts.1) in high)
+
+pub few-within : (n : ℕ) → nat_le dict_limit n ≡ false → n < 256
+few-within n few = grind (arith, nat_tests, few)

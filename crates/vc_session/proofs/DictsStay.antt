@@ -1,5 +1,5 @@
 -- What lasts of a session's dictionaries when a region is opened, closed, or changes.
-use Rattle.std.proofs.Common.{◌≡◌, ℕ, zero, suc, Bool, true, false, cond, List, [], ◌∷◌, ◌++◌, Some, map, set, refl, sym, ap, ◌∙◌, subst, ⊎_elim}
+use Rattle.std.proofs.Common.{◌≡◌, ℕ, zero, suc, Bool, true, false, cond, List, [], ◌∷◌, ◌++◌, Option, Some, map, set, refl, sym, ap, ◌∙◌, subst, ⊎_elim}
 use Rattle.std.specs.Prelude.{find, remove, slice_get}
 use Rattle.std.specs.List.{AllByRecursion, list_any}
 use Rattle.std.specs.Str.{bytes_eq}
@@ -7,14 +7,14 @@ use Rattle.std.proofs.lemmas.Bool.{cases_Bool}
 use Rattle.std.proofs.lemmas.Option.{none-some, same_Some}
 use Rattle.vc_base.specs.Holders.{contains}
 use Rattle.vc_dtdisc.specs.Rules.{Rules}
-use Rattle.vc_objects.specs.Objects.{owned}
+use Rattle.vc_objects.specs.Objects.{Dictionary, owned}
 use Rattle.vc_objects.specs.Parts.{IsWhole, dictionary_of}
 use Rattle.vc_region.specs.Region.{is_best}
 use Rattle.vc_commands.specs.declared.dict.entry.DictEntry.{DictEntry}
 use Rattle.vc_commands.specs.Held.{Held, home_of}
 use Rattle.vc_session.specs.Account.{held_named}
-use Rattle.vc_session.specs.DictHomes.{AreApart, AreDicts, IsDictOf, cells_held, dict_home, dicts_in, lies_in}
-use Rattle.vc_session.specs.State.{DictHome}
+use Rattle.vc_session.specs.DictHomes.{AreApart, AreDicts, IsDictOf, cells_held, dict_home, dicts_in, lies_in, dict_over}
+use Rattle.vc_views.specs.Views.{DictHome}
 use Rattle.vc_commands.specs.Home.{is_home}
 use Rattle.vc_commands.proofs.Firsts.{IsFirst, any-unmap, find-first, find-set, first-unmap, or-false}
 use Rattle.vc_commands.proofs.Keeping.{swapped}
@@ -23,17 +23,28 @@ use Rattle.vc_commands.proofs.Names.{same_bytes}
 abbrev pub Entry : Type 0
 Entry = List ℕ × DictEntry
 
+-- what the dictionary of a number views, by name
+abbrev pub Vs : Type 0
+Vs = ℕ → Option (List ℕ)
+
+-- a dictionary of an entry under its name
+abbrev pub home_of_entry : Vs → Entry → Dictionary → DictHome
+home_of_entry vs e dict = record { name = e.0; home = e.1.home; kind = e.1.dict.kind; views = vs e.1.number; dict = dict }
+
+abbrev home_of_views : List Held → Entry → Option (List ℕ) → DictHome
+home_of_views hs e views = record { name = e.0; home = e.1.home; kind = e.1.dict.kind; views = views; dict = dict_over hs e }
+
 -- a dictionary that is one over the regions before is the same one over those after
 abbrev pub Stays : List Rules → List Held → List Held → Entry → Type 0
-Stays kinds before after e = IsDictOf kinds before e → IsDictOf kinds after e × (dict_home after e ≡ dict_home before e)
+Stays kinds before after e = IsDictOf kinds before e → IsDictOf kinds after e × (dict_over after e ≡ dict_over before e)
 
 abbrev pub SameHome : List Held → List Held → Entry → Type 0
-SameHome before after e = dict_home after e ≡ dict_home before e
+SameHome before after e = dict_over after e ≡ dict_over before e
 
 pub apart-stays : (before after : List Held) (e f : Entry) → SameHome before after e → SameHome before after f → AreApart before e f → AreApart after e f
 apart-stays before after e f same same' apart = λ near a mine.
-    ap (λ (d : DictHome). contains (owned d.dict) a) same'
-    ∙ apart near a (sym (ap (λ (d : DictHome). contains (owned d.dict) a) same) ∙ mine)
+    ap (λ (d : Dictionary). contains (owned d) a) same'
+    ∙ apart near a (sym (ap (λ (d : Dictionary). contains (owned d) a) same) ∙ mine)
 
 module _ (kinds : List Rules) (before after : List Held) where
   pub homes-stay : (es : List Entry) → AllByRecursion (Stays kinds before after) es → AreDicts kinds before es → AllByRecursion (SameHome before after) es
@@ -52,10 +63,10 @@ module _ (kinds : List Rules) (before after : List Held) where
       (here.0, all-apart-stay e here.1 es (homes-stay es stay.1 are.2) are.1, dicts-stay es stay.1 are.2)
 
   -- and so does what they stand for
-  pub dicts_in-stay : (es : List Entry) → AllByRecursion (Stays kinds before after) es → AreDicts kinds before es → dicts_in after es ≡ dicts_in before es
-  dicts_in-stay [] stay are = refl
-  dicts_in-stay (e ∷ es) stay are =
-      ap (λ d. d ∷ dicts_in after es) (stay.0 are.0).1 ∙ ap (λ ds. dict_home before e ∷ ds) (dicts_in-stay es stay.1 are.2)
+  pub dicts_in-stay : (vs : Vs) (es : List Entry) → AllByRecursion (Stays kinds before after) es → AreDicts kinds before es → dicts_in after vs es ≡ dicts_in before vs es
+  dicts_in-stay vs [] stay are = refl
+  dicts_in-stay vs (e ∷ es) stay are =
+      ap (λ d. home_of_entry vs e d ∷ dicts_in after vs es) (stay.0 are.0).1 ∙ ap (λ ds. dict_home before vs e ∷ ds) (dicts_in-stay vs es stay.1 are.2)
 
   pub all-stay : (es : List Entry) → ((e : Entry) → Stays kinds before after e) → AllByRecursion (Stays kinds before after) es
   all-stay [] each = tt
@@ -74,9 +85,8 @@ module _ (kinds : List Rules) (before after : List Held) where
           kind = is.kind;
           whole = over.0;
         },
-        ap (λ o. let d : DictHome = record { name = e.0; home = e.1.home; kind = e.1.dict.kind; dict = dictionary_of e.1.dict (cells_held o) } in d) now
-            ∙ (ap (λ q. let d : DictHome = record { name = e.0; home = e.1.home; kind = e.1.dict.kind; dict = q } in d) over.1
-            ∙ ap (λ o. let d : DictHome = record { name = e.0; home = e.1.home; kind = e.1.dict.kind; dict = dictionary_of e.1.dict (cells_held o) } in d) (sym was)),
+        ap (λ o. dictionary_of e.1.dict (cells_held o)) now
+            ∙ (over.1 ∙ ap (λ o. dictionary_of e.1.dict (cells_held o)) (sym was)),
       )
 
   -- over a region of the same cells
@@ -123,9 +133,15 @@ stays-remove kinds hs i h at e other =
     stays-found kinds hs (remove hs i) e
     (λ k found. find-remove_other (λ k. bytes_eq k.name e.1.home) hs i h at (swapped h.name e.1.home ∙ other) ∙ found)
 
+-- what they stand for by other views is the same where each views the same
+pub dicts_in-views : (hs : List Held) (vs vs' : Vs) (es : List Entry) → AllByRecursion (λ e. vs' e.1.number ≡ vs e.1.number) es → dicts_in hs vs' es ≡ dicts_in hs vs es
+dicts_in-views hs vs vs' [] same = refl
+dicts_in-views hs vs vs' (e ∷ es) same =
+    ap (λ v. home_of_views hs e v ∷ dicts_in hs vs' es) same.0 ∙ ap (λ ds. dict_home hs vs e ∷ ds) (dicts_in-views hs vs vs' es same.1)
+
 -- whether a dictionary lies in a region
-pub busy-lies : (hs : List Held) (es : List Entry) (r : List ℕ) → list_any (λ (d : DictHome). bytes_eq d.home r) (dicts_in hs es) ≡ lies_in r es
-busy-lies hs es r = any-unmap (λ (d : DictHome). bytes_eq d.home r) (dict_home hs) es
+pub busy-lies : (hs : List Held) (vs : Vs) (es : List Entry) (r : List ℕ) → list_any (λ (d : DictHome). bytes_eq d.home r) (dicts_in hs vs es) ≡ lies_in r es
+busy-lies hs vs es r = any-unmap (λ (d : DictHome). bytes_eq d.home r) (dict_home hs vs) es
 
 pub all-other : (kinds : List Rules) (before after : List Held) (r : List ℕ) → ((e : Entry) → bytes_eq e.1.home r ≡ false → Stays kinds before after e) → (es : List Entry) → lies_in r es ≡ false → AllByRecursion (Stays kinds before after) es
 all-other kinds before after r each [] none = tt

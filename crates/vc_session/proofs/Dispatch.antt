@@ -1,8 +1,9 @@
 -- Which part of a session runs a command: a dictionary's, a region's, or the shelf's.
-use Rattle.std.proofs.Common.{◌≡◌, ℕ, Bool, true, false, cond, List, [], Option, Some, None, Result, Ok, IfOk, OnErr, refl, sym, ap, ◌∙◌, subst}
+use Rattle.std.proofs.Common.{◌≡◌, ℕ, Bool, true, false, cond, List, [], Option, Some, None, refl, sym, ap, ◌∙◌, subst}
 use Rattle.std.specs.List.{list_any}
+use Rattle.std.specs.Prelude.{IfSome}
 use Rattle.vc_base.specs.declared.dict_method.DictMethod.{DictMethod}
-use Rattle.vc_model.specs.Discipline.{Discipline, Terms}
+use Rattle.vc_model.specs.Discipline.{Terms}
 use Rattle.vc_model.specs.Numbered.{at_number}
 use Rattle.vc_model.specs.Outcome as model
 use Rattle.vc_model.specs.Outcome.{Fault, Outcome}
@@ -12,10 +13,10 @@ use Rattle.vc_region.specs.Stat.{opened}
 use Rattle.vc_objects.specs.Insert.{Grown, open_dictionary, want_of}
 use Rattle.vc_objects.specs.declared.fate.Want.{Want}
 use Rattle.vc_objects.specs.declared.fate.Want.TheVariants as want
-use Rattle.vc_commands.specs.DictCommands.{is_for_table, table_refusal}
-use Rattle.vc_script.specs.Needs.{Need, need_shown}
+use Rattle.vc_commands.specs.DictCommands.{in_dict, is_for_table, table_refusal}
+use Rattle.vc_script.specs.Needs.{Need}
 use Rattle.vc_script.specs.declared.command.Command.{Command}
-use Rattle.vc_script.specs.declared.command.Command.TheVariants.{OpenRegion, CloseRegion, OpenDict, Shut}
+use Rattle.vc_script.specs.declared.command.Command.TheVariants.{OpenRegion, CloseRegion, OpenDict, Remethod, Shut, View}
 use Rattle.vc_script.specs.declared.refusal.Refusal.{Refusal}
 use Rattle.vc_script.specs.declared.refusal.Refusal.TheVariants as why
 use Rattle.vc_script.specs.declared.reply.Reply.{Reply}
@@ -23,19 +24,17 @@ use Rattle.vc_script.specs.declared.reply.Reply.TheVariants.{Refused}
 use Rattle.vc_seg.specs.declared.method.Method.{Method}
 use Rattle.vc_session.specs.Account.{Account, Settles}
 use Rattle.vc_commands.specs.Held.{Held}
-use Rattle.vc_session.specs.Dicts.{dict_command, dict_named, dict_of, dict_opened, dict_refused, dict_step, on_found, on_seat, open_dict_in, open_dict_unless, seat_of}
-use Rattle.vc_session.specs.Homes.{HoldsDicts, held_in, settled_over, state_over}
-use Rattle.vc_session.specs.Lacks.{IsCutOff, StepLacksFor}
-use Rattle.vc_session.specs.declared.session.Session.{Session}
-use Rattle.vc_seg.specs.declared.shelf.Shelf.{Shelf}
+use Rattle.vc_session.specs.Dicts.{dict_changed, dict_command, dict_opened, dict_refused, dict_shut, dict_step, look_step, on_found, on_seat, open_dict_in, open_dict_unless, seat_of, view_set}
+use Rattle.vc_views.specs.Views.{dict_named, DictHome, is_linked_in, is_viewed_in, seen_through}
+use Rattle.vc_commands.specs.Looking.{is_look}
+use Rattle.vc_session.specs.Lacks.{StepLacksFor}
 use Rattle.vc_session.specs.Run.{refusal_at}
-use Rattle.vc_session.specs.State.{DictHome, State, Stepped, close_home, close_step, closed, home_named, is_busy, open_step, opened_over, refused, stepped}
+use Rattle.vc_session.specs.State.{State, Stepped, close_home, close_step, closed, home_named, is_busy, open_step, opened_over, refused, stepped}
 use Rattle.vc_commands.specs.Home.{Home, Label, is_home}
 use Rattle.vc_session.specs.Step.{GivesStep, shelf_step}
-use Rattle.vc_session.proofs.CutOff.{cut-same}
 use Rattle.vc_session.proofs.DictReplies.{IsOther, other-dict}
 use Rattle.vc_commands.proofs.Grants.{IsGranted}
-use Rattle.vc_session.proofs.OnShelf.{if_ok, ok-at, on_error}
+use Rattle.vc_session.proofs.ViewReplies.{look-any, some-all, view-any}
 
 -- a step that tells no kind and is granted no segment
 pub gives-stepped : (t : Stepped) (after : State) (reply : Reply) (gone : List Gone) → t ≡ stepped after reply → GivesStep t gone reply after gone
@@ -125,9 +124,22 @@ other-shelf s (CloseRegion r) need = granted-other (close_step s r).reply (grant
 other-shelf s (OpenDict d method r k) need = other-open_in s d method k need (home_named r s.homes)
 other-shelf s command need = tt
 
+other-cond : (t : Bool) (a b : Stepped) → IsOther a.reply → IsOther b.reply → IsOther (cond t a b).reply
+other-cond true a b p q = p
+other-cond false a b p q = q
+
 other-command : (s : State) (command : Command) (need : Need) (d : DictHome) (h : Home) (rules : Rules) → IsOther (dict_command s command need d h rules).reply
-other-command s (Shut name) need d h rules = tt
-other-command s command need d h rules = other-dict (seat_of d h rules) command need
+other-command s (Shut name) need d h rules = other-cond (is_viewed_in s.dicts d.name) (refused s why.Viewed) (dict_shut s d) tt tt
+other-command s (View name viewed) need d h rules =
+    view-any (λ (t : Stepped). IsOther t.reply) s d tt tt tt tt viewed tt
+    (some-all (λ x. IfSome (dict_named x s.dicts) (λ e. IsOther (view_set s d (Some e.name)).reply)) (λ x. some-all (λ e. IsOther (view_set s d (Some e.name)).reply) (λ e. tt) (dict_named x s.dicts)) viewed)
+other-command s (Remethod name method) need d h rules =
+    other-cond (is_linked_in s.dicts d) (refused s why.Viewed) (dict_changed s d h (in_dict (seat_of d h rules) (Remethod name method) need)) tt
+    (other-dict (seat_of d h rules) (Remethod name method) need)
+other-command s command need d h rules =
+    other-cond (is_look command) (look_step s rules command d) (dict_changed s d h (in_dict (seat_of d h rules) command need))
+    (look-any IsOther tt (λ bytes. tt) (λ objects. tt) tt rules command (seen_through rules s.dicts d))
+    (other-dict (seat_of d h rules) command need)
 
 other-seat : (s : State) (command : Command) (need : Need) (d : DictHome) (o : Option Home) (rules : Option Rules) → IsOther (on_seat s d (dict_command s command need) o rules).reply
 other-seat s command need d None rules = tt

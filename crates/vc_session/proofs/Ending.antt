@@ -14,7 +14,8 @@ use Rattle.vc_commands.specs.Held.{Held, home_of}
 use Rattle.vc_session.specs.Account.{held_named, state_of}
 use Rattle.vc_session.specs.DictHomes.{AreDicts, dict_home, dicts_in}
 use Rattle.vc_session.specs.Dicts.{shut_in, shut_state, told_of, without_dict}
-use Rattle.vc_session.specs.State.{DictHome, State, home_named}
+use Rattle.vc_session.specs.State.{State, home_named}
+use Rattle.vc_views.specs.Views.{DictHome}
 use Rattle.vc_commands.specs.Home.{Home}
 use Rattle.vc_session.specs.Told.{ended_told, tell}
 use Rattle.vc_session.proofs.Cells.{at_number_some}
@@ -64,21 +65,27 @@ gone-front s t d ds h gone gone' found is shut told =
 
 -- by what shutting the first of some dictionaries leaves
 pub gone-shut :
-    (kinds : List Rules) (slots : List (Option Discipline)) (held : List Held) (es : List (List ℕ × DictEntry)) (t : State) (gone gone' : List Gone)
+    (kinds : List Rules) (slots : List (Option Discipline)) (held : List Held) (es : List (List ℕ × DictEntry)) (vs : ℕ → Option (List ℕ)) (t : State) (gone gone' : List Gone)
     → AreDicts kinds held es
     → (e : List ℕ × DictEntry) → slice_get es 0 ≡ Some e
-    → t ≡ shut_state (state_of kinds slots held (dicts_in held es)) (dict_home held e)
-    → gone' ≡ tell (told_of e.1.dict.kind (bytes_of (dict_home held e).dict.objects)) gone
-    → tell (ended_told t) gone' ≡ tell (ended_told (state_of kinds slots held (dicts_in held es))) gone
-gone-shut kinds slots held [] t gone gone' all e at shut told = absurd (none-some e at)
-gone-shut kinds slots held (f ∷ fs) t gone gone' all e at shut told =
-    let s = state_of kinds slots held (dicts_in held (f ∷ fs)) in
+    → t ≡ shut_state (state_of kinds slots held (dicts_in held vs es)) (dict_home held vs e)
+    → gone' ≡ tell (told_of e.1.dict.kind (bytes_of (dict_home held vs e).dict.objects)) gone
+    → tell (ended_told t) gone' ≡ tell (ended_told (state_of kinds slots held (dicts_in held vs es))) gone
+gone-shut kinds slots held [] vs t gone gone' all e at shut told = absurd (none-some e at)
+gone-shut kinds slots held (f ∷ fs) vs t gone gone' all e at shut told =
+    let s = state_of kinds slots held (dicts_in held vs (f ∷ fs)) in
     let same : e ≡ f = sym (same_Some f e at) in
-    gone-front s t (dict_home held f) (dicts_in held fs) (home_of all.0.home) gone gone'
+    gone-front s t (dict_home held vs f) (dicts_in held vs fs) (home_of all.0.home) gone gone'
     (home-found held f.1.home all.0.home all.0.found)
     refl
-    (shut ∙ ap (λ x. shut_state s (dict_home held x)) same)
-    (told ∙ ap (λ (x : List ℕ × DictEntry). tell (told_of x.1.dict.kind (bytes_of (dict_home held x).dict.objects)) gone) same)
+    (shut ∙ ap (λ x. shut_state s (dict_home held vs x)) same)
+    (told ∙ ap (λ (x : List ℕ × DictEntry). tell (told_of x.1.dict.kind (bytes_of (dict_home held vs x).dict.objects)) gone) same)
+
+-- what is told at the end doesn't depend on views
+pub told-views : (held : List Held) (vs vs' : ℕ → Option (List ℕ)) (es : List (List ℕ × DictEntry))
+    → flat_map (λ d. told_of d.kind (bytes_of d.dict.objects)) (dicts_in held vs' es) ≡ flat_map (λ d. told_of d.kind (bytes_of d.dict.objects)) (dicts_in held vs es)
+told-views held vs vs' [] = refl
+told-views held vs vs' (e ∷ es) = ap (λ ts. told_of e.1.dict.kind (bytes_of (dict_home held vs e).dict.objects) ++ ts) (told-views held vs vs' es)
 
 -- where a list has an item at an index, what holds of it there
 pub if_some-at : {A : Type 0} (P : A → Type 0) (o : Option A) (x : A) → o ≡ Some x → IfSome o P → P x

@@ -43,6 +43,16 @@ pub mod SoFar
 pub mod Steps
 pub mod Told
 pub mod Unlabelled
-pub mod Values
 pub mod Written
 pub mod FirstHome
+pub mod ViewReplies
+pub mod DictMethod
+pub mod Barred
+pub mod DictRegions
+pub mod Viewing
+pub mod SameRest
+pub mod Looks
+pub mod SessionLayers
+pub mod LookSteps
+pub mod SeenEntry
+pub mod SeenView

@@ -19,7 +19,7 @@ use Rattle.vc_session.specs.DictHomes.{AreDicts, dicts_in}
 use Rattle.vc_session.specs.Homes.{held_all}
 use Rattle.vc_commands.specs.RegionRun.{held_of}
 use Rattle.vc_session.specs.State.{open_step, stepped}
-use Rattle.vc_session.proofs.DictsStay.{Entry, all-stay, dicts-stay, dicts_in-stay, stays-push}
+use Rattle.vc_session.proofs.DictsStay.{Entry, Vs, all-stay, dicts-stay, dicts_in-stay, stays-push}
 use Rattle.vc_session.proofs.Helds.{any-named, held-new}
 use Rattle.vc_session.proofs.Opening.{AreNone, open_step-ok, opened-rest, session-open, settled-open}
 use Rattle.vc_session.proofs.Sessions.{Slots}
@@ -76,10 +76,10 @@ module _ {I : Type 0} {V : I → Type 0} (meaning : (x : I) × V x → Disciplin
       subst (λ hs. AreDicts kinds hs es) (sym all)
       (dicts-stay kinds before (before ++ one ∷ []) es (all-stay kinds before (before ++ one ∷ []) es (λ e. stays-push kinds before one e)) dicts)
 
-  pub newest-step : (kinds : List Rules) (es : List Entry) → AreDicts kinds before es → open_step (state_of kinds slots before (dicts_in before es)) name method home.place ≡ stepped (state_of kinds slots' after (dicts_in after es)) (Opened name)
-  newest-step kinds es dicts =
-      let stays = dicts_in-stay kinds before (before ++ one ∷ []) es (all-stay kinds before (before ++ one ∷ []) es (λ e. stays-push kinds before one e)) dicts in
-      open_step-ok slots before name home.place (disc_in meaning home.region) method (rest_in home.region) rest (cells_in home.region) new is.none is.taken is.session kinds (dicts_in before es) (any-named meaning entries labels name is.named ∙ is.absent)
+  pub newest-step : (kinds : List Rules) (vs : Vs) (es : List Entry) → AreDicts kinds before es → open_step (state_of kinds slots before (dicts_in before vs es)) name method home.place ≡ stepped (state_of kinds slots' after (dicts_in after vs es)) (Opened name)
+  newest-step kinds vs es dicts =
+      let stays = dicts_in-stay kinds before (before ++ one ∷ []) vs es (all-stay kinds before (before ++ one ∷ []) es (λ e. stays-push kinds before one e)) dicts in
+      open_step-ok slots before name home.place (disc_in meaning home.region) method (rest_in home.region) rest (cells_in home.region) new is.none is.taken is.session kinds (dicts_in before vs es) (any-named meaning entries labels name is.named ∙ is.absent)
       ∙ (ap (λ ds. stepped (state_of kinds (set slots (home.place - 1) None) (before ++ one ∷ []) ds) (Opened name)) (sym stays)
-      ∙ (ap (λ hs. stepped (state_of kinds (set slots (home.place - 1) None) hs (dicts_in hs es)) (Opened name)) (sym all)
-      ∙ ap (λ s. stepped (state_of kinds s after (dicts_in after es)) (Opened name)) (sym is.emptied)))
+      ∙ (ap (λ hs. stepped (state_of kinds (set slots (home.place - 1) None) hs (dicts_in hs vs es)) (Opened name)) (sym all)
+      ∙ ap (λ s. stepped (state_of kinds s after (dicts_in after vs es)) (Opened name)) (sym is.emptied)))

@@ -19,7 +19,8 @@ use Rattle.vc_seg.specs.Shelf.{place_at, standing}
 use Rattle.vc_seg.specs.declared.shelf.ShelfPlace.TheVariants.{Here}
 use Rattle.vc_script.specs.declared.reply.Reply.TheVariants.{Opened}
 use Rattle.vc_script.specs.declared.refusal.Refusal.TheVariants.{RegionExists}
-use Rattle.vc_session.specs.State.{DictHome, State, open_step, opened_over, refused, stepped}
+use Rattle.vc_session.specs.State.{State, open_step, opened_over, refused, stepped}
+use Rattle.vc_views.specs.Views.{DictHome}
 use Rattle.vc_commands.specs.Home.{Home, Label, is_home}
 use Rattle.slab.specs.Slab.{slab_len}
 use Rattle.vc_commands.specs.declared.region.labels.Labels.{Labels}

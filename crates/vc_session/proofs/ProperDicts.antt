@@ -1,5 +1,5 @@
 -- Commands on dictionaries reply with names, and leave the labels of a region names.
-use Rattle.std.proofs.Common.{◌≡◌, ℕ, ◌==◌, List, [], ◌∷◌, Option, Some, None, Bool, true, false, cond, length, refl, sym, ap, ◌∙◌}
+use Rattle.std.proofs.Common.{◌≡◌, ℕ, List, Option, Some, None, Bool, true, false, cond, sym, ap, ◌∙◌}
 use Rattle.vc_base.specs.declared.dict_method.DictMethod.{DictMethod}
 use Rattle.vc_model.specs.Discipline.{Terms}
 use Rattle.vc_model.specs.Outcome as model
@@ -10,21 +10,21 @@ use Rattle.vc_model.specs.Layout.{Layout, relabel_layout}
 use Rattle.vc_region.specs.Region.{OfBest, Region, layout_in}
 use Rattle.vc_region.proofs.Relabel.{layout-relabelled}
 use Rattle.vc_objects.specs.Insert.{Grown, insert, open_dictionary}
-use Rattle.vc_objects.specs.Lists.{before_key, behind_key, first_object, first_with, last_object}
+use Rattle.vc_objects.specs.Lists.{first_with}
 use Rattle.vc_objects.specs.Objects.{Dictionary, Object}
 use Rattle.vc_objects.specs.Remove.{region_without, remove_found, unnamed}
 use Rattle.vc_objects.specs.Turn.{Turned, turn}
 use Rattle.vc_objects.specs.declared.fate.Fate.{Fate}
 use Rattle.vc_objects.specs.declared.fate.Fate.TheVariants.{Stored, NoTable, NoHolder}
 use Rattle.vc_objects.proofs.Named.{open_dictionary-named, region_without-named, relabel_grown}
-use Rattle.vc_commands.specs.DictCommands.{append_in, delete_in, fate_reply, found_in, gone_reply, in_dict, insert_in, is_for_object, is_for_table, is_object, put_object, put_unless, remove_in, removed_as, standing, turned_as, where_object}
+use Rattle.vc_commands.specs.DictCommands.{append_in, delete_in, fate_reply, gone_reply, in_dict, insert_in, is_for_object, is_for_table, is_object, put_object, put_unless, remove_in, removed_as, standing, turned_as, where_object}
 use Rattle.vc_commands.specs.Seat.{DictChanged, Seat, declined}
 use Rattle.vc_commands.proofs.Named.{in_dict-named}
 use Rattle.vc_script.specs.Needs.{Need}
 use Rattle.vc_script.specs.Proper.{IsName, IsProperCommand}
 use Rattle.vc_script.specs.ProperReply.{IsProperReply}
 use Rattle.vc_script.specs.declared.command.Command.{Command}
-use Rattle.vc_script.specs.declared.command.Command.TheVariants.{Insert, Append, Attach, Delete, Detach, Search, MatchKey, First, Last, Next, Prev, Walk, Count, Remethod, Empty}
+use Rattle.vc_script.specs.declared.command.Command.TheVariants.{Insert, Append, Attach, Delete, Detach, Count, Remethod, Empty}
 use Rattle.vc_script.specs.declared.refusal.Refusal.TheVariants as why
 use Rattle.vc_session.specs.ProperState.{IsProperRegion, name_or_none}
 use Rattle.vc_commands.specs.Home.{Label}
@@ -78,13 +78,6 @@ module _ (s : Seat Label) where
   good-delete None = good-removed true (unnamed s.dict.method s.dict.objects)
   good-delete (Some bytes) = good-remove true bytes
 
-  good-found : (found : Option Object) → IsGood (found_in s found)
-  good-found None = tt
-  good-found (Some o) = tt
-
-  good-look : (bytes : List ℕ) (found : Option Object) → IsGood (where_object s bytes (found_in s found))
-  good-look bytes found = good-object bytes (found_in s found) (good-found found)
-
   good-turned : (name : List ℕ) (method : DictMethod) (o : Outcome (Turned Label)) → IsName name → IsGood (turned_as s name method o)
   good-turned name method (model.Refused fault) proper = tt
   good-turned name method (Done t) proper = proper
@@ -95,13 +88,6 @@ module _ (s : Seat Label) where
   good-in_dict (Attach d bytes) need proper = good-object bytes (insert_in s bytes need) (good-insert bytes need)
   good-in_dict (Delete d object) need proper = good-delete object
   good-in_dict (Detach d bytes) need proper = good-remove false bytes
-  good-in_dict (Search d bytes) need proper = good-look bytes (first_with s.rules (s.rules.key bytes) s.dict.objects)
-  good-in_dict (MatchKey d key) need proper = good-look key (first_with s.rules key s.dict.objects)
-  good-in_dict (First d) need proper = good-found (first_object s.dict.objects)
-  good-in_dict (Last d) need proper = good-found (last_object s.dict.objects)
-  good-in_dict (Next d bytes) need proper = good-look bytes (behind_key s.rules (s.rules.key bytes) s.dict.objects)
-  good-in_dict (Prev d bytes) need proper = good-look bytes (before_key s.rules (s.rules.key bytes) s.dict.objects)
-  good-in_dict (Walk d) need proper = tt
   good-in_dict (Count d) need proper = tt
   good-in_dict (Remethod d method) need proper =
       good-turned d method (turn s.rules s.terms s.region s.none s.dict method (is_for_table need)) proper

@@ -20,7 +20,7 @@ use Rattle.vc_region.specs.Stat.{opened}
 use Rattle.vc_seg.specs.declared.method.Method.{Method}
 use Rattle.vc_seg.specs.declared.method.Method.TheVariants.{VmBest, VmPool, VmLast, VmDebug, VmProfile}
 use Rattle.vc_script.specs.declared.command.Command.{Command}
-use Rattle.vc_script.specs.declared.command.Command.TheVariants.{OpenRegion, CloseRegion, ClearRegion, Compact, Alloc, Align, Resize, Free, WriteBlock, ReadBlock, SizeOf, AddrOf, SegmentOf, StatOf, Segments, Blocks, Poke, Check, Watch, ProfileOf, OpenDict, Insert, Append, Attach, Delete, Detach, Search, MatchKey, First, Last, Next, Prev, Walk, Count, Remethod, Empty, Shut}
+use Rattle.vc_script.specs.declared.command.Command.TheVariants.{OpenRegion, CloseRegion, ClearRegion, Compact, Alloc, Align, Resize, Free, WriteBlock, ReadBlock, SizeOf, AddrOf, SegmentOf, StatOf, Segments, Blocks, Poke, Check, Watch, ProfileOf, OpenDict, Insert, Append, Attach, Delete, Detach, Search, MatchKey, First, Last, Next, Prev, Walk, Count, View, Remethod, Empty, Shut}
 use Rattle.vc_script.specs.declared.refusal.Refusal.{Refusal}
 use Rattle.vc_script.specs.declared.refusal.Refusal.TheVariants as why
 use Rattle.vc_script.specs.declared.reply.Reply.TheVariants as reply
@@ -30,13 +30,16 @@ use Rattle.vc_script.specs.Proper.{IsName, IsProperCommand, IsSite}
 use Rattle.vc_script.specs.ProperReply.{IsProperReply, is_row_site}
 use Rattle.vc_script.specs.Words.{is_name}
 use Rattle.vc_commands.specs.Home.{Changed, Home, Label, changed_to, is_home, told, unchanged}
-use Rattle.vc_session.specs.State.{DictHome, State, Stepped, changed, close_home, closed, is_busy, unless_busy, home_named, opened_over, refused, with_region, without_home}
+use Rattle.vc_session.specs.State.{State, Stepped, changed, close_home, closed, is_busy, unless_busy, home_named, opened_over, refused, with_region, without_home}
+use Rattle.vc_views.specs.Views.{DictHome, dict_named, is_dict, is_linked_in, is_viewed_in, seen_through}
+use Rattle.vc_commands.specs.Looking.{is_look}
+use Rattle.vc_session.proofs.ViewReplies.{look-any, some-map, view-any}
 use Rattle.vc_commands.specs.Blocks.{freed, free_block, has_label, has_room, is_align, is_block, is_size, kept_freed, no_block, align_refused, put_by, site_of, size_refused, put_in, put_new, read_block, resize_block, with_named, write_block}
 use Rattle.vc_commands.specs.Whole.{addr_reply, item_of, kept_cleared, segment_reply, with_label, with_labels}
 use Rattle.vc_commands.specs.Kept.{Kept, by_name, line_of, with_line, without_name}
 use Rattle.vc_session.specs.Step.{cleared_or, region_of, region_step, shelf_step, step, step_of, step_on}
 use Rattle.vc_commands.specs.RegionCommands.{in_region, is_for_block}
-use Rattle.vc_session.specs.Dicts.{dict_changed, dict_command, dict_named, dict_of, dict_opened, dict_refused, is_dict, on_found, on_seat, open_dict_in, open_dict_unless, seat_of, shut_in}
+use Rattle.vc_session.specs.Dicts.{dict_changed, dict_command, dict_of, dict_opened, dict_refused, dict_shut, look_step, on_found, on_seat, open_dict_in, open_dict_unless, seat_of, shut_in, view_set}
 use Rattle.vc_session.proofs.ProperDicts.{IsProperGrown, proper-best, proper-in_dict, proper-layout, proper-open, proper-region_without}
 use Rattle.std.proofs.lemmas.Slice.Eq.{bytes_eq-Decides}
 use Rattle.vc_base.specs.declared.dict_method.DictMethod.{DictMethod}
@@ -440,10 +443,27 @@ proper-dict_changed s d h rules c need proper all here =
     let after = (in_dict (seat_of d h rules) c need).region in
     (done.0, proper-with_region h.name (OfBest after) h.kept s.homes (proper-best after done.1) here.1 tt all)
 
+-- a name where there is one
+site-name : (o : Option (List ℕ)) → IsSite o → IfSome o IsName
+site-name None proper = tt
+site-name (Some name) proper = proper
+
 proper-dict_command : (s : State) (c : Command) (need : Need) (d : DictHome) (h : Home) (rules : Rules) → IsProperCommand c → IsName d.name → IsProperState s → IsProperHome h → IsProperStep (dict_command s c need d h rules)
 proper-dict_command s (Shut name) need d h rules proper known all here =
+    step-cond (is_viewed_in s.dicts d.name) (refused s why.Viewed) (dict_shut s d) (tt, all)
     (known, proper-shut s d (home_named d.home s.homes) all (proper-home_named d.home s.homes all))
-proper-dict_command s command need d h rules proper known all here = proper-dict_changed s d h rules command need proper all here
+proper-dict_command s (View name viewed) need d h rules proper known all here =
+    view-any IsProperStep s d (tt, all) (tt, all) (tt, all) (tt, all) viewed ((known, tt), all)
+    (some-map IsName (λ x. IfSome (dict_named x s.dicts) (λ e. IsProperStep (view_set s d (Some e.name))))
+    (λ x named. some-map (λ e. IsName e.name) (λ e. IsProperStep (view_set s d (Some e.name))) (λ e name. ((known, name), all)) (dict_named x s.dicts) (proper-dict_named x s.dicts named))
+    viewed (site-name viewed proper.1))
+proper-dict_command s (Remethod name method) need d h rules proper known all here =
+    step-cond (is_linked_in s.dicts d) (refused s why.Viewed) (dict_changed s d h (in_dict (seat_of d h rules) (Remethod name method) need)) (tt, all)
+    (proper-dict_changed s d h rules (Remethod name method) need proper all here)
+proper-dict_command s command need d h rules proper known all here =
+    step-cond (is_look command) (look_step s rules command d) (dict_changed s d h (in_dict (seat_of d h rules) command need))
+    (look-any IsProperReply tt (λ bytes. tt) (λ objects. tt) tt rules command (seen_through rules s.dicts d), all)
+    (proper-dict_changed s d h rules command need proper all here)
 
 proper-on_seat : (s : State) (c : Command) (need : Need) (d : DictHome) (o : Option Home) (rules : Option Rules) → IsProperCommand c → IsName d.name → IsProperState s → IfSome o IsProperHome → IsProperStep (on_seat s d (dict_command s c need) o rules)
 proper-on_seat s c need d None rules proper known all here = (tt, all)
@@ -470,6 +490,7 @@ proper-dict_of (Next d bytes) proper = proper
 proper-dict_of (Prev d bytes) proper = proper
 proper-dict_of (Walk d) proper = proper
 proper-dict_of (Count d) proper = proper
+proper-dict_of (View d viewed) proper = proper.0
 proper-dict_of (Remethod d method) proper = proper
 proper-dict_of (Empty d) proper = proper
 proper-dict_of (Shut d) proper = proper

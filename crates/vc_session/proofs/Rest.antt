@@ -1,6 +1,7 @@
 -- A run from a session in which nothing is open to the session's end.
-use Rattle.std.proofs.Common.{◌≡◌, ℕ, List, [], Option, Some, None, Result, Ok, Err, IfOk, length, map, sym, ap, ◌∙◌, subst}
-use Rattle.std.specs.Prelude.{IfErr, IfSome}
+use Rattle.std.proofs.Common.{◌≡◌, zero, suc, refl, ℕ, List, [], Option, Some, None, Result, Ok, Err, IfOk, length, map, sym, ap, ◌∙◌, subst}
+use Rattle.std.specs.Prelude.{IfErr, IfSome, replicate, slice_get}
+use Rattle.std.proofs.lemmas.Option.{none-some}
 use Rattle.std.specs.List.{AllByRecursion, zip}
 use Rattle.vc_model.specs.Discipline.{Discipline}
 use Rattle.vc_dtdisc.specs.Rules.{Gone, Rules}
@@ -10,6 +11,8 @@ use Rattle.vc_script.specs.declared.line_fault.LineFault.{LineFault}
 use Rattle.vc_script.specs.declared.tool.Tool.{Tool}
 use Rattle.vc_commands.specs.Held.{Held, home_of}
 use Rattle.vc_session.specs.Account.{IsSession, Settles, accounts, settled, state_of}
+use Rattle.vc_paths.specs.Links.{link_at, no_links, numbers}
+use Rattle.vc_views.specs.Numbers.{AreLinked, views_by}
 use Rattle.vc_session.specs.DictHomes.{AreDicts, dicts_in}
 use Rattle.vc_session.specs.Homes.{held_entry, held_in, slots_on}
 use Rattle.vc_session.specs.Moment.{Moment, moment, over_sink, rest_of}
@@ -83,8 +86,20 @@ runs-rest tool start before now after old new answer same rests r =
       writes = r.writes;
     }
 
+-- without links and dictionaries nothing is linked
+no-link : (k n : ℕ) → link_at (slice_get (replicate k None) n) ≡ None
+no-link zero n = refl
+no-link (suc k) zero = refl
+no-link (suc k) (suc n) = no-link k n
+
+none-linked : AreLinked no_links []
+none-linked = record {
+  numbered = record { distinct = tt; below = tt };
+  linked = λ n m is. absurd (none-some m (sym (no-link numbers n) ∙ is));
+}
+
 -- a session in which nothing is open
-module _ {I : Type 0} {V : I → Type 0} {D : Type 0} (meaning : (x : I) × V x → Discipline) (rules : D → Rules) (gone : D → Gone) (shelf : Shelf I V) (session : Session D I V) (kinds : List D) (none : (session.homes.entries ≡ []) × (session.labels.items ≡ []) × (session.dicts.entries ≡ [])) where
+module _ {I : Type 0} {V : I → Type 0} {D : Type 0} (meaning : (x : I) × V x → Discipline) (rules : D → Rules) (gone : D → Gone) (shelf : Shelf I V) (session : Session D I V) (kinds : List D) (none : (session.homes.entries ≡ []) × (session.labels.items ≡ []) × (session.dicts.entries ≡ []) × (session.paths ≡ no_links)) where
   no_held : held_in meaning session ≡ []
   no_held = ap (λ es. map (held_entry meaning) (zip es session.labels.items)) none.0
 
@@ -96,13 +111,14 @@ module _ {I : Type 0} {V : I → Type 0} {D : Type 0} (meaning : (x : I) × V x 
         held = subst (IsSession (slots_on meaning shelf)) (sym no_held) tt;
       };
       dicts = subst (AreDicts (rules_in rules kinds) (held_in meaning session)) (sym none.2) tt;
+      views = subst (λ links. AreLinked links session.dicts.entries) (sym none.3) (subst (AreLinked no_links) (sym none.2) none-linked);
     };
     proper = subst (λ hs. AllByRecursion IsProperHome (map home_of hs)) (sym no_held) tt;
   }
 
   abbrev moment_of : List Held → List (List ℕ × DictEntry) → Moment
   moment_of hs es = record {
-    state = state_of (rules_in rules kinds) (slots_on meaning shelf) hs (dicts_in hs es);
+    state = state_of (rules_in rules kinds) (slots_on meaning shelf) hs (dicts_in hs (views_by session.paths session.dicts.entries) es);
     regions = hs;
     written = None;
     accounts = settled (accounts (slots_on meaning shelf)) hs;

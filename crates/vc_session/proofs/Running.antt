@@ -1,11 +1,9 @@
 -- A run in its middle, and what each line adds to it.
-use Rattle.std.proofs.Common.{Ok, ◌≡◌, ℕ, ◌<◌, ◌≤◌, List, [], ◌∷◌, ◌++◌, Option, Some, None, map, refl, sym, ap, ◌∙◌, subst, arith, inl, inr}
-use Rattle.std.specs.Prelude.{count_by, ◌==◌}
+use Rattle.std.proofs.Common.{Ok, ◌≡◌, ℕ, ◌<◌, ◌≤◌, List, [], ◌∷◌, ◌++◌, Option, Some, None, map, refl, sym, ap, ◌∙◌, subst, arith}
 use Rattle.std.specs.List.{AllByRecursion}
 use Rattle.std.proofs.lemmas.List.{append_assoc, append-nil, map-append}
 use Rattle.std.proofs.lemmas.Grind.{flat_map-append}
 use Rattle.std.proofs.lemmas.Option.{none-some, same_Some}
-use Rattle.vc_model.specs.Numbered.{at_number}
 use Rattle.vc_script.specs.declared.command.Command.{Command}
 use Rattle.vc_script.specs.declared.line_answer.LineAnswer.{LineAnswer}
 use Rattle.vc_script.specs.declared.line_answer.LineAnswer.TheVariants.{Blank, Is, Bad}

@@ -1,13 +1,12 @@
 -- What follows of a step, and what it follows from.
-use Rattle.std.proofs.Common.{◌≡◌, ◌≢◌, ℕ, List, [], Result, Ok, Err, refl, sym, ap, ◌∙◌, subst}
+use Rattle.std.proofs.Common.{◌≡◌, List, Result, Ok, Err, sym, ap, ◌∙◌, subst}
 use Rattle.std.specs.Prelude.{OnOk}
 use Rattle.vc_dtdisc.specs.Rules.{Gone}
 use Rattle.vc_script.specs.Needs.{Need, need_shown}
 use Rattle.vc_script.specs.declared.command.Command.{Command}
 use Rattle.vc_script.specs.declared.reply.Reply.{Reply}
-use Rattle.vc_session.specs.Account.{Account, KeepsAccounts, Settles}
+use Rattle.vc_session.specs.Account.{KeepsAccounts}
 use Rattle.vc_session.specs.Moment.{Moment}
-use Rattle.vc_session.specs.Run.{refusal_at}
 use Rattle.vc_session.specs.State.{State, Stepped, stepped}
 use Rattle.vc_session.specs.Step.{GivesStep}
 use Rattle.vc_session.specs.Told.{tell}

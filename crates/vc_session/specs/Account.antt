@@ -7,7 +7,8 @@ use Rattle.vc_dtdisc.specs.Rules.{Rules}
 use Rattle.vc_model.specs.Discipline.{Discipline, HasOut, Terms}
 use Rattle.vc_model.specs.Numbered.{at_number}
 use Rattle.vc_region.specs.Region.{segments_of}
-use Rattle.vc_session.specs.State.{DictHome, State}
+use Rattle.vc_session.specs.State.{State}
+use Rattle.vc_views.specs.Views.{DictHome}
 use Rattle.vc_commands.specs.RegionCommands.{block_asked}
 use Rattle.vc_session.specs.Step.{region_of}
 use Rattle.vc_script.specs.declared.command.Command.{Command}

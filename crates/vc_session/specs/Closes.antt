@@ -12,7 +12,8 @@ pub record ClosesAt {I : Type 0} {V : I → Type 0} {D : Type 0} (meaning : (x :
   pub count_is : IfSome (slice_get (held_in meaning session) i) (λ h. count ≡ length (segments_of h.region))
   -- its discipline is at its place again
   pub here : IfSome (slice_get (held_in meaning session) i) (λ h. accounts_on meaning shelf' ≡ slice_set (accounts_on meaning shelf) (h.place - 1) (Some (account_after h)))
-  -- the other regions stay, and the dictionaries do
+  -- the other regions stay, and the dictionaries and their views do
   pub others : held_in meaning session' ≡ remove (held_in meaning session) i
   pub entries : session'.dicts.entries ≡ session.dicts.entries
+  pub paths : session'.paths ≡ session.paths
   pub fewer : length session'.homes.entries + 1 ≡ length session.homes.entries

@@ -7,13 +7,14 @@ use Rattle.vc_base.specs.Cells.{Blocks}
 use Rattle.vc_base.specs.Holders.{contains}
 use Rattle.vc_model.specs.Numbered.{at_number}
 use Rattle.vc_dtdisc.specs.Rules.{Rules}
-use Rattle.vc_objects.specs.Objects.{owned}
+use Rattle.vc_objects.specs.Objects.{Dictionary, owned}
 use Rattle.vc_objects.specs.Parts.{IsWhole, dictionary_of}
 use Rattle.vc_region.specs.Region.{is_best}
+use Rattle.vc_views.specs.Numbers.{home_by}
+use Rattle.vc_views.specs.Views.{DictHome}
 use Rattle.vc_commands.specs.declared.dict.entry.DictEntry.{DictEntry}
 use Rattle.vc_commands.specs.Held.{Held}
 use Rattle.vc_session.specs.Account.{held_named}
-use Rattle.vc_session.specs.State.{DictHome}
 
 -- the cells of a region, where it is open
 abbrev pub cells_held : Option Held → Blocks
@@ -24,19 +25,17 @@ cells_held (Some h) = h.cells
 abbrev pub cells_named : List Held → List ℕ → Blocks
 cells_named held r = cells_held (held_named held (Some r))
 
--- a dictionary under its name, over the cells of its region
-abbrev pub dict_home : List Held → List ℕ × DictEntry → DictHome
-dict_home held e =
-    record {
-      name = e.0;
-      home = e.1.home;
-      kind = e.1.dict.kind;
-      dict = dictionary_of e.1.dict (cells_named held e.1.home);
-    }
+-- what a dictionary is over the cells of its region
+abbrev pub dict_over : List Held → List ℕ × DictEntry → Dictionary
+dict_over held e = dictionary_of e.1.dict (cells_named held e.1.home)
+
+-- a dictionary under its name; `views` tells what a number views, by name
+abbrev pub dict_home : List Held → (ℕ → Option (List ℕ)) → List ℕ × DictEntry → DictHome
+dict_home held views e = home_by (dict_over held) views e
 
 -- those of a session, in order
-abbrev pub dicts_in : List Held → List (List ℕ × DictEntry) → List DictHome
-dicts_in held entries = map (dict_home held) entries
+abbrev pub dicts_in : List Held → (ℕ → Option (List ℕ)) → List (List ℕ × DictEntry) → List DictHome
+dicts_in held views entries = map (dict_home held views) entries
 
 -- the region of a dictionary is open and a best one, its kind is there, and it is whole over the region's cells
 pub record IsDictOf (kinds : List Rules) (held : List Held) (e : List ℕ × DictEntry) : Type 0 where
@@ -51,7 +50,7 @@ pub record IsDictOf (kinds : List Rules) (held : List Held) (e : List ℕ × Dic
 abbrev pub AreApart : List Held → List ℕ × DictEntry → List ℕ × DictEntry → Type 0
 AreApart held e f =
     bytes_eq e.1.home f.1.home ≡ true
-    → (a : ℕ) → contains (owned (dict_home held e).dict) a ≡ true → contains (owned (dict_home held f).dict) a ≡ false
+    → (a : ℕ) → contains (owned (dict_over held e)) a ≡ true → contains (owned (dict_over held f)) a ≡ false
 
 -- each dictionary is whole in its region, and no two have a block in common
 abbrev pub AreDicts : List Rules → List Held → List (List ℕ × DictEntry) → Type 0

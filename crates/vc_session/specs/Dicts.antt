@@ -1,5 +1,5 @@
 -- The dictionaries of a session, and the commands that open one, work on one, and end it.
-use Rattle.std.specs.Prelude.{ℕ, List, [], ◌∷◌, ◌++◌, Option, Some, None, Bool, length, find, map, nat_le, not, option_map, ◌&&◌, if◌then◌else◌}
+use Rattle.std.specs.Prelude.{ℕ, List, [], ◌∷◌, ◌++◌, Option, Some, None, Bool, true, false, length, map, nat_le, not, option_map, ◌&&◌, if◌then◌else◌}
 use Rattle.std.specs.List.{list_any}
 use Rattle.std.specs.Str.{bytes_eq}
 use Rattle.vc_base.specs.declared.dict_method.DictMethod.{DictMethod}
@@ -14,12 +14,15 @@ use Rattle.vc_commands.specs.DictCommands.{in_dict, is_for_table, table_refusal}
 use Rattle.vc_commands.specs.Seat.{DictChanged, Seat}
 use Rattle.vc_script.specs.Needs.{Need}
 use Rattle.vc_script.specs.declared.command.Command.{Command}
-use Rattle.vc_script.specs.declared.command.Command.TheVariants.{Insert, Append, Attach, Delete, Detach, Search, MatchKey, First, Last, Next, Prev, Walk, Count, Remethod, Empty, Shut}
+use Rattle.vc_script.specs.declared.command.Command.TheVariants.{Insert, Append, Attach, Delete, Detach, Search, MatchKey, First, Last, Next, Prev, Walk, Count, View, Remethod, Empty, Shut}
 use Rattle.vc_script.specs.declared.refusal.Refusal.{Refusal}
 use Rattle.vc_script.specs.declared.refusal.Refusal.TheVariants as why
-use Rattle.vc_script.specs.declared.reply.Reply.TheVariants.{Opened, ShutDown}
+use Rattle.vc_script.specs.declared.reply.Reply.TheVariants.{Opened, ShutDown, Views}
 use Rattle.vc_region.specs.Region.{OfBest, is_best, layout_in}
-use Rattle.vc_session.specs.State.{DictHome, State, Stepped, home_named, refused, with_region}
+use Rattle.vc_commands.specs.Looking.{current_or, is_look, look_found, look_reply, own_place}
+use Rattle.vc_paths.specs.Visible.{Seen}
+use Rattle.vc_session.specs.State.{State, Stepped, home_named, refused, stepped, with_region}
+use Rattle.vc_views.specs.Views.{DictHome, dict_named, is_dict, is_linked_in, is_viewed_in, seen_through, view_refusal, with_view}
 use Rattle.vc_commands.specs.Home.{Home, Label}
 
 -- the dictionary that a command works on
@@ -37,16 +40,11 @@ dict_of (Next d bytes) = Some d
 dict_of (Prev d bytes) = Some d
 dict_of (Walk d) = Some d
 dict_of (Count d) = Some d
+dict_of (View d viewed) = Some d
 dict_of (Remethod d method) = Some d
 dict_of (Empty d) = Some d
 dict_of (Shut d) = Some d
 dict_of command = None
-
-abbrev pub is_dict : List ℕ → DictHome → Bool
-is_dict d h = bytes_eq h.name d
-
-abbrev pub dict_named : List ℕ → List DictHome → Option DictHome
-dict_named d dicts = find (is_dict d) dicts
 
 -- the dictionaries with another one of that name, and those without it
 abbrev pub with_dict : List ℕ → Dictionary → List DictHome → List DictHome
@@ -96,9 +94,63 @@ dict_shut s d =
       granted = [];
     }
 
+-- no dictionary that another one views is shut, and none that is viewed or views one gets another method
+abbrev pub unless_viewed : State → DictHome → Stepped → Stepped
+unless_viewed s d t = if is_viewed_in s.dicts d.name then refused s why.Viewed else t
+
+abbrev pub unless_linked : State → DictHome → Stepped → Stepped
+unless_linked s d t = if is_linked_in s.dicts d then refused s why.Viewed else t
+
+-- a dictionary views another one from here on, in place of what it viewed, or none
+abbrev pub view_set : State → DictHome → Option (List ℕ) → Stepped
+view_set s d viewed =
+    stepped (record s { dicts = with_view d.name viewed s.dicts }) (Views d.name viewed)
+
+abbrev pub view_unless : State → DictHome → DictHome → Option Refusal → Stepped
+view_unless s d e (Some refusal) = refused s refusal
+view_unless s d e None = view_set s d (Some e.name)
+
+abbrev pub view_found : State → DictHome → Option DictHome → Stepped
+view_found s d None = refused s why.NoDictionary
+view_found s d (Some e) = view_unless s d e (view_refusal s.dicts d e)
+
+abbrev pub view_step : State → DictHome → Option (List ℕ) → Stepped
+view_step s d None = view_set s d None
+view_step s d (Some name) = view_found s d (dict_named name s.dicts)
+
+-- what is looked for among the objects that are seen through a dictionary is current where it is the dictionary's own
+abbrev pub look_current : Rules → Command → DictHome → List (Seen (List ℕ)) → Option ℕ
+look_current rules command d seen =
+    current_or d.dict.current (own_place (λ name. bytes_eq name d.name) (look_found rules command seen))
+
+abbrev pub looked_at : State → Rules → Command → DictHome → List (Seen (List ℕ)) → Stepped
+looked_at s rules command d seen =
+    stepped
+    (record s { dicts = with_dict d.name (record d.dict { current = look_current rules command d seen }) s.dicts })
+    (look_reply rules command seen)
+
+abbrev pub look_step : State → Rules → Command → DictHome → Stepped
+look_step s rules command d = looked_at s rules command d (seen_through rules s.dicts d)
+
+-- whether a command runs on a dictionary alone: it neither ends it, nor lets it view another one, nor looks through its path
+abbrev pub runs_alone : Command → Bool
+runs_alone (Shut d) = false
+runs_alone (View d viewed) = false
+runs_alone command = not (is_look command)
+
+-- whether a command gives a dictionary another method
+abbrev pub is_turn : Command → Bool
+is_turn (Remethod d method) = true
+is_turn command = false
+
 abbrev pub dict_command : State → Command → Need → DictHome → Home → Rules → Stepped
-dict_command s (Shut name) need d h rules = dict_shut s d
-dict_command s command need d h rules = dict_changed s d h (in_dict (seat_of d h rules) command need)
+dict_command s (Shut name) need d h rules = unless_viewed s d (dict_shut s d)
+dict_command s (View name viewed) need d h rules = view_step s d viewed
+dict_command s (Remethod name method) need d h rules =
+    unless_linked s d (dict_changed s d h (in_dict (seat_of d h rules) (Remethod name method) need))
+dict_command s command need d h rules =
+    if is_look command then look_step s rules command d
+    else dict_changed s d h (in_dict (seat_of d h rules) command need)
 
 -- what is done with a dictionary, in its region and by its kind's rules
 abbrev pub on_seat : State → DictHome → (DictHome → Home → Rules → Stepped) → Option Home → Option Rules → Stepped
@@ -137,7 +189,7 @@ dict_opened s h d k (model.Done g) =
     record {
       state = record s {
         homes = with_region h.name (OfBest g.region) h.kept s.homes;
-        dicts = s.dicts ++ record { name = d; home = h.name; kind = k; dict = g.dict } ∷ [];
+        dicts = s.dicts ++ record { name = d; home = h.name; kind = k; views = None; dict = g.dict } ∷ [];
       };
       reply = Opened d;
       told = [];

@@ -10,6 +10,7 @@ use Rattle.vc_session.specs.State.{State}
 use Rattle.vc_session.specs.Account.{Account, IsSession, accounts, settled, state_of}
 use Rattle.vc_commands.specs.Held.{Held}
 use Rattle.vc_session.specs.DictHomes.{AreDicts, dicts_in}
+use Rattle.vc_views.specs.Numbers.{AreLinked, views_by}
 use Rattle.vc_commands.specs.declared.region.home.HomeEntry.{HomeEntry}
 use Rattle.vc_commands.specs.declared.region.labels.Labels.{Labels}
 use Rattle.vc_session.specs.declared.session.Session.{Session}
@@ -40,7 +41,8 @@ state_on meaning kinds shelf = state_of kinds (slots_on meaning shelf) [] []
 -- the state that kinds, a shelf and a session stand for
 abbrev pub state_over : {I : Type 0} {V : I → Type 0} {D : Type 0} → ((x : I) × V x → Discipline) → List Rules → Shelf I V → Session D I V → State
 state_over meaning kinds shelf session =
-    state_of kinds (slots_on meaning shelf) (held_in meaning session) (dicts_in (held_in meaning session) session.dicts.entries)
+    state_of kinds (slots_on meaning shelf) (held_in meaning session)
+    (dicts_in (held_in meaning session) (views_by session.paths session.dicts.entries) session.dicts.entries)
 
 -- each open region has its names, and a place of its own, whose discipline it holds
 pub record HoldsRegions {I : Type 0} {V : I → Type 0} {D : Type 0} (meaning : (x : I) × V x → Discipline) (shelf : Shelf I V) (session : Session D I V) : Type 0 where
@@ -55,11 +57,14 @@ HoldsDicts meaning kinds session = AreDicts kinds (held_in meaning session) sess
 pub record IsSessionOver {I : Type 0} {V : I → Type 0} {D : Type 0} (meaning : (x : I) × V x → Discipline) (rules : D → Rules) (shelf : Shelf I V) (session : Session D I V) (kinds : List D) : Type 0 where
   pub regions : HoldsRegions meaning shelf session
   pub dicts : HoldsDicts meaning (map rules kinds) session
+  pub views : AreLinked session.paths session.dicts.entries
 
 -- the regions of a session and its dictionaries are whole over a shelf, if they were
 pub record KeepsRegions {I : Type 0} {V : I → Type 0} {D : Type 0} (meaning : (x : I) × V x → Discipline) (session : Session D I V) (shelf' : Shelf I V) (session' : Session D I V) : Type 0 where
   pub regions : HoldsRegions meaning shelf' session'
   pub dicts : (kinds : List Rules) → HoldsDicts meaning kinds session → HoldsDicts meaning kinds session'
+  -- and the view paths are as they were
+  pub views : AreLinked session.paths session.dicts.entries → AreLinked session'.paths session'.dicts.entries
   -- whether it found no memory stays
   pub spent : session'.is_spent ≡ session.is_spent
 

@@ -16,8 +16,9 @@ use Rattle.vc_script.specs.declared.reply.Reply.{Reply}
 use Rattle.vc_script.specs.declared.reply.Reply.TheVariants.{Refused}
 use Rattle.vc_commands.specs.Held.{Held}
 use Rattle.vc_session.specs.Account.{StepLacks, held_named}
-use Rattle.vc_session.specs.Dicts.{dict_named, dict_of, seat_of, with_dict}
-use Rattle.vc_session.specs.State.{DictHome, State, home_named, with_region}
+use Rattle.vc_session.specs.Dicts.{dict_of, seat_of, with_dict}
+use Rattle.vc_session.specs.State.{State, home_named, with_region}
+use Rattle.vc_views.specs.Views.{DictHome, dict_named}
 use Rattle.vc_commands.specs.Home.{Home, Label}
 use Rattle.vc_session.specs.Step.{region_asked}
 

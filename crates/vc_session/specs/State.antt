@@ -5,7 +5,7 @@ use Rattle.std.specs.Str.{bytes_eq}
 use Rattle.vc_model.specs.Discipline.{Terms}
 use Rattle.vc_model.specs.Numbered.{at_number}
 use Rattle.vc_dtdisc.specs.Rules.{Rules}
-use Rattle.vc_objects.specs.Objects.{Dictionary, listed}
+use Rattle.vc_objects.specs.Objects.{listed}
 use Rattle.vc_region.specs.Region.{Region, segments_of}
 use Rattle.vc_region.specs.Stat.{opened}
 use Rattle.vc_seg.specs.declared.method.Method.{Method}
@@ -18,13 +18,7 @@ use Rattle.vc_seg.specs.declared.shelf.ShelfPlace.{ShelfPlace}
 use Rattle.vc_seg.specs.declared.shelf.ShelfPlace.TheVariants.{Missing, Taken, Here}
 use Rattle.vc_script.specs.declared.refusal.Refusal.TheVariants.{NoSuchDiscipline, DisciplineInUse}
 use Rattle.vc_commands.specs.Home.{Changed, Home, Label, is_home}
-
--- a dictionary of the session: its name, the region that it lies in, the number of its kind, from 1 on, and what it is by its method
-pub record DictHome : Type 0 where
-  pub name : List ℕ
-  pub home : List ℕ
-  pub kind : ℕ
-  pub dict : Dictionary
+use Rattle.vc_views.specs.Views.{DictHome}
 
 -- for each place of the shelf the terms of the discipline that is here, None where it is taken; the regions in order of opening; the rules of each kind; and the dictionaries in order of opening
 pub record State : Type 0 where

@@ -48,12 +48,12 @@ abbrev pub region_step : State → List ℕ → ℕ → Command → Need → Opt
 region_step s r line command need None = refused s why.NoRegion
 region_step s r line command need (Some h) = cleared_or s r command (changed s r (in_region h line command need))
 
--- a command that opens or closes a region, opens a dictionary, or one that is not built
+-- a command that opens or closes a region, or opens a dictionary
 abbrev pub shelf_step : State → Command → Need → Stepped
 shelf_step s (OpenRegion r method n) need = open_step s r method n
 shelf_step s (CloseRegion r) need = close_step s r
 shelf_step s (OpenDict d method r kind) need = open_dict_step s d method r kind need
-shelf_step s command need = refused s why.NotYet
+shelf_step s command need = refused s why.NoRegion
 
 abbrev pub step_of : State → ℕ → Command → Need → Option (List ℕ) → Stepped
 step_of s line command need None = shelf_step s command need

@@ -1,20 +1,23 @@
 -- What a step promises, from the moment before it to the one after it.
-use Rattle.std.specs.Prelude.{◌≡◌, ℕ, ◌+◌, List, [], Result, Ok, Err, IfSome, length, slice_get}
+use Rattle.std.specs.Prelude.{◌≡◌, ℕ, ◌+◌, List, [], None, Result, Ok, Err, IfSome, length, slice_get}
 use Rattle.vc_model.specs.Discipline.{Discipline}
 use Rattle.vc_dtdisc.specs.Rules.{Gone, Rules}
 use Rattle.vc_objects.specs.Remove.{bytes_of}
+use Rattle.vc_paths.specs.Links.{below}
 use Rattle.vc_script.specs.Needs.{Need, need_shown}
 use Rattle.vc_script.specs.declared.command.Command.{Command}
 use Rattle.vc_script.specs.declared.reply.Reply.{Reply}
 use Rattle.vc_seg.specs.declared.shelf.Shelf.{Shelf}
 use Rattle.vc_session.specs.Account.{KeepsAccounts, Settles}
 use Rattle.vc_session.specs.DictHomes.{dict_home}
+use Rattle.vc_views.specs.Numbers.{views_by}
 use Rattle.vc_session.specs.Dicts.{shut_state, told_of}
 use Rattle.vc_session.specs.Homes.{IsSessionOver, held_in, settled_over}
 use Rattle.vc_session.specs.Lacks.{IsCutOff, StepLacksFor}
 use Rattle.vc_session.specs.Moment.{Moment, moment}
 use Rattle.vc_session.specs.Run.{refusal_at}
-use Rattle.vc_session.specs.State.{DictHome, State, Stepped}
+use Rattle.vc_session.specs.State.{State, Stepped}
+use Rattle.vc_views.specs.Views.{DictHome}
 use Rattle.vc_session.specs.Step.{GivesStep}
 use Rattle.vc_session.specs.Told.{KeepRules, tell}
 use Rattle.vc_session.specs.declared.session.Session.{Session}
@@ -65,6 +68,8 @@ pub record Shuts (now next : Moment) (d : DictHome) : Type 0 where
 
 -- of a session over a shelf the dictionary at an index was ended
 pub record ShutsAt {I : Type 0} {V : I → Type 0} {D : Type 0} (meaning : (x : I) × V x → Discipline) (rules : D → Rules) (gone : D → Gone) (shelf : Shelf I V) (session : Session D I V) (kinds : List D) (session' : Session D I V) (kinds' : List D) (i : ℕ) : Type 0 where
-  pub shuts : IfSome (slice_get session.dicts.entries i) (λ e. Shuts (moment meaning rules gone shelf session kinds) (moment meaning rules gone shelf session' kinds') (dict_home (held_in meaning session) e))
+  pub shuts : IfSome (slice_get session.dicts.entries i) (λ e. Shuts (moment meaning rules gone shelf session kinds) (moment meaning rules gone shelf session' kinds') (dict_home (held_in meaning session) (views_by session.paths session.dicts.entries) e))
   pub fewer : length session'.dicts.entries + 1 ≡ length session.dicts.entries
   pub homes : length session'.homes.entries ≡ length session.homes.entries
+  -- and what viewed none does so still
+  pub views : (n : ℕ) → below session.paths n ≡ None → below session'.paths n ≡ None

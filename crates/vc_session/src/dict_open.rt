@@ -7,6 +7,7 @@ ghost use Rattle.vc_commands.specs.Held.{home_of};
 ghost use Rattle.vc_session.specs.Account.{state_of};
 ghost use Rattle.vc_session.specs.Dicts.{dict_refused, open_dict_step};
 ghost use Rattle.vc_session.specs.DictHomes.{dicts_in};
+ghost use Rattle.vc_views.specs.Numbers.{views_by};
 ghost use Rattle.vc_session.specs.Homes.{IsSessionOver, held_in};
 ghost use Rattle.vc_session.specs.Moment.{moment};
 ghost use Rattle.vc_session.specs.Table.{TellsTable};
@@ -21,6 +22,7 @@ use vc_objects::open;
 use vc_region::Region;
 use vc_script::{Refusal, Reply};
 use vc_seg::{BoxedDisc, RegionFault, SegDisc, Shelf};
+use vc_views::free_number;
 
 // A session has at most so many dictionaries at once.
 const DICT_LIMIT: usize = 256;
@@ -57,7 +59,8 @@ impl<D: DictDisc> Session<D> {
         requires within { j < length self.now.homes.entries }
         ensures { IfSome (slice_get (held_in state self.now) j) (λ h. result ≡ dict_refused
             (state_of (rules_in D.rules kinds.now.items) [] (held_in state self.now)
-            (dicts_in (held_in state self.now) self.now.dicts.entries)) (home_of h) name.now kind) }
+            (dicts_in (held_in state self.now)
+            (views_by self.now.paths self.now.dicts.entries) self.now.dicts.entries)) (home_of h) name.now kind) }
     {
         if self.dicts.contains_key(name) {
             return Some(Refusal::DictionaryExists);
@@ -100,13 +103,21 @@ impl<D: DictDisc> Session<D> {
             return Ok(Reply::Refused(why));
         }
         self.dicts.reserve(1)?;
+        let number = free_number(&self.dicts);
         let Region::Best(best) = &mut self.homes[j].region else {
             unreachable!()
         };
         match open(best, method, kind, &kinds[kind as usize - 1]) {
             Ok(dict) => {
                 // There is room, so this takes no memory and cannot fail.
-                let _ = self.dicts.insert(name, DictEntry { home: region, dict });
+                let _ = self.dicts.insert(
+                    name,
+                    DictEntry {
+                        home: region,
+                        number,
+                        dict,
+                    },
+                );
                 Ok(Reply::Opened(name))
             }
             Err(fault) => table_refused(fault),

@@ -1,7 +1,8 @@
 // The commands on a dictionary.
-ghost use Rattle.std.specs.Prelude.{◌≡◌, ℕ, List, Some};
+ghost use Rattle.std.specs.Prelude.{◌≡◌, Some, IfSome, true, false, slice_get};
 ghost use Rattle.vc_session.specs.DictHomes.{dict_index};
-ghost use Rattle.vc_session.specs.Dicts.{dict_of, dict_step};
+ghost use Rattle.vc_session.specs.Dicts.{dict_of, dict_step, runs_alone};
+ghost use Rattle.vc_views.specs.Numbers.{is_barred};
 ghost use Rattle.vc_session.specs.Homes.{IsSessionOver};
 ghost use Rattle.vc_session.specs.Moment.{moment};
 ghost use Rattle.vc_session.specs.Steps.{Stays, StepsBy};
@@ -12,6 +13,7 @@ use vc_dtdisc::DictDisc;
 use vc_region::Region;
 use vc_script::{Command, Refusal, Reply};
 use vc_seg::{BoxedDisc, SegDisc, Shelf};
+use vc_views::{is_barred, is_look, show_names};
 
 impl<D: DictDisc> Session<D> {
     // Runs a command on the dictionary of that name. With no memory its table may have grown.
@@ -34,16 +36,28 @@ impl<D: DictDisc> Session<D> {
         let Some(i) = self.dicts.get_index_of(name) else {
             return Ok(Reply::Refused(Refusal::NoDictionary));
         };
+        show_names(&self.dicts);
+        if is_barred(&self.paths, self.dicts[i].number, command) {
+            return Ok(Reply::Refused(Refusal::Viewed));
+        }
         match command {
             Command::Shut(_) => {
                 self.shut_at(shelf, kinds, i);
                 Ok(Reply::ShutDown(*name))
             }
-            _ => self.run_at(shelf, kinds, name, i, command),
+            Command::View(_, viewed) => Ok(self.view_named(shelf, kinds, name, i, viewed)),
+            _ => {
+                if is_look(command) {
+                    self.look_at(shelf, kinds, name, i, command)
+                } else {
+                    self.run_at(shelf, kinds, name, i, command)
+                }
+            }
         }
     }
 
-    // Runs a command on the dictionary of that name and index, from 0 on. It is not the one that ends it.
+    // Runs a command on the dictionary of that name and index, from 0 on, alone: it neither ends it, nor lets it view another
+    // one, nor looks through its path. It turns none that is viewed or views another one.
     fn run_at(
         &mut self,
         shelf: &Shelf,
@@ -55,7 +69,9 @@ impl<D: DictDisc> Session<D> {
         requires session { IsSessionOver state D.rules shelf.now self.old kinds.old.items }
         requires name { dict_of command.now ≡ Some name.now }
         requires index { dict_index name.now self.old.dicts.entries ≡ Some i }
-        requires other { (x : List ℕ) → command.now ≡ Command.Shut x → ⊥ }
+        requires alone { runs_alone command.now ≡ true }
+        requires free { IfSome (slice_get self.old.dicts.entries i)
+            (λ e. is_barred self.old.paths e.1.number command.now ≡ false) }
         ensures steps { StepsBy result
             (moment state D.rules D.gone shelf.now self.old kinds.old.items)
             (moment state D.rules D.gone shelf.now self.new kinds.new.items)
@@ -63,6 +79,7 @@ impl<D: DictDisc> Session<D> {
         ensures stays { Stays state D.rules shelf.now self.old kinds.old.items
             shelf.now self.new kinds.new.items }
     {
+        show_names(&self.dicts);
         let entry = &self.dicts[i];
         let Some(j) = self.homes.get_index_of(&entry.home) else {
             unreachable!()

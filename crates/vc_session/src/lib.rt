@@ -7,6 +7,7 @@ mod dict_open;
 pub mod dict_rows;
 mod dict_run;
 mod dict_shut;
+mod dict_view;
 mod dicts;
 mod engine;
 pub mod method_rows;
@@ -16,6 +17,7 @@ mod session;
 mod status;
 mod stream;
 mod tool;
+pub mod view_rows;
 
 pub use session::Session;
 pub use status::Status;

@@ -4,6 +4,7 @@ ghost use Rattle.vc_dtdisc.specs.Rules.{Gone, Rules};
 ghost use Rattle.vc_session.specs.Homes.{HoldsDicts, HoldsRegions, IsSessionOver, KeepsRegions, accounts_on, settled_over, state_over};
 ghost use Rattle.vc_session.specs.DictHomes.{lies_in};
 ghost use Rattle.vc_session.specs.Dicts.{dict_of};
+ghost use Rattle.vc_paths.specs.Links.{no_links};
 ghost use Rattle.vc_session.specs.Moment.{moment, moment_by};
 ghost use Rattle.vc_session.specs.Step.{is_clear, region_of, shelf_step, step, step_of};
 ghost use Rattle.vc_session.specs.Steps.{Lasts, Stays, StepsBy};
@@ -14,9 +15,11 @@ use std::alloc::Global;
 use std::marker::PhantomData;
 use vc_base::{Name, OutOfMemory};
 use vc_commands::{DictEntry, HomeEntry, Labels};
+use vc_dict::Paths;
 use vc_dtdisc::DictDisc;
 use vc_script::{Command, Refusal, Reply, Tool};
 use vc_seg::{BoxedDisc, SegDisc, Shelf};
+use vc_views::end_views;
 
 // The region that a command works in.
 fn region_of(command: &Command) -> Option<Name>
@@ -63,6 +66,7 @@ fn dict_of(command: &Command) -> Option<Name>
         | Command::Prev(name, _)
         | Command::Walk(name)
         | Command::Count(name)
+        | Command::View(name, _)
         | Command::Remethod(name, _)
         | Command::Empty(name)
         | Command::Shut(name) => Some(*name),
@@ -77,6 +81,8 @@ pub struct Session<D> {
     pub homes: IndexMap<Name, HomeEntry>,
     /// The dictionaries by name, in order of opening.
     pub dicts: IndexMap<Name, DictEntry>,
+    /// Which dictionary views which, by their numbers.
+    pub paths: Paths,
     // The names of the blocks of each, in the same order.
     pub(crate) labels: Vec<Labels>,
     pub(crate) alloc: Global,
@@ -89,6 +95,7 @@ impl<D> Drop for Session<D> {
         let Self {
             homes: _,
             dicts: _,
+            paths: _,
             labels: _,
             alloc: _,
             is_spent: _,
@@ -101,13 +108,14 @@ impl<D: DictDisc> Session<D> {
     /// A session with no region, for a tool's commands. It stands over any shelf and any kinds.
     pub fn new(alloc: Global, tool: Tool) -> Result<Session<D>, OutOfMemory>
         ensures none { IfOk result (λ s. (s.homes.entries ≡ []) × (s.labels.items ≡ [])
-            × (s.dicts.entries ≡ [])) }
+            × (s.dicts.entries ≡ []) × (s.paths ≡ no_links)) }
         ensures memory { IfOk result (λ s. s.is_spent ≡ false) }
     {
         let _ = tool;
         Ok(Session {
             homes: IndexMap::new(alloc),
             dicts: IndexMap::new(alloc),
+            paths: Paths::new(alloc)?,
             labels: Vec::new(alloc),
             alloc,
             is_spent: false,
@@ -138,7 +146,7 @@ impl<D: DictDisc> Session<D> {
             Command::OpenDict(name, method, region, kind) => {
                 self.open_dict(shelf, kinds, *name, *method, *region, *kind)
             }
-            _ => Ok(Reply::Refused(Refusal::NotYet)),
+            _ => Ok(Reply::Refused(Refusal::NoRegion)),
         }
     }
 
@@ -245,7 +253,7 @@ impl<D: DictDisc> Session<D> {
         }
     }
 
-    /// Shuts every dictionary and closes every region, and gives each discipline back to its place. It cannot fail. Both
+    /// Ends every view, shuts every dictionary and closes every region, and gives each discipline back to its place. It cannot fail. Both
     /// go in order of opening; the kinds are told of all objects, and each region gives its segments back in ascending order of number.
     pub fn end(self, shelf: &mut Shelf, kinds: &mut Vec<D>)
         requires { IsSessionOver state D.rules shelf.old self kinds.old.items }
@@ -256,6 +264,7 @@ impl<D: DictDisc> Session<D> {
         ensures rules { KeepRules D.rules kinds.old.items kinds.new.items }
     {
         let mut rest = self;
+        end_views(&mut rest.paths);
         rest.shut_all(shelf, kinds);
         rest.close_all(shelf);
     }

@@ -76,7 +76,7 @@ const ROWS: &[Row] = &[
     Row {
         lends: &[],
         script: b"dict d set r 1\nopen r best 1\nopen p pool 2\ndict d set r 0\ndict d set r 7\ndict d set p 1\ndict d set r 1\ndict d list r 9\nappend d x\ninsert e x\ninsert d xxxxxxxxxxxxxxxxxxxxxxxxxxxxxxxxxxxxxxxxxxxxxxxxxxxxxxxxxxxxxxxxxxxxxxxxxxxxxxxxxxxxxxxxxxxxxxxxxxxxxxxxxxxxxxxxxxxxxxxxxxxxxxxxxxxxxxxxxxxxxxxxxxxxxxxxxxxxxxxxxxxxxxxxxxxxxxxxxxxxxxxxxxxxxxxxxxxxxxxxxxxxxxxxxxxxxxxxxxxxxxxxxxxxxxxxxxxxxxxxxxxxxxxxxxxxxxxxxxxxxxxxxxxxxxxxxxxxxxxxxxxxxxxxxxxxxxxxxxxxxxxxxxxxxxxxxxxxxxxxxxxxxxxxxxxxxxxxxxxxxxxxxxxxxxxxxxxxxxxxxxxxxxxxxxxxxxxxxxxxxxxxxxxxxxxxxxxxxxxxxxxxxxxxxxxxxxxxxxxxxxxxxxxxxxxxxxxxxxxxxxxxxxxxxxxxxxxxxxxxxxxxxxxxxxxxxxxxxxxxxxxxxxxxxxxxxxxxxxxxxxxxxxxxxxxxxxxxxxxxxxxxxxxxxxxxxxxxxxxxxxxxxxxxxxxxxxxxxxxxxxxxxxxxxxxxxxxxxxxxxxxxxxxxxxxxxxxxxxxxxxxxxxxxxxxxxxxxxxxxxxxxxxxxxxxxxxxxxxxxxxxxxxxxxxxxxxxxxxxxxxxxxxxxxxxxxxxxxxxxxxxxxxxxxxxxxxxxxxxxxxxxxxxxxxxxxxxxxxxxxxxxxxxxxxxxxxxxxxxxxxxxxxxxxxxxxxxxxxxxxxxxxxxxxxxxxxxxxxxxxxxxxxxxxxxxxxxxxxxxxxxxxxxxxxxxxxxxxxxxxxxxxxxxxxxxxxxxxxxxxxxxxxxxxxxxxxxxxxxxxxxxxxxxxxxxxxxxxxxxxxxxxxxxxxxxxxxxxxxxxxxxxxxxxxxxxxxxxxxxxxxxxxxxxxxxxxxxxxxxxxxxxxxxxxxxxxxxxxxxxxxxxxxxxxxxxxxxxxxxxxxxxxxxxxxxxxxxxxxxxxxxxxxxxxxxxxxxxxxxxxxxx\nsearch d xxxxxxxxxxxxxxxxxxxxxxxxxxxxxxxxxxxxxxxxxxxxxxxxxxxxxxxxxxxxxxxxxxxxxxxxxxxxxxxxxxxxxxxxxxxxxxxxxxxxxxxxxxxxxxxxxxxxxxxxxxxxxxxxxxxxxxxxxxxxxxxxxxxxxxxxxxxxxxxxxxxxxxxxxxxxxxxxxxxxxxxxxxxxxxxxxxxxxxxxxxxxxxxxxxxxxxxxxxxxxxxxxxxxxxxxxxxxxxxxxxxxxxxxxxxxxxxxxxxxxxxxxxxxxxxxxxxxxxxxxxxxxxxxxxxxxxxxxxxxxxxxxxxxxxxxxxxxxxxxxxxxxxxxxxxxxxxxxxxxxxxxxxxxxxxxxxxxxxxxxxxxxxxxxxxxxxxxxxxxxxxxxxxxxxxxxxxxxxxxxxxxxxxxxxxxxxxxxxxxxxxxxxxxxxxxxxxxxxxxxxxxxxxxxxxxxxxxxxxxxxxxxxxxxxxxxxxxxxxxxxxxxxxxxxxxxxxxxxxxxxxxxxxxxxxxxxxxxxxxxxxxxxxxxxxxxxxxxxxxxxxxxxxxxxxxxxxxxxxxxxxxxxxxxxxxxxxxxxxxxxxxxxxxxxxxxxxxxxxxxxxxxxxxxxxxxxxxxxxxxxxxxxxxxxxxxxxxxxxxxxxxxxxxxxxxxxxxxxxxxxxxxxxxxxxxxxxxxxxxxxxxxxxxxxxxxxxxxxxxxxxxxxxxxxxxxxxxxxxxxxxxxxxxxxxxxxxxxxxxxxxxxxxxxxxxxxxxxxxxxxxxxxxxxxxxxxxxxxxxxxxxxxxxxxxxxxxxxxxxxxxxxxxxxxxxxxxxxxxxxxxxxxxxxxxxxxxxxxxxxxxxxxxxxxxxxxxxxxxxxxxxxxxxxxxxxxxxxxxxxxxxxxxxxxxxxxxxxxxxxxxxxxxxxxxxxxxxxxxxxxxxxxxxxxxxxxxxxxxxxxxxxxxxxxxxxxxxxxxxxxxxxxxxxxxxxxxxxxxxxxxxxxxxxxxxxxxxxxxxxxxxxxxxxxxxxxxxxxxxxxxxx\nview d d\nclose r\nclear r\nshut e\nshut d\nclear r\nclose r\n",
-        out: b"refused: no region\nr open\np open\nrefused: no such kind\nrefused: no such kind\nrefused: wrong method\nd open\nrefused: dictionary exists\nrefused: wrong method\nrefused: no dictionary\nrefused: size\nrefused: size\nrefused: not built\nrefused: busy\nrefused: busy\nrefused: no dictionary\nd shut\nr cleared\nr closed 1\n",
+        out: b"refused: no region\nr open\np open\nrefused: no such kind\nrefused: no such kind\nrefused: wrong method\nd open\nrefused: dictionary exists\nrefused: wrong method\nrefused: no dictionary\nrefused: size\nrefused: size\nrefused: view cycle\nrefused: busy\nrefused: busy\nrefused: no dictionary\nd shut\nr cleared\nr closed 1\n",
     },
     // Keys in reverse, and by a field.
     Row {
@@ -89,6 +89,12 @@ const ROWS: &[Row] = &[
         lends: &[],
         script: b"open r best 1\ndict l list r 1\nappend l a\nappend l b\nappend l c\nsearch l b\ndelete l b\ninsert l x\nwalk l\nlast l\ndelete l c\ninsert l y\nwalk l\ndetach l x\nempty l\ninsert l z\nwalk l\naddr r 1:32\nstat r\ncompact r\nshut l\nblocks r\n",
         out: b"r open\nl open\nnew a\nnew b\nnew c\nfound b\ngone b\nnew x\n3 a x c\nfound c\ngone c\nnew y\n3 y a x\nout x\nl empty 2\nnew z\n1 z\naddr * 0\nbusy 1 free 1 sbusy 33 sfree 4000 mbusy 33 mfree 4000 segs 1 extent 4096\nr compacted 0\nl shut\nblocks 0\n",
+    },
+    // A number that is given again views nothing, and a region and a dictionary have one name.
+    Row {
+        lends: &[],
+        script: b"open r best 1\nopen b best 2\ndict a list b 1\ndict b list r 1\ninsert b x\nview a b\nshut b\nshut a\nshut b\ndict d list r 1\ndict e list r 1\ninsert e y\nwalk d\nmethod d list\nview d b\nview d e\nmethod d list\nmethod e list\n",
+        out: b"r open\nb open\na open\nb open\nnew x\na views b\nrefused: viewed\na shut\nb shut\nd open\ne open\nnew y\n0\nd method list\nrefused: no dictionary\nd views e\nrefused: viewed\nrefused: viewed\n",
     },
 ];
 

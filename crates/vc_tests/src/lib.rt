@@ -33,3 +33,5 @@ mod same;
 mod streams;
 #[cfg(test)]
 mod told;
+#[cfg(test)]
+mod views;

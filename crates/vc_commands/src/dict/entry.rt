@@ -7,6 +7,8 @@ use vc_dict::Dict;
 pub struct DictEntry {
     /// The name of the region that it lies in.
     pub home: Name,
+    /// Its number on view paths, from 0 to 255: that of no other dictionary that is open.
+    pub number: u32,
     /// Its heads and its method.
     pub dict: Dict,
 }

@@ -1,23 +1,20 @@
-// The commands that look for an object: what is found is current.
-ghost use Rattle.std.specs.Prelude.{◌≡◌, true, IfOk, OnErr};
-ghost use Rattle.vc_dtdisc.specs.Rules.{Gone, Rules};
-ghost use Rattle.vc_best.specs.Cells.{cells_in, rest_in};
-ghost use Rattle.vc_best.specs.Parts.{disc_in};
-ghost use Rattle.vc_objects.specs.Leaves.{LeavesRest};
-ghost use Rattle.vc_objects.specs.Lists.{before_key, behind_key, first_object, first_with, last_object};
-ghost use Rattle.vc_objects.specs.Parts.{IsWhole, dictionary_in};
-ghost use Rattle.vc_script.specs.Needs.{NoNeed, need_shown};
-ghost use Rattle.vc_commands.specs.DictCommands.{found_in, is_object, where_object};
-ghost use Rattle.vc_commands.specs.DictRun.{Gives, IsOfHolder, IsStill, object_there, seat_in};
+// The commands that look through a view path.
+ghost use Rattle.std.specs.Prelude.{◌≡◌, ◌==◌, Some, None, true, IfOk, IsSome, map, if◌then◌else◌};
+ghost use Rattle.std.specs.Option.{option_map};
+ghost use Rattle.vc_base.specs.Address.{number_of};
+ghost use Rattle.vc_paths.specs.Layers.{Same, bytes_there};
+ghost use Rattle.vc_paths.specs.Ordered.{IsStanding, object_at};
+ghost use Rattle.vc_paths.specs.Path.{Answers, IsPath, visible_of};
+ghost use Rattle.vc_paths.specs.Visible.{seen_bytes};
+ghost use Rattle.vc_commands.specs.DictCommands.{is_object};
+ghost use Rattle.vc_commands.specs.Looking.{found_by, found_reply, is_askable, is_look, look_found, look_reply, own_place};
 
 use crate::Uncounted;
 use std::alloc::Global;
-use vc_base::{Addr, Cells, OutOfMemory, Steps};
-use vc_best::Best;
-use vc_dict::Dict;
+use vc_base::{Addr, OutOfMemory, Steps};
+use vc_dict::{Layers, Paths};
 use vc_dtdisc::DictDisc;
-use vc_script::{Bytes, Refusal, Reply};
-use vc_seg::{BoxedDisc, SegDisc};
+use vc_script::{Bytes, Command, ObjectItems, Refusal, Reply};
 
 // Whether an object or a key of a script has 1 to 1,024 bytes.
 pub(crate) fn is_object(bytes: &[u8]) -> bool
@@ -26,262 +23,152 @@ pub(crate) fn is_object(bytes: &[u8]) -> bool
     1 <= bytes.len() && bytes.len() <= 1024
 }
 
-// Makes the object of a holder current, and answers it.
-fn show<D: DictDisc>(
-    alloc: Global,
-    best: &Best,
-    dict: &mut Dict,
-    _kind: &D,
-    at: Option<Addr>,
-) -> Result<Reply, OutOfMemory>
-    requires whole { IsWhole (D.rules _kind.now) dict.old (cells_in best.now) }
-    requires within { IsOfHolder dict.old best.now at }
-
-    ensures step { IfOk result (λ reply. Gives
-        (found_in (seat_in state (D.rules _kind.now) best.now dict.old)
-        (object_there best.now at))
-        best.now dict.new reply (D.gone _kind.now) (D.gone _kind.now)) }
-    ensures need { IfOk result (λ reply. need_shown reply ≡ NoNeed) }
-    ensures leaves { LeavesRest state (D.rules _kind.now) best.now dict.old best.now dict.new }
-    ensures err { OnErr result (IsStill best.now dict.old best.now dict.new) }
+// Whether the object or key that a command looks for has 1 to 1,024 bytes, where it has one.
+fn is_askable(command: &Command) -> bool
+    ensures { result ≡ is_askable command.now }
 {
-    match at {
+    match command {
+        Command::Search(_, object) => is_object(object.as_slice()),
+        Command::MatchKey(_, key) => is_object(key.as_slice()),
+        Command::Next(_, object) => is_object(object.as_slice()),
+        Command::Prev(_, object) => is_object(object.as_slice()),
+        _ => true,
+    }
+}
+
+// A copy of the object at a place.
+fn copied<Y: Layers>(alloc: Global, layers: &Y, e: u32, at: Addr) -> Result<Bytes, OutOfMemory>
+    requires dict { (Y.layered layers.now).Has e }
+    requires place { IsSome (bytes_there at.0 ((Y.layered layers.now).layer e).objects) }
+    ensures { IfOk result (λ bytes.
+        bytes_there at.0 ((Y.layered layers.now).layer e).objects ≡ Some bytes) }
+{
+    let bytes = layers.object(e, at).to_vec(alloc)?;
+    Ok(Bytes::from_vec(bytes))
+}
+
+// The address of a place in a dictionary; none where it is in another one.
+fn own_at(d: u32, e: u32, at: Addr) -> Option<Addr>
+    ensures { result ≡ (if e == d then Some at else None) }
+{
+    if e == d { Some(at) } else { None }
+}
+
+// The object at a place, and its address where it is one of the first dictionary itself.
+fn show<Y: Layers>(
+    alloc: Global,
+    layers: &Y,
+    d: u32,
+    found: Option<(u32, Addr)>,
+) -> Result<(Reply, Option<Addr>), OutOfMemory>
+    requires { IsStanding (Y.layered layers.now) d found }
+    ensures reply { IfOk result (λ r. r.0
+        ≡ found_reply (object_at (Y.layered layers.now) found)) }
+    ensures place { IfOk result (λ r. option_map number_of r.1
+        ≡ own_place (λ e. e == d) (object_at (Y.layered layers.now) found)) }
+{
+    match found {
         Some(at) => {
-            let bytes = best.body(at).to_vec(alloc)?;
-            dict.current = at;
-            Ok(Reply::Found(Bytes::from_vec(bytes)))
+            let bytes = copied(alloc, layers, at.0, at.1)?;
+            Ok((Reply::Found(bytes), own_at(d, at.0, at.1)))
         }
-        None => Ok(Reply::Nothing),
+        None => Ok((Reply::Nothing, None)),
     }
 }
 
-// Shows what has a key.
-fn look_for<D: DictDisc>(
+// Where the object stands that a command finds.
+fn found<Y: Layers, D: DictDisc>(
     alloc: Global,
-    best: &mut Best,
-    dict: &mut Dict,
+    paths: &Paths,
+    layers: &mut Y,
+    d: u32,
     kind: &D,
-    key: &[u8],
-) -> Result<Reply, OutOfMemory>
-    requires whole { IsWhole (D.rules kind.now) dict.old (cells_in best.old) }
-
-    ensures step { IfOk result (λ reply. Gives
-        (found_in (seat_in state (D.rules kind.now) best.old dict.old)
-        (first_with (D.rules kind.now) key.now
-        (dictionary_in dict.old best.old).objects))
-        best.new dict.new reply (D.gone kind.now) (D.gone kind.now)) }
-    ensures need { IfOk result (λ reply. need_shown reply ≡ NoNeed) }
-    ensures leaves { LeavesRest state (D.rules kind.now) best.old dict.old best.new dict.new }
-    ensures disc { disc_in state best.new ≡ disc_in state best.old }
-    ensures err { OnErr result (IsStill best.old dict.old best.new dict.new) }
+    command: &Command,
+) -> Option<(u32, Addr)>
+    requires path { IsPath (Y.layered layers.old) paths.now d }
+    requires rules { D.rules kind.now ≡ ((Y.layered layers.old).layer d).rules }
+    ensures found { Answers result (found_by (D.rules kind.now) command.now
+        (visible_of (Y.layered layers.old) paths.now d)) }
+    ensures layers { Same (Y.layered layers.old) (Y.layered layers.new) }
+    ensures stays { Y.Stays layers.old layers.new }
 {
     let mut steps = Steps::<Uncounted>::new(alloc);
-    let at = vc_objects::find(best, dict, kind, key, &mut steps);
-    show(alloc, best, dict, kind, at)
-}
-
-// `search`: what matches an object.
-pub(crate) fn search<D: DictDisc>(
-    alloc: Global,
-    best: &mut Best,
-    dict: &mut Dict,
-    kind: &D,
-    object: &[u8],
-) -> Result<Reply, OutOfMemory>
-    requires whole { IsWhole (D.rules kind.now) dict.old (cells_in best.old) }
-
-    ensures step { IfOk result (λ reply. Gives
-        (where_object (seat_in state (D.rules kind.now) best.old dict.old) object.now
-        (found_in (seat_in state (D.rules kind.now) best.old dict.old)
-        (first_with (D.rules kind.now) ((D.rules kind.now).key object.now)
-        (dictionary_in dict.old best.old).objects)))
-        best.new dict.new reply (D.gone kind.now) (D.gone kind.now)) }
-    ensures need { IfOk result (λ reply. need_shown reply ≡ NoNeed) }
-    ensures leaves { LeavesRest state (D.rules kind.now) best.old dict.old best.new dict.new }
-    ensures disc { disc_in state best.new ≡ disc_in state best.old }
-    ensures err { OnErr result (IsStill best.old dict.old best.new dict.new) }
-{
-    if is_object(object) {
-        look_for(alloc, best, dict, kind, kind.key(object))
-    } else {
-        Ok(Reply::Refused(Refusal::Size))
+    match command {
+        Command::Search(_, object) => {
+            vc_dict::search(paths, layers, d, kind.key(object.as_slice()), &mut steps)
+        }
+        Command::MatchKey(_, key) => {
+            vc_dict::search(paths, layers, d, key.as_slice(), &mut steps)
+        }
+        Command::First(_) => vc_dict::first(paths, layers, d, &mut steps),
+        Command::Last(_) => vc_dict::last(paths, layers, d, &mut steps),
+        Command::Next(_, object) => {
+            vc_dict::next(paths, layers, d, kind.key(object.as_slice()), &mut steps)
+        }
+        Command::Prev(_, object) => {
+            vc_dict::prev(paths, layers, d, kind.key(object.as_slice()), &mut steps)
+        }
+        _ => None,
     }
 }
 
-// `match`: what has a key.
-pub(crate) fn match_key<D: DictDisc>(
+// All objects in order.
+fn walk<Y: Layers>(
     alloc: Global,
-    best: &mut Best,
-    dict: &mut Dict,
-    kind: &D,
-    key: &[u8],
+    paths: &Paths,
+    layers: &mut Y,
+    d: u32,
 ) -> Result<Reply, OutOfMemory>
-    requires whole { IsWhole (D.rules kind.now) dict.old (cells_in best.old) }
-
-    ensures step { IfOk result (λ reply. Gives
-        (where_object (seat_in state (D.rules kind.now) best.old dict.old) key.now
-        (found_in (seat_in state (D.rules kind.now) best.old dict.old)
-        (first_with (D.rules kind.now) key.now
-        (dictionary_in dict.old best.old).objects)))
-        best.new dict.new reply (D.gone kind.now) (D.gone kind.now)) }
-    ensures need { IfOk result (λ reply. need_shown reply ≡ NoNeed) }
-    ensures leaves { LeavesRest state (D.rules kind.now) best.old dict.old best.new dict.new }
-    ensures disc { disc_in state best.new ≡ disc_in state best.old }
-    ensures err { OnErr result (IsStill best.old dict.old best.new dict.new) }
+    requires { IsPath (Y.layered layers.old) paths.now d }
+    ensures reply { IfOk result (λ reply. reply ≡ Reply.Objects
+        (map seen_bytes (visible_of (Y.layered layers.old) paths.now d))) }
+    ensures layers { Same (Y.layered layers.old) (Y.layered layers.new) }
+    ensures stays { Y.Stays layers.old layers.new }
 {
-    if is_object(key) {
-        look_for(alloc, best, dict, kind, key)
-    } else {
-        Ok(Reply::Refused(Refusal::Size))
-    }
-}
-
-// `first`: the first object.
-pub(crate) fn first<D: DictDisc>(
-    alloc: Global,
-    best: &mut Best,
-    dict: &mut Dict,
-    kind: &D,
-) -> Result<Reply, OutOfMemory>
-    requires whole { IsWhole (D.rules kind.now) dict.old (cells_in best.old) }
-
-    ensures step { IfOk result (λ reply. Gives
-        (found_in (seat_in state (D.rules kind.now) best.old dict.old)
-        (first_object (dictionary_in dict.old best.old).objects))
-        best.new dict.new reply (D.gone kind.now) (D.gone kind.now)) }
-    ensures need { IfOk result (λ reply. need_shown reply ≡ NoNeed) }
-    ensures leaves { LeavesRest state (D.rules kind.now) best.old dict.old best.new dict.new }
-    ensures disc { disc_in state best.new ≡ disc_in state best.old }
-    ensures err { OnErr result (IsStill best.old dict.old best.new dict.new) }
-{
-    let at = vc_objects::first(best, dict, kind);
-    show(alloc, best, dict, kind, at)
-}
-
-// `last`: the last object.
-pub(crate) fn last<D: DictDisc>(
-    alloc: Global,
-    best: &mut Best,
-    dict: &mut Dict,
-    kind: &D,
-) -> Result<Reply, OutOfMemory>
-    requires whole { IsWhole (D.rules kind.now) dict.old (cells_in best.old) }
-
-    ensures step { IfOk result (λ reply. Gives
-        (found_in (seat_in state (D.rules kind.now) best.old dict.old)
-        (last_object (dictionary_in dict.old best.old).objects))
-        best.new dict.new reply (D.gone kind.now) (D.gone kind.now)) }
-    ensures need { IfOk result (λ reply. need_shown reply ≡ NoNeed) }
-    ensures leaves { LeavesRest state (D.rules kind.now) best.old dict.old best.new dict.new }
-    ensures disc { disc_in state best.new ≡ disc_in state best.old }
-    ensures err { OnErr result (IsStill best.old dict.old best.new dict.new) }
-{
-    let at = vc_objects::last(best, dict, kind);
-    show(alloc, best, dict, kind, at)
-}
-
-// Shows what stands behind the last object that has a key.
-fn look_behind<D: DictDisc>(
-    alloc: Global,
-    best: &mut Best,
-    dict: &mut Dict,
-    kind: &D,
-    key: &[u8],
-) -> Result<Reply, OutOfMemory>
-    requires whole { IsWhole (D.rules kind.now) dict.old (cells_in best.old) }
-
-    ensures step { IfOk result (λ reply. Gives
-        (found_in (seat_in state (D.rules kind.now) best.old dict.old)
-        (behind_key (D.rules kind.now) key.now
-        (dictionary_in dict.old best.old).objects))
-        best.new dict.new reply (D.gone kind.now) (D.gone kind.now)) }
-    ensures need { IfOk result (λ reply. need_shown reply ≡ NoNeed) }
-    ensures leaves { LeavesRest state (D.rules kind.now) best.old dict.old best.new dict.new }
-    ensures disc { disc_in state best.new ≡ disc_in state best.old }
-    ensures err { OnErr result (IsStill best.old dict.old best.new dict.new) }
-{
+    paths.show_invariant();
     let mut steps = Steps::<Uncounted>::new(alloc);
-    let at = vc_objects::behind_key(best, dict, kind, key, &mut steps);
-    show(alloc, best, dict, kind, at)
-}
-
-// `next`: what stands behind the last match of an object.
-pub(crate) fn next<D: DictDisc>(
-    alloc: Global,
-    best: &mut Best,
-    dict: &mut Dict,
-    kind: &D,
-    object: &[u8],
-) -> Result<Reply, OutOfMemory>
-    requires whole { IsWhole (D.rules kind.now) dict.old (cells_in best.old) }
-
-    ensures step { IfOk result (λ reply. Gives
-        (where_object (seat_in state (D.rules kind.now) best.old dict.old) object.now
-        (found_in (seat_in state (D.rules kind.now) best.old dict.old)
-        (behind_key (D.rules kind.now) ((D.rules kind.now).key object.now)
-        (dictionary_in dict.old best.old).objects)))
-        best.new dict.new reply (D.gone kind.now) (D.gone kind.now)) }
-    ensures need { IfOk result (λ reply. need_shown reply ≡ NoNeed) }
-    ensures leaves { LeavesRest state (D.rules kind.now) best.old dict.old best.new dict.new }
-    ensures disc { disc_in state best.new ≡ disc_in state best.old }
-    ensures err { OnErr result (IsStill best.old dict.old best.new dict.new) }
-{
-    if is_object(object) {
-        look_behind(alloc, best, dict, kind, kind.key(object))
-    } else {
-        Ok(Reply::Refused(Refusal::Size))
+    let mut items: Vec<Bytes> = Vec::new(alloc);
+    let mut at = vc_dict::first(paths, layers, d, &mut steps);
+    while let Some(here) = at {
+        items.push(copied(alloc, layers, here.0, here.1)?)?;
+        at = vc_dict::walk_next(paths, layers, d, here, &mut steps);
     }
+    Ok(Reply::Objects(ObjectItems::from_vec(items)))
 }
 
-// Shows what stands before the first object that has a key.
-fn look_before<D: DictDisc>(
+/// Answers a command that looks for an object, or walks over all, through the view path of dictionary `d`, by its kind.
+/// Beside the reply stands the address of the holder of what is found, where that is an object of `d` itself: it is to be
+/// current then, and else the current object stays. An object or a key that is not of 1 to 1,024 bytes is refused. Want of
+/// memory is the one error. No object changes; only the links inside holders may.
+pub fn look<Y: Layers, D: DictDisc>(
     alloc: Global,
-    best: &mut Best,
-    dict: &mut Dict,
+    paths: &Paths,
+    layers: &mut Y,
+    d: u32,
     kind: &D,
-    key: &[u8],
-) -> Result<Reply, OutOfMemory>
-    requires whole { IsWhole (D.rules kind.now) dict.old (cells_in best.old) }
+    command: &Command,
+) -> Result<(Reply, Option<Addr>), OutOfMemory>
+    requires path { IsPath (Y.layered layers.old) paths.now d }
+    requires rules { D.rules kind.now ≡ ((Y.layered layers.old).layer d).rules }
+    requires look { is_look command.now ≡ true }
 
-    ensures step { IfOk result (λ reply. Gives
-        (found_in (seat_in state (D.rules kind.now) best.old dict.old)
-        (before_key (D.rules kind.now) key.now
-        (dictionary_in dict.old best.old).objects))
-        best.new dict.new reply (D.gone kind.now) (D.gone kind.now)) }
-    ensures need { IfOk result (λ reply. need_shown reply ≡ NoNeed) }
-    ensures leaves { LeavesRest state (D.rules kind.now) best.old dict.old best.new dict.new }
-    ensures disc { disc_in state best.new ≡ disc_in state best.old }
-    ensures err { OnErr result (IsStill best.old dict.old best.new dict.new) }
+    ensures reply { IfOk result (λ r. r.0 ≡ look_reply (D.rules kind.now) command.now
+        (visible_of (Y.layered layers.old) paths.now d)) }
+    ensures place { IfOk result (λ r. option_map number_of r.1
+        ≡ own_place (λ e. e == d) (look_found (D.rules kind.now) command.now
+        (visible_of (Y.layered layers.old) paths.now d))) }
+
+    ensures layers { Same (Y.layered layers.old) (Y.layered layers.new) }
+    ensures stays { Y.Stays layers.old layers.new }
 {
-    let mut steps = Steps::<Uncounted>::new(alloc);
-    let at = vc_objects::before_key(best, dict, kind, key, &mut steps);
-    show(alloc, best, dict, kind, at)
-}
-
-// `prev`: what stands before the first match of an object.
-pub(crate) fn prev<D: DictDisc>(
-    alloc: Global,
-    best: &mut Best,
-    dict: &mut Dict,
-    kind: &D,
-    object: &[u8],
-) -> Result<Reply, OutOfMemory>
-    requires whole { IsWhole (D.rules kind.now) dict.old (cells_in best.old) }
-
-    ensures step { IfOk result (λ reply. Gives
-        (where_object (seat_in state (D.rules kind.now) best.old dict.old) object.now
-        (found_in (seat_in state (D.rules kind.now) best.old dict.old)
-        (before_key (D.rules kind.now) ((D.rules kind.now).key object.now)
-        (dictionary_in dict.old best.old).objects)))
-        best.new dict.new reply (D.gone kind.now) (D.gone kind.now)) }
-    ensures need { IfOk result (λ reply. need_shown reply ≡ NoNeed) }
-    ensures leaves { LeavesRest state (D.rules kind.now) best.old dict.old best.new dict.new }
-    ensures disc { disc_in state best.new ≡ disc_in state best.old }
-    ensures err { OnErr result (IsStill best.old dict.old best.new dict.new) }
-{
-    if is_object(object) {
-        look_before(alloc, best, dict, kind, kind.key(object))
-    } else {
-        Ok(Reply::Refused(Refusal::Size))
+    if !is_askable(command) {
+        return Ok((Reply::Refused(Refusal::Size), None));
+    }
+    match command {
+        Command::Walk(_) => Ok((walk(alloc, paths, layers, d)?, None)),
+        _ => {
+            let at = found(alloc, paths, layers, d, kind, command);
+            show(alloc, layers, d, at)
+        }
     }
 }

@@ -1,7 +1,7 @@
 // Worked rows of what commands on a dictionary reply and leave.
 ghost use Rattle.std.specs.Prelude.{◌≡◌, ◌∷◌, [], None, Some, replicate};
 ghost use Rattle.vc_dtdisc.specs.Shapes.{rules_of};
-ghost use Rattle.vc_objects.specs.Rows.{bag, first_table, full_bag, full_region, lower_a};
+ghost use Rattle.vc_objects.specs.Rows.{first_table, full_bag, full_region};
 ghost use Rattle.vc_objects.specs.Rows.{of_three, offsets_in};
 ghost use Rattle.vc_script.specs.Needs.{NoNeed, ForTable, ForObject};
 ghost use Rattle.vc_commands.specs.DictCommands.{in_dict, object_asked, table_asked};
@@ -49,10 +49,6 @@ pub fn size_rows()
         ≡ Reply.Refused Refusal.Size }
     ensures delete { reply_to of_bag (Command.Delete name (Some (replicate 1025 98))) NoNeed
         ≡ Reply.Refused Refusal.Size }
-    ensures search { reply_to of_bag (Command.Search name (replicate 1025 98)) NoNeed
-        ≡ Reply.Refused Refusal.Size }
-    ensures matching { reply_to of_bag (Command.MatchKey name (replicate 1025 98)) NoNeed
-        ≡ Reply.Refused Refusal.Size }
 {}
 
 /// `delete` removes the first match and tells the kind of it.
@@ -81,33 +77,9 @@ pub fn unnamed_rows()
     ensures bag { reply_to of_bag (Command.Delete name None) NoNeed ≡ Reply.Nothing }
 {}
 
-/// What is found is current; where nothing is, the current object stays.
-pub fn find_rows()
-    ensures search { reply_to of_bag (Command.Search name (97 ∷ [])) NoNeed
-        ≡ Reply.Found (97 ∷ []) }
-    ensures current { (in_dict of_bag (Command.Search name (97 ∷ [])) NoNeed).dict.current
-        ≡ Some lower_a.at }
-    ensures matching { reply_to of_bag (Command.MatchKey name (65 ∷ [])) NoNeed
-        ≡ Reply.Found (97 ∷ []) }
-    ensures nothing { reply_to of_bag (Command.Search name (99 ∷ [])) NoNeed ≡ Reply.Nothing }
-    ensures stays { (in_dict of_bag (Command.Search name (99 ∷ [])) NoNeed).dict ≡ bag }
-{}
-
-/// The ends, and what stands behind the last match and before the first.
-pub fn order_rows()
-    ensures first { reply_to of_bag (Command.First name) NoNeed ≡ Reply.Found (98 ∷ []) }
-    ensures last { reply_to of_bag (Command.Last name) NoNeed ≡ Reply.Found (66 ∷ []) }
-    ensures next { reply_to of_bag (Command.Next name (97 ∷ [])) NoNeed ≡ Reply.Found (66 ∷ []) }
-    ensures last_match { reply_to of_bag (Command.Next name (98 ∷ [])) NoNeed ≡ Reply.Nothing }
-    ensures prev { reply_to of_bag (Command.Prev name (97 ∷ [])) NoNeed ≡ Reply.Found (98 ∷ []) }
-    ensures first_match { reply_to of_bag (Command.Prev name (66 ∷ [])) NoNeed ≡ Reply.Nothing }
-{}
-
-/// All objects, and how many.
-pub fn walk_rows()
-    ensures walk { reply_to of_bag (Command.Walk name) NoNeed
-        ≡ Reply.Objects ((98 ∷ []) ∷ (97 ∷ []) ∷ (66 ∷ []) ∷ []) }
-    ensures count { reply_to of_bag (Command.Count name) NoNeed ≡ Reply.Number 3 }
+/// How many objects there are.
+pub fn count_row()
+    ensures { reply_to of_bag (Command.Count name) NoNeed ≡ Reply.Number 3 }
 {}
 
 /// Turned to an ordered set, the bag keeps b and a, and the kind is told of B.
@@ -152,11 +124,14 @@ pub fn asked_rows()
         (Command.Insert name (99 ∷ 100 ∷ [])) ≡ 99 ∷ [] }
 {}
 
-/// Beginning and ending a dictionary are no commands on one, nor is a view.
-pub fn not_yet_rows()
+/// Beginning and ending a dictionary are no commands on one, nor is a view, nor what looks through one.
+pub fn other_rows()
     ensures begun { reply_to of_bag (Command.OpenDict name DictMethod.DtBag name 1) NoNeed
-        ≡ Reply.Refused Refusal.NotYet }
+        ≡ Reply.Refused Refusal.NoDictionary }
     ensures viewed { reply_to of_bag (Command.View name None) NoNeed
-        ≡ Reply.Refused Refusal.NotYet }
-    ensures ended { reply_to of_bag (Command.Shut name) NoNeed ≡ Reply.Refused Refusal.NotYet }
+        ≡ Reply.Refused Refusal.NoDictionary }
+    ensures ended { reply_to of_bag (Command.Shut name) NoNeed
+        ≡ Reply.Refused Refusal.NoDictionary }
+    ensures looked { reply_to of_bag (Command.First name) NoNeed
+        ≡ Reply.Refused Refusal.NoDictionary }
 {}

@@ -9,8 +9,7 @@ ghost use Rattle.vc_script.specs.Needs.{need_shown};
 ghost use Rattle.vc_commands.specs.DictCommands.{asks, in_dict};
 ghost use Rattle.vc_commands.specs.DictRun.{AskedBy, GivesDict, IsSpentBy, seat_in};
 
-use crate::dict::listing::{count, walk};
-use crate::dict::looking::{first, last, match_key, next, prev, search};
+use crate::dict::listing::count;
 use crate::dict::putting::{append, attach, insert};
 use crate::dict::taking::{delete, take};
 use crate::dict::turning::{empty, remethod};
@@ -22,8 +21,10 @@ use vc_dtdisc::DictDisc;
 use vc_script::{Command, Refusal, Reply};
 use vc_seg::{BoxedDisc, SegDisc};
 
-/// Runs a command on a dictionary in its best region, by its kind. `dict`, `shut` and `view` are no such command. With no
-/// memory nothing changes, save that `insert` and `attach` may leave a larger table.
+/// Runs a command on one dictionary in its best region, by its kind: `insert`, `append`, `attach`, `delete`, `detach`,
+/// `count`, `method` and `empty`. `dict`, `shut`, `view` and the commands that look through a view path are no such
+/// command, and are refused as if there were no dictionary. With no memory nothing changes, save that `insert` and `attach`
+/// may leave a larger table.
 pub fn run<D: DictDisc>(
     alloc: Global,
     best: &mut Best,
@@ -59,16 +60,9 @@ pub fn run<D: DictDisc>(
         Command::Attach(_, object) => attach(alloc, best, dict, kind, object.as_slice()),
         Command::Delete(_, object) => delete(alloc, best, dict, kind, object),
         Command::Detach(_, object) => take(alloc, best, dict, kind, object.as_slice(), false),
-        Command::Search(_, object) => search(alloc, best, dict, kind, object.as_slice()),
-        Command::MatchKey(_, key) => match_key(alloc, best, dict, kind, key.as_slice()),
-        Command::First(_) => first(alloc, best, dict, kind),
-        Command::Last(_) => last(alloc, best, dict, kind),
-        Command::Next(_, object) => next(alloc, best, dict, kind, object.as_slice()),
-        Command::Prev(_, object) => prev(alloc, best, dict, kind, object.as_slice()),
-        Command::Walk(_) => walk(alloc, best, dict, kind),
         Command::Count(_) => Ok(count(best, dict)),
         Command::Remethod(name, method) => remethod(alloc, best, dict, kind, *name, *method),
         Command::Empty(name) => Ok(empty(best, dict, kind, *name)),
-        _ => Ok(Reply::Refused(Refusal::NotYet)),
+        _ => Ok(Reply::Refused(Refusal::NoDictionary)),
     }
 }

@@ -40,7 +40,7 @@ impl HomeEntry {
     ghost use Rattle.vc_commands.specs.RegionRun.{LeavesRegion, RunsRegion, held_of, region_with};
 
     /// Runs the command of a line, numbered from 1 on, in the region whose names these are, and answers its reply. A command
-    /// that works in no region is refused as not built. A refusal changes neither the region nor its names; want of memory,
+    /// that works in no region is refused as if there were none. A refusal changes neither the region nor its names; want of memory,
     /// the one error, neither blocks nor names.
     pub fn run(
         &mut self,
@@ -94,7 +94,7 @@ impl HomeEntry {
             Command::Check(_) => self.check(labels, alloc),
             Command::Watch(_, block) => self.watch(labels, block, line),
             Command::ProfileOf(_) => self.profile(alloc),
-            _ => Ok(Reply::Refused(Refusal::NotYet)),
+            _ => Ok(Reply::Refused(Refusal::NoRegion)),
         }
     }
 }

@@ -3,11 +3,10 @@ use Rattle.vc_model.specs.Discipline.{Discipline}
 use Rattle.vc_best.specs.Cells.{rest_in}
 use Rattle.vc_best.specs.Parts.{disc_in}
 use Rattle.vc_objects.specs.Parts.{dictionary_in}
-use Rattle.vc_objects.specs.Remove.{bytes_of}
 use Rattle.vc_objects.proofs.Leaving.{leaves-self}
 use Rattle.vc_script.specs.Needs.{NoNeed}
 use Rattle.vc_commands.specs.DictRun.{IsSpent, seat_in}
-use Rattle.vc_commands.proofs.Ran.{append-asked, asking, other-told, spent-none, spent-put, spent-still, spent-told, unasked, unneeded, walk-asked, walk-told}
+use Rattle.vc_commands.proofs.Ran.{append-asked, asking, other-told, spent-put, spent-still, spent-told, unasked, unneeded}
 use Rattle.vc_commands.proofs.dict.running.run.Goals as goal
 
 pub returns-in-Insert-clause-step : goal.returns-in-Insert-clause-step
@@ -82,78 +81,6 @@ pub returns-in-Detach-clause-err : goal.returns-in-Detach-clause-err
 returns-in-Detach-clause-err g c =
     rw c.in-Detach.is (spent-told c.take.result c.args.best.now c.take.new.best c.args.dict.now c.take.new.dict (g.D.DictDisc.gone c.args.kind.now) (g.D.DictDisc.gone c.take.new.kind) c.take.ensures.err)
 
-pub returns-in-Search-clause-step : goal.returns-in-Search-clause-step
-returns-in-Search-clause-step g c =
-    rw c.in-Search.is (rw (sym c.as_slice-in-Search.ensures) c.search.ensures.step)
-
-pub returns-in-Search-clause-asked : goal.returns-in-Search-clause-asked
-returns-in-Search-clause-asked g c =
-    rw c.in-Search.is (unasked c.search.result None [] (disc_in (λ z. (goal.SegDisc-dyn g z).state z.1) c.args.best.now) (disc_in (λ z. (goal.SegDisc-dyn g z).state z.1) c.search.new.best) c.search.ensures.disc c.search.ensures.need)
-
-pub returns-in-Search-clause-err : goal.returns-in-Search-clause-err
-returns-in-Search-clause-err g c =
-    rw c.in-Search.is (spent-still c.search.result c.args.best.now c.search.new.best c.args.dict.now c.search.new.dict (g.D.DictDisc.gone c.args.kind.now) (g.D.DictDisc.gone c.args.kind.now) refl c.search.ensures.err)
-
-pub returns-in-MatchKey-clause-step : goal.returns-in-MatchKey-clause-step
-returns-in-MatchKey-clause-step g c =
-    rw c.in-MatchKey.is (rw (sym c.as_slice-in-MatchKey.ensures) c.match_key.ensures.step)
-
-pub returns-in-MatchKey-clause-asked : goal.returns-in-MatchKey-clause-asked
-returns-in-MatchKey-clause-asked g c =
-    rw c.in-MatchKey.is (unasked c.match_key.result None [] (disc_in (λ z. (goal.SegDisc-dyn g z).state z.1) c.args.best.now) (disc_in (λ z. (goal.SegDisc-dyn g z).state z.1) c.match_key.new.best) c.match_key.ensures.disc c.match_key.ensures.need)
-
-pub returns-in-MatchKey-clause-err : goal.returns-in-MatchKey-clause-err
-returns-in-MatchKey-clause-err g c =
-    rw c.in-MatchKey.is (spent-still c.match_key.result c.args.best.now c.match_key.new.best c.args.dict.now c.match_key.new.dict (g.D.DictDisc.gone c.args.kind.now) (g.D.DictDisc.gone c.args.kind.now) refl c.match_key.ensures.err)
-
-pub returns-in-First-clause-step : goal.returns-in-First-clause-step
-returns-in-First-clause-step g c =
-    rw c.in-First.is c.first.ensures.step
-
-pub returns-in-First-clause-asked : goal.returns-in-First-clause-asked
-returns-in-First-clause-asked g c =
-    rw c.in-First.is (unasked c.first.result None [] (disc_in (λ z. (goal.SegDisc-dyn g z).state z.1) c.args.best.now) (disc_in (λ z. (goal.SegDisc-dyn g z).state z.1) c.first.new.best) c.first.ensures.disc c.first.ensures.need)
-
-pub returns-in-First-clause-err : goal.returns-in-First-clause-err
-returns-in-First-clause-err g c =
-    rw c.in-First.is (spent-still c.first.result c.args.best.now c.first.new.best c.args.dict.now c.first.new.dict (g.D.DictDisc.gone c.args.kind.now) (g.D.DictDisc.gone c.args.kind.now) refl c.first.ensures.err)
-
-pub returns-in-Last-clause-step : goal.returns-in-Last-clause-step
-returns-in-Last-clause-step g c =
-    rw c.in-Last.is c.last.ensures.step
-
-pub returns-in-Last-clause-asked : goal.returns-in-Last-clause-asked
-returns-in-Last-clause-asked g c =
-    rw c.in-Last.is (unasked c.last.result None [] (disc_in (λ z. (goal.SegDisc-dyn g z).state z.1) c.args.best.now) (disc_in (λ z. (goal.SegDisc-dyn g z).state z.1) c.last.new.best) c.last.ensures.disc c.last.ensures.need)
-
-pub returns-in-Last-clause-err : goal.returns-in-Last-clause-err
-returns-in-Last-clause-err g c =
-    rw c.in-Last.is (spent-still c.last.result c.args.best.now c.last.new.best c.args.dict.now c.last.new.dict (g.D.DictDisc.gone c.args.kind.now) (g.D.DictDisc.gone c.args.kind.now) refl c.last.ensures.err)
-
-pub returns-in-Next-clause-step : goal.returns-in-Next-clause-step
-returns-in-Next-clause-step g c =
-    rw c.in-Next.is (rw (sym c.as_slice-in-Next.ensures) c.next.ensures.step)
-
-pub returns-in-Next-clause-asked : goal.returns-in-Next-clause-asked
-returns-in-Next-clause-asked g c =
-    rw c.in-Next.is (unasked c.next.result None [] (disc_in (λ z. (goal.SegDisc-dyn g z).state z.1) c.args.best.now) (disc_in (λ z. (goal.SegDisc-dyn g z).state z.1) c.next.new.best) c.next.ensures.disc c.next.ensures.need)
-
-pub returns-in-Next-clause-err : goal.returns-in-Next-clause-err
-returns-in-Next-clause-err g c =
-    rw c.in-Next.is (spent-still c.next.result c.args.best.now c.next.new.best c.args.dict.now c.next.new.dict (g.D.DictDisc.gone c.args.kind.now) (g.D.DictDisc.gone c.args.kind.now) refl c.next.ensures.err)
-
-pub returns-in-Prev-clause-step : goal.returns-in-Prev-clause-step
-returns-in-Prev-clause-step g c =
-    rw c.in-Prev.is (rw (sym c.as_slice-in-Prev.ensures) c.prev.ensures.step)
-
-pub returns-in-Prev-clause-asked : goal.returns-in-Prev-clause-asked
-returns-in-Prev-clause-asked g c =
-    rw c.in-Prev.is (unasked c.prev.result None [] (disc_in (λ z. (goal.SegDisc-dyn g z).state z.1) c.args.best.now) (disc_in (λ z. (goal.SegDisc-dyn g z).state z.1) c.prev.new.best) c.prev.ensures.disc c.prev.ensures.need)
-
-pub returns-in-Prev-clause-err : goal.returns-in-Prev-clause-err
-returns-in-Prev-clause-err g c =
-    rw c.in-Prev.is (spent-still c.prev.result c.args.best.now c.prev.new.best c.args.dict.now c.prev.new.dict (g.D.DictDisc.gone c.args.kind.now) (g.D.DictDisc.gone c.args.kind.now) refl c.prev.ensures.err)
-
 pub returns-in-Remethod-clause-step : goal.returns-in-Remethod-clause-step
 returns-in-Remethod-clause-step g c =
     rw c.in-Remethod.is c.remethod.ensures.step
@@ -169,22 +96,6 @@ returns-in-Remethod-clause-disc g c =
 pub returns-in-Remethod-clause-err : goal.returns-in-Remethod-clause-err
 returns-in-Remethod-clause-err g c =
     rw c.in-Remethod.is (spent-told c.remethod.result c.args.best.now c.remethod.new.best c.args.dict.now c.remethod.new.dict (g.D.DictDisc.gone c.args.kind.now) (g.D.DictDisc.gone c.remethod.new.kind) c.remethod.ensures.err)
-
-pub returns-in-Walk-clause-step : goal.returns-in-Walk-clause-step
-returns-in-Walk-clause-step g c =
-    rw c.in-Walk.is (walk-told c.walk.result (seat_in (λ z. (goal.SegDisc-dyn g z).state z.1) (g.D.DictDisc.rules c.args.kind.now) c.args.best.now c.args.dict.now) c.in-Walk.field-0 (g.D.DictDisc.gone c.args.kind.now) c.walk.ensures)
-
-pub returns-in-Walk-clause-leaves : goal.returns-in-Walk-clause-leaves
-returns-in-Walk-clause-leaves g c =
-    leaves-self (λ z. (goal.SegDisc-dyn g z).state z.1) (g.D.DictDisc.rules c.args.kind.now) c.args.best.now c.args.dict.now c.requires.whole
-
-pub returns-in-Walk-clause-asked : goal.returns-in-Walk-clause-asked
-returns-in-Walk-clause-asked g c =
-    rw c.in-Walk.is (walk-asked c.walk.result (bytes_of (dictionary_in c.args.dict.now c.args.best.now).objects) (disc_in (λ z. (goal.SegDisc-dyn g z).state z.1) c.args.best.now) c.walk.ensures)
-
-pub returns-in-Walk-clause-err : goal.returns-in-Walk-clause-err
-returns-in-Walk-clause-err g c =
-    rw c.in-Walk.is (spent-none c.walk.result (g.D.DictDisc.gone c.args.kind.now) (rest_in c.args.best.now) (dictionary_in c.args.dict.now c.args.best.now))
 
 pub returns-in-Count-clause-step : goal.returns-in-Count-clause-step
 returns-in-Count-clause-step g c =
@@ -209,7 +120,7 @@ returns-in-Empty-clause-asked g c =
 pub returns-in_default : goal.returns-in_default
 returns-in_default g c =
     let told = other-told (seat_in (λ z. (goal.SegDisc-dyn g z).state z.1) (g.D.DictDisc.rules c.args.kind.now) c.args.best.now c.args.dict.now) c.args.command.now NoNeed
-    c.in_default.not-Insert c.in_default.not-Append c.in_default.not-Attach c.in_default.not-Delete c.in_default.not-Detach c.in_default.not-Search c.in_default.not-MatchKey c.in_default.not-First c.in_default.not-Last c.in_default.not-Next c.in_default.not-Prev c.in_default.not-Walk c.in_default.not-Count c.in_default.not-Remethod c.in_default.not-Empty in
+    c.in_default.not-Insert c.in_default.not-Append c.in_default.not-Attach c.in_default.not-Delete c.in_default.not-Detach c.in_default.not-Count c.in_default.not-Remethod c.in_default.not-Empty in
     record {
       step = rw told (record { region = refl; dict = refl; reply = refl; told = refl });
       leaves = leaves-self (λ z. (goal.SegDisc-dyn g z).state z.1) (g.D.DictDisc.rules c.args.kind.now) c.args.best.now c.args.dict.now c.requires.whole;

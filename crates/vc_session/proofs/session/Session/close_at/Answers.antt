@@ -60,6 +60,7 @@ returns g c =
         here = subst (λ o. IfSome o (λ (k : Held). accounts_on M c.close_region.new.shelf ≡ set (accounts slots) (k.place - 1) (Some (account_after k)))) (sym at) c.close_region.ensures.here;
         others = rest;
         entries = refl;
+        paths = refl;
         fewer = omega (arith, ap length c.shift_remove_index.ensures.entries, fewer);
       };
       regions = record {
@@ -71,6 +72,7 @@ returns g c =
             subst (λ hs. AreDicts kinds hs es) (sym rest)
             (dicts-stay kinds helds (remove helds c.args.i) es
             (all-other kinds helds (remove helds c.args.i) h.name (λ e other. stays-remove kinds helds c.args.i h at e other) es none) dicts);
+        views = λ are. are;
         spent = refl;
       };
       settled = ap (λ hs. settled (accounts slots') hs) rest ∙ settled-close slots slots' helds c.args.i h at c.requires.session.held c.close_region.ensures.here;

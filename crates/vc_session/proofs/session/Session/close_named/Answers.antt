@@ -9,6 +9,7 @@ use Rattle.vc_commands.specs.Held.{Held}
 use Rattle.vc_session.specs.Account.{account_after, accounts, state_of}
 use Rattle.vc_session.specs.DictHomes.{dicts_in, lies_in}
 use Rattle.vc_session.specs.Homes.{accounts_on, held_in, slots_on}
+use Rattle.vc_views.specs.Numbers.{views_by}
 use Rattle.vc_session.specs.State.{close_home, stepped}
 use Rattle.vc_commands.specs.Home.{is_home}
 use Rattle.vc_session.proofs.Closing.{close-busy, step-close}
@@ -25,26 +26,29 @@ meaning g p = (g.dyn-1.0.entry p.0).1.state p.1
 pub returns-in-None-clause-step : goal.returns-in-None-clause-step
 returns-in-None-clause-step g c = λ kinds dicts.
     let M = meaning g in
+    let vs = views_by c.args.self.now.paths c.args.self.now.dicts.entries in
     let slots = slots_on M c.args.shelf.now in
     let helds = held_in M c.args.self.now in
     let entries = c.args.self.now.homes.entries in
     let labels = c.args.self.now.labels.items in
-    let ds = dicts_in helds c.args.self.now.dicts.entries in
+    let ds = dicts_in helds vs c.args.self.now.dicts.entries in
     ap (close_home (state_of kinds slots helds ds) c.args.name.now)
     (find-none (is_home c.args.name.now) (state_of kinds slots helds ds).homes (any-named M entries labels c.args.name.now c.requires.named ∙ sym c.in-None.ensures.found))
 
 pub returns-then-is_busy-clause-step : goal.returns-then-is_busy-clause-step
 returns-then-is_busy-clause-step g c = λ kinds dicts.
     let M = meaning g in
+    let vs = views_by c.args.self.now.paths c.args.self.now.dicts.entries in
     let slots = slots_on M c.args.shelf.now in
     let helds = held_in M c.args.self.now in
     let es = c.args.self.now.dicts.entries in
     let first = first-named M c.args.self.now.homes.entries c.args.self.now.labels.items c.args.name.now c.in-Some.i c.requires.named (sym c.in-Some.ensures.index) in
-    close-busy (state_of kinds slots helds (dicts_in helds es)) c.args.name.now c.in-Some.i first (busy-lies helds es c.args.name.now ∙ sym c.if-is_busy.ensures)
+    close-busy (state_of kinds slots helds (dicts_in helds vs es)) c.args.name.now c.in-Some.i first (busy-lies helds vs es c.args.name.now ∙ sym c.if-is_busy.ensures)
 
 pub close_at-requires-clause-free : goal.close_at-requires-clause-free
 close_at-requires-clause-free g c =
     let M = meaning g in
+    let vs = views_by c.args.self.now.paths c.args.self.now.dicts.entries in
     let helds = held_in M c.args.self.now in
     let entries = c.args.self.now.homes.entries in
     let labels = c.args.self.now.labels.items in
@@ -61,6 +65,7 @@ close_at-requires-clause-free g c =
 pub returns-else-is_busy-clause-step : goal.returns-else-is_busy-clause-step
 returns-else-is_busy-clause-step g c = λ kinds dicts.
     let M = meaning g in
+    let vs = views_by c.args.self.now.paths c.args.self.now.dicts.entries in
     let slots = slots_on M c.args.shelf.now in
     let helds = held_in M c.args.self.now in
     let entries = c.args.self.now.homes.entries in
@@ -78,8 +83,9 @@ returns-else-is_busy-clause-step g c = λ kinds dicts.
     let count = subst (λ o. IfSome o (λ (k : Held). c.close_at.result ≡ length (segments_of k.region))) at c.close_at.ensures.closes.count_is in
     let free : lies_in r es ≡ false = sym c.if-is_busy.ensures in
     let none : lies_in h.name es ≡ false = ap (λ n. lies_in n es) (same_bytes h.name r (its-name helds i h h at refl r first)) ∙ free in
-    let stays = dicts_in-stay kinds helds (remove helds i) es (all-other kinds helds (remove helds i) h.name (λ e other. stays-remove kinds helds i h at e other) es none) dicts in
-    step-close slots slots' helds i h at c.requires.held here kinds (dicts_in helds es) r c.close_at.result first (busy-lies helds es r ∙ free) count
+    let stays = dicts_in-stay kinds helds (remove helds i) vs es (all-other kinds helds (remove helds i) h.name (λ e other. stays-remove kinds helds i h at e other) es none) dicts in
+    step-close slots slots' helds i h at c.requires.held here kinds (dicts_in helds vs es) r c.close_at.result first (busy-lies helds vs es r ∙ free) count
     ∙ (ap (λ ds. stepped (state_of kinds slots' (remove helds i) ds) (Closed r c.close_at.result)) (sym stays)
-    ∙ (ap (λ hs. stepped (state_of kinds slots' hs (dicts_in hs es)) (Closed r c.close_at.result)) (sym c.close_at.ensures.closes.others)
-    ∙ ap (λ ds. stepped (state_of kinds slots' (held_in M c.close_at.new.self) (dicts_in (held_in M c.close_at.new.self) ds)) (Closed r c.close_at.result)) (sym c.close_at.ensures.closes.entries)))
+    ∙ (ap (λ hs. stepped (state_of kinds slots' hs (dicts_in hs vs es)) (Closed r c.close_at.result)) (sym c.close_at.ensures.closes.others)
+    ∙ (ap (λ ds. stepped (state_of kinds slots' (held_in M c.close_at.new.self) (dicts_in (held_in M c.close_at.new.self) (views_by c.args.self.now.paths ds) ds)) (Closed r c.close_at.result)) (sym c.close_at.ensures.closes.entries)
+    ∙ ap (λ p. stepped (state_of kinds slots' (held_in M c.close_at.new.self) (dicts_in (held_in M c.close_at.new.self) (views_by p c.close_at.new.self.dicts.entries) c.close_at.new.self.dicts.entries)) (Closed r c.close_at.result)) (sym c.close_at.ensures.closes.paths))))

@@ -7,7 +7,7 @@ use Rattle.std.proofs.lemmas.Iterator.{YieldsList}
 use Rattle.std.proofs.lemmas.Iterator.Search.{any_from_yields_List}
 use Rattle.vc_commands.specs.declared.dict.entry.DictEntry.{DictEntry}
 use Rattle.vc_commands.proofs.Firsts.{any-unmap}
-use Rattle.vc_session.proofs.Values.{values-yield}
+use Rattle.vc_views.proofs.Values.{values-yield}
 use Rattle.vc_session.proofs.session.Session.is_busy.Goals as goal
 use borrow.Author.Tests.{tests}
 

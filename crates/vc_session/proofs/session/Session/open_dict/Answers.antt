@@ -1,5 +1,5 @@
 use Rattle.std.proofs.Common.{◌≡◌, ℕ, ◌-◌, rules, true, false, is_some, [], ◌∷◌, ◌++◌, Some, None, length, option_map, set, refl, sym, ap, ◌∙◌, subst, arith}
-use Rattle.std.specs.Prelude.{slice_get}
+use Rattle.std.specs.Prelude.{nat_le, slice_get}
 use Rattle.std.specs.Map.{lookup}
 use Rattle.std.specs.Str.{bytes_eq}
 use Rattle.std.proofs.lemmas.List.{length-map}
@@ -21,14 +21,15 @@ use Rattle.vc_region.specs.Region.{is_best}
 use Rattle.vc_commands.specs.declared.dict.entry.DictEntry.{DictEntry}
 use Rattle.vc_commands.specs.declared.region.home.HomeEntry.{HomeEntry}
 use Rattle.vc_commands.specs.Held.{Held, home_of}
+use Rattle.vc_views.specs.Dicts.{entry_numbered}
+use Rattle.vc_views.specs.Numbers.{AreLinked, views_by}
+use Rattle.vc_views.proofs.LinkChanges.{linked-more, views-free, views-more}
 use Rattle.vc_session.specs.Account.{IsSession, Settles, accounts, settled, state_of}
-use Rattle.vc_session.specs.DictHomes.{AreDicts, dicts_in}
-use Rattle.vc_session.specs.Dicts.{dict_refused, open_dict_step}
+use Rattle.vc_session.specs.DictHomes.{AreDicts, dict_home, dicts_in}
+use Rattle.vc_session.specs.Dicts.{dict_limit, dict_refused, open_dict_step}
 use Rattle.vc_session.specs.Homes.{held_all, held_in, slots_on}
 use Rattle.vc_commands.specs.RegionRun.{held_of}
 use Rattle.vc_commands.specs.Labels.{name_of}
-use Rattle.vc_session.specs.Lacks.{StepLacksFor}
-use Rattle.vc_session.specs.Run.{refusal_at}
 use Rattle.vc_commands.specs.Home.{is_home}
 use Rattle.vc_session.specs.Step.{GivesStep}
 use Rattle.vc_session.specs.Steps.{StepsBy}
@@ -41,7 +42,7 @@ use Rattle.vc_session.proofs.DictNamed.{any-dict}
 use Rattle.vc_session.proofs.DictOpening.{dicts-failed, dicts-opened, open-done, open-none, open-refused, steps-failed}
 use Rattle.vc_session.proofs.DictRefusing.{best-relabelled}
 use Rattle.vc_session.proofs.DictRegion.{best_entry, entry-best, held_after, region-change, touches}
-use Rattle.vc_session.proofs.DictWhy.{kind-within, lacks-early, refused-early, refused-none, settles-early}
+use Rattle.vc_session.proofs.DictWhy.{few-within, kind-within, lacks-early, refused-early, refused-none, settles-early}
 use Rattle.vc_session.proofs.Ending.{if_some-at}
 use Rattle.vc_commands.proofs.Firsts.{find-none}
 use Rattle.vc_session.proofs.Helds.{any-named, first-named, held-read, held-set, index-within, length-set, name-at, none_of, slice-or}
@@ -59,6 +60,7 @@ meaning g p = (g.dyn-1.0.entry p.0).1.state p.1
 pub returns-in_default-clause-steps : goal.returns-in_default-clause-steps
 returns-in_default-clause-steps g c =
     let M = meaning g in
+    let vs = views_by c.args.self.now.paths c.args.self.now.dicts.entries in
     let items = c.args.kinds.now.items in
     let item = g.D.DictDisc.rules in
     let kinds = rules_in item items in
@@ -73,7 +75,7 @@ returns-in_default-clause-steps g c =
     let method = c.args.method in
     let r = c.args.region in
     let k = c.args.kind in
-    let s = state_of kinds slots helds (dicts_in helds ds) in
+    let s = state_of kinds slots helds (dicts_in helds vs ds) in
     record {
       gives = open-none s gone d r method k NoNeed (find-none (is_home r) s.homes (any-named M entries labels r named ∙ (sym c.get_index_of.ensures.found ∙ ap is_some c.in_default.is)));
       settles = settles-same _;
@@ -83,6 +85,7 @@ returns-in_default-clause-steps g c =
 pub returns-in-Some-dict_refused-clause-steps : goal.returns-in-Some-dict_refused-clause-steps
 returns-in-Some-dict_refused-clause-steps g c =
     let M = meaning g in
+    let vs = views_by c.args.self.now.paths c.args.self.now.dicts.entries in
     let items = c.args.kinds.now.items in
     let item = g.D.DictDisc.rules in
     let kinds = rules_in item items in
@@ -99,7 +102,7 @@ returns-in-Some-dict_refused-clause-steps g c =
     let method = c.args.method in
     let r = c.args.region in
     let k = c.args.kind in
-    let s = state_of kinds slots helds (dicts_in helds ds) in
+    let s = state_of kinds slots helds (dicts_in helds vs ds) in
     let j = c.in-Some.j in
     let index = sym c.get_index_of.ensures.index ∙ c.in-Some.is in
     let within = index-within M entries r j index in
@@ -115,7 +118,7 @@ returns-in-Some-dict_refused-clause-steps g c =
     let is : dict_refused s (home_of h) d k ≡ Some refusal = sym why ∙ c.in-Some-dict_refused.is in
     let early = refused-early s (home_of h) d k refusal is in
     record {
-      gives = open-refused kinds slots helds ds j h at r first session dicts d method k gone (need_shown (Refused refusal)) refusal is;
+      gives = open-refused kinds slots helds ds vs j h at r first session dicts d method k gone (need_shown (Refused refusal)) refusal is;
       settles = settles-early s (settled (accounts slots) helds) d r method k refusal early;
       lacks = lacks-early s helds helds d r method k refusal early;
     }
@@ -123,17 +126,19 @@ returns-in-Some-dict_refused-clause-steps g c =
 pub returns-in_err-reserve : goal.returns-in_err-reserve
 returns-in_err-reserve g c =
     let M = meaning g in
+    let vs = views_by c.args.self.now.paths c.args.self.now.dicts.entries in
     let kinds = rules_in g.D.DictDisc.rules c.args.kinds.now.items in
     let slots = slots_on M c.args.shelf.now in
     let helds = held_in M c.args.self.now in
     let kept = c.reserve.ensures.entries in
     record {
-      steps = halts-steps c.from_residual.result _ _ _ _ (search rules) (halts-same _ _ _ (ap (λ x. state_of kinds slots helds (dicts_in helds x)) kept) refl refl);
+      steps = halts-steps c.from_residual.result _ _ _ _ (search rules) (halts-same _ _ _ (ap (λ x. state_of kinds slots helds (dicts_in helds (views_by c.args.self.now.paths x) x)) kept) refl refl);
       stays = record {
         lasts = record {
           stands = record {
             regions = record { named = c.requires.session.regions.named; held = c.requires.session.regions.held };
             dicts = subst (AreDicts kinds helds) (sym kept) c.requires.session.dicts;
+            views = subst (AreLinked c.args.self.now.paths) (sym kept) c.requires.session.views;
           };
           keeps_rules = refl;
           accounts = keeps-same _;
@@ -145,6 +150,7 @@ returns-in_err-reserve g c =
 pub unreachable-requires : goal.unreachable-requires
 unreachable-requires g c =
     let M = meaning g in
+    let vs = views_by c.args.self.now.paths c.args.self.now.dicts.entries in
     let items = c.args.kinds.now.items in
     let item = g.D.DictDisc.rules in
     let kinds = rules_in item items in
@@ -157,7 +163,7 @@ unreachable-requires g c =
     let d = c.args.name in
     let r = c.args.region in
     let k = c.args.kind in
-    let s = state_of kinds slots helds (dicts_in helds ds) in
+    let s = state_of kinds slots helds (dicts_in helds vs ds) in
     let j = c.in-Some.j in
     let index = sym c.get_index_of.ensures.index ∙ c.in-Some.is in
     let within = index-within M entries r j index in
@@ -179,6 +185,7 @@ unreachable-requires g c =
 pub overflow_sub-kind : goal.overflow_sub-kind
 overflow_sub-kind g c =
     let M = meaning g in
+    let vs = views_by c.args.self.now.paths c.args.self.now.dicts.entries in
     let items = c.args.kinds.now.items in
     let item = g.D.DictDisc.rules in
     let kinds = rules_in item items in
@@ -191,7 +198,7 @@ overflow_sub-kind g c =
     let d = c.args.name in
     let r = c.args.region in
     let k = c.args.kind in
-    let s = state_of kinds slots helds (dicts_in helds ds) in
+    let s = state_of kinds slots helds (dicts_in helds vs ds) in
     let j = c.in-Some.j in
     let index = sym c.get_index_of.ensures.index ∙ c.in-Some.is in
     let within = index-within M entries r j index in
@@ -210,6 +217,7 @@ overflow_sub-kind g c =
 pub index-requires : goal.index-requires
 index-requires g c =
     let M = meaning g in
+    let vs = views_by c.args.self.now.paths c.args.self.now.dicts.entries in
     let items = c.args.kinds.now.items in
     let item = g.D.DictDisc.rules in
     let kinds = rules_in item items in
@@ -222,7 +230,7 @@ index-requires g c =
     let d = c.args.name in
     let r = c.args.region in
     let k = c.args.kind in
-    let s = state_of kinds slots helds (dicts_in helds ds) in
+    let s = state_of kinds slots helds (dicts_in helds vs ds) in
     let j = c.in-Some.j in
     let index = sym c.get_index_of.ensures.index ∙ c.in-Some.is in
     let within = index-within M entries r j index in
@@ -242,6 +250,7 @@ index-requires g c =
 pub returns-in-Err : goal.returns-in-Err
 returns-in-Err g c =
     let M = meaning g in
+    let vs = views_by c.args.self.now.paths c.args.self.now.dicts.entries in
     let items = c.args.kinds.now.items in
     let item = g.D.DictDisc.rules in
     let kinds = rules_in item items in
@@ -258,7 +267,7 @@ returns-in-Err g c =
     let method = c.args.method in
     let r = c.args.region in
     let k = c.args.kind in
-    let s = state_of kinds slots helds (dicts_in helds ds) in
+    let s = state_of kinds slots helds (dicts_in helds vs ds) in
     let j = c.in-Some.j in
     let index = sym c.get_index_of.ensures.index ∙ c.in-Some.is in
     let within = index-within M entries r j index in
@@ -299,9 +308,9 @@ returns-in-Err g c =
     let new = c.reserve.new.self.entries in
     let hs' = held_all M homes' labels in
     let steps =
-    subst (λ hs. StepsBy c.table_refused.result (moment_over slots ds kinds gone helds) (moment_over slots new kinds gone hs) (OpenDict d method r k) (λ st. open_dict_step st d method r k)) (sym helds')
-    (subst (λ xs. StepsBy c.table_refused.result (moment_over slots ds kinds gone helds) (moment_over slots xs kinds gone (set helds j g')) (OpenDict d method r k) (λ st. open_dict_step st d method r k)) (sym kept)
-    (steps-failed kinds slots helds ds j h' at' r first session dicts d method k g' change gone fault c.table_refused.result c.table_refused.ensures c.in-Err.ensures.asked refusal none' touch region refl)) in
+    subst (λ hs. StepsBy c.table_refused.result (moment_over slots ds vs kinds gone helds) (moment_over slots new (views_by c.args.self.now.paths new) kinds gone hs) (OpenDict d method r k) (λ st. open_dict_step st d method r k)) (sym helds')
+    (subst (λ xs. StepsBy c.table_refused.result (moment_over slots ds vs kinds gone helds) (moment_over slots xs (views_by c.args.self.now.paths xs) kinds gone (set helds j g')) (OpenDict d method r k) (λ st. open_dict_step st d method r k)) (sym kept)
+    (steps-failed kinds slots helds ds vs j h' at' r first session dicts d method k g' change gone fault c.table_refused.result c.table_refused.ensures c.in-Err.ensures.asked refusal none' touch region refl)) in
     record {
       steps = steps;
       stays = record {
@@ -310,7 +319,8 @@ returns-in-Err g c =
             regions = record { named = named'; held = subst (IsSession slots) (sym helds') (session-change slots helds j h' g' at' session change) };
             dicts =
                 subst (λ hs. AreDicts kinds hs new) (sym helds')
-                (subst (AreDicts kinds (set helds j g')) (sym kept) (dicts-failed kinds slots helds ds j h' at' r first session dicts d method k g' change touch));
+                (subst (AreDicts kinds (set helds j g')) (sym kept) (dicts-failed kinds slots helds ds vs j h' at' r first session dicts d method k g' change touch));
+            views = subst (AreLinked c.args.self.now.paths) (sym kept) c.requires.session.views;
           };
           keeps_rules = refl;
           accounts = keeps-steps c.table_refused.result _ _ _ _ steps;
@@ -322,6 +332,7 @@ returns-in-Err g c =
 pub returns-in-Ok : goal.returns-in-Ok
 returns-in-Ok g c =
     let M = meaning g in
+    let vs = views_by c.args.self.now.paths c.args.self.now.dicts.entries in
     let items = c.args.kinds.now.items in
     let item = g.D.DictDisc.rules in
     let kinds = rules_in item items in
@@ -338,7 +349,7 @@ returns-in-Ok g c =
     let method = c.args.method in
     let r = c.args.region in
     let k = c.args.kind in
-    let s = state_of kinds slots helds (dicts_in helds ds) in
+    let s = state_of kinds slots helds (dicts_in helds vs ds) in
     let j = c.in-Some.j in
     let index = sym c.get_index_of.ensures.index ∙ c.in-Some.is in
     let within = index-within M entries r j index in
@@ -380,22 +391,26 @@ returns-in-Ok g c =
     let its_kind : slice_get items (k - 1) ≡ Some kind = slice-or items (k - 1) kind (omega (arith, range.0, range.1, many)) c.index.ensures in
     let by : at_number kinds k ≡ Some (item kind) =
     at_number-from_one kinds k range.0 ∙ (slice_get-map item items (k - 1) ∙ ap (option_map item) its_kind) in
-    let lain : DictEntry = record { home = r; dict = dict } in
-    let absent : is_some (lookup (bytes_eq d) ds) ≡ false = sym (any-dict helds ds d) ∙ may.new in
+    let n = c.free_number-number.result in
+    let links = c.args.self.now.paths in
+    let lain : DictEntry = record { home = r; number = n; dict = dict } in
+    let absent : is_some (lookup (bytes_eq d) ds) ≡ false = sym (any-dict helds vs ds d) ∙ may.new in
     let new = c.insert.new.self.entries in
     let put = from_ok c.insert.result (c.insert.ensures.succeeds (omega (arith, c.in_ok-reserve.ensures.ok))) c.insert.ensures.entries in
     let free = none_of (lookup (bytes_eq d) c.reserve.new.self.entries) (ap (λ es. is_some (lookup (bytes_eq d) es)) kept ∙ absent) in
     let last : new ≡ ds ++ (d, lain) ∷ [] = put ∙ (insert_entry-new bytes_eq c.reserve.new.self d lain free ∙ ap (λ es. es ++ (d, lain) ∷ []) kept) in
     let hs' = held_all M homes' labels in
-    let state' : state_of kinds slots hs' (dicts_in hs' new) ≡ state_of kinds slots (set helds j g') (dicts_in (set helds j g') (ds ++ (d, lain) ∷ [])) =
-    ap (λ hs. state_of kinds slots hs (dicts_in hs new)) helds'
-    ∙ ap (λ x. state_of kinds slots (set helds j g') (dicts_in (set helds j g') x)) last in
+    let fresh : entry_numbered n ds ≡ None = ap (entry_numbered n) (sym kept) ∙ c.free_number-number.ensures.free in
+    let state' : state_of kinds slots hs' (dicts_in hs' (views_by links new) new) ≡ state_of kinds slots (set helds j g') (dicts_in (set helds j g') vs (ds ++ (d, lain) ∷ [])) =
+    ap (λ hs. state_of kinds slots hs (dicts_in hs (views_by links new) new)) helds'
+    ∙ (ap (λ x. state_of kinds slots (set helds j g') (dicts_in (set helds j g') (views_by links x) x)) last
+    ∙ ap (λ v. state_of kinds slots (set helds j g') (dicts_in (set helds j g') v (ds ++ (d, lain) ∷ []))) (views-more links ds (d, lain) c.requires.session.views fresh)) in
     let quiet = subst (λ hs. Settles (settled (accounts slots) helds) (settled (accounts slots) hs) []) (sym helds') (settles-none slots helds j h' g' at' session change c.in-Ok.ensures.asked) in
     record {
       steps = record {
         gives =
             subst (λ x. GivesStep (open_dict_step s d method r k NoNeed) gone (Opened d) x gone) (sym state')
-            (open-done kinds slots helds ds j h' at' r first session dicts d method k g' dict change touch refl c.in-Ok.ensures.kind (item kind) by c.in-Ok.ensures.whole gone none' c.in-Ok.ensures.ok);
+            (open-done kinds slots helds ds vs j h' at' r first session dicts d method k g' dict n (views-free links ds n c.requires.session.views fresh) change touch refl c.in-Ok.ensures.kind (item kind) by c.in-Ok.ensures.whole gone none' c.in-Ok.ensures.ok);
         settles = quiet;
         lacks = tt;
       };
@@ -405,7 +420,8 @@ returns-in-Ok g c =
             regions = record { named = named'; held = subst (IsSession slots) (sym helds') (session-change slots helds j h' g' at' session change) };
             dicts =
                 subst (λ hs. AreDicts kinds hs new) (sym helds')
-                (subst (AreDicts kinds (set helds j g')) (sym last) (dicts-opened kinds slots helds ds j h' at' r first session dicts d method k g' dict change touch refl c.in-Ok.ensures.kind (item kind) by c.in-Ok.ensures.whole));
+                (subst (AreDicts kinds (set helds j g')) (sym last) (dicts-opened kinds slots helds ds vs j h' at' r first session dicts d method k g' dict n (views-free links ds n c.requires.session.views fresh) change touch refl c.in-Ok.ensures.kind (item kind) by c.in-Ok.ensures.whole));
+            views = subst (AreLinked links) (sym last) (linked-more links ds (d, lain) c.requires.session.views fresh c.free_number-number.ensures.below);
           };
           keeps_rules = refl;
           accounts = keeps-settles quiet;
@@ -413,3 +429,32 @@ returns-in-Ok g c =
         spent = refl;
       };
     }
+
+pub free_number-number-requires : goal.free_number-number-requires
+free_number-number-requires g c =
+    let M = meaning g in
+    let vs = views_by c.args.self.now.paths c.args.self.now.dicts.entries in
+    let kinds = rules_in g.D.DictDisc.rules c.args.kinds.now.items in
+    let helds = held_in M c.args.self.now in
+    let entries = c.args.self.now.homes.entries in
+    let labels = c.args.self.now.labels.items in
+    let named = c.requires.session.regions.named in
+    let ds = c.args.self.now.dicts.entries in
+    let d = c.args.name in
+    let r = c.args.region in
+    let k = c.args.kind in
+    let s = state_of kinds (slots_on M c.args.shelf.now) helds (dicts_in helds vs ds) in
+    let j = c.in-Some.j in
+    let index = sym c.get_index_of.ensures.index ∙ c.in-Some.is in
+    let within = index-within M entries r j index in
+    let l = labels-at entries j within labels named in
+    let v = home-at entries j within in
+    let h = held_of M r v.0 l.0 in
+    let at = held-read M entries labels j r v.0 l.0 (name-at M entries r j index) v.1 l.1 in
+    let why : c.dict_refused.result ≡ dict_refused s (home_of h) d k =
+    if_some-at (λ (q : Held). c.dict_refused.result ≡ dict_refused s (home_of q) d k) (slice_get helds j) h at c.dict_refused.ensures in
+    let may = refused-none s (home_of h) d k (sym why ∙ c.in_default-dict_refused.is) in
+    let many = length-map ds (dict_home helds vs) in
+    let few = few-within (length ds) (ap (nat_le dict_limit) (sym many) ∙ may.few) in
+    let kept = ap length c.reserve.ensures.entries in
+    omega (arith, few, kept)

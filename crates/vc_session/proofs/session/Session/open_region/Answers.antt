@@ -13,6 +13,7 @@ use Rattle.vc_commands.specs.declared.region.home.HomeEntry.{HomeEntry}
 use Rattle.vc_session.specs.Account.{accounts, settled, state_of, IsSession}
 use Rattle.vc_session.specs.DictHomes.{AreDicts, dicts_in}
 use Rattle.vc_session.specs.Homes.{held_all, held_in, slots_on}
+use Rattle.vc_views.specs.Numbers.{views_by}
 use Rattle.vc_session.specs.State.{not_here}
 use Rattle.vc_session.specs.State.{stepped}
 use Rattle.vc_commands.proofs.Agreeing.{from_ok}
@@ -30,16 +31,18 @@ meaning g p = (g.dyn-1.0.entry p.0).1.state p.1
 
 pub returns-then-contains_key-clause-steps : goal.returns-then-contains_key-clause-steps
 returns-then-contains_key-clause-steps g c = λ kinds gone dicts.
+    let vs = views_by c.args.self.now.paths c.args.self.now.dicts.entries in
     let slots = slots_on (meaning g) c.args.shelf.now in
     let helds = held_in (meaning g) c.args.self.now in
     let is =
-    open_step-named (state_of kinds slots helds (dicts_in helds c.args.self.now.dicts.entries)) c.args.name c.args.method c.args.n
+    open_step-named (state_of kinds slots helds (dicts_in helds vs c.args.self.now.dicts.entries)) c.args.name c.args.method c.args.n
     (any-named (meaning g) c.args.self.now.homes.entries c.args.self.now.labels.items c.args.name c.requires.named ∙ sym c.if-contains_key.ensures) in
     steps-quiet _ _ _ _ (Refused RegionExists) is refl refl tt
 
 pub returns-in_default-clause-steps : goal.returns-in_default-clause-steps
 returns-in_default-clause-steps g c = λ kinds gone dicts.
     let M = meaning g in
+    let vs = views_by c.args.self.now.paths c.args.self.now.dicts.entries in
     let slots = slots_on M c.args.shelf.now in
     let helds = held_in M c.args.self.now in
     let entries = c.args.self.now.homes.entries in
@@ -50,12 +53,12 @@ returns-in_default-clause-steps g c = λ kinds gone dicts.
     let held : held_all M c.reserve.new.self.entries c.reserve-2.new.self.items ≡ helds =
     ap (λ es. held_all M es c.reserve-2.new.self.items) c.reserve.ensures.entries ∙ ap (λ ls. held_all M entries ls) c.reserve-2.ensures.items in
     let es = c.args.self.now.dicts.entries in
-    let ds = dicts_in helds es in
+    let ds = dicts_in helds vs es in
     let is =
     open_step-not_here kinds slots helds ds c.args.name c.args.method c.args.n (any-named M entries labels c.args.name c.requires.named ∙ absent) (λ e. false≢true (c.in_default.ensures.here.1 e))
     ∙ (ap (λ w. stepped (state_of kinds slots helds ds) (Refused w)) (sym why)
-    ∙ (ap (λ hs. stepped (state_of kinds slots hs (dicts_in hs es)) (Refused c.not_here.result)) (sym held)
-    ∙ ap (λ s. let hs = held_all M c.reserve.new.self.entries c.reserve-2.new.self.items in stepped (state_of kinds s hs (dicts_in hs es)) (Refused c.not_here.result)) (sym same))) in
+    ∙ (ap (λ hs. stepped (state_of kinds slots hs (dicts_in hs vs es)) (Refused c.not_here.result)) (sym held)
+    ∙ ap (λ s. let hs = held_all M c.reserve.new.self.entries c.reserve-2.new.self.items in stepped (state_of kinds s hs (dicts_in hs vs es)) (Refused c.not_here.result)) (sym same))) in
     steps-quiet _ _ _ _ (Refused c.not_here.result) is refl
     (ap (λ s. settled (accounts s) (held_all M c.reserve.new.self.entries c.reserve-2.new.self.items)) same ∙ ap (λ hs. settled (accounts slots) hs) held)
     (open-granted _ _ c.args.name c.args.method c.args.n (Refused c.not_here.result) is)
@@ -63,6 +66,7 @@ returns-in_default-clause-steps g c = λ kinds gone dicts.
 pub returns-in_err-reserve-clause-regions : goal.returns-in_err-reserve-clause-regions
 returns-in_err-reserve-clause-regions g c =
     let M = meaning g in
+    let vs = views_by c.args.self.now.paths c.args.self.now.dicts.entries in
     let labels = c.args.self.now.labels.items in
     let kept = c.reserve.ensures.entries in
     record {
@@ -71,12 +75,14 @@ returns-in_err-reserve-clause-regions g c =
         held = subst (λ es. IsSession (slots_on M c.args.shelf.now) (held_all M es labels)) (sym kept) c.requires.held;
       };
       dicts = λ kinds dicts. subst (λ es. AreDicts kinds (held_all M es labels) c.args.self.now.dicts.entries) (sym kept) dicts;
+      views = λ are. are;
       spent = refl;
     }
 
 pub returns-in_err-reserve-2-clause-regions : goal.returns-in_err-reserve-2-clause-regions
 returns-in_err-reserve-2-clause-regions g c =
     let M = meaning g in
+    let vs = views_by c.args.self.now.paths c.args.self.now.dicts.entries in
     let entries = c.args.self.now.homes.entries in
     let held : held_all M c.reserve.new.self.entries c.reserve-2.new.self.items ≡ held_in M c.args.self.now =
     ap (λ es. held_all M es c.reserve-2.new.self.items) c.reserve.ensures.entries ∙ ap (λ ls. held_all M entries ls) c.reserve-2.ensures.items in
@@ -86,12 +92,14 @@ returns-in_err-reserve-2-clause-regions g c =
         held = subst (λ hs. IsSession (slots_on M c.args.shelf.now) hs) (sym held) c.requires.held;
       };
       dicts = λ kinds dicts. subst (λ hs. AreDicts kinds hs c.args.self.now.dicts.entries) (sym held) dicts;
+      views = λ are. are;
       spent = refl;
     }
 
 pub returns-in_default-clause-regions : goal.returns-in_default-clause-regions
 returns-in_default-clause-regions g c =
     let M = meaning g in
+    let vs = views_by c.args.self.now.paths c.args.self.now.dicts.entries in
     let slots = slots_on M c.args.shelf.now in
     let entries = c.args.self.now.homes.entries in
     let same : slots_on M c.take.new.self ≡ slots = ap (slots_of (boxed M)) c.in_default.ensures.none in
@@ -104,12 +112,14 @@ returns-in_default-clause-regions g c =
         held = subst (λ s. IsSession s hs') (sym same) (subst (λ hs. IsSession slots hs) (sym held) c.requires.held);
       };
       dicts = λ kinds dicts. subst (λ hs. AreDicts kinds hs c.args.self.now.dicts.entries) (sym held) dicts;
+      views = λ are. are;
       spent = refl;
     }
 
 pub returns-in-Ok : goal.returns-in-Ok
 returns-in-Ok g c =
     let M = meaning g in
+    let vs = views_by c.args.self.now.paths c.args.self.now.dicts.entries in
     let entries = c.args.self.now.homes.entries in
     let labels = c.args.self.now.labels.items in
     let absent : is_some (lookup (bytes_eq c.args.name) entries) ≡ false = sym c.if-contains_key.ensures in
@@ -130,10 +140,11 @@ returns-in-Ok g c =
     let es = c.args.self.now.dicts.entries in
     let settled_is = newest-settled M (slots_on M c.args.shelf.now) (slots_on M c.take.new.self) entries c.insert.new.self.entries labels c.push_reserved.new.self.items c.args.name c.args.method home c.new.result newest in
     record {
-      steps = λ kinds gone dicts. steps-quiet _ _ _ _ (Opened c.args.name) (newest-step M (slots_on M c.args.shelf.now) (slots_on M c.take.new.self) entries c.insert.new.self.entries labels c.push_reserved.new.self.items c.args.name c.args.method home c.new.result newest kinds es dicts) refl settled_is tt;
+      steps = λ kinds gone dicts. steps-quiet _ _ _ _ (Opened c.args.name) (newest-step M (slots_on M c.args.shelf.now) (slots_on M c.take.new.self) entries c.insert.new.self.entries labels c.push_reserved.new.self.items c.args.name c.args.method home c.new.result newest kinds vs es dicts) refl settled_is tt;
       regions = record {
         regions = record { named = newest-named M (slots_on M c.args.shelf.now) (slots_on M c.take.new.self) entries c.insert.new.self.entries labels c.push_reserved.new.self.items c.args.name c.args.method home c.new.result newest; held = newest-session M (slots_on M c.args.shelf.now) (slots_on M c.take.new.self) entries c.insert.new.self.entries labels c.push_reserved.new.self.items c.args.name c.args.method home c.new.result newest };
         dicts = λ kinds dicts. newest-dicts M (slots_on M c.args.shelf.now) (slots_on M c.take.new.self) entries c.insert.new.self.entries labels c.push_reserved.new.self.items c.args.name c.args.method home c.new.result newest kinds es dicts;
+        views = λ are. are;
         spent = refl;
       };
       settled = settled_is;
@@ -142,6 +153,7 @@ returns-in-Ok g c =
 pub returns-in-Err : goal.returns-in-Err
 returns-in-Err g c =
     let M = meaning g in
+    let vs = views_by c.args.self.now.paths c.args.self.now.dicts.entries in
     let slots = slots_on M c.args.shelf.now in
     let entries = c.args.self.now.homes.entries in
     let d = boxed M c.in-Some.disc in
@@ -159,13 +171,14 @@ returns-in-Err g c =
     let settled_is = ap (λ s. settled (accounts s) hs') back ∙ ap (λ hs. settled (accounts slots) hs) held in
     record {
       steps = λ kinds gone dicts.
-          halts-same _ _ _ (ap (λ s. state_of kinds s hs' (dicts_in hs' es)) back ∙ ap (λ hs. state_of kinds slots hs (dicts_in hs es)) held) refl settled_is;
+          halts-same _ _ _ (ap (λ s. state_of kinds s hs' (dicts_in hs' vs es)) back ∙ ap (λ hs. state_of kinds slots hs (dicts_in hs vs es)) held) refl settled_is;
       regions = record {
         regions = record {
           named = ap length c.reserve-2.ensures.items ∙ (c.requires.named ∙ sym (ap length c.reserve.ensures.entries));
           held = subst (λ s. IsSession s hs') (sym back) (subst (λ hs. IsSession slots hs) (sym held) c.requires.held);
         };
         dicts = λ kinds dicts. subst (λ hs. AreDicts kinds hs es) (sym held) dicts;
+        views = λ are. are;
         spent = refl;
       };
       settled = settled_is;

@@ -32,7 +32,7 @@ returns-in-Some-region_of-clause-stays g c =
     let gone : List Gone = gone_in g.D.DictDisc.gone c.args.kinds.now.items in
     record {
       lasts = record {
-        stands = record { regions = c.run_in_region.ensures.regions.regions; dicts = c.run_in_region.ensures.regions.dicts kinds c.requires.dicts };
+        stands = record { regions = c.run_in_region.ensures.regions.regions; dicts = c.run_in_region.ensures.regions.dicts kinds c.requires.dicts; views = c.run_in_region.ensures.regions.views c.requires.views };
         keeps_rules = refl;
         accounts = keeps-steps c.run_in_region.result _ _ c.args.command.now _ (c.run_in_region.ensures.steps kinds gone c.requires.dicts);
       };

@@ -1,10 +1,10 @@
-use Rattle.std.proofs.Common.{◌<◌, ℕ, List, [], Ok, Some, length, map, set, arith, ap, refl, ◌∙◌, subst, sym}
+use Rattle.std.proofs.Common.{◌<◌, ℕ, List, Some, length, map, arith, refl, ◌∙◌, subst, sym}
 use Rattle.std.proofs.lemmas.List.{length-map}
 use Rattle.vc_model.specs.Discipline.{Discipline}
-use Rattle.vc_script.specs.Needs.{need_shown}
 use Rattle.vc_commands.specs.declared.region.home.HomeEntry.{HomeEntry}
-use Rattle.vc_commands.specs.Held.{Held, home_of}
-use Rattle.vc_session.specs.Account.{IsSession, accounts, settled, state_of}
+use Rattle.vc_commands.specs.Held.{home_of}
+use Rattle.vc_views.specs.Numbers.{views_by}
+use Rattle.vc_session.specs.Account.{IsSession, state_of}
 use Rattle.vc_session.specs.DictHomes.{AreDicts, dicts_in, lies_in}
 use Rattle.vc_session.specs.Homes.{held_in, slots_on}
 use Rattle.vc_commands.specs.RegionRun.{held_of}
@@ -28,11 +28,12 @@ meaning g p = (g.dyn-1.0.entry p.0).1.state p.1
 pub returns-in_default-clause-steps : goal.returns-in_default-clause-steps
 returns-in_default-clause-steps g c = λ kinds gone dicts.
     let M = meaning g in
+    let vs = views_by c.args.self.now.paths c.args.self.now.dicts.entries in
     let helds = held_in M c.args.self.now in
     let r = c.args.name.now in
     record {
       gives =
-          step-none (state_of kinds (slots_on M c.args.shelf.now) helds (dicts_in helds c.args.self.now.dicts.entries)) gone c.args.line c.args.command.now r
+          step-none (state_of kinds (slots_on M c.args.shelf.now) helds (dicts_in helds vs c.args.self.now.dicts.entries)) gone c.args.line c.args.command.now r
           (find-none (is_home r) (map home_of helds) (any-named M c.args.self.now.homes.entries c.args.self.now.labels.items r c.requires.regions.named ∙ sym c.in_default.ensures.found));
       settles = settles-same _;
       lacks = tt;
@@ -41,6 +42,7 @@ returns-in_default-clause-steps g c = λ kinds gone dicts.
 pub returns-then-clears_busy-clause-steps : goal.returns-then-clears_busy-clause-steps
 returns-then-clears_busy-clause-steps g c = λ kinds gone dicts.
     let M = meaning g in
+    let vs = views_by c.args.self.now.paths c.args.self.now.dicts.entries in
     let helds = held_in M c.args.self.now in
     let es = c.args.self.now.dicts.entries in
     let r = c.args.name.now in
@@ -51,8 +53,8 @@ returns-then-clears_busy-clause-steps g c = λ kinds gone dicts.
     let is = clear-is command both.0 in
     record {
       gives =
-          step-busy (state_of kinds (slots_on M c.args.shelf.now) helds (dicts_in helds es)) gone c.args.line command r is.0 first.item
-          (find-first (is_home r) (map home_of helds) i first) is.1 (busy-lies helds es r ∙ both.1);
+          step-busy (state_of kinds (slots_on M c.args.shelf.now) helds (dicts_in helds vs es)) gone c.args.line command r is.0 first.item
+          (find-first (is_home r) (map home_of helds) i first) is.1 (busy-lies helds vs es r ∙ both.1);
       settles = settles-same _;
       lacks = tt;
     }
@@ -60,6 +62,7 @@ returns-then-clears_busy-clause-steps g c = λ kinds gone dicts.
 pub run-requires : goal.run-requires
 run-requires g c =
     let M = meaning g in
+    let vs = views_by c.args.self.now.paths c.args.self.now.dicts.entries in
     let entries = c.args.self.now.homes.entries in
     let labels = c.args.self.now.labels.items in
     let r = c.args.name.now in
@@ -78,6 +81,7 @@ run-requires g c =
 pub returns : goal.returns
 returns g c =
     let M = meaning g in
+    let vs = views_by c.args.self.now.paths c.args.self.now.dicts.entries in
     let slots = slots_on M c.args.shelf.now in
     let helds = held_in M c.args.self.now in
     let entries = c.args.self.now.homes.entries in
@@ -103,8 +107,8 @@ returns g c =
     let gives = if_ok_at c.run.result _ _ (λ reply is runs. runs r) c.run.ensures.step in
     record {
       steps = λ kinds gone dicts.
-          subst (λ hs. StepsBy c.run.result (moment_over slots es kinds gone helds) (moment_over slots es kinds gone hs) command (λ s need. step_of s c.args.line command need (Some r))) (sym after)
-          (steps-region slots helds es i h k at session c.args.line command change r first c.requires.dict c.requires.region free c.run.result gives c.run.ensures.err c.run.ensures.unserved c.run.ensures.faults kinds gone dicts);
+          subst (λ hs. StepsBy c.run.result (moment_over slots es vs kinds gone helds) (moment_over slots es vs kinds gone hs) command (λ s need. step_of s c.args.line command need (Some r))) (sym after)
+          (steps-region slots helds es vs i h k at session c.args.line command change r first c.requires.dict c.requires.region free c.run.result gives c.run.ensures.err c.run.ensures.unserved c.run.ensures.faults kinds gone dicts);
       regions = record {
         regions = record {
           named = length-set M entries labels i c.run.new.self c.run.new.labels named;
@@ -112,7 +116,8 @@ returns g c =
         };
         dicts = λ kinds dicts.
             subst (λ hs. AreDicts kinds hs es) (sym after)
-            (region-dicts slots helds es i h k at session c.args.line command change r first c.requires.dict c.requires.region free c.run.result gives c.run.ensures.err c.run.ensures.unserved c.run.ensures.faults kinds dicts);
+            (region-dicts slots helds es vs i h k at session c.args.line command change r first c.requires.dict c.requires.region free c.run.result gives c.run.ensures.err c.run.ensures.unserved c.run.ensures.faults kinds dicts);
+        views = λ are. are;
         spent = refl;
       };
     }

@@ -1,4 +1,4 @@
-use Rattle.std.proofs.Common.{refl, sym}
+use Rattle.std.proofs.Common.{refl}
 use Rattle.vc_model.specs.Discipline.{Discipline}
 use Rattle.vc_script.specs.declared.command.Command.TheVariants.{CloseRegion}
 use Rattle.vc_session.specs.Homes.{state_over}
@@ -20,7 +20,7 @@ returns-in-OpenRegion-clause-steps g c =
 pub returns-in-OpenRegion-clause-stays : goal.returns-in-OpenRegion-clause-stays
 returns-in-OpenRegion-clause-stays g c = record {
   lasts = record {
-    stands = record { regions = c.open_region.ensures.regions.regions; dicts = c.open_region.ensures.regions.dicts _ c.requires.session.dicts };
+    stands = record { regions = c.open_region.ensures.regions.regions; dicts = c.open_region.ensures.regions.dicts _ c.requires.session.dicts; views = c.open_region.ensures.regions.views c.requires.session.views };
     keeps_rules = refl;
     accounts = keeps-equal _ _ c.open_region.ensures.settled;
   };
@@ -40,7 +40,7 @@ returns-in-CloseRegion-clause-steps g c =
 pub returns-in-CloseRegion-clause-stays : goal.returns-in-CloseRegion-clause-stays
 returns-in-CloseRegion-clause-stays g c = record {
   lasts = record {
-    stands = record { regions = c.close_named.ensures.regions.regions; dicts = c.close_named.ensures.regions.dicts _ c.requires.session.dicts };
+    stands = record { regions = c.close_named.ensures.regions.regions; dicts = c.close_named.ensures.regions.dicts _ c.requires.session.dicts; views = c.close_named.ensures.regions.views c.requires.session.views };
     keeps_rules = refl;
     accounts = keeps-equal _ _ c.close_named.ensures.settled;
   };

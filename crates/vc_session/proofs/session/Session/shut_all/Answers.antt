@@ -1,11 +1,17 @@
-use Rattle.std.proofs.Common.{◌≡◌, ap, ◌∙◌, subst, sym, refl, arith}
+use Rattle.std.proofs.Common.{◌≡◌, false, ap, ◌∙◌, subst, sym, refl, arith}
 use Rattle.std.specs.List.{flat_map}
 use Rattle.vc_objects.specs.Remove.{bytes_of}
+use Rattle.std.specs.Prelude.{slice_get}
+use Rattle.vc_paths.specs.Links.{is_viewed}
+use Rattle.vc_views.specs.Numbers.{views_by}
+use Rattle.vc_views.proofs.LinkChanges.{unviewed-all}
+use Rattle.vc_session.proofs.DictsStay.{Entry}
+use Rattle.vc_session.proofs.ViewReplies.{some-all}
 use Rattle.vc_session.specs.Dicts.{shut_state, told_of}
 use Rattle.vc_session.specs.DictHomes.{AreDicts, dict_home, dicts_in}
 use Rattle.vc_session.specs.Homes.{held_in, slots_on, state_over}
 use Rattle.vc_session.specs.Moment.{moment}
-use Rattle.vc_session.specs.State.{DictHome}
+use Rattle.vc_views.specs.Views.{DictHome}
 use Rattle.vc_session.specs.Steps.{Shuts}
 use Rattle.vc_session.specs.Told.{gone_in, rules_in, tell}
 use Rattle.vc_session.proofs.Ending.{gone-shut, if_some-at, nothing-left}
@@ -16,6 +22,7 @@ use Rattle.vc_session.proofs.session.Session.shut_all.Goals as goal
 pub loop-self-preserved : goal.loop-self-preserved
 loop-self-preserved g c =
     let M = meaning g in
+    let vs = views_by c.loop-self.self.paths c.loop-self.self.dicts.entries in
     let rules = rules_in g.D.DictDisc.rules in
     let gone = gone_in g.D.DictDisc.gone in
     let shelf = c.args.shelf.now in
@@ -27,21 +34,27 @@ loop-self-preserved g c =
     let held = held_in M old in
     let front = some-at old.dicts.entries 0 (omega (arith, c.shut_at.ensures.shuts.fewer)) in
     let e = front.0 in
-    let shuts : Shuts (moment M g.D.DictDisc.rules g.D.DictDisc.gone shelf old kinds) (moment M g.D.DictDisc.rules g.D.DictDisc.gone shelf new after) (dict_home held e) =
-    if_some-at (λ x. Shuts (moment M g.D.DictDisc.rules g.D.DictDisc.gone shelf old kinds) (moment M g.D.DictDisc.rules g.D.DictDisc.gone shelf new after) (dict_home held x)) _ e front.1 c.shut_at.ensures.shuts.shuts in
+    let shuts : Shuts (moment M g.D.DictDisc.rules g.D.DictDisc.gone shelf old kinds) (moment M g.D.DictDisc.rules g.D.DictDisc.gone shelf new after) (dict_home held vs e) =
+    if_some-at (λ x. Shuts (moment M g.D.DictDisc.rules g.D.DictDisc.gone shelf old kinds) (moment M g.D.DictDisc.rules g.D.DictDisc.gone shelf new after) (dict_home held vs x)) _ e front.1 c.shut_at.ensures.shuts.shuts in
     let same : rules after ≡ rules first = c.shut_at.ensures.stays.lasts.keeps_rules ∙ c.loop-self.invariant.rules in
     record {
+      views = λ n. c.shut_at.ensures.shuts.views n (c.loop-self.invariant.views n);
       session = c.shut_at.ensures.stays.lasts.stands;
       rules = same;
       gone =
-          gone-shut (rules first) (slots_on M shelf) held old.dicts.entries (state_over M (rules first) shelf new) (gone kinds) (gone after)
+          gone-shut (rules first) (slots_on M shelf) held old.dicts.entries vs (state_over M (rules first) shelf new) (gone kinds) (gone after)
           (subst (λ r. AreDicts r held old.dicts.entries) c.loop-self.invariant.rules c.loop-self.invariant.session.dicts)
           e front.1
-          (ap (λ r. state_over M r shelf new) (sym same) ∙ (shuts.state ∙ ap (λ r. shut_state (state_over M r shelf old) (dict_home held e)) c.loop-self.invariant.rules))
+          (ap (λ r. state_over M r shelf new) (sym same) ∙ (shuts.state ∙ ap (λ r. shut_state (state_over M r shelf old) (dict_home held vs e)) c.loop-self.invariant.rules))
           shuts.gone
           ∙ c.loop-self.invariant.gone;
       settled = shuts.accounts ∙ c.loop-self.invariant.settled;
     }
+
+pub shut_at-requires-clause-unviewed : goal.shut_at-requires-clause-unviewed
+shut_at-requires-clause-unviewed g c =
+    let links = c.loop-self.self.paths in
+    some-all (λ (e : Entry). is_viewed links e.1.number ≡ false) (λ e. unviewed-all links c.loop-self.invariant.views e.1.number) (slice_get c.loop-self.self.dicts.entries 0)
 
 pub returns-clause-none : goal.returns-clause-none
 returns-clause-none g c = nothing-left c.loop-self.self.dicts.entries (c.loop-self-test.ensures.0 refl)
@@ -49,6 +62,7 @@ returns-clause-none g c = nothing-left c.loop-self.self.dicts.entries (c.loop-se
 pub returns-clause-gone : goal.returns-clause-gone
 returns-clause-gone g c =
     let M = meaning g in
+    let vs = views_by c.loop-self.self.paths c.loop-self.self.dicts.entries in
     let none = nothing-left c.loop-self.self.dicts.entries (c.loop-self-test.ensures.0 refl) in
     let each : DictHome → _ = λ d. told_of d.kind (bytes_of d.dict.objects) in
-    sym (ap (λ es. tell (flat_map each (dicts_in (held_in M c.loop-self.self) es)) (gone_in g.D.DictDisc.gone c.loop-self.kinds.items)) none) ∙ c.loop-self.invariant.gone
+    sym (ap (λ es. tell (flat_map each (dicts_in (held_in M c.loop-self.self) vs es)) (gone_in g.D.DictDisc.gone c.loop-self.kinds.items)) none) ∙ c.loop-self.invariant.gone

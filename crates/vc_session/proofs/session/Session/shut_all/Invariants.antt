@@ -1,5 +1,6 @@
-use Rattle.std.proofs.Common.{◌≡◌, length}
+use Rattle.std.proofs.Common.{◌≡◌, ℕ, None, length}
 use Rattle.vc_model.specs.Discipline.{Discipline}
+use Rattle.vc_paths.specs.Links.{below}
 use Rattle.vc_session.specs.Homes.{IsSessionOver, settled_over, state_over}
 use Rattle.vc_session.specs.Told.{ended_told, gone_in, rules_in, tell}
 use Rattle.vc_session.proofs.session.Session.shut_all.Given as goal
@@ -11,6 +12,7 @@ meaning g p = (g.dyn-1.0.entry p.0).1.state p.1
 abbrev pub invariant-loop-self : goal.invariant-loop-self
 invariant-loop-self g l =
     record {
+      views : (n : ℕ) → below l.self.paths n ≡ None;
       session : IsSessionOver (meaning g) g.D.DictDisc.rules l.shelf l.self l.kinds.items;
       rules : rules_in g.D.DictDisc.rules l.kinds.items ≡ rules_in g.D.DictDisc.rules l.initial.kinds.items;
       gone :

@@ -1,5 +1,5 @@
-use Rattle.std.proofs.Common.{◌≡◌, ◌-◌, ◌<◌, is_some, [], Some, None, length, option_map, set, refl, sym, ap, ◌∙◌, subst, arith}
-use Rattle.std.specs.Prelude.{slice_get}
+use Rattle.std.proofs.Common.{◌≡◌, ◌-◌, ◌<◌, false, is_some, [], Some, None, length, option_map, set, refl, sym, ap, ◌∙◌, subst, arith}
+use Rattle.std.specs.Prelude.{remove, slice_get}
 use Rattle.std.specs.Map.{lookup}
 use Rattle.std.specs.Str.{bytes_eq}
 use Rattle.std.proofs.lemmas.List.{map-set}
@@ -10,15 +10,19 @@ use Rattle.vc_model.specs.Numbered.{at_number}
 use Rattle.vc_objects.specs.Objects.{Dictionary, owned}
 use Rattle.vc_objects.specs.Parts.{IsWhole, dictionary_of}
 use Rattle.vc_objects.specs.Remove.{bytes_of}
-use Rattle.vc_commands.specs.declared.region.home.HomeEntry.{HomeEntry}
+use Rattle.vc_paths.specs.Links.{below, is_viewed, linked, numbers}
+use Rattle.vc_views.specs.Numbers.{AreLinked, views_by}
+use Rattle.vc_views.proofs.LinkChanges.{ended-still, homes-shut, linked-shut}
+use Rattle.vc_views.proofs.LinkLemmas.{number-within}
+use Rattle.vc_views.proofs.NumbersToNames.{all-at}
 use Rattle.vc_session.specs.Account.{IsSession, accounts, settled, state_of}
 use Rattle.vc_commands.specs.Held.{home_of}
-use Rattle.vc_session.specs.DictHomes.{AreDicts, dict_home, dicts_in}
-use Rattle.vc_session.specs.Dicts.{shut_state, told_of}
+use Rattle.vc_session.specs.DictHomes.{AreDicts, dict_home, dict_over, dicts_in}
+use Rattle.vc_session.specs.Dicts.{told_of}
 use Rattle.vc_session.specs.Homes.{held_all, held_in, slots_on}
 use Rattle.vc_commands.specs.RegionRun.{held_of}
 use Rattle.vc_commands.specs.Home.{is_home}
-use Rattle.vc_session.specs.Moment.{Moment, moment}
+use Rattle.vc_session.specs.Moment.{moment}
 use Rattle.vc_session.specs.Steps.{Shuts}
 use Rattle.vc_session.specs.Told.{gone_in, rules_in, tell}
 use Rattle.vc_session.proofs.BestRegions.{no-other}
@@ -29,7 +33,7 @@ use Rattle.vc_session.proofs.DictRegion.{best_entry, entry-best, held_after, reg
 use Rattle.vc_session.proofs.DictShut.{dict-is, dicts-shut, none-left, shut-best, shut-whole, state-shut}
 use Rattle.vc_session.proofs.DictTold.{tell-each}
 use Rattle.vc_session.proofs.DictsStay.{Entry}
-use Rattle.vc_session.proofs.Ending.{if_some-to, within-map}
+use Rattle.vc_session.proofs.Ending.{if_some-at, if_some-to, within-map}
 use Rattle.vc_commands.proofs.Firsts.{find-none, none-unmap}
 use Rattle.vc_session.proofs.Helds.{any-named, first-named, held-read, held-set, index-within, length-remove, length-set, name-at, slice-or}
 use Rattle.vc_session.proofs.Placed.{labels-at}
@@ -44,6 +48,7 @@ meaning g p = (g.dyn-1.0.entry p.0).1.state p.1
 pub unreachable-requires-in_default-get_index_of : goal.unreachable-requires-in_default-get_index_of
 unreachable-requires-in_default-get_index_of g c =
     let M = meaning g in
+    let vs = views_by c.args.self.now.paths c.args.self.now.dicts.entries in
     let items = c.args.kinds.now.items in
     let kinds = rules_in g.D.DictDisc.rules items in
     let helds = held_in M c.args.self.now in
@@ -64,6 +69,7 @@ unreachable-requires-in_default-get_index_of g c =
 pub overflow_sub-k : goal.overflow_sub-k
 overflow_sub-k g c =
     let M = meaning g in
+    let vs = views_by c.args.self.now.paths c.args.self.now.dicts.entries in
     let items = c.args.kinds.now.items in
     let kinds = rules_in g.D.DictDisc.rules items in
     let helds = held_in M c.args.self.now in
@@ -79,6 +85,7 @@ overflow_sub-k g c =
 pub index_mut-requires-2 : goal.index_mut-requires-2
 index_mut-requires-2 g c =
     let M = meaning g in
+    let vs = views_by c.args.self.now.paths c.args.self.now.dicts.entries in
     let items = c.args.kinds.now.items in
     let kinds = rules_in g.D.DictDisc.rules items in
     let helds = held_in M c.args.self.now in
@@ -95,6 +102,7 @@ index_mut-requires-2 g c =
 pub unreachable-requires-in_default-region : goal.unreachable-requires-in_default-region
 unreachable-requires-in_default-region g c =
     let M = meaning g in
+    let vs = views_by c.args.self.now.paths c.args.self.now.dicts.entries in
     let items = c.args.kinds.now.items in
     let kinds = rules_in g.D.DictDisc.rules items in
     let slots = slots_on M c.args.shelf.now in
@@ -117,11 +125,12 @@ unreachable-requires-in_default-region g c =
     let h = held_of M r home l.0 in
     let at = held-read M entries labels j r home l.0 name c.index_mut.ensures.value l.1 in
     let first = first-named M entries labels r j named index in
-    no-other home.region (shut-best kinds slots helds ds j i h e at there first session dicts refl) c.in_default-region.not-Best
+    no-other home.region (shut-best kinds slots helds ds vs j i h e at there first session dicts refl) c.in_default-region.not-Best
 
 pub shut-requires : goal.shut-requires
 shut-requires g c =
     let M = meaning g in
+    let vs = views_by c.args.self.now.paths c.args.self.now.dicts.entries in
     let items = c.args.kinds.now.items in
     let kinds = rules_in g.D.DictDisc.rules items in
     let slots = slots_on M c.args.shelf.now in
@@ -155,11 +164,12 @@ shut-requires g c =
     let its_place : n - 1 < length items = within-map item items (n - 1) own.rules number.1 in
     let its_kind : slice_get items (n - 1) ≡ Some kind = slice-or items (n - 1) kind its_place c.index_mut-2.ensures.value in
     let rules_are : own.rules ≡ item kind = same_Some own.rules (item kind) (sym number.1 ∙ (slice_get-map item items (n - 1) ∙ ap (option_map item) its_kind)) in
-    record { whole = subst (λ q. IsWhole q e.1.dict h.cells) rules_are (shut-whole kinds slots helds ds j i h e at there first session dicts refl) }
+    record { whole = subst (λ q. IsWhole q e.1.dict h.cells) rules_are (shut-whole kinds slots helds ds vs j i h e at there first session dicts refl) }
 
 pub returns : goal.returns
 returns g c =
     let M = meaning g in
+    let vs = views_by c.args.self.now.paths c.args.self.now.dicts.entries in
     let items = c.args.kinds.now.items in
     let kinds = rules_in g.D.DictDisc.rules items in
     let slots = slots_on M c.args.shelf.now in
@@ -203,38 +213,47 @@ returns g c =
     ap (λ ls. held_all M (set_value_at entries j entry) ls) (sym (set_same labels j l.0 l.1)) ∙ held-set M entries labels j r entry l.0 named name in
     let left = c.shift_remove_index.ensures.entries in
     let kinds' : rules_in item (set items (n - 1) c.shut.new.kind) ≡ kinds = map-set_alike item items (n - 1) kind c.shut.new.kind its_kind c.shut.ensures.rules in
-    let none = none-left helds ds e.0 i (ap (λ x. lookup (bytes_eq e.0) x) (sym left) ∙ c.in-Some.ensures.updates.1) in
+    let none = none-left helds vs ds e.0 i (ap (λ x. lookup (bytes_eq e.0) x) (sym left) ∙ c.in-Some.ensures.updates.1) in
     let gone = g.D.DictDisc.gone in
     let was : at_number (gone_in gone items) n ≡ Some (gone kind) =
     at_number-from_one (gone_in gone items) n number.0 ∙ (slice_get-map gone items (n - 1) ∙ ap (option_map gone) its_kind) in
     let objects = bytes_of (dictionary_of e.1.dict h.cells).objects in
+    let links = c.args.self.now.paths in
+    let are = c.requires.session.views in
+    let unviewed = if_some-at (λ (x : Entry). is_viewed links x.1.number ≡ false) (slice_get ds i) e there c.requires.unviewed in
+    let within = number-within links ds i e c.show_invariant.ensures are.numbered there in
+    let links' = c.end.new.self in
+    let vs' = views_by links' c.shift_remove_index.new.self.entries in
     let settled_is = ap (settled (accounts slots)) helds' ∙ settled-same slots helds j h g' at session change (ap (λ (d : Discipline). d.faults) c.shut.ensures.disc) in
     record {
       shuts = record {
         shuts =
             if_some-to
             (λ (x : Entry). Shuts (moment M item gone c.args.shelf.now c.args.self.now items) (record {
-              state = state_of (rules_in item (set items (n - 1) c.shut.new.kind)) slots (held_all M (set_value_at entries j entry) labels) (dicts_in (held_all M (set_value_at entries j entry) labels) c.shift_remove_index.new.self.entries);
+              state = state_of (rules_in item (set items (n - 1) c.shut.new.kind)) slots (held_all M (set_value_at entries j entry) labels) (dicts_in (held_all M (set_value_at entries j entry) labels) vs' c.shift_remove_index.new.self.entries);
               regions = held_all M (set_value_at entries j entry) labels;
               written = None;
               accounts = settled (accounts slots) (held_all M (set_value_at entries j entry) labels);
               gone = gone_in gone (set items (n - 1) c.shut.new.kind);
-            }) (dict_home helds x)) (slice_get ds i) e there
+            }) (dict_home helds vs x)) (slice_get ds i) e there
             (record {
               state =
-                  (ap (λ q. state_of q slots (held_all M (set_value_at entries j entry) labels) (dicts_in (held_all M (set_value_at entries j entry) labels) c.shift_remove_index.new.self.entries)) kinds'
-                  ∙ (ap (λ hs. state_of kinds slots hs (dicts_in hs c.shift_remove_index.new.self.entries)) helds'
-                  ∙ (ap (λ x. state_of kinds slots (set helds j g') (dicts_in (set helds j g') x)) left
-                  ∙ state-shut kinds slots helds ds j i h e at there first session dicts refl g' change touch refl c.shut.ensures.region none)));
+                  (ap (λ q. state_of q slots (held_all M (set_value_at entries j entry) labels) (dicts_in (held_all M (set_value_at entries j entry) labels) vs' c.shift_remove_index.new.self.entries)) kinds'
+                  ∙ (ap (λ hs. state_of kinds slots hs (dicts_in hs vs' c.shift_remove_index.new.self.entries)) helds'
+                  ∙ (ap (λ x. state_of kinds slots (set helds j g') (dicts_in (set helds j g') (views_by links' x) x)) left
+                  ∙ (ap (λ l. state_of kinds slots (set helds j g') (dicts_in (set helds j g') (views_by l (remove ds i)) (remove ds i))) c.end.ensures
+                  ∙ (ap (λ xs. state_of kinds slots (set helds j g') xs) (homes-shut links ds are i e there unviewed within (dict_over (set helds j g')))
+                  ∙ state-shut kinds slots helds ds vs j i h e at there first session dicts refl g' change touch refl c.shut.ensures.region none)))));
               gone =
                   (map-set gone items (n - 1) c.shut.new.kind
                   ∙ (ap (set (gone_in gone items) (n - 1)) c.shut.ensures.gone
                   ∙ (sym (tell-each objects (gone_in gone items) n (gone kind) was)
-                  ∙ ap (λ (x : Dictionary). tell (told_of n (bytes_of x.objects)) (gone_in gone items)) (sym (dict-is kinds slots helds ds j i h e at there first session dicts refl)))));
+                  ∙ ap (λ (x : Dictionary). tell (told_of n (bytes_of x.objects)) (gone_in gone items)) (sym (dict-is kinds slots helds ds vs j i h e at there first session dicts refl)))));
               accounts = settled_is;
             });
         fewer = omega (arith, ap length left, length-remove ds i c.requires.within);
         homes = sym (length-set M entries labels j entry l.0 named) ∙ (ap length (set_same labels j l.0 l.1) ∙ named);
+        views = λ m none. ap (λ l. below l m) c.end.ensures ∙ ended-still links e.1.number m within none;
       };
       stays = record {
         lasts = record {
@@ -246,7 +265,10 @@ returns g c =
             dicts =
                 subst (λ q. AreDicts q (held_all M (set_value_at entries j entry) labels) c.shift_remove_index.new.self.entries) (sym kinds')
                 (subst (λ hs. AreDicts kinds hs c.shift_remove_index.new.self.entries) (sym helds')
-                (subst (AreDicts kinds (set helds j g')) (sym left) (dicts-shut kinds slots helds ds j i h e at there first session dicts refl g' change touch refl c.shut.ensures.region)));
+                (subst (AreDicts kinds (set helds j g')) (sym left) (dicts-shut kinds slots helds ds vs j i h e at there first session dicts refl g' change touch refl c.shut.ensures.region)));
+            views =
+                subst (λ l. AreLinked l c.shift_remove_index.new.self.entries) (sym c.end.ensures)
+                (subst (AreLinked (linked e.1.number None links)) (sym left) (linked-shut links ds are i e there unviewed within));
           };
           keeps_rules = kinds';
           accounts = keeps-equal _ _ settled_is;
@@ -254,3 +276,7 @@ returns g c =
         spent = refl;
       };
     }
+
+pub end-requires : goal.end-requires
+end-requires g c =
+    all-at (λ (x : Entry). x.1.number < numbers) c.args.self.now.dicts.entries c.args.i (c.in-Some.field-0-0, c.in-Some.entry) c.requires.session.views.numbered.below (sym c.in-Some.ensures.entry)

@@ -1,0 +1,133 @@
+-- The dictionary of a number over the cells of its region, as the layer of that number.
+use Rattle.std.proofs.Common.{◌≡◌, ℕ, ◌≤◌, List, [], Option, Some, None, IsSome, true, length, map, option_map, is_some, refl, sym, ap, ◌∙◌, subst, arith}
+use Rattle.std.specs.Prelude.{find}
+use Rattle.std.proofs.lemmas.Option.{none-some, same_Some}
+use Rattle.vc_model.specs.Numbered.{at_number}
+use Rattle.vc_base.specs.Cells.{Blocks, HasBytes}
+use Rattle.vc_base.specs.Holders.{contains, first_in, last_in, next_in, previous_in}
+use Rattle.vc_dtdisc.specs.Finding.{first_of, last_of}
+use Rattle.vc_dtdisc.specs.Finds.{object_at}
+use Rattle.vc_dtdisc.specs.Rules.{IsObject, Rules}
+use Rattle.vc_dict.specs.Listed.{holders_of}
+use Rattle.vc_dict.specs.Stands.{IsIn, IsKept, Stands}
+use Rattle.vc_dict.proofs.OwnLemmas.{holder-there, holders-distinct}
+use Rattle.vc_objects.specs.Parts.{IsWhole}
+use Rattle.vc_objects.proofs.Owning.{each-object}
+use Rattle.vc_paths.specs.Layers.{Layer, bytes_there, place_before, place_behind, place_in}
+use Rattle.vc_commands.specs.declared.dict.entry.DictEntry.{DictEntry}
+use Rattle.vc_views.specs.Dicts.{DictRegion, HasLayer, IsDictOver, cells_held, dict_seen, entry_numbered, has_number, layered_by, region_named}
+use Rattle.vc_views.specs.LayerLaws.{Entry, dict-found, found-there, layer-found, layer-is, layer_over, objects_in, seen-found}
+use Rattle.vc_views.specs.Leaves.{IsBestNamed}
+use Rattle.vc_views.proofs.AtHolders.{before-place, behind-place, bytes-here, first-place, holder-here, last-place}
+
+-- the dictionary of a number, by its name
+pub record Here (kinds : List Rules) (regions : List DictRegion) (es : List Entry) (d : ℕ) (v : DictEntry) : Type 0 where
+  pub name : List ℕ
+  pub found : entry_numbered d es ≡ Some (name, v)
+  pub is : IsDictOver kinds regions (name, v)
+
+here-by : (kinds : List Rules) (regions : List DictRegion) (es : List Entry) (d : ℕ) (v : DictEntry) (o : Option Entry) → entry_numbered d es ≡ o → ((e : Entry) → o ≡ Some e → IsDictOver kinds regions e) → option_map (λ (e : Entry). e.1) o ≡ Some v → Here kinds regions es d v
+here-by kinds regions es d v None found is at = absurd (none-some v at)
+here-by kinds regions es d v (Some e) found is at =
+    let same : e ≡ (e.0, v) = ap (λ w. (e.0, w)) (same_Some e.1 v at) in
+    record { name = e.0; found = found ∙ ap (λ x. Some x) same; is = is (e.0, v) (ap (λ x. Some x) same) }
+
+module _ (kinds : List Rules) (regions : List DictRegion) (es : List Entry) (d : ℕ) (has : HasLayer kinds regions es d) (v : DictEntry) (at : option_map (λ (e : Entry). e.1) (entry_numbered d es) ≡ Some v) where
+  pub here-at : Here kinds regions es d v
+  here-at = here-by kinds regions es d v (entry_numbered d es) refl (λ e found. dict-found kinds regions d es e found has.dicts) at
+
+  -- its region is a best one
+  pub best-there : IsBestNamed regions v.home
+  best-there = record { home = here-at.is.home; found = here-at.is.found; best = here-at.is.best }
+
+  abbrev layer : Layer
+  layer = (layered_by kinds regions es).layer d
+
+  layer-here : layer ≡ layer_over here-at.is.rules v here-at.is.home.cells
+  layer-here = layer-found kinds regions d es (here-at.name, v) here-at.found ∙ layer-is kinds regions (here-at.name, v) here-at.is
+
+  pub method-told : v.dict.method ≡ layer.method
+  method-told = sym (ap (λ (l : Layer). l.method) layer-here)
+
+  pub kind-told : v.dict.kind ≡ layer.kind
+  kind-told = sym (ap (λ (l : Layer). l.kind) layer-here)
+
+  module _ (b : Blocks) (same : b ≡ cells_held (region_named regions v.home)) where
+    abbrev xs : List ℕ
+    xs = holders_of v.dict b
+
+    cells-here : b ≡ here-at.is.home.cells
+    cells-here = same ∙ ap cells_held here-at.is.found
+
+    whole : IsWhole here-at.is.rules v.dict b
+    whole = subst (IsWhole here-at.is.rules v.dict) (sym cells-here) here-at.is.whole
+
+    layer-over : layer ≡ layer_over here-at.is.rules v b
+    layer-over = layer-here ∙ ap (layer_over here-at.is.rules v) (sym cells-here)
+
+    objects-here : layer.objects ≡ objects_in b xs
+    objects-here = ap (λ (l : Layer). l.objects) layer-over
+
+    pub is-kept : IsKept v.dict b
+    is-kept = record { rules = here-at.is.rules; is = record { holders = xs; stands = whole.stands } }
+
+    pub first-told : (o : Option ℕ) → ((rules : Rules) (ys : List ℕ) → Stands rules v.dict b ys → o ≡ first_in ys) → o ≡ place_in (first_of layer.objects)
+    first-told o gives = gives here-at.is.rules xs whole.stands ∙ sym (first-place b xs) ∙ ap (λ os. place_in (first_of os)) (sym objects-here)
+
+    pub last-told : (o : Option ℕ) → ((rules : Rules) (ys : List ℕ) → Stands rules v.dict b ys → o ≡ last_in ys) → o ≡ place_in (last_of layer.objects)
+    last-told o gives = gives here-at.is.rules xs whole.stands ∙ sym (last-place b xs) ∙ ap (λ os. place_in (last_of os)) (sym objects-here)
+
+    module _ (a : ℕ) (there : IsSome (bytes_there a layer.objects)) where
+      within : contains xs a ≡ true
+      within = holder-here b a xs (subst (λ os. IsSome (bytes_there a os)) objects-here there)
+
+      pub is-in : IsIn v.dict b a
+      is-in = record { rules = here-at.is.rules; is = record { holders = xs; stands = whole.stands; within = within } }
+
+      pub has-body : HasBytes b a 32
+      has-body = let h = holder-there here-at.is.rules v.dict b xs a whole.stands within in record { there = h.there; enough = omega (arith, h.enough) }
+
+      pub bytes-told : bytes_there a layer.objects ≡ Some (object_at b a)
+      bytes-told = ap (bytes_there a) objects-here ∙ bytes-here b a xs within
+
+      pub next-told : (o : Option ℕ) → ((rules : Rules) (ys : List ℕ) → Stands rules v.dict b ys → o ≡ next_in a ys) → o ≡ place_behind a layer.objects
+      next-told o gives = gives here-at.is.rules xs whole.stands ∙ sym (behind-place b a xs (holders-distinct here-at.is.rules v.dict b xs whole.stands)) ∙ ap (place_behind a) (sym objects-here)
+
+      pub prev-told : (o : Option ℕ) → ((rules : Rules) (ys : List ℕ) → Stands rules v.dict b ys → o ≡ previous_in None a ys) → o ≡ place_before a layer.objects
+      prev-told o gives = gives here-at.is.rules xs whole.stands ∙ sym (before-place b a xs) ∙ ap (place_before a) (sym objects-here)
+
+module _ (kinds : List Rules) (regions : List DictRegion) (es : List Entry) (d : ℕ) (has : HasLayer kinds regions es d) where
+  abbrev its_layer : Layer
+  its_layer = (layered_by kinds regions es).layer d
+
+  -- its kind is there
+  pub kind-there : at_number kinds its_layer.kind ≡ Some its_layer.rules
+  kind-there =
+      let f = found-there kinds regions d es has in
+      ap (λ (l : Layer). at_number kinds l.kind) f.layer ∙ f.is.kind ∙ ap (λ (l : Layer). Some l.rules) (sym f.layer)
+
+  pub kind-known : (k : ℕ) → k ≡ its_layer.kind → IsSome (at_number kinds k)
+  kind-known k same = ap (λ z. is_some (at_number kinds z)) same ∙ ap is_some kind-there
+
+  -- each of its objects has at most 1,024 bytes
+  pub object-within : (a : ℕ) (bytes : List ℕ) → bytes_there a its_layer.objects ≡ Some bytes → length bytes ≤ 1024
+  object-within a bytes at =
+      let f = found-there kinds regions d es has in
+      let b = f.is.home.cells in
+      let xs = holders_of f.entry.1.dict b in
+      let objects = ap (λ (l : Layer). l.objects) f.layer in
+      let some : IsSome (bytes_there a (objects_in b xs)) = subst (λ os. IsSome (bytes_there a os)) objects (ap is_some at) in
+      let within = holder-here b a xs some in
+      let same : object_at b a ≡ bytes = same_Some (object_at b a) bytes (sym (bytes-here b a xs within) ∙ ap (bytes_there a) (sym objects) ∙ at) in
+      subst (λ z. length z ≤ 1024) same (each-object IsObject b xs f.is.whole.objects a within).most
+
+some-mapped : {A B : Type 0} (f : A → B) (o : Option A) → is_some (option_map f o) ≡ is_some o
+some-mapped f None = refl
+some-mapped f (Some x) = refl
+
+-- a number that is in use stays in use where what is seen stays
+pub still-there : (old new : List DictRegion) (es es' : List Entry) (d : ℕ) → map (dict_seen new) es' ≡ map (dict_seen old) es → IsSome (entry_numbered d es) → IsSome (entry_numbered d es')
+still-there old new es es' d same there =
+    sym (some-mapped (dict_seen new) (entry_numbered d es'))
+    ∙ ap is_some (sym (seen-found [] new d es') ∙ ap (find (has_number d)) same ∙ seen-found [] old d es)
+    ∙ some-mapped (dict_seen old) (entry_numbered d es) ∙ there

@@ -1,0 +1,29 @@
+use Rattle.std.proofs.Common.{◌≡◌, ◌<◌, ◌≤◌, ◌∙◌, ⊎_elim, ◌+◌, ℕ, None, length, ap, suc, arith}
+use Rattle.std.proofs.lemmas.Bool.{cases_lt}
+use Rattle.std.proofs.lemmas.Option.{slice_get_past}
+use Rattle.vc_paths.specs.Links.{Links, below, link_at, linked}
+use Rattle.vc_views.proofs.LinkChanges.{ended-more}
+use Rattle.vc_views.proofs.numbers.end_views.Goals as goal
+
+more : (old new : Links) (k : ℕ) → k < length old → new ≡ linked k None old → ((n : ℕ) → n < k → below old n ≡ None) → (n : ℕ) → n < k + 1 → below new n ≡ None
+more old new k within is none n before =
+    let lt : n < suc k = omega (arith, before) in
+    ap (λ l. below l n) is ∙ ended-more old k within none n lt
+
+pub loop-number-preserved : goal.loop-number-preserved
+loop-number-preserved c =
+    let all = c.show_invariant.ensures in
+    let fits = c.loop-number.auto in
+    more c.loop-number.paths c.end.new.self c.loop-number.number (let is = all.all in omega (arith, is, fits)) c.end.ensures c.loop-number.invariant
+
+past : (links : Links) (n : ℕ) → length links ≤ n → below links n ≡ None
+past links n far = ap link_at (slice_get_past links n far)
+
+pub returns : goal.returns
+returns c n =
+    let end = c.loop-number-test.false in
+    let all = c.show_invariant-2.ensures.all in
+    ⊎_elim
+    (λ before. c.loop-number.invariant n (omega (arith, before, end)))
+    (λ far. past c.loop-number.paths n (omega (arith, far, all)))
+    (cases_lt n 256)

@@ -1,0 +1,6 @@
+pub mod Dicts
+pub mod LayerLaws
+pub mod Leaves
+pub mod Looks
+pub mod Numbers
+pub mod Views

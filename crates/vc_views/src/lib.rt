@@ -1,0 +1,14 @@
+//! The open dictionaries of a session as the layers of view paths.
+#![tactic(auto)]
+
+mod finding;
+mod layers;
+mod looking;
+mod numbers;
+mod places;
+mod viewing;
+
+pub use layers::DictLayers;
+pub use looking::look_at;
+pub use numbers::{end_views, free_number, is_barred, is_look, refusal_of, show_names};
+pub use viewing::view_at;
