@@ -35,3 +35,5 @@ mod streams;
 mod told;
 #[cfg(test)]
 mod views;
+#[cfg(test)]
+mod words;
