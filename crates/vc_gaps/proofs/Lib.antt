@@ -1,0 +1,16 @@
+pub mod Named
+pub mod LinkWritten
+pub mod Ascending
+pub mod GapTrees
+pub mod Holding
+pub mod Walking
+pub mod Searching
+pub mod Runs
+pub mod Least
+pub mod Found
+pub mod Carried
+pub mod Marked
+pub mod Joined
+pub mod Added
+pub mod Bordered
+pub mod Staying

@@ -1,0 +1,41 @@
+use Rattle.std.proofs.Common.{length, ap, arith}
+use Rattle.vc_extent.specs.Tiling.{tiling}
+use Rattle.vc_gaps.proofs.Found.{among-first, first-within, fitted-by_32, fitted-on}
+use Rattle.vc_gaps.proofs.GapTrees.{can_find, gap-found}
+use Rattle.vc_gaps.proofs.fitting.fit_in.Goals as goal
+
+pub find_least_at-top-requires : goal.find_least_at-top-requires
+find_least_at-top-requires g c =
+    let r = c.requires.tree in
+    can_find (tiling c.args.gaps.now.extents.now.segs.items) c.args.root r.names r.tree _ _
+
+pub returns-then-align-eq32-clause-fitted : goal.returns-then-align-eq32-clause-fitted
+returns-then-align-eq32-clause-fitted g c =
+    let e = c.args.gaps.now.extents.now in
+    let f = c.find_least_at-top in
+    fitted-by_32 e.segs.items f.new.nodes.extents.now.segs.items e.index.items e.kept f.ensures.rest.1 c.args.root f.result.0 c.args.span c.args.align f.result.1 c.if-align-eq32.true f.ensures.tree f.ensures.answer
+
+pub first_that_holds-requires-clause-within : goal.first_that_holds-requires-clause-within
+first_that_holds-requires-clause-within g c =
+    let e = c.args.gaps.now.extents.now in
+    let f = c.find_least_at-top in
+    let r = c.requires.tree in
+    among-first e.segs.items f.new.nodes.extents.now.segs.items e.index.items e.kept f.ensures.rest.1 c.args.root f.result.0 c.args.span c.args.align f.result.1 r.names r.tree f.ensures.tree f.ensures.answer
+
+pub returns-clause-fitted : goal.returns-clause-fitted
+returns-clause-fitted g c =
+    let e = c.args.gaps.now.extents.now in
+    let f = c.find_least_at-top in
+    fitted-on e.segs.items f.new.nodes.extents.now.segs.items e.index.items e.kept f.ensures.rest.1 c.args.root f.result.0 c.args.span c.args.align f.result.1 c.first_that_holds.result c.requires.least f.ensures.tree f.ensures.answer c.first_that_holds.ensures.found
+
+pub returns-clause-most_steps : goal.returns-clause-most_steps
+returns-clause-most_steps g c = λ xs h.
+    let e = c.args.gaps.now.extents.now in
+    let f = c.find_least_at-top in
+    let news = f.new.nodes.extents.now.segs.items in
+    let after = gap-found e.segs.items news e.index.items e.kept f.ensures.rest.1 c.args.root f.result.0 0 xs h (f.ensures.tree h.tree h.is_tree) in
+    let within = first-within e.segs.items news e.index.items e.kept f.ensures.rest.1 c.args.root f.result.0 c.args.span c.args.align f.result.1 xs h f.ensures.answer in
+    let down = f.ensures.most_steps h.tree h.is_tree in
+    let along = c.first_that_holds.ensures.most_steps f.result.0 xs after.tree within in
+    let len = ap length h.list in
+    omega arith

@@ -1,0 +1,6 @@
+pub mod ButLinks
+pub mod GapStore
+pub mod GapLaws
+pub mod Fits
+pub mod GapTree
+pub mod GapUnique

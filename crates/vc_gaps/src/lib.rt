@@ -1,0 +1,12 @@
+//! The free extents of a tiling in a splay tree by span and then by address, whose links lie in the extents themselves.
+#![tactic(auto)]
+
+mod by_span;
+mod fitting;
+mod gaps;
+mod linking;
+
+pub use by_span::BySpan;
+pub use fitting::fit;
+pub use gaps::Gaps;
+pub use linking::{link_gap, unlink_gap};
