@@ -1,0 +1,2 @@
+pub mod ToyLemmas
+pub mod PathLemmas
