@@ -14,8 +14,8 @@ use Rattle.vc_model.specs.Place.{holds, least, lowest_offset}
 use Rattle.vc_model.specs.Segments.{Granted, NotLent, TooMany, ask, span}
 use Rattle.vc_blocks.specs.declared.order.Order.TheVariants.{ByAddress}
 use Rattle.vc_blocks.specs.Put.{with_zeros}
-use Rattle.vc_best.specs.Gaps.{best_left, gaps_left, gaps_left_in}
-use Rattle.vc_best.specs.Heads.{HaveHeads}
+use Rattle.vc_best.proofs.LeftGaps.{best_left, gaps_left, gaps_left_in}
+use Rattle.vc_best.proofs.HaveHeads.{HaveHeads}
 use Rattle.vc_best.proofs.Gaps.{least-None}
 use Rattle.vc_best.proofs.Ordered.{best_gap-left}
 use Rattle.vc_best.proofs.Placed.{best_left-none, elsewhere, place_at}

@@ -1,36 +1,18 @@
 -- Blocks with heads that don't overlap.
-use Rattle.std.proofs.Common.{◌≡◌, ℕ, ◌+◌, ◌<◌, ◌≤◌, ◌⊎◌, List, [], ◌∷◌, true, false, All, AllPairs, map, refl, ap, sym, ◌∙◌, inl, inr, ⊎_elim, eqb, ltb, arith}
+use Rattle.std.proofs.Common.{◌≡◌, ℕ, ◌+◌, ◌<◌, ◌≤◌, ◌⊎◌, List, [], ◌∷◌, true, false, All, AllPairs, sym, ◌∙◌, inl, inr, ⊎_elim, eqb, ltb, arith}
 use Rattle.std.specs.Prelude.{◌==◌, ◌&&◌}
 use Rattle.std.proofs.lemmas.Bool.{cases_Bool, or_cases, or_parts, and_parts, and_from, eqb-true, eq-eqb, ltb-true, ltb-false, lt-ltb}
 use Rattle.std.proofs.lemmas.List.Elements.{All-head, All-tail, All-nil, All-weaker, All-cons}
 use Rattle.std.proofs.lemmas.List.Kept.{AllPairs-cons}
-use Rattle.vc_model.specs.Layout.{Block, footprint, footprints, lies_before, with_block}
+use Rattle.vc_model.specs.Layout.{Block, footprint, lies_before, with_block}
 use Rattle.vc_model.specs.Segments.{span}
 use Rattle.vc_model.specs.Sound.{EndsBefore, IsApart}
 use Rattle.vc_seg.proofs.Rounding.{round_up-least}
-use Rattle.vc_blocks.specs.Layout.{slot_of_block}
-use Rattle.vc_blocks.specs.Put.{body, body_at}
 use Rattle.vc_blocks.proofs.Apart.{AllPairs-head, AllPairs-tail}
 use Rattle.vc_blocks.proofs.Changes.{All-with}
-use Rattle.vc_best.specs.Heads.{footprint_at, runs_of}
 
 pub span-least : (size : ℕ) → size + 16 ≤ span size
 span-least size = round_up-least (size + 16) 32 (omega arith)
-
--- what slots take is what their blocks take
-pub runs_of-blocks : (bs : List (Block ℕ)) → runs_of (map slot_of_block bs) ≡ footprints bs
-runs_of-blocks [] = refl
-runs_of-blocks (b ∷ bs) = ap (λ rs. footprint b ∷ rs) (runs_of-blocks bs)
-
--- what has no byte of a head or of a block has none of a block
-pub apart-bodies : (size : ℕ) (at : ℕ × ℕ) (b : Block ℕ) → 16 ≤ at.1 → 16 ≤ b.off → IsApart (footprint_at size at) (footprint b) → IsApart (body_at size at) (body b)
-apart-bodies size at b first its apart =
-    let mine = span-least size in
-    let other = span-least b.size in
-    ⊎_elim
-    (λ u. ⊎_elim (λ v. inl (inl v)) (λ v. let le = v.1 in inl (inr (v.0, omega (arith, le, mine, first, its)))) u)
-    (λ u. ⊎_elim (λ v. inr (inl v)) (λ v. let le = v.1 in inr (inr (v.0, omega (arith, le, other, first, its)))) u)
-    apart
 
 -- one block stands before another and doesn't overlap it
 abbrev pub Before : Block ℕ → Block ℕ → Type 0

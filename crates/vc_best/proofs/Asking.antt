@@ -16,9 +16,9 @@ use Rattle.vc_seg.specs.Answer.{Answers, Asks, IsPut}
 use Rattle.vc_segments.specs.Lend.{IsNoGrant}
 use Rattle.vc_blocks.specs.declared.order.Order.TheVariants.{ByAddress}
 use Rattle.vc_blocks.specs.Put.{IsAddress, IsPutInNew, with_zeros}
-use Rattle.vc_best.specs.Heads.{HaveHeads}
+use Rattle.vc_best.proofs.HaveHeads.{HaveHeads}
 use Rattle.vc_best.proofs.Allocs.{alloc-granted, alloc-not_lent, alloc-too_many}
-use Rattle.vc_best.proofs.Placed.{HaveHeads-new, HaveHeads-place, IsPlace, new-clear}
+use Rattle.vc_best.proofs.Placed.{HaveHeads-new, IsPlace, new-clear}
 use Rattle.vc_best.proofs.Rounding.{IsAligned}
 use Rattle.vc_best.proofs.Stands.{none-at-clear}
 
@@ -42,10 +42,6 @@ module _ (old new : Layout ℕ) (label size align : ℕ) (at : ℕ × ℕ) where
   pub put-ok : (result : Result Addr RegionFault) → IfOk result (λ a. IsAddress a.0 at) → OnOk result (new ≡ with_zeros ByAddress old label size at) → IfOk result (λ a. IsPut (put_at old label size None at) a.0 new)
   put-ok (Ok a) is ok = (is.0, sym is.1, ok)
   put-ok (Err e) is ok = tt
-
-  pub put-heads : (result : Result Addr RegionFault) → HaveHeads old → IsPlace old label size at → OnOk result (new ≡ with_zeros ByAddress old label size at) → OnErr result (new ≡ old) → HaveHeads new
-  put-heads (Ok a) h p ok err = subst HaveHeads (sym ok) (HaveHeads-place old label size at h p)
-  put-heads (Err e) h p ok err = subst HaveHeads (sym err) h
 
   pub put-fresh : (result : Result Addr RegionFault) → HaveHeads old → IsPlace old label size at → IfOk result (λ a. IsAddress a.0 at) → IfOk result (λ a. ¬ HasBlock old.blocks a.0)
   put-fresh (Ok a) h p is = none-at-clear old a.0 h size at is.1 p.clear

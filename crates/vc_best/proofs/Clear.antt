@@ -11,8 +11,8 @@ use Rattle.vc_model.specs.Sound.{EndsBefore, IsApart}
 use Rattle.vc_seg.proofs.Rounding.{round_up-least}
 use Rattle.vc_blocks.proofs.Apart.{AllPairs-head, AllPairs-map, AllPairs-tail, apart_by_seg}
 use Rattle.vc_blocks.proofs.Inside.{All-unmap}
-use Rattle.vc_best.specs.Gaps.{best_left, gaps_left, gaps_left_in}
-use Rattle.vc_best.specs.Heads.{HaveHeads, footprint_at}
+use Rattle.vc_best.proofs.LeftGaps.{best_left, gaps_left, gaps_left_in}
+use Rattle.vc_best.proofs.HaveHeads.{HaveHeads, footprint_at}
 use Rattle.vc_best.proofs.Gaps.{best_left-All, best_left-holds, run_of-All}
 
 -- in one segment, one run is on one side of another

@@ -10,8 +10,8 @@ use Rattle.vc_model.specs.Place.{holds, least, lesser}
 use Rattle.vc_model.specs.Segments.{span}
 use Rattle.vc_model.specs.Sound.{IsUsable}
 use Rattle.vc_blocks.proofs.Owned.{only-one}
-use Rattle.vc_best.specs.Gaps.{best_left, gaps_left, gaps_left_in}
-use Rattle.vc_best.specs.Heads.{HaveHeads}
+use Rattle.vc_best.proofs.LeftGaps.{best_left, gaps_left, gaps_left_in}
+use Rattle.vc_best.proofs.HaveHeads.{HaveHeads}
 use Rattle.vc_best.proofs.Apart.{span-least}
 
 -- a run of the usable part of a segment
@@ -64,7 +64,7 @@ module _ (r : Layout ℕ) (h : HaveHeads r) (k : ℕ) (d : ℕ × ℕ) (lt : k <
       let here = All-filter test P (footprints r.blocks) all i c within in
       record { seg = own; some = here.0; first = here.1; before = here.2 own }
 
-All-flat_map : {A B : Type 0} (P : B → Type 0) (f : A → List B) (xs : List A) → All (λ x. All P (f x)) xs → All P (flat_map f xs)
+pub All-flat_map : {A B : Type 0} (P : B → Type 0) (f : A → List B) (xs : List A) → All (λ x. All P (f x)) xs → All P (flat_map f xs)
 All-flat_map P f [] h = All-nil P
 All-flat_map {A = A} P f (x ∷ xs) h =
     let Q : A → Type 0 = λ y. All P (f y) in
@@ -97,7 +97,7 @@ lesser-keeps P (Some l) x b h p e =
     (cases_Bool (comes_before x l))
 
 -- what is true of each gap is true of the least
-least-from : (P : Run → Type 0) (best : Option Run) (gs : List Run) (g : Run) → ((c : Run) → best ≡ Some c → P c) → All P gs → fold lesser best gs ≡ Some g → P g
+pub least-from : (P : Run → Type 0) (best : Option Run) (gs : List Run) (g : Run) → ((c : Run) → best ≡ Some c → P c) → All P gs → fold lesser best gs ≡ Some g → P g
 least-from P best [] g h all e = h g e
 least-from P best (x ∷ xs) g h all e =
     least-from P (lesser best x) xs g (λ b q. lesser-keeps P best x b h (All-head P x xs all) q) (All-tail P x xs all) e

@@ -11,7 +11,7 @@ use Rattle.vc_model.specs.Place.{best_gap, holds, least}
 use Rattle.vc_model.specs.Segments.{span}
 use Rattle.vc_model.specs.Sound.{EndsBefore}
 use Rattle.vc_blocks.proofs.Apart.{AllPairs-head, AllPairs-map, AllPairs-tail}
-use Rattle.vc_best.specs.Gaps.{best_left, gaps_left, gaps_left_in}
+use Rattle.vc_best.proofs.LeftGaps.{best_left, gaps_left, gaps_left_in}
 use Rattle.vc_best.proofs.Apart.{Before, span-least}
 
 module _ {A : Type 0} (key : A → ℕ) where

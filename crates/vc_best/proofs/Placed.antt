@@ -1,22 +1,22 @@
 -- A block at its place, and one in a new segment.
-use Rattle.std.proofs.Common.{◌≡◌, ◌≢◌, ℕ, ◌+◌, ◌-◌, ◌≤◌, List, [], ◌∷◌, ◌++◌, Option, None, Some, All, length, get_or, refl, ap, sym, ◌∙◌, subst, arith}
+use Rattle.std.proofs.Common.{◌≡◌, ◌≢◌, ℕ, ◌+◌, ◌≤◌, [], ◌∷◌, ◌++◌, Option, None, Some, All, length, get_or, refl, ap, sym, ◌∙◌, subst, arith}
 use Rattle.std.specs.Prelude.{option_map}
 use Rattle.std.proofs.lemmas.Bool.{leb-true}
 use Rattle.std.proofs.lemmas.List.{get_or_push, length_push}
 use Rattle.vc_model.specs.Best.{place_in, zeros}
 use Rattle.vc_model.specs.Discipline.{IsSegmentSize}
 use Rattle.vc_model.specs.Gap.{Run}
-use Rattle.vc_model.specs.Layout.{Block, Layout, footprint, footprints, with_segment}
+use Rattle.vc_model.specs.Layout.{Layout, footprint, footprints, with_segment}
 use Rattle.vc_model.specs.Place.{IsAlign, lowest_offset}
 use Rattle.vc_model.specs.Segments.{span}
 use Rattle.vc_model.specs.Sound.{HaveOwnNumbers, IsApart, IsUsable}
 use Rattle.vc_seg.proofs.Rounding.{round_up-least, round_up-mod_32}
 use Rattle.vc_blocks.specs.declared.order.Order.TheVariants.{ByAddress}
-use Rattle.vc_blocks.specs.Put.{FitsAt, IsFreeAt, with_zeros}
+use Rattle.vc_blocks.specs.Put.{with_zeros}
 use Rattle.vc_blocks.proofs.Apart.{apart_by_seg}
-use Rattle.vc_best.specs.Gaps.{best_left}
-use Rattle.vc_best.specs.Heads.{HasHead, HaveHeads, footprint_at}
-use Rattle.vc_best.proofs.Apart.{apart-bodies, span-least}
+use Rattle.vc_best.proofs.LeftGaps.{best_left}
+use Rattle.vc_best.proofs.HaveHeads.{HasHead, HaveHeads, footprint_at}
+use Rattle.vc_best.proofs.Apart.{span-least}
 use Rattle.vc_best.proofs.Clear.{best_left-clear}
 use Rattle.vc_best.proofs.Gaps.{best_left-All, best_left-holds, usable-gaps}
 use Rattle.vc_best.proofs.Heads.{HaveHeads-put, HaveHeads-segment}
@@ -72,24 +72,7 @@ place-is r tag size align at h a some most e =
     let f = option_map-Some (place_at align) (best_left r.segments (footprints r.blocks) size align) at (sym (place_in-left r size align h) ∙ e) in
     subst (IsPlace r tag size) f.2 (place-gap r tag size align f.0 h (IsAligned-from_IsAlign align a) some most f.1)
 
--- a block with a head lies in its segment
-pub head-fits : (segments : List (ℕ × ℕ)) (b : Block ℕ) → HasHead segments b → FitsAt (record { segments = segments; blocks = [] }) b.size (b.seg, b.off)
-head-fits segments b h =
-    let u = h.usable in
-    let first = h.slot.first in
-    let end : b.off - 16 + span b.size + 16 ≤ u.1.1 = u.4.2 in
-    (u.0, u.1, u.2, u.3, (u.4.0, first, omega (arith, end, first, span-least b.size)))
-
 module _ (r : Layout ℕ) (tag size : ℕ) (at : ℕ × ℕ) (h : HaveHeads r) (p : IsPlace r tag size at) where
-  pub place-fits : FitsAt r size at
-  place-fits = head-fits r.segments (zeros tag size at) p.head
-
-  pub place-free : IsFreeAt r.blocks size at
-  place-free = λ k d lt.
-      let first = p.head.slot.first in
-      let its = (h.blocks k d lt).slot.first in
-      apart-bodies size at (get_or r.blocks k d) (omega (arith, first)) (omega (arith, its)) (p.clear k d lt)
-
   pub HaveHeads-place : HaveHeads (with_zeros ByAddress r tag size at)
   HaveHeads-place = HaveHeads-put r tag size at h p.head p.clear
 

@@ -1,5 +1,5 @@
 -- Of blocks that don't overlap, one alone stands at each place.
-use Rattle.std.proofs.Common.{◌≡◌, ℕ, zero, suc, ◌+◌, ◌<◌, List, [], ◌∷◌, true, false, Some, All, length, get_or, refl, ap, sym, ◌∙◌, subst, ⊎_elim, eqb, arith}
+use Rattle.std.proofs.Common.{◌≡◌, ℕ, zero, suc, ◌+◌, ◌<◌, List, [], ◌∷◌, true, false, All, length, get_or, refl, ap, sym, ◌∙◌, subst, ⊎_elim, eqb, arith}
 use Rattle.std.specs.List.{remove, HoldsAt}
 use Rattle.std.proofs.lemmas.Bool.{cases_Bool, and_parts, and_from, eqb-true, eq-eqb}
 use Rattle.std.proofs.lemmas.List.{get_or_default, length-map, get_or-map}
@@ -8,11 +8,11 @@ use Rattle.std.proofs.lemmas.List.Elements.{All-cons}
 use Rattle.vc_model.specs.Addr.{place_of}
 use Rattle.vc_model.specs.Layout.{Block, Layout, address_of, footprint, is_at, without_block}
 use Rattle.vc_model.specs.Sound.{IsApart}
-use Rattle.vc_model.specs.Touch.{HasBlock, find_block}
+use Rattle.vc_model.specs.Touch.{HasBlock}
 use Rattle.vc_blocks.proofs.Apart.{AllPairs-head, AllPairs-tail}
 use Rattle.vc_blocks.proofs.Changes.{All-without}
 use Rattle.vc_blocks.proofs.Frees.{place_of-address}
-use Rattle.vc_best.specs.Heads.{AreApart, HasHead, HaveHeads, footprint_at}
+use Rattle.vc_best.proofs.HaveHeads.{AreApart, HasHead, HaveHeads, footprint_at}
 use Rattle.vc_best.proofs.Apart.{Before, span-least}
 
 here : (b : Block ℕ) → is_at (b.seg, b.off) b ≡ true
@@ -28,19 +28,7 @@ not_at b c at before e u =
     let some = span-least b.size in
     ⊎_elim (λ v. omega (arith, v, seg)) (λ v. let le = v.1 in omega (arith, le, off, some)) before
 
--- of blocks that don't overlap, the one at a place is found there
-find_block-at : (bs : List (Block ℕ)) (i : ℕ) (d : Block ℕ) → AreApart bs → i < length bs → find_block ((get_or bs i d).seg, (get_or bs i d).off) bs ≡ Some (get_or bs i d)
-find_block-at [] i d h lt = absurd (omega (arith, lt))
-find_block-at (b ∷ bs) zero d h lt = rw (here b) refl
-find_block-at (b ∷ bs) (suc i) d h lt =
-    let c : Block ℕ = get_or bs i d in
-    let within : i < length bs = omega (arith, lt) in
-    ⊎_elim
-    (λ e. absurd (not_at b c (c.seg, c.off) (AllPairs-head Before b bs h i d within) e (here c)))
-    (λ e. rw e (find_block-at bs i d (AllPairs-tail Before b bs h) within))
-    (cases_Bool (is_at (c.seg, c.off) b))
-
--- and is the one that goes
+-- of blocks that don't overlap, the one at a place is the one that goes
 without_block-remove : (bs : List (Block ℕ)) (i : ℕ) (d : Block ℕ) → AreApart bs → i < length bs → without_block ((get_or bs i d).seg, (get_or bs i d).off) bs ≡ remove bs i
 without_block-remove [] i d h lt = absurd (omega (arith, lt))
 without_block-remove (b ∷ bs) zero d h lt = rw (here b) refl
@@ -92,13 +80,7 @@ stands segments bs a h live =
     }
 
 module _ (r : Layout ℕ) (a : ℕ) (h : HaveHeads r) where
-  -- it is found
-  pub stands-found : (s : Stands r.segments r.blocks a) → find_block (place_of a) r.blocks ≡ Some s.block
-  stands-found s =
-      subst (λ (p : ℕ × ℕ). find_block p r.blocks ≡ Some s.block) s.place
-      (subst (λ (b : Block ℕ). find_block (b.seg, b.off) r.blocks ≡ Some b) s.at (find_block-at r.blocks s.index s.block h.apart s.within))
-
-  -- and the one that goes with its place
+  -- the one that goes with its place
   pub stands-removed : (i : ℕ) → i < length r.blocks → HoldsAt (λ b. address_of b ≡ a) r.blocks i → without_block (place_of a) r.blocks ≡ remove r.blocks i
   stands-removed i lt at =
       let none : Block ℕ = record { label = 0; seg = 0; off = 0; size = 0; bytes = [] } in

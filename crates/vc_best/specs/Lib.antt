@@ -16,10 +16,12 @@ pub use Rattle.vc_model.specs.Addr
 pub use Rattle.vc_seg.specs.Answer
 pub use Rattle.vc_seg.specs.Boxed
 pub use Rattle.vc_seg.specs.Stat
-pub mod Heads
-pub mod Gaps
-pub mod Stay
-pub mod Read
+pub mod Blocks
+pub mod Free
+pub mod Kept
+pub mod Counts
+pub mod Next
+pub mod Changes
 pub mod Parts
 pub mod Cells
 pub mod CellLaws

@@ -3,12 +3,12 @@ use Rattle.std.specs.Prelude.{ℕ, List}
 use Rattle.vc_model.specs.Discipline.{Discipline}
 use Rattle.vc_model.specs.Layout.{Block, Layout}
 use Rattle.vc_seg.specs.Boxed.{boxed}
-use Rattle.vc_best.specs.Read.{layout_by}
+use Rattle.vc_best.specs.Blocks.{layout_by}
 use Rattle.vc_best.specs.declared.best.Best.{Best}
 
 -- its segments and its blocks
 abbrev pub layout_of : {I : Type 0} {V : I → Type 0} → Best I V → Layout ℕ
-layout_of b = layout_by b.layout
+layout_of b = layout_by b.extents.segs.items
 
 -- its segments, as number and size in order of lending
 abbrev pub segments_in : {I : Type 0} {V : I → Type 0} → Best I V → List (ℕ × ℕ)

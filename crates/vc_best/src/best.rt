@@ -9,36 +9,52 @@ ghost use Rattle.vc_model.specs.Place.{IsAlign};
 ghost use Rattle.vc_model.specs.Sound.{HasWholeBlocks, IsSound};
 ghost use Rattle.vc_model.specs.Touch.{HasBlock, find_block};
 ghost use Rattle.vc_model.specs.Walk.{block_at, next_block, next_segment, segment_at};
-ghost use Rattle.vc_best.specs.Read.{layout_by};
+ghost use Rattle.vc_extent.specs.Tiling.{tiling};
+ghost use Rattle.vc_best.specs.Blocks.{layout_by};
+ghost use Rattle.vc_best.specs.Free.{IsMerged};
 ghost use Rattle.vc_seg.specs.Answer.{Answers, Asks};
 ghost use Rattle.vc_seg.specs.Stat.{layout_stat};
 
-use crate::layout::BestLayout;
+use crate::carve::put_zeros;
+use crate::compact::{clear, close, compact};
+use crate::fit::best_gap;
+use crate::lend::put_in_new;
+use crate::release::release;
+use crate::stat::stat;
+use crate::walk::{block_at, next_block};
 use std::alloc::Global;
 use vc_base::{Addr, OutOfMemory, Steps};
+use vc_extent::Extents;
 use vc_seg::{RegionFault, SegDisc, Stat};
+use vc_segments::{next_segment, segment_at};
+
+/// Marks the steps of calls that nobody counts.
+struct Uncounted;
 
 /// A region by exact best fit over the segments of a discipline, after Vmalloc's `Vmbest`. Sizes and offsets are in
 /// bytes.
 #[derive(Drop)]
 pub struct Best {
-    /// Its segments and its blocks.
-    pub layout: BestLayout,
+    /// Its segments, tiled by extents. A busy one has a block.
+    pub extents: Extents,
     /// The discipline that lends its segments.
     pub disc: Box<dyn SegDisc>,
     /// Where the memory of its segments and lists comes from.
     pub alloc: Global,
     /// No two blocks overlap, each lies in the usable part of a segment, and segments have numbers of their own.
-    pub ghost sound: { ∥ IsSound (layout_by layout) ∥₁ },
+    pub ghost sound: { ∥ IsSound (layout_by extents.segs.items) ∥₁ },
     /// Each block has as many bytes as its size, at most 16,777,264, its address is a u32, and no segment has more than
     /// 33,554,432 bytes.
-    pub ghost whole: { ∥ HasWholeBlocks (layout_by layout) ∥₁ },
+    pub ghost whole: { ∥ HasWholeBlocks (layout_by extents.segs.items) ∥₁ },
+    /// No two free extents stand beside each other, so that they are the region's gaps.
+    pub ghost merged: { ∥ IsMerged (tiling extents.segs.items) ∥₁ },
 }
 
 impl Best {
     ghost use Rattle.vc_best.specs.Parts.{blocks_in, layout_of, segments_in};
 
-    /// A region with no segment. It takes none before the first block.
+    /// A region with no segment. It takes none before the first block, but memory for the places of 1,023. Where that is
+    /// wanting it answers the discipline.
     pub fn open(
         alloc: Global,
         disc: Box<dyn SegDisc>,
@@ -47,11 +63,14 @@ impl Best {
             (λ b. (layout_of b ≡ empty_layout) × (state b.disc ≡ state disc)) }
         ensures err { IfErr result (λ e. state e.1 ≡ state disc) }
     {
-        Ok(Best {
-            layout: BestLayout::new(alloc),
-            disc,
-            alloc,
-        })
+        match Extents::new(alloc) {
+            Ok(extents) => Ok(Best {
+                extents,
+                disc,
+                alloc,
+            }),
+            Err(fault) => Err((fault, disc)),
+        }
     }
 
     /// A block of zeros: 1 to 16,777,264 bytes at an offset that the alignment divides, a power of two from 32 to 4,096.
@@ -81,12 +100,13 @@ impl Best {
         ensures others { IfOk result (λ a. without_block (place_of a.0) (blocks_in self.new)
             ≡ blocks_in self.old) }
     {
-        let _ = steps;
-        match self.layout.place(size, align) {
-            Some((seg, off)) => self.layout.put(seg, off, size, align, tag),
-            None => self
-                .layout
-                .alloc_in_new(&mut self.disc, self.alloc, size, align, tag),
+        let extents = &mut self.extents;
+        match best_gap(extents, size, align, steps) {
+            Some(gap) => {
+                let off = gap.lowest_offset(align);
+                Ok(put_zeros(extents, gap.address(), off, size, tag, steps))
+            }
+            None => put_in_new(extents, &mut self.disc, self.alloc, size, align, tag, steps),
         }
     }
 
@@ -105,7 +125,7 @@ impl Best {
         ensures none_left { ¬ HasBlock (blocks_in self.new) a.0 }
     {
         let _ = steps;
-        self.layout.free(a);
+        release(&mut self.extents, a);
     }
 
     /// Frees all its blocks, and keeps its segments.
@@ -114,7 +134,7 @@ impl Best {
         ensures disc { state self.new.disc ≡ state self.old.disc }
     {
         let _ = steps;
-        self.layout.clear();
+        clear(&mut self.extents);
     }
 
     /// Gives back each segment without a block, in ascending order of number, and answers how many those were.
@@ -126,7 +146,7 @@ impl Best {
             (segments_in self.old) (segments_in self.new) }
     {
         let _ = steps;
-        self.layout.compact(&mut self.disc)
+        compact(&mut self.extents, &mut self.disc)
     }
 
     /// The block whose bytes hold the byte at an offset of a segment, and the offset in the block. None where no block
@@ -137,21 +157,21 @@ impl Best {
             (block_at (seg, off) (blocks_in self.now)) }
         ensures live { IfSome result (λ f. HasBlock (blocks_in self.now) f.0.0) }
     {
-        self.layout.held().block_at(seg, off)
+        block_at(&self.extents, seg, off)
     }
 
     /// The size of the segment of that number, where it has a byte at that offset, else None.
     pub fn segment_at(&self, seg: u32, off: u32) -> Option<u32>
         ensures { result ≡ segment_at (seg, off) (segments_in self.now) }
     {
-        self.layout.held().segment_at(seg, off)
+        segment_at(&self.extents.segs, seg, off)
     }
 
     /// The segment with the least number above one, as number and size. A walk begins with 0, and ends with None.
     pub fn next_segment(&self, after: u32) -> Option<(u32, u32)>
         ensures { result ≡ next_segment after (segments_in self.now) }
     {
-        self.layout.held().next_segment(after)
+        next_segment(&self.extents.segs, after)
     }
 
     /// The block behind one in order of addresses. A walk begins with `Addr::NONE`, and ends with None.
@@ -161,14 +181,15 @@ impl Best {
             ≡ option_map address_of (next_block after.0 (blocks_in self.now)) }
         ensures live { IfSome result (λ a. HasBlock (blocks_in self.now) a.0) }
     {
-        self.layout.next_block(after)
+        next_block(&self.extents, after)
     }
 
     /// Its numbers of blocks, gaps and segments, and their sizes in bytes.
     pub fn stat(&self) -> Stat
         ensures { result ≡ layout_stat (layout_of self.now) }
     {
-        self.layout.stat()
+        let mut steps: Steps<Uncounted> = Steps::new(self.alloc);
+        stat(&self.extents, &mut steps)
     }
 
     /// Gives all its segments back, in ascending order of number, and answers with the discipline and how many there
@@ -179,11 +200,11 @@ impl Best {
         ensures count { result.1 ≡ length (segments_in self) }
     {
         let Best {
-            layout,
+            extents,
             mut disc,
             alloc: _,
         } = self;
-        let count = layout.close(&mut disc);
+        let count = close(extents, &mut disc);
         (disc, count)
     }
 }

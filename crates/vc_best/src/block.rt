@@ -16,7 +16,7 @@ impl Best {
         ensures { option_map (λ b. b.size) (find_block (place_of a.0) (blocks_in self.now))
             ≡ Some result }
     {
-        self.layout.held().size(a)
+        self.extents.size_at(a)
     }
 
     /// The tag of the block at that address.
@@ -25,7 +25,7 @@ impl Best {
         ensures { option_map (λ b. b.label) (find_block (place_of a.0) (blocks_in self.now))
             ≡ Some result }
     {
-        self.layout.held().tag(a)
+        self.extents.tag_at(a)
     }
 
     /// The bytes of a range of the block at that address. The range lies in the block.
@@ -35,7 +35,8 @@ impl Best {
         ensures { option_map (λ b. take len (drop off b.bytes))
             (find_block (place_of a.0) (blocks_in self.now)) ≡ Some result.now }
     {
-        self.layout.held().read(a, off, len)
+        let body = self.extents.body(a);
+        &body[off as usize..(off + len) as usize]
     }
 
     /// Puts bytes into the block at that address, from an offset on. They lie in the block.
@@ -49,7 +50,7 @@ impl Best {
         ensures disc { state self.new.disc ≡ state self.old.disc }
         ensures same_disc { self.new.disc ≡ self.old.disc }
     {
-        self.layout.write(a, off, src);
+        self.extents.put(a, off, src);
     }
 
     /// Fills a range of the block at that address with one byte. The range lies in the block.
@@ -62,6 +63,6 @@ impl Best {
             ≡ without_block (place_of a.0) (blocks_in self.old) }
         ensures disc { state self.new.disc ≡ state self.old.disc }
     {
-        self.layout.fill(a, off, len, byte);
+        self.extents.fill(a, off, len, byte);
     }
 }

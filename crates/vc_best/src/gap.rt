@@ -1,8 +1,10 @@
-ghost use Rattle.std.specs.Prelude.{◌≡◌, ℕ, ◌+◌, ◌≤◌, Option, filter, fold};
+ghost use Rattle.std.specs.Prelude.{◌≡◌, ℕ, ◌+◌, ◌%◌, ◌<◌, ◌≤◌, Option, filter, fold};
+ghost use Rattle.vc_model.specs.Addr.{address};
 ghost use Rattle.vc_model.specs.Gap.{Run, comes_before, run_of};
 ghost use Rattle.vc_model.specs.Place.{holds, lesser, lowest_offset};
 
 use std::marker::Model;
+use vc_base::Addr;
 use vc_seg::rounded_up;
 
 /// A run of free bytes of a segment, up to but not including `to`.
@@ -27,6 +29,17 @@ impl Model for Gap {
 }
 
 impl Gap {
+    /// The address of the free extent that it is.
+    pub(crate) fn address(self) -> Addr
+        requires first { 1 ≤ self.seg }
+        requires last { self.seg ≤ 1023 }
+        requires multiple { (self.from + 16) % 32 ≡ 0 }
+        requires below { self.from + 16 < 33554432 }
+        ensures { result.0 ≡ address (self.seg, self.from + 16) }
+    {
+        Addr::new(self.seg, self.from + 16)
+    }
+
     /// The lowest offset of a block in it that the alignment divides.
     pub(crate) fn lowest_offset(self, align: u32) -> u32
         requires least { 1 ≤ align }

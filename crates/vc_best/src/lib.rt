@@ -1,18 +1,21 @@
 //! A memory region by exact best fit over the segments of a discipline.
-#![tactic(auto, unfolding(crate::specs::Read::layout_by))]
+#![tactic(auto, unfolding(crate::specs::Blocks::layout_by))]
 
 mod best;
 mod block;
+mod carve;
 mod cell_rows;
 mod cells;
+mod compact;
 mod fit;
 mod gap;
-mod layout;
+mod lend;
+mod release;
 mod resize;
 mod stat;
 mod stay;
+mod take;
 mod walk;
 
 pub use best::Best;
 pub use cell_rows::one_cell;
-pub use layout::BestLayout;

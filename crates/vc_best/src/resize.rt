@@ -7,6 +7,8 @@ ghost use Rattle.vc_model.specs.Touch.{HasBlock, find_block};
 ghost use Rattle.vc_seg.specs.Answer.{Answers, Asks};
 
 use crate::best::Best;
+use crate::stay::{has_room, resize_there};
+use crate::take::take_over;
 use vc_base::{Addr, Steps};
 use vc_seg::RegionFault;
 
@@ -47,17 +49,17 @@ impl Best {
         ensures others { IfOk result (λ to. without_block (place_of to.0) (blocks_in self.new)
             ≡ without_block (place_of a.0) (blocks_in self.old)) }
     {
-        if self.layout.can_stay(a, size) {
-            self.layout.resize_there(a, size);
+        if has_room(&self.extents, a, size, steps) {
+            resize_there(&mut self.extents, a, size, steps);
             return Ok(a);
         }
         if !may_move {
             return Err(RegionFault::Fixed);
         }
-        let tag = self.layout.held().tag(a);
+        let tag = self.extents.tag_at(a);
         match self.alloc(size, 32, tag, steps) {
             Ok(to) => {
-                self.layout.take_over(a, to, size);
+                take_over(&mut self.extents, a, to, size);
                 Ok(to)
             }
             Err(fault) => Err(fault),

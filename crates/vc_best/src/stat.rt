@@ -1,58 +1,101 @@
-ghost use Rattle.std.specs.Prelude.{◌≡◌, [], All, map};
-ghost use Rattle.vc_model.specs.Discipline.{IsSegmentSize};
-ghost use Rattle.vc_model.specs.Gap.{bytes_of};
+ghost use Rattle.std.specs.Prelude.{◌≡◌, [], ◌∷◌, map};
 ghost use Rattle.vc_seg.specs.Segment.{pair_of};
-ghost use Rattle.vc_blocks.specs.Slot.{IsSlot};
-ghost use Rattle.vc_blocks.specs.Tally.{HasRoom, tallied_all, tally_of};
-ghost use Rattle.vc_best.specs.Gaps.{gaps_left, gaps_left_in, run_sizes};
-ghost use Rattle.vc_best.specs.Heads.{runs_of};
+ghost use Rattle.vc_seg.specs.Stat.{layout_stat};
+ghost use Rattle.vc_extent.specs.Tiling.{IsNamed, IsThere, extent_of, extents_of, tiling};
+ghost use Rattle.vc_blocks.specs.Tally.{HasRoom, tally_of};
+ghost use Rattle.vc_best.specs.Blocks.{layout_by};
+ghost use Rattle.vc_best.specs.Counts.{HaveRoom, all_extents, counted, no_counts};
+ghost use Rattle.vc_best.specs.Free.{IsMerged};
 
-use vc_blocks::{Slot, Tally};
-use vc_seg::{Segment, span_of};
+use vc_base::{Addr, Steps};
+use vc_blocks::Tally;
+use vc_extent::Extents;
+use vc_seg::{Segment, Stat};
 
-/// The tally with the run from one offset to another, where it has a byte.
-fn with_run(tally: Tally, from: u32, to: u32) -> Tally
-    requires { HasRoom tally (run_sizes from to) }
-    ensures { result ≡ tallied_all tally (run_sizes from to) }
-{
-    if from < to {
-        tally.with(to - from)
-    } else {
-        tally
-    }
+/// The blocks and the gaps of a region, counted.
+#[derive(Clone, Copy)]
+struct Counts {
+    blocks: Tally,
+    gaps: Tally,
 }
 
-/// The tally so far with the gaps that these slots leave in a segment.
-fn tally_gaps_in(tally: Tally, seg: u32, bytes: u32, slots: &[Slot]) -> Tally
-    requires bytes { IsSegmentSize bytes }
-    requires slots { All IsSlot slots.now }
-    requires room { HasRoom tally (map bytes_of (gaps_left_in (runs_of slots.now) (seg, bytes))) }
-    ensures { result
-        ≡ tallied_all tally (map bytes_of (gaps_left_in (runs_of slots.now) (seg, bytes))) }
+/// With one more extent.
+fn count_extent<L>(extents: &Extents, counts: Counts, a: Addr, steps: &mut Steps<L>) -> Counts
+    requires named { IsNamed (tiling extents.now.segs.items) a.0 }
+    requires room { HaveRoom counts (extent_of (tiling extents.now.segs.items) a.0 ∷ []) }
+    ensures { result ≡ counted counts (extent_of (tiling extents.now.segs.items) a.0 ∷ []) }
 {
-    let mut tally = tally;
-    let mut from = 16;
-    for slot in slots {
-        if slot.seg == seg {
-            let to = slot.off - 16;
-            tally = with_run(tally, from, to);
-            from = to + span_of(slot.size);
+    let size = extents.size_at(a);
+    if size == 0 {
+        Counts {
+            blocks: counts.blocks,
+            gaps: counts.gaps.with(extents.span_at(a, steps)),
+        }
+    } else {
+        Counts {
+            blocks: counts.blocks.with(size),
+            gaps: counts.gaps,
         }
     }
-    with_run(tally, from, bytes - 16)
 }
 
-/// The gaps that these slots leave in these segments.
-pub(crate) fn tally_gaps(segs: &[Segment], slots: &[Slot]) -> Tally
-    requires slots { All IsSlot slots.now }
-    requires room { HasRoom (tally_of [])
-        (map bytes_of (gaps_left (map pair_of segs.now) (runs_of slots.now))) }
-    ensures { result
-        ≡ tally_of (map bytes_of (gaps_left (map pair_of segs.now) (runs_of slots.now))) }
+/// With the extents of a segment.
+fn count_segment<L>(extents: &Extents, counts: Counts, seg: u32, steps: &mut Steps<L>) -> Counts
+    requires there { IsThere seg extents.now.segs.items }
+    requires room { HaveRoom counts (extents_of seg (tiling extents.now.segs.items)) }
+    ensures { result ≡ counted counts (extents_of seg (tiling extents.now.segs.items)) }
+{
+    let mut counts = counts;
+    let mut next = Some(extents.first(seg));
+    while let Some(a) = next {
+        counts = count_extent(extents, counts, a, steps);
+        next = extents.after(a);
+    }
+    counts
+}
+
+/// All extents, counted.
+fn count_all<L>(extents: &Extents, steps: &mut Steps<L>) -> Counts
+    requires room { HaveRoom no_counts (all_extents (tiling extents.now.segs.items)) }
+    ensures { result ≡ counted no_counts (all_extents (tiling extents.now.segs.items)) }
+{
+    let mut counts = Counts {
+        blocks: Tally::new(),
+        gaps: Tally::new(),
+    };
+    for segment in &extents.segs {
+        counts = count_segment(extents, counts, segment.number(), steps);
+    }
+    counts
+}
+
+/// The sizes of these segments.
+fn tally_segments(segs: &[Segment]) -> Tally
+    requires { HasRoom (tally_of []) (map (λ s. s.1) (map pair_of segs.now)) }
+    ensures { result ≡ tally_of (map (λ s. s.1) (map pair_of segs.now)) }
 {
     let mut tally = Tally::new();
     for segment in segs {
-        tally = tally_gaps_in(tally, segment.number(), segment.size(), slots);
+        tally = tally.with(segment.size());
     }
     tally
+}
+
+/// The numbers of blocks, gaps and segments, and their sizes in bytes.
+pub(crate) fn stat<L>(extents: &Extents, steps: &mut Steps<L>) -> Stat
+    requires { IsMerged (tiling extents.now.segs.items) }
+    ensures { result ≡ layout_stat (layout_by extents.now.segs.items) }
+{
+    let counts = count_all(extents, steps);
+    let segments = tally_segments(&extents.segs);
+    Stat {
+        busy: counts.blocks.count,
+        free: counts.gaps.count,
+        sbusy: counts.blocks.bytes,
+        sfree: counts.gaps.bytes,
+        mbusy: counts.blocks.most,
+        mfree: counts.gaps.most,
+        segs: segments.count as u32,
+        extent: segments.bytes,
+    }
 }

@@ -1,58 +1,87 @@
-ghost use Rattle.std.specs.Prelude.{◌≡◌, ℕ, All, map};
-ghost use Rattle.vc_model.specs.Resize.{is_usable, meets};
+ghost use Rattle.std.specs.Prelude.{◌≡◌, ℕ, ◌≤◌, ◌↔◌, IsTrue, length, map, take};
+ghost use Rattle.vc_model.specs.Addr.{place_of};
+ghost use Rattle.vc_model.specs.Resize.{resize_there};
+ghost use Rattle.vc_model.specs.Segments.{span};
 ghost use Rattle.vc_seg.specs.Segment.{pair_of};
-ghost use Rattle.vc_blocks.specs.Slot.{IsSlot};
-ghost use Rattle.vc_best.specs.Heads.{run_of_slot};
-ghost use Rattle.vc_best.specs.Stay.{fits_in, is_clear};
+ghost use Rattle.vc_extent.specs.Tiling.{IsBusy, change_extent, extent_of, tiling};
+ghost use Rattle.vc_best.specs.Blocks.{layout_by};
+ghost use Rattle.vc_best.specs.Changes.{move_border};
+ghost use Rattle.vc_best.specs.Free.{IsMerged, room_of};
 
-use vc_blocks::Slot;
-use vc_seg::{Segment, span_of};
+use crate::release::absorb_next;
+use vc_base::{Addr, Steps};
+use vc_extent::Extents;
+use vc_seg::span_of;
 
-/// Whether what a slot takes is in the usable part of one of these segments.
-fn is_usable(segs: &[Segment], slot: Slot) -> bool
-    requires { IsSlot slot }
-    ensures { result ≡ is_usable (map pair_of segs.now) (run_of_slot slot) }
+/// The bytes from a busy extent's start on up to the next busy one, or to the end of what its segment has for extents.
+fn room<L>(extents: &Extents, a: Addr, steps: &mut Steps<L>) -> u32
+    requires { IsBusy (tiling extents.now.segs.items) a.0 }
+    ensures { result ≡ room_of (tiling extents.now.segs.items) a.0 }
 {
-    let from = slot.off - 16;
-    let to = from + span_of(slot.size);
-    for segment in segs {
-        if slot.seg == segment.number() && from >= 16 && to + 16 <= segment.size() {
-            return true;
+    let own = extents.span_at(a, steps);
+    match extents.after(a) {
+        Some(next) => {
+            if extents.is_busy(next) {
+                own
+            } else {
+                own + extents.span_at(next, steps)
+            }
         }
+        None => own,
     }
-    false
 }
 
-/// Whether two slots take a byte of each other.
-fn meets(slot: Slot, other: Slot) -> bool
-    requires slot { IsSlot slot }
-    requires other { IsSlot other }
-    ensures { result ≡ meets (run_of_slot slot) (run_of_slot other) }
+/// Whether the block at an address can have another size where it is.
+pub(crate) fn has_room<L>(extents: &Extents, a: Addr, size: u32, steps: &mut Steps<L>) -> bool
+    requires busy { IsBusy (tiling extents.now.segs.items) a.0 }
+    requires most { size ≤ 16777264 }
+    ensures { IsTrue result ↔ (span size ≤ room_of (tiling extents.now.segs.items) a.0) }
 {
-    let from = slot.off - 16;
-    let start = other.off - 16;
-    slot.seg == other.seg && from < start + span_of(other.size) && start < from + span_of(slot.size)
+    span_of(size) <= room(extents, a, steps)
 }
 
-/// Whether a slot takes nothing of what the others take.
-fn is_clear(slots: &[Slot], slot: Slot) -> bool
-    requires slot { IsSlot slot }
-    requires slots { All IsSlot slots.now }
-    ensures { result ≡ is_clear slots.now slot }
+/// Moves the border behind a block so that it has another size. What is new in it isn't said.
+fn move_border<L>(extents: &mut Extents, a: Addr, size: u32, steps: &mut Steps<L>)
+    requires busy { IsBusy (tiling extents.old.segs.items) a.0 }
+    requires some { 1 ≤ size }
+    requires most { size ≤ 16777264 }
+    requires room { span size ≤ room_of (tiling extents.old.segs.items) a.0 }
+    ensures tiling { tiling extents.new.segs.items ≡ change_extent a.0
+        (move_border size (extent_of (tiling extents.new.segs.items) a.0).body)
+        (tiling extents.old.segs.items) }
+    ensures len { length (extent_of (tiling extents.new.segs.items) a.0).body ≡ size }
+    ensures kept { (k : ℕ) → k ≤ size
+        → k ≤ (extent_of (tiling extents.old.segs.items) a.0).size
+        → take k (extent_of (tiling extents.new.segs.items) a.0).body
+        ≡ take k (extent_of (tiling extents.old.segs.items) a.0).body }
+    ensures pairs { map pair_of extents.new.segs.items ≡ map pair_of extents.old.segs.items }
 {
-    for other in slots {
-        if (other.seg != slot.seg || other.off != slot.off) && meets(slot, *other) {
-            return false;
-        }
+    let own = extents.span_at(a, steps);
+    let wanted = span_of(size);
+    if wanted == own {
+        extents.set_size(a, size);
+    } else if wanted < own {
+        let rest = extents.shrink(a, size);
+        absorb_next(extents, rest);
+    } else {
+        extents.stretch(a, size);
     }
-    true
 }
 
-/// Whether a slot fits where it is, among these segments and the other slots.
-pub(crate) fn fits_in(segs: &[Segment], slots: &[Slot], slot: Slot) -> bool
-    requires slot { IsSlot slot }
-    requires slots { All IsSlot slots.now }
-    ensures { result ≡ fits_in segs.now slots.now slot }
+/// Gives the block at an address another size where it is. What is new in it is zero.
+pub(crate) fn resize_there<L>(extents: &mut Extents, a: Addr, size: u32, steps: &mut Steps<L>)
+    requires busy { IsBusy (tiling extents.old.segs.items) a.0 }
+    requires merged { IsMerged (tiling extents.old.segs.items) }
+    requires some { 1 ≤ size }
+    requires most { size ≤ 16777264 }
+    requires room { span size ≤ room_of (tiling extents.old.segs.items) a.0 }
+    ensures layout { layout_by extents.new.segs.items
+        ≡ resize_there (layout_by extents.old.segs.items) (place_of a.0) size }
+    ensures merged { IsMerged (tiling extents.new.segs.items) }
 {
-    is_usable(segs, slot) && is_clear(slots, slot)
+    let old = extents.size_at(a);
+    move_border(extents, a, size, steps);
+    if old < size {
+        extents.fill(a, old, size - old, 0);
+    }
 }

@@ -8,8 +8,9 @@ use crate::number::lowest_unused;
 use std::alloc::Global;
 use vc_seg::{LendFault, RegionFault, SegDisc, Segment, obtain};
 
-/// A segment that the discipline lends to a region.
-fn lend_segment(
+/// A segment of zeros that the discipline lends to a region under that number. `NoSegment` comes where the discipline
+/// refuses, and `OutOfMemory` for want of memory.
+pub fn lend_segment(
     disc: &mut Box<dyn SegDisc>,
     alloc: Global,
     number: u32,

@@ -9,7 +9,7 @@ mod range;
 mod walk;
 
 pub use copy::copy_in;
-pub use lend::lend_next;
+pub use lend::{lend_next, lend_segment};
 pub use number::lowest_unused;
 pub use range::{bytes_in, fill_in, put_in};
 pub use walk::{next_segment, segment_at};

@@ -1,0 +1,47 @@
+-- Segment after segment.
+use Rattle.std.proofs.Common.{◌≡◌, ◌≢◌, ℕ, zero, suc, ◌<◌, List, [], ◌∷◌, AllPairs, true, false, length, get_or, drop, refl, ap, ◌∙◌, ⊎_elim, eqb, arith}
+use Rattle.std.proofs.Math.Logic.{∥∥₁_elim}
+use Rattle.std.proofs.lemmas.Bool.{cases_Bool, eq-eqb, eqb-true}
+use Rattle.vc_seg.specs.Segment.{Bytes}
+use Rattle.vc_blocks.proofs.Apart.{AllPairs-head, AllPairs-tail}
+use Rattle.vc_extent.specs.Extent.{Extent, extents}
+use Rattle.vc_extent.specs.Tiling.{AreExtents, IsThere, extents_of, tiling}
+use Rattle.vc_best.proofs.Sets.{extents-set}
+
+pub there-at : (segs : List Bytes) (i : ℕ) (d : Bytes) → i < length segs → IsThere (get_or segs i d).number segs
+there-at [] i d lt = absurd (omega arith)
+there-at (s ∷ ss) zero d lt = rw (eq-eqb s.number s.number refl) refl
+there-at (s ∷ ss) (suc i) d lt =
+    let n = (get_or ss i d).number in
+    ⊎_elim
+    (λ (t : eqb s.number n ≡ true). rw t refl)
+    (λ (t : eqb s.number n ≡ false). rw t (there-at ss i d (omega arith)))
+    (cases_Bool (eqb s.number n))
+
+pub own-from : (segs : List Bytes) (i : ℕ) (d : Bytes) → AllPairs (λ a b. a.number ≢ b.number) segs → i < length segs → extents_of (get_or segs i d).number (tiling segs) ≡ extents (get_or segs i d).bytes
+own-from [] i d h lt = absurd (omega arith)
+own-from (s ∷ ss) zero d h lt = rw (eq-eqb s.number s.number refl) refl
+own-from (s ∷ ss) (suc i) d h lt =
+    let R : Bytes → Bytes → Type 0 = λ a b. a.number ≢ b.number in
+    let n = (get_or ss i d).number in
+    ⊎_elim
+    (λ (t : eqb s.number n ≡ true). absurd (AllPairs-head R s ss h i d (omega arith) (eqb-true s.number n t)))
+    (λ (t : eqb s.number n ≡ false). rw t (own-from ss i d (AllPairs-tail R s ss h) (omega arith)))
+    (cases_Bool (eqb s.number n))
+
+-- the extents of a segment, by its number
+pub own-at : (segs : List Bytes) (index : List ℕ) (i : ℕ) (d : Bytes) → ∥ AreExtents segs index ∥₁ → i < length segs → extents_of (get_or segs i d).number (tiling segs) ≡ extents (get_or segs i d).bytes
+own-at segs index i d k lt = ∥∥₁_elim k (hlevel (extents-set)) (λ h. own-from segs i d h.segments.distinct lt)
+
+-- those that are left, one by one
+pub tiling-next : (segs : List Bytes) (i : ℕ) (d : Bytes) → i < length segs → tiling (drop i segs) ≡ ((get_or segs i d).number, extents (get_or segs i d).bytes) ∷ tiling (drop (suc i) segs)
+tiling-next [] i d lt = absurd (omega arith)
+tiling-next (s ∷ ss) zero d lt = refl
+tiling-next (s ∷ ss) (suc i) d lt = tiling-next ss i d (omega arith)
+
+pub pair-at : (segs : List Bytes) (index : List ℕ) (i : ℕ) (d : Bytes) (n : ℕ) → ∥ AreExtents segs index ∥₁ → i < length segs → n ≡ (get_or segs i d).number →
+    ◌≡◌ {A = ℕ × List Extent} (n, extents_of n (tiling segs)) ((get_or segs i d).number, extents (get_or segs i d).bytes)
+pair-at segs index i d n k lt e =
+    let whole = own-at segs index i d k lt in
+    let es : extents_of n (tiling segs) ≡ extents (get_or segs i d).bytes = ap (λ (m : ℕ). extents_of m (tiling segs)) e ∙ whole in
+    λ j. (e j, es j)

@@ -1,0 +1,214 @@
+-- A block of zeros in a free extent, call by call.
+use Rattle.std.proofs.Common.{◌≡◌, ◌≢◌, All, ℕ, ◌+◌, ◌-◌, ◌%◌, ◌<◌, ◌≤◌, List, [], ◌∷◌, ◌++◌, true, false, ltb, length, replicate, refl, ap, sym, ◌∙◌, ⊎_elim, arith}
+use Rattle.std.proofs.lemmas.Bool.{cases_Bool, ltb-true, ltb-false, lt-ltb, le-ltb}
+use Rattle.std.proofs.Math.ListN.{drop_of_length-le}
+use Rattle.std.proofs.lemmas.List.{append-nil, length-replicate}
+use Rattle.std.proofs.lemmas.List.Elements.{All-nil, All-cons}
+use Rattle.vc_blocks.proofs.Frees.{place_of-address}
+use Rattle.vc_model.specs.Addr.{address, place_of}
+use Rattle.vc_model.specs.Bytes.{with_bytes}
+use Rattle.vc_model.specs.Segments.{span}
+use Rattle.vc_extent.specs.Extent.{Extent, busy_extent, free_extent, no_links}
+use Rattle.vc_extent.specs.Change.{change_at, extent_in, mark_busy, split, write}
+use Rattle.vc_extent.specs.Tiling.{IsFree, change_extent, extent_of}
+use Rattle.vc_best.specs.Changes.{carve, cut_back, cut_front, free_part, lay_zeros}
+use Rattle.vc_best.proofs.Cuts.{change_at-here, change_at-skip, extent_in-here, extent_in-skip}
+use Rattle.vc_best.proofs.Known.{IsCut, end-of, now-none, now-same, off-of, then-extent, then-steps}
+use Rattle.vc_best.proofs.Layouts.{behind_of}
+
+-- zeros over all bytes of a block
+pub zeros-written : (size : ℕ) (body : List ℕ) → length body ≡ size → with_bytes 0 (replicate size 0) body ≡ replicate size 0
+zeros-written size body h =
+    let long = length-replicate {A = ℕ} size 0 in
+    rw (drop_of_length-le body {i = 0 + length (replicate {A = ℕ} size 0)} (omega (arith, long, h))) (append-nil (replicate size 0))
+
+module _ (t t1 : List (ℕ × List Extent)) (a size tag : ℕ) (body : List ℕ) (c : IsCut t a) (is : t1 ≡ change_extent a (mark_busy size tag body) t) where
+  pub marked : extent_of t1 a ≡ busy_extent (extent_of t a).off (extent_of t a).span size tag body
+  marked =
+      let e = extent_of t a in
+      then-extent t t1 a a (mark_busy size tag body) c is refl (omega arith)
+      ∙ extent_in-here (place_of a).1 (busy_extent e.off e.span size tag body) (behind_of t a) (off-of t a c)
+
+  pub laid : (t2 : List (ℕ × List Extent)) → length body ≡ size → t2 ≡ change_extent a (write 0 (replicate size 0)) t1 → t2 ≡ change_extent a (lay_zeros size tag) t
+  laid t2 len e2 =
+      let e = extent_of t a in
+      then-steps t t1 a a (mark_busy size tag body) c is refl (omega arith) t2 (write 0 (replicate size 0)) (lay_zeros size tag) e2
+      (change_at-here (place_of a).1 (busy_extent e.off e.span size tag body) (behind_of t a) (off-of t a c) (write 0 (replicate size 0))
+      ∙ ap (λ (bs : List ℕ). busy_extent e.off e.span size tag bs ∷ behind_of t a) (zeros-written size body len))
+
+-- what is split from the front of a free extent
+module _ (t : List (ℕ × List Extent)) (a off : ℕ) (c : IsCut t a) where
+  pub front-none : off ≤ (place_of a).1 → t ≡ change_extent a (cut_front off) t
+  front-none le =
+      let o = off-of t a c in
+      sym (now-none t a c (cut_front off) (rw (le-ltb (extent_of t a).off off (omega arith)) refl))
+
+  pub front-some : (place_of a).1 < off → change_extent a (split (off - (place_of a).1)) t ≡ change_extent a (cut_front off) t
+  front-some lt =
+      let o = off-of t a c in
+      now-same t a c (split (off - (place_of a).1)) (cut_front off)
+      (rw (lt-ltb (extent_of t a).off off (omega arith)) (ap (λ (n : ℕ). split (off - n) (extent_of t a) (behind_of t a)) (sym o)))
+
+-- what is split from its back
+module _ (t : List (ℕ × List Extent)) (a bytes : ℕ) (c : IsCut t a) where
+  pub back-none : (extent_of t a).span ≤ bytes → t ≡ change_extent a (cut_back bytes) t
+  back-none le = sym (now-none t a c (cut_back bytes) (rw (le-ltb bytes (extent_of t a).span le) refl))
+
+  pub back-some : bytes < (extent_of t a).span → change_extent a (split bytes) t ≡ change_extent a (cut_back bytes) t
+  back-some lt = now-same t a c (split bytes) (cut_back bytes) (rw (lt-ltb bytes (extent_of t a).span lt) refl)
+
+-- a free extent of an offset and a span
+pub record IsSpan (at bytes : ℕ) (e : Extent) : Type 0 where
+  pub off : e.off ≡ at
+  pub span : e.span ≡ bytes
+  pub free : e.size ≡ 0
+
+-- a free extent from which what lies before an offset is split
+front-is : (e : Extent) (ys : List Extent) (off : ℕ) → e.size ≡ 0 → e.off ≤ off → off < e.off + e.span →
+    (r : Extent) × IsSpan off (e.off + e.span - off) r × (cut_front off e ys ≡ free_part e.off off ++ (r ∷ ys))
+front-is e ys off free le lt =
+    ⊎_elim
+    (λ (h : ltb e.off off ≡ true).
+    let low = ltb-true e.off off h in (
+      free_extent (e.off + (off - e.off)) (e.span - (off - e.off)) no_links,
+      record { off = omega arith; span = omega arith; free = refl },
+      rw h refl,
+    ))
+    (λ (h : ltb e.off off ≡ false).
+    let high = ltb-false e.off off h in
+    (e, record { off = omega arith; span = omega arith; free = free }, rw h refl))
+    (cases_Bool (ltb e.off off))
+
+-- what is before an offset has a lower one
+front-other : (e : Extent) (off : ℕ) → All (λ x. x.off ≢ off) (free_part e.off off)
+front-other e off =
+    let P : Extent → Type 0 = λ x. x.off ≢ off in
+    ⊎_elim
+    (λ (h : ltb e.off off ≡ true). let low = ltb-true e.off off h in rw h (All-cons P (free_extent e.off (off - e.off) no_links) [] (λ q. omega arith) (All-nil P)))
+    (λ (h : ltb e.off off ≡ false). rw h (All-nil P))
+    (cases_Bool (ltb e.off off))
+
+-- a free extent from whose back what a span doesn't want is split
+back-is : (r : Extent) (ys : List Extent) (at bytes span : ℕ) → IsSpan at span r → bytes ≤ span →
+    (x : Extent) × IsSpan at bytes x × (cut_back bytes r ys ≡ x ∷ (free_part (at + bytes) (at + span) ++ ys))
+back-is r ys at bytes span is le =
+    let o = is.off in
+    let s = is.span in
+    ⊎_elim
+    (λ (h : ltb bytes r.span ≡ true).
+    let low = ltb-true bytes r.span h in
+    let more : ltb (at + bytes) (at + span) ≡ true = lt-ltb (at + bytes) (at + span) (omega arith) in (
+      free_extent r.off bytes no_links,
+      record { off = o; span = refl; free = refl },
+      rw (h, more) (ap (λ (n : ℕ). free_extent r.off bytes no_links ∷ free_extent (n + bytes) (r.span - bytes) no_links ∷ ys) o ∙ ap (λ (n : ℕ). free_extent r.off bytes no_links ∷ free_extent (at + bytes) n no_links ∷ ys) (omega arith)),
+    ))
+    (λ (h : ltb bytes r.span ≡ false).
+    let high = ltb-false bytes r.span h in
+    let none : ltb (at + bytes) (at + span) ≡ false = le-ltb (at + bytes) (at + span) (omega arith) in
+    (r, record { off = o; span = omega arith; free = is.free }, rw (h, none) refl))
+    (cases_Bool (ltb bytes r.span))
+
+-- both, and a block of zeros in what is left
+module _ (e : Extent) (ys : List Extent) (off size tag : ℕ) (free : e.size ≡ 0) (le : e.off ≤ off) (fits : off + span size ≤ e.off + e.span) (some : 0 < span size) where
+  front : (r : Extent) × IsSpan off (e.off + e.span - off) r × (cut_front off e ys ≡ free_part e.off off ++ (r ∷ ys))
+  front = front-is e ys off free le (omega arith)
+
+  back : (x : Extent) × IsSpan off (span size) x × (cut_back (span size) front.0 ys ≡ x ∷ (free_part (off + span size) (off + (e.off + e.span - off)) ++ ys))
+  back = back-is front.0 ys off (span size) (e.off + e.span - off) front.1 (omega arith)
+
+  pub front-extent : IsSpan off (e.off + e.span - off) (extent_in off (cut_front off e ys))
+  front-extent =
+      rw front.2
+      (rw (extent_in-skip off (free_part e.off off) (front.0 ∷ ys) (front-other e off))
+      (rw (extent_in-here off front.0 ys front.1.off) front.1))
+
+  after-back : change_at off (cut_back (span size)) (cut_front off e ys) ≡ free_part e.off off ++ (back.0 ∷ (free_part (off + span size) (e.off + e.span) ++ ys))
+  after-back =
+      let end : off + (e.off + e.span - off) ≡ e.off + e.span = omega arith in
+      ap (change_at off (cut_back (span size))) front.2
+      ∙ (change_at-skip off (cut_back (span size)) (free_part e.off off) (front.0 ∷ ys) (front-other e off)
+      ∙ ap (λ (zs : List Extent). free_part e.off off ++ zs)
+      (change_at-here off front.0 ys front.1.off (cut_back (span size))
+      ∙ (back.2 ∙ ap (λ (n : ℕ). back.0 ∷ (free_part (off + span size) n ++ ys)) end)))
+
+  pub back-extent : IsSpan off (span size) (extent_in off (change_at off (cut_back (span size)) (cut_front off e ys)))
+  back-extent =
+      rw after-back
+      (rw (extent_in-skip off (free_part e.off off) (back.0 ∷ (free_part (off + span size) (e.off + e.span) ++ ys)) (front-other e off))
+      (rw (extent_in-here off back.0 (free_part (off + span size) (e.off + e.span) ++ ys) back.1.off) back.1))
+
+  pub carve-is : change_at off (lay_zeros size tag) (change_at off (cut_back (span size)) (cut_front off e ys)) ≡ carve off size tag e ys
+  carve-is =
+      let zs : List Extent = free_part (off + span size) (e.off + e.span) ++ ys in
+      ap (change_at off (lay_zeros size tag)) after-back
+      ∙ (change_at-skip off (lay_zeros size tag) (free_part e.off off) (back.0 ∷ zs) (front-other e off)
+      ∙ ap (λ (xs : List Extent). free_part e.off off ++ xs)
+      (change_at-here off back.0 zs back.1.off (lay_zeros size tag)
+      ∙ (ap (λ (n : ℕ). busy_extent n back.0.span size tag (replicate size 0) ∷ zs) back.1.off
+      ∙ ap (λ (n : ℕ). busy_extent off n size tag (replicate size 0) ∷ zs) back.1.span)))
+
+-- the calls on the segments
+module _ (t t1 : List (ℕ × List Extent)) (a to off size tag : ℕ) (c : IsCut t a) (free : IsFree t a) (some : 1 ≤ size) (first : (place_of a).1 ≤ off) (multiple : off % 32 ≡ 0)
+    (fits : off + span size ≤ (place_of a).1 + (extent_of t a).span) (value : to ≡ address ((place_of a).0, off)) (is1 : t1 ≡ change_extent a (cut_front off) t) where
+  pub place : place_of to ≡ ((place_of a).0, off)
+  place =
+      let end = end-of t a c in
+      let most = c.legal.most in
+      ap place_of value ∙ place_of-address (place_of a).0 off (omega arith) multiple
+
+  seg : (place_of to).0 ≡ (place_of a).0
+  seg = ap (λ (p : ℕ × ℕ). p.0) place
+
+  at : (place_of to).1 ≡ off
+  at = ap (λ (p : ℕ × ℕ). p.1) place
+
+  span-some : 0 < span size
+  span-some = omega arith
+
+  le : (place_of a).1 ≤ (place_of to).1
+  le = let o = at in omega arith
+
+  low : (extent_of t a).off ≤ off
+  low = let o = off-of t a c in omega arith
+
+  high : off + span size ≤ (extent_of t a).off + (extent_of t a).span
+  high = let o = off-of t a c in omega arith
+
+  free-from : (x : Extent) (s : ℕ) → 0 < s → IsSpan off s x → (t' : List (ℕ × List Extent)) → extent_of t' to ≡ x → IsFree t' to
+  free-from x s some' is t' e =
+      let span = is.span in
+      record { named = rw (ap (λ (y : Extent). y.span) e) (omega arith); free = ap (λ (y : Extent). y.size) e ∙ is.free }
+
+  pub fronted : IsFree t1 to
+  fronted =
+      let o = off-of t a c in
+      let s = span-some in
+      let is = front-extent (extent_of t a) (behind_of t a) off size tag free.free low high span-some in
+      let e : extent_of t1 to ≡ extent_in off (cut_front off (extent_of t a) (behind_of t a)) = then-extent t t1 a to (cut_front off) c is1 seg le ∙ ap (λ (n : ℕ). extent_in n (cut_front off (extent_of t a) (behind_of t a))) at in
+      free-from (extent_in off (cut_front off (extent_of t a) (behind_of t a))) ((extent_of t a).off + (extent_of t a).span - off) (omega arith) is t1 e
+
+  module _ (t2 : List (ℕ × List Extent)) (is2 : t2 ≡ change_extent to (cut_back (span size)) t1) where
+    is-both : t2 ≡ change_extent a (λ e ys. change_at (place_of to).1 (cut_back (span size)) (cut_front off e ys)) t
+    is-both = then-steps t t1 a to (cut_front off) c is1 seg le t2 (cut_back (span size)) (λ e ys. change_at (place_of to).1 (cut_back (span size)) (cut_front off e ys)) is2 refl
+
+    extent : (x : Extent) × IsSpan off (span size) x × (extent_of t2 to ≡ x)
+    extent =
+        let is = back-extent (extent_of t a) (behind_of t a) off size tag free.free low high span-some in
+        let f : Extent → List Extent → List Extent = λ e ys. change_at (place_of to).1 (cut_back (span size)) (cut_front off e ys) in (
+          extent_in off (change_at off (cut_back (span size)) (cut_front off (extent_of t a) (behind_of t a))),
+          is,
+          then-extent t t2 a to f c is-both seg le ∙ ap (λ (n : ℕ). extent_in n (change_at n (cut_back (span size)) (cut_front off (extent_of t a) (behind_of t a)))) at,
+        )
+
+    pub backed : IsFree t2 to
+    backed = free-from extent.0 (span size) span-some extent.1 t2 extent.2
+
+    pub spanned : span size ≡ (extent_of t2 to).span
+    spanned = sym (ap (λ (y : Extent). y.span) extent.2 ∙ extent.1.span)
+
+    pub carved : (t3 : List (ℕ × List Extent)) → t3 ≡ change_extent to (lay_zeros size tag) t2 → t3 ≡ change_extent a (carve off size tag) t
+    carved t3 is3 =
+        let f : Extent → List Extent → List Extent = λ e ys. change_at (place_of to).1 (cut_back (span size)) (cut_front off e ys) in
+        then-steps t t2 a to f c is-both seg le t3 (lay_zeros size tag) (carve off size tag) is3
+        (ap (λ (n : ℕ). change_at n (lay_zeros size tag) (change_at n (cut_back (span size)) (cut_front off (extent_of t a) (behind_of t a)))) at
+        ∙ carve-is (extent_of t a) (behind_of t a) off size tag free.free low high span-some)

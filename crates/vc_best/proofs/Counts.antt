@@ -1,0 +1,45 @@
+-- Counts, taken on extent by extent.
+use Rattle.std.proofs.Common.{◌≡◌, ℕ, List, ◌++◌, map, filter, ap, subst, ◌∙◌, arith}
+use Rattle.std.proofs.lemmas.List.{length-append, map-append}
+use Rattle.std.proofs.lemmas.List.Sums.{sum_by-append}
+use Rattle.std.proofs.lemmas.List.Elements.{filter-append}
+use Rattle.vc_blocks.specs.Tally.{HasRoom, tallied_all}
+use Rattle.vc_blocks.proofs.Tallies.{HasRoom-rest, tallied_all-append}
+use Rattle.vc_extent.specs.Extent.{Extent}
+use Rattle.vc_best.specs.Blocks.{is_busy}
+use Rattle.vc_best.specs.Counts.{HaveRoom, busy_sizes, counted, free_spans}
+use Rattle.vc_best.specs.Free.{is_free}
+use Rattle.vc_best.specs.declared.stat.Counts.{Counts}
+use Rattle.vc_blocks.specs.declared.tally.Tally.{Tally}
+
+busy-append : (xs ys : List Extent) → busy_sizes (xs ++ ys) ≡ busy_sizes xs ++ busy_sizes ys
+busy-append xs ys = ap (map (λ (e : Extent). e.size)) (filter-append is_busy xs ys) ∙ map-append (λ (e : Extent). e.size) (filter is_busy xs) (filter is_busy ys)
+
+free-append : (xs ys : List Extent) → free_spans (xs ++ ys) ≡ free_spans xs ++ free_spans ys
+free-append xs ys = ap (map (λ (e : Extent). e.span)) (filter-append is_free xs ys) ∙ map-append (λ (e : Extent). e.span) (filter is_free xs) (filter is_free ys)
+
+pub counted-append : (c : Counts) (xs ys : List Extent) → counted c (xs ++ ys) ≡ counted (counted c xs) ys
+counted-append c xs ys =
+    let b = ap (tallied_all c.blocks) (busy-append xs ys) ∙ tallied_all-append c.blocks (busy_sizes xs) (busy_sizes ys) in
+    let f = ap (tallied_all c.gaps) (free-append xs ys) ∙ tallied_all-append c.gaps (free_spans xs) (free_spans ys) in
+    λ i. record { blocks = b i; gaps = f i }
+
+pub room-rest : (c : Counts) (xs ys : List Extent) → HaveRoom c (xs ++ ys) → HaveRoom (counted c xs) ys
+room-rest c xs ys h =
+    record {
+      blocks = HasRoom-rest c.blocks (busy_sizes xs) (busy_sizes ys) (subst (HasRoom c.blocks) (busy-append xs ys) h.blocks);
+      gaps = HasRoom-rest c.gaps (free_spans xs) (free_spans ys) (subst (HasRoom c.gaps) (free-append xs ys) h.gaps);
+    }
+
+front : (t : Tally) (ms ns : List ℕ) → HasRoom t (ms ++ ns) → HasRoom t ms
+front t ms ns h =
+    let count = h.count in
+    let bytes = h.bytes in
+    record { count = omega (arith, length-append ms ns, count); bytes = omega (arith, sum_by-append (λ (m : ℕ). m) ms ns, bytes) }
+
+pub room-front : (c : Counts) (xs ys : List Extent) → HaveRoom c (xs ++ ys) → HaveRoom c xs
+room-front c xs ys h =
+    record {
+      blocks = front c.blocks (busy_sizes xs) (busy_sizes ys) (subst (HasRoom c.blocks) (busy-append xs ys) h.blocks);
+      gaps = front c.gaps (free_spans xs) (free_spans ys) (subst (HasRoom c.gaps) (free-append xs ys) h.gaps);
+    }

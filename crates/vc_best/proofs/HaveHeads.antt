@@ -1,0 +1,29 @@
+-- Blocks with heads, by address, that don't overlap.
+use Rattle.std.specs.Prelude.{ℕ, ◌+◌, ◌-◌, List, All, AllPairs}
+use Rattle.vc_model.specs.Discipline.{IsSegmentSize}
+use Rattle.vc_model.specs.Gap.{Run}
+use Rattle.vc_model.specs.Layout.{Block, Layout, footprint}
+use Rattle.vc_model.specs.Segments.{span}
+use Rattle.vc_model.specs.Sound.{EndsBefore, HaveOwnNumbers, IsUsable}
+use Rattle.vc_blocks.specs.Layout.{slot_of_block}
+use Rattle.vc_blocks.specs.Slot.{IsSlot}
+
+-- what a block of that size takes of its segment, at a place
+abbrev pub footprint_at : ℕ → ℕ × ℕ → Run
+footprint_at size at = record { seg = at.0; from = at.1 - 16; to = at.1 - 16 + span size }
+
+-- blocks by address, of which no two overlap
+abbrev pub AreApart : {L : Type 0} → List (Block L) → Type 0
+AreApart blocks = AllPairs (λ a b. EndsBefore (footprint a) (footprint b)) blocks
+
+-- a block that has an offset and a size that one can have, and lies in the usable part of a segment of these
+pub record HasHead (segments : List (ℕ × ℕ)) (b : Block ℕ) : Type 0 where
+  pub slot : IsSlot (slot_of_block b)
+  pub usable : IsUsable segments (footprint b)
+
+-- such blocks, by address, of which no two overlap, in segments of legal sizes with numbers of their own
+pub record HaveHeads (r : Layout ℕ) : Type 0 where
+  pub blocks : All (HasHead r.segments) r.blocks
+  pub apart : AreApart r.blocks
+  pub sizes : All (λ s. IsSegmentSize s.1) r.segments
+  pub numbered : HaveOwnNumbers r.segments

@@ -1,0 +1,62 @@
+-- A best region's blocks have heads, whatever shows that its segments are tiled.
+use Rattle.std.proofs.Common.{◌≡◌, ℕ, suc, ◌+◌, ◌≤◌, List, [], ◌∷◌, Bool, true, false, All, get_or, eqb, leb, ltb, refl, ap, ◌∙◌, inl, inr, ⊎_elim, arith}
+use Rattle.std.specs.Prelude.{◌==◌, ◌&&◌}
+use Rattle.std.proofs.Math.Bool.{Bool-set}
+use Rattle.std.proofs.Math.Nat.{ℕ_set}
+use Rattle.std.proofs.Math.Bridge.{le_prop}
+use Rattle.std.proofs.Math.Logic.{∥∥₁_elim}
+use Rattle.std.proofs.lemmas.Bool.{and_from, and_parts, cases_Bool, eq-eqb, eqb-true, le-leb, leb-true, ltb-false, ltb-true, or_cases}
+use Rattle.std.proofs.lemmas.List.Folds.{list_any_at}
+use Rattle.vc_model.specs.Gap.{Run}
+use Rattle.vc_model.specs.Layout.{Block, footprint}
+use Rattle.vc_model.specs.Resize.{is_usable}
+use Rattle.vc_model.specs.Sound.{IsUsable}
+use Rattle.vc_seg.specs.Segment.{Bytes}
+use Rattle.vc_extent.specs.Tiling.{AreExtents}
+use Rattle.vc_best.specs.Blocks.{layout_by}
+use Rattle.vc_best.proofs.HaveHeads.{HaveHeads}
+use Rattle.vc_best.proofs.Tilings.{heads-of}
+
+-- a run that is usable lies in a segment
+usable-is : (f : Run) (ss : List (ℕ × ℕ)) → is_usable ss f ≡ true → IsUsable ss f
+usable-is f [] e = absurd (cc)
+usable-is f (s ∷ ss) e =
+    ⊎_elim
+    (λ (u : ((f.seg == s.0) && (leb 16 f.from && leb (f.to + 16) s.1)) ≡ true).
+    let both = and_parts (f.seg == s.0) (leb 16 f.from && leb (f.to + 16) s.1) u in
+    let ends = and_parts (leb 16 f.from) (leb (f.to + 16) s.1) both.1 in
+    (0, s, omega arith, refl, (eqb-true f.seg s.0 both.0, leb-true 16 f.from ends.0, leb-true (f.to + 16) s.1 ends.1)))
+    (λ (u : is_usable ss f ≡ true). let rest = usable-is f ss u in (suc rest.0, rest.1, omega (arith, rest.2), rest.3, rest.4))
+    (or_cases ((f.seg == s.0) && (leb 16 f.from && leb (f.to + 16) s.1)) (is_usable ss f) e)
+
+-- and the other way round
+is-usable : (f : Run) (ss : List (ℕ × ℕ)) → IsUsable ss f → is_usable ss f ≡ true
+is-usable f ss u =
+    let test : ℕ × ℕ → Bool = λ s. (f.seg == s.0) && (leb 16 f.from && leb (f.to + 16) s.1) in
+    let here : test u.1 ≡ true =
+    and_from (eqb f.seg u.1.0) (leb 16 f.from && leb (f.to + 16) u.1.1) (eq-eqb f.seg u.1.0 u.4.0)
+    (and_from (leb 16 f.from) (leb (f.to + 16) u.1.1) (le-leb 16 f.from u.4.1) (le-leb (f.to + 16) u.1.1 u.4.2)) in
+    list_any_at test ss u.0 u.1 u.2 (ap test u.3 ∙ here)
+
+module _ (segs : List Bytes) (index : List ℕ) (k : ∥ AreExtents segs index ∥₁) (most : All (λ b. b.size ≤ 16777264) (layout_by segs).blocks) where
+  pub held-heads : HaveHeads (layout_by segs)
+  held-heads =
+      record {
+        blocks = λ i d lt.
+            let f : Run = footprint (get_or (layout_by segs).blocks i d) in
+            record {
+              slot = ∥∥₁_elim k (hlevel (le_prop, ℕ_set)) (λ h. ((heads-of segs index h most).blocks i d lt).slot);
+              usable = usable-is f (layout_by segs).segments (∥∥₁_elim k (hlevel (Bool-set)) (λ h. is-usable f (layout_by segs).segments ((heads-of segs index h most).blocks i d lt).usable));
+            };
+        apart = λ i j d lt within.
+            let a : Block ℕ = get_or (layout_by segs).blocks i d in
+            let b : Block ℕ = get_or (layout_by segs).blocks j d in
+            ⊎_elim
+            (λ (t : ltb a.seg b.seg ≡ true). inl (ltb-true a.seg b.seg t))
+            (λ (t : ltb a.seg b.seg ≡ false).
+            let no = ltb-false a.seg b.seg t in
+            inr (∥∥₁_elim k (hlevel (ℕ_set, le_prop)) (λ h. ⊎_elim (λ u. absurd (omega (arith, u, no))) (λ u. u) ((heads-of segs index h most).apart i j d lt within))))
+            (cases_Bool (ltb a.seg b.seg));
+        sizes = ∥∥₁_elim k (hlevel (le_prop, ℕ_set)) (λ h. (heads-of segs index h most).sizes);
+        numbered = ∥∥₁_elim k (hlevel (le_prop)) (λ h. (heads-of segs index h most).numbered);
+      }

@@ -1,0 +1,91 @@
+-- The extent behind one, and the address that names it.
+use Rattle.std.proofs.Common.{◌≡◌, ◌≢◌, ℕ, ◌+◌, ◌-◌, ◌<◌, List, [], ◌∷◌, ◌++◌, Bool, IsTrue, true, false, zero, suc, Option, Some, None, All, option_map, refl, ap, sym, subst, ◌∙◌, arith}
+use Rattle.std.proofs.lemmas.Bool.{ne_eqb}
+use Rattle.vc_model.specs.Addr.{address, place_of}
+use Rattle.vc_blocks.proofs.Frees.{place_of-address}
+use Rattle.vc_extent.specs.Extent.{Extent}
+use Rattle.vc_extent.specs.Change.{behind, extent_in, first_of}
+use Rattle.vc_extent.specs.Tiling.{extent_of, extents_of, next_of}
+use Rattle.vc_best.proofs.Cuts.{behind-here, behind-skip, extent_in-here, extent_in-skip, lower-other}
+use Rattle.vc_best.proofs.Known.{IsCut, off-of}
+use Rattle.vc_best.proofs.Layouts.{behind_of}
+use Rattle.vc_best.proofs.Lies.{Lies}
+
+-- addresses of extents
+pub some-address : (n x : ℕ) (o : Option Extent) → Some x ≡ option_map (λ (e : Extent). address (n, e.off)) o → (y : Extent) × (o ≡ Some y) × (x ≡ address (n, y.off))
+some-address n x None e = absurd (cc)
+some-address n x (Some y) e = (y, refl, cc)
+
+pub no-address : (n : ℕ) (o : Option Extent) → None ≡ option_map (λ (e : Extent). address (n, e.off)) o → o ≡ None
+no-address n None e = refl
+no-address n (Some y) e = absurd (cc)
+
+pub none-first : (ys : List Extent) → first_of ys ≡ None → ys ≡ []
+none-first [] e = refl
+none-first (y ∷ ys) e = absurd (cc)
+
+pub some-first : (ys : List Extent) (y : Extent) → first_of ys ≡ Some y → (zs : List Extent) × (ys ≡ y ∷ zs)
+some-first [] y e = absurd (cc)
+some-first (x ∷ xs) y e = let same : x ≡ y = cc in (xs, ap (λ (z : Extent). z ∷ xs) same)
+
+module _ (t : List (ℕ × List Extent)) (a b : ℕ) (y : Extent) (c : IsCut t a) (next : next_of t a ≡ Some y) (value : b ≡ address ((place_of a).0, y.off)) where
+  tail : (zs : List Extent) × (behind_of t a ≡ y ∷ zs)
+  tail = some-first (behind_of t a) y next
+
+  lies : Lies (c.size - 16) ((place_of a).1 - 16) (extent_of t a ∷ y ∷ tail.0)
+  lies = subst (λ (ys : List Extent). Lies (c.size - 16) ((place_of a).1 - 16) (extent_of t a ∷ ys)) tail.1 c.cut.here
+
+  pub next-off : y.off ≡ (place_of a).1 + (extent_of t a).span
+  next-off = let o = lies.1.0.off in let low = c.cut.low in omega arith
+
+  pub next-place : place_of b ≡ ((place_of a).0, y.off)
+  next-place =
+      let o = next-off in
+      let m = c.cut.here.0.legal.multiple in
+      let w = lies.1.0.within in
+      let l = lies.1.0.legal.least in
+      let p = lies.1.0.off in
+      let most = c.legal.most in
+      ap place_of value ∙ place_of-address (place_of a).0 y.off (omega arith) (omega arith)
+
+  pub next-seg : (place_of b).0 ≡ (place_of a).0
+  next-seg = ap (λ (q : ℕ × ℕ). q.0) next-place
+
+  pub next-above : (place_of a).1 < (place_of b).1
+  next-above =
+      let o = next-off in
+      let least = c.cut.here.0.legal.least in
+      let q : (place_of b).1 ≡ y.off = ap (λ (q : ℕ × ℕ). q.1) next-place in
+      omega arith
+
+  others : All (λ e. e.off ≢ y.off) c.cut.before
+  others = let o = next-off in lower-other (place_of a).1 y.off c.cut.before (omega arith) c.cut.lower
+
+  pub next-extent : extent_of t b ≡ y
+  next-extent =
+      let es = extents_of (place_of a).0 t in
+      let o = next-off in
+      let own = off-of t a c in
+      let least = c.cut.here.0.legal.least in
+      ap (λ (q : ℕ × ℕ). extent_in q.1 (extents_of q.0 t)) next-place
+      ∙ (ap (extent_in y.off) (c.cut.is ∙ ap (λ (zs : List Extent). c.cut.before ++ (extent_of t a ∷ zs)) tail.1)
+      ∙ (extent_in-skip y.off c.cut.before (extent_of t a ∷ y ∷ tail.0) others
+      ∙ rw (ne_eqb (extent_of t a).off y.off (λ q. omega arith)) (extent_in-here y.off y tail.0 refl)))
+
+  pub next-behind : behind_of t a ≡ y ∷ behind_of t b
+  next-behind =
+      let es = extents_of (place_of a).0 t in
+      let o = next-off in
+      let own = off-of t a c in
+      let least = c.cut.here.0.legal.least in
+      let later : behind_of t b ≡ tail.0 =
+      ap (λ (q : ℕ × ℕ). behind q.1 (extents_of q.0 t)) next-place
+      ∙ (ap (behind y.off) (c.cut.is ∙ ap (λ (zs : List Extent). c.cut.before ++ (extent_of t a ∷ zs)) tail.1)
+      ∙ (behind-skip y.off c.cut.before (extent_of t a ∷ y ∷ tail.0) others
+      ∙ rw (ne_eqb (extent_of t a).off y.off (λ q. omega arith)) (behind-here y.off y tail.0 refl))) in
+      tail.1 ∙ ap (λ (zs : List Extent). y ∷ zs) (sym later)
+
+-- a test that shows no size
+pub not-busy : (r : Bool) (n : ℕ) → (0 < n → IsTrue r) → r ≡ false → n ≡ 0
+not-busy r zero h e = refl
+not-busy r (suc n) h e = absurd (let q : r ≡ true = h (omega arith) in cc)

@@ -1,0 +1,20 @@
+-- What is left of the blocks where one is freed.
+use Rattle.std.proofs.Common.{◌≡◌, ℕ, List, map, refl}
+use Rattle.vc_model.specs.Addr.{place_of}
+use Rattle.vc_model.specs.Best.{without_block_at}
+use Rattle.vc_seg.specs.Segment.{Bytes, pair_of}
+use Rattle.vc_extent.specs.Change.{mark_free}
+use Rattle.vc_extent.specs.Tiling.{AreExtents, IsBusy, IsFree, change_extent, extent_of, tiling}
+use Rattle.vc_best.specs.Blocks.{layout_by}
+use Rattle.vc_best.specs.Changes.{absorb}
+use Rattle.vc_best.proofs.Layouts.{behind_of, layout-freed, layout-same}
+use Rattle.vc_best.proofs.Releases.{absorb-busy}
+
+-- a free extent that takes the next free one leaves the blocks
+pub layout-absorbed : (s r : List Bytes) (i j : List ℕ) (a : ℕ) → ∥ AreExtents s i ∥₁ → ∥ AreExtents r j ∥₁ → IsFree (tiling s) a → tiling r ≡ change_extent a absorb (tiling s) → map pair_of r ≡ map pair_of s → layout_by r ≡ layout_by s
+layout-absorbed s r i j a k l free is p =
+    layout-same s r i j k l a absorb free.named is p (absorb-busy (place_of a).0 (extent_of (tiling s) a) (behind_of (tiling s) a) free.free)
+
+pub layout-marked : (s r : List Bytes) (i j : List ℕ) (a : ℕ) → ∥ AreExtents s i ∥₁ → ∥ AreExtents r j ∥₁ → IsBusy (tiling s) a → tiling r ≡ change_extent a mark_free (tiling s) → map pair_of r ≡ map pair_of s →
+    layout_by r ≡ without_block_at (layout_by s) (place_of a)
+layout-marked s r i j a k l busy is p = layout-freed s r i j k l a mark_free busy.named is p busy.busy refl

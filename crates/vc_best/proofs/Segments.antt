@@ -1,0 +1,179 @@
+-- Segments that come, go or are emptied.
+use Rattle.std.proofs.Common.{◌≡◌, ◌≢◌, ℕ, ◌-◌, ◌<◌, List, [], ◌∷◌, ◌++◌, Bool, All, AllPairs, true, false, map, filter, length, not, refl, ap, sym, subst, ◌∙◌, ⊎_elim, eqb, ltb, arith}
+use Rattle.std.specs.List.{list_any}
+use Rattle.std.proofs.Math.Logic.{∥∥₁_elim}
+use Rattle.std.proofs.lemmas.Bool.{cases_Bool, eqb-true, eqb-false, eq-eqb, ne_eqb, ltb-false, or_left, or_right}
+use Rattle.std.proofs.lemmas.Grind.{flat_map-append}
+use Rattle.std.proofs.lemmas.List.{append-nil}
+use Rattle.std.proofs.lemmas.List.Folds.{list_any-append}
+use Rattle.std.proofs.lemmas.List.Elements.{All-append, All-head, All-map, All-nil, All-tail, All-weaker}
+use Rattle.vc_model.specs.Compact.{is_occupied}
+use Rattle.vc_model.specs.Layout.{Block, lies_before, with_block, with_segment}
+use Rattle.vc_seg.specs.Segment.{Bytes, pair_of}
+use Rattle.vc_blocks.proofs.Apart.{AllPairs-head, AllPairs-tail}
+use Rattle.vc_extent.specs.Change.{IsOneFree}
+use Rattle.vc_extent.specs.Extent.{Extent, extents, free_extent, no_links}
+use Rattle.vc_extent.specs.Tiles.{IsTiled}
+use Rattle.vc_extent.specs.Tiling.{AreExtents, IsThere, extents_of, tiling}
+use Rattle.vc_best.specs.Blocks.{all_busy, busy_in, in_order, layout_by}
+use Rattle.vc_best.specs.Free.{IsMerged, is_merged}
+use Rattle.vc_best.proofs.InOrder.{All-in_order}
+use Rattle.vc_best.proofs.Layouts.{busy-seg}
+use Rattle.vc_best.proofs.Lies.{Lies, lies-tiled}
+use Rattle.vc_best.proofs.Parts.{busy-none}
+use mathlib.Core.Bool.{Bool-set}
+use Rattle.vc_best.proofs.Sets.{blocks-set}
+use Rattle.vc_best.proofs.Tilings.{other-seg}
+
+pub layout-added : (old new : List Bytes) (n size span : ℕ) → tiling new ≡ tiling old ++ (n, free_extent 32 span no_links ∷ []) ∷ [] → map pair_of new ≡ map pair_of old ++ (n, size) ∷ [] →
+    layout_by new ≡ with_segment (layout_by old) (n, size)
+unfolding layout_by
+layout-added old new n size span t p =
+    let e : in_order (all_busy (tiling new)) ≡ in_order (all_busy (tiling old)) =
+    ap in_order (ap all_busy t ∙ (flat_map-append busy_in (tiling old) ((n, free_extent 32 span no_links ∷ []) ∷ []) ∙ append-nil (all_busy (tiling old)))) in
+    λ i. record { segments = p i; blocks = e i }
+
+-- a segment of one free extent has no block
+one-none : (n : ℕ) (es : List Extent) → IsOneFree es → busy_in (n, es) ≡ []
+one-none n [] h = absurd h
+one-none n (e ∷ es) h = busy-none n e es h.0 ∙ ap (λ (xs : List Extent). busy_in (n, xs)) h.1
+
+all-none : (t : List (ℕ × List Extent)) → All (λ s. IsOneFree s.1) t → all_busy t ≡ []
+all-none [] h = refl
+all-none (s ∷ ss) h =
+    let P : ℕ × List Extent → Type 0 = λ x. IsOneFree x.1 in
+    ap (λ bs. bs ++ all_busy ss) (one-none s.0 s.1 (All-head P s ss h)) ∙ all-none ss (All-tail P s ss h)
+
+pub layout-none : (new : List Bytes) → All (λ s. IsOneFree s.1) (tiling new) → (layout_by new).blocks ≡ []
+unfolding layout_by
+layout-none new h = ap in_order (all-none (tiling new) h)
+
+-- segments of other numbers stay
+filter-others : (n : ℕ) (t : List (ℕ × List Extent)) → All (λ s. eqb s.0 n ≡ false) t → filter (λ (s : ℕ × List Extent). not (eqb s.0 n)) t ≡ t
+filter-others n [] h = refl
+filter-others n (s ∷ ss) h =
+    let P : ℕ × List Extent → Type 0 = λ x. eqb x.0 n ≡ false in
+    rw (All-head P s ss h) (ap (λ xs. s ∷ xs) (filter-others n ss (All-tail P s ss h)))
+
+others-of : (n : ℕ) (s : Bytes) (ss : List Bytes) → eqb s.number n ≡ true → All (λ b. s.number ≢ b.number) ss → All (λ x. eqb x.0 n ≡ false) (tiling ss)
+others-of n s ss t h =
+    All-map (λ (x : ℕ × List Extent). eqb x.0 n ≡ false) (λ (x : Bytes). (x.number, extents x.bytes)) ss
+    (All-weaker (λ (b : Bytes). s.number ≢ b.number) (λ (b : Bytes). eqb b.number n ≡ false) (λ b other. ne_eqb b.number n (λ e. other (eqb-true s.number n t ∙ sym e))) ss h)
+
+removed : (n : ℕ) (segs : List Bytes) → AllPairs (λ (a b : Bytes). a.number ≢ b.number) segs → IsOneFree (extents_of n (tiling segs)) → all_busy (filter (λ (s : ℕ × List Extent). not (eqb s.0 n)) (tiling segs)) ≡ all_busy (tiling segs)
+removed n [] distinct free = refl
+removed n (s ∷ ss) distinct free =
+    let R : Bytes → Bytes → Type 0 = λ a b. a.number ≢ b.number in
+    ⊎_elim
+    (λ (t : eqb s.number n ≡ true).
+    let free' : IsOneFree (extents s.bytes) = rw t at free in
+    rw t (ap all_busy (filter-others n (tiling ss) (others-of n s ss t (AllPairs-head R s ss distinct)))
+    ∙ ap (λ bs. bs ++ all_busy (tiling ss)) (sym (one-none s.number (extents s.bytes) free'))))
+    (λ (t : eqb s.number n ≡ false).
+    let free' : IsOneFree (extents_of n (tiling ss)) = rw t at free in
+    rw t (ap (λ bs. busy_in (s.number, extents s.bytes) ++ bs) (removed n ss (AllPairs-tail R s ss distinct) free')))
+    (cases_Bool (eqb s.number n))
+
+-- then none of the blocks is in it
+nowhere : (n : ℕ) (segs : List Bytes) → AllPairs (λ (a b : Bytes). a.number ≢ b.number) segs → IsOneFree (extents_of n (tiling segs)) → All (λ b. b.seg ≢ n) (all_busy (tiling segs))
+nowhere n [] distinct free = All-nil (λ (b : Block ℕ). b.seg ≢ n)
+nowhere n (s ∷ ss) distinct free =
+    let R : Bytes → Bytes → Type 0 = λ a b. a.number ≢ b.number in
+    let Q : Block ℕ → Type 0 = λ b. b.seg ≢ n in
+    ⊎_elim
+    (λ (t : eqb s.number n ≡ true).
+    let free' : IsOneFree (extents s.bytes) = rw t at free in
+    let e : all_busy (tiling (s ∷ ss)) ≡ all_busy (tiling ss) = ap (λ bs. bs ++ all_busy (tiling ss)) (one-none s.number (extents s.bytes) free') in
+    subst (λ (bs : List (Block ℕ)). All Q bs) (sym e)
+    (All-weaker (λ c. s.number ≢ c.seg) Q (λ c other same. other (eqb-true s.number n t ∙ sym same)) (all_busy (tiling ss)) (other-seg s ss (AllPairs-head R s ss distinct))))
+    (λ (t : eqb s.number n ≡ false).
+    let free' : IsOneFree (extents_of n (tiling ss)) = rw t at free in
+    All-append Q (busy_in (s.number, extents s.bytes)) (all_busy (tiling ss))
+    (All-weaker (λ c. c.seg ≡ s.number) Q (λ c is same. eqb-false s.number n t (sym is ∙ same)) (busy_in (s.number, extents s.bytes)) (busy-seg s.number (extents s.bytes)))
+    (nowhere n ss (AllPairs-tail R s ss distinct) free'))
+    (cases_Bool (eqb s.number n))
+
+not-any : (n : ℕ) (bs : List (Block ℕ)) → All (λ b. b.seg ≢ n) bs → is_occupied bs n ≡ false
+not-any n [] h = refl
+not-any n (b ∷ bs) h =
+    let Q : Block ℕ → Type 0 = λ c. c.seg ≢ n in
+    rw (ne_eqb b.seg n (All-head Q b bs h)) (not-any n bs (All-tail Q b bs h))
+
+-- where a block is in it, one is so by address
+any-with : (n : ℕ) (b : Block ℕ) (bs : List (Block ℕ)) → is_occupied (b ∷ bs) n ≡ true → is_occupied (with_block b bs) n ≡ true
+any-with n b [] h = h
+any-with n b (c ∷ cs) h =
+    ⊎_elim
+    (λ (t : lies_before b c ≡ true). rw t h)
+    (λ (t : lies_before b c ≡ false).
+    rw t
+    (⊎_elim
+    (λ (u : eqb c.seg n ≡ true). rw u refl)
+    (λ (u : eqb c.seg n ≡ false). let h' : is_occupied (b ∷ cs) n ≡ true = rw u at h in rw u (any-with n b cs h'))
+    (cases_Bool (eqb c.seg n))))
+    (cases_Bool (lies_before b c))
+
+any-order : (n : ℕ) (bs : List (Block ℕ)) → is_occupied bs n ≡ true → is_occupied (in_order bs) n ≡ true
+any-order n [] h = h
+any-order n (b ∷ bs) h =
+    any-with n b (in_order bs)
+    (⊎_elim
+    (λ (u : eqb b.seg n ≡ true). rw u refl)
+    (λ (u : eqb b.seg n ≡ false). let h' : is_occupied bs n ≡ true = rw u at h in rw u (any-order n bs h'))
+    (cases_Bool (eqb b.seg n)))
+
+-- a segment that isn't one free extent has a block
+some-busy : (n stop at : ℕ) (es : List Extent) → at < stop → Lies stop at es → is_merged false es ≡ true → (IsOneFree es → ⊥) → is_occupied (busy_in (n, es)) n ≡ true
+some-busy n stop at [] lt h merged busy = absurd (omega (arith, h, lt))
+some-busy n stop at (e ∷ es) lt h merged busy =
+    ⊎_elim
+    (λ (t : ltb 0 e.size ≡ true). rw t (rw (eq-eqb n n refl) refl))
+    (λ (t : ltb 0 e.size ≡ false). rw t (next es (rw t at merged) (λ none. busy (le-size e t, none))))
+    (cases_Bool (ltb 0 e.size))
+  where
+    le-size : (e : Extent) → ltb 0 e.size ≡ false → e.size ≡ 0
+    le-size e t = let le = ltb-false 0 e.size t in omega (arith, le)
+
+    next : (es : List Extent) → is_merged true es ≡ true → (es ≡ [] → ⊥) → is_occupied (busy_in (n, es)) n ≡ true
+    next [] merged some = absurd (some refl)
+    next (x ∷ xs) merged some =
+        ⊎_elim
+        (λ (u : ltb 0 x.size ≡ true). rw u (rw (eq-eqb n n refl) refl))
+        (λ (u : ltb 0 x.size ≡ false). let m : false ≡ true = rw u at merged in absurd (cc))
+        (cases_Bool (ltb 0 x.size))
+
+occupied-in : (n : ℕ) (segs : List Bytes) → All (λ s. IsTiled s.bytes) segs → IsMerged (tiling segs) → IsThere n segs → (IsOneFree (extents_of n (tiling segs)) → ⊥) → is_occupied (all_busy (tiling segs)) n ≡ true
+occupied-in n [] tiled merged there busy = absurd (cc)
+occupied-in n (s ∷ ss) tiled merged there busy =
+    let T : Bytes → Type 0 = λ x. IsTiled x.bytes in
+    let M : ℕ × List Extent → Type 0 = λ x. is_merged false x.1 ≡ true in
+    let own : List (Block ℕ) = busy_in (s.number, extents s.bytes) in
+    let test : Block ℕ → Bool = λ b. eqb b.seg n in
+    list_any-append test own (all_busy (tiling ss))
+    ∙ ⊎_elim
+    (λ (t : eqb s.number n ≡ true).
+    let tile = All-head T s ss tiled in
+    let least = tile.size.least in
+    let busy' : IsOneFree (extents s.bytes) → ⊥ = rw t at busy in
+    let some : is_occupied own s.number ≡ true = some-busy s.number (length s.bytes - 16) 16 (extents s.bytes) (omega arith) (lies-tiled s.bytes tile) (All-head M (s.number, extents s.bytes) (tiling ss) merged) busy' in
+    or_left (list_any test own) (list_any test (all_busy (tiling ss))) (subst (λ (m : ℕ). is_occupied own m ≡ true) (eqb-true s.number n t) some))
+    (λ (t : eqb s.number n ≡ false).
+    or_right (list_any test own) (list_any test (all_busy (tiling ss)))
+    (occupied-in n ss (All-tail T s ss tiled) (All-tail M (s.number, extents s.bytes) (tiling ss) merged) (rw t at there) (rw t at busy)))
+    (cases_Bool (eqb s.number n))
+
+module _ (old : List Bytes) (index : List ℕ) (n : ℕ) (k : ∥ AreExtents old index ∥₁) where
+  pub layout-removed : (new : List Bytes) → IsOneFree (extents_of n (tiling old)) → tiling new ≡ filter (λ (s : ℕ × List Extent). not (eqb s.0 n)) (tiling old) → (layout_by new).blocks ≡ (layout_by old).blocks
+  unfolding layout_by
+  layout-removed new free t =
+      ∥∥₁_elim k (hlevel (blocks-set)) (λ j. ap in_order (ap all_busy t ∙ removed n old j.segments.distinct free))
+
+  pub unoccupied : IsOneFree (extents_of n (tiling old)) → is_occupied (layout_by old).blocks n ≡ false
+  unfolding layout_by
+  unoccupied free =
+      ∥∥₁_elim k (hlevel (Bool-set)) (λ j. not-any n (in_order (all_busy (tiling old))) (All-in_order (λ b. b.seg ≢ n) (all_busy (tiling old)) (nowhere n old j.segments.distinct free)))
+
+  pub occupied : IsMerged (tiling old) → IsThere n old → ¬ IsOneFree (extents_of n (tiling old)) → is_occupied (layout_by old).blocks n ≡ true
+  unfolding layout_by
+  occupied merged there busy =
+      ∥∥₁_elim k (hlevel (Bool-set)) (λ j. any-order n (all_busy (tiling old)) (occupied-in n old j.tiled merged there busy))

@@ -1,0 +1,10 @@
+use Rattle.std.proofs.Common.{ℕ, ◌≤◌, sym, subst}
+use Rattle.std.proofs.lemmas.List.Elements.{All-nil}
+use Rattle.vc_model.specs.Layout.{Block, Layout}
+use Rattle.vc_best.proofs.Held.{AreMost, held}
+use Rattle.vc_best.proofs.best.Best.clear.Goals as goal
+
+pub invariant_of-self : goal.invariant_of-self
+invariant_of-self g c =
+    let h = held c.clear.new.extents.segs.items c.clear.new.extents.index.items c.clear.new.extents.kept (subst (λ (r : Layout ℕ). AreMost r.blocks) (sym c.clear.ensures.layout) (All-nil (λ (b : Block ℕ). b.size ≤ 16777264))) c.clear.ensures.merged in
+    record { sound = h.sound; whole = h.whole; merged = h.merged }

@@ -1,0 +1,10 @@
+use Rattle.std.proofs.Common.{Some, option_map, ap, sym, ◌∙◌}
+use Rattle.vc_best.proofs.Found.{busy-of}
+use Rattle.vc_best.proofs.Held.{block-is}
+use Rattle.vc_best.proofs.best.Best.size.Goals as goal
+
+pub size_at-requires : goal.size_at-requires
+size_at-requires g c = (busy-of c.args.self.now.extents.segs.items c.args.self.now.extents.index.items c.args.a.0 c.args.self.now.extents.kept c.requires).named
+
+pub returns : goal.returns
+returns g c = ap (option_map (λ b. b.size)) (block-is c.args.self.now.extents.segs.items c.args.self.now.extents.index.items c.args.a.0 c.args.self.now.extents.kept c.requires) ∙ ap Some (sym c.size_at.ensures)

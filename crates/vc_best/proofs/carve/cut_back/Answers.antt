@@ -1,0 +1,19 @@
+use Rattle.std.proofs.Common.{◌∙◌, arith}
+use Rattle.std.proofs.Math.Logic.{∥∥₁_elim}
+use Rattle.vc_extent.specs.Tiling.{tiling}
+use Rattle.vc_best.proofs.Carves.{back-none, back-some}
+use Rattle.vc_best.proofs.Known.{cut-of}
+use Rattle.vc_best.proofs.Sets.{tiling-set}
+use Rattle.vc_best.proofs.carve.cut_back.Goals as goal
+
+pub returns-then-bytes-span_at-clause-tiling : goal.returns-then-bytes-span_at-clause-tiling
+returns-then-bytes-span_at-clause-tiling g c =
+    ∥∥₁_elim c.args.extents.now.kept (hlevel (tiling-set))
+    (λ k.
+    c.split.ensures.tiling
+    ∙ back-some (tiling c.args.extents.now.segs.items) c.args.a.0 c.args.bytes (cut-of c.args.extents.now.segs.items c.args.extents.now.index.items c.args.a.0 k c.requires.free.named) (omega arith))
+
+pub returns-else-bytes-span_at-clause-tiling : goal.returns-else-bytes-span_at-clause-tiling
+returns-else-bytes-span_at-clause-tiling g c =
+    ∥∥₁_elim c.args.extents.now.kept (hlevel (tiling-set))
+    (λ k. back-none (tiling c.args.extents.now.segs.items) c.args.a.0 c.args.bytes (cut-of c.args.extents.now.segs.items c.args.extents.now.index.items c.args.a.0 k c.requires.free.named) (omega arith))

@@ -1,0 +1,33 @@
+use Rattle.std.proofs.Common.{ap, arith}
+use Rattle.std.proofs.Math.Bridge.{le_prop}
+use Rattle.std.proofs.Math.Logic.{∥∥₁_elim}
+use Rattle.vc_extent.specs.Extent.{Extent}
+use Rattle.vc_extent.specs.Tiling.{extent_of, tiling}
+use Rattle.vc_best.proofs.Carves.{laid, marked}
+use Rattle.vc_best.proofs.Known.{cut-of}
+use Rattle.vc_best.proofs.Sets.{tiling-set}
+use Rattle.vc_best.proofs.carve.lay_zeros.Goals as goal
+
+pub fill-requires-clause-busy : goal.fill-requires-clause-busy
+fill-requires-clause-busy c =
+    ∥∥₁_elim c.args.extents.now.kept (hlevel (le_prop))
+    (λ k.
+    let t = tiling c.args.extents.now.segs.items in
+    let e = marked t (tiling c.mark_busy.new.self.segs.items) c.args.a.0 c.args.size c.args.tag (extent_of (tiling c.mark_busy.new.self.segs.items) c.args.a.0).body (cut-of c.args.extents.now.segs.items c.args.extents.now.index.items c.args.a.0 k c.requires.free.named) c.mark_busy.ensures.tiling in
+    let named = c.requires.free.named in
+    record { named = rw (ap (λ (x : Extent). x.span) e) named; busy = rw (ap (λ (x : Extent). x.size) e) (omega arith) })
+
+pub fill-requires-clause-within : goal.fill-requires-clause-within
+fill-requires-clause-within c =
+    ∥∥₁_elim c.args.extents.now.kept (hlevel (le_prop))
+    (λ k.
+    let t = tiling c.args.extents.now.segs.items in
+    let e = marked t (tiling c.mark_busy.new.self.segs.items) c.args.a.0 c.args.size c.args.tag (extent_of (tiling c.mark_busy.new.self.segs.items) c.args.a.0).body (cut-of c.args.extents.now.segs.items c.args.extents.now.index.items c.args.a.0 k c.requires.free.named) c.mark_busy.ensures.tiling in
+    rw (ap (λ (x : Extent). x.size) e) (omega arith))
+
+pub returns-clause-tiling : goal.returns-clause-tiling
+returns-clause-tiling c =
+    ∥∥₁_elim c.args.extents.now.kept (hlevel (tiling-set))
+    (λ k.
+    laid (tiling c.args.extents.now.segs.items) (tiling c.mark_busy.new.self.segs.items) c.args.a.0 c.args.size c.args.tag (extent_of (tiling c.mark_busy.new.self.segs.items) c.args.a.0).body (cut-of c.args.extents.now.segs.items c.args.extents.now.index.items c.args.a.0 k c.requires.free.named) c.mark_busy.ensures.tiling
+    (tiling c.fill.new.self.segs.items) c.mark_busy.ensures.len c.fill.ensures.tiling)

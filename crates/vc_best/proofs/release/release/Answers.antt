@@ -1,0 +1,57 @@
+use Rattle.std.proofs.Common.{◌∙◌}
+use Rattle.std.proofs.Math.Nat.{ℕ_set}
+use Rattle.std.proofs.Math.Bridge.{le_prop}
+use Rattle.std.proofs.Math.Logic.{∥∥₁_elim}
+use Rattle.vc_model.specs.Addr.{place_of}
+use Rattle.vc_extent.specs.Tiling.{extent_of, previous_of, tiling}
+use Rattle.vc_best.proofs.Known.{cut-of}
+use Rattle.vc_best.proofs.Nexts.{no-address, not-busy, some-address}
+use Rattle.vc_best.proofs.Released.{layout-absorbed, layout-marked}
+use Rattle.vc_best.proofs.Releases.{is-freed, merged-busy, merged-first, merged-free, named-later}
+use Rattle.vc_best.proofs.Sets.{merged-prop}
+use Rattle.vc_best.proofs.release.release.Goals as goal
+
+pub absorb_next-requires : goal.absorb_next-requires
+absorb_next-requires c =
+    record { free = (∥∥₁_elim c.args.extents.now.kept (hlevel (le_prop, ℕ_set)) (λ k. is-freed (tiling c.args.extents.now.segs.items) (tiling c.mark_free.new.self.segs.items) (tiling c.args.extents.now.segs.items) c.args.a.0 (cut-of c.args.extents.now.segs.items c.args.extents.now.index.items c.args.a.0 k c.requires.busy.named) c.mark_free.ensures.tiling c.requires.busy.named)) }
+
+pub is_busy-requires : goal.is_busy-requires
+is_busy-requires c =
+    let f = some-address (place_of c.args.a.0).0 c.in-Some.first.0 (previous_of (tiling c.args.extents.now.segs.items) c.args.a.0) c.in-Some.ensures.value in
+    ∥∥₁_elim c.args.extents.now.kept (hlevel (le_prop)) (λ k. named-later (tiling c.args.extents.now.segs.items) (tiling c.mark_free.new.self.segs.items) (tiling c.absorb_next.new.extents.segs.items) c.args.a.0 (cut-of c.args.extents.now.segs.items c.args.extents.now.index.items c.args.a.0 k c.requires.busy.named) c.mark_free.ensures.tiling c.absorb_next.ensures.tiling c.in-Some.first.0 f.0 (cut-of c.args.extents.now.segs.items c.args.extents.now.index.items c.in-Some.first.0 k c.in-Some.ensures.named) f.1 c.requires.busy.named f.2)
+
+pub absorb_next-requires-then-not-is_busy : goal.absorb_next-requires-then-not-is_busy
+absorb_next-requires-then-not-is_busy c =
+    let f = some-address (place_of c.args.a.0).0 c.in-Some.first.0 (previous_of (tiling c.args.extents.now.segs.items) c.args.a.0) c.in-Some.ensures.value in
+    record { free = (record { named = ∥∥₁_elim c.args.extents.now.kept (hlevel (le_prop)) (λ k. named-later (tiling c.args.extents.now.segs.items) (tiling c.mark_free.new.self.segs.items) (tiling c.absorb_next.new.extents.segs.items) c.args.a.0 (cut-of c.args.extents.now.segs.items c.args.extents.now.index.items c.args.a.0 k c.requires.busy.named) c.mark_free.ensures.tiling c.absorb_next.ensures.tiling c.in-Some.first.0 f.0 (cut-of c.args.extents.now.segs.items c.args.extents.now.index.items c.in-Some.first.0 k c.in-Some.ensures.named) f.1 c.requires.busy.named f.2); free = not-busy c.is_busy.result (extent_of (tiling c.absorb_next.new.extents.segs.items) c.in-Some.first.0).size c.is_busy.ensures.1 c.if-not-is_busy.true }) }
+
+pub returns-then-not-is_busy-clause-layout : goal.returns-then-not-is_busy-clause-layout
+returns-then-not-is_busy-clause-layout c =
+    let f = some-address (place_of c.args.a.0).0 c.in-Some.first.0 (previous_of (tiling c.args.extents.now.segs.items) c.args.a.0) c.in-Some.ensures.value in
+    layout-absorbed c.absorb_next.new.extents.segs.items c.absorb_next-then-not-is_busy.new.extents.segs.items c.absorb_next.new.extents.index.items c.absorb_next-then-not-is_busy.new.extents.index.items c.in-Some.first.0 c.absorb_next.new.extents.kept c.absorb_next-then-not-is_busy.new.extents.kept (record { named = ∥∥₁_elim c.args.extents.now.kept (hlevel (le_prop)) (λ k. named-later (tiling c.args.extents.now.segs.items) (tiling c.mark_free.new.self.segs.items) (tiling c.absorb_next.new.extents.segs.items) c.args.a.0 (cut-of c.args.extents.now.segs.items c.args.extents.now.index.items c.args.a.0 k c.requires.busy.named) c.mark_free.ensures.tiling c.absorb_next.ensures.tiling c.in-Some.first.0 f.0 (cut-of c.args.extents.now.segs.items c.args.extents.now.index.items c.in-Some.first.0 k c.in-Some.ensures.named) f.1 c.requires.busy.named f.2); free = not-busy c.is_busy.result (extent_of (tiling c.absorb_next.new.extents.segs.items) c.in-Some.first.0).size c.is_busy.ensures.1 c.if-not-is_busy.true }) c.absorb_next-then-not-is_busy.ensures.tiling c.absorb_next-then-not-is_busy.ensures.pairs
+    ∙ (layout-absorbed c.mark_free.new.self.segs.items c.absorb_next.new.extents.segs.items c.mark_free.new.self.index.items c.absorb_next.new.extents.index.items c.args.a.0 c.mark_free.new.self.kept c.absorb_next.new.extents.kept (∥∥₁_elim c.args.extents.now.kept (hlevel (le_prop, ℕ_set)) (λ k. is-freed (tiling c.args.extents.now.segs.items) (tiling c.mark_free.new.self.segs.items) (tiling c.args.extents.now.segs.items) c.args.a.0 (cut-of c.args.extents.now.segs.items c.args.extents.now.index.items c.args.a.0 k c.requires.busy.named) c.mark_free.ensures.tiling c.requires.busy.named)) c.absorb_next.ensures.tiling c.absorb_next.ensures.pairs ∙ layout-marked c.args.extents.now.segs.items c.mark_free.new.self.segs.items c.args.extents.now.index.items c.mark_free.new.self.index.items c.args.a.0 c.args.extents.now.kept c.mark_free.new.self.kept c.requires.busy c.mark_free.ensures.tiling c.mark_free.ensures.pairs)
+
+pub returns-then-not-is_busy-clause-merged : goal.returns-then-not-is_busy-clause-merged
+returns-then-not-is_busy-clause-merged c =
+    let f = some-address (place_of c.args.a.0).0 c.in-Some.first.0 (previous_of (tiling c.args.extents.now.segs.items) c.args.a.0) c.in-Some.ensures.value in
+    ∥∥₁_elim c.args.extents.now.kept (merged-prop (tiling c.absorb_next-then-not-is_busy.new.extents.segs.items))
+    (λ k. merged-free (tiling c.args.extents.now.segs.items) (tiling c.mark_free.new.self.segs.items) (tiling c.absorb_next.new.extents.segs.items) c.args.a.0 (cut-of c.args.extents.now.segs.items c.args.extents.now.index.items c.args.a.0 k c.requires.busy.named) c.mark_free.ensures.tiling c.absorb_next.ensures.tiling c.in-Some.first.0 f.0 (cut-of c.args.extents.now.segs.items c.args.extents.now.index.items c.in-Some.first.0 k c.in-Some.ensures.named) f.1 c.requires.busy.named f.2 (tiling c.absorb_next-then-not-is_busy.new.extents.segs.items) c.requires.merged (not-busy c.is_busy.result (extent_of (tiling c.absorb_next.new.extents.segs.items) c.in-Some.first.0).size c.is_busy.ensures.1 c.if-not-is_busy.true) c.absorb_next-then-not-is_busy.ensures.tiling)
+
+pub returns-else-not-is_busy-clause-layout : goal.returns-else-not-is_busy-clause-layout
+returns-else-not-is_busy-clause-layout c =
+    (layout-absorbed c.mark_free.new.self.segs.items c.absorb_next.new.extents.segs.items c.mark_free.new.self.index.items c.absorb_next.new.extents.index.items c.args.a.0 c.mark_free.new.self.kept c.absorb_next.new.extents.kept (∥∥₁_elim c.args.extents.now.kept (hlevel (le_prop, ℕ_set)) (λ k. is-freed (tiling c.args.extents.now.segs.items) (tiling c.mark_free.new.self.segs.items) (tiling c.args.extents.now.segs.items) c.args.a.0 (cut-of c.args.extents.now.segs.items c.args.extents.now.index.items c.args.a.0 k c.requires.busy.named) c.mark_free.ensures.tiling c.requires.busy.named)) c.absorb_next.ensures.tiling c.absorb_next.ensures.pairs ∙ layout-marked c.args.extents.now.segs.items c.mark_free.new.self.segs.items c.args.extents.now.index.items c.mark_free.new.self.index.items c.args.a.0 c.args.extents.now.kept c.mark_free.new.self.kept c.requires.busy c.mark_free.ensures.tiling c.mark_free.ensures.pairs)
+
+pub returns-else-not-is_busy-clause-merged : goal.returns-else-not-is_busy-clause-merged
+returns-else-not-is_busy-clause-merged c =
+    let f = some-address (place_of c.args.a.0).0 c.in-Some.first.0 (previous_of (tiling c.args.extents.now.segs.items) c.args.a.0) c.in-Some.ensures.value in
+    ∥∥₁_elim c.args.extents.now.kept (merged-prop (tiling c.absorb_next.new.extents.segs.items))
+    (λ k. merged-busy (tiling c.args.extents.now.segs.items) (tiling c.mark_free.new.self.segs.items) (tiling c.absorb_next.new.extents.segs.items) c.args.a.0 (cut-of c.args.extents.now.segs.items c.args.extents.now.index.items c.args.a.0 k c.requires.busy.named) c.mark_free.ensures.tiling c.absorb_next.ensures.tiling c.in-Some.first.0 f.0 (cut-of c.args.extents.now.segs.items c.args.extents.now.index.items c.in-Some.first.0 k c.in-Some.ensures.named) f.1 c.requires.busy.named f.2 c.requires.merged (c.is_busy.ensures.0 c.if-not-is_busy.false))
+
+pub returns-in_default-clause-layout : goal.returns-in_default-clause-layout
+returns-in_default-clause-layout c =
+    (layout-absorbed c.mark_free.new.self.segs.items c.absorb_next.new.extents.segs.items c.mark_free.new.self.index.items c.absorb_next.new.extents.index.items c.args.a.0 c.mark_free.new.self.kept c.absorb_next.new.extents.kept (∥∥₁_elim c.args.extents.now.kept (hlevel (le_prop, ℕ_set)) (λ k. is-freed (tiling c.args.extents.now.segs.items) (tiling c.mark_free.new.self.segs.items) (tiling c.args.extents.now.segs.items) c.args.a.0 (cut-of c.args.extents.now.segs.items c.args.extents.now.index.items c.args.a.0 k c.requires.busy.named) c.mark_free.ensures.tiling c.requires.busy.named)) c.absorb_next.ensures.tiling c.absorb_next.ensures.pairs ∙ layout-marked c.args.extents.now.segs.items c.mark_free.new.self.segs.items c.args.extents.now.index.items c.mark_free.new.self.index.items c.args.a.0 c.args.extents.now.kept c.mark_free.new.self.kept c.requires.busy c.mark_free.ensures.tiling c.mark_free.ensures.pairs)
+
+pub returns-in_default-clause-merged : goal.returns-in_default-clause-merged
+returns-in_default-clause-merged c =
+    ∥∥₁_elim c.args.extents.now.kept (merged-prop (tiling c.absorb_next.new.extents.segs.items))
+    (λ k. merged-first (tiling c.args.extents.now.segs.items) (tiling c.mark_free.new.self.segs.items) (tiling c.absorb_next.new.extents.segs.items) c.args.a.0 (cut-of c.args.extents.now.segs.items c.args.extents.now.index.items c.args.a.0 k c.requires.busy.named) c.mark_free.ensures.tiling c.absorb_next.ensures.tiling c.requires.busy c.requires.merged (no-address (place_of c.args.a.0).0 (previous_of (tiling c.args.extents.now.segs.items) c.args.a.0) c.in_default.ensures.value))

@@ -1,0 +1,52 @@
+use Rattle.std.proofs.Common.{◌≡◌, ◌<◌, ◌∙◌, arith}
+use Rattle.std.proofs.Math.Nat.{ℕ_set}
+use Rattle.std.proofs.Math.Bridge.{le_prop}
+use Rattle.std.proofs.Math.Logic.{∥∥₁_elim}
+use Rattle.vc_model.specs.Segments.{span}
+use Rattle.vc_extent.specs.Tiling.{extent_of, tiling}
+use Rattle.vc_best.proofs.Borders.{border-same, border-shrunk, border-stretched, rest-free, shrunk-kept, shrunk-len}
+use Rattle.vc_best.proofs.Known.{cut-of}
+use Rattle.vc_best.proofs.Sets.{bytes-set, tiling-set}
+use Rattle.vc_best.proofs.stay.move_border.Goals as goal
+
+pub absorb_next-requires : goal.absorb_next-requires
+absorb_next-requires g c =
+    let own = c.span_at-own.ensures.value in
+    let wanted = c.span_of-wanted.ensures in
+    let less : span c.args.size < (extent_of (tiling c.args.extents.now.segs.items) c.args.a.0).span = omega arith in
+    record { free = ∥∥₁_elim c.args.extents.now.kept (hlevel (le_prop, ℕ_set)) (λ k. rest-free (tiling c.args.extents.now.segs.items) c.args.a.0 c.args.size (cut-of c.args.extents.now.segs.items c.args.extents.now.index.items c.args.a.0 k c.requires.busy.named) (tiling c.shrink-rest.new.self.segs.items) c.shrink-rest.result.0 c.requires.busy c.requires.some less c.shrink-rest.ensures.tiling c.shrink-rest.ensures.rest) }
+
+pub returns-then-wanted-own-clause-tiling : goal.returns-then-wanted-own-clause-tiling
+returns-then-wanted-own-clause-tiling g c =
+    let own = c.span_at-own.ensures.value in
+    let wanted = c.span_of-wanted.ensures in
+    let same : span c.args.size ≡ (extent_of (tiling c.args.extents.now.segs.items) c.args.a.0).span = omega arith in
+    c.set_size.ensures.tiling ∙ ∥∥₁_elim c.args.extents.now.kept (hlevel (tiling-set)) (λ k. border-same (tiling c.args.extents.now.segs.items) c.args.a.0 c.args.size (cut-of c.args.extents.now.segs.items c.args.extents.now.index.items c.args.a.0 k c.requires.busy.named) (extent_of (tiling c.set_size.new.self.segs.items) c.args.a.0).body same)
+
+pub returns-then-wanted-own-2-clause-tiling : goal.returns-then-wanted-own-2-clause-tiling
+returns-then-wanted-own-2-clause-tiling g c =
+    let own = c.span_at-own.ensures.value in
+    let wanted = c.span_of-wanted.ensures in
+    let less : span c.args.size < (extent_of (tiling c.args.extents.now.segs.items) c.args.a.0).span = omega arith in
+    ∥∥₁_elim c.args.extents.now.kept (hlevel (tiling-set)) (λ k. border-shrunk (tiling c.args.extents.now.segs.items) c.args.a.0 c.args.size (cut-of c.args.extents.now.segs.items c.args.extents.now.index.items c.args.a.0 k c.requires.busy.named) (tiling c.shrink-rest.new.self.segs.items) c.shrink-rest.result.0 c.requires.busy c.requires.some less c.shrink-rest.ensures.tiling c.shrink-rest.ensures.rest (tiling c.absorb_next.new.extents.segs.items) c.absorb_next.ensures.tiling)
+
+pub returns-then-wanted-own-2-clause-len : goal.returns-then-wanted-own-2-clause-len
+returns-then-wanted-own-2-clause-len g c =
+    let own = c.span_at-own.ensures.value in
+    let wanted = c.span_of-wanted.ensures in
+    let less : span c.args.size < (extent_of (tiling c.args.extents.now.segs.items) c.args.a.0).span = omega arith in
+    ∥∥₁_elim c.args.extents.now.kept (hlevel (ℕ_set)) (λ k. shrunk-len (tiling c.args.extents.now.segs.items) c.args.a.0 c.args.size (cut-of c.args.extents.now.segs.items c.args.extents.now.index.items c.args.a.0 k c.requires.busy.named) (tiling c.shrink-rest.new.self.segs.items) c.shrink-rest.result.0 c.requires.busy c.requires.some less c.shrink-rest.ensures.tiling c.shrink-rest.ensures.rest (tiling c.absorb_next.new.extents.segs.items) c.absorb_next.ensures.tiling)
+
+pub returns-then-wanted-own-2-clause-kept : goal.returns-then-wanted-own-2-clause-kept
+returns-then-wanted-own-2-clause-kept g c =
+    let own = c.span_at-own.ensures.value in
+    let wanted = c.span_of-wanted.ensures in
+    let less : span c.args.size < (extent_of (tiling c.args.extents.now.segs.items) c.args.a.0).span = omega arith in
+    λ n small smaller. ∥∥₁_elim c.args.extents.now.kept (hlevel (bytes-set)) (λ k. shrunk-kept (tiling c.args.extents.now.segs.items) c.args.a.0 c.args.size (cut-of c.args.extents.now.segs.items c.args.extents.now.index.items c.args.a.0 k c.requires.busy.named) (tiling c.shrink-rest.new.self.segs.items) c.shrink-rest.result.0 c.requires.busy c.requires.some less c.shrink-rest.ensures.tiling c.shrink-rest.ensures.rest (tiling c.absorb_next.new.extents.segs.items) c.absorb_next.ensures.tiling n small)
+
+pub returns-else-wanted-own-2-clause-tiling : goal.returns-else-wanted-own-2-clause-tiling
+returns-else-wanted-own-2-clause-tiling g c =
+    let own = c.span_at-own.ensures.value in
+    let wanted = c.span_of-wanted.ensures in
+    let more : (extent_of (tiling c.args.extents.now.segs.items) c.args.a.0).span < span c.args.size = omega arith in
+    c.stretch.ensures.tiling ∙ ∥∥₁_elim c.args.extents.now.kept (hlevel (tiling-set)) (λ k. border-stretched (tiling c.args.extents.now.segs.items) c.args.a.0 c.args.size (cut-of c.args.extents.now.segs.items c.args.extents.now.index.items c.args.a.0 k c.requires.busy.named) (extent_of (tiling c.stretch.new.self.segs.items) c.args.a.0).body more c.requires.room)

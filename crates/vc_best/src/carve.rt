@@ -1,0 +1,83 @@
+ghost use Rattle.std.specs.Prelude.{◌≡◌, ◌+◌, ◌<◌, ◌≤◌, ◌%◌, map};
+ghost use Rattle.vc_model.specs.Addr.{address, place_of};
+ghost use Rattle.vc_model.specs.Segments.{span};
+ghost use Rattle.vc_seg.specs.Segment.{pair_of};
+ghost use Rattle.vc_extent.specs.Tiling.{IsFree, change_extent, extent_of, tiling};
+ghost use Rattle.vc_best.specs.Changes.{carve, cut_back, cut_front, lay_zeros};
+
+use vc_base::{Addr, Steps};
+use vc_extent::Extents;
+use vc_seg::span_of;
+
+/// Splits what lies before an offset from a free extent, where anything does, and answers the address of the rest.
+fn cut_front(extents: &mut Extents, a: Addr, off: u32) -> Addr
+    requires free { IsFree (tiling extents.old.segs.items) a.0 }
+    requires first { (place_of a.0).1 ≤ off }
+    requires multiple { off % 32 ≡ 0 }
+    requires within { off < (place_of a.0).1 + (extent_of (tiling extents.old.segs.items) a.0).span }
+    ensures tiling { tiling extents.new.segs.items
+        ≡ change_extent a.0 (cut_front off) (tiling extents.old.segs.items) }
+    ensures pairs { map pair_of extents.new.segs.items ≡ map pair_of extents.old.segs.items }
+    ensures value { result.0 ≡ address ((place_of a.0).0, off) }
+{
+    if a.off() < off {
+        extents.split(a, off - a.off())
+    } else {
+        a
+    }
+}
+
+/// Splits what is behind its first bytes from a free extent, where anything is.
+fn cut_back<L>(extents: &mut Extents, a: Addr, bytes: u32, steps: &mut Steps<L>)
+    requires free { IsFree (tiling extents.old.segs.items) a.0 }
+    requires least { 32 ≤ bytes }
+    requires multiple { bytes % 32 ≡ 0 }
+    ensures tiling { tiling extents.new.segs.items
+        ≡ change_extent a.0 (cut_back bytes) (tiling extents.old.segs.items) }
+    ensures pairs { map pair_of extents.new.segs.items ≡ map pair_of extents.old.segs.items }
+{
+    if bytes < extents.span_at(a, steps) {
+        extents.split(a, bytes);
+    }
+}
+
+/// Makes a free extent a block of zeros of a size whose span it has.
+fn lay_zeros(extents: &mut Extents, a: Addr, size: u32, tag: u32)
+    requires free { IsFree (tiling extents.old.segs.items) a.0 }
+    requires some { 1 ≤ size }
+    requires span { span size ≡ (extent_of (tiling extents.old.segs.items) a.0).span }
+    ensures tiling { tiling extents.new.segs.items
+        ≡ change_extent a.0 (lay_zeros size tag) (tiling extents.old.segs.items) }
+    ensures pairs { map pair_of extents.new.segs.items ≡ map pair_of extents.old.segs.items }
+{
+    extents.mark_busy(a, size, tag);
+    extents.fill(a, 0, size, 0);
+}
+
+/// Puts a block of zeros into a free extent, at an offset of its segment, and leaves what is before and behind it free. It
+/// answers the block's address.
+pub(crate) fn put_zeros<L>(
+    extents: &mut Extents,
+    a: Addr,
+    off: u32,
+    size: u32,
+    tag: u32,
+    steps: &mut Steps<L>,
+) -> Addr
+    requires free { IsFree (tiling extents.old.segs.items) a.0 }
+    requires some { 1 ≤ size }
+    requires most { size ≤ 16777264 }
+    requires first { (place_of a.0).1 ≤ off }
+    requires multiple { off % 32 ≡ 0 }
+    requires fits { off + span size
+        ≤ (place_of a.0).1 + (extent_of (tiling extents.old.segs.items) a.0).span }
+    ensures tiling { tiling extents.new.segs.items
+        ≡ change_extent a.0 (carve off size tag) (tiling extents.old.segs.items) }
+    ensures pairs { map pair_of extents.new.segs.items ≡ map pair_of extents.old.segs.items }
+    ensures value { result.0 ≡ address ((place_of a.0).0, off) }
+{
+    let to = cut_front(extents, a, off);
+    cut_back(extents, to, span_of(size), steps);
+    lay_zeros(extents, to, size, tag);
+    to
+}

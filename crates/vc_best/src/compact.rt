@@ -1,0 +1,99 @@
+ghost use Rattle.std.specs.Prelude.{◌≡◌, ℕ, ◌+◌, ◌↔◌, [], IsTrue, filter, length, map};
+ghost use Rattle.vc_model.specs.Compact.{cleared, compact_count, compacted, is_occupied};
+ghost use Rattle.vc_model.specs.Discipline.{HasOut, TookBack};
+ghost use Rattle.vc_seg.specs.Segment.{pair_of};
+ghost use Rattle.vc_extent.specs.Change.{IsOneFree, one_free};
+ghost use Rattle.vc_extent.specs.Tiling.{IsThere, change_in, extents_of, tiling};
+ghost use Rattle.vc_best.specs.Blocks.{layout_by};
+ghost use Rattle.vc_best.specs.Free.{IsMerged};
+ghost use Rattle.vc_best.specs.Kept.{stays_but};
+
+use vc_extent::Extents;
+use vc_seg::{KeepsNone, SegDisc, give_back};
+
+/// Whether a segment is one free extent.
+fn is_one_free(extents: &Extents, seg: u32) -> bool
+    requires { IsThere seg extents.now.segs.items }
+    ensures { IsTrue result ↔ IsOneFree (extents_of seg (tiling extents.now.segs.items)) }
+{
+    let first = extents.first(seg);
+    !extents.is_busy(first) && extents.after(first).is_none()
+}
+
+/// The discipline takes back the segment of a number, where there is one and no block is in it. It answers how many those
+/// were, 0 or 1.
+fn give_back_one(extents: &mut Extents, disc: &mut Box<dyn SegDisc>, number: u32) -> u32
+    requires merged { IsMerged (tiling extents.old.segs.items) }
+    requires out { HasOut (state disc.old) (map pair_of extents.old.segs.items) }
+    ensures segments { map pair_of extents.new.segs.items
+        ≡ filter (stays_but (is_occupied (layout_by extents.old.segs.items).blocks) number)
+        (map pair_of extents.old.segs.items) }
+    ensures blocks { (layout_by extents.new.segs.items).blocks
+        ≡ (layout_by extents.old.segs.items).blocks }
+    ensures merged { IsMerged (tiling extents.new.segs.items) }
+    ensures count { result + length (map pair_of extents.new.segs.items)
+        ≡ length (map pair_of extents.old.segs.items) }
+    ensures disc { TookBack (state disc.old) (state disc.new)
+        (map pair_of extents.old.segs.items) (map pair_of extents.new.segs.items) }
+{
+    if extents.has(number).is_none() {
+        return 0;
+    }
+    if !is_one_free(extents, number) {
+        return 0;
+    }
+    let segment = extents.remove(number);
+    disc.take_back(segment);
+    1
+}
+
+/// The discipline takes back each segment without a block, in ascending order of number, and they are counted.
+pub(crate) fn compact(extents: &mut Extents, disc: &mut Box<dyn SegDisc>) -> u32
+    requires merged { IsMerged (tiling extents.old.segs.items) }
+    requires out { HasOut (state disc.old) (map pair_of extents.old.segs.items) }
+    ensures layout { layout_by extents.new.segs.items
+        ≡ compacted (layout_by extents.old.segs.items) }
+    ensures merged { IsMerged (tiling extents.new.segs.items) }
+    ensures count { result ≡ compact_count (layout_by extents.old.segs.items) }
+    ensures disc { TookBack (state disc.old) (state disc.new)
+        (map pair_of extents.old.segs.items) (map pair_of extents.new.segs.items) }
+{
+    let mut count = 0;
+    for number in 1..1024 {
+        count += give_back_one(extents, disc, number);
+    }
+    count
+}
+
+/// Makes the segment of a number, where there is one, one free extent, without reading what lies in it.
+fn clear_one(extents: &mut Extents, number: u32)
+    ensures tiling { tiling extents.new.segs.items
+        ≡ change_in number one_free (tiling extents.old.segs.items) }
+    ensures pairs { map pair_of extents.new.segs.items ≡ map pair_of extents.old.segs.items }
+{
+    if extents.has(number).is_some() {
+        extents.reset(number);
+    }
+}
+
+/// Makes each segment one free extent.
+pub(crate) fn clear(extents: &mut Extents)
+    ensures layout { layout_by extents.new.segs.items ≡ cleared (layout_by extents.old.segs.items) }
+    ensures merged { IsMerged (tiling extents.new.segs.items) }
+{
+    for number in 1..1024 {
+        clear_one(extents, number);
+    }
+}
+
+/// The discipline takes all segments back, in ascending order of number, and they are counted.
+pub(crate) fn close(extents: Extents, disc: &mut Box<dyn SegDisc>) -> u32
+    requires { HasOut (state disc.old) (map pair_of extents.segs.items) }
+    ensures count { result ≡ length (map pair_of extents.segs.items) }
+    ensures disc { TookBack (state disc.old) (state disc.new) (map pair_of extents.segs.items) [] }
+{
+    let Extents { mut segs, index: _ } = extents;
+    let count = segs.len() as u32;
+    give_back(&mut segs, &KeepsNone, disc);
+    count
+}

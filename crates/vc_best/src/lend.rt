@@ -1,0 +1,119 @@
+ghost use Rattle.std.specs.Prelude.{◌≡◌, ◌+◌, ◌-◌, ◌≢◌, ◌≤◌, ◌%◌, [], ◌∷◌, ◌++◌, All, false, IfOk, IfErr, None, OnErr, map};
+ghost use Rattle.vc_model.specs.Touch.{HasBlock};
+ghost use Rattle.vc_model.specs.Addr.{address, place_of};
+ghost use Rattle.vc_model.specs.Best.{best_alloc, best_need, place_in};
+ghost use Rattle.vc_model.specs.Discipline.{IsSegmentSize};
+ghost use Rattle.vc_model.specs.Place.{IsAlign};
+ghost use Rattle.vc_model.specs.Segments.{Granted, ask, span};
+ghost use Rattle.vc_seg.specs.Answer.{Answers, Asks};
+ghost use Rattle.vc_seg.specs.Segment.{pair_of};
+ghost use Rattle.vc_segments.specs.Lend.{IsAsked, IsNoGrant};
+ghost use Rattle.vc_blocks.specs.declared.order.Order.TheVariants.{ByAddress};
+ghost use Rattle.vc_blocks.specs.Put.{IsPutInNew};
+ghost use Rattle.vc_extent.specs.Extent.{free_extent, no_links};
+ghost use Rattle.vc_extent.specs.Tiling.{IsThere, tiling};
+ghost use Rattle.vc_best.specs.Blocks.{layout_by};
+ghost use Rattle.vc_best.specs.Free.{IsMerged};
+
+use crate::carve::put_zeros;
+use std::alloc::Global;
+use vc_base::{Addr, Steps};
+use vc_extent::Extents;
+use vc_seg::{RegionFault, SegDisc, round_of, rounded_up, span_of};
+use vc_segments::lend_segment;
+
+/// Asks for a segment of that many bytes under the least number that no segment has, and puts it behind the others as one
+/// free extent. It answers the number.
+fn lend_next(
+    extents: &mut Extents,
+    disc: &mut Box<dyn SegDisc>,
+    alloc: Global,
+    bytes: u32,
+) -> Result<u32, RegionFault>
+    requires bytes { IsSegmentSize bytes }
+    requires multiple { bytes % (state disc.old).terms.round ≡ 0 }
+
+    ensures granted { IfOk result (λ n. ask bytes (map pair_of extents.old.segs.items) false
+        ≡ Granted n bytes) }
+    ensures tiling { IfOk result (λ n. tiling extents.new.segs.items
+        ≡ tiling extents.old.segs.items ++ (n, free_extent 32 (bytes - 32) no_links ∷ []) ∷ []) }
+    ensures pairs { IfOk result (λ n. map pair_of extents.new.segs.items
+        ≡ map pair_of extents.old.segs.items ++ (n, bytes) ∷ []) }
+    ensures number { IfOk result (λ n. (1 ≤ n) × (n ≤ 1023)) }
+    ensures fresh { IfOk result (λ n. ¬ IsThere n extents.old.segs.items) }
+
+    ensures fault { IfErr result (IsNoGrant bytes (map pair_of extents.old.segs.items)) }
+    ensures same { OnErr result (extents.new ≡ extents.old) }
+    ensures disc { IsAsked result (state disc.old) (state disc.new) bytes }
+{
+    let Some(number) = extents.lowest_unused() else {
+        return Err(RegionFault::TooManySegments);
+    };
+    let segment = lend_segment(disc, alloc, number, bytes)?;
+    extents.add(segment);
+    Ok(number)
+}
+
+/// A block of zeros at an offset of a segment of that many bytes, which the discipline lends for it.
+fn put_in_lent<L>(
+    extents: &mut Extents,
+    disc: &mut Box<dyn SegDisc>,
+    alloc: Global,
+    bytes: u32,
+    off: u32,
+    size: u32,
+    tag: u32,
+    steps: &mut Steps<L>,
+) -> Result<Addr, RegionFault>
+    requires some { 1 ≤ size }
+    requires most { size ≤ 16777264 }
+    requires bytes { IsSegmentSize bytes }
+    requires multiple { bytes % (state disc.old).terms.round ≡ 0 }
+    requires first { 32 ≤ off }
+    requires offset { off % 32 ≡ 0 }
+    requires fits { off + span size ≤ bytes }
+    requires merged { IsMerged (tiling extents.old.segs.items) }
+    ensures ok { IfOk result (λ a. IsPutInNew ByAddress (layout_by extents.old.segs.items)
+        (layout_by extents.new.segs.items) tag size bytes off a.0) }
+    ensures fault { IfErr result (IsNoGrant bytes (layout_by extents.old.segs.items).segments) }
+    ensures err { OnErr result
+        (layout_by extents.new.segs.items ≡ layout_by extents.old.segs.items) }
+    ensures disc { Asks result (state disc.old) (state disc.new)
+        (layout_by extents.old.segs.items).segments (layout_by extents.new.segs.items).segments
+        bytes }
+    ensures merged { IsMerged (tiling extents.new.segs.items) }
+{
+    let number = lend_next(extents, disc, alloc, bytes)?;
+    Ok(put_zeros(extents, Addr::new(number, 32), off, size, tag, steps))
+}
+
+/// A block of zeros, which has no place, in a segment that the discipline lends for it.
+pub(crate) fn put_in_new<L>(
+    extents: &mut Extents,
+    disc: &mut Box<dyn SegDisc>,
+    alloc: Global,
+    size: u32,
+    align: u32,
+    tag: u32,
+    steps: &mut Steps<L>,
+) -> Result<Addr, RegionFault>
+    requires some { 1 ≤ size }
+    requires most { size ≤ 16777264 }
+    requires align { IsAlign align }
+    requires merged { IsMerged (tiling extents.old.segs.items) }
+    requires sizes { All (λ b. b.size ≤ 16777264) (layout_by extents.old.segs.items).blocks }
+    requires none { place_in (layout_by extents.old.segs.items) size align ≡ None }
+    ensures answer { Answers
+        (best_alloc (state disc.old).terms (layout_by extents.old.segs.items) tag size align)
+        result (layout_by extents.old.segs.items) (layout_by extents.new.segs.items) }
+    ensures disc { Asks result (state disc.old) (state disc.new)
+        (layout_by extents.old.segs.items).segments (layout_by extents.new.segs.items).segments
+        (best_need (state disc.old).terms size align) }
+    ensures fresh { IfOk result
+        (λ a. ¬ HasBlock (layout_by extents.old.segs.items).blocks a.0) }
+    ensures merged { IsMerged (tiling extents.new.segs.items) }
+    ensures sizes { All (λ b. b.size ≤ 16777264) (layout_by extents.new.segs.items).blocks }
+{
+    let bytes = rounded_up(span_of(size) + align, round_of(disc));
+    put_in_lent(extents, disc, alloc, bytes, align, size, tag, steps)
+}

@@ -1,0 +1,44 @@
+ghost use Rattle.std.specs.Prelude.{◌≡◌, map};
+ghost use Rattle.vc_model.specs.Addr.{place_of};
+ghost use Rattle.vc_model.specs.Best.{without_block_at};
+ghost use Rattle.vc_seg.specs.Segment.{pair_of};
+ghost use Rattle.vc_extent.specs.Tiling.{IsBusy, IsFree, change_extent, tiling};
+ghost use Rattle.vc_best.specs.Blocks.{layout_by};
+ghost use Rattle.vc_best.specs.Changes.{absorb};
+ghost use Rattle.vc_best.specs.Free.{IsMerged};
+
+use vc_base::Addr;
+use vc_extent::Extents;
+
+/// Makes a free extent and the one behind it one, where that is free.
+pub(crate) fn absorb_next(extents: &mut Extents, a: Addr)
+    requires free { IsFree (tiling extents.old.segs.items) a.0 }
+    ensures tiling { tiling extents.new.segs.items
+        ≡ change_extent a.0 absorb (tiling extents.old.segs.items) }
+    ensures pairs { map pair_of extents.new.segs.items ≡ map pair_of extents.old.segs.items }
+{
+    let Some(next) = extents.after(a) else {
+        return;
+    };
+    if !extents.is_busy(next) {
+        extents.join(a);
+    }
+}
+
+/// Frees the block at an address. Its extent becomes one with the free ones before and behind it.
+pub(crate) fn release(extents: &mut Extents, a: Addr)
+    requires busy { IsBusy (tiling extents.old.segs.items) a.0 }
+    requires merged { IsMerged (tiling extents.old.segs.items) }
+    ensures layout { layout_by extents.new.segs.items
+        ≡ without_block_at (layout_by extents.old.segs.items) (place_of a.0) }
+    ensures merged { IsMerged (tiling extents.new.segs.items) }
+{
+    let before = extents.before(a);
+    extents.mark_free(a);
+    absorb_next(extents, a);
+    if let Some(first) = before {
+        if !extents.is_busy(first) {
+            absorb_next(extents, first);
+        }
+    }
+}
