@@ -1,5 +1,5 @@
 -- What putting a block behind the others answers, and makes of them.
-use Rattle.std.proofs.Common.{◌≡◌, ℕ, ◌<◌, ◌≤◌, List, [], ◌∷◌, ◌++◌, true, false, Option, None, Some, IfSome, length, refl, ap, sym, ◌∙◌, subst, arith}
+use Rattle.std.proofs.Common.{◌≡◌, ℕ, ◌<◌, List, [], ◌∷◌, ◌++◌, true, false, Option, None, Some, length, refl, ap, sym, ◌∙◌, subst, arith}
 use Rattle.std.specs.Prelude.{IfOk, Ok, Err}
 use Rattle.std.specs.declared.result.Result.{Result}
 use Rattle.std.proofs.lemmas.List.{length-map, length_push, get_or-map, get_or_append_left}
@@ -60,9 +60,6 @@ module _ (r : Layout ℕ) (tag size to : ℕ) (mid : Layout ℕ) (n : IsNew r ta
       let within : length r.blocks < length all = omega (arith, length_push r.blocks z) in
       subst (λ (bs : List (Block ℕ)). HasBlock bs to) (sym n.blocks)
       (length r.blocks, omega (arith, within, length-map all address_of), get_or-map address_of all (length r.blocks) z to within ∙ (ap address_of (get_or-last r.blocks z z) ∙ sym n.at))
-
-  pub new-room : IfSome (find_block (place_of to) mid.blocks) (λ b. size ≤ b.size)
-  new-room = subst (λ (o : Option (Block ℕ)). IfSome o (λ b. size ≤ b.size)) (sym new-found) (omega arith)
 
   pub old-among : (a : ℕ) → HasBlock r.blocks a → HasBlock mid.blocks a
   old-among a live =

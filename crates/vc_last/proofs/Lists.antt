@@ -21,6 +21,19 @@ AllPairs-last {A = A} R [] x h = All-nil (λ (y : A). R y x)
 AllPairs-last {A = A} R (y ∷ ys) x h =
     All-cons (λ (z : A). R z x) y ys (All-last (R y) ys x (AllPairs-head R y (ys ++ x ∷ []) h)) (AllPairs-last R ys x (AllPairs-tail R y (ys ++ x ∷ []) h))
 
+pub AllPairs-front : {A : Type 0} (R : A → A → Type 0) (xs : List A) (x : A) → AllPairs R (xs ++ x ∷ []) → AllPairs R xs
+AllPairs-front R xs x h =
+    λ i j d lt within.
+    let all = length_push xs x in
+    let one = get_or_append_left xs (x ∷ []) d i (omega (arith, lt, within)) in
+    let two = get_or_append_left xs (x ∷ []) d j within in
+    subst (λ y. R y (get_or xs j d)) one (subst (R (get_or (xs ++ x ∷ []) i d)) two (h i j d lt (omega (arith, within, all))))
+
+-- a list with an item is a last one behind the others
+pub snoc : {A : Type 0} (y : A) (ys : List A) → (front : List A) × (x : A) × (y ∷ ys ≡ front ++ x ∷ [])
+snoc y [] = ([], y, refl)
+snoc y (z ∷ zs) = let rest = snoc z zs in (y ∷ rest.0, rest.1, ap (λ ws. y ∷ ws) rest.2)
+
 last_or-split : {A : Type 0} (y : A) (ys : List A) (x : A) → last_or (Some y) ys ≡ Some x → (front : List A) × (y ∷ ys ≡ front ++ x ∷ [])
 last_or-split y [] x e = ([], ap (λ z. z ∷ []) (same_Some y x e))
 last_or-split y (z ∷ zs) x e = let rest = last_or-split z zs x e in (y ∷ rest.0, ap (λ ws. y ∷ ws) rest.1)
@@ -54,3 +67,10 @@ remove-last (y ∷ ys) x = ap (λ zs. y ∷ zs) (remove-last ys x)
 pub get_or-last : {A : Type 0} (xs : List A) (x d : A) → get_or (xs ++ x ∷ []) (length xs) d ≡ x
 get_or-last [] x d = refl
 get_or-last (y ∷ ys) x d = get_or-last ys x d
+
+last_or-push : {A : Type 0} (o : Option A) (xs : List A) (x : A) → last_or o (xs ++ x ∷ []) ≡ Some x
+last_or-push o [] x = refl
+last_or-push o (y ∷ ys) x = last_or-push (Some y) ys x
+
+pub last_of-push : {A : Type 0} (xs : List A) (x : A) → last_of (xs ++ x ∷ []) ≡ Some x
+last_of-push xs x = last_or-push None xs x

@@ -1,31 +1,25 @@
 -- What resizing the latest block answers, and makes of the others.
-use Rattle.std.proofs.Common.{◌≡◌, ℕ, suc, ◌+◌, List, [], ◌∷◌, ◌++◌, Bool, true, false, Option, Some, All, IfSome, get_or, take, refl, ap, sym, ◌∙◌, subst, inl, inr, ⊎_elim, ◌⊎◌, eqb, leb, arith}
+use Rattle.std.proofs.Common.{◌≡◌, ℕ, suc, ◌+◌, List, [], ◌∷◌, ◌++◌, Bool, true, false, Option, Some, IfSome, take, refl, ap, sym, ◌∙◌, subst, ⊎_elim, eqb, leb, arith}
 use Rattle.std.specs.Prelude.{◌&&◌, ◌==◌, option_map}
-use Rattle.std.proofs.lemmas.Bool.{and_parts, cases_Bool, eqb-true, eqb-false, leb-true, or_cases}
+use Rattle.std.proofs.lemmas.Bool.{and_parts, cases_Bool, eqb-true, leb-true, or_cases}
 use Rattle.std.proofs.lemmas.Option.{same_Some}
-use Rattle.std.proofs.lemmas.List.Elements.{All-push}
 use Rattle.vc_model.specs.Addr.{place_of}
 use Rattle.vc_model.specs.Best.{without_block_at, zeros}
 use Rattle.vc_model.specs.Discipline.{Terms}
 use Rattle.vc_model.specs.Gap.{Run}
 use Rattle.vc_model.specs.Last.{can_end, last_alloc, last_resize, latest, resize_latest}
-use Rattle.vc_model.specs.Layout.{Block, Layout, address_of, footprint, is_at, without_block}
+use Rattle.vc_model.specs.Layout.{Block, Layout, is_at, without_block}
 use Rattle.vc_model.specs.Outcome.{Done, Outcome, Put, Refused}
-use Rattle.vc_model.specs.Resize.{is_usable, moved, resize_there, sized}
-use Rattle.vc_model.specs.Sound.{IsApart, IsUsable}
+use Rattle.vc_model.specs.Resize.{is_usable, moved, sized}
+use Rattle.vc_model.specs.Sound.{IsUsable}
 use Rattle.vc_model.specs.Touch.{HasBlock, change_block, find_block, rewritten, with_bytes_at}
 use Rattle.vc_seg.specs.Answer.{IsPut}
-use Rattle.vc_blocks.specs.Put.{FitsAt, IsFreeBut, body, body_at}
-use Rattle.vc_blocks.proofs.Apart.{apart_by_seg}
-use Rattle.vc_last.specs.Row.{IsRow}
 use Rattle.vc_last.proofs.Allocs.{IsNew, new-elsewhere}
 use Rattle.vc_last.proofs.Latest.{AreElsewhere, IsLatestAt, at-own, at-place, call-latest, change-last, find-before, find-last, without-last, without-latest}
-use Rattle.vc_last.proofs.Lists.{All-front, All-last}
-use Rattle.vc_last.proofs.Places.{span-least}
-use Rattle.vc_last.proofs.Rows.{IsRow-push, IsRow-without, row}
+use Rattle.vc_last.proofs.Lists.{All-front}
 
 -- a run that is usable by the test is so
-usable-any : (f : Run) (segments : List (ℕ × ℕ)) → is_usable segments f ≡ true → IsUsable segments f
+pub usable-any : (f : Run) (segments : List (ℕ × ℕ)) → is_usable segments f ≡ true → IsUsable segments f
 usable-any f [] e = absurd (cc)
 usable-any f (s ∷ ss) e =
     ⊎_elim
@@ -72,48 +66,6 @@ module _ (r : Layout ℕ) (at : ℕ × ℕ) (l : IsLatestAt r at) where
 
   pub there-latest : (size : ℕ) (can : Bool) → option_map (can_end r size) (latest r) ≡ Some can → IfSome (find_block at r.blocks) (λ b. (latest r ≡ Some b) × (can_end r size b ≡ can))
   there-latest size can e = subst (λ (o : Option (Block ℕ)). IfSome o (λ b. (latest r ≡ Some b) × (can_end r size b ≡ can))) (sym found-latest) (l.is, can_end-latest size can e)
-
-  -- where it can end where it is
-  module _ (size : ℕ) (h : IsRow r) (can : can_end r size l.block ≡ true) where
-    usable : IsUsable r.segments (footprint (sized size l.block))
-    usable = usable-any (footprint (sized size l.block)) r.segments can
-
-    pub sized-fits : FitsAt r size at
-    sized-fits =
-        let u = usable in
-        let first = u.4.1 in
-        let end = u.4.2 in
-        let place : FitsAt r size (l.block.seg, l.block.off) = (u.0, u.1, u.2, u.3, (u.4.0, omega (arith, first), omega (arith, first, end, span-least size))) in
-        subst (FitsAt r size) (at-place at l.block l.here) place
-
-    beside : All (λ c. (is_at at c ≡ true) ⊎ IsApart (body_at size at) (body c)) l.front
-    beside =
-        λ k d lt.
-        let c : Block ℕ = get_or l.front k d in
-        let place : ℕ × ℕ = (l.block.seg, l.block.off) in
-        let apart : IsApart (body_at size place) (body c) =
-        ⊎_elim
-        (λ (t : eqb c.seg l.block.seg ≡ true).
-        let same : c.seg ≡ l.block.seg = eqb-true c.seg l.block.seg t in
-        let before = l.behind k d lt same in
-        let first = usable.4.1 in
-        inr (inr (same, omega (arith, before, first, span-least c.size))))
-        (λ (t : eqb c.seg l.block.seg ≡ false). apart_by_seg (body_at size place) (body c) (λ q. eqb-false c.seg l.block.seg t (sym q)))
-        (cases_Bool (eqb c.seg l.block.seg)) in
-        inr (subst (λ (p : ℕ × ℕ). IsApart (body_at size p) (body c)) (at-place at l.block l.here) apart)
-
-    pub sized-free : IsFreeBut r.blocks size at
-    sized-free =
-        let P : Block ℕ → Type 0 = λ c. (is_at at c ≡ true) ⊎ IsApart (body_at size at) (body c) in
-        subst (All P) (sym l.split) (All-push P l.front l.block beside (inl l.here))
-
-    pub IsRow-sized : IsRow (resize_there r at size)
-    IsRow-sized =
-        let all : IsRow (row r.segments (l.front ++ l.block ∷ [])) = subst (λ (bs : List (Block ℕ)). IsRow (row r.segments bs)) l.split h in
-        let front : IsRow (row r.segments l.front) = subst (λ (bs : List (Block ℕ)). IsRow (row r.segments bs)) (without-latest at l.block l.here l.front l.elsewhere) (IsRow-without (row r.segments (l.front ++ l.block ∷ [])) at all) in
-        let exact = all.exact in
-        subst (λ (bs : List (Block ℕ)). IsRow (row r.segments bs)) (sym (ap (change_block (sized size) at) l.split ∙ change-last at l.block l.here (sized size) l.front l.elsewhere))
-        (IsRow-push r.segments l.front (sized size l.block) front l.behind usable (All-last (λ (b : Block ℕ). place_of (address_of b) ≡ (b.seg, b.off)) l.front l.block exact))
 
 -- it moves to where a block was put
 module _ (r mid new : Layout ℕ) (a to tag size : ℕ) (l : IsLatestAt r (place_of a)) (n : IsNew r tag size to mid) (fresh : ¬ HasBlock r.blocks to) where

@@ -1,19 +1,15 @@
 -- What each change leaves of blocks one behind another.
-use Rattle.std.proofs.Common.{◌≡◌, ◌≢◌, ℕ, zero, suc, ◌+◌, ◌<◌, ◌≤◌, List, [], ◌∷◌, ◌++◌, Bool, true, false, All, AllPairs, Any, filter, length, get_or, refl, ap, sym, ◌∙◌, subst, inl, inr, ⊎_elim, eqb, arith}
-use Rattle.std.proofs.lemmas.Bool.{cases_Bool, eq-eqb, eqb-true, eqb-false}
-use Rattle.std.proofs.lemmas.List.{length_push, get_or_append_left}
-use Rattle.std.proofs.lemmas.List.Elements.{All-head, All-tail, All-nil, All-cons, All-filter, All-push}
-use Rattle.std.proofs.lemmas.List.Folds.{list_any_at}
-use Rattle.std.proofs.lemmas.List.Kept.{AllPairs-cons, AllPairs-filter}
+use Rattle.std.proofs.Common.{◌≡◌, ℕ, ◌≤◌, List, [], ◌∷◌, ◌++◌, true, false, All, AllPairs, get_or, inl, inr, ⊎_elim, eqb}
+use Rattle.std.proofs.lemmas.Bool.{cases_Bool, eqb-true, eqb-false}
+use Rattle.std.proofs.lemmas.List.Elements.{All-head, All-tail, All-cons, All-push}
+use Rattle.std.proofs.lemmas.List.Kept.{AllPairs-cons}
 use Rattle.std.proofs.lemmas.List.Quantifiers.{all_pairs_push}
 use Rattle.vc_model.specs.Addr.{place_of}
 use Rattle.vc_model.specs.Best.{without_block_at}
-use Rattle.vc_model.specs.Compact.{cleared, compacted, is_occupied}
-use Rattle.vc_model.specs.Gap.{Run}
-use Rattle.vc_model.specs.Layout.{Block, Layout, address_of, footprint, is_at, with_segment, without_block}
-use Rattle.vc_model.specs.Sound.{HasWholeBlocks, HaveOwnNumbers, IsApart, IsSound, IsUsable}
+use Rattle.vc_model.specs.Layout.{Block, Layout, address_of, footprint, is_at, without_block}
+use Rattle.vc_model.specs.Sound.{IsApart, IsSound, IsUsable}
 use Rattle.vc_model.specs.Touch.{change_block, rewritten, with_bytes_at}
-use Rattle.vc_blocks.proofs.Apart.{AllPairs-head, AllPairs-nil, AllPairs-tail, apart_by_seg}
+use Rattle.vc_blocks.proofs.Apart.{AllPairs-head, AllPairs-tail, apart_by_seg}
 use Rattle.vc_last.specs.Row.{EndsFirst, IsRow}
 
 apart-ordered : (a b : Block ℕ) → EndsFirst a b → IsApart (footprint a) (footprint b)
@@ -23,14 +19,14 @@ apart-ordered a b h =
     (λ (t : eqb a.seg b.seg ≡ false). apart_by_seg (footprint a) (footprint b) (eqb-false a.seg b.seg t))
     (cases_Bool (eqb a.seg b.seg))
 
-pub IsSound-row : (r : Layout ℕ) → IsRow r → HasWholeBlocks r → IsSound r
-IsSound-row r h whole =
+pub IsSound-row : (r : Layout ℕ) → IsRow r → All (λ s. s.1 ≤ 33554432) r.segments → IsSound r
+IsSound-row r h short =
     record {
       apart = λ i j d lt within. apart-ordered (get_or r.blocks i d) (get_or r.blocks j d) (h.ordered i j d lt within);
       usable = h.usable;
       exact = h.exact;
       numbered = h.numbered;
-      short = whole.short;
+      short = short;
     }
 
 -- a layout of these
@@ -55,56 +51,6 @@ module _ (segments : List (ℕ × ℕ)) where
         numbered = h.numbered;
       }
 
-usable-push : (segments : List (ℕ × ℕ)) (s : ℕ × ℕ) (f : Run) → IsUsable segments f → IsUsable (segments ++ s ∷ []) f
-usable-push segments s f u =
-    let within = u.2 in
-    (u.0, u.1, omega (arith, within, length_push segments s), get_or_append_left segments (s ∷ []) u.1 u.0 within ∙ u.3, u.4)
-
-pub IsRow-segment : (r : Layout ℕ) (s : ℕ × ℕ) → IsRow r → HaveOwnNumbers (r.segments ++ s ∷ []) → IsRow (with_segment r s)
-IsRow-segment r s h numbered =
-    record {
-      ordered = h.ordered;
-      usable = λ k d lt. usable-push r.segments s (footprint (get_or r.blocks k d)) (h.usable k d lt);
-      exact = h.exact;
-      numbered = numbered;
-    }
-
-pub IsRow-cleared : (r : Layout ℕ) → IsRow r → IsRow (cleared r)
-IsRow-cleared r h = record { ordered = AllPairs-nil EndsFirst; usable = All-nil (Fits r.segments); exact = All-nil IsExact; numbered = h.numbered }
-
-module _ (P : ℕ × ℕ → Type 0) (test : ℕ × ℕ → Bool) (pass : (s : ℕ × ℕ) → P s → test s ≡ true) where
-  any-filter : (ss : List (ℕ × ℕ)) (k : ℕ) (s : ℕ × ℕ) → k < length ss → get_or ss k s ≡ s → P s → Any P (filter test ss)
-  any-filter [] k s lt at p = absurd (omega (arith, lt))
-  any-filter (q ∷ ss) zero s lt at p = let here : test q ≡ true = pass q (subst P (sym at) p) in rw here (0, s, omega arith, at, p)
-  any-filter (q ∷ ss) (suc k) s lt at p =
-      let rest = any-filter ss k s (omega (arith, lt)) at p in
-      let within = rest.2 in
-      ⊎_elim
-      (λ (t : test q ≡ true). rw t (suc rest.0, rest.1, omega (arith, within), rest.3, rest.4))
-      (λ (t : test q ≡ false). rw t rest)
-      (cases_Bool (test q))
-
--- a segment that a block lies in stays
-usable-kept : (r : Layout ℕ) (b : Block ℕ) → is_occupied r.blocks b.seg ≡ true → IsUsable r.segments (footprint b) → IsUsable (compacted r).segments (footprint b)
-usable-kept r b occupied u =
-    any-filter (λ s. (b.seg ≡ s.0) × (16 ≤ (footprint b).from) × ((footprint b).to + 16 ≤ s.1)) (λ s. is_occupied r.blocks s.0) (λ s p. ap (is_occupied r.blocks) (sym p.0) ∙ occupied) r.segments u.0 u.1 u.2 u.3 u.4
-
-pub IsRow-compacted : (r : Layout ℕ) → IsRow r → IsRow (compacted r)
-IsRow-compacted r h =
-    let keeps : ℕ × ℕ → Bool = λ s. is_occupied r.blocks s.0 in
-    record {
-      ordered = h.ordered;
-      usable = λ k d lt.
-          let b : Block ℕ = get_or r.blocks k d in
-          let here : is_occupied r.blocks b.seg ≡ true = list_any_at (λ (c : Block ℕ). eqb c.seg b.seg) r.blocks k d lt (eq-eqb b.seg b.seg refl) in
-          usable-kept r b here (h.usable k d lt);
-      exact = h.exact;
-      numbered = record {
-        first = All-filter keeps (λ (s : ℕ × ℕ). 1 ≤ s.0) r.segments h.numbered.first;
-        distinct = AllPairs-filter (λ (s t : ℕ × ℕ). s.0 ≢ t.0) keeps r.segments h.numbered.distinct;
-      };
-    }
-
 -- a change that keeps what is true of each block, and of each two
 All-change : (P : Block ℕ → Type 0) (f : Block ℕ → Block ℕ) → ((b : Block ℕ) → P b → P (f b)) → (at : ℕ × ℕ) (bs : List (Block ℕ)) → All P bs → All P (change_block f at bs)
 All-change P f keeps at [] h = h
@@ -116,7 +62,7 @@ All-change P f keeps at (b ∷ bs) h =
     (λ (t : is_at at b ≡ false). rw t (All-cons P b (change_block f at bs) here (All-change P f keeps at bs rest)))
     (cases_Bool (is_at at b))
 
-AllPairs-change : (R : Block ℕ → Block ℕ → Type 0) (f : Block ℕ → Block ℕ) → ((a b : Block ℕ) → R a b → R (f a) b) → ((a b : Block ℕ) → R a b → R a (f b)) → (at : ℕ × ℕ) (bs : List (Block ℕ)) → AllPairs R bs → AllPairs R (change_block f at bs)
+pub AllPairs-change : (R : Block ℕ → Block ℕ → Type 0) (f : Block ℕ → Block ℕ) → ((a b : Block ℕ) → R a b → R (f a) b) → ((a b : Block ℕ) → R a b → R a (f b)) → (at : ℕ × ℕ) (bs : List (Block ℕ)) → AllPairs R bs → AllPairs R (change_block f at bs)
 AllPairs-change R f left right at [] h = h
 AllPairs-change R f left right at (b ∷ bs) h =
     let first = AllPairs-head R b bs h in

@@ -10,30 +10,20 @@ use Rattle.vc_model.specs.Layout.{Block, Layout, footprint, footprints}
 use Rattle.vc_model.specs.Numbers.{gap_sizes}
 use Rattle.vc_model.specs.Order.{put_by, sorted_by}
 use Rattle.vc_seg.specs.Segment.{AreSegments, Bytes, pair_of}
-use Rattle.vc_blocks.specs.declared.slot.Slot.{Slot}
-use Rattle.vc_blocks.specs.Layout.{slot_of_block}
 use Rattle.vc_blocks.specs.Tally.{HasRoom, tally_of}
 use Rattle.vc_blocks.proofs.Apart.{AllPairs-head, AllPairs-map, AllPairs-tail}
 use Rattle.vc_last.specs.Row.{IsRow}
-use Rattle.vc_last.specs.Runs.{gaps_left_in, gaps_left, runs_of}
+use Rattle.vc_last.specs.Gaps.{gaps_left, gaps_left_in}
 
--- the sizes of the gaps that these slots leave of a segment from one offset to another
-abbrev pub sizes_between : ℕ → ℕ → ℕ → List Slot → List ℕ
-sizes_between seg end from slots = map bytes_of (gaps_between seg from end (filter (λ f. eqb f.seg seg) (runs_of slots)))
+-- the sizes of the gaps that runs leave of these segments
+abbrev pub sizes_in : List Run → List Bytes → List ℕ
+sizes_in runs segs = map bytes_of (gaps_left (map pair_of segs) runs)
 
--- the sizes of the gaps that these slots leave of these segments
-abbrev pub sizes_in : List Slot → List Bytes → List ℕ
-sizes_in slots segs = map bytes_of (gaps_left (map pair_of segs) (runs_of slots))
-
-pub sizes_in-next : (slots : List Slot) (segs : List Bytes) (i : ℕ) (d : Bytes) → i < length segs →
-    sizes_in slots (drop i segs) ≡ map bytes_of (gaps_left_in (runs_of slots) (pair_of (get_or segs i d))) ++ sizes_in slots (drop (suc i) segs)
-sizes_in-next slots [] i d lt = absurd (omega arith)
-sizes_in-next slots (b ∷ bs) zero d lt = map-append bytes_of (gaps_left_in (runs_of slots) (pair_of b)) (gaps_left (map pair_of bs) (runs_of slots))
-sizes_in-next slots (b ∷ bs) (suc i) d lt = sizes_in-next slots bs i d (omega arith)
-
-runs-blocks : (bs : List (Block ℕ)) → runs_of (map slot_of_block bs) ≡ footprints bs
-runs-blocks [] = refl
-runs-blocks (b ∷ bs) = ap (λ fs. footprint b ∷ fs) (runs-blocks bs)
+pub sizes_in-next : (runs : List Run) (segs : List Bytes) (i : ℕ) (d : Bytes) → i < length segs →
+    sizes_in runs (drop i segs) ≡ map bytes_of (gaps_left_in runs (pair_of (get_or segs i d))) ++ sizes_in runs (drop (suc i) segs)
+sizes_in-next runs [] i d lt = absurd (omega arith)
+sizes_in-next runs (b ∷ bs) zero d lt = map-append bytes_of (gaps_left_in runs (pair_of b)) (gaps_left (map pair_of bs) runs)
+sizes_in-next runs (b ∷ bs) (suc i) d lt = sizes_in-next runs bs i d (omega arith)
 
 sum-cons : (n : ℕ) (ns : List ℕ) → sum (n ∷ ns) ≡ n + sum ns
 sum-cons n ns = sum_by-cons (λ (m : ℕ). m) n ns
@@ -181,14 +171,12 @@ module _ (r : Layout ℕ) (h : IsRow r) where
       record { count = omega (arith, count, all, few); bytes = omega (arith, all, few) }
 
   -- there is room for the gaps' tally
-  pub HasRoom-gaps : (segs : List Bytes) (slots : List Slot) → AreSegments segs → map pair_of segs ≡ r.segments → slots ≡ map slot_of_block r.blocks → HasRoom (tally_of []) (sizes_in slots segs)
-  HasRoom-gaps segs slots legal pairs is =
+  pub HasRoom-gaps : (segs : List Bytes) → AreSegments segs → map pair_of segs ≡ r.segments → HasRoom (tally_of []) (sizes_in (footprints r.blocks) segs)
+  HasRoom-gaps segs legal pairs =
       let least : All (λ (s : ℕ × ℕ). 64 ≤ s.1) (map pair_of segs) = All-map (λ (s : ℕ × ℕ). 64 ≤ s.1) pair_of segs (λ k d lt. (legal.legal k d lt).size.least) in
       let most : All (λ (s : ℕ × ℕ). s.1 ≤ 33554432) (map pair_of segs) = All-map (λ (s : ℕ × ℕ). s.1 ≤ 33554432) pair_of segs (λ k d lt. (legal.legal k d lt).size.most) in
       let few = legal.few in
-      let runs : footprints r.blocks ≡ runs_of slots = sym (ap runs_of is ∙ runs-blocks r.blocks) in
-      subst (λ (fs : List Run). HasRoom (tally_of []) (map bytes_of (gaps_left (map pair_of segs) fs))) runs
-      (gaps-room (map pair_of segs) pairs least most (omega (arith, few, length-map segs pair_of)))
+      gaps-room (map pair_of segs) pairs least most (omega (arith, few, length-map segs pair_of))
 
   -- the footprints of a segment stand by their first bytes
   own-sorted : (n : ℕ) → runs_in n (footprints r.blocks) ≡ own n
@@ -215,7 +203,5 @@ module _ (r : Layout ℕ) (h : IsRow r) where
       ap (λ gs. gaps_left_in (footprints r.blocks) s ++ gs) (gaps-left ss)
       ∙ ap (λ fs. gaps_between s.0 16 (s.1 - 16) fs ++ gaps ss (footprints r.blocks)) (sym (own-sorted s.0))
 
-  pub gap_sizes-slots : (segs : List Bytes) (slots : List Slot) → map pair_of segs ≡ r.segments → slots ≡ map slot_of_block r.blocks → sizes_in slots segs ≡ gap_sizes r
-  gap_sizes-slots segs slots pairs is =
-      ap (λ fs. map bytes_of (gaps_left (map pair_of segs) fs)) (ap runs_of is ∙ runs-blocks r.blocks)
-      ∙ (ap (λ ss. map bytes_of (gaps_left ss (footprints r.blocks))) pairs ∙ ap (map bytes_of) (gaps-left r.segments))
+  pub gap_sizes-runs : (segs : List Bytes) → map pair_of segs ≡ r.segments → sizes_in (footprints r.blocks) segs ≡ gap_sizes r
+  gap_sizes-runs segs pairs = ap (λ ss. map bytes_of (gaps_left ss (footprints r.blocks))) pairs ∙ ap (map bytes_of) (gaps-left r.segments)

@@ -12,6 +12,9 @@ pub use Rattle.vc_seg.specs.Answer
 pub use Rattle.vc_seg.specs.Boxed
 pub use Rattle.vc_seg.specs.Stat
 pub mod Row
-pub mod Runs
+pub mod Head
+pub mod Chain
+pub mod Place
+pub mod Gaps
 pub mod Read
 pub mod Parts

@@ -8,7 +8,7 @@ use Rattle.vc_last.specs.declared.last.Last.{Last}
 
 -- its segments in order of lending, and its blocks in order of allocation
 abbrev pub layout_of : {I : Type 0} {V : I → Type 0} → Last I V → Layout ℕ
-layout_of l = layout_by l.layout
+layout_of l = layout_by l.segs.items l.latest.0
 
 -- its segments, as number and size
 abbrev pub segments_in : {I : Type 0} {V : I → Type 0} → Last I V → List (ℕ × ℕ)

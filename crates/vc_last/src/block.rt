@@ -4,8 +4,12 @@ ghost use Rattle.vc_model.specs.Layout.{address_of, without_block};
 ghost use Rattle.vc_model.specs.Touch.{HasBlock, HasRange, find_block, with_bytes_at};
 ghost use Rattle.vc_model.specs.Walk.{block_at, next_block, next_segment, segment_at};
 
+use crate::head::{size_at, tag_at};
 use crate::last::Last;
+use crate::range::{bytes_in, put_in};
+use crate::walk::{block_in, next_in};
 use vc_base::Addr;
+use vc_segments::{next_segment, segment_at};
 
 /// The calls on one block, and the walks. They can't fail, and take no memory.
 impl Last {
@@ -17,7 +21,7 @@ impl Last {
         ensures { option_map (λ b. b.size) (find_block (place_of a.0) (blocks_in self.now))
             ≡ Some result }
     {
-        self.layout.layout().size(a)
+        size_at(&self.segs, a)
     }
 
     /// The tag of the block at that address.
@@ -26,7 +30,7 @@ impl Last {
         ensures { option_map (λ b. b.label) (find_block (place_of a.0) (blocks_in self.now))
             ≡ Some result }
     {
-        self.layout.layout().tag(a)
+        tag_at(&self.segs, a)
     }
 
     /// The bytes of a range of the block at that address. The range lies in the block.
@@ -36,7 +40,7 @@ impl Last {
         ensures { option_map (λ b. take len (drop off b.bytes))
             (find_block (place_of a.0) (blocks_in self.now)) ≡ Some result.now }
     {
-        self.layout.layout().read(a, off, len)
+        bytes_in(&self.segs, a.seg(), a.off() + off, len)
     }
 
     /// Puts bytes into the block at that address, from an offset on. They lie in the block.
@@ -49,9 +53,7 @@ impl Last {
             ≡ without_block (place_of a.0) (blocks_in self.old) }
         ensures disc { state self.new.disc ≡ state self.old.disc }
     {
-        let row = &mut self.layout;
-        row.write(a, off, src);
-        row.show_invariant();
+        put_in(&mut self.segs, a.seg(), a.off() + off, src);
     }
 
     /// The block whose bytes hold the byte at an offset of a segment, and the offset in the block. None where no block
@@ -62,21 +64,21 @@ impl Last {
             (block_at (seg, off) (blocks_in self.now)) }
         ensures live { IfSome result (λ f. HasBlock (blocks_in self.now) f.0.0) }
     {
-        self.layout.layout().block_at(seg, off)
+        block_in(&self.segs, self.latest, seg, off)
     }
 
     /// The size of the segment of that number, where it has a byte at that offset, else None.
     pub fn segment_at(&self, seg: u32, off: u32) -> Option<u32>
         ensures { result ≡ segment_at (seg, off) (segments_in self.now) }
     {
-        self.layout.layout().segment_at(seg, off)
+        segment_at(&self.segs, seg, off)
     }
 
     /// The segment with the least number above one, as number and size. A walk begins with 0, and ends with None.
     pub fn next_segment(&self, after: u32) -> Option<(u32, u32)>
         ensures { result ≡ next_segment after (segments_in self.now) }
     {
-        self.layout.layout().next_segment(after)
+        next_segment(&self.segs, after)
     }
 
     /// The block with the least address above one, whatever the order of allocation. A walk begins with `Addr::NONE`, and
@@ -86,6 +88,6 @@ impl Last {
             ≡ option_map address_of (next_block after.0 (blocks_in self.now)) }
         ensures live { IfSome result (λ a. HasBlock (blocks_in self.now) a.0) }
     {
-        self.layout.layout().next_block(after)
+        next_in(&self.segs, self.latest, after)
     }
 }

@@ -1,35 +1,46 @@
-ghost use Rattle.std.specs.Prelude.{◌≡◌, ℕ, ◌+◌, ◌<◌, ◌≤◌, [], IfErr, IfOk, IfSome, IsErrOf, IsTrue, OnOk, Some, false, length, option_map};
+ghost use Rattle.std.specs.Prelude.{◌≡◌, ℕ, ◌+◌, ◌<◌, ◌≤◌, [], IfErr, IfOk, IfSome, IsErrOf, IsTrue, None, OnOk, Some, false, length, option_map};
 ghost use Rattle.std.specs.List.{HoldsAt, remove};
 ghost use Rattle.vc_model.specs.Addr.{place_of};
 ghost use Rattle.vc_model.specs.Best.{zeros};
 ghost use Rattle.vc_model.specs.Compact.{cleared, compact_count, compacted};
 ghost use Rattle.vc_model.specs.Discipline.{HasOut, TookBack};
-ghost use Rattle.vc_model.specs.Last.{can_end, last_alloc, last_free, last_need, last_resize, latest};
+ghost use Rattle.vc_model.specs.Last.{can_end, last_alloc, last_free, last_need, last_place, last_resize, latest};
 ghost use Rattle.vc_model.specs.Layout.{address_of, empty_layout, without_block};
 ghost use Rattle.vc_model.specs.Sound.{IsSound};
 ghost use Rattle.vc_model.specs.Touch.{HasBlock, find_block};
+ghost use Rattle.vc_last.specs.Chain.{IsLast};
 ghost use Rattle.vc_last.specs.Read.{layout_by};
 ghost use Rattle.vc_seg.specs.Answer.{Answers, Asks, Frees};
 ghost use Rattle.vc_seg.specs.Stat.{layout_stat};
 
-use crate::row::BlockRow;
+use crate::compact::compact_in;
+use crate::free::free_in;
+use crate::put::alloc_in;
+use crate::resize::resize_in;
+use crate::stat::stat_of;
 use std::alloc::Global;
 use vc_base::{Addr, OutOfMemory};
-use vc_seg::{RegionFault, SegDisc, Stat};
+use vc_seg::{KeepsNone, RegionFault, SegDisc, Segment, Stat, give_back};
 
 /// A region of blocks one behind another over the segments of a discipline, after Vmalloc's `Vmlast`. The latest block
 /// is the one of the live ones that was allocated latest, and only that is freed or resized. Sizes and offsets are in
 /// bytes.
 #[derive(Drop)]
 pub struct Last {
-    /// Its segments in order of lending, and its blocks in order of allocation.
-    pub layout: BlockRow,
+    /// Its segments in order of lending. `open` takes the room of 1,023.
+    pub segs: Vec<Segment>,
+    /// The address of its latest block, `Addr::NONE` where it has none. The 16 bytes before a block say its size, its tag
+    /// and the address of the one that was allocated before it, so the blocks are found from here back.
+    pub latest: Addr,
     /// The discipline that lends its segments.
     pub disc: Box<dyn SegDisc>,
-    /// Where the memory of its segments and lists comes from.
+    /// Where the memory of its segments and of their list comes from.
     pub alloc: Global,
+    /// The heads lead from the latest block to the first, each block lies lower than those allocated after it, and
+    /// segments have numbers of their own.
+    pub ghost kept: { ∥ IsLast segs.items latest.0 ∥₁ },
     /// No two blocks overlap, each lies in the usable part of a segment, and segments have numbers of their own.
-    pub ghost sound: { ∥ IsSound (layout_by layout) ∥₁ },
+    pub ghost sound: { ∥ IsSound (layout_by segs.items latest.0) ∥₁ },
 }
 
 impl Last {
@@ -44,10 +55,12 @@ impl Last {
             (λ l. (layout_of l ≡ empty_layout) × (state l.disc ≡ state disc)) }
         ensures err { IfErr result (λ e. state e.1 ≡ state disc) }
     {
-        let layout = BlockRow::new(alloc);
-        layout.show_invariant();
+        let Ok(segs) = Vec::with_capacity(alloc, 1023) else {
+            return Err((OutOfMemory, disc));
+        };
         Ok(Last {
-            layout,
+            segs,
+            latest: Addr::NONE,
             disc,
             alloc,
         })
@@ -65,6 +78,8 @@ impl Last {
         ensures disc { Asks result (state self.old.disc) (state self.new.disc)
             (segments_in self.old) (segments_in self.new)
             (last_need (state self.old.disc).terms size) }
+        ensures no_memory { IsErrOf result RegionFault.OutOfMemory
+            → last_place (layout_of self.old) size ≡ None }
 
         // The block stands there, at an address of its own, and the others stay.
         ensures there { IfOk result (λ a. find_block (place_of a.0) (blocks_in self.new)
@@ -73,10 +88,14 @@ impl Last {
         ensures others { IfOk result (λ a. without_block (place_of a.0) (blocks_in self.new)
             ≡ blocks_in self.old) }
     {
-        let row = &mut self.layout;
-        let answer = row.alloc(&mut self.disc, self.alloc, size, tag);
-        row.show_invariant();
-        answer
+        alloc_in(
+            &mut self.segs,
+            &mut self.latest,
+            &mut self.disc,
+            self.alloc,
+            size,
+            tag,
+        )
     }
 
     /// Gives the block at that address another size, from 1 to 16,777,216 bytes, and answers its address. `NotLast` comes
@@ -100,6 +119,8 @@ impl Last {
             (λ b. (latest (layout_of self.old) ≡ Some b)
             × (can_end (layout_of self.old) size b ≡ false))
             × IsTrue may_move }
+        ensures no_place { IsErrOf result RegionFault.OutOfMemory
+            → last_place (layout_of self.old) size ≡ None }
 
         // The block keeps its tag, and the others stay.
         ensures there { IfOk result (λ to.
@@ -108,10 +129,15 @@ impl Last {
         ensures others { IfOk result (λ to. without_block (place_of to.0) (blocks_in self.new)
             ≡ without_block (place_of a.0) (blocks_in self.old)) }
     {
-        let row = &mut self.layout;
-        let answer = row.resize(&mut self.disc, self.alloc, a, size, may_move);
-        row.show_invariant();
-        answer
+        resize_in(
+            &mut self.segs,
+            &mut self.latest,
+            &mut self.disc,
+            self.alloc,
+            a,
+            size,
+            may_move,
+        )
     }
 
     /// Frees the block at that address. `NotLast` comes where it isn't the latest. The one that was allocated before it
@@ -131,10 +157,7 @@ impl Last {
             → blocks_in self.new ≡ remove (blocks_in self.old) i) }
         ensures none_left { OnOk result (¬ HasBlock (blocks_in self.new) a.0) }
     {
-        let row = &mut self.layout;
-        let answer = row.free(a);
-        row.show_invariant();
-        answer
+        free_in(&self.segs, &mut self.latest, a)
     }
 
     /// Frees all its blocks, and keeps its segments.
@@ -142,9 +165,7 @@ impl Last {
         ensures layout { layout_of self.new ≡ cleared (layout_of self.old) }
         ensures disc { state self.new.disc ≡ state self.old.disc }
     {
-        let row = &mut self.layout;
-        row.clear();
-        row.show_invariant();
+        self.latest = Addr::NONE;
     }
 
     /// Gives back each segment without a block, in ascending order of number, and answers how many those were. The newest
@@ -156,17 +177,14 @@ impl Last {
         ensures disc { TookBack (state self.old.disc) (state self.new.disc)
             (segments_in self.old) (segments_in self.new) }
     {
-        let row = &mut self.layout;
-        let count = row.compact(&mut self.disc);
-        row.show_invariant();
-        count
+        compact_in(&mut self.segs, self.latest, &mut self.disc)
     }
 
     /// Its numbers of blocks, gaps and segments, and their sizes in bytes. What a moved block left is a gap.
     pub fn stat(&self) -> Stat
         ensures { result ≡ layout_stat (layout_of self.now) }
     {
-        self.layout.stat()
+        stat_of(&self.segs, self.latest)
     }
 
     /// Gives all its segments back, in ascending order of number, and answers with the discipline and how many there
@@ -177,11 +195,13 @@ impl Last {
         ensures count { result.1 ≡ length (segments_in self) }
     {
         let Last {
-            layout,
+            mut segs,
+            latest: _,
             mut disc,
             alloc: _,
         } = self;
-        let count = layout.close(&mut disc);
+        let count = segs.len() as u32;
+        give_back(&mut segs, &KeepsNone, &mut disc);
         (disc, count)
     }
 }

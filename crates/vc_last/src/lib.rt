@@ -1,12 +1,16 @@
 //! A region of blocks one behind another over the segments of a discipline. Only the latest block is freed or resized.
-#![tactic(auto, unfolding(crate::specs::Read::layout_by))]
+#![tactic(auto)]
 
 mod block;
-mod gaps;
+mod compact;
+mod free;
+mod head;
 mod last;
-mod next;
+mod place;
+mod put;
+mod range;
 mod resize;
-mod row;
+mod stat;
+mod walk;
 
 pub use last::Last;
-pub use row::BlockRow;

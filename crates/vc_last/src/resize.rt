@@ -1,120 +1,162 @@
-ghost use Rattle.std.specs.Prelude.{◌≡◌, ◌≤◌, IfOk, IfSome, IsErrOf, IsTrue, Some, false, true, option_map};
+ghost use Rattle.std.specs.Prelude.{◌≡◌, ◌≢◌, ◌≤◌, IfOk, IfSome, IsErrOf, IsTrue, None, Some, false, map, option_map, take, true};
 ghost use Rattle.vc_model.specs.Addr.{place_of};
-ghost use Rattle.vc_model.specs.Last.{can_end, last_need, last_resize, latest};
-ghost use Rattle.vc_model.specs.Layout.{without_block};
-ghost use Rattle.vc_model.specs.Resize.{resize_there};
-ghost use Rattle.vc_model.specs.Touch.{HasBlock, find_block};
+ghost use Rattle.vc_model.specs.Best.{without_block_at};
+ghost use Rattle.vc_model.specs.Last.{can_end, last_free, last_need, last_place, last_resize, latest};
+ghost use Rattle.vc_model.specs.Layout.{footprint, without_block};
+ghost use Rattle.vc_model.specs.Resize.{is_usable, resize_there, sized};
+ghost use Rattle.vc_model.specs.Touch.{HasBlock, find_block, with_bytes_at};
 ghost use Rattle.vc_seg.specs.Answer.{Answers, Asks};
+ghost use Rattle.vc_seg.specs.Segment.{pair_of};
+ghost use Rattle.vc_last.specs.Chain.{IsLast};
+ghost use Rattle.vc_last.specs.Head.{before_of, block_of};
+ghost use Rattle.vc_last.specs.Read.{layout_by};
 ghost use Rattle.vc_last.specs.Row.{is_latest};
 
-use crate::next::is_usable;
-use crate::row::BlockRow;
+use crate::head::{before_at, set_before, set_size, size_at, tag_at};
+use crate::place::can_end;
+use crate::put::alloc_in;
 use std::alloc::Global;
 use vc_base::Addr;
-use vc_blocks::Slot;
-use vc_seg::{RegionFault, SegDisc};
+use vc_seg::{RegionFault, SegDisc, Segment};
+use vc_segments::copy_in;
 
-impl BlockRow {
-    /// Whether the latest block can have a size where it is. There is one.
-    fn can_end(&self, a: Addr, size: u32) -> bool
-        requires latest { is_latest self.now (place_of a.0) ≡ true }
-        requires some { 1 ≤ size }
-        requires most { size ≤ 16777216 }
-        ensures value { option_map (can_end self.now size) (latest self.now) ≡ Some result }
-        ensures there { IfSome (find_block (place_of a.0) self.now.blocks)
-            (λ b. (latest self.now ≡ Some b) × (can_end self.now size b ≡ result)) }
-    {
-        match self.latest() {
-            Some(slot) => is_usable(self.layout.segments(), Slot { size, ..slot }),
-            None => unreachable!(),
+/// Gives the latest block another size where it is.
+fn resize_there(segs: &mut Vec<Segment>, a: Addr, size: u32)
+    requires kept { IsLast segs.old.items a.0 }
+    requires block { a.0 ≢ 0 }
+    requires some { 1 ≤ size }
+    requires fits { is_usable (map pair_of segs.old.items)
+        (footprint (sized size (block_of segs.old.items a.0))) ≡ true }
+    ensures kept { IsLast segs.new.items a.0 }
+    ensures layout { layout_by segs.new.items a.0
+        ≡ resize_there (layout_by segs.old.items a.0) (place_of a.0) size }
+{
+    set_size(segs, a, size);
+}
+
+/// Copies the bytes of a block, up to a number of them, into the front of the latest one, which has room for them.
+fn copy_front(segs: &mut Vec<Segment>, a: Addr, to: Addr, size: u32)
+    requires kept { IsLast segs.old.items to.0 }
+    requires block { HasBlock (layout_by segs.old.items to.0).blocks a.0 }
+    requires to { HasBlock (layout_by segs.old.items to.0).blocks to.0 }
+    requires room { size ≤ (block_of segs.old.items to.0).size }
+    ensures kept { IsLast segs.new.items to.0 }
+    ensures layout { layout_by segs.new.items to.0
+        ≡ with_bytes_at (layout_by segs.old.items to.0) (place_of to.0) 0
+        (take size (block_of segs.old.items a.0).bytes) }
+{
+    let kept = size_at(segs, a).min(size);
+    copy_in(segs, a.seg(), a.off(), to.seg(), to.off(), kept);
+}
+
+/// Frees the block that was allocated before the latest one.
+fn unlink(segs: &mut Vec<Segment>, a: Addr, to: Addr)
+    requires kept { IsLast segs.old.items to.0 }
+    requires to { to.0 ≢ 0 }
+    requires before { before_of segs.old.items to.0 ≡ a.0 }
+    requires block { a.0 ≢ 0 }
+    ensures kept { IsLast segs.new.items to.0 }
+    ensures layout { layout_by segs.new.items to.0
+        ≡ without_block_at (layout_by segs.old.items to.0) (place_of a.0) }
+{
+    let before = before_at(segs, a);
+    set_before(segs, to, before);
+}
+
+/// Moves the latest block, which gets another size by that and is the latest still.
+fn move_latest(
+    segs: &mut Vec<Segment>,
+    latest: &mut Addr,
+    disc: &mut Box<dyn SegDisc>,
+    alloc: Global,
+    size: u32,
+) -> Result<Addr, RegionFault>
+    requires kept { IsLast segs.old.items latest.old.0 }
+    requires block { latest.old.0 ≢ 0 }
+    requires some { 1 ≤ size }
+    requires most { size ≤ 16777216 }
+    requires ends { is_usable (map pair_of segs.old.items)
+        (footprint (sized size (block_of segs.old.items latest.old.0))) ≡ false }
+
+    ensures kept { IsLast segs.new.items latest.new.0 }
+    ensures answer { Answers
+        (last_resize (state disc.old).terms (layout_by segs.old.items latest.old.0)
+        (place_of latest.old.0) size true)
+        result (layout_by segs.old.items latest.old.0) (layout_by segs.new.items latest.new.0) }
+    ensures disc { Asks result (state disc.old) (state disc.new)
+        (layout_by segs.old.items latest.old.0).segments
+        (layout_by segs.new.items latest.new.0).segments
+        (last_need (state disc.old).terms size) }
+    ensures no_memory { IsErrOf result RegionFault.OutOfMemory
+        → last_place (layout_by segs.old.items latest.old.0) size ≡ None }
+    ensures there { IfOk result (λ to. option_map (λ b. b.label)
+        (find_block (place_of to.0) (layout_by segs.new.items latest.new.0).blocks)
+        ≡ option_map (λ b. b.label)
+        (find_block (place_of latest.old.0) (layout_by segs.old.items latest.old.0).blocks)) }
+    ensures others { IfOk result (λ to. without_block (place_of to.0)
+        (layout_by segs.new.items latest.new.0).blocks
+        ≡ without_block (place_of latest.old.0) (layout_by segs.old.items latest.old.0).blocks) }
+{
+    let a = *latest;
+    let tag = tag_at(segs, a);
+    match alloc_in(segs, latest, disc, alloc, size, tag) {
+        Ok(to) => {
+            copy_front(segs, a, to, size);
+            unlink(segs, a, to);
+            Ok(to)
         }
+        Err(fault) => Err(fault),
     }
+}
 
-    /// Gives the latest block another size where it is.
-    fn resize_there(&mut self, a: Addr, size: u32)
-        requires block { HasBlock self.old.blocks a.0 }
-        requires latest { is_latest self.old (place_of a.0) ≡ true }
-        requires some { 1 ≤ size }
-        requires most { size ≤ 16777216 }
-        requires fits { option_map (can_end self.old size) (latest self.old) ≡ Some true }
-        ensures { self.new ≡ resize_there self.old (place_of a.0) size }
-    {
-        self.layout.resize_there(a, size);
+/// Gives the block at an address another size, if it is the latest, and answers its address.
+pub(crate) fn resize_in(
+    segs: &mut Vec<Segment>,
+    at: &mut Addr,
+    disc: &mut Box<dyn SegDisc>,
+    alloc: Global,
+    a: Addr,
+    size: u32,
+    may_move: bool,
+) -> Result<Addr, RegionFault>
+    requires kept { IsLast segs.old.items at.old.0 }
+    requires block { HasBlock (layout_by segs.old.items at.old.0).blocks a.0 }
+    requires some { 1 ≤ size }
+    requires most { size ≤ 16777216 }
+
+    ensures kept { IsLast segs.new.items at.new.0 }
+    ensures answer { Answers
+        (last_resize (state disc.old).terms (layout_by segs.old.items at.old.0)
+        (place_of a.0) size may_move)
+        result (layout_by segs.old.items at.old.0) (layout_by segs.new.items at.new.0) }
+    ensures disc { Asks result (state disc.old) (state disc.new)
+        (layout_by segs.old.items at.old.0).segments
+        (layout_by segs.new.items at.new.0).segments
+        (last_need (state disc.old).terms size) }
+    ensures no_memory { IsErrOf result RegionFault.OutOfMemory
+        → last_place (layout_by segs.old.items at.old.0) size ≡ None }
+    ensures moves { IsErrOf result RegionFault.OutOfMemory
+        → IfSome (find_block (place_of a.0) (layout_by segs.old.items at.old.0).blocks)
+        (λ b. (latest (layout_by segs.old.items at.old.0) ≡ Some b)
+        × (can_end (layout_by segs.old.items at.old.0) size b ≡ false))
+        × IsTrue may_move }
+    ensures there { IfOk result (λ to. option_map (λ b. b.label)
+        (find_block (place_of to.0) (layout_by segs.new.items at.new.0).blocks)
+        ≡ option_map (λ b. b.label)
+        (find_block (place_of a.0) (layout_by segs.old.items at.old.0).blocks)) }
+    ensures others { IfOk result (λ to. without_block (place_of to.0)
+        (layout_by segs.new.items at.new.0).blocks
+        ≡ without_block (place_of a.0) (layout_by segs.old.items at.old.0).blocks) }
+{
+    if a.0 != at.0 {
+        return Err(RegionFault::NotLast);
     }
-
-    /// Moves the latest block, which gets another size by that and is the latest still.
-    fn move_latest(
-        &mut self,
-        disc: &mut Box<dyn SegDisc>,
-        alloc: Global,
-        a: Addr,
-        size: u32,
-    ) -> Result<Addr, RegionFault>
-        requires block { HasBlock self.old.blocks a.0 }
-        requires latest { is_latest self.old (place_of a.0) ≡ true }
-        requires some { 1 ≤ size }
-        requires most { size ≤ 16777216 }
-        requires ends { option_map (can_end self.old size) (latest self.old) ≡ Some false }
-
-        ensures answer { Answers
-            (last_resize (state disc.old).terms self.old (place_of a.0) size true)
-            result self.old self.new }
-        ensures disc { Asks result (state disc.old) (state disc.new)
-            self.old.segments self.new.segments (last_need (state disc.old).terms size) }
-        ensures there { IfOk result (λ to.
-            option_map (λ b. b.label) (find_block (place_of to.0) self.new.blocks)
-            ≡ option_map (λ b. b.label) (find_block (place_of a.0) self.old.blocks)) }
-        ensures others { IfOk result (λ to. without_block (place_of to.0) self.new.blocks
-            ≡ without_block (place_of a.0) self.old.blocks) }
-    {
-        let tag = self.layout.tag(a);
-        match self.alloc(disc, alloc, size, tag) {
-            Ok(to) => {
-                self.layout.take_over(a, to, size);
-                Ok(to)
-            }
-            Err(fault) => Err(fault),
-        }
+    if can_end(segs, a, size) {
+        resize_there(segs, a, size);
+        return Ok(a);
     }
-
-    /// Gives the block at that address another size, if it is the latest, and answers its address.
-    pub(crate) fn resize(
-        &mut self,
-        disc: &mut Box<dyn SegDisc>,
-        alloc: Global,
-        a: Addr,
-        size: u32,
-        may_move: bool,
-    ) -> Result<Addr, RegionFault>
-        requires block { HasBlock self.old.blocks a.0 }
-        requires some { 1 ≤ size }
-        requires most { size ≤ 16777216 }
-
-        ensures answer { Answers
-            (last_resize (state disc.old).terms self.old (place_of a.0) size may_move)
-            result self.old self.new }
-        ensures disc { Asks result (state disc.old) (state disc.new)
-            self.old.segments self.new.segments (last_need (state disc.old).terms size) }
-        ensures no_memory { IsErrOf result RegionFault.OutOfMemory
-            → IfSome (find_block (place_of a.0) self.old.blocks)
-            (λ b. (latest self.old ≡ Some b) × (can_end self.old size b ≡ false))
-            × IsTrue may_move }
-        ensures there { IfOk result (λ to.
-            option_map (λ b. b.label) (find_block (place_of to.0) self.new.blocks)
-            ≡ option_map (λ b. b.label) (find_block (place_of a.0) self.old.blocks)) }
-        ensures others { IfOk result (λ to. without_block (place_of to.0) self.new.blocks
-            ≡ without_block (place_of a.0) self.old.blocks) }
-    {
-        if !self.is_latest(a) {
-            return Err(RegionFault::NotLast);
-        }
-        if self.can_end(a, size) {
-            self.resize_there(a, size);
-            return Ok(a);
-        }
-        if !may_move {
-            return Err(RegionFault::Fixed);
-        }
-        self.move_latest(disc, alloc, a, size)
+    if !may_move {
+        return Err(RegionFault::Fixed);
     }
+    move_latest(segs, at, disc, alloc, size)
 }

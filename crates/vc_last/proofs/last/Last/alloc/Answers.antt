@@ -1,11 +1,20 @@
+use Rattle.std.proofs.Math.Logic.{∥∥₁_map}
+use Rattle.vc_last.specs.Chain.{IsLast}
 use Rattle.vc_last.specs.Read.{layout_by}
-use Rattle.vc_last.proofs.Allocs.{there-alloc, others-alloc}
+use Rattle.vc_last.proofs.Types.{have, have-sound}
 use Rattle.vc_last.proofs.last.Last.alloc.Goals as goal
+use Rattle.vc_last.proofs.Allocs.{others-alloc, there-alloc}
+
+pub alloc_in-requires-clause-kept : goal.alloc_in-requires-clause-kept
+alloc_in-requires-clause-kept g c = (have c.args.self.now.segs.items c.args.self.now.latest.0 c.args.self.now.kept)
+
+pub invariant_of-self : goal.invariant_of-self
+invariant_of-self g c =
+    let kept = ∥∥₁_map c.args.self.now.kept (λ (k : IsLast c.args.self.now.segs.items c.args.self.now.latest.0). c.alloc_in.ensures.kept) in
+    record { kept = kept; sound = have-sound c.alloc_in.new.segs.items c.alloc_in.new.latest.0 kept }
 
 pub returns-clause-there : goal.returns-clause-there
-unfolding layout_by
-returns-clause-there g c = there-alloc _ c.args.self.now.layout c.alloc-answer.new.self c.args.tag c.args.size c.alloc-answer.result c.alloc-answer.ensures.answer c.alloc-answer.ensures.fresh
+returns-clause-there g c = there-alloc _ (layout_by c.args.self.now.segs.items c.args.self.now.latest.0) (layout_by c.alloc_in.new.segs.items c.alloc_in.new.latest.0) c.args.tag c.args.size c.alloc_in.result c.alloc_in.ensures.answer c.alloc_in.ensures.fresh
 
 pub returns-clause-others : goal.returns-clause-others
-unfolding layout_by
-returns-clause-others g c = others-alloc _ c.args.self.now.layout c.alloc-answer.new.self c.args.tag c.args.size c.alloc-answer.result c.alloc-answer.ensures.answer c.alloc-answer.ensures.fresh
+returns-clause-others g c = others-alloc _ (layout_by c.args.self.now.segs.items c.args.self.now.latest.0) (layout_by c.alloc_in.new.segs.items c.alloc_in.new.latest.0) c.args.tag c.args.size c.alloc_in.result c.alloc_in.ensures.answer c.alloc_in.ensures.fresh

@@ -1,0 +1,122 @@
+-- A block of zeros that is put behind those of the newest segment.
+use Rattle.std.proofs.Common.{◌≡◌, ◌≢◌, ℕ, ◌+◌, ◌-◌, ◌<◌, ◌≤◌, List, [], ◌∷◌, ◌++◌, Bool, true, false, Some, None, All, Any, length, get_or, map, ap, sym, ◌∙◌, subst, arith}
+use Rattle.std.specs.Prelude.{option_map}
+use Rattle.std.proofs.lemmas.List.{length-map, length-replicate, get_or-map, map_push}
+use Rattle.std.proofs.lemmas.List.Elements.{All-map}
+use Rattle.vc_model.specs.Addr.{address, place_of}
+use Rattle.vc_model.specs.Best.{zeros}
+use Rattle.vc_model.specs.Discipline.{Discipline, Lent, Served, Terms}
+use Rattle.vc_model.specs.Last.{last_alloc, last_need, last_place, newest, put_in_newest, put_or_lend}
+use Rattle.vc_model.specs.Layout.{Block, Layout, with_segment}
+use Rattle.vc_model.specs.Segments.{Asked, Granted, NotLent, TooMany, ask, span}
+use Rattle.vc_seg.specs.Segment.{AreSegments, Bytes, pair_of, zeroed}
+use Rattle.vc_seg.specs.Answer.{IsPut, IsRefusal}
+use Rattle.vc_seg.specs.declared.fault.RegionFault.{RegionFault}
+use Rattle.vc_seg.specs.declared.fault.RegionFault.TheVariants as code
+use Rattle.vc_segments.specs.Lend.{IsNoGrant}
+use Rattle.vc_segments.specs.Memory.{bytes_of_number}
+use Rattle.vc_segments.proofs.Bytes.{bytes_of_number-most}
+use Rattle.vc_blocks.proofs.Puts.{Served-lent}
+use Rattle.vc_last.specs.Head.{LiesThere, StaysBut}
+use Rattle.vc_last.specs.Chain.{IsLast, IsLastOf, blocks_from}
+use Rattle.vc_last.specs.Place.{IsPlace, with_latest}
+use Rattle.vc_last.specs.Read.{layout_by}
+use Rattle.vc_last.proofs.Lists.{last_of-push}
+use Rattle.vc_last.proofs.Places.{place-new, span-least}
+use Rattle.vc_last.proofs.Rows.{row}
+use Rattle.vc_last.proofs.Chains.{last-from}
+use Rattle.vc_last.proofs.Kept.{bytes-any, layout-from, layout-is, lower-newest, put-last, row-by}
+use Rattle.vc_last.proofs.Lends.{last-append}
+use Rattle.vc_last.proofs.Newest.{newest-is}
+
+-- a place is in a segment
+pub record IsInside (segs : List Bytes) (size : ℕ) (at : ℕ × ℕ) : Type 0 where
+  pub first : 1 ≤ at.0
+  pub last : at.0 ≤ 1023
+  pub below : at.1 < 33554432
+  pub within : at.1 + span size ≤ length (bytes_of_number at.0 segs)
+
+pub place-inside : (segs : List Bytes) (size : ℕ) (at : ℕ × ℕ) (r : Layout ℕ) → AreSegments segs → r.segments ≡ map pair_of segs → IsPlace r size at → IsInside segs size at
+place-inside segs size at r h is p =
+    let P : ℕ × ℕ → Type 0 = λ s. (at.0 ≡ s.0) × (at.1 + span size ≤ s.1) in
+    let u : Any P (map pair_of segs) = subst (Any P) is p.inside in
+    let within = bytes-any at.0 (at.1 + span size) segs h.distinct u in
+    let d : Bytes = record { number = 0; bytes = [] } in
+    let lt : u.0 < length segs = omega (arith, u.2, length-map segs pair_of) in
+    let s : Bytes = get_or segs u.0 d in
+    let same : u.1 ≡ pair_of s = sym u.3 ∙ get_or-map pair_of segs u.0 d u.1 lt in
+    let number : at.0 ≡ s.number = u.4.0 ∙ ap (λ (q : ℕ × ℕ). q.0) same in
+    let legal = h.legal u.0 d lt in
+    let first = legal.first in
+    let last = legal.last in
+    record {
+      first = omega (arith, first, number);
+      last = omega (arith, last, number);
+      below = omega (arith, within, bytes_of_number-most at.0 segs h.legal, span-least size);
+      within = within;
+    }
+
+module _ (o s : List Bytes) (q size tag seg off : ℕ) (h : IsLast o q) (new : option_map (λ (s : ℕ × ℕ). s.0) (newest (layout_by o q)) ≡ Some seg) (p : IsPlace (layout_by o q) size (seg, off)) (some : 1 ≤ size) (stays : StaysBut seg (off - 16) (off + size) o s) (laid : LiesThere s q (zeros tag size (seg, off))) where
+  b : Block ℕ
+  b = zeros tag size (seg, off)
+
+  made : IsLastOf s (address (seg, off)) (blocks_from o q ++ zeros tag size (seg, off) ∷ [])
+  made =
+      let bs : List (Block ℕ) = blocks_from o q in
+      let place : IsPlace (row (map pair_of o) (blocks_from o q)) size (seg, off) = subst (λ (r : Layout ℕ). IsPlace r size (seg, off)) (layout-from o q) p in
+      let found = newest-is (row (map pair_of o) (blocks_from o q)) seg (subst (λ (r : Layout ℕ). option_map (λ (s : ℕ × ℕ). s.0) (newest r) ≡ Some seg) (layout-from o q) new) in
+      let lower = lower-newest o q size (blocks_from o q) (zeros tag size (seg, off)) found.0 h found.1 found.2 place in
+      put-last o s q (blocks_from o q) (zeros tag size (seg, off)) h some place stays laid lower
+
+  pub put-kept : IsLast s (address (seg, off))
+  put-kept = last-from s (address (seg, off)) (blocks_from o q ++ zeros tag size (seg, off) ∷ []) made
+
+  pub put-layout : layout_by s (address (seg, off)) ≡ with_latest (layout_by o q) tag size (seg, off)
+  put-layout =
+      layout-is s (address (seg, off)) (blocks_from o q ++ zeros tag size (seg, off) ∷ []) made
+      ∙ (ap (λ ss. row ss (blocks_from o q ++ zeros tag size (seg, off) ∷ [])) stays.pairs ∙ ap (λ (r : Layout ℕ). with_latest r tag size (seg, off)) (sym (layout-from o q)))
+
+-- one more segment
+module _ (o : List Bytes) (q n bytes : ℕ) (h : IsLast o q) (legal : AreSegments (o ++ zeroed n bytes ∷ [])) where
+  grown : IsLastOf (o ++ zeroed n bytes ∷ []) q (blocks_from o q)
+  grown = last-append o q (blocks_from o q) (zeroed n bytes) legal h
+
+  pub grown-kept : IsLast (o ++ zeroed n bytes ∷ []) q
+  grown-kept = last-from (o ++ zeroed n bytes ∷ []) q (blocks_from o q) grown
+
+  pub grown-pairs : map pair_of (o ++ zeroed n bytes ∷ []) ≡ map pair_of o ++ (n, bytes) ∷ []
+  grown-pairs = map_push pair_of o (zeroed n bytes) ∙ ap (λ k. map pair_of o ++ (n, k) ∷ []) (length-replicate {A = ℕ} bytes 0)
+
+  pub grown-layout : layout_by (o ++ zeroed n bytes ∷ []) q ≡ with_segment (layout_by o q) (n, bytes)
+  grown-layout =
+      layout-is (o ++ zeroed n bytes ∷ []) q (blocks_from o q) grown
+      ∙ (ap (λ ss. row ss (blocks_from o q)) grown-pairs ∙ ap (λ (r : Layout ℕ). with_segment r (n, bytes)) (sym (layout-from o q)))
+
+  pub grown-newest : option_map (λ (s : ℕ × ℕ). s.0) (newest (layout_by (o ++ zeroed n bytes ∷ []) q)) ≡ Some n
+  grown-newest = ap (λ (r : Layout ℕ). option_map (λ (s : ℕ × ℕ). s.0) (newest r)) grown-layout ∙ ap (option_map (λ (s : ℕ × ℕ). s.0)) (last_of-push (layout_by o q).segments (n, bytes))
+
+  pub grown-place : (size : ℕ) → All (λ s. s.number ≢ n) o → 32 + span size ≤ bytes → IsPlace (layout_by (o ++ zeroed n bytes ∷ []) q) size (n, 32)
+  grown-place size fresh room =
+      let other : All (λ (s : ℕ × ℕ). s.0 ≢ n) (layout_by o q).segments =
+      subst (All (λ (s : ℕ × ℕ). s.0 ≢ n)) (sym (ap (λ (r : Layout ℕ). r.segments) (layout-from o q))) (All-map (λ (s : ℕ × ℕ). s.0 ≢ n) pair_of o fresh) in
+      subst (λ (r : Layout ℕ). IsPlace r size (n, 32)) (sym grown-layout) (place-new (layout_by o q) n bytes size (row-by o q h) other room)
+
+-- what a block in a segment that was asked for answers
+module _ (terms : Terms) (r : Layout ℕ) (tag size bytes : ℕ) (need : bytes ≡ last_need terms size) (none : last_place r size ≡ None) where
+  asked : (refused : Bool) (k : Asked) → ask bytes r.segments refused ≡ k → last_alloc terms r tag size refused ≡ put_in_newest r tag size k
+  asked refused k e = ap (put_or_lend terms r tag size refused) none ∙ ap (put_in_newest r tag size) (sym (ap (λ b. ask b r.segments refused) need) ∙ e)
+
+  pub put-in-new : (new : Layout ℕ) (n a : ℕ) → ask bytes r.segments false ≡ Granted n bytes → a ≡ address (n, 32) → place_of a ≡ (n, 32) → new ≡ with_latest (with_segment r (n, bytes)) tag size (n, 32) → IsPut (last_alloc terms r tag size false) a new
+  put-in-new new n a granted at place is = subst (λ o. IsPut o a new) (sym (asked false (Granted n bytes) granted)) (at, sym place, is)
+
+  pub refused-new : (e : RegionFault) → IsNoGrant bytes r.segments e → IsRefusal (last_alloc terms r tag size) e
+  refused-new code.TooManySegments h = asked false TooMany h
+  refused-new code.NoSegment h = asked true NotLent h
+  refused-new code.OutOfMemory h = tt
+  refused-new code.Fixed h = absurd h
+  refused-new code.PoolSize h = absurd h
+  refused-new code.NotLast h = absurd h
+  refused-new code.WrongMethod h = absurd h
+
+pub served-need : (old new : Discipline) (segments segments' : List (ℕ × ℕ)) (n bytes size : ℕ) → bytes ≡ size → segments' ≡ segments ++ (n, bytes) ∷ [] → Lent old new n bytes → Served old new segments segments' size
+served-need old new segments segments' n bytes size e is lent = subst (Served old new segments segments') e (Served-lent old new segments segments' n bytes is lent)

@@ -1,0 +1,39 @@
+-- Ranges of the block at an address.
+use Rattle.std.proofs.Common.{◌≡◌, ◌+◌, ◌≤◌, ◌<◌, ℕ, List, Option, Some, IfSome, length, take, drop, ap, sym, subst, ◌∙◌, arith}
+use Rattle.std.specs.Prelude.{option_map}
+use Rattle.vc_model.specs.Addr.{place_of}
+use Rattle.vc_model.specs.Layout.{Block}
+use Rattle.vc_model.specs.Touch.{HasBlock, HasRange, find_block}
+use Rattle.vc_seg.specs.Segment.{Bytes}
+use Rattle.vc_segments.proofs.Bytes.{bytes_of_number-most}
+use Rattle.vc_segments.proofs.Overwrites.{range-part}
+use Rattle.vc_last.specs.Chain.{IsLast}
+use Rattle.vc_last.specs.Head.{block_of, bytes_at}
+use Rattle.vc_last.specs.Read.{layout_by}
+use Rattle.vc_last.proofs.Moves.{found-by, found-layout}
+use Rattle.vc_last.proofs.Places.{span-least}
+
+-- the range lies in the segment of its block
+pub record RangeIn (o : List Bytes) (a off len : ℕ) : Type 0 where
+  pub fits : off + len ≤ (block_of o a).size
+  pub there : 0 < length (bytes_at o a)
+  pub within : (place_of a).1 + off + len ≤ length (bytes_at o a)
+  pub below : (place_of a).1 + off + len ≤ 33554432
+
+module _ (o : List Bytes) (q a off len : ℕ) (h : IsLast o q) (live : HasBlock (layout_by o q).blocks a) (range : HasRange (layout_by o q).blocks a off len) where
+  pub range-in : RangeIn o a off len
+  range-in =
+      let head = (found-by o q a h live).head in
+      let first = head.first in
+      let end = head.within in
+      let most = bytes_of_number-most (place_of a).0 o h.segments.legal in
+      let inside : off + len ≤ (block_of o a).size = subst (λ (x : Option (Block ℕ)). IfSome x (λ b. off + len ≤ b.size)) (found-layout o q a h live) range in
+      record {
+        fits = inside;
+        there = omega (arith, end, first);
+        within = omega (arith, end, inside, span-least (block_of o a).size);
+        below = omega (arith, end, inside, most, span-least (block_of o a).size);
+      }
+
+  pub read-in : option_map (λ b. take len (drop off b.bytes)) (find_block (place_of a) (layout_by o q).blocks) ≡ Some (take len (drop ((place_of a).1 + off) (bytes_at o a)))
+  read-in = ap (option_map (λ (b : Block ℕ). take len (drop off b.bytes))) (found-layout o q a h live) ∙ ap Some (sym (range-part (bytes_at o a) (place_of a).1 (block_of o a).size off len range-in.fits))

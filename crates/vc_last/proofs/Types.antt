@@ -1,0 +1,46 @@
+-- What the type keeps is a proposition.
+use Rattle.std.proofs.Common.{ℕ, List, [], ◌∷◌}
+use Rattle.std.proofs.Math.Nat.{ℕ_set}
+use Rattle.std.proofs.Math.Bridge.{le_prop}
+use Rattle.std.proofs.Math.Logic.{∥∥₁_elim, ∥∥₁_map}
+use mathlib.Core.List.{is_set}
+use Rattle.vc_model.specs.Discipline.{IsSegmentSize}
+use Rattle.vc_model.specs.Layout.{Block, address_of}
+use Rattle.vc_model.specs.Sound.{IsSound}
+use Rattle.vc_seg.specs.Segment.{AreSegments, Bytes, IsRegionSegment}
+use Rattle.vc_last.specs.Head.{HasHead}
+use Rattle.vc_last.specs.Chain.{IsChain, IsLast, IsLastOf}
+use Rattle.vc_last.specs.Read.{layout_by}
+use Rattle.vc_last.proofs.Kept.{sound-by}
+
+bytes-set : IsSet (List ℕ)
+bytes-set = is_set ℕ_set
+
+block-set : IsSet (Block ℕ)
+block-set = hlevel (ℕ_set, bytes-set)
+
+size-prop : (n : ℕ) → IsProp (IsSegmentSize n)
+size-prop n = hlevel (ℕ_set, le_prop)
+
+segment-prop : (s : Bytes) → IsProp (IsRegionSegment s)
+segment-prop s = hlevel (size-prop, le_prop)
+
+segments-prop : (segs : List Bytes) → IsProp (AreSegments segs)
+segments-prop segs = hlevel (segment-prop, le_prop, ℕ_set)
+
+head-prop : (segs : List Bytes) (b : Block ℕ) → IsProp (HasHead segs b)
+head-prop segs b = hlevel (ℕ_set, le_prop, block-set)
+
+chain-prop : (segs : List Bytes) (p q : ℕ) (bs : List (Block ℕ)) → IsProp (IsChain segs p bs q)
+chain-prop segs p q [] = hlevel (ℕ_set)
+chain-prop segs p q (b ∷ bs) = let rest = chain-prop segs (address_of b) q bs in hlevel (head-prop, ℕ_set, rest)
+
+pub last-prop : (segs : List Bytes) (q : ℕ) (bs : List (Block ℕ)) → IsProp (IsLastOf segs q bs)
+last-prop segs q bs = hlevel (segments-prop, chain-prop, le_prop)
+
+-- so it is had
+pub have : (segs : List Bytes) (q : ℕ) → ∥ IsLast segs q ∥₁ → IsLast segs q
+have segs q h = ∥∥₁_elim h (last-prop segs q _) (λ k. k)
+
+pub have-sound : (segs : List Bytes) (q : ℕ) → ∥ IsLast segs q ∥₁ → ∥ IsSound (layout_by segs q) ∥₁
+have-sound segs q h = ∥∥₁_map h (sound-by segs q)

@@ -1,0 +1,25 @@
+use Rattle.std.proofs.Common.{refl}
+use Rattle.vc_last.proofs.Calls.{free-other, freed-of}
+use Rattle.vc_last.proofs.Moves.{found-by}
+use Rattle.vc_last.proofs.free.free_in.Goals as goal
+
+pub returns-then-a-latest-clause-answer : goal.returns-then-a-latest-clause-answer
+returns-then-a-latest-clause-answer c = (free-other c.args.segs.now c.args.latest.now.0 c.args.a.0 c.requires.kept c.requires.block c.if-a-latest.true, refl)
+
+pub before_at-requires-clause-head : goal.before_at-requires-clause-head
+before_at-requires-clause-head c = (found-by c.args.segs.now c.args.latest.now.0 c.args.a.0 c.requires.kept c.requires.block).head
+
+pub returns-clause-kept : goal.returns-clause-kept
+returns-clause-kept c = (freed-of c.args.segs.now c.args.latest.now.0 c.args.a.0 c.before_at.result.0 c.requires.kept c.requires.block c.if-a-latest.false c.before_at.ensures).kept
+
+pub returns-clause-answer : goal.returns-clause-answer
+returns-clause-answer c = (freed-of c.args.segs.now c.args.latest.now.0 c.args.a.0 c.before_at.result.0 c.requires.kept c.requires.block c.if-a-latest.false c.before_at.ensures).answer
+
+pub returns-clause-one_less : goal.returns-clause-one_less
+returns-clause-one_less c = (freed-of c.args.segs.now c.args.latest.now.0 c.args.a.0 c.before_at.result.0 c.requires.kept c.requires.block c.if-a-latest.false c.before_at.ensures).one_less
+
+pub returns-clause-freed : goal.returns-clause-freed
+returns-clause-freed c = (freed-of c.args.segs.now c.args.latest.now.0 c.args.a.0 c.before_at.result.0 c.requires.kept c.requires.block c.if-a-latest.false c.before_at.ensures).freed
+
+pub returns-clause-none_left : goal.returns-clause-none_left
+returns-clause-none_left c = (freed-of c.args.segs.now c.args.latest.now.0 c.args.a.0 c.before_at.result.0 c.requires.kept c.requires.block c.if-a-latest.false c.before_at.ensures).none_left

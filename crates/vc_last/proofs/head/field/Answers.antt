@@ -1,0 +1,7 @@
+use Rattle.std.proofs.Common.{rules}
+use Rattle.vc_extent.specs.Field.{field_at}
+use Rattle.vc_last.proofs.head.field.Goals as goal
+
+pub returns : goal.returns
+unfolding field_at
+returns c = search rules

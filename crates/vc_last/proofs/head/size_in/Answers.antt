@@ -1,0 +1,45 @@
+use Rattle.std.proofs.Common.{◌+◌, ◌-◌, ap, ◌∙◌, arith}
+use Rattle.vc_model.specs.Resize.{fitted}
+use Rattle.vc_seg.specs.Segment.{Bytes}
+use Rattle.vc_extent.specs.Frame.{StaysOutside}
+use Rattle.vc_extent.proofs.Frames.{field-back, field-front, part-back, then, wider}
+use Rattle.vc_last.proofs.head.size_in.Goals as goal
+
+pub returns-clause-size : goal.returns-clause-size
+returns-clause-size c =
+    let first = c.requires.first in
+    field-front c.set_field.new.seg.bytes c.zero_behind.new.seg.bytes c.args.off c.zero_behind.ensures.rest.below (c.args.off - 16) (omega (arith, first)) ∙ c.set_field.ensures.value
+
+pub returns-clause-label : goal.returns-clause-label
+returns-clause-label c =
+    let first = c.requires.first in
+    field-front c.set_field.new.seg.bytes c.zero_behind.new.seg.bytes c.args.off c.zero_behind.ensures.rest.below (c.args.off - 12) (omega (arith, first))
+    ∙ field-back c.args.seg.now.bytes c.set_field.new.seg.bytes (c.args.off - 16 + 4) c.set_field.ensures.rest.above (c.args.off - 12) (omega (arith, first))
+
+pub returns-clause-before : goal.returns-clause-before
+returns-clause-before c =
+    let first = c.requires.first in
+    field-front c.set_field.new.seg.bytes c.zero_behind.new.seg.bytes c.args.off c.zero_behind.ensures.rest.below (c.args.off - 8) (omega (arith, first))
+    ∙ field-back c.args.seg.now.bytes c.set_field.new.seg.bytes (c.args.off - 16 + 4) c.set_field.ensures.rest.above (c.args.off - 8) (omega (arith, first))
+
+pub returns-clause-zero : goal.returns-clause-zero
+returns-clause-zero c =
+    let first = c.requires.first in
+    field-front c.set_field.new.seg.bytes c.zero_behind.new.seg.bytes c.args.off c.zero_behind.ensures.rest.below (c.args.off - 4) (omega (arith, first))
+    ∙ field-back c.args.seg.now.bytes c.set_field.new.seg.bytes (c.args.off - 16 + 4) c.set_field.ensures.rest.above (c.args.off - 4) (omega (arith, first))
+
+pub returns-clause-bytes : goal.returns-clause-bytes
+returns-clause-bytes c =
+    let first = c.requires.first in
+    c.zero_behind.ensures.bytes
+    ∙ ap (fitted c.args.size) (part-back c.args.seg.now.bytes c.set_field.new.seg.bytes (c.args.off - 16 + 4) c.set_field.ensures.rest.above c.args.off c.args.old (omega (arith, first)))
+
+pub returns-clause-rest : goal.returns-clause-rest
+returns-clause-rest c =
+    let first = c.requires.first in
+    let o : Bytes = c.args.seg.now in
+    let m : Bytes = c.set_field.new.seg in
+    let n : Bytes = c.zero_behind.new.seg in
+    let i : StaysOutside (c.args.off - 16) (c.args.off + c.args.size) o m = wider (c.args.off - 16) (c.args.off - 16 + 4) (c.args.off - 16) (c.args.off + c.args.size) o m c.set_field.ensures.rest (omega arith) (omega (arith, first)) in
+    let j : StaysOutside (c.args.off - 16) (c.args.off + c.args.size) m n = wider c.args.off (c.args.off + c.args.size) (c.args.off - 16) (c.args.off + c.args.size) m n c.zero_behind.ensures.rest (omega arith) (omega arith) in
+    then (c.args.off - 16) (c.args.off + c.args.size) o m n i j

@@ -1,0 +1,12 @@
+use Rattle.std.proofs.Math.Logic.{∥∥₁_map}
+use Rattle.vc_last.specs.Chain.{IsLast}
+use Rattle.vc_last.proofs.Types.{have, have-sound}
+use Rattle.vc_last.proofs.last.Last.compact.Goals as goal
+
+pub compact_in-requires-clause-kept : goal.compact_in-requires-clause-kept
+compact_in-requires-clause-kept g c = (have c.args.self.now.segs.items c.args.self.now.latest.0 c.args.self.now.kept)
+
+pub invariant_of-self : goal.invariant_of-self
+invariant_of-self g c =
+    let kept = ∥∥₁_map c.args.self.now.kept (λ (k : IsLast c.args.self.now.segs.items c.args.self.now.latest.0). c.compact_in.ensures.kept) in
+    record { kept = kept; sound = have-sound c.compact_in.new.segs.items c.args.self.now.latest.0 kept }

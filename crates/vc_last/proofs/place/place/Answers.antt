@@ -1,0 +1,44 @@
+use Rattle.std.proofs.Common.{◌≡◌, ℕ, Option, Some, None, length, ap, sym, ◌∙◌, arith}
+use Rattle.std.specs.Prelude.{option_map}
+use Rattle.std.specs.Option.{option_copied}
+use Rattle.vc_model.specs.Last.{newest, place_behind}
+use Rattle.vc_seg.specs.Segment.{pair_of}
+use Rattle.vc_last.specs.Read.{layout_by}
+use Rattle.vc_last.proofs.Newest.{newest-last}
+use Rattle.vc_last.proofs.Places.{place-none, place-some}
+use Rattle.vc_last.proofs.place.place.Goals as goal
+use Rattle.vc_last.proofs.place.place.Goals.{After-number-number}
+
+abbrev some_pair : ℕ → ℕ → Option (ℕ × ℕ)
+some_pair m k = Some (m, k)
+
+pair : (m n k l : ℕ) → m ≡ n → k ≡ l → some_pair m k ≡ some_pair n l
+pair m n k l e f = λ i. some_pair (e i) (f i)
+
+is : (c : After-number-number) → newest (layout_by c.args.segs.now c.args.latest.0) ≡ Some (pair_of c.in_ok-newest.newest.now)
+is c =
+    sym (ap (λ o. option_map {U = ℕ × ℕ} pair_of (option_copied o)) (sym c.in_ok-newest.was)
+    ∙ (ap (option_map {U = ℕ × ℕ} pair_of) c.last.ensures.value ∙ newest-last c.args.segs.now c.args.latest.0))
+
+pub returns-in_err-newest : goal.returns-in_err-newest
+returns-in_err-newest c =
+    let none : newest (layout_by c.args.segs.now c.args.latest.0) ≡ None =
+    sym (ap (λ o. option_map {U = ℕ × ℕ} pair_of (option_copied o)) (sym c.in_err-newest.was)
+    ∙ (ap (option_map {U = ℕ × ℕ} pair_of) c.last.ensures.value ∙ newest-last c.args.segs.now c.args.latest.0)) in
+    c.from_residual.ensures ∙ sym (ap (place_behind (layout_by c.args.segs.now c.args.latest.0).blocks c.args.size) none)
+
+pub next_offset-off-requires-clause-newest : goal.next_offset-off-requires-clause-newest
+next_offset-off-requires-clause-newest c =
+    ap (option_map (λ (s : ℕ × ℕ). s.0)) (is (goal.at.next_offset-off-requires-clause-newest c).After-number-number) ∙ ap Some (sym c.number-number.ensures)
+
+pub returns-then-off-span_of : goal.returns-then-off-span_of
+returns-then-off-span_of c =
+    let fits = c.if-off-span_of.true in
+    let new : newest (layout_by c.args.segs.now c.args.latest.0) ≡ Some (c.number-number.result, c.size.result) = is (goal.at.returns-then-off-span_of c).After-number-number ∙ sym (pair c.number-number.result c.in_ok-newest.newest.now.number c.size.result (length c.in_ok-newest.newest.now.bytes) c.number-number.ensures c.size.ensures.value) in
+    place-some (layout_by c.args.segs.now c.args.latest.0) c.args.size c.next_offset-off.result (c.number-number.result, c.size.result) new c.next_offset-off.ensures.value (omega (arith, fits, c.span_of.ensures))
+
+pub returns-else-off-span_of : goal.returns-else-off-span_of
+returns-else-off-span_of c =
+    let over = c.if-off-span_of.false in
+    let new : newest (layout_by c.args.segs.now c.args.latest.0) ≡ Some (c.number-number.result, c.size.result) = is (goal.at.returns-else-off-span_of c).After-number-number ∙ sym (pair c.number-number.result c.in_ok-newest.newest.now.number c.size.result (length c.in_ok-newest.newest.now.bytes) c.number-number.ensures c.size.ensures.value) in
+    place-none (layout_by c.args.segs.now c.args.latest.0) c.args.size c.next_offset-off.result (c.number-number.result, c.size.result) new c.next_offset-off.ensures.value (omega (arith, over, c.span_of.ensures))

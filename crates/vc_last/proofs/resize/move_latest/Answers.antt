@@ -1,0 +1,94 @@
+use Rattle.std.proofs.Common.{◌≡◌, ◌≢◌, ℕ, List, Some, IfSome, false, take, ap, sym, ◌∙◌, subst}
+use Rattle.std.specs.Prelude.{option_map}
+use Rattle.vc_model.specs.Addr.{place_of}
+use Rattle.vc_model.specs.Best.{without_block_at}
+use Rattle.vc_model.specs.Layout.{Block}
+use Rattle.vc_model.specs.Touch.{HasBlock, find_block, with_bytes_at}
+use Rattle.vc_seg.specs.Segment.{Bytes}
+use Rattle.vc_last.specs.Chain.{IsLast}
+use Rattle.vc_last.specs.Head.{block_of}
+use Rattle.vc_last.specs.Read.{layout_by}
+use Rattle.vc_last.proofs.Allocs.{IsNew, alloc-new}
+use Rattle.vc_last.proofs.Chains.{latest-some}
+use Rattle.vc_last.proofs.Latest.{IsLatestAt}
+use Rattle.vc_last.proofs.Moves.{IsMove, end-latest, found-layout, latest-among, latest-block, latest-found, before-copied, move-at, moved-own, refused-move}
+use Rattle.vc_last.proofs.Resizes.{moved-is, moved-others, moved-there, resize-moves}
+use Rattle.vc_last.proofs.resize.move_latest.Goals as goal
+use Rattle.vc_last.proofs.resize.move_latest.Goals.{After-copy_front, After-tag_at-tag, After-unlink}
+use Rattle.vc_last.proofs.resize.move_latest.Given.{Over}
+
+-- the latest block has that tag
+record IsTagged (o : List Bytes) (q tag : ℕ) : Type 0 where
+  at : IsLatestAt (layout_by o q) (place_of q)
+  own : tag ≡ at.block.label
+  label : option_map (λ b. b.label) (find_block (place_of q) (layout_by o q).blocks) ≡ Some tag
+
+latest : (o : List Bytes) (q tag : ℕ) (xs : List Bytes) → IsLast o q → q ≢ 0 → xs ≡ o → tag ≡ (block_of xs q).label → IsTagged o q tag
+latest o q tag xs h some same own =
+    let l = latest-found o q h some in
+    let is : tag ≡ (block_of o q).label = own ∙ ap (λ (ys : List Bytes). (block_of ys q).label) same in
+    record {
+      at = l;
+      own = is ∙ ap (λ (b : Block ℕ). b.label) (sym (latest-block o q h some l));
+      label = ap (option_map (λ (b : Block ℕ). b.label)) (found-layout o q q h (latest-among o q h some)) ∙ ap Some (sym is);
+    }
+
+pub tag_at-tag-requires-clause-head : goal.tag_at-tag-requires-clause-head
+tag_at-tag-requires-clause-head g c = rw c.deref.ensures.value (latest-some c.args.segs.now.items c.args.latest.now.0 c.requires.block c.requires.kept).head
+
+pub copy_front-requires-clause-block : goal.copy_front-requires-clause-block
+copy_front-requires-clause-block g c = (move-at c.args.segs.now.items c.alloc_in.new.segs.items c.args.latest.now.0 c.in-Ok.to.0 c.alloc_in.new.latest.0 c.tag_at-tag.result c.args.size c.requires.kept c.requires.block c.in-Ok.ensures.kept c.in-Ok.ensures.latest (alloc-new _ (layout_by c.args.segs.now.items c.args.latest.now.0) c.tag_at-tag.result c.args.size c.in-Ok.to.0 (layout_by c.alloc_in.new.segs.items c.alloc_in.new.latest.0) c.in-Ok.ensures.answer) c.in-Ok.ensures.fresh).block
+
+pub copy_front-requires-clause-to : goal.copy_front-requires-clause-to
+copy_front-requires-clause-to g c = (move-at c.args.segs.now.items c.alloc_in.new.segs.items c.args.latest.now.0 c.in-Ok.to.0 c.alloc_in.new.latest.0 c.tag_at-tag.result c.args.size c.requires.kept c.requires.block c.in-Ok.ensures.kept c.in-Ok.ensures.latest (alloc-new _ (layout_by c.args.segs.now.items c.args.latest.now.0) c.tag_at-tag.result c.args.size c.in-Ok.to.0 (layout_by c.alloc_in.new.segs.items c.alloc_in.new.latest.0) c.in-Ok.ensures.answer) c.in-Ok.ensures.fresh).there
+
+pub copy_front-requires-clause-room : goal.copy_front-requires-clause-room
+copy_front-requires-clause-room g c = (move-at c.args.segs.now.items c.alloc_in.new.segs.items c.args.latest.now.0 c.in-Ok.to.0 c.alloc_in.new.latest.0 c.tag_at-tag.result c.args.size c.requires.kept c.requires.block c.in-Ok.ensures.kept c.in-Ok.ensures.latest (alloc-new _ (layout_by c.args.segs.now.items c.args.latest.now.0) c.tag_at-tag.result c.args.size c.in-Ok.to.0 (layout_by c.alloc_in.new.segs.items c.alloc_in.new.latest.0) c.in-Ok.ensures.answer) c.in-Ok.ensures.fresh).room
+
+-- what was put, and that the latest block can move there
+new : (g : Over) (c : After-copy_front g) → IsNew (layout_by c.args.segs.now.items c.args.latest.now.0) c.tag_at-tag.result c.args.size c.in-Ok.to.0 (layout_by c.alloc_in.new.segs.items c.alloc_in.new.latest.0)
+new g c = alloc-new _ (layout_by c.args.segs.now.items c.args.latest.now.0) c.tag_at-tag.result c.args.size c.in-Ok.to.0 (layout_by c.alloc_in.new.segs.items c.alloc_in.new.latest.0) c.in-Ok.ensures.answer
+
+move : (g : Over) (c : After-copy_front g) → IsMove c.alloc_in.new.segs.items c.args.latest.now.0 c.in-Ok.to.0 c.args.size
+move g c = move-at c.args.segs.now.items c.alloc_in.new.segs.items c.args.latest.now.0 c.in-Ok.to.0 c.alloc_in.new.latest.0 c.tag_at-tag.result c.args.size c.requires.kept c.requires.block c.in-Ok.ensures.kept c.in-Ok.ensures.latest (alloc-new _ (layout_by c.args.segs.now.items c.args.latest.now.0) c.tag_at-tag.result c.args.size c.in-Ok.to.0 (layout_by c.alloc_in.new.segs.items c.alloc_in.new.latest.0) c.in-Ok.ensures.answer) c.in-Ok.ensures.fresh
+
+pub unlink-requires-clause-to : goal.unlink-requires-clause-to
+unlink-requires-clause-to g c = (move g (goal.at.unlink-requires-clause-to g c).After-copy_front).some
+
+pub unlink-requires-clause-before : goal.unlink-requires-clause-before
+unlink-requires-clause-before g c =
+    let mv = move g (goal.at.unlink-requires-clause-before g c).After-copy_front in
+    before-copied c.alloc_in.new.segs.items c.copy_front.new.segs.items c.args.latest.now.0 c.in-Ok.to.0 (take c.args.size (block_of c.alloc_in.new.segs.items c.args.latest.now.0).bytes) (subst (IsLast c.alloc_in.new.segs.items) c.in-Ok.ensures.latest c.in-Ok.ensures.kept) mv.some c.requires.block mv.before c.copy_front.ensures.kept c.copy_front.ensures.layout
+
+-- the region then, by the block that moved
+own : (g : Over) (c : After-unlink g) → HasBlock (layout_by c.alloc_in.new.segs.items c.in-Ok.to.0).blocks c.args.latest.now.0 → IfSome (find_block (place_of c.args.latest.now.0) (layout_by c.alloc_in.new.segs.items c.alloc_in.new.latest.0).blocks) (λ b. (layout_by c.unlink.new.segs.items c.alloc_in.new.latest.0) ≡ without_block_at (with_bytes_at (layout_by c.alloc_in.new.segs.items c.alloc_in.new.latest.0) (place_of c.in-Ok.to.0) 0 (take c.args.size b.bytes)) (place_of c.args.latest.now.0))
+own g c there = moved-own c.alloc_in.new.segs.items c.copy_front.new.segs.items c.unlink.new.segs.items c.args.latest.now.0 c.in-Ok.to.0 c.alloc_in.new.latest.0 c.args.size c.in-Ok.ensures.kept c.in-Ok.ensures.latest there c.copy_front.ensures.layout c.unlink.ensures.layout
+
+tagged : (g : Over) (c : After-tag_at-tag g) → IsTagged c.args.segs.now.items c.args.latest.now.0 c.tag_at-tag.result
+tagged g c = latest c.args.segs.now.items c.args.latest.now.0 c.tag_at-tag.result c.deref.result.now c.requires.kept c.requires.block c.deref.ensures.value c.tag_at-tag.ensures
+
+pub returns-in-Ok-clause-answer : goal.returns-in-Ok-clause-answer
+returns-in-Ok-clause-answer g c =
+    let at = goal.at.returns-in-Ok-clause-answer g c in
+    let l = tagged g at.After-tag_at-tag in
+    let can = end-latest c.args.segs.now.items c.args.latest.now.0 c.requires.kept c.requires.block c.args.size false c.requires.ends l.at in
+    resize-moves _ (layout_by c.args.segs.now.items c.args.latest.now.0) (layout_by c.alloc_in.new.segs.items c.alloc_in.new.latest.0) (layout_by c.unlink.new.segs.items c.alloc_in.new.latest.0) c.args.latest.now.0 c.in-Ok.to.0 c.tag_at-tag.result c.args.size l.at can l.label c.in-Ok.ensures.answer
+    (moved-is (layout_by c.args.segs.now.items c.args.latest.now.0) (layout_by c.alloc_in.new.segs.items c.alloc_in.new.latest.0) (layout_by c.unlink.new.segs.items c.alloc_in.new.latest.0) c.args.latest.now.0 c.in-Ok.to.0 c.tag_at-tag.result c.args.size l.at (new g at.After-copy_front) c.in-Ok.ensures.fresh (own g at.After-unlink (move g at.After-copy_front).block))
+
+pub returns-in-Ok-clause-there : goal.returns-in-Ok-clause-there
+returns-in-Ok-clause-there g c =
+    let at = goal.at.returns-in-Ok-clause-there g c in
+    let l = tagged g at.After-tag_at-tag in
+    moved-there (layout_by c.args.segs.now.items c.args.latest.now.0) (layout_by c.alloc_in.new.segs.items c.alloc_in.new.latest.0) (layout_by c.unlink.new.segs.items c.alloc_in.new.latest.0) c.args.latest.now.0 c.in-Ok.to.0 c.tag_at-tag.result c.args.size l.at (new g at.After-copy_front) c.in-Ok.ensures.fresh (own g at.After-unlink (move g at.After-copy_front).block) l.label
+
+pub returns-in-Ok-clause-others : goal.returns-in-Ok-clause-others
+returns-in-Ok-clause-others g c =
+    let at = goal.at.returns-in-Ok-clause-others g c in
+    let l = tagged g at.After-tag_at-tag in
+    moved-others (layout_by c.args.segs.now.items c.args.latest.now.0) (layout_by c.alloc_in.new.segs.items c.alloc_in.new.latest.0) (layout_by c.unlink.new.segs.items c.alloc_in.new.latest.0) c.args.latest.now.0 c.in-Ok.to.0 c.tag_at-tag.result c.args.size l.at (new g at.After-copy_front) c.in-Ok.ensures.fresh (own g at.After-unlink (move g at.After-copy_front).block)
+
+pub returns-in-Err-clause-answer : goal.returns-in-Err-clause-answer
+returns-in-Err-clause-answer g c =
+    let l = tagged g (goal.at.returns-in-Err-clause-answer g c).After-tag_at-tag in
+    let can = end-latest c.args.segs.now.items c.args.latest.now.0 c.requires.kept c.requires.block c.args.size false c.requires.ends l.at in
+    (refused-move _ (layout_by c.args.segs.now.items c.args.latest.now.0) c.args.latest.now.0 c.tag_at-tag.result c.args.size l.at can l.own c.in-Err.fault c.in-Err.ensures.answer.0, c.in-Err.ensures.answer.1)

@@ -1,0 +1,40 @@
+use Rattle.std.proofs.Common.{◌≡◌, ◌<◌, ◌++◌, [], ◌∷◌, ℕ, List, length, map, ap, sym, subst, ◌∙◌}
+use Rattle.vc_model.specs.Layout.{Block}
+use Rattle.vc_blocks.specs.Tally.{HasRoom, tallied, tallied_all}
+use Rattle.vc_last.specs.Chain.{IsLast, blocks_from}
+use Rattle.vc_last.specs.Head.{before_of, block_of}
+use Rattle.vc_last.proofs.Backs.{sizes-last, sizes_back}
+use Rattle.vc_last.proofs.Chains.{latest-none, latest-some}
+use Rattle.vc_last.proofs.Folds.{step-part, step-rest, step-room}
+use Rattle.vc_last.proofs.Walks.{shorter}
+use Rattle.vc_last.proofs.stat.tally_blocks.Goals as goal
+
+pub loop-at-smaller : goal.loop-at-smaller
+loop-at-smaller c =
+    subst (λ a. length (blocks_from c.args.segs.now a) < length (blocks_from c.args.segs.now c.loop-at.at.0)) (sym c.before_at-at.ensures)
+    (shorter c.args.segs.now c.loop-at.at.0 c.loop-at.invariant.kept c.loop-at-test.true)
+
+pub before_at-at-requires-clause-head : goal.before_at-at-requires-clause-head
+before_at-at-requires-clause-head c = (latest-some c.args.segs.now c.loop-at.at.0 c.loop-at-test.true c.loop-at.invariant.kept).head
+
+pub size_at-requires-clause-head : goal.size_at-requires-clause-head
+size_at-requires-clause-head c = (latest-some c.args.segs.now c.loop-at.at.0 c.loop-at-test.true c.loop-at.invariant.kept).head
+
+pub with-tally-requires : goal.with-tally-requires
+with-tally-requires c =
+    subst (λ n. HasRoom c.loop-at.tally (n ∷ [])) (sym c.size_at.ensures.value)
+    (step-part c.loop-at.tally (sizes_back c.args.segs.now c.loop-at.at.0) (sizes_back c.args.segs.now (before_of c.args.segs.now c.loop-at.at.0)) ((block_of c.args.segs.now c.loop-at.at.0).size ∷ []) (sizes-last c.args.segs.now c.loop-at.at.0 c.loop-at.invariant.kept c.loop-at-test.true) c.loop-at.invariant.room)
+
+pub loop-at-preserved : goal.loop-at-preserved
+loop-at-preserved c =
+    let all : sizes_back c.args.segs.now c.loop-at.at.0 ≡ sizes_back c.args.segs.now c.before_at-at.result.0 ++ (block_of c.args.segs.now c.loop-at.at.0).size ∷ [] =
+    sizes-last c.args.segs.now c.loop-at.at.0 c.loop-at.invariant.kept c.loop-at-test.true ∙ ap (λ a. sizes_back c.args.segs.now a ++ (block_of c.args.segs.now c.loop-at.at.0).size ∷ []) (sym c.before_at-at.ensures) in
+    let more = c.with-tally.ensures ∙ ap (tallied c.loop-at.tally) c.size_at.ensures.value in
+    record {
+      kept = subst (IsLast c.args.segs.now) (sym c.before_at-at.ensures) (latest-some c.args.segs.now c.loop-at.at.0 c.loop-at-test.true c.loop-at.invariant.kept).kept;
+      room = step-room c.loop-at.tally c.with-tally.result (sizes_back c.args.segs.now c.loop-at.at.0) (sizes_back c.args.segs.now c.before_at-at.result.0) ((block_of c.args.segs.now c.loop-at.at.0).size ∷ []) all more c.loop-at.invariant.room;
+      rest = step-rest c.loop-at.tally c.with-tally.result (sizes_back c.args.segs.now c.loop-at.at.0) (sizes_back c.args.segs.now c.before_at-at.result.0) ((block_of c.args.segs.now c.loop-at.at.0).size ∷ []) all more ∙ c.loop-at.invariant.rest;
+    }
+
+pub returns : goal.returns
+returns c = sym (ap (λ a. tallied_all c.loop-at.tally (sizes_back c.args.segs.now a)) c.loop-at-test.false ∙ ap (λ (bs : List (Block ℕ)). tallied_all c.loop-at.tally (map (λ (b : Block ℕ). b.size) bs)) (latest-none c.args.segs.now)) ∙ c.loop-at.invariant.rest

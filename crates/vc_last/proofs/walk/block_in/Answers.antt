@@ -1,0 +1,58 @@
+use Rattle.std.proofs.Common.{◌≡◌, ◌<◌, ◌-◌, ℕ, Option, None, Some, length, ap, sym, subst, ◌∙◌}
+use Rattle.std.specs.Prelude.{option_map}
+use Rattle.std.specs.List.{find}
+use Rattle.vc_model.specs.Addr.{place_of}
+use Rattle.vc_model.specs.Layout.{Block, address_of}
+use Rattle.vc_model.specs.Walk.{holds_byte}
+use Rattle.vc_last.specs.Chain.{IsLast, blocks_from}
+use Rattle.vc_last.specs.Head.{block_of}
+use Rattle.vc_last.proofs.Chains.{latest-some}
+use Rattle.vc_last.proofs.Walks.{block-is, find-among, find-end, find-here, find-step, shorter}
+use Rattle.vc_last.proofs.walk.block_in.Goals as goal
+
+abbrev some_pair : ℕ → ℕ → Option (ℕ × ℕ)
+some_pair m k = Some (m, k)
+
+pair : (m n k l : ℕ) → m ≡ n → k ≡ l → some_pair m k ≡ some_pair n l
+pair m n k l e f = λ i. some_pair (e i) (f i)
+
+pub holds-requires-clause-head : goal.holds-requires-clause-head
+holds-requires-clause-head c = (latest-some c.args.segs.now c.loop-at.at.0 c.loop-at-test.true c.loop-at.invariant.kept).head
+
+pub before_at-at-requires-clause-head : goal.before_at-at-requires-clause-head
+before_at-at-requires-clause-head c = (latest-some c.args.segs.now c.loop-at.at.0 c.loop-at-test.true c.loop-at.invariant.kept).head
+
+pub loop-at-preserved : goal.loop-at-preserved
+loop-at-preserved c =
+    let segs = c.args.segs.now in
+    let l = latest-some segs c.loop-at.at.0 c.loop-at-test.true c.loop-at.invariant.kept in
+    record {
+      kept = subst (IsLast segs) (sym c.before_at-at.ensures) l.kept;
+      rest = ap (λ a. find (holds_byte (c.args.seg, c.args.off)) (blocks_from segs a)) c.before_at-at.ensures
+          ∙ (find-step segs c.loop-at.at.0 c.args.seg c.args.off c.loop-at.invariant.kept c.loop-at-test.true (sym c.holds.ensures ∙ c.if-holds.false) ∙ c.loop-at.invariant.rest);
+    }
+
+pub loop-at-smaller : goal.loop-at-smaller
+loop-at-smaller c =
+    subst (λ a. length (blocks_from c.args.segs.now a) < length (blocks_from c.args.segs.now c.loop-at.at.0)) (sym c.before_at-at.ensures)
+    (shorter c.args.segs.now c.loop-at.at.0 c.loop-at.invariant.kept c.loop-at-test.true)
+
+pub returns-then-holds-clause-value : goal.returns-then-holds-clause-value
+returns-then-holds-clause-value c =
+    let segs = c.args.segs.now in
+    let l = latest-some segs c.loop-at.at.0 c.loop-at-test.true c.loop-at.invariant.kept in
+    let is = block-is segs c.args.latest.0 c.args.seg c.args.off (Some (block_of segs c.loop-at.at.0))
+    (sym (find-here segs c.loop-at.at.0 c.args.seg c.args.off c.loop-at.invariant.kept c.loop-at-test.true (sym c.holds.ensures ∙ c.if-holds.true)) ∙ c.loop-at.invariant.rest) in
+    sym (ap (option_map {U = ℕ × ℕ} (λ (f : Block ℕ × ℕ). (address_of f.0, f.1))) is ∙ pair (address_of (block_of segs c.loop-at.at.0)) c.loop-at.at.0 (c.args.off - (place_of c.loop-at.at.0).1) (c.args.off - c.off.result) l.at (ap (λ k. c.args.off - k) (sym c.off.ensures)))
+
+pub returns-then-holds-clause-live : goal.returns-then-holds-clause-live
+returns-then-holds-clause-live c =
+    let segs = c.args.segs.now in
+    let l = latest-some segs c.loop-at.at.0 c.loop-at-test.true c.loop-at.invariant.kept in
+    find-among segs c.args.latest.0 c.loop-at.at.0 (holds_byte (c.args.seg, c.args.off))
+    (sym (find-here segs c.loop-at.at.0 c.args.seg c.args.off c.loop-at.invariant.kept c.loop-at-test.true (sym c.holds.ensures ∙ c.if-holds.true)) ∙ c.loop-at.invariant.rest) l.at
+
+pub returns-clause-value : goal.returns-clause-value
+returns-clause-value c =
+    sym (ap (option_map {U = ℕ × ℕ} (λ (f : Block ℕ × ℕ). (address_of f.0, f.1)))
+    (block-is c.args.segs.now c.args.latest.0 c.args.seg c.args.off None (sym (find-end c.args.segs.now c.loop-at.at.0 c.args.seg c.args.off c.loop-at-test.false) ∙ c.loop-at.invariant.rest)))

@@ -1,0 +1,56 @@
+ghost use Rattle.std.specs.Prelude.{◌≡◌, ◌≢◌, ℕ, ◌+◌, ◌<◌, ◌≤◌, All, length, take, drop};
+ghost use Rattle.std.specs.List.{HoldsAt};
+ghost use Rattle.vc_model.specs.Bytes.{with_bytes};
+ghost use Rattle.vc_seg.specs.Segment.{AreSegments};
+ghost use Rattle.vc_segments.specs.Memory.{bytes_of_number};
+ghost use Rattle.vc_last.specs.Head.{StaysBut};
+
+use vc_seg::{Segment, find_number};
+
+/// Where the segment of that number is among these. There is one. Numbers are given from 1 on, so it mostly stands where
+/// its number says.
+#[inline(always)]
+pub(crate) fn place_of_number(segs: &[Segment], number: u32) -> usize
+    requires segments { AreSegments segs.now }
+    requires there { 0 < length (bytes_of_number number segs.now) }
+    ensures within { result < length segs.now }
+    ensures number { HoldsAt (λ s. s.number ≡ number) segs.now result }
+    ensures first { All (λ s. s.number ≢ number) (take result segs.now) }
+{
+    if number > 0 {
+        let near = number as usize - 1;
+        if near < segs.len() && segs[near].number() == number {
+            return near;
+        }
+    }
+    match find_number(segs, number) {
+        Some(place) => place,
+        None => unreachable!(),
+    }
+}
+
+/// The bytes of a range of the segment of that number. There is one.
+#[inline(always)]
+pub(crate) fn bytes_in(segs: &[Segment], number: u32, at: u32, len: u32) -> &[u8]
+    requires segments { AreSegments segs.now }
+    requires there { 0 < length (bytes_of_number number segs.now) }
+    requires within { at + len ≤ length (bytes_of_number number segs.now) }
+    ensures { result.now ≡ take len (drop at (bytes_of_number number segs.now)) }
+{
+    let place = place_of_number(segs, number);
+    segs[place].bytes(at, len)
+}
+
+/// Puts bytes into the segment of that number, from an offset on. There is one.
+#[inline(always)]
+pub(crate) fn put_in(segs: &mut [Segment], number: u32, at: u32, src: &[u8])
+    requires segments { AreSegments segs.old }
+    requires there { 0 < length (bytes_of_number number segs.old) }
+    requires within { at + length src.now ≤ length (bytes_of_number number segs.old) }
+    ensures bytes { bytes_of_number number segs.new
+        ≡ with_bytes at src.now (bytes_of_number number segs.old) }
+    ensures rest { StaysBut number at (at + length src.now) segs.old segs.new }
+{
+    let place = place_of_number(segs, number);
+    segs[place].put(at, src);
+}
