@@ -1,5 +1,5 @@
 -- What a region's answer leaves of its discipline, and what a fault of it tells.
-use Rattle.std.proofs.Common.{◌≡◌, ◌≢◌, ℕ, Bool, List, ◌++◌, Some, Result, Ok, Err, IfOk, option_map, refl, sym, ap, ◌∙◌, subst, arith, ◌-◌, length, map, take}
+use Rattle.std.proofs.Common.{◌≡◌, ◌≢◌, ℕ, Bool, List, ◌++◌, Some, Result, Ok, Err, IfOk, option_map, refl, sym, ap, ◌∙◌, subst, arith, ◌-◌, length, take}
 use Rattle.std.proofs.lemmas.Option.{same_Some, none-some}
 use Rattle.vc_base.specs.declared.addr.Addr.{Addr}
 use Rattle.vc_base.specs.Cells.{Blocks}

@@ -6,6 +6,7 @@ use Rattle.std.proofs.lemmas.Bool.Decides.{eqb_tells}
 use Rattle.vc_base.specs.declared.addr.Addr.{Addr}
 use Rattle.vc_base.specs.Cells.{Blocks, HasBytes, word_at}
 use Rattle.vc_base.specs.Holders.{contains, some_address}
+use Rattle.vc_dtdisc.specs.Objects.{Object, bytes_of, first_with, has_key}
 use Rattle.vc_dtdisc.specs.Rules.{Rules}
 use Rattle.vc_dtlist.specs.Linked.{number_of}
 use Rattle.vc_dtlist.proofs.KeptLemmas.{within-head, within-tail}
@@ -14,8 +15,7 @@ use Rattle.vc_dict.specs.Listed.{holders_from, holders_of}
 use Rattle.vc_dict.proofs.OwnLemmas.{holder-address, holder-there}
 use Rattle.vc_best.specs.Cells.{cells_in}
 use Rattle.vc_best.specs.declared.best.Best.{Best}
-use Rattle.vc_objects.specs.Lists.{first_with, has_key}
-use Rattle.vc_objects.specs.Objects.{Dictionary, Object}
+use Rattle.vc_objects.specs.Objects.{Dictionary}
 use Rattle.vc_objects.specs.Parts.{IsWhole, dictionary_in, object_of}
 use Rattle.vc_commands.specs.DictRun.{IsOfHolder, object_there}
 
@@ -29,8 +29,8 @@ module _ (P : Object → Type 0) where
   find-each p [] all = tt
   find-each p (o ∷ os) all = either (p o) (Some o) (find p os) all.0 (find-each p os all.1)
 
-  pub with-each : (rules : Rules) (key : List ℕ) (os : List Object) → AllByRecursion P os → IfSome (first_with rules key os) P
-  with-each rules key os all = find-each (has_key rules key) os all
+  pub with-each : (rules : Rules) (key : List ℕ) (os : List Object) → AllByRecursion P os → IfSome (first_with bytes_of rules key os) P
+  with-each rules key os all = find-each (λ o. has_key rules key o.bytes) os all
 
 -- an object is that of one of the holders
 pub record IsHeld (b : Blocks) (xs : List ℕ) (o : Object) : Type 0 where

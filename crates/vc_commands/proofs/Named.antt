@@ -6,9 +6,9 @@ use Rattle.vc_model.specs.Layout.{Layout, relabel_layout}
 use Rattle.vc_model.specs.Outcome as model
 use Rattle.vc_model.specs.Outcome.{Outcome, done_as}
 use Rattle.vc_base.specs.Methods.{is_list}
+use Rattle.vc_dtdisc.specs.Objects.{Object}
 use Rattle.vc_objects.specs.Insert.{Inserted}
 use Rattle.vc_objects.specs.Leaves.{LacksHolder, LacksTable}
-use Rattle.vc_objects.specs.Objects.{Object}
 use Rattle.vc_objects.specs.Remove.{Removed, bytes_of, emptied, remove}
 use Rattle.vc_objects.specs.Turn.{Turned, turn}
 use Rattle.vc_objects.proofs.Named.{freed_all-named, insert-named, relabel_turned, remove-named, remove_unnamed-named, turn-named}

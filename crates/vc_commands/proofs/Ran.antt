@@ -15,6 +15,7 @@ use Rattle.vc_best.specs.declared.best.Best.{Best}
 use Rattle.vc_objects.specs.Insert.{slots_wanted}
 use Rattle.vc_objects.specs.Objects.{Dictionary, slots_of}
 use Rattle.vc_objects.specs.Parts.{dictionary_in}
+use Rattle.vc_objects.specs.Promises.{IsStill}
 use Rattle.vc_script.specs.Needs.{Need, ForObject, ForTable, NoNeed, need_shown}
 use Rattle.vc_script.specs.declared.command.Command.{Command}
 use Rattle.vc_script.specs.declared.command.Command.TheVariants.{Insert, Append, Attach, Delete, Detach, Count, Remethod, Empty}
@@ -22,7 +23,7 @@ use Rattle.vc_script.specs.declared.refusal.Refusal.TheVariants.{NoDictionary, N
 use Rattle.vc_script.specs.declared.reply.Reply.{Reply}
 use Rattle.vc_script.specs.declared.reply.Reply.TheVariants.{Refused}
 use Rattle.vc_commands.specs.DictCommands.{append_in, asks, in_dict}
-use Rattle.vc_commands.specs.DictRun.{AskedFor, GivesDict, IsSpent, IsSpentBy, IsStill, LacksFor}
+use Rattle.vc_commands.specs.DictRun.{AskedFor, GivesDict, IsSpent, IsSpentBy, LacksFor}
 use Rattle.vc_commands.specs.Seat.{Seat, declined}
 
 -- a reply that needs nothing lacks nothing

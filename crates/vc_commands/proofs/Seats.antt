@@ -1,6 +1,6 @@
 -- What one call after another does to a dictionary and its region.
-use Rattle.std.proofs.Common.{◌≡◌, ℕ, List, [], Bool, true, false, Option, Some, None, refl, sym, ap, ◌∙◌}
-use Rattle.std.specs.Prelude.{if◌then◌else◌}
+use Rattle.std.proofs.Common.{◌≡◌, ℕ, List, [], Bool, true, false, Option, Some, None, refl, sym, ap, ◌∙◌, subst}
+use Rattle.std.specs.Prelude.{IfOk, Ok, Result, if◌then◌else◌}
 use Rattle.vc_model.specs.Layout.{Layout}
 use Rattle.vc_base.specs.Holders.{contains}
 use Rattle.vc_base.specs.declared.dict_method.DictMethod.{DictMethod}
@@ -9,25 +9,25 @@ use Rattle.vc_model.specs.Outcome as model
 use Rattle.vc_model.specs.Outcome.{Fault, Outcome}
 use Rattle.vc_dtdisc.specs.Rules.{Gone, Rules}
 use Rattle.vc_dict.specs.declared.dict.Dict.{Dict}
-use Rattle.vc_best.specs.Cells.{cells_in}
+use Rattle.vc_best.specs.Cells.{cells_in, rest_in}
 use Rattle.vc_best.specs.Parts.{disc_in, segments_in}
 use Rattle.vc_best.specs.declared.best.Best.{Best}
-use Rattle.vc_objects.specs.Insert.{insert, want_of}
-use Rattle.vc_objects.specs.Leaves.{GivesInserted, GivesRemoved, GivesTurned, LeavesRest, Looks, no_holder, no_table, told_each, told_if}
+use Rattle.vc_objects.specs.Insert.{insert, slots_wanted, want_of}
+use Rattle.vc_objects.specs.Leaves.{Asked, GivesInserted, GivesRemoved, GivesTurned, LeavesRest, Looks, no_holder, no_table, told_each, told_if}
 use Rattle.vc_objects.specs.Objects.{Dictionary, listed, owned}
 use Rattle.vc_objects.specs.Parts.{dictionary_in}
-use Rattle.vc_objects.specs.Remove.{Removed}
+use Rattle.vc_objects.specs.Remove.{Removed, remove}
 use Rattle.vc_objects.proofs.Leaving.{keeps-trans}
 use Rattle.vc_objects.specs.Turn.{Turned}
 use Rattle.vc_objects.specs.declared.fate.Fate.{Fate}
 use Rattle.vc_objects.specs.declared.fate.Fate.TheVariants.{Stored, NoTable, NoHolder}
 use Rattle.vc_objects.specs.declared.fate.Want.TheVariants as want
-use Rattle.vc_script.specs.Needs.{need_shown}
+use Rattle.vc_script.specs.Needs.{Need, need_shown}
 use Rattle.vc_script.specs.declared.reply.Reply.{Reply}
 use Rattle.vc_script.specs.declared.reply.Reply.TheVariants.{MethodIs, Refused}
-use Rattle.vc_commands.specs.DictCommands.{fate_reply, gone_reply, put_object, removed_as, table_refusal, turned_as}
-use Rattle.vc_commands.specs.DictRun.{GivesDict}
-use Rattle.vc_commands.specs.Seat.{Seat}
+use Rattle.vc_commands.specs.DictCommands.{fate_reply, gone_reply, is_object, put_object, remove_in, removed_as, table_refusal, turned_as}
+use Rattle.vc_commands.specs.DictRun.{AskedFor, Gives, GivesDict, LacksFor, RunsDict, seat_in}
+use Rattle.vc_commands.specs.Seat.{DictChanged, Seat}
 
 abbrev seat_by : Rules → Terms → Layout ℕ → Dictionary → Seat ℕ
 seat_by rules terms region dict = record { rules = rules; terms = terms; none = 0; region = region; dict = dict }
@@ -55,6 +55,23 @@ module _ {I : Type 0} {V : I → Type 0} (meaning : (x : I) × V x → Disciplin
         };
       }
 
+-- a command behind a look does what it would have done before it
+pub runs-looked : {I : Type 0} {V : I → Type 0} (meaning : (x : I) × V x → Discipline) {E : Type 0} (result : Result Reply E) (rules : Rules) (gives : Seat ℕ → Need → DictChanged ℕ) (object : List ℕ)
+    (r : Best I V) (d : Dict) (r' : Best I V) (d' : Dict) (r'' : Best I V) (d'' : Dict) (told told' : Gone) → Looks meaning rules r d r' d'
+    → RunsDict meaning result rules (gives (seat_in meaning rules r' d')) (slots_wanted (dictionary_in d' r')) object r' d' told r'' d'' told'
+    → RunsDict meaning result rules (gives (seat_in meaning rules r d)) (slots_wanted (dictionary_in d r)) object r d told r'' d'' told'
+runs-looked meaning result rules gives object r d r' d' r'' d'' told told' l runs =
+    let same : seat_in meaning rules r' d' ≡ seat_in meaning rules r d =
+    ap (λ (x : Discipline). seat_by rules x.terms (rest_in r') (dictionary_in d' r')) l.disc
+    ∙ (ap (λ q. seat_by rules (disc_in meaning r).terms q (dictionary_in d' r')) l.region ∙ ap (λ c. seat_by rules (disc_in meaning r).terms (rest_in r) c) l.dict) in
+    record {
+      step = subst (λ s. IfOk result (λ reply. Gives (gives s (need_shown reply)) r'' d'' reply told told')) same runs.step;
+      leaves = leaves-looked meaning rules r d r' d' l r'' d'' runs.leaves;
+      asked =
+          subst (λ c. AskedFor result (slots_wanted c) object (disc_in meaning r) (disc_in meaning r'')) l.dict
+          (subst (λ x. AskedFor result (slots_wanted (dictionary_in d' r')) object x (disc_in meaning r'')) l.disc runs.asked);
+    }
+
 -- what is put is told by its reply
 pub put-told : (rules : Rules) (terms : Terms) (q : Layout ℕ) (c : Dictionary) (append : Bool) (bytes : List ℕ) (fate : Fate) (r : Layout ℕ) (d : Dictionary) (gone : Gone)
     → GivesInserted (insert rules terms q 0 c append bytes (no_table fate) (no_holder fate)) r d fate
@@ -64,6 +81,14 @@ put-told rules terms q c append bytes (NoTable want.TooManySegments) r d gone g 
 put-told rules terms q c append bytes (NoTable want.NoSegment) r d gone g = record { region = g.region; dict = g.dict; reply = ap (fate_reply bytes) g.fate; told = refl }
 put-told rules terms q c append bytes (NoHolder want.TooManySegments) r d gone g = record { region = g.region; dict = g.dict; reply = ap (fate_reply bytes) g.fate; told = refl }
 put-told rules terms q c append bytes (NoHolder want.NoSegment) r d gone g = record { region = g.region; dict = g.dict; reply = ap (fate_reply bytes) g.fate; told = refl }
+
+-- and so is what it asked for
+pub put-asked : (E : Type 0) (bytes : List ℕ) (fate : Fate) (slots : Option ℕ) (old new : Discipline) → Asked {E = E} (Ok fate) slots bytes old new → LacksFor slots bytes (fate_reply bytes fate) old new
+put-asked E bytes Stored slots old new h = h
+put-asked E bytes (NoTable want.TooManySegments) slots old new h = h
+put-asked E bytes (NoTable want.NoSegment) slots old new h = h
+put-asked E bytes (NoHolder want.TooManySegments) slots old new h = h
+put-asked E bytes (NoHolder want.NoSegment) slots old new h = h
 
 -- what is turned is told by its reply
 pub turn-told : (s : Seat ℕ) (name : List ℕ) (method : DictMethod) (o : Outcome (Turned ℕ)) (r : Layout ℕ) (d : Dictionary) (gone gone' : Gone)
@@ -91,3 +116,11 @@ take-told tells c o r d answer gone gone' g e f = record {
   reply = ap (gone_reply tells) g.gone ∙ sym f;
   told = e ∙ (told-listed tells o gone ∙ ap (λ x. told_each (if tells then listed x else []) gone) (sym g.gone));
 }
+
+-- of the object of a command, by the key that was asked for
+pub take-found : (s : Seat ℕ) (tells : Bool) (bytes key : List ℕ) (o : Option (List ℕ)) (r : Layout ℕ) (d : Dictionary) (answer : Reply) (gone gone' : Gone)
+    → is_object bytes ≡ true → key ≡ s.rules.key bytes → GivesRemoved (remove s.rules s.region s.dict key) r d o → gone' ≡ told_if tells o gone → answer ≡ gone_reply tells o → GivesDict (remove_in s tells bytes) r d answer gone gone'
+take-found s tells bytes key o r d answer gone gone' is e g told f =
+    rw is
+    (subst (λ k. GivesDict (removed_as tells (remove s.rules s.region s.dict k)) r d answer gone gone') e
+    (take-told tells (remove s.rules s.region s.dict key) o r d answer gone gone' g told f))

@@ -4,10 +4,11 @@ use Rattle.vc_base.specs.declared.dict_method.DictMethod.{DictMethod}
 use Rattle.vc_model.specs.Outcome as model
 use Rattle.vc_model.specs.Outcome.{Outcome}
 use Rattle.vc_base.specs.Methods.{is_list, is_set}
+use Rattle.vc_dtdisc.specs.Objects as objects
+use Rattle.vc_dtdisc.specs.Objects.{Object, first_with}
 use Rattle.vc_dict.specs.Methods.{slots_between}
 use Rattle.vc_objects.specs.Insert.{Inserted, insert, slots_wanted, want_of}
-use Rattle.vc_objects.specs.Lists.{first_with}
-use Rattle.vc_objects.specs.Objects.{Object, listed}
+use Rattle.vc_objects.specs.Objects.{listed}
 use Rattle.vc_objects.specs.Remove.{Removed, bytes_of, emptied, freed_all, remove, remove_unnamed}
 use Rattle.vc_objects.specs.Turn.{Turned, turn}
 use Rattle.vc_objects.specs.declared.fate.Fate.{Fate}
@@ -66,7 +67,10 @@ put_object s append bytes need =
 
 -- the object of a set that an object matches
 abbrev pub standing : {L : Type 0} → Seat L → List ℕ → Option Object
-standing s bytes = if is_set s.dict.method then first_with s.rules (s.rules.key bytes) s.dict.objects else None
+standing s bytes =
+    if is_set s.dict.method
+    then first_with objects.bytes_of s.rules (s.rules.key bytes) s.dict.objects
+    else None
 
 abbrev pub put_unless : {L : Type 0} → Seat L → List ℕ → Need → Option Object → DictChanged L
 put_unless s bytes need (Some o) = answered s (Old o.bytes)
@@ -75,6 +79,13 @@ put_unless s bytes need None = put_object s false bytes need
 -- an object is put, unless one of a set matches it
 abbrev pub insert_in : {L : Type 0} → Seat L → List ℕ → Need → DictChanged L
 insert_in s bytes need = put_unless s bytes need (standing s bytes)
+
+-- so is the object itself, or the one that is made of these bytes
+abbrev pub attach_in : {L : Type 0} → Seat L → List ℕ → Need → DictChanged L
+attach_in s bytes need = where_object s bytes (insert_in s bytes need)
+
+abbrev pub insert_made_in : {L : Type 0} → Seat L → List ℕ → Need → DictChanged L
+insert_made_in s bytes need = where_object s bytes (insert_in s (s.rules.made bytes) need)
 
 -- lists alone are appended to
 abbrev pub append_in : {L : Type 0} → Seat L → List ℕ → Need → DictChanged L
@@ -124,9 +135,9 @@ turned_as s name method (model.Done t) =
 
 -- a command on one dictionary; the need is the one free choice. The others look through a view path, begin or end a dictionary or a view
 abbrev pub in_dict : {L : Type 0} → Seat L → Command → Need → DictChanged L
-in_dict s (Insert d bytes) need = where_object s bytes (insert_in s (s.rules.made bytes) need)
+in_dict s (Insert d bytes) need = insert_made_in s bytes need
 in_dict s (Append d bytes) need = append_in s bytes need
-in_dict s (Attach d bytes) need = where_object s bytes (insert_in s bytes need)
+in_dict s (Attach d bytes) need = attach_in s bytes need
 in_dict s (Delete d object) need = delete_in s object
 in_dict s (Detach d bytes) need = remove_in s false bytes
 in_dict s (Count d) need = answered s (Number (length s.dict.objects))

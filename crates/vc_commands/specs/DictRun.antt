@@ -1,9 +1,11 @@
 -- What running a command on a dictionary promises.
-use Rattle.std.specs.Prelude.{◌≡◌, ℕ, List, false, true, Option, Some, None, Result, Ok, Err, option_map}
+use Rattle.std.specs.Prelude.{◌≡◌, ℕ, List, false, true, Option, Some, None, option_map}
+use Rattle.std.specs.Prelude.{Result, Ok, Err, IfOk, OnErr}
 use Rattle.vc_model.specs.Layout.{Layout}
 use Rattle.vc_base.specs.declared.addr.Addr.{Addr}
 use Rattle.vc_base.specs.Holders.{contains}
 use Rattle.vc_model.specs.Discipline.{Discipline}
+use Rattle.vc_dtdisc.specs.Objects.{Object}
 use Rattle.vc_dtdisc.specs.Rules.{Gone, Rules}
 use Rattle.vc_dtlist.specs.Linked.{number_of}
 use Rattle.vc_dict.specs.Listed.{holders_of}
@@ -12,9 +14,11 @@ use Rattle.vc_best.specs.Cells.{cells_in, rest_in}
 use Rattle.vc_best.specs.Parts.{disc_in}
 use Rattle.vc_best.specs.declared.best.Best.{Best}
 use Rattle.vc_objects.specs.Insert.{grow}
-use Rattle.vc_objects.specs.Leaves.{IsHalted, LacksHolder, LacksTable, told_each}
-use Rattle.vc_objects.specs.Objects.{Dictionary, Object}
+use Rattle.vc_objects.specs.Leaves.{IsHalted, LacksHolder, LacksTable, LeavesRest, told_each}
+use Rattle.vc_objects.specs.Objects.{Dictionary}
 use Rattle.vc_objects.specs.Parts.{dictionary_in, object_of}
+use Rattle.vc_objects.specs.Promises.{IsStill}
+use Rattle.vc_script.specs.Needs.{Need, NoNeed, need_shown}
 use Rattle.vc_script.specs.declared.command.Command.{Command}
 use Rattle.vc_script.specs.declared.command.Command.TheVariants.{Insert, Attach}
 use Rattle.vc_script.specs.declared.refusal.Refusal.TheVariants.{NoSegmentForTable, NoSegmentForObject}
@@ -44,11 +48,6 @@ pub record GivesDict (c : DictChanged ℕ) (r : Layout ℕ) (d : Dictionary) (an
 -- it is what a region and a dictionary in it then are
 abbrev pub Gives : {I : Type 0} {V : I → Type 0} → DictChanged ℕ → Best I V → Dict → Reply → Gone → Gone → Type 0
 Gives c region dict answer gone gone' = GivesDict c (rest_in region) (dictionary_in dict region) answer gone gone'
-
--- neither a region nor a dictionary in it changed
-pub record IsStill {I : Type 0} {V : I → Type 0} (before : Best I V) (old : Dict) (after : Best I V) (new : Dict) : Type 0 where
-  pub region : rest_in after ≡ rest_in before
-  pub dict : dictionary_in new after ≡ dictionary_in old before
 
 -- the object in a holder, where there is one
 abbrev pub object_there : {I : Type 0} {V : I → Type 0} → Best I V → Option Addr → Option Object
@@ -86,3 +85,26 @@ AskedFor (Err why) slots object old new = new.faults ≡ old.faults
 
 abbrev pub AskedBy : {E L : Type 0} → Result Reply E → Seat L → Command → Discipline → Discipline → Type 0
 AskedBy result s command old new = AskedFor result (table_asked s command) (object_asked s command) old new
+
+-- what a command on a dictionary promises that may ask for a table of these slots or a holder of
+-- this object: it gives what it is to by the need that its reply shows, and leaves all else
+pub record RunsDict {I : Type 0} {V : I → Type 0} (meaning : (x : I) × V x → Discipline)
+    {E : Type 0} (result : Result Reply E) (rules : Rules) (gives : Need → DictChanged ℕ)
+    (slots : Option ℕ) (object : List ℕ)
+    (before : Best I V) (old : Dict) (told : Gone)
+    (after : Best I V) (new : Dict) (told' : Gone) : Type 0 where
+  pub step : IfOk result (λ reply. Gives (gives (need_shown reply)) after new reply told told')
+  pub leaves : LeavesRest meaning rules before old after new
+  pub asked : AskedFor result slots object (disc_in meaning before) (disc_in meaning after)
+
+-- what one promises that takes an object out: it needs no segment, and with no memory nothing
+-- changed
+pub record TakesDict {I : Type 0} {V : I → Type 0} (meaning : (x : I) × V x → Discipline)
+    {E : Type 0} (result : Result Reply E) (rules : Rules) (gives : DictChanged ℕ)
+    (before : Best I V) (old : Dict) (told : Gone)
+    (after : Best I V) (new : Dict) (told' : Gone) : Type 0 where
+  pub step : IfOk result (λ reply. Gives gives after new reply told told')
+  pub need : IfOk result (λ reply. need_shown reply ≡ NoNeed)
+  pub leaves : LeavesRest meaning rules before old after new
+  pub disc : disc_in meaning after ≡ disc_in meaning before
+  pub err : OnErr result ((told' ≡ told) × IsStill before old after new)

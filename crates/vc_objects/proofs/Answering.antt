@@ -11,6 +11,7 @@ use Rattle.vc_model.specs.Outcome as model
 use Rattle.vc_model.specs.Outcome.{Fault, Outcome, Done, Refused, Put}
 use Rattle.vc_dict.specs.Methods.{wanted_by}
 use Rattle.vc_dict.specs.declared.dict.Dict.{Dict}
+use Rattle.vc_dtdisc.specs.Objects.{Object}
 use Rattle.vc_dtdisc.specs.Rules.{Rules}
 use Rattle.vc_dtlist.proofs.HolderLemmas.{apart-append, apart-front, apart-rest}
 use Rattle.vc_seg.specs.Answer.{Asks, IsPut, IsRefusal}
@@ -23,7 +24,7 @@ use Rattle.vc_objects.specs.declared.fate.Want.{Want}
 use Rattle.vc_objects.specs.declared.fate.Want.TheVariants.{TooManySegments, NoSegment}
 use Rattle.vc_objects.specs.Insert.{Grown, alloc_unlabelled, grow, grown_to, grown_with, held, held_in, insert, slots_wanted, want_of, with_object, without_table}
 use Rattle.vc_objects.specs.Leaves.{Asked, GivesInserted, HasGrown, HasHeld, LacksHolder, LacksTable, LeavesRest, RefusedBy, lacks_segment, want_by}
-use Rattle.vc_objects.specs.Objects.{Dictionary, Object, Table, holder_size, listed, owned}
+use Rattle.vc_objects.specs.Objects.{Dictionary, Table, holder_size, listed, owned}
 use Rattle.vc_objects.specs.Parts.{dictionary_in}
 use Rattle.vc_objects.proofs.Leaving.{leaves-trans}
 

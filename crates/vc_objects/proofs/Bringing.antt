@@ -10,6 +10,7 @@ use Rattle.vc_base.specs.declared.dict_method.DictMethod.{DictMethod}
 use Rattle.vc_base.specs.Cells.{Blocks, body_of}
 use Rattle.vc_base.specs.Holders.{contains}
 use Rattle.vc_base.proofs.CellsLemmas.{put_other, put_same}
+use Rattle.vc_dtdisc.specs.Objects.{Object}
 use Rattle.vc_dtdisc.specs.Rules.{IsObject, Rules}
 use Rattle.vc_dtlist.proofs.KeptLemmas.{within-tail}
 use Rattle.vc_dthash.specs.Hashed.{IsTable}
@@ -20,7 +21,7 @@ use Rattle.vc_base.specs.Methods.{has_table}
 use Rattle.vc_dict.specs.Methods.{slots_between}
 use Rattle.vc_dict.specs.Stands.{Stands}
 use Rattle.vc_dict.proofs.OwnLemmas.{Stands-own, Stands-table, holder-address, holder-there, holders-told}
-use Rattle.vc_objects.specs.Objects.{Dictionary, Object}
+use Rattle.vc_objects.specs.Objects.{Dictionary}
 use Rattle.vc_objects.specs.Parts.{IsWhole, dictionary_of, object_of}
 use Rattle.vc_objects.specs.Turning.{BringsCell, CanTurn}
 use Rattle.vc_objects.proofs.Mapped.{objects-kept}

@@ -1,17 +1,18 @@
 -- A table that a change of method needs is brought, or not.
 use Rattle.std.proofs.Common.{◌≡◌, ◌≢◌, ℕ, ◌*◌, [], Bool, false, Some, None, length, replicate, refl, sym, ap, ◌∙◌, subst}
-use Rattle.std.specs.Prelude.{◌==◌, if◌then◌else◌}
+use Rattle.std.specs.Prelude.{Ok, Option, ◌==◌, if◌then◌else◌}
 use Rattle.std.proofs.lemmas.Bool.{eq-eqb, ne_eqb}
 use Rattle.vc_model.specs.Layout.{Layout}
 use Rattle.vc_base.specs.declared.dict_method.DictMethod.{DictMethod}
 use Rattle.vc_base.specs.declared.dict_method.DictMethod.TheVariants.{DtSet, DtBag, DtOset, DtObag, DtList, DtStack, DtQueue}
 use Rattle.vc_base.specs.Cells.{Blocks, put}
-use Rattle.vc_model.specs.Discipline.{Terms}
+use Rattle.vc_model.specs.Discipline.{Discipline, Terms}
 use Rattle.vc_model.specs.Outcome.{Outcome, Done, Refused, Put}
 use Rattle.vc_dict.specs.Methods.{slots_between}
 use Rattle.vc_dtdisc.specs.Rules.{Gone, Rules}
 use Rattle.vc_seg.specs.Answer.{IsPut, IsRefusal}
 use Rattle.vc_seg.specs.declared.fault.RegionFault.{RegionFault}
+use Rattle.vc_best.specs.declared.best.Best.{Best}
 use Rattle.vc_objects.specs.Insert.{without_table}
 use Rattle.vc_objects.specs.Leaves.{GivesTurned, told_each}
 use Rattle.vc_objects.specs.Objects.{Dictionary, Table}
@@ -19,7 +20,9 @@ use Rattle.vc_objects.specs.Parts.{table_of}
 use Rattle.vc_objects.specs.Remove.{bytes_of, freed_all}
 use Rattle.vc_base.specs.Methods.{method_number}
 use Rattle.vc_objects.specs.Turn.{Brought, Turned, bring, bring_of, brought, objects_dropped, table_left, turn, turned_to, turned_with}
+use Rattle.vc_objects.specs.Promises.{Brings}
 use Rattle.vc_objects.specs.Turning.{BringsCell, HasBrought}
+use Rattle.vc_objects.proofs.Leaving.{keeps-same}
 use Rattle.vc_best.proofs.RestAlloc.{refusal-kept}
 
 -- a block that was put is the table
@@ -38,6 +41,22 @@ cell-brought slots a before after some e fresh = record {
   made = λ _. e;
   fresh = λ _. fresh;
 }
+
+-- where no block was put, none is brought
+pub brought-refused : (call : Bool → Outcome (Put (Layout ℕ))) (slots : ℕ) (why : RegionFault) → IsRefusal call why → IsRefusal (λ refused. brought slots (call refused)) why
+brought-refused call slots why is = refusal-kept call (λ refused. brought slots (call refused)) (λ refused fault e. ap (brought slots) e) why is
+
+-- none is wanted
+pub brings-none : {I : Type 0} {V : I → Type 0} (meaning : (x : I) × V x → Discipline) (best : Best I V) (wanted : Option ℕ) → wanted ≡ None
+    → Brings meaning (Ok (record { at = record { 0 = 0 }; slots = 0 })) wanted best best
+brings-none meaning best wanted none =
+    subst (λ w. Brings meaning (Ok (record { at = record { 0 = 0 }; slots = 0 })) w best best) (sym none)
+    (record {
+      answer = ((refl, refl), record { wants = refl; none = λ zero. refl; same = λ zero. refl; made = λ some. absurd (some refl); fresh = λ some. absurd (some refl) });
+      disc = keeps-same _ _ _ _ refl refl;
+      labelled = refl;
+      asked = refl;
+    })
 
 -- the methods are told by their numbers
 method_of : ℕ → DictMethod

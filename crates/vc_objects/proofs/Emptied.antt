@@ -7,6 +7,8 @@ use Rattle.vc_model.specs.Layout.{Layout}
 use Rattle.vc_base.specs.Cells.{Blocks}
 use Rattle.vc_base.specs.Holders.{contains, some_address}
 use Rattle.vc_model.specs.Discipline.{Discipline}
+use Rattle.vc_dtdisc.specs.Objects.{Object, address_of, without_object}
+use Rattle.vc_dtdisc.specs.Finding.{first_of}
 use Rattle.vc_dtdisc.specs.Rules.{Gone, Rules, gone_after}
 use Rattle.vc_dtlist.proofs.HolderLemmas.{apart-append, apart-cons, apart-front}
 use Rattle.vc_dtlist.proofs.KeptLemmas.{within-head}
@@ -18,8 +20,7 @@ use Rattle.vc_best.specs.declared.best.Best.{Best}
 use Rattle.vc_objects.specs.Freed.{FreesCell}
 use Rattle.vc_objects.specs.Insert.{freed}
 use Rattle.vc_objects.specs.Leaves.{Leaves, LeavesRest, told_each, told_if}
-use Rattle.vc_objects.specs.Lists.{first_object, without_object}
-use Rattle.vc_objects.specs.Objects.{Dictionary, Object, Table, listed, owned}
+use Rattle.vc_objects.specs.Objects.{Dictionary, Table, listed, owned}
 use Rattle.vc_objects.specs.Parts.{IsWhole, dictionary_in, dictionary_of, object_of, table_of}
 use Rattle.vc_objects.specs.Remove.{bytes_of, emptied, freed_all, remove_first}
 use Rattle.vc_objects.proofs.Leaving.{keeps-same, leaves-self, leaves-trans}
@@ -32,8 +33,8 @@ abbrev pub with_objects : Dictionary → List Object → Dictionary
 with_objects d os = record { method = d.method; objects = os; current = d.current; table = d.table }
 
 -- the first object goes, and the others are left
-objects-first : (o : Object) (os : List Object) → without_object o.at (o ∷ os) ≡ os
-objects-first o os = ap (λ t. if t then os else o ∷ without_object o.at os) (eq-eqb o.at o.at refl)
+objects-first : (o : Object) (os : List Object) → without_object address_of o.at (o ∷ os) ≡ os
+objects-first o os = ap (λ t. if t then os else o ∷ without_object address_of o.at os) (eq-eqb o.at o.at refl)
 
 first-freed : (r : Layout ℕ) (d : Dictionary) (os : List Object) → freed_all (remove_first r (with_objects d os)).region (remove_first r (with_objects d os)).dict.objects ≡ freed_all r os
 first-freed r d [] = refl
@@ -45,7 +46,7 @@ first-told r d (o ∷ os) gone = ap (λ z. told_each (bytes_of z) (gone_after go
 
 first-count : (r : Layout ℕ) (d : Dictionary) (os : List Object) → 0 < length os → length (remove_first r (with_objects d os)).dict.objects + 1 ≡ length os
 first-count r d [] some = absurd (omega arith)
-first-count r d (o ∷ os) some = let e : length (without_object o.at (o ∷ os)) ≡ length os = ap (λ (z : List Object). length z) (objects-first o os) in omega (arith, e)
+first-count r d (o ∷ os) some = let e : length (without_object address_of o.at (o ∷ os)) ≡ length os = ap (λ (z : List Object). length z) (objects-first o os) in omega (arith, e)
 
 first-emptied : (r : Layout ℕ) (d : Dictionary) (os : List Object) → emptied (remove_first r (with_objects d os)).dict ≡ emptied d
 first-emptied r d [] = refl
@@ -82,8 +83,8 @@ module _ {I : Type 0} {V : I → Type 0} (meaning : (x : I) × V x → Disciplin
   -- the table goes, too
   pub leaves-table : (r s : Best I V) (d : Dict) → d.table.0 ≢ 0 → FreesCell meaning r d.table.0 s → Leaves meaning r s (owned (dictionary_in d r)) []
   leaves-table r s d ne free = record {
-    disc = keeps-same (disc_in meaning r) (disc_in meaning s) (segments_in r) (segments_in s) free.disc free.segments;
-    labelled = free.labelled;
+    disc = keeps-same (disc_in meaning r) (disc_in meaning s) (segments_in r) (segments_in s) free.around.disc free.around.segments;
+    labelled = free.around.labelled;
     others = λ a apart _.
         let own : contains (owned (dictionary_in d r)) d.table.0 ≡ true = owned-within d (cells_in r) d.table.0 ne ∙ within-head d.table.0 (holders_of d (cells_in r)) in
         ap (λ (f : Blocks). f a) free.cells ∙ left-cell (cells_in r) d.table.0 a (differs (owned (dictionary_in d r)) d.table.0 a own apart);
@@ -133,7 +134,7 @@ module _ {I : Type 0} {V : I → Type 0} (meaning : (x : I) × V x → Disciplin
         let shorter : length next.dict.objects + 1 ≡ length d.objects = first-count r d d.objects (let c = e.count in omega (arith, c)) in
         let as_long : length (dictionary_in new after).objects ≡ length next.dict.objects = ap (λ (z : Dictionary). length z.objects) dict' in
         let fewer : (a : ℕ) → contains (owned d) a ≡ false → contains (owned (dictionary_in new after)) a ≡ false =
-        λ a h. ap (λ (z : Dictionary). contains (owned z) a) dict' ∙ fewer-owned r d (first_object d.objects) a h in
+        λ a h. ap (λ (z : Dictionary). contains (owned z) a) dict' ∙ fewer-owned r d (first_of d.objects) a h in
         let c = e.count in
         record {
           count = omega (arith, c, shorter, as_long);

@@ -11,7 +11,9 @@ use Rattle.vc_base.specs.Holders.{contains, some_address}
 use Rattle.vc_base.proofs.CellsLemmas.{length-with_bytes, put_other, put_same, window_same}
 use Rattle.vc_model.specs.Bytes.{with_bytes}
 use Rattle.vc_dtdisc.specs.Finds.{find_key, object_at}
+use Rattle.vc_dtdisc.specs.Objects.{Object, address_of, bytes_of, first_with, linked_among}
 use Rattle.vc_dtdisc.specs.Rules.{IsObject, Rules}
+use Rattle.vc_dtdisc.proofs.ObjectsLemmas.{first_with-map, linked_among-map}
 use Rattle.vc_dtlist.proofs.HolderLemmas.{apart-cons}
 use Rattle.vc_dtlist.proofs.KeptLemmas.{within-tail}
 use Rattle.vc_dict.specs.Changes as changes
@@ -22,12 +24,11 @@ use Rattle.vc_dict.specs.declared.dict.Dict.{Dict}
 use Rattle.vc_dict.proofs.CurrentLemmas.{apart-linked, within-linked}
 use Rattle.vc_dict.proofs.OwnLemmas.{Stands-own, Stands-table, holder-there, holders-told, table-apart}
 use Rattle.vc_objects.specs.Insert.{slots_wanted, with_object}
-use Rattle.vc_objects.specs.Lists.{first_with, linked}
-use Rattle.vc_objects.specs.Objects.{Object, owned}
+use Rattle.vc_objects.specs.Objects.{owned}
 use Rattle.vc_objects.specs.Parts.{IsWhole, dictionary_of, object_of, table_of}
 use Rattle.vc_objects.proofs.Adopting.{same-dictionary}
 use Rattle.vc_objects.proofs.Growing.{wanted-told}
-use Rattle.vc_objects.proofs.Mapped.{first_with-mapped, linked-mapped, none-mapped, objects-kept}
+use Rattle.vc_objects.proofs.Mapped.{none-mapped, objects-kept}
 use Rattle.vc_objects.proofs.Owning.{all-objects, apart-holders, apart-owned, apart-table, each-object}
 
 -- a body that is written whole is read back
@@ -113,7 +114,7 @@ module _ (rules : Rules) (d0 : Dict) (B0 B1 B2 : Blocks) (at : ℕ) (bytes : Lis
       record { there = ap is_some shows-body; enough = omega (arith, same, is, least) }
 
   pub can-link : (append : Bool) → slots_wanted (dictionary_of d0 B0) ≡ None
-      → (is_set d0.method ≡ true → first_with rules (rules.key bytes) (dictionary_of d0 B0).objects ≡ None)
+      → (is_set d0.method ≡ true → first_with bytes_of rules (rules.key bytes) (dictionary_of d0 B0).objects ≡ None)
       → (append ≡ true → is_list d0.method ≡ true) → CanLink rules d0 B2 at append
   can-link append room lone list = record {
     holders = hs;
@@ -124,9 +125,9 @@ module _ (rules : Rules) (d0 : Dict) (B0 B1 B2 : Blocks) (at : ℕ) (bytes : Lis
     room = sym (wanted-told rules d0 B0 hs whole.stands) ∙ room;
     lone = λ set.
         none-mapped B2 (find_key rules B2 (rules.key (object_at B2 at)) hs)
-        (sym (first_with-mapped B2 rules (rules.key (object_at B2 at)) hs)
-        ∙ (ap (λ key. first_with rules (rules.key key) (map (object_of B2) hs)) object-put
-        ∙ (ap (first_with rules (rules.key bytes)) objects-put ∙ lone set)));
+        (sym (first_with-map (object_of B2) bytes_of rules (rules.key (object_at B2 at)) hs)
+        ∙ (ap (λ key. first_with bytes_of rules (rules.key key) (map (object_of B2) hs)) object-put
+        ∙ (ap (first_with bytes_of rules (rules.key bytes)) objects-put ∙ lone set)));
     list = list;
   }
 
@@ -150,18 +151,18 @@ module _ (rules : Rules) (d0 : Dict) (B0 B1 B2 : Blocks) (at : ℕ) (bytes : Lis
     body-kept : (a : ℕ) → contains ys a ≡ true → object_at B3 a ≡ object_at B2 a
     body-kept a w = became.keeps.bodies a (apart-cons d0.table.0 [] a (λ e. true≢false (sym (ap (contains ys) e ∙ w) ∙ no-table)) refl)
 
-    objects-linked : map (object_of B3) (holders_of d1 B3) ≡ linked append d0.method rules (some_address d0.current.0) (record { at = at; bytes = bytes }) (map (object_of B0) hs)
+    objects-linked : map (object_of B3) (holders_of d1 B3) ≡ linked_among address_of bytes_of append d0.method rules (some_address d0.current.0) (record { at = at; bytes = bytes }) (map (object_of B0) hs)
     objects-linked =
-        let put_in : Object → List Object → List Object = linked append d0.method rules (some_address d0.current.0) in
+        let put_in : Object → List Object → List Object = linked_among address_of bytes_of append d0.method rules (some_address d0.current.0) in
         ap (map (object_of B3)) told
         ∙ (objects-kept B2 B3 ys body-kept
-        ∙ (sym (linked-mapped B2 append d0.method rules d0.current.0 at hs)
+        ∙ (sym (linked_among-map (object_of B2) address_of bytes_of append d0.method rules (some_address d0.current.0) at hs)
         ∙ (ap (λ o. put_in (record { at = at; bytes = o }) (map (object_of B2) hs)) object-put
         ∙ ap (put_in (record { at = at; bytes = bytes })) objects-put)))
 
     pub dictionary-held : dictionary_of d1 B3 ≡ with_object rules append bytes (dictionary_of d0 B0) at
     dictionary-held =
-        same-dictionary d1.method d0.method (map (object_of B3) (holders_of d1 B3)) (linked append d0.method rules (some_address d0.current.0) (record { at = at; bytes = bytes }) (map (object_of B0) hs))
+        same-dictionary d1.method d0.method (map (object_of B3) (holders_of d1 B3)) (linked_among address_of bytes_of append d0.method rules (some_address d0.current.0) (record { at = at; bytes = bytes }) (map (object_of B0) hs))
         (some_address d1.current.0) (Some at) (table_of d1.table.0 d1.slots) (table_of d0.table.0 d0.slots)
         became.method objects-linked (ap some_address became.current ∙ some)
         (ap (λ (t : Addr). table_of t.0 d1.slots) became.table ∙ ap (table_of d0.table.0) became.slots)

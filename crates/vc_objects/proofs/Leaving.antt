@@ -42,7 +42,7 @@ keeps-trans a b c s t u first second =
       out = λ rest is. second.out rest (first.out rest is);
     }
 
-served-keeps : (old new : Discipline) (s t : List (ℕ × ℕ)) (size : ℕ) → Served old new s t size → KeepsDisc old new s t
+pub served-keeps : (old new : Discipline) (s t : List (ℕ × ℕ)) (size : ℕ) → Served old new s t size → KeepsDisc old new s t
 served-keeps old new s t size served =
     let faults = served.faults in
     record { kept = record { terms = served.terms; faults = omega (arith, faults) }; out = served.out }

@@ -7,6 +7,7 @@ use Rattle.vc_base.specs.declared.dict_method.DictMethod.{DictMethod}
 use Rattle.vc_base.specs.Cells.{Blocks}
 use Rattle.vc_base.specs.Holders.{contains, some_address}
 use Rattle.vc_model.specs.Discipline.{Discipline}
+use Rattle.vc_dtdisc.specs.Objects.{Object}
 use Rattle.vc_dtdisc.specs.Rules.{IsObject, Rules}
 use Rattle.vc_dtlist.proofs.HolderLemmas.{apart-cons, apart-head, apart-tail}
 use Rattle.vc_dict.specs.Listed.{holders_of}
@@ -20,7 +21,7 @@ use Rattle.vc_best.specs.Parts.{disc_in, segments_in}
 use Rattle.vc_best.specs.declared.best.Best.{Best}
 use Rattle.vc_best.proofs.CellCalls.{stays-segments}
 use Rattle.vc_objects.specs.Leaves.{Looks}
-use Rattle.vc_objects.specs.Objects.{Dictionary, Object, owned}
+use Rattle.vc_objects.specs.Objects.{Dictionary, owned}
 use Rattle.vc_objects.specs.Parts.{IsWhole, dictionary_in, dictionary_of, object_of, table_of}
 use Rattle.vc_objects.proofs.Leaving.{keeps-same, none-at}
 use Rattle.vc_objects.proofs.Mapped.{addresses-mapped, objects-kept}

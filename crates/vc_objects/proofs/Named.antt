@@ -8,10 +8,11 @@ use Rattle.vc_model.specs.Outcome.{Outcome, Done, Refused, Put, done_as, outcome
 use Rattle.vc_model.proofs.Relabel.{best_alloc-relabel, without_block-relabel}
 use Rattle.vc_base.specs.Methods.{has_table, method_number}
 use Rattle.vc_dict.specs.Methods.{slots_between}
+use Rattle.vc_dtdisc.specs.Objects as objects
+use Rattle.vc_dtdisc.specs.Objects.{Object, first_with}
 use Rattle.vc_dtdisc.specs.Rules.{Rules}
 use Rattle.vc_objects.specs.Insert.{Grown, Inserted, alloc_unlabelled, empty_dictionary, freed, grow, grown_to, grown_with, held, held_in, insert, open_dictionary, slots_wanted, without_table}
-use Rattle.vc_objects.specs.Lists.{first_with}
-use Rattle.vc_objects.specs.Objects.{Dictionary, Object, Table, holder_size, listed, table_size}
+use Rattle.vc_objects.specs.Objects.{Dictionary, Table, holder_size, listed, table_size}
 use Rattle.vc_objects.specs.Remove.{Removed, bytes_of, freed_all, region_without, remove, remove_found, remove_unnamed, unnamed}
 use Rattle.vc_objects.specs.Turn.{Brought, Turned, bring, bring_of, brought, objects_dropped, table_left, turn, turned_to, turned_with}
 
@@ -81,7 +82,7 @@ module _ {L M : Type 0} (f : L → M) where
       ap (λ (after : Layout M). record { region = after; dict = there.dict; gone = there.gone }) (freed-named r o.at)
 
   pub remove-named : (rules : Rules) (r : Layout L) (d : Dictionary) (key : List ℕ) → remove rules (relabel_layout f r) d key ≡ relabel_removed (remove rules r d key)
-  remove-named rules r d key = remove_found-named r d (first_with rules key d.objects)
+  remove-named rules r d key = remove_found-named r d (first_with objects.bytes_of rules key d.objects)
 
   pub remove_unnamed-named : (r : Layout L) (d : Dictionary) → remove_unnamed (relabel_layout f r) d ≡ relabel_removed (remove_unnamed r d)
   remove_unnamed-named r d = remove_found-named r d (unnamed d.method d.objects)

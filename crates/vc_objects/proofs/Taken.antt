@@ -9,7 +9,8 @@ use Rattle.vc_base.specs.Cells.{Blocks, IsHolder, body_of}
 use Rattle.vc_base.specs.Holders.{AreDistinct, contains, first_in, without}
 use Rattle.vc_model.specs.Discipline.{Discipline}
 use Rattle.vc_dtdisc.specs.Finds.{object_at}
-use Rattle.vc_dtdisc.specs.Rules.{IsObject, Rules}
+use Rattle.vc_dtdisc.specs.Objects.{Object, address_of, without_object}
+use Rattle.vc_dtdisc.specs.Rules.{Gone, IsObject, Rules}
 use Rattle.vc_dtlist.proofs.HolderLemmas.{apart-append, apart-cons, apart-front, apart-head, apart-rest, apart-tail, apart-without}
 use Rattle.vc_dtlist.proofs.KeptLemmas.{within-head}
 use Rattle.vc_dict.specs.Changes as changes
@@ -23,17 +24,17 @@ use Rattle.vc_best.specs.Cells.{StaysButCells, cells_in, labelled_blocks, rest_i
 use Rattle.vc_seg.specs.Boxed.{boxed}
 use Rattle.vc_best.specs.Parts.{disc_in, segments_in}
 use Rattle.vc_best.specs.declared.best.Best.{Best}
-use Rattle.vc_best.proofs.CellCalls.{stays-segments}
+use Rattle.vc_best.proofs.CellCalls.{stays-disc, stays-segments}
 use Rattle.vc_objects.specs.Freed.{FreesCell}
 use Rattle.vc_objects.specs.Insert.{freed}
-use Rattle.vc_objects.specs.Leaves.{GivesRemoved, LeavesRest}
-use Rattle.vc_objects.specs.Lists.{without_object}
-use Rattle.vc_objects.specs.Objects.{Dictionary, Object, Table, listed, owned}
+use Rattle.vc_objects.specs.Leaves.{GivesRemoved, LeavesRest, Looks, told_if}
+use Rattle.vc_objects.specs.Objects.{Dictionary, Table, listed, owned}
 use Rattle.vc_objects.specs.Parts.{IsWhole, dictionary_in, object_of, table_of}
+use Rattle.vc_objects.specs.Promises.{TakesOut}
 use Rattle.vc_objects.specs.Remove.{remove_found}
 use Rattle.vc_objects.proofs.Leaving.{keeps-same, none-at}
 use Rattle.vc_objects.proofs.Looking.{IsWhole-told, apart-table, dictionary-same, dictionary-told}
-use Rattle.vc_objects.proofs.Mapped.{current_without-mapped, objects-kept, without_object-mapped}
+use Rattle.vc_objects.proofs.Mapped.{current-mapped, objects-kept, without-mapped}
 use Rattle.vc_objects.proofs.Owning.{each-object, owned-within}
 use Rattle.vc_objects.proofs.Unlabelled.{left-cell}
 
@@ -61,45 +62,49 @@ all_by : (P : Object → Type 0) (t : Bool) (os ps : List Object) → AllByRecur
 all_by P true os ps h k = h
 all_by P false os ps h k = k
 
-all-without : (P : Object → Type 0) (at : ℕ) (os : List Object) → AllByRecursion P os → AllByRecursion P (without_object at os)
+all-without : (P : Object → Type 0) (at : ℕ) (os : List Object) → AllByRecursion P os → AllByRecursion P (without_object address_of at os)
 all-without P at [] h = h
-all-without P at (x ∷ xs) h = all_by P (x.at == at) xs (x ∷ without_object at xs) h.1 (h.0, all-without P at xs h.1)
+all-without P at (x ∷ xs) h = all_by P (x.at == at) xs (x ∷ without_object address_of at xs) h.1 (h.0, all-without P at xs h.1)
 
 apart_by : (t : Bool) (os ps : List Object) (a : ℕ) → contains (map (λ (o : Object). o.at) os) a ≡ false → contains (map (λ (o : Object). o.at) ps) a ≡ false → contains (map (λ (o : Object). o.at) (if t then os else ps)) a ≡ false
 apart_by true os ps a h k = h
 apart_by false os ps a h k = k
 
-apart-objects : (at : ℕ) (os : List Object) (a : ℕ) → contains (map (λ (o : Object). o.at) os) a ≡ false → contains (map (λ (o : Object). o.at) (without_object at os)) a ≡ false
+apart-objects : (at : ℕ) (os : List Object) (a : ℕ) → contains (map (λ (o : Object). o.at) os) a ≡ false → contains (map (λ (o : Object). o.at) (without_object address_of at os)) a ≡ false
 apart-objects at [] a h = h
 apart-objects at (x ∷ xs) a h =
     let behind = apart-tail x.at (map (λ (o : Object). o.at) xs) a h in
-    apart_by (x.at == at) xs (x ∷ without_object at xs) a behind
-    (apart-cons x.at (map (λ (o : Object). o.at) (without_object at xs)) a (apart-head x.at (map (λ (o : Object). o.at) xs) a h) (apart-objects at xs a behind))
+    apart_by (x.at == at) xs (x ∷ without_object address_of at xs) a behind
+    (apart-cons x.at (map (λ (o : Object). o.at) (without_object address_of at xs)) a (apart-head x.at (map (λ (o : Object). o.at) xs) a h) (apart-objects at xs a behind))
 
 -- a dictionary that an object is taken out of owns no more than before
 pub fewer-owned : (r : Layout ℕ) (d : Dictionary) (o : Option Object) (a : ℕ) → contains (owned d) a ≡ false → contains (owned (remove_found r d o).dict) a ≡ false
 fewer-owned r d None a h = h
 fewer-owned r d (Some o) a h =
     let front = map (λ (t : Table). t.at) (listed d.table) in
-    apart-append front (map (λ (o : Object). o.at) (without_object o.at d.objects)) a (apart-front front (map (λ (o : Object). o.at) d.objects) a h)
+    apart-append front (map (λ (o : Object). o.at) (without_object address_of o.at d.objects)) a (apart-front front (map (λ (o : Object). o.at) d.objects) a h)
     (apart-objects o.at d.objects a (apart-rest front (map (λ (o : Object). o.at) d.objects) a h))
 
--- a holder was taken out
-module _ {I : Type 0} {V : I → Type 0} (rules : Rules) (before mid : Best I V) (old new : Dict) (at : ℕ) (whole : IsWhole rules old (cells_in before)) (within : contains (holders_of old (cells_in before)) at ≡ true)
-    (became : Became rules (holders_of old (cells_in before)) old (cells_in before) new (cells_in mid) (without at (holders_of old (cells_in before)))
-    (changes.current_without (Some at) old.current.0 (holders_of old (cells_in before)))) where
+-- a holder was taken out of a whole dictionary
+pub record IsTaken {I : Type 0} {V : I → Type 0} (rules : Rules) (before mid : Best I V) (old new : Dict) (at : ℕ) : Type 0 where
+  pub whole : IsWhole rules old (cells_in before)
+  pub within : contains (holders_of old (cells_in before)) at ≡ true
+  pub became : Became rules (holders_of old (cells_in before)) old (cells_in before) new (cells_in mid) (without at (holders_of old (cells_in before)))
+      (changes.current_without (Some at) old.current.0 (holders_of old (cells_in before)))
+
+module _ {I : Type 0} {V : I → Type 0} (rules : Rules) (before mid : Best I V) (old new : Dict) (at : ℕ) (taken : IsTaken rules before mid old new at) where
   -- its object stays
   pub object-stays : object_at (cells_in mid) at ≡ object_at (cells_in before) at
-  object-stays = became.keeps.bodies at (apart-table rules old (cells_in before) (holders_of old (cells_in before)) at whole.stands within)
+  object-stays = taken.became.keeps.bodies at (apart-table rules old (cells_in before) (holders_of old (cells_in before)) at taken.whole.stands taken.within)
 
   pub object-small : IsObject (object_at (cells_in mid) at)
   object-small =
-      subst (λ z. IsObject z) (sym object-stays) (each-object IsObject (cells_in before) (holders_of old (cells_in before)) whole.objects at within)
+      subst (λ z. IsObject z) (sym object-stays) (each-object IsObject (cells_in before) (holders_of old (cells_in before)) taken.whole.objects at taken.within)
 
   pub holder-stays : IsHolder (cells_in mid) at
   holder-stays =
-      let h = holder-there rules old (cells_in before) (holders_of old (cells_in before)) at whole.stands within in
-      record { there = became.keeps.there at ∙ h.there; enough = subst (λ n. 33 ≤ n) (sym (became.keeps.sizes at)) h.enough }
+      let h = holder-there rules old (cells_in before) (holders_of old (cells_in before)) at taken.whole.stands taken.within in
+      record { there = taken.became.keeps.there at ∙ h.there; enough = subst (λ n. 33 ≤ n) (sym (taken.became.keeps.sizes at)) h.enough }
 
   -- and it is freed
   module _ (meaning : (x : I) × V x → Discipline) (after : Best I V) (stays : StaysButCells before mid) (free : FreesCell meaning mid at after) where
@@ -109,12 +114,12 @@ module _ {I : Type 0} {V : I → Type 0} (rules : Rules) (before mid : Best I V)
     others_apart : (a : ℕ) → contains (without at (holders_of old (cells_in before))) a ≡ true → at ≢ a
     others_apart a h e =
         let xs = holders_of old (cells_in before) in
-        true≢false (sym h ∙ ap (contains (without at xs)) (sym e) ∙ gone-apart at xs (holders-distinct _ _ _ _ whole.stands))
+        true≢false (sym h ∙ ap (contains (without at xs)) (sym e) ∙ gone-apart at xs (holders-distinct _ _ _ _ taken.whole.stands))
 
     table_differs : at ≢ new.table.0
     table_differs e =
         let xs = holders_of old (cells_in before) in
-        differs xs at old.table.0 within (table-apart rules old (cells_in before) xs whole.stands) (e ∙ ap (λ z. z.0) became.table)
+        differs xs at old.table.0 taken.within (table-apart rules old (cells_in before) xs taken.whole.stands) (e ∙ ap (λ z. z.0) taken.became.table)
 
     own_apart : (a : ℕ) → contains (new.table.0 ∷ without at (holders_of old (cells_in before))) a ≡ true → at ≢ a
     own_apart a h = elim (eqb_tells new.table.0 a) as (λ _. at ≢ a) [
@@ -124,34 +129,34 @@ module _ {I : Type 0} {V : I → Type 0} (rules : Rules) (before mid : Best I V)
 
     stands-after : Stands rules new (cells_in after) (without at (holders_of old (cells_in before)))
     stands-after =
-        Stands-own rules new (cells_in mid) (cells_in after) (without at (holders_of old (cells_in before))) (λ a _ h. left a (own_apart a h)) became.stands
+        Stands-own rules new (cells_in mid) (cells_in after) (without at (holders_of old (cells_in before))) (λ a _ h. left a (own_apart a h)) taken.became.stands
 
-    objects-after : map (object_of (cells_in after)) (without at (holders_of old (cells_in before))) ≡ without_object at (dictionary_in old before).objects
+    objects-after : map (object_of (cells_in after)) (without at (holders_of old (cells_in before))) ≡ without_object address_of at (dictionary_in old before).objects
     objects-after =
         let xs = holders_of old (cells_in before) in
         objects-kept (cells_in before) (cells_in after) (without at xs)
         (λ a w. ap (λ o. body_of (unwrap_or o [])) (left a (others_apart a w))
-        ∙ became.keeps.bodies a (apart-table rules old (cells_in before) xs a whole.stands (left-within xs at a w)))
-        ∙ sym (without_object-mapped (cells_in before) at xs)
+        ∙ taken.became.keeps.bodies a (apart-table rules old (cells_in before) xs a taken.whole.stands (left-within xs at a w)))
+        ∙ sym (without-mapped (cells_in before) at xs)
 
     pub dict-after : dictionary_in new after ≡ (remove_found (rest_in before) (dictionary_in old before) (Some (object_of (cells_in before) at))).dict
     dict-after =
         let xs = holders_of old (cells_in before) in
-        let os = without_object at (dictionary_in old before).objects in
-        let zero : contains xs 0 ≡ false = none-at_0 _ _ _ _ whole.stands in
+        let os = without_object address_of at (dictionary_in old before).objects in
+        let zero : contains xs 0 ≡ false = none-at_0 _ _ _ _ taken.whole.stands in
         let with : Option ℕ → Dictionary = λ c. record { method = old.method; objects = os; current = c; table = table_of old.table.0 old.slots } in
         dictionary-told rules new (cells_in after) (without at xs) stands-after
         ∙ dictionary-same new.method old.method (map (object_of (cells_in after)) (without at xs)) os new.current.0 (changes.current_without (Some at) old.current.0 xs) new.table.0 old.table.0 new.slots old.slots
-        became.method objects-after became.current (ap (λ z. z.0) became.table) became.slots
-        ∙ ap with (sym (current_without-mapped (cells_in before) at old.current.0 xs zero (differs xs at 0 within zero)))
+        taken.became.method objects-after taken.became.current (ap (λ z. z.0) taken.became.table) taken.became.slots
+        ∙ ap with (sym (current-mapped (cells_in before) at old.current.0 xs zero))
 
     whole-after : IsWhole rules new (cells_in after)
     whole-after =
         let xs = holders_of old (cells_in before) in
         IsWhole-told rules new (cells_in after) (without at xs) stands-after
-        (subst (λ z. contains (0 ∷ without at xs) z ≡ true) (sym became.current) (current-removed (Some at) old.current.0 xs whole.current))
-        (λ h e. whole.table (sym (ap has_table became.method) ∙ h) (sym (ap (λ z. z.0) became.table) ∙ e))
-        (subst (λ z. AllByRecursion (λ o. IsObject o.bytes) z) (sym objects-after) (all-without (λ o. IsObject o.bytes) at (dictionary_in old before).objects whole.objects))
+        (subst (λ z. contains (0 ∷ without at xs) z ≡ true) (sym taken.became.current) (current-removed (Some at) old.current.0 xs taken.whole.current))
+        (λ h e. taken.whole.table (sym (ap has_table taken.became.method) ∙ h) (sym (ap (λ z. z.0) taken.became.table) ∙ e))
+        (subst (λ z. AllByRecursion (λ o. IsObject o.bytes) z) (sym objects-after) (all-without (λ o. IsObject o.bytes) at (dictionary_in old before).objects taken.whole.objects))
 
     others-after : (a : ℕ) → contains (owned (dictionary_in old before)) a ≡ false → cells_in after a ≡ cells_in before a
     others-after a apart_own = elim (eqb_tells a 0) as (λ _. cells_in after a ≡ cells_in before a) [
@@ -160,16 +165,16 @@ module _ {I : Type 0} {V : I → Type 0} (rules : Rules) (before mid : Best I V)
           let xs = holders_of old (cells_in before) in
           let apart : contains (old.table.0 ∷ xs) a ≡ false = sym (owned-within old (cells_in before) a some.1) ∙ apart_own in
           let other : contains xs a ≡ false = apart-tail old.table.0 xs a apart in
-          left a (differs xs at a within other) ∙ became.keeps.others a (apart-cons old.table.0 [] a (apart-head old.table.0 xs a apart) refl) other
+          left a (differs xs at a taken.within other) ∙ taken.became.keeps.others a (apart-cons old.table.0 [] a (apart-head old.table.0 xs a apart) refl) other
     ]
 
     pub leaves-taken : LeavesRest meaning rules before old after new
     leaves-taken = record {
       whole = whole-after;
-      kind = became.kind;
+      kind = taken.became.kind;
       rest = record {
-        disc = keeps-same (disc_in meaning before) (disc_in meaning after) (segments_in before) (segments_in after) (free.disc ∙ ap (boxed meaning) stays.disc) (free.segments ∙ stays-segments before mid stays);
-        labelled = free.labelled ∙ ap labelled_blocks stays.layout;
+        disc = keeps-same (disc_in meaning before) (disc_in meaning after) (segments_in before) (segments_in after) (free.around.disc ∙ ap (boxed meaning) stays.disc) (free.around.segments ∙ stays-segments before mid stays);
+        labelled = free.around.labelled ∙ ap labelled_blocks stays.layout;
         others = λ a old_apart _. others-after a old_apart;
         fresh = λ a new_within old_apart.
             absurd (true≢false (sym new_within ∙ ap (λ d. contains (owned d) a) dict-after ∙ fewer-owned (rest_in before) (dictionary_in old before) (Some (object_of (cells_in before) at)) a old_apart));
@@ -179,18 +184,34 @@ module _ {I : Type 0} {V : I → Type 0} (rules : Rules) (before mid : Best I V)
     pub region-taken : rest_in after ≡ freed (rest_in before) at
     region-taken = free.rest ∙ ap (λ r. freed r at) stays.layout
 
-    pub gives-taken : GivesRemoved (remove_found (rest_in before) (dictionary_in old before) (Some (object_of (cells_in before) at))) (rest_in after) (dictionary_in new after) (Some (object_at (cells_in mid) at))
+    gives-taken : GivesRemoved (remove_found (rest_in before) (dictionary_in old before) (Some (object_of (cells_in before) at))) (rest_in after) (dictionary_in new after) (Some (object_at (cells_in mid) at))
     gives-taken = record { region = sym region-taken; dict = sym dict-after; gone = ap (λ z. Some z) (sym object-stays) }
 
-    -- as the object that was asked for, with what was copied of it
-    pub gives-found : (o : Option Object) (bytes : List ℕ) → o ≡ Some (object_of (cells_in before) at) → bytes ≡ object_at (cells_in mid) at → GivesRemoved (remove_found (rest_in before) (dictionary_in old before) o) (rest_in after) (dictionary_in new after) (Some bytes)
-    gives-found o bytes e f =
-        subst (λ z. GivesRemoved (remove_found (rest_in before) (dictionary_in old before) z) (rest_in after) (dictionary_in new after) (Some bytes)) (sym e)
-        (subst (λ z. GivesRemoved (remove_found (rest_in before) (dictionary_in old before) (Some (object_of (cells_in before) at))) (rest_in after) (dictionary_in new after) (Some z)) (sym f) gives-taken)
+    -- so it is with the object that was asked for, of which its kind is told where that is wanted
+    pub takes-found : (o : Option Object) (tells : Bool) (out : List ℕ) (told told' : Gone) → o ≡ Some (object_of (cells_in before) at) → out ≡ object_at (cells_in mid) at
+        → told' ≡ told_if tells (Some (object_at (cells_in mid) at)) told → TakesOut meaning (remove_found (rest_in before) (dictionary_in old before) o) rules tells true out before old told after new told'
+    takes-found o tells out told told' is copied gone = record {
+      given =
+          subst (λ z. GivesRemoved (remove_found (rest_in before) (dictionary_in old before) z) (rest_in after) (dictionary_in new after) (Some out)) (sym is)
+          (subst (λ z. GivesRemoved (remove_found (rest_in before) (dictionary_in old before) (Some (object_of (cells_in before) at))) (rest_in after) (dictionary_in new after) (Some z)) (sym copied) gives-taken);
+      leaves = leaves-taken;
+      disc = free.around.disc ∙ stays-disc meaning before mid stays;
+      gone = subst (λ z. told' ≡ told_if tells (Some z) told) (sym copied) gone;
+      nothing = λ e. absurd (true≢false e);
+    }
 
 -- none was asked for
-pub gives-none : (r r' : Layout ℕ) (d d' : Dictionary) (o : Option Object) → o ≡ None → r' ≡ r → d' ≡ d → GivesRemoved (remove_found r d o) r' d' None
-gives-none r r' d d' o e f h = subst (λ z. GivesRemoved (remove_found r d z) r' d' None) (sym e) (record { region = sym f; dict = sym h; gone = refl })
+pub takes-none : {I : Type 0} {V : I → Type 0} (meaning : (x : I) × V x → Discipline) (rules : Rules) (before after : Best I V) (old new : Dict) (o : Option Object) (tells : Bool) (out : List ℕ) (told : Gone)
+    → o ≡ None → Looks meaning rules before old after new → out ≡ [] → TakesOut meaning (remove_found (rest_in before) (dictionary_in old before) o) rules tells false out before old told after new told
+takes-none meaning rules before after old new o tells out told none looks empty = record {
+  given =
+      subst (λ z. GivesRemoved (remove_found (rest_in before) (dictionary_in old before) z) (rest_in after) (dictionary_in new after) None) (sym none)
+      (record { region = sym looks.region; dict = sym looks.dict; gone = refl });
+  leaves = looks.leaves;
+  disc = looks.disc;
+  gone = refl;
+  nothing = λ _. empty;
+}
 
 -- the first holder is one of them
 pub first-within : (xs : List ℕ) (at : ℕ) → Some at ≡ first_in xs → contains xs at ≡ true

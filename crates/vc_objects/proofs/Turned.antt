@@ -9,7 +9,9 @@ use Rattle.vc_base.specs.declared.dict_method.DictMethod.{DictMethod}
 use Rattle.vc_base.specs.Cells.{Blocks, body_of}
 use Rattle.vc_base.specs.Holders.{contains, some_address}
 use Rattle.vc_dtdisc.specs.Finds.{object_at}
-use Rattle.vc_dtdisc.specs.Rules.{IsObject, Rules}
+use Rattle.vc_dtdisc.specs.Objects.{Object, bytes_of, dropped_by, kept_by, ordered_by}
+use Rattle.vc_dtdisc.specs.Rules.{Gone, IsObject, Rules}
+use Rattle.vc_dtdisc.proofs.ObjectsLemmas.{dropped_by-map, kept_by-map, ordered_by-map}
 use Rattle.vc_dtlist.proofs.HolderLemmas.{apart-cons}
 use Rattle.vc_dthash.specs.Slots.{slots_for}
 use Rattle.vc_dict.specs.declared.dict.Dict.{Dict}
@@ -21,12 +23,17 @@ use Rattle.vc_dict.specs.Stands.{Stands}
 use Rattle.vc_dict.specs.Turned.{CanRemethod, Remethoded}
 use Rattle.vc_dict.proofs.OwnLemmas.{Stands-own, Stands-table, holder-address, holders-distinct, holders-told, none-at_0, table-apart}
 use Rattle.vc_dict.proofs.PassLemmas.{differs}
+use Rattle.vc_best.specs.Cells.{cells_in, rest_in}
+use Rattle.vc_best.specs.declared.best.Best.{Best}
 use Rattle.vc_objects.specs.Insert.{without_table}
-use Rattle.vc_objects.specs.Objects.{Dictionary, Object, Table}
-use Rattle.vc_objects.specs.Parts.{IsWhole, dictionary_of, object_of, table_of}
-use Rattle.vc_objects.specs.Turn.{dropped_by, kept_by, objects_dropped, ordered_by, table_left, turned_to}
-use Rattle.vc_objects.specs.Turning.{CanTurn, HasDropped}
-use Rattle.vc_objects.proofs.Mapped.{dropped_by-mapped, kept_by-mapped, objects-kept, ordered_by-mapped}
+use Rattle.vc_objects.specs.Objects.{Dictionary, Table}
+use Rattle.vc_objects.specs.Remove as remove
+use Rattle.vc_objects.specs.Remove.{freed_all}
+use Rattle.vc_objects.specs.Leaves.{told_each}
+use Rattle.vc_objects.specs.Parts.{IsWhole, dictionary_in, dictionary_of, object_of, table_of}
+use Rattle.vc_objects.specs.Turn.{objects_dropped, table_left, turned_to}
+use Rattle.vc_objects.specs.Turning.{CanTurn, Frees, HasDropped, TurnsTo}
+use Rattle.vc_objects.proofs.Mapped.{objects-kept}
 use Rattle.vc_objects.proofs.Parted.{apart-drops, apart-keeps, distinct-drops, drops, keeps, keeps-apart, length-parted, within-drops, within-keeps}
 use Rattle.vc_objects.proofs.Owning.{all-objects, each-object}
 
@@ -122,8 +129,8 @@ module _ (rules : Rules) (method : DictMethod) (d : Dict) (b : Blocks) (t s : �
     pub drops-told : map (object_of b2) gs ≡ objects_dropped rules method (dictionary_of d b)
     drops-told =
         objects-kept b b2 gs (λ a h. object-turned a (within-drops method rules b hs a h))
-        ∙ (sym (dropped_by-mapped b method rules (orders.ordered_by method rules b hs))
-        ∙ ap (dropped_by method rules) (sym (ordered_by-mapped b method rules hs)))
+        ∙ (sym (dropped_by-map (object_of b) bytes_of method rules (orders.ordered_by method rules b hs))
+        ∙ ap (dropped_by bytes_of method rules) (sym (ordered_by-map (object_of b) bytes_of method rules hs)))
 
     -- the table that is left
     left-told : answer.table.0 ≢ 0 → (has_table method ≡ false) × (answer.table.0 ≡ d.table.0)
@@ -181,10 +188,10 @@ module _ (rules : Rules) (method : DictMethod) (d : Dict) (b : Blocks) (t s : �
 
       pub dictionary-turned : dictionary_of d' b' ≡ turned_to rules method (dictionary_of d b) (table_of t s)
       dictionary-turned =
-          fields-same d'.method method (map (object_of b') (holders_of d' b')) (kept_by method rules (ordered_by method rules (map (object_of b) hs))) (some_address d'.current.0) None
+          fields-same d'.method method (map (object_of b') (holders_of d' b')) (kept_by bytes_of method rules (ordered_by bytes_of method rules (map (object_of b) hs))) (some_address d'.current.0) None
           (table_of d'.table.0 d'.slots) (if has_table method then (if has_table d.method then table_of d.table.0 d.slots else table_of t s) else None)
           done.method
-          (objects-then ∙ (sym (kept_by-mapped b method rules (orders.ordered_by method rules b hs)) ∙ ap (kept_by method rules) (sym (ordered_by-mapped b method rules hs))))
+          (objects-then ∙ (sym (kept_by-map (object_of b) bytes_of method rules (orders.ordered_by method rules b hs)) ∙ ap (kept_by bytes_of method rules) (sym (ordered_by-map (object_of b) bytes_of method rules hs))))
           (ap some_address done.current)
           (ap (λ z. table_of z d'.slots) done.table ∙ (ap (λ z. table_of (if has_table method && has_table d.method then d.table.0 else t) z) done.slots
           ∙ table_by (has_table method) (has_table d.method) d.table.0 d.slots t s none-then))
@@ -210,3 +217,31 @@ module _ (rules : Rules) (method : DictMethod) (d : Dict) (b : Blocks) (t s : �
       others-turned a some new old h =
           stays a (apart-drops method rules b hs a h) (not-left a some old)
           ∙ done.keeps.others a (apart-cons d.table.0 (t ∷ []) a (λ e. old (sym e)) (apart-cons t [] a (λ e. new (sym e)) refl)) h
+
+-- so it is with what a best region holds
+module _ {I : Type 0} {V : I → Type 0} (rules : Rules) (method : DictMethod) (d : Dict) (t s : ℕ) (before turned dropped after : Best I V) (can : CanTurn rules d (cells_in before) method t s)
+    (d' : Dict) (answer : Dropped) (done : Remethoded rules method t s (holders_of d (cells_in before)) d (cells_in before) d' (cells_in turned) answer) (same : rest_in turned ≡ rest_in before)
+    (told told' : Gone) (frees : Frees (drops method rules (cells_in before) (holders_of d (cells_in before))) (cells_in turned) (rest_in turned) told (cells_in dropped) (rest_in dropped) told')
+    (table : rest_in after ≡ without_table (rest_in dropped) (table_of answer.table.0 d.slots)) (others : (a : ℕ) → a ≢ answer.table.0 → cells_in after a ≡ cells_in dropped a) where
+  gone-told : map (object_of (cells_in turned)) (drops method rules (cells_in before) (holders_of d (cells_in before))) ≡ objects_dropped rules method (dictionary_in d before)
+  gone-told = drops-told rules method d (cells_in before) t s can d' (cells_in turned) answer done
+
+  stays : (a : ℕ) → contains (drops method rules (cells_in before) (holders_of d (cells_in before))) a ≡ false → a ≢ answer.table.0 → cells_in after a ≡ cells_in turned a
+  stays a h ne = others a ne ∙ frees.others a h
+
+  pub turns-to : TurnsTo rules method t s before d told after d' told'
+  turns-to = record {
+    region =
+        table
+        ∙ (left-table rules method d (cells_in before) t s can d' (cells_in turned) answer done (rest_in dropped)
+        ∙ ap (λ (r : Layout ℕ). without_table r (table_left (dictionary_in d before) method)) (frees.region
+        ∙ (ap (λ (r : Layout ℕ). freed_all r (map (object_of (cells_in turned)) (drops method rules (cells_in before) (holders_of d (cells_in before))))) same
+        ∙ ap (λ (os : List Object). freed_all (rest_in before) os) gone-told)));
+    dict = dictionary-turned rules method d (cells_in before) t s can d' (cells_in turned) answer done (cells_in after) stays;
+    gone = frees.told ∙ ap (λ (os : List Object). told_each (remove.bytes_of os) told) gone-told;
+    whole = whole-turned rules method d (cells_in before) t s can d' (cells_in turned) answer done (cells_in after) stays;
+    kind = done.kind;
+    table = done.table;
+    within = within-turned rules method d (cells_in before) t s can d' (cells_in turned) answer done (cells_in after) stays;
+    others = others-turned rules method d (cells_in before) t s can d' (cells_in turned) answer done (cells_in after) stays;
+  }

@@ -9,12 +9,12 @@ use Rattle.vc_model.specs.Outcome as model
 use Rattle.vc_model.specs.Outcome.{Fault, Outcome, Done, Refused, Put}
 use Rattle.vc_base.specs.Methods.{has_table}
 use Rattle.vc_dict.specs.Methods.{wanted_by}
+use Rattle.vc_dtdisc.specs.Objects.{address_of, bytes_of, linked_among}
 use Rattle.vc_dtdisc.specs.Rules.{Rules}
 use Rattle.vc_objects.specs.declared.fate.Fate.{Fate}
 use Rattle.vc_objects.specs.declared.fate.Fate.TheVariants.{Stored, NoTable, NoHolder}
 use Rattle.vc_objects.specs.declared.fate.Want.{Want}
 use Rattle.vc_objects.specs.declared.fate.Want.TheVariants.{TooManySegments, NoSegment}
-use Rattle.vc_objects.specs.Lists.{linked}
 use Rattle.vc_objects.specs.Objects.{Dictionary, Table, holder_size, listed, slots_of, table_size}
 
 -- an unlabelled block of zeros is allocated; whether a segment is refused is a free choice
@@ -75,7 +75,9 @@ abbrev pub with_object : Rules → Bool → List ℕ → Dictionary → ℕ → 
 with_object rules append bytes d at =
     record {
       method = d.method;
-      objects = linked append d.method rules d.current (record { at = at; bytes = bytes }) d.objects;
+      objects =
+          linked_among address_of bytes_of append d.method rules d.current
+          (record { at = at; bytes = bytes }) d.objects;
       current = Some at;
       table = d.table;
     }

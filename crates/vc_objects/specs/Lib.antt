@@ -2,7 +2,6 @@ pub use Rattle.vc_best.specs.Cells
 pub use Rattle.vc_dict.specs.Methods
 pub use Rattle.vc_dtdisc.specs.Rules
 pub mod Objects
-pub mod Lists
 pub mod Insert
 pub mod Remove
 pub mod Turn
@@ -10,4 +9,5 @@ pub mod Parts
 pub mod Freed
 pub mod Leaves
 pub mod Turning
+pub mod Promises
 pub mod Rows

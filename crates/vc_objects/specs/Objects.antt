@@ -1,11 +1,7 @@
--- A dictionary and its objects, each in its holder, an unlabelled block of a best region.
+-- A dictionary, its objects each in a holder, an unlabelled block of a best region.
 use Rattle.std.specs.Prelude.{ℕ, ◌+◌, ◌*◌, List, [], ◌∷◌, ◌++◌, Option, Some, None, length, map}
 use Rattle.vc_base.specs.declared.dict_method.DictMethod.{DictMethod}
-
--- an object: the address of its holder, and its bytes
-pub record Object : Type 0 where
-  pub at : ℕ
-  pub bytes : List ℕ
+use Rattle.vc_dtdisc.specs.Objects.{Object, address_of}
 
 -- a table: the address of its block, and how many slots it has
 pub record Table : Type 0 where
@@ -38,4 +34,4 @@ listed (Some x) = x ∷ []
 
 -- the addresses of its blocks: of its table and of its holders
 abbrev pub owned : Dictionary → List ℕ
-owned d = map (λ t. t.at) (listed d.table) ++ map (λ o. o.at) d.objects
+owned d = map (λ t. t.at) (listed d.table) ++ map address_of d.objects

@@ -4,6 +4,7 @@ use Rattle.std.specs.List.{AllByRecursion}
 use Rattle.vc_base.specs.Cells.{Blocks}
 use Rattle.vc_base.specs.Holders.{contains, some_address}
 use Rattle.vc_dtdisc.specs.Finds.{object_at}
+use Rattle.vc_dtdisc.specs.Objects.{Object}
 use Rattle.vc_dtdisc.specs.Rules.{IsObject, Rules}
 use Rattle.vc_dthash.specs.Slots.{IsSlots, most_slots}
 use Rattle.vc_dict.specs.Listed.{holders_of}
@@ -12,7 +13,7 @@ use Rattle.vc_dict.specs.Stands.{Stands}
 use Rattle.vc_dict.specs.declared.dict.Dict.{Dict}
 use Rattle.vc_best.specs.Cells.{cells_in}
 use Rattle.vc_best.specs.declared.best.Best.{Best}
-use Rattle.vc_objects.specs.Objects.{Dictionary, Object, Table}
+use Rattle.vc_objects.specs.Objects.{Dictionary, Table}
 
 -- the object in a holder
 abbrev pub object_of : Blocks → ℕ → Object

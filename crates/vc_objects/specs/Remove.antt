@@ -3,10 +3,12 @@ use Rattle.std.specs.Prelude.{ℕ, List, [], ◌∷◌, Option, Some, None, map}
 use Rattle.vc_model.specs.Layout.{Layout}
 use Rattle.vc_base.specs.declared.dict_method.DictMethod.{DictMethod}
 use Rattle.vc_base.specs.declared.dict_method.DictMethod.TheVariants.{DtSet, DtBag, DtOset, DtObag, DtList, DtStack, DtQueue}
+use Rattle.vc_dtdisc.specs.Finding.{first_of}
+use Rattle.vc_dtdisc.specs.Objects as objects
+use Rattle.vc_dtdisc.specs.Objects.{Object, address_of, current_without, first_with, without_object}
 use Rattle.vc_dtdisc.specs.Rules.{Rules}
 use Rattle.vc_objects.specs.Insert.{freed, without_table}
-use Rattle.vc_objects.specs.Lists.{current_without, first_object, first_with, without_object}
-use Rattle.vc_objects.specs.Objects.{Dictionary, Object}
+use Rattle.vc_objects.specs.Objects.{Dictionary}
 
 -- a region and a dictionary in it after an object was taken out, and that object's bytes, where there was one
 pub record Removed (L : Type 0) : Type 0 where
@@ -21,8 +23,8 @@ remove_found r d (Some o) =
       region = freed r o.at;
       dict = record {
         method = d.method;
-        objects = without_object o.at d.objects;
-        current = current_without o.at d.current d.objects;
+        objects = without_object address_of o.at d.objects;
+        current = current_without address_of o.at d.current d.objects;
         table = d.table;
       };
       gone = Some o.bytes;
@@ -30,11 +32,11 @@ remove_found r d (Some o) =
 
 -- the first object that has a key is taken out
 abbrev pub remove : {L : Type 0} → Rules → Layout L → Dictionary → List ℕ → Removed L
-remove rules r d key = remove_found r d (first_with rules key d.objects)
+remove rules r d key = remove_found r d (first_with objects.bytes_of rules key d.objects)
 
 -- the first object is taken out
 abbrev pub remove_first : {L : Type 0} → Layout L → Dictionary → Removed L
-remove_first r d = remove_found r d (first_object d.objects)
+remove_first r d = remove_found r d (first_of d.objects)
 
 -- the object that goes where none is named: the first one of a stack or queue
 abbrev pub unnamed : DictMethod → List Object → Option Object
@@ -43,8 +45,8 @@ unnamed DtBag objects = None
 unnamed DtOset objects = None
 unnamed DtObag objects = None
 unnamed DtList objects = None
-unnamed DtStack objects = first_object objects
-unnamed DtQueue objects = first_object objects
+unnamed DtStack objects = first_of objects
+unnamed DtQueue objects = first_of objects
 
 -- the first object is taken out, of a stack or queue
 abbrev pub remove_unnamed : {L : Type 0} → Layout L → Dictionary → Removed L
@@ -57,7 +59,7 @@ freed_all r (o ∷ os) = freed_all (freed r o.at) os
 
 -- what objects are, in order
 abbrev pub bytes_of : List Object → List (List ℕ)
-bytes_of objects = map (λ o. o.bytes) objects
+bytes_of items = map objects.bytes_of items
 
 -- a dictionary without its objects; the table stays
 abbrev pub emptied : Dictionary → Dictionary

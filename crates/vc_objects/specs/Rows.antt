@@ -6,12 +6,12 @@ use Rattle.vc_model.specs.Best.{zeros}
 use Rattle.vc_model.specs.Discipline.{Terms}
 use Rattle.vc_model.specs.Layout.{Block, Layout}
 use Rattle.vc_model.specs.Outcome.{Outcome}
+use Rattle.vc_dtdisc.specs.Objects.{Object, address_of, bytes_of, linked_among}
 use Rattle.vc_dtdisc.specs.Rules.{Rules}
 use Rattle.vc_dtdisc.specs.Shapes.{rules_of}
 use Rattle.vc_dtdisc.specs.declared.shape.Shape.TheVariants.{Fold}
 use Rattle.vc_objects.specs.Insert.{Inserted, insert}
-use Rattle.vc_objects.specs.Lists.{linked}
-use Rattle.vc_objects.specs.Objects.{Dictionary, Object, Table}
+use Rattle.vc_objects.specs.Objects.{Dictionary, Table}
 use Rattle.vc_objects.specs.Turn.{Turned, turn}
 
 -- keys without regard to case
@@ -44,7 +44,8 @@ b_a_b = lower_b ∷ lower_a ∷ upper_b ∷ []
 
 -- B is put among others, by keys without regard to case
 abbrev pub with_upper : Bool → DictMethod → Option ℕ → List Object → List Object
-with_upper append method current objects = linked append method by_fold current upper_b objects
+with_upper append method current objects =
+    linked_among address_of bytes_of append method by_fold current upper_b objects
 
 -- a best region of segment 1, with blocks
 abbrev pub segment_of : ℕ → List (Block ℕ) → Layout ℕ

@@ -1,48 +1,18 @@
 -- Turning a dictionary to another method.
-use Rattle.std.specs.Prelude.{ℕ, List, [], ◌∷◌, ◌++◌, Bool, Option, Some, None, is_some, length, ◌==◌, if◌then◌else◌}
+use Rattle.std.specs.Prelude.{ℕ, List, [], Bool, Option, Some, None, length, ◌==◌, if◌then◌else◌}
 use Rattle.vc_model.specs.Layout.{Layout}
 use Rattle.vc_base.specs.declared.dict_method.DictMethod.{DictMethod}
-use Rattle.vc_base.specs.declared.dict_method.DictMethod.TheVariants.{DtSet, DtBag, DtOset, DtObag, DtList, DtStack, DtQueue}
 use Rattle.vc_model.specs.Addr.{address}
 use Rattle.vc_model.specs.Discipline.{Terms}
 use Rattle.vc_model.specs.Outcome.{Outcome, Done, Refused, Put}
-use Rattle.vc_base.specs.Methods.{has_table, is_ordered, is_set, method_number}
+use Rattle.vc_base.specs.Methods.{has_table, method_number}
 use Rattle.vc_dict.specs.Methods.{slots_between}
+use Rattle.vc_dtdisc.specs.Objects as objects
+use Rattle.vc_dtdisc.specs.Objects.{Object, dropped_by, kept_by, ordered_by}
 use Rattle.vc_dtdisc.specs.Rules.{Rules}
 use Rattle.vc_objects.specs.Insert.{alloc_unlabelled, without_table}
-use Rattle.vc_objects.specs.Lists.{first_with, placed}
-use Rattle.vc_objects.specs.Objects.{Dictionary, Object, Table, listed, table_size}
+use Rattle.vc_objects.specs.Objects.{Dictionary, Table, listed, table_size}
 use Rattle.vc_objects.specs.Remove.{bytes_of, freed_all}
-
--- these placed one after another among others in order of their keys, each behind those that match it
-abbrev pub placed_each : Rules → List Object → List Object → List Object
-placed_each rules done [] = done
-placed_each rules done (x ∷ xs) = placed_each rules (placed rules x done) xs
-
--- whether an object matches one of these
-abbrev pub has_match : Rules → List Object → Object → Bool
-has_match rules objects o = is_some (first_with rules (rules.key o.bytes) objects)
-
--- behind others, those that match neither one of these nor an earlier one
-abbrev pub kept : Rules → List Object → List Object → List Object
-kept rules done [] = done
-kept rules done (x ∷ xs) = if has_match rules done x then kept rules done xs else kept rules (done ++ x ∷ []) xs
-
--- those that match one of these or an earlier one
-abbrev pub dropped : Rules → List Object → List Object → List Object
-dropped rules done [] = []
-dropped rules done (x ∷ xs) = if has_match rules done x then x ∷ dropped rules done xs else dropped rules (done ++ x ∷ []) xs
-
--- objects in the order of a method
-abbrev pub ordered_by : DictMethod → Rules → List Object → List Object
-ordered_by method rules objects = if is_ordered method then placed_each rules [] objects else objects
-
--- those that a method keeps, and those that it drops
-abbrev pub kept_by : DictMethod → Rules → List Object → List Object
-kept_by method rules objects = if is_set method then kept rules [] objects else objects
-
-abbrev pub dropped_by : DictMethod → Rules → List Object → List Object
-dropped_by method rules objects = if is_set method then dropped rules [] objects else []
 
 -- a region and a dictionary in it, turned; the bytes of the objects that were dropped; and the segments that were granted
 pub record Turned (L : Type 0) : Type 0 where
@@ -83,13 +53,16 @@ abbrev pub turned_to : Rules → DictMethod → Dictionary → Option Table → 
 turned_to rules method d new =
     record {
       method = method;
-      objects = kept_by method rules (ordered_by method rules d.objects);
+      objects =
+          kept_by objects.bytes_of method rules
+          (ordered_by objects.bytes_of method rules d.objects);
       current = None;
       table = table_then d method new;
     }
 
 abbrev pub objects_dropped : Rules → DictMethod → Dictionary → List Object
-objects_dropped rules method d = dropped_by method rules (ordered_by method rules d.objects)
+objects_dropped rules method d =
+    dropped_by objects.bytes_of method rules (ordered_by objects.bytes_of method rules d.objects)
 
 abbrev pub turned_with : {L : Type 0} → Rules → DictMethod → Dictionary → Outcome (Brought L) → Outcome (Turned L)
 turned_with rules method d (Refused why) = Refused why

@@ -2,10 +2,11 @@
 ghost use Rattle.std.specs.Prelude.{◌≡◌, ◌≤◌, None, true, IfOk, OnErr, IsSome, replicate};
 ghost use Rattle.vc_base.specs.Cells.{IsAddress, put};
 ghost use Rattle.vc_model.specs.Best.{best_need};
-ghost use Rattle.vc_best.specs.Cells.{cells_in, labelled_blocks, rest_in, without_cell};
+ghost use Rattle.vc_best.specs.Cells.{cells_in, labelled_blocks, rest_in};
 ghost use Rattle.vc_best.specs.Parts.{disc_in, segments_in};
 ghost use Rattle.vc_seg.specs.Answer.{Answers, Asks};
-ghost use Rattle.vc_objects.specs.Insert.{alloc_unlabelled, freed};
+ghost use Rattle.vc_objects.specs.Freed.{FreesCell};
+ghost use Rattle.vc_objects.specs.Insert.{alloc_unlabelled};
 
 use vc_base::{Addr, Steps};
 use vc_best::Best;
@@ -41,12 +42,7 @@ pub(crate) fn alloc_cell(best: &mut Best, size: u32) -> Result<Addr, RegionFault
 // Frees an unlabelled block.
 pub(crate) fn free_cell(best: &mut Best, at: Addr)
     requires { IsSome (cells_in best.old at.0) }
-
-    ensures rest { rest_in best.new ≡ freed (rest_in best.old) at.0 }
-    ensures disc { disc_in state best.new ≡ disc_in state best.old }
-    ensures segments { segments_in best.new ≡ segments_in best.old }
-    ensures cells { cells_in best.new ≡ without_cell at.0 (cells_in best.old) }
-    ensures labelled { labelled_blocks (rest_in best.new) ≡ labelled_blocks (rest_in best.old) }
+    ensures frees { FreesCell state best.old at.0 best.new }
 {
     let mut steps = Steps::<Uncounted>::new(best.alloc);
     best.free(at, &mut steps);

@@ -1,10 +1,9 @@
 // The object that is found. The call changes no dictionary.
 ghost use Rattle.std.specs.Prelude.{◌≡◌, option_map};
-ghost use Rattle.vc_dtdisc.specs.Rules.{Rules};
+ghost use Rattle.vc_dtdisc.specs.Objects.{address_of, bytes_of, first_with};
 ghost use Rattle.vc_dtlist.specs.Linked.{number_of};
 ghost use Rattle.vc_best.specs.Cells.{cells_in, rest_in};
 ghost use Rattle.vc_objects.specs.Leaves.{Looks};
-ghost use Rattle.vc_objects.specs.Lists.{first_with};
 ghost use Rattle.vc_objects.specs.Parts.{IsWhole, dictionary_in};
 
 use vc_base::{Addr, Steps};
@@ -22,8 +21,8 @@ pub fn find<D: DictDisc, L>(
     steps: &mut Steps<L>,
 ) -> Option<Addr>
     requires whole { IsWhole (D.rules kind.now) dict.old (cells_in best.old) }
-    ensures found { option_map number_of result ≡ option_map (λ o. o.at)
-        (first_with (D.rules kind.now) key.now (dictionary_in dict.old best.old).objects) }
+    ensures found { option_map number_of result ≡ option_map address_of
+        (first_with bytes_of (D.rules kind.now) key.now (dictionary_in dict.old best.old).objects) }
     ensures looks { Looks state (D.rules kind.now) best.old dict.old best.new dict.new }
 {
     dict.find(best, kind, key, steps)

@@ -1,15 +1,13 @@
 // Putting objects into a dictionary.
-ghost use Rattle.std.specs.Prelude.{◌≡◌, None, true, false, IfOk, IfErr, OnErr, OnOk};
-ghost use Rattle.vc_dtdisc.specs.Rules.{IsObject};
-ghost use Rattle.vc_base.specs.Methods.{is_list, is_set};
+ghost use Rattle.std.specs.Prelude.{◌≡◌, None, false, IfOk, IfErr, OnErr, OnOk};
 ghost use Rattle.vc_best.specs.Cells.{cells_in, rest_in};
 ghost use Rattle.vc_best.specs.Parts.{disc_in};
 ghost use Rattle.vc_seg.specs.Answer.{IsRefusal};
-ghost use Rattle.vc_objects.specs.Insert.{alloc_unlabelled, grow, insert, slots_wanted};
-ghost use Rattle.vc_objects.specs.Leaves.{Asked, AskedHolder, AskedTable, GivesInserted, HasGrown, HasHeld, IsHalted, LeavesRest, no_holder, no_table, want_by};
-ghost use Rattle.vc_objects.specs.Lists.{first_with};
-ghost use Rattle.vc_objects.specs.Objects.{holder_size};
+ghost use Rattle.vc_objects.specs.Insert.{slots_wanted};
+ghost use Rattle.vc_objects.specs.Leaves.{Asked, AskedHolder, AskedTable, GivesInserted};
+ghost use Rattle.vc_objects.specs.Leaves.{HasGrown, HasHeld, IsHalted, LeavesRest, want_by};
 ghost use Rattle.vc_objects.specs.Parts.{IsWhole, dictionary_in};
+ghost use Rattle.vc_objects.specs.Promises.{CanPut, IsStill, growth_in, holder_in, insertion_in};
 
 use crate::cells::alloc_cell;
 use crate::fate::{Fate, Want};
@@ -35,9 +33,7 @@ fn want_of(fault: RegionFault) -> Option<Want>
 fn grow<D: DictDisc>(best: &mut Best, dict: &mut Dict, kind: &D) -> Result<(), RegionFault>
     requires whole { IsWhole (D.rules kind.now) dict.old (cells_in best.old) }
 
-    ensures ok { OnOk result (HasGrown
-        (grow (disc_in state best.old).terms (rest_in best.old) 0
-        (dictionary_in dict.old best.old) false)
+    ensures ok { OnOk result (HasGrown (growth_in state best.old dict.old false)
         (rest_in best.new) (dictionary_in dict.new best.new)) }
     ensures room { OnOk result (slots_wanted (dictionary_in dict.new best.new) ≡ None) }
     ensures leaves { LeavesRest state (D.rules kind.now) best.old dict.old best.new dict.new }
@@ -45,11 +41,8 @@ fn grow<D: DictDisc>(best: &mut Best, dict: &mut Dict, kind: &D) -> Result<(), R
         → disc_in state best.new ≡ disc_in state best.old }
 
     // With no block for the table nothing changed.
-    ensures err { IfErr result (λ why. IsRefusal
-        (grow (disc_in state best.old).terms (rest_in best.old) 0
-        (dictionary_in dict.old best.old)) why
-        × (rest_in best.new ≡ rest_in best.old)
-        × (dictionary_in dict.new best.new ≡ dictionary_in dict.old best.old)) }
+    ensures err { IfErr result (λ why. IsRefusal (growth_in state best.old dict.old) why
+        × IsStill best.old dict.old best.new dict.new) }
     ensures asked { AskedTable result (slots_wanted (dictionary_in dict.old best.old))
         (disc_in state best.old) (disc_in state best.new) }
 {
@@ -68,28 +61,19 @@ fn hold<D: DictDisc, L>(
     append: bool,
     steps: &mut Steps<L>,
 ) -> Result<(), RegionFault>
-    requires whole { IsWhole (D.rules kind.now) dict.old (cells_in best.old) }
+    requires can { CanPut (D.rules kind.now) best.old dict.old object.now append }
     requires room { slots_wanted (dictionary_in dict.old best.old) ≡ None }
-    requires lone { is_set dict.old.method ≡ true → first_with (D.rules kind.now)
-        ((D.rules kind.now).key object.now) (dictionary_in dict.old best.old).objects ≡ None }
-    requires object { IsObject object.now }
-    requires append { append ≡ true → is_list dict.old.method ≡ true }
 
     ensures ok { OnOk result (HasHeld (D.rules kind.now) append object.now
-        (dictionary_in dict.old best.old)
-        (alloc_unlabelled (disc_in state best.old).terms (rest_in best.old) 0
-        (holder_size object.now) false)
+        (dictionary_in dict.old best.old) (holder_in state best.old object.now false)
         (rest_in best.new) (dictionary_in dict.new best.new)) }
     ensures leaves { LeavesRest state (D.rules kind.now) best.old dict.old best.new dict.new }
     ensures table { (dictionary_in dict.new best.new).table
         ≡ (dictionary_in dict.old best.old).table }
 
     // With no block for the holder nothing changed.
-    ensures err { IfErr result (λ why. IsRefusal
-        (alloc_unlabelled (disc_in state best.old).terms (rest_in best.old) 0
-        (holder_size object.now)) why
-        × (rest_in best.new ≡ rest_in best.old)
-        × (dictionary_in dict.new best.new ≡ dictionary_in dict.old best.old)) }
+    ensures err { IfErr result (λ why. IsRefusal (holder_in state best.old object.now) why
+        × IsStill best.old dict.old best.new dict.new) }
     ensures asked { AskedHolder result object.now
         (disc_in state best.old) (disc_in state best.new) }
 {
@@ -114,27 +98,19 @@ pub fn insert<D: DictDisc, L>(
     append: bool,
     steps: &mut Steps<L>,
 ) -> Result<Fate, OutOfMemory>
-    requires whole { IsWhole (D.rules kind.now) dict.old (cells_in best.old) }
-    requires lone { is_set dict.old.method ≡ true → first_with (D.rules kind.now)
-        ((D.rules kind.now).key object.now) (dictionary_in dict.old best.old).objects ≡ None }
-    requires object { IsObject object.now }
-    requires append { append ≡ true → is_list dict.old.method ≡ true }
+    requires can { CanPut (D.rules kind.now) best.old dict.old object.now append }
 
     ensures ok { IfOk result (λ fate. GivesInserted
-        (insert (D.rules kind.now) (disc_in state best.old).terms (rest_in best.old) 0
-        (dictionary_in dict.old best.old) append object.now (no_table fate) (no_holder fate))
+        (insertion_in state best.old (D.rules kind.now) dict.old append object.now fate)
         (rest_in best.new) (dictionary_in dict.new best.new) fate) }
     ensures leaves { LeavesRest state (D.rules kind.now) best.old dict.old best.new dict.new }
 
     // What was refused was asked for, and no segment else was refused.
-    ensures asked { Asked result
-        (slots_wanted (dictionary_in dict.old best.old)) object.now
+    ensures asked { Asked result (slots_wanted (dictionary_in dict.old best.old)) object.now
         (disc_in state best.old) (disc_in state best.new) }
 
     // With no memory nothing changed, or the table grew.
-    ensures err { OnErr result (IsHalted
-        (grow (disc_in state best.old).terms (rest_in best.old) 0
-        (dictionary_in dict.old best.old) false)
+    ensures err { OnErr result (IsHalted (growth_in state best.old dict.old false)
         (rest_in best.old) (dictionary_in dict.old best.old)
         (rest_in best.new) (dictionary_in dict.new best.new)) }
 {

@@ -1,13 +1,13 @@
 // Taking objects out of a dictionary.
-ghost use Rattle.std.specs.Prelude.{◌≡◌, ◌≤◌, [], Some, None, true, false, length, if◌then◌else◌};
+ghost use Rattle.std.specs.Prelude.{◌≡◌, ◌≤◌, [], Some, true, length};
 ghost use Rattle.std.specs.Vec.{vec_capacity};
 ghost use Rattle.vc_base.specs.Cells.{IsHolder};
 ghost use Rattle.vc_dtdisc.specs.Finds.{object_at};
 ghost use Rattle.vc_best.specs.Cells.{cells_in, rest_in};
-ghost use Rattle.vc_best.specs.Parts.{disc_in};
 ghost use Rattle.vc_objects.specs.Freed.{FreesCell};
-ghost use Rattle.vc_objects.specs.Leaves.{GivesRemoved, LeavesRest, told_if};
+ghost use Rattle.vc_objects.specs.Leaves.{told_if};
 ghost use Rattle.vc_objects.specs.Parts.{IsWhole, dictionary_in};
+ghost use Rattle.vc_objects.specs.Promises.{TakesOut};
 ghost use Rattle.vc_objects.specs.Remove.{remove, remove_first, remove_unnamed};
 
 use crate::cells::free_cell;
@@ -63,16 +63,11 @@ pub fn remove<D: DictDisc, L>(
     requires empty { out.old.items ≡ [] }
     requires room { 1024 ≤ vec_capacity out.old }
 
-    ensures gives { GivesRemoved
+    ensures takes { TakesOut state
         (remove (D.rules kind.old) (rest_in best.old) (dictionary_in dict.old best.old) key.now)
-        (rest_in best.new) (dictionary_in dict.new best.new)
-        (if result then Some out.new.items else None) }
-    ensures leaves { LeavesRest state (D.rules kind.old) best.old dict.old best.new dict.new }
-    ensures disc { disc_in state best.new ≡ disc_in state best.old }
+        (D.rules kind.old) tells result out.new.items
+        best.old dict.old (D.gone kind.old) best.new dict.new (D.gone kind.new) }
     ensures rules { D.rules kind.new ≡ D.rules kind.old }
-    ensures gone { D.gone kind.new ≡ told_if tells
-        (if result then Some out.new.items else None) (D.gone kind.old) }
-    ensures nothing { result ≡ false → out.new.items ≡ [] }
 {
     match dict.unlink(best, kind, key, steps) {
         Some(at) => {
@@ -94,16 +89,11 @@ fn remove_first<D: DictDisc>(
     requires empty { out.old.items ≡ [] }
     requires room { 1024 ≤ vec_capacity out.old }
 
-    ensures gives { GivesRemoved
+    ensures takes { TakesOut state
         (remove_first (rest_in best.old) (dictionary_in dict.old best.old))
-        (rest_in best.new) (dictionary_in dict.new best.new)
-        (if result then Some out.new.items else None) }
-    ensures leaves { LeavesRest state (D.rules kind.old) best.old dict.old best.new dict.new }
-    ensures disc { disc_in state best.new ≡ disc_in state best.old }
+        (D.rules kind.old) true result out.new.items
+        best.old dict.old (D.gone kind.old) best.new dict.new (D.gone kind.new) }
     ensures rules { D.rules kind.new ≡ D.rules kind.old }
-    ensures gone { D.gone kind.new ≡ told_if true
-        (if result then Some out.new.items else None) (D.gone kind.old) }
-    ensures nothing { result ≡ false → out.new.items ≡ [] }
 {
     match dict.take_first(best, kind) {
         Some(at) => {
@@ -125,16 +115,11 @@ pub fn remove_unnamed<D: DictDisc>(
     requires empty { out.old.items ≡ [] }
     requires room { 1024 ≤ vec_capacity out.old }
 
-    ensures gives { GivesRemoved
+    ensures takes { TakesOut state
         (remove_unnamed (rest_in best.old) (dictionary_in dict.old best.old))
-        (rest_in best.new) (dictionary_in dict.new best.new)
-        (if result then Some out.new.items else None) }
-    ensures leaves { LeavesRest state (D.rules kind.old) best.old dict.old best.new dict.new }
-    ensures disc { disc_in state best.new ≡ disc_in state best.old }
+        (D.rules kind.old) true result out.new.items
+        best.old dict.old (D.gone kind.old) best.new dict.new (D.gone kind.new) }
     ensures rules { D.rules kind.new ≡ D.rules kind.old }
-    ensures gone { D.gone kind.new ≡ told_if true
-        (if result then Some out.new.items else None) (D.gone kind.old) }
-    ensures nothing { result ≡ false → out.new.items ≡ [] }
 {
     match dict.method {
         DictMethod::DtStack | DictMethod::DtQueue => remove_first(best, dict, kind, out),

@@ -2,10 +2,9 @@
 ghost use Rattle.std.specs.Prelude.{◌≡◌, ◌∷◌, [], None, Some, false, true, replicate};
 ghost use Rattle.vc_model.specs.Outcome as model;
 ghost use Rattle.vc_model.specs.Outcome.{Done, done_as};
+ghost use Rattle.vc_dtdisc.specs.Objects.{address_of, bytes_of, current_without, first_with, linked_among};
 ghost use Rattle.vc_dtdisc.specs.Shapes.{rules_of};
 ghost use Rattle.vc_objects.specs.Insert.{open_dictionary, slots_wanted};
-ghost use Rattle.vc_objects.specs.Lists.{current_without, first_with};
-ghost use Rattle.vc_objects.specs.Lists.{linked};
 ghost use Rattle.vc_objects.specs.Remove.{freed_all, region_without, remove, remove_unnamed};
 ghost use Rattle.vc_objects.specs.Rows.{after_growth, at_place, b_a_b, bag, bag_of, bag_turned};
 ghost use Rattle.vc_objects.specs.Rows.{by_fold, by_page, first_table, full_bag, full_region};
@@ -60,22 +59,24 @@ pub fn append_rows()
 
 /// By keys that are the bytes themselves B stands before a and b.
 pub fn whole_row()
-    ensures { linked false DictMethod.DtOset (rules_of Shape.Whole) None upper_b
-        (lower_a ∷ lower_b ∷ []) ≡ upper_b ∷ lower_a ∷ lower_b ∷ [] }
+    ensures { linked_among address_of bytes_of false DictMethod.DtOset (rules_of Shape.Whole) None
+        upper_b (lower_a ∷ lower_b ∷ []) ≡ upper_b ∷ lower_a ∷ lower_b ∷ [] }
 {}
 
 /// Among objects of equal keys a search finds the first.
 pub fn equal_row()
-    ensures { first_with by_fold (66 ∷ []) (lower_a ∷ lower_b ∷ upper_b ∷ lower_c ∷ [])
-        ≡ Some lower_b }
+    ensures { first_with bytes_of by_fold (66 ∷ [])
+        (lower_a ∷ lower_b ∷ upper_b ∷ lower_c ∷ []) ≡ Some lower_b }
 {}
 
 /// When the current object goes, the one behind it is current, or none; another one's going leaves it.
 pub fn removed_current_rows()
-    ensures behind { current_without lower_a.at (Some lower_a.at) b_a_b ≡ Some upper_b.at }
-    ensures last { current_without upper_b.at (Some upper_b.at) b_a_b ≡ None }
-    ensures another { current_without lower_b.at (Some lower_a.at) b_a_b ≡ Some lower_a.at }
-    ensures none { current_without lower_b.at None b_a_b ≡ None }
+    ensures behind { current_without address_of lower_a.at (Some lower_a.at) b_a_b
+        ≡ Some upper_b.at }
+    ensures last { current_without address_of upper_b.at (Some upper_b.at) b_a_b ≡ None }
+    ensures another { current_without address_of lower_b.at (Some lower_a.at) b_a_b
+        ≡ Some lower_a.at }
+    ensures none { current_without address_of lower_b.at None b_a_b ≡ None }
 {}
 
 /// The first object of a key goes with its holder.

@@ -1,12 +1,14 @@
 // The tables of sets and bags.
 ghost use Rattle.std.specs.Prelude.{◌≡◌, ◌≢◌, ℕ, Some, None, true, false, IfErr, IsSome, OnOk};
-ghost use Rattle.vc_best.specs.Cells.{cells_in, labelled_blocks, rest_in};
-ghost use Rattle.vc_best.specs.Parts.{disc_in, segments_in};
+ghost use Rattle.vc_best.specs.Cells.{cells_in, rest_in};
+ghost use Rattle.vc_best.specs.Parts.{disc_in};
 ghost use Rattle.vc_seg.specs.Answer.{IsRefusal};
-ghost use Rattle.vc_objects.specs.Insert.{grown_to, without_table};
+ghost use Rattle.vc_objects.specs.Freed.{StaysAround};
+ghost use Rattle.vc_objects.specs.Insert.{without_table};
 ghost use Rattle.vc_objects.specs.Leaves.{AskedTable, HasGrown, Leaves};
 ghost use Rattle.vc_objects.specs.Objects.{owned};
 ghost use Rattle.vc_objects.specs.Parts.{CanGrow, IsWhole, dictionary_in, table_of};
+ghost use Rattle.vc_objects.specs.Promises.{table_in};
 
 use crate::cells::{alloc_cell, free_cell};
 use vc_base::Addr;
@@ -21,10 +23,8 @@ pub(crate) fn free_table(best: &mut Best, at: Addr)
 
     ensures rest { (slots : ℕ) → rest_in best.new
         ≡ without_table (rest_in best.old) (table_of at.0 slots) }
-    ensures disc { disc_in state best.new ≡ disc_in state best.old }
-    ensures segments { segments_in best.new ≡ segments_in best.old }
     ensures others { (a : ℕ) → a ≢ at.0 → cells_in best.new a ≡ cells_in best.old a }
-    ensures labelled { labelled_blocks (rest_in best.new) ≡ labelled_blocks (rest_in best.old) }
+    ensures around { StaysAround state best.old best.new }
 {
     if at != Addr::NONE {
         free_cell(best, at);
@@ -40,22 +40,16 @@ pub(crate) fn put_table<D: DictDisc>(
 ) -> Result<(), RegionFault>
     requires grows { CanGrow (D.rules kind.now) dict.old (cells_in best.old) slots }
 
-    ensures ok { OnOk result (HasGrown
-        (grown_to (disc_in state best.old).terms (rest_in best.old) 0
-        (dictionary_in dict.old best.old) false (Some slots))
+    ensures ok { OnOk result (HasGrown (table_in state best.old dict.old slots false)
         (rest_in best.new) (dictionary_in dict.new best.new)) }
     ensures whole { OnOk result (IsWhole (D.rules kind.now) dict.new (cells_in best.new)) }
     ensures kind { dict.new.kind ≡ dict.old.kind }
     ensures leaves { Leaves state best.old best.new
-        (owned (dictionary_in dict.old best.old))
-        (owned (dictionary_in dict.new best.new)) }
+        (owned (dictionary_in dict.old best.old)) (owned (dictionary_in dict.new best.new)) }
 
     // With no block for it nothing changed.
-    ensures err { IfErr result (λ why. IsRefusal
-        (λ refused. grown_to (disc_in state best.old).terms (rest_in best.old) 0
-        (dictionary_in dict.old best.old) refused (Some slots)) why
-        × (rest_in best.new ≡ rest_in best.old)
-        × (cells_in best.new ≡ cells_in best.old)
+    ensures err { IfErr result (λ why. IsRefusal (table_in state best.old dict.old slots) why
+        × (rest_in best.new ≡ rest_in best.old) × (cells_in best.new ≡ cells_in best.old)
         × (dict.new ≡ dict.old)) }
     ensures asked { AskedTable result (Some slots)
         (disc_in state best.old) (disc_in state best.new) }

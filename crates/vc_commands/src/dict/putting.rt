@@ -3,14 +3,13 @@ ghost use Rattle.std.specs.Prelude.{◌≡◌, None, true, false, IfOk, OnErr, O
 ghost use Rattle.vc_base.specs.Methods.{is_list, is_set};
 ghost use Rattle.vc_dtdisc.specs.Rules.{Gone, IsObject, Rules};
 ghost use Rattle.vc_best.specs.Cells.{cells_in, rest_in};
-ghost use Rattle.vc_best.specs.Parts.{disc_in};
 ghost use Rattle.vc_objects.specs.Insert.{slots_wanted};
-ghost use Rattle.vc_objects.specs.Leaves.{LeavesRest, Looks};
-ghost use Rattle.vc_objects.specs.Lists.{first_with};
+ghost use Rattle.vc_objects.specs.Leaves.{Looks};
 ghost use Rattle.vc_objects.specs.Parts.{IsWhole, dictionary_in};
-ghost use Rattle.vc_script.specs.Needs.{need_shown};
-ghost use Rattle.vc_commands.specs.DictCommands.{append_in, fate_reply, insert_in, put_object, put_unless, standing, where_object};
-ghost use Rattle.vc_commands.specs.DictRun.{AskedFor, Gives, IsOfHolder, IsSpent, IsStill, object_there, seat_in};
+ghost use Rattle.vc_objects.specs.Promises.{CanPut, IsStill};
+ghost use Rattle.vc_commands.specs.DictCommands.{append_in, attach_in, fate_reply, insert_in, insert_made_in};
+ghost use Rattle.vc_commands.specs.DictCommands.{put_object, standing};
+ghost use Rattle.vc_commands.specs.DictRun.{IsOfHolder, IsSpent, RunsDict, object_there, seat_in};
 
 use crate::Uncounted;
 use crate::dict::looking::is_object;
@@ -46,19 +45,12 @@ fn put<D: DictDisc>(
     object: Vec<u8>,
     append: bool,
 ) -> Result<Reply, OutOfMemory>
-    requires whole { IsWhole (D.rules kind.now) dict.old (cells_in best.old) }
-    requires lone { is_set dict.old.method ≡ true → first_with (D.rules kind.now)
-        ((D.rules kind.now).key object.items) (dictionary_in dict.old best.old).objects ≡ None }
-    requires object { IsObject object.items }
-    requires append { append ≡ true → is_list dict.old.method ≡ true }
+    requires can { CanPut (D.rules kind.now) best.old dict.old object.items append }
 
-    ensures step { IfOk result (λ reply. Gives
-        (put_object (seat_in state (D.rules kind.now) best.old dict.old) append object.items
-        (need_shown reply))
-        best.new dict.new reply (D.gone kind.now) (D.gone kind.now)) }
-    ensures leaves { LeavesRest state (D.rules kind.now) best.old dict.old best.new dict.new }
-    ensures asked { AskedFor result (slots_wanted (dictionary_in dict.old best.old)) object.items
-        (disc_in state best.old) (disc_in state best.new) }
+    ensures runs { RunsDict state result (D.rules kind.now)
+        (put_object (seat_in state (D.rules kind.now) best.old dict.old) append object.items)
+        (slots_wanted (dictionary_in dict.old best.old)) object.items
+        best.old dict.old (D.gone kind.now) best.new dict.new (D.gone kind.now) }
     ensures err { OnErr result (IsSpent (seat_in state (D.rules kind.now) best.old dict.old)
         (rest_in best.new) (dictionary_in dict.new best.new)) }
 {
@@ -101,13 +93,10 @@ fn put_unless<D: DictDisc>(
     requires whole { IsWhole (D.rules kind.now) dict.old (cells_in best.old) }
     requires object { IsObject object.items }
 
-    ensures step { IfOk result (λ reply. Gives
-        (insert_in (seat_in state (D.rules kind.now) best.old dict.old) object.items
-        (need_shown reply))
-        best.new dict.new reply (D.gone kind.now) (D.gone kind.now)) }
-    ensures leaves { LeavesRest state (D.rules kind.now) best.old dict.old best.new dict.new }
-    ensures asked { AskedFor result (slots_wanted (dictionary_in dict.old best.old)) object.items
-        (disc_in state best.old) (disc_in state best.new) }
+    ensures runs { RunsDict state result (D.rules kind.now)
+        (insert_in (seat_in state (D.rules kind.now) best.old dict.old) object.items)
+        (slots_wanted (dictionary_in dict.old best.old)) object.items
+        best.old dict.old (D.gone kind.now) best.new dict.new (D.gone kind.now) }
     ensures err { OnErr result (IsSpent (seat_in state (D.rules kind.now) best.old dict.old)
         (rest_in best.new) (dictionary_in dict.new best.new)) }
 {
@@ -139,15 +128,10 @@ pub(crate) fn insert<D: DictDisc>(
 ) -> Result<Reply, OutOfMemory>
     requires whole { IsWhole (D.rules kind.now) dict.old (cells_in best.old) }
 
-    ensures step { IfOk result (λ reply. Gives
-        (where_object (seat_in state (D.rules kind.now) best.old dict.old) object.now
-        (insert_in (seat_in state (D.rules kind.now) best.old dict.old)
-        ((D.rules kind.now).made object.now) (need_shown reply)))
-        best.new dict.new reply (D.gone kind.now) (D.gone kind.now)) }
-    ensures leaves { LeavesRest state (D.rules kind.now) best.old dict.old best.new dict.new }
-    ensures asked { AskedFor result (slots_wanted (dictionary_in dict.old best.old))
-        ((D.rules kind.now).made object.now)
-        (disc_in state best.old) (disc_in state best.new) }
+    ensures runs { RunsDict state result (D.rules kind.now)
+        (insert_made_in (seat_in state (D.rules kind.now) best.old dict.old) object.now)
+        (slots_wanted (dictionary_in dict.old best.old)) ((D.rules kind.now).made object.now)
+        best.old dict.old (D.gone kind.now) best.new dict.new (D.gone kind.now) }
     ensures err { OnErr result (IsSpent (seat_in state (D.rules kind.now) best.old dict.old)
         (rest_in best.new) (dictionary_in dict.new best.new)) }
 {
@@ -168,14 +152,10 @@ pub(crate) fn attach<D: DictDisc>(
 ) -> Result<Reply, OutOfMemory>
     requires whole { IsWhole (D.rules kind.now) dict.old (cells_in best.old) }
 
-    ensures step { IfOk result (λ reply. Gives
-        (where_object (seat_in state (D.rules kind.now) best.old dict.old) object.now
-        (insert_in (seat_in state (D.rules kind.now) best.old dict.old) object.now
-        (need_shown reply)))
-        best.new dict.new reply (D.gone kind.now) (D.gone kind.now)) }
-    ensures leaves { LeavesRest state (D.rules kind.now) best.old dict.old best.new dict.new }
-    ensures asked { AskedFor result (slots_wanted (dictionary_in dict.old best.old)) object.now
-        (disc_in state best.old) (disc_in state best.new) }
+    ensures runs { RunsDict state result (D.rules kind.now)
+        (attach_in (seat_in state (D.rules kind.now) best.old dict.old) object.now)
+        (slots_wanted (dictionary_in dict.old best.old)) object.now
+        best.old dict.old (D.gone kind.now) best.new dict.new (D.gone kind.now) }
     ensures err { OnErr result (IsSpent (seat_in state (D.rules kind.now) best.old dict.old)
         (rest_in best.new) (dictionary_in dict.new best.new)) }
 {
@@ -196,14 +176,10 @@ pub(crate) fn append<D: DictDisc>(
 ) -> Result<Reply, OutOfMemory>
     requires whole { IsWhole (D.rules kind.now) dict.old (cells_in best.old) }
 
-    ensures step { IfOk result (λ reply. Gives
-        (append_in (seat_in state (D.rules kind.now) best.old dict.old) object.now
-        (need_shown reply))
-        best.new dict.new reply (D.gone kind.now) (D.gone kind.now)) }
-    ensures leaves { LeavesRest state (D.rules kind.now) best.old dict.old best.new dict.new }
-    ensures asked { AskedFor result (slots_wanted (dictionary_in dict.old best.old))
-        ((D.rules kind.now).made object.now)
-        (disc_in state best.old) (disc_in state best.new) }
+    ensures runs { RunsDict state result (D.rules kind.now)
+        (append_in (seat_in state (D.rules kind.now) best.old dict.old) object.now)
+        (slots_wanted (dictionary_in dict.old best.old)) ((D.rules kind.now).made object.now)
+        best.old dict.old (D.gone kind.now) best.new dict.new (D.gone kind.now) }
     ensures err { OnErr result (IsStill best.old dict.old best.new dict.new) }
 {
     if !dict.method.is_list() {

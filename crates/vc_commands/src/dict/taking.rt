@@ -1,15 +1,12 @@
 // The commands that take an object out of a dictionary.
-ghost use Rattle.std.specs.Prelude.{◌≡◌, ◌≤◌, [], None, Some, true, false, if◌then◌else◌, IfOk, OnErr, OnOk};
+ghost use Rattle.std.specs.Prelude.{◌≡◌, ◌≤◌, [], None, Some, true, false, if◌then◌else◌, IfOk, OnOk};
 ghost use Rattle.std.specs.Vec.{vec_capacity};
 ghost use Rattle.vc_dtdisc.specs.Rules.{Gone, Rules};
 ghost use Rattle.vc_best.specs.Cells.{cells_in, rest_in};
-ghost use Rattle.vc_best.specs.Parts.{disc_in};
-ghost use Rattle.vc_objects.specs.Leaves.{LeavesRest};
 ghost use Rattle.vc_objects.specs.Parts.{IsWhole, dictionary_in};
 ghost use Rattle.vc_objects.specs.Remove.{remove, remove_unnamed};
-ghost use Rattle.vc_script.specs.Needs.{NoNeed, need_shown};
 ghost use Rattle.vc_commands.specs.DictCommands.{delete_in, gone_reply, remove_in, removed_as};
-ghost use Rattle.vc_commands.specs.DictRun.{Gives, IsStill, seat_in};
+ghost use Rattle.vc_commands.specs.DictRun.{TakesDict, seat_in};
 
 use crate::Uncounted;
 use crate::dict::looking::is_object;
@@ -57,15 +54,10 @@ pub(crate) fn take<D: DictDisc>(
 ) -> Result<Reply, OutOfMemory>
     requires whole { IsWhole (D.rules kind.old) dict.old (cells_in best.old) }
 
-    ensures step { IfOk result (λ reply. Gives
+    ensures takes { TakesDict state result (D.rules kind.old)
         (remove_in (seat_in state (D.rules kind.old) best.old dict.old) tells object.now)
-        best.new dict.new reply (D.gone kind.old) (D.gone kind.new)) }
-    ensures need { IfOk result (λ reply. need_shown reply ≡ NoNeed) }
-    ensures leaves { LeavesRest state (D.rules kind.old) best.old dict.old best.new dict.new }
-    ensures disc { disc_in state best.new ≡ disc_in state best.old }
+        best.old dict.old (D.gone kind.old) best.new dict.new (D.gone kind.new) }
     ensures rules { D.rules kind.new ≡ D.rules kind.old }
-    ensures err { OnErr result ((D.gone kind.new ≡ D.gone kind.old)
-        × IsStill best.old dict.old best.new dict.new) }
 {
     if !is_object(object) {
         return Ok(Reply::Refused(Refusal::Size));
@@ -86,16 +78,10 @@ fn take_unnamed<D: DictDisc>(
 ) -> Result<Reply, OutOfMemory>
     requires whole { IsWhole (D.rules kind.old) dict.old (cells_in best.old) }
 
-    ensures step { IfOk result (λ reply. Gives
-        (removed_as true
-        (remove_unnamed (rest_in best.old) (dictionary_in dict.old best.old)))
-        best.new dict.new reply (D.gone kind.old) (D.gone kind.new)) }
-    ensures need { IfOk result (λ reply. need_shown reply ≡ NoNeed) }
-    ensures leaves { LeavesRest state (D.rules kind.old) best.old dict.old best.new dict.new }
-    ensures disc { disc_in state best.new ≡ disc_in state best.old }
+    ensures takes { TakesDict state result (D.rules kind.old)
+        (removed_as true (remove_unnamed (rest_in best.old) (dictionary_in dict.old best.old)))
+        best.old dict.old (D.gone kind.old) best.new dict.new (D.gone kind.new) }
     ensures rules { D.rules kind.new ≡ D.rules kind.old }
-    ensures err { OnErr result ((D.gone kind.new ≡ D.gone kind.old)
-        × IsStill best.old dict.old best.new dict.new) }
 {
     let mut out = with_room(alloc)?;
     let is_gone = vc_objects::remove_unnamed(best, dict, kind, &mut out);
@@ -112,15 +98,10 @@ pub(crate) fn delete<D: DictDisc>(
 ) -> Result<Reply, OutOfMemory>
     requires whole { IsWhole (D.rules kind.old) dict.old (cells_in best.old) }
 
-    ensures step { IfOk result (λ reply. Gives
+    ensures takes { TakesDict state result (D.rules kind.old)
         (delete_in (seat_in state (D.rules kind.old) best.old dict.old) object.now)
-        best.new dict.new reply (D.gone kind.old) (D.gone kind.new)) }
-    ensures need { IfOk result (λ reply. need_shown reply ≡ NoNeed) }
-    ensures leaves { LeavesRest state (D.rules kind.old) best.old dict.old best.new dict.new }
-    ensures disc { disc_in state best.new ≡ disc_in state best.old }
+        best.old dict.old (D.gone kind.old) best.new dict.new (D.gone kind.new) }
     ensures rules { D.rules kind.new ≡ D.rules kind.old }
-    ensures err { OnErr result ((D.gone kind.new ≡ D.gone kind.old)
-        × IsStill best.old dict.old best.new dict.new) }
 {
     match object {
         Some(bytes) => take(alloc, best, dict, kind, bytes.as_slice(), true),

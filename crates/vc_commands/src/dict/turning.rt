@@ -6,10 +6,10 @@ ghost use Rattle.vc_best.specs.Cells.{cells_in, rest_in};
 ghost use Rattle.vc_best.specs.Parts.{disc_in};
 ghost use Rattle.vc_objects.specs.Leaves.{LeavesRest};
 ghost use Rattle.vc_objects.specs.Parts.{IsWhole, dictionary_in};
-ghost use Rattle.vc_objects.specs.Turn.{turn};
+ghost use Rattle.vc_objects.specs.Promises.{IsStill, turn_in};
 ghost use Rattle.vc_script.specs.Needs.{NoNeed, need_shown};
 ghost use Rattle.vc_commands.specs.DictCommands.{empty_in, is_for_table, turned_as};
-ghost use Rattle.vc_commands.specs.DictRun.{AskedFor, Gives, IsStill, seat_in};
+ghost use Rattle.vc_commands.specs.DictRun.{Gives, RunsDict, seat_in};
 
 use crate::Uncounted;
 use std::alloc::Global;
@@ -31,16 +31,12 @@ pub(crate) fn remethod<D: DictDisc>(
 ) -> Result<Reply, OutOfMemory>
     requires whole { IsWhole (D.rules kind.old) dict.old (cells_in best.old) }
 
-    ensures step { IfOk result (λ reply. Gives
-        (turned_as (seat_in state (D.rules kind.old) best.old dict.old) name method
-        (turn (D.rules kind.old) (disc_in state best.old).terms (rest_in best.old) 0
-        (dictionary_in dict.old best.old) method (is_for_table (need_shown reply))))
-        best.new dict.new reply (D.gone kind.old) (D.gone kind.new)) }
-    ensures leaves { LeavesRest state (D.rules kind.old) best.old dict.old best.new dict.new }
-    ensures rules { D.rules kind.new ≡ D.rules kind.old }
-    ensures asked { AskedFor result
+    ensures runs { RunsDict state result (D.rules kind.old)
+        (λ need. turned_as (seat_in state (D.rules kind.old) best.old dict.old) name method
+        (turn_in state best.old (D.rules kind.old) dict.old method (is_for_table need)))
         (slots_between dict.old.method method (length (dictionary_in dict.old best.old).objects))
-        [] (disc_in state best.old) (disc_in state best.new) }
+        [] best.old dict.old (D.gone kind.old) best.new dict.new (D.gone kind.new) }
+    ensures rules { D.rules kind.new ≡ D.rules kind.old }
     ensures err { OnErr result ((D.gone kind.new ≡ D.gone kind.old)
         × IsStill best.old dict.old best.new dict.new) }
 {

@@ -11,13 +11,18 @@ use Rattle.vc_objects.proofs.cells.free_cell.Goals as goal
 pub free-requires : goal.free-requires
 free-requires g c = record { block = cell-has (blocks_in c.args.best.now) c.args.at.0 c.requires }
 
-pub returns-clause-rest : goal.returns-clause-rest
-returns-clause-rest g c = ap zeroed_layout c.free.ensures.layout ∙ freed-zeroed (layout_of c.args.best.now) c.args.at.0
-
-pub returns-clause-cells : goal.returns-clause-cells
-returns-clause-cells g c = ap (λ (r : Layout ℕ). cells_of r.blocks) c.free.ensures.layout ∙ cells-freed (layout_of c.args.best.now) c.args.at.0 (own_places c.args.best.now)
-
-pub returns-clause-labelled : goal.returns-clause-labelled
-returns-clause-labelled g c =
-    ap (λ (r : Layout ℕ). labelled_blocks (zeroed_layout r)) c.free.ensures.layout
-    ∙ labelled-freed (layout_of c.args.best.now) c.args.at.0 (cell-label (blocks_in c.args.best.now) c.args.at.0 c.requires)
+pub returns : goal.returns
+returns g c =
+    record {
+      frees = record {
+        rest = ap zeroed_layout c.free.ensures.layout ∙ freed-zeroed (layout_of c.args.best.now) c.args.at.0;
+        cells = ap (λ (r : Layout ℕ). cells_of r.blocks) c.free.ensures.layout ∙ cells-freed (layout_of c.args.best.now) c.args.at.0 (own_places c.args.best.now);
+        around = record {
+          disc = c.free.ensures.disc;
+          segments = ap (λ (r : Layout ℕ). r.segments) c.free.ensures.layout;
+          labelled =
+              ap (λ (r : Layout ℕ). labelled_blocks (zeroed_layout r)) c.free.ensures.layout
+              ∙ labelled-freed (layout_of c.args.best.now) c.args.at.0 (cell-label (blocks_in c.args.best.now) c.args.at.0 c.requires);
+        };
+      };
+    }

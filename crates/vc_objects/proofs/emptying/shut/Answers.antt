@@ -17,16 +17,9 @@ returns-then-ne-clause-leaves g c =
     λ a h. ap (λ (d : Dictionary). contains (owned d) a) c.empty.ensures.dict ∙ emptied-fewer (dictionary_in c.args.dict c.args.best.now) a h in
     let some : c.empty.new.dict.table.0 ≢ 0 =
     λ zero. true≢false (sym c.if-ne.true ∙ c.ne.ensures ∙ ap (λ z. not (z == 0)) (ap (λ a. a.0) c.table-table.ensures ∙ zero)) in
-    let free : FreesCell (λ z. (goal.SegDisc-dyn g z).state z.1) c.empty.new.best c.table-table.result.0 c.free_cell.new.best = record {
-      rest = c.free_cell.ensures.rest;
-      disc = c.free_cell.ensures.disc;
-      segments = c.free_cell.ensures.segments;
-      cells = c.free_cell.ensures.cells;
-      labelled = c.free_cell.ensures.labelled;
-    } in
     leaves-trans (λ z. (goal.SegDisc-dyn g z).state z.1) c.args.best.now c.empty.new.best c.free_cell.new.best mine left [] c.empty.ensures.leaves.rest
     (leaves-table (λ z. (goal.SegDisc-dyn g z).state z.1) c.empty.new.best c.free_cell.new.best c.empty.new.dict some
-    (subst (λ t. FreesCell (λ z. (goal.SegDisc-dyn g z).state z.1) c.empty.new.best t.0 c.free_cell.new.best) c.table-table.ensures free))
+    (subst (λ t. FreesCell (λ z. (goal.SegDisc-dyn g z).state z.1) c.empty.new.best t.0 c.free_cell.new.best) c.table-table.ensures c.free_cell.ensures.frees))
     (λ a apart _. fewer a apart)
 
 pub returns-else-ne-clause-leaves : goal.returns-else-ne-clause-leaves

@@ -24,7 +24,9 @@ returns-in-Some-clause-err g c =
     then-err _ _ c.put_table.result
     (λ why h. (
       grow-refused _ (rest_in c.args.best.now) (dictionary_in c.args.dict.now c.args.best.now) c.in-Some.slots why wants h.0,
-      h.1,
-      ap (λ (d : Dict). dictionary_of d (cells_in c.put_table.new.best)) h.3 ∙ ap (λ (b : Blocks). dictionary_of c.args.dict.now b) h.2,
+      record {
+        region = h.1;
+        dict = ap (λ (d : Dict). dictionary_of d (cells_in c.put_table.new.best)) h.3 ∙ ap (λ (b : Blocks). dictionary_of c.args.dict.now b) h.2;
+      },
     ))
     c.put_table.ensures.err

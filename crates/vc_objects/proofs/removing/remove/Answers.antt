@@ -1,82 +1,55 @@
-use Rattle.std.proofs.Common.{◌≡◌, Some, ap, sym, ◌∙◌, subst}
+use Rattle.std.proofs.Common.{ap, sym, ◌∙◌}
 use Rattle.std.specs.Option.{option_map}
+use Rattle.vc_dtdisc.specs.Objects.{bytes_of, first_with}
+use Rattle.vc_dtdisc.proofs.ObjectsLemmas.{first_with-map}
 use Rattle.vc_dict.specs.Listed.{holders_of}
-use Rattle.vc_best.specs.Cells.{cells_in, rest_in}
-use Rattle.vc_best.proofs.CellCalls.{stays-disc}
-use Rattle.vc_objects.specs.Leaves.{told_if}
-use Rattle.vc_objects.specs.Lists.{first_with}
+use Rattle.vc_best.specs.Cells.{cells_in}
 use Rattle.vc_objects.specs.Parts.{dictionary_in, object_of}
 use Rattle.vc_objects.proofs.Looking.{Looks-became}
-use Rattle.vc_objects.proofs.Mapped.{first_with-mapped, found-within}
-use Rattle.vc_objects.proofs.Taken.{gives-found, gives-none, holder-stays, leaves-taken, object-small}
+use Rattle.vc_objects.proofs.Mapped.{found-within}
+use Rattle.vc_objects.proofs.Taken.{IsTaken, holder-stays, object-small, takes-found, takes-none}
+use Rattle.vc_objects.proofs.removing.remove.Given.{Over}
 use Rattle.vc_objects.proofs.removing.remove.Goals as goal
+use Rattle.vc_objects.proofs.removing.remove.Goals.{In-Some}
+
+-- a holder was taken out, or none
+here : (g : Over) (c : In-Some g) → IsTaken (g.D.DictDisc.rules c.args.kind.now) c.args.best.now c.unlink.new.cells c.args.dict.now c.unlink.new.self c.in-Some.at.0
+here g c =
+    let xs = holders_of c.args.dict.now (cells_in c.args.best.now) in
+    record {
+      whole = c.requires.whole;
+      within = found-within (g.D.DictDisc.rules c.args.kind.now) (cells_in c.args.best.now) c.args.key.now xs c.in-Some.at.0 (sym (c.in-Some.ensures.found xs c.requires.whole.stands).first);
+      became = c.in-Some.ensures.dict xs c.requires.whole.stands;
+    }
 
 pub release-requires : goal.release-requires
 release-requires g c =
-    let rules = g.D.DictDisc.rules c.args.kind.now in
-    let b = cells_in c.args.best.now in
-    let xs = holders_of c.args.dict.now b in
-    let found = (c.in-Some.ensures.found xs c.requires.whole.stands).first in
-    let within = found-within rules b c.args.key.now xs c.in-Some.at.0 (sym found) in
-    let became = c.in-Some.ensures.dict xs c.requires.whole.stands in
+    let taken = here g (goal.at.release-requires g c).In-Some in
     record {
-      holder = holder-stays rules c.args.best.now c.unlink.new.cells c.args.dict.now c.unlink.new.self c.in-Some.at.0 c.requires.whole within became;
-      small = (object-small rules c.args.best.now c.unlink.new.cells c.args.dict.now c.unlink.new.self c.in-Some.at.0 c.requires.whole within became).most;
+      holder = holder-stays (g.D.DictDisc.rules c.args.kind.now) c.args.best.now c.unlink.new.cells c.args.dict.now c.unlink.new.self c.in-Some.at.0 taken;
+      small = (object-small (g.D.DictDisc.rules c.args.kind.now) c.args.best.now c.unlink.new.cells c.args.dict.now c.unlink.new.self c.in-Some.at.0 taken).most;
       empty = c.requires.empty;
       room = c.requires.room;
     }
 
-pub returns-in-Some-clause-gives : goal.returns-in-Some-clause-gives
-returns-in-Some-clause-gives g c =
+pub returns-in-Some-clause-takes : goal.returns-in-Some-clause-takes
+returns-in-Some-clause-takes g c =
     let rules = g.D.DictDisc.rules c.args.kind.now in
     let b = cells_in c.args.best.now in
     let xs = holders_of c.args.dict.now b in
-    let found = (c.in-Some.ensures.found xs c.requires.whole.stands).first in
-    let within = found-within rules b c.args.key.now xs c.in-Some.at.0 (sym found) in
-    let became = c.in-Some.ensures.dict xs c.requires.whole.stands in
-    gives-found rules c.args.best.now c.unlink.new.cells c.args.dict.now c.unlink.new.self c.in-Some.at.0 c.requires.whole within became
-    _ c.release.new.best c.in-Some.ensures.rest c.release.ensures.freed
-    (first_with rules c.args.key.now (dictionary_in c.args.dict.now c.args.best.now).objects) c.release.new.out.items
-    (first_with-mapped b rules c.args.key.now xs ∙ ap (option_map (object_of b)) (sym found)) c.release.ensures.out
+    takes-found rules c.args.best.now c.unlink.new.cells c.args.dict.now c.unlink.new.self c.in-Some.at.0 (here g (goal.at.returns-in-Some-clause-takes g c).In-Some)
+    (λ z. (goal.SegDisc-dyn g z).state z.1) c.release.new.best c.in-Some.ensures.rest c.release.ensures.freed
+    (first_with bytes_of (g.D.DictDisc.rules c.args.kind.now) c.args.key.now (dictionary_in c.args.dict.now c.args.best.now).objects) c.args.tells c.release.new.out.items (g.D.DictDisc.gone c.args.kind.now) (g.D.DictDisc.gone c.release.new.kind)
+    (first_with-map (object_of b) bytes_of rules c.args.key.now xs ∙ ap (option_map (object_of b)) (sym ((c.in-Some.ensures.found xs c.requires.whole.stands).first))) c.release.ensures.out c.release.ensures.gone
 
-pub returns-in-Some-clause-leaves : goal.returns-in-Some-clause-leaves
-returns-in-Some-clause-leaves g c =
+pub returns-in-None-clause-takes : goal.returns-in-None-clause-takes
+returns-in-None-clause-takes g c =
     let rules = g.D.DictDisc.rules c.args.kind.now in
     let b = cells_in c.args.best.now in
     let xs = holders_of c.args.dict.now b in
-    let found = (c.in-Some.ensures.found xs c.requires.whole.stands).first in
-    let within = found-within rules b c.args.key.now xs c.in-Some.at.0 (sym found) in
-    let became = c.in-Some.ensures.dict xs c.requires.whole.stands in
-    leaves-taken rules c.args.best.now c.unlink.new.cells c.args.dict.now c.unlink.new.self c.in-Some.at.0 c.requires.whole within became
-    _ c.release.new.best c.in-Some.ensures.rest c.release.ensures.freed
-
-pub returns-in-Some-clause-gone : goal.returns-in-Some-clause-gone
-returns-in-Some-clause-gone g c =
-    subst (λ z. g.D.DictDisc.gone c.release.new.kind ≡ told_if c.args.tells (Some z) (g.D.DictDisc.gone c.args.kind.now)) (sym c.release.ensures.out) c.release.ensures.gone
-
-pub returns-in-None-clause-gives : goal.returns-in-None-clause-gives
-returns-in-None-clause-gives g c =
-    let rules = g.D.DictDisc.rules c.args.kind.now in
-    let b = cells_in c.args.best.now in
-    let xs = holders_of c.args.dict.now b in
-    let found = (c.in-None.ensures.found xs c.requires.whole.stands).first in
-    let became = c.in-None.ensures.dict xs c.requires.whole.stands in
-    let looks = Looks-became (λ z. (goal.SegDisc-dyn g z).state z.1) rules c.args.best.now c.unlink.new.cells c.args.dict.now c.unlink.new.self c.requires.whole became c.in-None.ensures.rest in
-    gives-none (rest_in c.args.best.now) (rest_in c.unlink.new.cells) (dictionary_in c.args.dict.now c.args.best.now) (dictionary_in c.unlink.new.self c.unlink.new.cells)
-    (first_with rules c.args.key.now (dictionary_in c.args.dict.now c.args.best.now).objects)
-    (first_with-mapped b rules c.args.key.now xs ∙ ap (option_map (object_of b)) (sym found)) looks.region looks.dict
-
-pub returns-in-None-clause-leaves : goal.returns-in-None-clause-leaves
-returns-in-None-clause-leaves g c =
-    let rules = g.D.DictDisc.rules c.args.kind.now in
-    let xs = holders_of c.args.dict.now (cells_in c.args.best.now) in
-    (Looks-became _ rules c.args.best.now c.unlink.new.cells c.args.dict.now c.unlink.new.self c.requires.whole
-    (c.in-None.ensures.dict xs c.requires.whole.stands) c.in-None.ensures.rest).leaves
-
-pub returns-in-Some-clause-disc : goal.returns-in-Some-clause-disc
-returns-in-Some-clause-disc g c =
-    c.release.ensures.freed.disc ∙ stays-disc (λ z. (goal.SegDisc-dyn g z).state z.1) c.args.best.now c.unlink.new.cells c.in-Some.ensures.rest
-
-pub returns-in-None-clause-disc : goal.returns-in-None-clause-disc
-returns-in-None-clause-disc g c =
-    stays-disc (λ z. (goal.SegDisc-dyn g z).state z.1) c.args.best.now c.unlink.new.cells c.in-None.ensures.rest
+    takes-none (λ z. (goal.SegDisc-dyn g z).state z.1) rules c.args.best.now c.unlink.new.cells c.args.dict.now c.unlink.new.self
+    (first_with bytes_of (g.D.DictDisc.rules c.args.kind.now) c.args.key.now (dictionary_in c.args.dict.now c.args.best.now).objects) c.args.tells c.args.out.now.items (g.D.DictDisc.gone c.args.kind.now)
+    (first_with-map (object_of b) bytes_of rules c.args.key.now xs ∙ ap (option_map (object_of b)) (sym ((c.in-None.ensures.found xs c.requires.whole.stands).first)))
+    (Looks-became (λ z. (goal.SegDisc-dyn g z).state z.1) rules c.args.best.now c.unlink.new.cells c.args.dict.now c.unlink.new.self c.requires.whole
+    (c.in-None.ensures.dict xs c.requires.whole.stands) c.in-None.ensures.rest)
+    c.requires.empty

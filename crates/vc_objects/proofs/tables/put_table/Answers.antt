@@ -62,7 +62,7 @@ returns-in-Ok-clause-leaves g c =
     let adopted = c.adopt_table-old.ensures.dict (holders_of c.args.dict.now (cells_in c.args.best.now)) (stands-placed _ c.args.dict.now (cells_in c.args.best.now) (cells_in c.alloc_cell.new.best) c.in-Ok.table.0 c.args.slots c.requires.grows c.in-Ok.ensures.fresh c.in-Ok.ensures.address c.in-Ok.ensures.cells) in
     let table = ap (λ (t : Addr). t.0) c.adopt_table-old.ensures.old in
     leaves-put _ c.args.best.now c.alloc_cell.new.best c.adopt_table-old.new.cells c.free_table.new.best (owned (dictionary_in c.args.dict.now c.args.best.now)) (owned (dictionary_in c.adopt_table-old.new.self c.free_table.new.best)) _
-    c.in-Ok.ensures.disc c.alloc_cell.ensures.labelled c.adopt_table-old.ensures.rest c.free_table.ensures.disc c.free_table.ensures.segments c.free_table.ensures.labelled
+    c.in-Ok.ensures.disc c.alloc_cell.ensures.labelled c.adopt_table-old.ensures.rest c.free_table.ensures.around.disc c.free_table.ensures.around.segments c.free_table.ensures.around.labelled
     (others-grown _ c.args.dict.now (cells_in c.args.best.now) (cells_in c.alloc_cell.new.best) c.in-Ok.table.0 c.args.slots c.requires.grows c.in-Ok.ensures.fresh c.in-Ok.ensures.address c.in-Ok.ensures.cells
     c.adopt_table-old.new.self (cells_in c.adopt_table-old.new.cells) (cells_in c.free_table.new.best) adopted (λ a ne. c.free_table.ensures.others a (λ e. ne (e ∙ table)))
     (none-at c.free_table.new.best) (none-at c.args.best.now))
@@ -71,7 +71,7 @@ returns-in-Ok-clause-leaves g c =
 
 pub returns-in-Ok-clause-asked : goal.returns-in-Ok-clause-asked
 returns-in-Ok-clause-asked g c =
-    ap (λ (d : Discipline). d.faults) (c.free_table.ensures.disc ∙ stays-disc (λ z. (goal.SegDisc-dyn g z).state z.1) c.alloc_cell.new.best c.adopt_table-old.new.cells c.adopt_table-old.ensures.rest)
+    ap (λ (d : Discipline). d.faults) (c.free_table.ensures.around.disc ∙ stays-disc (λ z. (goal.SegDisc-dyn g z).state z.1) c.alloc_cell.new.best c.adopt_table-old.new.cells c.adopt_table-old.ensures.rest)
     ∙ c.in-Ok.ensures.disc.faults
 
 pub returns-in-Err-clause-asked : goal.returns-in-Err-clause-asked

@@ -1,9 +1,14 @@
-use Rattle.std.proofs.Common.{arith}
+use Rattle.std.proofs.Common.{◌≢◌, ℕ, ap, arith}
 use Rattle.vc_model.specs.Best.{best_need}
+use Rattle.vc_model.specs.Layout.{Layout}
+use Rattle.vc_best.specs.Cells.{cells_in, rest_in}
 use Rattle.vc_best.specs.Parts.{disc_in, segments_in}
+use Rattle.vc_objects.specs.Insert.{alloc_unlabelled}
 use Rattle.vc_objects.specs.Objects.{table_size}
 use Rattle.vc_objects.proofs.Answering.{asked-block}
+use Rattle.vc_objects.proofs.Brought.{brought-refused, cell-brought, put-brought}
 use Rattle.vc_objects.proofs.Doubling.{slots-most}
+use Rattle.vc_objects.proofs.Leaving.{asked-keeps, served-keeps}
 use Rattle.vc_objects.proofs.turning.bring_some.Goals as goal
 
 pub overflow_mul-slots : goal.overflow_mul-slots
@@ -12,7 +17,34 @@ overflow_mul-slots g c = let h = slots-most c.args.slots c.requires.allowed in o
 pub alloc_cell-requires-clause-most : goal.alloc_cell-requires-clause-most
 alloc_cell-requires-clause-most g c = let h = slots-most c.args.slots c.requires.allowed in omega (arith, h)
 
-pub returns-in-Err-clause-asked : goal.returns-in-Err-clause-asked
-returns-in-Err-clause-asked g c =
-    let old = disc_in (λ z. (goal.SegDisc-dyn g z).state z.1) c.args.best.now in
-    asked-block old (disc_in (λ z. (goal.SegDisc-dyn g z).state z.1) c.alloc_cell.new.best) (segments_in c.args.best.now) (segments_in c.alloc_cell.new.best) (best_need old.terms (table_size c.args.slots) 32) c.in-Err.why c.in-Err.ensures.disc
+pub returns-in-Ok : goal.returns-in-Ok
+returns-in-Ok g c =
+    let some : c.in-Ok.at.0 ≢ 0 = λ zero. let is = c.in-Ok.ensures.address.some in omega (arith, is, zero) in
+    let e = c.in-Ok.ensures in
+    record {
+      brings = record {
+        answer = (
+          put-brought c.args.slots _ c.in-Ok.at.0 (rest_in c.alloc_cell.new.best) some e.answer,
+          cell-brought c.args.slots c.in-Ok.at.0 (cells_in c.args.best.now) (cells_in c.alloc_cell.new.best) some e.cells e.fresh,
+        );
+        disc = served-keeps _ _ (segments_in c.args.best.now) (segments_in c.alloc_cell.new.best) _ e.disc;
+        labelled = c.alloc_cell.ensures.labelled;
+        asked = e.disc.faults;
+      };
+    }
+
+pub returns-in-Err : goal.returns-in-Err
+returns-in-Err g c =
+    let old = c.args.best.now in
+    let new = c.alloc_cell.new.best in
+    let e = c.in-Err.ensures in
+    let before = disc_in (λ z. (goal.SegDisc-dyn g z).state z.1) old in
+    record {
+      brings = record {
+        answer = (brought-refused (alloc_unlabelled before.terms (rest_in old) 0 (table_size c.args.slots)) c.args.slots c.in-Err.why e.answer.0, e.answer.1, e.same);
+        disc = asked-keeps _ _ (segments_in old) (segments_in new) _ c.in-Err.why (ap (λ (r : Layout ℕ). r.segments) e.answer.1) e.disc;
+        labelled = c.alloc_cell.ensures.labelled;
+        asked =
+            asked-block before (disc_in (λ z. (goal.SegDisc-dyn g z).state z.1) new) (segments_in old) (segments_in new) (best_need before.terms (table_size c.args.slots) 32) c.in-Err.why e.disc;
+      };
+    }

@@ -22,11 +22,11 @@ loop-dropped-preserved g c =
           dropping-next holders (cells_in r) (rest_in r) (g.D.DictDisc.gone c.args.kind.now) l._dropped l.at.0 (cells_in l.best) (rest_in l.best) (g.D.DictDisc.gone l.kind)
           one.result.0 (cells_in one.new.best) (rest_in one.new.best) (g.D.DictDisc.gone one.new.kind)
           (l.invariant.0 holders d distinct count) (omega (arith, c.loop-dropped-test.true, count))
-          one.ensures.behind one.ensures.cells one.ensures.region one.ensures.gone,
+          one.ensures.behind one.ensures.frees.cells one.ensures.frees.rest one.ensures.gone,
       one.ensures.rules ∙ l.invariant.1,
-      one.ensures.disc ∙ l.invariant.2,
-      one.ensures.segments ∙ l.invariant.3,
-      one.ensures.labelled ∙ l.invariant.4,
+      one.ensures.frees.around.disc ∙ l.invariant.2,
+      one.ensures.frees.around.segments ∙ l.invariant.3,
+      one.ensures.frees.around.labelled ∙ l.invariant.4,
     )
 
 pub drop_one-at-requires : goal.drop_one-at-requires

@@ -1,7 +1,9 @@
-use Rattle.std.proofs.Common.{subst}
-use Rattle.vc_commands.specs.DictRun.{IsOfHolder}
+use Rattle.std.proofs.Common.{◌≡◌, None, false, sym, ap, ◌∙◌, subst}
+use Rattle.vc_objects.specs.Insert.{slots_wanted}
+use Rattle.vc_commands.specs.DictCommands.{put_object, put_unless, standing}
+use Rattle.vc_commands.specs.DictRun.{IsOfHolder, RunsDict, object_there, seat_in}
 use Rattle.vc_commands.proofs.FoundObjects.{holder-bytes}
-use Rattle.vc_commands.proofs.Seats.{leaves-looked}
+use Rattle.vc_commands.proofs.Seats.{runs-looked}
 use Rattle.vc_commands.proofs.dict.putting.put_unless.Goals as goal
 
 pub body-requires : goal.body-requires
@@ -9,7 +11,14 @@ body-requires g c =
     holder-bytes c.standing.new.dict c.standing.new.best (g.D.DictDisc.rules c.args.kind.now) c.in-Some.at.0 c.standing.ensures.looks.leaves.whole
     (subst (λ o. IsOfHolder c.standing.new.dict c.standing.new.best o) c.in-Some.is c.standing.ensures.within)
 
-pub returns-in-None-clause-leaves : goal.returns-in-None-clause-leaves
-returns-in-None-clause-leaves g c =
-    leaves-looked _ (g.D.DictDisc.rules c.args.kind.now) c.args.best.now c.args.dict.now c.standing.new.best c.standing.new.dict c.standing.ensures.looks
-    c.put.new.best c.put.new.dict c.put.ensures.leaves
+pub returns-in-None-clause-runs : goal.returns-in-None-clause-runs
+returns-in-None-clause-runs g c =
+    let rules = g.D.DictDisc.rules c.args.kind.now in
+    let seat = seat_in (λ z. (goal.SegDisc-dyn g z).state z.1) rules c.args.best.now c.args.dict.now in
+    let bytes = c.args.object.items in
+    let none : standing seat bytes ≡ None =
+    ap (standing seat) (sym c.deref.ensures.value) ∙ sym c.standing.ensures.found ∙ ap (object_there c.standing.new.best) c.in-None.is in
+    subst (λ o. RunsDict (λ z. (goal.SegDisc-dyn g z).state z.1) c.put.result rules (λ need. put_unless seat bytes need o) (slots_wanted seat.dict) bytes c.args.best.now c.args.dict.now (g.D.DictDisc.gone c.args.kind.now) c.put.new.best c.put.new.dict (g.D.DictDisc.gone c.args.kind.now))
+    (sym none)
+    (runs-looked (λ z. (goal.SegDisc-dyn g z).state z.1) c.put.result rules (λ s need. put_object s false bytes need) bytes c.args.best.now c.args.dict.now c.standing.new.best c.standing.new.dict c.put.new.best c.put.new.dict
+    (g.D.DictDisc.gone c.args.kind.now) (g.D.DictDisc.gone c.args.kind.now) c.standing.ensures.looks c.put.ensures.runs)

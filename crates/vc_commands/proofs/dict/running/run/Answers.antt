@@ -11,11 +11,11 @@ use Rattle.vc_commands.proofs.dict.running.run.Goals as goal
 
 pub returns-in-Insert-clause-step : goal.returns-in-Insert-clause-step
 returns-in-Insert-clause-step g c =
-    rw c.in-Insert.is (rw (sym c.as_slice.ensures) c.insert.ensures.step)
+    rw c.in-Insert.is (rw (sym c.as_slice.ensures) c.insert.ensures.runs.step)
 
 pub returns-in-Insert-clause-asked : goal.returns-in-Insert-clause-asked
 returns-in-Insert-clause-asked g c =
-    rw c.in-Insert.is (rw (sym c.as_slice.ensures) c.insert.ensures.asked)
+    rw c.in-Insert.is (rw (sym c.as_slice.ensures) c.insert.ensures.runs.asked)
 
 pub returns-in-Insert-clause-disc : goal.returns-in-Insert-clause-disc
 returns-in-Insert-clause-disc g c =
@@ -27,11 +27,11 @@ returns-in-Insert-clause-err g c =
 
 pub returns-in-Attach-clause-step : goal.returns-in-Attach-clause-step
 returns-in-Attach-clause-step g c =
-    rw c.in-Attach.is (rw (sym c.as_slice-in-Attach.ensures) c.attach.ensures.step)
+    rw c.in-Attach.is (rw (sym c.as_slice-in-Attach.ensures) c.attach.ensures.runs.step)
 
 pub returns-in-Attach-clause-asked : goal.returns-in-Attach-clause-asked
 returns-in-Attach-clause-asked g c =
-    rw c.in-Attach.is (rw (sym c.as_slice-in-Attach.ensures) c.attach.ensures.asked)
+    rw c.in-Attach.is (rw (sym c.as_slice-in-Attach.ensures) c.attach.ensures.runs.asked)
 
 pub returns-in-Attach-clause-disc : goal.returns-in-Attach-clause-disc
 returns-in-Attach-clause-disc g c =
@@ -43,11 +43,11 @@ returns-in-Attach-clause-err g c =
 
 pub returns-in-Append-clause-step : goal.returns-in-Append-clause-step
 returns-in-Append-clause-step g c =
-    rw c.in-Append.is (rw (sym c.as_slice-in-Append.ensures) c.append.ensures.step)
+    rw c.in-Append.is (rw (sym c.as_slice-in-Append.ensures) c.append.ensures.runs.step)
 
 pub returns-in-Append-clause-asked : goal.returns-in-Append-clause-asked
 returns-in-Append-clause-asked g c =
-    rw c.in-Append.is (rw (sym c.as_slice-in-Append.ensures) (append-asked c.append.result (seat_in (λ z. (goal.SegDisc-dyn g z).state z.1) (g.D.DictDisc.rules c.args.kind.now) c.args.best.now c.args.dict.now) c.as_slice-in-Append.result.now ((g.D.DictDisc.rules c.args.kind.now).made c.as_slice-in-Append.result.now) (rest_in c.append.new.best) (dictionary_in c.append.new.dict c.append.new.best) (g.D.DictDisc.gone c.args.kind.now) (g.D.DictDisc.gone c.args.kind.now) (disc_in (λ z. (goal.SegDisc-dyn g z).state z.1) c.args.best.now) (disc_in (λ z. (goal.SegDisc-dyn g z).state z.1) c.append.new.best) c.append.ensures.step c.append.ensures.asked))
+    rw c.in-Append.is (rw (sym c.as_slice-in-Append.ensures) (append-asked c.append.result (seat_in (λ z. (goal.SegDisc-dyn g z).state z.1) (g.D.DictDisc.rules c.args.kind.now) c.args.best.now c.args.dict.now) c.as_slice-in-Append.result.now ((g.D.DictDisc.rules c.args.kind.now).made c.as_slice-in-Append.result.now) (rest_in c.append.new.best) (dictionary_in c.append.new.dict c.append.new.best) (g.D.DictDisc.gone c.args.kind.now) (g.D.DictDisc.gone c.args.kind.now) (disc_in (λ z. (goal.SegDisc-dyn g z).state z.1) c.args.best.now) (disc_in (λ z. (goal.SegDisc-dyn g z).state z.1) c.append.new.best) c.append.ensures.runs.step c.append.ensures.runs.asked))
 
 pub returns-in-Append-clause-disc : goal.returns-in-Append-clause-disc
 returns-in-Append-clause-disc g c =
@@ -59,35 +59,35 @@ returns-in-Append-clause-err g c =
 
 pub returns-in-Delete-clause-step : goal.returns-in-Delete-clause-step
 returns-in-Delete-clause-step g c =
-    rw c.in-Delete.is c.delete.ensures.step
+    rw c.in-Delete.is c.delete.ensures.takes.step
 
 pub returns-in-Delete-clause-asked : goal.returns-in-Delete-clause-asked
 returns-in-Delete-clause-asked g c =
-    rw c.in-Delete.is (unasked c.delete.result None [] (disc_in (λ z. (goal.SegDisc-dyn g z).state z.1) c.args.best.now) (disc_in (λ z. (goal.SegDisc-dyn g z).state z.1) c.delete.new.best) c.delete.ensures.disc c.delete.ensures.need)
+    rw c.in-Delete.is (unasked c.delete.result None [] (disc_in (λ z. (goal.SegDisc-dyn g z).state z.1) c.args.best.now) (disc_in (λ z. (goal.SegDisc-dyn g z).state z.1) c.delete.new.best) c.delete.ensures.takes.disc c.delete.ensures.takes.need)
 
 pub returns-in-Delete-clause-err : goal.returns-in-Delete-clause-err
 returns-in-Delete-clause-err g c =
-    rw c.in-Delete.is (spent-told c.delete.result c.args.best.now c.delete.new.best c.args.dict.now c.delete.new.dict (g.D.DictDisc.gone c.args.kind.now) (g.D.DictDisc.gone c.delete.new.kind) c.delete.ensures.err)
+    rw c.in-Delete.is (spent-told c.delete.result c.args.best.now c.delete.new.best c.args.dict.now c.delete.new.dict (g.D.DictDisc.gone c.args.kind.now) (g.D.DictDisc.gone c.delete.new.kind) c.delete.ensures.takes.err)
 
 pub returns-in-Detach-clause-step : goal.returns-in-Detach-clause-step
 returns-in-Detach-clause-step g c =
-    rw c.in-Detach.is (rw (sym c.as_slice-in-Detach.ensures) c.take.ensures.step)
+    rw c.in-Detach.is (rw (sym c.as_slice-in-Detach.ensures) c.take.ensures.takes.step)
 
 pub returns-in-Detach-clause-asked : goal.returns-in-Detach-clause-asked
 returns-in-Detach-clause-asked g c =
-    rw c.in-Detach.is (unasked c.take.result None [] (disc_in (λ z. (goal.SegDisc-dyn g z).state z.1) c.args.best.now) (disc_in (λ z. (goal.SegDisc-dyn g z).state z.1) c.take.new.best) c.take.ensures.disc c.take.ensures.need)
+    rw c.in-Detach.is (unasked c.take.result None [] (disc_in (λ z. (goal.SegDisc-dyn g z).state z.1) c.args.best.now) (disc_in (λ z. (goal.SegDisc-dyn g z).state z.1) c.take.new.best) c.take.ensures.takes.disc c.take.ensures.takes.need)
 
 pub returns-in-Detach-clause-err : goal.returns-in-Detach-clause-err
 returns-in-Detach-clause-err g c =
-    rw c.in-Detach.is (spent-told c.take.result c.args.best.now c.take.new.best c.args.dict.now c.take.new.dict (g.D.DictDisc.gone c.args.kind.now) (g.D.DictDisc.gone c.take.new.kind) c.take.ensures.err)
+    rw c.in-Detach.is (spent-told c.take.result c.args.best.now c.take.new.best c.args.dict.now c.take.new.dict (g.D.DictDisc.gone c.args.kind.now) (g.D.DictDisc.gone c.take.new.kind) c.take.ensures.takes.err)
 
 pub returns-in-Remethod-clause-step : goal.returns-in-Remethod-clause-step
 returns-in-Remethod-clause-step g c =
-    rw c.in-Remethod.is c.remethod.ensures.step
+    rw c.in-Remethod.is c.remethod.ensures.runs.step
 
 pub returns-in-Remethod-clause-asked : goal.returns-in-Remethod-clause-asked
 returns-in-Remethod-clause-asked g c =
-    rw c.in-Remethod.is c.remethod.ensures.asked
+    rw c.in-Remethod.is c.remethod.ensures.runs.asked
 
 pub returns-in-Remethod-clause-disc : goal.returns-in-Remethod-clause-disc
 returns-in-Remethod-clause-disc g c =

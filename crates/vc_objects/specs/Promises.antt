@@ -1,0 +1,128 @@
+-- What the calls on a dictionary of a best region promise, by their answers.
+use Rattle.std.specs.Prelude.{◌≡◌, ℕ, List, [], Bool, true, false, Option, Some, None, length}
+use Rattle.std.specs.Prelude.{Result, Ok, Err, if◌then◌else◌}
+use Rattle.vc_base.specs.declared.dict_method.DictMethod.{DictMethod}
+use Rattle.vc_base.specs.Methods.{is_list, is_set}
+use Rattle.vc_model.specs.Discipline.{Discipline}
+use Rattle.vc_model.specs.Layout.{Layout}
+use Rattle.vc_model.specs.Outcome.{Outcome, Put}
+use Rattle.vc_dtdisc.specs.Objects.{bytes_of, first_with}
+use Rattle.vc_dtdisc.specs.Rules.{Gone, IsObject, Rules}
+use Rattle.vc_dict.specs.Methods.{slots_between}
+use Rattle.vc_dict.specs.declared.dict.Dict.{Dict}
+use Rattle.vc_seg.specs.Answer.{IsRefusal}
+use Rattle.vc_seg.specs.declared.fault.RegionFault.{RegionFault}
+use Rattle.vc_best.specs.Cells.{cells_in, labelled_blocks, rest_in}
+use Rattle.vc_best.specs.Parts.{disc_in, segments_in}
+use Rattle.vc_best.specs.declared.best.Best.{Best}
+use Rattle.vc_objects.specs.Insert.{Grown, Inserted, alloc_unlabelled, grow, grown_to, insert}
+use Rattle.vc_objects.specs.Insert.{open_dictionary}
+use Rattle.vc_objects.specs.Leaves.{AskedTable, GivesRemoved, GivesTurned, KeepsDisc, LeavesRest}
+use Rattle.vc_objects.specs.Leaves.{no_holder, no_table, told_if}
+use Rattle.vc_objects.specs.Objects.{holder_size}
+use Rattle.vc_objects.specs.Parts.{IsWhole, dictionary_in}
+use Rattle.vc_objects.specs.Remove.{Removed}
+use Rattle.vc_objects.specs.Turn.{Brought, Turned, bring_of, turn}
+use Rattle.vc_objects.specs.Turning.{BringsCell, HasBrought}
+use Rattle.vc_objects.specs.declared.fate.Fate.{Fate}
+use Rattle.vc_objects.specs.declared.turning.NewTable.{NewTable}
+
+module _ {I : Type 0} {V : I → Type 0} where
+  -- neither a region nor a dictionary in it changed
+  pub record IsStill (before : Best I V) (old : Dict) (after : Best I V) (new : Dict) : Type 0 where
+    pub region : rest_in after ≡ rest_in before
+    pub dict : dictionary_in new after ≡ dictionary_in old before
+
+  -- an object may be put into a whole dictionary: in a set none matches, to lists alone is appended
+  pub record CanPut (rules : Rules) (best : Best I V) (dict : Dict)
+      (bytes : List ℕ) (append : Bool) : Type 0 where
+    pub whole : IsWhole rules dict (cells_in best)
+    pub lone : is_set dict.method ≡ true
+        → first_with bytes_of rules (rules.key bytes) (dictionary_in dict best).objects ≡ None
+    pub object : IsObject bytes
+    pub list : append ≡ true → is_list dict.method ≡ true
+
+  -- what the definitions give in a best region: by the terms of its discipline, what it holds, and
+  -- a dictionary in it
+  module _ (meaning : (x : I) × V x → Discipline) (best : Best I V) where
+    abbrev pub holder_in : List ℕ → Bool → Outcome (Put (Layout ℕ))
+    holder_in bytes refused =
+        alloc_unlabelled (disc_in meaning best).terms (rest_in best) 0 (holder_size bytes) refused
+
+    abbrev pub bring_in : Option ℕ → Bool → Outcome (Brought ℕ)
+    bring_in wanted refused = bring_of (disc_in meaning best).terms (rest_in best) 0 refused wanted
+
+    abbrev pub table_in : Dict → ℕ → Bool → Outcome (Grown ℕ)
+    table_in dict slots refused =
+        grown_to (disc_in meaning best).terms (rest_in best) 0 (dictionary_in dict best) refused
+        (Some slots)
+
+    abbrev pub opening_in : DictMethod → Bool → Outcome (Grown ℕ)
+    opening_in method refused =
+        open_dictionary (disc_in meaning best).terms (rest_in best) 0 method refused
+
+    abbrev pub growth_in : Dict → Bool → Outcome (Grown ℕ)
+    growth_in dict refused =
+        grow (disc_in meaning best).terms (rest_in best) 0 (dictionary_in dict best) refused
+
+    abbrev pub insertion_in : Rules → Dict → Bool → List ℕ → Fate → Inserted ℕ
+    insertion_in rules dict append bytes fate =
+        insert rules (disc_in meaning best).terms (rest_in best) 0 (dictionary_in dict best)
+        append bytes (no_table fate) (no_holder fate)
+
+    abbrev pub turn_in : Rules → Dict → DictMethod → Bool → Outcome (Turned ℕ)
+    turn_in rules dict method refused =
+        turn rules (disc_in meaning best).terms (rest_in best) 0 (dictionary_in dict best) method
+        refused
+
+module _ {I : Type 0} {V : I → Type 0} (meaning : (x : I) × V x → Discipline) where
+  -- a table of the slots that are wanted was brought, none where none is wanted, or it was refused
+  -- and nothing changed
+  abbrev pub AnswersTable : Result NewTable RegionFault → Option ℕ → Best I V → Best I V → Type 0
+  AnswersTable (Ok table) wanted before after =
+      HasBrought (bring_in meaning before wanted false) (rest_in after) table.at.0 table.slots
+      × BringsCell wanted (cells_in before) (cells_in after) table.at.0 table.slots
+  AnswersTable (Err why) wanted before after =
+      IsRefusal (bring_in meaning before wanted) why × (rest_in after ≡ rest_in before)
+      × (cells_in after ≡ cells_in before)
+
+  pub record Brings (result : Result NewTable RegionFault) (wanted : Option ℕ)
+      (before after : Best I V) : Type 0 where
+    pub answer : AnswersTable result wanted before after
+    pub disc : KeepsDisc (disc_in meaning before) (disc_in meaning after)
+        (segments_in before) (segments_in after)
+    pub labelled : labelled_blocks (rest_in after) ≡ labelled_blocks (rest_in before)
+    -- what was refused was asked for
+    pub asked : AskedTable result wanted (disc_in meaning before) (disc_in meaning after)
+
+  -- a dictionary was turned to a method, and its kind told of what went, or no table came and
+  -- nothing changed
+  abbrev pub AnswersTurn : {A : Type 0} → Result A RegionFault → Rules → DictMethod
+      → Best I V → Dict → Gone → Best I V → Dict → Gone → Type 0
+  AnswersTurn (Ok done) rules method before old told after new told' =
+      GivesTurned (turn_in meaning before rules old method false)
+      (rest_in after) (dictionary_in new after) told told'
+  AnswersTurn (Err why) rules method before old told after new told' =
+      IsRefusal (turn_in meaning before rules old method) why
+      × IsStill before old after new × (told' ≡ told)
+
+  pub record Turns {A : Type 0} (result : Result A RegionFault)
+      (rules : Rules) (method : DictMethod) (before : Best I V) (old : Dict) (told : Gone)
+      (after : Best I V) (new : Dict) (told' : Gone) : Type 0 where
+    pub answer : AnswersTurn result rules method before old told after new told'
+    pub leaves : LeavesRest meaning rules before old after new
+    -- what was refused was asked for
+    pub asked : AskedTable result
+        (slots_between old.method method (length (dictionary_in old before).objects))
+        (disc_in meaning before) (disc_in meaning after)
+
+  -- an object was taken out, where one was found, and its kind told of it where that is wanted
+  pub record TakesOut (gives : Removed ℕ) (rules : Rules) (tells found : Bool) (out : List ℕ)
+      (before : Best I V) (old : Dict) (told : Gone)
+      (after : Best I V) (new : Dict) (told' : Gone) : Type 0 where
+    pub given : GivesRemoved gives (rest_in after) (dictionary_in new after)
+        (if found then Some out else None)
+    pub leaves : LeavesRest meaning rules before old after new
+    pub disc : disc_in meaning after ≡ disc_in meaning before
+    pub gone : told' ≡ told_if tells (if found then Some out else None) told
+    pub nothing : found ≡ false → out ≡ []
