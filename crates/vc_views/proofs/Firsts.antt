@@ -9,6 +9,7 @@ use Rattle.std.proofs.lemmas.List.Quantifiers.{position-Some}
 use Rattle.std.proofs.lemmas.Option.{none-some, same_Some}
 use Rattle.indexmap.specs.IndexMap.{set_value_at}
 use Rattle.vc_base.specs.Cells.{Blocks}
+use Rattle.vc_dtdisc.proofs.FindingLemmas.{find-map}
 use Rattle.vc_best.specs.declared.best.Best as best
 use Rattle.vc_region.specs.Cells.{cells_in, rest_in}
 use Rattle.vc_region.specs.Region.{is_best}
@@ -19,7 +20,7 @@ use Rattle.vc_commands.proofs.Firsts.{IsFirst, first-unmap}
 use Rattle.vc_commands.proofs.Keeping.{swapped}
 use Rattle.vc_views.specs.Dicts.{DictRegion, entry_numbered, is_numbered, region_named, region_seen}
 use Rattle.vc_commands.specs.declared.dict.entry.DictEntry.{DictEntry}
-use Rattle.vc_views.specs.LayerLaws.{Entry, find-map, some-there}
+use Rattle.vc_views.specs.LayerLaws.{Entry, some-there}
 
 none-before : {A : Type 0} (test : A → Bool) (xs : List A) (i : ℕ) (d : A) → ((k : ℕ) → k < i → test (get_or xs k d) ≡ false) → i < length xs → list_any test (take i xs) ≡ false
 none-before test xs zero d none within = refl

@@ -11,12 +11,12 @@ use Rattle.vc_dtdisc.specs.Rules.{IsObject, Rules}
 use Rattle.vc_dict.specs.Listed.{holders_of}
 use Rattle.vc_dict.specs.Stands.{IsIn, IsKept, Stands}
 use Rattle.vc_dict.proofs.OwnLemmas.{holder-there, holders-distinct}
-use Rattle.vc_objects.specs.Parts.{IsWhole}
+use Rattle.vc_objects.specs.Parts.{IsWhole, object_of}
 use Rattle.vc_objects.proofs.Owning.{each-object}
 use Rattle.vc_paths.specs.Layers.{Layer, bytes_there, place_before, place_behind, place_in}
 use Rattle.vc_commands.specs.declared.dict.entry.DictEntry.{DictEntry}
 use Rattle.vc_views.specs.Dicts.{DictRegion, HasLayer, IsDictOver, cells_held, dict_seen, entry_numbered, has_number, layered_by, region_named}
-use Rattle.vc_views.specs.LayerLaws.{Entry, dict-found, found-there, layer-found, layer-is, layer_over, objects_in, seen-found}
+use Rattle.vc_views.specs.LayerLaws.{Entry, dict-found, found-there, layer-found, layer-is, layer_over, seen-found}
 use Rattle.vc_views.specs.Leaves.{IsBestNamed}
 use Rattle.vc_views.proofs.AtHolders.{before-place, behind-place, bytes-here, first-place, holder-here, last-place}
 
@@ -65,7 +65,7 @@ module _ (kinds : List Rules) (regions : List DictRegion) (es : List Entry) (d :
     layer-over : layer ≡ layer_over here-at.is.rules v b
     layer-over = layer-here ∙ ap (layer_over here-at.is.rules v) (sym cells-here)
 
-    objects-here : layer.objects ≡ objects_in b xs
+    objects-here : layer.objects ≡ map (object_of b) xs
     objects-here = ap (λ (l : Layer). l.objects) layer-over
 
     pub is-kept : IsKept v.dict b
@@ -116,7 +116,7 @@ module _ (kinds : List Rules) (regions : List DictRegion) (es : List Entry) (d :
       let b = f.is.home.cells in
       let xs = holders_of f.entry.1.dict b in
       let objects = ap (λ (l : Layer). l.objects) f.layer in
-      let some : IsSome (bytes_there a (objects_in b xs)) = subst (λ os. IsSome (bytes_there a os)) objects (ap is_some at) in
+      let some : IsSome (bytes_there a (map (object_of b) xs)) = subst (λ os. IsSome (bytes_there a os)) objects (ap is_some at) in
       let within = holder-here b a xs some in
       let same : object_at b a ≡ bytes = same_Some (object_at b a) bytes (sym (bytes-here b a xs within) ∙ ap (bytes_there a) (sym objects) ∙ at) in
       subst (λ z. length z ≤ 1024) same (each-object IsObject b xs f.is.whole.objects a within).most

@@ -1,6 +1,6 @@
 -- What a look at one dictionary leaves of its region and of all dictionaries.
-use Rattle.std.proofs.Common.{◌≡◌, ℕ, zero, suc, Bool, false, cond, List, [], ◌∷◌, Some, None, map, option_map, set, refl, sym, ap, ◌∙◌, subst}
-use Rattle.std.specs.Prelude.{find, remove, slice_get}
+use Rattle.std.proofs.Common.{◌≡◌, ℕ, zero, suc, false, List, [], ◌∷◌, Some, None, map, option_map, set, refl, sym, ap, ◌∙◌, subst}
+use Rattle.std.specs.Prelude.{remove, slice_get}
 use Rattle.std.specs.List.{AllByRecursion, position}
 use Rattle.std.specs.Map.{keys_of, values_of}
 use Rattle.std.specs.Str.{bytes_eq}
@@ -32,21 +32,9 @@ use Rattle.vc_commands.proofs.Names.{same_bytes}
 use Rattle.vc_views.specs.Dicts.{AreDictsOver, DictRegion, DictSeen, HomeRest, IsDictOver, cells_held, dict_seen, dictionary_over, home_rest, region_named, region_seen}
 use Rattle.vc_views.specs.LayerLaws.{Entry}
 use Rattle.vc_views.specs.Leaves.{LooksAt}
+use Rattle.vc_views.proofs.LinkLists.{found-set, map-set_same}
 use Rattle.vc_views.proofs.Firsts.{named-first, named-found, value-read, value-set}
 use Rattle.vc_views.proofs.Touching.{IsClear, clear-others, dicts-set, each-whole, seen-set}
-
-find-set_other : {A : Type 0} (test : A → Bool) (xs : List A) (i : ℕ) (x y : A) → slice_get xs i ≡ Some x → test x ≡ false → test y ≡ false → find test (set xs i y) ≡ find test xs
-find-set_other test [] i x y at fails fails' = absurd (none-some x at)
-find-set_other test (z ∷ zs) zero x y at fails fails' =
-    ap (λ b. cond b (Some y) (find test zs)) fails'
-    ∙ sym (ap (λ b. cond b (Some z) (find test zs)) (ap test (same_Some z x at) ∙ fails))
-find-set_other test (z ∷ zs) (suc i) x y at fails fails' =
-    ap (λ o. cond (test z) (Some z) o) (find-set_other test zs i x y at fails fails')
-
-map-set_alike : {A B : Type 0} (f : A → B) (xs : List A) (k : ℕ) (x y : A) → slice_get xs k ≡ Some x → f y ≡ f x → map f (set xs k y) ≡ map f xs
-map-set_alike f [] k x y at same = refl
-map-set_alike f (z ∷ zs) zero x y at same = ap (λ b. b ∷ map f zs) (same ∙ ap f (sym (same_Some z x at)))
-map-set_alike f (z ∷ zs) (suc k) x y at same = ap (λ bs. f z ∷ bs) (map-set_alike f zs k x y at same)
 
 -- a look asks no discipline, so any meaning of boxes serves
 abbrev no_discipline : Discipline
@@ -92,7 +80,7 @@ module _ {I : Type 0} {V : I → Type 0} (es : List (List ℕ × HomeEntry I V))
     other-named q away =
         let fails : bytes_eq name q ≡ false = ap (λ n. bytes_eq n q) name-is ∙ swapped r q ∙ away in
         ap (λ z. region_named (map region_seen z) q) after-is ∙ named-found (set es j (name, entry_of c)) q
-        ∙ ap (option_map region_seen) (find-set_other (λ e. bytes_eq e.0 q) es j first.item (name, entry_of c) first.at fails fails) ∙ sym (named-found es q)
+        ∙ ap (option_map region_seen) (found-set (λ e. bytes_eq e.0 q) es j first.item (name, entry_of c) first.at fails fails) ∙ sym (named-found es q)
 
     abbrev rest_with : Layout ℕ → DynBox I Global V → HomeRest I V
     rest_with layout disc = record { name = name; place = v.place; region = OfBest layout; disc = disc }
@@ -102,7 +90,7 @@ module _ {I : Type 0} {V : I → Type 0} (es : List (List ℕ × HomeEntry I V))
 
     -- what a look leaves of each region stays
     pub rest-kept : map home_rest after ≡ map home_rest es
-    rest-kept = ap (map home_rest) after-is ∙ map-set_alike home_rest es j first.item (name, entry_of c) first.at rest-same
+    rest-kept = ap (map home_rest) after-is ∙ map-set_same home_rest es j first.item (name, entry_of c) first.at rest-same
 
     module _ (rules : Rules) (old new : Dict) (whole : IsWhole rules old (cells_in b)) (became : Became rules (holders_of old (cells_in b)) old (cells_in b) new (cells_in c) (holders_of old (cells_in b)) old.current.0) where
       looks : Looks (λ _. no_discipline) rules b old c new

@@ -23,7 +23,7 @@ use Rattle.vc_views.specs.Numbers.{AreLinked, name_numbered}
 use Rattle.vc_views.specs.Views.{layer_seen, seen_through, seen_under}
 use Rattle.vc_views.proofs.NamedEntries.{Entry, by-number, same-named}
 use Rattle.vc_views.proofs.NamedLooks.{look_place-renamed, look_reply-renamed}
-use Rattle.vc_views.proofs.NumbersToNames.{AreLayersIn, as_object, home, homes, path-each}
+use Rattle.vc_views.proofs.NumbersToNames.{AreLayersIn, home, homes, path-each}
 
 -- the name of the dictionary of a number, or another one where there is none
 abbrev pub name_or : List Entry → List ℕ → ℕ → List ℕ
@@ -44,9 +44,8 @@ module _ (over : Entry → Dictionary) (all : Layered) (links : Links) (entries 
         let is = layers n e found in
         let name : name_or entries other n ≡ e.0 = ap (λ o. unwrap_or (option_map (λ (f : Entry). f.0) o) other) found in
         ap (λ x. map (seen_under x) (over e).objects) (sym name)
-        ∙ sym (map-map (rename (name_or entries other)) (λ o. seen_in n (as_object o)) (over e).objects)
-        ∙ ap (λ os. map (rename (name_or entries other)) os)
-        (sym (map-map (seen_in n) as_object (over e).objects) ∙ ap (λ os. map (seen_in n) os) (sym is.objects))
+        ∙ sym (map-map (rename (name_or entries other)) (seen_in n) (over e).objects)
+        ∙ ap (λ os. map (rename (name_or entries other)) (map (seen_in n) os)) (sym is.objects)
 
     -- what is seen through a dictionary is what is seen through its number, under the names
     pub seen-named : (i : ℕ) (e : Entry) → slice_get entries i ≡ Some e → (rules : Rules) → rules ≡ (all.layer (number_in e)).rules

@@ -6,9 +6,7 @@ use Rattle.std.specs.Map.{keys_of}
 use Rattle.std.specs.Option.{option_and_then}
 use Rattle.std.specs.Str.{bytes_eq}
 use Rattle.std.proofs.lemmas.Option.{none-some, same_Some}
-use Rattle.vc_dtdisc.specs.Objects.{Object}
 use Rattle.vc_dtdisc.proofs.FindingLemmas.{find-map}
-use Rattle.vc_objects.specs.Objects as objects
 use Rattle.vc_objects.specs.Objects.{Dictionary}
 use Rattle.vc_paths.specs.Layers.{Layered}
 use Rattle.vc_paths.specs.Links.{Links, below, numbers, onward, path, path_limit, path_of}
@@ -18,17 +16,13 @@ use Rattle.vc_views.specs.Numbers.{AreLinked, home_by, name_numbered, views_by}
 use Rattle.vc_views.specs.Views.{DictHome, below_in, dict_named, is_dict, onward_in, path_in, path_to}
 use Rattle.vc_views.proofs.NamedEntries.{Entry, by-number, found-number, named-found}
 
--- an object of a dictionary, as one of a layer
-abbrev pub as_object : objects.Object → Object
-as_object o = record { at = o.at; bytes = o.bytes }
-
 -- a dictionary is the layer of a number, with its method, its kind and its objects
 pub record IsLayerIn (over : Entry → Dictionary) (all : Layered) (n : ℕ) (e : Entry) : Type 0 where
   pub has : all.Has n
   pub over_method : (over e).method ≡ e.1.dict.method
   pub method : (all.layer n).method ≡ e.1.dict.method
   pub kind : (all.layer n).kind ≡ e.1.dict.kind
-  pub objects : (all.layer n).objects ≡ map as_object (over e).objects
+  pub objects : (all.layer n).objects ≡ (over e).objects
 
 -- each dictionary is the layer of its number
 abbrev pub AreLayersIn : (Entry → Dictionary) → Layered → List Entry → Type 0
@@ -43,7 +37,7 @@ layers-same over other all entries same layers n e found =
       over_method = ap (λ d. d.method) (same e) ∙ is.over_method;
       method = is.method;
       kind = is.kind;
-      objects = is.objects ∙ ap (λ d. map as_object d.objects) (sym (same e));
+      objects = is.objects ∙ ap (λ d. d.objects) (sym (same e));
     }
 
 pub all-at : {A : Type 0} (P : A → Type 0) (xs : List A) (i : ℕ) (x : A) → AllByRecursion P xs → slice_get xs i ≡ Some x → P x

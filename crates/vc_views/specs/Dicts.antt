@@ -8,13 +8,11 @@ use Rattle.vc_model.specs.Numbered.{at_number}
 use Rattle.vc_base.specs.declared.dict_method.DictMethod.TheVariants.{DtList}
 use Rattle.vc_base.specs.Cells.{Blocks}
 use Rattle.vc_base.specs.Holders.{AreDistinct, contains}
-use Rattle.vc_dtdisc.specs.Objects.{Object}
 use Rattle.vc_dtdisc.specs.Rules.{Rules}
 use Rattle.vc_dtdisc.specs.Shapes.{rules_of}
 use Rattle.vc_dtdisc.specs.declared.shape.Shape.TheVariants.{Whole}
 use Rattle.vc_paths.specs.Layers.{Layer, Layered}
 use Rattle.vc_paths.specs.Links.{numbers}
-use Rattle.vc_objects.specs.Objects as objects
 use Rattle.vc_objects.specs.Objects.{Dictionary, owned}
 use Rattle.vc_objects.specs.Parts.{IsWhole, dictionary_of}
 use Rattle.vc_region.specs.Cells.{cells_in, rest_in}
@@ -108,10 +106,6 @@ abbrev pub rules_or : Option Rules → Rules
 rules_or None = rules_of Whole
 rules_or (Some rules) = rules
 
--- an object of a dictionary as one of a layer
-abbrev pub layer_object : objects.Object → Object
-layer_object o = record { at = o.at; bytes = o.bytes }
-
 -- a dictionary as a layer, and an empty one where there is none
 abbrev pub layer_seen : List Rules → Option DictSeen → Layer
 layer_seen kinds None = record { method = DtList; kind = 0; rules = rules_of Whole; objects = [] }
@@ -120,7 +114,7 @@ layer_seen kinds (Some s) =
       method = s.dict.method;
       kind = s.kind;
       rules = rules_or (at_number kinds s.kind);
-      objects = map layer_object s.dict.objects;
+      objects = s.dict.objects;
     }
 
 abbrev pub layer_of : List Rules → List DictRegion → List ℕ × DictEntry → Layer

@@ -1,7 +1,6 @@
 -- The dictionary of a number as a layer, the laws that layers keep, and what stays over one call after another.
-use Rattle.std.proofs.Common.{◌≡◌, ℕ, ◌-◌, zero, suc, Bool, true, false, ◌||◌, cond, List, [], ◌∷◌, Option, Some, None, IsSome, map, option_map, refl, sym, ap, ◌∙◌, subst, inl, inr}
-use Rattle.std.specs.Prelude.{◌==◌, find, if◌then◌else◌, slice_get}
-use Rattle.std.specs.List.{list_any}
+use Rattle.std.proofs.Common.{◌≡◌, ℕ, ◌-◌, zero, suc, true, false, cond, List, [], ◌∷◌, Option, Some, None, IsSome, map, option_map, refl, sym, ap, ◌∙◌, subst, inl, inr}
+use Rattle.std.specs.Prelude.{◌==◌, find, slice_get}
 use Rattle.std.proofs.lemmas.Bool.{cases_Bool}
 use Rattle.std.proofs.lemmas.Option.{none-some, same_Some}
 use Rattle.vc_model.specs.Numbered.{at_number}
@@ -10,45 +9,31 @@ use Rattle.vc_base.specs.declared.dict_method.DictMethod.TheVariants.{DtSet, DtB
 use Rattle.vc_base.specs.Cells.{Blocks}
 use Rattle.vc_base.specs.Holders.{AreDistinct}
 use Rattle.vc_base.specs.Methods.{has_table, is_ordered}
-use Rattle.vc_dtdisc.specs.Finds.{object_at}
-use Rattle.vc_dtdisc.specs.Objects.{IsSorted, Object, bytes_of, is_greater}
+use Rattle.vc_dtdisc.specs.Objects.{IsSorted, bytes_of}
 use Rattle.vc_dtdisc.specs.Rules.{AreLawful, Rules}
+use Rattle.vc_dtdisc.proofs.FindingLemmas.{find-map}
+use Rattle.vc_dtdisc.proofs.ObjectsLemmas.{IsSorted-map}
 use Rattle.vc_dict.specs.Listed.{holders_of}
 use Rattle.vc_dict.specs.Stands.{Stands}
 use Rattle.vc_dict.specs.declared.dict.Dict.{Dict}
 use Rattle.vc_dict.proofs.HeadLemmas.{as_ord}
 use Rattle.vc_dict.proofs.OwnLemmas.{holders-distinct}
 use Rattle.vc_objects.specs.Parts.{object_of}
+use Rattle.vc_objects.proofs.Mapped.{addresses-mapped}
 use Rattle.vc_paths.specs.Layers.{AreLayers, Layer}
 use Rattle.vc_commands.specs.declared.dict.entry.DictEntry.{DictEntry}
 use Rattle.vc_commands.specs.declared.region.home.HomeEntry.{HomeEntry}
-use Rattle.vc_views.specs.Dicts.{AreDictsOver, DictRegion, HasLayer, IsDictOver, cells_held, dict_seen, entry_numbered, has_number, is_numbered, layer_object, layer_of, layer_seen, layered_by, region_named, rules_or}
+use Rattle.vc_views.specs.Dicts.{AreDictsOver, DictRegion, HasLayer, IsDictOver, cells_held, dict_seen, entry_numbered, has_number, is_numbered, layer_of, layer_seen, layered_by, region_named, rules_or}
 use Rattle.vc_views.specs.Leaves.{KeepsDicts}
 
 abbrev pub Entry : Type 0
 Entry = List ℕ × DictEntry
 
--- the objects in some holders, as those of a layer
-abbrev pub objects_in : Blocks → List ℕ → List Object
-objects_in b xs = map layer_object (map (object_of b) xs)
-
 -- a dictionary over some cells, by the rules of its kind
 abbrev pub layer_over : Rules → DictEntry → Blocks → Layer
-layer_over rules v b = record { method = v.dict.method; kind = v.dict.kind; rules = rules; objects = objects_in b (holders_of v.dict b) }
+layer_over rules v b = record { method = v.dict.method; kind = v.dict.kind; rules = rules; objects = map (object_of b) (holders_of v.dict b) }
 
 module _ (b : Blocks) where
-  pub places-told : (xs : List ℕ) → map (λ o. o.at) (objects_in b xs) ≡ xs
-  places-told [] = refl
-  places-told (x ∷ xs) = ap (λ ys. x ∷ ys) (places-told xs)
-
-  any-less : (rules : Rules) (x : ℕ) (xs : List ℕ) → list_any (λ (y : Object). is_greater rules (object_at b x) y.bytes) (objects_in b xs) ≡ list_any (λ y. is_greater rules (object_at b x) (object_at b y)) xs
-  any-less rules x [] = refl
-  any-less rules x (y ∷ ys) = ap (λ t. is_greater rules (object_at b x) (object_at b y) || t) (any-less rules x ys)
-
-  sorted-there : (rules : Rules) (xs : List ℕ) → IsSorted (object_at b) rules xs → IsSorted bytes_of rules (objects_in b xs)
-  sorted-there rules [] s = tt
-  sorted-there rules (x ∷ xs) s = (any-less rules x xs ∙ s.0, sorted-there rules xs s.1)
-
   ordered-plain : (m : DictMethod) → is_ordered m ≡ true → has_table m ≡ false
   ordered-plain DtSet h = cc
   ordered-plain DtBag h = cc
@@ -59,16 +44,9 @@ module _ (b : Blocks) where
   ordered-plain DtQueue h = refl
 
   -- the objects of an ordered dictionary stand in order
-  ordered-there : (rules : Rules) (d : Dict) (xs : List ℕ) → Stands rules d b xs → is_ordered d.method ≡ true → IsSorted bytes_of rules (objects_in b xs)
-  ordered-there rules d xs s h = sorted-there rules xs (as_ord rules d b xs (ordered-plain d.method h) h s).sorted
-
-choice : {A B : Type 0} (f : A → B) (t : Bool) (o p : Option A) (u v : Option B) → u ≡ option_map f o → v ≡ option_map f p → (if t then u else v) ≡ option_map f (if t then o else p)
-choice f true o p u v e h = e
-choice f false o p u v e h = h
-
-pub find-map : {A B : Type 0} (f : A → B) (test : B → Bool) (xs : List A) → find test (map f xs) ≡ option_map f (find (λ x. test (f x)) xs)
-find-map f test [] = refl
-find-map f test (x ∷ xs) = choice f (test (f x)) (Some x) (find (λ y. test (f y)) xs) (Some (f x)) (find test (map f xs)) refl (find-map f test xs)
+  ordered-there : (rules : Rules) (d : Dict) (xs : List ℕ) → Stands rules d b xs → is_ordered d.method ≡ true → IsSorted bytes_of rules (map (object_of b) xs)
+  ordered-there rules d xs s h =
+      subst (λ T. T) (sym (IsSorted-map (object_of b) bytes_of rules xs)) (as_ord rules d b xs (ordered-plain d.method h) h s).sorted
 
 pub some-there : {A : Type 0} (o : Option A) → IsSome o → (x : A) × (o ≡ Some x)
 some-there None h = cc
@@ -91,7 +69,7 @@ module _ (kinds : List Rules) (regions : List DictRegion) where
 
   module _ (e : Entry) (is : IsDictOver kinds regions e) where
     abbrev layer_with : Option Rules → Option DictRegion → Layer
-    layer_with r h = record { method = e.1.dict.method; kind = e.1.dict.kind; rules = rules_or r; objects = objects_in (cells_held h) (holders_of e.1.dict (cells_held h)) }
+    layer_with r h = record { method = e.1.dict.method; kind = e.1.dict.kind; rules = rules_or r; objects = map (object_of (cells_held h)) (holders_of e.1.dict (cells_held h)) }
 
     pub layer-is : layer_of kinds regions e ≡ layer_over is.rules e.1 is.home.cells
     layer-is = ap (λ r. layer_with r (region_named regions e.1.home)) is.kind ∙ ap (λ h. layer_with (Some is.rules) h) is.found
@@ -119,7 +97,7 @@ module _ (kinds : List Rules) (regions : List DictRegion) where
     places-distinct : AreDistinct (map (λ o. o.at) ((layered_by kinds regions es).layer d).objects)
     places-distinct =
         subst (λ (l : Layer). AreDistinct (map (λ o. o.at) l.objects)) (sym f.layer)
-        (subst AreDistinct (sym (places-told f.is.home.cells xs)) (holders-distinct f.is.rules f.entry.1.dict f.is.home.cells xs f.is.whole.stands))
+        (subst AreDistinct (sym (addresses-mapped f.is.home.cells xs)) (holders-distinct f.is.rules f.entry.1.dict f.is.home.cells xs f.is.whole.stands))
 
     objects-sorted : is_ordered ((layered_by kinds regions es).layer d).method ≡ true → IsSorted bytes_of ((layered_by kinds regions es).layer d).rules ((layered_by kinds regions es).layer d).objects
     objects-sorted =

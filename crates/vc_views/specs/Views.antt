@@ -4,8 +4,9 @@ use Rattle.std.specs.List.{list_any}
 use Rattle.std.specs.Option.{option_and_then}
 use Rattle.std.specs.Str.{bytes_eq}
 use Rattle.vc_base.specs.Methods.{method_number}
+use Rattle.vc_dtdisc.specs.Objects.{Object}
 use Rattle.vc_dtdisc.specs.Rules.{Rules}
-use Rattle.vc_objects.specs.Objects.{Dictionary, Object}
+use Rattle.vc_objects.specs.Objects.{Dictionary}
 use Rattle.vc_paths.specs.declared.fault.ViewFault.{ViewFault}
 use Rattle.vc_paths.specs.declared.fault.ViewFault.TheVariants.{Cycle, Differs, TooDeep}
 use Rattle.vc_paths.specs.Links.{path_limit}

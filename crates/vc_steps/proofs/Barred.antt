@@ -1,0 +1,58 @@
+-- When a view stands against a command, by numbers and by names.
+use Rattle.std.proofs.Common.{◌≡◌, ◌||◌, ℕ, true, false, cond, is_some, List, Some, refl, ap, ◌∙◌}
+use Rattle.std.specs.Prelude.{slice_get}
+use Rattle.std.specs.List.{IsDistinct}
+use Rattle.std.specs.Map.{keys_of}
+use Rattle.std.specs.Str.{bytes_eq}
+use Rattle.std.proofs.lemmas.Bool.{false≢true}
+use Rattle.vc_dtdisc.specs.Rules.{Rules}
+use Rattle.vc_paths.specs.Links.{Links, below, is_viewed}
+use Rattle.vc_script.specs.Needs.{Need}
+use Rattle.vc_script.specs.declared.command.Command.{Command}
+use Rattle.vc_script.specs.declared.command.Command.TheVariants.{Remethod, Shut, View}
+use Rattle.vc_script.specs.declared.refusal.Refusal.TheVariants as why
+use Rattle.vc_commands.specs.DictCommands.{in_dict}
+use Rattle.vc_commands.specs.Held.{Held}
+use Rattle.vc_commands.specs.Home.{Home}
+use Rattle.vc_commands.specs.Looking.{is_look}
+use Rattle.vc_steps.specs.Account.{state_of}
+use Rattle.vc_steps.specs.DictHomes.{dict_home, dict_over, dicts_in}
+use Rattle.vc_steps.specs.Dicts.{dict_changed, dict_command, dict_shut, is_turn, runs_alone, seat_of}
+use Rattle.vc_steps.specs.State.{State, refused}
+use Rattle.vc_views.specs.Dicts.{number_in}
+use Rattle.vc_views.specs.Numbers.{AreLinked, is_barred, views_by}
+use Rattle.vc_views.specs.Views.{is_linked_in, is_viewed_in}
+use Rattle.vc_views.proofs.LinkLemmas.{linked-named, viewed-named}
+use Rattle.vc_steps.proofs.DictsStay.{Entry}
+use Rattle.vc_steps.proofs.Sessions.{Slots}
+
+-- one that gives another method, where no view stands against it
+pub free-turn : (links : Links) (n : ℕ) (command : Command) → is_barred links n command ≡ false → is_turn command ≡ true → (is_viewed links n || is_some (below links n)) ≡ false
+free-turn links n (Remethod x method) free turn = free
+free-turn links n command free turn = absurd (false≢true turn)
+
+-- one that neither ends a dictionary, nor sets a view, nor looks
+pub runs-alone : (command : Command) → ((x : List ℕ) → command ≡ Shut x → ⊥) → ((x : List ℕ) (viewed : _) → command ≡ View x viewed → ⊥) → is_look command ≡ false → runs_alone command ≡ true
+runs-alone (Shut x) shut view look = absurd (shut x refl)
+runs-alone (View x viewed) shut view look = absurd (view x viewed refl)
+runs-alone command shut view look = ap (λ t. cond t false true) look
+
+module _ (kinds : List Rules) (slots : Slots) (hs : List Held) (links : Links) (es : List Entry) (names : IsDistinct bytes_eq (keys_of es)) (are : AreLinked links es) (i : ℕ) (e : Entry) (at : slice_get es i ≡ Some e) where
+  abbrev s : State
+  s = state_of kinds slots hs (dicts_in hs (views_by links es) es)
+
+  pub viewed-here : is_viewed_in s.dicts e.0 ≡ is_viewed links (number_in e)
+  viewed-here = viewed-named (dict_over hs) links es names are i e at
+
+  pub linked-here : is_linked_in s.dicts (dict_home hs (views_by links es) e) ≡ (is_viewed links (number_in e) || is_some (below links (number_in e)))
+  linked-here = linked-named (dict_over hs) links es names are i e at
+
+  -- such a command is refused
+  pub barred-refused : (command : Command) (need : Need) (h : Home) (rules : Rules) → is_barred links (number_in e) command ≡ true
+      → dict_command s command need (dict_home hs (views_by links es) e) h rules ≡ refused s why.Viewed
+  barred-refused (Shut x) need h rules barred =
+      ap (λ t. cond t (refused s why.Viewed) (dict_shut s (dict_home hs (views_by links es) e))) (viewed-here ∙ barred)
+  barred-refused (Remethod x method) need h rules barred =
+      ap (λ t. cond t (refused s why.Viewed) (dict_changed s (dict_home hs (views_by links es) e) h (in_dict (seat_of (dict_home hs (views_by links es) e) h rules) (Remethod x method) need)))
+      (linked-here ∙ barred)
+  barred-refused command need h rules barred = absurd (false≢true barred)

@@ -1,0 +1,136 @@
+-- What closing a region leaves.
+use Rattle.std.proofs.Common.{◌≡◌, ◌≢◌, ℕ, ◌-◌, ◌≤◌, true, false, cond, List, [], ◌∷◌, Option, Some, None, length, map, option_map, set, take, zero, suc, refl, sym, ap, ◌∙◌, subst, arith}
+use Rattle.std.specs.Prelude.{remove, slice_get}
+use Rattle.std.specs.List.{AllByRecursion, list_any}
+use Rattle.std.proofs.lemmas.List.{append-nil, map-set, set_comm}
+use Rattle.std.proofs.lemmas.Option.{none-some, same_Some, slice_get-map}
+use Rattle.vc_model.specs.Discipline.{Discipline, TookBack, HasOut}
+use Rattle.vc_region.specs.Region.{segments_of}
+use Rattle.vc_model.specs.Numbered.{at_number}
+use Rattle.vc_script.specs.declared.refusal.Refusal.TheVariants.{Busy}
+use Rattle.vc_script.specs.declared.reply.Reply.TheVariants.{Closed}
+use Rattle.vc_region.proofs.Relabel.{segments-relabelled}
+use Rattle.vc_dtdisc.specs.Rules.{Rules}
+use Rattle.vc_commands.specs.Labels.{name_of}
+use Rattle.vc_steps.specs.State.{State, stepped, close_home, close_step, closed, home_named, is_busy, refused, without_home}
+use Rattle.vc_views.specs.Views.{DictHome}
+use Rattle.vc_commands.specs.Home.{Home, is_home}
+use Rattle.vc_steps.specs.Account.{Account, IsSession, account, accounts, account_after, account_back, settled, state_of}
+use Rattle.vc_commands.specs.Held.{Held, home_of}
+use Rattle.vc_views.proofs.LinkLists.{all-remove}
+use Rattle.vc_steps.proofs.Cells.{at_number-from_one, at_number-zero, at_number_some, map-remove, slice_get-set_other}
+use Rattle.vc_commands.proofs.Firsts.{IsFirst, find-first, or-false}
+use Rattle.vc_steps.proofs.Settle.{IsApart, away-at, low-at}
+use Rattle.vc_seg.specs.Shelf.{place_at, standing}
+use Rattle.vc_seg.specs.declared.shelf.ShelfPlace.TheVariants.{Taken}
+use Rattle.vc_steps.proofs.Sessions.{Slots, apart-session}
+use Rattle.vc_commands.proofs.Answers.{front-out}
+
+-- the account of a discipline that has its segments back
+pub account-closed : (d e : Discipline) (segments : List (ℕ × ℕ)) → HasOut d segments → TookBack d e segments [] → account e ≡ account_back d segments
+account-closed d e segments has back =
+    let out : take (length d.out - length segments) d.out ≡ e.out =
+    front-out has.0 segments d.out has.1 ∙ sym (back.out has.0 has.1 ∙ append-nil has.0) in
+    ap (λ o. let a : Account = record { out = o; terms = e.terms; faults = e.faults } in a) (sym out)
+    ∙ (ap (λ t. let a : Account = record { out = (account_back d segments).out; terms = t; faults = e.faults } in a) back.terms
+    ∙ ap (λ f. let a : Account = record { out = (account_back d segments).out; terms = d.terms; faults = f } in a) back.faults)
+
+-- another place stays
+pub elsewhere : (slots : Slots) (n : ℕ) (d : Discipline) → at_number slots n ≡ Some None → (p : ℕ) → p ≢ n → at_number (set slots (n - 1) (Some d)) p ≡ at_number slots p
+elsewhere slots n d at zero other = at_number-zero (set slots (n - 1) (Some d)) 0 refl ∙ sym (at_number-zero slots 0 refl)
+elsewhere slots n d at (suc k) other =
+    let low : 1 ≤ suc k = omega arith in
+    let first : 1 ≤ n = (at_number_some slots n None at).0 in
+    at_number-from_one (set slots (n - 1) (Some d)) (suc k) low
+    ∙ (slice_get-set_other slots (n - 1) (suc k - 1) (Some d) (λ e. other (omega (arith, e, low, first)))
+    ∙ sym (at_number-from_one slots (suc k) low))
+
+-- the other regions still hold their disciplines
+pub session-closed : (slots slots' : Slots) (n : ℕ) (hs : List Held) → ((p : ℕ) → p ≢ n → at_number slots' p ≡ at_number slots p) → AllByRecursion (λ g. g.place ≢ n) hs → IsSession slots hs → IsSession slots' hs
+session-closed slots slots' n [] same away s = tt
+session-closed slots slots' n (h ∷ hs) same away s = (
+  record { place = same h.place away.0 ∙ s.0.place; lent = s.0.lent; names = s.0.names },
+  s.1,
+  session-closed slots slots' n hs same away.1 s.2,
+)
+
+-- a list that isn't empty, by its first item and the rest
+pub first-rest : {A : Type 0} (xs : List A) (x : A) → slice_get xs 0 ≡ Some x → xs ≡ x ∷ remove xs 0
+first-rest [] x at = absurd (none-some x at)
+first-rest (y ∷ ys) x at = ap (λ z. z ∷ ys) (same_Some y x at)
+
+taken_of : (o : Option (Option Discipline)) → standing o ≡ Taken → o ≡ Some None
+taken_of None e = absurd cc
+taken_of (Some None) e = refl
+taken_of (Some (Some d)) e = absurd cc
+
+-- what stands at a place that is taken
+pub taken-at : (slots : Slots) (n : ℕ) → place_at slots n ≡ Taken → at_number slots n ≡ Some None
+taken-at slots n e = taken_of (at_number slots n) e
+
+session-remove : (slots : Slots) (hs : List Held) (i : ℕ) → IsSession slots hs → IsSession slots (remove hs i)
+session-remove slots [] zero s = tt
+session-remove slots [] (suc i) s = tt
+session-remove slots (g ∷ hs) zero s = s.2
+session-remove slots (g ∷ hs) (suc i) s = (s.0, all-remove (λ f. f.place ≢ g.place) hs i s.1, session-remove slots hs i s.2)
+
+-- no other region has the place of the one that is taken out
+away-remove : (hs : List Held) (i : ℕ) (h : Held) → slice_get hs i ≡ Some h → IsApart hs → AllByRecursion (λ g. g.place ≢ h.place) (remove hs i)
+away-remove [] i h at apart = absurd (none-some h at)
+away-remove (g ∷ hs) zero h at apart = subst (λ (x : Held). AllByRecursion (λ f. f.place ≢ x.place) hs) (same_Some g h at) apart.1
+away-remove (g ∷ hs) (suc i) h at apart = ((λ e. away-at g.place hs i h at apart.1 (sym e)), away-remove hs i h at apart.2)
+
+-- a region that is closed early settles as it would at the end
+settled-remove : (shelf : List (Option Account)) (hs : List Held) (i : ℕ) (h : Held) → slice_get hs i ≡ Some h → IsApart hs → settled (set shelf (h.place - 1) (Some (account_after h))) (remove hs i) ≡ settled shelf hs
+settled-remove shelf [] i h at apart = absurd (none-some h at)
+settled-remove shelf (g ∷ hs) zero h at apart = ap (λ (x : Held). settled (set shelf (x.place - 1) (Some (account_after x))) hs) (sym (same_Some g h at))
+settled-remove shelf (g ∷ hs) (suc i) h at apart =
+    let other : h.place ≢ g.place = away-at g.place hs i h at apart.1 in
+    let low : 1 ≤ h.place = low-at hs i h at apart.2 in
+    let first : 1 ≤ g.place = apart.0 in
+    ap (λ s. settled s (remove hs i)) (set_comm shelf (h.place - 1) (g.place - 1) (Some (account_after h)) (Some (account_after g)) (λ e. other (omega (arith, e, low, first))))
+    ∙ settled-remove (set shelf (g.place - 1) (Some (account_after g))) hs i h at apart.2
+
+terms_of : (slots : Slots) → map (option_map (λ (a : Account). a.terms)) (accounts slots) ≡ map (option_map (λ (d : Discipline). d.terms)) slots
+terms_of [] = refl
+terms_of (None ∷ slots) = ap (λ rs. None ∷ rs) (terms_of slots)
+terms_of (Some d ∷ slots) = ap (λ rs. Some d.terms ∷ rs) (terms_of slots)
+
+without_home-at : (r : List ℕ) (hs : List Home) (i : ℕ) (h : Home) → slice_get hs i ≡ Some h → is_home r h ≡ true → list_any (is_home r) (take i hs) ≡ false → without_home r hs ≡ remove hs i
+without_home-at r [] i h at passes none = absurd (none-some h at)
+without_home-at r (g ∷ hs) zero h at passes none = ap (λ b. cond b hs (g ∷ without_home r hs)) (ap (is_home r) (same_Some g h at) ∙ passes)
+without_home-at r (g ∷ hs) (suc i) h at passes none =
+    let parts = or-false (is_home r g) (list_any (is_home r) (take i hs)) none in
+    ap (λ b. cond b hs (g ∷ without_home r hs)) parts.0 ∙ ap (λ ks. g ∷ ks) (without_home-at r hs i h at passes parts.1)
+
+-- a region in which a dictionary lies is not closed
+pub close-busy : (s : State) (r : List ℕ) (i : ℕ) → IsFirst (is_home r) s.homes i → is_busy s r ≡ true → close_step s r ≡ refused s Busy
+close-busy s r i first busy =
+    ap (close_home s r) (find-first (is_home r) s.homes i first) ∙ ap (λ b. cond b (refused s Busy) (closed s r first.item)) busy
+
+module _ (slots slots' : Slots) (hs : List Held) (i : ℕ) (h : Held) (at : slice_get hs i ≡ Some h) (session : IsSession slots hs) (here : accounts slots' ≡ set (accounts slots) (h.place - 1) (Some (account_after h))) where
+  pub session-close : ((p : ℕ) → p ≢ h.place → at_number slots' p ≡ at_number slots p) → IsSession slots' (remove hs i)
+  session-close same = session-closed slots slots' h.place (remove hs i) same (away-remove hs i h at (apart-session slots hs session)) (session-remove slots hs i session)
+
+  pub settled-close : settled (accounts slots') (remove hs i) ≡ settled (accounts slots) hs
+  settled-close = ap (λ a. settled a (remove hs i)) here ∙ settled-remove (accounts slots) hs i h at (apart-session slots hs session)
+
+  shelf-close : map (option_map (λ (d : Discipline). d.terms)) slots' ≡ set (map (option_map (λ (d : Discipline). d.terms)) slots) (h.place - 1) (Some h.disc.terms)
+  shelf-close =
+      sym (terms_of slots')
+      ∙ (ap (map (option_map (λ (a : Account). a.terms))) here
+      ∙ (map-set (option_map (λ (a : Account). a.terms)) (accounts slots) (h.place - 1) (Some (account_after h))
+      ∙ ap (λ rs. set rs (h.place - 1) (Some h.disc.terms)) (terms_of slots)))
+
+  pub step-close : (kinds : List Rules) (ds : List DictHome) (r : List ℕ) (count : ℕ) → IsFirst (is_home r) (map home_of hs) i → is_busy (state_of kinds slots hs ds) r ≡ false → count ≡ length (segments_of h.region) → close_step (state_of kinds slots hs ds) r ≡ stepped (state_of kinds slots' (remove hs i) ds) (Closed r count)
+  step-close kinds ds r count first free counted =
+      let item : first.item ≡ home_of h = same_Some first.item (home_of h) (sym first.at ∙ (slice_get-map home_of hs i ∙ ap (option_map home_of) at)) in
+      let found : home_named r (map home_of hs) ≡ Some (home_of h) = find-first (is_home r) (map home_of hs) i first ∙ ap (λ k. Some k) item in
+      let left : without_home r (map home_of hs) ≡ map home_of (remove hs i) =
+      without_home-at r (map home_of hs) i first.item first.at first.passes first.before ∙ sym (map-remove home_of hs i) in
+      ap (close_home (state_of kinds slots hs ds) r) found
+      ∙ (ap (λ b. cond b (refused (state_of kinds slots hs ds) Busy) (closed (state_of kinds slots hs ds) r (home_of h))) free
+      ∙ (ap (λ ss. stepped (record (state_of kinds slots hs ds) { shelf = set (state_of kinds slots hs ds).shelf (h.place - 1) (Some h.disc.terms); homes = without_home r (map home_of hs) }) (Closed r (length ss))) (segments-relabelled (name_of h.labels) h.region)
+      ∙ (ap (λ rs. stepped (record (state_of kinds slots hs ds) { shelf = rs; homes = without_home r (map home_of hs) }) (Closed r (length (segments_of h.region)))) (sym shelf-close)
+      ∙ (ap (λ ks. stepped (record (state_of kinds slots' hs ds) { homes = ks }) (Closed r (length (segments_of h.region)))) left
+      ∙ ap (λ n. stepped (state_of kinds slots' (remove hs i) ds) (Closed r n)) (sym counted)))))

@@ -1,0 +1,109 @@
+-- The dictionary of a name, among those of a session.
+use Rattle.std.proofs.Common.{◌≡◌, ℕ, ◌<◌, ◌||◌, zero, suc, true, false, cond, is_some, List, [], ◌∷◌, Some, None, length, get_or, map, set, take, refl, sym, ap, ◌∙◌, subst, ⊎_elim, arith}
+use Rattle.std.specs.Prelude.{slice_get}
+use Rattle.std.specs.List.{list_any, position}
+use Rattle.std.specs.Str.{bytes_eq}
+use Rattle.std.specs.Map.{keys_of, lookup}
+use Rattle.std.proofs.lemmas.Bool.{cases_Bool}
+use Rattle.std.proofs.lemmas.List.Quantifiers.{position-Some}
+use Rattle.std.proofs.lemmas.Option.{none-some, same_Some}
+use Rattle.indexmap.specs.IndexMap.{set_value_at}
+use Rattle.vc_objects.specs.Objects.{Dictionary}
+use Rattle.vc_commands.specs.Held.{Held}
+use Rattle.vc_steps.specs.DictHomes.{dict_home, dicts_in}
+use Rattle.vc_steps.specs.Dicts.{with_dict}
+use Rattle.vc_views.specs.Views.{dict_named, is_dict, DictHome}
+use Rattle.vc_steps.proofs.DictsStay.{Entry, Vs}
+use Rattle.vc_commands.proofs.Firsts.{IsFirst, find-first, find-none, first-unmap, or-false}
+use Rattle.vc_commands.proofs.Keeping.{swapped}
+use Rattle.vc_commands.proofs.Names.{same_bytes}
+
+dict-set_at : (d : List ℕ) (dict : Dictionary) (ks : List DictHome) (i : ℕ) (k : DictHome) → slice_get ks i ≡ Some k → is_dict d k ≡ true → list_any (is_dict d) (take i ks) ≡ false → with_dict d dict ks ≡ set ks i (record k { dict = dict })
+dict-set_at d dict [] i k at passes none = absurd (none-some k at)
+dict-set_at d dict (l ∷ ks) zero k at passes none =
+    let same : l ≡ k = same_Some l k at in
+    ap (λ b. cond b ((record l { dict = dict }) ∷ ks) (l ∷ with_dict d dict ks)) (ap (is_dict d) same ∙ passes)
+    ∙ ap (λ (z : DictHome). (record z { dict = dict }) ∷ ks) same
+dict-set_at d dict (l ∷ ks) (suc i) k at passes none =
+    let parts = or-false (is_dict d l) (list_any (is_dict d) (take i ks)) none in
+    ap (λ b. cond b ((record l { dict = dict }) ∷ ks) (l ∷ with_dict d dict ks)) parts.0
+    ∙ ap (λ zs. l ∷ zs) (dict-set_at d dict ks i k at passes parts.1)
+
+-- another value at a place of a map
+pub value-set : {A : Type 0} (es : List (List ℕ × A)) (i : ℕ) (k : List ℕ) (x y : A) → slice_get es i ≡ Some (k, x) → set_value_at es i y ≡ set es i (k, y)
+value-set [] i k x y at = absurd (none-some (k, x) at)
+value-set (e ∷ es) zero k x y at = ap (λ n. (n, y) ∷ es) (ap (λ (p : _ × _). p.0) (same_Some e (k, x) at))
+value-set (e ∷ es) (suc i) k x y at = ap (λ zs. e ∷ zs) (value-set es i k x y at)
+
+key-get : (xs : List (List ℕ)) (k : ℕ) → k < length xs → slice_get xs k ≡ Some (get_or xs k [])
+key-get [] k lt = absurd (omega (arith, lt))
+key-get (x ∷ xs) zero lt = refl
+key-get (x ∷ xs) (suc k) lt = key-get xs k (omega (arith, lt))
+
+-- the key at the place of a name
+pub key-at : {A : Type 0} (es : List (List ℕ × A)) (d : List ℕ) (i : ℕ) → position (bytes_eq d) (keys_of es) ≡ Some i → slice_get (keys_of es) i ≡ Some d
+key-at es d i at =
+    let p = position-Some (bytes_eq d) (keys_of es) i [] at in
+    key-get (keys_of es) i p.0 ∙ ap (λ n. Some n) (sym (same_bytes d (get_or (keys_of es) i []) p.1))
+
+none-of : (r : List ℕ) (xs : List (List ℕ)) (i : ℕ) → ((k : ℕ) → k < i → bytes_eq r (get_or xs k []) ≡ false) → list_any (λ n. bytes_eq n r) (take i xs) ≡ false
+none-of r [] zero none = refl
+none-of r [] (suc i) none = refl
+none-of r (x ∷ xs) zero none = refl
+none-of r (x ∷ xs) (suc i) none =
+    ap (λ b. b || list_any (λ n. bytes_eq n r) (take i xs)) (swapped x r ∙ none 0 (omega arith))
+    ∙ none-of r xs i (λ k lt. none (suc k) (omega (arith, lt)))
+
+module _ (hs : List Held) (vs : Vs) where
+  names-dicts : (es : List Entry) → keys_of es ≡ map (λ (k : DictHome). k.name) (dicts_in hs vs es)
+  names-dicts [] = refl
+  names-dicts (e ∷ es) = ap (λ ns. e.0 ∷ ns) (names-dicts es)
+
+  -- some dictionary has the name
+  pub any-dict : (es : List Entry) (d : List ℕ) → list_any (is_dict d) (dicts_in hs vs es) ≡ is_some (lookup (bytes_eq d) es)
+  any-dict [] d = refl
+  any-dict (e ∷ es) d =
+      ap (λ b. b || list_any (is_dict d) (dicts_in hs vs es)) (swapped e.0 d)
+      ∙ (ap (λ b. bytes_eq d e.0 || b) (any-dict es d)
+      ∙ ⊎_elim
+      (λ y. ap (λ b. b || is_some (lookup (bytes_eq d) es)) y ∙ sym (ap (λ b. is_some (cond b (Some e.1) (lookup (bytes_eq d) es))) y))
+      (λ y. ap (λ b. b || is_some (lookup (bytes_eq d) es)) y ∙ sym (ap (λ b. is_some (cond b (Some e.1) (lookup (bytes_eq d) es))) y))
+      (cases_Bool (bytes_eq d e.0)))
+
+  -- none has it
+  pub dict-none : (es : List Entry) (d : List ℕ) → is_some (lookup (bytes_eq d) es) ≡ false → dict_named d (dicts_in hs vs es) ≡ None
+  dict-none es d none = find-none (is_dict d) (dicts_in hs vs es) (any-dict es d ∙ none)
+
+  -- the first key is that of the first dictionary of the name
+  pub first-dict : (es : List Entry) (d : List ℕ) (i : ℕ) → position (bytes_eq d) (keys_of es) ≡ Some i → IsFirst (is_dict d) (dicts_in hs vs es) i
+  first-dict es d i at =
+      let p = position-Some (bytes_eq d) (keys_of es) i [] at in
+      let first : IsFirst (λ n. bytes_eq n d) (keys_of es) i = record {
+        item = get_or (keys_of es) i [];
+        at = key-get (keys_of es) i p.0;
+        passes = swapped (get_or (keys_of es) i []) d ∙ p.1;
+        before = none-of d (keys_of es) i p.2;
+      } in
+      first-unmap (λ n. bytes_eq n d) (λ (k : DictHome). k.name) (dicts_in hs vs es) i
+      (subst (λ ns. IsFirst (λ n. bytes_eq n d) ns i) (names-dicts es) first)
+
+  pub home-at : (es : List Entry) (i : ℕ) (e : Entry) → slice_get es i ≡ Some e → slice_get (dicts_in hs vs es) i ≡ Some (dict_home hs vs e)
+  home-at [] i e at = absurd (none-some e at)
+  home-at (x ∷ es) zero e at = ap (λ z. Some (dict_home hs vs z)) (same_Some x e at)
+  home-at (x ∷ es) (suc i) e at = home-at es i e at
+
+  module _ (es : List Entry) (d : List ℕ) (i : ℕ) (e : Entry) (at : slice_get es i ≡ Some e) (first : IsFirst (is_dict d) (dicts_in hs vs es) i) where
+    same-home : first.item ≡ dict_home hs vs e
+    same-home = same_Some first.item (dict_home hs vs e) (sym first.at ∙ home-at es i e at)
+
+    pub dict-found : dict_named d (dicts_in hs vs es) ≡ Some (dict_home hs vs e)
+    dict-found = find-first (is_dict d) (dicts_in hs vs es) i first ∙ ap (λ k. Some k) same-home
+
+    -- the name is its own
+    pub dict-name : e.0 ≡ d
+    dict-name = same_bytes e.0 d (ap (is_dict d) (sym same-home) ∙ first.passes)
+
+    pub dict-set : (dict : Dictionary) → with_dict d dict (dicts_in hs vs es) ≡ set (dicts_in hs vs es) i (record (dict_home hs vs e) { dict = dict })
+    dict-set dict =
+        dict-set_at d dict (dicts_in hs vs es) i first.item first.at first.passes first.before
+        ∙ ap (λ (k : DictHome). set (dicts_in hs vs es) i (record k { dict = dict })) same-home

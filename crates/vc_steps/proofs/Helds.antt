@@ -1,0 +1,160 @@
+-- Open regions, by their names and as they stand for lists.
+use Rattle.std.proofs.Common.{◌≡◌, ℕ, ◌+◌, ◌||◌, ◌<◌, zero, suc, false, cond, is_some, List, [], ◌∷◌, ◌++◌, Option, Some, None, length, get_or, map, set, take, refl, sym, ap, ◌∙◌, subst, ⊎_elim, arith}
+use Rattle.std.specs.Prelude.{remove, slice_get}
+use Rattle.std.specs.List.{list_any, position}
+use Rattle.std.specs.Str.{bytes_eq}
+use Rattle.std.specs.Map.{keys_of, values_of, lookup}
+use Rattle.std.proofs.lemmas.Bool.{cases_Bool}
+use Rattle.std.proofs.lemmas.List.Quantifiers.{position-Some}
+use Rattle.std.proofs.lemmas.Option.{same_Some, none-some}
+use Rattle.std.proofs.lemmas.Slice.Eq.{bytes_eq-Decides}
+use Rattle.indexmap.specs.IndexMap.{set_value_at}
+use Rattle.vc_model.specs.Discipline.{Discipline}
+use Rattle.vc_commands.specs.declared.region.home.HomeEntry.{HomeEntry}
+use Rattle.vc_commands.specs.declared.region.labels.Labels.{Labels}
+use Rattle.vc_commands.specs.Home.{Home, is_home}
+use Rattle.vc_commands.specs.Held.{home_of}
+use Rattle.vc_commands.specs.RegionRun.{held_of}
+use Rattle.vc_steps.specs.Homes.{held_all}
+use Rattle.vc_commands.proofs.Firsts.{IsFirst, first-unmap}
+use Rattle.vc_commands.proofs.Names.{other_bytes, same_bytes}
+
+pub swapped : (x y : List ℕ) → bytes_eq x y ≡ bytes_eq y x
+swapped x y =
+    ⊎_elim
+    (λ e. e ∙ sym ((bytes_eq-Decides y x).1 (sym (same_bytes x y e))))
+    (λ e. e ∙ sym (⊎_elim (λ f. absurd (other_bytes x y e (sym (same_bytes y x f)))) (λ f. f) (cases_Bool (bytes_eq y x))))
+    (cases_Bool (bytes_eq x y))
+
+-- what stands at an index of a list
+pub slice-or : {A : Type 0} (xs : List A) (i : ℕ) (x : A) → i < length xs → x ≡ get_or xs i x → slice_get xs i ≡ Some x
+slice-or [] i x within is = absurd (omega (arith, within))
+slice-or (y ∷ ys) zero x within is = ap (λ z. Some z) (sym is)
+slice-or (y ∷ ys) (suc i) x within is = slice-or ys i x (omega (arith, within)) is
+
+pub some-at : {A : Type 0} (xs : List A) (i : ℕ) → i < length xs → (x : A) × (slice_get xs i ≡ Some x)
+some-at [] i within = absurd (omega (arith, within))
+some-at (y ∷ ys) zero within = (y, refl)
+some-at (y ∷ ys) (suc i) within = some-at ys i (omega (arith, within))
+
+pub length-remove : {A : Type 0} (xs : List A) (i : ℕ) → i < length xs → length (remove xs i) + 1 ≡ length xs
+length-remove [] i within = absurd (omega (arith, within))
+length-remove (y ∷ ys) zero within = omega arith
+length-remove (y ∷ ys) (suc i) within = omega (arith, length-remove ys i (omega (arith, within)))
+
+module _ {I : Type 0} {V : I → Type 0} (meaning : (x : I) × V x → Discipline) where
+  abbrev Homes : Type 0
+  Homes = List (List ℕ × HomeEntry I V)
+
+  -- some region has the name
+  pub any-named : (homes : Homes) (labels : List Labels) (r : List ℕ) → length labels ≡ length homes → list_any (is_home r) (map home_of (held_all meaning homes labels)) ≡ is_some (lookup (bytes_eq r) homes)
+  any-named [] labels r same = refl
+  any-named (e ∷ es) [] r same = absurd (omega (arith, same))
+  any-named (e ∷ es) (l ∷ ls) r same =
+      ap (λ b. b || list_any (is_home r) (map home_of (held_all meaning es ls))) (swapped e.0 r)
+      ∙ (ap (λ b. bytes_eq r e.0 || b) (any-named es ls r (omega (arith, same)))
+      ∙ ⊎_elim
+      (λ y. ap (λ b. b || is_some (lookup (bytes_eq r) es)) y ∙ sym (ap (λ b. is_some (cond b (Some e.1) (lookup (bytes_eq r) es))) y))
+      (λ y. ap (λ b. b || is_some (lookup (bytes_eq r) es)) y ∙ sym (ap (λ b. is_some (cond b (Some e.1) (lookup (bytes_eq r) es))) y))
+      (cases_Bool (bytes_eq r e.0)))
+
+  names-homes : (homes : Homes) (labels : List Labels) → length labels ≡ length homes → keys_of homes ≡ map (λ (k : Home). k.name) (map home_of (held_all meaning homes labels))
+  names-homes [] labels same = refl
+  names-homes (e ∷ es) [] same = absurd (omega (arith, same))
+  names-homes (e ∷ es) (l ∷ ls) same = ap (λ ns. e.0 ∷ ns) (names-homes es ls (omega (arith, same)))
+
+  none-before : (r : List ℕ) (xs : List (List ℕ)) (i : ℕ) → ((k : ℕ) → k < i → bytes_eq r (get_or xs k []) ≡ false) → list_any (λ n. bytes_eq n r) (take i xs) ≡ false
+  none-before r [] zero none = refl
+  none-before r [] (suc i) none = refl
+  none-before r (x ∷ xs) zero none = refl
+  none-before r (x ∷ xs) (suc i) none =
+      ap (λ b. b || list_any (λ n. bytes_eq n r) (take i xs)) (swapped x r ∙ none 0 (omega arith))
+      ∙ none-before r xs i (λ k lt. none (suc k) (omega (arith, lt)))
+
+  slice_get_at : (xs : List (List ℕ)) (k : ℕ) → k < length xs → slice_get xs k ≡ Some (get_or xs k [])
+  slice_get_at [] k lt = absurd (omega (arith, lt))
+  slice_get_at (x ∷ xs) zero lt = refl
+  slice_get_at (x ∷ xs) (suc k) lt = slice_get_at xs k (omega (arith, lt))
+
+  -- the first region of a name is the first home of it
+  pub first-named : (homes : Homes) (labels : List Labels) (r : List ℕ) (i : ℕ) → length labels ≡ length homes → position (bytes_eq r) (keys_of homes) ≡ Some i → IsFirst (is_home r) (map home_of (held_all meaning homes labels)) i
+  first-named homes labels r i same at =
+      let p = position-Some (bytes_eq r) (keys_of homes) i [] at in
+      let first : IsFirst (λ n. bytes_eq n r) (keys_of homes) i = record {
+        item = get_or (keys_of homes) i [];
+        at = slice_get_at (keys_of homes) i p.0;
+        passes = swapped (get_or (keys_of homes) i []) r ∙ p.1;
+        before = none-before r (keys_of homes) i p.2;
+      } in
+      first-unmap (λ n. bytes_eq n r) (λ (k : Home). k.name) (map home_of (held_all meaning homes labels)) i
+      (subst (λ ns. IsFirst (λ n. bytes_eq n r) ns i) (names-homes homes labels same) first)
+
+  -- the name at the place of a name
+  pub name-at : (homes : Homes) (r : List ℕ) (i : ℕ) → position (bytes_eq r) (keys_of homes) ≡ Some i → slice_get (keys_of homes) i ≡ Some r
+  name-at homes r i at =
+      let p = position-Some (bytes_eq r) (keys_of homes) i [] at in
+      slice_get_at (keys_of homes) i p.0 ∙ ap (λ n. Some n) (sym (same_bytes r (get_or (keys_of homes) i []) p.1))
+
+  pub index-within : (homes : Homes) (r : List ℕ) (i : ℕ) → position (bytes_eq r) (keys_of homes) ≡ Some i → i < length (keys_of homes)
+  index-within homes r i at = (position-Some (bytes_eq r) (keys_of homes) i [] at).0
+
+  -- what a region at a place stands for
+  pub held-entry : (homes : Homes) (labels : List Labels) (i : ℕ) (e : List ℕ × HomeEntry I V) (l : Labels) → slice_get homes i ≡ Some e → slice_get labels i ≡ Some l → slice_get (held_all meaning homes labels) i ≡ Some (held_of meaning e.0 e.1 l)
+  held-entry [] labels i e l at own = absurd (none-some e at)
+  held-entry (f ∷ fs) [] i e l at own = absurd (none-some l own)
+  held-entry (f ∷ fs) (k ∷ ks) zero e l at own =
+      ap (λ (g : List ℕ × HomeEntry I V). Some (held_of meaning g.0 g.1 k)) (same_Some f e at) ∙ ap (λ k. Some (held_of meaning e.0 e.1 k)) (same_Some k l own)
+  held-entry (f ∷ fs) (k ∷ ks) (suc i) e l at own = held-entry fs ks i e l at own
+
+  pub held-read : (homes : Homes) (labels : List Labels) (i : ℕ) (r : List ℕ) (h : HomeEntry I V) (l : Labels) → slice_get (keys_of homes) i ≡ Some r → slice_get (values_of homes) i ≡ Some h → slice_get labels i ≡ Some l → slice_get (held_all meaning homes labels) i ≡ Some (held_of meaning r h l)
+  held-read [] labels i r h l name read own = absurd (none-some r name)
+  held-read (e ∷ es) [] i r h l name read own = absurd (none-some l own)
+  held-read (e ∷ es) (k ∷ ks) zero r h l name read own =
+      ap (λ n. Some (held_of meaning n e.1 k)) (same_Some e.0 r name)
+      ∙ (ap (λ g. Some (held_of meaning r g k)) (same_Some e.1 h read) ∙ ap (λ m. Some (held_of meaning r h m)) (same_Some k l own))
+  held-read (e ∷ es) (k ∷ ks) (suc i) r h l name read own = held-read es ks i r h l name read own
+
+  -- another region in that place
+  pub held-set : (homes : Homes) (labels : List Labels) (i : ℕ) (r : List ℕ) (h : HomeEntry I V) (l : Labels) → length labels ≡ length homes → slice_get (keys_of homes) i ≡ Some r → held_all meaning (set_value_at homes i h) (set labels i l) ≡ set (held_all meaning homes labels) i (held_of meaning r h l)
+  held-set [] labels i r h l same name = absurd (none-some r name)
+  held-set (e ∷ es) [] i r h l same name = absurd (omega (arith, same))
+  held-set (e ∷ es) (k ∷ ks) zero r h l same name = ap (λ n. held_of meaning n h l ∷ held_all meaning es ks) (same_Some e.0 r name)
+  held-set (e ∷ es) (k ∷ ks) (suc i) r h l same name = ap (λ hs. held_of meaning e.0 e.1 k ∷ hs) (held-set es ks i r h l (omega (arith, same)) name)
+
+  pub length-set : (homes : Homes) (labels : List Labels) (i : ℕ) (h : HomeEntry I V) (l : Labels) → length labels ≡ length homes → length (set labels i l) ≡ length (set_value_at homes i h)
+  length-set [] [] zero h l same = refl
+  length-set [] [] (suc i) h l same = refl
+  length-set [] (k ∷ ks) i h l same = absurd (omega (arith, same))
+  length-set (e ∷ es) [] i h l same = absurd (omega (arith, same))
+  length-set (e ∷ es) (k ∷ ks) zero h l same = same
+  length-set (e ∷ es) (k ∷ ks) (suc i) h l same = ap suc (length-set es ks i h l (omega (arith, same)))
+
+  -- a new name goes last
+  pub held-new : (homes : Homes) (labels : List Labels) (r : List ℕ) (h : HomeEntry I V) (l : Labels) → length labels ≡ length homes → held_all meaning (homes ++ (r, h) ∷ []) (labels ++ l ∷ []) ≡ held_all meaning homes labels ++ held_of meaning r h l ∷ []
+  held-new [] [] r h l same = refl
+  held-new [] (k ∷ ks) r h l same = absurd (omega (arith, same))
+  held-new (e ∷ es) [] r h l same = absurd (omega (arith, same))
+  held-new (e ∷ es) (k ∷ ks) r h l same = ap (λ hs. held_of meaning e.0 e.1 k ∷ hs) (held-new es ks r h l (omega (arith, same)))
+
+  pub held-none : (homes : Homes) (labels : List Labels) → length homes ≡ 0 → held_all meaning homes labels ≡ []
+  held-none [] labels none = refl
+  held-none (e ∷ es) labels none = absurd (omega (arith, none))
+
+  pub length-held : (homes : Homes) (labels : List Labels) → length labels ≡ length homes → length (held_all meaning homes labels) ≡ length homes
+  length-held [] labels same = refl
+  length-held (e ∷ es) [] same = absurd (omega (arith, same))
+  length-held (e ∷ es) (k ∷ ks) same = ap suc (length-held es ks (omega (arith, same)))
+
+  -- one is taken out
+  pub held-remove : (homes : Homes) (labels : List Labels) (i : ℕ) → length labels ≡ length homes → held_all meaning (remove homes i) (remove labels i) ≡ remove (held_all meaning homes labels) i
+  held-remove [] [] zero same = refl
+  held-remove [] [] (suc i) same = refl
+  held-remove [] (k ∷ ks) i same = absurd (omega (arith, same))
+  held-remove (e ∷ es) [] i same = absurd (omega (arith, same))
+  held-remove (e ∷ es) (k ∷ ks) zero same = refl
+  held-remove (e ∷ es) (k ∷ ks) (suc i) same = ap (λ hs. held_of meaning e.0 e.1 k ∷ hs) (held-remove es ks i (omega (arith, same)))
+
+-- where no key passes, none is found
+pub none_of : {A : Type 0} (o : Option A) → is_some o ≡ false → o ≡ None
+none_of None e = refl
+none_of (Some x) e = absurd cc

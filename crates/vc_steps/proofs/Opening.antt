@@ -1,0 +1,163 @@
+-- What opening a region does to the state, and to the settled shelf.
+use Rattle.std.proofs.Common.{◌≡◌, ℕ, ◌-◌, ◌≤◌, true, false, cond, is_some, List, [], ◌∷◌, ◌++◌, Option, Some, None, length, map, option_map, set, take, refl, sym, ap, ◌∙◌, subst, arith}
+use Rattle.std.specs.Prelude.{slice_get}
+use Rattle.std.specs.List.{AllByRecursion, list_any}
+use Rattle.std.proofs.lemmas.List.{append-nil, map-append, map-set, set-set}
+use Rattle.std.proofs.lemmas.Option.{slice_get-map}
+use Rattle.vc_base.specs.Cells.{Blocks}
+use Rattle.vc_model.specs.Numbered.{at_number}
+use Rattle.vc_model.specs.Discipline.{Discipline}
+use Rattle.vc_model.specs.Layout.{Block}
+use Rattle.vc_dtdisc.specs.Rules.{Rules}
+use Rattle.vc_region.specs.Cells.{no_cells, region_cells, rest_of}
+use Rattle.vc_region.specs.Region.{Region, blocks_of, relabelled, segments_of}
+use Rattle.vc_model.specs.Sound.{HaveOwnPlaces}
+use Rattle.vc_region.specs.Stat.{opened}
+use Rattle.vc_seg.specs.declared.method.Method.{Method}
+use Rattle.vc_seg.specs.declared.method.Method.TheVariants.{VmBest, VmPool, VmLast, VmDebug, VmProfile}
+use Rattle.vc_seg.specs.Shelf.{place_at, standing}
+use Rattle.vc_seg.specs.declared.shelf.ShelfPlace.TheVariants.{Here}
+use Rattle.vc_script.specs.declared.reply.Reply.TheVariants.{Opened}
+use Rattle.vc_script.specs.declared.refusal.Refusal.TheVariants.{RegionExists}
+use Rattle.vc_steps.specs.State.{State, open_step, opened_over, refused, stepped}
+use Rattle.vc_views.specs.Views.{DictHome}
+use Rattle.vc_commands.specs.Home.{Home, Label, is_home}
+use Rattle.slab.specs.Slab.{slab_len}
+use Rattle.vc_commands.specs.declared.region.labels.Labels.{Labels}
+use Rattle.vc_commands.specs.Labels.{AreLabels, kept_of, name_of, tag_of}
+use Rattle.vc_steps.specs.Account.{Account, IsSession, account, accounts, account_after, settled, state_of}
+use Rattle.vc_commands.specs.Held.{Held, IsLive, IsNamed, home_of, tag_count}
+use Rattle.vc_steps.specs.State.{not_here as why_not}
+use Rattle.vc_steps.proofs.Cells.{at_number-from_one, at_number_some, slice_get-set_same, at_number-map, set_same}
+use Rattle.vc_commands.proofs.Answers.{front-out}
+use Rattle.vc_commands.proofs.Names.{has-label-any, named_by}
+use Rattle.vc_steps.proofs.Settle.{settled-push, settled-set, settled-keeps, off-apart, Off}
+use Rattle.vc_steps.proofs.Sessions.{Slots, apart-session, away-session, session-push}
+
+-- a new region has no labels, no segments and no blocks
+pub opened-relabelled : (f : ℕ → Label) (m : Method) → relabelled f (opened m) ≡ opened m
+opened-relabelled f VmBest = refl
+opened-relabelled f VmPool = refl
+opened-relabelled f VmLast = refl
+opened-relabelled f VmDebug = refl
+opened-relabelled f VmProfile = refl
+
+pub opened-segments : (m : Method) → segments_of {L = ℕ} (opened m) ≡ []
+opened-segments VmBest = refl
+opened-segments VmPool = refl
+opened-segments VmLast = refl
+opened-segments VmDebug = refl
+opened-segments VmProfile = refl
+
+pub opened-blocks : (m : Method) → blocks_of {L = ℕ} (opened m) ≡ []
+opened-blocks VmBest = refl
+opened-blocks VmPool = refl
+opened-blocks VmLast = refl
+opened-blocks VmDebug = refl
+opened-blocks VmProfile = refl
+
+-- nor has it cells
+pub opened-rest : (m : Method) → rest_of (opened m) ≡ opened m
+opened-rest VmBest = refl
+opened-rest VmPool = refl
+opened-rest VmLast = refl
+opened-rest VmDebug = refl
+opened-rest VmProfile = refl
+
+pub opened-cells : (m : Method) → region_cells (opened m) ≡ no_cells
+opened-cells VmBest = refl
+opened-cells VmPool = refl
+opened-cells VmLast = refl
+opened-cells VmDebug = refl
+opened-cells VmProfile = refl
+
+-- labels with no name
+pub record AreNone (labels : Labels) : Type 0 where
+  pub agree : AreLabels labels
+  pub names : (x : List ℕ) → tag_of labels x ≡ None
+  pub count : slab_len labels.by_tag ≡ 0
+  pub kept : kept_of labels ≡ []
+
+none_places : (bs : List (Block ℕ)) → bs ≡ [] → HaveOwnPlaces bs
+none_places bs e =
+    subst (λ cs. HaveOwnPlaces cs) (sym e)
+    (record {
+      distinct = λ i j d lt within. absurd (omega (arith, within));
+      first = λ i d within. absurd (omega (arith, within));
+      exact = λ i d within. absurd (omega (arith, within));
+    })
+
+-- no names, of no block
+pub none-named : (r : Region ℕ) (labels : Labels) → AreNone labels → blocks_of r ≡ [] → IsNamed r labels
+none-named r labels none e =
+    record {
+      agree = none.agree;
+      count = ap tag_count e ∙ sym none.count;
+      live = subst (AllByRecursion (λ b. 1 ≤ b.label → IsLive labels b)) (sym e) tt;
+      known = λ x. ap is_some (none.names x) ∙ sym (has-label-any (name_of labels) x r ∙ ap (list_any (named_by (name_of labels) x)) e);
+      places = none_places (blocks_of r) e;
+      none = λ keeps. none.kept;
+    }
+
+-- a region that was just opened
+abbrev pub fresh : List ℕ → ℕ → Discipline → Region ℕ → Blocks → Labels → Held
+fresh name n d region cells labels = record { name = name; place = n; disc = d; region = region; cells = cells; labels = labels }
+
+module _ (slots : Slots) (hs : List Held) (name : List ℕ) (n : ℕ) (d : Discipline) (m : Method) (region : Region ℕ) (is : region ≡ opened m) (cells : Blocks) (labels : Labels) (none : AreNone labels) (at : at_number slots n ≡ Some (Some d)) (session : IsSession slots hs) where
+  segments : segments_of region ≡ []
+  segments = ap (λ r. segments_of r) is ∙ opened-segments m
+
+  there : slice_get slots (n - 1) ≡ Some (Some d)
+  there = (at_number_some slots n (Some d) at).1
+
+  pub open_step-ok : (kinds : List Rules) (ds : List DictHome) → list_any (is_home name) (map home_of hs) ≡ false → open_step (state_of kinds slots hs ds) name m n ≡ stepped (state_of kinds (set slots (n - 1) None) (hs ++ fresh name n d region cells labels ∷ []) ds) (Opened name)
+  open_step-ok kinds ds new =
+      let r : Region Label = relabelled (name_of labels) region in
+      let same : r ≡ opened m = ap (relabelled (name_of labels)) is ∙ opened-relabelled (name_of labels) m in
+      ap (λ q. cond (list_any (is_home name) (map home_of hs)) (refused (state_of kinds slots hs ds) RegionExists) (opened_over (state_of kinds slots hs ds) name n q (at_number (state_of kinds slots hs ds).shelf n))) (sym same)
+      ∙ (ap (λ b. cond b (refused (state_of kinds slots hs ds) RegionExists) (opened_over (state_of kinds slots hs ds) name n r (at_number (state_of kinds slots hs ds).shelf n))) new
+      ∙ (ap (opened_over (state_of kinds slots hs ds) name n r) (at_number-map (option_map (λ e. e.terms)) slots n ∙ ap (option_map (option_map (λ e. e.terms))) at)
+      ∙ (ap (λ kept. stepped (record (state_of kinds slots hs ds) { shelf = set (state_of kinds slots hs ds).shelf (n - 1) None; homes = map home_of hs ++ (let b : Home = record { name = name; place = n; terms = d.terms; region = r; kept = kept } in b) ∷ [] }) (Opened name)) (sym none.kept)
+      ∙ (ap (λ shelf. stepped (record (state_of kinds slots hs ds) { shelf = shelf; homes = map home_of hs ++ home_of (fresh name n d region cells labels) ∷ [] }) (Opened name)) (sym (map-set (option_map (λ (e : Discipline). e.terms)) slots (n - 1) None))
+      ∙ ap (λ homes. stepped (record (state_of kinds slots hs ds) { shelf = map (option_map (λ e. e.terms)) (set slots (n - 1) None); homes = homes }) (Opened name)) (sym (map-append home_of hs (fresh name n d region cells labels ∷ [])))))))
+
+  pub session-open : IsSession (set slots (n - 1) None) (hs ++ fresh name n d region cells labels ∷ [])
+  session-open =
+      let low = (at_number_some slots n (Some d) at).0 in
+      session-push slots (n - 1) (Some d) hs (fresh name n d region cells labels) there session (away-session slots n d hs at session)
+      (record {
+        place = at_number-from_one (set slots (n - 1) None) n low ∙ slice_get-set_same slots (n - 1) (Some d) None there;
+        lent = (d.out, sym (append-nil d.out) ∙ ap (λ s. d.out ++ s) (sym segments));
+        names = none-named region labels none (ap (λ r. blocks_of r) is ∙ opened-blocks m);
+      })
+
+  pub settled-open : settled (accounts (set slots (n - 1) None)) (hs ++ fresh name n d region cells labels ∷ []) ≡ settled (accounts slots) hs
+  settled-open =
+      let low = (at_number_some slots n (Some d) at).0 in
+      let off : Off (n - 1) hs = off-apart n hs low (away-session slots n d hs at session) (apart-session slots hs session) in
+      let all : take (length d.out - length (segments_of region)) d.out ≡ d.out =
+      front-out d.out (segments_of region) d.out (sym (append-nil d.out) ∙ ap (λ s. d.out ++ s) (sym segments)) in
+      let account_is : account_after (fresh name n d region cells labels) ≡ account d = ap (λ out. let a : Account = record { out = out; terms = d.terms; faults = d.faults } in a) all in
+      let kept : slice_get (settled (accounts slots) hs) (n - 1) ≡ Some (Some (account_after (fresh name n d region cells labels))) =
+      settled-keeps (accounts slots) (n - 1) hs off ∙ (slice_get-map (option_map account) slots (n - 1) ∙ (ap (option_map (option_map account)) there ∙ ap (λ a. Some (Some a)) (sym account_is))) in
+      settled-push (accounts (set slots (n - 1) None)) hs (fresh name n d region cells labels)
+      ∙ (ap (λ shelf. set (settled shelf hs) (n - 1) (Some (account_after (fresh name n d region cells labels)))) (map-set (option_map account) slots (n - 1) None)
+      ∙ (ap (λ shelf. set shelf (n - 1) (Some (account_after (fresh name n d region cells labels)))) (settled-set (accounts slots) (n - 1) None hs off)
+      ∙ (set-set (settled (accounts slots) hs) (n - 1) None (Some (account_after (fresh name n d region cells labels)))
+      ∙ set_same (settled (accounts slots) hs) (n - 1) (Some (account_after (fresh name n d region cells labels))) kept)))
+
+pub open_step-named : (s : State) (name : List ℕ) (m : Method) (n : ℕ) → list_any (is_home name) s.homes ≡ true → open_step s name m n ≡ refused s RegionExists
+open_step-named s name m n named =
+    ap (λ b. cond b (refused s RegionExists) (opened_over s name n (opened m) (at_number s.shelf n))) named
+
+opened_over-not_here : (s : State) (name : List ℕ) (n : ℕ) (r : Region Label) (o : Option (Option Discipline)) → (standing o ≡ Here → ⊥) → opened_over s name n r (option_map (option_map (λ d. d.terms)) o) ≡ refused s (why_not (standing o))
+opened_over-not_here s name n r None not_here = refl
+opened_over-not_here s name n r (Some None) not_here = refl
+opened_over-not_here s name n r (Some (Some d)) not_here = absurd (not_here refl)
+
+-- no discipline is here at the number
+pub open_step-not_here : (kinds : List Rules) (slots : Slots) (hs : List Held) (ds : List DictHome) (name : List ℕ) (m : Method) (n : ℕ) → list_any (is_home name) (map home_of hs) ≡ false → (place_at slots n ≡ Here → ⊥) → open_step (state_of kinds slots hs ds) name m n ≡ refused (state_of kinds slots hs ds) (why_not (place_at slots n))
+open_step-not_here kinds slots hs ds name m n new not_here =
+    let r : Region Label = opened m in
+    ap (λ b. cond b (refused (state_of kinds slots hs ds) RegionExists) (opened_over (state_of kinds slots hs ds) name n r (at_number (state_of kinds slots hs ds).shelf n))) new
+    ∙ (ap (opened_over (state_of kinds slots hs ds) name n r) (at_number-map (option_map (λ e. e.terms)) slots n) ∙ opened_over-not_here (state_of kinds slots hs ds) name n r (at_number slots n) not_here)

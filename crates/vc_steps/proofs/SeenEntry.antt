@@ -1,0 +1,32 @@
+-- The dictionary of a name at its index, and its number.
+use Rattle.std.proofs.Common.{◌≡◌, ℕ, ◌<◌, List, [], Some, length, option_map, sym, ap, ◌∙◌, arith}
+use Rattle.std.specs.Prelude.{slice_get}
+use Rattle.std.specs.List.{position}
+use Rattle.std.specs.Map.{keys_of}
+use Rattle.std.specs.Str.{bytes_eq}
+use Rattle.std.proofs.lemmas.List.{length-map}
+use Rattle.std.proofs.lemmas.List.Quantifiers.{position-Some}
+use Rattle.std.proofs.lemmas.Option.{same_Some, slice_get-map}
+use Rattle.vc_commands.specs.declared.dict.entry.DictEntry.{DictEntry}
+use Rattle.vc_views.specs.Dicts.{number_at, number_or}
+use Rattle.vc_steps.proofs.DictNamed.{key-at}
+use Rattle.vc_steps.proofs.DictsStay.{Entry}
+use Rattle.vc_steps.proofs.Helds.{some-at}
+
+module _ (es : List Entry) (name : List ℕ) (i : ℕ) (index : position (bytes_eq name) (keys_of es) ≡ Some i) where
+  within : i < length es
+  within = omega (arith, (position-Some (bytes_eq name) (keys_of es) i [] index).0, length-map es (λ (x : Entry). x.0))
+
+  found : (x : Entry) × (slice_get es i ≡ Some x)
+  found = some-at es i within
+
+  same : found.0.0 ≡ name
+  same =
+      same_Some found.0.0 name
+      (sym (slice_get-map (λ (x : Entry). x.0) es i ∙ ap (option_map (λ (x : Entry). x.0)) found.1) ∙ key-at es name i index)
+
+  pub entry-named : (v : DictEntry) × (slice_get es i ≡ Some (name, v))
+  entry-named = (found.0.1, found.1 ∙ ap (λ n. let x : Entry = (n, found.0.1) in Some x) same)
+
+  pub number-named : number_at i es ≡ entry-named.0.number
+  number-named = ap number_or entry-named.1

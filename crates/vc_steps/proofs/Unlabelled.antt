@@ -1,0 +1,125 @@
+-- The names of a region are those of its labelled blocks alone.
+use Rattle.std.proofs.Common.{◌≡◌, ℕ, ◌≤◌, Bool, true, false, ◌||◌, cond, List, [], ◌∷◌, Some, filter, length, option_map, refl, sym, ap, ◌∙◌, subst, ⊎_elim, arith}
+use Rattle.std.specs.Prelude.{find, nat_lt}
+use Rattle.std.specs.List.{AllByRecursion, list_any}
+use Rattle.std.proofs.lemmas.Bool.{cases_Bool}
+use Rattle.std.proofs.lemmas.Bool.Decides.{nat_tests}
+use Rattle.std.proofs.lemmas.List.Sums.{length-filter}
+use Rattle.vc_model.specs.Layout.{Block, relabel_block}
+use Rattle.vc_model.specs.Sound.{HaveOwnPlaces}
+use Rattle.vc_model.proofs.Relabel.{find-relabel}
+use Rattle.vc_region.specs.Cells.{labelled, rest_of}
+use Rattle.vc_region.specs.Region.{Region, blocks_of, keeps_freed, relabelled}
+use Rattle.vc_region.proofs.Labelled.{labelled-rest}
+use Rattle.vc_region.proofs.Relabel.{blocks-relabelled}
+use Rattle.vc_region.proofs.Rest.{rest-keeps}
+use Rattle.vc_region.proofs.RestFound.{rest-own}
+use Rattle.vc_commands.specs.Held.{IsLive, IsNamed, tag_count}
+use Rattle.vc_commands.specs.Blocks.{has_label, is_block, is_name_of, label_count}
+use Rattle.vc_commands.specs.Labels.{name_of}
+use Rattle.vc_commands.specs.declared.region.labels.Labels.{Labels}
+use Rattle.vc_commands.proofs.Names.{has-label-any, label-count, name-none, named_by}
+
+-- a test that fails for what is left out passes for the same items of the rest
+module _ {A : Type 0} (keeps test : A → Bool) (fails : (x : A) → keeps x ≡ false → test x ≡ false) where
+  any-kept : (xs : List A) → list_any test (filter keeps xs) ≡ list_any test xs
+  any-kept [] = refl
+  any-kept (x ∷ xs) =
+      ⊎_elim
+      (λ t. ap (λ v. list_any test (cond v (x ∷ filter keeps xs) (filter keeps xs))) t ∙ ap (λ v. test x || v) (any-kept xs))
+      (λ t.
+      ap (λ v. list_any test (cond v (x ∷ filter keeps xs) (filter keeps xs))) t
+      ∙ (any-kept xs ∙ sym (ap (λ v. v || list_any test xs) (fails x t))))
+      (cases_Bool (keeps x))
+
+  find-kept : (xs : List A) → find test (filter keeps xs) ≡ find test xs
+  find-kept [] = refl
+  find-kept (x ∷ xs) =
+      ⊎_elim
+      (λ t.
+      ap (λ v. find test (cond v (x ∷ filter keeps xs) (filter keeps xs))) t
+      ∙ ap (λ o. cond (test x) (Some x) o) (find-kept xs))
+      (λ t.
+      ap (λ v. find test (cond v (x ∷ filter keeps xs) (filter keeps xs))) t
+      ∙ (find-kept xs ∙ sym (ap (λ v. cond v (Some x) (find test xs)) (fails x t))))
+      (cases_Bool (keeps x))
+
+-- what holds of all holds of those that are kept; and of all, where it holds of what is left out
+module _ {A : Type 0} (keeps : A → Bool) (P : A → Type 0) where
+  all-kept : (xs : List A) → AllByRecursion P xs → AllByRecursion P (filter keeps xs)
+  all-kept [] all = tt
+  all-kept (x ∷ xs) all =
+      elim (keeps x) as (λ v. AllByRecursion P (cond v (x ∷ filter keeps xs) (filter keeps xs)))
+      [ true ↦ (all.0, all-kept xs all.1) | false ↦ all-kept xs all.1 ]
+
+  all-filled : ((x : A) → keeps x ≡ false → P x) → (xs : List A) → AllByRecursion P (filter keeps xs) → AllByRecursion P xs
+  all-filled left [] all = tt
+  all-filled left (x ∷ xs) all =
+      ⊎_elim
+      (λ t.
+      let both : AllByRecursion P (x ∷ filter keeps xs) = subst (λ v. AllByRecursion P (cond v (x ∷ filter keeps xs) (filter keeps xs))) t all in
+      (both.0, all-filled left xs both.1))
+      (λ t.
+      let rest : AllByRecursion P (filter keeps xs) = subst (λ v. AllByRecursion P (cond v (x ∷ filter keeps xs) (filter keeps xs))) t all in
+      (left x t, all-filled left xs rest))
+      (cases_Bool (keeps x))
+
+abbrev has_tag : Block ℕ → Bool
+has_tag b = nat_lt 0 b.label
+
+no-tag : (b : Block ℕ) → has_tag b ≡ false → b.label ≡ 0
+no-tag b e = grind (arith, nat_tests, e)
+
+-- a block without a tag has no name
+no-name : (labels : Labels) (x : List ℕ) (b : Block ℕ) → has_tag b ≡ false → named_by (name_of labels) x b ≡ false
+no-name labels x b e = ap (is_name_of x) (name-none labels b.label (no-tag b e))
+
+no-live : (labels : Labels) (b : Block ℕ) → has_tag b ≡ false → 1 ≤ b.label → IsLive labels b
+no-live labels b e first = absurd (omega (arith, no-tag b e))
+
+tags-labelled : (r : Region ℕ) → tag_count (blocks_of r) ≡ length (labelled r)
+tags-labelled r = sym (length-filter has_tag (blocks_of r))
+
+-- whether a block has a name, and which is the first, by the labelled blocks
+pub has-labelled : (labels : Labels) (x : List ℕ) (r : Region ℕ) → has_label x (relabelled (name_of labels) r) ≡ list_any (named_by (name_of labels) x) (labelled r)
+has-labelled labels x r = has-label-any (name_of labels) x r ∙ sym (any-kept has_tag (named_by (name_of labels) x) (no-name labels x) (blocks_of r))
+
+pub find-labelled : (labels : Labels) (x : List ℕ) (r : Region ℕ) → find (is_block x) (blocks_of (relabelled (name_of labels) r)) ≡ option_map (relabel_block (name_of labels)) (find (named_by (name_of labels) x) (labelled r))
+find-labelled labels x r =
+    let f = name_of labels in
+    ap (find (is_block x)) (blocks-relabelled f r)
+    ∙ (find-relabel f (named_by f x) (is_block x) (λ c. refl) (blocks_of r)
+    ∙ ap (option_map (relabel_block f)) (sym (find-kept has_tag (named_by f x) (no-name labels x) (blocks_of r))))
+
+-- a region with the same labelled blocks, whatever its other blocks
+module _ (labels : Labels) (r r' : Region ℕ) (same : labelled r' ≡ labelled r) where
+  pub named-labelled : IsNamed r labels → HaveOwnPlaces (blocks_of r') → keeps_freed r' ≡ keeps_freed r → IsNamed r' labels
+  named-labelled n places keeps =
+      let live : Block ℕ → Type 0 = λ b. 1 ≤ b.label → IsLive labels b in
+      record {
+        agree = n.agree;
+        count = tags-labelled r' ∙ (ap length same ∙ (sym (tags-labelled r) ∙ n.count));
+        live = all-filled has_tag live (no-live labels) (blocks_of r') (subst (AllByRecursion live) (sym same) (all-kept has_tag live (blocks_of r) n.live));
+        known = λ x. n.known x ∙ (has-labelled labels x r ∙ (ap (list_any (named_by (name_of labels) x)) (sym same) ∙ sym (has-labelled labels x r')));
+        places = places;
+        none = λ e. n.none (sym keeps ∙ e);
+      }
+
+  -- a name is that of a block as before, and of the same block
+  pub has_label-labelled : (x : List ℕ) → has_label x (relabelled (name_of labels) r') ≡ has_label x (relabelled (name_of labels) r)
+  has_label-labelled x = has-labelled labels x r' ∙ (ap (list_any (named_by (name_of labels) x)) same ∙ sym (has-labelled labels x r))
+
+  pub named_block-labelled : (x : List ℕ) → find (is_block x) (blocks_of (relabelled (name_of labels) r')) ≡ find (is_block x) (blocks_of (relabelled (name_of labels) r))
+  named_block-labelled x =
+      find-labelled labels x r'
+      ∙ (ap (λ bs. option_map (relabel_block (name_of labels)) (find (named_by (name_of labels) x) bs)) same ∙ sym (find-labelled labels x r))
+
+  -- as many blocks have a name
+  pub label_count-labelled : IsNamed r labels → IsNamed r' labels → label_count (relabelled (name_of labels) r') ≡ label_count (relabelled (name_of labels) r)
+  label_count-labelled n n' = label-count r' labels n' ∙ (tags-labelled r' ∙ (ap length same ∙ (sym (tags-labelled r) ∙ sym (label-count r labels n))))
+
+-- the same of regions that are seen but for the bytes in their cells
+pub named-rest : (labels : Labels) (r r' : Region ℕ) → labelled r' ≡ labelled r → HaveOwnPlaces (blocks_of r') → keeps_freed r' ≡ keeps_freed r → IsNamed (rest_of r) labels → IsNamed (rest_of r') labels
+named-rest labels r r' same places keeps n =
+    named-labelled labels (rest_of r) (rest_of r') (labelled-rest r' ∙ (same ∙ sym (labelled-rest r))) n (rest-own r' places)
+    (rest-keeps r' ∙ (keeps ∙ sym (rest-keeps r)))

@@ -1,0 +1,105 @@
+-- What lasts of the shelf through a run: the accounts of its disciplines.
+use Rattle.std.specs.Prelude.{◌≡◌, ◌≢◌, ℕ, ◌+◌, ◌-◌, ◌≤◌, ◌⊎◌, List, [], ◌∷◌, Option, Some, None, ⊤, find, map, option_map, slice_set, count_by, ◌==◌}
+use Rattle.std.specs.List.{AllByRecursion}
+use Rattle.std.specs.Str.{bytes_eq}
+use Rattle.vc_model.specs.Count.{last_count}
+use Rattle.vc_dtdisc.specs.Rules.{Rules}
+use Rattle.vc_model.specs.Discipline.{Discipline, HasOut, Terms}
+use Rattle.vc_model.specs.Numbered.{at_number}
+use Rattle.vc_region.specs.Region.{segments_of}
+use Rattle.vc_steps.specs.State.{State}
+use Rattle.vc_views.specs.Views.{DictHome}
+use Rattle.vc_commands.specs.RegionCommands.{block_asked}
+use Rattle.vc_steps.specs.Step.{region_of}
+use Rattle.vc_script.specs.declared.command.Command.{Command}
+use Rattle.vc_commands.specs.Held.{out_without, Held, home_of, IsNamed, LacksSegment}
+
+-- the segments of a discipline that are out, its terms, and its faults
+pub record Account : Type 0 where
+  pub out : List (ℕ × ℕ)
+  pub terms : Terms
+  pub faults : ℕ
+
+abbrev pub account : Discipline → Account
+account d = record { out = d.out; terms = d.terms; faults = d.faults }
+
+-- the accounts on a shelf, None where a discipline is taken
+abbrev pub accounts : List (Option Discipline) → List (Option Account)
+accounts shelf = map (option_map account) shelf
+
+-- the state that kinds, a shelf and open regions stand for, with these dictionaries
+abbrev pub state_of : List Rules → List (Option Discipline) → List Held → List DictHome → State
+state_of kinds shelf held dicts =
+    record { shelf = map (option_map (λ d. d.terms)) shelf; homes = map home_of held; kinds = kinds; dicts = dicts }
+
+-- the account of a discipline when segments that are the last of those out are back
+abbrev pub account_back : Discipline → List (ℕ × ℕ) → Account
+account_back d segments = record { out = out_without d segments; terms = d.terms; faults = d.faults }
+
+-- that of a region's discipline when the region's segments are back
+abbrev pub account_after : Held → Account
+account_after h = account_back h.disc (segments_of h.region)
+
+-- the accounts on the shelf when every open region is closed, in order
+abbrev pub settled : List (Option Account) → List Held → List (Option Account)
+settled shelf [] = shelf
+settled shelf (h ∷ hs) = settled (slice_set shelf (h.place - 1) (Some (account_after h))) hs
+
+-- a region's discipline is taken from its place, and the region's segments are the last that it lent
+pub record IsHeld (shelf : List (Option Discipline)) (h : Held) : Type 0 where
+  pub place : at_number shelf h.place ≡ Some None
+  pub lent : HasOut h.disc (segments_of h.region)
+  pub names : IsNamed h.region h.labels
+
+-- the open region that a command works in
+abbrev pub held_named : List Held → Option (List ℕ) → Option Held
+held_named held None = None
+held_named held (Some r) = find (λ h. bytes_eq h.name r) held
+
+abbrev pub Lacks : Option Held → Option Held → ℕ × ℕ → Type 0
+Lacks None after asked = ⊥
+Lacks (Some h) None asked = ⊥
+Lacks (Some h) (Some g) asked = LacksSegment h g asked
+
+-- from before a step to after it, the region of a command was refused the segment that its block needs
+abbrev pub StepLacks : List Held → List Held → Command → Type 0
+StepLacks before after command =
+    Lacks (held_named before (region_of command)) (held_named after (region_of command)) (block_asked command)
+
+-- open regions over a shelf, each with a place of its own
+abbrev pub IsSession : List (Option Discipline) → List Held → Type 0
+IsSession shelf [] = ⊤
+IsSession shelf (h ∷ hs) = IsHeld shelf h × AllByRecursion (λ g. g.place ≢ h.place) hs × IsSession shelf hs
+
+-- the faults of a place's discipline
+abbrev pub faults_of : Option (Option Account) → ℕ
+faults_of None = 0
+faults_of (Some None) = 0
+faults_of (Some (Some a)) = a.faults
+
+-- a count rose by at least n, or stands at its last value
+abbrev pub RoseBy : ℕ → ℕ → ℕ → Type 0
+RoseBy n before after = (before + n ≤ after) ⊎ (last_count ≤ after)
+
+-- the faults of a place by the refusals there: they never fall, stand where nothing was refused, and else rose by as many or more
+pub record CountsFaults (refusals before after : ℕ) : Type 0 where
+  pub never_falls : before ≤ after
+  pub none : refusals ≡ 0 → after ≡ before
+  pub rose : RoseBy refusals before after
+
+abbrev pub without_faults : Account → List (ℕ × ℕ) × Terms
+without_faults a = (a.out, a.terms)
+
+-- every place has its discipline with the segments out and the terms that it had
+abbrev pub SameButFaults : List (Option Account) → List (Option Account) → Type 0
+SameButFaults before after = map (option_map without_faults) after ≡ map (option_map without_faults) before
+
+-- from an earlier time to a later one with these refusals, each by its place: the disciplines are the same, and no fault was counted but for a refusal
+pub record Settles (before after : List (Option Account)) (refusals : List ℕ) : Type 0 where
+  pub same : SameButFaults before after
+  pub faults : (place : ℕ) → CountsFaults (count_by (λ p. p == place) refusals) (faults_of (at_number before place)) (faults_of (at_number after place))
+
+-- with any refusals the disciplines are the same, and no fault is less
+pub record KeepsAccounts (before after : List (Option Account)) : Type 0 where
+  pub same : SameButFaults before after
+  pub faults : (place : ℕ) → faults_of (at_number before place) ≤ faults_of (at_number after place)

@@ -1,0 +1,61 @@
+-- What a run is at a moment.
+use Rattle.std.specs.Prelude.{ℕ, List, [], Option, None}
+use Rattle.vc_model.specs.Discipline.{Discipline}
+use Rattle.vc_dtdisc.specs.Rules.{Gone, Rules}
+use Rattle.vc_seg.specs.declared.shelf.Shelf.{Shelf}
+use Rattle.vc_steps.specs.declared.session.Session.{Session}
+use Rattle.vc_steps.specs.State.{State}
+use Rattle.vc_steps.specs.Account.{Account, KeepsAccounts}
+use Rattle.vc_commands.specs.Held.{Held}
+use Rattle.vc_steps.specs.Homes.{accounts_on, held_in, settled_over, state_on, state_over}
+use Rattle.vc_steps.specs.Told.{ended_told, gone_in, rules_in, tell}
+
+-- the state, the open regions with their disciplines, what the replies' sink tells, the accounts of the disciplines once every open region is closed, and what each kind was told of so far
+pub record Moment : Type 0 where
+  pub state : State
+  pub regions : List Held
+  pub written : Option (List ℕ)
+  pub accounts : List (Option Account)
+  pub gone : List Gone
+
+-- of a session over a shelf, and kinds of these rules that were told so; no sink is told of
+abbrev pub moment_by : {I : Type 0} {V : I → Type 0} {D : Type 0} → ((x : I) × V x → Discipline) → List Rules → List Gone → Shelf I V → Session D I V → Moment
+moment_by meaning kinds gone shelf session =
+    record {
+      state = state_over meaning kinds shelf session;
+      regions = held_in meaning session;
+      written = None;
+      accounts = settled_over meaning shelf session;
+      gone = gone;
+    }
+
+-- of a session over a shelf and kinds
+abbrev pub moment : {I : Type 0} {V : I → Type 0} {D : Type 0} → ((x : I) × V x → Discipline) → (D → Rules) → (D → Gone) → Shelf I V → Session D I V → List D → Moment
+moment meaning rules gone shelf session kinds = moment_by meaning (rules_in rules kinds) (gone_in gone kinds) shelf session
+
+-- of a shelf over which no region is open, and kinds of these rules that were told so
+abbrev pub rest_by : {I : Type 0} {V : I → Type 0} → ((x : I) × V x → Discipline) → List Rules → List Gone → Shelf I V → Moment
+rest_by meaning kinds gone shelf =
+    record {
+      state = state_on meaning kinds shelf;
+      regions = [];
+      written = None;
+      accounts = accounts_on meaning shelf;
+      gone = gone;
+    }
+
+-- of a shelf over which no region is open, and kinds
+abbrev pub rest_of : {I : Type 0} {V : I → Type 0} {K : Type 0} → ((x : I) × V x → Discipline) → (K → Rules) → (K → Gone) → Shelf I V → List K → Moment
+rest_of meaning rules gone shelf kinds = rest_by meaning (rules_in rules kinds) (gone_in gone kinds) shelf
+
+-- the same over another sink
+abbrev pub over_sink : Moment → Option (List ℕ) → Moment
+over_sink m written = record m { written = written }
+
+-- the same once the kinds are told of what the session has at its end
+abbrev pub ended : Moment → Moment
+ended m = record m { gone = tell (ended_told m.state) m.gone }
+
+-- each place has its discipline, with the segments out and the terms that it had, and no fault less
+abbrev pub Keeps : Moment → Moment → Type 0
+Keeps before after = KeepsAccounts before.accounts after.accounts

@@ -1,0 +1,116 @@
+-- The state of a session: its shelf, its open regions, its kinds and its dictionaries.
+use Rattle.std.specs.Prelude.{ℕ, ◌-◌, List, [], ◌∷◌, ◌++◌, Option, Some, None, Bool, length, find, slice_set, if◌then◌else◌}
+use Rattle.std.specs.List.{list_any}
+use Rattle.std.specs.Str.{bytes_eq}
+use Rattle.vc_model.specs.Discipline.{Terms}
+use Rattle.vc_model.specs.Numbered.{at_number}
+use Rattle.vc_dtdisc.specs.Rules.{Rules}
+use Rattle.vc_objects.specs.Objects.{listed}
+use Rattle.vc_region.specs.Region.{Region, segments_of}
+use Rattle.vc_region.specs.Stat.{opened}
+use Rattle.vc_seg.specs.declared.method.Method.{Method}
+use Rattle.vc_script.specs.declared.reply.Reply.{Reply}
+use Rattle.vc_script.specs.declared.reply.Reply.TheVariants.{Opened, Closed, Refused}
+use Rattle.vc_script.specs.declared.refusal.Refusal.{Refusal}
+use Rattle.vc_script.specs.declared.refusal.Refusal.TheVariants as why
+use Rattle.vc_commands.specs.Kept.{Kept}
+use Rattle.vc_seg.specs.declared.shelf.ShelfPlace.{ShelfPlace}
+use Rattle.vc_seg.specs.declared.shelf.ShelfPlace.TheVariants.{Missing, Taken, Here}
+use Rattle.vc_script.specs.declared.refusal.Refusal.TheVariants.{NoSuchDiscipline, DisciplineInUse}
+use Rattle.vc_commands.specs.Home.{Changed, Home, Label, is_home}
+use Rattle.vc_views.specs.Views.{DictHome}
+
+-- for each place of the shelf the terms of the discipline that is here, None where it is taken; the regions in order of opening; the rules of each kind; and the dictionaries in order of opening
+pub record State : Type 0 where
+  pub shelf : List (Option Terms)
+  pub homes : List Home
+  pub kinds : List Rules
+  pub dicts : List DictHome
+
+-- what a step gives: the state after it, the reply, what was told to kinds (the kind's number and the object), and the segments that were granted, as number and bytes
+pub record Stepped : Type 0 where
+  pub state : State
+  pub reply : Reply
+  pub told : List (ℕ × List ℕ)
+  pub granted : List (ℕ × ℕ)
+
+-- a step that tells no kind and is granted no segment
+abbrev pub stepped : State → Reply → Stepped
+stepped s reply = record { state = s; reply = reply; told = []; granted = [] }
+
+-- a refusal changes nothing
+abbrev pub refused : State → Refusal → Stepped
+refused s why = stepped s (Refused why)
+
+abbrev pub home_named : List ℕ → List Home → Option Home
+home_named r homes = find (is_home r) homes
+
+-- a region is opened with a discipline of those terms
+abbrev pub opened_with : State → List ℕ → ℕ → Region Label → Terms → Stepped
+opened_with s r n region terms =
+    stepped
+    (record s {
+      shelf = slice_set s.shelf (n - 1) None;
+      homes = s.homes ++ record { name = r; place = n; terms = terms; region = region; kept = [] } ∷ [];
+    })
+    (Opened r)
+
+abbrev pub opened_over : State → List ℕ → ℕ → Region Label → Option (Option Terms) → Stepped
+opened_over s r n region None = refused s why.NoSuchDiscipline
+opened_over s r n region (Some None) = refused s why.DisciplineInUse
+opened_over s r n region (Some (Some terms)) = opened_with s r n region terms
+
+-- a region of that method is opened, unless one has the name or no discipline is at the place
+abbrev pub open_step : State → List ℕ → Method → ℕ → Stepped
+open_step s r method n =
+    if list_any (is_home r) s.homes then refused s why.RegionExists
+    else opened_over s r n (opened method) (at_number s.shelf n)
+
+-- the regions without the one of that name
+abbrev pub without_home : List ℕ → List Home → List Home
+without_home r [] = []
+without_home r (h ∷ hs) = if is_home r h then hs else h ∷ without_home r hs
+
+-- whether a dictionary lies in a region
+abbrev pub is_busy : State → List ℕ → Bool
+is_busy s r = list_any (λ d. bytes_eq d.home r) s.dicts
+
+-- what is done with a region in which no dictionary lies
+abbrev pub unless_busy : State → List ℕ → Stepped → Stepped
+unless_busy s r t = if is_busy s r then refused s why.Busy else t
+
+-- a region gives its segments back, and its discipline is at its place again
+abbrev pub closed : State → List ℕ → Home → Stepped
+closed s r h =
+    stepped
+    (record s { shelf = slice_set s.shelf (h.place - 1) (Some h.terms); homes = without_home r s.homes })
+    (Closed r (length (segments_of h.region)))
+
+abbrev pub close_home : State → List ℕ → Option Home → Stepped
+close_home s r None = refused s why.NoRegion
+close_home s r (Some h) = unless_busy s r (closed s r h)
+
+abbrev pub close_step : State → List ℕ → Stepped
+close_step s r = close_home s r (home_named r s.homes)
+
+-- the regions, with another one of that name, and the names that it keeps
+abbrev pub with_region : List ℕ → Region Label → Kept → List Home → List Home
+with_region r region kept [] = []
+with_region r region kept (h ∷ hs) =
+    if is_home r h then (record h { region = region; kept = kept }) ∷ hs else h ∷ with_region r region kept hs
+
+-- the state with the change of the region of that name
+abbrev pub changed : State → List ℕ → Changed → Stepped
+changed s r c =
+    record {
+      state = record s { homes = with_region r c.region c.kept s.homes };
+      reply = c.reply;
+      told = [];
+      granted = listed c.granted;
+    }
+
+-- why no discipline is taken from a place of the shelf
+abbrev pub not_here : ShelfPlace → Refusal
+not_here Missing = NoSuchDiscipline
+not_here Taken = DisciplineInUse
+not_here Here = DisciplineInUse

@@ -1,0 +1,96 @@
+// The commands on a dictionary.
+ghost use Rattle.std.specs.Prelude.{◌≡◌, Some, IfSome, true, false, slice_get};
+ghost use Rattle.vc_steps.specs.DictHomes.{dict_index};
+ghost use Rattle.vc_steps.specs.DictRuns.{RunsOn};
+ghost use Rattle.vc_steps.specs.Dicts.{dict_of, dict_step, runs_alone};
+ghost use Rattle.vc_views.specs.Numbers.{is_barred};
+ghost use Rattle.vc_steps.specs.Homes.{IsSessionOver};
+ghost use Rattle.vc_steps.specs.Moment.{moment};
+ghost use Rattle.vc_steps.specs.Steps.{Stays, StepsBy};
+
+use crate::session::Session;
+use vc_base::{Name, OutOfMemory};
+use vc_dtdisc::DictDisc;
+use vc_region::Region;
+use vc_script::{Command, Refusal, Reply};
+use vc_seg::{BoxedDisc, SegDisc, Shelf};
+use vc_views::{is_barred, is_look, show_names};
+
+impl<D: DictDisc> Session<D> {
+    // Runs a command on the dictionary of that name. With no memory its table may have grown.
+    pub(crate) fn run_on_dict(
+        &mut self,
+        shelf: &Shelf,
+        kinds: &mut Vec<D>,
+        name: &Name,
+        command: &Command,
+    ) -> Result<Reply, OutOfMemory>
+        requires session { IsSessionOver state D.rules shelf.now self.old kinds.old.items }
+        requires command { dict_of command.now ≡ Some name.now }
+        ensures steps { StepsBy result
+            (moment state D.rules D.gone shelf.now self.old kinds.old.items)
+            (moment state D.rules D.gone shelf.now self.new kinds.new.items)
+            command.now (λ s. dict_step s name.now command.now) }
+        ensures stays { Stays state D.rules shelf.now self.old kinds.old.items
+            shelf.now self.new kinds.new.items }
+    {
+        let Some(i) = self.dicts.get_index_of(name) else {
+            return Ok(Reply::Refused(Refusal::NoDictionary));
+        };
+        show_names(&self.dicts);
+        if is_barred(&self.paths, self.dicts[i].number, command) {
+            return Ok(Reply::Refused(Refusal::Viewed));
+        }
+        match command {
+            Command::Shut(_) => {
+                self.shut_at(shelf, kinds, i);
+                Ok(Reply::ShutDown(*name))
+            }
+            Command::View(_, viewed) => Ok(self.view_named(shelf, kinds, name, i, viewed)),
+            _ => {
+                if is_look(command) {
+                    self.look_at(shelf, kinds, name, i, command)
+                } else {
+                    self.run_at(shelf, kinds, name, i, command)
+                }
+            }
+        }
+    }
+
+    // Runs a command on the dictionary of that name and index, from 0 on, alone: it neither ends it, nor lets it view another
+    // one, nor looks through its path. It turns none that is viewed or views another one.
+    fn run_at(
+        &mut self,
+        shelf: &Shelf,
+        kinds: &mut Vec<D>,
+        name: &Name,
+        i: usize,
+        command: &Command,
+    ) -> Result<Reply, OutOfMemory>
+        requires session { IsSessionOver state D.rules shelf.now self.old kinds.old.items }
+        requires name { dict_of command.now ≡ Some name.now }
+        requires index { dict_index name.now self.old.dicts.entries ≡ Some i }
+        requires alone { runs_alone command.now ≡ true }
+        requires free { IfSome (slice_get self.old.dicts.entries i)
+            (λ e. is_barred self.old.paths e.1.number command.now ≡ false) }
+        ensures { RunsOn state D.rules D.gone shelf.now self.old kinds.old.items
+            self.new kinds.new.items name.now command.now result }
+    {
+        show_names(&self.dicts);
+        let entry = &self.dicts[i];
+        let Some(j) = self.homes.get_index_of(&entry.home) else {
+            unreachable!()
+        };
+        let k = entry.dict.kind as usize - 1;
+        let Region::Best(best) = &mut self.homes[j].region else {
+            unreachable!()
+        };
+        vc_commands::run(
+            self.alloc,
+            best,
+            &mut self.dicts[i].dict,
+            &mut kinds[k],
+            command,
+        )
+    }
+}

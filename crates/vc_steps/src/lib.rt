@@ -1,0 +1,14 @@
+//! One step of a session: a command on its open regions and dictionaries, over a shelf and kinds.
+#![tactic(auto)]
+
+mod close;
+mod dict_open;
+mod dict_run;
+mod dict_shut;
+mod dict_view;
+mod dicts;
+mod open;
+mod session;
+
+pub use session::{Session, dict_of, region_of};
+pub use vc_commands::{DictEntry, HomeEntry};

@@ -1,0 +1,286 @@
+// A session: its open regions and dictionaries, over a shelf.
+ghost use Rattle.std.specs.Prelude.{◌≡◌, ◌&&◌, [], List, None, Some, false, IfOk, OnErr, OnOk, IsTrue};
+ghost use Rattle.vc_dtdisc.specs.Rules.{Gone, Rules};
+ghost use Rattle.vc_steps.specs.Homes.{HoldsDicts, HoldsRegions, IsSessionOver, KeepsRegions, accounts_on, settled_over, state_over};
+ghost use Rattle.vc_steps.specs.DictHomes.{lies_in};
+ghost use Rattle.vc_steps.specs.Dicts.{dict_of};
+ghost use Rattle.vc_paths.specs.Links.{no_links};
+ghost use Rattle.vc_steps.specs.Moment.{moment, moment_by};
+ghost use Rattle.vc_steps.specs.Step.{is_clear, region_of, shelf_step, step, step_of};
+ghost use Rattle.vc_steps.specs.Steps.{Lasts, Stays, StepsBy};
+ghost use Rattle.vc_steps.specs.Told.{KeepRules, ended_told, gone_in, rules_in, tell};
+
+use indexmap::IndexMap;
+use std::alloc::Global;
+use std::marker::PhantomData;
+use vc_base::{Name, OutOfMemory};
+use vc_commands::{DictEntry, HomeEntry, Labels};
+use vc_dict::Paths;
+use vc_dtdisc::DictDisc;
+use vc_script::{Command, Refusal, Reply, Tool};
+use vc_seg::{BoxedDisc, SegDisc, Shelf};
+use vc_views::end_views;
+
+/// The region that a command works in, None where it names none.
+pub fn region_of(command: &Command) -> Option<Name>
+    ensures { result ≡ region_of command.now }
+{
+    match command {
+        Command::ClearRegion(name)
+        | Command::Compact(name)
+        | Command::Alloc(name, _, _, _)
+        | Command::Align(name, _, _, _)
+        | Command::Resize(name, _, _, _)
+        | Command::Free(name, _)
+        | Command::WriteBlock(name, _, _, _)
+        | Command::ReadBlock(name, _, _, _)
+        | Command::SizeOf(name, _)
+        | Command::AddrOf(name, _)
+        | Command::SegmentOf(name, _)
+        | Command::StatOf(name)
+        | Command::Segments(name)
+        | Command::Blocks(name)
+        | Command::Poke(name, _, _, _)
+        | Command::Check(name)
+        | Command::Watch(name, _)
+        | Command::ProfileOf(name) => Some(*name),
+        _ => None,
+    }
+}
+
+/// The dictionary that a command works on, None where it names none.
+pub fn dict_of(command: &Command) -> Option<Name>
+    ensures { result ≡ dict_of command.now }
+{
+    match command {
+        Command::Insert(name, _)
+        | Command::Append(name, _)
+        | Command::Attach(name, _)
+        | Command::Delete(name, _)
+        | Command::Detach(name, _)
+        | Command::Search(name, _)
+        | Command::MatchKey(name, _)
+        | Command::First(name)
+        | Command::Last(name)
+        | Command::Next(name, _)
+        | Command::Prev(name, _)
+        | Command::Walk(name)
+        | Command::Count(name)
+        | Command::View(name, _)
+        | Command::Remethod(name, _)
+        | Command::Empty(name)
+        | Command::Shut(name) => Some(*name),
+        _ => None,
+    }
+}
+
+/// The regions and dictionaries that a script has open, over a shelf and kinds. A step runs one command; at the end every
+/// dictionary is shut and every region closed.
+pub struct Session<D> {
+    /// The open regions by name, in order of opening.
+    pub homes: IndexMap<Name, HomeEntry>,
+    /// The dictionaries by name, in order of opening.
+    pub dicts: IndexMap<Name, DictEntry>,
+    /// Which dictionary views which, by their numbers.
+    pub paths: Paths,
+    // The names of the blocks of each, in the same order.
+    pub(crate) labels: Vec<Labels>,
+    pub(crate) alloc: Global,
+    pub(crate) is_spent: bool,
+    kind: PhantomData<D>,
+}
+
+impl<D> Drop for Session<D> {
+    fn drop(self) {
+        let Self {
+            homes: _,
+            dicts: _,
+            paths: _,
+            labels: _,
+            alloc: _,
+            is_spent: _,
+            kind: _,
+        } = self;
+    }
+}
+
+impl<D: DictDisc> Session<D> {
+    /// A session with no region, for a tool's commands. It stands over any shelf and any kinds.
+    pub fn new(alloc: Global, tool: Tool) -> Result<Session<D>, OutOfMemory>
+        ensures none { IfOk result (λ s. (s.homes.entries ≡ []) × (s.labels.items ≡ [])
+            × (s.dicts.entries ≡ []) × (s.paths ≡ no_links)) }
+        ensures memory { IfOk result (λ s. s.is_spent ≡ false) }
+    {
+        Session::over(alloc, tool, IndexMap::new(alloc))
+    }
+
+    /// The same, over an empty table of regions that its caller makes. The prover takes a call from another crate that is
+    /// given no discipline, and whose result could hold one, as making one; so functions that have a shelf call this one.
+    pub fn over(
+        alloc: Global,
+        tool: Tool,
+        homes: IndexMap<Name, HomeEntry>,
+    ) -> Result<Session<D>, OutOfMemory>
+        requires { homes.entries ≡ [] }
+        ensures none { IfOk result (λ s. (s.homes.entries ≡ []) × (s.labels.items ≡ [])
+            × (s.dicts.entries ≡ []) × (s.paths ≡ no_links)) }
+        ensures memory { IfOk result (λ s. s.is_spent ≡ false) }
+    {
+        let _ = tool;
+        Ok(Session {
+            homes,
+            dicts: IndexMap::new(alloc),
+            paths: Paths::new(alloc)?,
+            labels: Vec::new(alloc),
+            alloc,
+            is_spent: false,
+            kind: PhantomData,
+        })
+    }
+
+    // Runs a command that works on no dictionary and in no region that is open.
+    fn run_on_shelf(
+        &mut self,
+        shelf: &mut Shelf,
+        kinds: &Vec<D>,
+        command: &Command,
+    ) -> Result<Reply, OutOfMemory>
+        requires session { IsSessionOver state D.rules shelf.old self.old kinds.now.items }
+        requires dict { dict_of command.now ≡ None }
+        requires region { region_of command.now ≡ None }
+        ensures steps { StepsBy result
+            (moment state D.rules D.gone shelf.old self.old kinds.now.items)
+            (moment state D.rules D.gone shelf.new self.new kinds.now.items)
+            command.now (λ s. shelf_step s command.now) }
+        ensures stays { Stays state D.rules shelf.old self.old kinds.now.items
+            shelf.new self.new kinds.now.items }
+    {
+        match command {
+            Command::OpenRegion(name, method, n) => self.open_region(shelf, *name, *method, *n),
+            Command::CloseRegion(name) => Ok(self.close_named(shelf, name)),
+            Command::OpenDict(name, method, region, kind) => {
+                self.open_dict(shelf, kinds, *name, *method, *region, *kind)
+            }
+            _ => Ok(Reply::Refused(Refusal::NoRegion)),
+        }
+    }
+
+    // Whether a command clears the region of that name, and a dictionary lies in it.
+    fn clears_busy(&self, name: &Name, command: &Command) -> bool
+        ensures { result ≡ (is_clear command.now && lies_in name.now self.now.dicts.entries) }
+    {
+        matches!(command, Command::ClearRegion(_)) && self.is_busy(name)
+    }
+
+    // Runs a command in the region of that name.
+    fn run_in_region(
+        &mut self,
+        shelf: &Shelf,
+        name: &Name,
+        line: u32,
+        command: &Command,
+    ) -> Result<Reply, OutOfMemory>
+        requires regions { HoldsRegions state shelf.now self.old }
+        requires dict { dict_of command.now ≡ None }
+        requires region { region_of command.now ≡ Some name.now }
+        ensures steps { (kinds : List Rules) (gone : List Gone) → HoldsDicts state kinds self.old
+            → StepsBy result
+            (moment_by state kinds gone shelf.now self.old)
+            (moment_by state kinds gone shelf.now self.new)
+            command.now (λ s need. step_of s line command.now need (Some name.now)) }
+        ensures regions { KeepsRegions state self.old shelf.now self.new }
+    {
+        let Some(i) = self.homes.get_index_of(name) else {
+            return Ok(Reply::Refused(Refusal::NoRegion));
+        };
+        if self.clears_busy(name, command) {
+            return Ok(Reply::Refused(Refusal::Busy));
+        }
+        self.homes[i].run(self.alloc, &mut self.labels[i], line, command)
+    }
+
+    // Runs one command. With no memory the state stays, but that a table may have grown.
+    fn run_command(
+        &mut self,
+        shelf: &mut Shelf,
+        kinds: &mut Vec<D>,
+        line: u32,
+        command: &Command,
+    ) -> Result<Reply, OutOfMemory>
+        requires { IsSessionOver state D.rules shelf.old self.old kinds.old.items }
+        ensures steps { StepsBy result
+            (moment state D.rules D.gone shelf.old self.old kinds.old.items)
+            (moment state D.rules D.gone shelf.new self.new kinds.new.items)
+            command.now (λ s. step s line command.now) }
+        ensures stays { Stays state D.rules shelf.old self.old kinds.old.items
+            shelf.new self.new kinds.new.items }
+    {
+        if let Some(name) = dict_of(command) {
+            return self.run_on_dict(shelf, kinds, &name, command);
+        }
+        match region_of(command) {
+            None => self.run_on_shelf(shelf, kinds, command),
+            Some(name) => self.run_in_region(shelf, &name, line, command),
+        }
+    }
+
+    /// Runs the command of a line, numbered from 1 on, and answers its reply. A refusal changes nothing, save that the
+    /// larger table of a set or bag stays where the holder of an object is refused. With no memory nothing changes, save
+    /// that such a table may have grown, and every later step answers `OutOfMemory` as well.
+    pub fn step(
+        &mut self,
+        shelf: &mut Shelf,
+        kinds: &mut Vec<D>,
+        line: u32,
+        command: &Command,
+    ) -> Result<Reply, OutOfMemory>
+        requires { IsSessionOver state D.rules shelf.old self.old kinds.old.items }
+        ensures steps { StepsBy result
+            (moment state D.rules D.gone shelf.old self.old kinds.old.items)
+            (moment state D.rules D.gone shelf.new self.new kinds.new.items)
+            command.now (λ s. step s line command.now) }
+        ensures lasts { Lasts state D.rules shelf.old self.old kinds.old.items
+            shelf.new self.new kinds.new.items }
+        ensures spent { IsTrue self.old.is_spent → OnOk result ⊥ }
+        ensures stays_spent { OnErr result (IsTrue self.new.is_spent) }
+        ensures not_spent { OnOk result (self.new.is_spent ≡ false) }
+    {
+        if self.is_spent {
+            return Err(OutOfMemory);
+        }
+        match self.run_command(shelf, kinds, line, command) {
+            Ok(reply) => Ok(reply),
+            Err(_) => {
+                self.is_spent = true;
+                Err(OutOfMemory)
+            }
+        }
+    }
+
+    // Closes every region of a session in which no dictionary is left, in order of opening.
+    fn close_all(&mut self, shelf: &mut Shelf)
+        requires session { HoldsRegions state shelf.old self.old }
+        requires none { self.old.dicts.entries ≡ [] }
+        ensures { accounts_on state shelf.new ≡ settled_over state shelf.old self.old }
+    {
+        while !self.homes.is_empty() {
+            let _ = self.close_at(shelf, 0);
+        }
+    }
+
+    /// Ends every view, shuts every dictionary and closes every region, and gives each discipline back to its place. It cannot fail. Both
+    /// go in order of opening; the kinds are told of all objects, and each region gives its segments back in ascending order of number.
+    pub fn end(self, shelf: &mut Shelf, kinds: &mut Vec<D>)
+        requires { IsSessionOver state D.rules shelf.old self kinds.old.items }
+        ensures shelf { accounts_on state shelf.new ≡ settled_over state shelf.old self }
+        ensures gone { gone_in D.gone kinds.new.items ≡ tell
+            (ended_told (state_over state (rules_in D.rules kinds.old.items) shelf.old self))
+            (gone_in D.gone kinds.old.items) }
+        ensures rules { KeepRules D.rules kinds.old.items kinds.new.items }
+    {
+        let mut rest = self;
+        end_views(&mut rest.paths);
+        rest.shut_all(shelf, kinds);
+        rest.close_all(shelf);
+    }
+}
