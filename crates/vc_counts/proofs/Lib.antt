@@ -1,0 +1,12 @@
+pub mod Alone
+pub mod CallLends
+pub mod CommandLends
+pub mod Counted
+pub mod Counting
+pub mod DictLends
+pub mod Found
+pub mod Lending
+pub mod RegionLends
+pub mod Sums
+pub mod Tallies
+pub mod Works

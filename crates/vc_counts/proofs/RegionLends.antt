@@ -1,0 +1,139 @@
+-- What a call of a region lends: the segment that it is granted stands behind those there.
+use Rattle.std.proofs.Common.{◌≡◌, ℕ, Bool, true, false, cond, List, [], ◌∷◌, ◌++◌, Option, Some, None, refl, sym}
+use Rattle.std.specs.Prelude.{nat_lt}
+use Rattle.std.proofs.lemmas.List.{append-nil}
+use Rattle.vc_model.specs.Best.{best_alloc, best_need, place_in, put, put_in_new, put_or_ask}
+use Rattle.vc_model.specs.Discipline.{Terms}
+use Rattle.vc_model.specs.Last.{can_end, if_latest, last_alloc, last_need, last_place, put_in_newest, put_or_lend, resize_latest}
+use Rattle.vc_model.specs.Layout.{Block, Layout, is_at, with_segment}
+use Rattle.vc_model.specs.Outcome.{Fixed, NotLast, PoolSize, Outcome, Done, Put, Refused, outcome_as}
+use Rattle.vc_model.specs.Pool.{Pool, cell_for, element_with, pool_alloc, pool_need, pool_resize, put_asked, put_carving, put_free, uncarved}
+use Rattle.vc_model.specs.Resize.{best_resize, can_stay, moved, resize_found, stays}
+use Rattle.vc_model.specs.Segments.{Asked, Granted, TooMany, NotLent, ask}
+use Rattle.vc_model.specs.Touch.{find_block}
+use Rattle.vc_audit.specs.Debug.{guarded, outcome_by, resized}
+use Rattle.vc_audit.specs.Profile.{profile_after}
+use Rattle.vc_objects.specs.Objects.{listed}
+use Rattle.vc_region.specs.Region.{OfBest, OfPool, OfLast, OfDebug, OfProfile, Region, segments_of}
+
+pub either : {A : Type 0} (P : A → Type 0) (t : Bool) (a b : A) → P a → P b → P (cond t a b)
+either P true a b p q = p
+either P false a b p q = q
+
+-- the segment that was granted for a block stands behind these, in what the region is then
+abbrev pub PutsBy : {R : Type 0} → (R → List (ℕ × ℕ)) → List (ℕ × ℕ) → Outcome (Put R) → Type 0
+PutsBy of segments (Done p) = of p.region ≡ segments ++ listed p.granted
+PutsBy of segments (Refused why) = Unit {0}
+
+abbrev pub Puts : {L : Type 0} → List (ℕ × ℕ) → Outcome (Put (Layout L)) → Type 0
+Puts segments o = PutsBy (λ r. r.segments) segments o
+
+abbrev pub PutsCell : {L : Type 0} → List (ℕ × ℕ) → Outcome (Put (Pool L)) → Type 0
+PutsCell segments o = PutsBy (λ p. p.layout.segments) segments o
+
+abbrev pub PutsIn : {L : Type 0} → List (ℕ × ℕ) → Outcome (Put (Region L)) → Type 0
+PutsIn segments o = PutsBy segments_of segments o
+
+module _ {L : Type 0} where
+  puts-new : (r : Layout L) (s : ℕ × ℕ) (label : L) (size : ℕ) (o : Option (ℕ × ℕ)) → Puts r.segments (put (with_segment r s) label size (Some s) o)
+  puts-new r s label size None = tt
+  puts-new r s label size (Some at) = refl
+
+  puts-asked : (r : Layout L) (label : L) (size align : ℕ) (a : Asked) → Puts r.segments (put_in_new r label size align a)
+  puts-asked r label size align (Granted n b) = puts-new r (n, b) label size (place_in (with_segment r (n, b)) size align)
+  puts-asked r label size align TooMany = tt
+  puts-asked r label size align NotLent = tt
+
+  puts-placed : (terms : Terms) (r : Layout L) (label : L) (size align : ℕ) (refused : Bool) (o : Option (ℕ × ℕ)) → Puts r.segments (put_or_ask terms r label size align refused o)
+  puts-placed terms r label size align refused (Some at) = sym (append-nil r.segments)
+  puts-placed terms r label size align refused None = puts-asked r label size align (ask (best_need terms size align) r.segments refused)
+
+  pub puts-best : (terms : Terms) (r : Layout L) (label : L) (size align : ℕ) (refused : Bool) → Puts r.segments (best_alloc terms r label size align refused)
+  puts-best terms r label size align refused = puts-placed terms r label size align refused (place_in r size align)
+
+  puts-moved : (segments : List (ℕ × ℕ)) (size : ℕ) (b : Block L) (o : Outcome (Put (Layout L))) → Puts segments o → Puts segments (moved size b o)
+  puts-moved segments size b (Done p) h = h
+  puts-moved segments size b (Refused why) h = tt
+
+  puts-stay : (r : Layout L) (size : ℕ) (b : Block L) → Puts r.segments (stays r size b)
+  puts-stay r size b = sym (append-nil r.segments)
+
+  -- a block stays, or moves where it may
+  puts-resized : (r : Layout L) (size : ℕ) (b : Block L) (stay move : Bool) (o : Outcome (Put (Layout L))) → Puts r.segments o → Puts r.segments (cond stay (stays r size b) (cond move (moved size b o) (Refused Fixed)))
+  puts-resized r size b stay move o h =
+      either (Puts r.segments) stay (stays r size b) (cond move (moved size b o) (Refused Fixed)) (puts-stay r size b)
+      (either (Puts r.segments) move (moved size b o) (Refused Fixed) (puts-moved r.segments size b o h) tt)
+
+  puts-found : (terms : Terms) (r : Layout L) (size : ℕ) (may_move refused : Bool) (o : Option (Block L)) → Puts r.segments (resize_found terms r size may_move refused o)
+  puts-found terms r size may_move refused None = tt
+  puts-found terms r size may_move refused (Some b) =
+      puts-resized r size b (can_stay r size b) may_move (best_alloc terms r b.label size 32 refused) (puts-best terms r b.label size 32 refused)
+
+  pub puts-resize : (terms : Terms) (r : Layout L) (at : ℕ × ℕ) (size : ℕ) (may_move refused : Bool) → Puts r.segments (best_resize terms r at size may_move refused)
+  puts-resize terms r at size may_move refused = puts-found terms r size may_move refused (find_block at r.blocks)
+
+  puts-lent : (r : Layout L) (label : L) (size : ℕ) (a : Asked) → Puts r.segments (put_in_newest r label size a)
+  puts-lent r label size (Granted n b) = refl
+  puts-lent r label size TooMany = tt
+  puts-lent r label size NotLent = tt
+
+  puts-behind : (terms : Terms) (r : Layout L) (label : L) (size : ℕ) (refused : Bool) (o : Option (ℕ × ℕ)) → Puts r.segments (put_or_lend terms r label size refused o)
+  puts-behind terms r label size refused (Some at) = sym (append-nil r.segments)
+  puts-behind terms r label size refused None = puts-lent r label size (ask (last_need terms size) r.segments refused)
+
+  pub puts-last : (terms : Terms) (r : Layout L) (label : L) (size : ℕ) (refused : Bool) → Puts r.segments (last_alloc terms r label size refused)
+  puts-last terms r label size refused = puts-behind terms r label size refused (last_place r size)
+
+  pub puts-latest : (terms : Terms) (r : Layout L) (at : ℕ × ℕ) (size : ℕ) (may_move refused : Bool) (o : Option (Block L)) → Puts r.segments (if_latest at (resize_latest terms r size may_move refused) o)
+  puts-latest terms r at size may_move refused None = tt
+  puts-latest terms r at size may_move refused (Some b) =
+      either (Puts r.segments) (is_at at b) (resize_latest terms r size may_move refused b) (Refused NotLast)
+      (puts-resized r size b (can_end r size b) may_move (last_alloc terms r b.label size refused) (puts-last terms r b.label size refused)) tt
+
+  puts-cell : (p : Pool L) (label : L) (size : ℕ) (a : Asked) → PutsCell p.layout.segments (put_asked p label size a)
+  puts-cell p label size (Granted n b) = refl
+  puts-cell p label size TooMany = tt
+  puts-cell p label size NotLent = tt
+
+  puts-carved : (terms : Terms) (p : Pool L) (label : L) (size : ℕ) (refused : Bool) (o : Option (ℕ × ℕ)) → PutsCell p.layout.segments (put_carving terms p label size refused o)
+  puts-carved terms p label size refused (Some at) = sym (append-nil p.layout.segments)
+  puts-carved terms p label size refused None = puts-cell p label size (ask (pool_need terms p size) p.layout.segments refused)
+
+  puts-free : (terms : Terms) (p : Pool L) (label : L) (size : ℕ) (refused : Bool) (freed : List (ℕ × ℕ)) → PutsCell p.layout.segments (put_free terms p label size refused freed)
+  puts-free terms p label size refused (at ∷ freed) = sym (append-nil p.layout.segments)
+  puts-free terms p label size refused [] =
+      puts-carved terms p label size refused (uncarved (cell_for (element_with p size)) p.carved p.layout.segments)
+
+  pub puts-pool : (terms : Terms) (p : Pool L) (label : L) (size : ℕ) (refused : Bool) → PutsCell p.layout.segments (pool_alloc terms p label size refused)
+  puts-pool terms p label size refused =
+      either (PutsCell p.layout.segments) (nat_lt (element_with p size) size) (Refused PoolSize) (put_free terms p label size refused p.freed) tt
+      (puts-free terms p label size refused p.freed)
+
+  pub puts-sized : (p : Pool L) (at : ℕ × ℕ) (size : ℕ) → PutsCell p.layout.segments (pool_resize p at size)
+  puts-sized p at size =
+      either (PutsCell p.layout.segments) (nat_lt (element_with p size) size) (Refused PoolSize) _ tt (sym (append-nil p.layout.segments))
+
+  -- each form of a region has the segments of its lists
+  pub in-best : (segments : List (ℕ × ℕ)) (o : Outcome (Put (Layout L))) → Puts segments o → PutsIn segments (outcome_as OfBest o)
+  in-best segments (Done p) h = h
+  in-best segments (Refused why) h = tt
+
+  pub in-pool : (segments : List (ℕ × ℕ)) (o : Outcome (Put (Pool L))) → PutsCell segments o → PutsIn segments (outcome_as OfPool o)
+  in-pool segments (Done p) h = h
+  in-pool segments (Refused why) h = tt
+
+  pub in-last : (segments : List (ℕ × ℕ)) (o : Outcome (Put (Layout L))) → Puts segments o → PutsIn segments (outcome_as OfLast o)
+  in-last segments (Done p) h = h
+  in-last segments (Refused why) h = tt
+
+  pub in-guards : (segments marks : List (ℕ × ℕ)) (size : ℕ) (o : Outcome (Put (Layout L))) → Puts segments o → PutsIn segments (outcome_as OfDebug (outcome_by (guarded marks size) o))
+  in-guards segments marks size (Done p) h = h
+  in-guards segments marks size (Refused why) h = tt
+
+  pub in-resized : (segments marks : List (ℕ × ℕ)) (at : ℕ × ℕ) (kept size : ℕ) (o : Outcome (Put (Layout L))) → Puts segments o → PutsIn segments (outcome_as OfDebug (outcome_by (resized marks at kept size) o))
+  in-resized segments marks at kept size (Done p) h = h
+  in-resized segments marks at kept size (Refused why) h = tt
+
+  pub in-profile : (segments : List (ℕ × ℕ)) (peaks : List (List ℕ × ℕ)) (o : Outcome (Put (Layout (L × List ℕ)))) → Puts segments o → PutsIn segments (outcome_as OfProfile (outcome_as (profile_after peaks) o))
+  in-profile segments peaks (Done p) h = h
+  in-profile segments peaks (Refused why) h = tt

@@ -1,0 +1,10 @@
+//! What a run counts: the commands that are done and those that are refused, the segments that are lent, and how many
+//! bytes the blocks have at most.
+#![tactic(auto)]
+
+mod counts;
+mod step;
+mod tally;
+
+pub use counts::Counts;
+pub use step::counted_step;
