@@ -1,10 +1,11 @@
 //! Runs a script over regions and the dictionaries in them, from standard input to standard output.
 #![tactic(auto)]
 
-ghost use Rattle.std.specs.Prelude.{◌≡◌, ◌<◌, length, map, vec_len};
+ghost use Rattle.std.specs.Prelude.{◌≡◌, None, map, string_bytes, vec_len};
 ghost use Rattle.std.specs.Process.{exit_status};
 ghost use Rattle.vc_main.specs.Places.{shapes};
 ghost use Rattle.vc_session.specs.Status.{number};
+ghost use Rattle.vc_words.specs.Words as asked;
 
 use std::alloc::Global;
 use std::io::{Stderr, Stdin, Stdout};
@@ -34,7 +35,8 @@ fn run(
 ) -> Status
     requires places { vec_len shelf.old.slots ≡ 16 }
     requires kinds { map (λ kind. kind.shape) kinds.old.items ≡ shapes }
-    ensures words { 0 < length words.now → (source.new ≡ source.old) × (out.new ≡ out.old) }
+    ensures refused_words { asked.words_of (map string_bytes words.now) ≡ None
+        → (source.new ≡ source.old) × (out.new ≡ out.old) }
     ensures quiet { result ≡ Status.Ok → err.new ≡ err.old }
 {
     dtrun(alloc, words, shelf, kinds, source, out, err)

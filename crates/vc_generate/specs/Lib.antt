@@ -5,3 +5,4 @@ pub mod Generated
 pub mod Next
 pub mod Pairs
 pub mod ToCome
+pub mod Four

@@ -7,6 +7,7 @@ ghost use Rattle.vc_script.specs.Proper.{IsProperCommand};
 ghost use Rattle.vc_script.specs.declared.command.Command.TheVariants as command;
 ghost use Rattle.vc_script.specs.declared.tool.Tool.{Tool};
 ghost use Rattle.vc_script.specs.declared.tool.Tool.TheVariants.{Dtrun, Vmreplay};
+ghost use Rattle.vc_generate.specs.Four.{four_on_blocks, four_on_objects};
 ghost use Rattle.vc_generate.specs.Generated.{generated};
 ghost use Rattle.vc_generate.specs.Pairs.{are_paired};
 ghost use Rattle.vc_generate.specs.Words.{words_of};
@@ -85,4 +86,10 @@ pub fn generated_objects()
         ∷ command.Delete (codes "d") (Some (codes "k340"))
         ∷ command.Shut (codes "d")
         ∷ command.CloseRegion (codes "r") ∷ [] }
+{}
+
+/// The commands of the first four words of seed 42.
+pub fn generated_fours()
+    ensures blocks { generated Vmreplay 4 42 ≡ four_on_blocks }
+    ensures objects { generated Dtrun 4 42 ≡ four_on_objects }
 {}

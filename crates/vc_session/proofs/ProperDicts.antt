@@ -5,13 +5,13 @@ use Rattle.vc_model.specs.Discipline.{Terms}
 use Rattle.vc_model.specs.Outcome as model
 use Rattle.vc_model.specs.Outcome.{Outcome, Done, done_as}
 use Rattle.vc_base.specs.Methods.{is_list}
+use Rattle.vc_dtdisc.specs.Objects.{Object, bytes_of, first_with}
 use Rattle.vc_dtdisc.specs.Rules.{Rules}
 use Rattle.vc_model.specs.Layout.{Layout, relabel_layout}
 use Rattle.vc_region.specs.Region.{OfBest, Region, layout_in}
 use Rattle.vc_region.proofs.Relabel.{layout-relabelled}
 use Rattle.vc_objects.specs.Insert.{Grown, insert, open_dictionary}
-use Rattle.vc_objects.specs.Lists.{first_with}
-use Rattle.vc_objects.specs.Objects.{Dictionary, Object}
+use Rattle.vc_objects.specs.Objects.{Dictionary}
 use Rattle.vc_objects.specs.Remove.{region_without, remove_found, unnamed}
 use Rattle.vc_objects.specs.Turn.{Turned, turn}
 use Rattle.vc_objects.specs.declared.fate.Fate.{Fate}
@@ -71,7 +71,7 @@ module _ (s : Seat Label) where
 
   good-remove : (tells : Bool) (bytes : List ℕ) → IsGood (remove_in s tells bytes)
   good-remove tells bytes =
-      let found = first_with s.rules (s.rules.key bytes) s.dict.objects in
+      let found = first_with bytes_of s.rules (s.rules.key bytes) s.dict.objects in
       good-object bytes (removed_as tells (remove_found s.region s.dict found)) (good-removed tells found)
 
   good-delete : (object : Option (List ℕ)) → IsGood (delete_in s object)

@@ -30,16 +30,16 @@ use Rattle.vc_script.specs.Proper.{IsName, IsProperCommand, IsSite}
 use Rattle.vc_script.specs.ProperReply.{IsProperReply, is_row_site}
 use Rattle.vc_script.specs.Words.{is_name}
 use Rattle.vc_commands.specs.Home.{Changed, Home, Label, changed_to, is_home, told, unchanged}
-use Rattle.vc_session.specs.State.{State, Stepped, changed, close_home, closed, is_busy, unless_busy, home_named, opened_over, refused, with_region, without_home}
+use Rattle.vc_steps.specs.State.{State, Stepped, changed, close_home, closed, is_busy, unless_busy, home_named, opened_over, refused, with_region, without_home}
 use Rattle.vc_views.specs.Views.{DictHome, dict_named, is_dict, is_linked_in, is_viewed_in, seen_through}
 use Rattle.vc_commands.specs.Looking.{is_look}
-use Rattle.vc_session.proofs.ViewReplies.{look-any, some-map, view-any}
+use Rattle.vc_steps.proofs.ViewReplies.{look-any, some-map, view-any}
 use Rattle.vc_commands.specs.Blocks.{freed, free_block, has_label, has_room, is_align, is_block, is_size, kept_freed, no_block, align_refused, put_by, site_of, size_refused, put_in, put_new, read_block, resize_block, with_named, write_block}
 use Rattle.vc_commands.specs.Whole.{addr_reply, item_of, kept_cleared, segment_reply, with_label, with_labels}
 use Rattle.vc_commands.specs.Kept.{Kept, by_name, line_of, with_line, without_name}
-use Rattle.vc_session.specs.Step.{cleared_or, region_of, region_step, shelf_step, step, step_of, step_on}
+use Rattle.vc_steps.specs.Step.{cleared_or, region_of, region_step, shelf_step, step, step_of, step_on}
 use Rattle.vc_commands.specs.RegionCommands.{in_region, is_for_block}
-use Rattle.vc_session.specs.Dicts.{dict_changed, dict_command, dict_of, dict_opened, dict_refused, dict_shut, look_step, on_found, on_seat, open_dict_in, open_dict_unless, seat_of, shut_in, view_set}
+use Rattle.vc_steps.specs.Dicts.{dict_changed, dict_command, dict_of, dict_opened, dict_refused, dict_shut, look_step, on_found, on_seat, open_dict_in, open_dict_unless, seat_of, shut_in, view_set}
 use Rattle.vc_session.proofs.ProperDicts.{IsProperGrown, proper-best, proper-in_dict, proper-layout, proper-open, proper-region_without}
 use Rattle.std.proofs.lemmas.Slice.Eq.{bytes_eq-Decides}
 use Rattle.vc_base.specs.declared.dict_method.DictMethod.{DictMethod}
@@ -329,7 +329,7 @@ homes-cond false a b p q = q
 proper-with_region : (r : List ℕ) (region : Region Label) (kept : Kept) (homes : List Home) → IsProperRegion region → AreProperNames kept → HasProperSites region → AreProperHomes homes → AreProperHomes (with_region r region kept homes)
 proper-with_region r region kept [] here names sites all = tt
 proper-with_region r region kept (h ∷ hs) here names sites all =
-    homes-cond (is_home r h) ((record h { region = region; kept = kept }) ∷ hs) (h ∷ with_region r region kept hs) ((here, names, sites), all.1) (all.0, proper-with_region r region kept hs here names sites all.1)
+    homes-cond (is_home r h) ((record h { region = region; kept = kept }) ∷ hs) (h ∷ with_region r region kept hs) ((here, names, sites, all.0.3), all.1) (all.0, proper-with_region r region kept hs here names sites all.1)
 
 proper-without_home : (r : List ℕ) (homes : List Home) → AreProperHomes homes → AreProperHomes (without_home r homes)
 proper-without_home r [] all = tt
@@ -358,7 +358,7 @@ proper-opened_over : (s : State) (r : List ℕ) (n : ℕ) (region : Region Label
 proper-opened_over s r n region None name here sites all = (tt, all)
 proper-opened_over s r n region (Some None) name here sites all = (tt, all)
 proper-opened_over s r n region (Some (Some terms)) name here sites all =
-    (name, proper-home_push s.homes (record { name = r; place = n; terms = terms; region = region; kept = [] }) all (here, tt, sites))
+    (name, proper-home_push s.homes (record { name = r; place = n; terms = terms; region = region; kept = [] }) all (here, tt, sites, name))
 
 -- a region that is opened has no labels
 proper-new : (method : Method) → IsProperRegion (opened method)

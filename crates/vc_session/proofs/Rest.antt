@@ -1,5 +1,5 @@
 -- A run from a session in which nothing is open to the session's end.
-use Rattle.std.proofs.Common.{◌≡◌, zero, suc, refl, ℕ, List, [], Option, Some, None, Result, Ok, Err, IfOk, length, map, sym, ap, ◌∙◌, subst}
+use Rattle.std.proofs.Common.{◌≡◌, zero, suc, refl, ℕ, Bool, List, [], ◌∷◌, Option, Some, None, Result, Ok, Err, IfOk, length, map, sym, ap, ◌∙◌, subst}
 use Rattle.std.specs.Prelude.{IfErr, IfSome, replicate, slice_get}
 use Rattle.std.proofs.lemmas.Option.{none-some}
 use Rattle.std.specs.List.{AllByRecursion, zip}
@@ -10,21 +10,26 @@ use Rattle.vc_script.specs.declared.command.Command.{Command}
 use Rattle.vc_script.specs.declared.line_fault.LineFault.{LineFault}
 use Rattle.vc_script.specs.declared.tool.Tool.{Tool}
 use Rattle.vc_commands.specs.Held.{Held, home_of}
-use Rattle.vc_session.specs.Account.{IsSession, Settles, accounts, settled, state_of}
+use Rattle.vc_steps.specs.Account.{IsSession, Settles, accounts, settled, state_of}
 use Rattle.vc_paths.specs.Links.{link_at, no_links, numbers}
 use Rattle.vc_views.specs.Numbers.{AreLinked, views_by}
-use Rattle.vc_session.specs.DictHomes.{AreDicts, dicts_in}
-use Rattle.vc_session.specs.Homes.{held_entry, held_in, slots_on}
-use Rattle.vc_session.specs.Moment.{Moment, moment, over_sink, rest_of}
+use Rattle.vc_steps.specs.DictHomes.{AreDicts, dicts_in}
+use Rattle.vc_steps.specs.Homes.{held_entry, held_in, slots_on}
+use Rattle.vc_steps.specs.Moment.{Moment, moment, over_sink, rest_by, rest_of}
 use Rattle.vc_session.specs.ProperState.{IsProperHome, IsProperOver}
-use Rattle.vc_session.specs.Replay.{IsCutShort, IsReplay, IsRun, Told, run_by}
+use Rattle.vc_session.specs.Replay.{IsCutShort, IsGenerated, IsReplay, IsRun, Told, run_by}
 use Rattle.vc_session.specs.Engine.{RunsScript}
-use Rattle.vc_session.specs.Streams.{Flows}
+use Rattle.vc_session.specs.Run.{Ran}
+use Rattle.vc_session.specs.Headline.{Headline}
+use Rattle.vc_session.specs.declared.status.Status.{Status}
+use Rattle.vc_session.specs.Streams.{Flows, Streams}
+use Rattle.vc_session.specs.Text.{is_quiet}
+use Rattle.vc_words.specs.declared.words.Words.{Words}
 use Rattle.vc_session.specs.declared.engine.Stop.{Stop}
 use Rattle.vc_session.specs.declared.engine.Stop.TheVariants.{Read}
-use Rattle.vc_session.specs.Told.{gone_in, rules_in}
+use Rattle.vc_steps.specs.Told.{gone_in, rules_in}
 use Rattle.vc_commands.specs.declared.dict.entry.DictEntry.{DictEntry}
-use Rattle.vc_session.specs.declared.session.Session.{Session}
+use Rattle.vc_steps.specs.declared.session.Session.{Session}
 
 -- from the moment of a run's last line to the one behind its session's end
 pub record Rests (now after : Moment) : Type 0 where
@@ -33,20 +38,23 @@ pub record Rests (now after : Moment) : Type 0 where
   pub gone : after.gone ≡ now.gone
 
 module _ {before now after : Moment} (rests : Rests now after) where
-  pub run-rest : {commands : List (ℕ × Command)} → IsRun before now commands → IsRun before after commands
-  run-rest {commands} r =
+  pub run-rest : {quiet : Bool} {said : Ran → List ℕ} {commands : List (ℕ × Command)} → IsRun quiet said before now commands → IsRun quiet said before after commands
+  run-rest {quiet} {said} {commands} r =
       record {
         written = r.written;
         text = r.text;
         told = subst (λ w. Told before.written w r.written) (sym rests.written) r.told;
-        settles = subst (λ s. Settles before.accounts s (run_by before commands r.written).refusals) (sym rests.accounts) r.settles;
+        settles = subst (λ s. Settles before.accounts s (run_by quiet before commands r.written).refusals) (sym rests.accounts) r.settles;
         gone = rests.gone ∙ r.gone;
       }
 
-  pub replay-rest : {tool : Tool} {input : List ℕ} {bad : Option (ℕ × LineFault)} {left : Option (List ℕ)} → IsReplay tool before now input bad left → IsReplay tool before after input bad left
+  pub generated-rest : {tool : Tool} {w : Words} {n : ℕ} → IsGenerated tool w n before now → IsGenerated tool w n before after
+  generated-rest r = record { run = run-rest r.run }
+
+  pub replay-rest : {tool : Tool} {w : Words} {input : List ℕ} {bad : Option (ℕ × LineFault)} {left : Option (List ℕ)} → IsReplay tool w before now input bad left → IsReplay tool w before after input bad left
   replay-rest r = record { first = r.first; stops = r.stops; run = run-rest r.run }
 
-  pub cut_short-rest : {tool : Tool} {input : List ℕ} {left : Option (List ℕ)} → IsCutShort tool before now input left → IsCutShort tool before after input left
+  pub cut_short-rest : {tool : Tool} {quiet : Bool} {input : List ℕ} {left : Option (List ℕ)} → IsCutShort tool quiet before now input left → IsCutShort tool quiet before after input left
   cut_short-rest r = record {
     bytes = r.bytes;
     rest = r.rest;
@@ -69,17 +77,17 @@ ok-each (Ok x) P Q f p = f x p
 ok-each (Err e) P Q f p = tt
 
 -- what a run of a script promises at its last line it promises behind its session's end, from the same start
-pub runs-rest : (tool : Tool) (start before now after : Moment) (old new : Flows) (answer : Result (Option (ℕ × LineFault)) Stop) → start ≡ before → ((written : Option (List ℕ)) → Rests (over_sink now written) (over_sink after written)) → RunsScript tool answer start now old new → RunsScript tool answer before after old new
-runs-rest tool start before now after old new answer same rests r =
+pub runs-rest : (tool : Tool) (w : Words) (start before now after : Moment) (old new : Flows) (answer : Result (Option (ℕ × LineFault)) Stop) → start ≡ before → ((written : Option (List ℕ)) → Rests (over_sink now written) (over_sink after written)) → RunsScript tool w answer start now old new → RunsScript tool w answer before after old new
+runs-rest tool w start before now after old new answer same rests r =
     record {
       replay =
-          ok-each answer (λ bad. IfSome old.left (λ input. IsReplay tool (over_sink start old.written) (over_sink now new.written) input bad new.left)) (λ bad. IfSome old.left (λ input. IsReplay tool (over_sink before old.written) (over_sink after new.written) input bad new.left))
-          (λ bad. some-each old.left (λ input. IsReplay tool (over_sink start old.written) (over_sink now new.written) input bad new.left) (λ input. IsReplay tool (over_sink before old.written) (over_sink after new.written) input bad new.left)
-          (λ input ran. subst (λ m. IsReplay tool (over_sink m old.written) (over_sink after new.written) input bad new.left) same (replay-rest (rests new.written) ran))) r.replay;
+          ok-each answer (λ bad. IfSome old.left (λ input. IsReplay tool w (over_sink start old.written) (over_sink now new.written) input bad new.left)) (λ bad. IfSome old.left (λ input. IsReplay tool w (over_sink before old.written) (over_sink after new.written) input bad new.left))
+          (λ bad. some-each old.left (λ input. IsReplay tool w (over_sink start old.written) (over_sink now new.written) input bad new.left) (λ input. IsReplay tool w (over_sink before old.written) (over_sink after new.written) input bad new.left)
+          (λ input ran. subst (λ m. IsReplay tool w (over_sink m old.written) (over_sink after new.written) input bad new.left) same (replay-rest (rests new.written) ran))) r.replay;
       cut_short =
-          err-each answer (λ stop. stop ≡ Read) (IfSome old.left (λ input. IsCutShort tool (over_sink start old.written) (over_sink now new.written) input new.left)) (IfSome old.left (λ input. IsCutShort tool (over_sink before old.written) (over_sink after new.written) input new.left))
-          (some-each old.left (λ input. IsCutShort tool (over_sink start old.written) (over_sink now new.written) input new.left) (λ input. IsCutShort tool (over_sink before old.written) (over_sink after new.written) input new.left)
-          (λ input ran. subst (λ m. IsCutShort tool (over_sink m old.written) (over_sink after new.written) input new.left) same (cut_short-rest (rests new.written) ran))) r.cut_short;
+          err-each answer (λ stop. stop ≡ Read) (IfSome old.left (λ input. IsCutShort tool (is_quiet w) (over_sink start old.written) (over_sink now new.written) input new.left)) (IfSome old.left (λ input. IsCutShort tool (is_quiet w) (over_sink before old.written) (over_sink after new.written) input new.left))
+          (some-each old.left (λ input. IsCutShort tool (is_quiet w) (over_sink start old.written) (over_sink now new.written) input new.left) (λ input. IsCutShort tool (is_quiet w) (over_sink before old.written) (over_sink after new.written) input new.left)
+          (λ input ran. subst (λ m. IsCutShort tool (is_quiet w) (over_sink m old.written) (over_sink after new.written) input new.left) same (cut_short-rest (rests new.written) ran))) r.cut_short;
       read = r.read;
       write = r.write;
       reads = r.reads;
@@ -127,3 +135,13 @@ module _ {I : Type 0} {V : I → Type 0} {D : Type 0} (meaning : (x : I) × V x 
 
   pub new-moment : moment meaning rules gone shelf session kinds ≡ rest_of meaning rules gone shelf kinds
   new-moment = ap (λ hs. moment_of hs session.dicts.entries) no_held ∙ ap (λ es. moment_of [] es) none.2
+
+map-none : {A B : Type 0} (f : A → B) (xs ys : List A) → map f xs ≡ map f ys → ys ≡ [] → xs ≡ []
+map-none f [] ys same none = refl
+map-none f (x ∷ xs) ys same none = let empty : map f (x ∷ xs) ≡ [] = same ∙ ap (λ zs. map f zs) none in absurd cc
+
+-- what a tool without kinds promises
+pub headline-none : {I : Type 0} {V : I → Type 0} {K : Type 0} (meaning : (x : I) × V x → Discipline) (rules : K → Rules) (gone : K → Gone) (shelf shelf' : Shelf I V) (kinds kinds' : List K) {tool : Tool} {asked : Option Words} {old new : Streams} {status : Status} → kinds ≡ [] → Headline tool asked (rest_of meaning rules gone shelf kinds) (rest_of meaning rules gone shelf' kinds') old new status → Headline tool asked (rest_by meaning [] [] shelf) (rest_by meaning [] [] shelf') old new status
+headline-none meaning rules gone shelf shelf' kinds kinds' {tool} {asked} {old} {new} {status} none h =
+    subst (λ ks. Headline tool asked (rest_by meaning [] [] shelf) (rest_of meaning rules gone shelf' ks) old new status) (map-none rules kinds' kinds h.rules none)
+    (subst (λ ks. Headline tool asked (rest_of meaning rules gone shelf ks) (rest_of meaning rules gone shelf' kinds') old new status) none h)

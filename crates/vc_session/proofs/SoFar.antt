@@ -1,10 +1,11 @@
 -- A run of lines that come in pieces: what was run so far, and what is left.
-use Rattle.std.proofs.Common.{◌≡◌, ◌≢◌, ℕ, ◌+◌, ◌≤◌, ◌<◌, List, [], ◌∷◌, ◌++◌, Option, Some, None, Result, Ok, Err, length, take, drop, refl, sym, ap, ◌∙◌, subst, arith, inl, inr}
-use Rattle.std.specs.Prelude.{IfErr, IfSome, IsOk}
+use Rattle.std.proofs.Common.{◌≡◌, ◌≢◌, ℕ, ◌+◌, ◌≤◌, ◌<◌, Bool, List, [], ◌∷◌, ◌++◌, Option, Some, None, Result, Ok, Err, length, take, drop, refl, sym, ap, ◌∙◌, subst, arith, inl, inr}
+use Rattle.std.specs.Prelude.{IfErr, IfSome, IsOk, IsTrue}
 use Rattle.std.specs.List.{AllByRecursion}
 use Rattle.std.proofs.lemmas.Bool.Decides.{eqb_tells}
-use Rattle.std.proofs.lemmas.List.{append_assoc, append-nil, drop_all, length-take-le, take-append-drop}
-use Rattle.std.proofs.lemmas.Option.{same_Some}
+use Rattle.std.proofs.lemmas.List.{append_assoc, append-nil, drop_all, length-take-le, length_push, take-append-drop}
+use Rattle.std.proofs.lemmas.Option.{none-some, same_Some}
+use Rattle.vc_counts.specs.declared.counts.Counts.{Counts}
 use Rattle.vc_model.specs.Stream.{Reads, Takes}
 use Rattle.vc_script.specs.declared.line_fault.LineFault.{LineFault}
 use Rattle.vc_script.specs.declared.cutter.Cut.{Cut}
@@ -14,17 +15,20 @@ use Rattle.vc_script.specs.Answer.{answer}
 use Rattle.vc_script.specs.Cutter.{fed, end_cut, after_end}
 use Rattle.vc_script.specs.Cutting.{Cutting, IsCutting, new_cutting}
 use Rattle.vc_script.specs.Judged.{judged, judged_from, judged_then, last_number, line_limit}
-use Rattle.vc_script.specs.Lines.{piece}
+use Rattle.vc_script.specs.Lines.{ended_lines, piece}
 use Rattle.vc_script.specs.Pieces.{found_then}
 use Rattle.vc_script.proofs.Pieces.{Tells, end-tells, fed-tells, judge-ok}
 use Rattle.vc_session.specs.Engine.{IsIdle, LineRan}
-use Rattle.vc_session.specs.Moment.{Moment, ended, over_sink}
+use Rattle.vc_steps.specs.Moment.{Moment, ended, over_sink}
+use Rattle.vc_session.specs.Progress.{Progress}
 use Rattle.vc_session.specs.ProperState.{IsProperState}
-use Rattle.vc_session.specs.Replay.{IsCutShort, IsReplay, IsRun, ShowsNoFault, Stops, StopsAtFault, Told}
-use Rattle.vc_session.specs.Run.{commands, fault_in, wholly_read}
-use Rattle.vc_session.specs.SoFar.{Found, Reading, Running, SoFar, ended_rest, fuel, judged_rest}
+use Rattle.vc_session.specs.Replay.{IsCutShort, IsRun, ShowsNoFault, Stops, StopsAtFault, Told}
+use Rattle.vc_session.specs.Run.{commands, fault_in, nothing_ran, script, wholly_read}
+use Rattle.vc_session.specs.SoFar.{AtEnd, Found, Reading, Running, SoFar, ended_rest, fuel, judged_rest}
+use Rattle.vc_session.specs.Text.{body_of, counts_of}
 use Rattle.vc_session.proofs.Feeds.{Feeds, fed-feeds}
-use Rattle.vc_session.proofs.Running.{all-append, bad-line, running-end, running-line, running-over, running-same, running-start}
+use Rattle.vc_session.proofs.Progress.{all-append, progress-end, progress-over}
+use Rattle.vc_session.proofs.Running.{bad-line, running-line, running-over, running-same, running-start}
 
 if_some : (o : Option (List ℕ)) (P Q : List ℕ → Type 0) → ((x : List ℕ) → P x → Q x) → IfSome o P → IfSome o Q
 if_some None P Q f p = tt
@@ -50,7 +54,7 @@ few-begun s is some =
       | inr other ↦ omega (arith, other.1, is.few)
     ]
 
-module _ {tool : Tool} {start now : Moment} {text : List ℕ} {count : ℕ} {whole : Found} (running : Running tool start now text count whole) {input : List ℕ} {left : Option (List ℕ)} {s : Cutting} (is : IsCutting s) (r : Reading tool input left s [] whole) where
+module _ {tool : Tool} {quiet : Bool} {start now : Moment} {counts : Counts} {text : List ℕ} {count : ℕ} {whole : Found} (running : Running tool quiet start now counts text count whole) {input : List ℕ} {left : Option (List ℕ)} {s : Cutting} (is : IsCutting s) (r : Reading tool input left s [] whole) where
   read_lines : wholly_read (r.before ++ r.last) ≡ whole ++ []
   read_lines = ap wholly_read (sym (append-nil (r.before ++ r.last))) ∙ r.ended []
 
@@ -87,14 +91,16 @@ module _ {tool : Tool} {start now : Moment} {text : List ℕ} {count : ℕ} {who
             ∙ ap (λ xs. whole ++ ended_rest s (xs ++ more)) (sym t.same));
       }
 
-  reading-cut_short : (left' after : Option (List ℕ)) → left' ≡ left → Told start.written after text → IsCutShort tool start (ended (over_sink now after)) input left'
-  reading-cut_short left' after same told = record {
+  reading-cut_short : (left' after : Option (List ℕ)) → left' ≡ left → count ≤ last_number → Told start.written after text → IsCutShort tool quiet start (ended (over_sink now after)) input left'
+  reading-cut_short left' after same few told = record {
     bytes = r.before ++ r.last;
     rest = r.behind;
     split = r.split;
     unread = same ∙ r.unread;
     no_fault = shows-none;
-    run = subst (λ ls. IsRun start (ended (over_sink now after)) (commands tool ls)) (sym read_lines) (running-end [] after running refl told);
+    run =
+        subst (IsRun quiet (body_of quiet) start (ended (over_sink now after))) (sym (ap (commands tool) read_lines ∙ (running.script [] ∙ append-nil running.done)))
+        (progress-end running.progress (body_of quiet) [] after (omega (arith, few)) (λ is_quiet n below xs. refl) (sym (append-nil (body_of quiet running.progress.ran))) (subst (Told start.written after) (sym (append-nil text)) told));
   }
 
 reading-start : (tool : Tool) (o : Option (List ℕ)) → IfSome o (λ input. Reading tool input o new_cutting [] [])
@@ -147,16 +153,27 @@ fed-tells-all s rest next cut used is e behind = subst (λ f. Tells f.cut f.afte
 fed-feeds-all : (s : Cutting) (rest : List ℕ) (next : Cutting) (cut : Cut) (used : ℕ) → IsCutting s → fed s rest ≡ record { after = next; cut = cut; used = used } → (behind : List ℕ) → Feeds cut next used s rest behind
 fed-feeds-all s rest next cut used is e behind = subst (λ f. Feeds f.cut f.after f.used s rest behind) e (fed-feeds s rest behind is)
 
-pub so_far-start : (tool : Tool) (start : Moment) (told : Option (List ℕ)) → IsProperState start.state → SoFar tool start start [] told told new_cutting []
-so_far-start tool start told all = record { whole = []; running = running-start tool start all; reading = reading-start tool told }
+pub so_far-start : (tool : Tool) (quiet : Bool) (start : Moment) (counts : Counts) (told : Option (List ℕ)) → IsProperState start.state → (IsTrue quiet → counts ≡ counts_of (nothing_ran start.state)) → SoFar tool quiet start start counts [] told told new_cutting []
+so_far-start tool quiet start counts told all none = record { whole = []; running = running-start tool quiet start counts all none; reading = reading-start tool told }
 
 -- the end of a run whose lines are found
-replay-end : {tool : Tool} {start now : Moment} {text : List ℕ} {count : ℕ} {whole : Found} (input : List ℕ) (left after : Option (List ℕ)) (found : Found) (bad : Option (ℕ × LineFault)) → Running tool start now text count whole → judged input ≡ whole ++ found → commands tool found ≡ [] → fault_in tool found ≡ bad → Stops tool input bad left → Told start.written after text → IsReplay tool start (ended (over_sink now after)) input bad left
-replay-end {tool} {start} {now} {text} {count} {whole} input left after found bad r all none first stops told = record {
-  first = sym (ap (fault_in tool) all ∙ (r.good found ∙ first));
-  stops = stops;
-  run = subst (λ ls. IsRun start (ended (over_sink now after)) (commands tool ls)) (sym all) (running-end found after r none told);
-}
+at-end-of : {tool : Tool} {quiet : Bool} {start now : Moment} {counts : Counts} {text : List ℕ} {count : ℕ} {whole : Found} (input : List ℕ) (left after : Option (List ℕ)) (lines : ℕ) (found : Found) (bad : Option (ℕ × LineFault)) → count ≤ last_number → Running tool quiet start now counts text count whole → judged input ≡ whole ++ found → commands tool found ≡ [] → fault_in tool found ≡ bad → (bad ≡ None → lines ≡ length (judged input)) → Stops tool input bad left → Told start.written after text → AtEnd tool quiet start (over_sink now after) counts lines input bad left
+at-end-of {tool} {quiet} {start} {now} {counts} {text} {count} {whole} input left after lines found bad few r all none first size stops told =
+    let done : script tool input ≡ r.done = ap (commands tool) all ∙ (r.script found ∙ (ap (λ cs. r.done ++ cs) none ∙ append-nil r.done)) in
+    record {
+      text = text;
+      count = count;
+      few = few;
+      progress = subst (Progress quiet start (over_sink now after) counts text count) (sym done) (progress-over after r.progress);
+      told = told;
+      first = sym (ap (fault_in tool) all ∙ (r.good found ∙ first));
+      stops = stops;
+      whole = size;
+    }
+
+-- where a line is bad the number of lines isn't asked for
+some-bad : (bad : ℕ × LineFault) (lines : ℕ) (found : Found) → (let o : Option (ℕ × LineFault) = Some bad in o) ≡ None → lines ≡ length found
+some-bad bad lines found none = absurd (none-some bad (sym none))
 
 stops-at : {tool : Tool} {input : List ℕ} {left : Option (List ℕ)} {s : Cutting} {rest : List ℕ} {whole : Found} → Reading tool input left s rest whole → StopsAtFault tool input left
 stops-at r = record { before = r.before; last = r.last; rest = r.behind; split = r.split; short = r.size; no_fault = r.no_fault; unread = r.unread }
@@ -164,17 +181,17 @@ stops-at r = record { before = r.before; last = r.last; rest = r.behind; split =
 judged-input : {tool : Tool} {input : List ℕ} {left : Option (List ℕ)} {s : Cutting} {rest : List ℕ} {whole : Found} (r : Reading tool input left s rest whole) → judged input ≡ whole ++ judged_rest s (rest ++ r.behind)
 judged-input r = ap judged r.split ∙ r.lines r.behind
 
-module _ {tool : Tool} {start now : Moment} {text : List ℕ} {told left : Option (List ℕ)} {s : Cutting} where
+module _ {tool : Tool} {quiet : Bool} {start now : Moment} {counts : Counts} {text : List ℕ} {told left : Option (List ℕ)} {s : Cutting} where
   -- the same, over another sink
-  pub so_far-over : {rest : List ℕ} (written : Option (List ℕ)) → SoFar tool start now text told left s rest → SoFar tool start (over_sink now written) text told left s rest
+  pub so_far-over : {rest : List ℕ} (written : Option (List ℕ)) → SoFar tool quiet start now counts text told left s rest → SoFar tool quiet start (over_sink now written) counts text told left s rest
   so_far-over written r = record { whole = r.whole; running = running-over written r.running; reading = r.reading }
 
   -- nothing was gathered yet
-  pub so_far-none : {rest : List ℕ} (none : List ℕ) → none ≡ [] → SoFar tool start now text told left s rest → SoFar tool start now (text ++ none) told left s rest
-  so_far-none {rest} none e r = subst (λ xs. SoFar tool start now xs told left s rest) (sym (ap (λ xs. text ++ xs) e ∙ append-nil text)) r
+  pub so_far-none : {rest : List ℕ} (none : List ℕ) → none ≡ [] → SoFar tool quiet start now counts text told left s rest → SoFar tool quiet start now counts (text ++ none) told left s rest
+  so_far-none {rest} none e r = subst (λ xs. SoFar tool quiet start now counts xs told left s rest) (sym (ap (λ xs. text ++ xs) e ∙ append-nil text)) r
 
   -- a piece was read
-  pub so_far-read : (left' : Option (List ℕ)) (buf : List ℕ) (n : ℕ) → SoFar tool start now text told left s [] → IsCutting s → length buf ≡ 4096 → Reads left left' buf n → SoFar tool start now text told left' s (take n buf)
+  pub so_far-read : (left' : Option (List ℕ)) (buf : List ℕ) (n : ℕ) → SoFar tool quiet start now counts text told left s [] → IsCutting s → length buf ≡ 4096 → Reads left left' buf n → SoFar tool quiet start now counts text told left' s (take n buf)
   so_far-read left' buf n r is room reads = record {
     whole = r.whole;
     running = r.running;
@@ -182,67 +199,74 @@ module _ {tool : Tool} {start now : Moment} {text : List ℕ} {told left : Optio
   }
 
   -- a read failed where no byte was left over
-  pub so_far-cut_short : (left' after : Option (List ℕ)) → SoFar tool start now text told left s [] → IsCutting s → left' ≡ left → Told start.written after text → IfSome told (λ input. IsCutShort tool start (ended (over_sink now after)) input left')
-  so_far-cut_short left' after r is same written = if_some told _ _ (λ input reading. reading-cut_short r.running is reading left' after same written) r.reading
+  pub so_far-cut_short : (left' after : Option (List ℕ)) → SoFar tool quiet start now counts text told left s [] → IsCutting s → left' ≡ left → Told start.written after text → IfSome told (λ input. IsCutShort tool quiet start (ended (over_sink now after)) input left')
+  so_far-cut_short left' after r is same written = if_some told _ _ (λ input reading. reading-cut_short r.running is reading left' after same is.few written) r.reading
 
-module _ {tool : Tool} {start now : Moment} {text : List ℕ} {told left : Option (List ℕ)} {s : Cutting} {rest : List ℕ} (next : Cutting) (used : ℕ) (is : IsCutting s) where
+module _ {tool : Tool} {quiet : Bool} {start now : Moment} {counts : Counts} {text : List ℕ} {told left : Option (List ℕ)} {s : Cutting} {rest : List ℕ} (next : Cutting) (used : ℕ) (is : IsCutting s) where
   -- a piece is used up
-  pub so_far-more : SoFar tool start now text told left s rest → fed s rest ≡ record { after = next; cut = More; used = used } → SoFar tool start now text told left next (drop used rest)
+  pub so_far-more : SoFar tool quiet start now counts text told left s rest → fed s rest ≡ record { after = next; cut = More; used = used } → SoFar tool quiet start now counts text told left next (drop used rest)
   so_far-more r e = record {
     whole = r.whole;
-    running = subst (λ n. Running tool start now text n r.whole) (sym (fed-feeds-all s rest next More used is e []).1.1.1.1) r.running;
+    running = subst (λ n. Running tool quiet start now counts text n r.whole) (sym (fed-feeds-all s rest next More used is e []).1.1.1.1) r.running;
     reading = if_some told _ _ (λ input reading. reading-more s next used rest r.whole (fed-tells-all s rest next More used is e) (fed-feeds-all s rest next More used is e) reading) r.reading;
   }
 
   -- a line can't be taken
-  pub so_far-bad_cut : (fault : LineFault) (after : Option (List ℕ)) → SoFar tool start now text told left s rest → fed s rest ≡ record { after = next; cut = Bad fault; used = used } → Told start.written after text → IfSome told (λ input. IsReplay tool start (ended (over_sink now after)) input (Some (next.count + 1, fault)) left)
-  so_far-bad_cut fault after r e written = if_some told _ _ (λ input reading.
-      replay-end input left after ((next.count + 1, Err fault) ∷ []) (Some (next.count + 1, fault)) r.running (judged-input reading ∙ ap (λ ls. r.whole ++ ls) (fed-tells-all s rest next (Bad fault) used is e reading.behind)) refl refl (stops-at reading) written) r.reading
+  pub so_far-bad_cut : (fault : LineFault) (lines : ℕ) (after : Option (List ℕ)) → SoFar tool quiet start now counts text told left s rest → fed s rest ≡ record { after = next; cut = Bad fault; used = used } → Told start.written after text → IfSome told (λ input. AtEnd tool quiet start (over_sink now after) counts lines input (Some (next.count + 1, fault)) left)
+  so_far-bad_cut fault lines after r e written = if_some told _ _ (λ input reading.
+      let bad : ℕ × LineFault = (next.count + 1, fault) in
+      at-end-of input left after lines ((next.count + 1, Err fault) ∷ []) (Some bad) is.few r.running (judged-input reading ∙ ap (λ ls. r.whole ++ ls) (fed-tells-all s rest next (Bad fault) used is e reading.behind)) refl refl (some-bad bad lines (judged input)) (stops-at reading) written) r.reading
 
 -- a line was run
-pub so_far-line : {tool : Tool} {start now : Moment} (next_moment : Moment) {told left : Option (List ℕ)} {s : Cutting} {rest : List ℕ} (front old new : List ℕ) (next : Cutting) (used : ℕ) → now.written ≡ Some old → next_moment.written ≡ Some new → IsCutting s → SoFar tool start now (front ++ old) told left s rest → fed s rest ≡ record { after = next; cut = Whole; used = used } → LineRan now next_moment next.count (answer tool next.line) None → SoFar tool start next_moment (front ++ new) told left next (drop used rest)
+pub so_far-line : {tool : Tool} {quiet : Bool} {start now : Moment} {before counts : Counts} (next_moment : Moment) {told left : Option (List ℕ)} {s : Cutting} {rest : List ℕ} (front old new : List ℕ) (next : Cutting) (used : ℕ) → now.written ≡ Some old → next_moment.written ≡ Some new → IsCutting s → SoFar tool quiet start now before (front ++ old) told left s rest → fed s rest ≡ record { after = next; cut = Whole; used = used } → LineRan quiet now next_moment before counts next.count (answer tool next.line) None → SoFar tool quiet start next_moment counts (front ++ new) told left next (drop used rest)
 so_far-line next_moment {told} {left} {s} {rest} front old new next used held holds is r e ran = record {
   whole = r.whole ++ (next.count, Ok next.line) ∷ [];
-  running = running-line front old new next.count next.line held holds (omega (arith, (fed-feeds-all s rest next Whole used is e []).1.1.1)) r.running ran;
+  running = running-line front old new next.count next.line held holds (fed-feeds-all s rest next Whole used is e []).1.1.1 r.running ran;
   reading = if_some told _ _ (λ input reading. reading-whole s next used rest r.whole (fed-tells-all s rest next Whole used is e) (fed-feeds-all s rest next Whole used is e) reading) r.reading;
 }
 
 -- a line that asks for nothing leaves what was gathered
-idle-told : {now next : Moment} (front old new : List ℕ) (before after : Option (List ℕ)) → now.written ≡ Some old → next.written ≡ Some new → IsIdle now next → Told before after (front ++ new) → Told before after (front ++ old)
-idle-told front old new before after held holds idle written =
-    subst (λ xs. Told before after (front ++ xs)) (same_Some new old (sym holds ∙ (idle.told ∙ held))) written
+idle-told : {now next : Moment} {before counts : Counts} (front old new : List ℕ) (was after : Option (List ℕ)) → now.written ≡ Some old → next.written ≡ Some new → IsIdle now next before counts → Told was after (front ++ new) → Told was after (front ++ old)
+idle-told front old new was after held holds idle written =
+    subst (λ xs. Told was after (front ++ xs)) (same_Some new old (sym holds ∙ (idle.told ∙ held))) written
 
 -- a line is bad
-pub so_far-bad_line : {tool : Tool} {start now : Moment} (next_moment : Moment) {told left : Option (List ℕ)} {s : Cutting} {rest : List ℕ} (front old new : List ℕ) (next : Cutting) (used : ℕ) (fault : LineFault) (after : Option (List ℕ)) → now.written ≡ Some old → next_moment.written ≡ Some new → IsCutting s → SoFar tool start now (front ++ old) told left s rest → fed s rest ≡ record { after = next; cut = Whole; used = used } → LineRan now next_moment next.count (answer tool next.line) (Some fault) → Told start.written after (front ++ new) → IfSome told (λ input. IsReplay tool start (ended (over_sink next_moment after)) input (Some (next.count, fault)) left)
-so_far-bad_line {tool} {start} next_moment {told} {left} {s} {rest} front old new next used fault after held holds is r e ran written = if_some told _ _ (λ input reading.
-    let bad = bad-line tool next.count next.line fault ran in
+pub so_far-bad_line : {tool : Tool} {quiet : Bool} {start now : Moment} {before : Counts} (next_moment : Moment) (counts : Counts) {told left : Option (List ℕ)} {s : Cutting} {rest : List ℕ} (front old new : List ℕ) (next : Cutting) (used : ℕ) (fault : LineFault) (lines : ℕ) (after : Option (List ℕ)) → now.written ≡ Some old → next_moment.written ≡ Some new → IsCutting s → SoFar tool quiet start now before (front ++ old) told left s rest → fed s rest ≡ record { after = next; cut = Whole; used = used } → LineRan quiet now next_moment before counts next.count (answer tool next.line) (Some fault) → Told start.written after (front ++ new) → IfSome told (λ input. AtEnd tool quiet start (over_sink next_moment after) counts lines input (Some (next.count, fault)) left)
+so_far-bad_line {tool} {quiet} {start} next_moment counts {told} {left} {s} {rest} front old new next used fault lines after held holds is r e ran written = if_some told _ _ (λ input reading.
+    let line = bad-line quiet tool next.count next.line fault ran in
     let behind = judged_rest next (drop used rest ++ reading.behind) in
-    replay-end input left after ((next.count, Ok next.line) ∷ behind) (Some (next.count, fault)) (running-same r.running bad.idle) (judged-input reading ∙ ap (λ ls. r.whole ++ ls) (fed-tells-all s rest next Whole used is e reading.behind).0) (bad.none behind) (bad.first behind) (stops-at reading) (idle-told front old new start.written after held holds bad.idle written)) r.reading
+    let bad : ℕ × LineFault = (next.count, fault) in
+    at-end-of input left after lines ((next.count, Ok next.line) ∷ behind) (Some bad) is.few (running-same r.running line.idle) (judged-input reading ∙ ap (λ ls. r.whole ++ ls) (fed-tells-all s rest next Whole used is e reading.behind).0) (line.none behind) (line.first behind) (some-bad bad lines (judged input)) (stops-at reading) (idle-told front old new start.written after held holds line.idle written)) r.reading
 
 -- nothing is behind the bytes of a source that is at its end
 none-behind : {tool : Tool} {input : List ℕ} {left : Option (List ℕ)} {s : Cutting} {whole : Found} (r : Reading tool input left s [] whole) → left ≡ Some [] → judged input ≡ whole ++ judged_rest s []
 none-behind {s = s} {whole = whole} r at_end = judged-input r ∙ ap (λ xs. whole ++ judged_rest s xs) (same_Some r.behind [] (sym r.unread ∙ at_end))
 
-module _ {tool : Tool} {start now : Moment} {told left : Option (List ℕ)} {s : Cutting} where
+module _ {tool : Tool} {quiet : Bool} {start now : Moment} {before : Counts} {told left : Option (List ℕ)} {s : Cutting} (is : IsCutting s) where
   -- the end, with no line begun
-  pub so_far-end_none : {text : List ℕ} (after : Option (List ℕ)) → SoFar tool start now text told left s [] → IfSome told (λ input. left ≡ Some []) → judged_rest s [] ≡ [] → Told start.written after text → IfSome told (λ input. IsReplay tool start (ended (over_sink now after)) input None left)
-  so_far-end_none after r at_end last written = if_both told _ _ _ (λ input reading end.
-      replay-end input left after [] None r.running (none-behind reading end ∙ ap (λ ls. r.whole ++ ls) last) refl refl end written) r.reading at_end
+  pub so_far-end_none : {text : List ℕ} (lines : ℕ) (after : Option (List ℕ)) → lines ≡ s.count → SoFar tool quiet start now before text told left s [] → IfSome told (λ input. left ≡ Some []) → judged_rest s [] ≡ [] → Told start.written after text → IfSome told (λ input. AtEnd tool quiet start (over_sink now after) before lines input None left)
+  so_far-end_none lines after same r at_end last written = if_both told _ _ _ (λ input reading end.
+      let all : judged input ≡ r.whole ++ [] = none-behind reading end ∙ ap (λ ls. r.whole ++ ls) last in
+      at-end-of input left after lines [] None is.few r.running all refl refl (λ none. same ∙ (sym r.running.size ∙ sym (ap length (all ∙ append-nil r.whole)))) end written) r.reading at_end
 
-  module _ (next : Moment) (n : ℕ) (line : List ℕ) (last : judged_rest s [] ≡ (n, Ok line) ∷ []) (below : s.count < n) where
+  module _ (next : Moment) (counts : Counts) (n : ℕ) (line : List ℕ) (last : judged_rest s [] ≡ (n, Ok line) ∷ []) (follows : n ≡ s.count + 1) where
     -- the end behind a last line, which is good
-    pub so_far-end_good : (front old new : List ℕ) (after : Option (List ℕ)) → now.written ≡ Some old → next.written ≡ Some new → SoFar tool start now (front ++ old) told left s [] → IfSome told (λ input. left ≡ Some []) → LineRan now next n (answer tool line) None → Told start.written after (front ++ new) → IfSome told (λ input. IsReplay tool start (ended (over_sink next after)) input None left)
-    so_far-end_good front old new after held holds r at_end ran written = if_both told _ _ _ (λ input reading end.
-        replay-end input left after [] None (running-line front old new n line held holds below r.running ran) (none-behind reading end ∙ (ap (λ ls. r.whole ++ ls) last ∙ sym (append-nil (r.whole ++ (n, Ok line) ∷ [])))) refl refl end written) r.reading at_end
+    pub so_far-end_good : (front old new : List ℕ) (after : Option (List ℕ)) → n ≤ last_number → now.written ≡ Some old → next.written ≡ Some new → SoFar tool quiet start now before (front ++ old) told left s [] → IfSome told (λ input. left ≡ Some []) → LineRan quiet now next before counts n (answer tool line) None → Told start.written after (front ++ new) → IfSome told (λ input. AtEnd tool quiet start (over_sink next after) counts n input None left)
+    so_far-end_good front old new after few held holds r at_end ran written = if_both told _ _ _ (λ input reading end.
+        let running = running-line front old new n line held holds follows r.running ran in
+        let whole : Found = r.whole ++ (n, Ok line) ∷ [] in
+        let all : judged input ≡ whole = none-behind reading end ∙ ap (λ ls. r.whole ++ ls) last in
+        at-end-of input left after n [] None few running (all ∙ sym (append-nil whole)) refl refl (λ none. sym running.size ∙ sym (ap length all)) end written) r.reading at_end
 
     -- or bad
-    pub so_far-end_bad : (front old new : List ℕ) (fault : LineFault) (after : Option (List ℕ)) → now.written ≡ Some old → next.written ≡ Some new → SoFar tool start now (front ++ old) told left s [] → IfSome told (λ input. left ≡ Some []) → LineRan now next n (answer tool line) (Some fault) → Told start.written after (front ++ new) → IfSome told (λ input. IsReplay tool start (ended (over_sink next after)) input (Some (n, fault)) left)
-    so_far-end_bad front old new fault after held holds r at_end ran written = if_both told _ _ _ (λ input reading end.
-        let bad = bad-line tool n line fault ran in
-        replay-end input left after ((n, Ok line) ∷ []) (Some (n, fault)) (running-same r.running bad.idle) (none-behind reading end ∙ ap (λ ls. r.whole ++ ls) last) (bad.none []) (bad.first []) (stops-at reading) (idle-told front old new start.written after held holds bad.idle written)) r.reading at_end
+    pub so_far-end_bad : (front old new : List ℕ) (fault : LineFault) (lines : ℕ) (after : Option (List ℕ)) → now.written ≡ Some old → next.written ≡ Some new → SoFar tool quiet start now before (front ++ old) told left s [] → IfSome told (λ input. left ≡ Some []) → LineRan quiet now next before counts n (answer tool line) (Some fault) → Told start.written after (front ++ new) → IfSome told (λ input. AtEnd tool quiet start (over_sink next after) counts lines input (Some (n, fault)) left)
+    so_far-end_bad front old new fault lines after held holds r at_end ran written = if_both told _ _ _ (λ input reading end.
+        let at = bad-line quiet tool n line fault ran in
+        let bad : ℕ × LineFault = (n, fault) in
+        at-end-of input left after lines ((n, Ok line) ∷ []) (Some bad) is.few (running-same r.running at.idle) (none-behind reading end ∙ ap (λ ls. r.whole ++ ls) last) (at.none []) (at.first []) (some-bad bad lines (judged input)) (stops-at reading) (idle-told front old new start.written after held holds at.idle written)) r.reading at_end
 
 -- a read that gave nothing found nothing left
-pub at-end : {tool : Tool} {start now : Moment} {text : List ℕ} {told left : Option (List ℕ)} {s : Cutting} (left' : Option (List ℕ)) (buf : List ℕ) → SoFar tool start now text told left s [] → length buf ≡ 4096 → Reads left left' buf 0 → IfSome told (λ input. left' ≡ Some [])
+pub at-end : {tool : Tool} {quiet : Bool} {start now : Moment} {counts : Counts} {text : List ℕ} {told left : Option (List ℕ)} {s : Cutting} (left' : Option (List ℕ)) (buf : List ℕ) → SoFar tool quiet start now counts text told left s [] → length buf ≡ 4096 → Reads left left' buf 0 → IfSome told (λ input. left' ≡ Some [])
 at-end {told = told} {left = left} left' buf r room reads = if_some told _ _ (λ input reading.
     let t = taken reading.behind left left' buf 0 reading.unread reads in
     t.rest ∙ ap Some (t.at_end (omega (arith, room)) refl)) r.reading
@@ -264,6 +288,13 @@ more-kept s rest next used is e =
     let tells = fed-tells-all s rest next More used is e [] in
     let feeds = fed-feeds-all s rest next More used is e [] in
     record { less = feeds.1.0; fed = feeds.1.1.0; cutting = tells.1 }
+
+-- how many lines were whole
+pub whole-count : (s : Cutting) (rest : List ℕ) (next : Cutting) (used : ℕ) → IsCutting s → fed s rest ≡ record { after = next; cut = Whole; used = used } → next.count ≡ s.count + 1
+whole-count s rest next used is e = (fed-feeds-all s rest next Whole used is e []).1.1.1
+
+pub more-count : (s : Cutting) (rest : List ℕ) (next : Cutting) (used : ℕ) → IsCutting s → fed s rest ≡ record { after = next; cut = More; used = used } → next.count ≡ s.count
+more-count s rest next used is e = (fed-feeds-all s rest next More used is e []).1.1.1.1
 
 -- the answer of a call of feed, as it was told
 pub fed-is : (s : Cutting) (rest : List ℕ) (next : Cutting) (cut known : Cut) (used : ℕ) → fed s rest ≡ record { after = next; cut = cut; used = used } → cut ≡ known → fed s rest ≡ record { after = next; cut = known; used = used }
@@ -293,13 +324,21 @@ end-whole s next cut is state e whole =
     ∙ (ap (λ k. found_then k (after_end s s.kept) [] []) (sym e ∙ whole)
     ∙ ap (λ a. let found : Found = (a.count, Ok a.line) ∷ [] in found) (sym state))
 
-end-count-by : (s : Cutting) (kept : List ℕ) → end_cut kept ≡ Whole → s.count < (after_end s kept).count
+end-count-by : (s : Cutting) (kept : List ℕ) → end_cut kept ≡ Whole → (after_end s kept).count ≡ s.count + 1
 end-count-by s [] whole = absurd cc
-end-count-by s (b ∷ bs) whole = omega arith
+end-count-by s (b ∷ bs) whole = refl
 
--- its number is behind those of the others
-pub end-count : (s next : Cutting) (cut : Cut) → next ≡ after_end s s.kept → cut ≡ end_cut s.kept → cut ≡ Whole → s.count < next.count
-end-count s next cut state e whole = subst (λ (a : Cutting). s.count < a.count) (sym state) (end-count-by s s.kept (sym e ∙ whole))
+-- its number is one more than that of the others
+pub end-count : (s next : Cutting) (cut : Cut) → next ≡ after_end s s.kept → cut ≡ end_cut s.kept → cut ≡ Whole → next.count ≡ s.count + 1
+end-count s next cut state e whole = ap (λ (a : Cutting). a.count) state ∙ end-count-by s s.kept (sym e ∙ whole)
+
+end-same-by : (s : Cutting) (kept : List ℕ) → end_cut kept ≢ Whole → (after_end s kept).count ≡ s.count
+end-same-by s [] other = refl
+end-same-by s (b ∷ bs) other = absurd (other refl)
+
+-- with no line begun the number stays
+pub end-same : (s next : Cutting) (cut : Cut) → next ≡ after_end s s.kept → cut ≡ end_cut s.kept → cut ≢ Whole → next.count ≡ s.count
+end-same s next cut state e other = ap (λ (a : Cutting). a.count) state ∙ end-same-by s s.kept (λ whole. other (e ∙ whole))
 
 pub new-is : IsCutting new_cutting
 new-is = record { short = omega arith; few = omega arith; no_more = λ e. refl }

@@ -1,5 +1,7 @@
--- What running one line does.
-use Rattle.std.specs.Prelude.{◌≡◌, ℕ, ◌≤◌, [], Option, Some, None, Result, IfErr, IfOk, IfSome}
+-- What running one line does, and what running a script promises.
+use Rattle.std.specs.Prelude.{◌≡◌, ◌≢◌, ℕ, ◌≤◌, List, [], Option, Some, None, Bool, Result, IfErr, IfOk, IfSome, IsTrue, OnOk}
+use Rattle.vc_counts.specs.Counts.{counted}
+use Rattle.vc_counts.specs.declared.counts.Counts.{Counts}
 use Rattle.vc_model.specs.Count.{Rose}
 use Rattle.vc_script.specs.Needs.{need_shown}
 use Rattle.vc_script.specs.declared.command.Command.{Command}
@@ -7,45 +9,77 @@ use Rattle.vc_script.specs.declared.line_answer.LineAnswer.{LineAnswer}
 use Rattle.vc_script.specs.declared.line_answer.LineAnswer.TheVariants.{Blank, Is, Bad}
 use Rattle.vc_script.specs.declared.line_fault.LineFault.{LineFault}
 use Rattle.vc_script.specs.declared.reply.Reply.{Reply}
-use Rattle.vc_script.specs.Print.{line_of}
-use Rattle.vc_session.specs.Account.{Settles}
-use Rattle.vc_session.specs.Moment.{Moment, over_sink}
-use Rattle.vc_session.specs.Replay.{IsCutShort, IsReplay, Told}
 use Rattle.vc_script.specs.declared.tool.Tool.{Tool}
+use Rattle.vc_session.specs.QuietText.{line_by}
+use Rattle.vc_session.specs.Replay.{IsCutShort, IsGenerated, IsReplay, ReplaysBy, Told}
+use Rattle.vc_session.specs.SoFar.{AtEnd}
+use Rattle.vc_session.specs.Streams.{Flows}
+use Rattle.vc_session.specs.Text.{is_quiet}
 use Rattle.vc_session.specs.declared.engine.Stop.{Stop}
 use Rattle.vc_session.specs.declared.engine.Stop.TheVariants.{Read, Write}
-use Rattle.vc_session.specs.Step.{step}
-use Rattle.vc_session.specs.Steps.{Steps}
-use Rattle.vc_session.specs.Streams.{Flows}
+use Rattle.vc_steps.specs.Account.{Settles}
+use Rattle.vc_steps.specs.Moment.{Moment, ended, over_sink}
+use Rattle.vc_steps.specs.Step.{step}
+use Rattle.vc_steps.specs.Steps.{Steps}
+use Rattle.vc_words.specs.declared.words.Words.{Words}
 
 -- nothing was run
-pub record IsIdle (now next : Moment) : Type 0 where
+pub record IsIdle (now next : Moment) (before counts : Counts) : Type 0 where
   pub state : next.state ≡ now.state
   pub told : next.written ≡ now.written
   pub settles : Settles now.accounts next.accounts []
   pub gone : next.gone ≡ now.gone
+  pub same_counts : counts ≡ before
 
--- the command of a line was run, and its reply written
-pub record IsStep (now next : Moment) (n : ℕ) (command : Command) : Type 0 where
+-- the command of a line was run, and its reply written as it is asked for; quietly it was counted
+pub record IsStep (quiet : Bool) (now next : Moment) (before counts : Counts) (n : ℕ) (command : Command) : Type 0 where
   pub reply : Reply
   pub steps : Steps now next command (step now.state n command (need_shown reply)) reply
-  pub told : Told now.written next.written (line_of reply)
+  pub told : Told now.written next.written (line_by quiet (n, reply))
+  pub counted : IsTrue quiet → counts ≡ counted before (step now.state n command (need_shown reply))
 
 -- a line was run by its answer
-abbrev pub LineRan : Moment → Moment → ℕ → LineAnswer → Option LineFault → Type 0
-LineRan now next n Blank fault = (fault ≡ None) × IsIdle now next
-LineRan now next n (Bad why) fault = (fault ≡ Some why) × IsIdle now next
-LineRan now next n (Is command) fault = (fault ≡ None) × IsStep now next n command
+abbrev pub LineRan : Bool → Moment → Moment → Counts → Counts → ℕ → LineAnswer → Option LineFault → Type 0
+LineRan quiet now next before counts n Blank fault = (fault ≡ None) × IsIdle now next before counts
+LineRan quiet now next before counts n (Bad why) fault = (fault ≡ Some why) × IsIdle now next before counts
+LineRan quiet now next before counts n (Is command) fault = (fault ≡ None) × IsStep quiet now next before counts n command
 
--- what running the lines of a script promises by its answer, from a moment and what its streams mean then to another
-pub record RunsScript (tool : Tool) (answer : Result (Option (ℕ × LineFault)) Stop) (start last : Moment) (old new : Flows) : Type 0 where
+-- what running the lines of a source promises by its answer, from a moment and what its streams mean then to another, before anything is written behind the replies
+pub record RunsLines (tool : Tool) (quiet : Bool) (answer : Result (Option (ℕ × LineFault)) Stop) (start last : Moment) (counts : Counts) (lines : ℕ) (old new : Flows) : Type 0 where
+  pub at_end : IfOk answer (λ bad. IfSome old.left (λ input. AtEnd tool quiet (over_sink start old.written) (over_sink last new.written) counts lines input bad new.left))
+  pub cut_short : IfErr answer (λ stop. stop ≡ Read → IfSome old.left (λ input. IsCutShort tool quiet (over_sink start old.written) (ended (over_sink last new.written)) input new.left))
+  pub read : IfErr answer (λ stop. stop ≡ Read → Rose old.reads new.reads)
+  pub write : IfErr answer (λ stop. stop ≡ Write → Rose old.writes new.writes)
+  pub reads : old.reads ≤ new.reads
+  pub writes : old.writes ≤ new.writes
+
+-- what running a source's script by the words of the tool promises
+pub record RunsScript (tool : Tool) (w : Words) (answer : Result (Option (ℕ × LineFault)) Stop) (start last : Moment) (old new : Flows) : Type 0 where
   -- the script was run to its end, or to its first bad line
-  pub replay : IfOk answer (λ bad. IfSome old.left (λ input. IsReplay tool (over_sink start old.written) (over_sink last new.written) input bad new.left))
+  pub replay : IfOk answer (λ bad. IfSome old.left (λ input. IsReplay tool w (over_sink start old.written) (over_sink last new.written) input bad new.left))
   -- or up to a failed read
-  pub cut_short : IfErr answer (λ stop. stop ≡ Read → IfSome old.left (λ input. IsCutShort tool (over_sink start old.written) (over_sink last new.written) input new.left))
+  pub cut_short : IfErr answer (λ stop. stop ≡ Read → IfSome old.left (λ input. IsCutShort tool (is_quiet w) (over_sink start old.written) (over_sink last new.written) input new.left))
   -- a fault comes from its stream
   pub read : IfErr answer (λ stop. stop ≡ Read → Rose old.reads new.reads)
   pub write : IfErr answer (λ stop. stop ≡ Write → Rose old.writes new.writes)
   -- the counts of failures never fall
+  pub reads : old.reads ≤ new.reads
+  pub writes : old.writes ≤ new.writes
+
+-- what running generated commands promises; `told` is what the replies' sink tells, and `failures` how often a write of it failed
+pub record RunsGenerated {U : Type 0} (tool : Tool) (w : Words) (n : ℕ) (answer : Result U Stop) (start last : Moment) (told told' : Option (List ℕ)) (failures failures' : ℕ) : Type 0 where
+  -- all commands were run
+  pub run : OnOk answer (IsGenerated tool w n (over_sink start told) (over_sink last told'))
+  -- no read is tried, and a failed write comes from the sink
+  pub read : IfErr answer (λ stop. stop ≢ Read)
+  pub write : IfErr answer (λ stop. stop ≡ Write → Rose failures failures')
+  pub writes : failures ≤ failures'
+
+-- what running what the words ask for promises
+pub record RunsAsked (tool : Tool) (w : Words) (answer : Result (Option (ℕ × LineFault)) Stop) (start last : Moment) (old new : Flows) : Type 0 where
+  pub replay : IfOk answer (λ bad. ReplaysBy w.generate tool w (over_sink start old.written) (over_sink last new.written) old.left new.left bad)
+  -- only a source is read
+  pub read : IfErr answer (λ stop. stop ≡ Read → (w.generate ≡ None) × Rose old.reads new.reads × IfSome old.left (λ input. IsCutShort tool (is_quiet w) (over_sink start old.written) (over_sink last new.written) input new.left))
+  pub write : IfErr answer (λ stop. stop ≡ Write → Rose old.writes new.writes)
   pub reads : old.reads ≤ new.reads
   pub writes : old.writes ≤ new.writes

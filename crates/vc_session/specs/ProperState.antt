@@ -1,4 +1,4 @@
--- States whose blocks are labelled by names or not at all, whose kept names are names, and whose sites are names or a hyphen.
+-- States whose regions are called by names, whose blocks are labelled by names or not at all, whose kept names are names, and whose sites are names or a hyphen.
 use Rattle.std.specs.Prelude.{◌≡◌, List, Some, None, IsTrue, if◌then◌else◌}
 use Rattle.std.specs.List.{AllByRecursion}
 use Rattle.vc_region.specs.Region.{Region, relabelled, rows_in}
@@ -9,11 +9,11 @@ use Rattle.vc_commands.specs.Kept.{Kept}
 use Rattle.vc_model.specs.Discipline.{Discipline}
 use Rattle.vc_dtdisc.specs.Rules.{Rules}
 use Rattle.vc_seg.specs.declared.shelf.Shelf.{Shelf}
-use Rattle.vc_session.specs.declared.session.Session.{Session}
-use Rattle.vc_session.specs.Homes.{IsSessionOver, state_over}
-use Rattle.vc_session.specs.Told.{rules_in}
+use Rattle.vc_steps.specs.declared.session.Session.{Session}
+use Rattle.vc_steps.specs.Homes.{IsSessionOver, state_over}
+use Rattle.vc_steps.specs.Told.{rules_in}
 use Rattle.vc_commands.specs.Home.{Home, Label}
-use Rattle.vc_session.specs.State.{State}
+use Rattle.vc_steps.specs.State.{State}
 
 -- a label that is a name; none in place of any other
 abbrev pub name_or_none : Label → Label
@@ -33,9 +33,9 @@ abbrev pub HasProperSites : Region Label → Type 0
 HasProperSites r = AllByRecursion (λ row. IsTrue (is_row_site row.site)) (rows_in r)
 
 abbrev pub IsProperHome : Home → Type 0
-IsProperHome h = IsProperRegion h.region × AreProperNames h.kept × HasProperSites h.region
+IsProperHome h = IsProperRegion h.region × AreProperNames h.kept × HasProperSites h.region × IsName h.name
 
--- the labels of every region and the names that it keeps are names, and its sites are
+-- the name of every region, its labels and the names that it keeps are names, and its sites are
 abbrev pub IsProperState : State → Type 0
 IsProperState s = AllByRecursion IsProperHome s.homes
 

@@ -1,5 +1,5 @@
 -- What the end of a run promises.
-use Rattle.std.specs.Prelude.{◌≡◌, ℕ, ◌≤◌, ◌⊎◌, List, [], ◌++◌, Option, Some, None, IfSome, IsOk, codes, decimal, length, take}
+use Rattle.std.specs.Prelude.{◌≡◌, ℕ, ◌+◌, ◌≤◌, ◌⊎◌, List, [], ◌∷◌, ◌++◌, Option, Some, None, Bool, true, IfSome, IsOk, codes, decimal, length, take}
 use Rattle.std.specs.List.{AllByRecursion}
 use Rattle.vc_model.specs.Count.{Rose}
 use Rattle.vc_script.specs.declared.command.Command.{Command}
@@ -7,12 +7,15 @@ use Rattle.vc_script.specs.declared.line_fault.LineFault.{LineFault}
 use Rattle.vc_script.specs.declared.line_fault.LineFault.TheVariants.{UnknownCommand, WordCount, BadName, BadNumber, BadAddress, BadBytes, UnknownMethod, LineTooLong, TooManyLines}
 use Rattle.vc_script.specs.declared.tool.Tool.{Tool}
 use Rattle.vc_script.specs.declared.tool.Tool.TheVariants.{Vmreplay, Dtrun}
-use Rattle.vc_session.specs.Account.{Settles}
-use Rattle.vc_session.specs.Moment.{Moment}
-use Rattle.vc_session.specs.Told.{ended_told, tell}
+use Rattle.vc_steps.specs.Account.{Settles}
+use Rattle.vc_steps.specs.Moment.{Moment}
+use Rattle.vc_steps.specs.Told.{ended_told, tell}
 use Rattle.vc_script.specs.Judged.{judged}
-use Rattle.vc_script.specs.Needs.{needs_of}
-use Rattle.vc_session.specs.Run.{Ran, commands, fault_in, first_bad, lines_of, run, script, text_of, wholly_read}
+use Rattle.vc_generate.specs.Generated.{generated}
+use Rattle.vc_session.specs.QuietText.{needs_by}
+use Rattle.vc_session.specs.Run.{Ran, commands, fault_in, first_bad, lines_of, run, script, wholly_read}
+use Rattle.vc_session.specs.Text.{body_of, good_lines, is_quiet, text_of}
+use Rattle.vc_words.specs.declared.words.Words.{Words}
 
 -- what a sink told, followed by a piece
 abbrev pub Told : Option (List ℕ) → Option (List ℕ) → List ℕ → Type 0
@@ -51,21 +54,21 @@ fault_text TooManyLines = codes "too many lines"
 abbrev pub err_line : Tool → ℕ × LineFault → List ℕ
 err_line tool bad = message tool (codes "line " ++ decimal bad.0 ++ codes ": " ++ fault_text bad.1)
 
--- the run of commands for the needs that a text shows
-abbrev pub run_by : Moment → List (ℕ × Command) → List ℕ → Ran
-run_by before commands written = run before.state commands (needs_of (lines_of commands) written)
+-- the run of commands for the needs that a text shows, by whether it is a quiet one
+abbrev pub run_by : Bool → Moment → List (ℕ × Command) → List ℕ → Ran
+run_by quiet before commands written = run before.state commands (needs_by quiet (lines_of commands) written)
 
 -- what a run and its end tell
 abbrev pub all_told : Ran → List (ℕ × List ℕ)
 all_told r = r.told ++ ended_told r.state
 
--- a run of commands: what was written is the text of the run for the needs that it shows, the shelf settles with the run's refusals, and the kinds were told of what went in it and at its end
-pub record IsRun (before after : Moment) (commands : List (ℕ × Command)) : Type 0 where
+-- a run of commands, quiet or not, whose text is said by a function of the run: what was written is the text of the run for the needs that it shows, the shelf settles with the run's refusals, and the kinds were told of what went in it and at its end
+pub record IsRun (quiet : Bool) (said : Ran → List ℕ) (before after : Moment) (commands : List (ℕ × Command)) : Type 0 where
   pub written : List ℕ
-  pub text : written ≡ text_of (run_by before commands written)
+  pub text : written ≡ said (run_by quiet before commands written)
   pub told : Told before.written after.written written
-  pub settles : Settles before.accounts after.accounts (run_by before commands written).refusals
-  pub gone : after.gone ≡ tell (all_told (run_by before commands written)) before.gone
+  pub settles : Settles before.accounts after.accounts (run_by quiet before commands written).refusals
+  pub gone : after.gone ≡ tell (all_told (run_by quiet before commands written)) before.gone
 
 -- bytes that show no fault: their whole lines are good, and no line is too long or past the last number, the one that has begun among them
 pub record ShowsNoFault (tool : Tool) (bytes : List ℕ) : Type 0 where
@@ -87,17 +90,35 @@ abbrev pub Stops : Tool → List ℕ → Option (ℕ × LineFault) → Option (L
 Stops tool input None left = left ≡ Some []
 Stops tool input (Some bad) left = StopsAtFault tool input left
 
--- a run of an input to its end, or to its first bad line
-pub record IsReplay (tool : Tool) (before after : Moment) (input : List ℕ) (bad : Option (ℕ × LineFault)) (left : Option (List ℕ)) : Type 0 where
+-- by the words of a tool, a run of an input to its end, or to its first bad line
+pub record IsReplay (tool : Tool) (w : Words) (before after : Moment) (input : List ℕ) (bad : Option (ℕ × LineFault)) (left : Option (List ℕ)) : Type 0 where
   pub first : bad ≡ first_bad tool input
   pub stops : Stops tool input bad left
-  pub run : IsRun before after (script tool input)
+  pub run : IsRun (is_quiet w) (text_of w (good_lines bad (length (judged input)))) before after (script tool input)
 
 -- a run that a failed read ended: the lines that were wholly read were run, and no byte that was read shows a fault
-pub record IsCutShort (tool : Tool) (before after : Moment) (input : List ℕ) (left : Option (List ℕ)) : Type 0 where
+pub record IsCutShort (tool : Tool) (quiet : Bool) (before after : Moment) (input : List ℕ) (left : Option (List ℕ)) : Type 0 where
   pub bytes : List ℕ
   pub rest : List ℕ
   pub split : input ≡ bytes ++ rest
   pub unread : left ≡ Some rest
   pub no_fault : ShowsNoFault tool bytes
-  pub run : IsRun before after (commands tool (wholly_read bytes))
+  pub run : IsRun quiet (body_of quiet) before after (commands tool (wholly_read bytes))
+
+-- commands on the lines from a number on
+abbrev pub on_lines : ℕ → List Command → List (ℕ × Command)
+on_lines n [] = []
+on_lines n (c ∷ cs) = (n, c) ∷ on_lines (n + 1) cs
+
+-- the commands that so many words of the seed give, the first on line 1
+abbrev pub generated_script : Tool → Words → ℕ → List (ℕ × Command)
+generated_script tool w n = on_lines 1 (generated tool n w.seed)
+
+-- a quiet run of these; no source is read, and none is spoken of
+pub record IsGenerated (tool : Tool) (w : Words) (n : ℕ) (before after : Moment) : Type 0 where
+  pub run : IsRun true (text_of w (length (generated tool n w.seed))) before after (generated_script tool w n)
+
+-- from one moment to another, and from what a source tells to what it has left: so many generated commands were run, of which no line is bad, or else the source's script, up to this bad line
+abbrev pub ReplaysBy : Option ℕ → Tool → Words → Moment → Moment → Option (List ℕ) → Option (List ℕ) → Option (ℕ × LineFault) → Type 0
+ReplaysBy None tool w before after told left bad = IfSome told (λ input. IsReplay tool w before after input bad left)
+ReplaysBy (Some n) tool w before after told left bad = (bad ≡ None) × IsGenerated tool w n before after

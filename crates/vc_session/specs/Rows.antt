@@ -1,14 +1,35 @@
 -- The states between the parts of the worked scripts.
-use Rattle.std.specs.Prelude.{ℕ, ◌-◌, List, [], ◌∷◌, ◌++◌, Some, None, codes, length, replicate}
+use Rattle.std.specs.Prelude.{ℕ, ◌-◌, List, [], ◌∷◌, ◌++◌, Some, None, true, false, codes, length, replicate}
 use Rattle.vc_model.specs.Discipline.{Terms}
 use Rattle.vc_model.specs.Layout.{Block}
 use Rattle.vc_dtdisc.specs.Shapes.{rules_of}
 use Rattle.vc_dtdisc.specs.declared.shape.Shape.TheVariants.{Whole, Field, Text, Fold, Reverse, Clip}
 use Rattle.vc_region.specs.Region.{OfBest}
 use Rattle.vc_script.specs.declared.tool.Tool.TheVariants.{Vmreplay}
-use Rattle.vc_session.specs.Run.{run, script, text_of}
+use Rattle.vc_session.specs.Run.{Ran, run, script}
+use Rattle.vc_session.specs.Text.{text_of}
+use Rattle.vc_words.specs.declared.words.Words.{Words}
 use Rattle.vc_commands.specs.Home.{Label}
-use Rattle.vc_session.specs.State.{State}
+use Rattle.vc_steps.specs.State.{State}
+
+-- no word is given
+abbrev pub no_words : Words
+no_words = record { quiet = false; stat = false; generate = None; seed = 0 }
+
+-- one word is given, `--quiet` or `--stat`
+abbrev pub quiet_words : Words
+quiet_words = record no_words { quiet = true }
+
+abbrev pub stat_words : Words
+stat_words = record no_words { stat = true }
+
+-- `--gen 4 --seed 42`
+abbrev pub four_words : Words
+four_words = record no_words { generate = Some 4; seed = 42 }
+
+-- what a run writes without words
+abbrev pub plain_text : Ran → List ℕ
+plain_text r = text_of no_words 0 r
 
 -- of a discipline that rounds to 4,096 bytes
 abbrev pub terms : Terms
@@ -103,4 +124,4 @@ moved =
 
 -- what a script of regions writes from a state, where no segment is refused
 abbrev pub text_from : State → List ℕ → List ℕ
-text_from s input = text_of (run s (script Vmreplay input) [])
+text_from s input = plain_text (run s (script Vmreplay input) [])

@@ -1,21 +1,19 @@
 -- The commands of an input, a run of them, and its text.
-use Rattle.std.specs.Prelude.{ℕ, List, [], ◌∷◌, ◌++◌, Option, Some, None, Result, Ok, Err, map}
+use Rattle.std.specs.Prelude.{ℕ, List, [], ◌∷◌, ◌++◌, Option, Some, None, Result, Ok, Err, map, max}
+use Rattle.vc_counts.specs.Counts.{busy_in}
 use Rattle.vc_script.specs.declared.command.Command.{Command}
 use Rattle.vc_script.specs.declared.line_answer.LineAnswer.{LineAnswer}
 use Rattle.vc_script.specs.declared.line_answer.LineAnswer.TheVariants.{Blank, Is, Bad}
 use Rattle.vc_script.specs.declared.line_fault.LineFault.{LineFault}
 use Rattle.vc_script.specs.declared.reply.Reply.{Reply}
-use Rattle.vc_script.specs.declared.reply.Reply.TheVariants.{Refused}
-use Rattle.vc_script.specs.declared.refusal.Refusal.TheVariants.{NoSegment, NoSegmentForTable, NoSegmentForObject}
 use Rattle.vc_script.specs.declared.tool.Tool.{Tool}
 use Rattle.vc_script.specs.Lines.{ended_lines}
 use Rattle.vc_script.specs.Judged.{judged, judged_from}
 use Rattle.vc_script.specs.Answer.{answer}
 use Rattle.vc_script.specs.Needs.{Need, need_at}
-use Rattle.vc_script.specs.Print.{text}
-use Rattle.vc_session.specs.State.{State, Stepped, home_named}
-use Rattle.vc_commands.specs.Home.{Home}
-use Rattle.vc_session.specs.Step.{region_asked, step}
+use Rattle.vc_steps.specs.State.{State, Stepped}
+use Rattle.vc_steps.specs.Refusals.{refusal_at}
+use Rattle.vc_steps.specs.Step.{step}
 
 -- what a line's answer leaves of the commands behind it: none behind a bad line
 abbrev pub command_then : ℕ → LineAnswer → List (ℕ × Command) → List (ℕ × Command)
@@ -56,32 +54,18 @@ first_bad tool input = fault_in tool (judged input)
 abbrev pub wholly_read : List ℕ → List (ℕ × Result (List ℕ) LineFault)
 wholly_read bytes = judged_from 1 (ended_lines bytes)
 
--- a run: its replies, each with the number of its line; its last state; the place of the discipline at each refusal of a segment; what was told to kinds; and the segments that were granted, as number and bytes
+-- a run: its replies, each with the number of its line; its last state; the place of the discipline at each refusal of a segment; what was told to kinds; the segments that were granted, as number and bytes; and the most bytes that the blocks of all regions had after a command
 pub record Ran : Type 0 where
   pub replies : List (ℕ × Reply)
   pub state : State
   pub refusals : List ℕ
   pub told : List (ℕ × List ℕ)
   pub granted : List (ℕ × ℕ)
-
-abbrev pub home_place : Option Home → List ℕ
-home_place None = []
-home_place (Some h) = h.place ∷ []
-
-abbrev pub place_named : State → Option (List ℕ) → List ℕ
-place_named s None = []
-place_named s (Some r) = home_place (home_named r s.homes)
-
--- the place of the discipline that refused a segment in a step, where one did
-abbrev pub refusal_at : State → Command → Reply → List ℕ
-refusal_at s command (Refused NoSegment) = place_named s (region_asked s command)
-refusal_at s command (Refused NoSegmentForTable) = place_named s (region_asked s command)
-refusal_at s command (Refused NoSegmentForObject) = place_named s (region_asked s command)
-refusal_at s command reply = []
+  pub peak : ℕ
 
 -- a run of no command
 abbrev pub nothing_ran : State → Ran
-nothing_ran s = record { replies = []; state = s; refusals = []; told = []; granted = [] }
+nothing_ran s = record { replies = []; state = s; refusals = []; told = []; granted = []; peak = 0 }
 
 -- a step, and then the run of the rest
 abbrev pub ran : State → ℕ × Command → Stepped → Ran → Ran
@@ -92,6 +76,7 @@ ran s c t rest =
       refusals = refusal_at s c.1 t.reply ++ rest.refusals;
       told = t.told ++ rest.told;
       granted = t.granted ++ rest.granted;
+      peak = max (busy_in t.state) rest.peak;
     }
 
 -- the steps in order, each with its line and with the need of that line
@@ -102,7 +87,3 @@ run s (c ∷ cs) needs = let t = step s c.0 c.1 (need_at needs c.0) in ran s c t
 -- the lines of commands
 abbrev pub lines_of : List (ℕ × Command) → List ℕ
 lines_of commands = map (λ c. c.0) commands
-
--- what a run writes
-abbrev pub text_of : Ran → List ℕ
-text_of r = text (map (λ p. p.1) r.replies)

@@ -1,43 +1,31 @@
 -- A run in its middle, of lines that come in pieces.
-use Rattle.std.specs.Prelude.{◌≡◌, ℕ, ◌+◌, ◌-◌, ◌*◌, ◌≤◌, List, [], ◌++◌, Option, Some, None, Result, Ok, IfSome, IsOk, IsTrue, length, map}
+use Rattle.std.specs.Prelude.{◌≡◌, ℕ, ◌+◌, ◌-◌, ◌*◌, ◌≤◌, List, [], ◌++◌, Option, Some, None, Bool, Result, Ok, IfSome, IsOk, IsTrue, length}
 use Rattle.std.specs.List.{AllByRecursion}
 use Rattle.vc_base.specs.declared.fault.OutOfMemory.{OutOfMemory}
+use Rattle.vc_counts.specs.declared.counts.Counts.{Counts}
 use Rattle.vc_script.specs.declared.command.Command.{Command}
 use Rattle.vc_script.specs.declared.line_fault.LineFault.{LineFault}
 use Rattle.vc_script.specs.declared.tool.Tool.{Tool}
 use Rattle.vc_script.specs.Cutting.{Cutting, IsCutting}
 use Rattle.vc_script.specs.Judged.{judged, judged_from, last_number, line_limit}
 use Rattle.vc_script.specs.Lines.{ended_after, lines_after}
-use Rattle.vc_script.specs.Needs.{IsAscending, Need, ShowsNeeds}
-use Rattle.vc_script.specs.ProperReply.{IsProperReply}
-use Rattle.vc_session.specs.Account.{Settles}
-use Rattle.vc_session.specs.Moment.{Moment, ended, over_sink}
-use Rattle.vc_session.specs.ProperState.{IsProperState}
-use Rattle.vc_session.specs.Replay.{IsReplay, ShowsNoFault, Told}
-use Rattle.vc_session.specs.Told.{tell}
-use Rattle.vc_session.specs.Run.{Ran, commands, fault_in, lines_of, run, text_of, wholly_read}
+use Rattle.vc_steps.specs.Moment.{Moment, over_sink}
+use Rattle.vc_session.specs.Progress.{CanCountOn, Progress}
+use Rattle.vc_session.specs.Replay.{ShowsNoFault, Stops, Told}
+use Rattle.vc_session.specs.Run.{commands, fault_in, first_bad, script, wholly_read}
 
 -- lines by their numbers, or what is wrong with them
 abbrev pub Found : Type 0
 Found = List (ℕ × Result (List ℕ) LineFault)
 
--- these lines, up to that number, were run, whatever is behind them, and that is the text of their replies
-pub record Running (tool : Tool) (start now : Moment) (text : List ℕ) (count : ℕ) (whole : Found) : Type 0 where
+-- so many lines were run, whatever is behind them
+pub record Running (tool : Tool) (quiet : Bool) (start now : Moment) (counts : Counts) (text : List ℕ) (count : ℕ) (whole : Found) : Type 0 where
   pub done : List (ℕ × Command)
-  pub ran : Ran
-  pub lines : lines_of done ≡ map (λ r. r.0) ran.replies
-  pub rising : IsAscending (lines_of done)
-  pub within : AllByRecursion (λ n. n ≤ count) (lines_of done)
-  pub proper : AllByRecursion (λ r. IsProperReply r.1) ran.replies
-  pub proper_state : IsProperState now.state
+  pub progress : Progress quiet start now counts text count done
+  pub size : length whole ≡ count
   pub short : AllByRecursion (λ line. IsOk line.1) whole
   pub script : (behind : Found) → commands tool (whole ++ behind) ≡ done ++ commands tool behind
   pub good : (behind : Found) → fault_in tool (whole ++ behind) ≡ fault_in tool behind
-  pub run : (needs : List (ℕ × Need)) → ShowsNeeds needs ran.replies → run start.state done needs ≡ ran
-  pub state : ran.state ≡ now.state
-  pub settles : Settles start.accounts now.accounts ran.refusals
-  pub gone : now.gone ≡ tell ran.told start.gone
-  pub told : text ≡ text_of ran
 
 -- what is judged of the bytes behind those that were fed
 abbrev pub judged_rest : Cutting → List ℕ → Found
@@ -60,22 +48,33 @@ pub record Reading (tool : Tool) (input : List ℕ) (left : Option (List ℕ)) (
   pub ended : (more : List ℕ) → wholly_read ((before ++ last) ++ more) ≡ whole ++ ended_rest s (rest ++ more)
 
 -- what was run so far of a source that told its bytes at the start, or didn't
-pub record SoFar (tool : Tool) (start now : Moment) (text : List ℕ) (told left : Option (List ℕ)) (s : Cutting) (rest : List ℕ) : Type 0 where
+pub record SoFar (tool : Tool) (quiet : Bool) (start now : Moment) (counts : Counts) (text : List ℕ) (told left : Option (List ℕ)) (s : Cutting) (rest : List ℕ) : Type 0 where
   pub whole : Found
-  pub running : Running tool start now text s.count whole
+  pub running : Running tool quiet start now counts text s.count whole
   pub reading : IfSome told (λ input. Reading tool input left s rest whole)
 
+-- the lines of an input were run to its end, or to the first bad one, and their replies are written; where there is no bad line, that is the number of lines
+pub record AtEnd (tool : Tool) (quiet : Bool) (start now : Moment) (counts : Counts) (lines : ℕ) (input : List ℕ) (bad : Option (ℕ × LineFault)) (left : Option (List ℕ)) : Type 0 where
+  pub text : List ℕ
+  pub count : ℕ
+  pub few : count ≤ last_number
+  pub progress : Progress quiet start now counts text count (script tool input)
+  pub told : Told start.written now.written text
+  pub first : bad ≡ first_bad tool input
+  pub stops : Stops tool input bad left
+  pub whole : bad ≡ None → lines ≡ length (judged input)
+
 -- each run so far goes on: what was left of a piece was run up to what is left now, and its replies were gathered
-pub record GoesOn (tool : Tool) (first now : Moment) (gathered : List ℕ) (s next : Cutting) (rest rest' : List ℕ) : Type 0 where
-  pub on : {start : Moment} {text : List ℕ} {told left : Option (List ℕ)} → SoFar tool start first text told left s rest → SoFar tool start now (text ++ gathered) told left next rest'
+pub record GoesOn (tool : Tool) (quiet : Bool) (first now : Moment) (before counts : Counts) (gathered : List ℕ) (s next : Cutting) (rest rest' : List ℕ) : Type 0 where
+  pub on : {start : Moment} {text : List ℕ} {told left : Option (List ℕ)} → SoFar tool quiet start first before text told left s rest → SoFar tool quiet start now counts (text ++ gathered) told left next rest'
 
 -- each run so far ends at this bad line, once what was gathered is written
-pub record Ends (tool : Tool) (first now : Moment) (gathered : List ℕ) (s : Cutting) (rest : List ℕ) (bad : ℕ × LineFault) : Type 0 where
-  pub end : {start : Moment} {text : List ℕ} {told left : Option (List ℕ)} (after : Option (List ℕ)) → SoFar tool start first text told left s rest → Told start.written after (text ++ gathered) → IfSome told (λ input. IsReplay tool start (ended (over_sink now after)) input (Some bad) left)
+pub record Ends (tool : Tool) (quiet : Bool) (first now : Moment) (before counts : Counts) (gathered : List ℕ) (s : Cutting) (lines : ℕ) (rest : List ℕ) (bad : ℕ × LineFault) : Type 0 where
+  pub end : {start : Moment} {text : List ℕ} {told left : Option (List ℕ)} (after : Option (List ℕ)) → SoFar tool quiet start first before text told left s rest → Told start.written after (text ++ gathered) → IfSome told (λ input. AtEnd tool quiet start (over_sink now after) counts lines input (Some bad) left)
 
 -- each run so far ends with the input
-pub record EndsAll (tool : Tool) (first now : Moment) (gathered : List ℕ) (s : Cutting) (bad : Option (ℕ × LineFault)) : Type 0 where
-  pub end : {start : Moment} {text : List ℕ} {told left : Option (List ℕ)} (after : Option (List ℕ)) → SoFar tool start first text told left s [] → IfSome told (λ input. left ≡ Some []) → Told start.written after (text ++ gathered) → IfSome told (λ input. IsReplay tool start (ended (over_sink now after)) input bad left)
+pub record EndsAll (tool : Tool) (quiet : Bool) (first now : Moment) (before counts : Counts) (gathered : List ℕ) (s : Cutting) (lines : ℕ) (bad : Option (ℕ × LineFault)) : Type 0 where
+  pub end : {start : Moment} {text : List ℕ} {told left : Option (List ℕ)} (after : Option (List ℕ)) → SoFar tool quiet start first before text told left s [] → IfSome told (λ input. left ≡ Some []) → Told start.written after (text ++ gathered) → IfSome told (λ input. AtEnd tool quiet start (over_sink now after) counts lines input bad left)
 
 -- more may be fed to a cutter
 pub record CanFeed (s : Cutting) : Type 0 where
@@ -87,10 +86,12 @@ abbrev pub fuel : Cutting → ℕ
 fuel s = (last_number - s.count) * 4097 + (line_limit - length s.kept)
 
 -- what running the lines that a piece ends promises by its answer; `gathered` are the replies
-pub record RunsPiece (tool : Tool) (answer : Result (Option (ℕ × LineFault)) OutOfMemory) (first now : Moment) (gathered : List ℕ) (s next : Cutting) (piece : List ℕ) : Type 0 where
+pub record RunsPiece (tool : Tool) (quiet : Bool) (answer : Result (Option (ℕ × LineFault)) OutOfMemory) (first now : Moment) (before counts : Counts) (gathered : List ℕ) (s next : Cutting) (piece : List ℕ) : Type 0 where
   -- each run so far goes on, or ends at the first bad line
-  pub good : answer ≡ Ok None → GoesOn tool first now gathered s next piece []
-  pub bad : (found : ℕ × LineFault) → answer ≡ Ok (Some found) → Ends tool first now gathered s piece found
+  pub good : answer ≡ Ok None → GoesOn tool quiet first now before counts gathered s next piece []
+  pub bad : (found : ℕ × LineFault) → answer ≡ Ok (Some found) → Ends tool quiet first now before counts gathered s next.count piece found
   -- with no bad line more can be fed, but for the bytes that were taken
   pub open_is : answer ≡ Ok None → CanFeed next
   pub less : answer ≡ Ok None → fuel next + length piece ≤ fuel s
+  -- and counted
+  pub counted : answer ≡ Ok None → CanCountOn quiet counts now.state next.count

@@ -1,26 +1,32 @@
 // The lines of a source, run in order as they come.
-ghost use Rattle.std.specs.Prelude.{◌≡◌, [], Some, IfOk, OnOk};
+ghost use Rattle.std.specs.Prelude.{◌≡◌, [], Some, IfOk, IsTrue, OnOk};
+ghost use Rattle.vc_counts.specs.CanCount.{CanCount};
+ghost use Rattle.vc_counts.specs.Counts.{busy_in, counted};
 ghost use Rattle.vc_script.specs.Answer.{answer};
 ghost use Rattle.vc_script.specs.Cutting.{new_cutting};
-ghost use Rattle.vc_script.specs.Print.{line_of};
-ghost use Rattle.vc_session.specs.Engine.{IsStep, LineRan, RunsScript};
-ghost use Rattle.vc_session.specs.Homes.{IsSessionOver};
-ghost use Rattle.vc_session.specs.Moment.{ended, moment, over_sink};
+ghost use Rattle.vc_script.specs.Needs.{need_shown};
+ghost use Rattle.vc_session.specs.Engine.{IsStep, LineRan, RunsLines};
+ghost use Rattle.vc_session.specs.Progress.{CanCountOn};
 ghost use Rattle.vc_session.specs.ProperState.{IsProperOver};
-ghost use Rattle.vc_session.specs.Replay.{Told};
+ghost use Rattle.vc_session.specs.Run.{nothing_ran};
 ghost use Rattle.vc_session.specs.SoFar.{CanFeed, EndsAll, RunsPiece};
-ghost use Rattle.vc_session.specs.Steps.{Lasts};
 ghost use Rattle.vc_session.specs.Streams.{flows};
+ghost use Rattle.vc_session.specs.Text.{counts_of};
+ghost use Rattle.vc_steps.specs.Homes.{IsSessionOver, state_over};
+ghost use Rattle.vc_steps.specs.Moment.{moment, over_sink};
+ghost use Rattle.vc_steps.specs.Step.{step};
+ghost use Rattle.vc_steps.specs.Steps.{Lasts, StepsBy};
+ghost use Rattle.vc_steps.specs.Told.{rules_in};
 
-use crate::session::Session;
+use crate::gather::gather;
 use crate::stream::write_all;
 use std::alloc::Global;
 use vc_base::{OutOfMemory, ReadFailed, Sink, Source, WriteFailed};
+use vc_counts::{Counts, counted_step};
 use vc_dtdisc::DictDisc;
-use vc_script::{
-    Command, Cut, LineAnswer, LineCutter, LineFault, Reply, Tool, print_reply, read_line,
-};
+use vc_script::{Command, Cut, LineAnswer, LineCutter, LineFault, Reply, Tool, read_line};
 use vc_seg::{BoxedDisc, SegDisc, Shelf};
+use vc_steps::Session;
 
 // Why a run ended before its lines did.
 #[derive(Clone, Copy)]
@@ -60,91 +66,132 @@ impl From<WriteFailed> for Stop {
     }
 }
 
-// Gathers the line of a reply behind those of the others.
-fn gather(alloc: Global, reply: &Reply, replies: &mut Vec<u8>) -> Result<(), OutOfMemory>
-    ensures { OnOk result (Told (Some replies.old.items) (Some replies.new.items)
-        (line_of reply.now)) }
-{
-    let printed = print_reply(alloc, reply)?;
-    replies.extend_from_slice(printed.as_slice())?;
-    Ok(())
-}
-
-// Runs the command of the line of that number and gathers its reply.
-fn run_answer<D: DictDisc>(
-    alloc: Global,
+// Runs the command of the line of that number. A quiet run counts it.
+fn run_command<D: DictDisc>(
+    quiet: bool,
     session: &mut Session<D>,
     shelf: &mut Shelf,
     kinds: &mut Vec<D>,
     n: u32,
     command: &Command,
+    counts: &mut Counts,
+) -> Result<Reply, OutOfMemory>
+    requires session { IsSessionOver state D.rules shelf.old session.old kinds.old.items }
+    requires counts { IsTrue quiet → CanCount counts.old (busy_in
+        (state_over state (rules_in D.rules kinds.old.items) shelf.old session.old)) n }
+    ensures steps { StepsBy result
+        (moment state D.rules D.gone shelf.old session.old kinds.old.items)
+        (moment state D.rules D.gone shelf.new session.new kinds.new.items)
+        command.now (λ s. step s n command.now) }
+    ensures lasts { Lasts state D.rules shelf.old session.old kinds.old.items
+        shelf.new session.new kinds.new.items }
+    ensures counts { IfOk result (λ reply. IsTrue quiet → counts.new ≡ counted counts.old
+        (step (state_over state (rules_in D.rules kinds.old.items) shelf.old session.old)
+        n command.now (need_shown reply))) }
+    ensures can { OnOk result (CanCountOn quiet counts.new
+        (state_over state (rules_in D.rules kinds.new.items) shelf.new session.new) n) }
+{
+    if quiet {
+        return counted_step(session, shelf, kinds, n, command, counts);
+    }
+    session.step(shelf, kinds, n, command)
+}
+
+// Runs the command of the line of that number, and gathers what is written of its reply. A quiet run counts it.
+pub(crate) fn run_answer<D: DictDisc>(
+    alloc: Global,
+    quiet: bool,
+    session: &mut Session<D>,
+    shelf: &mut Shelf,
+    kinds: &mut Vec<D>,
+    n: u32,
+    command: &Command,
+    counts: &mut Counts,
     replies: &mut Vec<u8>,
 ) -> Result<(), OutOfMemory>
-    requires { IsSessionOver state D.rules shelf.old session.old kinds.old.items }
-    ensures ran { OnOk result (IsStep
+    requires session { IsSessionOver state D.rules shelf.old session.old kinds.old.items }
+    requires counts { IsTrue quiet → CanCount counts.old (busy_in
+        (state_over state (rules_in D.rules kinds.old.items) shelf.old session.old)) n }
+    ensures ran { OnOk result (IsStep quiet
         (over_sink (moment state D.rules D.gone shelf.old session.old kinds.old.items)
         (Some replies.old.items))
         (over_sink (moment state D.rules D.gone shelf.new session.new kinds.new.items)
         (Some replies.new.items))
-        n command.now) }
+        counts.old counts.new n command.now) }
     ensures lasts { Lasts state D.rules shelf.old session.old kinds.old.items
         shelf.new session.new kinds.new.items }
+    ensures can { OnOk result (CanCountOn quiet counts.new
+        (state_over state (rules_in D.rules kinds.new.items) shelf.new session.new) n) }
 {
-    let reply = session.step(shelf, kinds, n, command)?;
-    gather(alloc, &reply, replies)
+    let reply = run_command(quiet, session, shelf, kinds, n, command, counts)?;
+    gather(alloc, quiet, n, &reply, replies)
 }
 
-// Runs the line of that number and gathers its reply, or answers what is wrong with it.
+// Runs the line of that number and gathers what is written of its reply, or answers what is wrong with it.
 fn run_line<D: DictDisc>(
     alloc: Global,
     tool: Tool,
+    quiet: bool,
     session: &mut Session<D>,
     shelf: &mut Shelf,
     kinds: &mut Vec<D>,
     n: u32,
     line: &[u8],
+    counts: &mut Counts,
     replies: &mut Vec<u8>,
 ) -> Result<Option<LineFault>, OutOfMemory>
-    requires { IsSessionOver state D.rules shelf.old session.old kinds.old.items }
-    ensures ran { IfOk result (λ fault. LineRan
+    requires session { IsSessionOver state D.rules shelf.old session.old kinds.old.items }
+    requires counts { IsTrue quiet → CanCount counts.old (busy_in
+        (state_over state (rules_in D.rules kinds.old.items) shelf.old session.old)) n }
+    ensures ran { IfOk result (λ fault. LineRan quiet
         (over_sink (moment state D.rules D.gone shelf.old session.old kinds.old.items)
         (Some replies.old.items))
         (over_sink (moment state D.rules D.gone shelf.new session.new kinds.new.items)
         (Some replies.new.items))
-        n (answer tool line.now) fault) }
+        counts.old counts.new n (answer tool line.now) fault) }
     ensures lasts { Lasts state D.rules shelf.old session.old kinds.old.items
         shelf.new session.new kinds.new.items }
+    ensures can { OnOk result (CanCountOn quiet counts.new
+        (state_over state (rules_in D.rules kinds.new.items) shelf.new session.new) n) }
 {
     match read_line(alloc, tool, line)? {
         LineAnswer::Blank => Ok(None),
         LineAnswer::Bad(fault) => Ok(Some(fault)),
         LineAnswer::Is(command) => {
-            run_answer(alloc, session, shelf, kinds, n, &command, replies)?;
+            run_answer(
+                alloc, quiet, session, shelf, kinds, n, &command, counts, replies,
+            )?;
             Ok(None)
         }
     }
 }
 
-// Runs the lines that a piece ends, gathers their replies, and answers the first bad line, by its number from 1 on.
+// Runs the lines that a piece ends, gathers what is written of their replies, and answers the first bad line, by its
+// number from 1 on.
 fn run_piece<D: DictDisc>(
     alloc: Global,
     tool: Tool,
+    quiet: bool,
     session: &mut Session<D>,
     shelf: &mut Shelf,
     kinds: &mut Vec<D>,
     cutter: &mut LineCutter,
     piece: &[u8],
+    counts: &mut Counts,
     replies: &mut Vec<u8>,
 ) -> Result<Option<(u32, LineFault)>, OutOfMemory>
     requires session { IsSessionOver state D.rules shelf.old session.old kinds.old.items }
+    requires counts { CanCountOn quiet counts.old
+        (state_over state (rules_in D.rules kinds.old.items) shelf.old session.old)
+        cutter.old.count }
     requires feeds { CanFeed cutter.old }
     requires none { replies.old.items ≡ [] }
-    ensures runs { RunsPiece tool result
+    ensures runs { RunsPiece tool quiet result
         (over_sink (moment state D.rules D.gone shelf.old session.old kinds.old.items)
         (Some replies.old.items))
         (over_sink (moment state D.rules D.gone shelf.new session.new kinds.new.items)
         (Some replies.new.items))
-        replies.new.items cutter.old cutter.new piece.now }
+        counts.old counts.new replies.new.items cutter.old cutter.new piece.now }
     ensures lasts { Lasts state D.rules shelf.old session.old kinds.old.items
         shelf.new session.new kinds.new.items }
 {
@@ -159,11 +206,13 @@ fn run_piece<D: DictDisc>(
                 match run_line(
                     alloc,
                     tool,
+                    quiet,
                     session,
                     shelf,
                     kinds,
                     cutter.number(),
                     cutter.line(),
+                    counts,
                     replies,
                 )? {
                     Some(fault) => return Ok(Some((cutter.number(), fault))),
@@ -179,21 +228,26 @@ fn run_piece<D: DictDisc>(
 fn run_last<D: DictDisc>(
     alloc: Global,
     tool: Tool,
+    quiet: bool,
     session: &mut Session<D>,
     shelf: &mut Shelf,
     kinds: &mut Vec<D>,
     cutter: &mut LineCutter,
+    counts: &mut Counts,
     replies: &mut Vec<u8>,
 ) -> Result<Option<(u32, LineFault)>, OutOfMemory>
     requires session { IsSessionOver state D.rules shelf.old session.old kinds.old.items }
+    requires counts { CanCountOn quiet counts.old
+        (state_over state (rules_in D.rules kinds.old.items) shelf.old session.old)
+        cutter.old.count }
     requires feeds { CanFeed cutter.old }
     requires none { replies.old.items ≡ [] }
-    ensures ends { IfOk result (EndsAll tool
+    ensures ends { IfOk result (EndsAll tool quiet
         (over_sink (moment state D.rules D.gone shelf.old session.old kinds.old.items)
         (Some replies.old.items))
         (over_sink (moment state D.rules D.gone shelf.new session.new kinds.new.items)
         (Some replies.new.items))
-        replies.new.items cutter.old) }
+        counts.old counts.new replies.new.items cutter.old cutter.new.count) }
     ensures lasts { Lasts state D.rules shelf.old session.old kinds.old.items
         shelf.new session.new kinds.new.items }
 {
@@ -201,11 +255,13 @@ fn run_last<D: DictDisc>(
         Cut::Whole => match run_line(
             alloc,
             tool,
+            quiet,
             session,
             shelf,
             kinds,
             cutter.number(),
             cutter.line(),
+            counts,
             replies,
         )? {
             Some(fault) => Ok(Some((cutter.number(), fault))),
@@ -215,26 +271,33 @@ fn run_last<D: DictDisc>(
     }
 }
 
-// Runs the lines before the first bad one over a new cutter, and answers that one, by its number from 1 on. The
-// replies of what one read gave are gathered in an empty vector, and written before the next read and before anything
-// else.
+// Runs the lines before the first bad one over a new cutter, and answers that one, by its number from 1 on. What is
+// written of the replies to the lines of one read is gathered in an empty vector, and written before the next read and
+// before anything else. A quiet run counts its commands from 0 on.
 pub(crate) fn run_lines<D: DictDisc, S: Source, O: Sink>(
     alloc: Global,
     tool: Tool,
+    quiet: bool,
     session: &mut Session<D>,
     shelf: &mut Shelf,
     kinds: &mut Vec<D>,
     source: &mut S,
     out: &mut O,
     cutter: &mut LineCutter,
+    counts: &mut Counts,
     replies: &mut Vec<u8>,
 ) -> Result<Option<(u32, LineFault)>, Stop>
     requires session { IsProperOver state D.rules shelf.old session.old kinds.old.items }
+    requires counts { CanCountOn quiet counts.old
+        (state_over state (rules_in D.rules kinds.old.items) shelf.old session.old) 0 }
+    requires zero { counts.old ≡ counts_of (nothing_ran
+        (state_over state (rules_in D.rules kinds.old.items) shelf.old session.old)) }
     requires new { cutter.old ≡ new_cutting }
     requires none { replies.old.items ≡ [] }
-    ensures runs { RunsScript tool result
+    ensures runs { RunsLines tool quiet result
         (moment state D.rules D.gone shelf.old session.old kinds.old.items)
-        (ended (moment state D.rules D.gone shelf.new session.new kinds.new.items))
+        (moment state D.rules D.gone shelf.new session.new kinds.new.items)
+        counts.new cutter.new.count
         (flows S.left S.failures O.written O.failures source.old out.old)
         (flows S.left S.failures O.written O.failures source.new out.new) }
     ensures lasts { Lasts state D.rules shelf.old session.old kinds.old.items
@@ -249,11 +312,13 @@ pub(crate) fn run_lines<D: DictDisc, S: Source, O: Sink>(
         let ran = run_piece(
             alloc,
             tool,
+            quiet,
             session,
             shelf,
             kinds,
             cutter,
             &buf[..n],
+            counts,
             replies,
         );
         write_all(out, replies.as_slice())?;
@@ -263,7 +328,9 @@ pub(crate) fn run_lines<D: DictDisc, S: Source, O: Sink>(
         }
         replies.clear();
     }
-    let ran = run_last(alloc, tool, session, shelf, kinds, cutter, replies);
+    let ran = run_last(
+        alloc, tool, quiet, session, shelf, kinds, cutter, counts, replies,
+    );
     write_all(out, replies.as_slice())?;
     Ok(ran?)
 }

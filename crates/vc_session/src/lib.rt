@@ -1,25 +1,24 @@
 //! Runs scripts over regions.
 #![tactic(auto)]
 
+mod asked;
 pub mod audit_rows;
-mod close;
-mod dict_open;
 pub mod dict_rows;
-mod dict_run;
-mod dict_shut;
-mod dict_view;
-mod dicts;
 mod engine;
+mod gather;
+mod generated;
 pub mod method_rows;
-mod open;
+pub mod quiet_rows;
 pub mod run_rows;
-mod session;
+mod script;
 mod status;
 mod stream;
+mod tail;
+mod told;
 mod tool;
 pub mod view_rows;
 
-pub use session::Session;
+pub use generated::generate;
 pub use status::Status;
 pub use tool::{dtrun, replay};
-pub use vc_commands::{DictEntry, HomeEntry};
+pub use vc_steps::{DictEntry, HomeEntry, Session};

@@ -1,138 +1,69 @@
-// The top calls: a script from a source, its replies to one sink, a fault to another.
-ghost use Rattle.std.specs.Prelude.{◌≡◌, ◌<◌, ◌≤◌, [], OnErr, OnOk, length};
+// The top calls: a script from a source or of generated commands, its replies to one sink, a fault to another.
+ghost use Rattle.std.specs.Prelude.{◌≡◌, [], None, Some, IsSome, IsSomeAnd, map, string_bytes};
 ghost use Rattle.vc_script.specs.declared.tool.Tool.TheVariants.{Dtrun, Vmreplay};
-ghost use Rattle.vc_session.specs.Engine.{RunsScript};
+ghost use Rattle.vc_session.specs.Completes.{Completes};
+ghost use Rattle.vc_session.specs.Engine.{RunsAsked};
 ghost use Rattle.vc_session.specs.Headline.{Headline};
-ghost use Rattle.vc_session.specs.Moment.{Keeps, rest_by, rest_of};
-ghost use Rattle.vc_session.specs.Replay.{Broke, Told, err_line, fault_text, message, tool_name};
 ghost use Rattle.vc_session.specs.Streams.{flows, streams};
-ghost use Rattle.vc_session.specs.Told.{KeepRules};
+ghost use Rattle.vc_steps.specs.Moment.{Keeps, rest_by, rest_of};
+ghost use Rattle.vc_steps.specs.Told.{KeepRules};
+ghost use Rattle.vc_words.specs.Words.{words_of};
 
 use crate::Status;
-use crate::engine::{Stop, run_lines};
-use crate::session::Session;
-use crate::stream::write_all;
-use arrayvec::ArrayString;
-use itoa::Buffer;
+use crate::asked::Asked;
+use crate::engine::Stop;
+use crate::generated::run_generated;
+use crate::script::run_source;
+use crate::told::{tell, tell_fault};
 use std::alloc::Global;
-use vc_base::{Sink, Source, WriteFailed};
+use vc_base::{Sink, Source};
 use vc_dtdisc::{BuiltIn, DictDisc};
-use vc_script::{LineCutter, LineFault, Tool};
+use vc_script::{LineFault, Tool};
 use vc_seg::{BoxedDisc, SegDisc, Shelf};
+use vc_words::read_words;
 
-// Runs the script of a source.
-fn run_source<D: DictDisc, S: Source, O: Sink>(
+// Runs the generated commands that the words ask for, or the script of the source.
+fn run_asked<D: DictDisc, S: Source, O: Sink>(
     alloc: Global,
     tool: Tool,
+    asked: &Asked,
     shelf: &mut Shelf,
     kinds: &mut Vec<D>,
     source: &mut S,
     out: &mut O,
 ) -> Result<Option<(u32, LineFault)>, Stop>
-    ensures runs { RunsScript tool result
+    ensures runs { RunsAsked tool asked.now.words result
         (rest_of state D.rules D.gone shelf.old kinds.old.items)
         (rest_of state D.rules D.gone shelf.new kinds.new.items)
         (flows S.left S.failures O.written O.failures source.old out.old)
         (flows S.left S.failures O.written O.failures source.new out.new) }
+    ensures generated { IsSome asked.now.words.generate → source.new ≡ source.old }
     ensures keeps { Keeps
         (rest_of state D.rules D.gone shelf.old kinds.old.items)
         (rest_of state D.rules D.gone shelf.new kinds.new.items) }
     ensures rules { KeepRules D.rules kinds.old.items kinds.new.items }
 {
-    let mut cutter = LineCutter::new(alloc)?;
-    let mut replies = Vec::new(alloc);
-    let mut session = Session::<D>::new(alloc, tool)?;
-    let ended = run_lines(
-        alloc,
-        tool,
-        &mut session,
-        shelf,
-        kinds,
-        source,
-        out,
-        &mut cutter,
-        &mut replies,
-    );
-    session.end(shelf, kinds);
-    ended
-}
-
-// The longest line of err has 50 bytes: `vmreplay: line 2147483647: unknown method or mode` with its newline.
-const LINE_BYTES: usize = 96;
-
-fn tool_name(tool: Tool) -> &'static str
-    ensures name { result.now ≡ tool_name tool }
-    ensures short { length result.now ≤ 8 }
-{
-    match tool {
-        Tool::Vmreplay => "vmreplay",
-        Tool::Dtrun => "dtrun",
+    match asked.words.generate {
+        None => run_source(alloc, tool, &asked.words, shelf, kinds, source, out),
+        Some(_) => {
+            run_generated(alloc, tool, asked, shelf, kinds, out)?;
+            Ok(None)
+        }
     }
 }
 
-fn fault_text(fault: LineFault) -> &'static str
-    ensures text { result.now ≡ fault_text fault }
-    ensures short { length result.now ≤ 22 }
-{
-    match fault {
-        LineFault::UnknownCommand => "unknown command",
-        LineFault::WordCount => "wrong number of words",
-        LineFault::BadName => "bad name",
-        LineFault::BadNumber => "bad number",
-        LineFault::BadAddress => "bad address",
-        LineFault::BadBytes => "bad bytes",
-        LineFault::UnknownMethod => "unknown method or mode",
-        LineFault::LineTooLong => "line too long",
-        LineFault::TooManyLines => "too many lines",
-    }
-}
-
-// Writes what happened, in one line behind the tool's name.
-fn tell<E: Sink>(err: &mut E, tool: Tool, text: &str) -> Result<(), WriteFailed>
-    requires { length text.now ≤ 80 }
-    ensures told { OnOk result (Told (E.written err.old) (E.written err.new)
-        (message tool text.now)) }
-    ensures broke { OnErr result (Broke (E.failures err.old) (E.failures err.new)
-        (E.written err.old) (E.written err.new) (message tool text.now)) }
-    ensures never_falls { E.failures err.old ≤ E.failures err.new }
-{
-    let mut line = ArrayString::<LINE_BYTES>::new();
-    line.push_str(tool_name(tool));
-    line.push_str(": ");
-    line.push_str(text);
-    line.push_str("\n");
-    write_all(err, line.as_str().as_bytes())
-}
-
-// Writes what is wrong with a line.
-fn tell_fault<E: Sink>(err: &mut E, tool: Tool, n: u32, fault: LineFault) -> Result<(), WriteFailed>
-    ensures told { OnOk result (Told (E.written err.old) (E.written err.new)
-        (err_line tool (n, fault))) }
-    ensures broke { OnErr result (Broke (E.failures err.old) (E.failures err.new)
-        (E.written err.old) (E.written err.new) (err_line tool (n, fault))) }
-    ensures never_falls { E.failures err.old ≤ E.failures err.new }
-{
-    let mut buffer = Buffer::new();
-    let mut text = ArrayString::<LINE_BYTES>::new();
-    text.push_str("line ");
-    text.push_str(buffer.format(n));
-    text.push_str(": ");
-    text.push_str(fault_text(fault));
-    tell(err, tool, text.as_str())
-}
-
-// Runs the script of a source, for a tool that was given these words.
-fn run_tool<D: DictDisc, S: Source, O: Sink, E: Sink>(
+// Runs what the words ask for, and ends with a status.
+fn run_words<D: DictDisc, S: Source, O: Sink, E: Sink>(
     alloc: Global,
     tool: Tool,
-    words: &[String],
+    asked: &Asked,
     shelf: &mut Shelf,
     kinds: &mut Vec<D>,
     source: &mut S,
     out: &mut O,
     err: &mut E,
 ) -> Status
-    ensures headline { Headline tool (length words.now)
+    ensures headline { Headline tool (Some asked.now.words)
         (rest_of state D.rules D.gone shelf.old kinds.old.items)
         (rest_of state D.rules D.gone shelf.new kinds.new.items)
         (streams S.left S.failures O.written O.failures E.written E.failures
@@ -140,16 +71,9 @@ fn run_tool<D: DictDisc, S: Source, O: Sink, E: Sink>(
         (streams S.left S.failures O.written O.failures E.written E.failures
         source.new out.new err.new) result }
     ensures quiet { result ≡ Status.Ok → err.new ≡ err.old }
-    ensures words { 0 < length words.now → (source.new ≡ source.old) × (out.new ≡ out.old)
-        × (shelf.new ≡ shelf.old) × (kinds.new ≡ kinds.old) }
+    ensures generated { IsSome asked.now.words.generate → source.new ≡ source.old }
 {
-    if !words.is_empty() {
-        return match tell(err, tool, "bad arguments") {
-            Ok(()) => Status::Usage,
-            Err(_) => Status::Write,
-        };
-    }
-    match run_source(alloc, tool, shelf, kinds, source, out) {
+    match run_asked(alloc, tool, asked, shelf, kinds, source, out) {
         Ok(None) => Status::Ok,
         Ok(Some((n, fault))) => match tell_fault(err, tool, n, fault) {
             Ok(()) => Status::Script,
@@ -170,10 +94,59 @@ fn run_tool<D: DictDisc, S: Source, O: Sink, E: Sink>(
     }
 }
 
-/// Runs the script that the source gives over the disciplines of a shelf, and ends with a status. The source is read in
-/// pieces of at most 4,096 bytes. The replies to the lines of one piece are gathered and go to `out` before the next read;
-/// gathering them takes memory. A fault goes to `err`, as one line. Where nothing was wrong nothing is written to `err`, and
-/// with words nothing but `err` is touched.
+// Runs a tool that was given these words.
+fn run_tool<D: DictDisc, S: Source, O: Sink, E: Sink>(
+    alloc: Global,
+    tool: Tool,
+    words: &[String],
+    shelf: &mut Shelf,
+    kinds: &mut Vec<D>,
+    source: &mut S,
+    out: &mut O,
+    err: &mut E,
+) -> Status
+    ensures headline { Headline tool (words_of (map string_bytes words.now))
+        (rest_of state D.rules D.gone shelf.old kinds.old.items)
+        (rest_of state D.rules D.gone shelf.new kinds.new.items)
+        (streams S.left S.failures O.written O.failures E.written E.failures
+        source.old out.old err.old)
+        (streams S.left S.failures O.written O.failures E.written E.failures
+        source.new out.new err.new) result }
+    ensures completes { Completes tool (words_of (map string_bytes words.now))
+        (streams S.left S.failures O.written O.failures E.written E.failures
+        source.old out.old err.old)
+        (streams S.left S.failures O.written O.failures E.written E.failures
+        source.new out.new err.new) result }
+    ensures quiet { result ≡ Status.Ok → err.new ≡ err.old }
+    ensures refused_words { words_of (map string_bytes words.now) ≡ None
+        → (source.new ≡ source.old) × (out.new ≡ out.old)
+        × (shelf.new ≡ shelf.old) × (kinds.new ≡ kinds.old) }
+    ensures generated { IsSomeAnd (words_of (map string_bytes words.now)) (λ w. IsSome w.generate)
+        → source.new ≡ source.old }
+{
+    match read_words(alloc, words) {
+        Ok(Some(words)) => {
+            let asked = Asked { words };
+            run_words(alloc, tool, &asked, shelf, kinds, source, out, err)
+        }
+        Ok(None) => match tell(err, tool, "bad arguments") {
+            Ok(()) => Status::Usage,
+            Err(_) => Status::Write,
+        },
+        Err(_) => {
+            let _ = tell(err, tool, "out of memory");
+            Status::Memory
+        }
+    }
+}
+
+/// Runs the script that the source gives over the disciplines of a shelf, or with `--gen` generated commands, and ends
+/// with a status. The words are read before anything else; where they are refused nothing but `err` is touched. With
+/// `--gen` no call is made on the source. The source is read in pieces of at most 4,096 bytes. What is written of the
+/// replies to the lines of one piece is gathered and goes to `out` before the next read; gathering takes memory. With
+/// `--quiet` or `--gen` that is only a line for each refused segment, and behind it five lines of what was counted; with
+/// `--stat` a line for each open region follows, both with status 0 and 1 alone. A fault goes to `err`, as one line. Where
+/// nothing was wrong nothing is written to `err`.
 pub fn replay<S: Source, O: Sink, E: Sink>(
     alloc: Global,
     words: &[String],
@@ -182,15 +155,23 @@ pub fn replay<S: Source, O: Sink, E: Sink>(
     out: &mut O,
     err: &mut E,
 ) -> Status
-    ensures headline { Headline Vmreplay (length words.now)
+    ensures headline { Headline Vmreplay (words_of (map string_bytes words.now))
         (rest_by state [] [] shelf.old) (rest_by state [] [] shelf.new)
         (streams S.left S.failures O.written O.failures E.written E.failures
         source.old out.old err.old)
         (streams S.left S.failures O.written O.failures E.written E.failures
         source.new out.new err.new) result }
+    ensures completes { Completes Vmreplay (words_of (map string_bytes words.now))
+        (streams S.left S.failures O.written O.failures E.written E.failures
+        source.old out.old err.old)
+        (streams S.left S.failures O.written O.failures E.written E.failures
+        source.new out.new err.new) result }
     ensures quiet { result ≡ Status.Ok → err.new ≡ err.old }
-    ensures words { 0 < length words.now → (source.new ≡ source.old) × (out.new ≡ out.old)
+    ensures refused_words { words_of (map string_bytes words.now) ≡ None
+        → (source.new ≡ source.old) × (out.new ≡ out.old)
         × (shelf.new ≡ shelf.old) }
+    ensures generated { IsSomeAnd (words_of (map string_bytes words.now)) (λ w. IsSome w.generate)
+        → source.new ≡ source.old }
 {
     let mut kinds: Vec<BuiltIn> = Vec::new(alloc);
     run_tool(
@@ -205,8 +186,8 @@ pub fn replay<S: Source, O: Sink, E: Sink>(
     )
 }
 
-/// Runs the script that the source gives over the disciplines of a shelf and kinds of dictionaries, as `replay` does. At
-/// its end each kind is told of the objects that are left.
+/// Runs the script that the source gives over the disciplines of a shelf and kinds of dictionaries, or with `--gen`
+/// generated commands, as `replay` does. At its end each kind is told of the objects that are left.
 pub fn dtrun<D: DictDisc, S: Source, O: Sink, E: Sink>(
     alloc: Global,
     words: &[String],
@@ -216,16 +197,24 @@ pub fn dtrun<D: DictDisc, S: Source, O: Sink, E: Sink>(
     out: &mut O,
     err: &mut E,
 ) -> Status
-    ensures headline { Headline Dtrun (length words.now)
+    ensures headline { Headline Dtrun (words_of (map string_bytes words.now))
         (rest_of state D.rules D.gone shelf.old kinds.old.items)
         (rest_of state D.rules D.gone shelf.new kinds.new.items)
         (streams S.left S.failures O.written O.failures E.written E.failures
         source.old out.old err.old)
         (streams S.left S.failures O.written O.failures E.written E.failures
         source.new out.new err.new) result }
+    ensures completes { Completes Dtrun (words_of (map string_bytes words.now))
+        (streams S.left S.failures O.written O.failures E.written E.failures
+        source.old out.old err.old)
+        (streams S.left S.failures O.written O.failures E.written E.failures
+        source.new out.new err.new) result }
     ensures quiet { result ≡ Status.Ok → err.new ≡ err.old }
-    ensures words { 0 < length words.now → (source.new ≡ source.old) × (out.new ≡ out.old)
+    ensures refused_words { words_of (map string_bytes words.now) ≡ None
+        → (source.new ≡ source.old) × (out.new ≡ out.old)
         × (shelf.new ≡ shelf.old) × (kinds.new ≡ kinds.old) }
+    ensures generated { IsSomeAnd (words_of (map string_bytes words.now)) (λ w. IsSome w.generate)
+        → source.new ≡ source.old }
 {
     run_tool(alloc, Tool::Dtrun, words, shelf, kinds, source, out, err)
 }

@@ -122,7 +122,7 @@ pub(crate) fn run(
 }
 
 // One kind of each shape.
-fn kinds(alloc: Global) -> Result<Vec<BuiltIn>, AllocError> {
+pub(crate) fn kinds(alloc: Global) -> Result<Vec<BuiltIn>, AllocError> {
     let mut kinds = Vec::new(alloc);
     for shape in [
         Shape::Whole,

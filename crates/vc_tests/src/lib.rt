@@ -4,9 +4,13 @@
 #[cfg(test)]
 mod ahead;
 #[cfg(test)]
+mod asked;
+#[cfg(test)]
 mod blocks;
 #[cfg(test)]
 mod calls;
+#[cfg(test)]
+mod commands;
 #[cfg(test)]
 mod dicts;
 #[cfg(test)]

@@ -80,6 +80,14 @@ const ROWS: &[Row] = &[
         out: b"r open\na 1:4096\nbusy 1 free 2 sbusy 10 sfree 8128 mbusy 10 mfree 4064 segs 1 extent 8192\n",
         err: b"",
     },
+    // A resize in place at each edge: within its span, into the free bytes behind it, up to their end, one past, and back.
+    Row {
+        lends: &[],
+        script: b"open r best 1\nalloc r a 10\nalloc r b 40\nalloc r c 1\nfree r b\nresize r a 16 fixed\nstat r\nresize r a 17 fixed\nstat r\nresize r a 80 fixed\nstat r\nresize r a 81 fixed\nread r a 16 64\nwrite r a 0 hello\nresize r a 3 fixed\nstat r\nresize r a 80 fixed\nread r a 0 5\nblocks r\n",
+        status: Status::Ok,
+        out: b"r open\na 1:32\nb 1:64\nc 1:128\nb freed\na 1:32\nbusy 2 free 2 sbusy 17 sfree 4000 mbusy 16 mfree 3936 segs 1 extent 4096\na 1:32\nbusy 2 free 2 sbusy 18 sfree 3968 mbusy 17 mfree 3936 segs 1 extent 4096\na 1:32\nbusy 2 free 1 sbusy 81 sfree 3936 mbusy 80 mfree 3936 segs 1 extent 4096\nrefused: cannot grow here\na 00000000000000000000000000000000000000000000000000000000000000000000000000000000000000000000000000000000000000000000000000000000\na written 5\na 1:32\nbusy 2 free 2 sbusy 4 sfree 4000 mbusy 3 mfree 3936 segs 1 extent 4096\na 1:32\na 68656c0000\nblocks 2 a@1:32+80 c@1:128+1\n",
+        err: b"",
+    },
     Row {
         lends: &[],
         script: b"open r best 1\nalloc r a 100\nalloc r b 100\nalloc r c 1\nwrite r a 0 hello\nfree r b\nresize r a 240 fixed\nresize r a 241 fixed\nresize r a 241 move\nread r a 0 5\nread r a 240 1\n",

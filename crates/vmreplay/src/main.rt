@@ -1,9 +1,10 @@
 //! Runs a script over regions, from standard input to standard output.
 #![tactic(auto)]
 
-ghost use Rattle.std.specs.Prelude.{◌≡◌, ◌<◌, length, vec_len};
+ghost use Rattle.std.specs.Prelude.{◌≡◌, None, map, string_bytes, vec_len};
 ghost use Rattle.std.specs.Process.{exit_status};
 ghost use Rattle.vc_session.specs.Status.{number};
+ghost use Rattle.vc_words.specs.Words as asked;
 
 use std::alloc::Global;
 use std::io::{Stderr, Stdin, Stdout};
@@ -30,7 +31,8 @@ fn run(
     err: &mut StdSink<Stderr>,
 ) -> Status
     requires places { vec_len shelf.old.slots ≡ 16 }
-    ensures words { 0 < length words.now → (source.new ≡ source.old) × (out.new ≡ out.old) }
+    ensures refused_words { asked.words_of (map string_bytes words.now) ≡ None
+        → (source.new ≡ source.old) × (out.new ≡ out.old) }
     ensures quiet { result ≡ Status.Ok → err.new ≡ err.old }
 {
     replay(alloc, words, shelf, source, out, err)

@@ -1,7 +1,7 @@
 use Rattle.std.proofs.Common.{ap, ◌∙◌, ◌++◌, subst, arith, refl, rules, Ok, []}
 use Rattle.vc_model.specs.Stream.{Reads}
 use Rattle.vc_session.proofs.Lasting.{lasts-same, lasts-trans}
-use Rattle.vc_session.proofs.Running.{told-more, told-none}
+use Rattle.vc_session.proofs.Progress.{told-more, told-none}
 use Rattle.vc_session.proofs.SoFar.{at-end, if_err, new-is, so_far-cut_short, so_far-over, so_far-read, so_far-start}
 use Rattle.vc_session.proofs.engine.run_lines.Goals as goal
 
@@ -13,8 +13,9 @@ loop-n-init g c =
       none = c.requires.none;
       feeds = record { is_open = refl; cutting = new-is };
       lasts = lasts-same c.requires.session.stands;
+      counts = c.requires.counts;
       text = [];
-      so_far = so_far-start _ _ _ c.requires.session.proper;
+      so_far = so_far-start _ _ _ _ _ c.requires.session.proper (λ is_quiet. c.requires.zero);
       told = told-none _;
       reads = omega arith;
       writes = omega arith;
@@ -24,7 +25,7 @@ pub returns-in_err-n-clause-runs : goal.returns-in_err-n-clause-runs
 returns-in_err-n-clause-runs g c =
     let inv = c.loop-n.invariant in
     record {
-      replay = search rules;
+      at_end = search rules;
       cut_short = if_err _ _ _ (so_far-cut_short _ _ inv.so_far inv.feeds.cutting c.in_err-n.ensures.err inv.told);
       read = search rules;
       write = search rules;
@@ -39,7 +40,7 @@ pub returns-in_err-write_all-clause-runs : goal.returns-in_err-write_all-clause-
 returns-in_err-write_all-clause-runs g c =
     let inv = c.loop-n.invariant in
     record {
-      replay = search rules;
+      at_end = search rules;
       cut_short = search rules;
       read = search rules;
       write = search rules;
@@ -54,7 +55,7 @@ pub returns-in_err-bad-clause-runs : goal.returns-in_err-bad-clause-runs
 returns-in_err-bad-clause-runs g c =
     let inv = c.loop-n.invariant in
     record {
-      replay = search rules;
+      at_end = search rules;
       cut_short = search rules;
       read = search rules;
       write = search rules;
@@ -71,7 +72,7 @@ returns-in-Some-clause-runs g c =
     let so_far = so_far-read _ _ c.in_ok-n.n inv.so_far inv.feeds.cutting (c.read.auto.buf ∙ inv.room) c.in_ok-n.ensures.ok in
     let written = rw c.as_slice.ensures.value at c.in_ok-write_all.ensures.ok in
     record {
-      replay = (c.run_piece-ran.ensures.runs.bad c.in-Some.bad (c.in_ok-bad.was ∙ ap (λ o. Ok o) c.in-Some.is)).end _ (so_far-over _ so_far) (told-more _ _ _ inv.text _ inv.told written);
+      at_end = (c.run_piece-ran.ensures.runs.bad c.in-Some.bad (c.in_ok-bad.was ∙ ap (λ o. Ok o) c.in-Some.is)).end _ (so_far-over _ so_far) (told-more _ _ _ inv.text _ inv.told written);
       cut_short = tt;
       read = tt;
       write = tt;
@@ -92,6 +93,7 @@ loop-n-preserved g c =
       room = c.read.auto.buf ∙ inv.room;
       none = c.clear.ensures.items;
       feeds = c.run_piece-ran.ensures.runs.open_is none;
+      counts = c.run_piece-ran.ensures.runs.counted none;
       lasts = lasts-trans inv.lasts c.run_piece-ran.ensures.lasts;
       text = inv.text ++ c.run_piece-ran.new.replies.items;
       so_far = so_far-over _ ((c.run_piece-ran.ensures.runs.good none).on (so_far-over _ so_far));
@@ -107,7 +109,7 @@ pub returns-in_err-write_all-2-clause-runs : goal.returns-in_err-write_all-2-cla
 returns-in_err-write_all-2-clause-runs g c =
     let inv = c.loop-n.invariant in
     record {
-      replay = search rules;
+      at_end = search rules;
       cut_short = search rules;
       read = search rules;
       write = search rules;
@@ -122,7 +124,7 @@ pub returns-in_err-ran-clause-runs : goal.returns-in_err-ran-clause-runs
 returns-in_err-ran-clause-runs g c =
     let inv = c.loop-n.invariant in
     record {
-      replay = search rules;
+      at_end = search rules;
       cut_short = search rules;
       read = search rules;
       write = search rules;
@@ -143,7 +145,7 @@ returns-clause-runs g c =
     let written = rw c.as_slice-2.ensures.value at c.in_ok-write_all-2.ensures.ok in
     let ends = rw c.in_ok-ran.was at c.run_last-ran.ensures.ends in
     record {
-      replay = ends.end _ (so_far-over _ so_far) end (told-more _ _ _ inv.text _ inv.told written);
+      at_end = ends.end _ (so_far-over _ so_far) end (told-more _ _ _ inv.text _ inv.told written);
       cut_short = tt;
       read = tt;
       write = tt;

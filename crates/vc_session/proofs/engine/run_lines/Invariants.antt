@@ -1,8 +1,11 @@
 use Rattle.std.proofs.Common.{◌≡◌, ◌≤◌, ℕ, List, [], length}
-use Rattle.vc_session.specs.Moment.{moment, over_sink}
+use Rattle.vc_steps.specs.Moment.{moment, over_sink}
 use Rattle.vc_session.specs.Replay.{Told}
 use Rattle.vc_session.specs.SoFar.{CanFeed, SoFar, fuel}
-use Rattle.vc_session.specs.Steps.{Lasts}
+use Rattle.vc_session.specs.Progress.{CanCountOn}
+use Rattle.vc_steps.specs.Homes.{state_over}
+use Rattle.vc_steps.specs.Steps.{Lasts}
+use Rattle.vc_steps.specs.Told.{rules_in}
 use Rattle.vc_session.proofs.engine.run_lines.Given as goal
 
 -- what was read is run, up to the line that has begun, and its replies are written
@@ -14,10 +17,11 @@ invariant-loop-n g l =
       feeds : CanFeed l.cutter;
       lasts : Lasts (λ z. (goal.SegDisc-dyn g z).state z.1) g.D.DictDisc.rules l.fn.shelf l.fn.session l.fn.kinds.items l.shelf l.session l.kinds.items;
       text : List ℕ;
-      so_far : SoFar l.tool
+      counts : CanCountOn l.quiet l.counts (state_over (λ z. (goal.SegDisc-dyn g z).state z.1) (rules_in g.D.DictDisc.rules l.kinds.items) l.shelf l.session) l.cutter.count;
+      so_far : SoFar l.tool l.quiet
           (over_sink (moment (λ z. (goal.SegDisc-dyn g z).state z.1) g.D.DictDisc.rules g.D.DictDisc.gone l.fn.shelf l.fn.session l.fn.kinds.items) (g.O.Sink.written l.fn.out))
           (over_sink (moment (λ z. (goal.SegDisc-dyn g z).state z.1) g.D.DictDisc.rules g.D.DictDisc.gone l.shelf l.session l.kinds.items) (g.O.Sink.written l.out))
-          text (g.S.Source.left l.fn.source) (g.S.Source.left l.source) l.cutter [];
+          l.counts text (g.S.Source.left l.fn.source) (g.S.Source.left l.source) l.cutter [];
       told : Told (g.O.Sink.written l.fn.out) (g.O.Sink.written l.out) text;
       reads : g.S.Source.failures l.fn.source ≤ g.S.Source.failures l.source;
       writes : g.O.Sink.failures l.fn.out ≤ g.O.Sink.failures l.out;

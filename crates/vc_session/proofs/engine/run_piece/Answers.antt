@@ -1,15 +1,17 @@
 use Rattle.std.proofs.Common.{◌+◌, sym, ap, ◌∙◌, refl, subst, arith}
 use Rattle.std.specs.Prelude.{IsTrue}
 use Rattle.std.proofs.lemmas.List.{length-drop, take_rest}
+use Rattle.vc_session.proofs.Counting.{can-same}
 use Rattle.vc_session.specs.SoFar.{Ends}
 use Rattle.vc_session.proofs.Lasting.{lasts-same, lasts-trans}
-use Rattle.vc_session.proofs.SoFar.{fed-is, more-kept, ok-some, so_far-bad_cut, so_far-bad_line, so_far-line, so_far-more, so_far-none, whole-kept}
+use Rattle.vc_session.proofs.SoFar.{fed-is, more-count, more-kept, ok-some, so_far-bad_cut, so_far-bad_line, so_far-line, so_far-more, so_far-none, whole-count, whole-kept}
 use Rattle.vc_session.proofs.engine.run_piece.Goals as goal
 
 pub loop-rest-init : goal.loop-rest-init
 loop-rest-init g c = record {
   feeds = c.requires.feeds;
   lasts = lasts-same c.requires.session;
+  counts = c.requires.counts;
   goes_on = record { on = λ r. so_far-none _ c.requires.none r };
   less = omega arith;
 }
@@ -24,6 +26,7 @@ loop-rest-preserved-in-More g c =
     (record {
       feeds = record { is_open = subst IsTrue (sym kept.fed) inv.feeds.is_open; cutting = kept.cutting };
       lasts = inv.lasts;
+      counts = can-same _ _ _ _ _ (more-count c.loop-rest.cutter c.loop-rest.rest.now next c.feed-cut.result.1 inv.feeds.cutting e) inv.counts;
       goes_on = record { on = λ r. so_far-more next c.feed-cut.result.1 inv.feeds.cutting (inv.goes_on.on r) e };
       less = omega (arith, inv.less, kept.less, c.feed-cut.ensures.within, length-drop c.feed-cut.result.1 c.loop-rest.rest.now);
     })
@@ -36,10 +39,11 @@ returns-in-Bad-clause-runs g c =
     record {
       good = λ is. absurd (cc is);
       bad = λ bad same.
-          subst (Ends _ _ _ _ _ _) (ap (λ n. (n + 1, c.in-Bad.fault)) (sym c.number.ensures.value) ∙ ok-some (c.number.result + 1, c.in-Bad.fault) bad same)
-          (record { end = λ after r written. so_far-bad_cut next c.feed-cut.result.1 inv.feeds.cutting c.in-Bad.fault after (inv.goes_on.on r) e written });
+          subst (Ends _ _ _ _ _ _ _ _ _ _) (ap (λ n. (n + 1, c.in-Bad.fault)) (sym c.number.ensures.value) ∙ ok-some (c.number.result + 1, c.in-Bad.fault) bad same)
+          (record { end = λ after r written. so_far-bad_cut next c.feed-cut.result.1 inv.feeds.cutting c.in-Bad.fault next.count after (inv.goes_on.on r) e written });
       open_is = λ is. absurd (cc is);
       less = λ is. absurd (cc is);
+      counted = λ is. absurd (cc is);
     }
 
 pub returns-in-Some-clause-runs : goal.returns-in-Some-clause-runs
@@ -51,10 +55,11 @@ returns-in-Some-clause-runs g c =
     record {
       good = λ is. absurd (cc is);
       bad = λ bad same.
-          subst (Ends _ _ _ _ _ _) (ap (λ n. (n, c.in-Some.fault)) (sym c.number-in-Some.ensures.value) ∙ ok-some (c.number-in-Some.result, c.in-Some.fault) bad same)
-          (record { end = λ after r written. so_far-bad_line _ _ _ _ next c.feed-cut.result.1 c.in-Some.fault after refl refl inv.feeds.cutting (inv.goes_on.on r) e ran written });
+          subst (Ends _ _ _ _ _ _ _ _ _ _) (ap (λ n. (n, c.in-Some.fault)) (sym c.number-in-Some.ensures.value) ∙ ok-some (c.number-in-Some.result, c.in-Some.fault) bad same)
+          (record { end = λ after r written. so_far-bad_line _ _ _ _ _ next c.feed-cut.result.1 c.in-Some.fault next.count after refl refl inv.feeds.cutting (inv.goes_on.on r) e ran written });
       open_is = λ is. absurd (cc is);
       less = λ is. absurd (cc is);
+      counted = λ is. absurd (cc is);
     }
 
 pub returns-in-Some-clause-lasts : goal.returns-in-Some-clause-lasts
@@ -71,6 +76,14 @@ loop-rest-preserved g c =
     (record {
       feeds = record { is_open = subst IsTrue (sym kept.fed) inv.feeds.is_open; cutting = kept.cutting };
       lasts = lasts-trans inv.lasts c.run_line.ensures.lasts;
+      counts = rw c.number-in-Whole.ensures.value at c.in_ok-fault-in-Whole.ensures.can;
       goes_on = record { on = λ r. so_far-line _ _ _ _ next c.feed-cut.result.1 refl refl inv.feeds.cutting (inv.goes_on.on r) e ran };
       less = omega (arith, inv.less, kept.less, c.feed-cut.ensures.within, length-drop c.feed-cut.result.1 c.loop-rest.rest.now);
     })
+
+pub run_line-requires-clause-counts : goal.run_line-requires-clause-counts
+run_line-requires-clause-counts g c =
+    let inv = c.loop-rest.invariant in
+    let next = c.feed-cut.new.self in
+    let e = fed-is c.loop-rest.cutter c.loop-rest.rest.now next _ _ c.feed-cut.result.1 c.feed-cut.ensures.fed c.in-Whole.is in
+    λ is_quiet. inv.counts is_quiet c.number-in-Whole.result (omega (arith, c.number-in-Whole.ensures.value, whole-count c.loop-rest.cutter c.loop-rest.rest.now next c.feed-cut.result.1 inv.feeds.cutting e))

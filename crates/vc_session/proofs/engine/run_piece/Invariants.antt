@@ -1,7 +1,10 @@
 use Rattle.std.proofs.Common.{◌+◌, ◌≤◌, Some, length}
-use Rattle.vc_session.specs.Moment.{moment, over_sink}
+use Rattle.vc_steps.specs.Moment.{moment, over_sink}
 use Rattle.vc_session.specs.SoFar.{CanFeed, GoesOn, fuel}
-use Rattle.vc_session.specs.Steps.{Lasts}
+use Rattle.vc_session.specs.Progress.{CanCountOn}
+use Rattle.vc_steps.specs.Homes.{state_over}
+use Rattle.vc_steps.specs.Steps.{Lasts}
+use Rattle.vc_steps.specs.Told.{rules_in}
 use Rattle.vc_session.proofs.engine.run_piece.Given as goal
 
 -- a run so far goes on up to what is left of the piece
@@ -10,10 +13,11 @@ invariant-loop-rest g l =
     record {
       feeds : CanFeed l.cutter;
       lasts : Lasts (λ z. (goal.SegDisc-dyn g z).state z.1) g.D.DictDisc.rules l.fn.shelf l.fn.session l.fn.kinds.items l.shelf l.session l.kinds.items;
-      goes_on : GoesOn l.tool
+      counts : CanCountOn l.quiet l.counts (state_over (λ z. (goal.SegDisc-dyn g z).state z.1) (rules_in g.D.DictDisc.rules l.kinds.items) l.shelf l.session) l.cutter.count;
+      goes_on : GoesOn l.tool l.quiet
           (over_sink (moment (λ z. (goal.SegDisc-dyn g z).state z.1) g.D.DictDisc.rules g.D.DictDisc.gone l.fn.shelf l.fn.session l.fn.kinds.items) (Some l.fn.replies.items))
           (over_sink (moment (λ z. (goal.SegDisc-dyn g z).state z.1) g.D.DictDisc.rules g.D.DictDisc.gone l.shelf l.session l.kinds.items) (Some l.replies.items))
-          l.replies.items l.fn.cutter l.cutter l.piece l.rest;
+          l.fn.counts l.counts l.replies.items l.fn.cutter l.cutter l.piece l.rest;
       less : fuel l.cutter + length l.piece ≤ fuel l.fn.cutter + length l.rest;
     }
 

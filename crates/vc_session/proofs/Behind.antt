@@ -1,0 +1,204 @@
+-- What stands behind the replies of a run, and the run with it.
+use Rattle.std.proofs.Common.{◌≡◌, ℕ, ◌+◌, ◌<◌, ◌≤◌, ◌^◌, Bool, true, false, List, [], ◌∷◌, ◌++◌, Option, Some, None, Ok, length, take, map, codes, decimal, refl, sym, ap, ◌∙◌, subst, arith, suc, zero, add-one}
+use Rattle.std.specs.Prelude.{IfSome, slice_get}
+use Rattle.std.specs.List.{AllByRecursion, list_all, zip}
+use Rattle.std.proofs.lemmas.Bool.{and_parts, false≢true}
+use Rattle.std.proofs.lemmas.Grind.{flat_map-append}
+use Rattle.std.proofs.lemmas.List.{append_assoc, append-nil, map-append, take_all}
+use Rattle.std.proofs.lemmas.List.Folds.{list_all-append}
+use Rattle.vc_commands.specs.Held.{home_of}
+use Rattle.vc_commands.specs.Home.{Home}
+use Rattle.vc_commands.specs.declared.region.home.HomeEntry.{HomeEntry}
+use Rattle.vc_commands.specs.declared.region.labels.Labels.{Labels}
+use Rattle.vc_commands.specs.Labels.{name_of}
+use Rattle.vc_counts.specs.declared.counts.Counts.{Counts}
+use Rattle.vc_model.specs.Discipline.{Discipline}
+use Rattle.vc_region.specs.Cells.{rest_in}
+use Rattle.vc_region.specs.Parts.{region_of}
+use Rattle.vc_region.specs.Stat.{stat_of}
+use Rattle.vc_region.proofs.Relabel.{stat-relabelled}
+use Rattle.vc_region.proofs.Rest.{rest-stat}
+use Rattle.vc_script.specs.declared.command.Command.{Command}
+use Rattle.vc_script.specs.declared.line_fault.LineFault.{LineFault}
+use Rattle.vc_script.specs.declared.reply.Reply.TheVariants.{Number, ShutDown, Stats}
+use Rattle.vc_script.specs.declared.tool.Tool.{Tool}
+use Rattle.vc_script.specs.Judged.{judged}
+use Rattle.vc_script.specs.Lines.{ended_lines}
+use Rattle.vc_script.specs.Print.{line_of, printed}
+use Rattle.vc_script.specs.Proper.{IsName}
+use Rattle.vc_script.proofs.Newlines.{OneLine, line-printed, stays}
+use Rattle.vc_seg.specs.declared.stat.Stat.{Stat}
+use Rattle.vc_steps.specs.Homes.{held_all}
+use Rattle.vc_steps.specs.Moment.{Moment, ended, over_sink}
+use Rattle.vc_session.specs.Engine.{RunsLines, RunsScript}
+use Rattle.vc_session.specs.ProperState.{IsProperHome}
+use Rattle.vc_session.specs.Progress.{Progress}
+use Rattle.vc_session.specs.Replay.{IsReplay, IsRun, Told}
+use Rattle.vc_session.specs.Run.{script}
+use Rattle.vc_session.specs.SoFar.{AtEnd}
+use Rattle.vc_session.specs.Streams.{Flows}
+use Rattle.vc_session.specs.Text.{body_of, counts_of, good_lines, is_quiet, lines_text, stat_line, stat_text, stats_by, summary, summary_by, tail_lines, text_of}
+use Rattle.vc_session.proofs.Progress.{all-append, progress-end, told-more}
+use Rattle.vc_session.proofs.ShownNeeds.{IsUnnumbered, NoLine, line-both, none-unnumbered}
+use Rattle.vc_words.specs.declared.words.Words.{Words}
+
+line-decimal : (n : ℕ) → OneLine (decimal n)
+line-decimal n = line-printed (Number n) tt
+
+line-front : (xs ys : List ℕ) → OneLine (xs ++ ys) → OneLine xs
+line-front xs ys whole = (and_parts (list_all stays xs) (list_all stays ys) (sym (list_all-append stays xs ys) ∙ whole)).0
+
+line-name : (name : List ℕ) → IsName name → OneLine name
+line-name name proper = line-front name (codes " shut") (line-printed (ShutDown name) proper)
+
+labelled : (label : List ℕ) (n : ℕ) → OneLine label → OneLine (label ++ decimal n)
+labelled label n first = line-both label (decimal n) first (line-decimal n)
+
+summary-unnumbered : (t : Bool) (lines : ℕ) (c : Counts) → AllByRecursion IsUnnumbered (summary_by t lines c)
+summary-unnumbered false lines c = tt
+summary-unnumbered true lines c =
+    let lent = line-both (codes "lent " ++ decimal c.segments) (codes " ") (labelled (codes "lent ") c.segments refl) refl in (
+      (refl, labelled (codes "lines ") lines refl),
+      (
+        (refl, labelled (codes "done ") c.done refl),
+        (
+          (refl, labelled (codes "refused ") c.refused refl),
+          (
+            (refl, labelled (codes "lent " ++ decimal c.segments ++ codes " ") c.bytes lent),
+            ((refl, labelled (codes "peak ") c.peak refl), tt),
+          ),
+        ),
+      ),
+    )
+
+line-stat : (h : Home) → IsName h.name → OneLine (stat_line h)
+line-stat h proper =
+    line-both (codes "stat " ++ h.name ++ codes " ") (printed (Stats (stat_of h.region)))
+    (line-both (codes "stat " ++ h.name) (codes " ") (line-both (codes "stat ") h.name refl (line-name h.name proper)) refl)
+    (line-printed (Stats (stat_of h.region)) tt)
+
+all-stats : (homes : List Home) → AllByRecursion IsProperHome homes → AllByRecursion IsUnnumbered (map stat_line homes)
+all-stats [] proper = tt
+all-stats (h ∷ hs) proper = ((refl, line-stat h proper.0.3), all-stats hs proper.1)
+
+stats-unnumbered : (t : Bool) (homes : List Home) → AllByRecursion IsProperHome homes → AllByRecursion IsUnnumbered (stats_by t homes)
+stats-unnumbered false homes proper = tt
+stats-unnumbered true homes proper = all-stats homes proper
+
+-- no line behind the replies has a number in front
+pub tail-none : (w : Words) (lines : ℕ) (c : Counts) (homes : List Home) → AllByRecursion IsProperHome homes → (n : ℕ) → n < 2 ^ 64 → NoLine n (ended_lines (lines_text (tail_lines w lines c homes)))
+tail-none w lines c homes proper n below =
+    none-unnumbered n (tail_lines w lines c homes) below
+    (all-append IsUnnumbered (summary_by (is_quiet w) lines c) (stats_by w.stat homes) (summary-unnumbered (is_quiet w) lines c) (stats-unnumbered w.stat homes proper))
+
+summary-same : (t : Bool) (lines : ℕ) (c d : Counts) → (t ≡ true → c ≡ d) → summary_by t lines c ≡ summary_by t lines d
+summary-same false lines c d same = refl
+summary-same true lines c d same = ap (summary lines) (same refl)
+
+-- a run at its last command, with what is written behind its replies
+pub text-ends : {start now : Moment} {counts : Counts} {text : List ℕ} {count : ℕ} {done : List (ℕ × Command)} (w : Words) (lines : ℕ) (after : Option (List ℕ)) (tail : List ℕ) → Progress (is_quiet w) start now counts text count done → count < 2 ^ 64 → tail ≡ lines_text (tail_lines w lines counts now.state.homes) → Told start.written after (text ++ tail) → IsRun (is_quiet w) (text_of w lines) start (ended (over_sink now after)) done
+text-ends {now = now} {counts = counts} w lines after tail p few is told =
+    progress-end p (text_of w lines) tail after few
+    (λ quiet n below. subst (λ t. NoLine n (ended_lines t)) (sym is) (tail-none w lines counts now.state.homes p.proper_state n below))
+    (ap (λ s. body_of (is_quiet w) p.ran ++ lines_text (tail_lines w lines (counts_of p.ran) s.homes)) p.state
+    ∙ (ap (λ ls. body_of (is_quiet w) p.ran ++ lines_text (ls ++ stats_by w.stat now.state.homes)) (summary-same (is_quiet w) lines (counts_of p.ran) counts (λ quiet. sym (p.counted quiet)))
+    ∙ ap (λ t. body_of (is_quiet w) p.ran ++ t) (sym is)))
+    told
+
+good-same : (bad : Option (ℕ × LineFault)) (lines total : ℕ) → (bad ≡ None → lines ≡ total) → good_lines bad lines ≡ good_lines bad total
+good-same None lines total same = same refl
+good-same (Some bad) lines total same = refl
+
+-- the lines of an input were run, and what stands behind their replies is written
+script-ends : (tool : Tool) (w : Words) (start now : Moment) (counts : Counts) (lines : ℕ) (bad : Option (ℕ × LineFault)) (told left : Option (List ℕ)) (after : Option (List ℕ)) (tail : List ℕ) → tail ≡ lines_text (tail_lines w (good_lines bad lines) counts now.state.homes) → Told now.written after tail → IfSome told (λ input. AtEnd tool (is_quiet w) start now counts lines input bad left) → IfSome told (λ input. IsReplay tool w start (ended (over_sink now after)) input bad left)
+script-ends tool w start now counts lines bad None left after tail is written e = tt
+script-ends tool w start now counts lines bad (Some input) left after tail is written e =
+    record {
+      first = e.first;
+      stops = e.stops;
+      run = subst (λ n. IsRun (is_quiet w) (text_of w n) start (ended (over_sink now after)) (script tool input)) (good-same bad lines (length (judged input)) e.whole)
+          (text-ends w (good_lines bad lines) after tail e.progress (omega (arith, e.few)) is (told-more start.written now.written after e.text tail e.told written));
+    }
+
+-- what a run of a source's lines promises once what stands behind the replies is written
+pub script-told : (tool : Tool) (w : Words) (quiet : Bool) (start last : Moment) (counts : Counts) (count number lines : ℕ) (bad : Option (ℕ × LineFault)) (old mid new : Flows) (none tail : List ℕ) → quiet ≡ is_quiet w → number ≡ count → lines ≡ good_lines bad number → none ≡ [] → tail ≡ none ++ lines_text (tail_lines w lines counts last.state.homes) → RunsLines tool quiet (Ok bad) start last counts count old mid → Told mid.written new.written tail → new.left ≡ mid.left → mid.reads ≤ new.reads → mid.writes ≤ new.writes → RunsScript tool w (Ok bad) start (ended last) old new
+script-told tool w quiet start last counts count number lines bad old mid new none tail by_words counted good empty is runs written left reads writes =
+    let behind : tail ≡ lines_text (tail_lines w (good_lines bad count) counts last.state.homes) =
+    is
+    ∙ (ap (λ xs. xs ++ lines_text (tail_lines w lines counts last.state.homes)) empty
+    ∙ ap (λ n. lines_text (tail_lines w n counts last.state.homes)) (good ∙ ap (λ n. good_lines bad n) counted)) in
+    record {
+      replay =
+          script-ends tool w (over_sink start old.written) (over_sink last mid.written) counts count bad old.left new.left new.written tail behind written
+          (subst (λ l. IfSome old.left (λ input. AtEnd tool (is_quiet w) (over_sink start old.written) (over_sink last mid.written) counts count input bad l)) (sym left)
+          (subst (λ q. IfSome old.left (λ input. AtEnd tool q (over_sink start old.written) (over_sink last mid.written) counts count input bad mid.left)) by_words runs.at_end));
+      cut_short = tt;
+      read = tt;
+      write = tt;
+      reads = omega (arith, runs.reads, reads);
+      writes = omega (arith, runs.writes, writes);
+    }
+
+-- a region's entry tells its numbers
+abbrev pub entry_text : {I : Type 0} {V : I → Type 0} → List ℕ × HomeEntry I V → List ℕ
+entry_text e = stat_text e.0 (stat_of (region_of e.1.region))
+
+stats-entries : {I : Type 0} {V : I → Type 0} (meaning : (x : I) × V x → Discipline) (es : List (List ℕ × HomeEntry I V)) (ls : List Labels) → length ls ≡ length es → map stat_line (map home_of (held_all meaning es ls)) ≡ map entry_text es
+stats-entries meaning [] [] same = refl
+stats-entries meaning [] (l ∷ ls) same = absurd (omega (arith, same))
+stats-entries meaning (e ∷ es) [] same = absurd (omega (arith, same))
+stats-entries meaning (e ∷ es) (l ∷ ls) same =
+    ap (λ stat. stat_text e.0 stat ∷ map stat_line (map home_of (held_all meaning es ls))) (stat-relabelled (name_of l) (rest_in e.1.region) ∙ rest-stat (region_of e.1.region))
+    ∙ ap (λ texts. entry_text e ∷ texts) (stats-entries meaning es ls (omega (arith, same)))
+
+-- one more item
+take-push : {A : Type 0} (xs : List A) (i : ℕ) (x : A) → slice_get xs i ≡ Some x → take (suc i) xs ≡ take i xs ++ x ∷ []
+take-push [] i x at = absurd cc
+take-push (y ∷ ys) zero x at = ap (λ z. z ∷ []) cc
+take-push (y ∷ ys) (suc i) x at = ap (λ zs. y ∷ zs) (take-push ys i x at)
+
+six : (old l1 d1 l2 d2 l3 d3 l4 d4 l5 d5 l6 d6 end : List ℕ) → ((((((old ++ (l1 ++ d1)) ++ ((end ++ l2) ++ d2)) ++ ((end ++ l3) ++ d3)) ++ ((end ++ l4) ++ d4)) ++ (l5 ++ d5)) ++ ((end ++ l6) ++ d6)) ++ end ≡ old ++ (((l1 ++ d1) ++ end) ++ (((l2 ++ d2) ++ end) ++ (((l3 ++ d3) ++ end) ++ (((((l4 ++ d4) ++ l5) ++ d5) ++ end) ++ (((l6 ++ d6) ++ end) ++ [])))))
+six old l1 d1 l2 d2 l3 d3 l4 d4 l5 d5 l6 d6 end = simp (append_assoc, append-nil)
+
+pub summary-put : (quiet : Bool) (lines : ℕ) (c : Counts) (old : List ℕ) → quiet ≡ true → ((((((old ++ (codes "lines " ++ decimal lines)) ++ (codes "\ndone " ++ decimal c.done)) ++ (codes "\nrefused " ++ decimal c.refused)) ++ (codes "\nlent " ++ decimal c.segments)) ++ (codes " " ++ decimal c.bytes)) ++ (codes "\npeak " ++ decimal c.peak)) ++ 10 ∷ [] ≡ old ++ lines_text (summary_by quiet lines c)
+summary-put false lines c old quiet = absurd (false≢true quiet)
+summary-put true lines c old quiet =
+    six old (codes "lines ") (decimal lines) (codes "done ") (decimal c.done) (codes "refused ") (decimal c.refused) (codes "lent ") (decimal c.segments) (codes " ") (decimal c.bytes) (codes "peak ") (decimal c.peak) (10 ∷ [])
+
+pub summary-none : (quiet : Bool) (lines : ℕ) (c : Counts) (old : List ℕ) → quiet ≡ false → old ≡ old ++ lines_text (summary_by quiet lines c)
+summary-none false lines c old plain = sym (append-nil old)
+summary-none true lines c old plain = absurd (false≢true (sym plain))
+
+four : (old word name text : List ℕ) → (((old ++ word) ++ name) ++ 32 ∷ []) ++ (text ++ 10 ∷ []) ≡ old ++ ((((word ++ name) ++ 32 ∷ []) ++ text) ++ 10 ∷ [])
+four old word name text = simp append_assoc
+
+pub stat-put : (name : List ℕ) (stat : Stat) (old : List ℕ) → (((old ++ codes "stat ") ++ name) ++ 32 ∷ []) ++ line_of (Stats stat) ≡ old ++ (stat_text name stat ++ 10 ∷ [])
+stat-put name stat old = four old (codes "stat ") name (printed (Stats stat))
+
+pub stats-none : (asked : Bool) (homes : List Home) (old : List ℕ) → asked ≡ false → old ≡ old ++ lines_text (stats_by asked homes)
+stats-none false homes old none = sym (append-nil old)
+stats-none true homes old none = absurd (false≢true (sym none))
+
+-- the lines of a tail, put in two parts
+pub tail-put : (old : List ℕ) (first second : List (List ℕ)) → (old ++ lines_text first) ++ lines_text second ≡ old ++ lines_text (first ++ second)
+tail-put old first second =
+    append_assoc old (lines_text first) (lines_text second)
+    ∙ ap (λ xs. old ++ xs) (sym (flat_map-append (λ (line : List ℕ). line ++ 10 ∷ []) first second))
+
+-- a line for each region so far, and one more
+pub stats-push : {I : Type 0} {V : I → Type 0} (es : List (List ℕ × HomeEntry I V)) (i : ℕ) (e : List ℕ × HomeEntry I V) (old so_far new : List ℕ) → slice_get es i ≡ Some e → so_far ≡ old ++ lines_text (map entry_text (take i es)) → new ≡ so_far ++ (entry_text e ++ 10 ∷ []) → new ≡ old ++ lines_text (map entry_text (take (i + 1) es))
+stats-push es i e old so_far new at before after =
+    let front : List (List ℕ) = map entry_text (take i es) in
+    after
+    ∙ (ap (λ xs. xs ++ (entry_text e ++ 10 ∷ [])) before
+    ∙ (append_assoc old (lines_text front) (entry_text e ++ 10 ∷ [])
+    ∙ (ap (λ xs. old ++ (lines_text front ++ xs)) (sym (append-nil (entry_text e ++ 10 ∷ [])))
+    ∙ (ap (λ xs. old ++ xs) (sym (flat_map-append (λ (line : List ℕ). line ++ 10 ∷ []) front (entry_text e ∷ [])))
+    ∙ (ap (λ ls. old ++ lines_text ls) (sym (map-append entry_text (take i es) (e ∷ [])))
+    ∙ ap (λ xs. old ++ lines_text (map entry_text xs)) (sym (ap (λ n. take n es) (add-one i) ∙ take-push es i e at)))))))
+
+-- once all are gathered
+pub stats-all-entries : {I : Type 0} {V : I → Type 0} (meaning : (x : I) × V x → Discipline) (asked : Bool) (es : List (List ℕ × HomeEntry I V)) (ls : List Labels) (i : ℕ) → asked ≡ true → length ls ≡ length es → length es ≤ i → stats_by asked (map home_of (held_all meaning es ls)) ≡ map entry_text (take i es)
+stats-all-entries meaning false es ls i is_asked same all = absurd (false≢true is_asked)
+stats-all-entries meaning true es ls i is_asked same all =
+    stats-entries meaning es ls same ∙ ap (λ xs. map entry_text xs) (sym (take_all i es all))

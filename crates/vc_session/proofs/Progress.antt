@@ -1,0 +1,263 @@
+-- A run in its middle, and what each command adds to it.
+use Rattle.std.proofs.Common.{◌≡◌, ℕ, ◌+◌, ◌<◌, ◌≤◌, ◌^◌, Bool, true, false, not, cond, List, [], ◌∷◌, ◌++◌, Option, Some, None, length, map, max, refl, sym, ap, ◌∙◌, subst, arith}
+use Rattle.std.specs.Prelude.{IsTrue, sum, count_by}
+use Rattle.std.specs.List.{AllByRecursion}
+use Rattle.std.proofs.lemmas.List.{append_assoc, append-nil, length-append, map-append}
+use Rattle.std.proofs.lemmas.Grind.{flat_map-append}
+use Rattle.std.proofs.lemmas.List.Sums.{sum_by-append, sum_by_push}
+use Rattle.vc_counts.specs.Counts.{busy_in, counted}
+use Rattle.vc_counts.specs.declared.counts.Counts.{Counts}
+use Rattle.vc_script.specs.declared.command.Command.{Command}
+use Rattle.vc_script.specs.declared.reply.Reply.{Reply}
+use Rattle.vc_script.specs.ProperReply.{IsProperReply}
+use Rattle.vc_script.specs.Proper.{IsProperCommand}
+use Rattle.vc_script.specs.Lines.{ended_lines}
+use Rattle.vc_script.specs.Needs.{IsAscending, Need, ShowsNeeds, is_refusal, need_at, need_shown}
+use Rattle.vc_script.proofs.Texts.{ascending-push}
+use Rattle.vc_steps.specs.Account.{Settles}
+use Rattle.vc_steps.specs.Moment.{Moment, ended, over_sink}
+use Rattle.vc_steps.specs.Refusals.{refusal_at}
+use Rattle.vc_steps.specs.State.{State, Stepped}
+use Rattle.vc_steps.specs.Step.{step}
+use Rattle.vc_steps.specs.Told.{ended_told, tell}
+use Rattle.vc_steps.proofs.Settling.{settles-same, settles-trans}
+use Rattle.vc_steps.proofs.Told.{tell-append}
+use Rattle.vc_session.specs.Engine.{IsIdle, IsStep}
+use Rattle.vc_session.specs.Progress.{Progress}
+use Rattle.vc_session.specs.ProperState.{IsProperState}
+use Rattle.vc_session.specs.QuietText.{body_by, line_by, needs_by}
+use Rattle.vc_session.specs.Replay.{IsRun, Told, all_told, run_by}
+use Rattle.vc_session.specs.Run.{Ran, lines_of, nothing_ran, run}
+use Rattle.vc_session.specs.Text.{body_of, counts_of}
+use Rattle.vc_session.proofs.ProperSteps.{proper-step}
+use Rattle.vc_session.proofs.Runs.{one_more, run-push, step_after}
+use Rattle.vc_session.proofs.ShownNeeds.{NoLine, shows-needs}
+
+pub told-none : (before : Option (List ℕ)) → Told before before []
+told-none None = tt
+told-none (Some w) = ap Some (sym (append-nil w))
+
+pub told-more : (before now after : Option (List ℕ)) (front piece : List ℕ) → Told before now front → Told now after piece → Told before after (front ++ piece)
+told-more None now after front piece p q = tt
+told-more (Some w) now after front piece p q =
+    subst (λ (o : Option (List ℕ)). Told o after piece) p q ∙ ap Some (append_assoc w front piece)
+
+-- facts of each item
+pub all-push : {A : Type 0} (P : A → Type 0) (xs : List A) (x : A) → AllByRecursion P xs → P x → AllByRecursion P (xs ++ x ∷ [])
+all-push P [] x each last = (last, tt)
+all-push P (y ∷ ys) x each last = (each.0, all-push P ys x each.1 last)
+
+all-front : {A : Type 0} (P : A → Type 0) (xs : List A) (x : A) → AllByRecursion P (xs ++ x ∷ []) → AllByRecursion P xs × P x
+all-front P [] x each = (tt, each.0)
+all-front P (y ∷ ys) x each = let behind = all-front P ys x each.1 in ((each.0, behind.0), behind.1)
+
+all-each : {A : Type 0} (P Q : A → Type 0) (xs : List A) → ((x : A) → P x → Q x) → AllByRecursion P xs → AllByRecursion Q xs
+all-each P Q [] f each = tt
+all-each P Q (x ∷ xs) f each = (f x each.0, all-each P Q xs f each.1)
+
+pub all-append : {A : Type 0} (P : A → Type 0) (xs ys : List A) → AllByRecursion P xs → AllByRecursion P ys → AllByRecursion P (xs ++ ys)
+all-append P [] ys each behind = behind
+all-append P (x ∷ xs) ys each behind = (each.0, all-append P xs ys each.1 behind)
+
+-- no command was run
+pub progress-start : (quiet : Bool) (start : Moment) (counts : Counts) → IsProperState start.state → (IsTrue quiet → counts ≡ counts_of (nothing_ran start.state)) → Progress quiet start start counts [] 0 []
+progress-start quiet start counts all none = record {
+  ran = nothing_ran start.state;
+  lines = refl;
+  rising = tt;
+  within = tt;
+  proper = tt;
+  proper_state = all;
+  run = λ needs shows. refl;
+  state = refl;
+  settles = settles-same start.accounts;
+  gone = refl;
+  told = refl;
+  counted = none;
+}
+
+-- the same run, over another sink
+pub progress-over : {quiet : Bool} {start now : Moment} {counts : Counts} {text : List ℕ} {count : ℕ} {done : List (ℕ × Command)} (written : Option (List ℕ)) → Progress quiet start now counts text count done → Progress quiet start (over_sink now written) counts text count done
+progress-over written p = record {
+  ran = p.ran;
+  lines = p.lines;
+  rising = p.rising;
+  within = p.within;
+  proper = p.proper;
+  proper_state = p.proper_state;
+  run = p.run;
+  state = p.state;
+  settles = p.settles;
+  gone = p.gone;
+  told = p.told;
+  counted = p.counted;
+}
+
+-- a run stays what it is where nothing changed
+pub progress-same : {quiet : Bool} {start now next : Moment} {before counts : Counts} {text : List ℕ} {count : ℕ} {done : List (ℕ × Command)} → Progress quiet start now before text count done → IsIdle now next before counts → Progress quiet start next counts text count done
+progress-same {start = start} {now = now} {next = next} p idle = record {
+  ran = p.ran;
+  lines = p.lines;
+  rising = p.rising;
+  within = p.within;
+  proper = p.proper;
+  proper_state = subst IsProperState (sym idle.state) p.proper_state;
+  run = p.run;
+  state = p.state ∙ sym idle.state;
+  settles = subst (Settles start.accounts next.accounts) (append-nil p.ran.refusals) (settles-trans start.accounts now.accounts next.accounts p.ran.refusals [] p.settles idle.settles);
+  gone = idle.gone ∙ p.gone;
+  told = p.told;
+  counted = λ quiet. idle.same_counts ∙ p.counted quiet;
+}
+
+-- what a run with one more step counted
+cond-not : (t : Bool) → ◌≡◌ {A = ℕ} (cond (not t) 1 0) (cond t 0 1)
+cond-not true = refl
+cond-not false = refl
+
+same_counts : (done done' refused refused' segments segments' bytes bytes' busy peak : ℕ) → done ≡ done' → refused ≡ refused' → segments ≡ segments' → bytes ≡ bytes' → (let c : Counts = record { done = done; refused = refused; segments = segments; bytes = bytes; busy = busy; peak = peak } in c) ≡ record { done = done'; refused = refused'; segments = segments'; bytes = bytes'; busy = busy; peak = peak }
+same_counts done done' refused refused' segments segments' bytes bytes' busy peak e0 e1 e2 e3 = cc
+
+pub counts-push : (r : Ran) (c : ℕ × Command) (t : Stepped) → counts_of (one_more r c t) ≡ counted (counts_of r) t
+counts-push r c t =
+    same_counts _ _ _ _ _ _ _ _ (busy_in t.state) (max r.peak (busy_in t.state))
+    (sum_by_push (λ (x : ℕ × Reply). cond (not (is_refusal x.1)) 1 0) r.replies (c.0, t.reply) ∙ ap (λ n. count_by (λ (x : ℕ × Reply). not (is_refusal x.1)) r.replies + n) (cond-not (is_refusal t.reply)))
+    (sum_by_push (λ (x : ℕ × Reply). cond (is_refusal x.1) 1 0) r.replies (c.0, t.reply))
+    (length-append r.granted t.granted)
+    (ap sum (map-append (λ (g : ℕ × ℕ). g.1) r.granted t.granted) ∙ sum_by-append (λ n. n) (map (λ (g : ℕ × ℕ). g.1) r.granted) (map (λ (g : ℕ × ℕ). g.1) t.granted))
+
+-- one more reply
+body-push : (quiet : Bool) (replies : List (ℕ × Reply)) (r : ℕ × Reply) → body_by quiet (replies ++ r ∷ []) ≡ body_by quiet replies ++ line_by quiet r
+body-push quiet replies r =
+    flat_map-append (line_by quiet) replies (r ∷ []) ∙ ap (λ w. body_by quiet replies ++ w) (append-nil (line_by quiet r))
+
+module _ {quiet : Bool} {start now : Moment} {before : Counts} {text : List ℕ} {count : ℕ} {done : List (ℕ × Command)} (n : ℕ) (below : count < n) (p : Progress quiet start now before text count done) where
+  within-next : AllByRecursion (λ m. m ≤ n) (lines_of done)
+  within-next = all-each (λ m. m ≤ count) (λ m. m ≤ n) (lines_of done) (λ m le. omega (arith, le, below)) p.within
+
+  below-next : AllByRecursion (λ m. m < n) (lines_of done)
+  below-next = all-each (λ m. m ≤ count) (λ m. m < n) (lines_of done) (λ m le. omega (arith, le, below)) p.within
+
+  -- a line that asks for nothing
+  pub progress-blank : Progress quiet start now before text n done
+  progress-blank = record {
+    ran = p.ran;
+    lines = p.lines;
+    rising = p.rising;
+    within = within-next;
+    proper = p.proper;
+    proper_state = p.proper_state;
+    run = p.run;
+    state = p.state;
+    settles = p.settles;
+    gone = p.gone;
+    told = p.told;
+    counted = p.counted;
+  }
+
+  module _ {next : Moment} {counts : Counts} (c : Command) (is : IsProperCommand c) (i : IsStep quiet now next before counts n c) where
+    abbrev t : Stepped
+    t = step now.state n c (need_shown i.reply)
+
+    -- the run with one more step
+    abbrev pushed : Ran
+    pushed = one_more p.ran (n, c) t
+
+    -- with the reply and the state of the step
+    abbrev stepped_ran : Ran
+    stepped_ran = record {
+      replies = p.ran.replies ++ (n, i.reply) ∷ [];
+      state = next.state;
+      refusals = p.ran.refusals ++ refusal_at now.state c i.reply;
+      told = p.ran.told ++ t.told;
+      granted = p.ran.granted ++ t.granted;
+      peak = max p.ran.peak (busy_in next.state);
+    }
+
+    abbrev with_step : Reply → State → State → Ran
+    with_step reply was state = record {
+      replies = p.ran.replies ++ (n, reply) ∷ [];
+      state = state;
+      refusals = p.ran.refusals ++ refusal_at was c reply;
+      told = p.ran.told ++ t.told;
+      granted = p.ran.granted ++ t.granted;
+      peak = max p.ran.peak (busy_in state);
+    }
+
+    pushed-stepped : pushed ≡ stepped_ran
+    pushed-stepped =
+        ap (λ was. with_step t.reply was t.state) p.state
+        ∙ (ap (λ reply. with_step reply now.state t.state) i.steps.gives.replied
+        ∙ ap (λ state. with_step i.reply now.state state) i.steps.gives.state_after)
+
+    proper_next : IsProperReply i.reply × IsProperState next.state
+    proper_next =
+        let proper = proper-step now.state n c (need_shown i.reply) is p.proper_state in
+        (subst IsProperReply i.steps.gives.replied proper.0, subst IsProperState i.steps.gives.state_after proper.1)
+
+    lines_next : lines_of (done ++ (n, c) ∷ []) ≡ lines_of done ++ n ∷ []
+    lines_next = map-append (λ (d : ℕ × Command). d.0) done ((n, c) ∷ [])
+
+    run_next : (needs : List (ℕ × Need)) → ShowsNeeds needs (p.ran.replies ++ (n, i.reply) ∷ []) → run start.state (done ++ (n, c) ∷ []) needs ≡ stepped_ran
+    run_next needs shows =
+        let parts = all-front (λ (x : ℕ × Reply). need_at needs x.0 ≡ need_shown x.1) p.ran.replies (n, i.reply) shows in
+        run-push start.state done needs (n, c)
+        ∙ (ap (λ e. one_more e (n, c) (step_after e (n, c) needs)) (p.run needs parts.0)
+        ∙ (ap (λ s. one_more p.ran (n, c) (step s n c (need_at needs n))) p.state
+        ∙ (ap (λ need. one_more p.ran (n, c) (step now.state n c need)) parts.1
+        ∙ pushed-stepped)))
+
+    -- one more command was run
+    pub progress-step : Progress quiet start next counts (text ++ line_by quiet (n, i.reply)) n (done ++ (n, c) ∷ [])
+    progress-step = record {
+      ran = stepped_ran;
+      lines = lines_next ∙ (ap (λ ns. ns ++ n ∷ []) p.lines ∙ sym (map-append (λ (r : ℕ × Reply). r.0) p.ran.replies ((n, i.reply) ∷ [])));
+      rising = subst IsAscending (sym lines_next) (ascending-push (lines_of done) n p.rising below-next);
+      within = subst (AllByRecursion (λ m. m ≤ n)) (sym lines_next) (all-push (λ m. m ≤ n) (lines_of done) n within-next (omega arith));
+      proper = all-push (λ (r : ℕ × Reply). IsProperReply r.1) p.ran.replies (n, i.reply) p.proper proper_next.0;
+      proper_state = proper_next.1;
+      run = run_next;
+      state = refl;
+      settles = settles-trans start.accounts now.accounts next.accounts p.ran.refusals (refusal_at now.state c i.reply) p.settles i.steps.settles;
+      gone =
+          i.steps.gives.told
+          ∙ (ap (λ g. tell t.told g) p.gone
+          ∙ sym (tell-append p.ran.told t.told start.gone));
+      told =
+          ap (λ w. w ++ line_by quiet (n, i.reply)) p.told
+          ∙ sym (body-push quiet p.ran.replies (n, i.reply));
+      counted = λ is_quiet.
+          i.counted is_quiet
+          ∙ (ap (λ b. counted b t) (p.counted is_quiet)
+          ∙ (sym (counts-push p.ran (n, c) t)
+          ∙ ap counts_of pushed-stepped));
+    }
+
+-- the end of a run whose text is that of its replies and this one behind them
+module _ {quiet : Bool} {start now : Moment} {counts : Counts} {text : List ℕ} {count : ℕ} {done : List (ℕ × Command)} (p : Progress quiet start now counts text count done) where
+  few_lines : count < 2 ^ 64 → AllByRecursion (λ n. n < 2 ^ 64) (map (λ (r : ℕ × Reply). r.0) p.ran.replies)
+  few_lines few =
+      subst (AllByRecursion (λ n. n < 2 ^ 64)) p.lines
+      (all-each (λ n. n ≤ count) (λ n. n < 2 ^ 64) (lines_of done) (λ n le. omega (arith, le, few)) p.within)
+
+  -- the text shows the needs of its replies
+  shows : (tail : List ℕ) → count < 2 ^ 64 → (quiet ≡ true → (n : ℕ) → n < 2 ^ 64 → NoLine n (ended_lines tail)) → ShowsNeeds (needs_by quiet (lines_of done) (text ++ tail)) p.ran.replies
+  shows tail few none =
+      subst (λ t. ShowsNeeds (needs_by quiet (lines_of done) (t ++ tail)) p.ran.replies) (sym p.told)
+      (subst (λ ns. ShowsNeeds (needs_by quiet ns (body_of quiet p.ran ++ tail)) p.ran.replies) (sym p.lines)
+      (shows-needs quiet p.ran.replies tail (few_lines few) (subst IsAscending p.lines p.rising) p.proper none))
+
+  pub progress-end : (said : Ran → List ℕ) (tail : List ℕ) (after : Option (List ℕ)) → count < 2 ^ 64 → (quiet ≡ true → (n : ℕ) → n < 2 ^ 64 → NoLine n (ended_lines tail)) → said p.ran ≡ body_of quiet p.ran ++ tail → Told start.written after (text ++ tail) → IsRun quiet said start (ended (over_sink now after)) done
+  progress-end said tail after few none says told =
+      let ran : run_by quiet start done (text ++ tail) ≡ p.ran = p.run (needs_by quiet (lines_of done) (text ++ tail)) (shows tail few none) in
+      record {
+        written = text ++ tail;
+        text = ap (λ t. t ++ tail) p.told ∙ (sym says ∙ ap said (sym ran));
+        told = told;
+        settles = subst (λ e. Settles start.accounts now.accounts e.refusals) (sym ran) p.settles;
+        gone =
+            ap (λ g. tell (ended_told now.state) g) p.gone
+            ∙ (sym (tell-append p.ran.told (ended_told now.state) start.gone)
+            ∙ (ap (λ s. tell (p.ran.told ++ ended_told s) start.gone) (sym p.state)
+            ∙ ap (λ e. tell (all_told e) start.gone) (sym ran)));
+      }

@@ -1,0 +1,261 @@
+-- The needs that a text shows, whatever is behind it; of a quiet one, whatever lines without a number in front.
+use Rattle.std.proofs.Common.{◌≡◌, ◌≢◌, ℕ, ◌<◌, ◌^◌, Bool, true, false, not, cond, eqb, ◌||◌, List, [], ◌∷◌, ◌++◌, length, map, refl, sym, ap, subst, ◌∙◌, arith, codes, decimal}
+use Rattle.std.specs.List.{list_all, list_any, AllByRecursion, flat_map}
+use Rattle.std.specs.Str.{bytes_eq}
+use Rattle.std.proofs.lemmas.Bool.{and_parts, false≢true, false_from_ne_true, cases_Bool}
+use Rattle.std.proofs.lemmas.Fmt.{decimal_injective, decimal_nonempty}
+use Rattle.std.proofs.lemmas.List.{append-nil, append_assoc}
+use Rattle.std.proofs.lemmas.List.Folds.{list_any-append}
+use Rattle.std.proofs.lemmas.Slice.Eq.{bytes_eq-Decides}
+use Rattle.vc_script.specs.declared.refusal.Refusal.TheVariants.{NoSegment, NoSegmentForTable, NoSegmentForObject}
+use Rattle.vc_script.specs.declared.reply.Reply.{Reply}
+use Rattle.vc_script.specs.declared.reply.Reply.TheVariants.{Number, Refused}
+use Rattle.vc_script.specs.Lines.{ended_after, ended_lines}
+use Rattle.vc_script.specs.Needs as needs
+use Rattle.vc_script.specs.Needs.{IsAscending, Need, NoNeed, ForBlock, ForTable, ForObject, ShowsNeeds, need_shown}
+use Rattle.vc_script.specs.Print.{line_of, printed}
+use Rattle.vc_script.specs.ProperReply.{IsProperReply}
+use Rattle.vc_script.specs.Words.{is_digit}
+use Rattle.vc_script.proofs.Heads.{need_of-printed}
+use Rattle.vc_script.proofs.Newlines.{OneLine, list_all-decimal, line-printed, stays}
+use Rattle.vc_script.proofs.Texts.{needs_shown, shows-needs_shown}
+use Rattle.vc_session.specs.QuietText.{body_by, has_line, line_by, needs_by, numbered_line, quiet_need}
+
+not_true : (t : Bool) → not t ≡ true → t ≡ false
+not_true true is_false = absurd (false≢true is_false)
+not_true false is_true = refl
+
+ended_after-whole : (begun xs rest : List ℕ) → OneLine xs → ended_after begun (xs ++ 10 ∷ rest) ≡ (begun ++ xs) ∷ ended_lines rest
+ended_after-whole begun [] rest each = ap (λ bs. bs ∷ ended_lines rest) (sym (append-nil begun))
+ended_after-whole begun (x ∷ xs) rest each =
+    let parts = and_parts (stays x) (list_all stays xs) each in
+    ap (λ t. cond t (begun ∷ ended_lines (xs ++ 10 ∷ rest)) (ended_after (begun ++ x ∷ []) (xs ++ 10 ∷ rest))) (not_true (eqb x 10) parts.0)
+    ∙ (ended_after-whole (begun ++ x ∷ []) xs rest parts.1
+    ∙ ap (λ bs. bs ∷ ended_lines rest) (append_assoc begun (x ∷ []) xs))
+
+-- a line is cut where the newline behind it stands
+ended-line : (xs rest : List ℕ) → OneLine xs → ended_lines ((xs ++ 10 ∷ []) ++ rest) ≡ xs ∷ ended_lines rest
+ended-line xs rest each = ap ended_lines (append_assoc xs (10 ∷ []) rest) ∙ ended_after-whole [] xs rest each
+
+-- what stands before a space, where no space is in it
+cut-space : (ds es xs ys : List ℕ) → list_all is_digit ds ≡ true → list_all is_digit es ≡ true → ds ++ 32 ∷ xs ≡ es ++ 32 ∷ ys → ds ≡ es
+cut-space [] [] xs ys first second same = refl
+cut-space [] (e ∷ es) xs ys first second same =
+    let head : 32 ≡ e = cc in
+    absurd (false≢true (ap is_digit head ∙ (and_parts (is_digit e) (list_all is_digit es) second).0))
+cut-space (d ∷ ds) [] xs ys first second same =
+    let head : 32 ≡ d = cc in
+    absurd (false≢true (ap is_digit head ∙ (and_parts (is_digit d) (list_all is_digit ds) first).0))
+cut-space (d ∷ ds) (e ∷ es) xs ys first second same =
+    let tails : ds ++ 32 ∷ xs ≡ es ++ 32 ∷ ys = cc in
+    let rest : ds ≡ es = cut-space ds es xs ys (and_parts (is_digit d) (list_all is_digit ds) first).1 (and_parts (is_digit e) (list_all is_digit es) second).1 tails in
+    cc
+
+-- none of these lines is this number, a space and a text
+abbrev pub NoLine : ℕ → List (List ℕ) → Type 0
+NoLine n printed = (xs : List ℕ) → has_line n (32 ∷ xs) printed ≡ false
+
+differs : (xs ys : List ℕ) → xs ≢ ys → bytes_eq xs ys ≡ false
+differs xs ys other = false_from_ne_true (bytes_eq xs ys) (λ same. other ((bytes_eq-Decides xs ys).0 same))
+
+other-number : (m n : ℕ) (ys : List ℕ) → m < 2 ^ 64 → n < 2 ^ 64 → m ≢ n → NoLine n ((decimal m ++ 32 ∷ ys) ∷ [])
+other-number m n ys below_m below_n other xs =
+    ap (λ t. t || false) (differs (decimal m ++ 32 ∷ ys) (decimal n ++ 32 ∷ xs) (λ same. other (decimal_injective m n below_m below_n (cut-space (decimal m) (decimal n) ys xs (list_all-decimal m) (list_all-decimal n) same))))
+
+first-digit : (b : ℕ) (ds xs ys : List ℕ) → is_digit b ≡ false → list_all is_digit ds ≡ true → 0 < length ds → b ∷ ys ≢ ds ++ xs
+first-digit b [] xs ys letter digits some same = absurd (omega (arith, some))
+first-digit b (d ∷ ds) xs ys letter digits some same =
+    let head : b ≡ d = cc in
+    false≢true (sym letter ∙ (ap is_digit head ∙ (and_parts (is_digit d) (list_all is_digit ds) digits).0))
+
+-- a line that begins with another byte than a digit
+no-number : (b n : ℕ) (ys : List ℕ) → is_digit b ≡ false → n < 2 ^ 64 → NoLine n ((b ∷ ys) ∷ [])
+no-number b n ys letter below xs =
+    ap (λ t. t || false) (differs (b ∷ ys) (decimal n ++ 32 ∷ xs) (first-digit b (decimal n) (32 ∷ xs) ys letter (list_all-decimal n) (decimal_nonempty n below)))
+
+-- none of the lines before and none of those behind
+both-none : (n : ℕ) (first second : List (List ℕ)) → NoLine n first → NoLine n second → NoLine n (first ++ second)
+both-none n first second none1 none2 xs =
+    list_any-append (λ line. bytes_eq line (decimal n ++ 32 ∷ xs)) first second
+    ∙ (ap (λ t. t || has_line n (32 ∷ xs) second) (none1 xs) ∙ none2 xs)
+
+-- where no line before has the number, those behind tell the need
+behind-none : (n : ℕ) (front : List (List ℕ)) → NoLine n front → (xs : List ℕ) (lines : List (List ℕ)) → has_line n (32 ∷ xs) (front ++ lines) ≡ has_line n (32 ∷ xs) lines
+behind-none n front none xs lines =
+    list_any-append (λ line. bytes_eq line (decimal n ++ 32 ∷ xs)) front lines ∙ ap (λ t. t || has_line n (32 ∷ xs) lines) (none xs)
+
+abbrev need_told : Bool → Bool → Bool → Need
+need_told block table object = cond block ForBlock (cond table ForTable (cond object ForObject NoNeed))
+
+told-by : (n : ℕ) (lines : List (List ℕ)) (block table object : Bool) → has_line n (codes " refused: no segment") lines ≡ block → has_line n (codes " refused: no segment for table") lines ≡ table → has_line n (codes " refused: no segment for object") lines ≡ object → quiet_need lines n ≡ need_told block table object
+told-by n lines block table object e0 e1 e2 =
+    ap (λ t. need_told t (has_line n (codes " refused: no segment for table") lines) (has_line n (codes " refused: no segment for object") lines)) e0
+    ∙ (ap (λ t. need_told block t (has_line n (codes " refused: no segment for object") lines)) e1
+    ∙ ap (λ t. need_told block table t) e2)
+
+quiet-behind : (n : ℕ) (front lines : List (List ℕ)) → NoLine n front → quiet_need (front ++ lines) n ≡ quiet_need lines n
+quiet-behind n front lines none =
+    told-by n (front ++ lines) (has_line n (codes " refused: no segment") lines) (has_line n (codes " refused: no segment for table") lines) (has_line n (codes " refused: no segment for object") lines)
+    (behind-none n front none (codes "refused: no segment") lines)
+    (behind-none n front none (codes "refused: no segment for table") lines)
+    (behind-none n front none (codes "refused: no segment for object") lines)
+
+quiet-none : (n : ℕ) (lines : List (List ℕ)) → NoLine n lines → quiet_need lines n ≡ NoNeed
+quiet-none n lines none =
+    told-by n lines false false false (none (codes "refused: no segment")) (none (codes "refused: no segment for table")) (none (codes "refused: no segment for object"))
+
+eq-front : (ds xs ys : List ℕ) → bytes_eq (ds ++ xs) (ds ++ ys) ≡ bytes_eq xs ys
+eq-front [] xs ys = refl
+eq-front (d ∷ ds) xs ys = rw (same d) (eq-front ds xs ys) where
+  same : (d : ℕ) → eqb d d ≡ true
+  same d = grind (arith)
+
+or-false : (t u : Bool) → u ≡ false → (t || u) ≡ t
+or-false true u none = refl
+or-false false u none = none
+
+-- a line with the number, before lines without it
+has-one : (n : ℕ) (xs ys : List ℕ) (rest : List (List ℕ)) → NoLine n rest → has_line n (32 ∷ xs) ((decimal n ++ 32 ∷ ys) ∷ rest) ≡ bytes_eq ys xs
+has-one n xs ys rest none =
+    or-false (bytes_eq (decimal n ++ 32 ∷ ys) (decimal n ++ 32 ∷ xs)) (has_line n (32 ∷ xs) rest) (none xs)
+    ∙ eq-front (decimal n) (32 ∷ ys) (32 ∷ xs)
+
+-- the line that a reply shows, without its newline, where it shows one
+abbrev shown_by : ℕ → Reply → Need → List (List ℕ)
+shown_by n reply NoNeed = []
+shown_by n reply need = (decimal n ++ 32 ∷ printed reply) ∷ []
+
+abbrev shown : ℕ × Reply → List (List ℕ)
+shown r = shown_by r.0 r.1 (need_shown r.1)
+
+-- a line of two parts
+pub line-both : (xs ys : List ℕ) → OneLine xs → OneLine ys → OneLine (xs ++ ys)
+line-both [] ys first second = second
+line-both (x ∷ xs) ys first second = grind (arith, first, second, line-both xs ys)
+
+line-numbered : (n : ℕ) (r : Reply) → IsProperReply r → OneLine (decimal n ++ 32 ∷ printed r)
+line-numbered n r proper = line-both (decimal n) (32 ∷ printed r) (line-printed (Number n) tt) (line-printed r proper)
+
+regroup : (ds ps : List ℕ) → (ds ++ 32 ∷ []) ++ (ps ++ 10 ∷ []) ≡ (ds ++ 32 ∷ ps) ++ 10 ∷ []
+regroup ds ps = simp append_assoc
+
+ended-numbered : (n : ℕ) (r : Reply) (need : Need) (rest : List ℕ) → IsProperReply r → ended_lines (numbered_line n r need ++ rest) ≡ shown_by n r need ++ ended_lines rest
+ended-numbered n r NoNeed rest proper = refl
+ended-numbered n r need rest proper =
+    ap (λ xs. ended_lines (xs ++ rest)) (regroup (decimal n) (printed r)) ∙ ended-line (decimal n ++ 32 ∷ printed r) rest (line-numbered n r proper)
+
+-- the lines of a quiet text, and those behind it
+ended-body : (rs : List (ℕ × Reply)) (tail : List ℕ) → AllByRecursion (λ r. IsProperReply r.1) rs → ended_lines (body_by true rs ++ tail) ≡ flat_map shown rs ++ ended_lines tail
+ended-body [] tail proper = refl
+ended-body (r ∷ rs) tail proper =
+    ap ended_lines (append_assoc (line_by true r) (body_by true rs) tail)
+    ∙ (ended-numbered r.0 r.1 (need_shown r.1) (body_by true rs ++ tail) proper.0
+    ∙ (ap (λ ls. shown r ++ ls) (ended-body rs tail proper.1)
+    ∙ sym (append_assoc (shown r) (flat_map shown rs) (ended_lines tail))))
+
+quiet-one : (n : ℕ) (reply : Reply) (rest : List (List ℕ)) → NoLine n rest → quiet_need (shown (n, reply) ++ rest) n ≡ need_shown reply
+quiet-one n (Refused NoSegment) rest none =
+    let at = λ (xs : List ℕ). has-one n xs (codes "refused: no segment") rest none in
+    told-by n (shown (n, Refused NoSegment) ++ rest) true false false (at (codes "refused: no segment")) (at (codes "refused: no segment for table")) (at (codes "refused: no segment for object"))
+quiet-one n (Refused NoSegmentForTable) rest none =
+    let at = λ (xs : List ℕ). has-one n xs (codes "refused: no segment for table") rest none in
+    told-by n (shown (n, Refused NoSegmentForTable) ++ rest) false true false (at (codes "refused: no segment")) (at (codes "refused: no segment for table")) (at (codes "refused: no segment for object"))
+quiet-one n (Refused NoSegmentForObject) rest none =
+    let at = λ (xs : List ℕ). has-one n xs (codes "refused: no segment for object") rest none in
+    told-by n (shown (n, Refused NoSegmentForObject) ++ rest) false false true (at (codes "refused: no segment")) (at (codes "refused: no segment for table")) (at (codes "refused: no segment for object"))
+quiet-one n (Refused why) rest none = quiet-none n rest none
+quiet-one n reply rest none = quiet-none n rest none
+
+other-shown : (m n : ℕ) (r : Reply) (need : Need) → m < 2 ^ 64 → n < 2 ^ 64 → m ≢ n → NoLine n (shown_by m r need)
+other-shown m n r NoNeed below_m below_n other xs = refl
+other-shown m n r need below_m below_n other xs = other-number m n (printed r) below_m below_n other xs
+
+abbrev numbers_of : List (ℕ × Reply) → List ℕ
+numbers_of rs = map (λ r. r.0) rs
+
+abbrev Below : List (ℕ × Reply) → Type 0
+Below rs = AllByRecursion (λ n. n < 2 ^ 64) (numbers_of rs)
+
+-- no line of later numbers has this one
+none-later : (n : ℕ) (rs : List (ℕ × Reply)) → n < 2 ^ 64 → Below rs → AllByRecursion (λ m. n < m) (numbers_of rs) → NoLine n (flat_map shown rs)
+none-later n [] below_n below later = λ xs. refl
+none-later n (r ∷ rs) below_n below later =
+    both-none n (shown r) (flat_map shown rs) (other-shown r.0 n r.1 (need_shown r.1) below.0 below_n (λ same. omega (arith, later.0, same))) (none-later n rs below_n below.1 later.1)
+
+-- none of these numbers stands before the lines
+abbrev NoneOf : List (ℕ × Reply) → List (List ℕ) → Type 0
+NoneOf rs front = AllByRecursion (λ n. NoLine n front) (numbers_of rs)
+
+none-push : (r : ℕ × Reply) (rs : List (ℕ × Reply)) (front : List (List ℕ)) → r.0 < 2 ^ 64 → Below rs → AllByRecursion (λ m. r.0 < m) (numbers_of rs) → NoneOf rs front → NoneOf rs (front ++ shown r)
+none-push r [] front here below later none = tt
+none-push r (q ∷ qs) front here below later none = (
+  both-none q.0 front (shown r) none.0 (other-shown r.0 q.0 r.1 (need_shown r.1) here below.0 (λ same. omega (arith, later.0, same))),
+  none-push r qs front here below.1 later.1 none.1,
+)
+
+-- at each line the need of its reply is told
+quiet-each : (front tail : List (List ℕ)) (rs : List (ℕ × Reply)) → Below rs → IsAscending (numbers_of rs) → NoneOf rs front → NoneOf rs tail → AllByRecursion (λ r. quiet_need (front ++ (flat_map shown rs ++ tail)) r.0 ≡ need_shown r.1) rs
+quiet-each front tail [] below rising before behind = tt
+quiet-each front tail (r ∷ rs) below rising before behind = (
+  ap (λ ls. quiet_need (front ++ ls) r.0) (append_assoc (shown r) (flat_map shown rs) tail)
+      ∙ (quiet-behind r.0 front (shown r ++ (flat_map shown rs ++ tail)) before.0
+      ∙ quiet-one r.0 r.1 (flat_map shown rs ++ tail) (both-none r.0 (flat_map shown rs) tail (none-later r.0 rs below.0 below.1 rising.0) behind.0)),
+  subst (λ ls. AllByRecursion (λ q. quiet_need ls q.0 ≡ need_shown q.1) rs)
+      (append_assoc front (shown r) (flat_map shown rs ++ tail) ∙ ap (λ ls. front ++ ls) (sym (append_assoc (shown r) (flat_map shown rs) tail)))
+      (quiet-each (front ++ shown r) tail rs below.1 rising.1 (none-push r rs front below.0 below.1 rising.0 before.1) behind.1),
+)
+
+needs-told : (lines : List (List ℕ)) (rs : List (ℕ × Reply)) → AllByRecursion (λ r. quiet_need lines r.0 ≡ need_shown r.1) rs → map (λ n. (n, quiet_need lines n)) (numbers_of rs) ≡ needs_shown rs
+needs-told lines [] each = refl
+needs-told lines (r ∷ rs) each =
+    ap (λ need. (r.0, need) ∷ map (λ n. (n, quiet_need lines n)) (numbers_of rs)) each.0
+    ∙ ap (λ needs. (r.0, need_shown r.1) ∷ needs) (needs-told lines rs each.1)
+
+none-all : (tail : List (List ℕ)) → ((n : ℕ) → n < 2 ^ 64 → NoLine n tail) → (rs : List (ℕ × Reply)) → Below rs → NoneOf rs tail
+none-all tail none [] below = tt
+none-all tail none (r ∷ rs) below = (none r.0 below.0, none-all tail none rs below.1)
+
+-- a quiet text shows the needs of its replies, where no line behind it has a number in front
+shows-quiet : (rs : List (ℕ × Reply)) (tail : List ℕ) → Below rs → IsAscending (numbers_of rs) → AllByRecursion (λ r. IsProperReply r.1) rs → ((n : ℕ) → n < 2 ^ 64 → NoLine n (ended_lines tail)) → ShowsNeeds (needs_by true (numbers_of rs) (body_by true rs ++ tail)) rs
+shows-quiet rs tail below rising proper none =
+    subst (λ needs. ShowsNeeds needs rs)
+    (sym (ap (λ ls. map (λ n. (n, quiet_need ls n)) (numbers_of rs)) (ended-body rs tail proper)
+    ∙ needs-told (flat_map shown rs ++ ended_lines tail) rs (quiet-each [] (ended_lines tail) rs below rising (none-all [] (λ n below xs. refl) rs below) (none-all (ended_lines tail) none rs below))))
+    (shows-needs_shown rs rising)
+
+-- a line that has no number in front
+abbrev pub IsUnnumbered : List ℕ → Type 0
+IsUnnumbered [] = ⊥
+IsUnnumbered (b ∷ bs) = (is_digit b ≡ false) × OneLine (b ∷ bs)
+
+unnumbered-line : (xs : List ℕ) → IsUnnumbered xs → OneLine xs
+unnumbered-line [] is = absurd is
+unnumbered-line (b ∷ bs) is = is.1
+
+unnumbered-none : (n : ℕ) (xs : List ℕ) → n < 2 ^ 64 → IsUnnumbered xs → NoLine n (xs ∷ [])
+unnumbered-none n [] below is = absurd is
+unnumbered-none n (b ∷ bs) below is = no-number b n bs is.0 below
+
+-- none of such lines shows a need
+pub none-unnumbered : (n : ℕ) (lines : List (List ℕ)) → n < 2 ^ 64 → AllByRecursion IsUnnumbered lines → NoLine n (ended_lines (flat_map (λ line. line ++ 10 ∷ []) lines))
+none-unnumbered n [] below each = λ xs. refl
+none-unnumbered n (l ∷ ls) below each =
+    let rest = flat_map (λ (line : List ℕ). line ++ 10 ∷ []) ls in
+    subst (NoLine n) (sym (ended-line l rest (unnumbered-line l each.0)))
+    (both-none n (l ∷ []) (ended_lines rest) (unnumbered-none n l below each.0) (none-unnumbered n ls below each.1))
+
+-- the k-th line of a text that isn't quiet belongs to the k-th command, whatever is behind it
+needs-plain : (rs : List (ℕ × Reply)) (tail : List ℕ) → AllByRecursion (λ r. IsProperReply r.1) rs → needs_by false (numbers_of rs) (body_by false rs ++ tail) ≡ needs_shown rs
+needs-plain [] tail proper = refl
+needs-plain (r ∷ rs) tail proper =
+    let rest = body_by false rs ++ tail in
+    ap (λ ls. needs.needs_by (r.0 ∷ numbers_of rs) ls)
+    (ap ended_lines (append_assoc (line_of r.1) (body_by false rs) tail) ∙ ended-line (printed r.1) rest (line-printed r.1 proper.0))
+    ∙ (ap (λ need. (r.0, need) ∷ needs.needs_by (numbers_of rs) (ended_lines rest)) (need_of-printed r.1 proper.0)
+    ∙ ap (λ needs. (r.0, need_shown r.1) ∷ needs) (needs-plain rs tail proper.1))
+
+-- a text shows the needs of its replies
+pub shows-needs : (quiet : Bool) (rs : List (ℕ × Reply)) (tail : List ℕ) → AllByRecursion (λ n. n < 2 ^ 64) (numbers_of rs) → IsAscending (numbers_of rs) → AllByRecursion (λ r. IsProperReply r.1) rs → (quiet ≡ true → (n : ℕ) → n < 2 ^ 64 → NoLine n (ended_lines tail)) → ShowsNeeds (needs_by quiet (numbers_of rs) (body_by quiet rs ++ tail)) rs
+shows-needs false rs tail below rising proper none =
+    subst (λ needs. ShowsNeeds needs rs) (sym (needs-plain rs tail proper)) (shows-needs_shown rs rising)
+shows-needs true rs tail below rising proper none = shows-quiet rs tail below rising proper (none refl)

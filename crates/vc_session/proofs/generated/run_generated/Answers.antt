@@ -1,0 +1,47 @@
+use Rattle.std.proofs.Common.{◌≡◌, refl, ◌∙◌, subst, sym}
+use Rattle.vc_model.specs.Discipline.{Discipline}
+use Rattle.vc_steps.specs.Account.{KeepsAccounts}
+use Rattle.vc_steps.specs.Moment.{Moment, ended, moment, rest_of}
+use Rattle.vc_session.proofs.Generating.{asked-most, generated-rests, if_some}
+use Rattle.vc_session.proofs.Rest.{new-moment, new-session}
+use Rattle.vc_session.proofs.generated.run_generated.Given as given
+use Rattle.vc_session.proofs.generated.run_generated.Goals as goal
+
+abbrev meaning : (g : given.Over) → (x : g.dyn-1.0.I) × (g.dyn-1.0.entry x).0.Denot → Discipline
+meaning g p = (g.dyn-1.0.entry p.0).1.state p.1
+
+pub run_all-ended-requires-clause-session : goal.run_all-ended-requires-clause-session
+run_all-ended-requires-clause-session g c =
+    new-session (meaning g) g.D.DictDisc.rules g.D.DictDisc.gone c.args.shelf.now c.in_ok-session.session c.args.kinds.now.items c.in_ok-session.ensures.none
+
+pub run_all-ended-requires-clause-most : goal.run_all-ended-requires-clause-most
+run_all-ended-requires-clause-most g c = asked-most c.args.asked.now.words.generate c.in-Some.n c.in-Some.is c.args.asked.now.in_range
+
+pub returns-clause-runs : goal.returns-clause-runs
+returns-clause-runs g c =
+    let M = meaning g in
+    let rules = g.D.DictDisc.rules in
+    let gone = g.D.DictDisc.gone in
+    let start = moment M rules gone c.args.shelf.now c.in_ok-session.session c.args.kinds.now.items in
+    let last = moment M rules gone c.run_all-ended.new.shelf c.run_all-ended.new.session c.run_all-ended.new.kinds.items in
+    let before = rest_of M rules gone c.args.shelf.now c.args.kinds.now.items in
+    let after = rest_of M rules gone c.end.new.shelf c.end.new.kinds.items in
+    let same : start ≡ before = new-moment M rules gone c.args.shelf.now c.in_ok-session.session c.args.kinds.now.items c.in_ok-session.ensures.none in
+    if_some _ c.args.asked.now.words.generate c.in-Some.n c.in-Some.is
+    (generated-rests c.args.tool c.args.asked.now.words c.in-Some.n start before (ended last) after _ _ _ _ c.run_all-ended.result same
+    (λ written. record { written = refl; accounts = c.end.ensures.shelf; gone = c.end.ensures.gone }) c.run_all-ended.ensures.runs)
+
+pub returns-clause-keeps : goal.returns-clause-keeps
+returns-clause-keeps g c =
+    let M = meaning g in
+    let rules = g.D.DictDisc.rules in
+    let gone = g.D.DictDisc.gone in
+    let start = moment M rules gone c.args.shelf.now c.in_ok-session.session c.args.kinds.now.items in
+    let last = moment M rules gone c.run_all-ended.new.shelf c.run_all-ended.new.session c.run_all-ended.new.kinds.items in
+    let before = rest_of M rules gone c.args.shelf.now c.args.kinds.now.items in
+    let same : start ≡ before = new-moment M rules gone c.args.shelf.now c.in_ok-session.session c.args.kinds.now.items c.in_ok-session.ensures.none in
+    subst (λ a. KeepsAccounts before.accounts a) (sym c.end.ensures.shelf)
+    (subst (λ (m : Moment). KeepsAccounts m.accounts last.accounts) same c.run_all-ended.ensures.lasts.accounts)
+
+pub returns-clause-rules : goal.returns-clause-rules
+returns-clause-rules g c = c.end.ensures.rules ∙ c.run_all-ended.ensures.lasts.keeps_rules

@@ -1,0 +1,11 @@
+use Rattle.std.proofs.Common.{refl}
+use Rattle.std.specs.Fmt.{digits}
+use Rattle.vc_session.proofs.quiet_rows.quiet_segment.Goals as goal
+
+pub returns-clause-text : goal.returns-clause-text
+unfolding digits
+returns-clause-text c = refl
+
+pub returns-clause-needs : goal.returns-clause-needs
+unfolding digits
+returns-clause-needs c = refl

@@ -1,0 +1,34 @@
+use Rattle.std.proofs.Common.{◌≡◌, refl, ◌∙◌, subst, sym}
+use Rattle.vc_model.specs.Discipline.{Discipline}
+use Rattle.vc_steps.specs.Account.{KeepsAccounts}
+use Rattle.vc_steps.specs.Moment.{Moment, ended, moment, rest_of}
+use Rattle.vc_session.proofs.Rest.{new-moment, new-session, runs-rest}
+use Rattle.vc_session.proofs.script.run_source.Given as given
+use Rattle.vc_session.proofs.script.run_source.Goals as goal
+
+abbrev meaning : (g : given.Over) → (x : g.dyn-1.0.I) × (g.dyn-1.0.entry x).0.Denot → Discipline
+meaning g p = (g.dyn-1.0.entry p.0).1.state p.1
+
+pub run_script-ended-requires-clause-session : goal.run_script-ended-requires-clause-session
+run_script-ended-requires-clause-session g c =
+    new-session (meaning g) g.D.DictDisc.rules g.D.DictDisc.gone c.args.shelf.now c.in_ok-session.session c.args.kinds.now.items c.in_ok-session.ensures.none
+
+pub returns : goal.returns
+returns g c =
+    let M = meaning g in
+    let rules = g.D.DictDisc.rules in
+    let gone = g.D.DictDisc.gone in
+    let start = moment M rules gone c.args.shelf.now c.in_ok-session.session c.args.kinds.now.items in
+    let last = moment M rules gone c.run_script-ended.new.shelf c.run_script-ended.new.session c.run_script-ended.new.kinds.items in
+    let before = rest_of M rules gone c.args.shelf.now c.args.kinds.now.items in
+    let after = rest_of M rules gone c.end.new.shelf c.end.new.kinds.items in
+    let same : start ≡ before = new-moment M rules gone c.args.shelf.now c.in_ok-session.session c.args.kinds.now.items c.in_ok-session.ensures.none in
+    record {
+      runs =
+          runs-rest c.args.tool c.args.words.now start before (ended last) after _ _ c.run_script-ended.result same
+          (λ written. record { written = refl; accounts = c.end.ensures.shelf; gone = c.end.ensures.gone }) c.run_script-ended.ensures.runs;
+      keeps =
+          subst (λ a. KeepsAccounts before.accounts a) (sym c.end.ensures.shelf)
+          (subst (λ (m : Moment). KeepsAccounts m.accounts last.accounts) same c.run_script-ended.ensures.lasts.accounts);
+      rules = c.end.ensures.rules ∙ c.run_script-ended.ensures.lasts.keeps_rules;
+    }

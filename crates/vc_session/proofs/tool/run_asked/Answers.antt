@@ -1,0 +1,6 @@
+use Rattle.std.proofs.Common.{arith, sym}
+use Rattle.vc_session.proofs.Asking.{asked-failed, asked-generated, asked-script}
+use Rattle.vc_session.proofs.tool.run_asked.Goals as goal
+
+pub returns-in-None-clause-runs : goal.returns-in-None-clause-runs
+returns-in-None-clause-runs g c = asked-script c.in-None.is c.run_source.ensures.runs

@@ -1,0 +1,218 @@
+// The commands that a tool makes of a seed, as a list, and run one by one.
+ghost use Rattle.std.specs.Prelude.{◌≡◌, ℕ, ◌<◌, ◌≤◌, ◌^◌, List, [], ◌++◌, Some, true, IfOk, IfSome, OnErr, OnOk, length};
+ghost use Rattle.std.specs.List.{AllByRecursion};
+ghost use Rattle.vc_counts.specs.CanCount.{CanCount};
+ghost use Rattle.vc_counts.specs.Counts.{busy_in};
+ghost use Rattle.vc_generate.specs.Generated.{generated};
+ghost use Rattle.vc_model.specs.Count.{Rose};
+ghost use Rattle.vc_script.specs.Proper.{IsProperCommand};
+ghost use Rattle.vc_session.specs.Engine.{IsStep, RunsGenerated};
+ghost use Rattle.vc_session.specs.Generating.{RunsCommands};
+ghost use Rattle.vc_session.specs.Progress.{CanCountOn};
+ghost use Rattle.vc_session.specs.ProperState.{IsProperOver};
+ghost use Rattle.vc_session.specs.Replay.{Told};
+ghost use Rattle.vc_session.specs.Run.{nothing_ran};
+ghost use Rattle.vc_session.specs.Text.{counts_of};
+ghost use Rattle.vc_steps.specs.Homes.{IsSessionOver, state_over};
+ghost use Rattle.vc_steps.specs.Moment.{Keeps, ended, moment, over_sink, rest_of};
+ghost use Rattle.vc_steps.specs.Steps.{Lasts};
+ghost use Rattle.vc_steps.specs.Told.{KeepRules, rules_in};
+
+use crate::asked::Asked;
+use crate::engine::{Stop, run_answer};
+use crate::stream::write_all;
+use crate::tail::gather_tail;
+use indexmap::IndexMap;
+use std::alloc::Global;
+use vc_base::{OutOfMemory, Sink, WriteFailed};
+use vc_counts::Counts;
+use vc_dtdisc::DictDisc;
+use vc_generate::Generator;
+use vc_script::{Command, Tool};
+use vc_seg::{BoxedDisc, SegDisc, Shelf};
+use vc_steps::Session;
+use vc_words::Words;
+
+/// All commands that a tool makes of a seed, with one for each of `n` words, which are 1 to 1,000,000 (this project's own
+/// rule). vmreplay has two commands more, and dtrun four.
+///
+/// # Errors
+/// [`OutOfMemory`] where there's none for the list or for the bytes of an object.
+pub fn generate(alloc: Global, tool: Tool, n: u32, seed: u32) -> Result<Vec<Command>, OutOfMemory>
+    requires least { 1 ≤ n }
+    requires most { n ≤ 1000000 }
+    ensures { IfOk result (λ commands. commands.items ≡ generated tool n seed) }
+{
+    let mut generator = Generator::new(tool, n, seed);
+    let mut commands = Vec::new(alloc);
+    while let Some(command) = generator.next(alloc)? {
+        commands.push(command)?;
+    }
+    Ok(commands)
+}
+
+// So many bytes are gathered before they are written.
+const FULL: usize = 4096;
+
+// Writes what is gathered where it is long enough, and else lets it be.
+fn write_full<O: Sink>(out: &mut O, gathered: &mut Vec<u8>) -> Result<(), WriteFailed>
+    ensures told { OnOk result ((piece : List ℕ)
+        × Told (O.written out.old) (O.written out.new) piece
+        × (gathered.old.items ≡ piece ++ gathered.new.items)) }
+    ensures cause { OnErr result (Rose (O.failures out.old) (O.failures out.new)) }
+    ensures never_falls { O.failures out.old ≤ O.failures out.new }
+{
+    if gathered.len() < FULL {
+        return Ok(());
+    }
+    write_all(out, gathered.as_slice())?;
+    gathered.clear();
+    Ok(())
+}
+
+// Runs a command quietly on the line of that number, gathers what is written of its reply, and lets the command go.
+fn run_made<D: DictDisc>(
+    alloc: Global,
+    session: &mut Session<D>,
+    shelf: &mut Shelf,
+    kinds: &mut Vec<D>,
+    line: u32,
+    command: Command,
+    counts: &mut Counts,
+    gathered: &mut Vec<u8>,
+) -> Result<(), OutOfMemory>
+    requires session { IsSessionOver state D.rules shelf.old session.old kinds.old.items }
+    requires counts { CanCount counts.old (busy_in
+        (state_over state (rules_in D.rules kinds.old.items) shelf.old session.old)) line }
+    ensures ran { OnOk result (IsStep true
+        (over_sink (moment state D.rules D.gone shelf.old session.old kinds.old.items)
+        (Some gathered.old.items))
+        (over_sink (moment state D.rules D.gone shelf.new session.new kinds.new.items)
+        (Some gathered.new.items))
+        counts.old counts.new line command) }
+    ensures lasts { Lasts state D.rules shelf.old session.old kinds.old.items
+        shelf.new session.new kinds.new.items }
+    ensures can { OnOk result (CanCountOn true counts.new
+        (state_over state (rules_in D.rules kinds.new.items) shelf.new session.new) line) }
+{
+    run_answer(
+        alloc, true, session, shelf, kinds, line, &command, counts, gathered,
+    )
+}
+
+// Runs the commands of a generator quietly and counts them, each on the line of its number from 1 on, and answers how many
+// there were. The lines of refused segments are gathered in an empty vector, and written as they grow and at the end.
+fn run_commands<D: DictDisc, O: Sink>(
+    alloc: Global,
+    session: &mut Session<D>,
+    shelf: &mut Shelf,
+    kinds: &mut Vec<D>,
+    generator: &mut Generator,
+    out: &mut O,
+    counts: &mut Counts,
+    gathered: &mut Vec<u8>,
+) -> Result<u32, Stop>
+    requires session { IsProperOver state D.rules shelf.old session.old kinds.old.items }
+    requires counts { CanCountOn true counts.old
+        (state_over state (rules_in D.rules kinds.old.items) shelf.old session.old) 0 }
+    requires zero { counts.old ≡ counts_of (nothing_ran
+        (state_over state (rules_in D.rules kinds.old.items) shelf.old session.old)) }
+    requires few { length generator.old < 2 ^ 31 }
+    requires proper { AllByRecursion IsProperCommand generator.old }
+    requires none { gathered.old.items ≡ [] }
+    ensures runs { RunsCommands result generator.old
+        (moment state D.rules D.gone shelf.old session.old kinds.old.items)
+        (moment state D.rules D.gone shelf.new session.new kinds.new.items)
+        counts.new (O.written out.old) (O.written out.new)
+        (O.failures out.old) (O.failures out.new) }
+    ensures lasts { Lasts state D.rules shelf.old session.old kinds.old.items
+        shelf.new session.new kinds.new.items }
+{
+    let mut line = 0;
+    while let Some(command) = generator.next(alloc)? {
+        line += 1;
+        run_made(
+            alloc, session, shelf, kinds, line, command, counts, gathered,
+        )?;
+        write_full(out, gathered)?;
+    }
+    write_all(out, gathered.as_slice())?;
+    Ok(line)
+}
+
+// Runs the commands over a session in which nothing is open, and writes what stands behind the replies.
+fn run_all<D: DictDisc, O: Sink>(
+    alloc: Global,
+    tool: Tool,
+    words: &Words,
+    n: u32,
+    session: &mut Session<D>,
+    shelf: &mut Shelf,
+    kinds: &mut Vec<D>,
+    out: &mut O,
+) -> Result<(), Stop>
+    requires session { IsProperOver state D.rules shelf.old session.old kinds.old.items }
+    requires nothing { session.old.homes.entries ≡ [] }
+    requires asked { words.now.generate ≡ Some n }
+    requires most { n ≤ 1000000 }
+    ensures runs { RunsGenerated tool words.now n result
+        (moment state D.rules D.gone shelf.old session.old kinds.old.items)
+        (ended (moment state D.rules D.gone shelf.new session.new kinds.new.items))
+        (O.written out.old) (O.written out.new) (O.failures out.old) (O.failures out.new) }
+    ensures lasts { Lasts state D.rules shelf.old session.old kinds.old.items
+        shelf.new session.new kinds.new.items }
+{
+    let mut generator = Generator::new(tool, n, words.seed);
+    let mut counts = Counts::new();
+    let mut gathered = Vec::new(alloc);
+    let lines = run_commands(
+        alloc,
+        session,
+        shelf,
+        kinds,
+        &mut generator,
+        out,
+        &mut counts,
+        &mut gathered,
+    )?;
+    let mut tail = Vec::new(alloc);
+    gather_tail(alloc, words, lines, &counts, session, &mut tail)?;
+    write_all(out, tail.as_slice())?;
+    Ok(())
+}
+
+// Runs the generated commands that are asked for, quietly, the k-th on line k; none where they aren't.
+pub(crate) fn run_generated<D: DictDisc, O: Sink>(
+    alloc: Global,
+    tool: Tool,
+    asked: &Asked,
+    shelf: &mut Shelf,
+    kinds: &mut Vec<D>,
+    out: &mut O,
+) -> Result<(), Stop>
+    ensures runs { IfSome asked.now.words.generate (λ n. RunsGenerated tool asked.now.words n result
+        (rest_of state D.rules D.gone shelf.old kinds.old.items)
+        (rest_of state D.rules D.gone shelf.new kinds.new.items)
+        (O.written out.old) (O.written out.new) (O.failures out.old) (O.failures out.new)) }
+    ensures keeps { Keeps
+        (rest_of state D.rules D.gone shelf.old kinds.old.items)
+        (rest_of state D.rules D.gone shelf.new kinds.new.items) }
+    ensures rules { KeepRules D.rules kinds.old.items kinds.new.items }
+{
+    let Some(n) = asked.words.generate else {
+        return Ok(());
+    };
+    let mut session = Session::<D>::over(alloc, tool, IndexMap::new(alloc))?;
+    let ended = run_all(
+        alloc,
+        tool,
+        &asked.words,
+        n,
+        &mut session,
+        shelf,
+        kinds,
+        out,
+    );
+    session.end(shelf, kinds);
+    ended
+}

@@ -1,0 +1,116 @@
+// The script of a source, from a session's start to its end.
+ghost use Rattle.std.specs.Prelude.{◌≡◌, [], None, Some, length};
+ghost use Rattle.vc_script.specs.Cutting.{new_cutting};
+ghost use Rattle.vc_session.specs.Engine.{RunsScript};
+ghost use Rattle.vc_session.specs.ProperState.{IsProperOver};
+ghost use Rattle.vc_session.specs.Streams.{flows};
+ghost use Rattle.vc_session.specs.Text.{good_lines};
+ghost use Rattle.vc_steps.specs.Moment.{Keeps, ended, moment, rest_of};
+ghost use Rattle.vc_steps.specs.Steps.{Lasts};
+ghost use Rattle.vc_steps.specs.Told.{KeepRules};
+
+use crate::engine::{Stop, run_lines};
+use crate::stream::write_all;
+use crate::tail::{gather_tail, is_quiet};
+use indexmap::IndexMap;
+use std::alloc::Global;
+use vc_base::{Sink, Source};
+use vc_counts::Counts;
+use vc_dtdisc::DictDisc;
+use vc_script::{LineCutter, LineFault, Tool};
+use vc_seg::{BoxedDisc, SegDisc, Shelf};
+use vc_steps::Session;
+use vc_words::Words;
+
+// How many of so many lines are before the first bad one.
+fn good_lines(bad: Option<(u32, LineFault)>, lines: u32) -> u32
+    ensures { result ≡ good_lines bad lines }
+{
+    match bad {
+        None => lines,
+        Some((n, _)) => n.saturating_sub(1),
+    }
+}
+
+// Runs the script over a session in which nothing is open, and writes what stands behind the replies.
+fn run_script<D: DictDisc, S: Source, O: Sink>(
+    alloc: Global,
+    tool: Tool,
+    words: &Words,
+    session: &mut Session<D>,
+    shelf: &mut Shelf,
+    kinds: &mut Vec<D>,
+    source: &mut S,
+    out: &mut O,
+    cutter: &mut LineCutter,
+) -> Result<Option<(u32, LineFault)>, Stop>
+    requires session { IsProperOver state D.rules shelf.old session.old kinds.old.items }
+    requires nothing { session.old.homes.entries ≡ [] }
+    requires new { cutter.old ≡ new_cutting }
+    ensures runs { RunsScript tool words.now result
+        (moment state D.rules D.gone shelf.old session.old kinds.old.items)
+        (ended (moment state D.rules D.gone shelf.new session.new kinds.new.items))
+        (flows S.left S.failures O.written O.failures source.old out.old)
+        (flows S.left S.failures O.written O.failures source.new out.new) }
+    ensures lasts { Lasts state D.rules shelf.old session.old kinds.old.items
+        shelf.new session.new kinds.new.items }
+{
+    let mut counts = Counts::new();
+    let mut replies = Vec::new(alloc);
+    let ran = run_lines(
+        alloc,
+        tool,
+        is_quiet(words),
+        session,
+        shelf,
+        kinds,
+        source,
+        out,
+        cutter,
+        &mut counts,
+        &mut replies,
+    );
+    let bad = ran?;
+    let lines = good_lines(bad, cutter.number());
+    let mut tail = Vec::new(alloc);
+    gather_tail(alloc, words, lines, &counts, session, &mut tail)?;
+    write_all(out, tail.as_slice())?;
+    Ok(bad)
+}
+
+// Runs the script of a source, by the words of the tool.
+pub(crate) fn run_source<D: DictDisc, S: Source, O: Sink>(
+    alloc: Global,
+    tool: Tool,
+    words: &Words,
+    shelf: &mut Shelf,
+    kinds: &mut Vec<D>,
+    source: &mut S,
+    out: &mut O,
+) -> Result<Option<(u32, LineFault)>, Stop>
+    ensures runs { RunsScript tool words.now result
+        (rest_of state D.rules D.gone shelf.old kinds.old.items)
+        (rest_of state D.rules D.gone shelf.new kinds.new.items)
+        (flows S.left S.failures O.written O.failures source.old out.old)
+        (flows S.left S.failures O.written O.failures source.new out.new) }
+    ensures keeps { Keeps
+        (rest_of state D.rules D.gone shelf.old kinds.old.items)
+        (rest_of state D.rules D.gone shelf.new kinds.new.items) }
+    ensures rules { KeepRules D.rules kinds.old.items kinds.new.items }
+{
+    let mut cutter = LineCutter::new(alloc)?;
+    let mut session = Session::<D>::over(alloc, tool, IndexMap::new(alloc))?;
+    let ended = run_script(
+        alloc,
+        tool,
+        words,
+        &mut session,
+        shelf,
+        kinds,
+        source,
+        out,
+        &mut cutter,
+    );
+    session.end(shelf, kinds);
+    ended
+}
