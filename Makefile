@@ -18,7 +18,7 @@ all:
 	cp -f crates/vmreplay/out/vmreplay bin/vmreplay
 	cp -f crates/dtrun/out/dtrun bin/dtrun
 
-# A first look: compiles the programs without proving, and runs each on its sample script.
+# A first look: compiles the programs without proving, and runs each on its sample script, and one on generated commands.
 run:
 	@echo 'vmreplay is compiled and not proved ("make" proves it); its sample script:'
 	@cat crates/vmreplay/stdin
@@ -28,6 +28,8 @@ run:
 	@cat crates/dtrun/stdin
 	@echo 'and the replies:'
 	@cd crates/dtrun && rt try < stdin
+	@echo 'and what vmreplay counts of four generated commands:'
+	@cd crates/vmreplay && rt try -- --gen 4 --seed 42
 
 # The whole gate, and then the examples and the tools by the programs that it leaves.
 test:
@@ -41,7 +43,7 @@ install: $(BIN)/vmreplay $(BIN)/dtrun
 	cd $(DESTDIR)$(BINDIR) && chmod 755 vmreplay dtrun vmrecord vmpicture vmcurve
 	for page in $(PAGES); do cp -f man/$$page $(DESTDIR)$(MANDIR)/man1 || exit 1; done
 	cp -f docs/script.md $(DESTDIR)$(DOCDIR)
-	cp -f examples/*.vm examples/*.dt examples/*.replies $(DESTDIR)$(DOCDIR)/examples
+	cp -f examples/*.vm examples/*.dt examples/*.words examples/*.replies $(DESTDIR)$(DOCDIR)/examples
 	cd $(DESTDIR)$(MANDIR)/man1 && chmod 644 $(PAGES)
 	chmod 644 $(DESTDIR)$(DOCDIR)/script.md $(DESTDIR)$(DOCDIR)/examples/*
 	if command -v $(CC) > /dev/null; then \

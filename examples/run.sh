@@ -1,5 +1,6 @@
 #!/bin/sh
-# Runs each script of this folder, *.vm with vmreplay and *.dt with dtrun, and compares its replies with those beside it:
+# Runs each script of this folder, *.vm with vmreplay and *.dt with dtrun, behind the words in the file *.words beside it,
+# if there is one, and compares what is written with the file *.replies:
 #   examples/run.sh [FOLDER]
 # The programs are those of bin/ where no folder is named.
 set -u
@@ -22,7 +23,11 @@ for script in "$here"/*.vm "$here"/*.dt; do
         *) program=dtrun ;;
     esac
     name=$(basename "${script%.*}")
-    "$programs/$program" < "$script" > "$dir/out" 2> "$dir/err"
+    words=
+    [ ! -e "$here/$name.words" ] || words=$(cat "$here/$name.words")
+    # Words are parted at blanks.
+    # shellcheck disable=SC2086
+    "$programs/$program" $words < "$script" > "$dir/out" 2> "$dir/err"
     status=$?
     if [ "$status" -eq 0 ] && [ ! -s "$dir/err" ] && cmp -s "$here/$name.replies" "$dir/out"; then
         echo "$program $name: $(wc -l < "$dir/out" | tr -d ' ') replies as they stand in $name.replies, status 0, nothing on standard error"
