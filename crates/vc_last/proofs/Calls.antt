@@ -1,18 +1,22 @@
 -- What a call on the block at an address answers, where that is the latest, and where it isn't.
-use Rattle.std.proofs.Common.{◌≡◌, ◌≢◌, ℕ, ◌+◌, ◌<◌, List, Bool, true, false, Some, IfSome, length, map, refl, ap, sym, ◌∙◌, subst, arith}
-use Rattle.std.specs.List.{HoldsAt, remove}
-use Rattle.std.specs.Prelude.{option_map}
+use Rattle.std.proofs.Common.{◌≡◌, ◌≢◌, ℕ, List, Bool, true, false, Some, IfSome, length, map, refl, ap, sym, ◌∙◌, subst, arith}
+use Rattle.std.specs.Prelude.{Err, Result, option_map}
 use Rattle.std.proofs.lemmas.Option.{same_Some}
 use Rattle.std.proofs.lemmas.List.{length_push}
 use Rattle.vc_model.specs.Addr.{address, place_of}
 use Rattle.vc_model.specs.Best.{without_block_at}
-use Rattle.vc_model.specs.Discipline.{Terms}
-use Rattle.vc_model.specs.Last.{can_end, last_free, last_resize, latest, resize_latest}
-use Rattle.vc_model.specs.Layout.{Block, Layout, address_of, footprint, without_block}
+use Rattle.vc_model.specs.Discipline.{Discipline, Terms}
+use Rattle.vc_model.specs.Last.{can_end, last_free, last_need, last_resize, latest, resize_latest}
+use Rattle.vc_model.specs.Layout.{Block, Layout, footprint, without_block}
 use Rattle.vc_model.specs.Outcome.{Done, Outcome, Put, Refused, Fixed, NotLast}
 use Rattle.vc_model.specs.Resize.{is_usable, resize_there, sized, stays}
 use Rattle.vc_model.specs.Touch.{HasBlock, find_block}
+use Rattle.vc_base.specs.declared.addr.Addr.{Addr}
 use Rattle.vc_seg.specs.Answer.{IsPut}
+use Rattle.vc_seg.specs.declared.fault.RegionFault.{RegionFault}
+use Rattle.vc_seg.specs.declared.fault.RegionFault.TheVariants as code
+use Rattle.vc_blocks.proofs.Puts.{Served-same}
+use Rattle.vc_last.specs.Call.{IsFreed, IsResize}
 use Rattle.vc_seg.specs.Segment.{Bytes, pair_of}
 use Rattle.vc_last.specs.Chain.{IsLast, blocks_from}
 use Rattle.vc_last.specs.Head.{before_of, block_of}
@@ -26,14 +30,12 @@ use Rattle.vc_last.proofs.Kept.{layout-from, row-by}
 use Rattle.vc_last.proofs.Moves.{blocks-latest, latest-found, latest-is, not-latest, some-latest}
 
 -- the latest block is freed
-pub record IsFreed (o : List Bytes) (q a p : ℕ) : Type 0 where
+pub record IsLatestFreed (o : List Bytes) (q a p : ℕ) : Type 0 where
   pub kept : IsLast o p
   pub answer : last_free (layout_by o q) (place_of a) ≡ Done (layout_by o p)
-  pub one_less : length (layout_by o p).blocks + 1 ≡ length (layout_by o q).blocks
-  pub freed : (i : ℕ) → i < length (layout_by o q).blocks → HoldsAt (λ (b : Block ℕ). address_of b ≡ a) (layout_by o q).blocks i → (layout_by o p).blocks ≡ remove (layout_by o q).blocks i
-  pub none_left : ¬ HasBlock (layout_by o p).blocks a
+  pub freed : IsFreed a (layout_by o q).blocks (layout_by o p).blocks
 
-freed-at : (o : List Bytes) (q : ℕ) → IsLast o q → q ≢ 0 → IsFreed o q q (before_of o q)
+freed-at : (o : List Bytes) (q : ℕ) → IsLast o q → q ≢ 0 → IsLatestFreed o q q (before_of o q)
 freed-at o q h some =
     let z = latest-some o q some h in
     let r : Layout ℕ = layout_by o q in
@@ -48,13 +50,16 @@ freed-at o q h some =
     record {
       kept = z.kept;
       answer = call-latest r (place_of q) (λ (b : Block ℕ). Done (without_block_at (layout_by o q) (place_of q))) l ∙ ap Done is;
-      one_less = omega (arith, ap length new, ap length (blocks-latest o q h some), length_push front (block_of o q));
-      freed = λ i lt at. new ∙ (sym left ∙ freed-latest r q i l (IsExact-front r (place_of q) l (row-by o q h)) lt at);
-      none_left = subst (λ (bs : List (Block ℕ)). ¬ HasBlock bs q) (sym new) (none-there front q (λ k d lt. head-exact o _ (heads k d lt)) (elsewhere-latest o q h some));
+      freed =
+          record {
+            one_less = omega (arith, ap length new, ap length (blocks-latest o q h some), length_push front (block_of o q));
+            gone = λ i lt at. new ∙ (sym left ∙ freed-latest r q i l (IsExact-front r (place_of q) l (row-by o q h)) lt at);
+            none_left = subst (λ (bs : List (Block ℕ)). ¬ HasBlock bs q) (sym new) (none-there front q (λ k d lt. head-exact o _ (heads k d lt)) (elsewhere-latest o q h some));
+          };
     }
 
-pub freed-of : (o : List Bytes) (q a p : ℕ) → IsLast o q → HasBlock (layout_by o q).blocks a → a ≡ q → p ≡ before_of o a → IsFreed o q a p
-freed-of o q a p h live e is = subst (λ b. IsFreed o q b p) (sym e) (subst (IsFreed o q q) (sym (is ∙ ap (before_of o) e)) (freed-at o q h (some-latest o q a live)))
+pub freed-of : (o : List Bytes) (q a p : ℕ) → IsLast o q → HasBlock (layout_by o q).blocks a → a ≡ q → p ≡ before_of o a → IsLatestFreed o q a p
+freed-of o q a p h live e is = subst (λ b. IsLatestFreed o q b p) (sym e) (subst (IsLatestFreed o q q) (sym (is ∙ ap (before_of o) e)) (freed-at o q h (some-latest o q a live)))
 
 -- the latest block is at that address
 module _ (o : List Bytes) (q a : ℕ) (h : IsLast o q) (live : HasBlock (layout_by o q).blocks a) (e : a ≡ q) where
@@ -91,6 +96,34 @@ resize-other o q a terms size may h live other = call-other (layout_by o q) (pla
 
 pub free-other : (o : List Bytes) (q a : ℕ) → IsLast o q → HasBlock (layout_by o q).blocks a → a ≢ q → last_free (layout_by o q) (place_of a) ≡ Refused NotLast
 free-other o q a h live other = call-other (layout_by o q) (place_of a) (λ (b : Block ℕ). Done (without_block_at (layout_by o q) (place_of a))) (not-latest o q a h live other)
+
+-- a resize that is refused without asking for a segment leaves all as it was
+module _ (at : ℕ × ℕ) (size : ℕ) (may : Bool) (r : Layout ℕ) (d : Discipline) where
+  pub resize-not_last : last_resize d.terms r at size may false ≡ Refused NotLast → IsResize at size may (Err code.NotLast) r r d d
+  resize-not_last e =
+      record {
+        answer = (e, refl);
+        disc = Served-same d r.segments (last_need d.terms size);
+        no_place = λ z. absurd (cc);
+        moves = λ z. absurd (cc);
+        there = tt;
+        others = tt;
+      }
+
+  pub resize-fixed : last_resize d.terms r at size may false ≡ Refused Fixed → IsResize at size may (Err code.Fixed) r r d d
+  resize-fixed e =
+      record {
+        answer = (e, refl);
+        disc = Served-same d r.segments (last_need d.terms size);
+        no_place = λ z. absurd (cc);
+        moves = λ z. absurd (cc);
+        there = tt;
+        others = tt;
+      }
+
+-- a resize of the latest block that may move is one of the block at its address
+pub resize-as : (a q size : ℕ) (may : Bool) (result : Result Addr RegionFault) (r new : Layout ℕ) (d e : Discipline) → a ≡ q → may ≡ true → IsResize (place_of q) size true result r new d e → IsResize (place_of a) size may result r new d e
+resize-as a q size may result r new d e own free h = subst (λ b. IsResize (place_of b) size may result r new d e) (sym own) (subst (λ m. IsResize (place_of q) size m result r new d e) (sym free) h)
 
 -- what a resize leaves of the others
 pub sized-others : (r new : Layout ℕ) (a size : ℕ) → new ≡ resize_there r (place_of a) size → without_block (place_of a) new.blocks ≡ without_block (place_of a) r.blocks

@@ -1,22 +1,22 @@
 -- A block of zeros that is put behind those of the newest segment.
 use Rattle.std.proofs.Common.{◌≡◌, ◌≢◌, ℕ, ◌+◌, ◌-◌, ◌<◌, ◌≤◌, List, [], ◌∷◌, ◌++◌, Bool, true, false, Some, None, All, Any, length, get_or, map, ap, sym, ◌∙◌, subst, arith}
-use Rattle.std.specs.Prelude.{option_map}
+use Rattle.std.specs.Prelude.{Err, option_map}
 use Rattle.std.proofs.lemmas.List.{length-map, length-replicate, get_or-map, map_push}
 use Rattle.std.proofs.lemmas.List.Elements.{All-map}
 use Rattle.vc_model.specs.Addr.{address, place_of}
 use Rattle.vc_model.specs.Best.{zeros}
-use Rattle.vc_model.specs.Discipline.{Discipline, Lent, Served, Terms}
+use Rattle.vc_model.specs.Discipline.{Discipline, Lent, Served, Terms, Unserved}
 use Rattle.vc_model.specs.Last.{last_alloc, last_need, last_place, newest, put_in_newest, put_or_lend}
 use Rattle.vc_model.specs.Layout.{Block, Layout, with_segment}
 use Rattle.vc_model.specs.Segments.{Asked, Granted, NotLent, TooMany, ask, span}
 use Rattle.vc_seg.specs.Segment.{AreSegments, Bytes, pair_of, zeroed}
-use Rattle.vc_seg.specs.Answer.{IsPut, IsRefusal}
+use Rattle.vc_seg.specs.Answer.{Asks, IsPut, IsRefusal}
 use Rattle.vc_seg.specs.declared.fault.RegionFault.{RegionFault}
 use Rattle.vc_seg.specs.declared.fault.RegionFault.TheVariants as code
-use Rattle.vc_segments.specs.Lend.{IsNoGrant}
+use Rattle.vc_segments.specs.Lend.{IsAsked, IsNoGrant}
 use Rattle.vc_segments.specs.Memory.{bytes_of_number}
 use Rattle.vc_segments.proofs.Bytes.{bytes_of_number-most}
-use Rattle.vc_blocks.proofs.Puts.{Served-lent}
+use Rattle.vc_blocks.proofs.Puts.{Served-lent, Served-same}
 use Rattle.vc_last.specs.Head.{LiesThere, StaysBut}
 use Rattle.vc_last.specs.Chain.{IsLast, IsLastOf, blocks_from}
 use Rattle.vc_last.specs.Place.{IsPlace, with_latest}
@@ -101,6 +101,10 @@ module _ (o : List Bytes) (q n bytes : ℕ) (h : IsLast o q) (legal : AreSegment
       subst (All (λ (s : ℕ × ℕ). s.0 ≢ n)) (sym (ap (λ (r : Layout ℕ). r.segments) (layout-from o q))) (All-map (λ (s : ℕ × ℕ). s.0 ≢ n) pair_of o fresh) in
       subst (λ (r : Layout ℕ). IsPlace r size (n, 32)) (sym grown-layout) (place-new (layout_by o q) n bytes size (row-by o q h) other room)
 
+-- what a block at a place behind the others answers
+pub put-there : (terms : Terms) (r new : Layout ℕ) (tag size a : ℕ) (at : ℕ × ℕ) → last_place r size ≡ Some at → a ≡ address at → place_of a ≡ at → new ≡ with_latest r tag size at → IsPut (last_alloc terms r tag size false) a new
+put-there terms r new tag size a at is own place e = subst (λ o. IsPut o a new) (sym (ap (put_or_lend terms r tag size false) is)) (own, sym place, e)
+
 -- what a block in a segment that was asked for answers
 module _ (terms : Terms) (r : Layout ℕ) (tag size bytes : ℕ) (need : bytes ≡ last_need terms size) (none : last_place r size ≡ None) where
   asked : (refused : Bool) (k : Asked) → ask bytes r.segments refused ≡ k → last_alloc terms r tag size refused ≡ put_in_newest r tag size k
@@ -117,6 +121,24 @@ module _ (terms : Terms) (r : Layout ℕ) (tag size bytes : ℕ) (need : bytes �
   refused-new code.PoolSize h = absurd h
   refused-new code.NotLast h = absurd h
   refused-new code.WrongMethod h = absurd h
+
+-- a call that asked for nothing
+pub unasked : (d : Discipline) (segments segments' : List (ℕ × ℕ)) (need : ℕ) → segments' ≡ segments → Served d d segments segments' need
+unasked d segments segments' need e = subst (λ ss. Served d d segments ss need) (sym e) (Served-same d segments need)
+
+-- the segments may be told by an equal list
+pub served-as : (old new : Discipline) (segments mid later : List (ℕ × ℕ)) (need : ℕ) → later ≡ mid → Served old new segments mid need → Served old new segments later need
+served-as old new segments mid later need e h = subst (λ ss. Served old new segments ss need) (sym e) h
+
+-- a call that was granted nothing
+pub refused-disc : (e : RegionFault) (old new : Discipline) (segments segments' : List (ℕ × ℕ)) (bytes need : ℕ) → bytes ≡ need → segments' ≡ segments → IsAsked (Err e) old new bytes → Asks (Err e) old new segments segments' need
+refused-disc code.NoSegment old new segments segments' bytes need e same h = subst (Unserved old new) e h
+refused-disc code.TooManySegments old new segments segments' bytes need e same h = subst (λ d. Served old d segments segments' need) (sym h) (unasked old segments segments' need same)
+refused-disc code.OutOfMemory old new segments segments' bytes need e same h = subst (λ d. Served old d segments segments' need) (sym h) (unasked old segments segments' need same)
+refused-disc code.Fixed old new segments segments' bytes need e same h = subst (λ d. Served old d segments segments' need) (sym h) (unasked old segments segments' need same)
+refused-disc code.PoolSize old new segments segments' bytes need e same h = subst (λ d. Served old d segments segments' need) (sym h) (unasked old segments segments' need same)
+refused-disc code.NotLast old new segments segments' bytes need e same h = subst (λ d. Served old d segments segments' need) (sym h) (unasked old segments segments' need same)
+refused-disc code.WrongMethod old new segments segments' bytes need e same h = subst (λ d. Served old d segments segments' need) (sym h) (unasked old segments segments' need same)
 
 pub served-need : (old new : Discipline) (segments segments' : List (ℕ × ℕ)) (n bytes size : ℕ) → bytes ≡ size → segments' ≡ segments ++ (n, bytes) ∷ [] → Lent old new n bytes → Served old new segments segments' size
 served-need old new segments segments' n bytes size e is lent = subst (Served old new segments segments') e (Served-lent old new segments segments' n bytes is lent)

@@ -75,14 +75,19 @@ module _ (r mid new : Layout ℕ) (a to tag size : ℕ) (l : IsLatestAt r (place
   pub found-before : find_block (place_of a) mid.blocks ≡ Some l.block
   found-before = ap (find_block (place_of a)) both ∙ find-before (place_of a) l.block l.here l.front (zeros tag size (place_of to) ∷ []) l.elsewhere
 
+  -- the block that was put, and what is written into it
+  abbrev z : Block ℕ
+  z = zeros tag size (place_of to)
+
+  abbrev f : Block ℕ → Block ℕ
+  f = rewritten 0 (take size l.block.bytes)
+
   module _ (own : IfSome (find_block (place_of a) mid.blocks) (λ b. new ≡ without_block_at (with_bytes_at mid (place_of to) 0 (take size b.bytes)) (place_of a))) where
     pub moved-is : new ≡ without_block_at (with_bytes_at mid (place_of to) 0 (take size l.block.bytes)) (place_of a)
     moved-is = subst (λ (o : Option (Block ℕ)). IfSome o (λ b. new ≡ without_block_at (with_bytes_at mid (place_of to) 0 (take size b.bytes)) (place_of a))) found-before own
 
     moved-blocks : new.blocks ≡ l.front ++ rewritten 0 (take size l.block.bytes) (zeros tag size (place_of to)) ∷ []
     moved-blocks =
-        let z : Block ℕ = zeros tag size (place_of to) in
-        let f : Block ℕ → Block ℕ = rewritten 0 (take size l.block.bytes) in
         let written : change_block f (place_of to) mid.blocks ≡ r.blocks ++ f z ∷ [] = ap (change_block f (place_of to)) n.blocks ∙ change-last (place_of to) z (at-own (place_of to) z refl) f r.blocks (new-elsewhere r tag size to mid n fresh) in
         ap (λ (q : Layout ℕ). q.blocks) moved-is
         ∙ (ap (without_block (place_of a)) (written ∙ ap (λ (bs : List (Block ℕ)). bs ++ f z ∷ []) l.split)
@@ -93,16 +98,12 @@ module _ (r mid new : Layout ℕ) (a to tag size : ℕ) (l : IsLatestAt r (place
 
     pub moved-others : without_block (place_of to) new.blocks ≡ without_block (place_of a) r.blocks
     moved-others =
-        let z : Block ℕ = zeros tag size (place_of to) in
-        let f : Block ℕ → Block ℕ = rewritten 0 (take size l.block.bytes) in
         ap (without_block (place_of to)) moved-blocks
         ∙ (without-latest (place_of to) (f z) (at-own (place_of to) z refl) l.front front-elsewhere
         ∙ sym (ap (without_block (place_of a)) l.split ∙ without-latest (place_of a) l.block l.here l.front l.elsewhere))
 
     pub moved-there : option_map (λ b. b.label) (find_block (place_of a) r.blocks) ≡ Some tag → option_map (λ b. b.label) (find_block (place_of to) new.blocks) ≡ option_map (λ b. b.label) (find_block (place_of a) r.blocks)
     moved-there label =
-        let z : Block ℕ = zeros tag size (place_of to) in
-        let f : Block ℕ → Block ℕ = rewritten 0 (take size l.block.bytes) in
         ap (λ (bs : List (Block ℕ)). option_map (λ b. b.label) (find_block (place_of to) bs)) moved-blocks
         ∙ (ap (option_map (λ (b : Block ℕ). b.label)) (find-last (place_of to) (f z) (at-own (place_of to) z refl) l.front front-elsewhere)
         ∙ sym label)

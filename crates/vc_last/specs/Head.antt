@@ -1,8 +1,9 @@
 -- The 16 bytes before a block of a last region, four numbers: its size, its tag, the address of the
 -- live block that was allocated before it, 0 for none, and 0.
-use Rattle.std.specs.Prelude.{◌≡◌, ◌≢◌, ℕ, ◌+◌, ◌-◌, ◌≤◌, List, length, map, take, drop}
+use Rattle.std.specs.Prelude.{◌≡◌, ◌≢◌, ℕ, ◌+◌, ◌-◌, ◌≤◌, List, length, map, take, drop, Bool}
 use Rattle.vc_model.specs.Addr.{place_of}
-use Rattle.vc_model.specs.Layout.{Block, address_of}
+use Rattle.vc_model.specs.Layout.{Block, address_of, footprint}
+use Rattle.vc_model.specs.Resize.{is_usable, sized}
 use Rattle.vc_model.specs.Segments.{span}
 use Rattle.vc_seg.specs.Segment.{Bytes, pair_of}
 use Rattle.vc_segments.specs.Memory.{bytes_of_number}
@@ -31,6 +32,10 @@ block_of segs a = block_in (bytes_at segs a) (place_of a)
 abbrev pub before_of : List Bytes → ℕ → ℕ
 before_of segs a = field_at ((place_of a).1 - 8) (bytes_at segs a)
 
+-- whether the block at an address has room for a size where it is
+abbrev pub has_room : List Bytes → ℕ → ℕ → Bool
+has_room segs a size = is_usable (map pair_of segs) (footprint (sized size (block_of segs a)))
+
 -- a block that lies in these segments behind its head
 pub record HasHead (segs : List Bytes) (b : Block ℕ) : Type 0 where
   pub some : 1 ≤ b.size
@@ -38,6 +43,12 @@ pub record HasHead (segs : List Bytes) (b : Block ℕ) : Type 0 where
   pub within : b.off + span b.size ≤ length (bytes_of_number b.seg segs)
   pub zero : field_at (b.off - 4) (bytes_of_number b.seg segs) ≡ 0
   pub is : b ≡ block_of segs (address_of b)
+
+-- a head without its size stays, that of the block at an offset of a segment's bytes
+pub record HeadStays (off : ℕ) (old new : List ℕ) : Type 0 where
+  pub label : field_at (off - 12) new ≡ field_at (off - 12) old
+  pub before : field_at (off - 8) new ≡ field_at (off - 8) old
+  pub zero : field_at (off - 4) new ≡ field_at (off - 4) old
 
 -- a write into a range of the segment of that number leaves all other bytes as they are
 pub record StaysBut (number from to : ℕ) (old new : List Bytes) : Type 0 where

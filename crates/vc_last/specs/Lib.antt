@@ -17,4 +17,5 @@ pub mod Chain
 pub mod Place
 pub mod Gaps
 pub mod Read
+pub mod Call
 pub mod Parts

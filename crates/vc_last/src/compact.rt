@@ -1,30 +1,13 @@
-ghost use Rattle.std.specs.Prelude.{◌≡◌, ℕ, ◌<◌, All, [], false, length, map, slice_index_or};
+ghost use Rattle.std.specs.Prelude.{◌≡◌, ℕ, ◌<◌, All, false, length, slice_index_or, vec_capacity};
 ghost use Rattle.vc_model.specs.Compact.{compact_count, compacted, is_occupied};
 ghost use Rattle.vc_model.specs.Discipline.{HasOut, TookBack};
-ghost use Rattle.vc_seg.specs.Segment.{pair_of};
 ghost use Rattle.vc_last.specs.Chain.{IsLast, blocks_from};
 ghost use Rattle.vc_last.specs.Read.{layout_by};
 
+use crate::back::give_back;
 use crate::head::before_at;
 use vc_base::Addr;
-use vc_seg::{Keeps, SegDisc, Segment, give_back};
-
-/// The segments whose numbers are marked stay.
-#[derive(Drop)]
-struct Marked<'a>(&'a [bool]);
-
-impl Keeps for Marked<'_> {
-    ghost keeps = { λ m n. slice_index_or m.0.now n false };
-
-    fn keeps(&self, number: u32) -> bool {
-        let number = number as usize;
-        if number < self.0.len() {
-            self.0[number]
-        } else {
-            false
-        }
-    }
-}
+use vc_seg::{SegDisc, Segment};
 
 /// Marks the number of each segment that a block is in, in one walk from the latest back.
 fn mark(segs: &[Segment], latest: Addr, marks: &mut [bool])
@@ -46,6 +29,7 @@ pub(crate) fn compact_in(segs: &mut Vec<Segment>, latest: Addr, disc: &mut Box<d
     requires kept { IsLast segs.old.items latest.0 }
     requires out { HasOut (state disc.old) (layout_by segs.old.items latest.0).segments }
     ensures kept { IsLast segs.new.items latest.0 }
+    ensures room { vec_capacity segs.new ≡ vec_capacity segs.old }
     ensures layout { layout_by segs.new.items latest.0
         ≡ compacted (layout_by segs.old.items latest.0) }
     ensures count { result ≡ compact_count (layout_by segs.old.items latest.0) }
@@ -56,6 +40,6 @@ pub(crate) fn compact_in(segs: &mut Vec<Segment>, latest: Addr, disc: &mut Box<d
     let mut marks = [false; 1024];
     mark(segs, latest, &mut marks);
     let before = segs.len();
-    give_back(segs, &Marked(&marks), disc);
+    give_back(segs, &marks, disc);
     (before - segs.len()) as u32
 }

@@ -1,10 +1,9 @@
-ghost use Rattle.std.specs.Prelude.{◌≡◌, ℕ, ◌+◌, ◌<◌, IsErrOf, OnOk, length};
-ghost use Rattle.std.specs.List.{HoldsAt, remove};
+ghost use Rattle.std.specs.Prelude.{◌<◌, IsErrOf, OnOk};
 ghost use Rattle.vc_model.specs.Addr.{place_of};
 ghost use Rattle.vc_model.specs.Last.{last_free};
-ghost use Rattle.vc_model.specs.Layout.{address_of};
 ghost use Rattle.vc_model.specs.Touch.{HasBlock};
 ghost use Rattle.vc_seg.specs.Answer.{Frees};
+ghost use Rattle.vc_last.specs.Call.{IsFreed};
 ghost use Rattle.vc_last.specs.Chain.{IsLast};
 ghost use Rattle.vc_last.specs.Read.{layout_by};
 
@@ -20,13 +19,8 @@ pub(crate) fn free_in(segs: &[Segment], latest: &mut Addr, a: Addr) -> Result<()
     ensures answer { Frees (last_free (layout_by segs.now latest.old.0) (place_of a.0)) result
         (layout_by segs.now latest.old.0) (layout_by segs.now latest.new.0) }
     ensures memory { ¬ IsErrOf result RegionFault.OutOfMemory }
-    ensures one_less { OnOk result (length (layout_by segs.now latest.new.0).blocks + 1
-        ≡ length (layout_by segs.now latest.old.0).blocks) }
-    ensures freed { OnOk result ((i : ℕ) → i < length (layout_by segs.now latest.old.0).blocks
-        → HoldsAt (λ b. address_of b ≡ a.0) (layout_by segs.now latest.old.0).blocks i
-        → (layout_by segs.now latest.new.0).blocks
-        ≡ remove (layout_by segs.now latest.old.0).blocks i) }
-    ensures none_left { OnOk result (¬ HasBlock (layout_by segs.now latest.new.0).blocks a.0) }
+    ensures freed { OnOk result (IsFreed a.0 (layout_by segs.now latest.old.0).blocks
+        (layout_by segs.now latest.new.0).blocks) }
 {
     if a.0 != latest.0 {
         return Err(RegionFault::NotLast);

@@ -6,7 +6,7 @@ ghost use Rattle.vc_seg.specs.Segment.{AreSegments};
 ghost use Rattle.vc_segments.specs.Memory.{bytes_of_number};
 ghost use Rattle.vc_extent.specs.Field.{field_at};
 ghost use Rattle.vc_extent.specs.Frame.{StaysOutside};
-ghost use Rattle.vc_last.specs.Head.{HasHead, LiesThere, StaysBut, before_of, block_of};
+ghost use Rattle.vc_last.specs.Head.{HasHead, LiesThere, StaysBut, before_of, block_of, HeadStays};
 
 use crate::range::{bytes_in, place_of_number};
 use vc_base::Addr;
@@ -104,9 +104,7 @@ fn size_in(seg: &mut Segment, off: u32, old: u32, size: u32)
     requires before { off + old ≤ length seg.old.bytes }
     requires within { off + size ≤ length seg.old.bytes }
     ensures size { field_at (off - 16) seg.new.bytes ≡ size }
-    ensures label { field_at (off - 12) seg.new.bytes ≡ field_at (off - 12) seg.old.bytes }
-    ensures before { field_at (off - 8) seg.new.bytes ≡ field_at (off - 8) seg.old.bytes }
-    ensures zero { field_at (off - 4) seg.new.bytes ≡ field_at (off - 4) seg.old.bytes }
+    ensures head { HeadStays off seg.old.bytes seg.new.bytes }
     ensures bytes { take size (drop off seg.new.bytes)
         ≡ fitted size (take old (drop off seg.old.bytes)) }
     ensures rest { StaysOutside (off - 16) (off + size) seg.old seg.new }

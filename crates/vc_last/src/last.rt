@@ -1,4 +1,4 @@
-ghost use Rattle.std.specs.Prelude.{◌≡◌, ℕ, ◌+◌, ◌<◌, ◌≤◌, [], IfErr, IfOk, IfSome, IsErrOf, IsTrue, None, OnOk, Some, false, length, option_map};
+ghost use Rattle.std.specs.Prelude.{◌≡◌, ℕ, ◌+◌, ◌<◌, ◌≤◌, [], IfErr, IfOk, IfSome, IsErrOf, IsTrue, None, OnOk, Some, false, length, option_map, vec_capacity};
 ghost use Rattle.std.specs.List.{HoldsAt, remove};
 ghost use Rattle.vc_model.specs.Addr.{place_of};
 ghost use Rattle.vc_model.specs.Best.{zeros};
@@ -39,6 +39,8 @@ pub struct Last {
     /// The heads lead from the latest block to the first, each block lies lower than those allocated after it, and
     /// segments have numbers of their own.
     pub ghost kept: { ∥ IsLast segs.items latest.0 ∥₁ },
+    /// Each segment that can be asked for has room.
+    pub ghost reserved: { 1023 ≤ vec_capacity segs },
     /// No two blocks overlap, each lies in the usable part of a segment, and segments have numbers of their own.
     pub ghost sound: { ∥ IsSound (layout_by segs.items latest.0) ∥₁ },
 }
@@ -46,7 +48,7 @@ pub struct Last {
 impl Last {
     ghost use Rattle.vc_last.specs.Parts.{blocks_in, layout_of, segments_in};
 
-    /// A region with no segment. It takes none before the first block.
+    /// A region with no segment. It takes the memory of 1,023 slots, and no segment before the first block.
     pub fn open(
         alloc: Global,
         disc: Box<dyn SegDisc>,

@@ -4,7 +4,8 @@ ghost use Rattle.vc_model.specs.Layout.{footprint};
 ghost use Rattle.vc_model.specs.Resize.{is_usable, sized};
 ghost use Rattle.vc_seg.specs.Segment.{AreSegments, pair_of};
 ghost use Rattle.vc_last.specs.Chain.{IsLast};
-ghost use Rattle.vc_last.specs.Head.{HasHead, block_of};
+ghost use Rattle.vc_last.specs.Head.{HasHead, block_of, has_room};
+ghost use Rattle.vc_last.specs.Place.{IsNewest};
 ghost use Rattle.vc_last.specs.Read.{layout_by};
 
 use crate::head::size_at;
@@ -16,7 +17,7 @@ use vc_seg::{Segment, span_of};
 /// there, since no other one ends behind it, and else at offset 32, since no block is there.
 fn next_offset(segs: &[Segment], latest: Addr, number: u32) -> u32
     requires kept { IsLast segs.now latest.0 }
-    requires newest { option_map (λ s. s.0) (newest (layout_by segs.now latest.0)) ≡ Some number }
+    requires newest { IsNewest (layout_by segs.now latest.0) number }
     ensures value { result ≡ next_offset number (layout_by segs.now latest.0).blocks }
     ensures most { result ≤ 50331744 }
 {
@@ -50,8 +51,7 @@ pub(crate) fn can_end(segs: &[Segment], a: Addr, size: u32) -> bool
     requires segments { AreSegments segs.now }
     requires head { HasHead segs.now (block_of segs.now a.0) }
     requires most { size ≤ 16777216 }
-    ensures { result ≡ is_usable (map pair_of segs.now)
-        (footprint (sized size (block_of segs.now a.0))) }
+    ensures { result ≡ has_room segs.now a.0 size }
 {
     let place = place_of_number(segs, a.seg());
     a.off() + span_of(size) <= segs[place].size()

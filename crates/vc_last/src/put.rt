@@ -1,35 +1,31 @@
-ghost use Rattle.std.specs.Prelude.{◌≡◌, ◌≢◌, ℕ, ◌+◌, ◌%◌, ◌<◌, ◌≤◌, [], ◌∷◌, ◌++◌, All, IfErr, IfOk, IsErrOf, None, OnErr, OnOk, Some, false, map, option_map};
+ghost use Rattle.std.specs.Prelude.{◌≡◌, ◌+◌, ◌<◌, ◌≤◌, All, IfOk, None, Some, map, option_map, vec_capacity};
 ghost use Rattle.vc_model.specs.Addr.{address, place_of};
-ghost use Rattle.vc_model.specs.Discipline.{IsSegmentSize};
-ghost use Rattle.vc_model.specs.Last.{last_alloc, last_need, last_place, newest};
-ghost use Rattle.vc_model.specs.Segments.{Granted, ask};
+ghost use Rattle.vc_model.specs.Last.{last_place, newest};
+ghost use Rattle.vc_model.specs.Segments.{ask};
 ghost use Rattle.vc_model.specs.Touch.{HasBlock};
-ghost use Rattle.vc_seg.specs.Answer.{Answers, Asks};
-ghost use Rattle.vc_seg.specs.Segment.{AreSegments, pair_of, zeroed};
-ghost use Rattle.vc_segments.specs.Lend.{IsAsked, IsNoGrant};
+ghost use Rattle.vc_last.specs.Call.{IsAlloc};
 ghost use Rattle.vc_last.specs.Chain.{IsLast};
-ghost use Rattle.vc_last.specs.Place.{IsPlace, with_latest};
+ghost use Rattle.vc_last.specs.Place.{IsAt, IsNewest, IsPlace, with_latest};
 ghost use Rattle.vc_last.specs.Read.{layout_by};
 
 use crate::head::lay;
+use crate::lend::lend_next;
 use crate::place::place;
 use std::alloc::Global;
 use vc_base::Addr;
 use vc_seg::{RegionFault, SegDisc, Segment, round_of, rounded_up, span_of};
-use vc_segments::lend_next;
 
 /// Puts a block of zeros at a place behind those of the newest segment, and answers its address. It is the latest.
 fn put(segs: &mut Vec<Segment>, latest: Addr, seg: u32, off: u32, size: u32, tag: u32) -> Addr
     requires kept { IsLast segs.old.items latest.0 }
-    requires newest { option_map (λ s. s.0) (newest (layout_by segs.old.items latest.0))
-        ≡ Some seg }
+    requires newest { IsNewest (layout_by segs.old.items latest.0) seg }
     requires place { IsPlace (layout_by segs.old.items latest.0) size (seg, off) }
     requires some { 1 ≤ size }
     ensures kept { IsLast segs.new.items result.0 }
+    ensures room { vec_capacity segs.new ≡ vec_capacity segs.old }
     ensures layout { layout_by segs.new.items result.0
         ≡ with_latest (layout_by segs.old.items latest.0) tag size (seg, off) }
-    ensures address { result.0 ≡ address (seg, off) }
-    ensures place { place_of result.0 ≡ (seg, off) }
+    ensures at { IsAt result.0 (seg, off) }
     ensures fresh { ¬ HasBlock (layout_by segs.old.items latest.0).blocks result.0 }
 {
     lay(segs, seg, off, size, tag, latest);
@@ -46,18 +42,14 @@ fn put_in_new(
     tag: u32,
 ) -> Result<Addr, RegionFault>
     requires kept { IsLast segs.old.items latest.old.0 }
+    requires room { 1023 ≤ vec_capacity segs.old }
     requires some { 1 ≤ size }
     requires most { size ≤ 16777216 }
     requires none { last_place (layout_by segs.old.items latest.old.0) size ≡ None }
     ensures kept { IsLast segs.new.items latest.new.0 }
-    ensures answer { Answers
-        (last_alloc (state disc.old).terms (layout_by segs.old.items latest.old.0) tag size)
-        result (layout_by segs.old.items latest.old.0) (layout_by segs.new.items latest.new.0) }
-    ensures disc { Asks result (state disc.old) (state disc.new)
-        (layout_by segs.old.items latest.old.0).segments
-        (layout_by segs.new.items latest.new.0).segments
-        (last_need (state disc.old).terms size) }
-    ensures fresh { IfOk result (λ a. ¬ HasBlock (layout_by segs.old.items latest.old.0).blocks a.0) }
+    ensures room { vec_capacity segs.new ≡ vec_capacity segs.old }
+    ensures alloc { IsAlloc tag size result (layout_by segs.old.items latest.old.0)
+        (layout_by segs.new.items latest.new.0) (state disc.old) (state disc.new) }
     ensures latest { IfOk result (λ a. latest.new.0 ≡ a.0) }
 {
     let bytes = rounded_up(span_of(size) + 32, round_of(disc));
@@ -81,20 +73,14 @@ pub(crate) fn alloc_in(
     tag: u32,
 ) -> Result<Addr, RegionFault>
     requires kept { IsLast segs.old.items latest.old.0 }
+    requires room { 1023 ≤ vec_capacity segs.old }
     requires some { 1 ≤ size }
     requires most { size ≤ 16777216 }
     ensures kept { IsLast segs.new.items latest.new.0 }
-    ensures answer { Answers
-        (last_alloc (state disc.old).terms (layout_by segs.old.items latest.old.0) tag size)
-        result (layout_by segs.old.items latest.old.0) (layout_by segs.new.items latest.new.0) }
-    ensures disc { Asks result (state disc.old) (state disc.new)
-        (layout_by segs.old.items latest.old.0).segments
-        (layout_by segs.new.items latest.new.0).segments
-        (last_need (state disc.old).terms size) }
-    ensures fresh { IfOk result (λ a. ¬ HasBlock (layout_by segs.old.items latest.old.0).blocks a.0) }
+    ensures room { vec_capacity segs.new ≡ vec_capacity segs.old }
+    ensures alloc { IsAlloc tag size result (layout_by segs.old.items latest.old.0)
+        (layout_by segs.new.items latest.new.0) (state disc.old) (state disc.new) }
     ensures latest { IfOk result (λ a. latest.new.0 ≡ a.0) }
-    ensures no_memory { IsErrOf result RegionFault.OutOfMemory
-        → last_place (layout_by segs.old.items latest.old.0) size ≡ None }
 {
     match place(segs, *latest, size) {
         Some(at) => {

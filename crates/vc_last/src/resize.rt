@@ -1,16 +1,15 @@
-ghost use Rattle.std.specs.Prelude.{◌≡◌, ◌≢◌, ◌≤◌, IfOk, IfSome, IsErrOf, IsTrue, None, Some, false, map, option_map, take, true};
+ghost use Rattle.std.specs.Prelude.{◌≡◌, ◌≢◌, ◌≤◌, false, map, take, true, vec_capacity};
 ghost use Rattle.vc_model.specs.Addr.{place_of};
 ghost use Rattle.vc_model.specs.Best.{without_block_at};
-ghost use Rattle.vc_model.specs.Last.{can_end, last_free, last_need, last_place, last_resize, latest};
+ghost use Rattle.vc_model.specs.Last.{can_end, latest};
 ghost use Rattle.vc_model.specs.Layout.{footprint, without_block};
 ghost use Rattle.vc_model.specs.Resize.{is_usable, resize_there, sized};
-ghost use Rattle.vc_model.specs.Touch.{HasBlock, find_block, with_bytes_at};
-ghost use Rattle.vc_seg.specs.Answer.{Answers, Asks};
+ghost use Rattle.vc_model.specs.Touch.{HasBlock, with_bytes_at};
 ghost use Rattle.vc_seg.specs.Segment.{pair_of};
+ghost use Rattle.vc_last.specs.Call.{IsResize};
 ghost use Rattle.vc_last.specs.Chain.{IsLast};
-ghost use Rattle.vc_last.specs.Head.{before_of, block_of};
+ghost use Rattle.vc_last.specs.Head.{before_of, block_of, has_room};
 ghost use Rattle.vc_last.specs.Read.{layout_by};
-ghost use Rattle.vc_last.specs.Row.{is_latest};
 
 use crate::head::{before_at, set_before, set_size, size_at, tag_at};
 use crate::place::can_end;
@@ -25,9 +24,9 @@ fn resize_there(segs: &mut Vec<Segment>, a: Addr, size: u32)
     requires kept { IsLast segs.old.items a.0 }
     requires block { a.0 ≢ 0 }
     requires some { 1 ≤ size }
-    requires fits { is_usable (map pair_of segs.old.items)
-        (footprint (sized size (block_of segs.old.items a.0))) ≡ true }
+    requires fits { has_room segs.old.items a.0 size ≡ true }
     ensures kept { IsLast segs.new.items a.0 }
+    ensures room { vec_capacity segs.new ≡ vec_capacity segs.old }
     ensures layout { layout_by segs.new.items a.0
         ≡ resize_there (layout_by segs.old.items a.0) (place_of a.0) size }
 {
@@ -41,6 +40,7 @@ fn copy_front(segs: &mut Vec<Segment>, a: Addr, to: Addr, size: u32)
     requires to { HasBlock (layout_by segs.old.items to.0).blocks to.0 }
     requires room { size ≤ (block_of segs.old.items to.0).size }
     ensures kept { IsLast segs.new.items to.0 }
+    ensures room { vec_capacity segs.new ≡ vec_capacity segs.old }
     ensures layout { layout_by segs.new.items to.0
         ≡ with_bytes_at (layout_by segs.old.items to.0) (place_of to.0) 0
         (take size (block_of segs.old.items a.0).bytes) }
@@ -56,6 +56,7 @@ fn unlink(segs: &mut Vec<Segment>, a: Addr, to: Addr)
     requires before { before_of segs.old.items to.0 ≡ a.0 }
     requires block { a.0 ≢ 0 }
     ensures kept { IsLast segs.new.items to.0 }
+    ensures room { vec_capacity segs.new ≡ vec_capacity segs.old }
     ensures layout { layout_by segs.new.items to.0
         ≡ without_block_at (layout_by segs.old.items to.0) (place_of a.0) }
 {
@@ -72,30 +73,17 @@ fn move_latest(
     size: u32,
 ) -> Result<Addr, RegionFault>
     requires kept { IsLast segs.old.items latest.old.0 }
+    requires room { 1023 ≤ vec_capacity segs.old }
     requires block { latest.old.0 ≢ 0 }
     requires some { 1 ≤ size }
     requires most { size ≤ 16777216 }
-    requires ends { is_usable (map pair_of segs.old.items)
-        (footprint (sized size (block_of segs.old.items latest.old.0))) ≡ false }
+    requires ends { has_room segs.old.items latest.old.0 size ≡ false }
 
     ensures kept { IsLast segs.new.items latest.new.0 }
-    ensures answer { Answers
-        (last_resize (state disc.old).terms (layout_by segs.old.items latest.old.0)
-        (place_of latest.old.0) size true)
-        result (layout_by segs.old.items latest.old.0) (layout_by segs.new.items latest.new.0) }
-    ensures disc { Asks result (state disc.old) (state disc.new)
-        (layout_by segs.old.items latest.old.0).segments
-        (layout_by segs.new.items latest.new.0).segments
-        (last_need (state disc.old).terms size) }
-    ensures no_memory { IsErrOf result RegionFault.OutOfMemory
-        → last_place (layout_by segs.old.items latest.old.0) size ≡ None }
-    ensures there { IfOk result (λ to. option_map (λ b. b.label)
-        (find_block (place_of to.0) (layout_by segs.new.items latest.new.0).blocks)
-        ≡ option_map (λ b. b.label)
-        (find_block (place_of latest.old.0) (layout_by segs.old.items latest.old.0).blocks)) }
-    ensures others { IfOk result (λ to. without_block (place_of to.0)
-        (layout_by segs.new.items latest.new.0).blocks
-        ≡ without_block (place_of latest.old.0) (layout_by segs.old.items latest.old.0).blocks) }
+    ensures room { vec_capacity segs.new ≡ vec_capacity segs.old }
+    ensures resize { IsResize (place_of latest.old.0) size true result
+        (layout_by segs.old.items latest.old.0) (layout_by segs.new.items latest.new.0)
+        (state disc.old) (state disc.new) }
 {
     let a = *latest;
     let tag = tag_at(segs, a);
@@ -120,33 +108,16 @@ pub(crate) fn resize_in(
     may_move: bool,
 ) -> Result<Addr, RegionFault>
     requires kept { IsLast segs.old.items at.old.0 }
+    requires room { 1023 ≤ vec_capacity segs.old }
     requires block { HasBlock (layout_by segs.old.items at.old.0).blocks a.0 }
     requires some { 1 ≤ size }
     requires most { size ≤ 16777216 }
 
     ensures kept { IsLast segs.new.items at.new.0 }
-    ensures answer { Answers
-        (last_resize (state disc.old).terms (layout_by segs.old.items at.old.0)
-        (place_of a.0) size may_move)
-        result (layout_by segs.old.items at.old.0) (layout_by segs.new.items at.new.0) }
-    ensures disc { Asks result (state disc.old) (state disc.new)
-        (layout_by segs.old.items at.old.0).segments
-        (layout_by segs.new.items at.new.0).segments
-        (last_need (state disc.old).terms size) }
-    ensures no_memory { IsErrOf result RegionFault.OutOfMemory
-        → last_place (layout_by segs.old.items at.old.0) size ≡ None }
-    ensures moves { IsErrOf result RegionFault.OutOfMemory
-        → IfSome (find_block (place_of a.0) (layout_by segs.old.items at.old.0).blocks)
-        (λ b. (latest (layout_by segs.old.items at.old.0) ≡ Some b)
-        × (can_end (layout_by segs.old.items at.old.0) size b ≡ false))
-        × IsTrue may_move }
-    ensures there { IfOk result (λ to. option_map (λ b. b.label)
-        (find_block (place_of to.0) (layout_by segs.new.items at.new.0).blocks)
-        ≡ option_map (λ b. b.label)
-        (find_block (place_of a.0) (layout_by segs.old.items at.old.0).blocks)) }
-    ensures others { IfOk result (λ to. without_block (place_of to.0)
-        (layout_by segs.new.items at.new.0).blocks
-        ≡ without_block (place_of a.0) (layout_by segs.old.items at.old.0).blocks) }
+    ensures room { vec_capacity segs.new ≡ vec_capacity segs.old }
+    ensures resize { IsResize (place_of a.0) size may_move result
+        (layout_by segs.old.items at.old.0) (layout_by segs.new.items at.new.0)
+        (state disc.old) (state disc.new) }
 {
     if a.0 != at.0 {
         return Err(RegionFault::NotLast);

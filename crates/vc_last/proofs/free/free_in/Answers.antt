@@ -15,11 +15,5 @@ returns-clause-kept c = (freed-of c.args.segs.now c.args.latest.now.0 c.args.a.0
 pub returns-clause-answer : goal.returns-clause-answer
 returns-clause-answer c = (freed-of c.args.segs.now c.args.latest.now.0 c.args.a.0 c.before_at.result.0 c.requires.kept c.requires.block c.if-a-latest.false c.before_at.ensures).answer
 
-pub returns-clause-one_less : goal.returns-clause-one_less
-returns-clause-one_less c = (freed-of c.args.segs.now c.args.latest.now.0 c.args.a.0 c.before_at.result.0 c.requires.kept c.requires.block c.if-a-latest.false c.before_at.ensures).one_less
-
 pub returns-clause-freed : goal.returns-clause-freed
 returns-clause-freed c = (freed-of c.args.segs.now c.args.latest.now.0 c.args.a.0 c.before_at.result.0 c.requires.kept c.requires.block c.if-a-latest.false c.before_at.ensures).freed
-
-pub returns-clause-none_left : goal.returns-clause-none_left
-returns-clause-none_left c = (freed-of c.args.segs.now c.args.latest.now.0 c.args.a.0 c.before_at.result.0 c.requires.kept c.requires.block c.if-a-latest.false c.before_at.ensures).none_left

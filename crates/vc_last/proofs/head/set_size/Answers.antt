@@ -42,9 +42,9 @@ returns-clause-laid c =
     let was : bytes_at c.args.segs.now c.args.a.0 ≡ b = own at in
     record {
       size = ap (field_at (off at - 16)) e ∙ (ap (λ k. field_at (k - 16) c.size_in.new.seg.bytes) (sym o) ∙ c.size_in.ensures.size);
-      label = ap (field_at (off at - 12)) e ∙ (ap (λ k. field_at (k - 12) c.size_in.new.seg.bytes) (sym o) ∙ (c.size_in.ensures.label ∙ (ap (λ k. field_at (k - 12) b) o ∙ ap (field_at (off at - 12)) (sym was))));
-      before = ap (field_at (off at - 8)) e ∙ (ap (λ k. field_at (k - 8) c.size_in.new.seg.bytes) (sym o) ∙ (c.size_in.ensures.before ∙ (ap (λ k. field_at (k - 8) b) o ∙ ap (field_at (off at - 8)) (sym was))));
-      zero = ap (field_at (off at - 4)) e ∙ (ap (λ k. field_at (k - 4) c.size_in.new.seg.bytes) (sym o) ∙ (c.size_in.ensures.zero ∙ (ap (λ k. field_at (k - 4) b) o ∙ (ap (field_at (off at - 4)) (sym was) ∙ c.requires.head.zero))));
+      label = ap (field_at (off at - 12)) e ∙ (ap (λ k. field_at (k - 12) c.size_in.new.seg.bytes) (sym o) ∙ (c.size_in.ensures.head.label ∙ (ap (λ k. field_at (k - 12) b) o ∙ ap (field_at (off at - 12)) (sym was))));
+      before = ap (field_at (off at - 8)) e ∙ (ap (λ k. field_at (k - 8) c.size_in.new.seg.bytes) (sym o) ∙ (c.size_in.ensures.head.before ∙ (ap (λ k. field_at (k - 8) b) o ∙ ap (field_at (off at - 8)) (sym was))));
+      zero = ap (field_at (off at - 4)) e ∙ (ap (λ k. field_at (k - 4) c.size_in.new.seg.bytes) (sym o) ∙ (c.size_in.ensures.head.zero ∙ (ap (λ k. field_at (k - 4) b) o ∙ (ap (field_at (off at - 4)) (sym was) ∙ c.requires.head.zero))));
       bytes = ap (λ (xs : List ℕ). take c.args.size (drop (off at) xs)) e ∙ (ap (λ k. take c.args.size (drop k c.size_in.new.seg.bytes)) (sym o) ∙ (c.size_in.ensures.bytes
           ∙ (ap (λ k. fitted c.args.size (take k (drop c.off.result b))) c.size_at-old.ensures.value ∙ (ap (λ k. fitted c.args.size (take (block_of c.args.segs.now c.args.a.0).size (drop k b))) o
           ∙ ap (λ (xs : List ℕ). fitted c.args.size (take (block_of c.args.segs.now c.args.a.0).size (drop (off at) xs))) (sym was)))));

@@ -1,32 +1,32 @@
-use Rattle.std.proofs.Common.{◌+◌, ◌-◌, ap, ◌∙◌, arith}
+use Rattle.std.proofs.Common.{◌≡◌, ◌≤◌, ℕ, ◌+◌, ◌-◌, ap, ◌∙◌, arith}
 use Rattle.vc_model.specs.Resize.{fitted}
 use Rattle.vc_seg.specs.Segment.{Bytes}
+use Rattle.vc_extent.specs.Field.{field_at}
 use Rattle.vc_extent.specs.Frame.{StaysOutside}
 use Rattle.vc_extent.proofs.Frames.{field-back, field-front, part-back, then, wider}
 use Rattle.vc_last.proofs.head.size_in.Goals as goal
+use Rattle.vc_last.proofs.head.size_in.Goals.{After-zero_behind}
 
 pub returns-clause-size : goal.returns-clause-size
 returns-clause-size c =
     let first = c.requires.first in
     field-front c.set_field.new.seg.bytes c.zero_behind.new.seg.bytes c.args.off c.zero_behind.ensures.rest.below (c.args.off - 16) (omega (arith, first)) ∙ c.set_field.ensures.value
 
-pub returns-clause-label : goal.returns-clause-label
-returns-clause-label c =
-    let first = c.requires.first in
-    field-front c.set_field.new.seg.bytes c.zero_behind.new.seg.bytes c.args.off c.zero_behind.ensures.rest.below (c.args.off - 12) (omega (arith, first))
-    ∙ field-back c.args.seg.now.bytes c.set_field.new.seg.bytes (c.args.off - 16 + 4) c.set_field.ensures.rest.above (c.args.off - 12) (omega (arith, first))
+-- a number of the head behind the size
+stays : (c : After-zero_behind) (at : ℕ) → c.args.off - 16 + 4 ≤ at → at + 4 ≤ c.args.off → field_at at c.zero_behind.new.seg.bytes ≡ field_at at c.args.seg.now.bytes
+stays c at low high =
+    field-front c.set_field.new.seg.bytes c.zero_behind.new.seg.bytes c.args.off c.zero_behind.ensures.rest.below at high
+    ∙ field-back c.args.seg.now.bytes c.set_field.new.seg.bytes (c.args.off - 16 + 4) c.set_field.ensures.rest.above at low
 
-pub returns-clause-before : goal.returns-clause-before
-returns-clause-before c =
+pub returns-clause-head : goal.returns-clause-head
+returns-clause-head c =
+    let at = (goal.at.returns-clause-head c).After-zero_behind in
     let first = c.requires.first in
-    field-front c.set_field.new.seg.bytes c.zero_behind.new.seg.bytes c.args.off c.zero_behind.ensures.rest.below (c.args.off - 8) (omega (arith, first))
-    ∙ field-back c.args.seg.now.bytes c.set_field.new.seg.bytes (c.args.off - 16 + 4) c.set_field.ensures.rest.above (c.args.off - 8) (omega (arith, first))
-
-pub returns-clause-zero : goal.returns-clause-zero
-returns-clause-zero c =
-    let first = c.requires.first in
-    field-front c.set_field.new.seg.bytes c.zero_behind.new.seg.bytes c.args.off c.zero_behind.ensures.rest.below (c.args.off - 4) (omega (arith, first))
-    ∙ field-back c.args.seg.now.bytes c.set_field.new.seg.bytes (c.args.off - 16 + 4) c.set_field.ensures.rest.above (c.args.off - 4) (omega (arith, first))
+    record {
+      label = stays at (c.args.off - 12) (omega (arith, first)) (omega (arith, first));
+      before = stays at (c.args.off - 8) (omega (arith, first)) (omega (arith, first));
+      zero = stays at (c.args.off - 4) (omega (arith, first)) (omega (arith, first));
+    }
 
 pub returns-clause-bytes : goal.returns-clause-bytes
 returns-clause-bytes c =

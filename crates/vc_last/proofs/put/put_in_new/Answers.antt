@@ -8,7 +8,7 @@ use Rattle.vc_segments.specs.Lend.{IsNoGrant}
 use Rattle.vc_last.specs.Place.{with_latest}
 use Rattle.vc_last.specs.Read.{layout_by}
 use Rattle.vc_last.proofs.Kept.{layout-from}
-use Rattle.vc_last.proofs.Puts.{grown-kept, grown-layout, grown-newest, grown-place, put-in-new, refused-new, served-need}
+use Rattle.vc_last.proofs.Puts.{grown-kept, grown-layout, grown-newest, grown-place, put-in-new, refused-disc, refused-new, served-need}
 use Rattle.vc_last.proofs.put.put_in_new.Goals as goal
 use Rattle.vc_last.proofs.put.put_in_new.Goals.{After-rounded_up-bytes, After-lend_next, After-put-a}
 use Rattle.vc_last.proofs.put.put_in_new.Given.{Over}
@@ -24,46 +24,47 @@ lend_next-requires-clause-bytes g c =
     let most = c.requires.most in
     rw (c.rounded_up-bytes.ensures, c.span_of.ensures) (IsSegmentSize-asked c.round_of.result (span c.args.size + 32) c.round_of.ensures.legal (omega (arith, some)) (omega (arith, most)))
 
-pub returns-in-Err-clause-answer : goal.returns-in-Err-clause-answer
-returns-in-Err-clause-answer g c =
+segments : (g : Over) (c : After-rounded_up-bytes g) → (layout_by c.args.segs.now.items c.args.latest.now.0).segments ≡ map pair_of c.args.segs.now.items
+segments g c = ap (λ (r : Layout ℕ). r.segments) (layout-from c.args.segs.now.items c.args.latest.now.0)
+
+pub returns-in-Err-clause-alloc : goal.returns-in-Err-clause-alloc
+returns-in-Err-clause-alloc g c =
     let r : Layout ℕ = layout_by c.args.segs.now.items c.args.latest.now.0 in
-    let segments : r.segments ≡ map pair_of c.args.segs.now.items = ap (λ (q : Layout ℕ). q.segments) (layout-from c.args.segs.now.items c.args.latest.now.0) in (
-      refused-new _ r c.args.tag c.args.size c.rounded_up-bytes.result (c.rounded_up-bytes.ensures ∙ (ap (λ k. round_up (k + 32) c.round_of.result) c.span_of.ensures ∙ ap (round_up (span c.args.size + 32)) c.round_of.ensures.value)) c.requires.none c.in-Err.fault (subst (λ ss. IsNoGrant c.rounded_up-bytes.result ss c.in-Err.fault) (sym segments) c.in-Err.ensures.fault),
-      ap (λ (xs : List Bytes). layout_by xs c.args.latest.now.0) c.in-Err.ensures.same,
-    )
+    let same = ap (λ (xs : List Bytes). layout_by xs c.args.latest.now.0) c.in-Err.ensures.same in
+    record {
+      answer = (refused-new _ r c.args.tag c.args.size c.rounded_up-bytes.result (c.rounded_up-bytes.ensures ∙ (ap (λ k. round_up (k + 32) c.round_of.result) c.span_of.ensures ∙ ap (round_up (span c.args.size + 32)) c.round_of.ensures.value)) c.requires.none c.in-Err.fault (subst (λ ss. IsNoGrant c.rounded_up-bytes.result ss c.in-Err.fault) (sym (segments g (goal.at.returns-in-Err-clause-alloc g c).After-rounded_up-bytes)) c.in-Err.ensures.fault), same);
+      disc = refused-disc c.in-Err.fault _ _ r.segments _ c.rounded_up-bytes.result _ (c.rounded_up-bytes.ensures ∙ (ap (λ k. round_up (k + 32) c.round_of.result) c.span_of.ensures ∙ ap (round_up (span c.args.size + 32)) c.round_of.ensures.value)) (ap (λ (q : Layout ℕ). q.segments) same) c.in-Err.ensures.disc;
+      fresh = tt;
+      no_memory = λ _. c.requires.none;
+    }
 
 pub put-a-requires-clause-kept : goal.put-a-requires-clause-kept
-put-a-requires-clause-kept g c = rw c.in-Ok.ensures.pushed (grown-kept c.args.segs.now.items c.args.latest.now.0 c.in-Ok.number c.rounded_up-bytes.result c.requires.kept (subst AreSegments c.in-Ok.ensures.pushed c.in-Ok.ensures.segments))
+put-a-requires-clause-kept g c = rw c.in-Ok.ensures.lent.pushed (grown-kept c.args.segs.now.items c.args.latest.now.0 c.in-Ok.number c.rounded_up-bytes.result c.requires.kept (subst AreSegments c.in-Ok.ensures.lent.pushed c.in-Ok.ensures.segments))
 
 pub put-a-requires-clause-newest : goal.put-a-requires-clause-newest
-put-a-requires-clause-newest g c = rw c.in-Ok.ensures.pushed (grown-newest c.args.segs.now.items c.args.latest.now.0 c.in-Ok.number c.rounded_up-bytes.result c.requires.kept (subst AreSegments c.in-Ok.ensures.pushed c.in-Ok.ensures.segments))
+put-a-requires-clause-newest g c = rw c.in-Ok.ensures.lent.pushed (grown-newest c.args.segs.now.items c.args.latest.now.0 c.in-Ok.number c.rounded_up-bytes.result c.requires.kept (subst AreSegments c.in-Ok.ensures.lent.pushed c.in-Ok.ensures.segments))
 
 pub put-a-requires-clause-place : goal.put-a-requires-clause-place
 put-a-requires-clause-place g c =
     let wide = room g (goal.at.put-a-requires-clause-place g c).After-rounded_up-bytes in
-    rw c.in-Ok.ensures.pushed (grown-place c.args.segs.now.items c.args.latest.now.0 c.in-Ok.number c.rounded_up-bytes.result c.requires.kept (subst AreSegments c.in-Ok.ensures.pushed c.in-Ok.ensures.segments) c.args.size c.in-Ok.ensures.fresh wide)
+    rw c.in-Ok.ensures.lent.pushed (grown-place c.args.segs.now.items c.args.latest.now.0 c.in-Ok.number c.rounded_up-bytes.result c.requires.kept (subst AreSegments c.in-Ok.ensures.lent.pushed c.in-Ok.ensures.segments) c.args.size c.in-Ok.ensures.lent.fresh wide)
 
 grown : (g : Over) (c : After-put-a g) → layout_by c.lend_next.new.segs.items c.args.latest.now.0 ≡ with_segment (layout_by c.args.segs.now.items c.args.latest.now.0) (c.in-Ok.number, c.rounded_up-bytes.result)
 grown g c =
-    ap (λ (xs : List Bytes). layout_by xs c.args.latest.now.0) c.in-Ok.ensures.pushed
-    ∙ grown-layout c.args.segs.now.items c.args.latest.now.0 c.in-Ok.number c.rounded_up-bytes.result c.requires.kept (subst AreSegments c.in-Ok.ensures.pushed c.in-Ok.ensures.segments)
+    ap (λ (xs : List Bytes). layout_by xs c.args.latest.now.0) c.in-Ok.ensures.lent.pushed
+    ∙ grown-layout c.args.segs.now.items c.args.latest.now.0 c.in-Ok.number c.rounded_up-bytes.result c.requires.kept (subst AreSegments c.in-Ok.ensures.lent.pushed c.in-Ok.ensures.segments)
 
-pub returns-in-Ok-clause-answer : goal.returns-in-Ok-clause-answer
-returns-in-Ok-clause-answer g c =
+pub returns-in-Ok-clause-alloc : goal.returns-in-Ok-clause-alloc
+returns-in-Ok-clause-alloc g c =
+    let at = goal.at.returns-in-Ok-clause-alloc g c in
     let r : Layout ℕ = layout_by c.args.segs.now.items c.args.latest.now.0 in
-    let segments : r.segments ≡ map pair_of c.args.segs.now.items = ap (λ (q : Layout ℕ). q.segments) (layout-from c.args.segs.now.items c.args.latest.now.0) in
-    let lent = grown g (goal.at.returns-in-Ok-clause-answer g c).After-put-a in
-    put-in-new _ r c.args.tag c.args.size c.rounded_up-bytes.result (c.rounded_up-bytes.ensures ∙ (ap (λ k. round_up (k + 32) c.round_of.result) c.span_of.ensures ∙ ap (round_up (span c.args.size + 32)) c.round_of.ensures.value)) c.requires.none _ c.in-Ok.number c.put-a.result.0
-    (subst (λ ss. ask c.rounded_up-bytes.result ss false ≡ Granted c.in-Ok.number c.rounded_up-bytes.result) (sym segments) c.in-Ok.ensures.granted) c.put-a.ensures.address c.put-a.ensures.place
-    (c.put-a.ensures.layout ∙ ap (λ (q : Layout ℕ). with_latest q c.args.tag c.args.size (c.in-Ok.number, 32)) lent)
-
-pub returns-in-Ok-clause-disc : goal.returns-in-Ok-clause-disc
-returns-in-Ok-clause-disc g c =
-    let r : Layout ℕ = layout_by c.args.segs.now.items c.args.latest.now.0 in
-    let lent = grown g (goal.at.returns-in-Ok-clause-disc g c).After-put-a in
-    served-need _ _ r.segments _ c.in-Ok.number c.rounded_up-bytes.result _ (c.rounded_up-bytes.ensures ∙ (ap (λ k. round_up (k + 32) c.round_of.result) c.span_of.ensures ∙ ap (round_up (span c.args.size + 32)) c.round_of.ensures.value)) (ap (λ (q : Layout ℕ). q.segments) (c.put-a.ensures.layout ∙ ap (λ (q : Layout ℕ). with_latest q c.args.tag c.args.size (c.in-Ok.number, 32)) lent)) c.in-Ok.ensures.disc
-
-pub returns-in-Ok-clause-fresh : goal.returns-in-Ok-clause-fresh
-returns-in-Ok-clause-fresh g c =
-    let lent = grown g (goal.at.returns-in-Ok-clause-fresh g c).After-put-a in
-    subst (λ (bs : List (Block ℕ)). ¬ HasBlock bs c.put-a.result.0) (ap (λ (q : Layout ℕ). q.blocks) lent) c.put-a.ensures.fresh
+    let lent = grown g at.After-put-a in
+    let made = c.put-a.ensures.layout ∙ ap (λ (q : Layout ℕ). with_latest q c.args.tag c.args.size (c.in-Ok.number, 32)) lent in
+    let need = (c.rounded_up-bytes.ensures ∙ (ap (λ k. round_up (k + 32) c.round_of.result) c.span_of.ensures ∙ ap (round_up (span c.args.size + 32)) c.round_of.ensures.value)) in
+    record {
+      answer = put-in-new _ r c.args.tag c.args.size c.rounded_up-bytes.result need c.requires.none _ c.in-Ok.number c.put-a.result.0
+          (subst (λ ss. ask c.rounded_up-bytes.result ss false ≡ Granted c.in-Ok.number c.rounded_up-bytes.result) (sym (segments g at.After-rounded_up-bytes)) c.in-Ok.ensures.lent.granted) c.put-a.ensures.at.address c.put-a.ensures.at.place made;
+      disc = served-need _ _ r.segments _ c.in-Ok.number c.rounded_up-bytes.result _ need (ap (λ (q : Layout ℕ). q.segments) made) c.in-Ok.ensures.disc;
+      fresh = subst (λ (bs : List (Block ℕ)). ¬ HasBlock bs c.put-a.result.0) (ap (λ (q : Layout ℕ). q.blocks) lent) c.put-a.ensures.fresh;
+      no_memory = λ _. c.requires.none;
+    }

@@ -1,17 +1,19 @@
-use Rattle.std.proofs.Common.{◌≡◌, ◌≢◌, ℕ, List, Some, IfSome, false, take, ap, sym, ◌∙◌, subst}
+use Rattle.std.proofs.Common.{◌≡◌, ◌≢◌, ℕ, List, Some, IfSome, false, take, refl, ap, sym, ◌∙◌, subst}
 use Rattle.std.specs.Prelude.{option_map}
 use Rattle.vc_model.specs.Addr.{place_of}
 use Rattle.vc_model.specs.Best.{without_block_at}
-use Rattle.vc_model.specs.Layout.{Block}
+use Rattle.vc_model.specs.Layout.{Block, Layout}
 use Rattle.vc_model.specs.Touch.{HasBlock, find_block, with_bytes_at}
 use Rattle.vc_seg.specs.Segment.{Bytes}
 use Rattle.vc_last.specs.Chain.{IsLast}
 use Rattle.vc_last.specs.Head.{block_of}
 use Rattle.vc_last.specs.Read.{layout_by}
 use Rattle.vc_last.proofs.Allocs.{IsNew, alloc-new}
+use Rattle.vc_last.proofs.Calls.{ends-there}
 use Rattle.vc_last.proofs.Chains.{latest-some}
 use Rattle.vc_last.proofs.Latest.{IsLatestAt}
 use Rattle.vc_last.proofs.Moves.{IsMove, end-latest, found-layout, latest-among, latest-block, latest-found, before-copied, move-at, moved-own, refused-move}
+use Rattle.vc_last.proofs.Puts.{served-as}
 use Rattle.vc_last.proofs.Resizes.{moved-is, moved-others, moved-there, resize-moves}
 use Rattle.vc_last.proofs.resize.move_latest.Goals as goal
 use Rattle.vc_last.proofs.resize.move_latest.Goals.{After-copy_front, After-tag_at-tag, After-unlink}
@@ -37,20 +39,20 @@ pub tag_at-tag-requires-clause-head : goal.tag_at-tag-requires-clause-head
 tag_at-tag-requires-clause-head g c = rw c.deref.ensures.value (latest-some c.args.segs.now.items c.args.latest.now.0 c.requires.block c.requires.kept).head
 
 pub copy_front-requires-clause-block : goal.copy_front-requires-clause-block
-copy_front-requires-clause-block g c = (move-at c.args.segs.now.items c.alloc_in.new.segs.items c.args.latest.now.0 c.in-Ok.to.0 c.alloc_in.new.latest.0 c.tag_at-tag.result c.args.size c.requires.kept c.requires.block c.in-Ok.ensures.kept c.in-Ok.ensures.latest (alloc-new _ (layout_by c.args.segs.now.items c.args.latest.now.0) c.tag_at-tag.result c.args.size c.in-Ok.to.0 (layout_by c.alloc_in.new.segs.items c.alloc_in.new.latest.0) c.in-Ok.ensures.answer) c.in-Ok.ensures.fresh).block
+copy_front-requires-clause-block g c = (move-at c.args.segs.now.items c.alloc_in.new.segs.items c.args.latest.now.0 c.in-Ok.to.0 c.alloc_in.new.latest.0 c.tag_at-tag.result c.args.size c.requires.kept c.requires.block c.in-Ok.ensures.kept c.in-Ok.ensures.latest (alloc-new _ (layout_by c.args.segs.now.items c.args.latest.now.0) c.tag_at-tag.result c.args.size c.in-Ok.to.0 (layout_by c.alloc_in.new.segs.items c.alloc_in.new.latest.0) c.in-Ok.ensures.alloc.answer) c.in-Ok.ensures.alloc.fresh).block
 
 pub copy_front-requires-clause-to : goal.copy_front-requires-clause-to
-copy_front-requires-clause-to g c = (move-at c.args.segs.now.items c.alloc_in.new.segs.items c.args.latest.now.0 c.in-Ok.to.0 c.alloc_in.new.latest.0 c.tag_at-tag.result c.args.size c.requires.kept c.requires.block c.in-Ok.ensures.kept c.in-Ok.ensures.latest (alloc-new _ (layout_by c.args.segs.now.items c.args.latest.now.0) c.tag_at-tag.result c.args.size c.in-Ok.to.0 (layout_by c.alloc_in.new.segs.items c.alloc_in.new.latest.0) c.in-Ok.ensures.answer) c.in-Ok.ensures.fresh).there
+copy_front-requires-clause-to g c = (move-at c.args.segs.now.items c.alloc_in.new.segs.items c.args.latest.now.0 c.in-Ok.to.0 c.alloc_in.new.latest.0 c.tag_at-tag.result c.args.size c.requires.kept c.requires.block c.in-Ok.ensures.kept c.in-Ok.ensures.latest (alloc-new _ (layout_by c.args.segs.now.items c.args.latest.now.0) c.tag_at-tag.result c.args.size c.in-Ok.to.0 (layout_by c.alloc_in.new.segs.items c.alloc_in.new.latest.0) c.in-Ok.ensures.alloc.answer) c.in-Ok.ensures.alloc.fresh).there
 
 pub copy_front-requires-clause-room : goal.copy_front-requires-clause-room
-copy_front-requires-clause-room g c = (move-at c.args.segs.now.items c.alloc_in.new.segs.items c.args.latest.now.0 c.in-Ok.to.0 c.alloc_in.new.latest.0 c.tag_at-tag.result c.args.size c.requires.kept c.requires.block c.in-Ok.ensures.kept c.in-Ok.ensures.latest (alloc-new _ (layout_by c.args.segs.now.items c.args.latest.now.0) c.tag_at-tag.result c.args.size c.in-Ok.to.0 (layout_by c.alloc_in.new.segs.items c.alloc_in.new.latest.0) c.in-Ok.ensures.answer) c.in-Ok.ensures.fresh).room
+copy_front-requires-clause-room g c = (move-at c.args.segs.now.items c.alloc_in.new.segs.items c.args.latest.now.0 c.in-Ok.to.0 c.alloc_in.new.latest.0 c.tag_at-tag.result c.args.size c.requires.kept c.requires.block c.in-Ok.ensures.kept c.in-Ok.ensures.latest (alloc-new _ (layout_by c.args.segs.now.items c.args.latest.now.0) c.tag_at-tag.result c.args.size c.in-Ok.to.0 (layout_by c.alloc_in.new.segs.items c.alloc_in.new.latest.0) c.in-Ok.ensures.alloc.answer) c.in-Ok.ensures.alloc.fresh).room
 
 -- what was put, and that the latest block can move there
 new : (g : Over) (c : After-copy_front g) → IsNew (layout_by c.args.segs.now.items c.args.latest.now.0) c.tag_at-tag.result c.args.size c.in-Ok.to.0 (layout_by c.alloc_in.new.segs.items c.alloc_in.new.latest.0)
-new g c = alloc-new _ (layout_by c.args.segs.now.items c.args.latest.now.0) c.tag_at-tag.result c.args.size c.in-Ok.to.0 (layout_by c.alloc_in.new.segs.items c.alloc_in.new.latest.0) c.in-Ok.ensures.answer
+new g c = alloc-new _ (layout_by c.args.segs.now.items c.args.latest.now.0) c.tag_at-tag.result c.args.size c.in-Ok.to.0 (layout_by c.alloc_in.new.segs.items c.alloc_in.new.latest.0) c.in-Ok.ensures.alloc.answer
 
 move : (g : Over) (c : After-copy_front g) → IsMove c.alloc_in.new.segs.items c.args.latest.now.0 c.in-Ok.to.0 c.args.size
-move g c = move-at c.args.segs.now.items c.alloc_in.new.segs.items c.args.latest.now.0 c.in-Ok.to.0 c.alloc_in.new.latest.0 c.tag_at-tag.result c.args.size c.requires.kept c.requires.block c.in-Ok.ensures.kept c.in-Ok.ensures.latest (alloc-new _ (layout_by c.args.segs.now.items c.args.latest.now.0) c.tag_at-tag.result c.args.size c.in-Ok.to.0 (layout_by c.alloc_in.new.segs.items c.alloc_in.new.latest.0) c.in-Ok.ensures.answer) c.in-Ok.ensures.fresh
+move g c = move-at c.args.segs.now.items c.alloc_in.new.segs.items c.args.latest.now.0 c.in-Ok.to.0 c.alloc_in.new.latest.0 c.tag_at-tag.result c.args.size c.requires.kept c.requires.block c.in-Ok.ensures.kept c.in-Ok.ensures.latest (alloc-new _ (layout_by c.args.segs.now.items c.args.latest.now.0) c.tag_at-tag.result c.args.size c.in-Ok.to.0 (layout_by c.alloc_in.new.segs.items c.alloc_in.new.latest.0) c.in-Ok.ensures.alloc.answer) c.in-Ok.ensures.alloc.fresh
 
 pub unlink-requires-clause-to : goal.unlink-requires-clause-to
 unlink-requires-clause-to g c = (move g (goal.at.unlink-requires-clause-to g c).After-copy_front).some
@@ -64,31 +66,47 @@ unlink-requires-clause-before g c =
 own : (g : Over) (c : After-unlink g) → HasBlock (layout_by c.alloc_in.new.segs.items c.in-Ok.to.0).blocks c.args.latest.now.0 → IfSome (find_block (place_of c.args.latest.now.0) (layout_by c.alloc_in.new.segs.items c.alloc_in.new.latest.0).blocks) (λ b. (layout_by c.unlink.new.segs.items c.alloc_in.new.latest.0) ≡ without_block_at (with_bytes_at (layout_by c.alloc_in.new.segs.items c.alloc_in.new.latest.0) (place_of c.in-Ok.to.0) 0 (take c.args.size b.bytes)) (place_of c.args.latest.now.0))
 own g c there = moved-own c.alloc_in.new.segs.items c.copy_front.new.segs.items c.unlink.new.segs.items c.args.latest.now.0 c.in-Ok.to.0 c.alloc_in.new.latest.0 c.args.size c.in-Ok.ensures.kept c.in-Ok.ensures.latest there c.copy_front.ensures.layout c.unlink.ensures.layout
 
+-- the segments are those after the block was put
+same : (g : Over) (c : After-unlink g) → (layout_by c.unlink.new.segs.items c.alloc_in.new.latest.0).segments ≡ (layout_by c.alloc_in.new.segs.items c.alloc_in.new.latest.0).segments
+same g c =
+    ap (λ j. (layout_by c.unlink.new.segs.items j).segments) c.in-Ok.ensures.latest
+    ∙ (ap (λ (r : Layout ℕ). r.segments) (c.unlink.ensures.layout ∙ ap (λ (r : Layout ℕ). without_block_at r (place_of c.args.latest.now.0)) c.copy_front.ensures.layout)
+    ∙ ap (λ j. (layout_by c.alloc_in.new.segs.items j).segments) (sym c.in-Ok.ensures.latest))
+
 tagged : (g : Over) (c : After-tag_at-tag g) → IsTagged c.args.segs.now.items c.args.latest.now.0 c.tag_at-tag.result
 tagged g c = latest c.args.segs.now.items c.args.latest.now.0 c.tag_at-tag.result c.deref.result.now c.requires.kept c.requires.block c.deref.ensures.value c.tag_at-tag.ensures
 
-pub returns-in-Ok-clause-answer : goal.returns-in-Ok-clause-answer
-returns-in-Ok-clause-answer g c =
-    let at = goal.at.returns-in-Ok-clause-answer g c in
+pub returns-in-Ok-clause-resize : goal.returns-in-Ok-clause-resize
+returns-in-Ok-clause-resize g c =
+    let at = goal.at.returns-in-Ok-clause-resize g c in
+    let q : ℕ = c.args.latest.now.0 in
+    let o : Layout ℕ = layout_by c.args.segs.now.items c.args.latest.now.0 in
+    let m : Layout ℕ = layout_by c.alloc_in.new.segs.items c.alloc_in.new.latest.0 in
+    let n : Layout ℕ = layout_by c.unlink.new.segs.items c.alloc_in.new.latest.0 in
     let l = tagged g at.After-tag_at-tag in
-    let can = end-latest c.args.segs.now.items c.args.latest.now.0 c.requires.kept c.requires.block c.args.size false c.requires.ends l.at in
-    resize-moves _ (layout_by c.args.segs.now.items c.args.latest.now.0) (layout_by c.alloc_in.new.segs.items c.alloc_in.new.latest.0) (layout_by c.unlink.new.segs.items c.alloc_in.new.latest.0) c.args.latest.now.0 c.in-Ok.to.0 c.tag_at-tag.result c.args.size l.at can l.label c.in-Ok.ensures.answer
-    (moved-is (layout_by c.args.segs.now.items c.args.latest.now.0) (layout_by c.alloc_in.new.segs.items c.alloc_in.new.latest.0) (layout_by c.unlink.new.segs.items c.alloc_in.new.latest.0) c.args.latest.now.0 c.in-Ok.to.0 c.tag_at-tag.result c.args.size l.at (new g at.After-copy_front) c.in-Ok.ensures.fresh (own g at.After-unlink (move g at.After-copy_front).block))
+    let can = end-latest c.args.segs.now.items q c.requires.kept c.requires.block c.args.size false c.requires.ends l.at in
+    let put = new g at.After-copy_front in
+    let moved = own g at.After-unlink (move g at.After-copy_front).block in
+    record {
+      answer = resize-moves _ o m n q c.in-Ok.to.0 c.tag_at-tag.result c.args.size l.at can l.label c.in-Ok.ensures.alloc.answer (moved-is o m n q c.in-Ok.to.0 c.tag_at-tag.result c.args.size l.at put c.in-Ok.ensures.alloc.fresh moved);
+      disc = served-as _ _ o.segments m.segments n.segments _ (same g at.After-unlink) c.in-Ok.ensures.alloc.disc;
+      no_place = λ e. absurd (cc);
+      moves = λ e. absurd (cc);
+      there = moved-there o m n q c.in-Ok.to.0 c.tag_at-tag.result c.args.size l.at put c.in-Ok.ensures.alloc.fresh moved l.label;
+      others = moved-others o m n q c.in-Ok.to.0 c.tag_at-tag.result c.args.size l.at put c.in-Ok.ensures.alloc.fresh moved;
+    }
 
-pub returns-in-Ok-clause-there : goal.returns-in-Ok-clause-there
-returns-in-Ok-clause-there g c =
-    let at = goal.at.returns-in-Ok-clause-there g c in
-    let l = tagged g at.After-tag_at-tag in
-    moved-there (layout_by c.args.segs.now.items c.args.latest.now.0) (layout_by c.alloc_in.new.segs.items c.alloc_in.new.latest.0) (layout_by c.unlink.new.segs.items c.alloc_in.new.latest.0) c.args.latest.now.0 c.in-Ok.to.0 c.tag_at-tag.result c.args.size l.at (new g at.After-copy_front) c.in-Ok.ensures.fresh (own g at.After-unlink (move g at.After-copy_front).block) l.label
-
-pub returns-in-Ok-clause-others : goal.returns-in-Ok-clause-others
-returns-in-Ok-clause-others g c =
-    let at = goal.at.returns-in-Ok-clause-others g c in
-    let l = tagged g at.After-tag_at-tag in
-    moved-others (layout_by c.args.segs.now.items c.args.latest.now.0) (layout_by c.alloc_in.new.segs.items c.alloc_in.new.latest.0) (layout_by c.unlink.new.segs.items c.alloc_in.new.latest.0) c.args.latest.now.0 c.in-Ok.to.0 c.tag_at-tag.result c.args.size l.at (new g at.After-copy_front) c.in-Ok.ensures.fresh (own g at.After-unlink (move g at.After-copy_front).block)
-
-pub returns-in-Err-clause-answer : goal.returns-in-Err-clause-answer
-returns-in-Err-clause-answer g c =
-    let l = tagged g (goal.at.returns-in-Err-clause-answer g c).After-tag_at-tag in
-    let can = end-latest c.args.segs.now.items c.args.latest.now.0 c.requires.kept c.requires.block c.args.size false c.requires.ends l.at in
-    (refused-move _ (layout_by c.args.segs.now.items c.args.latest.now.0) c.args.latest.now.0 c.tag_at-tag.result c.args.size l.at can l.own c.in-Err.fault c.in-Err.ensures.answer.0, c.in-Err.ensures.answer.1)
+pub returns-in-Err-clause-resize : goal.returns-in-Err-clause-resize
+returns-in-Err-clause-resize g c =
+    let q : ℕ = c.args.latest.now.0 in
+    let o : Layout ℕ = layout_by c.args.segs.now.items c.args.latest.now.0 in
+    let l = tagged g (goal.at.returns-in-Err-clause-resize g c).After-tag_at-tag in
+    let can = end-latest c.args.segs.now.items q c.requires.kept c.requires.block c.args.size false c.requires.ends l.at in
+    record {
+      answer = (refused-move _ o q c.tag_at-tag.result c.args.size l.at can l.own c.in-Err.fault c.in-Err.ensures.alloc.answer.0, c.in-Err.ensures.alloc.answer.1);
+      disc = c.in-Err.ensures.alloc.disc;
+      no_place = c.in-Err.ensures.alloc.no_memory;
+      moves = λ _. (ends-there c.args.segs.now.items q q c.requires.kept (latest-among c.args.segs.now.items q c.requires.kept c.requires.block) refl c.args.size c.requires.ends, refl);
+      there = tt;
+      others = tt;
+    }

@@ -1,3 +1,4 @@
+use Rattle.std.proofs.Common.{arith}
 use Rattle.std.proofs.Math.Logic.{∥∥₁_map}
 use Rattle.vc_last.specs.Chain.{IsLast}
 use Rattle.vc_last.specs.Read.{layout_by}
@@ -11,10 +12,22 @@ alloc_in-requires-clause-kept g c = (have c.args.self.now.segs.items c.args.self
 pub invariant_of-self : goal.invariant_of-self
 invariant_of-self g c =
     let kept = ∥∥₁_map c.args.self.now.kept (λ (k : IsLast c.args.self.now.segs.items c.args.self.now.latest.0). c.alloc_in.ensures.kept) in
-    record { kept = kept; sound = have-sound c.alloc_in.new.segs.items c.alloc_in.new.latest.0 kept }
+    record { kept = kept; reserved = omega (arith, c.alloc_in.ensures.room, c.args.self.now.reserved); sound = have-sound c.alloc_in.new.segs.items c.alloc_in.new.latest.0 kept }
 
 pub returns-clause-there : goal.returns-clause-there
-returns-clause-there g c = there-alloc _ (layout_by c.args.self.now.segs.items c.args.self.now.latest.0) (layout_by c.alloc_in.new.segs.items c.alloc_in.new.latest.0) c.args.tag c.args.size c.alloc_in.result c.alloc_in.ensures.answer c.alloc_in.ensures.fresh
+returns-clause-there g c = there-alloc _ (layout_by c.args.self.now.segs.items c.args.self.now.latest.0) (layout_by c.alloc_in.new.segs.items c.alloc_in.new.latest.0) c.args.tag c.args.size c.alloc_in.result c.alloc_in.ensures.alloc.answer c.alloc_in.ensures.alloc.fresh
 
 pub returns-clause-others : goal.returns-clause-others
-returns-clause-others g c = others-alloc _ (layout_by c.args.self.now.segs.items c.args.self.now.latest.0) (layout_by c.alloc_in.new.segs.items c.alloc_in.new.latest.0) c.args.tag c.args.size c.alloc_in.result c.alloc_in.ensures.answer c.alloc_in.ensures.fresh
+returns-clause-others g c = others-alloc _ (layout_by c.args.self.now.segs.items c.args.self.now.latest.0) (layout_by c.alloc_in.new.segs.items c.alloc_in.new.latest.0) c.args.tag c.args.size c.alloc_in.result c.alloc_in.ensures.alloc.answer c.alloc_in.ensures.alloc.fresh
+
+pub returns-clause-answer : goal.returns-clause-answer
+returns-clause-answer g c = c.alloc_in.ensures.alloc.answer
+
+pub returns-clause-disc : goal.returns-clause-disc
+returns-clause-disc g c = c.alloc_in.ensures.alloc.disc
+
+pub returns-clause-no_memory : goal.returns-clause-no_memory
+returns-clause-no_memory g c = c.alloc_in.ensures.alloc.no_memory
+
+pub returns-clause-fresh : goal.returns-clause-fresh
+returns-clause-fresh g c = c.alloc_in.ensures.alloc.fresh

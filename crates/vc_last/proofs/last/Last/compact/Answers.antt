@@ -1,3 +1,4 @@
+use Rattle.std.proofs.Common.{arith}
 use Rattle.std.proofs.Math.Logic.{∥∥₁_map}
 use Rattle.vc_last.specs.Chain.{IsLast}
 use Rattle.vc_last.proofs.Types.{have, have-sound}
@@ -9,4 +10,4 @@ compact_in-requires-clause-kept g c = (have c.args.self.now.segs.items c.args.se
 pub invariant_of-self : goal.invariant_of-self
 invariant_of-self g c =
     let kept = ∥∥₁_map c.args.self.now.kept (λ (k : IsLast c.args.self.now.segs.items c.args.self.now.latest.0). c.compact_in.ensures.kept) in
-    record { kept = kept; sound = have-sound c.compact_in.new.segs.items c.args.self.now.latest.0 kept }
+    record { kept = kept; reserved = omega (arith, c.compact_in.ensures.room, c.args.self.now.reserved); sound = have-sound c.compact_in.new.segs.items c.args.self.now.latest.0 kept }

@@ -1,3 +1,4 @@
+use Rattle.std.proofs.Common.{arith}
 use Rattle.std.proofs.Math.Logic.{∥∥₁_map}
 use Rattle.vc_last.specs.Chain.{IsLast}
 use Rattle.vc_last.proofs.Types.{have, have-sound}
@@ -9,4 +10,22 @@ resize_in-requires-clause-kept g c = (have c.args.self.now.segs.items c.args.sel
 pub invariant_of-self : goal.invariant_of-self
 invariant_of-self g c =
     let kept = ∥∥₁_map c.args.self.now.kept (λ (k : IsLast c.args.self.now.segs.items c.args.self.now.latest.0). c.resize_in.ensures.kept) in
-    record { kept = kept; sound = have-sound c.resize_in.new.segs.items c.resize_in.new.at.0 kept }
+    record { kept = kept; reserved = omega (arith, c.resize_in.ensures.room, c.args.self.now.reserved); sound = have-sound c.resize_in.new.segs.items c.resize_in.new.at.0 kept }
+
+pub returns-clause-answer : goal.returns-clause-answer
+returns-clause-answer g c = c.resize_in.ensures.resize.answer
+
+pub returns-clause-disc : goal.returns-clause-disc
+returns-clause-disc g c = c.resize_in.ensures.resize.disc
+
+pub returns-clause-no_memory : goal.returns-clause-no_memory
+returns-clause-no_memory g c = c.resize_in.ensures.resize.moves
+
+pub returns-clause-no_place : goal.returns-clause-no_place
+returns-clause-no_place g c = c.resize_in.ensures.resize.no_place
+
+pub returns-clause-there : goal.returns-clause-there
+returns-clause-there g c = c.resize_in.ensures.resize.there
+
+pub returns-clause-others : goal.returns-clause-others
+returns-clause-others g c = c.resize_in.ensures.resize.others

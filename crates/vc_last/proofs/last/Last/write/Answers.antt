@@ -40,7 +40,7 @@ pub invariant_of-self : goal.invariant_of-self
 invariant_of-self g c =
     let at = (goal.at.invariant_of-self g c).After-put_in in
     let kept = ∥∥₁_map c.args.self.now.kept (λ (k : IsLast c.args.self.now.segs.items c.args.self.now.latest.0). subst (λ (xs : List Bytes). IsLast xs c.args.self.now.latest.0) (sym (items g at)) (written g at).0) in
-    record { kept = kept; sound = have-sound _ c.args.self.now.latest.0 kept }
+    record { kept = kept; reserved = c.args.self.now.reserved; sound = have-sound _ c.args.self.now.latest.0 kept }
 
 pub returns-clause-layout : goal.returns-clause-layout
 returns-clause-layout g c =
