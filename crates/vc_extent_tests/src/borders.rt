@@ -98,7 +98,7 @@ fn moved(rt: &impl Abort, extents: &mut Extents, block: &[u8])
 }
 
 // With a segment of 256 zeros under number 1.
-fn given(alloc: Global) -> Result<Extents, OutOfMemory>
+pub(crate) fn given(alloc: Global) -> Result<Extents, OutOfMemory>
     ensures tiling { IfOk result (λ e. tiling e.segs.items
         ≡ (1, free_extent 32 224 no_links ∷ []) ∷ []) }
     ensures pairs { IfOk result (λ e. map pair_of e.segs.items ≡ (1, 256) ∷ []) }

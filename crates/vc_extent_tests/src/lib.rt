@@ -4,4 +4,8 @@
 #[cfg(test)]
 mod borders;
 #[cfg(test)]
+mod calls;
+#[cfg(test)]
 mod heads;
+#[cfg(test)]
+mod two;
