@@ -37,6 +37,14 @@ Served-unasked d segments segments' size same =
 pub Served-later : (old new : Discipline) (segments mid later : List (ℕ × ℕ)) (need : ℕ) → later ≡ mid → Served old new segments mid need → Served old new segments later need
 Served-later old new segments mid later need same h = subst (λ (ss : List (ℕ × ℕ)). Served old new segments ss need) (sym same) h
 
+-- before it the layout was the same, but for links
+pub Answers-same : (old mid new : Layout ℕ) (terms : Terms) (label size align : ℕ) (result : Result Addr RegionFault) → mid ≡ old →
+    Answers (best_alloc terms mid label size align) result mid new → Answers (best_alloc terms old label size align) result old new
+Answers-same old mid new terms label size align result same h = subst (λ (r : Layout ℕ). Answers (best_alloc terms r label size align) result r new) same h
+
+pub Asks-same : (old mid new : Layout ℕ) (d d' : Discipline) (need : ℕ) (result : Result Addr RegionFault) → mid ≡ old → Asks result d d' mid.segments new.segments need → Asks result d d' old.segments new.segments need
+Asks-same old mid new d d' need result same h = subst (λ (r : Layout ℕ). Asks result d d' r.segments new.segments need) same h
+
 -- a block was put at its place, or there was no memory for it
 module _ (old new : Layout ℕ) (label size align : ℕ) (at : ℕ × ℕ) where
   pub put-ok : (result : Result Addr RegionFault) → IfOk result (λ a. IsAddress a.0 at) → OnOk result (new ≡ with_zeros ByAddress old label size at) → IfOk result (λ a. IsPut (put_at old label size None at) a.0 new)

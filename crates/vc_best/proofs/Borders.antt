@@ -7,16 +7,17 @@ use Rattle.vc_model.specs.Addr.{address, place_of}
 use Rattle.vc_model.specs.Segments.{span}
 use Rattle.vc_blocks.proofs.Frees.{place_of-address}
 use Rattle.vc_extent.specs.Extent.{Extent, busy_extent, free_extent, no_links}
-use Rattle.vc_extent.specs.Change.{first_of, set_size, shrink, stretch}
-use Rattle.vc_extent.specs.Tiling.{IsBusy, IsFree, change_extent, extent_of}
+use Rattle.vc_extent.specs.Change.{behind, first_of, set_size, shrink, stretch}
+use Rattle.vc_extent.specs.Tiling.{IsBusy, IsFree, change_extent, extent_of, next_of}
+use Rattle.vc_best.specs.Beside.{free_name, free_next}
 use Rattle.vc_best.specs.Blocks.{busy_in, is_busy}
 use Rattle.vc_best.specs.Changes.{absorb, move_border, stretch_rest}
 use Rattle.vc_best.specs.Free.{free_bytes, is_free, is_merged, room_of}
-use Rattle.vc_best.proofs.Cuts.{change_at-here, extent_in-here}
-use Rattle.vc_best.proofs.Known.{IsCut, end-of, now-same, off-of, then-extent, then-steps}
+use Rattle.vc_best.proofs.Cuts.{behind-here, change_at-here, extent_in-here}
+use Rattle.vc_best.proofs.Known.{IsCut, end-of, now-same, off-of, then-behind, then-extent, then-steps}
 use Rattle.vc_best.proofs.Layouts.{behind_of}
 use Rattle.vc_best.proofs.Merges.{merged-weaker}
-use Rattle.vc_best.proofs.Releases.{absorb-busy, absorbed}
+use Rattle.vc_best.proofs.Releases.{absorb-busy, absorbed, absorbed-name}
 
 -- the free bytes of an extent
 pub free-busy : (o : Option Extent) (y : Extent) → o ≡ Some y → 0 < y.size → free_bytes o ≡ 0
@@ -86,6 +87,15 @@ module _ (t : List (ℕ × List Extent)) (a size : ℕ) (c : IsCut t a) where
         let now : extent_of t1 rest ≡ free = then-extent t t1 a rest (shrink size) c is rest-seg rest-le ∙ rw first-other (extent_in-here (place_of rest).1 free (behind_of t a) rest-own) in
         record { named = rw (ap (λ (x : Extent). x.span) now) (omega arith); free = ap (λ (x : Extent). x.size) now }
 
+    -- what is behind it was behind the block
+    pub rest-next : free_next t1 rest ≡ free_next t a
+    rest-next =
+        let e = extent_of t a in
+        let free = free_extent (e.off + span size) (e.span - span size) no_links in
+        let same : behind_of t1 rest ≡ behind_of t a = then-behind t t1 a rest (shrink size) c is rest-seg rest-le ∙ rw first-other (behind-here (place_of rest).1 free (behind_of t a) rest-own) in
+        let own : free_next t1 rest ≡ free_name (place_of rest).0 (next_of t a) = ap (λ (zs : List Extent). free_name (place_of rest).0 (first_of zs)) same in
+        own ∙ ap (λ (n : ℕ). free_name n (next_of t a)) rest-seg
+
     module _ (t2 : List (ℕ × List Extent)) (is2 : t2 ≡ change_extent rest absorb t1) where
       shrunk : t2 ≡ change_extent a (move_border size (take size (extent_of t a).body)) t
       shrunk =
@@ -97,6 +107,19 @@ module _ (t : List (ℕ × List Extent)) (a size : ℕ) (c : IsCut t a) where
           (rw first-other
           (ap (λ (zs : List Extent). x ∷ zs) (change_at-here (place_of rest).1 free ys rest-own absorb)
           ∙ sym (rw (ne_eqb (span size) e.span (λ q. omega arith), lt-ltb (span size) e.span less) refl)))
+
+      pub next-shrunk : free_next t2 a ≡ rest ∷ []
+      next-shrunk =
+          let e = extent_of t a in
+          let ys = behind_of t a in
+          let free = free_extent (e.off + span size) (e.span - span size) no_links in
+          let body = take size e.body in
+          let x = busy_extent e.off (span size) size e.tag body in
+          let moved : move_border size body e ys ≡ x ∷ absorb free ys = rw (ne_eqb (span size) e.span (λ q. omega arith), lt-ltb (span size) e.span less) refl in
+          let same : behind_of t2 a ≡ absorb free ys = then-behind t t2 a a (move_border size body) c shrunk refl (omega arith) ∙ (ap (behind (place_of a).1) moved ∙ behind-here (place_of a).1 x (absorb free ys) (off-of t a c)) in
+          let own : free_next t2 a ≡ free_name (place_of a).0 (first_of (absorb free ys)) = ap (λ (zs : List Extent). free_name (place_of a).0 (first_of zs)) same in
+          let off : address ((place_of a).0, e.off + span size) ≡ rest = ap (λ (n : ℕ). address ((place_of a).0, n + span size)) (off-of t a c) ∙ sym value in
+          own ∙ absorbed-name (place_of a).0 free ys refl ∙ ap (λ (n : ℕ). n ∷ []) off
 
       shrunk-body : (extent_of t2 a).body ≡ take size (extent_of t a).body
       shrunk-body =

@@ -1,6 +1,6 @@
 -- A block of zeros in a free extent, call by call.
-use Rattle.std.proofs.Common.{◌≡◌, ◌≢◌, All, ℕ, ◌+◌, ◌-◌, ◌%◌, ◌<◌, ◌≤◌, List, [], ◌∷◌, ◌++◌, true, false, ltb, length, replicate, refl, ap, sym, ◌∙◌, ⊎_elim, arith}
-use Rattle.std.proofs.lemmas.Bool.{cases_Bool, ltb-true, ltb-false, lt-ltb, le-ltb}
+use Rattle.std.proofs.Common.{◌≡◌, ◌≢◌, All, ℕ, ◌+◌, ◌-◌, ◌%◌, ◌<◌, ◌≤◌, List, [], ◌∷◌, ◌++◌, true, false, cond, ltb, length, replicate, refl, ap, sym, ◌∙◌, ⊎_elim, arith}
+use Rattle.std.proofs.lemmas.Bool.{cases_Bool, ltb-true, ltb-false, lt-ltb, le-ltb, ne_eqb}
 use Rattle.std.proofs.Math.ListN.{drop_of_length-le}
 use Rattle.std.proofs.lemmas.List.{append-nil, length-replicate}
 use Rattle.std.proofs.lemmas.List.Elements.{All-nil, All-cons}
@@ -85,6 +85,14 @@ front-other e off =
     let P : Extent → Type 0 = λ x. x.off ≢ off in
     ⊎_elim
     (λ (h : ltb e.off off ≡ true). let low = ltb-true e.off off h in rw h (All-cons P (free_extent e.off (off - e.off) no_links) [] (λ q. omega arith) (All-nil P)))
+    (λ (h : ltb e.off off ≡ false). rw h (All-nil P))
+    (cases_Bool (ltb e.off off))
+
+front-lower : (e : Extent) (off to : ℕ) → off ≤ to → e.off < to → All (λ x. x.off ≢ to) (free_part e.off off)
+front-lower e off to le lt =
+    let P : Extent → Type 0 = λ x. x.off ≢ to in
+    ⊎_elim
+    (λ (h : ltb e.off off ≡ true). rw h (All-cons P (free_extent e.off (off - e.off) no_links) [] (λ q. omega arith) (All-nil P)))
     (λ (h : ltb e.off off ≡ false). rw h (All-nil P))
     (cases_Bool (ltb e.off off))
 
@@ -187,6 +195,17 @@ module _ (t t1 : List (ℕ × List Extent)) (a to off size tag : ℕ) (c : IsCut
       let e : extent_of t1 to ≡ extent_in off (cut_front off (extent_of t a) (behind_of t a)) = then-extent t t1 a to (cut_front off) c is1 seg le ∙ ap (λ (n : ℕ). extent_in n (cut_front off (extent_of t a) (behind_of t a))) at in
       free-from (extent_in off (cut_front off (extent_of t a) (behind_of t a))) ((extent_of t a).off + (extent_of t a).span - off) (omega arith) is t1 e
 
+  pub front-end : (place_of to).1 + (extent_of t1 to).span ≡ (place_of a).1 + (extent_of t a).span
+  front-end =
+      let o = off-of t a c in
+      let p = at in
+      let least = low in
+      let most = high in
+      let is = front-extent (extent_of t a) (behind_of t a) off size tag free.free low high span-some in
+      let e : extent_of t1 to ≡ extent_in off (cut_front off (extent_of t a) (behind_of t a)) = then-extent t t1 a to (cut_front off) c is1 seg le ∙ ap (λ (n : ℕ). extent_in n (cut_front off (extent_of t a) (behind_of t a))) at in
+      let s : (extent_of t1 to).span ≡ (extent_of t a).off + (extent_of t a).span - off = ap (λ (y : Extent). y.span) e ∙ is.span in
+      omega (arith, o, p, least, most, s)
+
   module _ (t2 : List (ℕ × List Extent)) (is2 : t2 ≡ change_extent to (cut_back (span size)) t1) where
     is-both : t2 ≡ change_extent a (λ e ys. change_at (place_of to).1 (cut_back (span size)) (cut_front off e ys)) t
     is-both = then-steps t t1 a to (cut_front off) c is1 seg le t2 (cut_back (span size)) (λ e ys. change_at (place_of to).1 (cut_back (span size)) (cut_front off e ys)) is2 refl
@@ -212,3 +231,42 @@ module _ (t t1 : List (ℕ × List Extent)) (a to off size tag : ℕ) (c : IsCut
         then-steps t t2 a to f c is-both seg le t3 (lay_zeros size tag) (carve off size tag) is3
         (ap (λ (n : ℕ). change_at n (lay_zeros size tag) (change_at n (cut_back (span size)) (cut_front off (extent_of t a) (behind_of t a)))) at
         ∙ carve-is (extent_of t a) (behind_of t a) off size tag free.free low high span-some)
+
+-- what is before and behind the block is free
+module _ (t new : List (ℕ × List Extent)) (a off size tag : ℕ) (c : IsCut t a) (free : IsFree t a) (fits : off + span size ≤ (place_of a).1 + (extent_of t a).span) (is : new ≡ change_extent a (carve off size tag) t) where
+  abbrev last : List Extent
+  last = free_part (off + span size) ((extent_of t a).off + (extent_of t a).span) ++ behind_of t a
+
+  abbrev block : Extent
+  block = busy_extent off (span size) size tag (replicate size 0)
+
+  pub carved-front : (place_of a).1 < off → IsFree new a
+  carved-front low =
+      let e = extent_of t a in
+      let o = off-of t a c in
+      let x : Extent = free_extent e.off (off - e.off) no_links in
+      let yes : ltb e.off off ≡ true = lt-ltb e.off off (omega arith) in
+      let first : carve off size tag e (behind_of t a) ≡ x ∷ block ∷ last = rw yes refl in
+      let now : extent_of new a ≡ x = then-extent t new a a (carve off size tag) c is refl (omega arith) ∙ ap (extent_in (place_of a).1) first ∙ extent_in-here (place_of a).1 x (block ∷ last) o in
+      record { named = rw (ap (λ (y : Extent). y.span) now) (omega arith); free = ap (λ (y : Extent). y.size) now }
+
+  pub carved-back : (place_of a).1 ≤ off → off % 32 ≡ 0 → off + span size < (place_of a).1 + (extent_of t a).span → IsFree new (address ((place_of a).0, off + span size))
+  carved-back first multiple more =
+      let e = extent_of t a in
+      let b : ℕ = address ((place_of a).0, off + span size) in
+      let o = off-of t a c in
+      let end = end-of t a c in
+      let most = c.legal.most in
+      let p : place_of b ≡ ((place_of a).0, off + span size) = place_of-address (place_of a).0 (off + span size) (omega arith) (omega arith) in
+      let own : (place_of b).1 ≡ off + span size = ap (λ (q : ℕ × ℕ). q.1) p in
+      let x : Extent = free_extent (off + span size) (e.off + e.span - (off + span size)) no_links in
+      let to : ℕ = off + span size in
+      let yes : ltb to (e.off + e.span) ≡ true = lt-ltb to (e.off + e.span) (omega arith) in
+      let rest : last ≡ x ∷ behind_of t a = rw yes refl in
+      let skip : extent_in to (free_part e.off off ++ (block ∷ last)) ≡ extent_in to (block ∷ last) = extent_in-skip to (free_part e.off off) (block ∷ last) (front-lower e off to (omega arith) (omega arith)) in
+      let second : extent_in to (block ∷ last) ≡ extent_in to last = ap (λ z. cond z block (extent_in to last)) (ne_eqb off to (λ q. omega arith)) in
+      let now : extent_of new b ≡ x =
+      then-extent t new a b (carve off size tag) c is (ap (λ (q : ℕ × ℕ). q.0) p) (omega arith)
+      ∙ ap (λ (n : ℕ). extent_in n (carve off size tag e (behind_of t a))) own
+      ∙ skip ∙ second ∙ ap (extent_in to) rest ∙ extent_in-here to x (behind_of t a) refl in
+      record { named = rw (ap (λ (y : Extent). y.span) now) (omega arith); free = ap (λ (y : Extent). y.size) now }

@@ -19,7 +19,8 @@ use Rattle.vc_extent.specs.Tiling.{AreExtents, tiling}
 use Rattle.vc_extent.proofs.Tiled.{inside}
 use Rattle.vc_best.specs.Blocks.{all_busy, block_of, busy_in, in_order, is_busy, layout_by}
 use Rattle.vc_best.specs.Counts.{HaveRoom, all_extents, busy_sizes, counted, free_spans, no_counts}
-use Rattle.vc_best.specs.Free.{IsMerged, free_in, free_runs, is_free, run_of_extent}
+use Rattle.vc_best.specs.Free.{IsMerged, free_in, free_runs, is_free}
+use Rattle.vc_gaps.specs.Fits.{run_of_extent}
 use Rattle.vc_best.proofs.Frees.{gaps-of}
 use Rattle.vc_best.proofs.Lies.{Lies, lies-tiled}
 
@@ -128,7 +129,7 @@ spans-all (s ∷ ss) =
         ap (λ k. k ∷ map bytes_of (map (run_of_extent n) es)) own ∙ ap (λ ns. e.span ∷ ns) (spans-in n es)
 
 -- in whichever order blocks are put
-with-length : (b : Block ℕ) (bs : List (Block ℕ)) → length (with_block b bs) ≡ suc (length bs)
+pub with-length : (b : Block ℕ) (bs : List (Block ℕ)) → length (with_block b bs) ≡ suc (length bs)
 with-length b [] = refl
 with-length b (c ∷ cs) =
     ⊎_elim (λ (t : lies_before b c ≡ true). rw t refl) (λ (t : lies_before b c ≡ false). rw t (ap suc (with-length b cs))) (cases_Bool (lies_before b c))
@@ -205,6 +206,16 @@ module _ (segs : List Bytes) (index : List ℕ) (k : ∥ AreExtents segs index �
   blocks-count =
       tally_of-count (busy_sizes (all_extents (tiling segs)))
       ∙ (ap length (sym (sizes-all (tiling segs))) ∙ (length-map (all_busy (tiling segs)) (λ (b : Block ℕ). b.size) ∙ sym (order-length (all_busy (tiling segs)))))
+
+  -- a block takes 32 bytes at least
+  pub blocks-few : length (layout_by segs).blocks ≤ 1072693248
+  unfolding layout_by
+  blocks-few =
+      let f = few in
+      let long = few-all.0.long in
+      let count : length (in_order (all_busy (tiling segs))) ≡ length (busy_sizes (all_extents (tiling segs))) =
+      order-length (all_busy (tiling segs)) ∙ (sym (length-map (all_busy (tiling segs)) (λ (b : Block ℕ). b.size)) ∙ ap length (sizes-all (tiling segs))) in
+      omega (arith, f, long, count)
 
   pub blocks-bytes : (counted no_counts (all_extents (tiling segs))).blocks.bytes ≡ block_bytes (layout_by segs)
   unfolding layout_by

@@ -14,7 +14,8 @@ use Rattle.vc_extent.specs.Extent.{Extent, extents}
 use Rattle.vc_extent.specs.Change.{extent_in}
 use Rattle.vc_extent.specs.Tiling.{AreExtents, IsFree, extent_of, extents_of, tiling}
 use Rattle.vc_best.specs.Blocks.{is_busy}
-use Rattle.vc_best.specs.Free.{free_in, free_runs, is_free, run_of_extent}
+use Rattle.vc_best.specs.Free.{free_in, free_runs, is_free}
+use Rattle.vc_gaps.specs.Fits.{run_of_extent}
 use Rattle.vc_best.proofs.Along.{own-from}
 use Rattle.vc_best.proofs.Gaps.{All-flat_map, least-from}
 use Rattle.vc_best.proofs.Lies.{Lies, lies-tiled}

@@ -16,7 +16,8 @@ use Rattle.vc_extent.specs.Extent.{Extent, extents}
 use Rattle.vc_extent.specs.Tiles.{IsTiled}
 use Rattle.vc_extent.specs.Tiling.{AreExtents, extents_of, tiling}
 use Rattle.vc_best.specs.Blocks.{all_busy, block_of, busy_in, in_order, layout_by}
-use Rattle.vc_best.specs.Free.{IsMerged, free_in, free_runs, is_merged, run_of_extent}
+use Rattle.vc_best.specs.Free.{IsMerged, free_in, free_runs, is_merged}
+use Rattle.vc_gaps.specs.Fits.{run_of_extent}
 use Rattle.vc_best.proofs.LeftGaps.{gaps_left, gaps_left_in}
 use Rattle.vc_best.proofs.InOrder.{order-before}
 use Rattle.vc_best.proofs.Layouts.{busy-seg}

@@ -15,6 +15,9 @@ use Rattle.vc_extent.specs.Extent.{Extent}
 use Rattle.vc_extent.specs.Change.{write}
 use Rattle.vc_extent.specs.Tiling.{AreExtents, IsBusy, change_extent, extent_of, tiling}
 use Rattle.vc_blocks.proofs.Changes.{All-change, All-without}
+use Rattle.vc_gaps.specs.GapLaws.{gap_none}
+use Rattle.vc_gaps.specs.GapTree.{HasGaps}
+use Rattle.vc_gaps.specs.GapUnique.{HasGaps-prop}
 use Rattle.vc_best.specs.Blocks.{block_of, is_busy, layout_by}
 use Rattle.vc_best.specs.Free.{IsMerged}
 use Rattle.vc_best.proofs.Found.{busy-of, found-of}
@@ -32,7 +35,10 @@ most-of r w = ∥∥₁_elim w (hlevel (le_prop)) (λ h. h.most)
 pub merged-of : (t : List (ℕ × List Extent)) → ∥ IsMerged t ∥₁ → IsMerged t
 merged-of t m = ∥∥₁_elim m (merged-prop t) (λ h. h)
 
--- what its type keeps
+pub tree-of : (segs : List Bytes) (index : List ℕ) (root : ℕ) → ∥ AreExtents segs index ∥₁ → ∥ HasGaps (tiling segs) root [] ∥₁ → HasGaps (tiling segs) root []
+tree-of segs index root k g = ∥∥₁_elim g (HasGaps-prop (tiling segs) root (gap_none segs index k) []) (λ h. h)
+
+-- what its type keeps, but for the tree of its gaps
 pub record AreHeld (segs : List Bytes) : Type 0 where
   pub sound : ∥ IsSound (layout_by segs) ∥₁
   pub whole : ∥ HasWholeBlocks (layout_by segs) ∥₁

@@ -1,27 +1,24 @@
 -- A block in a segment that was lent for it.
-use Rattle.std.proofs.Common.{◌≡◌, ◌≢◌, ℕ, ◌+◌, ◌-◌, ◌≤◌, List, [], ◌∷◌, ◌++◌, true, false, All, map, refl, ap, sym, subst, ◌∙◌, arith}
+use Rattle.std.proofs.Common.{◌≡◌, ◌≢◌, ℕ, ◌+◌, ◌-◌, ◌<◌, ◌≤◌, length, List, [], ◌∷◌, ◌++◌, true, false, All, map, refl, ap, sym, subst, ◌∙◌, arith}
 use Rattle.std.proofs.Math.Bridge.{le_prop}
 use Rattle.vc_blocks.proofs.Puts.{HaveOwnNumbers-segments}
 use Rattle.std.proofs.Math.Logic.{∥∥₁_elim}
 use Rattle.std.proofs.lemmas.Bool.{eq-eqb, ne_eqb}
+use Rattle.std.proofs.lemmas.List.{length-map}
 use Rattle.std.proofs.lemmas.List.Elements.{All-head, All-map, All-push, All-tail}
 use Rattle.vc_model.specs.Addr.{address, place_of}
 use Rattle.vc_model.specs.Layout.{Layout, with_segment}
-use Rattle.vc_model.specs.Segments.{Granted, ask, span}
+use Rattle.vc_model.specs.Segments.{Granted, ask, segment_limit, span}
 use Rattle.vc_model.specs.Sound.{HaveOwnNumbers}
 use Rattle.vc_blocks.specs.declared.order.Order.TheVariants.{ByAddress}
 use Rattle.vc_blocks.specs.Put.{IsPutInNew, with_zeros}
 use Rattle.vc_seg.specs.Segment.{Bytes, pair_of}
 use Rattle.vc_extent.specs.Extent.{Extent, free_extent, no_links}
 use Rattle.vc_extent.specs.Change.{extent_in}
-use Rattle.vc_extent.specs.Tiling.{AreExtents, IsFree, IsThere, change_extent, extent_of, extents_of, tiling}
+use Rattle.vc_extent.specs.Tiling.{AreExtents, IsFree, IsThere, extent_of, extents_of, tiling}
 use Rattle.vc_extent.proofs.Pushes.{apart-there}
-use Rattle.vc_model.specs.Best.{zeros}
-use Rattle.vc_best.specs.Blocks.{busy_in, layout_by}
-use Rattle.vc_best.specs.Changes.{carve}
+use Rattle.vc_best.specs.Blocks.{layout_by}
 use Rattle.vc_best.specs.Free.{IsMerged, is_merged}
-use Rattle.vc_best.proofs.Carving.{carve-busy}
-use Rattle.vc_best.proofs.Layouts.{behind_of, layout-put}
 use Rattle.vc_best.proofs.Segments.{layout-added}
 
 new-extents : (t : List (ℕ × List Extent)) (n : ℕ) (es : List Extent) → All (λ s. s.0 ≢ n) t → extents_of n (t ++ (n, es) ∷ []) ≡ es
@@ -33,6 +30,9 @@ new-extents (s ∷ ss) n es h =
 pub segments-by : (segs : List Bytes) → (layout_by segs).segments ≡ map pair_of segs
 unfolding layout_by
 segments-by segs = refl
+
+pub few-by : (segs : List Bytes) → length segs < segment_limit → length (layout_by segs).segments < segment_limit
+few-by segs few = rw (segments-by segs) (rw (length-map segs pair_of) few)
 
 module _ (old lent : List Bytes) (n bytes a : ℕ) (place : place_of a ≡ (n, 32)) (none : IsThere n old → ⊥) (long : 64 ≤ bytes)
     (is : tiling lent ≡ tiling old ++ (n, free_extent 32 (bytes - 32) no_links ∷ []) ∷ []) (pairs : map pair_of lent ≡ map pair_of old ++ (n, bytes) ∷ []) where
@@ -62,15 +62,12 @@ module _ (old lent : List Bytes) (n bytes a : ℕ) (place : place_of a ≡ (n, 3
   pub lent-fresh : All (λ s. s.0 ≢ n) (layout_by old).segments
   lent-fresh = subst (λ (ss : List (ℕ × ℕ)). All (λ s. s.0 ≢ n) ss) (sym (segments-by old)) (All-map (λ (s : ℕ × ℕ). s.0 ≢ n) pair_of old (apart-there n old none))
 
-  module _ (new : List Bytes) (i j : List ℕ) (off size tag : ℕ) (k : ∥ AreExtents lent i ∥₁) (l : ∥ AreExtents new j ∥₁) (some : 1 ≤ size) (isn : tiling new ≡ change_extent a (carve off size tag) (tiling lent)) (same : map pair_of new ≡ map pair_of lent) where
-    pub lent-layout : layout_by new ≡ with_zeros ByAddress (with_segment (layout_by old) (n, bytes)) tag size (n, off)
-    lent-layout =
-        let e = extent_of (tiling lent) a in
-        let added : layout_by lent ≡ with_segment (layout_by old) (n, bytes) = layout-added old lent n bytes (bytes - 32) is pairs in
-        let seg : (place_of a).0 ≡ n = ap (λ (p : ℕ × ℕ). p.0) place in
-        layout-put lent new i j k l a (carve off size tag) lent-free.named isn same (zeros tag size (n, off)) lent-free.free
-        (carve-busy (place_of a).0 off size tag e (behind_of (tiling lent) a) some ∙ ap (λ (m : ℕ). zeros tag size (m, off) ∷ busy_in ((place_of a).0, behind_of (tiling lent) a)) seg)
-        ∙ ap (λ (r : Layout ℕ). with_zeros ByAddress r tag size (n, off)) added
+  pub lent-layout : (new : List Bytes) (off size tag : ℕ) → layout_by new ≡ with_zeros ByAddress (layout_by lent) tag size ((place_of a).0, off)
+      → layout_by new ≡ with_zeros ByAddress (with_segment (layout_by old) (n, bytes)) tag size (n, off)
+  lent-layout new off size tag e =
+      e
+      ∙ ap (λ (p : ℕ × ℕ). with_zeros ByAddress (layout_by lent) tag size (p.0, off)) place
+      ∙ ap (λ (r : Layout ℕ). with_zeros ByAddress r tag size (n, off)) (layout-added old lent n bytes (bytes - 32) is pairs)
 
 -- what that is, by the address that is answered
 pub put-in-new : (r s : Layout ℕ) (tag size bytes off n a : ℕ) → a ≡ address (n, off) → place_of a ≡ (n, off) → ask bytes r.segments false ≡ Granted n bytes →

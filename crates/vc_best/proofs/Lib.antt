@@ -40,7 +40,6 @@ pub mod Parts
 pub mod Held
 pub mod Walks
 pub mod OneFree
-pub mod Fits
 pub mod Along
 pub mod Counts
 pub mod Carving
@@ -59,3 +58,11 @@ pub mod AtBytes
 pub mod Firsts
 pub mod Ahead
 pub mod Started
+pub mod Plain
+pub mod Outs
+pub mod Freed
+pub mod BorderGaps
+pub mod Linking
+pub mod Cleared
+pub mod Bests
+pub mod Counted

@@ -47,7 +47,7 @@ take-both len own size xs long h =
 
 module _ (old mid : List Bytes) (i j : List ℕ) (a to : ℕ) (src : List ℕ) (k : ∥ AreExtents old i ∥₁) (l : ∥ AreExtents mid j ∥₁) (busy : IsBusy (tiling old) a) (other : IsBusy (tiling old) to)
     (is : tiling mid ≡ change_extent to (write 0 src) (tiling old)) (pairs : map pair_of mid ≡ map pair_of old) where
-  copied-layout : layout_by mid ≡ with_bytes_at (layout_by old) (place_of to) 0 src
+  pub copied-layout : layout_by mid ≡ with_bytes_at (layout_by old) (place_of to) 0 src
   copied-layout = layout-written old mid i j to 0 src k l other is pairs
 
   pub copied-busy : IsBusy (tiling mid) a

@@ -5,19 +5,21 @@ use Rattle.std.proofs.lemmas.Bool.{cases_Bool, eq-eqb, ne_eqb, lt-ltb, le-ltb, a
 use Rattle.vc_model.specs.Addr.{address, place_of}
 use Rattle.vc_blocks.proofs.Frees.{place_of-address}
 use Rattle.vc_extent.specs.Extent.{Extent, free_extent, no_links}
-use Rattle.vc_extent.specs.Change.{behind, change_at, extent_in, last_before, mark_free}
+use Rattle.vc_extent.specs.Change.{behind, change_at, extent_in, first_of, last_before, mark_free}
 use Rattle.vc_extent.specs.Tiling.{IsBusy, IsFree, IsNamed, change_extent, extent_of, extents_of, next_of, previous_of}
+use Rattle.vc_best.specs.Beside.{free_before, free_name, free_next}
 use Rattle.vc_best.specs.Blocks.{busy_in, is_busy}
 use Rattle.vc_best.specs.Changes.{absorb}
 use Rattle.vc_best.specs.Free.{IsMerged, is_free, is_merged}
 use Rattle.std.proofs.lemmas.List.Elements.{All-nil, All-cons}
 use Rattle.vc_extent.specs.Tiling.{change_in}
-use Rattle.vc_best.proofs.Cuts.{Cut, change_at-here, change_at-skip, change_in-same, cut, cut-change, extent_in-here, lower-other}
+use Rattle.vc_best.proofs.Cuts.{Cut, behind-here, change_at-here, change_at-skip, change_in-same, cut, cut-change, extent_in-here, lower-other}
 use Rattle.vc_extent.specs.Change.{join}
-use Rattle.vc_best.proofs.Known.{IsCut, now-none, now-same, off-of, then-extent, then-steps}
+use Rattle.vc_best.proofs.Known.{IsCut, now-none, now-same, off-of, then-behind, then-extent, then-steps}
 use Rattle.vc_best.proofs.Nexts.{none-first, some-first}
 use Rattle.vc_best.proofs.Layouts.{behind_of}
 use Rattle.vc_best.proofs.Lies.{Lies}
+use Rattle.vc_best.proofs.Outs.{own-address}
 use Rattle.vc_best.proofs.Merges.{merged-any, merged-at, merged-change, merged-weaker}
 
 -- an extent stands before the one of an offset
@@ -97,7 +99,7 @@ pub record IsAbsorbed (ys : List Extent) (zs : List Extent) : Type 0 where
   pub merged : is_merged true rest ≡ true
   pub busy : filter is_busy rest ≡ filter is_busy ys
 
-busy-free : (e : Extent) → e.size ≡ 0 → is_busy e ≡ false
+pub busy-free : (e : Extent) → e.size ≡ 0 → is_busy e ≡ false
 busy-free e h = le-ltb 0 e.size (omega arith)
 
 busy-of_free : (e : Extent) → is_free e ≡ true → is_busy e ≡ false
@@ -141,7 +143,23 @@ absorb-busy n e (y ∷ ys) free =
 abbrev pub freed : Extent → List Extent → List Extent
 freed e ys = absorb (free_extent e.off e.span no_links) ys
 
+-- the name of what that is, where it is the first of these
+pub absorbed-name : (n : ℕ) (e : Extent) (ys : List Extent) → e.size ≡ 0 → free_name n (first_of (absorb e ys)) ≡ address (n, e.off) ∷ []
+absorbed-name n e [] free = rw (busy-free e free) refl
+absorbed-name n e (y ∷ ys) free =
+    ⊎_elim
+    (λ (t : is_free y ≡ true). rw t refl)
+    (λ (t : is_free y ≡ false). rw (t, busy-free e free) refl)
+    (cases_Bool (is_free y))
+
 module _ (t t1 t2 : List (ℕ × List Extent)) (a : ℕ) (c : IsCut t a) (is1 : t1 ≡ change_extent a mark_free t) where
+  -- what is behind it stays
+  pub next-freed : free_next t1 a ≡ free_next t a
+  next-freed =
+      let e = extent_of t a in
+      let same : behind_of t1 a ≡ behind_of t a = then-behind t t1 a a mark_free c is1 refl (omega arith) ∙ behind-here (place_of a).1 (free_extent e.off e.span no_links) (behind_of t a) (off-of t a c) in
+      ap (λ (ys : List Extent). free_name (place_of a).0 (first_of ys)) same
+
   pub freed-extent : extent_of t1 a ≡ free_extent (extent_of t a).off (extent_of t a).span no_links
   freed-extent =
       let e = extent_of t a in
@@ -198,6 +216,9 @@ module _ (t t1 t2 : List (ℕ × List Extent)) (a : ℕ) (c : IsCut t a) (is1 : 
       lower : (place_of b).1 < (place_of a).1
       lower = let o = at in let l = is.lower in omega arith
 
+      pub lower-before : p.off < (place_of a).1
+      lower-before = is.lower
+
       pub extent : extent_of t b ≡ p
       extent = ap (λ (q : ℕ × ℕ). extent_in q.1 (extents_of q.0 t)) place ∙ is.is
 
@@ -246,6 +267,30 @@ module _ (t t1 t2 : List (ℕ × List Extent)) (a : ℕ) (c : IsCut t a) (is1 : 
 
       changed : change_at (place_of a).1 freed (behind_of t b) ≡ freed (extent_of t a) (behind_of t a)
       changed = ap (change_at (place_of a).1 freed) rest ∙ change_at-here (place_of a).1 (extent_of t a) (behind_of t a) (off-of t a c) freed
+
+      -- the names of the two before and after
+      pub before-busy : 0 < (extent_of t2 b).size → free_before t a ≡ []
+      before-busy busy =
+          let some : 0 < p.size = subst (λ (x : Extent). 0 < x.size) extent-later busy in
+          ap (free_name (place_of a).0) prev ∙ (let yes : is_busy p ≡ true = lt-ltb 0 p.size some in rw yes refl)
+
+      pub before-free : (extent_of t2 b).size ≡ 0 → free_before t a ≡ b ∷ []
+      before-free free =
+          let none : p.size ≡ 0 = ap (λ (x : Extent). x.size) (sym extent-later) ∙ free in
+          ap (free_name (place_of a).0) prev ∙ (rw (busy-free p none) (ap (λ n. n ∷ []) (sym value)))
+
+      pub next-later : free_next t2 b ≡ a ∷ []
+      next-later =
+          let f : Extent → List Extent → List Extent = λ x zs. x ∷ change_at (place_of a).1 freed zs in
+          let e = extent_of t a in
+          let seg : (place_of b).0 ≡ (place_of a).0 = ap (λ (q : ℕ × ℕ). q.0) place in
+          let zs = absorb (free_extent e.off e.span no_links) (behind_of t a) in
+          let same : behind_of t2 b ≡ zs =
+          then-behind t t2 b b f d rebased refl (omega arith)
+          ∙ (behind-here (place_of b).1 (extent_of t b) (change_at (place_of a).1 freed (behind_of t b)) (off-of t b d) ∙ changed) in
+          let own : free_next t2 b ≡ free_name (place_of b).0 (first_of zs) = ap (λ (ws : List Extent). free_name (place_of b).0 (first_of ws)) same in
+          let name : address ((place_of b).0, e.off) ≡ a = ap (λ (n : ℕ). address (n, e.off)) seg ∙ ap (λ (n : ℕ). address ((place_of a).0, n)) (off-of t a c) ∙ own-address a in
+          own ∙ absorbed-name (place_of b).0 (free_extent e.off e.span no_links) (behind_of t a) refl ∙ ap (λ (n : ℕ). n ∷ []) name
 
       pub merged-busy : IsMerged t → 0 < (extent_of t2 b).size → IsMerged t2
       merged-busy m busy =

@@ -1,17 +1,14 @@
 -- The free extents of a best region. No two stand beside each other, so they are its gaps.
-use Rattle.std.specs.Prelude.{◌≡◌, ℕ, ◌+◌, ◌-◌, List, [], ◌∷◌, All, Bool, true, false, Option, None, Some, filter, map, not, ◌&&◌, if◌then◌else◌}
+use Rattle.std.specs.Prelude.{◌≡◌, ℕ, ◌+◌, List, [], ◌∷◌, All, Bool, true, false, Option, None, Some, filter, map, not, ◌&&◌, if◌then◌else◌}
 use Rattle.std.specs.List.{flat_map}
 use Rattle.vc_model.specs.Gap.{Run}
 use Rattle.vc_extent.specs.Extent.{Extent}
 use Rattle.vc_extent.specs.Tiling.{extent_of, next_of}
+use Rattle.vc_gaps.specs.Fits.{run_of_extent}
 use Rattle.vc_best.specs.Blocks.{is_busy}
 
 abbrev pub is_free : Extent → Bool
 is_free e = not (is_busy e)
-
--- what an extent takes of its segment
-abbrev pub run_of_extent : ℕ → Extent → Run
-run_of_extent seg e = record { seg = seg; from = e.off - 16; to = e.off - 16 + e.span }
 
 -- the free runs of one segment
 abbrev pub free_in : ℕ × List Extent → List Run

@@ -18,10 +18,12 @@ pub use Rattle.vc_seg.specs.Boxed
 pub use Rattle.vc_seg.specs.Stat
 pub mod Blocks
 pub mod Free
+pub mod Beside
 pub mod Kept
 pub mod Counts
 pub mod Next
 pub mod Changes
+pub mod Ask
 pub mod Parts
 pub mod Cells
 pub mod CellLaws

@@ -1,4 +1,4 @@
-ghost use Rattle.std.specs.Prelude.{◌≡◌, ℕ, ◌+◌, ◌≤◌, ◌<◌, ◌⊎◌, IfOk, IfErr, IfSome, Some, [], length, option_map};
+ghost use Rattle.std.specs.Prelude.{◌≡◌, ℕ, ◌+◌, ◌≤◌, ◌<◌, ◌⊎◌, IfOk, IfErr, IfSome, IsErrOf, Some, [], length, option_map};
 ghost use Rattle.std.specs.List.{HoldsAt, remove};
 ghost use Rattle.vc_model.specs.Addr.{place_of};
 ghost use Rattle.vc_model.specs.Best.{best_alloc, best_need, without_block_at, zeros};
@@ -10,22 +10,23 @@ ghost use Rattle.vc_model.specs.Sound.{HasWholeBlocks, IsSound};
 ghost use Rattle.vc_model.specs.Touch.{HasBlock, find_block};
 ghost use Rattle.vc_model.specs.Walk.{block_at, next_block, next_segment, segment_at};
 ghost use Rattle.vc_extent.specs.Tiling.{tiling};
+ghost use Rattle.vc_best.specs.Ask.{AsksForSegment};
+ghost use Rattle.vc_gaps.specs.GapTree.{HasGaps};
 ghost use Rattle.vc_best.specs.Blocks.{layout_by};
 ghost use Rattle.vc_best.specs.Free.{IsMerged};
 ghost use Rattle.vc_seg.specs.Answer.{Answers, Asks};
 ghost use Rattle.vc_seg.specs.Stat.{layout_stat};
 
-use crate::carve::put_zeros;
 use crate::compact::{clear, close, compact};
-use crate::fit::best_gap;
 use crate::lend::put_in_new;
-use crate::release::release;
 use crate::stat::stat;
+use crate::tree::{free_block, put_in_gap};
 use crate::walk::{block_at, next_block};
 use std::alloc::Global;
 use vc_base::{Addr, OutOfMemory, Steps};
 use vc_extent::Extents;
-use vc_seg::{RegionFault, SegDisc, Stat};
+use vc_gaps::fit;
+use vc_seg::{RegionFault, SegDisc, Stat, span_of};
 use vc_segments::{next_segment, segment_at};
 
 /// Marks the steps of calls that nobody counts.
@@ -37,6 +38,10 @@ struct Uncounted;
 pub struct Best {
     /// Its segments, tiled by extents. A busy one has a block.
     pub extents: Extents,
+    /// The root of the tree of its gaps, whose links lie in them. `NONE` where there are none.
+    pub root: Addr,
+    /// The number of its blocks. 1,023 segments have at most 2^35 bytes, and a block takes 32 at least, so it is below 2^30.
+    pub busy: u32,
     /// The discipline that lends its segments.
     pub disc: Box<dyn SegDisc>,
     /// Where the memory of its segments and lists comes from.
@@ -48,6 +53,10 @@ pub struct Best {
     pub ghost whole: { ∥ HasWholeBlocks (layout_by extents.segs.items) ∥₁ },
     /// No two free extents stand beside each other, so that they are the region's gaps.
     pub ghost merged: { ∥ IsMerged (tiling extents.segs.items) ∥₁ },
+    /// The tree names each free extent once, by span and then by address, and nothing else.
+    pub ghost gaps: { ∥ HasGaps (tiling extents.segs.items) root.0 [] ∥₁ },
+    /// All its blocks are counted.
+    pub ghost counted: { busy ≡ length (layout_by extents.segs.items).blocks },
 }
 
 impl Best {
@@ -66,6 +75,8 @@ impl Best {
         match Extents::new(alloc) {
             Ok(extents) => Ok(Best {
                 extents,
+                root: Addr::NONE,
+                busy: 0,
                 disc,
                 alloc,
             }),
@@ -74,7 +85,8 @@ impl Best {
     }
 
     /// A block of zeros: 1 to 16,777,264 bytes at an offset that the alignment divides, a power of two from 32 to 4,096.
-    /// Where no gap holds it, a segment is asked for.
+    /// Where no gap holds it, a segment is asked for. `TooManySegments` comes exactly where no gap holds it and there are
+    /// 1,023 segments, `OutOfMemory` only where a segment is asked for.
     pub fn alloc<L>(
         &mut self,
         size: u32,
@@ -92,6 +104,8 @@ impl Best {
         ensures disc { Asks result (state self.old.disc) (state self.new.disc)
             (segments_in self.old) (segments_in self.new)
             (best_need (state self.old.disc).terms size align) }
+        ensures no_memory { IsErrOf result RegionFault.OutOfMemory
+            → AsksForSegment (layout_of self.old) size align }
 
         // The block stands there, at an address of its own, and the others stay.
         ensures there { IfOk result (λ a. find_block (place_of a.0) (blocks_in self.new)
@@ -101,12 +115,25 @@ impl Best {
             ≡ blocks_in self.old) }
     {
         let extents = &mut self.extents;
-        match best_gap(extents, size, align, steps) {
-            Some(gap) => {
-                let off = gap.lowest_offset(align);
-                Ok(put_zeros(extents, gap.address(), off, size, tag, steps))
+        let root = &mut self.root;
+        let (top, least) = fit(extents, *root, span_of(size), align, steps);
+        *root = top;
+        match least {
+            Some(a) => {
+                let to = put_in_gap(extents, root, a, size, align, tag, steps);
+                self.busy += 1;
+                Ok(to)
             }
-            None => put_in_new(extents, &mut self.disc, self.alloc, size, align, tag, steps),
+            None => {
+                let disc = &mut self.disc;
+                match put_in_new(extents, root, disc, self.alloc, size, align, tag, steps) {
+                    Ok(to) => {
+                        self.busy += 1;
+                        Ok(to)
+                    }
+                    Err(fault) => Err(fault),
+                }
+            }
         }
     }
 
@@ -124,8 +151,8 @@ impl Best {
             → blocks_in self.new ≡ remove (blocks_in self.old) i }
         ensures none_left { ¬ HasBlock (blocks_in self.new) a.0 }
     {
-        let _ = steps;
-        release(&mut self.extents, a);
+        free_block(&mut self.extents, &mut self.root, a, steps);
+        self.busy -= 1;
     }
 
     /// Frees all its blocks, and keeps its segments.
@@ -133,8 +160,8 @@ impl Best {
         ensures layout { layout_of self.new ≡ cleared (layout_of self.old) }
         ensures disc { state self.new.disc ≡ state self.old.disc }
     {
-        let _ = steps;
-        clear(&mut self.extents);
+        clear(&mut self.extents, &mut self.root, steps);
+        self.busy = 0;
     }
 
     /// Gives back each segment without a block, in ascending order of number, and answers how many those were.
@@ -146,7 +173,7 @@ impl Best {
             (segments_in self.old) (segments_in self.new) }
     {
         let _ = steps;
-        compact(&mut self.extents, &mut self.disc)
+        compact(&mut self.extents, &mut self.root, &mut self.disc)
     }
 
     /// The block whose bytes hold the byte at an offset of a segment, and the offset in the block. None where no block
@@ -201,6 +228,8 @@ impl Best {
     {
         let Best {
             extents,
+            root: _,
+            busy: _,
             mut disc,
             alloc: _,
         } = self;

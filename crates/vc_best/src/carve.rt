@@ -1,8 +1,9 @@
-ghost use Rattle.std.specs.Prelude.{◌≡◌, ◌+◌, ◌<◌, ◌≤◌, ◌%◌, map};
+ghost use Rattle.std.specs.Prelude.{◌≡◌, ◌+◌, ◌<◌, ◌≤◌, ◌%◌, [], ◌∷◌, ◌++◌, map};
 ghost use Rattle.vc_model.specs.Addr.{address, place_of};
 ghost use Rattle.vc_model.specs.Segments.{span};
 ghost use Rattle.vc_seg.specs.Segment.{pair_of};
 ghost use Rattle.vc_extent.specs.Tiling.{IsFree, change_extent, extent_of, tiling};
+ghost use Rattle.vc_best.specs.Beside.{GapsChange, part_name};
 ghost use Rattle.vc_best.specs.Changes.{carve, cut_back, cut_front, lay_zeros};
 
 use vc_base::{Addr, Steps};
@@ -19,6 +20,8 @@ fn cut_front(extents: &mut Extents, a: Addr, off: u32) -> Addr
         ≡ change_extent a.0 (cut_front off) (tiling extents.old.segs.items) }
     ensures pairs { map pair_of extents.new.segs.items ≡ map pair_of extents.old.segs.items }
     ensures value { result.0 ≡ address ((place_of a.0).0, off) }
+    ensures gaps { GapsChange (tiling extents.old.segs.items) (tiling extents.new.segs.items)
+        (a.0 ∷ []) (result.0 ∷ part_name (place_of a.0).0 (place_of a.0).1 off) }
 {
     if a.off() < off {
         extents.split(a, off - a.off())
@@ -35,6 +38,9 @@ fn cut_back<L>(extents: &mut Extents, a: Addr, bytes: u32, steps: &mut Steps<L>)
     ensures tiling { tiling extents.new.segs.items
         ≡ change_extent a.0 (cut_back bytes) (tiling extents.old.segs.items) }
     ensures pairs { map pair_of extents.new.segs.items ≡ map pair_of extents.old.segs.items }
+    ensures gaps { GapsChange (tiling extents.old.segs.items) (tiling extents.new.segs.items)
+        (a.0 ∷ []) (a.0 ∷ part_name (place_of a.0).0 ((place_of a.0).1 + bytes)
+        ((place_of a.0).1 + (extent_of (tiling extents.old.segs.items) a.0).span)) }
 {
     if bytes < extents.span_at(a, steps) {
         extents.split(a, bytes);
@@ -49,6 +55,8 @@ fn lay_zeros(extents: &mut Extents, a: Addr, size: u32, tag: u32)
     ensures tiling { tiling extents.new.segs.items
         ≡ change_extent a.0 (lay_zeros size tag) (tiling extents.old.segs.items) }
     ensures pairs { map pair_of extents.new.segs.items ≡ map pair_of extents.old.segs.items }
+    ensures gaps { GapsChange (tiling extents.old.segs.items) (tiling extents.new.segs.items)
+        (a.0 ∷ []) [] }
 {
     extents.mark_busy(a, size, tag);
     extents.fill(a, 0, size, 0);
@@ -75,6 +83,10 @@ pub(crate) fn put_zeros<L>(
         ≡ change_extent a.0 (carve off size tag) (tiling extents.old.segs.items) }
     ensures pairs { map pair_of extents.new.segs.items ≡ map pair_of extents.old.segs.items }
     ensures value { result.0 ≡ address ((place_of a.0).0, off) }
+    ensures gaps { GapsChange (tiling extents.old.segs.items) (tiling extents.new.segs.items)
+        (a.0 ∷ []) (part_name (place_of a.0).0 (place_of a.0).1 off
+        ++ part_name (place_of a.0).0 (off + span size)
+        ((place_of a.0).1 + (extent_of (tiling extents.old.segs.items) a.0).span)) }
 {
     let to = cut_front(extents, a, off);
     cut_back(extents, to, span_of(size), steps);

@@ -4,11 +4,16 @@ ghost use Rattle.vc_model.specs.Discipline.{HasOut, TookBack};
 ghost use Rattle.vc_seg.specs.Segment.{pair_of};
 ghost use Rattle.vc_extent.specs.Change.{IsOneFree, one_free};
 ghost use Rattle.vc_extent.specs.Tiling.{IsThere, change_in, extents_of, tiling};
+ghost use Rattle.vc_gaps.specs.ButLinks.{plain};
+ghost use Rattle.vc_gaps.specs.GapTree.{HasGaps};
+ghost use Rattle.vc_best.specs.Beside.{HasGapsBelow};
 ghost use Rattle.vc_best.specs.Blocks.{layout_by};
 ghost use Rattle.vc_best.specs.Free.{IsMerged};
 ghost use Rattle.vc_best.specs.Kept.{stays_but};
 
+use vc_base::{Addr, Steps};
 use vc_extent::Extents;
+use vc_gaps::{link_gap, unlink_gap};
 use vc_seg::{KeepsNone, SegDisc, give_back};
 
 /// Whether a segment is one free extent.
@@ -22,8 +27,14 @@ fn is_one_free(extents: &Extents, seg: u32) -> bool
 
 /// The discipline takes back the segment of a number, where there is one and no block is in it. It answers how many those
 /// were, 0 or 1.
-fn give_back_one(extents: &mut Extents, disc: &mut Box<dyn SegDisc>, number: u32) -> u32
+fn give_back_one(
+    extents: &mut Extents,
+    root: &mut Addr,
+    disc: &mut Box<dyn SegDisc>,
+    number: u32,
+) -> u32
     requires merged { IsMerged (tiling extents.old.segs.items) }
+    requires gaps { HasGaps (tiling extents.old.segs.items) root.old.0 [] }
     requires out { HasOut (state disc.old) (map pair_of extents.old.segs.items) }
     ensures segments { map pair_of extents.new.segs.items
         ≡ filter (stays_but (is_occupied (layout_by extents.old.segs.items).blocks) number)
@@ -31,6 +42,7 @@ fn give_back_one(extents: &mut Extents, disc: &mut Box<dyn SegDisc>, number: u32
     ensures blocks { (layout_by extents.new.segs.items).blocks
         ≡ (layout_by extents.old.segs.items).blocks }
     ensures merged { IsMerged (tiling extents.new.segs.items) }
+    ensures gaps { HasGaps (tiling extents.new.segs.items) root.new.0 [] }
     ensures count { result + length (map pair_of extents.new.segs.items)
         ≡ length (map pair_of extents.old.segs.items) }
     ensures disc { TookBack (state disc.old) (state disc.new)
@@ -42,47 +54,57 @@ fn give_back_one(extents: &mut Extents, disc: &mut Box<dyn SegDisc>, number: u32
     if !is_one_free(extents, number) {
         return 0;
     }
+    let first = extents.first(number);
+    *root = unlink_gap(extents, *root, first);
     let segment = extents.remove(number);
     disc.take_back(segment);
     1
 }
 
 /// The discipline takes back each segment without a block, in ascending order of number, and they are counted.
-pub(crate) fn compact(extents: &mut Extents, disc: &mut Box<dyn SegDisc>) -> u32
+pub(crate) fn compact(extents: &mut Extents, root: &mut Addr, disc: &mut Box<dyn SegDisc>) -> u32
     requires merged { IsMerged (tiling extents.old.segs.items) }
+    requires gaps { HasGaps (tiling extents.old.segs.items) root.old.0 [] }
     requires out { HasOut (state disc.old) (map pair_of extents.old.segs.items) }
     ensures layout { layout_by extents.new.segs.items
         ≡ compacted (layout_by extents.old.segs.items) }
     ensures merged { IsMerged (tiling extents.new.segs.items) }
+    ensures gaps { HasGaps (tiling extents.new.segs.items) root.new.0 [] }
     ensures count { result ≡ compact_count (layout_by extents.old.segs.items) }
     ensures disc { TookBack (state disc.old) (state disc.new)
         (map pair_of extents.old.segs.items) (map pair_of extents.new.segs.items) }
 {
     let mut count = 0;
     for number in 1..1024 {
-        count += give_back_one(extents, disc, number);
+        count += give_back_one(extents, root, disc, number);
     }
     count
 }
 
-/// Makes the segment of a number, where there is one, one free extent, without reading what lies in it.
-fn clear_one(extents: &mut Extents, number: u32)
-    ensures tiling { tiling extents.new.segs.items
-        ≡ change_in number one_free (tiling extents.old.segs.items) }
+/// Makes the segment of a number, where there is one, one free extent, without reading what lies in it, and puts that into
+/// the tree of those of the lesser numbers.
+fn clear_one<L>(extents: &mut Extents, root: &mut Addr, number: u32, steps: &mut Steps<L>)
+    requires gaps { HasGapsBelow number (tiling extents.old.segs.items) root.old.0 }
+    ensures plain { plain (tiling extents.new.segs.items)
+        ≡ plain (change_in number one_free (tiling extents.old.segs.items)) }
     ensures pairs { map pair_of extents.new.segs.items ≡ map pair_of extents.old.segs.items }
+    ensures gaps { HasGapsBelow (number + 1) (tiling extents.new.segs.items) root.new.0 }
 {
     if extents.has(number).is_some() {
-        extents.reset(number);
+        let a = extents.reset(number);
+        *root = link_gap(extents, *root, a, steps);
     }
 }
 
 /// Makes each segment one free extent.
-pub(crate) fn clear(extents: &mut Extents)
+pub(crate) fn clear<L>(extents: &mut Extents, root: &mut Addr, steps: &mut Steps<L>)
     ensures layout { layout_by extents.new.segs.items ≡ cleared (layout_by extents.old.segs.items) }
     ensures merged { IsMerged (tiling extents.new.segs.items) }
+    ensures gaps { HasGaps (tiling extents.new.segs.items) root.new.0 [] }
 {
+    *root = Addr::NONE;
     for number in 1..1024 {
-        clear_one(extents, number);
+        clear_one(extents, root, number, steps);
     }
 }
 

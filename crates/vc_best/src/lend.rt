@@ -1,4 +1,4 @@
-ghost use Rattle.std.specs.Prelude.{◌≡◌, ◌+◌, ◌-◌, ◌≢◌, ◌≤◌, ◌%◌, [], ◌∷◌, ◌++◌, All, false, IfOk, IfErr, None, OnErr, map};
+ghost use Rattle.std.specs.Prelude.{◌≡◌, ◌+◌, ◌-◌, ◌<◌, ◌≢◌, ◌≤◌, ◌%◌, [], ◌∷◌, ◌++◌, All, false, IfOk, IfErr, IsErrOf, None, OnErr, length, map};
 ghost use Rattle.vc_model.specs.Touch.{HasBlock};
 ghost use Rattle.vc_model.specs.Addr.{address, place_of};
 ghost use Rattle.vc_model.specs.Best.{best_alloc, best_need, place_in};
@@ -12,10 +12,12 @@ ghost use Rattle.vc_blocks.specs.declared.order.Order.TheVariants.{ByAddress};
 ghost use Rattle.vc_blocks.specs.Put.{IsPutInNew};
 ghost use Rattle.vc_extent.specs.Extent.{free_extent, no_links};
 ghost use Rattle.vc_extent.specs.Tiling.{IsThere, tiling};
+ghost use Rattle.vc_gaps.specs.GapTree.{HasGaps};
+ghost use Rattle.vc_best.specs.Ask.{AsksForSegment};
 ghost use Rattle.vc_best.specs.Blocks.{layout_by};
 ghost use Rattle.vc_best.specs.Free.{IsMerged};
 
-use crate::carve::put_zeros;
+use crate::tree::put_block;
 use std::alloc::Global;
 use vc_base::{Addr, Steps};
 use vc_extent::Extents;
@@ -43,6 +45,8 @@ fn lend_next(
     ensures fresh { IfOk result (λ n. ¬ IsThere n extents.old.segs.items) }
 
     ensures fault { IfErr result (IsNoGrant bytes (map pair_of extents.old.segs.items)) }
+    ensures no_memory { IsErrOf result RegionFault.OutOfMemory
+        → length extents.old.segs.items < 1023 }
     ensures same { OnErr result (extents.new ≡ extents.old) }
     ensures disc { IsAsked result (state disc.old) (state disc.new) bytes }
 {
@@ -57,6 +61,7 @@ fn lend_next(
 /// A block of zeros at an offset of a segment of that many bytes, which the discipline lends for it.
 fn put_in_lent<L>(
     extents: &mut Extents,
+    root: &mut Addr,
     disc: &mut Box<dyn SegDisc>,
     alloc: Global,
     bytes: u32,
@@ -73,23 +78,28 @@ fn put_in_lent<L>(
     requires offset { off % 32 ≡ 0 }
     requires fits { off + span size ≤ bytes }
     requires merged { IsMerged (tiling extents.old.segs.items) }
+    requires gaps { HasGaps (tiling extents.old.segs.items) root.old.0 [] }
     ensures ok { IfOk result (λ a. IsPutInNew ByAddress (layout_by extents.old.segs.items)
         (layout_by extents.new.segs.items) tag size bytes off a.0) }
     ensures fault { IfErr result (IsNoGrant bytes (layout_by extents.old.segs.items).segments) }
+    ensures no_memory { IsErrOf result RegionFault.OutOfMemory
+        → length extents.old.segs.items < 1023 }
     ensures err { OnErr result
         (layout_by extents.new.segs.items ≡ layout_by extents.old.segs.items) }
     ensures disc { Asks result (state disc.old) (state disc.new)
         (layout_by extents.old.segs.items).segments (layout_by extents.new.segs.items).segments
         bytes }
     ensures merged { IsMerged (tiling extents.new.segs.items) }
+    ensures gaps { HasGaps (tiling extents.new.segs.items) root.new.0 [] }
 {
     let number = lend_next(extents, disc, alloc, bytes)?;
-    Ok(put_zeros(extents, Addr::new(number, 32), off, size, tag, steps))
+    Ok(put_block(extents, root, Addr::new(number, 32), off, size, tag, steps))
 }
 
 /// A block of zeros, which has no place, in a segment that the discipline lends for it.
 pub(crate) fn put_in_new<L>(
     extents: &mut Extents,
+    root: &mut Addr,
     disc: &mut Box<dyn SegDisc>,
     alloc: Global,
     size: u32,
@@ -101,6 +111,7 @@ pub(crate) fn put_in_new<L>(
     requires most { size ≤ 16777264 }
     requires align { IsAlign align }
     requires merged { IsMerged (tiling extents.old.segs.items) }
+    requires gaps { HasGaps (tiling extents.old.segs.items) root.old.0 [] }
     requires sizes { All (λ b. b.size ≤ 16777264) (layout_by extents.old.segs.items).blocks }
     requires none { place_in (layout_by extents.old.segs.items) size align ≡ None }
     ensures answer { Answers
@@ -109,11 +120,18 @@ pub(crate) fn put_in_new<L>(
     ensures disc { Asks result (state disc.old) (state disc.new)
         (layout_by extents.old.segs.items).segments (layout_by extents.new.segs.items).segments
         (best_need (state disc.old).terms size align) }
+    ensures count { IfOk result (λ _. length (layout_by extents.new.segs.items).blocks
+        ≡ length (layout_by extents.old.segs.items).blocks + 1) }
+    ensures err { OnErr result
+        (layout_by extents.new.segs.items ≡ layout_by extents.old.segs.items) }
+    ensures no_memory { IsErrOf result RegionFault.OutOfMemory
+        → AsksForSegment (layout_by extents.old.segs.items) size align }
     ensures fresh { IfOk result
         (λ a. ¬ HasBlock (layout_by extents.old.segs.items).blocks a.0) }
     ensures merged { IsMerged (tiling extents.new.segs.items) }
+    ensures gaps { HasGaps (tiling extents.new.segs.items) root.new.0 [] }
     ensures sizes { All (λ b. b.size ≤ 16777264) (layout_by extents.new.segs.items).blocks }
 {
     let bytes = rounded_up(span_of(size) + align, round_of(disc));
-    put_in_lent(extents, disc, alloc, bytes, align, size, tag, steps)
+    put_in_lent(extents, root, disc, alloc, bytes, align, size, tag, steps)
 }

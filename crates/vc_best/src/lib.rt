@@ -7,14 +7,13 @@ mod carve;
 mod cell_rows;
 mod cells;
 mod compact;
-mod fit;
-mod gap;
 mod lend;
 mod release;
 mod resize;
 mod stat;
 mod stay;
 mod take;
+mod tree;
 mod walk;
 
 pub use best::Best;

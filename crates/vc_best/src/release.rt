@@ -1,8 +1,9 @@
-ghost use Rattle.std.specs.Prelude.{◌≡◌, map};
+ghost use Rattle.std.specs.Prelude.{◌≡◌, [], ◌∷◌, ◌++◌, map};
 ghost use Rattle.vc_model.specs.Addr.{place_of};
 ghost use Rattle.vc_model.specs.Best.{without_block_at};
 ghost use Rattle.vc_seg.specs.Segment.{pair_of};
 ghost use Rattle.vc_extent.specs.Tiling.{IsBusy, IsFree, change_extent, tiling};
+ghost use Rattle.vc_best.specs.Beside.{GapsChange, free_before, free_next};
 ghost use Rattle.vc_best.specs.Blocks.{layout_by};
 ghost use Rattle.vc_best.specs.Changes.{absorb};
 ghost use Rattle.vc_best.specs.Free.{IsMerged};
@@ -16,6 +17,9 @@ pub(crate) fn absorb_next(extents: &mut Extents, a: Addr)
     ensures tiling { tiling extents.new.segs.items
         ≡ change_extent a.0 absorb (tiling extents.old.segs.items) }
     ensures pairs { map pair_of extents.new.segs.items ≡ map pair_of extents.old.segs.items }
+    ensures gaps { GapsChange (tiling extents.old.segs.items) (tiling extents.new.segs.items)
+        (a.0 ∷ free_next (tiling extents.old.segs.items) a.0) (a.0 ∷ []) }
+    ensures free { IsFree (tiling extents.new.segs.items) a.0 }
 {
     let Some(next) = extents.after(a) else {
         return;
@@ -25,13 +29,18 @@ pub(crate) fn absorb_next(extents: &mut Extents, a: Addr)
     }
 }
 
-/// Frees the block at an address. Its extent becomes one with the free ones before and behind it.
-pub(crate) fn release(extents: &mut Extents, a: Addr)
+/// Frees the block at an address. Its extent becomes one with the free ones before and behind it. It answers the address
+/// of that.
+pub(crate) fn release(extents: &mut Extents, a: Addr) -> Addr
     requires busy { IsBusy (tiling extents.old.segs.items) a.0 }
     requires merged { IsMerged (tiling extents.old.segs.items) }
     ensures layout { layout_by extents.new.segs.items
         ≡ without_block_at (layout_by extents.old.segs.items) (place_of a.0) }
     ensures merged { IsMerged (tiling extents.new.segs.items) }
+    ensures free { IsFree (tiling extents.new.segs.items) result.0 }
+    ensures gaps { GapsChange (tiling extents.old.segs.items) (tiling extents.new.segs.items)
+        (free_before (tiling extents.old.segs.items) a.0
+        ++ free_next (tiling extents.old.segs.items) a.0) (result.0 ∷ []) }
 {
     let before = extents.before(a);
     extents.mark_free(a);
@@ -39,6 +48,8 @@ pub(crate) fn release(extents: &mut Extents, a: Addr)
     if let Some(first) = before {
         if !extents.is_busy(first) {
             absorb_next(extents, first);
+            return first;
         }
     }
+    a
 }

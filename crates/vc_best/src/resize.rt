@@ -4,11 +4,13 @@ ghost use Rattle.vc_model.specs.Best.{best_need};
 ghost use Rattle.vc_model.specs.Layout.{without_block};
 ghost use Rattle.vc_model.specs.Resize.{best_resize, can_stay};
 ghost use Rattle.vc_model.specs.Touch.{HasBlock, find_block};
+ghost use Rattle.vc_best.specs.Ask.{AsksForSegment};
 ghost use Rattle.vc_seg.specs.Answer.{Answers, Asks};
 
 use crate::best::Best;
-use crate::stay::{has_room, resize_there};
+use crate::stay::has_room;
 use crate::take::take_over;
+use crate::tree::resize_block;
 use vc_base::{Addr, Steps};
 use vc_seg::RegionFault;
 
@@ -39,6 +41,8 @@ impl Best {
         ensures no_memory { IsErrOf result RegionFault.OutOfMemory
             → IfSome (find_block (place_of a.0) (blocks_in self.old))
             (λ b. can_stay (layout_of self.old) size b ≡ false) × IsTrue may_move }
+        ensures no_place { IsErrOf result RegionFault.OutOfMemory
+            → AsksForSegment (layout_of self.old) size 32 }
 
         // The block has that size and keeps its tag, and the others stay.
         ensures sized { IfOk result (λ to. option_map (λ b. b.size)
@@ -50,7 +54,7 @@ impl Best {
             ≡ without_block (place_of a.0) (blocks_in self.old)) }
     {
         if has_room(&self.extents, a, size, steps) {
-            resize_there(&mut self.extents, a, size, steps);
+            resize_block(&mut self.extents, &mut self.root, a, size, steps);
             return Ok(a);
         }
         if !may_move {
@@ -59,7 +63,8 @@ impl Best {
         let tag = self.extents.tag_at(a);
         match self.alloc(size, 32, tag, steps) {
             Ok(to) => {
-                take_over(&mut self.extents, a, to, size);
+                take_over(&mut self.extents, &mut self.root, a, to, size, steps);
+                self.busy -= 1;
                 Ok(to)
             }
             Err(fault) => Err(fault),

@@ -1,9 +1,10 @@
-ghost use Rattle.std.specs.Prelude.{◌≡◌, ℕ, ◌≤◌, ◌↔◌, IsTrue, length, map, take};
+ghost use Rattle.std.specs.Prelude.{◌≡◌, ℕ, ◌≤◌, ◌↔◌, [], IsTrue, length, map, take};
 ghost use Rattle.vc_model.specs.Addr.{place_of};
 ghost use Rattle.vc_model.specs.Resize.{resize_there};
 ghost use Rattle.vc_model.specs.Segments.{span};
 ghost use Rattle.vc_seg.specs.Segment.{pair_of};
-ghost use Rattle.vc_extent.specs.Tiling.{IsBusy, change_extent, extent_of, tiling};
+ghost use Rattle.vc_extent.specs.Tiling.{IsBusy, IsNamed, change_extent, extent_of, tiling};
+ghost use Rattle.vc_best.specs.Beside.{GapsChange, free_next};
 ghost use Rattle.vc_best.specs.Blocks.{layout_by};
 ghost use Rattle.vc_best.specs.Changes.{move_border};
 ghost use Rattle.vc_best.specs.Free.{IsMerged, room_of};
@@ -43,6 +44,7 @@ pub(crate) fn has_room<L>(extents: &Extents, a: Addr, size: u32, steps: &mut Ste
 /// Moves the border behind a block so that it has another size. What is new in it isn't said.
 fn move_border<L>(extents: &mut Extents, a: Addr, size: u32, steps: &mut Steps<L>)
     requires busy { IsBusy (tiling extents.old.segs.items) a.0 }
+    requires merged { IsMerged (tiling extents.old.segs.items) }
     requires some { 1 ≤ size }
     requires most { size ≤ 16777264 }
     requires room { span size ≤ room_of (tiling extents.old.segs.items) a.0 }
@@ -55,6 +57,11 @@ fn move_border<L>(extents: &mut Extents, a: Addr, size: u32, steps: &mut Steps<L
         → take k (extent_of (tiling extents.new.segs.items) a.0).body
         ≡ take k (extent_of (tiling extents.old.segs.items) a.0).body }
     ensures pairs { map pair_of extents.new.segs.items ≡ map pair_of extents.old.segs.items }
+    ensures gaps { GapsChange (tiling extents.old.segs.items) (tiling extents.new.segs.items)
+        (free_next (tiling extents.old.segs.items) a.0)
+        (free_next (tiling extents.new.segs.items) a.0) }
+    ensures same_span { span size ≡ (extent_of (tiling extents.old.segs.items) a.0).span
+        → GapsChange (tiling extents.old.segs.items) (tiling extents.new.segs.items) [] [] }
 {
     let own = extents.span_at(a, steps);
     let wanted = span_of(size);
@@ -78,6 +85,12 @@ pub(crate) fn resize_there<L>(extents: &mut Extents, a: Addr, size: u32, steps: 
     ensures layout { layout_by extents.new.segs.items
         ≡ resize_there (layout_by extents.old.segs.items) (place_of a.0) size }
     ensures merged { IsMerged (tiling extents.new.segs.items) }
+    ensures named { IsNamed (tiling extents.new.segs.items) a.0 }
+    ensures gaps { GapsChange (tiling extents.old.segs.items) (tiling extents.new.segs.items)
+        (free_next (tiling extents.old.segs.items) a.0)
+        (free_next (tiling extents.new.segs.items) a.0) }
+    ensures same_span { span size ≡ (extent_of (tiling extents.old.segs.items) a.0).span
+        → GapsChange (tiling extents.old.segs.items) (tiling extents.new.segs.items) [] [] }
 {
     let old = extents.size_at(a);
     move_border(extents, a, size, steps);

@@ -1,21 +1,26 @@
-use Rattle.std.proofs.Common.{ap, arith}
+use Rattle.std.proofs.Common.{ap, replicate, arith}
 use Rattle.std.proofs.Math.Bridge.{le_prop}
 use Rattle.std.proofs.Math.Logic.{∥∥₁_elim}
 use Rattle.vc_extent.specs.Extent.{Extent}
-use Rattle.vc_extent.specs.Tiling.{extent_of, tiling}
+use Rattle.vc_extent.specs.Tiling.{IsBusy, extent_of, tiling}
 use Rattle.vc_best.proofs.Carves.{laid, marked}
 use Rattle.vc_best.proofs.Known.{cut-of}
+use Rattle.vc_best.proofs.Outs.{gaps-laid}
 use Rattle.vc_best.proofs.Sets.{tiling-set}
 use Rattle.vc_best.proofs.carve.lay_zeros.Goals as goal
+use Rattle.vc_best.proofs.carve.lay_zeros.Goals.{After-mark_busy}
 
-pub fill-requires-clause-busy : goal.fill-requires-clause-busy
-fill-requires-clause-busy c =
+busy : (c : After-mark_busy) → IsBusy (tiling c.mark_busy.new.self.segs.items) c.args.a.0
+busy c =
     ∥∥₁_elim c.args.extents.now.kept (hlevel (le_prop))
     (λ k.
     let t = tiling c.args.extents.now.segs.items in
     let e = marked t (tiling c.mark_busy.new.self.segs.items) c.args.a.0 c.args.size c.args.tag (extent_of (tiling c.mark_busy.new.self.segs.items) c.args.a.0).body (cut-of c.args.extents.now.segs.items c.args.extents.now.index.items c.args.a.0 k c.requires.free.named) c.mark_busy.ensures.tiling in
     let named = c.requires.free.named in
     record { named = rw (ap (λ (x : Extent). x.span) e) named; busy = rw (ap (λ (x : Extent). x.size) e) (omega arith) })
+
+pub fill-requires-clause-busy : goal.fill-requires-clause-busy
+fill-requires-clause-busy c = busy (goal.at.fill-requires-clause-busy c).After-mark_busy
 
 pub fill-requires-clause-within : goal.fill-requires-clause-within
 fill-requires-clause-within c =
@@ -31,3 +36,9 @@ returns-clause-tiling c =
     (λ k.
     laid (tiling c.args.extents.now.segs.items) (tiling c.mark_busy.new.self.segs.items) c.args.a.0 c.args.size c.args.tag (extent_of (tiling c.mark_busy.new.self.segs.items) c.args.a.0).body (cut-of c.args.extents.now.segs.items c.args.extents.now.index.items c.args.a.0 k c.requires.free.named) c.mark_busy.ensures.tiling
     (tiling c.fill.new.self.segs.items) c.mark_busy.ensures.len c.fill.ensures.tiling)
+
+pub returns-clause-gaps : goal.returns-clause-gaps
+returns-clause-gaps c =
+    let t1 = tiling c.mark_busy.new.self.segs.items in
+    gaps-laid (tiling c.args.extents.now.segs.items) t1 (tiling c.fill.new.self.segs.items) c.args.a.0 c.args.size c.args.tag (extent_of t1 c.args.a.0).body (replicate c.args.size 0) c.mark_busy.ensures.tiling c.requires.some c.requires.free.named
+    (busy (goal.at.returns-clause-gaps c).After-mark_busy) c.fill.ensures.tiling

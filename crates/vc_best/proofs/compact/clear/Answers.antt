@@ -1,23 +1,48 @@
-use Rattle.std.proofs.Common.{◌+◌, refl, sym, subst, ◌∙◌}
-use Rattle.vc_extent.specs.Tiling.{tiling}
-use Rattle.vc_best.proofs.Clears.{AreFree, all-free, apart-tiling, free-first, free-merged, free-more, layout-cleared, segments-of}
+use Rattle.std.proofs.Common.{ℕ, List, All, ◌+◌, refl, ◌∙◌}
+use Rattle.vc_extent.specs.Change.{IsOneFree, one_free}
+use Rattle.vc_extent.specs.Extent.{Extent}
+use Rattle.vc_extent.specs.Tiling.{change_in, tiling}
+use Rattle.vc_best.proofs.Cleared.{below-first, below-last, still-free}
+use Rattle.vc_best.proofs.Clears.{all-free, apart-tiling, free-first, free-merged, free-more, layout-cleared, segments-of}
+use Rattle.vc_best.proofs.compact.clear.Given.{Over}
 use Rattle.vc_best.proofs.compact.clear.Goals as goal
+use Rattle.vc_best.proofs.compact.clear.Goals.{After-loop-number}
 
 pub loop-number-init : goal.loop-number-init
-loop-number-init c = record { pairs = refl; free = free-first c.args.extents.now.segs.items (segments-of c.args.extents.now.segs.items c.args.extents.now.index.items c.args.extents.now.kept) }
+loop-number-init g c =
+    let e = c.args.extents.now in
+    record {
+      pairs = refl;
+      free = free-first e.segs.items (segments-of e.segs.items e.index.items e.kept);
+      gaps = below-first e.segs.items e.index.items e.kept;
+    }
 
 pub loop-number-preserved : goal.loop-number-preserved
-loop-number-preserved c =
+loop-number-preserved g c =
+    let n = c.loop-number.number in
+    let e = c.loop-number.extents in
+    let t = tiling e.segs.items in
     record {
       pairs = c.clear_one.ensures.pairs ∙ c.loop-number.invariant.pairs;
       free =
-          subst (AreFree (c.loop-number.number + 1)) (sym c.clear_one.ensures.tiling)
-          (free-more c.loop-number.number (tiling c.loop-number.extents.segs.items) (apart-tiling c.loop-number.extents.segs.items (segments-of c.loop-number.extents.segs.items c.loop-number.extents.index.items c.loop-number.extents.kept)) c.loop-number.invariant.free);
+          still-free (n + 1) (change_in n one_free t) (tiling c.clear_one.new.extents.segs.items) c.clear_one.ensures.plain
+          (free-more n t (apart-tiling e.segs.items (segments-of e.segs.items e.index.items e.kept)) c.loop-number.invariant.free);
+      gaps = c.clear_one.ensures.gaps;
     }
 
+-- all segments are free at its end
+all : (g : Over) (c : After-loop-number g) → All (λ (s : ℕ × List Extent). IsOneFree s.1) (tiling c.loop-number.extents.segs.items)
+all g c =
+    let e = c.loop-number.extents in
+    all-free c.loop-number.number e.segs.items (segments-of e.segs.items e.index.items e.kept) c.loop-number-test.false c.loop-number.invariant.free
+
 pub returns-clause-layout : goal.returns-clause-layout
-returns-clause-layout c =
-    layout-cleared c.args.extents.now.segs.items c.loop-number.extents.segs.items c.loop-number.invariant.pairs (all-free c.loop-number.number c.loop-number.extents.segs.items (segments-of c.loop-number.extents.segs.items c.loop-number.extents.index.items c.loop-number.extents.kept) c.loop-number-test.false c.loop-number.invariant.free)
+returns-clause-layout g c = layout-cleared c.args.extents.now.segs.items c.loop-number.extents.segs.items c.loop-number.invariant.pairs (all g (goal.at.returns-clause-layout g c).After-loop-number)
 
 pub returns-clause-merged : goal.returns-clause-merged
-returns-clause-merged c = free-merged (tiling c.loop-number.extents.segs.items) (all-free c.loop-number.number c.loop-number.extents.segs.items (segments-of c.loop-number.extents.segs.items c.loop-number.extents.index.items c.loop-number.extents.kept) c.loop-number-test.false c.loop-number.invariant.free)
+returns-clause-merged g c = free-merged (tiling c.loop-number.extents.segs.items) (all g (goal.at.returns-clause-merged g c).After-loop-number)
+
+pub returns-clause-gaps : goal.returns-clause-gaps
+returns-clause-gaps g c =
+    let e = c.loop-number.extents in
+    below-last e.segs.items e.index.items e.kept c.loop-number.number c.loop-number.root.0 c.loop-number-test.false c.loop-number.invariant.gaps

@@ -17,12 +17,16 @@ loop-number-init g c =
       segments = sym (stays_from-first (is_occupied (layout_by c.args.extents.now.segs.items).blocks) (map pair_of c.args.extents.now.segs.items) (∥∥₁_elim c.args.extents.now.kept (hlevel (le_prop)) (λ k. pairs-first c.args.extents.now.segs.items k.segments)));
       blocks = refl;
       merged = c.requires.merged;
+      gaps = c.requires.gaps;
       count = omega arith;
       back = TookBack-none _ (map pair_of c.args.extents.now.segs.items);
     }
 
 pub give_back_one-count-requires-clause-merged : goal.give_back_one-count-requires-clause-merged
 give_back_one-count-requires-clause-merged g c = c.loop-number.invariant.merged
+
+pub give_back_one-count-requires-clause-gaps : goal.give_back_one-count-requires-clause-gaps
+give_back_one-count-requires-clause-gaps g c = c.loop-number.invariant.gaps
 
 pub give_back_one-count-requires-clause-out : goal.give_back_one-count-requires-clause-out
 give_back_one-count-requires-clause-out g c = HasOut-left _ _ (map pair_of c.args.extents.now.segs.items) (map pair_of c.loop-number.extents.segs.items) c.loop-number.invariant.back c.requires.out
@@ -41,6 +45,7 @@ loop-number-preserved g c =
           ∙ stays_from-more keeps c.loop-number.number (map pair_of c.args.extents.now.segs.items)));
       blocks = c.give_back_one-count.ensures.blocks ∙ i.blocks;
       merged = c.give_back_one-count.ensures.merged;
+      gaps = c.give_back_one-count.ensures.gaps;
       count = omega arith;
       back = TookBack-more _ _ _ (map pair_of c.args.extents.now.segs.items) (map pair_of c.loop-number.extents.segs.items) (map pair_of c.give_back_one-count.new.extents.segs.items) i.back c.give_back_one-count.ensures.disc;
     }
@@ -63,3 +68,6 @@ returns-clause-count g c =
     let old = ap length (segments-by c.args.extents.now.segs.items) in
     let count = i.count in
     omega arith
+
+pub returns-clause-gaps : goal.returns-clause-gaps
+returns-clause-gaps g c = c.loop-number.invariant.gaps

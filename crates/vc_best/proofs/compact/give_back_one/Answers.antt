@@ -1,19 +1,31 @@
-use Rattle.std.proofs.Common.{◌≡◌, ℕ, List, true, false, not, map, IsSome, eqb, ap, sym, subst, ◌∙◌}
+use Rattle.std.proofs.Common.{◌≡◌, ℕ, List, [], ◌∷◌, ◌++◌, true, false, filter, length, not, map, IsSome, eqb, refl, ap, sym, subst, ◌∙◌}
 use Rattle.std.proofs.Math.Nat.{ℕ_set}
 use Rattle.std.proofs.Math.Logic.{∥∥₁_elim}
 use Rattle.std.proofs.lemmas.List.Elements.{All-filter}
 use Rattle.vc_model.specs.Compact.{is_occupied}
-use Rattle.vc_model.specs.Discipline.{without_last}
+use Rattle.vc_model.specs.Addr.{address}
+use Rattle.vc_model.specs.Discipline.{HasOut, without_last}
+use Rattle.vc_model.specs.Layout.{Layout}
 use Rattle.vc_seg.specs.Segment.{pair_of}
 use Rattle.vc_seg.proofs.Backs.{Contains-ends, Contains-pair}
 use Rattle.vc_extent.specs.Extent.{Extent}
-use Rattle.vc_extent.specs.Tiling.{tiling}
+use Rattle.vc_extent.specs.Change.{IsOneFree}
+use Rattle.vc_extent.specs.Tiling.{IsNamed, IsThere, extent_of, extents_of, size_of, tiling}
+use Rattle.vc_gaps.specs.GapTree.{HasGaps}
+use Rattle.vc_gaps.proofs.Added.{gaps-removed}
 use Rattle.vc_best.specs.Blocks.{layout_by}
 use Rattle.vc_best.specs.Free.{IsMerged, is_merged}
 use Rattle.vc_best.proofs.Backs.{none-of, one-gone, out-gone, some-of, stays-gone, stays-kept, stays-none}
+use Rattle.vc_best.proofs.Cleared.{first-off, one-first, start-address}
+use Rattle.vc_best.proofs.Layouts.{behind_of}
+use Rattle.vc_best.proofs.Linking.{in-tree}
+use Rattle.vc_best.proofs.Plain.{layout-stays, merged-stays, one_free-stays}
 use Rattle.vc_best.proofs.Segments.{layout-removed, occupied, unoccupied}
 use Rattle.vc_best.proofs.Sets.{pairs-set}
+use Rattle.vc_best.proofs.Walks.{start-named, start-whole}
+use Rattle.vc_best.proofs.compact.give_back_one.Given.{Over}
 use Rattle.vc_best.proofs.compact.give_back_one.Goals as goal
+use Rattle.vc_best.proofs.compact.give_back_one.Goals.{After-first-first, After-unlink_gap}
 
 pub returns-then-is_none-clause-segments : goal.returns-then-is_none-clause-segments
 returns-then-is_none-clause-segments g c =
@@ -29,30 +41,91 @@ returns-then-not-is_one_free-clause-segments g c =
     sym (stays-kept (is_occupied (layout_by c.args.extents.now.segs.items).blocks) c.args.number (map pair_of c.args.extents.now.segs.items)
     (occupied c.args.extents.now.segs.items c.args.extents.now.index.items c.args.number c.args.extents.now.kept c.requires.merged there (λ h. let yes = c.is_one_free.ensures.1 h in let q : false ≡ true = sym no ∙ yes in cc)))
 
+-- the segment is one free extent, and its address is at an offset of 32
+one : (g : Over) (c : After-first-first g) → IsOneFree (extents_of c.args.number (tiling c.args.extents.now.segs.items))
+one g c = c.is_one_free.ensures.0 c.if-not-is_one_free.false
+
+whole : (g : Over) (c : After-first-first g) → extents_of c.args.number (tiling c.args.extents.now.segs.items) ≡ extent_of (tiling c.args.extents.now.segs.items) c.first-first.result.0 ∷ behind_of (tiling c.args.extents.now.segs.items) c.first-first.result.0
+whole g c =
+    let e = c.args.extents.now in
+    start-whole e.segs.items e.index.items c.args.number c.first-first.result.0 e.kept (subst IsSome c.has.ensures (some-of c.has.result c.is_none.result c.is_none.ensures c.if-is_none.false)) c.first-first.ensures
+
+named : (g : Over) (c : After-first-first g) → IsNamed (tiling c.args.extents.now.segs.items) c.first-first.result.0
+named g c =
+    let e = c.args.extents.now in
+    start-named e.segs.items e.index.items c.args.number c.first-first.result.0 e.kept (subst IsSome c.has.ensures (some-of c.has.result c.is_none.result c.is_none.ensures c.if-is_none.false)) c.first-first.ensures
+
+pub unlink_gap-requires : goal.unlink_gap-requires
+unlink_gap-requires g c =
+    let f = (goal.at.unlink_gap-requires g c).After-first-first in
+    in-tree (tiling c.args.extents.now.segs.items) c.args.root.now.0 [] c.first-first.result.0 c.requires.gaps (named g f) (subst IsOneFree (whole g f) (one g f)).0 refl
+
+-- it is so without its node
+still : (g : Over) (c : After-unlink_gap g) → IsOneFree (extents_of c.args.number (tiling c.unlink_gap.new.extents.segs.items))
+still g c = one_free-stays (tiling c.args.extents.now.segs.items) (tiling c.unlink_gap.new.extents.segs.items) c.unlink_gap.ensures.rest.extents c.args.number (c.is_one_free.ensures.0 c.if-not-is_one_free.false)
+
+pub remove-segment-requires-clause-free : goal.remove-segment-requires-clause-free
+remove-segment-requires-clause-free g c = still g (goal.at.remove-segment-requires-clause-free g c).After-unlink_gap
+
 pub take_back-requires : goal.take_back-requires
 take_back-requires g c =
     let among = c.remove-segment.ensures.contains in
-    Contains-ends _ (map pair_of c.args.extents.now.segs.items) (pair_of c.remove-segment.result) c.requires.out (Contains-pair c.args.extents.now.segs.items among.0 c.remove-segment.result among.1 (sym among.2))
+    let mid = c.unlink_gap.new.extents.segs.items in
+    Contains-ends _ (map pair_of mid) (pair_of c.remove-segment.result)
+    (subst (λ (ss : List (ℕ × ℕ)). HasOut ((goal.SegDisc-dyn g (c.args.disc.now.vtable, c.args.disc.now.value)).state c.args.disc.now.value) ss) (sym c.unlink_gap.ensures.rest.pairs) c.requires.out)
+    (Contains-pair mid among.0 c.remove-segment.result among.1 (sym among.2))
 
 pub returns-clause-segments : goal.returns-clause-segments
 returns-clause-segments g c =
-    c.remove-segment.ensures.pairs ∙ stays-gone (is_occupied (layout_by c.args.extents.now.segs.items).blocks) c.args.number (map pair_of c.args.extents.now.segs.items) (unoccupied c.args.extents.now.segs.items c.args.extents.now.index.items c.args.number c.args.extents.now.kept (c.is_one_free.ensures.0 c.if-not-is_one_free.false))
+    let e = c.args.extents.now in
+    c.remove-segment.ensures.pairs
+    ∙ ap (filter (λ (s : ℕ × ℕ). not (eqb s.0 c.args.number))) c.unlink_gap.ensures.rest.pairs
+    ∙ stays-gone (is_occupied (layout_by e.segs.items).blocks) c.args.number (map pair_of e.segs.items)
+    (unoccupied e.segs.items e.index.items c.args.number e.kept (c.is_one_free.ensures.0 c.if-not-is_one_free.false))
 
 pub returns-clause-blocks : goal.returns-clause-blocks
-returns-clause-blocks g c = layout-removed c.args.extents.now.segs.items c.args.extents.now.index.items c.args.number c.args.extents.now.kept c.remove-segment.new.self.segs.items (c.is_one_free.ensures.0 c.if-not-is_one_free.false) c.remove-segment.ensures.tiling
+returns-clause-blocks g c =
+    let m = c.unlink_gap.new.extents in
+    layout-removed m.segs.items m.index.items c.args.number m.kept c.remove-segment.new.self.segs.items (still g (goal.at.returns-clause-blocks g c).After-unlink_gap) c.remove-segment.ensures.tiling
+    ∙ ap (λ (r : Layout ℕ). r.blocks) (layout-stays c.args.extents.now.segs.items m.segs.items c.unlink_gap.ensures.rest)
 
 pub returns-clause-merged : goal.returns-clause-merged
 returns-clause-merged g c =
+    let t1 = tiling c.unlink_gap.new.extents.segs.items in
     subst IsMerged (sym c.remove-segment.ensures.tiling)
-    (All-filter (λ (s : ℕ × List Extent). not (eqb s.0 c.args.number)) (λ (s : ℕ × List Extent). is_merged false s.1 ≡ true) (tiling c.args.extents.now.segs.items) c.requires.merged)
+    (All-filter (λ (s : ℕ × List Extent). not (eqb s.0 c.args.number)) (λ (s : ℕ × List Extent). is_merged false s.1 ≡ true) t1
+    (merged-stays (tiling c.args.extents.now.segs.items) t1 c.unlink_gap.ensures.rest.extents c.requires.merged))
+
+pub returns-clause-gaps : goal.returns-clause-gaps
+returns-clause-gaps g c =
+    let e = c.args.extents.now in
+    let n = c.args.number in
+    let t1 = tiling c.unlink_gap.new.extents.segs.items in
+    let o = one-first (extents_of n t1) (still g (goal.at.returns-clause-gaps g c).After-unlink_gap) in
+    let m = c.unlink_gap.new.extents in
+    let there : IsThere n e.segs.items = subst IsSome c.has.ensures (some-of c.has.result c.is_none.result c.is_none.ensures c.if-is_none.false) in
+    let off : o.0.off ≡ 32 = first-off m.segs.items m.index.items n m.kept (subst (λ (ss : List (ℕ × ℕ)). IsSome (size_of n ss)) (sym c.unlink_gap.ensures.rest.pairs) there) o.0 [] o.1 in
+    let first : c.first-first.result.0 ≡ address (n, 32) =
+    start-address e.segs.items e.index.items n e.kept there c.first-first.result.0 c.first-first.ensures in
+    gaps-removed t1 (tiling c.remove-segment.new.self.segs.items) c.unlink_gap.result.0 n o.0 [] o.1 off c.remove-segment.ensures.tiling
+    (subst (λ (z : ℕ). HasGaps t1 c.unlink_gap.result.0 (z ∷ [])) first (c.unlink_gap.ensures.unlinked.gaps [] c.requires.gaps))
 
 pub returns-clause-count : goal.returns-clause-count
-returns-clause-count g c = ∥∥₁_elim c.args.extents.now.kept (hlevel (ℕ_set)) (λ k. one-gone c.args.extents.now.segs.items c.remove-segment.new.self.segs.items c.args.number c.remove-segment.result k.segments c.remove-segment.ensures.contains c.remove-segment.ensures.number c.remove-segment.ensures.segs)
+returns-clause-count g c =
+    let m = c.unlink_gap.new.extents in
+    ∥∥₁_elim m.kept (hlevel (ℕ_set)) (λ k. one-gone m.segs.items c.remove-segment.new.self.segs.items c.args.number c.remove-segment.result k.segments c.remove-segment.ensures.contains c.remove-segment.ensures.number c.remove-segment.ensures.segs)
+    ∙ ap length c.unlink_gap.ensures.rest.pairs
 
 pub returns-clause-disc : goal.returns-clause-disc
 returns-clause-disc g c =
+    let m = c.unlink_gap.new.extents in
     record {
-      out = λ rest e. ∥∥₁_elim c.args.extents.now.kept (hlevel (pairs-set)) (λ k. c.take_back.ensures.out ∙ (ap (without_last (pair_of c.remove-segment.result)) e ∙ out-gone c.args.extents.now.segs.items c.remove-segment.new.self.segs.items c.args.number c.remove-segment.result k.segments c.remove-segment.ensures.contains c.remove-segment.ensures.number c.remove-segment.ensures.segs rest));
+      out = λ rest e.
+          ∥∥₁_elim m.kept (hlevel (pairs-set))
+          (λ k.
+          c.take_back.ensures.out
+          ∙ (ap (without_last (pair_of c.remove-segment.result)) (e ∙ ap (λ (ss : List (ℕ × ℕ)). rest ++ ss) (sym c.unlink_gap.ensures.rest.pairs))
+          ∙ out-gone m.segs.items c.remove-segment.new.self.segs.items c.args.number c.remove-segment.result k.segments c.remove-segment.ensures.contains c.remove-segment.ensures.number c.remove-segment.ensures.segs rest));
       terms = c.take_back.ensures.terms;
       faults = c.take_back.ensures.faults;
     }

@@ -1,16 +1,29 @@
-use Rattle.std.proofs.Common.{◌≡◌, ◌+◌, ◌≤◌, ap, ◌∙◌, arith}
+use Rattle.std.proofs.Common.{◌≡◌, ℕ, ◌+◌, ◌≤◌, length, ap, ◌∙◌, arith}
+use Rattle.std.specs.Prelude.{Err, IfOk, Ok, Result}
+use Rattle.vc_base.specs.declared.addr.Addr.{Addr}
+use Rattle.vc_model.specs.Addr.{place_of}
+use Rattle.vc_model.specs.Layout.{Layout, with_segment}
+use Rattle.vc_seg.specs.declared.fault.RegionFault.{RegionFault}
+use Rattle.vc_blocks.specs.declared.order.Order.TheVariants.{ByAddress}
+use Rattle.vc_blocks.specs.Put.{IsPutInNew}
 use Rattle.vc_model.specs.Best.{best_need}
 use Rattle.vc_model.specs.Discipline.{IsSegmentSize, Terms}
 use Rattle.vc_model.specs.Segments.{round_up, span}
 use Rattle.vc_seg.proofs.Rounding.{round_up-least}
 use Rattle.vc_best.proofs.Apart.{span-least}
 use Rattle.vc_best.proofs.Asking.{Answers-new, new-fresh, new-heads}
+use Rattle.vc_best.proofs.Counted.{put-count}
 use Rattle.vc_best.proofs.HeldHeads.{held-heads}
+use Rattle.vc_best.proofs.Lends.{few-by}
 use Rattle.vc_best.specs.Blocks.{layout_by}
 use Rattle.vc_best.proofs.Rounding.{IsAligned, IsAligned-from_IsAlign, IsSegmentSize-need}
 use Rattle.vc_best.proofs.lend.put_in_new.Goals as goal
 use Rattle.vc_best.proofs.lend.put_in_new.Goals.{After-rounded_up-bytes}
 use Rattle.vc_best.proofs.lend.put_in_new.Given.{Over}
+
+count : (r s : Layout ℕ) (tag size bytes off : ℕ) (result : Result Addr RegionFault) → IfOk result (λ a. IsPutInNew ByAddress r s tag size bytes off a.0) → IfOk result (λ _. length s.blocks ≡ length r.blocks + 1)
+count r s tag size bytes off (Ok a) p = put-count (with_segment r ((place_of a.0).0, bytes)) s tag size ((place_of a.0).0, off) p.layout
+count r s tag size bytes off (Err e) p = tt
 
 aligned : (g : Over) (c : After-rounded_up-bytes g) → IsAligned c.args.align
 aligned g c = IsAligned-from_IsAlign c.args.align c.requires.align
@@ -51,6 +64,9 @@ returns-clause-answer g c =
 pub returns-clause-disc : goal.returns-clause-disc
 returns-clause-disc g c = rw (← need g (goal.at.returns-clause-disc g c).After-rounded_up-bytes) c.put_in_lent.ensures.disc
 
+pub returns-clause-no_memory : goal.returns-clause-no_memory
+returns-clause-no_memory g c = λ e. record { none = c.requires.none; few = few-by c.args.extents.now.segs.items (c.put_in_lent.ensures.no_memory e) }
+
 pub returns-clause-fresh : goal.returns-clause-fresh
 returns-clause-fresh g c =
     let b = (goal.at.returns-clause-fresh g c).After-rounded_up-bytes in
@@ -61,3 +77,7 @@ returns-clause-sizes g c =
     let b = (goal.at.returns-clause-sizes g c).After-rounded_up-bytes in
     let heads = new-heads (layout_by c.args.extents.now.segs.items) (layout_by c.put_in_lent.new.extents.segs.items) (terms g b) c.args.tag c.args.size c.args.align c.rounded_up-bytes.result (held-heads c.args.extents.now.segs.items c.args.extents.now.index.items c.args.extents.now.kept c.requires.sizes) c.requires.none (need g b) (aligned g b) c.requires.some c.requires.most (legal g b) (fits g b) c.put_in_lent.result c.put_in_lent.ensures.ok c.put_in_lent.ensures.err in
     λ k d lt. (heads.blocks k d lt).slot.most
+
+pub returns-clause-count : goal.returns-clause-count
+returns-clause-count g c =
+    count (layout_by c.args.extents.now.segs.items) (layout_by c.put_in_lent.new.extents.segs.items) c.args.tag c.args.size c.rounded_up-bytes.result c.args.align c.put_in_lent.result c.put_in_lent.ensures.ok

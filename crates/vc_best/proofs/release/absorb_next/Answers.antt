@@ -1,9 +1,11 @@
-use Rattle.std.proofs.Common.{◌≡◌, ◌<◌, Option, IsSomeAnd, ap, sym, subst, ◌∙◌}
+use Rattle.std.proofs.Common.{◌≡◌, ◌<◌, Option, IsSomeAnd, ap, sym, subst, ◌∙◌, arith}
 use Rattle.std.proofs.Math.Nat.{ℕ_set}
 use Rattle.std.proofs.Math.Logic.{∥∥₁_elim}
 use Rattle.vc_extent.specs.Extent.{Extent}
 use Rattle.vc_extent.specs.Tiling.{extent_of, next_of, tiling}
+use Rattle.vc_best.proofs.Freed.{gaps-joined_next, gaps-unjoined, joined-free}
 use Rattle.vc_best.proofs.Known.{cut-of}
+use Rattle.vc_best.proofs.Linking.{name-busy, name-none, next-size}
 use Rattle.vc_best.proofs.Nexts.{next-extent, no-address, not-busy, some-address}
 use Rattle.vc_best.proofs.Releases.{absorb-busy_next, absorb-free_next, absorb-none}
 use Rattle.vc_best.proofs.Sets.{tiling-set}
@@ -42,3 +44,33 @@ returns-else-not-is_busy-clause-tiling c =
     let e = next-extent (tiling c.args.extents.now.segs.items) c.args.a.0 c.in-Some.next.0 f.0 cut f.1 f.2 in
     let busy = c.is_busy.ensures.0 c.if-not-is_busy.false in
     absorb-busy_next (tiling c.args.extents.now.segs.items) c.args.a.0 cut f.0 f.1 (subst (λ (x : Extent). 0 < x.size) e busy))
+
+pub returns-in_default-clause-gaps : goal.returns-in_default-clause-gaps
+returns-in_default-clause-gaps c =
+    let t = tiling c.args.extents.now.segs.items in
+    gaps-unjoined t c.args.a.0 (name-none _ (next_of t c.args.a.0) (no-address _ (next_of t c.args.a.0) c.in_default.ensures.value))
+
+pub returns-else-not-is_busy-clause-gaps : goal.returns-else-not-is_busy-clause-gaps
+returns-else-not-is_busy-clause-gaps c =
+    let e = c.args.extents.now in
+    let t = tiling e.segs.items in
+    let f = some-address _ c.in-Some.next.0 (next_of t c.args.a.0) c.in-Some.ensures.value in
+    let size = next-size e.segs.items e.index.items e.kept c.args.a.0 c.requires.free.named c.in-Some.next.0 f.0 f.1 f.2 in
+    gaps-unjoined t c.args.a.0 (name-busy _ (next_of t c.args.a.0) f.0 f.1 (let busy = c.is_busy.ensures.0 c.if-not-is_busy.false in omega (arith, size, busy)))
+
+pub returns-then-not-is_busy-clause-gaps : goal.returns-then-not-is_busy-clause-gaps
+returns-then-not-is_busy-clause-gaps c =
+    let e = c.args.extents.now in
+    let n = c.join.new.self in
+    let t = tiling e.segs.items in
+    let f = some-address _ c.in-Some.next.0 (next_of t c.args.a.0) c.in-Some.ensures.value in
+    let size = next-size e.segs.items e.index.items e.kept c.args.a.0 c.requires.free.named c.in-Some.next.0 f.0 f.1 f.2 in
+    let free = sym size ∙ not-busy c.is_busy.result (extent_of t c.in-Some.next.0).size c.is_busy.ensures.1 c.if-not-is_busy.true in
+    gaps-joined_next e.segs.items n.segs.items e.index.items n.index.items e.kept n.kept c.args.a.0 f.0 c.requires.free c.join.ensures.tiling f.1 free
+
+pub returns-then-not-is_busy-clause-free : goal.returns-then-not-is_busy-clause-free
+returns-then-not-is_busy-clause-free c =
+    let e = c.args.extents.now in
+    let n = c.join.new.self in
+    let f = some-address _ c.in-Some.next.0 (next_of (tiling e.segs.items) c.args.a.0) c.in-Some.ensures.value in
+    joined-free e.segs.items n.segs.items e.index.items n.index.items e.kept n.kept c.args.a.0 f.0 c.requires.free c.join.ensures.tiling f.1

@@ -1,17 +1,22 @@
-use Rattle.std.proofs.Common.{◌≡◌, ℕ, ◌-◌, ◌<◌, ◌≤◌, replicate, refl, ap, sym, subst, ◌∙◌, arith}
+use Rattle.std.proofs.Common.{◌≡◌, ℕ, List, ◌-◌, ◌++◌, ◌<◌, ◌≤◌, replicate, refl, ap, sym, subst, ◌∙◌, arith}
 use Rattle.std.proofs.Math.Logic.{∥∥₁_elim}
 use Rattle.vc_model.specs.Bytes.{with_bytes}
 use Rattle.vc_extent.specs.Extent.{Extent, busy_extent}
 use Rattle.vc_extent.specs.Change.{write}
-use Rattle.vc_extent.specs.Tiling.{change_extent, extent_of, tiling}
+use Rattle.vc_extent.specs.Tiling.{IsBusy, change_extent, extent_of, tiling}
 use Rattle.vc_best.specs.Blocks.{layout_by}
 use Rattle.vc_best.specs.Free.{IsMerged}
 use Rattle.vc_best.proofs.Held.{layout-written}
 use Rattle.vc_best.proofs.Known.{cut-of}
 use Rattle.vc_best.proofs.Merges.{merged-one}
+use Rattle.vc_gaps.specs.GapTree.{HasGaps}
+use Rattle.vc_best.specs.Beside.{free_next}
+use Rattle.vc_best.proofs.Outs.{gaps-written, next-written, written-busy}
 use Rattle.vc_best.proofs.Resized.{moved-busy, moved-extent, moved-merged, there-cut, there-filled}
 use Rattle.vc_best.proofs.Sets.{merged-prop}
 use Rattle.vc_best.proofs.stay.resize_there.Goals as goal
+use Rattle.vc_best.proofs.stay.resize_there.Given.{Over}
+use Rattle.vc_best.proofs.stay.resize_there.Goals.{After-move_border}
 
 pub fill-requires-clause-busy : goal.fill-requires-clause-busy
 fill-requires-clause-busy g c = (moved-busy c.args.extents.now.segs.items c.move_border.new.extents.segs.items c.args.extents.now.index.items c.move_border.new.extents.index.items c.args.a.0 c.args.size (extent_of (tiling c.move_border.new.extents.segs.items) c.args.a.0).body c.args.extents.now.kept c.move_border.new.extents.kept c.requires.busy c.requires.some c.requires.room c.move_border.ensures.tiling c.move_border.ensures.pairs)
@@ -49,3 +54,37 @@ returns-else-old-size-clause-layout g c =
 
 pub returns-else-old-size-clause-merged : goal.returns-else-old-size-clause-merged
 returns-else-old-size-clause-merged g c = moved-merged c.args.extents.now.segs.items c.move_border.new.extents.segs.items c.args.extents.now.index.items c.move_border.new.extents.index.items c.args.a.0 c.args.size (extent_of (tiling c.move_border.new.extents.segs.items) c.args.a.0).body c.args.extents.now.kept c.move_border.new.extents.kept c.requires.busy c.requires.some c.requires.room c.move_border.ensures.tiling c.move_border.ensures.pairs c.requires.merged
+
+-- the block once the border behind it has moved
+moved : (g : Over) (c : After-move_border g) → IsBusy (tiling c.move_border.new.extents.segs.items) c.args.a.0
+moved g c =
+    let e = c.args.extents.now in
+    let n = c.move_border.new.extents in
+    moved-busy e.segs.items n.segs.items e.index.items n.index.items c.args.a.0 c.args.size (extent_of (tiling n.segs.items) c.args.a.0).body e.kept n.kept c.requires.busy c.requires.some c.requires.room c.move_border.ensures.tiling c.move_border.ensures.pairs
+
+pub returns-then-old-size-clause-named : goal.returns-then-old-size-clause-named
+returns-then-old-size-clause-named g c =
+    (written-busy (tiling c.move_border.new.extents.segs.items) (tiling c.fill.new.self.segs.items) c.args.a.0 c.size_at-old.result (replicate (c.args.size - c.size_at-old.result) 0) c.fill.ensures.tiling (moved g (goal.at.returns-then-old-size-clause-named g c).After-move_border)).named
+
+pub returns-then-old-size-clause-gaps : goal.returns-then-old-size-clause-gaps
+returns-then-old-size-clause-gaps g c =
+    let n = c.move_border.new.extents in
+    let t1 = tiling n.segs.items in
+    let t2 = tiling c.fill.new.self.segs.items in
+    let a = c.args.a.0 in
+    let busy = moved g (goal.at.returns-then-old-size-clause-gaps g c).After-move_border in
+    let off = c.size_at-old.result in
+    let src = replicate (c.args.size - off) 0 in
+    λ root out h.
+    subst (λ (ns : List ℕ). HasGaps t2 root (ns ++ out)) (sym (next-written n.segs.items n.index.items n.kept t2 a off src busy.named c.fill.ensures.tiling))
+    (gaps-written t1 t2 a off src c.fill.ensures.tiling busy root (free_next t1 a ++ out) (c.move_border.ensures.gaps root out h))
+
+pub returns-then-old-size-clause-same_span : goal.returns-then-old-size-clause-same_span
+returns-then-old-size-clause-same_span g c =
+    let t1 = tiling c.move_border.new.extents.segs.items in
+    let off = c.size_at-old.result in
+    λ same root out h.
+    gaps-written t1 (tiling c.fill.new.self.segs.items) c.args.a.0 off (replicate (c.args.size - off) 0) c.fill.ensures.tiling (moved g (goal.at.returns-then-old-size-clause-same_span g c).After-move_border) root out (c.move_border.ensures.same_span same root out h)
+
+pub returns-else-old-size-clause-named : goal.returns-else-old-size-clause-named
+returns-else-old-size-clause-named g c = (moved g (goal.at.returns-else-old-size-clause-named g c).After-move_border).named

@@ -1,4 +1,4 @@
-use Rattle.std.proofs.Common.{ℕ, option_map, Some, false, refl, ap, ◌∙◌}
+use Rattle.std.proofs.Common.{sym, arith, ℕ, option_map, Some, false, refl, ap, ◌∙◌}
 use Rattle.vc_model.specs.Addr.{place_of}
 use Rattle.vc_model.specs.Layout.{Layout, without_block}
 use Rattle.vc_model.specs.Touch.{find_block}
@@ -7,15 +7,16 @@ use Rattle.vc_best.specs.Blocks.{layout_by}
 use Rattle.vc_best.proofs.Asking.{Served-later, Served-unasked}
 use Rattle.vc_best.proofs.Others.{others-moved, others-sized}
 use Rattle.vc_best.proofs.Resizes.{resize-stays, resize-fixed, resize-moves, resize-refused, new-among, new-room, old-among, old-found, none-stays}
+use Rattle.vc_best.proofs.Counted.{sized-count}
 use Rattle.vc_best.proofs.Found.{busy-of}
-use Rattle.vc_best.proofs.Held.{held, merged-of, most-of}
+use Rattle.vc_best.proofs.Held.{held, merged-of, most-of, tree-of}
 use Rattle.vc_best.proofs.Stays.{label-by, most-sized, moved-most, moved-segments, size-by, stays-by}
 use Rattle.vc_best.proofs.There.{size-moved, size-sized, there-moved, there-sized}
 use Rattle.vc_best.proofs.best.Best.resize.Goals as goal
 
 pub returns-then-has_room-clause-answer : goal.returns-then-has_room-clause-answer
 returns-then-has_room-clause-answer g c =
-    resize-stays _ (layout_by c.args.self.now.extents.segs.items) c.args.a.0 c.args.size c.args.may_move false (layout_by c.resize_there.new.extents.segs.items) ((stays-by c.args.self.now.extents.segs.items c.args.self.now.extents.index.items c.args.a.0 c.args.self.now.extents.kept c.requires.block c.args.size c.has_room.result (merged-of (tiling c.args.self.now.extents.segs.items) c.args.self.now.merged) c.requires.some c.has_room.ensures.0 c.has_room.ensures.1) ∙ ap Some c.if-has_room.true) c.resize_there.ensures.layout
+    resize-stays _ (layout_by c.args.self.now.extents.segs.items) c.args.a.0 c.args.size c.args.may_move false (layout_by c.resize_block.new.extents.segs.items) ((stays-by c.args.self.now.extents.segs.items c.args.self.now.extents.index.items c.args.a.0 c.args.self.now.extents.kept c.requires.block c.args.size c.has_room.result (merged-of (tiling c.args.self.now.extents.segs.items) c.args.self.now.merged) c.requires.some c.has_room.ensures.0 c.has_room.ensures.1) ∙ ap Some c.if-has_room.true) c.resize_block.ensures.layout
 
 pub returns-then-not-may_move-clause-answer : goal.returns-then-not-may_move-clause-answer
 returns-then-not-may_move-clause-answer g c =
@@ -24,22 +25,34 @@ returns-then-not-may_move-clause-answer g c =
 pub has_room-requires-clause-busy : goal.has_room-requires-clause-busy
 has_room-requires-clause-busy g c = busy-of c.args.self.now.extents.segs.items c.args.self.now.extents.index.items c.args.a.0 c.args.self.now.extents.kept c.requires.block
 
-pub resize_there-requires-clause-busy : goal.resize_there-requires-clause-busy
-resize_there-requires-clause-busy g c = busy-of c.args.self.now.extents.segs.items c.args.self.now.extents.index.items c.args.a.0 c.args.self.now.extents.kept c.requires.block
+pub resize_block-requires-clause-busy : goal.resize_block-requires-clause-busy
+resize_block-requires-clause-busy g c = busy-of c.args.self.now.extents.segs.items c.args.self.now.extents.index.items c.args.a.0 c.args.self.now.extents.kept c.requires.block
 
-pub resize_there-requires-clause-merged : goal.resize_there-requires-clause-merged
-resize_there-requires-clause-merged g c = (merged-of (tiling c.args.self.now.extents.segs.items) c.args.self.now.merged)
+pub resize_block-requires-clause-merged : goal.resize_block-requires-clause-merged
+resize_block-requires-clause-merged g c = (merged-of (tiling c.args.self.now.extents.segs.items) c.args.self.now.merged)
 
-pub resize_there-requires-clause-room : goal.resize_there-requires-clause-room
-resize_there-requires-clause-room g c = c.has_room.ensures.0 c.if-has_room.true
+pub resize_block-requires-clause-room : goal.resize_block-requires-clause-room
+resize_block-requires-clause-room g c = c.has_room.ensures.0 c.if-has_room.true
+
+pub resize_block-requires-clause-gaps : goal.resize_block-requires-clause-gaps
+resize_block-requires-clause-gaps g c = tree-of c.args.self.now.extents.segs.items c.args.self.now.extents.index.items c.args.self.now.root.0 c.args.self.now.extents.kept c.args.self.now.gaps
+
+pub take_over-requires-clause-gaps : goal.take_over-requires-clause-gaps
+take_over-requires-clause-gaps g c = tree-of c.alloc.new.self.extents.segs.items c.alloc.new.self.extents.index.items c.alloc.new.self.root.0 c.alloc.new.self.extents.kept c.alloc.new.self.gaps
+
+pub take_over-requires-clause-sizes : goal.take_over-requires-clause-sizes
+take_over-requires-clause-sizes g c = most-of (layout_by c.alloc.new.self.extents.segs.items) c.alloc.new.self.whole
+
+pub overflow_sub-self : goal.overflow_sub-self
+overflow_sub-self g c = let less = c.take_over.ensures.count in let all = c.alloc.new.self.counted in omega (arith, less, all)
 
 pub tag_at-tag-requires : goal.tag_at-tag-requires
 tag_at-tag-requires g c = (busy-of c.args.self.now.extents.segs.items c.args.self.now.extents.index.items c.args.a.0 c.args.self.now.extents.kept c.requires.block).named
 
 pub invariant_of-self : goal.invariant_of-self
 invariant_of-self g c =
-    let h = held c.resize_there.new.extents.segs.items c.resize_there.new.extents.index.items c.resize_there.new.extents.kept (most-sized (layout_by c.args.self.now.extents.segs.items) (layout_by c.resize_there.new.extents.segs.items) (place_of c.args.a.0) c.args.size c.resize_there.ensures.layout c.requires.most (most-of (layout_by c.args.self.now.extents.segs.items) c.args.self.now.whole)) c.resize_there.ensures.merged in
-    record { sound = h.sound; whole = h.whole; merged = h.merged }
+    let h = held c.resize_block.new.extents.segs.items c.resize_block.new.extents.index.items c.resize_block.new.extents.kept (most-sized (layout_by c.args.self.now.extents.segs.items) (layout_by c.resize_block.new.extents.segs.items) (place_of c.args.a.0) c.args.size c.resize_block.ensures.layout c.requires.most (most-of (layout_by c.args.self.now.extents.segs.items) c.args.self.now.whole)) c.resize_block.ensures.merged in
+    record { sound = h.sound; whole = h.whole; merged = h.merged; gaps = ∣ c.resize_block.ensures.gaps ∣₁; counted = c.args.self.now.counted ∙ sym (sized-count (layout_by c.args.self.now.extents.segs.items) (layout_by c.resize_block.new.extents.segs.items) (place_of c.args.a.0) c.args.size c.resize_block.ensures.layout) }
 
 pub take_over-requires-clause-busy : goal.take_over-requires-clause-busy
 take_over-requires-clause-busy g c = busy-of c.alloc.new.self.extents.segs.items c.alloc.new.self.extents.index.items c.args.a.0 c.alloc.new.self.extents.kept (old-among _ (layout_by c.args.self.now.extents.segs.items) c.tag_at-tag.result c.args.size 32 c.in-Ok.to.0 false (layout_by c.alloc.new.self.extents.segs.items) c.in-Ok.ensures.answer c.in-Ok.ensures.fresh c.args.a.0 c.requires.block)
@@ -56,7 +69,7 @@ take_over-requires-clause-merged g c = merged-of (tiling c.alloc.new.self.extent
 pub invariant_of-self-in-Ok : goal.invariant_of-self-in-Ok
 invariant_of-self-in-Ok g c =
     let h = held c.take_over.new.extents.segs.items c.take_over.new.extents.index.items c.take_over.new.extents.kept (moved-most c.alloc.new.self.extents.segs.items c.alloc.new.self.extents.index.items c.args.a.0 c.alloc.new.self.extents.kept (old-among _ (layout_by c.args.self.now.extents.segs.items) c.tag_at-tag.result c.args.size 32 c.in-Ok.to.0 false (layout_by c.alloc.new.self.extents.segs.items) c.in-Ok.ensures.answer c.in-Ok.ensures.fresh c.args.a.0 c.requires.block) (layout_by c.take_over.new.extents.segs.items) (place_of c.in-Ok.to.0) c.args.size c.take_over.ensures.moved (most-of (layout_by c.alloc.new.self.extents.segs.items) c.alloc.new.self.whole)) c.take_over.ensures.merged in
-    record { sound = h.sound; whole = h.whole; merged = h.merged }
+    record { sound = h.sound; whole = h.whole; merged = h.merged; gaps = ∣ c.take_over.ensures.gaps ∣₁; counted = let less = c.take_over.ensures.count in let all = c.alloc.new.self.counted in omega (arith, less, all) }
 
 pub returns-in-Ok-clause-answer : goal.returns-in-Ok-clause-answer
 returns-in-Ok-clause-answer g c =
@@ -70,7 +83,7 @@ returns-in-Err-clause-answer g c =
     (resize-refused _ (layout_by c.args.self.now.extents.segs.items) c.args.a.0 c.args.size c.tag_at-tag.result c.args.may_move c.if-not-may_move.false c.in-Err.fault can (label-by c.args.self.now.extents.segs.items c.args.self.now.extents.index.items c.args.a.0 c.args.self.now.extents.kept c.requires.block c.tag_at-tag.result c.tag_at-tag.ensures) c.in-Err.ensures.answer.0, c.in-Err.ensures.answer.1)
 
 pub returns-then-has_room-clause-disc : goal.returns-then-has_room-clause-disc
-returns-then-has_room-clause-disc g c = Served-unasked _ _ _ _ (ap (λ (r : Layout ℕ). r.segments) c.resize_there.ensures.layout)
+returns-then-has_room-clause-disc g c = Served-unasked _ _ _ _ (ap (λ (r : Layout ℕ). r.segments) c.resize_block.ensures.layout)
 
 pub returns-in-Ok-clause-disc : goal.returns-in-Ok-clause-disc
 returns-in-Ok-clause-disc g c = Served-later _ _ _ _ _ _ (moved-segments c.alloc.new.self.extents.segs.items c.alloc.new.self.extents.index.items c.args.a.0 c.alloc.new.self.extents.kept (old-among _ (layout_by c.args.self.now.extents.segs.items) c.tag_at-tag.result c.args.size 32 c.in-Ok.to.0 false (layout_by c.alloc.new.self.extents.segs.items) c.in-Ok.ensures.answer c.in-Ok.ensures.fresh c.args.a.0 c.requires.block) (layout_by c.take_over.new.extents.segs.items) (place_of c.in-Ok.to.0) c.args.size c.take_over.ensures.moved) c.in-Ok.ensures.disc
@@ -80,7 +93,7 @@ returns-in-Err-clause-no_memory g c = λ _. (none-stays (layout_by c.args.self.n
 
 pub returns-then-has_room-clause-others : goal.returns-then-has_room-clause-others
 returns-then-has_room-clause-others g c =
-    ap (λ (r : Layout ℕ). without_block (place_of c.args.a.0) r.blocks) c.resize_there.ensures.layout
+    ap (λ (r : Layout ℕ). without_block (place_of c.args.a.0) r.blocks) c.resize_block.ensures.layout
     ∙ others-sized c.args.size (place_of c.args.a.0) (layout_by c.args.self.now.extents.segs.items).blocks
 
 pub returns-in-Ok-clause-others : goal.returns-in-Ok-clause-others
@@ -90,7 +103,7 @@ returns-in-Ok-clause-others g c =
 
 pub returns-then-has_room-clause-there : goal.returns-then-has_room-clause-there
 returns-then-has_room-clause-there g c =
-    ap (λ (r : Layout ℕ). option_map (λ b. b.label) (find_block (place_of c.args.a.0) r.blocks)) c.resize_there.ensures.layout
+    ap (λ (r : Layout ℕ). option_map (λ b. b.label) (find_block (place_of c.args.a.0) r.blocks)) c.resize_block.ensures.layout
     ∙ there-sized c.args.size (place_of c.args.a.0) (layout_by c.args.self.now.extents.segs.items).blocks
 
 pub returns-in-Ok-clause-there : goal.returns-in-Ok-clause-there
@@ -100,7 +113,7 @@ returns-in-Ok-clause-there g c =
 
 pub returns-then-has_room-clause-sized : goal.returns-then-has_room-clause-sized
 returns-then-has_room-clause-sized g c =
-    ap (λ (r : Layout ℕ). option_map (λ b. b.size) (find_block (place_of c.args.a.0) r.blocks)) c.resize_there.ensures.layout
+    ap (λ (r : Layout ℕ). option_map (λ b. b.size) (find_block (place_of c.args.a.0) r.blocks)) c.resize_block.ensures.layout
     ∙ size-sized _ _ c.args.size (place_of c.args.a.0) (layout_by c.args.self.now.extents.segs.items).blocks (stays-by c.args.self.now.extents.segs.items c.args.self.now.extents.index.items c.args.a.0 c.args.self.now.extents.kept c.requires.block c.args.size c.has_room.result (merged-of (tiling c.args.self.now.extents.segs.items) c.args.self.now.merged) c.requires.some c.has_room.ensures.0 c.has_room.ensures.1)
 
 pub returns-in-Ok-clause-sized : goal.returns-in-Ok-clause-sized

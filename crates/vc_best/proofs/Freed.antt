@@ -1,0 +1,87 @@
+-- The tree of gaps where a block is freed and becomes one with the free extents beside it.
+use Rattle.std.proofs.Common.{◌≡◌, ℕ, ◌+◌, ◌-◌, ◌<◌, List, [], ◌∷◌, ◌++◌, Some, refl, ap, sym, subst, ◌∙◌, arith}
+use Rattle.std.proofs.Math.Logic.{∥∥₁_elim}
+use Rattle.std.proofs.Math.Nat.{ℕ_set}
+use Rattle.std.proofs.Math.Bridge.{le_prop}
+use Rattle.vc_model.specs.Addr.{address, place_of}
+use Rattle.vc_seg.specs.Segment.{Bytes}
+use Rattle.vc_extent.specs.Change.{join, mark_free}
+use Rattle.vc_extent.specs.Extent.{Extent, free_extent, no_links}
+use Rattle.vc_extent.specs.Tiling.{AreExtents, IsBusy, IsFree, change_extent, extent_of, next_of, tiling}
+use Rattle.vc_gaps.specs.ButLinks.{Tiling}
+use Rattle.vc_gaps.specs.GapTree.{HasGaps}
+use Rattle.vc_gaps.proofs.Joined.{first-cons, gaps-joined}
+use Rattle.vc_gaps.proofs.Marked.{gaps-freed}
+use Rattle.vc_gaps.proofs.Named.{behind_of, extent_of-here, own-off}
+use Rattle.vc_best.specs.Beside.{GapsChange, free_before, free_name, free_next}
+use Rattle.vc_best.proofs.Known.{cut-of}
+use Rattle.vc_best.proofs.Lies.{Lies}
+use Rattle.vc_best.proofs.Nexts.{next-off}
+use Rattle.vc_best.proofs.Outs.{gaps-swap, inside-not}
+use Rattle.vc_best.proofs.Releases.{busy-free}
+
+-- nothing free is behind it
+pub gaps-unjoined : (t : Tiling) (a : ℕ) → free_next t a ≡ [] → GapsChange t t (a ∷ free_next t a) (a ∷ [])
+gaps-unjoined t a none root out h = subst (λ ns. HasGaps t root (a ∷ (ns ++ out))) none h
+
+-- two free extents become one
+module _ (old new : List Bytes) (i j : List ℕ) (k : ∥ AreExtents old i ∥₁) (l : ∥ AreExtents new j ∥₁) (a : ℕ) (y : Extent) (free : IsFree (tiling old) a) (is : tiling new ≡ change_extent a join (tiling old))
+    (next : next_of (tiling old) a ≡ Some y) where
+  abbrev whole : Extent
+  whole = free_extent (extent_of (tiling old) a).off ((extent_of (tiling old) a).span + y.span) no_links
+
+  joined-extent : extent_of (tiling new) a ≡ whole
+  joined-extent =
+      let c = first-cons (behind_of (tiling old) a) y next in
+      extent_of-here (tiling old) (tiling new) a join is whole c.0 free.named (own-off (tiling old) (tiling new) a join is) (ap (join (extent_of (tiling old) a)) c.1)
+
+  joined-span : (extent_of (tiling new) a).span ≡ (extent_of (tiling old) a).span + y.span
+  joined-span = ap (λ (x : Extent). x.span) joined-extent
+
+  pub joined-free : IsFree (tiling new) a
+  joined-free =
+      let s = joined-span in
+      let n = free.named in
+      record { named = omega arith; free = ap (λ (x : Extent). x.size) joined-extent }
+
+  wide : 0 < y.span
+  wide =
+      ∥∥₁_elim k le_prop
+      (λ h.
+      let c = cut-of old i a h free.named in
+      let f = first-cons (behind_of (tiling old) a) y next in
+      let ls : Lies (c.size - 16) ((place_of a).1 - 16) (extent_of (tiling old) a ∷ y ∷ f.0) = subst (λ (ys : List Extent). Lies (c.size - 16) ((place_of a).1 - 16) (extent_of (tiling old) a ∷ ys)) f.1 c.cut.here in
+      let least = ls.1.0.legal.least in
+      omega arith)
+
+  second-off : y.off ≡ (place_of a).1 + (extent_of (tiling old) a).span
+  second-off = ∥∥₁_elim k (hlevel (ℕ_set)) (λ h. next-off (tiling old) a (address ((place_of a).0, y.off)) y (cut-of old i a h free.named) next refl)
+
+  pub gaps-joined_next : y.size ≡ 0 → GapsChange (tiling old) (tiling new) (a ∷ free_next (tiling old) a) (a ∷ [])
+  gaps-joined_next none root out h =
+      let b : ℕ = address ((place_of a).0, y.off) in
+      let o = second-off in
+      let s = joined-span in
+      let n = free.named in
+      let w = wide in
+      let name : free_next (tiling old) a ≡ b ∷ [] = ap (free_name (place_of a).0) next ∙ rw (busy-free y none) refl in
+      let multiple = ∥∥₁_elim k (hlevel (ℕ_set)) (λ h. (cut-of old i a h free.named).cut.here.0.legal.multiple) in
+      gaps-joined (tiling old) (tiling new) root a b y out is next refl
+      (inside-not new j l a joined-free.named b y.off refl (omega arith) (omega arith) (omega arith))
+      (subst (λ ns. HasGaps (tiling old) root (a ∷ (ns ++ out))) name h)
+
+-- a block becomes free, and takes the free extent behind it
+module _ (t t1 t2 : Tiling) (a : ℕ) (is1 : t1 ≡ change_extent a mark_free t) (busy : IsBusy t a) (same : free_next t1 a ≡ free_next t a) (g2 : GapsChange t1 t2 (a ∷ free_next t1 a) (a ∷ [])) where
+  marked : (root : ℕ) (out : List ℕ) → HasGaps t root (free_next t a ++ out) → HasGaps t1 root (a ∷ (free_next t1 a ++ out))
+  marked root out h = subst (λ ns. HasGaps t1 root (a ∷ (ns ++ out))) (sym same) (gaps-freed t t1 root a (free_next t a ++ out) is1 busy h)
+
+  -- with nothing free before it
+  pub gaps-alone : free_before t a ≡ [] → GapsChange t t2 (free_before t a ++ free_next t a) (a ∷ [])
+  gaps-alone none root out h = g2 root out (marked root out (subst (λ ps. HasGaps t root ((ps ++ free_next t a) ++ out)) none h))
+
+  -- with a free one before it, which takes it
+  pub gaps-both : (t3 : Tiling) (b : ℕ) → free_before t a ≡ b ∷ [] → free_next t2 b ≡ a ∷ [] → GapsChange t2 t3 (b ∷ free_next t2 b) (b ∷ []) → GapsChange t t3 (free_before t a ++ free_next t a) (b ∷ [])
+  gaps-both t3 b before next g3 root out h =
+      let first : HasGaps t root (b ∷ (free_next t a ++ out)) = subst (λ ps. HasGaps t root ((ps ++ free_next t a) ++ out)) before h in
+      let joined : HasGaps t2 root (a ∷ (b ∷ out)) = g2 root (b ∷ out) (marked root (b ∷ out) (gaps-swap t root (b ∷ []) (free_next t a) out first)) in
+      g3 root out (subst (λ ns. HasGaps t2 root (b ∷ (ns ++ out))) (sym next) (gaps-swap t2 root (a ∷ []) (b ∷ []) out joined))

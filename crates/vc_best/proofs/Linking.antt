@@ -1,0 +1,105 @@
+-- The free extents beside one that are taken out of the tree of gaps and put into it.
+use Rattle.std.proofs.Common.{◌≡◌, ℕ, ◌<◌, List, [], ◌∷◌, ◌++◌, Bool, true, false, ◌||◌, Option, Some, None, refl, ap, sym, ◌∙◌, ⊎_elim, arith, option_map}
+use Rattle.std.proofs.Math.Bridge.{le_prop}
+use Rattle.std.proofs.Math.Logic.{∥∥₁_elim}
+use Rattle.std.proofs.Math.Nat.{ℕ_set}
+use Rattle.std.proofs.lemmas.Bool.{cases_Bool, lt-ltb, ne_eqb}
+use Rattle.vc_base.specs.Holders.{contains}
+use Rattle.vc_model.specs.Addr.{address, place_of}
+use Rattle.vc_seg.specs.Segment.{Bytes}
+use Rattle.vc_extent.specs.Change.{mark_free}
+use Rattle.vc_extent.specs.Extent.{Extent}
+use Rattle.vc_extent.specs.Tiling.{AreExtents, IsNamed, change_extent, extent_of, next_of, previous_of, tiling}
+use Rattle.vc_gaps.specs.ButLinks.{Tiling}
+use Rattle.vc_gaps.specs.GapTree.{HasGaps, IsInGaps}
+use Rattle.vc_gaps.proofs.GapTrees.{free-bool, gaps-same, in_gaps-of}
+use Rattle.vc_best.specs.Beside.{free_before, free_name, free_next}
+use Rattle.vc_best.specs.Blocks.{is_busy}
+use Rattle.vc_best.specs.Changes.{absorb}
+use Rattle.vc_best.proofs.Known.{cut-of}
+use Rattle.vc_best.proofs.Nexts.{next-extent, next-off, some-address}
+use Rattle.vc_best.proofs.Outs.{contains-append}
+use Rattle.vc_best.proofs.Releases.{busy-free, extent, lower-before}
+
+-- the name of an extent beside one
+pub name-none : (n : ℕ) (o : Option Extent) → o ≡ None → free_name n o ≡ []
+name-none n o e = ap (free_name n) e
+
+pub name-free : (n b : ℕ) (o : Option Extent) (y : Extent) → o ≡ Some y → b ≡ address (n, y.off) → y.size ≡ 0 → free_name n o ≡ b ∷ []
+name-free n b o y e value free = ap (free_name n) e ∙ rw (busy-free y free) (ap (λ z. z ∷ []) (sym value))
+
+pub name-busy : (n : ℕ) (o : Option Extent) (y : Extent) → o ≡ Some y → 0 < y.size → free_name n o ≡ []
+name-busy n o y e some = ap (free_name n) e ∙ (let yes : is_busy y ≡ true = lt-ltb 0 y.size some in rw yes refl)
+
+module _ (segs : List Bytes) (index : List ℕ) (k : ∥ AreExtents segs index ∥₁) (a : ℕ) (named : IsNamed (tiling segs) a) where
+  -- the size of the one behind and of the one before, by their addresses
+  pub next-size : (b : ℕ) (y : Extent) → next_of (tiling segs) a ≡ Some y → b ≡ address ((place_of a).0, y.off) → (extent_of (tiling segs) b).size ≡ y.size
+  next-size b y next value = ∥∥₁_elim k (hlevel (ℕ_set)) (λ h. ap (λ (x : Extent). x.size) (next-extent (tiling segs) a b y (cut-of segs index a h named) next value))
+
+  pub before-size : (b : ℕ) (p : Extent) → IsNamed (tiling segs) b → previous_of (tiling segs) a ≡ Some p → b ≡ address ((place_of a).0, p.off) → (extent_of (tiling segs) b).size ≡ p.size
+  before-size b p other prev value =
+      ∥∥₁_elim k (hlevel (ℕ_set))
+      (λ h.
+      let t1 = change_extent a mark_free (tiling segs) in
+      ap (λ (x : Extent). x.size) (extent (tiling segs) t1 (change_extent a absorb t1) a (cut-of segs index a h named) refl refl b p (cut-of segs index b h other) prev named value))
+
+  -- the names of both, where they are there
+  pub next-one : (b : ℕ) → Some b ≡ option_map (λ (e : Extent). address ((place_of a).0, e.off)) (next_of (tiling segs) a) → (extent_of (tiling segs) b).size ≡ 0 → free_next (tiling segs) a ≡ b ∷ []
+  next-one b value free =
+      let f = some-address (place_of a).0 b (next_of (tiling segs) a) value in
+      name-free (place_of a).0 b (next_of (tiling segs) a) f.0 f.1 f.2 (sym (next-size b f.0 f.1 f.2) ∙ free)
+
+  pub next-not : (b : ℕ) → Some b ≡ option_map (λ (e : Extent). address ((place_of a).0, e.off)) (next_of (tiling segs) a) → 0 < (extent_of (tiling segs) b).size → free_next (tiling segs) a ≡ []
+  next-not b value busy =
+      let f = some-address (place_of a).0 b (next_of (tiling segs) a) value in
+      let size = next-size b f.0 f.1 f.2 in
+      name-busy (place_of a).0 (next_of (tiling segs) a) f.0 f.1 (omega (arith, size, busy))
+
+  pub before-one : (b : ℕ) → IsNamed (tiling segs) b → Some b ≡ option_map (λ (e : Extent). address ((place_of a).0, e.off)) (previous_of (tiling segs) a) → (extent_of (tiling segs) b).size ≡ 0 → free_before (tiling segs) a ≡ b ∷ []
+  before-one b other value free =
+      let f = some-address (place_of a).0 b (previous_of (tiling segs) a) value in
+      name-free (place_of a).0 b (previous_of (tiling segs) a) f.0 f.1 f.2 (sym (before-size b f.0 other f.1 f.2) ∙ free)
+
+  pub before-not : (b : ℕ) → IsNamed (tiling segs) b → Some b ≡ option_map (λ (e : Extent). address ((place_of a).0, e.off)) (previous_of (tiling segs) a) → 0 < (extent_of (tiling segs) b).size → free_before (tiling segs) a ≡ []
+  before-not b other value busy =
+      let f = some-address (place_of a).0 b (previous_of (tiling segs) a) value in
+      let size = before-size b f.0 other f.1 f.2 in
+      name-busy (place_of a).0 (previous_of (tiling segs) a) f.0 f.1 (omega (arith, size, busy))
+
+  -- they are two
+  pub before-apart : (b : ℕ) (p : Extent) → IsNamed (tiling segs) b → previous_of (tiling segs) a ≡ Some p → b ≡ address ((place_of a).0, p.off) → contains (free_next (tiling segs) a) b ≡ false
+  before-apart b p other prev value = apart (next_of (tiling segs) a) refl
+    where
+      below : p.off < (place_of a).1
+      below =
+          ∥∥₁_elim k le_prop
+          (λ h.
+          let t1 = change_extent a mark_free (tiling segs) in
+          lower-before (tiling segs) t1 (change_extent a absorb t1) a (cut-of segs index a h named) refl refl b p (cut-of segs index b h other) prev named value)
+
+      apart : (o : Option Extent) → next_of (tiling segs) a ≡ o → contains (free_name (place_of a).0 o) b ≡ false
+      apart None e = refl
+      apart (Some y) e =
+          ⊎_elim
+          (λ (t : is_busy y ≡ true). rw t refl)
+          (λ (t : is_busy y ≡ false).
+          let o = ∥∥₁_elim k (hlevel (ℕ_set)) (λ h. next-off (tiling segs) a (address ((place_of a).0, y.off)) y (cut-of segs index a h named) e refl) in
+          let least = ∥∥₁_elim k le_prop (λ h. (cut-of segs index a h named).cut.here.0.legal.least) in
+          let low = below in
+          rw t (ap (λ z. z || false) (ne_eqb (address ((place_of a).0, y.off)) b (λ q. omega (arith, o, least, low, value, q)))))
+          (cases_Bool (is_busy y))
+
+-- a free extent that isn't out is in the tree
+pub in-tree : (t : Tiling) (root : ℕ) (out : List ℕ) (b : ℕ) → HasGaps t root out → IsNamed t b → (extent_of t b).size ≡ 0 → contains out b ≡ false → IsInGaps t root b
+in-tree t root out b h named free apart = in_gaps-of t root out b h (free-bool t b (record { named = named; free = free })) apart
+
+-- nothing besides is out
+or-false : (b : Bool) → b || false ≡ b
+or-false true = refl
+or-false false = refl
+
+pub gaps-whole : (t : Tiling) (root : ℕ) (xs : List ℕ) → HasGaps t root (xs ++ []) → HasGaps t root xs
+gaps-whole t root xs h = gaps-same t root (xs ++ []) xs (λ a. sym (contains-append xs [] a ∙ or-false (contains xs a))) h
+
+pub gaps-none_more : (t : Tiling) (root : ℕ) (xs : List ℕ) → HasGaps t root xs → HasGaps t root (xs ++ [])
+gaps-none_more t root xs h = gaps-same t root xs (xs ++ []) (λ a. contains-append xs [] a ∙ or-false (contains xs a)) h

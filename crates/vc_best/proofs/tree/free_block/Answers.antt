@@ -1,0 +1,68 @@
+use Rattle.std.proofs.Common.{ℕ, List, [], ◌∷◌, ◌++◌, refl, ap, sym, subst, ◌∙◌}
+use Rattle.vc_model.specs.Addr.{place_of}
+use Rattle.vc_model.specs.Best.{without_block_at}
+use Rattle.vc_model.specs.Layout.{Layout}
+use Rattle.vc_extent.specs.Tiling.{tiling}
+use Rattle.vc_gaps.specs.ButLinks.{StaysButLinks}
+use Rattle.vc_gaps.specs.GapLaws.{but_links_twice}
+use Rattle.vc_gaps.specs.GapTree.{HasGaps}
+use Rattle.vc_gaps.proofs.Ascending.{contains-head}
+use Rattle.vc_gaps.proofs.GapTrees.{can_link-out}
+use Rattle.vc_best.specs.Beside.{free_before, free_next}
+use Rattle.vc_best.proofs.Linking.{gaps-none_more}
+use Rattle.vc_best.proofs.Plain.{before_name-stays, busy-still, layout-stays, merged-stays, named-stays, next_name-stays}
+use Rattle.vc_best.proofs.tree.free_block.Given.{Over}
+use Rattle.vc_best.proofs.tree.free_block.Goals as goal
+use Rattle.vc_best.proofs.tree.free_block.Goals.{After-release-freed, After-unlink_before}
+
+pub unlink_before-requires-clause-named : goal.unlink_before-requires-clause-named
+unlink_before-requires-clause-named g c = named-stays (tiling c.args.extents.now.segs.items) (tiling c.unlink_next.new.extents.segs.items) c.unlink_next.ensures.rest.extents c.args.a.0 c.requires.busy.named
+
+pub unlink_before-requires-clause-gaps : goal.unlink_before-requires-clause-gaps
+unlink_before-requires-clause-gaps g c =
+    let t1 = tiling c.unlink_next.new.extents.segs.items in
+    subst (HasGaps t1 c.unlink_next.new.root.0) (sym (next_name-stays (tiling c.args.extents.now.segs.items) t1 c.unlink_next.ensures.rest.extents c.args.a.0)) c.unlink_next.ensures.gaps
+
+-- all but links is as it was when both are out
+rest : (g : Over) (c : After-unlink_before g) → StaysButLinks c.args.extents.now.segs.items c.unlink_before.new.extents.segs.items
+rest g c = but_links_twice c.args.extents.now.segs.items c.unlink_next.new.extents.segs.items c.unlink_before.new.extents.segs.items c.unlink_next.ensures.rest c.unlink_before.ensures.rest
+
+pub release-freed-requires-clause-busy : goal.release-freed-requires-clause-busy
+release-freed-requires-clause-busy g c =
+    busy-still (tiling c.args.extents.now.segs.items) (tiling c.unlink_before.new.extents.segs.items) (rest g (goal.at.release-freed-requires-clause-busy g c).After-unlink_before).extents c.args.a.0 c.requires.busy
+
+pub release-freed-requires-clause-merged : goal.release-freed-requires-clause-merged
+release-freed-requires-clause-merged g c =
+    merged-stays (tiling c.args.extents.now.segs.items) (tiling c.unlink_before.new.extents.segs.items) (rest g (goal.at.release-freed-requires-clause-merged g c).After-unlink_before).extents c.requires.merged
+
+-- the freed one alone is out
+freed : (g : Over) (c : After-release-freed g) → HasGaps (tiling c.release-freed.new.extents.segs.items) c.unlink_before.new.root.0 (c.release-freed.result.0 ∷ [])
+freed g c =
+    let a = c.args.a.0 in
+    let t1 = tiling c.unlink_next.new.extents.segs.items in
+    let t2 = tiling c.unlink_before.new.extents.segs.items in
+    let root = c.unlink_before.new.root.0 in
+    let same = c.unlink_before.ensures.rest.extents in
+    let before = before_name-stays t1 t2 same a in
+    let next = next_name-stays t1 t2 same a in
+    c.release-freed.ensures.gaps root []
+    (gaps-none_more t2 root (free_before t2 a ++ free_next t2 a)
+    (subst (λ (ps : List ℕ). HasGaps t2 root (ps ++ free_next t2 a)) (sym before)
+    (subst (λ (ns : List ℕ). HasGaps t2 root (free_before t1 a ++ ns)) (sym next) c.unlink_before.ensures.gaps)))
+
+pub link_gap-requires : goal.link_gap-requires
+link_gap-requires g c =
+    let a = c.release-freed.result.0 in
+    can_link-out (tiling c.release-freed.new.extents.segs.items) c.unlink_before.new.root.0 (a ∷ []) a (freed g (goal.at.link_gap-requires g c).After-release-freed) (contains-head a []) c.release-freed.ensures.free
+
+pub returns-clause-layout : goal.returns-clause-layout
+returns-clause-layout g c =
+    layout-stays c.release-freed.new.extents.segs.items c.link_gap.new.extents.segs.items c.link_gap.ensures.rest
+    ∙ c.release-freed.ensures.layout
+    ∙ ap (λ (r : Layout ℕ). without_block_at r (place_of c.args.a.0)) (layout-stays c.args.extents.now.segs.items c.unlink_before.new.extents.segs.items (rest g (goal.at.returns-clause-layout g c).After-unlink_before))
+
+pub returns-clause-merged : goal.returns-clause-merged
+returns-clause-merged g c = merged-stays (tiling c.release-freed.new.extents.segs.items) (tiling c.link_gap.new.extents.segs.items) c.link_gap.ensures.rest.extents c.release-freed.ensures.merged
+
+pub returns-clause-gaps : goal.returns-clause-gaps
+returns-clause-gaps g c = c.link_gap.ensures.linked.gaps [] (freed g (goal.at.returns-clause-gaps g c).After-release-freed) refl

@@ -1,0 +1,40 @@
+use Rattle.std.proofs.Common.{◌≤◌, ℕ, [], ap, sym, subst, ◌∙◌}
+use Rattle.vc_model.specs.Addr.{place_of}
+use Rattle.vc_model.specs.Layout.{Layout}
+use Rattle.vc_model.specs.Resize.{resize_there}
+use Rattle.vc_model.specs.Segments.{span}
+use Rattle.vc_extent.specs.Tiling.{tiling}
+use Rattle.vc_gaps.specs.GapTree.{HasGaps}
+use Rattle.vc_best.specs.Beside.{free_next}
+use Rattle.vc_best.proofs.Linking.{gaps-none_more, gaps-whole}
+use Rattle.vc_best.proofs.Plain.{busy-still, layout-stays, merged-stays, next_name-stays, room-stays}
+use Rattle.vc_best.proofs.tree.resize_block.Goals as goal
+
+pub resize_there-requires-2-clause-busy : goal.resize_there-requires-2-clause-busy
+resize_there-requires-2-clause-busy g c = busy-still (tiling c.args.extents.now.segs.items) (tiling c.unlink_next.new.extents.segs.items) c.unlink_next.ensures.rest.extents c.args.a.0 c.requires.busy
+
+pub resize_there-requires-2-clause-merged : goal.resize_there-requires-2-clause-merged
+resize_there-requires-2-clause-merged g c = merged-stays (tiling c.args.extents.now.segs.items) (tiling c.unlink_next.new.extents.segs.items) c.unlink_next.ensures.rest.extents c.requires.merged
+
+pub resize_there-requires-2-clause-room : goal.resize_there-requires-2-clause-room
+resize_there-requires-2-clause-room g c =
+    subst (λ (n : ℕ). span c.args.size ≤ n) (sym (room-stays (tiling c.args.extents.now.segs.items) (tiling c.unlink_next.new.extents.segs.items) c.unlink_next.ensures.rest.extents c.args.a.0)) c.requires.room
+
+pub link_next-requires-clause-gaps : goal.link_next-requires-clause-gaps
+link_next-requires-clause-gaps g c =
+    let a = c.args.a.0 in
+    let t1 = tiling c.unlink_next.new.extents.segs.items in
+    let t2 = tiling c.resize_there-2.new.extents.segs.items in
+    let root = c.unlink_next.new.root.0 in
+    let next = next_name-stays (tiling c.args.extents.now.segs.items) t1 c.unlink_next.ensures.rest.extents a in
+    gaps-whole t2 root (free_next t2 a)
+    (c.resize_there-2.ensures.gaps root [] (gaps-none_more t1 root (free_next t1 a) (subst (HasGaps t1 root) (sym next) c.unlink_next.ensures.gaps)))
+
+pub returns-clause-layout : goal.returns-clause-layout
+returns-clause-layout g c =
+    layout-stays c.resize_there-2.new.extents.segs.items c.link_next.new.extents.segs.items c.link_next.ensures.rest
+    ∙ c.resize_there-2.ensures.layout
+    ∙ ap (λ (r : Layout ℕ). resize_there r (place_of c.args.a.0) c.args.size) (layout-stays c.args.extents.now.segs.items c.unlink_next.new.extents.segs.items c.unlink_next.ensures.rest)
+
+pub returns-clause-merged : goal.returns-clause-merged
+returns-clause-merged g c = merged-stays (tiling c.resize_there-2.new.extents.segs.items) (tiling c.link_next.new.extents.segs.items) c.link_next.ensures.rest.extents c.resize_there-2.ensures.merged

@@ -1,0 +1,213 @@
+ghost use Rattle.std.specs.Prelude.{◌≡◌, ◌≢◌, ℕ, ◌+◌, ◌≤◌, ◌<◌, ◌%◌, List, [], ◌∷◌, ◌++◌, All, Some, filter, false};
+ghost use Rattle.vc_base.specs.Holders.{contains};
+ghost use Rattle.vc_model.specs.Addr.{address, place_of};
+ghost use Rattle.vc_model.specs.Best.{place_in, without_block_at};
+ghost use Rattle.vc_model.specs.Place.{IsAlign, holds, least};
+ghost use Rattle.vc_model.specs.Resize.{resize_there};
+ghost use Rattle.vc_model.specs.Segments.{span};
+ghost use Rattle.vc_model.specs.Touch.{HasBlock};
+ghost use Rattle.vc_blocks.specs.declared.order.Order.TheVariants.{ByAddress};
+ghost use Rattle.vc_blocks.specs.Put.{with_zeros};
+ghost use Rattle.vc_extent.specs.Tiling.{IsBusy, IsFree, IsNamed, extent_of, tiling};
+ghost use Rattle.vc_gaps.specs.ButLinks.{StaysButLinks};
+ghost use Rattle.vc_gaps.specs.Fits.{free_runs, run_at};
+ghost use Rattle.vc_gaps.specs.GapTree.{CanLinkGap, HasGaps};
+ghost use Rattle.vc_best.specs.Beside.{free_before, free_next, part_name};
+ghost use Rattle.vc_best.specs.Blocks.{layout_by};
+ghost use Rattle.vc_best.specs.Free.{IsMerged, room_of};
+
+use crate::carve::put_zeros;
+use crate::release::release;
+use crate::stay::resize_there;
+use vc_base::{Addr, Steps};
+use vc_extent::Extents;
+use vc_gaps::{link_gap, unlink_gap};
+use vc_seg::{rounded_up, span_of};
+
+// Before the bytes of free extents change these are taken out of the tree of gaps, and then those that are left are put in.
+
+/// Takes the free extent behind one, where there is one, out of the tree.
+fn unlink_next(extents: &mut Extents, root: &mut Addr, a: Addr)
+    requires named { IsNamed (tiling extents.old.segs.items) a.0 }
+    requires gaps { HasGaps (tiling extents.old.segs.items) root.old.0 [] }
+    ensures gaps { HasGaps (tiling extents.new.segs.items) root.new.0
+        (free_next (tiling extents.old.segs.items) a.0) }
+    ensures rest { StaysButLinks extents.old.segs.items extents.new.segs.items }
+{
+    let Some(next) = extents.after(a) else {
+        return;
+    };
+    if !extents.is_busy(next) {
+        *root = unlink_gap(extents, *root, next);
+    }
+}
+
+/// Takes the free extent before one, where there is one, out of a tree without the one behind.
+fn unlink_before(extents: &mut Extents, root: &mut Addr, a: Addr)
+    requires named { IsNamed (tiling extents.old.segs.items) a.0 }
+    requires gaps { HasGaps (tiling extents.old.segs.items) root.old.0
+        (free_next (tiling extents.old.segs.items) a.0) }
+    ensures gaps { HasGaps (tiling extents.new.segs.items) root.new.0
+        (free_before (tiling extents.old.segs.items) a.0
+        ++ free_next (tiling extents.old.segs.items) a.0) }
+    ensures rest { StaysButLinks extents.old.segs.items extents.new.segs.items }
+{
+    let Some(before) = extents.before(a) else {
+        return;
+    };
+    if !extents.is_busy(before) {
+        *root = unlink_gap(extents, *root, before);
+    }
+}
+
+/// Puts the free extent behind one, where there is one, into a tree without it.
+fn link_next<L>(extents: &mut Extents, root: &mut Addr, a: Addr, steps: &mut Steps<L>)
+    requires named { IsNamed (tiling extents.old.segs.items) a.0 }
+    requires gaps { HasGaps (tiling extents.old.segs.items) root.old.0
+        (free_next (tiling extents.old.segs.items) a.0) }
+    ensures gaps { HasGaps (tiling extents.new.segs.items) root.new.0 [] }
+    ensures rest { StaysButLinks extents.old.segs.items extents.new.segs.items }
+{
+    let Some(next) = extents.after(a) else {
+        return;
+    };
+    if !extents.is_busy(next) {
+        *root = link_gap(extents, *root, next, steps);
+    }
+}
+
+/// Puts the free extent from an offset of a segment up to another, where it has a byte, into a tree without it.
+fn link_part<L>(
+    extents: &mut Extents,
+    root: &mut Addr,
+    seg: u32,
+    from: u32,
+    to: u32,
+    steps: &mut Steps<L>,
+)
+    requires first { 1 ≤ seg }
+    requires last { seg ≤ 1023 }
+    requires below { from < to → from < 33554432 }
+    requires multiple { from % 32 ≡ 0 }
+    requires can { from < to
+        → CanLinkGap (tiling extents.old.segs.items) root.old.0 (address (seg, from)) }
+    ensures gaps { (out : List ℕ) → (from < to → contains out (address (seg, from)) ≡ false)
+        → HasGaps (tiling extents.old.segs.items) root.old.0 (part_name seg from to ++ out)
+        → HasGaps (tiling extents.new.segs.items) root.new.0 out }
+    ensures rest { StaysButLinks extents.old.segs.items extents.new.segs.items }
+{
+    if from < to {
+        *root = link_gap(extents, *root, Addr::new(seg, from), steps);
+    }
+}
+
+/// Puts a block of zeros into a free extent that isn't in the tree, at an offset of its segment. What is before and behind
+/// it is in the tree then. It answers the block's address.
+pub(crate) fn put_block<L>(
+    extents: &mut Extents,
+    root: &mut Addr,
+    a: Addr,
+    off: u32,
+    size: u32,
+    tag: u32,
+    steps: &mut Steps<L>,
+) -> Addr
+    requires free { IsFree (tiling extents.old.segs.items) a.0 }
+    requires some { 1 ≤ size }
+    requires most { size ≤ 16777264 }
+    requires first { (place_of a.0).1 ≤ off }
+    requires multiple { off % 32 ≡ 0 }
+    requires fits { off + span size
+        ≤ (place_of a.0).1 + (extent_of (tiling extents.old.segs.items) a.0).span }
+    requires merged { IsMerged (tiling extents.old.segs.items) }
+    requires gaps { HasGaps (tiling extents.old.segs.items) root.old.0 (a.0 ∷ []) }
+    ensures layout { layout_by extents.new.segs.items
+        ≡ with_zeros ByAddress (layout_by extents.old.segs.items) tag size ((place_of a.0).0, off) }
+    ensures merged { IsMerged (tiling extents.new.segs.items) }
+    ensures value { result.0 ≡ address ((place_of a.0).0, off) }
+    ensures gaps { HasGaps (tiling extents.new.segs.items) root.new.0 [] }
+{
+    let start = a.off();
+    let end = start + extents.span_at(a, steps);
+    let to = put_zeros(extents, a, off, size, tag, steps);
+    link_part(extents, root, a.seg(), start, off, steps);
+    link_part(extents, root, a.seg(), off + span_of(size), end, steps);
+    to
+}
+
+/// Puts a block of zeros into the least gap that holds it, at the lowest offset that the alignment divides. It answers the
+/// block's address.
+pub(crate) fn put_in_gap<L>(
+    extents: &mut Extents,
+    root: &mut Addr,
+    a: Addr,
+    size: u32,
+    align: u32,
+    tag: u32,
+    steps: &mut Steps<L>,
+) -> Addr
+    requires some { 1 ≤ size }
+    requires most { size ≤ 16777264 }
+    requires align { IsAlign align }
+    requires best { Some (run_at (tiling extents.old.segs.items) a.0)
+        ≡ least (filter (holds (span size) align) (free_runs (tiling extents.old.segs.items))) }
+    requires merged { IsMerged (tiling extents.old.segs.items) }
+    requires sizes { All (λ b. b.size ≤ 16777264) (layout_by extents.old.segs.items).blocks }
+    requires gaps { HasGaps (tiling extents.old.segs.items) root.old.0 [] }
+    ensures place { place_in (layout_by extents.old.segs.items) size align
+        ≡ Some (place_of result.0) }
+    ensures layout { layout_by extents.new.segs.items
+        ≡ with_zeros ByAddress (layout_by extents.old.segs.items) tag size (place_of result.0) }
+    ensures fresh { ¬ HasBlock (layout_by extents.old.segs.items).blocks result.0 }
+    ensures merged { IsMerged (tiling extents.new.segs.items) }
+    ensures sizes { All (λ b. b.size ≤ 16777264) (layout_by extents.new.segs.items).blocks }
+    ensures gaps { HasGaps (tiling extents.new.segs.items) root.new.0 [] }
+{
+    *root = unlink_gap(extents, *root, a);
+    let off = rounded_up(a.off(), align);
+    put_block(extents, root, a, off, size, tag, steps)
+}
+
+/// Frees the block at an address. The free extent that it then is, or is part of, is in the tree.
+pub(crate) fn free_block<L>(extents: &mut Extents, root: &mut Addr, a: Addr, steps: &mut Steps<L>)
+    requires busy { IsBusy (tiling extents.old.segs.items) a.0 }
+    requires merged { IsMerged (tiling extents.old.segs.items) }
+    requires gaps { HasGaps (tiling extents.old.segs.items) root.old.0 [] }
+    ensures layout { layout_by extents.new.segs.items
+        ≡ without_block_at (layout_by extents.old.segs.items) (place_of a.0) }
+    ensures merged { IsMerged (tiling extents.new.segs.items) }
+    ensures gaps { HasGaps (tiling extents.new.segs.items) root.new.0 [] }
+{
+    unlink_next(extents, root, a);
+    unlink_before(extents, root, a);
+    let freed = release(extents, a);
+    *root = link_gap(extents, *root, freed, steps);
+}
+
+/// Gives the block at an address another size where it is, as `resize_there` does, and keeps the tree.
+pub(crate) fn resize_block<L>(
+    extents: &mut Extents,
+    root: &mut Addr,
+    a: Addr,
+    size: u32,
+    steps: &mut Steps<L>,
+)
+    requires busy { IsBusy (tiling extents.old.segs.items) a.0 }
+    requires merged { IsMerged (tiling extents.old.segs.items) }
+    requires some { 1 ≤ size }
+    requires most { size ≤ 16777264 }
+    requires room { span size ≤ room_of (tiling extents.old.segs.items) a.0 }
+    requires gaps { HasGaps (tiling extents.old.segs.items) root.old.0 [] }
+    ensures layout { layout_by extents.new.segs.items
+        ≡ resize_there (layout_by extents.old.segs.items) (place_of a.0) size }
+    ensures merged { IsMerged (tiling extents.new.segs.items) }
+    ensures gaps { HasGaps (tiling extents.new.segs.items) root.new.0 [] }
+{
+    if span_of(size) == extents.span_at(a, steps) {
+        resize_there(extents, a, size, steps);
+        return;
+    }
+    unlink_next(extents, root, a);
+    resize_there(extents, a, size, steps);
+    link_next(extents, root, a, steps);
+}
