@@ -10,6 +10,7 @@ use Rattle.vc_model.specs.Resize.{best_resize, can_stay}
 use Rattle.vc_model.specs.Touch.{find_block, with_bytes_at}
 use Rattle.vc_model.specs.Compact.{cleared, compact_count, compacted}
 use Rattle.vc_model.specs.Walk.{by_address}
+use Rattle.vc_best.specs.Ask.{AsksForSegment}
 use Rattle.vc_audit.specs.DebugMark.{line_at, moved_marks, with_mark, without_mark}
 
 -- its best region, whose blocks hold 32 bytes of front guard, the user's bytes, and 16 bytes of back guard; and its marks
@@ -76,6 +77,10 @@ debug_alloc terms d label size refused = outcome_by (guarded d.marks size) (best
 -- the bytes of the segment that a call asks for, where it needs one
 abbrev pub debug_need : Terms → ℕ → ℕ
 debug_need terms size = best_need terms (guarded_size size) 32
+
+-- a block asks for a segment, with its guards
+abbrev pub DebugAsks : {L : Type 0} → Debug L → ℕ → Type 0
+DebugAsks d size = AsksForSegment d.best (guarded_size size) 32
 
 -- the size of the user's block at a place; 0 where there is none
 abbrev pub user_size : {L : Type 0} → Debug L → ℕ × ℕ → ℕ

@@ -1,5 +1,9 @@
+pub use Rattle.vc_model.specs.Best
+pub use Rattle.vc_model.specs.Discipline
 pub use Rattle.vc_model.specs.Gap
 pub use Rattle.vc_model.specs.Layout
 pub use Rattle.vc_model.specs.Numbers
+pub use Rattle.vc_model.specs.Outcome
+pub use Rattle.vc_model.specs.Segments
 pub use Rattle.vc_model.specs.Sound
 pub mod Maximal

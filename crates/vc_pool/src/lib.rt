@@ -6,6 +6,7 @@ mod carved;
 mod cells;
 mod count;
 mod pool;
+mod segments;
 
 pub use cells::CellLists;
 pub use pool::Pool;

@@ -3,7 +3,7 @@ ghost use Rattle.vc_model.specs.Addr.{place_of};
 ghost use Rattle.vc_model.specs.Best.{zeros};
 ghost use Rattle.vc_model.specs.Layout.{without_block};
 ghost use Rattle.vc_model.specs.Place.{IsAlign};
-ghost use Rattle.vc_region.specs.Region.{aligns, region_align, region_alloc, region_need};
+ghost use Rattle.vc_region.specs.Region.{AsksForMemory, aligns, region_align, region_alloc, region_need};
 ghost use Rattle.vc_model.specs.Touch.{HasBlock, find_block};
 ghost use Rattle.vc_seg.specs.Answer.{Answers, Asks};
 ghost use Rattle.vc_region.specs.Parts.{blocks_in, disc_in, region_of, segments_in};
@@ -14,8 +14,9 @@ use vc_seg::{BoxedDisc, RegionFault, SegDisc};
 
 impl Region {
     /// A block of zeros: 1 to 16,777,216 bytes at an offset that 32 divides, where the method puts it. Where there is no
-    /// place for it, a segment is asked for. `PoolSize` comes exactly in a pool, where the size is above the element
-    /// size. The site, of 1 to 32 bytes, is used in a profile region alone.
+    /// place for it, a segment is asked for. `OutOfMemory` comes only there, but in a pool and in a profile region, which
+    /// keep lists, at any time. `PoolSize` comes exactly in a pool, where the size is above the element size. The site,
+    /// of 1 to 32 bytes, is used in a profile region alone.
     pub fn alloc(&mut self, size: u32, tag: u32, site: &[u8]) -> Result<Addr, RegionFault>
         requires some { 1 ≤ size }
         requires most { size ≤ 16777216 }
@@ -28,6 +29,8 @@ impl Region {
         ensures disc { Asks result (disc_in state self.old) (disc_in state self.new)
             (segments_in self.old) (segments_in self.new)
             (region_need (disc_in state self.old).terms (region_of self.old) size 32) }
+        ensures no_memory { IsErrOf result RegionFault.OutOfMemory
+            → AsksForMemory (region_of self.old) size 32 }
 
         // The block has an address of its own, and the others stay.
         ensures there { IfOk result (λ a. find_block (place_of a.0) (blocks_in self.new)
@@ -71,6 +74,8 @@ impl Region {
             (region_need (disc_in state self.old).terms (region_of self.old) size align) }
         ensures no_memory { IsErrOf result RegionFault.OutOfMemory
             → IsTrue (aligns (region_of self.old)) }
+        ensures no_place { IsErrOf result RegionFault.OutOfMemory
+            → AsksForMemory (region_of self.old) size align }
 
         // The block has an address of its own, and the others stay.
         ensures there { IfOk result (λ a. find_block (place_of a.0) (blocks_in self.new)

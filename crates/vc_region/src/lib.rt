@@ -8,6 +8,7 @@ mod cells;
 mod free;
 mod region;
 mod resize;
+mod segments;
 mod walk;
 
 pub use region::Region;

@@ -2,7 +2,7 @@ ghost use Rattle.std.specs.Prelude.{◌≡◌, ◌≤◌, IfOk, IfSome, IsErrOf,
 ghost use Rattle.vc_model.specs.Addr.{place_of};
 ghost use Rattle.vc_model.specs.Layout.{without_block};
 ghost use Rattle.vc_model.specs.Pool.{pool_resize};
-ghost use Rattle.vc_region.specs.Region.{MustMove, region_need, region_resize};
+ghost use Rattle.vc_region.specs.Region.{MustMove, RegionAsks, region_need, region_resize};
 ghost use Rattle.vc_model.specs.Touch.{HasBlock, find_block};
 ghost use Rattle.vc_seg.specs.Answer.{Answers, Asks};
 ghost use Rattle.vc_pool.specs.Parts.{pool_of};
@@ -40,8 +40,8 @@ impl Region {
     /// Gives a block another size, from 1 to 16,777,216 bytes, and answers its address. It stays where it is if it can,
     /// and else moves if it may. The first bytes of both sizes are kept, and the others are zero. In a pool `PoolSize`
     /// comes where the size is above the element size, and nothing else. In a last region `NotLast` comes where the block
-    /// isn't the one allocated latest. `Fixed` comes where it can't stay and may not move; the other faults, want of
-    /// memory among them, are those of `alloc`, and come only where it moves.
+    /// isn't the one allocated latest. `Fixed` comes where it can't stay and may not move; the other faults are those of
+    /// `alloc`, and come only where it moves, `OutOfMemory` only where a segment is asked for by that.
     pub fn resize(&mut self, a: Addr, size: u32, may_move: bool) -> Result<Addr, RegionFault>
         requires block { HasBlock (blocks_in self.old) a.0 }
         requires some { 1 ≤ size }
@@ -57,6 +57,8 @@ impl Region {
         ensures no_memory { IsErrOf result RegionFault.OutOfMemory
             → IfSome (find_block (place_of a.0) (blocks_in self.old))
             (MustMove (region_of self.old) size) × IsTrue may_move }
+        ensures no_place { IsErrOf result RegionFault.OutOfMemory
+            → RegionAsks (region_of self.old) size 32 }
 
         // The block keeps its tag, and the others stay.
         ensures there { IfOk result (λ to. option_map (λ b. b.label)

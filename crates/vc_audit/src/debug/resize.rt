@@ -3,7 +3,7 @@ ghost use Rattle.vc_model.specs.Addr.{place_of};
 ghost use Rattle.vc_model.specs.Layout.{without_block};
 ghost use Rattle.vc_model.specs.Touch.{HasBlock, find_block};
 ghost use Rattle.vc_seg.specs.Answer.{Answers, Asks};
-ghost use Rattle.vc_audit.specs.Debug.{debug_need, debug_resize, stays_debug};
+ghost use Rattle.vc_audit.specs.Debug.{DebugAsks, debug_need, debug_resize, stays_debug};
 ghost use Rattle.vc_audit.specs.DebugParts.{blocks_in, debug_of, disc_in, segments_in};
 
 use crate::debug::guard::{guarded_addr, user_addr, write_zeros};
@@ -32,6 +32,8 @@ impl Debug {
         ensures no_memory { IsErrOf result RegionFault.OutOfMemory
             → IfSome (find_block (place_of a.0) (blocks_in self.old))
             (λ b. stays_debug (debug_of self.old) size b ≡ false) × IsTrue may_move }
+        ensures no_place { IsErrOf result RegionFault.OutOfMemory
+            → DebugAsks (debug_of self.old) size }
 
         // The block keeps its tag, and the others stay.
         ensures there { IfOk result (λ to. option_map (λ b. b.label)

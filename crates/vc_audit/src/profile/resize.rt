@@ -5,6 +5,7 @@ ghost use Rattle.vc_model.specs.Layout.{without_block};
 ghost use Rattle.vc_model.specs.Resize.{can_stay};
 ghost use Rattle.vc_model.specs.Touch.{HasBlock, find_block};
 ghost use Rattle.vc_seg.specs.Answer.{Answers, Asks};
+ghost use Rattle.vc_best.specs.Ask.{AsksForSegment};
 ghost use Rattle.vc_audit.specs.Profile.{profile_resize};
 ghost use Rattle.vc_audit.specs.ProfileParts.{blocks_in, disc_in, layout_in, profile_of, segments_in};
 
@@ -33,6 +34,8 @@ impl Profile {
         ensures no_memory { IsErrOf result RegionFault.OutOfMemory
             → IfSome (find_block (place_of a.0) (blocks_in self.old))
             (λ b. can_stay (layout_in self.old) size b ≡ false) × IsTrue may_move }
+        ensures no_place { IsErrOf result RegionFault.OutOfMemory
+            → AsksForSegment (layout_in self.old) size 32 }
 
         // The block keeps its tag, and the others stay.
         ensures there { IfOk result (λ to. option_map (λ b. b.label)

@@ -4,6 +4,7 @@ use Rattle.vc_model.specs.Addr.{place_of}
 use Rattle.vc_model.specs.Layout.{Block, Layout, without_block}
 use Rattle.vc_model.specs.Resize.{can_stay}
 use Rattle.vc_model.specs.Touch.{HasBlock, find_block}
+use Rattle.vc_best.specs.Ask.{AsksForSegment}
 use Rattle.vc_best.specs.Parts.{layout_of}
 use Rattle.vc_audit.specs.ProfileSites.{site_at}
 use Rattle.vc_audit.specs.ProfileSums.{IsCounted, IsHeld, row_for}
@@ -113,3 +114,8 @@ pub returns-clause-no_memory : goal.returns-clause-no_memory
 returns-clause-no_memory g c =
     let me = c.args.self.now in
     λ e. subst (λ (l : Layout ℕ). IfSome (find_block (place_of c.args.a.0) l.blocks) (λ b. can_stay l c.args.size b ≡ false) × IsTrue c.args.may_move) (sym (bare-layout me.sites.items.items (layout_of me.best))) (c.in-Err.ensures.no_memory e)
+
+pub returns-clause-no_place : goal.returns-clause-no_place
+returns-clause-no_place g c =
+    let me = c.args.self.now in
+    λ e. subst (λ (l : Layout ℕ). AsksForSegment l c.args.size 32) (sym (bare-layout me.sites.items.items (layout_of me.best))) (c.in-Err.ensures.no_place e)
