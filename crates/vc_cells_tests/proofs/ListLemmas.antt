@@ -20,8 +20,8 @@ pub sized-but : (holders : List ℕ) (b b' : Blocks) → KeepsBut holders b b' �
 sized-but holders b b' k s = sized-kept [] holders b b' (KeepsTables-but [] holders b b' k) s
 
 -- a hash that stands for nothing over whatever blocks has no table
-pub none-at : (h : DtHash) → HashFor h (λ a. None) [] → h.table.0 ≡ 0
-none-at h s = elim (eqb_tells h.table.0 0) as (λ _. h.table.0 ≡ 0) [
+pub none-at : (rules : Rules) (h : DtHash) → HashFor rules h (λ a. None) [] → h.table.0 ≡ 0
+none-at rules h s = elim (eqb_tells h.table.0 0) as (λ _. h.table.0 ≡ 0) [
   | inl same ↦ same.1
   | inr apart ↦ absurd (true≢false (sym (s.table.some apart.1).there))
 ]

@@ -1,3 +1,4 @@
 pub mod Five
 pub mod Ready
 pub mod Sorted
+pub mod OneHash

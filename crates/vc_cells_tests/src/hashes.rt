@@ -1,20 +1,56 @@
 ghost use Rattle.std.specs.Prelude.{◌≡◌, ◌∷◌, []};
 ghost use Rattle.vc_dthash.specs.Hashed.{HashFor};
 ghost use Rattle.vc_cells_tests.specs.Five.{AreSized};
+ghost use Rattle.vc_cells_tests.specs.OneHash.{one-lawful, with_one_hash};
 
 use crate::drive::Compares;
 use crate::given::{given, number, same};
 use std::alloc::Global;
+use std::cmp::Ordering;
 use std::process::Abort;
 use std::test::Fail;
-use vc_base::{Addr, Cells, Steps};
+use vc_base::{Addr, Cells, OutOfMemory, Steps};
 use vc_dtdisc::{BuiltIn, DictDisc, Shape};
 use vc_dthash::DtHash;
+
+// A kind whose keys all have one hash, so that all its holders stand in one chain.
+#[derive(Drop)]
+pub(crate) struct OneHash {
+    inner: BuiltIn,
+}
+
+impl DictDisc for OneHash {
+    ghost rules = { λ s. with_one_hash s.inner };
+
+    ghost gone = { λ s. s.inner.gone };
+
+    ghost lawful = { λ s. one-lawful s.inner };
+
+    fn key<'a>(&self, obj: &'a [u8]) -> &'a [u8] {
+        self.inner.key(obj)
+    }
+
+    fn compare<L>(&self, a: &[u8], b: &[u8], steps: &mut Steps<L>) -> Ordering {
+        self.inner.compare(a, b, steps)
+    }
+
+    fn hash(&self, _key: &[u8]) -> u64 {
+        7
+    }
+
+    fn make(&self, obj: &[u8], out: &mut Vec<u8>) -> Result<(), OutOfMemory> {
+        self.inner.make(obj, out)
+    }
+
+    fn freed(&mut self, obj: &[u8]) {
+        self.inner.freed(obj);
+    }
+}
 
 // One of 1 and 2, with the block at 4 as its table.
 fn made<C: Cells, D: DictDisc>(rt: &impl Abort, cells: &mut C, kind: &D) -> DtHash
     requires { AreSized (C.blocks cells.old) }
-    ensures hash { HashFor result (C.blocks cells.new) (1 ∷ 2 ∷ []) }
+    ensures hash { HashFor (D.rules kind.now) result (C.blocks cells.new) (1 ∷ 2 ∷ []) }
     ensures table { result.table.0 ≡ 4 }
     ensures sized { AreSized (C.blocks cells.new) }
 {
@@ -28,7 +64,7 @@ fn made<C: Cells, D: DictDisc>(rt: &impl Abort, cells: &mut C, kind: &D) -> DtHa
 
 // Its table, ends, neighbours and finds.
 fn asked<C: Cells, D: DictDisc>(rt: &impl Abort, hash: &DtHash, cells: &C, kind: &D, alloc: Global)
-    requires { HashFor hash.now (C.blocks cells.now) (1 ∷ 2 ∷ []) }
+    requires { HashFor (D.rules kind.now) hash.now (C.blocks cells.now) (1 ∷ 2 ∷ []) }
 {
     let few = hash.wants_table(30).unwrap_or(0);
     let many = hash.wants_table(31).unwrap_or(0);
@@ -46,7 +82,7 @@ fn asked<C: Cells, D: DictDisc>(rt: &impl Abort, hash: &DtHash, cells: &C, kind:
 
 // Another table, and 1 out.
 fn moved<C: Cells, D: DictDisc>(rt: &impl Abort, hash: &mut DtHash, cells: &mut C, kind: &D)
-    requires hash { HashFor hash.old (C.blocks cells.old) (1 ∷ 2 ∷ []) }
+    requires hash { HashFor (D.rules kind.now) hash.old (C.blocks cells.old) (1 ∷ 2 ∷ []) }
     requires table { hash.old.table.0 ≡ 4 }
     requires sized { AreSized (C.blocks cells.old) }
 {
@@ -62,6 +98,18 @@ fn hash_of_two(rt: HostRuntime) -> Result<(), Fail> {
     let mut cells = given(rt.alloc(), *b"abc")?;
     let first = DtHash::new().wants_table(33).unwrap_or(0);
     same(&rt, [first], [32]);
+    let mut hash = made(&rt, &mut cells, &kind);
+    asked(&rt, &hash, &cells, &kind, rt.alloc());
+    moved(&rt, &mut hash, &mut cells, &kind);
+    Ok(())
+}
+
+#[test]
+fn hash_of_one_chain(rt: HostRuntime) -> Result<(), Fail> {
+    let kind = OneHash {
+        inner: BuiltIn::new(Shape::Whole),
+    };
+    let mut cells = given(rt.alloc(), *b"abc")?;
     let mut hash = made(&rt, &mut cells, &kind);
     asked(&rt, &hash, &cells, &kind, rt.alloc());
     moved(&rt, &mut hash, &mut cells, &kind);

@@ -49,10 +49,10 @@ pub Stands-unique : (rules rules' : Rules) (d : Dict) (b : Blocks) (xs ys : List
 Stands-unique rules rules' d b xs ys s t = sym (holders-told rules d b xs s) ∙ holders-told rules' d b ys t
 
 -- a hash changed
-pub Became-hash : (rules : Rules) (d : Dict) (hash : DtHash) (b b' : Blocks) (at : ℕ) (xs ys : List ℕ) → has_table d.method ≡ true → HashTurned at xs (hash_of d) b hash b' ys → Became rules (at ∷ xs) d b (record d { first = hash.first; last = hash.last; count = hash.count }) b' ys d.current.0
+pub Became-hash : (rules : Rules) (d : Dict) (hash : DtHash) (b b' : Blocks) (at : ℕ) (xs ys : List ℕ) → has_table d.method ≡ true → HashTurned rules at xs (hash_of d) b hash b' ys → Became rules (at ∷ xs) d b (record d { first = hash.first; last = hash.last; count = hash.count }) b' ys d.current.0
 Became-hash rules d hash b b' at xs ys h t =
     let new : Dict = record d { first = hash.first; last = hash.last; count = hash.count } in
-    let stands : HashFor (hash_of new) b' ys = subst (λ z. HashFor (record hash { table = z; slots = d.slots }) b' ys) t.table (subst (λ z. HashFor (record hash { slots = z }) b' ys) t.slots t.stands) in
+    let stands : HashFor rules (hash_of new) b' ys = subst (λ z. HashFor rules (record hash { table = z; slots = d.slots }) b' ys) t.table (subst (λ z. HashFor rules (record hash { slots = z }) b' ys) t.slots t.stands) in
     record {
       stands = record {
         heads = subst (λ z. HeadsFor rules z b' ys) (sym (heads-hash new h)) stands;

@@ -1,8 +1,8 @@
 -- The heads of a dictionary by its method, and what they tell of its holders in whichever form.
-use Rattle.std.proofs.Common.{◌≡◌, ◌≢◌, ℕ, List, [], ◌∷◌, Bool, true, false, None, is_some, length, refl, sym, ap, ◌∙◌, subst}
+use Rattle.std.proofs.Common.{◌≡◌, ◌≢◌, ℕ, ◌+◌, ◌%◌, ◌≤◌, List, [], ◌∷◌, Bool, true, false, None, length, refl, sym, ap, ◌∙◌, subst}
 use Rattle.std.specs.Prelude.{◌==◌, if◌then◌else◌}
 use Rattle.std.proofs.lemmas.Bool.{eqb-true}
-use Rattle.vc_base.specs.Cells.{Blocks, bytes_at, word_at}
+use Rattle.vc_base.specs.Cells.{Blocks, word_at}
 use Rattle.vc_base.specs.Holders.{contains, first_of}
 use Rattle.vc_dtdisc.specs.Rules.{Rules}
 use Rattle.vc_dtlist.specs.declared.dt_list.DtList.{DtList}
@@ -10,9 +10,10 @@ use Rattle.vc_dtlist.specs.Linked.{CanAdd, Chain, IsIn as InList, LinksFor, Stan
 use Rattle.vc_dtlist.proofs.AddressLemmas.{AreHolders, LinksFor-holders}
 use Rattle.vc_dtlist.proofs.HolderLemmas.{apart-tail}
 use Rattle.vc_dtlist.proofs.KeptLemmas.{StandsFor-same}
+use Rattle.vc_dthash.specs.Chained.{chain_of, hash_at}
 use Rattle.vc_dthash.specs.Hashed.{CanLink as HashLink, HashFor, IsLinked as InHash}
 use Rattle.vc_dthash.specs.Slots.{wanted}
-use Rattle.vc_dthash.proofs.HashLemmas.{HashFor-holders, HashFor-kept, HashFor-same}
+use Rattle.vc_dthash.proofs.HashLemmas.{HashFor-holders, HashFor-same}
 use Rattle.vc_dtord.specs.declared.dt_ord.DtOrd.{DtOrd}
 use Rattle.vc_dtord.specs.Ordered.{CanLink as OrdLink, IsLinked as InOrd, OrdFor}
 use Rattle.vc_dtord.proofs.OrdLemmas.{OrdFor-holders, OrdFor-same}
@@ -21,7 +22,7 @@ use Rattle.vc_dict.specs.declared.heads.Heads.{Heads}
 use Rattle.vc_dict.specs.declared.heads.Heads.TheVariants.{Hash, Links, Order}
 use Rattle.vc_dict.specs.Listed.{holders_from}
 use Rattle.vc_base.specs.Methods.{has_table, is_ordered}
-use Rattle.vc_dict.specs.Stands.{CanLink, HeadsFor, IsMember, Stands, hash_of, heads_of, list_of, ord_of}
+use Rattle.vc_dict.specs.Stands.{CanLink, HeadsFor, IsMember, Stands, compares_by, hash_of, heads_of, list_of, ord_of}
 
 -- by two tests of the method
 abbrev pub heads_by : Bool → Bool → Dict → Heads
@@ -46,7 +47,7 @@ pub order-method : (d : Dict) (ord : DtOrd) → Order ord ≡ heads_of d → is_
 order-method d ord e = ordered_by (has_table d.method) (is_ordered d.method) d ord e
 
 -- what they stand for by the method
-pub as_hash : (rules : Rules) (d : Dict) (b : Blocks) (xs : List ℕ) → has_table d.method ≡ true → Stands rules d b xs → HashFor (hash_of d) b xs
+pub as_hash : (rules : Rules) (d : Dict) (b : Blocks) (xs : List ℕ) → has_table d.method ≡ true → Stands rules d b xs → HashFor rules (hash_of d) b xs
 as_hash rules d b xs h s = subst (λ z. HeadsFor rules z b xs) (heads-hash d h) s.heads
 
 pub as_ord : (rules : Rules) (d : Dict) (b : Blocks) (xs : List ℕ) → has_table d.method ≡ false → is_ordered d.method ≡ true → Stands rules d b xs → OrdFor rules (ord_of d) b xs
@@ -55,9 +56,14 @@ as_ord rules d b xs h o s = subst (λ z. HeadsFor rules z b xs) (heads-order d h
 pub as_list : (rules : Rules) (d : Dict) (b : Blocks) (xs : List ℕ) → has_table d.method ≡ false → is_ordered d.method ≡ false → Stands rules d b xs → StandsFor (list_of d) b xs
 as_list rules d b xs h o s = subst (λ z. HeadsFor rules z b xs) (heads-links d h o) s.heads
 
+-- without a table a search compares with each holder at most
+pub all-compares : (rules : Rules) (d : Dict) (b : Blocks) (key holders : List ℕ) (before after : ℕ) → has_table d.method ≡ false → after ≤ before + length holders → after ≤ before + compares_by rules d b key holders
+all-compares rules d b key holders before after h few =
+    subst (λ n. after ≤ before + n) (sym (ap (λ t. length (if t then chain_of (hash_at rules b) d.slots (rules.hash key % d.slots) holders else holders)) h)) few
+
 -- in each form they stand for holders
 pub HeadsFor-holders : (rules : Rules) (heads : Heads) (b : Blocks) (xs : List ℕ) → HeadsFor rules heads b xs → AreHolders b xs
-HeadsFor-holders rules (Hash hash) b xs s = HashFor-holders hash b xs s
+HeadsFor-holders rules (Hash hash) b xs s = HashFor-holders rules hash b xs s
 HeadsFor-holders rules (Order ord) b xs s = OrdFor-holders rules ord b xs s
 HeadsFor-holders rules (Links list) b xs s = LinksFor-holders list b xs s.links
 
@@ -71,7 +77,7 @@ links-told : (list : DtList) (b : Blocks) (xs : List ℕ) → LinksFor list b xs
 links-told list b xs l = from-told b 0 xs 0 list.first.0 l.chain l.first
 
 told_by : (t u : Bool) (rules : Rules) (d : Dict) (b : Blocks) (xs : List ℕ) → HeadsFor rules (heads_by t u d) b xs → holders_from b (length xs) d.first.0 ≡ xs
-told_by true u rules d b xs s = links-told (list_of d) b xs s.list.links
+told_by true u rules d b xs s = links-told (list_of d) b xs s.links
 told_by false true rules d b xs s = links-told (list_of d) b xs s.list.links
 told_by false false rules d b xs s = links-told (list_of d) b xs s.links
 
@@ -80,7 +86,7 @@ heads-told rules d b xs s = told_by (has_table d.method) (is_ordered d.method) r
 
 -- and they stand for these still where what is at their addresses stays, and at the table's
 same_by : (t u : Bool) (rules : Rules) (d : Dict) (old new : Blocks) (xs : List ℕ) → ((a : ℕ) → contains xs a ≡ true → new a ≡ old a) → (d.table.0 ≢ 0 → new d.table.0 ≡ old d.table.0) → HeadsFor rules (heads_by t u d) old xs → HeadsFor rules (heads_by t u d) new xs
-same_by true u rules d old new xs e table s = HashFor-same (hash_of d) old new xs e table s
+same_by true u rules d old new xs e table s = HashFor-same rules (hash_of d) old new xs e table s
 same_by false true rules d old new xs e table s = OrdFor-same rules (ord_of d) old new xs e s
 same_by false false rules d old new xs e table s = StandsFor-same (list_of d) old new xs e s
 
@@ -91,21 +97,8 @@ Stands-stays rules d old new xs e table s = record {
   plain = s.plain;
 }
 
--- or where of the table the size stays
-sized_by : (t u : Bool) (rules : Rules) (d : Dict) (old new : Blocks) (xs : List ℕ) → ((a : ℕ) → contains xs a ≡ true → new a ≡ old a) → ((a : ℕ) → is_some (new a) ≡ is_some (old a)) → ((a : ℕ) → length (bytes_at new a) ≡ length (bytes_at old a)) → HeadsFor rules (heads_by t u d) old xs → HeadsFor rules (heads_by t u d) new xs
-sized_by true u rules d old new xs e there sizes s = HashFor-kept (hash_of d) old new xs e there sizes s
-sized_by false true rules d old new xs e there sizes s = OrdFor-same rules (ord_of d) old new xs e s
-sized_by false false rules d old new xs e there sizes s = StandsFor-same (list_of d) old new xs e s
-
-pub Stands-sized : (rules : Rules) (d : Dict) (old new : Blocks) (xs : List ℕ) → ((a : ℕ) → contains xs a ≡ true → new a ≡ old a) → ((a : ℕ) → is_some (new a) ≡ is_some (old a)) → ((a : ℕ) → length (bytes_at new a) ≡ length (bytes_at old a)) → Stands rules d old xs → Stands rules d new xs
-Stands-sized rules d old new xs e there sizes s = record {
-  heads = sized_by (has_table d.method) (is_ordered d.method) rules d old new xs e there sizes s.heads;
-  count = s.count;
-  plain = s.plain;
-}
-
 -- one may join it in its form
-pub CanLink-hash : (rules : Rules) (d : Dict) (b : Blocks) (at : ℕ) (append : Bool) → has_table d.method ≡ true → CanLink rules d b at append → HashLink (hash_of d) b at
+pub CanLink-hash : (rules : Rules) (d : Dict) (b : Blocks) (at : ℕ) (append : Bool) → has_table d.method ≡ true → CanLink rules d b at append → HashLink rules (hash_of d) b at
 CanLink-hash rules d b at append h r = record {
   holders = r.holders;
   stands = as_hash rules d b r.holders h r.stands;
@@ -143,7 +136,7 @@ current-in rules d b at append h o r ne = record {
 
 -- one of it is in its form
 pub IsMember-hash : (rules : Rules) (d : Dict) (b : Blocks) (at : ℕ) → has_table d.method ≡ true → IsMember rules d b at → InHash (hash_of d) b at
-IsMember-hash rules d b at h m = record { holders = m.holders; stands = as_hash rules d b m.holders h m.stands; within = m.within }
+IsMember-hash rules d b at h m = record { rules = rules; holders = m.holders; stands = as_hash rules d b m.holders h m.stands; within = m.within }
 
 pub IsMember-ord : (rules : Rules) (d : Dict) (b : Blocks) (at : ℕ) → has_table d.method ≡ false → is_ordered d.method ≡ true → IsMember rules d b at → InOrd (ord_of d) b at
 IsMember-ord rules d b at h o m = record { rules = rules; holders = m.holders; stands = as_ord rules d b m.holders h o m.stands; within = m.within }

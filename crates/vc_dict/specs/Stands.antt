@@ -1,5 +1,5 @@
 -- Which holders a dictionary stands for.
-use Rattle.std.specs.Prelude.{◌≡◌, ◌≢◌, ℕ, Bool, List, [], ◌∷◌, None, true, false, length, if◌then◌else◌}
+use Rattle.std.specs.Prelude.{◌≡◌, ◌≢◌, ℕ, ◌%◌, Bool, List, [], ◌∷◌, None, true, false, length, if◌then◌else◌}
 use Rattle.vc_base.specs.Cells.{Blocks, IsHolder}
 use Rattle.vc_base.specs.Holders.{contains}
 use Rattle.vc_dtdisc.specs.Finds.{find_key, object_at}
@@ -8,6 +8,7 @@ use Rattle.vc_dtlist.specs.declared.dt_list.DtList.{DtList}
 use Rattle.vc_dtlist.specs.Kept.{KeepsTables}
 use Rattle.vc_dtlist.specs.Linked.{StandsFor}
 use Rattle.vc_dthash.specs.declared.dt_hash.DtHash.{DtHash}
+use Rattle.vc_dthash.specs.Chained.{chain_of, hash_at}
 use Rattle.vc_dthash.specs.Hashed.{HashFor, IsTable}
 use Rattle.vc_dtord.specs.declared.dt_ord.DtOrd.{DtOrd}
 use Rattle.vc_dtord.specs.Ordered.{OrdFor}
@@ -42,9 +43,15 @@ heads_of dict =
 
 -- heads stand for these holders in their own form
 abbrev pub HeadsFor : Rules → Heads → Blocks → List ℕ → Type 0
-HeadsFor rules (Hash hash) blocks holders = HashFor hash blocks holders
+HeadsFor rules (Hash hash) blocks holders = HashFor rules hash blocks holders
 HeadsFor rules (Order ord) blocks holders = OrdFor rules ord blocks holders
 HeadsFor rules (Links list) blocks holders = StandsFor list blocks holders
+
+-- they do so for some holders, by some kind's rules
+pub record AreHeads (heads : Heads) (blocks : Blocks) : Type 0 where
+  pub rules : Rules
+  pub holders : List ℕ
+  pub stands : HeadsFor rules heads blocks holders
 
 -- neither a table nor slots
 pub record HasNoTable (dict : Dict) : Type 0 where
@@ -56,6 +63,16 @@ pub record Stands (rules : Rules) (dict : Dict) (blocks : Blocks) (holders : Lis
   pub heads : HeadsFor rules (heads_of dict) blocks holders
   pub count : dict.count ≡ length holders
   pub plain : has_table dict.method ≡ false → HasNoTable dict
+
+-- so many compares does a search for a key make at most: one for each holder of the key's slot in a set or bag, and else
+-- one for each holder
+abbrev pub compares_by : Rules → Dict → Blocks → List ℕ → List ℕ → ℕ
+compares_by rules dict blocks key holders =
+    length (
+    if has_table dict.method
+    then chain_of (hash_at rules blocks) dict.slots (rules.hash key % dict.slots) holders
+    else holders
+    )
 
 -- it stands for some holders
 pub record IsDict (rules : Rules) (dict : Dict) (blocks : Blocks) : Type 0 where

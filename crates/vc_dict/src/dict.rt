@@ -4,13 +4,14 @@ ghost use Rattle.vc_base.specs.Cells.{Blocks, IsHolder};
 ghost use Rattle.vc_base.specs.Holders.{contains, first_in, last_in, next_in, previous_in, without};
 ghost use Rattle.vc_dtdisc.specs.Finds.{find_key};
 ghost use Rattle.vc_dtdisc.specs.Rules.{Rules};
-ghost use Rattle.vc_dtlist.specs.Linked.{Finds, number_of};
+ghost use Rattle.vc_dtlist.specs.Linked.{Finds, StandsFor, number_of};
+ghost use Rattle.vc_dthash.specs.Hashed.{CanChain, ChainedUp};
 ghost use Rattle.vc_dtord.specs.Ordered.{placed};
 ghost use Rattle.vc_base.specs.Methods.{has_table, is_ordered};
 ghost use Rattle.vc_dict.specs.Methods.{slots_between, wanted_by};
 ghost use Rattle.vc_dict.specs.Changes.{before_current, behind_current, current_without, inserted, linked, removed};
 ghost use Rattle.vc_dict.specs.Turned.{CanRemethod, Remethoded, Unchanged, behind_dropped};
-ghost use Rattle.vc_dict.specs.Stands.{Adopted, Became, CanAdopt, CanLink, HeadsFor, IsDict, IsIn, IsKept, IsMember, Stands, hash_of, heads_of, list_of, ord_of};
+ghost use Rattle.vc_dict.specs.Stands.{Adopted, Became, CanAdopt, CanLink, HeadsFor, IsDict, IsIn, IsKept, IsMember, Stands, compares_by, hash_of, heads_of, list_of, ord_of};
 
 use crate::heads::Heads;
 use crate::pass::{order_by, weed_by};
@@ -325,8 +326,31 @@ impl Dict {
         found
     }
 
-    /// The first holder whose object has that key, by at most as many compares as there are holders; none where no
-    /// object has it. It isn't made current. After Cdt's dtsearch and dtmatch.
+    // Finds in a set or bag.
+    fn find_hash<C: Cells, D: DictDisc, L>(
+        &self,
+        cells: &C,
+        kind: &D,
+        key: &[u8],
+        steps: &mut Steps<L>,
+    ) -> Option<Addr>
+        requires dict { IsDict (D.rules kind.now) self.now (C.blocks cells.now) }
+        requires method { has_table self.now.method ≡ true }
+        ensures found { (holders : List ℕ)
+            → Stands (D.rules kind.now) self.now (C.blocks cells.now) holders
+            → Finds (D.rules kind.now) (C.blocks cells.now) key.now holders result
+            steps.old steps.new }
+        ensures compares { (holders : List ℕ)
+            → Stands (D.rules kind.now) self.now (C.blocks cells.now) holders
+            → steps.new ≤ steps.old
+            + compares_by (D.rules kind.now) self.now (C.blocks cells.now) key.now holders }
+    {
+        self.hash().find(cells, kind, key, steps)
+    }
+
+    /// The first holder whose object has that key, or none where no object has it. A set or bag makes at most as many
+    /// compares as there are holders whose hash belongs to the key's slot, any other at most as many as there are holders.
+    /// It isn't made current. After Cdt's dtsearch and dtmatch.
     pub fn find<C: Cells, D: DictDisc, L>(
         &mut self,
         cells: &mut C,
@@ -339,16 +363,22 @@ impl Dict {
             → Stands (D.rules kind.now) self.old (C.blocks cells.old) holders
             → Finds (D.rules kind.now) (C.blocks cells.old) key.now holders result
             steps.old steps.new }
+        ensures compares { (holders : List ℕ)
+            → Stands (D.rules kind.now) self.old (C.blocks cells.old) holders
+            → steps.new ≤ steps.old
+            + compares_by (D.rules kind.now) self.old (C.blocks cells.old) key.now holders }
         ensures dict { (holders : List ℕ)
             → Stands (D.rules kind.now) self.old (C.blocks cells.old) holders
             → Became (D.rules kind.now) holders self.old (C.blocks cells.old) self.new
             (C.blocks cells.new) holders self.old.current.0 }
         ensures rest { C.RestStays cells.old cells.new }
     {
-        match self.heads() {
-            Heads::Hash(hash) => hash.find(cells, kind, key, steps),
-            Heads::Order(_) => self.find_ord(cells, kind, key, steps),
-            Heads::Links(list) => list.find(cells, kind, key, steps),
+        if self.method.has_table() {
+            self.find_hash(cells, kind, key, steps)
+        } else if self.method.is_ordered() {
+            self.find_ord(cells, kind, key, steps)
+        } else {
+            self.list().find(cells, kind, key, steps)
         }
     }
 
@@ -571,6 +601,21 @@ impl Dict {
         left
     }
 
+    // Puts the holders of the list into the chains of the table, where the method has one.
+    fn chain_up<C: Cells, D: DictDisc>(&self, cells: &mut C, kind: &D)
+        requires { has_table self.now.method ≡ true → CanChain (hash_of self.now) (C.blocks cells.old) }
+        ensures hash { has_table self.now.method ≡ true → (holders : List ℕ)
+            → StandsFor (list_of self.now) (C.blocks cells.old) holders
+            → ChainedUp (D.rules kind.now) (hash_of self.now) holders (C.blocks cells.old)
+            (C.blocks cells.new) }
+        ensures same { has_table self.now.method ≡ false → C.blocks cells.new ≡ C.blocks cells.old }
+        ensures rest { C.RestStays cells.old cells.new }
+    {
+        if self.method.has_table() {
+            self.hash().chain_up(cells, kind);
+        }
+    }
+
     // Turns it to another method.
     fn change<C: Cells, D: DictDisc, L>(
         &mut self,
@@ -589,9 +634,11 @@ impl Dict {
             (C.blocks cells.old) self.new (C.blocks cells.new) result }
         ensures rest { C.RestStays cells.old cells.new }
     {
-        let ordered = order_by(self.heads().list(), self.count, method, cells, kind, steps);
+        let list = self.heads().into_list(cells);
+        let ordered = order_by(list, self.count, method, cells, kind, steps);
         let weeded = weed_by(ordered, self.count, method, cells, kind, steps);
         let left = self.turn(method, weeded.kept, weeded.count, table, slots);
+        self.chain_up(cells, kind);
         Dropped {
             first: weeded.dropped.first,
             table: left,

@@ -1,9 +1,9 @@
 ghost use Rattle.std.specs.Prelude.{ℕ, List};
-ghost use Rattle.vc_base.specs.Cells.{Blocks};
 ghost use Rattle.vc_dtdisc.specs.Rules.{Rules};
-ghost use Rattle.vc_dtlist.specs.Linked.{StandsFor};
-ghost use Rattle.vc_dict.specs.Stands.{HeadsFor};
+ghost use Rattle.vc_dthash.specs.Hashed.{Listed};
+ghost use Rattle.vc_dict.specs.Stands.{AreHeads, HeadsFor};
 
+use vc_base::Cells;
 use vc_dthash::DtHash;
 use vc_dtlist::DtList;
 use vc_dtord::DtOrd;
@@ -21,15 +21,15 @@ pub(crate) enum Heads {
 
 impl Heads {
     // Their holders as a list.
-    pub(crate) fn list(self) -> DtList
-        ensures { (rules : Rules) (blocks : Blocks) (holders : List ℕ)
-            → HeadsFor rules self blocks holders → StandsFor result blocks holders }
+    pub(crate) fn into_list<C: Cells>(self, cells: &mut C) -> DtList
+        requires { AreHeads self (C.blocks cells.old) }
+        ensures list { (rules : Rules) (holders : List ℕ)
+            → HeadsFor rules self (C.blocks cells.old) holders
+            → Listed holders (C.blocks cells.old) result (C.blocks cells.new) }
+        ensures rest { C.RestStays cells.old cells.new }
     {
         match self {
-            Heads::Hash(hash) => DtList {
-                first: hash.first,
-                last: hash.last,
-            },
+            Heads::Hash(hash) => hash.into_list(cells),
             Heads::Order(ord) => DtList {
                 first: ord.first,
                 last: ord.last,

@@ -2,19 +2,25 @@ ghost use Rattle.std.specs.Prelude.{◌≡◌, ℕ, List, [], ◌∷◌, ◌++�
 ghost use Rattle.std.specs.Option.{option_map};
 ghost use Rattle.vc_base.specs.Cells.{Blocks};
 ghost use Rattle.vc_base.specs.Holders.{first_in, last_in, next_in, previous_in, without};
-ghost use Rattle.vc_dtlist.specs.Linked.{Finds, number_of};
-ghost use Rattle.vc_dthash.specs.Hashed.{Adopts, CanAdopt, CanLink, HashFor, HashTurns, IsHash, IsLinked, list_of};
+ghost use Rattle.vc_dtdisc.specs.Rules.{Rules};
+ghost use Rattle.vc_dtlist.specs.Linked.{StandsFor, number_of};
+ghost use Rattle.vc_dthash.specs.Chained.{FindsInSlot};
+ghost use Rattle.vc_dthash.specs.Hashed.{Adopts, CanAdopt, CanChain, CanLink, ChainedUp, HashFor, HashTurns, IsHash, IsKept, IsLinked, Listed, list_of};
 ghost use Rattle.vc_dthash.specs.Slots.{most_slots, slots_for, wanted};
 
+use crate::chains::{clear, fill, free_all, hash_all, head, is_found, point, seek_before, slot_of};
 use vc_base::{Addr, Cells, Steps};
 use vc_dtdisc::DictDisc;
-use vc_dtlist::DtList;
+use vc_dtlist::{DtList, found, neighbour, set_word};
 
 /// The most slots of a table.
 const MOST_SLOTS: u32 = 2_097_152;
 
 /// A set or bag of holders in order of insertion, and its table: a block of 8 bytes for each slot, or `Addr::NONE` with
-/// no slots. It allocates nothing, and none of its calls can fail. This project's own layout.
+/// no slots. Words 0 and 1 of each holder are the addresses of those before and behind it, `Addr::NONE` at the ends. Word
+/// 3 is the hash of its key, and the hash modulo the number of slots is its slot. A slot is the address of the first
+/// holder of its chain, or `Addr::NONE`, and word 2 of a holder that of the next one there; a chain stands in order of
+/// insertion. It allocates nothing, and none of its calls can fail. This project's own layout.
 #[derive(Clone, Copy, Debug, PartialEq, Eq)]
 pub struct DtHash {
     /// The first holder.
@@ -46,7 +52,7 @@ fn slots_for(objects: u64) -> u32
 impl DtHash {
     /// No holders and no table.
     pub fn new() -> DtHash
-        ensures { (blocks : Blocks) → HashFor result blocks [] }
+        ensures { (rules : Rules) (blocks : Blocks) → HashFor rules result blocks [] }
     {
         DtHash {
             first: Addr::NONE,
@@ -98,13 +104,15 @@ impl DtHash {
         table: Addr,
         slots: u32,
     ) -> Addr
-        requires { CanAdopt self.old (C.blocks cells.old) table.0 slots }
+        requires { CanAdopt (D.rules kind.now) self.old (C.blocks cells.old) table.0 slots }
         ensures old { result ≡ self.old.table }
-        ensures hash { Adopts table.0 slots self.old (C.blocks cells.old) self.new
+        ensures hash { Adopts (D.rules kind.now) table.0 slots self.old (C.blocks cells.old) self.new
             (C.blocks cells.new) }
         ensures rest { C.RestStays cells.old cells.new }
     {
         let old = self.table;
+        clear(cells, table, slots);
+        fill(self.list(), self.count, cells, table, slots);
         self.table = table;
         self.slots = slots;
         old
@@ -120,16 +128,52 @@ impl DtHash {
         }
     }
 
+    /// Its holders as a list: words 2 and 3 of each are 0 then, and its table no longer leads to them.
+    pub fn into_list<C: Cells>(self, cells: &mut C) -> DtList
+        requires { IsKept self (C.blocks cells.old) }
+        ensures list { (rules : Rules) (holders : List ℕ)
+            → HashFor rules self (C.blocks cells.old) holders
+            → Listed holders (C.blocks cells.old) result (C.blocks cells.new) }
+        ensures rest { C.RestStays cells.old cells.new }
+    {
+        free_all(self.list(), self.count, cells);
+        self.list()
+    }
+
+    /// Puts the holders of a list that has these ends into the chains of this table, of which it may find anything. The
+    /// table has room for them as in `adopt_table`, or there is none of either.
+    pub fn chain_up<C: Cells, D: DictDisc>(self, cells: &mut C, kind: &D)
+        requires { CanChain self (C.blocks cells.old) }
+        ensures chained { (holders : List ℕ)
+            → StandsFor (list_of self) (C.blocks cells.old) holders
+            → ChainedUp (D.rules kind.now) self holders (C.blocks cells.old) (C.blocks cells.new) }
+        ensures rest { C.RestStays cells.old cells.new }
+    {
+        hash_all(self.list(), self.count, cells, kind);
+        if self.table == Addr::NONE {
+            return;
+        }
+        clear(cells, self.table, self.slots);
+        fill(self.list(), self.count, cells, self.table, self.slots);
+    }
+
     /// Puts a holder at the end. It has at least 33 bytes and is neither in the list nor the table, and `wants_table(1)`
     /// is none.
     pub fn link<C: Cells, D: DictDisc>(&mut self, cells: &mut C, kind: &D, at: Addr)
-        requires { CanLink self.old (C.blocks cells.old) at.0 }
-        ensures hash { HashTurns at.0 self.old (C.blocks cells.old) self.new (C.blocks cells.new)
+        requires { CanLink (D.rules kind.now) self.old (C.blocks cells.old) at.0 }
+        ensures hash { HashTurns (D.rules kind.now) at.0 self.old (C.blocks cells.old) self.new
+            (C.blocks cells.new)
             (λ xs. xs ++ at.0 ∷ []) }
         ensures rest { C.RestStays cells.old cells.new }
     {
+        let hash = kind.hash(kind.key(cells.body(at)));
+        let k = slot_of(hash, self.slots);
+        let before = seek_before(cells, self.table, k, self.count, Addr::NONE);
+        set_word(cells, at, 2, 0);
+        set_word(cells, at, 3, hash);
+        point(cells, self.table, k, before, at);
         let mut list = self.list();
-        list.push_back(cells, at);
+        list.join_back(cells, at);
         self.first = list.first;
         self.last = list.last;
         self.count += 1;
@@ -138,19 +182,24 @@ impl DtHash {
     /// Takes a holder of the list out. It keeps its bytes behind the words.
     pub fn unlink<C: Cells, D: DictDisc>(&mut self, cells: &mut C, kind: &D, at: Addr)
         requires { IsLinked self.old (C.blocks cells.old) at.0 }
-        ensures hash { HashTurns at.0 self.old (C.blocks cells.old) self.new (C.blocks cells.new)
+        ensures hash { HashTurns (D.rules kind.now) at.0 self.old (C.blocks cells.old) self.new
+            (C.blocks cells.new)
             (without at.0) }
         ensures rest { C.RestStays cells.old cells.new }
     {
+        let k = slot_of(cells.load(at, 3), self.slots);
+        let behind = neighbour(cells, at, 2);
+        let before = seek_before(cells, self.table, k, self.count, at);
+        point(cells, self.table, k, before, behind);
         let mut list = self.list();
-        list.unlink(cells, at);
+        list.part(cells, at);
         self.first = list.first;
         self.last = list.last;
         self.count -= 1;
     }
 
-    /// The first holder whose object has that key, by at most as many compares as there are holders; none where no
-    /// object has it.
+    /// The first holder whose object has that key, or none where no object has it, by at most as many compares as there
+    /// are holders whose hash belongs to the key's slot: the hash modulo the number of slots.
     pub fn find<C: Cells, D: DictDisc, L>(
         &self,
         cells: &C,
@@ -158,45 +207,64 @@ impl DtHash {
         key: &[u8],
         steps: &mut Steps<L>,
     ) -> Option<Addr>
-        requires { IsHash self.now (C.blocks cells.now) }
-        ensures { (holders : List ℕ) → HashFor self.now (C.blocks cells.now) holders
-            → Finds (D.rules kind.now) (C.blocks cells.now) key.now holders result
-            steps.old steps.new }
+        requires { IsHash (D.rules kind.now) self.now (C.blocks cells.now) }
+        ensures { (holders : List ℕ)
+            → HashFor (D.rules kind.now) self.now (C.blocks cells.now) holders
+            → FindsInSlot (D.rules kind.now) self.now.slots (C.blocks cells.now) key.now holders
+            result steps.old steps.new }
     {
-        self.list().find(cells, kind, key, steps)
+        if self.slots == 0 {
+            return None;
+        }
+        let hash = kind.hash(key);
+        let mut at = head(cells, self.table, slot_of(hash, self.slots));
+        for _passed in 0..self.count {
+            if at == Addr::NONE {
+                return None;
+            }
+            if is_found(cells, kind, at, hash, key, steps) {
+                return Some(at);
+            }
+            at = neighbour(cells, at, 2);
+        }
+        None
     }
 
     /// The first holder, or none where there are none.
     pub fn first(&self) -> Option<Addr>
-        ensures { (blocks : Blocks) (holders : List ℕ) → HashFor self.now blocks holders
+        ensures { (rules : Rules) (blocks : Blocks) (holders : List ℕ)
+            → HashFor rules self.now blocks holders
             → option_map number_of result ≡ first_in holders }
     {
-        self.list().first()
+        found(self.first)
     }
 
     /// The last holder, or none where there are none.
     pub fn last(&self) -> Option<Addr>
-        ensures { (blocks : Blocks) (holders : List ℕ) → HashFor self.now blocks holders
+        ensures { (rules : Rules) (blocks : Blocks) (holders : List ℕ)
+            → HashFor rules self.now blocks holders
             → option_map number_of result ≡ last_in holders }
     {
-        self.list().last()
+        found(self.last)
     }
 
     /// The holder behind one of the list, or none behind the last.
     pub fn next<C: Cells>(&self, cells: &C, at: Addr) -> Option<Addr>
         requires { IsLinked self.now (C.blocks cells.now) at.0 }
-        ensures { (holders : List ℕ) → HashFor self.now (C.blocks cells.now) holders
+        ensures { (rules : Rules) (holders : List ℕ)
+            → HashFor rules self.now (C.blocks cells.now) holders
             → option_map number_of result ≡ next_in at.0 holders }
     {
-        self.list().next(cells, at)
+        found(neighbour(cells, at, 1))
     }
 
     /// The holder before one of the list, or none before the first.
     pub fn prev<C: Cells>(&self, cells: &C, at: Addr) -> Option<Addr>
         requires { IsLinked self.now (C.blocks cells.now) at.0 }
-        ensures { (holders : List ℕ) → HashFor self.now (C.blocks cells.now) holders
+        ensures { (rules : Rules) (holders : List ℕ)
+            → HashFor rules self.now (C.blocks cells.now) holders
             → option_map number_of result ≡ previous_in None at.0 holders }
     {
-        self.list().prev(cells, at)
+        found(neighbour(cells, at, 0))
     }
 }

@@ -1,6 +1,8 @@
-//! Sets and bags of holders in order of insertion, with the count of their objects and a table of slots for chains.
+//! Sets and bags of holders in order of insertion, with the count of their objects, and a table with chains
+//! of those whose hashes belong to one slot.
 #![tactic(auto)]
 
+mod chains;
 mod dt_hash;
 mod rows;
 

@@ -2,7 +2,8 @@
 use Rattle.std.proofs.Common.{◌≡◌, ◌≢◌, ℕ, List, [], ◌∷◌, ◌++◌, false, refl, ◌∙◌, arith}
 use Rattle.vc_base.specs.Cells.{Blocks, WordWritten, WordsWritten}
 use Rattle.vc_base.specs.Holders.{AreDistinct, contains, first_of, last_of}
-use Rattle.vc_dtlist.specs.Linked.{Chain, HasLinks}
+use Rattle.vc_dtlist.specs.declared.dt_list.DtList.{DtList}
+use Rattle.vc_dtlist.specs.Linked.{Chain, HasLinks, LinksFor}
 use Rattle.vc_dtlist.proofs.WordLemmas.{HasBytes-written, word-other_block}
 use Rattle.vc_dtlist.proofs.HolderLemmas.{apart-head, apart-tail, apart-cons, last-differs, first_of-append}
 
@@ -38,6 +39,15 @@ pub Chain-other : (old new : Blocks) (a p : ℕ) (xs : List ℕ) (n : ℕ) → W
 Chain-other old new a p [] n w h c = tt
 Chain-other old new a p (x ∷ xs) n w h c =
     (HasLinks-other old new a x p (first_of xs n) w (apart-head x xs a h) c.0, Chain-other old new a x xs n w (apart-tail x xs a h) c.1)
+
+-- and so do linked holders
+pub LinksFor-other : (old new : Blocks) (a : ℕ) (list : DtList) (xs : List ℕ) → WordsWritten old new a → contains xs a ≡ false → LinksFor list old xs → LinksFor list new xs
+LinksFor-other old new a list xs w h l = record {
+  first = l.first;
+  last = l.last;
+  chain = Chain-other old new a 0 xs 0 w h l.chain;
+  distinct = l.distinct;
+}
 
 -- with another behind its last holder
 pub Chain-next : (old new : Blocks) (p x : ℕ) (xs : List ℕ) (n v : ℕ) → WordWritten old new (last_of x xs) 1 v → AreDistinct (x ∷ xs) → Chain old p (x ∷ xs) n → Chain new p (x ∷ xs) v

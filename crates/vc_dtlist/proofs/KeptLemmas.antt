@@ -1,10 +1,10 @@
 -- A list over blocks of which none of its holders changed, as those that a call on another list left.
-use Rattle.std.proofs.Common.{◌≡◌, ℕ, List, [], ◌∷◌, inl, inr, true, false, unwrap_or, is_some, length, refl, ap, ◌∙◌}
+use Rattle.std.proofs.Common.{◌≡◌, ℕ, ◌<◌, List, [], ◌∷◌, inl, inr, true, false, unwrap_or, is_some, length, refl, ap, ◌∙◌, arith}
 use Rattle.std.specs.Prelude.{All}
 use Rattle.std.proofs.lemmas.Bool.{eq-eqb}
 use Rattle.std.proofs.lemmas.Bool.Decides.{eqb_tells}
 use Rattle.std.proofs.lemmas.List.Elements.{All-cons, All-head, All-nil, All-tail}
-use Rattle.vc_base.specs.Cells.{Blocks, HasBytes, word}
+use Rattle.vc_base.specs.Cells.{Blocks, HasBytes, bytes_at, word, word_at}
 use Rattle.vc_base.specs.Holders.{KeepsBut, contains, first_of}
 use Rattle.vc_dtlist.specs.declared.dt_list.DtList.{DtList}
 use Rattle.vc_dtlist.specs.Kept.{KeepsTables}
@@ -46,6 +46,30 @@ LinksFor-same list old new xs e l = record {
   first = l.first;
   last = l.last;
   chain = Chain-same old new 0 xs 0 e l.chain;
+  distinct = l.distinct;
+}
+
+-- so are those whose links stay alone
+HasLinks-kept : (old new : Blocks) (x p n : ℕ) → is_some (new x) ≡ is_some (old x) → length (bytes_at new x) ≡ length (bytes_at old x) → word_at new x 0 ≡ word_at old x 0 → word_at new x 1 ≡ word_at old x 1 → HasLinks old x p n → HasLinks new x p n
+HasLinks-kept old new x p n there size previous next links = record {
+  address = links.address;
+  holder = record { there = there ∙ links.holder.there; enough = rw size links.holder.enough };
+  previous = previous ∙ links.previous;
+  next = next ∙ links.next;
+}
+
+pub Chain-kept : (old new : Blocks) (p : ℕ) (xs : List ℕ) (n : ℕ) → ((a : ℕ) → is_some (new a) ≡ is_some (old a)) → ((a : ℕ) → length (bytes_at new a) ≡ length (bytes_at old a)) → ((a k : ℕ) → contains xs a ≡ true → k < 2 → word_at new a k ≡ word_at old a k) → Chain old p xs n → Chain new p xs n
+Chain-kept old new p [] n there sizes words c = tt
+Chain-kept old new p (x ∷ xs) n there sizes words c = (
+  HasLinks-kept old new x p (first_of xs n) (there x) (sizes x) (words x 0 (within-head x xs) (omega arith)) (words x 1 (within-head x xs) (omega arith)) c.0,
+  Chain-kept old new x xs n there sizes (λ a k h few. words a k (within-tail x xs a h) few) c.1,
+)
+
+pub LinksFor-kept : (list : DtList) (old new : Blocks) (xs : List ℕ) → ((a : ℕ) → is_some (new a) ≡ is_some (old a)) → ((a : ℕ) → length (bytes_at new a) ≡ length (bytes_at old a)) → ((a k : ℕ) → contains xs a ≡ true → k < 2 → word_at new a k ≡ word_at old a k) → LinksFor list old xs → LinksFor list new xs
+LinksFor-kept list old new xs there sizes words l = record {
+  first = l.first;
+  last = l.last;
+  chain = Chain-kept old new 0 xs 0 there sizes words l.chain;
   distinct = l.distinct;
 }
 

@@ -1,14 +1,14 @@
 -- What a list stands for after one holder joined it or left it.
-use Rattle.std.proofs.Common.{◌≡◌, ◌≢◌, ℕ, ◌<◌, ◌^◌, List, [], ◌∷◌, ◌++◌, false, None, IsSome, refl, sym, ap, ◌∙◌, arith, subst}
-use Rattle.std.specs.Prelude.{◌==◌, if◌then◌else◌}
+use Rattle.std.proofs.Common.{◌≡◌, ◌≢◌, ℕ, ◌<◌, ◌≤◌, ◌^◌, List, [], ◌∷◌, ◌++◌, true, false, None, IsSome, refl, sym, ap, ◌∙◌, arith, subst}
+use Rattle.std.specs.Prelude.{All, ◌==◌, if◌then◌else◌}
 use Rattle.vc_base.specs.Cells.{Blocks, HasBytes, IsAddress, IsHolder, WordWritten, WordsWritten, word_at}
-use Rattle.vc_base.specs.Holders.{KeepsBut, contains, first_of, last_of, next_in, previous_in, some_address}
+use Rattle.vc_base.specs.Holders.{contains, first_of, last_of, next_in, previous_in, some_address, without}
 use Rattle.vc_dtlist.specs.declared.dt_list.DtList.{DtList}
-use Rattle.vc_dtlist.specs.Linked.{CanAdd, Chain, HasLinks, IsIn, IsPlain, LinksFor, StandsFor, Turned}
-use Rattle.vc_dtlist.proofs.WordLemmas.{HasBytes-written}
-use Rattle.vc_dtlist.proofs.HolderLemmas.{Split, apart-head, apart-tail, apart-append, apart-front, apart-rest, distinct-insert, distinct-remove, last_of-append, next_in-split, previous_in-split, some-first, some-last, split}
+use Rattle.vc_dtlist.specs.Linked.{CanAdd, Chain, HasLinks, IsIn, IsJoined, IsPlain, LinksFor, Relinked, StandsFor, Turned}
+use Rattle.vc_dtlist.proofs.WordLemmas.{HasBytes-written, word-kept}
+use Rattle.vc_dtlist.proofs.HolderLemmas.{Split, apart-head, apart-tail, apart-append, apart-front, apart-rest, distinct-insert, distinct-remove, last_of-append, next_in-split, previous_in-split, some-first, some-last, split, without-split}
 use Rattle.vc_dtlist.proofs.ChainLemmas.{Chain-other, Chain-front, Chain-rest, Chain-append, Chain-none}
-use Rattle.vc_dtlist.proofs.PlainLemmas.{All-inserted, All-removed, plain-link, plain-other}
+use Rattle.vc_dtlist.proofs.PlainLemmas.{All-inserted, All-without, plain-kept, plain-other}
 use Rattle.vc_dtlist.proofs.LinkLemmas.{first-joined, last-joined, last-parted, links_stay, neighbours, neighbours_keep}
 
 -- a holder of a chain is one, at an address
@@ -41,15 +41,16 @@ pub first_fits : (b : Blocks) (p : ℕ) (xs : List ℕ) → Chain b p xs 0 → f
 first_fits b p [] c = omega arith
 first_fits b p (x ∷ xs) c = c.0.address.fits
 
--- one joined it between two neighbours: the links
-Links-joined : (old new : DtList) (m0 m1 m2 m3 : Blocks) (p at n : ℕ) (front rest : List ℕ)
+-- one joined linked holders between two neighbours
+pub Relinked-joined : (old new : DtList) (m0 m1 m2 m3 : Blocks) (p at n : ℕ) (front rest : List ℕ)
     → LinksFor old m0 (front ++ rest) → contains (front ++ rest) at ≡ false → p ≡ last_of 0 front → n ≡ first_of rest 0
     → IsAddress at → IsHolder m0 at → (IsSome (m0 0) → ⊥)
     → WordsWritten m0 m1 at → word_at m1 at 0 ≡ p → word_at m1 at 1 ≡ n
     → WordWritten m1 m2 p 1 at → WordWritten m2 m3 n 0 at
     → new.first.0 ≡ (if p == 0 then at else old.first.0) → new.last.0 ≡ (if n == 0 then at else old.last.0)
-    → LinksFor new m3 (front ++ at ∷ rest) × KeepsBut (at ∷ (front ++ rest)) m0 m3
-Links-joined old new m0 m1 m2 m3 p at n front rest s apart pe ne address holder none w1 previous next w2 w3 fe le =
+    → ((a k : ℕ) → 2 ≤ k → word_at m1 a k ≡ word_at m0 a k)
+    → Relinked at (front ++ rest) m0 new m3 (front ++ at ∷ rest)
+Relinked-joined old new m0 m1 m2 m3 p at n front rest s apart pe ne address holder none w1 previous next w2 w3 fe le words =
     let w : WordWritten m1 m2 (last_of 0 front) 1 at = subst (λ z. WordWritten m1 m2 z 1 at) pe w2 in
     let v : WordWritten m2 m3 (first_of rest 0) 0 at = subst (λ z. WordWritten m2 m3 z 0 at) ne w3 in
     let ls0 = Chain-front m0 0 front rest 0 s.chain in
@@ -66,47 +67,45 @@ Links-joined old new m0 m1 m2 m3 p at n front rest s apart pe ne address holder 
     let links3 = links_stay m1 m2 m3 front rest at (last_of 0 front) (first_of rest 0) at at w v apart links1 in
     let kept = neighbours_keep m1 m2 m3 front rest at at w v (λ some. none (sym (w1.there 0) ∙ some)) in
     let no_front = Chain-none m0 0 front (first_of rest 0) ls0 in
-    let no_rest = Chain-none m0 (last_of 0 front) rest 0 rs0 in (
-      record {
+    let no_rest = Chain-none m0 (last_of 0 front) rest 0 rs0 in
+    record {
+      links = record {
         first = fe ∙ ap (λ z. if z == 0 then at else old.first.0) pe ∙ ap (λ z. if last_of 0 front == 0 then at else z) s.first ∙ first-joined front rest (at ∷ rest) no_front;
         last = le ∙ ap (λ z. if z == 0 then at else old.last.0) ne ∙ ap (λ z. if first_of rest 0 == 0 then at else z) s.last ∙ last-joined front rest at no_rest ∙ sym (last_of-append 0 front (at ∷ rest));
         chain = Chain-append m3 0 front (at ∷ rest) 0 both.0 (links3, both.1);
         distinct = distinct-insert front rest at s.distinct apart;
-      },
-      record {
+      };
+      keeps = record {
         there = λ a. kept.there a ∙ w1.there a;
         sizes = λ a. kept.sizes a ∙ w1.sizes a;
         bodies = λ a. kept.bodies a ∙ w1.bodies a;
         others = λ a h. kept.others a (apart-tail at (front ++ rest) a h) ∙ w1.others a (λ e. apart-head at (front ++ rest) a h (sym e));
-      },
-    )
-
--- and the list
-pub Turned-joined : (old new : DtList) (m0 m1 m2 m3 : Blocks) (p at n : ℕ) (front rest : List ℕ)
-    → StandsFor old m0 (front ++ rest) → contains (front ++ rest) at ≡ false → p ≡ last_of 0 front → n ≡ first_of rest 0
-    → IsAddress at → IsHolder m0 at → (IsSome (m0 0) → ⊥)
-    → WordsWritten m0 m1 at → word_at m1 at 0 ≡ p → word_at m1 at 1 ≡ n → IsPlain m1 at
-    → WordWritten m1 m2 p 1 at → WordWritten m2 m3 n 0 at
-    → new.first.0 ≡ (if p == 0 then at else old.first.0) → new.last.0 ≡ (if n == 0 then at else old.last.0)
-    → Turned at (front ++ rest) m0 new m3 (front ++ at ∷ rest)
-Turned-joined old new m0 m1 m2 m3 p at n front rest s apart pe ne address holder none w1 previous next plain w2 w3 fe le =
-    let joined = Links-joined old new m0 m1 m2 m3 p at n front rest s.links apart pe ne address holder none w1 previous next w2 w3 fe le in
-    let all = All-inserted (IsPlain m1) front rest at (plain-other m0 m1 at (front ++ rest) w1 apart s.plain) plain in
-    record {
-      stands = record {
-        links = joined.0;
-        plain = plain-link m2 m3 n 0 at (front ++ at ∷ rest) (omega arith) w3 (plain-link m1 m2 p 1 at (front ++ at ∷ rest) (omega arith) w2 all);
       };
-      keeps = joined.1;
+      words = λ a k least. word-kept m2 m3 n 0 at w3 a k (omega arith) ∙ word-kept m1 m2 p 1 at w2 a k (omega arith) ∙ words a k least;
     }
 
--- one left it: the links
-Links-parted : (old new : DtList) (m0 m1 m2 : Blocks) (p at n : ℕ) (front rest : List ℕ)
+-- one that was made plain joined a list
+pub Turned-joined : (m0 m1 m2 : Blocks) (new : DtList) (at : ℕ) (front rest : List ℕ) → All (IsPlain m0) (front ++ rest) → contains (front ++ rest) at ≡ false → WordsWritten m0 m1 at → IsPlain m1 at → Relinked at (front ++ rest) m1 new m2 (front ++ at ∷ rest) → Turned at (front ++ rest) m0 new m2 (front ++ at ∷ rest)
+Turned-joined m0 m1 m2 new at front rest all apart w plain r = record {
+  stands = record {
+    links = r.links;
+    plain = plain-kept m1 m2 (front ++ at ∷ rest) r.words (All-inserted (IsPlain m1) front rest at (plain-other m0 m1 at (front ++ rest) w apart all) plain);
+  };
+  keeps = record {
+    there = λ a. r.keeps.there a ∙ w.there a;
+    sizes = λ a. r.keeps.sizes a ∙ w.sizes a;
+    bodies = λ a. r.keeps.bodies a ∙ w.bodies a;
+    others = λ a h. r.keeps.others a h ∙ w.others a (λ e. apart-head at (front ++ rest) a h (sym e));
+  };
+}
+
+-- one left linked holders
+Relinked-split : (old new : DtList) (m0 m1 m2 : Blocks) (p at n : ℕ) (front rest : List ℕ)
     → LinksFor old m0 (front ++ at ∷ rest) → (IsSome (m0 0) → ⊥) → p ≡ word_at m0 at 0 → n ≡ word_at m0 at 1
     → WordWritten m0 m1 p 1 n → WordWritten m1 m2 n 0 p
     → new.first.0 ≡ (if p == 0 then n else old.first.0) → new.last.0 ≡ (if n == 0 then p else old.last.0)
-    → LinksFor new m2 (front ++ rest) × KeepsBut (at ∷ (front ++ at ∷ rest)) m0 m2
-Links-parted old new m0 m1 m2 p at n front rest s none pw nw w2 w3 fe le =
+    → Relinked at (front ++ at ∷ rest) m0 new m2 (front ++ rest)
+Relinked-split old new m0 m1 m2 p at n front rest s none pw nw w2 w3 fe le =
     let c = Chain-rest m0 0 front (at ∷ rest) 0 s.chain in
     let pe : p ≡ last_of 0 front = pw ∙ c.0.previous in
     let ne : n ≡ first_of rest 0 = nw ∙ c.0.next in
@@ -117,36 +116,41 @@ Links-parted old new m0 m1 m2 p at n front rest s none pw nw w2 w3 fe le =
     let both = neighbours m0 m1 m2 front rest at at n p w v d ls0 c.1 in
     let kept = neighbours_keep m0 m1 m2 front rest n p w v none in
     let no_front = Chain-none m0 0 front at ls0 in
-    let no_rest = Chain-none m0 at rest 0 c.1 in (
-      record {
+    let no_rest = Chain-none m0 at rest 0 c.1 in
+    record {
+      links = record {
         first = fe ∙ ap (λ z. if z == 0 then n else old.first.0) pe ∙ ap (λ z. if last_of 0 front == 0 then z else old.first.0) ne ∙ ap (λ z. if last_of 0 front == 0 then first_of rest 0 else z) s.first ∙ first-joined front (at ∷ rest) rest no_front;
         last = le ∙ ap (λ z. if z == 0 then p else old.last.0) ne ∙ ap (λ z. if first_of rest 0 == 0 then z else old.last.0) pe ∙ ap (λ z. if first_of rest 0 == 0 then last_of 0 front else z) s.last ∙ last-parted front rest at no_rest;
         chain = Chain-append m2 0 front rest 0 (subst (λ z. Chain m2 0 front z) ne both.0) (subst (λ z. Chain m2 z rest 0) pe both.1);
         distinct = d;
-      },
-      record {
+      };
+      keeps = record {
         there = kept.there;
         sizes = kept.sizes;
         bodies = kept.bodies;
         others = λ a h. let t = apart-tail at (front ++ at ∷ rest) a h in kept.others a (apart-append front rest a (apart-front front (at ∷ rest) a t) (apart-tail at rest a (apart-rest front (at ∷ rest) a t)));
-      },
-    )
+      };
+      words = λ a k least. word-kept m1 m2 n 0 p w3 a k (omega arith) ∙ word-kept m0 m1 p 1 n w2 a k (omega arith);
+    }
 
--- and the list
-pub Turned-parted : (old new : DtList) (m0 m1 m2 : Blocks) (p at n : ℕ) (front rest : List ℕ)
-    → StandsFor old m0 (front ++ at ∷ rest) → (IsSome (m0 0) → ⊥) → p ≡ word_at m0 at 0 → n ≡ word_at m0 at 1
+pub Relinked-parted : (old new : DtList) (m0 m1 m2 : Blocks) (p at n : ℕ) (xs : List ℕ)
+    → LinksFor old m0 xs → Split xs at → (IsSome (m0 0) → ⊥) → p ≡ word_at m0 at 0 → n ≡ word_at m0 at 1
     → WordWritten m0 m1 p 1 n → WordWritten m1 m2 n 0 p
     → new.first.0 ≡ (if p == 0 then n else old.first.0) → new.last.0 ≡ (if n == 0 then p else old.last.0)
-    → Turned at (front ++ at ∷ rest) m0 new m2 (front ++ rest)
-Turned-parted old new m0 m1 m2 p at n front rest s none pw nw w2 w3 fe le =
-    let parted = Links-parted old new m0 m1 m2 p at n front rest s.links none pw nw w2 w3 fe le in
-    record {
-      stands = record {
-        links = parted.0;
-        plain = plain-link m1 m2 n 0 p (front ++ rest) (omega arith) w3 (plain-link m0 m1 p 1 n (front ++ rest) (omega arith) w2 (All-removed (IsPlain m0) front rest at s.plain));
-      };
-      keeps = parted.1;
-    }
+    → Relinked at xs m0 new m2 (without at xs)
+Relinked-parted old new m0 m1 m2 p at n xs s h none pw nw w2 w3 fe le =
+    let done : Relinked at (h.front ++ at ∷ h.rest) m0 new m2 (h.front ++ h.rest) =
+    Relinked-split old new m0 m1 m2 p at n h.front h.rest (subst (λ z. LinksFor old m0 z) h.whole s) none pw nw w2 w3 fe le in
+    let as_split : Relinked at (h.front ++ at ∷ h.rest) m0 new m2 (without at (h.front ++ at ∷ h.rest)) =
+    subst (λ z. Relinked at (h.front ++ at ∷ h.rest) m0 new m2 z) (sym (without-split h.front at h.rest h.before)) done in
+    subst (λ z. Relinked at z m0 new m2 (without at z)) (sym h.whole) as_split
+
+-- and a list
+pub Turned-parted : (m0 m1 : Blocks) (new : DtList) (at : ℕ) (xs : List ℕ) → All (IsPlain m0) xs → Relinked at xs m0 new m1 (without at xs) → Turned at xs m0 new m1 (without at xs)
+Turned-parted m0 m1 new at xs all r = record {
+  stands = record { links = r.links; plain = plain-kept m0 m1 (without at xs) r.words (All-without (IsPlain m0) xs at all) };
+  keeps = r.keeps;
+}
 
 -- a list stands for one list of holders alone
 Chain-unique : (b : Blocks) (p q : ℕ) (xs ys : List ℕ) → first_of xs 0 ≡ first_of ys 0 → Chain b p xs 0 → Chain b q ys 0 → xs ≡ ys
@@ -187,10 +191,16 @@ at_chain b front at rest chain =
       next_words = λ a e some. first_words b at rest a c.1 (e ∙ c.0.next) some;
     }
 
+pub at_linked : (list : DtList) (b : Blocks) (at : ℕ) (xs : List ℕ) → LinksFor list b xs → contains xs at ≡ true → At b at
+at_linked list b at xs l within =
+    let p = split xs at within in
+    at_chain b p.front at p.rest (subst (λ z. Chain b 0 z 0) p.whole l.chain)
+
 pub at_in : (list : DtList) (b : Blocks) (at : ℕ) → IsIn list b at → At b at
-at_in list b at i =
-    let p = split i.holders at i.within in
-    at_chain b p.front at p.rest (subst (λ z. Chain b 0 z 0) p.whole i.stands.links.chain)
+at_in list b at i = at_linked list b at i.holders i.stands.links i.within
+
+pub at_joined : (list : DtList) (b : Blocks) (at : ℕ) → IsJoined list b at → At b at
+at_joined list b at i = at_linked list b at i.holders i.links i.within
 
 -- one that may join it is none of its holders
 pub apart_in : (list : DtList) (b : Blocks) (at : ℕ) (r : CanAdd list b at) (xs : List ℕ) → StandsFor list b xs → contains xs at ≡ false
@@ -203,21 +213,28 @@ previous_word b front at rest chain = let c = Chain-rest b 0 front (at ∷ rest)
 pub next_word : (b : Blocks) (front : List ℕ) (at : ℕ) (rest : List ℕ) → Chain b 0 (front ++ at ∷ rest) 0 → word_at b at 1 ≡ first_of rest 0
 next_word b front at rest chain = let c = Chain-rest b 0 front (at ∷ rest) 0 chain in c.0.next
 
--- they name its neighbours in the list, if any
-pub next_found : (list : DtList) (b : Blocks) (at : ℕ) (i : IsIn list b at) (xs : List ℕ) → StandsFor list b xs → some_address (word_at b at 1) ≡ next_in at xs
-next_found list b at i xs s =
-    let p = split_in list b at i xs s in
-    let chain : Chain b 0 (p.front ++ at ∷ p.rest) 0 = subst (λ z. Chain b 0 z 0) p.whole s.links.chain in
+-- they name its neighbours, if any
+pub next-linked : (list : DtList) (b : Blocks) (at : ℕ) (xs : List ℕ) → LinksFor list b xs → contains xs at ≡ true → some_address (word_at b at 1) ≡ next_in at xs
+next-linked list b at xs l within =
+    let p = split xs at within in
+    let chain : Chain b 0 (p.front ++ at ∷ p.rest) 0 = subst (λ z. Chain b 0 z 0) p.whole l.chain in
     let c = Chain-rest b 0 p.front (at ∷ p.rest) 0 chain in
     ap some_address c.0.next ∙ some-first p.rest (Chain-none b at p.rest 0 c.1) ∙ sym (next_in-split p.front at p.rest p.before) ∙ ap (next_in at) (sym p.whole)
 
-pub previous_found : (list : DtList) (b : Blocks) (at : ℕ) (i : IsIn list b at) (xs : List ℕ) → StandsFor list b xs → some_address (word_at b at 0) ≡ previous_in None at xs
-previous_found list b at i xs s =
-    let p = split_in list b at i xs s in
-    let chain : Chain b 0 (p.front ++ at ∷ p.rest) 0 = subst (λ z. Chain b 0 z 0) p.whole s.links.chain in
+pub previous-linked : (list : DtList) (b : Blocks) (at : ℕ) (xs : List ℕ) → LinksFor list b xs → contains xs at ≡ true → some_address (word_at b at 0) ≡ previous_in None at xs
+previous-linked list b at xs l within =
+    let p = split xs at within in
+    let chain : Chain b 0 (p.front ++ at ∷ p.rest) 0 = subst (λ z. Chain b 0 z 0) p.whole l.chain in
     let c = Chain-rest b 0 p.front (at ∷ p.rest) 0 chain in
     let ls = Chain-front b 0 p.front (at ∷ p.rest) 0 chain in
     ap some_address c.0.previous ∙ some-last p.front (Chain-none b 0 p.front at ls) ∙ sym (previous_in-split p.front at p.rest p.before) ∙ ap (previous_in None at) (sym p.whole)
+
+-- in a list too
+pub next_found : (list : DtList) (b : Blocks) (at : ℕ) (i : IsIn list b at) (xs : List ℕ) → StandsFor list b xs → some_address (word_at b at 1) ≡ next_in at xs
+next_found list b at i xs s = next-linked list b at xs s.links (rw (StandsFor-unique list b xs i.holders s i.stands) i.within)
+
+pub previous_found : (list : DtList) (b : Blocks) (at : ℕ) (i : IsIn list b at) (xs : List ℕ) → StandsFor list b xs → some_address (word_at b at 0) ≡ previous_in None at xs
+previous_found list b at i xs s = previous-linked list b at xs s.links (rw (StandsFor-unique list b xs i.holders s i.stands) i.within)
 
 -- a change between equal lists
 pub Turned-same : (at : ℕ) (xs xs' : List ℕ) (b : Blocks) (new : DtList) (b' : Blocks) (ys ys' : List ℕ) → xs ≡ xs' → ys ≡ ys' → Turned at xs b new b' ys → Turned at xs' b new b' ys'

@@ -1,5 +1,6 @@
 -- What a written word keeps.
-use Rattle.std.proofs.Common.{◌≡◌, ◌≢◌, ℕ, [], refl, ap, ◌∙◌, IsSome, unwrap_or}
+use Rattle.std.proofs.Common.{◌≡◌, ◌≢◌, ℕ, [], inl, inr, refl, sym, ap, ◌∙◌, subst, IsSome, unwrap_or}
+use Rattle.std.proofs.lemmas.Bool.Decides.{eqb_tells}
 use Rattle.vc_base.specs.Cells.{Blocks, HasBytes, WordWritten, WordsWritten, word, word_at}
 
 -- a block that had so many bytes has them still
@@ -29,3 +30,10 @@ WordWritten-none blocks at k value none = record {
   read = λ some. absurd (none some);
   other_words = λ j ne. refl;
 }
+
+-- a word but the one that was written stays, in each block
+pub word-kept : (old new : Blocks) (at k value : ℕ) → WordWritten old new at k value → (a j : ℕ) → j ≢ k → word_at new a j ≡ word_at old a j
+word-kept old new at k value w a j ne = elim (eqb_tells a at) as (λ _. word_at new a j ≡ word_at old a j) [
+  | inl same ↦ subst (λ z. word_at new z j ≡ word_at old z j) (sym same.1) (w.other_words j ne)
+  | inr apart ↦ word-other_block old new at a j w.written apart.1
+]

@@ -60,20 +60,43 @@ pub record Turned (at : ℕ) (holders : List ℕ) (before : Blocks) (new : DtLis
   pub stands : StandsFor new after changed
   pub keeps : KeepsBut (at ∷ holders) before after
 
--- the same for whatever holders it stood for
+-- the same of holders that are linked, whatever their other words say, and those words stay
+pub record Relinked (at : ℕ) (holders : List ℕ) (before : Blocks) (new : DtList) (after : Blocks) (changed : List ℕ) : Type 0 where
+  pub links : LinksFor new after changed
+  pub keeps : KeepsBut (at ∷ holders) before after
+  pub words : (a k : ℕ) → 2 ≤ k → word_at after a k ≡ word_at before a k
+
+-- each for whatever holders there were
 abbrev pub Turns : ℕ → DtList → Blocks → DtList → Blocks → (List ℕ → List ℕ) → Type 0
 Turns at old before new after change =
     (holders : List ℕ) → StandsFor old before holders → Turned at holders before new after (change holders)
+
+abbrev pub Relinks : ℕ → DtList → Blocks → DtList → Blocks → (List ℕ → List ℕ) → Type 0
+Relinks at old before new after change =
+    (holders : List ℕ) → LinksFor old before holders → Relinked at holders before new after (change holders)
+
+-- some holders are linked, and this one may join them
+pub record CanJoin (list : DtList) (blocks : Blocks) (at : ℕ) : Type 0 where
+  pub holders : List ℕ
+  pub links : LinksFor list blocks holders
+  pub apart : contains holders at ≡ false
+  pub holder : IsHolder blocks at
+
+-- some holders are linked, and this is one of them
+pub record IsJoined (list : DtList) (blocks : Blocks) (at : ℕ) : Type 0 where
+  pub holders : List ℕ
+  pub links : LinksFor list blocks holders
+  pub within : contains holders at ≡ true
 
 -- where there is a holder at that address, it has its words
 abbrev pub HasWords : Blocks → ℕ → Type 0
 HasWords blocks at = at ≢ 0 → HasBytes blocks at 32
 
--- these holders are neighbours in it, either of which may be none, and one may join them between the two
+-- these holders are linked as neighbours, either of which may be none, and one may join them between the two
 pub record CanPlace (list : DtList) (blocks : Blocks) (before at behind : ℕ) : Type 0 where
   pub front : List ℕ
   pub rest : List ℕ
-  pub stands : StandsFor list blocks (front ++ rest)
+  pub links : LinksFor list blocks (front ++ rest)
   pub apart : contains (front ++ rest) at ≡ false
   pub holder : IsHolder blocks at
   pub previous : before ≡ last_of 0 front
@@ -85,6 +108,12 @@ Links before at behind old from new to =
     (front rest : List ℕ) → StandsFor old from (front ++ rest) → contains (front ++ rest) at ≡ false
     → before ≡ last_of 0 front → behind ≡ first_of rest 0
     → Turned at (front ++ rest) from new to (front ++ at ∷ rest)
+
+abbrev pub Joins : ℕ → ℕ → ℕ → DtList → Blocks → DtList → Blocks → Type 0
+Joins before at behind old from new to =
+    (front rest : List ℕ) → LinksFor old from (front ++ rest) → contains (front ++ rest) at ≡ false
+    → before ≡ last_of 0 front → behind ≡ first_of rest 0
+    → Relinked at (front ++ rest) from new to (front ++ at ∷ rest)
 
 -- the number of an address
 abbrev pub number_of : Addr → ℕ

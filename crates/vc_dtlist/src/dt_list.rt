@@ -2,11 +2,11 @@ ghost use Rattle.std.specs.Prelude.{◌≡◌, ℕ, List, [], ◌∷◌, ◌++�
 ghost use Rattle.std.specs.Option.{option_map};
 ghost use Rattle.vc_base.specs.Cells.{Blocks};
 ghost use Rattle.vc_base.specs.Holders.{first_in, inserted_after, inserted_before, last_in, next_in, previous_in, without};
-ghost use Rattle.vc_dtlist.specs.Linked.{CanAdd, CanPlace, Finds, IsIn, IsList, Links, StandsFor, Turns, number_of};
+ghost use Rattle.vc_dtlist.specs.Linked.{CanAdd, CanJoin, CanPlace, Finds, IsIn, IsJoined, IsList, Joins, Links, Relinks, StandsFor, Turns, number_of};
 ghost use Rattle.vc_dtlist.specs.Sought.{Seeks, stands_so};
 
 use crate::Sought;
-use crate::words::{end_of, found, neighbour, set_link, set_node};
+use crate::words::{end_of, found, neighbour, set_ends, set_link, set_plain};
 use vc_base::{Addr, Cells, Steps};
 use vc_dtdisc::DictDisc;
 
@@ -54,6 +54,20 @@ impl DtList {
         self.link(cells, last, at, Addr::NONE);
     }
 
+    // Puts a holder between two neighbours, either of which may be none, and keeps its other words.
+    fn join<C: Cells>(&mut self, cells: &mut C, before: Addr, at: Addr, behind: Addr)
+        requires { CanPlace self.old (C.blocks cells.old) before.0 at.0 behind.0 }
+        ensures list { Joins before.0 at.0 behind.0 self.old (C.blocks cells.old) self.new
+            (C.blocks cells.new) }
+        ensures rest { C.RestStays cells.old cells.new }
+    {
+        set_ends(cells, at, before, behind);
+        set_link(cells, before, 1, at);
+        set_link(cells, behind, 0, at);
+        self.first = end_of(before, at, self.first);
+        self.last = end_of(behind, at, self.last);
+    }
+
     // Puts a holder between two neighbours, either of which may be none.
     fn link<C: Cells>(&mut self, cells: &mut C, before: Addr, at: Addr, behind: Addr)
         requires { CanPlace self.old (C.blocks cells.old) before.0 at.0 behind.0 }
@@ -61,17 +75,27 @@ impl DtList {
             (C.blocks cells.new) }
         ensures rest { C.RestStays cells.old cells.new }
     {
-        set_node(cells, at, before, behind);
-        set_link(cells, before, 1, at);
-        set_link(cells, behind, 0, at);
-        self.first = end_of(before, at, self.first);
-        self.last = end_of(behind, at, self.last);
+        set_plain(cells, at);
+        self.join(cells, before, at, behind);
     }
 
-    /// Takes a holder of the list out. It keeps its bytes behind the words.
-    pub fn unlink<C: Cells>(&mut self, cells: &mut C, at: Addr)
-        requires { IsIn self.old (C.blocks cells.old) at.0 }
-        ensures list { Turns at.0 self.old (C.blocks cells.old) self.new (C.blocks cells.new)
+    /// Puts a holder at the end of holders that are linked by words 0 and 1, as those of a set or bag are, and keeps
+    /// words 2 and 3 of each. It has at least 33 bytes and isn't one of them.
+    pub fn join_back<C: Cells>(&mut self, cells: &mut C, at: Addr)
+        requires { CanJoin self.old (C.blocks cells.old) at.0 }
+        ensures list { Relinks at.0 self.old (C.blocks cells.old) self.new (C.blocks cells.new)
+            (λ xs. xs ++ at.0 ∷ []) }
+        ensures rest { C.RestStays cells.old cells.new }
+    {
+        let last = self.last;
+        self.join(cells, last, at, Addr::NONE);
+    }
+
+    /// Takes one out of holders that are linked by words 0 and 1, as those of a set or bag are, and keeps words 2 and 3
+    /// of each.
+    pub fn part<C: Cells>(&mut self, cells: &mut C, at: Addr)
+        requires { IsJoined self.old (C.blocks cells.old) at.0 }
+        ensures list { Relinks at.0 self.old (C.blocks cells.old) self.new (C.blocks cells.new)
             (without at.0) }
         ensures rest { C.RestStays cells.old cells.new }
     {
@@ -81,6 +105,16 @@ impl DtList {
         set_link(cells, behind, 0, before);
         self.first = end_of(before, behind, self.first);
         self.last = end_of(behind, before, self.last);
+    }
+
+    /// Takes a holder of the list out. It keeps its bytes behind the words.
+    pub fn unlink<C: Cells>(&mut self, cells: &mut C, at: Addr)
+        requires { IsIn self.old (C.blocks cells.old) at.0 }
+        ensures list { Turns at.0 self.old (C.blocks cells.old) self.new (C.blocks cells.new)
+            (without at.0) }
+        ensures rest { C.RestStays cells.old cells.new }
+    {
+        self.part(cells, at);
     }
 
     /// Puts a holder directly before another one of the list. It has at least 33 bytes and isn't in the list.

@@ -7,3 +7,4 @@ mod words;
 
 pub use dt_list::DtList;
 pub use sought::Sought;
+pub use words::{found, neighbour, set_word};

@@ -1,13 +1,13 @@
-ghost use Rattle.std.specs.Prelude.{◌≡◌, ℕ, ◌<◌, ◌^◌, ◌==◌, if◌then◌else◌};
+ghost use Rattle.std.specs.Prelude.{◌≡◌, ℕ, ◌<◌, ◌≤◌, ◌^◌, ◌==◌, if◌then◌else◌};
 ghost use Rattle.std.specs.Option.{option_map};
 ghost use Rattle.vc_base.specs.Holders.{some_address};
 ghost use Rattle.vc_base.specs.Cells.{HasBytes, WordWritten, WordsWritten, word_at};
-ghost use Rattle.vc_dtlist.specs.Linked.{HasWords};
+ghost use Rattle.vc_dtlist.specs.Linked.{HasWords, IsPlain};
 
 use vc_base::{Addr, Cells};
 
-// Writes one word of a holder.
-pub(crate) fn set_word<C: Cells>(cells: &mut C, at: Addr, k: u32, value: u64)
+/// Writes word k, from 0 to 3, of a holder. Which blocks there are, their sizes and the bytes behind their words stay.
+pub fn set_word<C: Cells>(cells: &mut C, at: Addr, k: u32, value: u64)
     requires word { k < 4 }
     requires holder { HasBytes (C.blocks cells.old) at.0 32 }
     ensures written { WordWritten (C.blocks cells.old) (C.blocks cells.new) at.0 k value }
@@ -16,18 +16,27 @@ pub(crate) fn set_word<C: Cells>(cells: &mut C, at: Addr, k: u32, value: u64)
     cells.store(at, k, value);
 }
 
-// Writes all four words of a holder.
-pub(crate) fn set_node<C: Cells>(cells: &mut C, at: Addr, before: Addr, behind: Addr)
+// Writes the words of a holder that name its neighbours.
+pub(crate) fn set_ends<C: Cells>(cells: &mut C, at: Addr, before: Addr, behind: Addr)
     requires { HasBytes (C.blocks cells.old) at.0 32 }
     ensures written { WordsWritten (C.blocks cells.old) (C.blocks cells.new) at.0 }
     ensures previous { word_at (C.blocks cells.new) at.0 0 ≡ before.0 }
     ensures next { word_at (C.blocks cells.new) at.0 1 ≡ behind.0 }
-    ensures third { word_at (C.blocks cells.new) at.0 2 ≡ 0 }
-    ensures fourth { word_at (C.blocks cells.new) at.0 3 ≡ 0 }
+    ensures words { (a k : ℕ) → 2 ≤ k
+        → word_at (C.blocks cells.new) a k ≡ word_at (C.blocks cells.old) a k }
     ensures rest { C.RestStays cells.old cells.new }
 {
     set_word(cells, at, 0, before.0 as u64);
     set_word(cells, at, 1, behind.0 as u64);
+}
+
+// Writes the other two words of a holder: 0 into each.
+pub(crate) fn set_plain<C: Cells>(cells: &mut C, at: Addr)
+    requires { HasBytes (C.blocks cells.old) at.0 32 }
+    ensures written { WordsWritten (C.blocks cells.old) (C.blocks cells.new) at.0 }
+    ensures plain { IsPlain (C.blocks cells.new) at.0 }
+    ensures rest { C.RestStays cells.old cells.new }
+{
     set_word(cells, at, 2, 0);
     set_word(cells, at, 3, 0);
 }
@@ -44,8 +53,8 @@ pub(crate) fn set_link<C: Cells>(cells: &mut C, at: Addr, k: u32, to: Addr)
     }
 }
 
-// The address in one word of a holder.
-pub(crate) fn neighbour<C: Cells>(cells: &C, at: Addr, k: u32) -> Addr
+/// The address in word k, from 0 to 3, of a holder. The word is below 2^32.
+pub fn neighbour<C: Cells>(cells: &C, at: Addr, k: u32) -> Addr
     requires word { k < 4 }
     requires holder { HasBytes (C.blocks cells.now) at.0 32 }
     requires fits { word_at (C.blocks cells.now) at.0 k < 2 ^ 32 }
@@ -61,8 +70,8 @@ pub(crate) fn end_of(at: Addr, none: Addr, some: Addr) -> Addr
     if at == Addr::NONE { none } else { some }
 }
 
-// An address, or none where it is `Addr::NONE`.
-pub(crate) fn found(at: Addr) -> Option<Addr>
+/// An address, or none where it is `Addr::NONE`.
+pub fn found(at: Addr) -> Option<Addr>
     ensures { option_map (λ a. a.0) result ≡ some_address at.0 }
 {
     if at == Addr::NONE { None } else { Some(at) }

@@ -7,10 +7,11 @@ use Rattle.vc_cells_tests.proofs.hashes.made.Goals as goal
 
 pub adopt_table-before-requires : goal.adopt_table-before-requires
 adopt_table-before-requires g c =
-    let none = none-at c.new-hash.result (c.new-hash.ensures (λ a. None)) in
+    let rules = g.D.DictDisc.rules c.args.kind.now in
+    let none = none-at rules c.new-hash.result (c.new-hash.ensures rules (λ a. None)) in
     record {
       holders = [];
-      stands = c.new-hash.ensures (g.C.Cells.blocks c.args.cells.now);
+      stands = c.new-hash.ensures (g.D.DictDisc.rules c.args.kind.now) (g.C.Cells.blocks c.args.cells.now);
       fits = record {
         slots_allowed = record { doublings = 0; few = omega arith; value = refl };
         there = c.requires.there 4 (omega arith) (omega arith);
@@ -26,7 +27,7 @@ link-requires g c =
     let b = g.C.Cells.blocks c.args.cells.now in
     let b1 = g.C.Cells.blocks c.adopt_table-before.new.cells in
     let h1 = c.adopt_table-before.new.self in
-    let a = c.adopt_table-before.ensures.hash [] (c.new-hash.ensures b) in
+    let a = c.adopt_table-before.ensures.hash [] (c.new-hash.ensures (g.D.DictDisc.rules c.args.kind.now) b) in
     let ne : h1.table.0 ≢ 1 = omega (arith, a.table) in
     let sized = sized-kept (c.new-hash.result.table.0 ∷ 4 ∷ []) [] b b1 a.keeps c.requires in
     record {
@@ -44,7 +45,7 @@ link-requires-2 g c =
     let b2 = g.C.Cells.blocks c.link.new.cells in
     let h1 = c.adopt_table-before.new.self in
     let h2 = c.link.new.self in
-    let a = c.adopt_table-before.ensures.hash [] (c.new-hash.ensures b) in
+    let a = c.adopt_table-before.ensures.hash [] (c.new-hash.ensures (g.D.DictDisc.rules c.args.kind.now) b) in
     let t = c.link.ensures.hash [] a.stands in
     let table : h2.table.0 ≡ 4 = ap (λ (z : Addr). z.0) t.table ∙ a.table in
     let slots : h2.slots ≡ 16 = t.slots ∙ a.slots in
@@ -60,13 +61,13 @@ link-requires-2 g c =
 
 pub returns-clause-hash : goal.returns-clause-hash
 returns-clause-hash g c =
-    let a = c.adopt_table-before.ensures.hash [] (c.new-hash.ensures (g.C.Cells.blocks c.args.cells.now)) in
+    let a = c.adopt_table-before.ensures.hash [] (c.new-hash.ensures (g.D.DictDisc.rules c.args.kind.now) (g.C.Cells.blocks c.args.cells.now)) in
     let t = c.link.ensures.hash [] a.stands in
     (c.link-2.ensures.hash (1 ∷ []) t.stands).stands
 
 pub returns-clause-table : goal.returns-clause-table
 returns-clause-table g c =
-    let a = c.adopt_table-before.ensures.hash [] (c.new-hash.ensures (g.C.Cells.blocks c.args.cells.now)) in
+    let a = c.adopt_table-before.ensures.hash [] (c.new-hash.ensures (g.D.DictDisc.rules c.args.kind.now) (g.C.Cells.blocks c.args.cells.now)) in
     let t = c.link.ensures.hash [] a.stands in
     let u = c.link-2.ensures.hash (1 ∷ []) t.stands in
     ap (λ (z : Addr). z.0) (u.table ∙ t.table) ∙ a.table
@@ -76,7 +77,7 @@ returns-clause-sized g c =
     let b = g.C.Cells.blocks c.args.cells.now in
     let b1 = g.C.Cells.blocks c.adopt_table-before.new.cells in
     let b2 = g.C.Cells.blocks c.link.new.cells in
-    let a = c.adopt_table-before.ensures.hash [] (c.new-hash.ensures b) in
+    let a = c.adopt_table-before.ensures.hash [] (c.new-hash.ensures (g.D.DictDisc.rules c.args.kind.now) b) in
     let t = c.link.ensures.hash [] a.stands in
     let u = c.link-2.ensures.hash (1 ∷ []) t.stands in
     let sized = sized-kept (c.adopt_table-before.new.self.table.0 ∷ []) (1 ∷ []) b1 b2 t.keeps (sized-kept (c.new-hash.result.table.0 ∷ 4 ∷ []) [] b b1 a.keeps c.requires) in

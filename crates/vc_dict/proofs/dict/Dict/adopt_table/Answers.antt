@@ -11,13 +11,13 @@ adopt_table-old-requires g c =
     let r = c.requires in
     let d = c.args.self.now in
     let b = g.C.Cells.blocks c.args.cells.now in
-    let adopt : HashAdopt (hash_of d) b c.args.table.0 c.args.slots = record {
+    let adopt : HashAdopt (g.D.DictDisc.rules c.args.kind.now) (hash_of d) b c.args.table.0 c.args.slots = record {
       holders = r.holders;
       stands = as_hash (g.D.DictDisc.rules c.args.kind.now) d b r.holders r.method r.stands;
       fits = r.fits;
       another = r.another;
     } in
-    subst (λ z. HashAdopt z b c.args.table.0 c.args.slots) (sym c.hash-hash.ensures) adopt
+    subst (λ z. HashAdopt (g.D.DictDisc.rules c.args.kind.now) z b c.args.table.0 c.args.slots) (sym c.hash-hash.ensures) adopt
 
 pub returns-clause-dict : goal.returns-clause-dict
 returns-clause-dict g c = λ holders s.
@@ -28,8 +28,8 @@ returns-clause-dict g c = λ holders s.
     let table = c.args.table.0 in
     let method = c.requires.method in
     let new = c.adopt_table-old.new.self in
-    let hash : HashFor c.hash-hash.result b holders = rw c.hash-hash.ensures (as_hash rules d b holders method s) in
-    let t = subst (λ z. HashAdopted table c.args.slots holders z b new b') c.hash-hash.ensures (c.adopt_table-old.ensures.hash holders hash) in
+    let hash : HashFor rules c.hash-hash.result b holders = rw c.hash-hash.ensures (as_hash rules d b holders method s) in
+    let t = subst (λ z. HashAdopted rules table c.args.slots holders z b new b') c.hash-hash.ensures (c.adopt_table-old.ensures.hash holders hash) in
     let d' : Dict = record d { first = new.first; last = new.last; table = new.table; slots = new.slots; count = new.count } in
     record {
       stands = record {

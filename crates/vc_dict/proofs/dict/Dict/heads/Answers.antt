@@ -12,7 +12,7 @@ returns-then-has_table-clause-value c =
 
 pub returns-then-has_table-clause-stands : goal.returns-then-has_table-clause-stands
 returns-then-has_table-clause-stands c = λ rules b xs s.
-    subst (λ z. HashFor z b xs) (sym c.hash.ensures) (as_hash rules c.args.self.now b xs (sym c.has_table.ensures ∙ c.if-has_table.true) s)
+    subst (λ z. HashFor rules z b xs) (sym c.hash.ensures) (as_hash rules c.args.self.now b xs (sym c.has_table.ensures ∙ c.if-has_table.true) s)
 
 pub returns-then-is_ordered-clause-value : goal.returns-then-is_ordered-clause-value
 returns-then-is_ordered-clause-value c =

@@ -33,10 +33,10 @@ returns-then-has_table-clause-dict g c = λ holders s.
     let b = g.C.Cells.blocks c.args.cells.now in
     let at = c.args.at.0 in
     let b' = g.C.Cells.blocks c.unlink.new.cells in
-    let hash : HashFor c.hash-hash.result b holders = rw c.hash-hash.ensures (as_hash rules d b holders (sym c.has_table.ensures ∙ c.if-has_table.true) s) in
+    let hash : HashFor rules c.hash-hash.result b holders = rw c.hash-hash.ensures (as_hash rules d b holders (sym c.has_table.ensures ∙ c.if-has_table.true) s) in
     Became-within rules holders at d _ b b' (without at holders) d.current.0 (member rules d b at holders c.requires s)
     (Became-hash rules d c.unlink.new.self b b' at holders (without at holders) (sym c.has_table.ensures ∙ c.if-has_table.true)
-    (subst (λ z. HashTurned at holders z b c.unlink.new.self b' (without at holders)) c.hash-hash.ensures (c.unlink.ensures.hash holders hash)))
+    (subst (λ z. HashTurned rules at holders z b c.unlink.new.self b' (without at holders)) c.hash-hash.ensures (c.unlink.ensures.hash holders hash)))
 
 pub returns-then-is_ordered-clause-dict : goal.returns-then-is_ordered-clause-dict
 returns-then-is_ordered-clause-dict g c = λ holders s.

@@ -1,25 +1,46 @@
-use Rattle.std.proofs.Common.{arith, subst, ◌∷◌, [], refl}
-use Rattle.vc_dtlist.proofs.KeptLemmas.{KeepsBut-none, KeepsTables-but}
-use Rattle.vc_dtlist.proofs.TurnLemmas.{StandsFor-unique}
+use Rattle.std.proofs.Common.{◌≢◌, arith, subst, ◌∙◌, refl}
 use Rattle.vc_dthash.specs.Hashed.{IsTable, list_of}
+use Rattle.vc_dthash.proofs.FillLemmas.{links-cleared}
+use Rattle.vc_dthash.proofs.HashLemmas.{HashFor-adopted, HashFor-unique, IsSlots-some, keeps-adopted}
 use Rattle.vc_dthash.proofs.dt_hash.DtHash.adopt_table.Goals as goal
+
+pub clear-requires : goal.clear-requires
+clear-requires g c = record { there = c.requires.fits.there; enough = omega (arith, c.requires.fits.size) }
+
+pub fill-requires : goal.fill-requires
+fill-requires g c =
+    let r = c.requires in
+    let self = c.args.self.now in
+    let table = c.args.table.0 in
+    let cleared = c.clear.ensures.cleared in
+    let links =
+    links-cleared (list_of self) (g.C.Cells.blocks c.args.cells.now) (g.C.Cells.blocks c.clear.new.cells) table c.args.slots r.holders cleared r.fits.apart r.stands.links in
+    record {
+      holders = r.holders;
+      links = rw c.list.ensures links;
+      many = r.stands.count;
+      place = record { there = cleared.keeps.there table ∙ r.fits.there; enough = rw (cleared.keeps.sizes table) (omega (arith, r.fits.size)) };
+      some = IsSlots-some c.args.slots r.fits.slots_allowed;
+      apart = r.fits.apart;
+      zeros = cleared.zeros;
+    }
 
 pub returns-clause-hash : goal.returns-clause-hash
 returns-clause-hash g c = λ holders s.
-    let b = g.C.Cells.blocks c.args.cells.now in
+    let rules = g.D.DictDisc.rules c.args.kind.now in
+    let self = c.args.self.now in
+    let b0 = g.C.Cells.blocks c.args.cells.now in
+    let b1 = g.C.Cells.blocks c.clear.new.cells in
+    let b2 = g.C.Cells.blocks c.fill.new.cells in
     let table = c.args.table.0 in
-    let same = StandsFor-unique (list_of c.args.self.now) b c.requires.holders holders c.requires.stands.list s.list in
-    let some = (g.met.C.Cells.addresses c.args.cells.now table c.requires.fits.there).some in
+    let fits = subst (λ z. IsTable b0 z table c.args.slots) (HashFor-unique rules rules self b0 c.requires.holders holders c.requires.stands s) c.requires.fits in
+    let address = g.met.C.Cells.addresses c.args.cells.now table fits.there in
+    let some : table ≢ 0 = λ e. absurd (omega (arith, address.some, e)) in
+    let links = links-cleared (list_of self) b0 b1 table c.args.slots holders c.clear.ensures.cleared fits.apart s.links in
+    let filled = c.fill.ensures.filled holders (rw c.list.ensures links) in
     record {
-      stands = record {
-        list = s.list;
-        count = s.count;
-        table = record {
-          none = λ e. absurd (omega (arith, some, e));
-          some = λ _. subst (λ z. IsTable b z table c.args.slots) same c.requires.fits;
-        };
-      };
+      stands = HashFor-adopted rules self b0 b1 b2 c.args.table c.args.slots holders s.links s.count s.hashes fits some c.clear.ensures.cleared filled;
       table = refl;
       slots = refl;
-      keeps = KeepsTables-but (c.args.self.now.table.0 ∷ table ∷ []) holders b b (KeepsBut-none holders b);
+      keeps = keeps-adopted rules self b0 b1 b2 c.args.table c.args.slots holders s.links s.count s.hashes fits some c.clear.ensures.cleared filled;
     }

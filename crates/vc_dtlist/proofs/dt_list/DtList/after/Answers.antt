@@ -23,7 +23,7 @@ link-requires g c =
     record {
       front = p.front ++ mark ∷ [];
       rest = p.rest;
-      stands = s;
+      links = s.links;
       apart = apart_in list b c.args.at.0 c.requires.at ((p.front ++ mark ∷ []) ++ p.rest) s;
       holder = c.requires.at.holder;
       previous = sym (last_of-append 0 p.front (mark ∷ []));

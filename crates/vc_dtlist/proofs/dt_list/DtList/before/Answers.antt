@@ -22,7 +22,7 @@ link-requires g c =
     record {
       front = p.front;
       rest = mark ∷ p.rest;
-      stands = s;
+      links = s.links;
       apart = apart_in list b c.args.at.0 c.requires.at (p.front ++ mark ∷ p.rest) s;
       holder = c.requires.at.holder;
       previous = c.neighbour-previous.ensures ∙ previous_word b p.front mark p.rest s.links.chain;

@@ -1,35 +1,31 @@
-use Rattle.std.proofs.Common.{arith}
+use Rattle.std.proofs.Common.{◌++◌}
+use Rattle.vc_dtlist.proofs.ChainLemmas.{LinksFor-other}
 use Rattle.vc_dtlist.proofs.WordLemmas.{HasBytes-written}
-use Rattle.vc_dtlist.proofs.ChainLemmas.{Chain-front, Chain-rest}
-use Rattle.vc_base.specs.Holders.{first_of, last_of}
-use Rattle.vc_dtlist.proofs.TurnLemmas.{Turned-joined, first_words, last_words}
+use Rattle.vc_dtlist.proofs.TurnLemmas.{Turned-joined, fewer}
 use Rattle.vc_dtlist.proofs.dt_list.DtList.link.Goals as goal
 
-pub set_link-requires-clause-holder : goal.set_link-requires-clause-holder
-set_link-requires-clause-holder g c = λ some.
-    let old = g.C.Cells.blocks c.args.cells.now in
-    let r = c.requires in
-    let ls = Chain-front old 0 r.front r.rest 0 r.stands.links.chain in
-    HasBytes-written old (g.C.Cells.blocks c.set_node.new.cells) c.args.at.0 c.args.before.0 32 c.set_node.ensures.written
-    (last_words old r.front (first_of r.rest 0) c.args.before.0 ls r.previous some)
+pub set_plain-requires : goal.set_plain-requires
+set_plain-requires g c = fewer (g.C.Cells.blocks c.args.cells.now) c.args.at.0 c.requires.holder
 
-pub set_link-requires-2-clause-holder : goal.set_link-requires-2-clause-holder
-set_link-requires-2-clause-holder g c = λ some.
+pub join-requires : goal.join-requires
+join-requires g c =
     let old = g.C.Cells.blocks c.args.cells.now in
-    let mid = g.C.Cells.blocks c.set_node.new.cells in
+    let mid = g.C.Cells.blocks c.set_plain.new.cells in
     let r = c.requires in
-    let rs = Chain-rest old 0 r.front r.rest 0 r.stands.links.chain in
-    HasBytes-written mid (g.C.Cells.blocks c.set_link.new.cells) c.args.before.0 c.args.behind.0 32 c.set_link.ensures.written.written
-    (HasBytes-written old mid c.args.at.0 c.args.behind.0 32 c.set_node.ensures.written
-    (first_words old (last_of 0 r.front) r.rest c.args.behind.0 rs r.next some))
+    record {
+      front = r.front;
+      rest = r.rest;
+      links = LinksFor-other old mid c.args.at.0 c.args.self.now (r.front ++ r.rest) c.set_plain.ensures.written r.apart r.links;
+      apart = r.apart;
+      holder = HasBytes-written old mid c.args.at.0 c.args.at.0 33 c.set_plain.ensures.written r.holder;
+      previous = r.previous;
+      next = r.next;
+    }
 
 pub returns-clause-list : goal.returns-clause-list
 returns-clause-list g c = λ front rest s apart pe ne.
-    let blocks = g.C.Cells.blocks in
-    let law = g.met.C.Cells.addresses in
-    let made = c.set_node.ensures in
-    Turned-joined c.args.self.now _ (blocks c.args.cells.now) (blocks c.set_node.new.cells) (blocks c.set_link.new.cells) (blocks c.set_link-2.new.cells)
-    c.args.before.0 c.args.at.0 c.args.behind.0 front rest s apart pe ne
-    (law c.args.cells.now c.args.at.0 c.requires.holder.there) c.requires.holder (λ some. absurd (omega (arith, (law c.args.cells.now 0 some).some)))
-    made.written made.previous made.next (record { third = made.third; fourth = made.fourth }) c.set_link.ensures.written c.set_link-2.ensures.written
-    c.end_of-self.ensures c.end_of-self-2.ensures
+    let old = g.C.Cells.blocks c.args.cells.now in
+    let mid = g.C.Cells.blocks c.set_plain.new.cells in
+    let w = c.set_plain.ensures.written in
+    Turned-joined old mid (g.C.Cells.blocks c.join.new.cells) c.join.new.self c.args.at.0 front rest s.plain apart w c.set_plain.ensures.plain
+    (c.join.ensures.list front rest (LinksFor-other old mid c.args.at.0 c.args.self.now (front ++ rest) w apart s.links) apart pe ne)

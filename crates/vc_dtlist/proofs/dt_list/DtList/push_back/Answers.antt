@@ -11,7 +11,7 @@ link-requires g c =
     record {
       front = r.holders;
       rest = [];
-      stands = subst (λ z. StandsFor c.args.self.now (g.C.Cells.blocks c.args.cells.now) z) e r.stands;
+      links = (subst (λ z. StandsFor c.args.self.now (g.C.Cells.blocks c.args.cells.now) z) e r.stands).links;
       apart = subst (λ z. contains z c.args.at.0 ≡ false) e r.apart;
       holder = r.holder;
       previous = r.stands.links.last;

@@ -1,0 +1,196 @@
+-- Walks along one chain: to a place in it, and to a key.
+use Rattle.std.proofs.Common.{◌≡◌, ◌≢◌, ℕ, ◌+◌, ◌%◌, ◌<◌, ◌≤◌, ◌^◌, List, [], ◌∷◌, ◌++◌, Bool, true, false, cond, Some, None, length, length-append, refl, sym, ap, ◌∙◌, arith, subst, append_assoc, append-nil}
+use Rattle.std.specs.Prelude.{◌==◌}
+use Rattle.std.specs.List.{find}
+use Rattle.std.specs.Ordering.{is_eq}
+use Rattle.std.specs.declared.cmp.Ordering.{Ordering}
+use Rattle.std.specs.declared.cmp.Ordering.TheVariants.{Equal, Greater, Less}
+use Rattle.std.proofs.lemmas.Bool.{true≢false, eq-eqb}
+use Rattle.vc_base.specs.declared.addr.Addr.{Addr}
+use Rattle.vc_base.specs.Cells.{Blocks, HasBytes, IsAddress, IsHolder, word_at}
+use Rattle.vc_base.specs.Holders.{contains, first_of, last_of}
+use Rattle.vc_dtdisc.specs.Finds.{find_key, has_key, object_at}
+use Rattle.vc_dtdisc.specs.Rules.{AreLawful, Rules}
+use Rattle.vc_dtlist.proofs.HolderLemmas.{apart-head, apart-rest, last_of-append}
+use Rattle.vc_dtlist.proofs.KeptLemmas.{within-head, within-tail}
+use Rattle.vc_dtlist.proofs.TurnLemmas.{fewer}
+use Rattle.vc_dthash.specs.Chained.{FindsInSlot, Leads, chain_of, hash_at}
+use Rattle.vc_dthash.specs.Written.{IsChain, IsPlace}
+use Rattle.vc_dthash.proofs.ChainLemmas.{Leads-fits, in-behind}
+use Rattle.vc_dthash.proofs.FilterLemmas.{filter-find}
+
+-- so many holders before a place were passed, the last of which is named, and the next stands at that address
+pub record Passing (b : Blocks) (front rest : List ℕ) (passed at before : ℕ) : Type 0 where
+  pub done : List ℕ
+  pub left : List ℕ
+  pub whole : front ≡ done ++ left
+  pub count : length done ≡ passed
+  pub leads : Leads b at (left ++ rest) 0
+  pub last : before ≡ last_of 0 done
+
+pub Passing-start : (b : Blocks) (table k count stop : ℕ) (front rest : List ℕ) (at : ℕ) → IsPlace b table k count stop front rest → at ≡ word_at b table k → Passing b front rest 0 at 0
+Passing-start b table k count stop front rest at p e = record {
+  done = [];
+  left = front;
+  whole = refl;
+  count = refl;
+  leads = subst (λ z. Leads b z (front ++ rest) 0) (sym e) p.chain.leads;
+  last = refl;
+}
+
+-- all were passed where the place is met, or as many as may be
+none_left : (b : Blocks) (front done left rest : List ℕ) (at stop : ℕ) → front ≡ done ++ left → Leads b at (left ++ rest) 0 → contains front stop ≡ false → at ≡ stop → left ≡ []
+none_left b front done [] rest at stop whole l apart e = refl
+none_left b front done (y ∷ ys) rest at stop whole l apart e =
+    absurd (apart-head y ys stop (apart-rest done (y ∷ ys) stop (subst (λ z. contains z stop ≡ false) whole apart)) (sym l.0 ∙ e))
+
+all_passed : (front done left : List ℕ) (before : ℕ) → front ≡ done ++ left → before ≡ last_of 0 done → left ≡ [] → before ≡ last_of 0 front
+all_passed front done left before whole last e = last ∙ ap (last_of 0) (sym (whole ∙ (ap (λ z. done ++ z) e ∙ append-nil done)))
+
+pub Passing-met : (b : Blocks) (table k count stop : ℕ) (front rest : List ℕ) (passed at before : ℕ) → IsPlace b table k count stop front rest → Passing b front rest passed at before → at ≡ stop → before ≡ last_of 0 front
+Passing-met b table k count stop front rest passed at before p w e =
+    all_passed front w.done w.left before w.whole w.last (none_left b front w.done w.left rest at stop w.whole w.leads p.apart e)
+
+short : (xs : List ℕ) → length xs ≡ 0 → xs ≡ []
+short [] e = refl
+short (x ∷ xs) e = absurd (omega (arith, e))
+
+pub Passing-over : (b : Blocks) (table k count stop : ℕ) (front rest : List ℕ) (passed at before : ℕ) → IsPlace b table k count stop front rest → Passing b front rest passed at before → count ≤ passed → before ≡ last_of 0 front
+Passing-over b table k count stop front rest passed at before p w h =
+    let long : length front ≡ length w.done + length w.left = ap length w.whole ∙ length-append w.done w.left in
+    all_passed front w.done w.left before w.whole w.last (short w.left (omega (arith, h, p.few, w.count)))
+
+-- else there is a holder
+pub record Further (b : Blocks) (front rest : List ℕ) (passed at : ℕ) : Type 0 where
+  pub words : HasBytes b at 32
+  pub fits : word_at b at 2 < 2 ^ 32
+  pub next : (n : ℕ) → n ≡ word_at b at 2 → Passing b front rest (passed + 1) n at
+
+first_at : (b : Blocks) (at : ℕ) (rest : List ℕ) → Leads b at rest 0 → at ≡ first_of rest 0
+first_at b at [] l = l
+first_at b at (x ∷ xs) l = l.0
+
+further_by : (b : Blocks) (table k count stop : ℕ) (front rest : List ℕ) (passed at before : ℕ) (done left : List ℕ) → IsPlace b table k count stop front rest → front ≡ done ++ left → length done ≡ passed → Leads b at (left ++ rest) 0 → at ≢ stop → Further b front rest passed at
+further_by b table k count stop front rest passed at before done [] p whole many l ne = absurd (ne (first_at b at rest l ∙ sym p.met))
+further_by b table k count stop front rest passed at before done (y ∷ ys) p whole many l ne =
+    let chain : front ++ rest ≡ done ++ (y ∷ ys ++ rest) = ap (λ z. z ++ rest) whole ∙ append_assoc done (y ∷ ys) rest in
+    let within : (a : ℕ) → contains (y ∷ ys ++ rest) a ≡ true → contains (front ++ rest) a ≡ true =
+    λ a h. subst (λ z. contains z a ≡ true) (sym chain) (in-behind done (y ∷ ys ++ rest) a h) in
+    let holder : IsHolder b y = p.chain.holders y (within y (within-head y (ys ++ rest))) in
+    record {
+      words = subst (λ z. HasBytes b z 32) (sym l.0) (fewer b y holder);
+      fits = subst (λ z. word_at b z 2 < 2 ^ 32) (sym l.0)
+          (Leads-fits b (word_at b y 2) (ys ++ rest) (λ a h. p.chain.addresses a (within a (within-tail y (ys ++ rest) a h))) l.1);
+      next = λ n e. record {
+        done = done ++ y ∷ [];
+        left = ys;
+        whole = whole ∙ sym (append_assoc done (y ∷ []) ys);
+        count = length-append done (y ∷ []) ∙ omega (arith, many);
+        leads = subst (λ z. Leads b z (ys ++ rest) 0) (sym (e ∙ ap (λ z. word_at b z 2) l.0)) l.1;
+        last = l.0 ∙ sym (last_of-append 0 done (y ∷ []));
+      };
+    }
+
+pub Passing-further : (b : Blocks) (table k count stop : ℕ) (front rest : List ℕ) (passed at before : ℕ) → IsPlace b table k count stop front rest → Passing b front rest passed at before → at ≢ stop → Further b front rest passed at
+Passing-further b table k count stop front rest passed at before p w ne =
+    further_by b table k count stop front rest passed at before w.done w.left p w.whole w.count w.leads ne
+
+-- so many holders of a chain were passed, none of which passes a test, by at most a step for each
+pub record Walked (b : Blocks) (test : ℕ → Bool) (chain : List ℕ) (passed at start now : ℕ) : Type 0 where
+  pub rest : List ℕ
+  pub count : length rest + passed ≡ length chain
+  pub within : (a : ℕ) → contains rest a ≡ true → contains chain a ≡ true
+  pub leads : Leads b at rest 0
+  pub none : find test chain ≡ find test rest
+  pub steps : now ≤ start + passed
+
+pub Walked-start : (b : Blocks) (test : ℕ → Bool) (table k : ℕ) (chain : List ℕ) (at start : ℕ) → IsChain b table k chain → at ≡ word_at b table k → Walked b test chain 0 at start start
+Walked-start b test table k chain at start c e = record {
+  rest = chain;
+  count = omega arith;
+  within = λ a h. h;
+  leads = subst (λ z. Leads b z chain 0) (sym e) c.leads;
+  none = refl;
+  steps = omega arith;
+}
+
+-- the end of the chain
+at_end : (b : Blocks) (test : ℕ → Bool) (at : ℕ) (rest : List ℕ) → ((a : ℕ) → contains rest a ≡ true → IsAddress a) → Leads b at rest 0 → at ≡ 0 → find test rest ≡ None
+at_end b test at [] f l e = refl
+at_end b test at (y ∷ ys) f l e = let w = f y (within-head y ys) in absurd (omega (arith, w.some, l.0, e))
+
+pub Walked-end : (b : Blocks) (test : ℕ → Bool) (table k : ℕ) (chain : List ℕ) (passed at start now : ℕ) → IsChain b table k chain → Walked b test chain passed at start now → at ≡ 0 → None ≡ find test chain
+Walked-end b test table k chain passed at start now c w e = sym (w.none ∙ at_end b test at w.rest (λ a h. c.addresses a (w.within a h)) w.leads e)
+
+pub Walked-over : (b : Blocks) (test : ℕ → Bool) (chain : List ℕ) (passed at start now : ℕ) → Walked b test chain passed at start now → length chain ≤ passed → None ≡ find test chain
+Walked-over b test chain passed at start now w h =
+    sym (w.none ∙ ap (find test) (short w.rest (omega (arith, h, w.count))))
+
+-- a holder of it
+pub record Next (b : Blocks) (test : ℕ → Bool) (chain : List ℕ) (passed at start now : ℕ) : Type 0 where
+  pub within : contains chain at ≡ true
+  pub words : HasBytes b at 32
+  pub fits : word_at b at 2 < 2 ^ 32
+  pub room : passed + 1 ≤ length chain
+  pub found : test at ≡ true → Some at ≡ find test chain
+  pub step : test at ≡ false → (n after : ℕ) → n ≡ word_at b at 2 → after ≤ now + 1 → Walked b test chain (passed + 1) n start after
+
+next_by : (b : Blocks) (test : ℕ → Bool) (table k : ℕ) (chain : List ℕ) (passed at start now : ℕ) (rest : List ℕ) → IsChain b table k chain → length rest + passed ≡ length chain → ((a : ℕ) → contains rest a ≡ true → contains chain a ≡ true) → Leads b at rest 0 → find test chain ≡ find test rest → now ≤ start + passed → at ≢ 0 → Next b test chain passed at start now
+next_by b test table k chain passed at start now [] c many within l none steps some = absurd (some l)
+next_by b test table k chain passed at start now (y ∷ ys) c many within l none steps some =
+    let here : contains chain y ≡ true = within y (within-head y ys) in
+    let same : test y ≡ test at = ap test (sym l.0) in
+    record {
+      within = subst (λ z. contains chain z ≡ true) (sym l.0) here;
+      words = subst (λ z. HasBytes b z 32) (sym l.0) (fewer b y (c.holders y here));
+      fits = subst (λ z. word_at b z 2 < 2 ^ 32) (sym l.0)
+          (Leads-fits b (word_at b y 2) ys (λ a h. c.addresses a (within a (within-tail y ys a h))) l.1);
+      room = omega (arith, many);
+      found = λ t. sym (none ∙ (ap (λ z. cond z (Some y) (find test ys)) (same ∙ t) ∙ ap (λ z. Some z) (sym l.0)));
+      step = λ t n after e f. record {
+        rest = ys;
+        count = omega (arith, many);
+        within = λ a h. within a (within-tail y ys a h);
+        leads = subst (λ z. Leads b z ys 0) (sym (e ∙ ap (λ z. word_at b z 2) l.0)) l.1;
+        none = none ∙ ap (λ z. cond z (Some y) (find test ys)) (same ∙ t);
+        steps = omega (arith, f, steps);
+      };
+    }
+
+pub Walked-next : (b : Blocks) (test : ℕ → Bool) (table k : ℕ) (chain : List ℕ) (passed at start now : ℕ) → IsChain b table k chain → Walked b test chain passed at start now → at ≢ 0 → Next b test chain passed at start now
+Walked-next b test table k chain passed at start now c w some =
+    next_by b test table k chain passed at start now w.rest c w.count w.within w.leads w.none w.steps some
+
+-- equal keys have equal hashes, so the first of a list with a key is the first of its chain
+equal_by : (o : Ordering) → is_eq o ≡ true → o ≡ Equal
+equal_by Less e = absurd (true≢false (sym e))
+equal_by Equal e = refl
+equal_by Greater e = absurd (true≢false (sym e))
+
+pub hash-found : (rules : Rules) (b : Blocks) (key : List ℕ) (at : ℕ) → AreLawful rules → has_key rules b key at ≡ true → hash_at rules b at ≡ rules.hash key
+hash-found rules b key at law h = law.hashes (rules.key (object_at b at)) key (equal_by (rules.compare (rules.key (object_at b at)) key) h)
+
+other_by : (rules : Rules) (b : Blocks) (key : List ℕ) (at : ℕ) (t : Bool) → AreLawful rules → has_key rules b key at ≡ t → hash_at rules b at ≢ rules.hash key → has_key rules b key at ≡ false
+other_by rules b key at true law e ne = absurd (ne (hash-found rules b key at law e))
+other_by rules b key at false law e ne = e
+
+pub hash-other : (rules : Rules) (b : Blocks) (key : List ℕ) (at : ℕ) → AreLawful rules → hash_at rules b at ≢ rules.hash key → has_key rules b key at ≡ false
+hash-other rules b key at law ne = other_by rules b key at (has_key rules b key at) law refl ne
+
+pub found-in_chain : (rules : Rules) (b : Blocks) (slots : ℕ) (key holders : List ℕ) → AreLawful rules → find (has_key rules b key) (chain_of (hash_at rules b) slots (rules.hash key % slots) holders) ≡ find_key rules b key holders
+found-in_chain rules b slots key holders law =
+    filter-find (λ a. hash_at rules b a % slots == rules.hash key % slots) (has_key rules b key) holders
+    (λ a h. eq-eqb (hash_at rules b a % slots) (rules.hash key % slots) (ap (λ z. z % slots) (hash-found rules b key a law h)))
+
+-- what a walk found, or that it found nothing
+pub FindsInSlot-none : (rules : Rules) (b : Blocks) (slots : ℕ) (key holders : List ℕ) (passed at start now : ℕ) → AreLawful rules → Walked b (has_key rules b key) (chain_of (hash_at rules b) slots (rules.hash key % slots) holders) passed at start now → None ≡ find (has_key rules b key) (chain_of (hash_at rules b) slots (rules.hash key % slots) holders) → FindsInSlot rules slots b key holders None start now
+FindsInSlot-none rules b slots key holders passed at start now law w e = record {
+  first = e ∙ found-in_chain rules b slots key holders law;
+  steps = omega (arith, w.steps, w.count);
+}
+
+pub FindsInSlot-some : (rules : Rules) (b : Blocks) (slots : ℕ) (key holders : List ℕ) (passed start now after : ℕ) (at : Addr) → AreLawful rules → Walked b (has_key rules b key) (chain_of (hash_at rules b) slots (rules.hash key % slots) holders) passed at.0 start now → Next b (has_key rules b key) (chain_of (hash_at rules b) slots (rules.hash key % slots) holders) passed at.0 start now → has_key rules b key at.0 ≡ true → after ≤ now + 1 → FindsInSlot rules slots b key holders (Some at) start after
+FindsInSlot-some rules b slots key holders passed start now after at law w n t h = record {
+  first = n.found t ∙ found-in_chain rules b slots key holders law;
+  steps = omega (arith, w.steps, n.room, h);
+}

@@ -1,0 +1,10 @@
+use Rattle.std.proofs.Common.{ℕ, List}
+use Rattle.vc_dtlist.specs.Linked.{LinksFor}
+use Rattle.vc_dthash.specs.Chained.{IsHashed}
+use Rattle.vc_dthash.proofs.MarkLemmas.{Marking}
+use Rattle.vc_dthash.proofs.chains.hash_all.Given as goal
+
+abbrev pub invariant-loop-passed : goal.invariant-loop-passed
+invariant-loop-passed g l =
+    ((holders : List ℕ) → LinksFor l.fn.list (g.C.Cells.blocks l.initial.cells) holders → Marking (IsHashed (g.D.DictDisc.rules l.kind)) (g.C.Cells.blocks l.initial.cells) (g.C.Cells.blocks l.cells) holders l._passed l.at.0)
+    × (g.C.Cells.RestStays l.initial.cells l.cells)

@@ -1,0 +1,36 @@
+-- The chains of a table: holders whose keys' hashes belong to one slot.
+use Rattle.std.specs.Prelude.{◌≡◌, ℕ, ◌+◌, ◌%◌, ◌≤◌, ◌<◌, List, [], ◌∷◌, Option, ◌==◌, length}
+use Rattle.std.specs.List.{filter}
+use Rattle.std.specs.Option.{option_map}
+use Rattle.vc_base.specs.declared.addr.Addr.{Addr}
+use Rattle.vc_base.specs.Cells.{Blocks, word_at}
+use Rattle.vc_dtdisc.specs.Finds.{find_key, object_at}
+use Rattle.vc_dtdisc.specs.Rules.{Rules}
+use Rattle.vc_dtlist.specs.Linked.{number_of}
+
+-- the hash of a holder's key
+abbrev pub hash_at : Rules → Blocks → ℕ → ℕ
+hash_at rules blocks at = rules.hash (rules.key (object_at blocks at))
+
+-- word 3 of a holder is that hash
+abbrev pub IsHashed : Rules → Blocks → ℕ → Type 0
+IsHashed rules blocks at = word_at blocks at 3 ≡ hash_at rules blocks at
+
+-- those of these holders whose hash belongs to slot k
+abbrev pub chain_of : (ℕ → ℕ) → ℕ → ℕ → List ℕ → List ℕ
+chain_of hash slots k holders = filter (λ at. hash at % slots == k) holders
+
+-- from an address on each of these holders names the next one by its word 2, and the last names an address behind them
+abbrev pub Leads : Blocks → ℕ → List ℕ → ℕ → Type 0
+Leads blocks at [] behind = at ≡ behind
+Leads blocks at (x ∷ xs) behind = (at ≡ x) × Leads blocks (word_at blocks x 2) xs behind
+
+-- each slot of a table leads through the holders that belong to it, in their order
+abbrev pub AreChained : (ℕ → ℕ) → Blocks → ℕ → ℕ → List ℕ → Type 0
+AreChained hash blocks table slots holders =
+    (k : ℕ) → k < slots → Leads blocks (word_at blocks table k) (chain_of hash slots k holders) 0
+
+-- the first of these holders with that key was found, by at most one step for each that belongs to the key's slot
+pub record FindsInSlot (rules : Rules) (slots : ℕ) (blocks : Blocks) (key holders : List ℕ) (result : Option Addr) (before after : ℕ) : Type 0 where
+  pub first : option_map number_of result ≡ find_key rules blocks key holders
+  pub steps : after ≤ before + length (chain_of (hash_at rules blocks) slots (rules.hash key % slots) holders)

@@ -1,0 +1,35 @@
+use Rattle.std.proofs.Common.{arith}
+use Rattle.vc_dtlist.proofs.WordLemmas.{HasBytes-written}
+use Rattle.vc_dtlist.proofs.ChainLemmas.{Chain-front, Chain-rest}
+use Rattle.vc_base.specs.Holders.{first_of, last_of}
+use Rattle.vc_dtlist.proofs.TurnLemmas.{Relinked-joined, first_words, last_words}
+use Rattle.vc_dtlist.proofs.dt_list.DtList.join.Goals as goal
+
+pub set_link-requires-clause-holder : goal.set_link-requires-clause-holder
+set_link-requires-clause-holder g c = λ some.
+    let old = g.C.Cells.blocks c.args.cells.now in
+    let r = c.requires in
+    let ls = Chain-front old 0 r.front r.rest 0 r.links.chain in
+    HasBytes-written old (g.C.Cells.blocks c.set_ends.new.cells) c.args.at.0 c.args.before.0 32 c.set_ends.ensures.written
+    (last_words old r.front (first_of r.rest 0) c.args.before.0 ls r.previous some)
+
+pub set_link-requires-2-clause-holder : goal.set_link-requires-2-clause-holder
+set_link-requires-2-clause-holder g c = λ some.
+    let old = g.C.Cells.blocks c.args.cells.now in
+    let mid = g.C.Cells.blocks c.set_ends.new.cells in
+    let r = c.requires in
+    let rs = Chain-rest old 0 r.front r.rest 0 r.links.chain in
+    HasBytes-written mid (g.C.Cells.blocks c.set_link.new.cells) c.args.before.0 c.args.behind.0 32 c.set_link.ensures.written.written
+    (HasBytes-written old mid c.args.at.0 c.args.behind.0 32 c.set_ends.ensures.written
+    (first_words old (last_of 0 r.front) r.rest c.args.behind.0 rs r.next some))
+
+pub returns-clause-list : goal.returns-clause-list
+returns-clause-list g c = λ front rest s apart pe ne.
+    let blocks = g.C.Cells.blocks in
+    let law = g.met.C.Cells.addresses in
+    let made = c.set_ends.ensures in
+    Relinked-joined c.args.self.now _ (blocks c.args.cells.now) (blocks c.set_ends.new.cells) (blocks c.set_link.new.cells) (blocks c.set_link-2.new.cells)
+    c.args.before.0 c.args.at.0 c.args.behind.0 front rest s apart pe ne
+    (law c.args.cells.now c.args.at.0 c.requires.holder.there) c.requires.holder (λ some. absurd (omega (arith, (law c.args.cells.now 0 some).some)))
+    made.written made.previous made.next c.set_link.ensures.written c.set_link-2.ensures.written
+    c.end_of-self.ensures c.end_of-self-2.ensures made.words
