@@ -1,5 +1,5 @@
 -- What a region's answer leaves of its discipline, and what a fault of it tells.
-use Rattle.std.proofs.Common.{◌≡◌, ◌≢◌, ℕ, Bool, List, ◌++◌, Some, Result, Ok, Err, IfOk, option_map, refl, sym, ap, ◌∙◌, subst, arith, ◌-◌, length, take}
+use Rattle.std.proofs.Common.{◌≡◌, ◌≢◌, ℕ, Bool, List, ◌++◌, Some, Result, Ok, Err, IfOk, OnErr, option_map, refl, sym, ap, ◌∙◌, subst, arith, ◌-◌, length, take}
 use Rattle.std.proofs.lemmas.Option.{same_Some, none-some}
 use Rattle.vc_base.specs.declared.addr.Addr.{Addr}
 use Rattle.vc_base.specs.Cells.{Blocks}
@@ -157,6 +157,11 @@ put-served tag x (Err fault) old new result d e s s' n named asks other = told-s
 pub if_ok-all : {E : Type 0} (result : Result Reply E) (P : List ℕ → Reply → Type 0) → ((name : List ℕ) → IfOk result (P name)) → IfOk result (λ told. (name : List ℕ) → P name told)
 if_ok-all (Ok told) P all = all
 if_ok-all (Err e) P all = tt
+
+-- what holds anyway holds where no answer came
+pub err-all : {E P : Type 0} (result : Result Reply E) → P → OnErr result P
+err-all (Ok told) p = tt
+err-all (Err e) p = p
 
 -- a refusal leaves the region
 pub gives-unchanged : (h : Home) (c : Changed) (w : Refusal) → c ≡ unchanged h w → GivesRegion c (h.region, h.kept) (reply.Refused w)

@@ -1,5 +1,5 @@
 -- The block of a name, in a region with tags and in the one with names.
-use Rattle.std.proofs.Common.{◌≡◌, ℕ, ◌≤◌, suc, Bool, true, false, ◌||◌, ◌&&◌, is_some, List, [], ◌∷◌, Some, None, option_map, map, refl, sym, ap, ◌∙◌, ⊎_elim, arith}
+use Rattle.std.proofs.Common.{◌≡◌, ℕ, ◌≤◌, suc, Bool, true, false, ◌||◌, ◌&&◌, is_some, List, [], ◌∷◌, Option, Some, None, option_map, map, refl, sym, ap, ◌∙◌, ⊎_elim, arith}
 use Rattle.std.specs.Prelude.{Contains, find, ◌==◌}
 use Rattle.std.specs.List.{list_any}
 use Rattle.std.specs.Str.{bytes_eq}
@@ -9,7 +9,12 @@ use Rattle.vc_model.specs.Addr.{place_of}
 use Rattle.vc_model.specs.Layout.{Block, address_of, relabel_block}
 use Rattle.vc_region.specs.Region.{Region, blocks_of, relabelled}
 use Rattle.vc_model.specs.Place.{IsAlign}
-use Rattle.vc_model.specs.Touch.{find_block}
+use Rattle.vc_model.specs.Touch.{HasBlock, find_block}
+use Rattle.vc_base.specs.declared.addr.Addr.{Addr}
+use Rattle.vc_region.specs.Cells.{rest_in}
+use Rattle.vc_region.specs.Parts.{region_of}
+use Rattle.vc_region.specs.declared.region.Region.{Region as Open}
+use Rattle.vc_region.proofs.RestFound.{has-rest}
 use Rattle.vc_model.proofs.Places.{Among, among-all, among-find, found-there, place-of}
 use Rattle.vc_model.proofs.Relabel.{find-relabel}
 use Rattle.vc_region.proofs.Relabel.{blocks-relabelled}
@@ -76,6 +81,11 @@ module _ (r : Region ℕ) (labels : Labels) (x : List ℕ) (tag : ℕ) (label : 
             ∙ (find-relabel f (named_by f x) (is_block x) (λ c. refl) (blocks_of r)
             ∙ ap (option_map (relabel_block f)) passes.found);
       }
+
+-- it stands in a region of its tags at the address of the name
+pub name-there : {I : Type 0} {V : I → Type 0} (r : Open I V) (labels : Labels) (x : List ℕ) (at : Addr) → IsNamed (rest_in r) labels
+    → (tag : ℕ) × (tag_of labels x ≡ Some tag) × (let o : Option Label = Some (record { name = x; at = at }) in label_at labels tag ≡ o) → HasBlock (blocks_of (region_of r)) at.0
+name-there r labels x at names f = has-rest (region_of r) at.0 (the_block (rest_in r) labels x f.0 (record { name = x; at = at }) names refl f.1 f.2).there
 
 -- what is done with it
 pub on_block-there : (h : Held) (x : List ℕ) (tag a : ℕ) (b : TheBlock h.region h.labels x tag a) (act : Block home.Label → Changed) → on_block (home_of h) x act ≡ act (relabel_block (name_of h.labels) b.block)

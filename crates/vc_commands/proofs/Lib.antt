@@ -1,5 +1,6 @@
 pub mod Named
 mod Ran
+mod Runs
 mod Seats
 mod Apart
 mod Walking

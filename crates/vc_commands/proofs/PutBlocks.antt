@@ -99,94 +99,109 @@ put-address (Refused why) a r' is = absurd is
 abbrev name_with : Labels → ℕ → List ℕ → ℕ → home.Label
 name_with labels tag x t = cond (t == tag) (Some x) (name_of labels t)
 
--- the labels with room for one more, and the region and the labels after the call, which is that of the tags and that of the names
-module _ (h : Held) (x : List ℕ) (legal : Option Refusal) (names : IsNamed h.region h.labels) (allowed : new_refused h.labels x legal ≡ None) (mid : Labels) (same : SameLabels h.labels mid) (mid_agree : AreLabels mid) (tag : ℕ) (first : 1 ≤ tag) (vacant : label_at mid tag ≡ None) (call : Bool → Outcome (Put (Region ℕ))) (called : Bool → Outcome (Put (Region home.Label))) (commutes : (f : ℕ → home.Label) → f tag ≡ Some x → relabelled f h.region ≡ (home_of h).region → (refused : Bool) → called refused ≡ outcome_as (relabelled f) (call refused)) (stays : (a : ℕ) (r' : Region ℕ) → IsPut (call false) a r' → keeps_freed r' ≡ keeps_freed h.region) (region : Region ℕ) (new : Labels) where
-  mid-names : IsNamed h.region mid
-  mid-names = isnamed-same h.region h.labels mid same mid_agree names
+-- a block that is put under a name: the labels with room for one more, its tag, and the call, that of the tags and that of the names
+pub record Putting (h : Held) (x : List ℕ) (legal : Option Refusal) : Type 0 where
+  pub names : IsNamed h.region h.labels
+  pub allowed : new_refused h.labels x legal ≡ None
+  pub mid : Labels
+  pub same : SameLabels h.labels mid
+  pub agree : AreLabels mid
+  pub tag : ℕ
+  pub first : 1 ≤ tag
+  pub vacant : label_at mid tag ≡ None
+  pub call : Bool → Outcome (Put (Region ℕ))
+  pub called : Bool → Outcome (Put (Region home.Label))
+  pub commutes : (f : ℕ → home.Label) → f tag ≡ Some x → relabelled f h.region ≡ (home_of h).region → (refused : Bool) → called refused ≡ outcome_as (relabelled f) (call refused)
+  pub stays : (a : ℕ) (r' : Region ℕ) → IsPut (call false) a r' → keeps_freed r' ≡ keeps_freed h.region
 
-  with-new : name_with mid tag x tag ≡ Some x
-  with-new = ap (λ b. cond b (Some x) (name_of mid tag)) (eq-eqb tag tag refl)
+-- the region and the labels after the call
+module _ (h : Held) (x : List ℕ) (legal : Option Refusal) (p : Putting h x legal) (region : Region ℕ) (new : Labels) where
+  mid-names : IsNamed h.region p.mid
+  mid-names = isnamed-same h.region h.labels p.mid p.same p.agree p.names
 
-  with-other : (t : ℕ) → t ≢ tag → name_with mid tag x t ≡ name_of mid t
+  with-new : name_with p.mid p.tag x p.tag ≡ Some x
+  with-new = ap (λ b. cond b (Some x) (name_of p.mid p.tag)) (eq-eqb p.tag p.tag refl)
+
+  with-other : (t : ℕ) → t ≢ p.tag → name_with p.mid p.tag x t ≡ name_of p.mid t
   with-other t other =
-      let differs : (t == tag) ≡ false = grind (arith, nat_tests, other) in
-      ap (λ b. cond b (Some x) (name_of mid t)) differs
+      let differs : (t == p.tag) ≡ false = grind (arith, nat_tests, other) in
+      ap (λ b. cond b (Some x) (name_of p.mid t)) differs
 
   -- no block has the tag, so that any name may be its name
-  with-old : relabelled (name_with mid tag x) h.region ≡ (home_of h).region
+  with-old : relabelled (name_with p.mid p.tag x) h.region ≡ (home_of h).region
   with-old =
-      relabelled-alike (name_with mid tag x) (name_of mid) h.region (go (blocks_of h.region) mid-names.live)
-      ∙ relabelled-same h.labels mid h.region same
+      relabelled-alike (name_with p.mid p.tag x) (name_of p.mid) h.region (go (blocks_of h.region) mid-names.live)
+      ∙ relabelled-same h.labels p.mid h.region p.same
     where
-      go : (bs : List (Block ℕ)) → AllByRecursion (λ b. 1 ≤ b.label → IsLive mid b) bs → AllByRecursion (λ b. name_with mid tag x b.label ≡ name_of mid b.label) bs
+      go : (bs : List (Block ℕ)) → AllByRecursion (λ b. 1 ≤ b.label → IsLive p.mid b) bs → AllByRecursion (λ b. name_with p.mid p.tag x b.label ≡ name_of p.mid b.label) bs
       go [] all = tt
       go (b ∷ bs) all = (
         with-other b.label (λ e.
-            let l = all.0 (subst (λ t. 1 ≤ t) (sym e) first) in
-            none-some l.label (sym vacant ∙ (ap (label_at mid) (sym e) ∙ l.here))),
+            let l = all.0 (subst (λ t. 1 ≤ t) (sym e) p.first) in
+            none-some l.label (sym p.vacant ∙ (ap (label_at p.mid) (sym e) ∙ l.here))),
         go bs all.1,
       )
 
   -- a fault leaves the region and its names
-  back : new ≡ mid → region ≡ h.region → relabelled (name_of new) region ≡ (home_of h).region
+  back : new ≡ p.mid → region ≡ h.region → relabelled (name_of new) region ≡ (home_of h).region
   back labels_same region_same =
       ap (λ l. relabelled (name_of l) region) labels_same
-      ∙ (ap (relabelled (name_of mid)) region_same ∙ relabelled-same h.labels mid h.region same)
+      ∙ (ap (relabelled (name_of p.mid)) region_same ∙ relabelled-same h.labels p.mid h.region p.same)
 
-  taken : kept_of new ≡ without_name x (kept_of mid) → kept_of new ≡ without_name x (kept_of h.labels)
-  taken e = e ∙ ap (without_name x) same.kept
+  taken : kept_of new ≡ without_name x (kept_of p.mid) → kept_of new ≡ without_name x (kept_of h.labels)
+  taken e = e ∙ ap (without_name x) p.same.kept
 
-  gives-new : (a : Addr) → WithLabel mid new tag (record { name = x; at = a }) → kept_of new ≡ without_name x (kept_of mid) → IsPut (call false) a.0 region → GivesRegion (put_new (home_of h) x legal (called false)) (relabelled (name_of new) region, kept_of new) (at_place x (place_of a.0) None)
+  gives-new : (a : Addr) → WithLabel p.mid new p.tag (record { name = x; at = a }) → kept_of new ≡ without_name x (kept_of p.mid) → IsPut (p.call false) a.0 region → GivesRegion (put_new (home_of h) x legal (p.called false)) (relabelled (name_of new) region, kept_of new) (at_place x (place_of a.0) None)
   gives-new a w keeps is =
       let k = home_of h in
       let label : Label = record { name = x; at = a } in
       let f = name_of new in
-      let old : relabelled f h.region ≡ k.region = region-more mid new tag label w vacant h.region mid-names ∙ relabelled-same h.labels mid h.region same in
+      let old : relabelled f h.region ≡ k.region = region-more p.mid new p.tag label w p.vacant h.region mid-names ∙ relabelled-same h.labels p.mid h.region p.same in
       let kept = without_name x (kept_of h.labels) in
-      let eq : put_new k x legal (called false) ≡ put_in k x kept None (outcome_as (relabelled f) (call false)) =
-      put_new-none h x legal (called false) names allowed ∙ ap (put_in k x kept None) (commutes f (name-new mid new tag label w vacant) old false) in
+      let eq : put_new k x legal (p.called false) ≡ put_in k x kept None (outcome_as (relabelled f) (p.call false)) =
+      put_new-none h x legal (p.called false) p.names p.allowed ∙ ap (put_in k x kept None) (p.commutes f (name-new p.mid new p.tag label w p.vacant) old false) in
       subst (λ c. GivesRegion c (relabelled f region, kept_of new) (at_place x (place_of a.0) None)) (sym eq)
-      (subst (λ q. GivesRegion (put_in k x kept None (outcome_as (relabelled f) (call false))) (relabelled f region, q) (at_place x (place_of a.0) None)) (sym (taken keeps))
-      (gives-put k x kept None f (call false) a.0 region is))
+      (subst (λ q. GivesRegion (put_in k x kept None (outcome_as (relabelled f) (p.call false))) (relabelled f region, q) (at_place x (place_of a.0) None)) (sym (taken keeps))
+      (gives-put k x kept None f (p.call false) a.0 region is))
 
-  gives-refused : (told : Reply) → Told call told → new ≡ mid → region ≡ h.region → GivesRegion (put_new (home_of h) x legal (called (is_for_block (need_shown told)))) (relabelled (name_of new) region, kept_of new) told
+  gives-refused : (told : Reply) → Told p.call told → new ≡ p.mid → region ≡ h.region → GivesRegion (put_new (home_of h) x legal (p.called (is_for_block (need_shown told)))) (relabelled (name_of new) region, kept_of new) told
   gives-refused told t labels_same region_same =
       let k = home_of h in
       let u = is_for_block (need_shown told) in
-      let f = name_with mid tag x in
-      let eq : put_new k x legal (called u) ≡ put_in k x (without_name x (kept_of h.labels)) None (outcome_as (relabelled f) (Refused t.fault)) =
-      put_new-none h x legal (called u) names allowed ∙ ap (put_in k x (without_name x (kept_of h.labels)) None) (commutes f with-new with-old u ∙ ap (outcome_as (relabelled f)) t.refused) in
-      subst (λ c. GivesRegion c (relabelled (name_of new) region, kept_of new) told) (sym eq) (record { region_after = sym (back labels_same region_same); kept_after = sym (ap kept_of labels_same ∙ same.kept); replied = t.is })
+      let f = name_with p.mid p.tag x in
+      let eq : put_new k x legal (p.called u) ≡ put_in k x (without_name x (kept_of h.labels)) None (outcome_as (relabelled f) (Refused t.fault)) =
+      put_new-none h x legal (p.called u) p.names p.allowed ∙ ap (put_in k x (without_name x (kept_of h.labels)) None) (p.commutes f with-new with-old u ∙ ap (outcome_as (relabelled f)) t.refused) in
+      subst (λ c. GivesRegion c (relabelled (name_of new) region, kept_of new) told) (sym eq) (record { region_after = sym (back labels_same region_same); kept_after = sym (ap kept_of labels_same ∙ p.same.kept); replied = t.is })
 
   -- the reply is that of the definitions
-  pub step-put : {E : Type 0} (put : Result Addr RegionFault) (result : Result Reply E) → NamesPut tag x put mid new result → Answers call put h.region region → IfOk result (λ told. GivesRegion (put_new (home_of h) x legal (called (is_for_block (need_shown told)))) (relabelled (name_of new) region, kept_of new) told)
+  pub step-put : {E : Type 0} (put : Result Addr RegionFault) (result : Result Reply E) → NamesPut p.tag x put p.mid new result → Answers p.call put h.region region → IfOk result (λ told. GivesRegion (put_new (home_of h) x legal (p.called (is_for_block (need_shown told)))) (relabelled (name_of new) region, kept_of new) told)
   step-put (Ok a) (Ok told) named answers =
       let is : told ≡ at_place x (place_of a.0) None = ap (get_ok told) named.0 in
-      subst (λ t. GivesRegion (put_new (home_of h) x legal (called (is_for_block (need_shown t)))) (relabelled (name_of new) region, kept_of new) t) (sym is) (gives-new a named.1 named.3 answers)
-  step-put (Err fault) (Ok told) named answers = gives-refused told (fault-told call fault told named.0 answers.0) named.1 answers.1
+      subst (λ t. GivesRegion (put_new (home_of h) x legal (p.called (is_for_block (need_shown t)))) (relabelled (name_of new) region, kept_of new) t) (sym is) (gives-new a named.1 named.3 answers)
+  step-put (Err fault) (Ok told) named answers = gives-refused told (fault-told p.call fault told named.0 answers.0) named.1 answers.1
   step-put put (Err e) named answers = tt
 
   -- with no memory the region stays
-  pub err-put : {E : Type 0} (put : Result Addr RegionFault) (result : Result Reply E) → NamesPut tag x put mid new result → Answers call put h.region region → OnErr result ((let p : Region home.Label × Kept = (relabelled (name_of new) region, kept_of new) in p) ≡ ((home_of h).region, (home_of h).kept))
+  pub err-put : {E : Type 0} (put : Result Addr RegionFault) (result : Result Reply E) → NamesPut p.tag x put p.mid new result → Answers p.call put h.region region → OnErr result ((let p : Region home.Label × Kept = (relabelled (name_of new) region, kept_of new) in p) ≡ ((home_of h).region, (home_of h).kept))
   err-put (Ok a) (Err e) named answers = absurd (subst IsAn (sym named.0) tt)
-  err-put (Err fault) (Err e) named answers = both-same (relabelled (name_of new) region) (home_of h).region (kept_of new) (home_of h).kept (back named.1 answers.1) (ap kept_of named.1 ∙ same.kept)
+  err-put (Err fault) (Err e) named answers = both-same (relabelled (name_of new) region) (home_of h).region (kept_of new) (home_of h).kept (back named.1 answers.1) (ap kept_of named.1 ∙ p.same.kept)
   err-put put (Ok told) named answers = tt
 
   module _ (disc : Discipline) (need size : ℕ) where
-    names-put : {E : Type 0} (put : Result Addr RegionFault) (result : Result Reply E) → NamesPut tag x put mid new result → Answers call put h.region region → IfOk put (λ a. find_block (place_of a.0) (blocks_of region) ≡ Some (zeros tag size (place_of a.0))) → IfOk put (λ a. without_block (place_of a.0) (blocks_of region) ≡ blocks_of h.region) → HaveOwnPlaces (blocks_of region) → IsNamed region new
+    names-put : {E : Type 0} (put : Result Addr RegionFault) (result : Result Reply E) → NamesPut p.tag x put p.mid new result → Answers p.call put h.region region → IfOk put (λ a. find_block (place_of a.0) (blocks_of region) ≡ Some (zeros p.tag size (place_of a.0))) → IfOk put (λ a. without_block (place_of a.0) (blocks_of region) ≡ blocks_of h.region) → HaveOwnPlaces (blocks_of region) → IsNamed region new
     names-put (Ok a) result named answers there others places =
-        named-put mid new tag (record { name = x; at = a }) named.1 vacant h.region region size there others (put-address (call false) a.0 region answers) named.2 places (λ e. taken named.3 ∙ ap (without_name x) (names.none (sym (stays a.0 region answers) ∙ e))) mid-names
+        named-put p.mid new p.tag (record { name = x; at = a }) named.1 p.vacant h.region region size there others (put-address (p.call false) a.0 region answers) named.2 places (λ e. taken named.3 ∙ ap (without_name x) (p.names.none (sym (p.stays a.0 region answers) ∙ e))) mid-names
     names-put (Err fault) result named answers there others places =
-        subst (λ l. IsNamed region l) (sym named.1) (subst (λ r. IsNamed r mid) (sym answers.1) mid-names)
+        subst (λ l. IsNamed region l) (sym named.1) (subst (λ r. IsNamed r p.mid) (sym answers.1) mid-names)
 
-    pub change-put : {E : Type 0} (put : Result Addr RegionFault) (result : Result Reply E) → NamesPut tag x put mid new result → Answers call put h.region region → Asks put h.disc disc (segments_of h.region) (segments_of region) need → IfOk put (λ a. find_block (place_of a.0) (blocks_of region) ≡ Some (zeros tag size (place_of a.0))) → IfOk put (λ a. without_block (place_of a.0) (blocks_of region) ≡ blocks_of h.region) → HaveOwnPlaces (blocks_of region) → HasOut h.disc (segments_of h.region) → (cells : Blocks) → cells ≡ h.cells → IsChange h (record { name = h.name; place = h.place; disc = disc; region = region; cells = cells; labels = new })
+    pub change-put : {E : Type 0} (put : Result Addr RegionFault) (result : Result Reply E) → NamesPut p.tag x put p.mid new result → Answers p.call put h.region region → Asks put h.disc disc (segments_of h.region) (segments_of region) need → IfOk put (λ a. find_block (place_of a.0) (blocks_of region) ≡ Some (zeros p.tag size (place_of a.0))) → IfOk put (λ a. without_block (place_of a.0) (blocks_of region) ≡ blocks_of h.region) → HaveOwnPlaces (blocks_of region) → HasOut h.disc (segments_of h.region) → (cells : Blocks) → cells ≡ h.cells → IsChange h (record { name = h.name; place = h.place; disc = disc; region = region; cells = cells; labels = new })
     change-put put result named answers asks there others places has cells same_cells =
         changed-by h disc region cells new same_cells has
         (asks-kept put h.disc disc (segments_of h.region) (segments_of region) need asks)
-        (asks-out call h.region region h.disc disc need put answers asks)
+        (asks-out p.call h.region region h.disc disc need put answers asks)
         (names-put put result named answers there others places)
 
-    pub unserved-put : {E : Type 0} (put : Result Addr RegionFault) (result : Result Reply E) → NamesPut tag x put mid new result → Asks put h.disc disc (segments_of h.region) (segments_of region) need → result ≡ Ok (reply.Refused why.NoSegment) → Unserved h.disc disc need
+    pub unserved-put : {E : Type 0} (put : Result Addr RegionFault) (result : Result Reply E) → NamesPut p.tag x put p.mid new result → Asks put h.disc disc (segments_of h.region) (segments_of region) need → result ≡ Ok (reply.Refused why.NoSegment) → Unserved h.disc disc need
     unserved-put (Ok a) result named asks is =
         absurd (subst NotNoSegment (ap (get_ok (at_place x (place_of a.0) None)) (sym named.0 ∙ is)) tt)
     unserved-put (Err fault) (Ok told) named asks is =
@@ -246,22 +261,36 @@ size-range size e =
     le-told : (a b : ℕ) → nat_le a b ≡ true → a ≤ b
     le-told a b e = grind (arith, nat_tests, e)
 
-abbrev IsOther : Refusal → Type 0
+abbrev pub IsOther : Refusal → Type 0
 IsOther why.NoSegment = ⊥
 IsOther w = Unit {0}
 
-all-other : (named few aligned legal : Bool) → IfSome (let o : Option Refusal = cond named (Some why.BlockExists) (words_or (cond aligned (cond legal None (Some why.Size)) (Some why.WrongMethod)) few) in o) IsOther
-all-other true few aligned legal = tt
-all-other false few false legal = tt
-all-other false few true false = tt
-all-other false true true true = tt
-all-other false false true true = tt
+all-other : (named few : Bool) (words : Option Refusal) → IfSome words IsOther → IfSome (let o : Option Refusal = cond named (Some why.BlockExists) (words_or words few) in o) IsOther
+all-other true few words other = tt
+all-other false few (Some w) other = other
+all-other false true None other = tt
+all-other false false None other = tt
+
+-- the words of a new block are refused for its size or its region's method
+pub size-other : (size : ℕ) → IfSome (size_refused size) IsOther
+size-other size = by (is_size size)
+  where
+    by : (legal : Bool) → IfSome (let o : Option Refusal = cond legal None (Some why.Size) in o) IsOther
+    by true = tt
+    by false = tt
+
+pub align-other : {L : Type 0} (r : Region L) (size align : ℕ) → IfSome (align_refused r size align) IsOther
+align-other r size align = by (aligns r) (is_size size && is_align align)
+  where
+    by : (aligned legal : Bool) → IfSome (let o : Option Refusal = cond aligned (cond legal None (Some why.Size)) (Some why.WrongMethod) in o) IsOther
+    by false legal = tt
+    by true true = tt
+    by true false = tt
 
 -- no new block is refused as for want of a segment before a place is looked for
-pub refused-other : (labels : Labels) (x : List ℕ) (r : Region ℕ) (size align : ℕ) (w : Refusal) → new_refused labels x (align_refused r size align) ≡ Some w → w ≡ why.NoSegment → ⊥
-refused-other labels x r size align w is wanted =
+pub refused-other : (labels : Labels) (x : List ℕ) (words : Option Refusal) (w : Refusal) → IfSome words IsOther → new_refused labels x words ≡ Some w → w ≡ why.NoSegment → ⊥
+refused-other labels x words w other is wanted =
     let few = is_some (line_of x (kept_of labels)) || nat_lt (length labels.tags.entries) label_limit in
     let named = is_some (tag_of labels x) in
-    let words = align_refused r size align in
     let same : cond named (Some why.BlockExists) (words_or words few) ≡ Some w = ap (λ o. cond named (Some why.BlockExists) o) (sym (refused-by labels x words)) ∙ is in
-    subst IsOther wanted (subst (λ o. IfSome o IsOther) same (all-other named few (aligns r) (is_size size && is_align align)))
+    subst IsOther wanted (subst (λ o. IfSome o IsOther) same (all-other named few words other))

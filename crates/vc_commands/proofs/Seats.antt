@@ -22,7 +22,7 @@ use Rattle.vc_objects.specs.Turn.{Turned}
 use Rattle.vc_objects.specs.declared.fate.Fate.{Fate}
 use Rattle.vc_objects.specs.declared.fate.Fate.TheVariants.{Stored, NoTable, NoHolder}
 use Rattle.vc_objects.specs.declared.fate.Want.TheVariants as want
-use Rattle.vc_script.specs.Needs.{Need, need_shown}
+use Rattle.vc_script.specs.Needs.{Need, NoNeed, need_shown}
 use Rattle.vc_script.specs.declared.reply.Reply.{Reply}
 use Rattle.vc_script.specs.declared.reply.Reply.TheVariants.{MethodIs, Refused}
 use Rattle.vc_commands.specs.DictCommands.{fate_reply, gone_reply, is_object, put_object, remove_in, removed_as, table_refusal, turned_as}
@@ -107,6 +107,13 @@ told-listed true None gone = refl
 told-listed true (Some bytes) gone = refl
 told-listed false None gone = refl
 told-listed false (Some bytes) gone = refl
+
+-- and shows no need
+pub gone-needless : (tells : Bool) (o : Option (List ℕ)) → need_shown (gone_reply tells o) ≡ NoNeed
+gone-needless true None = refl
+gone-needless true (Some bytes) = refl
+gone-needless false None = refl
+gone-needless false (Some bytes) = refl
 
 pub take-told : (tells : Bool) (c : Removed ℕ) (o : Option (List ℕ)) (r : Layout ℕ) (d : Dictionary) (answer : Reply) (gone gone' : Gone)
     → GivesRemoved c r d o → gone' ≡ told_if tells o gone → answer ≡ gone_reply tells o → GivesDict (removed_as tells c) r d answer gone gone'

@@ -24,7 +24,7 @@ use Rattle.vc_script.specs.declared.command.Command.TheVariants.{Insert, Attach}
 use Rattle.vc_script.specs.declared.refusal.Refusal.TheVariants.{NoSegmentForTable, NoSegmentForObject}
 use Rattle.vc_script.specs.declared.reply.Reply.{Reply}
 use Rattle.vc_script.specs.declared.reply.Reply.TheVariants.{Refused}
-use Rattle.vc_commands.specs.DictCommands.{object_asked, table_asked}
+use Rattle.vc_commands.specs.DictCommands.{in_dict, object_asked, table_asked}
 use Rattle.vc_commands.specs.Seat.{DictChanged, Seat}
 
 -- the seat of a dictionary in a region whose blocks have tags for labels
@@ -96,6 +96,14 @@ pub record RunsDict {I : Type 0} {V : I → Type 0} (meaning : (x : I) × V x �
   pub step : IfOk result (λ reply. Gives (gives (need_shown reply)) after new reply told told')
   pub leaves : LeavesRest meaning rules before old after new
   pub asked : AskedFor result slots object (disc_in meaning before) (disc_in meaning after)
+
+-- what a command promises whose table and object go by the command itself
+abbrev pub RunsCommand : {I : Type 0} {V : I → Type 0} {E : Type 0} → ((x : I) × V x → Discipline)
+    → Result Reply E → Rules → Command → Best I V → Dict → Gone → Best I V → Dict → Gone → Type 0
+RunsCommand meaning result rules command before old told after new told' =
+    RunsDict meaning result rules (in_dict (seat_in meaning rules before old) command)
+    (table_asked (seat_in meaning rules before old) command) (object_asked (seat_in meaning rules before old) command)
+    before old told after new told'
 
 -- what one promises that takes an object out: it needs no segment, and with no memory nothing
 -- changed

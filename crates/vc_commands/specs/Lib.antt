@@ -6,6 +6,7 @@ pub use Rattle.vc_script.specs.Needs
 pub use Rattle.vc_objects.specs.Objects
 pub use Rattle.vc_objects.specs.Leaves
 pub mod Seat
+pub mod Sizes
 pub mod Audit
 pub mod Blocks
 pub mod DictCommands

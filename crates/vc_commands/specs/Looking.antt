@@ -62,6 +62,10 @@ abbrev pub own_place : {N : Type 0} → (N → Bool) → Option (Seen N) → Opt
 own_place is_own None = None
 own_place is_own (Some o) = if is_own o.dict then Some o.at else None
 
+-- so is that of what a command finds
+abbrev pub look_place : {N : Type 0} → (N → Bool) → Rules → Command → List (Seen N) → Option ℕ
+look_place is_own rules command seen = own_place is_own (look_found rules command seen)
+
 -- the current object once something is looked for: what is found, where it is the first dictionary's own, and else the one of before
 abbrev pub current_or : Option ℕ → Option ℕ → Option ℕ
 current_or current None = current

@@ -1,14 +1,17 @@
 -- What running a command on a region promises.
-use Rattle.std.specs.Prelude.{◌≡◌, ℕ, List}
+use Rattle.std.specs.Prelude.{◌≡◌, ◌≢◌, ℕ, List, [], Option, Some, None, Result, Ok, IfOk, OnErr}
+use Rattle.vc_script.specs.Needs.{Need, need_shown}
 use Rattle.vc_script.specs.declared.command.Command.{Command}
+use Rattle.vc_script.specs.declared.refusal.Refusal.TheVariants.{NoSegment}
 use Rattle.vc_script.specs.declared.reply.Reply.{Reply}
+use Rattle.vc_script.specs.declared.reply.Reply.TheVariants.{Refused}
 use Rattle.vc_region.specs.Region.{Region, relabelled}
 use Rattle.vc_commands.specs.Kept.{Kept}
 use Rattle.vc_commands.specs.Home.{Changed, Home, Label}
 use Rattle.vc_model.specs.Discipline.{Discipline}
 use Rattle.vc_region.specs.Cells.{cells_in, rest_in}
 use Rattle.vc_region.specs.Parts.{disc_in}
-use Rattle.vc_commands.specs.Held.{Held, IsChange, home_of, left_by}
+use Rattle.vc_commands.specs.Held.{Held, IsChange, LacksSegment, home_of, left_by}
 use Rattle.vc_commands.specs.Labels.{kept_of, name_of}
 use Rattle.vc_commands.specs.declared.region.home.HomeEntry.{HomeEntry}
 use Rattle.vc_commands.specs.declared.region.labels.Labels.{Labels}
@@ -47,3 +50,22 @@ ChangesRegion meaning h labels after labels' = (name : List ℕ) → IsChange (h
 abbrev pub LeavesRegion : {I : Type 0} {V : I → Type 0} → ((x : I) × V x → Discipline) → Command → HomeEntry I V → Labels → HomeEntry I V → Labels → Type 0
 LeavesRegion meaning command h labels after labels' =
     (name : List ℕ) → IsChange (left_by command (held_of meaning name h labels)) (held_of meaning name after labels')
+
+-- for the block that a command asks for a segment was refused; one that asks for none is refused none
+abbrev pub LacksAsked : Option (ℕ × ℕ) → Held → Held → Type 0
+LacksAsked None before after = ⊥
+LacksAsked (Some asked) before after = LacksSegment before after asked
+
+-- what a command on a region promises that may ask for a block of a size and an alignment: it gives what it is to by
+-- the need that its reply shows, and with no memory the region and its names stay; a segment that was refused was asked
+-- for, and else no fault was counted
+pub record RunsHome {I : Type 0} {V : I → Type 0} (meaning : (x : I) × V x → Discipline)
+    {E : Type 0} (result : Result Reply E) (gives : Home → Need → Changed) (asked : Option (ℕ × ℕ))
+    (before : HomeEntry I V) (old : Labels) (after : HomeEntry I V) (new : Labels) : Type 0 where
+  pub step : IfOk result (λ reply. RunsRegion meaning (λ h. gives h (need_shown reply))
+      before old (region_with after new) reply)
+  pub err : OnErr result (region_with after new ≡ region_with before old)
+  pub unserved : result ≡ Ok (Refused NoSegment)
+      → LacksAsked asked (held_of meaning [] before old) (held_of meaning [] after new)
+  pub faults : result ≢ Ok (Refused NoSegment)
+      → (disc_in meaning after.region).faults ≡ (disc_in meaning before.region).faults

@@ -5,6 +5,7 @@ mod bytes;
 mod home;
 mod labels;
 mod marks;
+mod sizes;
 mod tells;
 mod whole;
 

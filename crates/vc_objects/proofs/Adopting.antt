@@ -7,7 +7,7 @@ use Rattle.std.proofs.lemmas.Bool.Decides.{eqb_tells}
 use Rattle.std.proofs.lemmas.List.{length-replicate}
 use Rattle.vc_base.specs.declared.dict_method.DictMethod.{DictMethod}
 use Rattle.vc_base.specs.declared.addr.Addr.{Addr}
-use Rattle.vc_base.specs.Cells.{Blocks, IsAddress, body_of, put}
+use Rattle.vc_base.specs.Cells.{Blocks, body_of}
 use Rattle.vc_base.specs.Holders.{contains, some_address}
 use Rattle.vc_base.proofs.CellsLemmas.{put_other, put_same}
 use Rattle.vc_dtdisc.specs.Finds.{object_at}
@@ -19,6 +19,7 @@ use Rattle.vc_dict.specs.Stands.{Adopted, CanAdopt, Stands}
 use Rattle.vc_dict.specs.declared.dict.Dict.{Dict}
 use Rattle.vc_dict.proofs.OwnLemmas.{Stands-own, Stands-table, holder-there, holders-told, table-apart}
 use Rattle.vc_objects.specs.Objects.{Dictionary, Table, owned}
+use Rattle.vc_objects.specs.Unlabelled.{MakesCell}
 use Rattle.vc_objects.specs.Parts.{CanGrow, IsWhole, dictionary_of, object_of, table_of}
 use Rattle.vc_objects.proofs.Mapped.{objects-kept}
 use Rattle.vc_objects.proofs.Owning.{all-objects, apart-holders, apart-owned, apart-table, each-object}
@@ -34,13 +35,13 @@ same-dictionary m n os ps c d t u e f g h =
 pub some-table : (at slots : ℕ) → at ≢ 0 → table_of at slots ≡ Some (record { at = at; slots = slots })
 some-table at slots ne = ap (λ t. if t then None else Some (record { at = at; slots = slots })) (ne_eqb at 0 ne)
 
-module _ (rules : Rules) (d0 : Dict) (B0 B1 : Blocks) (t slots : ℕ) (can : CanGrow rules d0 B0 slots) (fresh : B0 t ≡ None) (address : IsAddress t) (placed : B1 ≡ put t (replicate (8 * slots) 0) B0) where
+module _ (rules : Rules) (d0 : Dict) (B0 B1 : Blocks) (t slots : ℕ) (can : CanGrow rules d0 B0 slots) (cell : MakesCell B0 (8 * slots) t B1) where
   abbrev hs : List ℕ
   hs = holders_of d0 B0
 
   -- the block is another one than those of the dictionary
   cell-apart : (a : ℕ) → IsSome (B0 a) → a ≢ t
-  cell-apart a h e = true≢false (sym h ∙ ap is_some (ap B0 e ∙ fresh))
+  cell-apart a h e = true≢false (sym h ∙ ap is_some (ap B0 e ∙ cell.fresh))
 
   holder-apart : (a : ℕ) → contains hs a ≡ true → a ≢ t
   holder-apart a h = cell-apart a (holder-there rules d0 B0 hs a can.stands h).there
@@ -54,7 +55,7 @@ module _ (rules : Rules) (d0 : Dict) (B0 B1 : Blocks) (t slots : ℕ) (can : Can
 
   other-table : d0.table.0 ≢ t
   other-table = elim (eqb_tells d0.table.0 0) as (λ _. d0.table.0 ≢ t) [
-    | inl same ↦ λ e. let some = address.some in let z = same.1 in omega (arith, e, some, z)
+    | inl same ↦ λ e. let some = cell.address.some in let z = same.1 in omega (arith, e, some, z)
     | inr apart ↦ cell-apart d0.table.0 ((Stands-table _ _ _ _ can.stands).some apart.1).there
   ]
 
@@ -65,10 +66,10 @@ module _ (rules : Rules) (d0 : Dict) (B0 B1 : Blocks) (t slots : ℕ) (can : Can
   ]
 
   kept-placed : (a : ℕ) → a ≢ t → B1 a ≡ B0 a
-  kept-placed a ne = ap (λ (f : Blocks). f a) placed ∙ put_other a t (replicate (8 * slots) 0) B0 ne
+  kept-placed a ne = ap (λ (f : Blocks). f a) cell.cells ∙ put_other a t (replicate (8 * slots) 0) B0 ne
 
   shows : B1 t ≡ Some (replicate (8 * slots) 0)
-  shows = ap (λ (f : Blocks). f t) placed ∙ put_same t (replicate (8 * slots) 0) B0
+  shows = ap (λ (f : Blocks). f t) cell.cells ∙ put_same t (replicate (8 * slots) 0) B0
 
   pub stands-placed : Stands rules d0 B1 (holders_of d0 B0)
   stands-placed = Stands-own rules d0 B0 B1 hs (λ a some w. kept-placed a (own-apart a w)) can.stands
@@ -120,7 +121,7 @@ module _ (rules : Rules) (d0 : Dict) (B0 B1 : Blocks) (t slots : ℕ) (can : Can
     objects = ap (map (object_of B3)) told ∙ objects-kept B0 B3 hs object
 
     there : d1.table.0 ≢ 0
-    there e = let some = address.some in let is = adopted.table in omega (arith, some, is, e)
+    there e = let some = cell.address.some in let is = adopted.table in omega (arith, some, is, e)
 
     pub dictionary-grown : dictionary_of d1 B3 ≡ record { method = d0.method; objects = map (object_of B0) (holders_of d0 B0); current = some_address d0.current.0; table = Some (record { at = t; slots = slots }) }
     dictionary-grown =
@@ -151,7 +152,7 @@ module _ (rules : Rules) (d0 : Dict) (B0 B1 : Blocks) (t slots : ℕ) (can : Can
 
     pub fresh-grown : (a : ℕ) → contains (owned (dictionary_of d1 B3)) a ≡ true → contains (owned (dictionary_of d0 B0)) a ≡ false → B0 a ≡ None
     fresh-grown a new old = elim (eqb_tells t a) as (λ _. B0 a ≡ None) [
-      | inl same ↦ subst (λ n. B0 n ≡ None) same.1 fresh
+      | inl same ↦ subst (λ n. B0 n ≡ None) same.1 cell.fresh
       | inr apart ↦
           absurd (true≢false (sym new ∙ apart-owned d1 B3 a (λ _ e. apart.1 (sym adopted.table ∙ e)) (ap (λ xs. contains xs a) told ∙ apart-holders d0 B0 a old)))
     ]

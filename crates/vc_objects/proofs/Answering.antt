@@ -1,6 +1,6 @@
 -- What the definitions give for an object, by the answers of the calls that put its table and its holder.
 use Rattle.std.proofs.Common.{◌≡◌, ℕ, ◌*◌, Bool, false, List, Option, Some, None, length, map, refl, sym, ap, ◌∙◌, subst}
-use Rattle.std.specs.Prelude.{IfErr, OnOk, Result, Ok, Err}
+use Rattle.std.specs.Prelude.{OnOk, Result, Ok, Err}
 use Rattle.std.proofs.lemmas.Option.{none-some, same_Some}
 use Rattle.vc_model.specs.Layout.{Layout}
 use Rattle.vc_base.specs.Holders.{contains}
@@ -53,19 +53,15 @@ grown-kept terms r D (Some slots) R E h = by (alloc_unlabelled terms r 0 (8 * sl
     by (Done p) h = (ap (λ (d : Dictionary). d.method) h.1, ap (λ (d : Dictionary). d.objects) h.1)
     by (Refused why) h = absurd h
 
--- what is told of the table that is wanted is told of growth
-pub grow-refused : (terms : Terms) (r : Layout ℕ) (D : Dictionary) (slots : ℕ) (why : RegionFault) → slots_wanted D ≡ Some slots
-    → IsRefusal (λ refused. grown_to terms r 0 D refused (Some slots)) why → IsRefusal (grow terms r 0 D) why
-grow-refused terms r D slots why e is = subst (λ o. IsRefusal (λ refused. grown_to terms r 0 D refused o) why) (sym e) is
+-- what grew is so where nothing changed behind it
+pub grown-still : (o : Outcome (Grown ℕ)) (Q R : Layout ℕ) (E D : Dictionary) → HasGrown o Q E → R ≡ Q → D ≡ E → HasGrown o R D
+grown-still (Done g) Q R E D grown region dict = (region ∙ grown.0, dict ∙ grown.1)
+grown-still (Refused why) Q R E D grown region dict = absurd grown
 
--- what follows from what holds after a call that did it, and after one that didn't
+-- what follows from what holds after a call that did it
 pub then-ok : (P Q : Type 0) (result : Result Unit RegionFault) → (P → Q) → OnOk result P → OnOk result Q
 then-ok P Q (Ok done) f p = f p
 then-ok P Q (Err why) f p = tt
-
-pub then-err : (P Q : RegionFault → Type 0) (result : Result Unit RegionFault) → ((why : RegionFault) → P why → Q why) → IfErr result P → IfErr result Q
-then-err P Q (Ok done) f p = tt
-then-err P Q (Err why) f p = f why p
 
 -- the object stands in the block that was put
 pub held-put : (rules : Rules) (append : Bool) (bytes : List ℕ) (E : Dictionary) (o : Outcome (Put (Layout ℕ))) (at : ℕ) (r R : Layout ℕ) (D : Dictionary) → IsPut o at r → R ≡ r

@@ -1,11 +1,11 @@
 -- A table that a change of method needs is brought, or not.
-use Rattle.std.proofs.Common.{◌≡◌, ◌≢◌, ℕ, ◌*◌, [], Bool, false, Some, None, length, replicate, refl, sym, ap, ◌∙◌, subst}
+use Rattle.std.proofs.Common.{◌≡◌, ◌≢◌, ℕ, ◌*◌, [], Bool, false, Some, None, length, refl, sym, ap, ◌∙◌, subst}
 use Rattle.std.specs.Prelude.{Ok, Option, ◌==◌, if◌then◌else◌}
 use Rattle.std.proofs.lemmas.Bool.{eq-eqb, ne_eqb}
 use Rattle.vc_model.specs.Layout.{Layout}
 use Rattle.vc_base.specs.declared.dict_method.DictMethod.{DictMethod}
 use Rattle.vc_base.specs.declared.dict_method.DictMethod.TheVariants.{DtSet, DtBag, DtOset, DtObag, DtList, DtStack, DtQueue}
-use Rattle.vc_base.specs.Cells.{Blocks, put}
+use Rattle.vc_base.specs.Cells.{Blocks}
 use Rattle.vc_model.specs.Discipline.{Discipline, Terms}
 use Rattle.vc_model.specs.Outcome.{Outcome, Done, Refused, Put}
 use Rattle.vc_dict.specs.Methods.{slots_between}
@@ -21,6 +21,7 @@ use Rattle.vc_objects.specs.Remove.{bytes_of, freed_all}
 use Rattle.vc_base.specs.Methods.{method_number}
 use Rattle.vc_objects.specs.Turn.{Brought, Turned, bring, bring_of, brought, objects_dropped, table_left, turn, turned_to, turned_with}
 use Rattle.vc_objects.specs.Promises.{Brings}
+use Rattle.vc_objects.specs.Unlabelled.{MakesCell}
 use Rattle.vc_objects.specs.Turning.{BringsCell, HasBrought}
 use Rattle.vc_objects.proofs.Leaving.{keeps-same}
 use Rattle.vc_best.proofs.RestAlloc.{refusal-kept}
@@ -33,13 +34,13 @@ put-brought slots (Done p) a r some h = (
 )
 put-brought slots (Refused why) a r some h = absurd h
 
-pub cell-brought : (slots a : ℕ) (before after : Blocks) → a ≢ 0 → after ≡ put a (replicate (8 * slots) 0) before → before a ≡ None → BringsCell (Some slots) before after a slots
-cell-brought slots a before after some e fresh = record {
+pub cell-brought : (slots a : ℕ) (before after : Blocks) → a ≢ 0 → MakesCell before (8 * slots) a after → BringsCell (Some slots) before after a slots
+cell-brought slots a before after some cell = record {
   wants = sym (ap (λ z. if z then None else Some slots) (ne_eqb a 0 some));
   none = λ zero. absurd (some zero);
   same = λ zero. absurd (some zero);
-  made = λ _. e;
-  fresh = λ _. fresh;
+  made = λ _. cell.cells;
+  fresh = λ _. cell.fresh;
 }
 
 -- where no block was put, none is brought

@@ -17,12 +17,13 @@ use Rattle.vc_dict.specs.declared.dict.Dict.{Dict}
 use Rattle.vc_best.specs.Cells.{cells_in, rest_in}
 use Rattle.vc_best.specs.Parts.{disc_in, segments_in}
 use Rattle.vc_best.specs.declared.best.Best.{Best}
-use Rattle.vc_objects.specs.Freed.{FreesCell}
+use Rattle.vc_objects.specs.Unlabelled.{FreesCell}
 use Rattle.vc_objects.specs.Insert.{freed}
-use Rattle.vc_objects.specs.Leaves.{Leaves, LeavesRest, told_each, told_if}
+use Rattle.vc_objects.specs.Leaves.{Leaves, LeavesRest, told_each}
 use Rattle.vc_objects.specs.Objects.{Dictionary, Table, listed, owned}
 use Rattle.vc_objects.specs.Parts.{IsWhole, dictionary_in, dictionary_of, object_of, table_of}
-use Rattle.vc_objects.specs.Remove.{bytes_of, emptied, freed_all, remove_first}
+use Rattle.vc_objects.specs.Promises.{Empties}
+use Rattle.vc_objects.specs.Remove.{all_out, bytes_of, emptied, first_out, freed_all, remove_first}
 use Rattle.vc_objects.proofs.Leaving.{keeps-same, leaves-self, leaves-trans}
 use Rattle.vc_objects.proofs.Owning.{owned-within}
 use Rattle.vc_objects.proofs.Taken.{differs, fewer-owned}
@@ -40,7 +41,7 @@ first-freed : (r : Layout ℕ) (d : Dictionary) (os : List Object) → freed_all
 first-freed r d [] = refl
 first-freed r d (o ∷ os) = ap (λ z. freed_all (freed r o.at) z) (objects-first o os)
 
-first-told : (r : Layout ℕ) (d : Dictionary) (os : List Object) (gone : Gone) → told_each (bytes_of (remove_first r (with_objects d os)).dict.objects) (told_if true (remove_first r (with_objects d os)).gone gone) ≡ told_each (bytes_of os) gone
+first-told : (r : Layout ℕ) (d : Dictionary) (os : List Object) (gone : Gone) → told_each (bytes_of (remove_first r (with_objects d os)).dict.objects) (told_each (listed (remove_first r (with_objects d os)).gone) gone) ≡ told_each (bytes_of os) gone
 first-told r d [] gone = refl
 first-told r d (o ∷ os) gone = ap (λ z. told_each (bytes_of z) (gone_after gone o.bytes)) (objects-first o os)
 
@@ -123,35 +124,34 @@ module _ {I : Type 0} {V : I → Type 0} (meaning : (x : I) × V x → Disciplin
 
   module _ (passed : ℕ) (mid : Best I V) (dict : Dict) (told : Gone) (e : Emptying meaning rules before old gone passed mid dict told) where
     -- one more goes
-    pub emptying-next : (rules' : Rules) (after : Best I V) (new : Dict) (told' : Gone) → rules' ≡ rules → passed < length (dictionary_in old before).objects → rest_in after ≡ (remove_first (rest_in mid) (dictionary_in dict mid)).region
-        → dictionary_in new after ≡ (remove_first (rest_in mid) (dictionary_in dict mid)).dict → LeavesRest meaning rules' mid dict after new → disc_in meaning after ≡ disc_in meaning mid → told' ≡ told_if true (remove_first (rest_in mid) (dictionary_in dict mid)).gone told
-        → Emptying meaning rules before old gone (passed + 1) after new told'
-    emptying-next rules' after new told' same more region dict' leaves' disc tells =
+    pub emptying-next : (rules' : Rules) (after : Best I V) (new : Dict) (told' : Gone) → rules' ≡ rules → passed < length (dictionary_in old before).objects
+        → Empties meaning (first_out (rest_in mid) (dictionary_in dict mid)) rules' mid dict told after new told' → Emptying meaning rules before old gone (passed + 1) after new told'
+    emptying-next rules' after new told' same more step =
         let r = rest_in mid in
         let d = dictionary_in dict mid in
         let next = remove_first r d in
-        let leaves : LeavesRest meaning rules mid dict after new = subst (λ z. LeavesRest meaning z mid dict after new) same leaves' in
+        let leaves : LeavesRest meaning rules mid dict after new = subst (λ z. LeavesRest meaning z mid dict after new) same step.leaves in
         let shorter : length next.dict.objects + 1 ≡ length d.objects = first-count r d d.objects (let c = e.count in omega (arith, c)) in
-        let as_long : length (dictionary_in new after).objects ≡ length next.dict.objects = ap (λ (z : Dictionary). length z.objects) dict' in
+        let as_long : length (dictionary_in new after).objects ≡ length next.dict.objects = ap (λ (z : Dictionary). length z.objects) step.dict in
         let fewer : (a : ℕ) → contains (owned d) a ≡ false → contains (owned (dictionary_in new after)) a ≡ false =
-        λ a h. ap (λ (z : Dictionary). contains (owned z) a) dict' ∙ fewer-owned r d (first_of d.objects) a h in
+        λ a h. ap (λ (z : Dictionary). contains (owned z) a) step.dict ∙ fewer-owned r d (first_of d.objects) a h in
         let c = e.count in
         record {
           count = omega (arith, c, shorter, as_long);
           region =
-              ap (λ z. freed_all z (dictionary_in new after).objects) region ∙ ap (λ (z : Dictionary). freed_all next.region z.objects) dict'
+              ap (λ z. freed_all z (dictionary_in new after).objects) step.region ∙ ap (λ (z : Dictionary). freed_all next.region z.objects) step.dict
               ∙ first-freed r d d.objects ∙ e.region;
-          dict = ap (λ (z : Dictionary). emptied z) dict' ∙ first-emptied r d d.objects ∙ e.dict;
+          dict = ap (λ (z : Dictionary). emptied z) step.dict ∙ first-emptied r d d.objects ∙ e.dict;
           leaves = record {
             whole = leaves.whole;
             kind = leaves.kind ∙ e.leaves.kind;
             rest = leaves-trans meaning before mid after (owned (dictionary_in old before)) (owned d) (owned (dictionary_in new after)) e.leaves.rest leaves.rest (λ a apart _. e.fewer a apart);
           };
-          disc = disc ∙ e.disc;
+          disc = step.disc ∙ e.disc;
           fewer = λ a h. fewer a (e.fewer a h);
           tells =
-              ap (λ z. told_each (bytes_of (dictionary_in new after).objects) z) tells
-              ∙ ap (λ (z : Dictionary). told_each (bytes_of z.objects) (told_if true next.gone told)) dict'
+              ap (λ z. told_each (bytes_of (dictionary_in new after).objects) z) step.gone
+              ∙ ap (λ (z : Dictionary). told_each (bytes_of z.objects) (told_each (listed next.gone) told)) step.dict
               ∙ first-told r d d.objects told ∙ e.tells;
         }
 
@@ -160,11 +160,11 @@ module _ {I : Type 0} {V : I → Type 0} (meaning : (x : I) × V x → Disciplin
       none : (dictionary_in dict mid).objects ≡ []
       none = none_left (dictionary_in dict mid).objects (let c = e.count in omega (arith, c, all))
 
-      pub emptying-region : rest_in mid ≡ freed_all (rest_in before) (dictionary_in old before).objects
-      emptying-region = sym (ap (λ os. freed_all (rest_in mid) os) none) ∙ e.region
-
-      pub emptying-dict : dictionary_in dict mid ≡ emptied (dictionary_in old before)
-      emptying-dict = emptied-none rules dict (cells_in mid) e.leaves.whole none ∙ e.dict
-
-      pub emptying-told : told ≡ told_each (bytes_of (dictionary_in old before).objects) gone
-      emptying-told = sym (ap (λ os. told_each (bytes_of os) told) none) ∙ e.tells
+      pub emptying-all : Empties meaning (all_out (rest_in before) (dictionary_in old before)) rules before old gone mid dict told
+      emptying-all = record {
+        region = sym (ap (λ os. freed_all (rest_in mid) os) none) ∙ e.region;
+        dict = emptied-none rules dict (cells_in mid) e.leaves.whole none ∙ e.dict;
+        leaves = e.leaves;
+        disc = e.disc;
+        gone = sym (ap (λ os. told_each (bytes_of os) told) none) ∙ e.tells;
+      }

@@ -34,28 +34,36 @@ by_none : (t : Bool) → first_by t ≡ None → t ≡ true → ⊥
 by_none true e is = none-some 16 (sym e)
 by_none false e is = cc
 
-module _ (rules : Rules) (d : Dict) (b : Blocks) (method : DictMethod) (empty : Stands rules d b []) (same : d.method ≡ method) (current : d.current.0 ≡ 0) (table : d.table.0 ≡ 0) (slots : d.slots ≡ 0) where
+-- a dictionary of a method with no object, no current one and no table
+pub record IsNew (rules : Rules) (d : Dict) (b : Blocks) (method : DictMethod) : Type 0 where
+  pub empty : Stands rules d b []
+  pub same : d.method ≡ method
+  pub current : d.current.0 ≡ 0
+  pub table : d.table.0 ≡ 0
+  pub slots : d.slots ≡ 0
+
+module _ (rules : Rules) (d : Dict) (b : Blocks) (method : DictMethod) (is : IsNew rules d b method) where
   none : holders_of d b ≡ []
-  none = holders-told rules d b [] empty
+  none = holders-told rules d b [] is.empty
 
   pub dictionary-empty : dictionary_of d b ≡ empty_dictionary method
   dictionary-empty =
-      same-dictionary d.method method (map (object_of b) (holders_of d b)) [] (some_address d.current.0) None (table_of d.table.0 d.slots) None same
-      (ap (map (object_of b)) none) (ap some_address current) (ap (λ n. table_of n d.slots) table)
+      same-dictionary d.method method (map (object_of b) (holders_of d b)) [] (some_address d.current.0) None (table_of d.table.0 d.slots) None is.same
+      (ap (map (object_of b)) none) (ap some_address is.current) (ap (λ n. table_of n d.slots) is.table)
 
   pub owned-none : owned (dictionary_of d b) ≡ []
   owned-none = ap owned dictionary-empty
 
   pub wants-first : wanted_by d.method d.slots d.count 1 ≡ (if has_table method then Some 16 else None)
   wants-first =
-      ap (λ m. wanted_by m d.slots d.count 1) same
-      ∙ (ap (λ s. wanted_by method s d.count 1) slots ∙ ap (λ n. wanted_by method 0 n 1) empty.count)
+      ap (λ m. wanted_by m d.slots d.count 1) is.same
+      ∙ (ap (λ s. wanted_by method s d.count 1) is.slots ∙ ap (λ n. wanted_by method 0 n 1) is.empty.count)
 
   standing : Stands rules d b (holders_of d b)
-  standing = subst (λ xs. Stands rules d b xs) (sym none) empty
+  standing = subst (λ xs. Stands rules d b xs) (sym none) is.empty
 
   current-none : contains (0 ∷ holders_of d b) d.current.0 ≡ true
-  current-none = ap (contains (0 ∷ holders_of d b)) current
+  current-none = ap (contains (0 ∷ holders_of d b)) is.current
 
   objects-none : AllByRecursion (λ o. IsObject o.bytes) (dictionary_of d b).objects
   objects-none = subst (λ xs. AllByRecursion (λ o. IsObject o.bytes) (map (object_of b) xs)) (sym none) tt
@@ -69,7 +77,7 @@ module _ (rules : Rules) (d : Dict) (b : Blocks) (method : DictMethod) (empty : 
         stands = standing;
         current = current-none;
         objects = objects-none;
-        method = ap has_table same ∙ by.0;
+        method = ap has_table is.same ∙ by.0;
         allowed = record { doublings = 0; few = omega arith; value = by.1 };
         enough = λ _. omega (arith, long);
       }
@@ -82,7 +90,7 @@ module _ (rules : Rules) (d : Dict) (b : Blocks) (method : DictMethod) (empty : 
   whole-empty wants = record {
     stands = standing;
     current = current-none;
-    table = λ has. absurd (by_none (has_table method) (sym wants-first ∙ wants) (sym (ap has_table same) ∙ has));
+    table = λ has. absurd (by_none (has_table method) (sym wants-first ∙ wants) (sym (ap has_table is.same) ∙ has));
     objects = objects-none;
   }
 

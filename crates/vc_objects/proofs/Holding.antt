@@ -6,7 +6,7 @@ use Rattle.std.proofs.lemmas.Bool.{cases_Bool, true≢false}
 use Rattle.std.proofs.lemmas.Bool.Decides.{eqb_tells}
 use Rattle.std.proofs.lemmas.List.{length-drop, length-replicate, take_all}
 use Rattle.vc_base.specs.declared.addr.Addr.{Addr}
-use Rattle.vc_base.specs.Cells.{Blocks, HasBytes, IsAddress, IsHolder, body_of, bytes_at, put, with_body}
+use Rattle.vc_base.specs.Cells.{Blocks, HasBytes, IsHolder, body_of, bytes_at, with_body}
 use Rattle.vc_base.specs.Holders.{contains, some_address}
 use Rattle.vc_base.proofs.CellsLemmas.{length-with_bytes, put_other, put_same, window_same}
 use Rattle.vc_model.specs.Bytes.{with_bytes}
@@ -25,6 +25,7 @@ use Rattle.vc_dict.proofs.CurrentLemmas.{apart-linked, within-linked}
 use Rattle.vc_dict.proofs.OwnLemmas.{Stands-own, Stands-table, holder-there, holders-told, table-apart}
 use Rattle.vc_objects.specs.Insert.{slots_wanted, with_object}
 use Rattle.vc_objects.specs.Objects.{owned}
+use Rattle.vc_objects.specs.Unlabelled.{MakesCell}
 use Rattle.vc_objects.specs.Parts.{IsWhole, dictionary_of, object_of, table_of}
 use Rattle.vc_objects.proofs.Adopting.{same-dictionary}
 use Rattle.vc_objects.proofs.Growing.{wanted-told}
@@ -38,8 +39,8 @@ body-written body bytes long =
     let rest : length (drop 32 (with_bytes 32 body bytes)) ≡ length body = length-drop 32 (with_bytes 32 body bytes) ∙ omega (arith, long, same) in
     sym (take_all (length body) (drop 32 (with_bytes 32 body bytes)) (omega (arith, rest))) ∙ window_same 32 body bytes (omega (arith, long))
 
-module _ (rules : Rules) (d0 : Dict) (B0 B1 B2 : Blocks) (at : ℕ) (bytes : List ℕ) (whole : IsWhole rules d0 B0) (fresh : B0 at ≡ None) (address : IsAddress at) (object : IsObject bytes)
-    (placed : B1 ≡ put at (replicate (32 + length bytes) 0) B0) (written : B2 ≡ with_body at bytes B1) where
+module _ (rules : Rules) (d0 : Dict) (B0 B1 B2 : Blocks) (at : ℕ) (bytes : List ℕ) (whole : IsWhole rules d0 B0) (cell : MakesCell B0 (32 + length bytes) at B1)
+    (object : IsObject bytes) (written : B2 ≡ with_body at bytes B1) where
   abbrev hs : List ℕ
   hs = holders_of d0 B0
 
@@ -47,7 +48,7 @@ module _ (rules : Rules) (d0 : Dict) (B0 B1 B2 : Blocks) (at : ℕ) (bytes : Lis
   zeros = replicate (32 + length bytes) 0
 
   shows : B1 at ≡ Some zeros
-  shows = ap (λ (f : Blocks). f at) placed ∙ put_same at zeros B0
+  shows = ap (λ (f : Blocks). f at) cell.cells ∙ put_same at zeros B0
 
   long : length bytes + 32 ≡ length (bytes_at B1 at)
   long =
@@ -72,11 +73,11 @@ module _ (rules : Rules) (d0 : Dict) (B0 B1 B2 : Blocks) (at : ℕ) (bytes : Lis
   kept a ne =
       ap (λ (f : Blocks). f a) written
       ∙ (put_other a at (with_bytes 32 bytes (bytes_at B1 at)) B1 ne
-      ∙ (ap (λ (f : Blocks). f a) placed ∙ put_other a at zeros B0 ne))
+      ∙ (ap (λ (f : Blocks). f a) cell.cells ∙ put_other a at zeros B0 ne))
 
   -- it is another one than those of the dictionary
   cell-apart : (a : ℕ) → IsSome (B0 a) → a ≢ at
-  cell-apart a h e = true≢false (sym h ∙ ap is_some (ap B0 e ∙ fresh))
+  cell-apart a h e = true≢false (sym h ∙ ap is_some (ap B0 e ∙ cell.fresh))
 
   holder-apart : (a : ℕ) → contains hs a ≡ true → a ≢ at
   holder-apart a h = cell-apart a (holder-there rules d0 B0 hs a whole.stands h).there
@@ -90,7 +91,7 @@ module _ (rules : Rules) (d0 : Dict) (B0 B1 B2 : Blocks) (at : ℕ) (bytes : Lis
 
   other-table : d0.table.0 ≢ at
   other-table = elim (eqb_tells d0.table.0 0) as (λ _. d0.table.0 ≢ at) [
-    | inl same ↦ λ e. let some = address.some in let z = same.1 in omega (arith, e, some, z)
+    | inl same ↦ λ e. let some = cell.address.some in let z = same.1 in omega (arith, e, some, z)
     | inr apart ↦ cell-apart d0.table.0 ((Stands-table _ _ _ _ whole.stands).some apart.1).there
   ]
 
@@ -169,7 +170,7 @@ module _ (rules : Rules) (d0 : Dict) (B0 B1 B2 : Blocks) (at : ℕ) (bytes : Lis
       where
         some : some_address at ≡ Some at
         some = elim (eqb_tells at 0) as (λ _. some_address at ≡ Some at) [
-          | inl same ↦ let is = address.some in let z = same.1 in absurd (omega (arith, is, z))
+          | inl same ↦ let is = cell.address.some in let z = same.1 in absurd (omega (arith, is, z))
           | inr apart ↦ rw apart.0 refl
         ]
 
@@ -203,7 +204,7 @@ module _ (rules : Rules) (d0 : Dict) (B0 B1 B2 : Blocks) (at : ℕ) (bytes : Lis
 
     pub fresh-held : (a : ℕ) → contains (owned (dictionary_of d1 B3)) a ≡ true → contains (owned (dictionary_of d0 B0)) a ≡ false → B0 a ≡ None
     fresh-held a new old = elim (eqb_tells at a) as (λ _. B0 a ≡ None) [
-      | inl same ↦ subst (λ n. B0 n ≡ None) same.1 fresh
+      | inl same ↦ subst (λ n. B0 n ≡ None) same.1 cell.fresh
       | inr apart ↦
           absurd (true≢false (sym new ∙ apart-owned d1 B3 a (no-longer a old) (ap (λ xs. contains xs a) told ∙ apart-linked append d0.method rules B2 d0.current.0 at hs a apart.1 (apart-holders d0 B0 a old))))
     ]

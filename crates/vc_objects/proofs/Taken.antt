@@ -25,7 +25,7 @@ use Rattle.vc_seg.specs.Boxed.{boxed}
 use Rattle.vc_best.specs.Parts.{disc_in, segments_in}
 use Rattle.vc_best.specs.declared.best.Best.{Best}
 use Rattle.vc_best.proofs.CellCalls.{stays-disc, stays-segments}
-use Rattle.vc_objects.specs.Freed.{FreesCell}
+use Rattle.vc_objects.specs.Unlabelled.{FreesCell}
 use Rattle.vc_objects.specs.Insert.{freed}
 use Rattle.vc_objects.specs.Leaves.{GivesRemoved, LeavesRest, Looks, told_if}
 use Rattle.vc_objects.specs.Objects.{Dictionary, Table, listed, owned}

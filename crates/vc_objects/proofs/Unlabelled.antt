@@ -1,10 +1,11 @@
 -- Unlabelled blocks of a best region: what putting one does, and freeing one.
-use Rattle.std.proofs.Common.{◌≡◌, ◌≢◌, ℕ, List, Option, Some, None, option_map, replicate, refl, sym, ap, ◌∙◌, inl, inr}
+use Rattle.std.proofs.Common.{◌≡◌, ◌≢◌, ℕ, List, Option, Some, None, is_some, option_map, replicate, refl, sym, ap, ◌∙◌, inl, inr}
 use Rattle.std.specs.Prelude.{IfOk, IsSome, OnErr, Result, Ok, Err}
 use Rattle.std.proofs.lemmas.Bool.{eqb-true}
 use Rattle.std.proofs.lemmas.Bool.Decides.{eqb_tells}
 use Rattle.vc_base.specs.Cells.{Blocks, put}
 use Rattle.vc_base.specs.declared.addr.Addr.{Addr}
+use Rattle.vc_base.proofs.CellsLemmas.{put_same}
 use Rattle.vc_model.specs.Addr.{place_of}
 use Rattle.vc_model.specs.Best.{best_alloc, without_block_at, zeros}
 use Rattle.vc_model.specs.Discipline.{Terms}
@@ -13,12 +14,16 @@ use Rattle.vc_model.specs.Touch.{HasBlock, find_block}
 use Rattle.vc_model.proofs.Owned.{found-has}
 use Rattle.vc_seg.specs.Answer.{Answers}
 use Rattle.vc_seg.specs.declared.fault.RegionFault.{RegionFault}
-use Rattle.vc_best.specs.Cells.{cell_bytes, cells_of, labelled_blocks, without_cell, zeroed_layout}
+use Rattle.vc_best.specs.CellLaws.{cells-addresses}
+use Rattle.vc_best.specs.Parts.{blocks_in}
+use Rattle.vc_best.specs.declared.best.Best.{Best}
+use Rattle.vc_best.specs.Cells.{cell_bytes, cells_in, cells_of, labelled_blocks, without_cell, zeroed_layout}
 use Rattle.vc_best.proofs.CellBytes.{the-cell}
 use Rattle.vc_best.proofs.CellCalls.{cells-more}
 use Rattle.vc_best.proofs.Labelled.{labelled-put}
 use Rattle.vc_best.proofs.RestBlocks.{without_block-zeroed}
 use Rattle.vc_objects.specs.Insert.{freed}
+use Rattle.vc_objects.specs.Unlabelled.{MakesCell}
 
 -- where no block stands there is no cell
 no-block : (bs : List (Block ℕ)) (a : ℕ) → ¬ HasBlock bs a → cells_of bs a ≡ None
@@ -37,11 +42,19 @@ cell-label bs a there =
     let c = the-cell bs a there in
     ap (option_map (λ (b : Block ℕ). b.label)) c.1.found ∙ ap Some (eqb-true c.0.label 0 c.1.plain)
 
--- an unlabelled block is put, where one is
-pub alloc-cells : (bs bs' : List (Block ℕ)) (size : ℕ) (result : Result Addr RegionFault) → IfOk result (λ a. find_block (place_of a.0) bs' ≡ Some (zeros 0 size (place_of a.0))) → IfOk result (λ a. without_block (place_of a.0) bs' ≡ bs)
-    → IfOk result (λ a. cells_of bs' ≡ put a.0 (replicate size 0) (cells_of bs))
-alloc-cells bs bs' size (Ok a) there others = cells-more a.0 size bs bs' there others
-alloc-cells bs bs' size (Err why) there others = tt
+-- an unlabelled block is put, where one is, and is a new cell
+pub alloc-made : {I : Type 0} {V : I → Type 0} (before after : Best I V) (size : ℕ) (result : Result Addr RegionFault)
+    → IfOk result (λ a. find_block (place_of a.0) (blocks_in after) ≡ Some (zeros 0 size (place_of a.0))) → IfOk result (λ a. without_block (place_of a.0) (blocks_in after) ≡ blocks_in before)
+    → IfOk result (λ a. ¬ HasBlock (blocks_in before) a.0) → IfOk result (λ a. MakesCell (cells_in before) size a.0 (cells_in after))
+alloc-made before after size (Ok a) there others fresh =
+    let cells : cells_in after ≡ put a.0 (replicate size 0) (cells_in before) = cells-more a.0 size (blocks_in before) (blocks_in after) there others in
+    let shows : cells_in after a.0 ≡ Some (replicate size 0) = ap (λ (f : Blocks). f a.0) cells ∙ put_same a.0 (replicate size 0) (cells_in before) in
+    record {
+      cells = cells;
+      fresh = no-block (blocks_in before) a.0 fresh;
+      address = cells-addresses after a.0 (ap is_some shows);
+    }
+alloc-made before after size (Err why) there others fresh = tt
 
 module _ (terms : Terms) (r r' : Layout ℕ) (size : ℕ) where
   pub alloc-labelled : (result : Result Addr RegionFault) → Answers (best_alloc terms r 0 size 32) result r r'
@@ -53,10 +66,6 @@ module _ (terms : Terms) (r r' : Layout ℕ) (size : ℕ) where
   pub alloc-same : (result : Result Addr RegionFault) → Answers (best_alloc terms r 0 size 32) result r r' → OnErr result (cells_of r'.blocks ≡ cells_of r.blocks)
   alloc-same (Ok a) answer = tt
   alloc-same (Err why) answer = ap (λ (q : Layout ℕ). cells_of q.blocks) answer.1
-
-pub alloc-fresh : (bs : List (Block ℕ)) (result : Result Addr RegionFault) → IfOk result (λ a. ¬ HasBlock bs a.0) → IfOk result (λ a. cells_of bs a.0 ≡ None)
-alloc-fresh bs (Ok a) fresh = no-block bs a.0 fresh
-alloc-fresh bs (Err why) fresh = tt
 
 -- the other cells stay
 pub left-cell : (c : Blocks) (x a : ℕ) → x ≢ a → without_cell x c a ≡ c a

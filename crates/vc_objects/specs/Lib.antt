@@ -6,7 +6,7 @@ pub mod Insert
 pub mod Remove
 pub mod Turn
 pub mod Parts
-pub mod Freed
+pub mod Unlabelled
 pub mod Leaves
 pub mod Turning
 pub mod Promises

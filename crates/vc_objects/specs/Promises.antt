@@ -1,6 +1,6 @@
 -- What the calls on a dictionary of a best region promise, by their answers.
 use Rattle.std.specs.Prelude.{◌≡◌, ℕ, List, [], Bool, true, false, Option, Some, None, length}
-use Rattle.std.specs.Prelude.{Result, Ok, Err, if◌then◌else◌}
+use Rattle.std.specs.Prelude.{Result, Ok, Err, IfErr, IfOk, OnErr, OnOk, if◌then◌else◌}
 use Rattle.vc_base.specs.declared.dict_method.DictMethod.{DictMethod}
 use Rattle.vc_base.specs.Methods.{is_list, is_set}
 use Rattle.vc_model.specs.Discipline.{Discipline}
@@ -16,12 +16,13 @@ use Rattle.vc_best.specs.Cells.{cells_in, labelled_blocks, rest_in}
 use Rattle.vc_best.specs.Parts.{disc_in, segments_in}
 use Rattle.vc_best.specs.declared.best.Best.{Best}
 use Rattle.vc_objects.specs.Insert.{Grown, Inserted, alloc_unlabelled, grow, grown_to, insert}
-use Rattle.vc_objects.specs.Insert.{open_dictionary}
-use Rattle.vc_objects.specs.Leaves.{AskedTable, GivesRemoved, GivesTurned, KeepsDisc, LeavesRest}
-use Rattle.vc_objects.specs.Leaves.{no_holder, no_table, told_if}
-use Rattle.vc_objects.specs.Objects.{holder_size}
+use Rattle.vc_objects.specs.Insert.{open_dictionary, slots_wanted}
+use Rattle.vc_objects.specs.Leaves.{Asked, AskedHolder, AskedTable, GivesInserted, GivesRemoved}
+use Rattle.vc_objects.specs.Leaves.{GivesTurned, HasGrown, HasHeld, IsHalted, KeepsDisc, Leaves}
+use Rattle.vc_objects.specs.Leaves.{LeavesRest, no_holder, no_table, told_each, told_if}
+use Rattle.vc_objects.specs.Objects.{holder_size, owned}
 use Rattle.vc_objects.specs.Parts.{IsWhole, dictionary_in}
-use Rattle.vc_objects.specs.Remove.{Removed}
+use Rattle.vc_objects.specs.Remove.{Emptied, Removed}
 use Rattle.vc_objects.specs.Turn.{Brought, Turned, bring_of, turn}
 use Rattle.vc_objects.specs.Turning.{BringsCell, HasBrought}
 use Rattle.vc_objects.specs.declared.fate.Fate.{Fate}
@@ -76,6 +77,50 @@ module _ {I : Type 0} {V : I → Type 0} where
         refused
 
 module _ {I : Type 0} {V : I → Type 0} (meaning : (x : I) × V x → Discipline) where
+  -- a region stays, its cells with it, and its discipline but for its faults
+  pub record StaysAll (before after : Best I V) : Type 0 where
+    pub region : rest_in after ≡ rest_in before
+    pub cells : cells_in after ≡ cells_in before
+    pub leaves : Leaves meaning before after [] []
+
+  -- a dictionary of a method and a kind with no object was made, and all else left
+  pub record Opens (rules : Rules) (method : DictMethod) (kind : ℕ)
+      (before : Best I V) (dict : Dict) (after : Best I V) : Type 0 where
+    pub grown : HasGrown (opening_in meaning before method false)
+        (rest_in after) (dictionary_in dict after)
+    pub whole : IsWhole rules dict (cells_in after)
+    pub leaves : Leaves meaning before after [] (owned (dictionary_in dict after))
+    pub numbered : dict.kind ≡ kind
+
+  -- a table of the slots that are wanted came as a definition says, or nothing changed where it was
+  -- refused; what was refused was asked for
+  pub record Grows (result : Result Unit RegionFault) (gives : Bool → Outcome (Grown ℕ))
+      (wanted : Option ℕ) (before : Best I V) (old : Dict) (after : Best I V) (new : Dict) : Type 0 where
+    pub ok : OnOk result (HasGrown (gives false) (rest_in after) (dictionary_in new after))
+    pub err : IfErr result (λ why. IsRefusal gives why × IsStill before old after new)
+    pub asked : AskedTable result wanted (disc_in meaning before) (disc_in meaning after)
+
+  -- so for the holder of an object, where the table has room
+  pub record Holds (result : Result Unit RegionFault) (rules : Rules) (append : Bool)
+      (bytes : List ℕ) (before : Best I V) (old : Dict) (after : Best I V) (new : Dict) : Type 0 where
+    pub ok : OnOk result (HasHeld rules append bytes (dictionary_in old before)
+        (holder_in meaning before bytes false) (rest_in after) (dictionary_in new after))
+    pub err : IfErr result (λ why. IsRefusal (holder_in meaning before bytes) why
+        × IsStill before old after new)
+    pub asked : AskedHolder result bytes (disc_in meaning before) (disc_in meaning after)
+
+  -- and for both of an object: with no memory nothing changed, or the table grew
+  pub record Inserts {E : Type 0} (result : Result Fate E) (rules : Rules) (append : Bool)
+      (bytes : List ℕ) (before : Best I V) (old : Dict) (after : Best I V) (new : Dict) : Type 0 where
+    pub ok : IfOk result (λ fate. GivesInserted
+        (insertion_in meaning before rules old append bytes fate)
+        (rest_in after) (dictionary_in new after) fate)
+    pub err : OnErr result (IsHalted (growth_in meaning before old false)
+        (rest_in before) (dictionary_in old before) (rest_in after) (dictionary_in new after))
+    pub leaves : LeavesRest meaning rules before old after new
+    pub asked : Asked result (slots_wanted (dictionary_in old before)) bytes
+        (disc_in meaning before) (disc_in meaning after)
+
   -- a table of the slots that are wanted was brought, none where none is wanted, or it was refused
   -- and nothing changed
   abbrev pub AnswersTable : Result NewTable RegionFault → Option ℕ → Best I V → Best I V → Type 0
@@ -126,3 +171,13 @@ module _ {I : Type 0} {V : I → Type 0} (meaning : (x : I) × V x → Disciplin
     pub disc : disc_in meaning after ≡ disc_in meaning before
     pub gone : told' ≡ told_if tells (if found then Some out else None) told
     pub nothing : found ≡ false → out ≡ []
+
+  -- objects were taken out, and the kind was told of each
+  pub record Empties (gives : Emptied ℕ) (rules : Rules)
+      (before : Best I V) (old : Dict) (told : Gone)
+      (after : Best I V) (new : Dict) (told' : Gone) : Type 0 where
+    pub region : rest_in after ≡ gives.region
+    pub dict : dictionary_in new after ≡ gives.dict
+    pub leaves : LeavesRest meaning rules before old after new
+    pub disc : disc_in meaning after ≡ disc_in meaning before
+    pub gone : told' ≡ told_each gives.gone told

@@ -8,7 +8,7 @@ use Rattle.vc_dtdisc.specs.Objects as objects
 use Rattle.vc_dtdisc.specs.Objects.{Object, address_of, current_without, first_with, without_object}
 use Rattle.vc_dtdisc.specs.Rules.{Rules}
 use Rattle.vc_objects.specs.Insert.{freed, without_table}
-use Rattle.vc_objects.specs.Objects.{Dictionary}
+use Rattle.vc_objects.specs.Objects.{Dictionary, listed}
 
 -- a region and a dictionary in it after an object was taken out, and that object's bytes, where there was one
 pub record Removed (L : Type 0) : Type 0 where
@@ -64,6 +64,24 @@ bytes_of items = map objects.bytes_of items
 -- a dictionary without its objects; the table stays
 abbrev pub emptied : Dictionary → Dictionary
 emptied d = record { method = d.method; objects = []; current = None; table = d.table }
+
+-- a region and a dictionary in it after objects were taken out, and what they were, in order
+pub record Emptied (L : Type 0) : Type 0 where
+  pub region : Layout L
+  pub dict : Dictionary
+  pub gone : List (List ℕ)
+
+-- the first object is taken out, where there is one, and all are
+abbrev pub first_out : {L : Type 0} → Layout L → Dictionary → Emptied L
+first_out r d =
+    record {
+      region = (remove_first r d).region;
+      dict = (remove_first r d).dict;
+      gone = listed (remove_first r d).gone;
+    }
+
+abbrev pub all_out : {L : Type 0} → Layout L → Dictionary → Emptied L
+all_out r d = record { region = freed_all r d.objects; dict = emptied d; gone = bytes_of d.objects }
 
 -- the region when a dictionary ends: without its holders and its table
 abbrev pub region_without : {L : Type 0} → Layout L → Dictionary → Layout L

@@ -1,11 +1,12 @@
 // Emptying a dictionary, and ending it.
-ghost use Rattle.std.specs.Prelude.{◌≡◌, [], true, length};
+ghost use Rattle.std.specs.Prelude.{◌≡◌, [], length};
 ghost use Rattle.vc_best.specs.Cells.{cells_in, rest_in};
 ghost use Rattle.vc_best.specs.Parts.{disc_in};
-ghost use Rattle.vc_objects.specs.Leaves.{Leaves, LeavesRest, told_each, told_if};
+ghost use Rattle.vc_objects.specs.Leaves.{Leaves, told_each};
 ghost use Rattle.vc_objects.specs.Objects.{owned};
 ghost use Rattle.vc_objects.specs.Parts.{IsWhole, dictionary_in};
-ghost use Rattle.vc_objects.specs.Remove.{bytes_of, emptied, freed_all, region_without, remove_first};
+ghost use Rattle.vc_objects.specs.Promises.{Empties};
+ghost use Rattle.vc_objects.specs.Remove.{all_out, bytes_of, first_out, region_without};
 
 use crate::cells::free_cell;
 use vc_base::{Addr, Cells};
@@ -18,16 +19,10 @@ use vc_seg::{BoxedDisc, SegDisc};
 fn take_one<D: DictDisc>(best: &mut Best, dict: &mut Dict, kind: &mut D)
     requires whole { IsWhole (D.rules kind.old) dict.old (cells_in best.old) }
 
-    ensures region { rest_in best.new
-        ≡ (remove_first (rest_in best.old) (dictionary_in dict.old best.old)).region }
-    ensures dict { dictionary_in dict.new best.new
-        ≡ (remove_first (rest_in best.old) (dictionary_in dict.old best.old)).dict }
-    ensures leaves { LeavesRest state (D.rules kind.old) best.old dict.old best.new dict.new }
-    ensures disc { disc_in state best.new ≡ disc_in state best.old }
+    ensures empties { Empties state
+        (first_out (rest_in best.old) (dictionary_in dict.old best.old)) (D.rules kind.old)
+        best.old dict.old (D.gone kind.old) best.new dict.new (D.gone kind.new) }
     ensures rules { D.rules kind.new ≡ D.rules kind.old }
-    ensures gone { D.gone kind.new ≡ told_if true
-        (remove_first (rest_in best.old) (dictionary_in dict.old best.old)).gone
-        (D.gone kind.old) }
 {
     match dict.take_first(best, kind) {
         Some(at) => {
@@ -44,15 +39,10 @@ pub fn empty<D: DictDisc>(best: &mut Best, dict: &mut Dict, kind: &mut D) -> u32
     requires whole { IsWhole (D.rules kind.old) dict.old (cells_in best.old) }
 
     ensures count { result ≡ length (dictionary_in dict.old best.old).objects }
-    ensures region { rest_in best.new
-        ≡ freed_all (rest_in best.old) (dictionary_in dict.old best.old).objects }
-    ensures dict { dictionary_in dict.new best.new
-        ≡ emptied (dictionary_in dict.old best.old) }
-    ensures leaves { LeavesRest state (D.rules kind.old) best.old dict.old best.new dict.new }
-    ensures disc { disc_in state best.new ≡ disc_in state best.old }
+    ensures empties { Empties state
+        (all_out (rest_in best.old) (dictionary_in dict.old best.old)) (D.rules kind.old)
+        best.old dict.old (D.gone kind.old) best.new dict.new (D.gone kind.new) }
     ensures rules { D.rules kind.new ≡ D.rules kind.old }
-    ensures gone { D.gone kind.new ≡ told_each
-        (bytes_of (dictionary_in dict.old best.old).objects) (D.gone kind.old) }
 {
     let count = dict.count as u32;
     for _passed in 0..count {

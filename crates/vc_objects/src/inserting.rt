@@ -1,13 +1,11 @@
 // Putting objects into a dictionary.
-ghost use Rattle.std.specs.Prelude.{◌≡◌, None, false, IfOk, IfErr, OnErr, OnOk};
-ghost use Rattle.vc_best.specs.Cells.{cells_in, rest_in};
+ghost use Rattle.std.specs.Prelude.{◌≡◌, None, OnOk};
+ghost use Rattle.vc_best.specs.Cells.{cells_in};
 ghost use Rattle.vc_best.specs.Parts.{disc_in};
-ghost use Rattle.vc_seg.specs.Answer.{IsRefusal};
 ghost use Rattle.vc_objects.specs.Insert.{slots_wanted};
-ghost use Rattle.vc_objects.specs.Leaves.{Asked, AskedHolder, AskedTable, GivesInserted};
-ghost use Rattle.vc_objects.specs.Leaves.{HasGrown, HasHeld, IsHalted, LeavesRest, want_by};
+ghost use Rattle.vc_objects.specs.Leaves.{LeavesRest, want_by};
 ghost use Rattle.vc_objects.specs.Parts.{IsWhole, dictionary_in};
-ghost use Rattle.vc_objects.specs.Promises.{CanPut, IsStill, growth_in, holder_in, insertion_in};
+ghost use Rattle.vc_objects.specs.Promises.{CanPut, Grows, Holds, Inserts, growth_in};
 
 use crate::cells::alloc_cell;
 use crate::fate::{Fate, Want};
@@ -33,18 +31,13 @@ fn want_of(fault: RegionFault) -> Option<Want>
 fn grow<D: DictDisc>(best: &mut Best, dict: &mut Dict, kind: &D) -> Result<(), RegionFault>
     requires whole { IsWhole (D.rules kind.now) dict.old (cells_in best.old) }
 
-    ensures ok { OnOk result (HasGrown (growth_in state best.old dict.old false)
-        (rest_in best.new) (dictionary_in dict.new best.new)) }
+    ensures grows { Grows state result (growth_in state best.old dict.old)
+        (slots_wanted (dictionary_in dict.old best.old))
+        best.old dict.old best.new dict.new }
     ensures room { OnOk result (slots_wanted (dictionary_in dict.new best.new) ≡ None) }
     ensures leaves { LeavesRest state (D.rules kind.now) best.old dict.old best.new dict.new }
     ensures same { slots_wanted (dictionary_in dict.old best.old) ≡ None
         → disc_in state best.new ≡ disc_in state best.old }
-
-    // With no block for the table nothing changed.
-    ensures err { IfErr result (λ why. IsRefusal (growth_in state best.old dict.old) why
-        × IsStill best.old dict.old best.new dict.new) }
-    ensures asked { AskedTable result (slots_wanted (dictionary_in dict.old best.old))
-        (disc_in state best.old) (disc_in state best.new) }
 {
     match dict.wants_table(1) {
         None => Ok(()),
@@ -64,18 +57,11 @@ fn hold<D: DictDisc, L>(
     requires can { CanPut (D.rules kind.now) best.old dict.old object.now append }
     requires room { slots_wanted (dictionary_in dict.old best.old) ≡ None }
 
-    ensures ok { OnOk result (HasHeld (D.rules kind.now) append object.now
-        (dictionary_in dict.old best.old) (holder_in state best.old object.now false)
-        (rest_in best.new) (dictionary_in dict.new best.new)) }
+    ensures holds { Holds state result (D.rules kind.now) append object.now
+        best.old dict.old best.new dict.new }
     ensures leaves { LeavesRest state (D.rules kind.now) best.old dict.old best.new dict.new }
     ensures table { (dictionary_in dict.new best.new).table
         ≡ (dictionary_in dict.old best.old).table }
-
-    // With no block for the holder nothing changed.
-    ensures err { IfErr result (λ why. IsRefusal (holder_in state best.old object.now) why
-        × IsStill best.old dict.old best.new dict.new) }
-    ensures asked { AskedHolder result object.now
-        (disc_in state best.old) (disc_in state best.new) }
 {
     match alloc_cell(best, 32 + object.len() as u32) {
         Ok(at) => {
@@ -99,20 +85,8 @@ pub fn insert<D: DictDisc, L>(
     steps: &mut Steps<L>,
 ) -> Result<Fate, OutOfMemory>
     requires can { CanPut (D.rules kind.now) best.old dict.old object.now append }
-
-    ensures ok { IfOk result (λ fate. GivesInserted
-        (insertion_in state best.old (D.rules kind.now) dict.old append object.now fate)
-        (rest_in best.new) (dictionary_in dict.new best.new) fate) }
-    ensures leaves { LeavesRest state (D.rules kind.now) best.old dict.old best.new dict.new }
-
-    // What was refused was asked for, and no segment else was refused.
-    ensures asked { Asked result (slots_wanted (dictionary_in dict.old best.old)) object.now
-        (disc_in state best.old) (disc_in state best.new) }
-
-    // With no memory nothing changed, or the table grew.
-    ensures err { OnErr result (IsHalted (growth_in state best.old dict.old false)
-        (rest_in best.old) (dictionary_in dict.old best.old)
-        (rest_in best.new) (dictionary_in dict.new best.new)) }
+    ensures inserts { Inserts state result (D.rules kind.now) append object.now
+        best.old dict.old best.new dict.new }
 {
     match grow(best, dict, kind) {
         Ok(()) => match hold(best, dict, kind, object, append, steps) {

@@ -1,12 +1,9 @@
-ghost use Rattle.std.specs.Prelude.{◌≡◌, [], Some, true, false, IfOk, IfErr};
+ghost use Rattle.std.specs.Prelude.{Some, IfOk, IfErr};
 ghost use Rattle.vc_dtdisc.specs.Rules.{Rules};
-ghost use Rattle.vc_best.specs.Cells.{cells_in, rest_in};
 ghost use Rattle.vc_best.specs.Parts.{disc_in};
 ghost use Rattle.vc_seg.specs.Answer.{IsRefusal};
-ghost use Rattle.vc_objects.specs.Leaves.{AskedTable, HasGrown, Leaves};
-ghost use Rattle.vc_objects.specs.Objects.{owned};
-ghost use Rattle.vc_objects.specs.Parts.{IsWhole, dictionary_in};
-ghost use Rattle.vc_objects.specs.Promises.{opening_in};
+ghost use Rattle.vc_objects.specs.Leaves.{AskedTable};
+ghost use Rattle.vc_objects.specs.Promises.{Opens, StaysAll, opening_in};
 
 use crate::tables::put_table;
 use vc_base::DictMethod;
@@ -23,17 +20,10 @@ pub fn open<D: DictDisc>(
     kind: u32,
     rules: &D,
 ) -> Result<Dict, RegionFault>
-    ensures ok { IfOk result (λ dict. HasGrown (opening_in state best.old method false)
-        (rest_in best.new) (dictionary_in dict best.new)) }
-    ensures whole { IfOk result (λ dict. IsWhole (D.rules rules.now) dict (cells_in best.new)) }
-    ensures leaves { IfOk result (λ dict. Leaves state best.old best.new []
-        (owned (dictionary_in dict best.new))) }
-    ensures kind { IfOk result (λ dict. dict.kind ≡ kind) }
-
+    ensures ok { IfOk result (λ dict. Opens state (D.rules rules.now) method kind
+        best.old dict best.new) }
     ensures err { IfErr result (λ why. IsRefusal (opening_in state best.old method) why
-        × (rest_in best.new ≡ rest_in best.old)
-        × (cells_in best.new ≡ cells_in best.old)
-        × Leaves state best.old best.new [] []) }
+        × StaysAll state best.old best.new) }
     ensures asked { AskedTable result (Some 16)
         (disc_in state best.old) (disc_in state best.new) }
 {

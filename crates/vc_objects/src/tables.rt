@@ -1,14 +1,12 @@
 // The tables of sets and bags.
-ghost use Rattle.std.specs.Prelude.{◌≡◌, ◌≢◌, ℕ, Some, None, true, false, IfErr, IsSome, OnOk};
+ghost use Rattle.std.specs.Prelude.{◌≡◌, ◌≢◌, ℕ, Some, IsSome, OnErr, OnOk};
 ghost use Rattle.vc_best.specs.Cells.{cells_in, rest_in};
-ghost use Rattle.vc_best.specs.Parts.{disc_in};
-ghost use Rattle.vc_seg.specs.Answer.{IsRefusal};
-ghost use Rattle.vc_objects.specs.Freed.{StaysAround};
+ghost use Rattle.vc_objects.specs.Unlabelled.{StaysAround};
 ghost use Rattle.vc_objects.specs.Insert.{without_table};
-ghost use Rattle.vc_objects.specs.Leaves.{AskedTable, HasGrown, Leaves};
+ghost use Rattle.vc_objects.specs.Leaves.{Leaves};
 ghost use Rattle.vc_objects.specs.Objects.{owned};
 ghost use Rattle.vc_objects.specs.Parts.{CanGrow, IsWhole, dictionary_in, table_of};
-ghost use Rattle.vc_objects.specs.Promises.{table_in};
+ghost use Rattle.vc_objects.specs.Promises.{Grows, table_in};
 
 use crate::cells::{alloc_cell, free_cell};
 use vc_base::Addr;
@@ -40,19 +38,15 @@ pub(crate) fn put_table<D: DictDisc>(
 ) -> Result<(), RegionFault>
     requires grows { CanGrow (D.rules kind.now) dict.old (cells_in best.old) slots }
 
-    ensures ok { OnOk result (HasGrown (table_in state best.old dict.old slots false)
-        (rest_in best.new) (dictionary_in dict.new best.new)) }
+    ensures grows { Grows state result (table_in state best.old dict.old slots) (Some slots)
+        best.old dict.old best.new dict.new }
     ensures whole { OnOk result (IsWhole (D.rules kind.now) dict.new (cells_in best.new)) }
     ensures kind { dict.new.kind ≡ dict.old.kind }
     ensures leaves { Leaves state best.old best.new
         (owned (dictionary_in dict.old best.old)) (owned (dictionary_in dict.new best.new)) }
 
     // With no block for it nothing changed.
-    ensures err { IfErr result (λ why. IsRefusal (table_in state best.old dict.old slots) why
-        × (rest_in best.new ≡ rest_in best.old) × (cells_in best.new ≡ cells_in best.old)
-        × (dict.new ≡ dict.old)) }
-    ensures asked { AskedTable result (Some slots)
-        (disc_in state best.old) (disc_in state best.new) }
+    ensures err { OnErr result ((cells_in best.new ≡ cells_in best.old) × (dict.new ≡ dict.old)) }
 {
     match alloc_cell(best, 8 * slots) {
         Ok(table) => {

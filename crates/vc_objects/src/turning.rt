@@ -8,7 +8,7 @@ ghost use Rattle.vc_dthash.specs.Slots.{IsSlots};
 ghost use Rattle.vc_dict.specs.Methods.{slots_between};
 ghost use Rattle.vc_dict.specs.Turned.{AreDropped, behind_dropped};
 ghost use Rattle.vc_best.specs.Cells.{cells_in, rest_in};
-ghost use Rattle.vc_objects.specs.Freed.{FreesCell, StaysAround};
+ghost use Rattle.vc_objects.specs.Unlabelled.{FreesCell, StaysAround};
 ghost use Rattle.vc_objects.specs.Parts.{IsWhole};
 ghost use Rattle.vc_objects.specs.Promises.{Brings, Turns};
 ghost use Rattle.vc_objects.specs.Turning.{CanTurn, Frees, HasDropped, TurnsTo};

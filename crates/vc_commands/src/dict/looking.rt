@@ -7,7 +7,7 @@ ghost use Rattle.vc_paths.specs.Ordered.{IsStanding, object_at};
 ghost use Rattle.vc_paths.specs.Path.{Answers, IsPath, visible_of};
 ghost use Rattle.vc_paths.specs.Visible.{seen_bytes};
 ghost use Rattle.vc_commands.specs.DictCommands.{is_object};
-ghost use Rattle.vc_commands.specs.Looking.{found_by, found_reply, is_askable, is_look, look_found, look_reply, own_place};
+ghost use Rattle.vc_commands.specs.Looking.{found_by, found_reply, is_askable, is_look, look_place, look_reply, own_place};
 
 use crate::Uncounted;
 use std::alloc::Global;
@@ -155,8 +155,8 @@ pub fn look<Y: Layers, D: DictDisc>(
     ensures reply { IfOk result (λ r. r.0 ≡ look_reply (D.rules kind.now) command.now
         (visible_of (Y.layered layers.old) paths.now d)) }
     ensures place { IfOk result (λ r. option_map number_of r.1
-        ≡ own_place (λ e. e == d) (look_found (D.rules kind.now) command.now
-        (visible_of (Y.layered layers.old) paths.now d))) }
+        ≡ look_place (λ e. e == d) (D.rules kind.now) command.now
+        (visible_of (Y.layered layers.old) paths.now d)) }
 
     ensures layers { Same (Y.layered layers.old) (Y.layered layers.new) }
     ensures stays { Y.Stays layers.old layers.new }

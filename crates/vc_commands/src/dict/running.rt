@@ -1,13 +1,11 @@
 // Running a command on a dictionary.
-ghost use Rattle.std.specs.Prelude.{◌≡◌, true, false, IfOk, OnErr};
+ghost use Rattle.std.specs.Prelude.{◌≡◌, false, OnErr};
 ghost use Rattle.vc_dtdisc.specs.Rules.{Gone, Rules};
 ghost use Rattle.vc_best.specs.Cells.{cells_in, rest_in};
 ghost use Rattle.vc_best.specs.Parts.{disc_in};
-ghost use Rattle.vc_objects.specs.Leaves.{LeavesRest};
 ghost use Rattle.vc_objects.specs.Parts.{IsWhole, dictionary_in};
-ghost use Rattle.vc_script.specs.Needs.{need_shown};
-ghost use Rattle.vc_commands.specs.DictCommands.{asks, in_dict};
-ghost use Rattle.vc_commands.specs.DictRun.{AskedBy, GivesDict, IsSpentBy, seat_in};
+ghost use Rattle.vc_commands.specs.DictCommands.{asks};
+ghost use Rattle.vc_commands.specs.DictRun.{IsSpentBy, RunsCommand, seat_in};
 
 use crate::dict::listing::count;
 use crate::dict::putting::{append, attach, insert};
@@ -34,18 +32,9 @@ pub fn run<D: DictDisc>(
 ) -> Result<Reply, OutOfMemory>
     requires whole { IsWhole (D.rules kind.old) dict.old (cells_in best.old) }
 
-    ensures step { IfOk result (λ reply. GivesDict
-        (in_dict (seat_in state (D.rules kind.old) best.old dict.old) command.now
-        (need_shown reply))
-        (rest_in best.new) (dictionary_in dict.new best.new) reply
-        (D.gone kind.old) (D.gone kind.new)) }
-    ensures leaves { LeavesRest state (D.rules kind.old) best.old dict.old best.new dict.new }
+    ensures runs { RunsCommand state result (D.rules kind.old) command.now
+        best.old dict.old (D.gone kind.old) best.new dict.new (D.gone kind.new) }
     ensures rules { D.rules kind.new ≡ D.rules kind.old }
-
-    // A segment that was refused was asked for; where none was, no fault was counted.
-    ensures asked { AskedBy result
-        (seat_in state (D.rules kind.old) best.old dict.old) command.now
-        (disc_in state best.old) (disc_in state best.new) }
     ensures disc { asks command.now ≡ false
         → disc_in state best.new ≡ disc_in state best.old }
 

@@ -1,15 +1,14 @@
 // The commands on all of a dictionary: another method, and no objects.
-ghost use Rattle.std.specs.Prelude.{◌≡◌, [], length, true, IfOk, OnErr};
-ghost use Rattle.vc_dict.specs.Methods.{slots_between};
+ghost use Rattle.std.specs.Prelude.{◌≡◌, OnErr};
 ghost use Rattle.vc_dtdisc.specs.Rules.{Gone, Rules};
-ghost use Rattle.vc_best.specs.Cells.{cells_in, rest_in};
+ghost use Rattle.vc_best.specs.Cells.{cells_in};
 ghost use Rattle.vc_best.specs.Parts.{disc_in};
 ghost use Rattle.vc_objects.specs.Leaves.{LeavesRest};
-ghost use Rattle.vc_objects.specs.Parts.{IsWhole, dictionary_in};
-ghost use Rattle.vc_objects.specs.Promises.{IsStill, turn_in};
+ghost use Rattle.vc_objects.specs.Parts.{IsWhole};
+ghost use Rattle.vc_objects.specs.Promises.{IsStill};
 ghost use Rattle.vc_script.specs.Needs.{NoNeed, need_shown};
-ghost use Rattle.vc_commands.specs.DictCommands.{empty_in, is_for_table, turned_as};
-ghost use Rattle.vc_commands.specs.DictRun.{Gives, RunsDict, seat_in};
+ghost use Rattle.vc_commands.specs.DictCommands.{empty_in};
+ghost use Rattle.vc_commands.specs.DictRun.{Gives, RunsCommand, seat_in};
 
 use crate::Uncounted;
 use std::alloc::Global;
@@ -17,7 +16,7 @@ use vc_base::{Addr, Cells, DictMethod, Name, OutOfMemory, Steps};
 use vc_best::Best;
 use vc_dict::Dict;
 use vc_dtdisc::DictDisc;
-use vc_script::{Refusal, Reply};
+use vc_script::{Command, Refusal, Reply};
 use vc_seg::{BoxedDisc, RegionFault, SegDisc};
 
 // `method`: turns a dictionary of that name to a method.
@@ -31,11 +30,8 @@ pub(crate) fn remethod<D: DictDisc>(
 ) -> Result<Reply, OutOfMemory>
     requires whole { IsWhole (D.rules kind.old) dict.old (cells_in best.old) }
 
-    ensures runs { RunsDict state result (D.rules kind.old)
-        (λ need. turned_as (seat_in state (D.rules kind.old) best.old dict.old) name method
-        (turn_in state best.old (D.rules kind.old) dict.old method (is_for_table need)))
-        (slots_between dict.old.method method (length (dictionary_in dict.old best.old).objects))
-        [] best.old dict.old (D.gone kind.old) best.new dict.new (D.gone kind.new) }
+    ensures runs { RunsCommand state result (D.rules kind.old) (Command.Remethod name method)
+        best.old dict.old (D.gone kind.old) best.new dict.new (D.gone kind.new) }
     ensures rules { D.rules kind.new ≡ D.rules kind.old }
     ensures err { OnErr result ((D.gone kind.new ≡ D.gone kind.old)
         × IsStill best.old dict.old best.new dict.new) }

@@ -1,5 +1,5 @@
 // The commands on a debug region, and that on a profile region.
-ghost use Rattle.std.specs.Prelude.{◌≡◌, ℕ, ℤ, List, [], ◌++◌, option_map, true, Ok, IfOk, OnErr, OnOk};
+ghost use Rattle.std.specs.Prelude.{◌≡◌, ℕ, ℤ, List, [], ◌++◌, option_map, None, true, IfOk, OnOk};
 ghost use Rattle.std.specs.List.{cons_option, filter_map};
 ghost use Rattle.vc_model.specs.Discipline.{HasOut};
 ghost use Rattle.vc_region.specs.Cells.{rest_in};
@@ -79,7 +79,7 @@ fn row_items(region: &Region, alloc: Global) -> Result<Vec<ProfileRow>, OutOfMem
 }
 
 impl HomeEntry {
-    ghost use Rattle.vc_commands.specs.RegionRun.{ChangesRegion, RunsRegion, held_of, region_with};
+    ghost use Rattle.vc_commands.specs.RegionRun.{ChangesRegion, RunsHome, RunsRegion, held_of, region_with};
     ghost use Rattle.vc_commands.specs.declared.region.labels.Labels.{Labels};
 
     // Puts one byte into a block or its guards, in a debug region.
@@ -122,16 +122,9 @@ impl HomeEntry {
         requires lent { HasOut (disc_in state self.old.region)
             (segments_of (rest_in self.old.region)) }
 
-        ensures step { IfOk result (λ reply. RunsRegion state
-            (λ h. watch_in h line name.now)
-            self.old labels.now (region_with self.new labels.now) reply) }
-        ensures err { OnErr result (region_with self.new labels.now
-            ≡ region_with self.old labels.now) }
-        ensures change { ChangesRegion state
+        ensures runs { RunsHome state result (λ h need. watch_in h line name.now) None
             self.old labels.now self.new labels.now }
-        ensures granted { result ≡ Ok (Reply.Refused Refusal.NoSegment) → ⊥ }
-        ensures faults { (disc_in state self.new.region).faults
-            ≡ (disc_in state self.old.region).faults }
+        ensures change { ChangesRegion state self.old labels.now self.new labels.now }
     {
         let Some(at) = labels.find(name) else {
             return Ok(Reply::Refused(no_block(labels, name)));

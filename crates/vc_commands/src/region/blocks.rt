@@ -1,13 +1,12 @@
 // The commands that put, move and free blocks.
-ghost use Rattle.std.specs.Prelude.{◌≡◌, ◌≢◌, ◌<◌, ◌+◌, ◌^◌, ◌≤◌, length, [], Some, None, Ok, IfOk, OnErr, option_map};
+ghost use Rattle.std.specs.Prelude.{◌≡◌, ◌<◌, ◌+◌, ◌^◌, ◌≤◌, length, Some, None, option_map};
 ghost use Rattle.std.specs.HashMap.{spare};
 ghost use Rattle.slab.specs.Slab.{HasRoomFor, slab_len};
 ghost use Rattle.vc_model.specs.Discipline.{HasOut};
 ghost use Rattle.vc_region.specs.Cells.{rest_in};
 ghost use Rattle.vc_region.specs.Parts.{disc_in};
 ghost use Rattle.vc_region.specs.Region.{segments_of};
-ghost use Rattle.vc_script.specs.Needs.{need_shown};
-ghost use Rattle.vc_commands.specs.Held.{IsNamed, LacksSegment};
+ghost use Rattle.vc_commands.specs.Held.{IsNamed};
 ghost use Rattle.vc_commands.specs.Blocks.{align_in, align_refused, alloc_in, fault_of, free_in, is_align, is_size, no_block, refusal_of, resize_in, site_of, size_refused};
 ghost use Rattle.vc_commands.specs.Kept.{line_of};
 ghost use Rattle.vc_commands.specs.Labels.{AreLabels, kept_of, tag_of};
@@ -151,7 +150,7 @@ fn name_put(
 }
 
 impl HomeEntry {
-    ghost use Rattle.vc_commands.specs.RegionRun.{ChangesRegion, RunsRegion, held_of, region_with};
+    ghost use Rattle.vc_commands.specs.RegionRun.{ChangesRegion, RunsHome};
 
     // Allocates a block under a name, at a site.
     pub(crate) fn allocate(
@@ -165,20 +164,10 @@ impl HomeEntry {
         requires lent { HasOut (disc_in state self.old.region)
             (segments_of (rest_in self.old.region)) }
 
-        ensures step { IfOk result (λ reply. RunsRegion state
-            (λ h. alloc_in h name site size (is_for_block (need_shown reply)))
-            self.old labels.old (region_with self.new labels.new) reply) }
-        ensures err { OnErr result (region_with self.new labels.new
-            ≡ region_with self.old labels.old) }
-        ensures change { ChangesRegion state
-            self.old labels.old self.new labels.new }
-        ensures unserved { result ≡ Ok (Reply.Refused Refusal.NoSegment)
-            → LacksSegment
-            (held_of state [] self.old labels.old)
-            (held_of state [] self.new labels.new)
-            (size, 32) }
-        ensures faults { result ≢ Ok (Reply.Refused Refusal.NoSegment)
-            → (disc_in state self.new.region).faults ≡ (disc_in state self.old.region).faults }
+        ensures runs { RunsHome state result
+            (λ h need. alloc_in h name site size (is_for_block need))
+            (Some (size, 32)) self.old labels.old self.new labels.new }
+        ensures change { ChangesRegion state self.old labels.old self.new labels.new }
     {
         match new_refused(labels, &name, size_refused(size)) {
             Some(why) => Ok(Reply::Refused(why)),
@@ -201,20 +190,10 @@ impl HomeEntry {
         requires lent { HasOut (disc_in state self.old.region)
             (segments_of (rest_in self.old.region)) }
 
-        ensures step { IfOk result (λ reply. RunsRegion state
-            (λ h. align_in h name size align (is_for_block (need_shown reply)))
-            self.old labels.old (region_with self.new labels.new) reply) }
-        ensures err { OnErr result (region_with self.new labels.new
-            ≡ region_with self.old labels.old) }
-        ensures change { ChangesRegion state
-            self.old labels.old self.new labels.new }
-        ensures unserved { result ≡ Ok (Reply.Refused Refusal.NoSegment)
-            → LacksSegment
-            (held_of state [] self.old labels.old)
-            (held_of state [] self.new labels.new)
-            (size, align) }
-        ensures faults { result ≢ Ok (Reply.Refused Refusal.NoSegment)
-            → (disc_in state self.new.region).faults ≡ (disc_in state self.old.region).faults }
+        ensures runs { RunsHome state result
+            (λ h need. align_in h name size align (is_for_block need))
+            (Some (size, align)) self.old labels.old self.new labels.new }
+        ensures change { ChangesRegion state self.old labels.old self.new labels.new }
     {
         let words = align_refused(&self.region, size, align);
         match new_refused(labels, &name, words) {
@@ -238,20 +217,10 @@ impl HomeEntry {
         requires lent { HasOut (disc_in state self.old.region)
             (segments_of (rest_in self.old.region)) }
 
-        ensures step { IfOk result (λ reply. RunsRegion state
-            (λ h. resize_in h name.now size may_move (is_for_block (need_shown reply)))
-            self.old labels.old (region_with self.new labels.new) reply) }
-        ensures err { OnErr result (region_with self.new labels.new
-            ≡ region_with self.old labels.old) }
-        ensures change { ChangesRegion state
-            self.old labels.old self.new labels.new }
-        ensures unserved { result ≡ Ok (Reply.Refused Refusal.NoSegment)
-            → LacksSegment
-            (held_of state [] self.old labels.old)
-            (held_of state [] self.new labels.new)
-            (size, 32) }
-        ensures faults { result ≢ Ok (Reply.Refused Refusal.NoSegment)
-            → (disc_in state self.new.region).faults ≡ (disc_in state self.old.region).faults }
+        ensures runs { RunsHome state result
+            (λ h need. resize_in h name.now size may_move (is_for_block need))
+            (Some (size, 32)) self.old labels.old self.new labels.new }
+        ensures change { ChangesRegion state self.old labels.old self.new labels.new }
     {
         let Some(at) = labels.find(name) else {
             return Ok(Reply::Refused(no_block(labels, name)));
@@ -280,16 +249,9 @@ impl HomeEntry {
         requires lent { HasOut (disc_in state self.old.region)
             (segments_of (rest_in self.old.region)) }
 
-        ensures step { IfOk result (λ reply. RunsRegion state
-            (λ h. free_in h name.now line)
-            self.old labels.old (region_with self.new labels.new) reply) }
-        ensures err { OnErr result (region_with self.new labels.new
-            ≡ region_with self.old labels.old) }
-        ensures change { ChangesRegion state
+        ensures runs { RunsHome state result (λ h need. free_in h name.now line) None
             self.old labels.old self.new labels.new }
-        ensures granted { result ≡ Ok (Reply.Refused Refusal.NoSegment) → ⊥ }
-        ensures faults { (disc_in state self.new.region).faults
-            ≡ (disc_in state self.old.region).faults }
+        ensures change { ChangesRegion state self.old labels.old self.new labels.new }
     {
         let Some(at) = labels.find(name) else {
             return Ok(Reply::Refused(no_block(labels, name)));

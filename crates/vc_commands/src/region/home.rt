@@ -1,12 +1,11 @@
 // A region that is open.
-ghost use Rattle.std.specs.Prelude.{◌≡◌, ◌≢◌, [], Ok, IfOk, OnErr};
+ghost use Rattle.std.specs.Prelude.{◌≡◌, Some};
 ghost use Rattle.vc_model.specs.Addr.{place_of};
 ghost use Rattle.vc_model.specs.Discipline.{HasOut};
 ghost use Rattle.vc_region.specs.Cells.{rest_in};
 ghost use Rattle.vc_region.specs.Parts.{disc_in};
 ghost use Rattle.vc_region.specs.Region.{segments_of};
-ghost use Rattle.vc_script.specs.Needs.{need_shown};
-ghost use Rattle.vc_commands.specs.Held.{IsNamed, LacksSegment};
+ghost use Rattle.vc_commands.specs.Held.{IsNamed};
 ghost use Rattle.vc_commands.specs.RegionCommands.{block_asked, in_region};
 
 use crate::region::labels::Labels;
@@ -37,7 +36,7 @@ pub(crate) fn place_of(at: Addr) -> Place
 }
 
 impl HomeEntry {
-    ghost use Rattle.vc_commands.specs.RegionRun.{LeavesRegion, RunsRegion, held_of, region_with};
+    ghost use Rattle.vc_commands.specs.RegionRun.{LeavesRegion, RunsHome};
 
     /// Runs the command of a line, numbered from 1 on, in the region whose names these are, and answers its reply. A command
     /// that works in no region is refused as if there were none. A refusal changes neither the region nor its names; want of memory,
@@ -53,20 +52,10 @@ impl HomeEntry {
         requires lent { HasOut (disc_in state self.old.region)
             (segments_of (rest_in self.old.region)) }
 
-        ensures step { IfOk result (λ reply. RunsRegion state
-            (λ h. in_region h line command.now (need_shown reply))
-            self.old labels.old (region_with self.new labels.new) reply) }
-        ensures err { OnErr result (region_with self.new labels.new
-            ≡ region_with self.old labels.old) }
+        ensures runs { RunsHome state result (λ h. in_region h line command.now)
+            (Some (block_asked command.now)) self.old labels.old self.new labels.new }
         ensures change { LeavesRegion state command.now
             self.old labels.old self.new labels.new }
-        ensures unserved { result ≡ Ok (Reply.Refused Refusal.NoSegment)
-            → LacksSegment
-            (held_of state [] self.old labels.old)
-            (held_of state [] self.new labels.new)
-            (block_asked command.now) }
-        ensures faults { result ≢ Ok (Reply.Refused Refusal.NoSegment)
-            → (disc_in state self.new.region).faults ≡ (disc_in state self.old.region).faults }
     {
         match command {
             Command::ClearRegion(name) => Ok(self.clear(labels, *name, line)),

@@ -2,7 +2,7 @@ use Rattle.std.proofs.Common.{◌≡◌, ◌≢◌, ℕ, [], false, sym, ap, ◌
 use Rattle.std.specs.Prelude.{◌==◌, not}
 use Rattle.std.proofs.lemmas.Bool.{true≢false}
 use Rattle.vc_base.specs.Holders.{contains}
-use Rattle.vc_objects.specs.Freed.{FreesCell}
+use Rattle.vc_objects.specs.Unlabelled.{FreesCell}
 use Rattle.vc_objects.specs.Objects.{Dictionary, owned}
 use Rattle.vc_objects.specs.Parts.{dictionary_in}
 use Rattle.vc_objects.proofs.Emptied.{emptied-fewer, leaves-none, leaves-table}
@@ -14,10 +14,10 @@ returns-then-ne-clause-leaves g c =
     let mine = owned (dictionary_in c.args.dict c.args.best.now) in
     let left = owned (dictionary_in c.empty.new.dict c.empty.new.best) in
     let fewer : (a : ℕ) → contains mine a ≡ false → contains left a ≡ false =
-    λ a h. ap (λ (d : Dictionary). contains (owned d) a) c.empty.ensures.dict ∙ emptied-fewer (dictionary_in c.args.dict c.args.best.now) a h in
+    λ a h. ap (λ (d : Dictionary). contains (owned d) a) c.empty.ensures.empties.dict ∙ emptied-fewer (dictionary_in c.args.dict c.args.best.now) a h in
     let some : c.empty.new.dict.table.0 ≢ 0 =
     λ zero. true≢false (sym c.if-ne.true ∙ c.ne.ensures ∙ ap (λ z. not (z == 0)) (ap (λ a. a.0) c.table-table.ensures ∙ zero)) in
-    leaves-trans (λ z. (goal.SegDisc-dyn g z).state z.1) c.args.best.now c.empty.new.best c.free_cell.new.best mine left [] c.empty.ensures.leaves.rest
+    leaves-trans (λ z. (goal.SegDisc-dyn g z).state z.1) c.args.best.now c.empty.new.best c.free_cell.new.best mine left [] c.empty.ensures.empties.leaves.rest
     (leaves-table (λ z. (goal.SegDisc-dyn g z).state z.1) c.empty.new.best c.free_cell.new.best c.empty.new.dict some
     (subst (λ t. FreesCell (λ z. (goal.SegDisc-dyn g z).state z.1) c.empty.new.best t.0 c.free_cell.new.best) c.table-table.ensures c.free_cell.ensures.frees))
     (λ a apart _. fewer a apart)
@@ -27,6 +27,6 @@ returns-else-ne-clause-leaves g c =
     let mine = owned (dictionary_in c.args.dict c.args.best.now) in
     let left = owned (dictionary_in c.empty.new.dict c.empty.new.best) in
     let fewer : (a : ℕ) → contains mine a ≡ false → contains left a ≡ false =
-    λ a h. ap (λ (d : Dictionary). contains (owned d) a) c.empty.ensures.dict ∙ emptied-fewer (dictionary_in c.args.dict c.args.best.now) a h in
-    leaves-trans (λ z. (goal.SegDisc-dyn g z).state z.1) c.args.best.now c.empty.new.best c.empty.new.best mine left [] c.empty.ensures.leaves.rest
+    λ a h. ap (λ (d : Dictionary). contains (owned d) a) c.empty.ensures.empties.dict ∙ emptied-fewer (dictionary_in c.args.dict c.args.best.now) a h in
+    leaves-trans (λ z. (goal.SegDisc-dyn g z).state z.1) c.args.best.now c.empty.new.best c.empty.new.best mine left [] c.empty.ensures.empties.leaves.rest
     (leaves-none (λ z. (goal.SegDisc-dyn g z).state z.1) c.empty.new.best left) (λ a apart _. fewer a apart)

@@ -1,20 +1,26 @@
-use Rattle.std.proofs.Common.{◌≡◌, None, Option, Some, ap, arith, sym, true, ◌∙◌}
+use Rattle.std.proofs.Common.{◌≡◌, None, Option, Some, ℕ, ap, arith, refl, sym, ◌∙◌}
 use Rattle.std.specs.Option.{option_map}
 use Rattle.vc_dtdisc.specs.Objects.{Object}
 use Rattle.vc_dtdisc.specs.Finding.{first_of}
 use Rattle.vc_dtdisc.specs.Rules.{gone_after}
 use Rattle.vc_dict.specs.Listed.{holders_of}
+use Rattle.vc_model.specs.Discipline.{Discipline}
 use Rattle.vc_best.specs.Cells.{cells_in, rest_in}
 use Rattle.vc_best.proofs.CellCalls.{stays-disc}
-use Rattle.vc_objects.specs.Leaves.{Looks, told_if}
+use Rattle.vc_objects.specs.Leaves.{Looks, told_each}
+use Rattle.vc_objects.specs.Objects.{listed}
 use Rattle.vc_objects.specs.Parts.{dictionary_in, object_of}
-use Rattle.vc_objects.specs.Remove.{remove_found}
+use Rattle.vc_objects.specs.Remove.{Removed, remove_found}
 use Rattle.vc_objects.proofs.Looking.{Looks-became}
 use Rattle.vc_objects.proofs.Mapped.{first-mapped}
 use Rattle.vc_objects.proofs.Taken.{IsTaken, dict-after, first-within, holder-stays, leaves-taken, object-stays, region-taken}
 use Rattle.vc_objects.proofs.emptying.take_one.Given.{Over}
 use Rattle.vc_objects.proofs.emptying.take_one.Goals as goal
 use Rattle.vc_objects.proofs.emptying.take_one.Goals.{In-None, In-Some}
+
+-- what a region's boxed discipline means
+abbrev meaning : (g : Over) → (x : g.dyn-1.0.I) × (g.dyn-1.0.entry x).0.Denot → Discipline
+meaning g p = (goal.SegDisc-dyn g p).state p.1
 
 -- the first holder was taken out, which is that of the first object
 here : (g : Over) (c : In-Some g) → IsTaken (g.D.DictDisc.rules c.args.kind.now) c.args.best.now c.take_first.new.cells c.args.dict.now c.take_first.new.self c.in-Some.at.0
@@ -39,9 +45,9 @@ none-here g c =
     let xs = holders_of c.args.dict.now b in
     first-mapped b xs ∙ ap (option_map (object_of b)) (sym (c.in-None.ensures.first xs c.requires.whole.stands))
 
-looks-here : (g : Over) (c : In-None g) → Looks (λ z. (goal.SegDisc-dyn g z).state z.1) (g.D.DictDisc.rules c.args.kind.now) c.args.best.now c.args.dict.now c.take_first.new.cells c.take_first.new.self
+looks-here : (g : Over) (c : In-None g) → Looks (meaning g) (g.D.DictDisc.rules c.args.kind.now) c.args.best.now c.args.dict.now c.take_first.new.cells c.take_first.new.self
 looks-here g c =
-    Looks-became (λ z. (goal.SegDisc-dyn g z).state z.1) (g.D.DictDisc.rules c.args.kind.now) c.args.best.now c.take_first.new.cells c.args.dict.now c.take_first.new.self c.requires.whole
+    Looks-became (meaning g) (g.D.DictDisc.rules c.args.kind.now) c.args.best.now c.take_first.new.cells c.args.dict.now c.take_first.new.self c.requires.whole
     (c.in-None.ensures.dict (holders_of c.args.dict.now (cells_in c.args.best.now)) c.requires.whole.stands) c.in-None.ensures.rest
 
 pub body-requires : goal.body-requires
@@ -54,53 +60,49 @@ pub free_cell-requires : goal.free_cell-requires
 free_cell-requires g c =
     (holder-stays (g.D.DictDisc.rules c.args.kind.now) c.args.best.now c.take_first.new.cells c.args.dict.now c.take_first.new.self c.in-Some.at.0 (here g (goal.at.free_cell-requires g c).In-Some)).there
 
-pub returns-in-Some-clause-region : goal.returns-in-Some-clause-region
-returns-in-Some-clause-region g c =
-    region-taken (g.D.DictDisc.rules c.args.kind.now) c.args.best.now c.take_first.new.cells c.args.dict.now c.take_first.new.self c.in-Some.at.0 (here g (goal.at.returns-in-Some-clause-region g c).In-Some)
-    (λ z. (goal.SegDisc-dyn g z).state z.1) c.free_cell.new.best c.in-Some.ensures.rest c.free_cell.ensures.frees
-    ∙ sym (ap (λ (o : Option Object). (remove_found (rest_in c.args.best.now) (dictionary_in c.args.dict.now c.args.best.now) o).region) (first-here g (goal.at.returns-in-Some-clause-region g c).In-Some))
-
-pub returns-in-Some-clause-dict : goal.returns-in-Some-clause-dict
-returns-in-Some-clause-dict g c =
-    dict-after (g.D.DictDisc.rules c.args.kind.now) c.args.best.now c.take_first.new.cells c.args.dict.now c.take_first.new.self c.in-Some.at.0 (here g (goal.at.returns-in-Some-clause-dict g c).In-Some)
-    (λ z. (goal.SegDisc-dyn g z).state z.1) c.free_cell.new.best c.in-Some.ensures.rest c.free_cell.ensures.frees
-    ∙ sym (ap (λ (o : Option Object). (remove_found (rest_in c.args.best.now) (dictionary_in c.args.dict.now c.args.best.now) o).dict) (first-here g (goal.at.returns-in-Some-clause-dict g c).In-Some))
-
-pub returns-in-Some-clause-leaves : goal.returns-in-Some-clause-leaves
-returns-in-Some-clause-leaves g c =
-    leaves-taken (g.D.DictDisc.rules c.args.kind.now) c.args.best.now c.take_first.new.cells c.args.dict.now c.take_first.new.self c.in-Some.at.0 (here g (goal.at.returns-in-Some-clause-leaves g c).In-Some)
-    (λ z. (goal.SegDisc-dyn g z).state z.1) c.free_cell.new.best c.in-Some.ensures.rest c.free_cell.ensures.frees
-
-pub returns-in-Some-clause-disc : goal.returns-in-Some-clause-disc
-returns-in-Some-clause-disc g c =
-    c.free_cell.ensures.frees.around.disc ∙ stays-disc (λ z. (goal.SegDisc-dyn g z).state z.1) c.args.best.now c.take_first.new.cells c.in-Some.ensures.rest
-
-pub returns-in-Some-clause-gone : goal.returns-in-Some-clause-gone
-returns-in-Some-clause-gone g c =
-    let gone = g.D.DictDisc.gone c.args.kind.now in
-    c.freed.ensures.gone ∙ ap (gone_after gone) (c.body.ensures ∙ object-stays (g.D.DictDisc.rules c.args.kind.now) c.args.best.now c.take_first.new.cells c.args.dict.now c.take_first.new.self c.in-Some.at.0 (here g (goal.at.returns-in-Some-clause-gone g c).In-Some))
-    ∙ sym (ap (λ (o : Option Object). told_if true (remove_found (rest_in c.args.best.now) (dictionary_in c.args.dict.now c.args.best.now) o).gone gone) (first-here g (goal.at.returns-in-Some-clause-gone g c).In-Some))
-
-pub returns-in-None-clause-region : goal.returns-in-None-clause-region
-returns-in-None-clause-region g c =
-    (looks-here g (goal.at.returns-in-None-clause-region g c).In-None).region ∙ sym (ap (λ (o : Option Object). (remove_found (rest_in c.args.best.now) (dictionary_in c.args.dict.now c.args.best.now) o).region) (none-here g (goal.at.returns-in-None-clause-region g c).In-None))
-
-pub returns-in-None-clause-dict : goal.returns-in-None-clause-dict
-returns-in-None-clause-dict g c =
-    (looks-here g (goal.at.returns-in-None-clause-dict g c).In-None).dict ∙ sym (ap (λ (o : Option Object). (remove_found (rest_in c.args.best.now) (dictionary_in c.args.dict.now c.args.best.now) o).dict) (none-here g (goal.at.returns-in-None-clause-dict g c).In-None))
-
-pub returns-in-None-clause-leaves : goal.returns-in-None-clause-leaves
-returns-in-None-clause-leaves g c =
-    (looks-here g (goal.at.returns-in-None-clause-leaves g c).In-None).leaves
-
-pub returns-in-None-clause-disc : goal.returns-in-None-clause-disc
-returns-in-None-clause-disc g c =
-    stays-disc (λ z. (goal.SegDisc-dyn g z).state z.1) c.args.best.now c.take_first.new.cells c.in-None.ensures.rest
-
-pub returns-in-None-clause-gone : goal.returns-in-None-clause-gone
-returns-in-None-clause-gone g c =
+pub returns-in-Some : goal.returns-in-Some
+returns-in-Some g c =
     let rules = g.D.DictDisc.rules c.args.kind.now in
-    let b = cells_in c.args.best.now in
-    let xs = holders_of c.args.dict.now b in
-    let found = c.in-None.ensures.first xs c.requires.whole.stands in
-    sym (ap (λ (o : Option Object). told_if true (remove_found (rest_in c.args.best.now) (dictionary_in c.args.dict.now c.args.best.now) o).gone (g.D.DictDisc.gone c.args.kind.now)) (none-here g (goal.at.returns-in-None-clause-gone g c).In-None))
+    let gone = g.D.DictDisc.gone c.args.kind.now in
+    let old = c.args.best.now in
+    let mid = c.take_first.new.cells in
+    let new = c.free_cell.new.best in
+    let dict = c.args.dict.now in
+    let dict' = c.take_first.new.self in
+    let at = c.in-Some.at.0 in
+    let before = (goal.at.returns-in-Some g c).In-Some in
+    let is = here g before in
+    let found = sym (first-here g before) in
+    let removed : Option Object → Removed ℕ = λ o. remove_found (rest_in old) (dictionary_in dict old) o in
+    let rest = c.in-Some.ensures.rest in
+    let frees = c.free_cell.ensures.frees in
+    record {
+      empties = record {
+        region = region-taken rules old mid dict dict' at is (meaning g) new rest frees ∙ ap (λ (o : Option Object). (removed o).region) found;
+        dict = dict-after rules old mid dict dict' at is (meaning g) new rest frees ∙ ap (λ (o : Option Object). (removed o).dict) found;
+        leaves = leaves-taken rules old mid dict dict' at is (meaning g) new rest frees;
+        disc = frees.around.disc ∙ stays-disc (meaning g) old mid rest;
+        gone =
+            c.freed.ensures.gone ∙ ap (gone_after gone) (c.body.ensures ∙ object-stays rules old mid dict dict' at is)
+            ∙ ap (λ (o : Option Object). told_each (listed (removed o).gone) gone) found;
+      };
+      rules = c.freed.ensures.rules;
+    }
+
+pub returns-in-None : goal.returns-in-None
+returns-in-None g c =
+    let old = c.args.best.now in
+    let before = (goal.at.returns-in-None g c).In-None in
+    let looks = looks-here g before in
+    let found = sym (none-here g before) in
+    let removed : Option Object → Removed ℕ = λ o. remove_found (rest_in old) (dictionary_in c.args.dict.now old) o in
+    record {
+      empties = record {
+        region = looks.region ∙ ap (λ (o : Option Object). (removed o).region) found;
+        dict = looks.dict ∙ ap (λ (o : Option Object). (removed o).dict) found;
+        leaves = looks.leaves;
+        disc = stays-disc (meaning g) old c.take_first.new.cells c.in-None.ensures.rest;
+        gone = ap (λ (o : Option Object). told_each (listed (removed o).gone) (g.D.DictDisc.gone c.args.kind.now)) found;
+      };
+      rules = refl;
+    }

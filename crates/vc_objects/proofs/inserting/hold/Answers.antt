@@ -1,5 +1,5 @@
-use Rattle.std.proofs.Common.{ℕ, refl, ap, ◌∙◌}
-use Rattle.vc_base.specs.Cells.{with_body}
+use Rattle.std.proofs.Common.{ℕ, ap, refl, ◌∙◌}
+use Rattle.vc_base.specs.Cells.{Blocks, with_body}
 use Rattle.vc_model.specs.Layout.{Layout}
 use Rattle.vc_base.specs.declared.addr.Addr.{Addr}
 use Rattle.vc_model.specs.Best.{best_need}
@@ -9,72 +9,95 @@ use Rattle.vc_best.specs.CellLaws.{stays-after}
 use Rattle.vc_best.specs.Cells.{cells_in, rest_in}
 use Rattle.vc_best.specs.Parts.{disc_in, segments_in}
 use Rattle.vc_best.proofs.CellCalls.{stays-disc}
-use Rattle.vc_objects.specs.Objects.{holder_size, owned}
-use Rattle.vc_objects.specs.Parts.{dictionary_in, table_of}
+use Rattle.vc_objects.specs.Objects.{Dictionary, holder_size, owned}
+use Rattle.vc_objects.specs.Parts.{dictionary_in, dictionary_of, table_of}
 use Rattle.vc_objects.proofs.Answering.{asked-block, held-put}
 use Rattle.vc_objects.proofs.Holding.{body-length, body-place, can-link, dictionary-held, fresh-held, others-held, stands-put, whole-held}
 use Rattle.vc_objects.proofs.Leaving.{asked-keeps, leaves-put, none-at}
 use Rattle.vc_objects.proofs.Remains.{leaves-refused}
+use Rattle.vc_objects.proofs.inserting.hold.Given.{Over}
 use Rattle.vc_objects.proofs.inserting.hold.Goals as goal
 
-pub set_body-requires-clause-place : goal.set_body-requires-clause-place
-set_body-requires-clause-place g c =
+-- what a region's boxed discipline means
+abbrev meaning : (g : Over) → (x : g.dyn-1.0.I) × (g.dyn-1.0.entry x).0.Denot → Discipline
+meaning g p = (goal.SegDisc-dyn g p).state p.1
+
+pub set_body-requires : goal.set_body-requires
+set_body-requires g c =
     let cells = cells_in c.alloc_cell.new.best in
-    body-place (g.D.DictDisc.rules c.args.kind.now) c.args.dict.now (cells_in c.args.best.now) (cells_in c.alloc_cell.new.best) (with_body c.in-Ok.at.0 c.args.object.now cells) c.in-Ok.at.0 c.args.object.now c.requires.can.whole c.in-Ok.ensures.fresh c.in-Ok.ensures.address c.requires.can.object c.in-Ok.ensures.cells refl
-
-pub set_body-requires-clause-length : goal.set_body-requires-clause-length
-set_body-requires-clause-length g c =
-    let cells = cells_in c.alloc_cell.new.best in
-    body-length (g.D.DictDisc.rules c.args.kind.now) c.args.dict.now (cells_in c.args.best.now) (cells_in c.alloc_cell.new.best) (with_body c.in-Ok.at.0 c.args.object.now cells) c.in-Ok.at.0 c.args.object.now c.requires.can.whole c.in-Ok.ensures.fresh c.in-Ok.ensures.address c.requires.can.object c.in-Ok.ensures.cells refl
-
-pub link-requires : goal.link-requires
-link-requires g c = can-link _ c.args.dict.now (cells_in c.args.best.now) (cells_in c.alloc_cell.new.best) (cells_in c.set_body.new.self) c.in-Ok.at.0 c.args.object.now c.requires.can.whole c.in-Ok.ensures.fresh c.in-Ok.ensures.address c.requires.can.object c.in-Ok.ensures.cells c.set_body.ensures.blocks c.args.append c.requires.room c.requires.can.lone c.requires.can.list
-
-pub returns-in-Ok-clause-ok : goal.returns-in-Ok-clause-ok
-returns-in-Ok-clause-ok g c =
-    let became = (c.link.ensures.dict (holders_of c.args.dict.now (cells_in c.args.best.now)) (stands-put _ c.args.dict.now (cells_in c.args.best.now) (cells_in c.alloc_cell.new.best) (cells_in c.set_body.new.self) c.in-Ok.at.0 c.args.object.now c.requires.can.whole c.in-Ok.ensures.fresh c.in-Ok.ensures.address c.requires.can.object c.in-Ok.ensures.cells c.set_body.ensures.blocks)) in
-    held-put _ c.args.append c.args.object.now (dictionary_in c.args.dict.now c.args.best.now) _ c.in-Ok.at.0 (rest_in c.alloc_cell.new.best) (rest_in c.link.new.cells) (dictionary_in c.link.new.self c.link.new.cells)
-    c.in-Ok.ensures.answer (c.link.ensures.rest.layout ∙ c.set_body.ensures.rest.layout)
-    (dictionary-held _ c.args.dict.now (cells_in c.args.best.now) (cells_in c.alloc_cell.new.best) (cells_in c.set_body.new.self) c.in-Ok.at.0 c.args.object.now c.requires.can.whole c.in-Ok.ensures.fresh c.in-Ok.ensures.address c.requires.can.object c.in-Ok.ensures.cells c.set_body.ensures.blocks
-    c.args.append c.link.new.self (cells_in c.link.new.cells) became)
-
-pub returns-in-Ok-clause-leaves : goal.returns-in-Ok-clause-leaves
-returns-in-Ok-clause-leaves g c =
-    let became = (c.link.ensures.dict (holders_of c.args.dict.now (cells_in c.args.best.now)) (stands-put _ c.args.dict.now (cells_in c.args.best.now) (cells_in c.alloc_cell.new.best) (cells_in c.set_body.new.self) c.in-Ok.at.0 c.args.object.now c.requires.can.whole c.in-Ok.ensures.fresh c.in-Ok.ensures.address c.requires.can.object c.in-Ok.ensures.cells c.set_body.ensures.blocks)) in
-    let stays = stays-after c.alloc_cell.new.best c.set_body.new.self c.link.new.cells c.set_body.ensures.rest c.link.ensures.rest in
+    let rules = g.D.DictDisc.rules c.args.kind.now in
+    let made = c.in-Ok.ensures.puts.made in
+    let written = with_body c.in-Ok.at.0 c.args.object.now cells in
     record {
-      whole = whole-held _ c.args.dict.now (cells_in c.args.best.now) (cells_in c.alloc_cell.new.best) (cells_in c.set_body.new.self) c.in-Ok.at.0 c.args.object.now c.requires.can.whole c.in-Ok.ensures.fresh c.in-Ok.ensures.address c.requires.can.object c.in-Ok.ensures.cells c.set_body.ensures.blocks
-          c.args.append c.link.new.self (cells_in c.link.new.cells) became;
-      kind = became.kind;
-      rest =
-          leaves-put _ c.args.best.now c.alloc_cell.new.best c.link.new.cells c.link.new.cells (owned (dictionary_in c.args.dict.now c.args.best.now)) (owned (dictionary_in c.link.new.self c.link.new.cells)) _
-          c.in-Ok.ensures.disc c.alloc_cell.ensures.labelled stays refl refl refl
-          (others-held _ c.args.dict.now (cells_in c.args.best.now) (cells_in c.alloc_cell.new.best) (cells_in c.set_body.new.self) c.in-Ok.at.0 c.args.object.now c.requires.can.whole c.in-Ok.ensures.fresh c.in-Ok.ensures.address c.requires.can.object c.in-Ok.ensures.cells c.set_body.ensures.blocks
-          c.args.append c.link.new.self (cells_in c.link.new.cells) became (none-at c.link.new.cells) (none-at c.args.best.now))
-          (fresh-held _ c.args.dict.now (cells_in c.args.best.now) (cells_in c.alloc_cell.new.best) (cells_in c.set_body.new.self) c.in-Ok.at.0 c.args.object.now c.requires.can.whole c.in-Ok.ensures.fresh c.in-Ok.ensures.address c.requires.can.object c.in-Ok.ensures.cells c.set_body.ensures.blocks
-          c.args.append c.link.new.self (cells_in c.link.new.cells) became);
+      place = body-place rules c.args.dict.now (cells_in c.args.best.now) cells written c.in-Ok.at.0 c.args.object.now c.requires.can.whole made c.requires.can.object refl;
+      length = body-length rules c.args.dict.now (cells_in c.args.best.now) cells written c.in-Ok.at.0 c.args.object.now c.requires.can.whole made c.requires.can.object refl;
     }
 
-pub returns-in-Ok-clause-table : goal.returns-in-Ok-clause-table
-returns-in-Ok-clause-table g c =
-    let became = (c.link.ensures.dict (holders_of c.args.dict.now (cells_in c.args.best.now)) (stands-put _ c.args.dict.now (cells_in c.args.best.now) (cells_in c.alloc_cell.new.best) (cells_in c.set_body.new.self) c.in-Ok.at.0 c.args.object.now c.requires.can.whole c.in-Ok.ensures.fresh c.in-Ok.ensures.address c.requires.can.object c.in-Ok.ensures.cells c.set_body.ensures.blocks)) in
-    ap (λ (t : Addr). table_of t.0 c.link.new.self.slots) became.table ∙ ap (table_of c.args.dict.now.table.0) became.slots
+pub link-requires : goal.link-requires
+link-requires g c =
+    can-link _ c.args.dict.now (cells_in c.args.best.now) (cells_in c.alloc_cell.new.best) (cells_in c.set_body.new.self) c.in-Ok.at.0 c.args.object.now c.requires.can.whole c.in-Ok.ensures.puts.made c.requires.can.object c.set_body.ensures.blocks
+    c.args.append c.requires.room c.requires.can.lone c.requires.can.list
 
-pub returns-in-Ok-clause-asked : goal.returns-in-Ok-clause-asked
-returns-in-Ok-clause-asked g c =
-    ap (λ (d : Discipline). d.faults) (stays-disc (λ z. (goal.SegDisc-dyn g z).state z.1) c.alloc_cell.new.best c.link.new.cells (stays-after c.alloc_cell.new.best c.set_body.new.self c.link.new.cells c.set_body.ensures.rest c.link.ensures.rest))
-    ∙ c.in-Ok.ensures.disc.faults
+pub returns-in-Ok : goal.returns-in-Ok
+returns-in-Ok g c =
+    let rules = g.D.DictDisc.rules c.args.kind.now in
+    let old = c.args.best.now in
+    let mid = c.alloc_cell.new.best in
+    let new = c.link.new.cells in
+    let dict = c.args.dict.now in
+    let dict' = c.link.new.self in
+    let at = c.in-Ok.at.0 in
+    let object = c.args.object.now in
+    let b0 = cells_in old in
+    let b1 = cells_in mid in
+    let b2 = cells_in c.set_body.new.self in
+    let b3 = cells_in new in
+    let puts = c.in-Ok.ensures.puts in
+    let whole = c.requires.can.whole in
+    let is = c.requires.can.object in
+    let written = c.set_body.ensures.blocks in
+    let became = c.link.ensures.dict (holders_of dict b0) (stands-put rules dict b0 b1 b2 at object whole puts.made is written) in
+    let stays = stays-after mid c.set_body.new.self new c.set_body.ensures.rest c.link.ensures.rest in
+    record {
+      holds = record {
+        ok =
+            held-put rules c.args.append object (dictionary_in dict old) _ at (rest_in mid) (rest_in new) (dictionary_in dict' new)
+            puts.answer (c.link.ensures.rest.layout ∙ c.set_body.ensures.rest.layout)
+            (dictionary-held rules dict b0 b1 b2 at object whole puts.made is written c.args.append dict' b3 became);
+        err = tt;
+        asked = ap (λ (d : Discipline). d.faults) (stays-disc (meaning g) mid new stays) ∙ puts.asks.faults;
+      };
+      leaves = record {
+        whole = whole-held rules dict b0 b1 b2 at object whole puts.made is written c.args.append dict' b3 became;
+        kind = became.kind;
+        rest =
+            leaves-put (meaning g) old mid new new (owned (dictionary_in dict old)) (owned (dictionary_in dict' new)) _
+            puts.asks puts.labelled stays refl refl refl
+            (others-held rules dict b0 b1 b2 at object whole puts.made is written c.args.append dict' b3 became (none-at new) (none-at old))
+            (fresh-held rules dict b0 b1 b2 at object whole puts.made is written c.args.append dict' b3 became);
+      };
+      table = ap (λ (t : Addr). table_of t.0 dict'.slots) became.table ∙ ap (table_of dict.table.0) became.slots;
+    }
 
-pub returns-in-Err-clause-asked : goal.returns-in-Err-clause-asked
-returns-in-Err-clause-asked g c =
-    let old = disc_in (λ z. (goal.SegDisc-dyn g z).state z.1) c.args.best.now in
-    asked-block old (disc_in (λ z. (goal.SegDisc-dyn g z).state z.1) c.alloc_cell.new.best) (segments_in c.args.best.now) (segments_in c.alloc_cell.new.best) (best_need old.terms (holder_size c.args.object.now) 32) c.in-Err.fault c.in-Err.ensures.disc
-
-pub returns-in-Err-clause-leaves : goal.returns-in-Err-clause-leaves
-returns-in-Err-clause-leaves g c =
+pub returns-in-Err : goal.returns-in-Err
+returns-in-Err g c =
+    let rules = g.D.DictDisc.rules c.args.kind.now in
     let old = c.args.best.now in
     let new = c.alloc_cell.new.best in
-    let rest = c.in-Err.ensures.answer.1 in
-    leaves-refused (λ z. (goal.SegDisc-dyn g z).state z.1) (g.D.DictDisc.rules c.args.kind.now) c.args.dict.now old new c.requires.can.whole
-    (asked-keeps _ _ (segments_in old) (segments_in new) _ c.in-Err.fault (ap (λ (r : Layout ℕ). r.segments) rest) c.in-Err.ensures.disc)
-    rest c.in-Err.ensures.same
+    let dict = c.args.dict.now in
+    let puts = c.in-Err.ensures.puts in
+    let same = ap (λ (b : Blocks). dictionary_of dict b) puts.same in
+    record {
+      holds = record {
+        ok = tt;
+        err = (puts.answer.0, record { region = puts.answer.1; dict = same });
+        asked =
+            asked-block (disc_in (meaning g) old) (disc_in (meaning g) new) (segments_in old) (segments_in new)
+            (best_need (disc_in (meaning g) old).terms (holder_size c.args.object.now) 32) c.in-Err.fault puts.asks;
+      };
+      leaves =
+          leaves-refused (meaning g) rules dict old new c.requires.can.whole
+          (asked-keeps _ _ (segments_in old) (segments_in new) _ c.in-Err.fault (ap (λ (r : Layout ℕ). r.segments) puts.answer.1) puts.asks)
+          puts.answer.1 puts.same;
+      table = ap (λ (d : Dictionary). d.table) same;
+    }

@@ -19,17 +19,17 @@ alloc_cell-requires-clause-most g c = let h = slots-most c.args.slots c.requires
 
 pub returns-in-Ok : goal.returns-in-Ok
 returns-in-Ok g c =
-    let some : c.in-Ok.at.0 ≢ 0 = λ zero. let is = c.in-Ok.ensures.address.some in omega (arith, is, zero) in
-    let e = c.in-Ok.ensures in
+    let e = c.in-Ok.ensures.puts in
+    let some : c.in-Ok.at.0 ≢ 0 = λ zero. let is = e.made.address.some in omega (arith, is, zero) in
     record {
       brings = record {
         answer = (
           put-brought c.args.slots _ c.in-Ok.at.0 (rest_in c.alloc_cell.new.best) some e.answer,
-          cell-brought c.args.slots c.in-Ok.at.0 (cells_in c.args.best.now) (cells_in c.alloc_cell.new.best) some e.cells e.fresh,
+          cell-brought c.args.slots c.in-Ok.at.0 (cells_in c.args.best.now) (cells_in c.alloc_cell.new.best) some e.made,
         );
-        disc = served-keeps _ _ (segments_in c.args.best.now) (segments_in c.alloc_cell.new.best) _ e.disc;
-        labelled = c.alloc_cell.ensures.labelled;
-        asked = e.disc.faults;
+        disc = served-keeps _ _ (segments_in c.args.best.now) (segments_in c.alloc_cell.new.best) _ e.asks;
+        labelled = e.labelled;
+        asked = e.asks.faults;
       };
     }
 
@@ -37,14 +37,14 @@ pub returns-in-Err : goal.returns-in-Err
 returns-in-Err g c =
     let old = c.args.best.now in
     let new = c.alloc_cell.new.best in
-    let e = c.in-Err.ensures in
+    let e = c.in-Err.ensures.puts in
     let before = disc_in (λ z. (goal.SegDisc-dyn g z).state z.1) old in
     record {
       brings = record {
         answer = (brought-refused (alloc_unlabelled before.terms (rest_in old) 0 (table_size c.args.slots)) c.args.slots c.in-Err.why e.answer.0, e.answer.1, e.same);
-        disc = asked-keeps _ _ (segments_in old) (segments_in new) _ c.in-Err.why (ap (λ (r : Layout ℕ). r.segments) e.answer.1) e.disc;
-        labelled = c.alloc_cell.ensures.labelled;
+        disc = asked-keeps _ _ (segments_in old) (segments_in new) _ c.in-Err.why (ap (λ (r : Layout ℕ). r.segments) e.answer.1) e.asks;
+        labelled = e.labelled;
         asked =
-            asked-block before (disc_in (λ z. (goal.SegDisc-dyn g z).state z.1) new) (segments_in old) (segments_in new) (best_need before.terms (table_size c.args.slots) 32) c.in-Err.why e.disc;
+            asked-block before (disc_in (λ z. (goal.SegDisc-dyn g z).state z.1) new) (segments_in old) (segments_in new) (best_need before.terms (table_size c.args.slots) 32) c.in-Err.why e.asks;
       };
     }

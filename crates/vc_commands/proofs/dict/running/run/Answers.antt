@@ -9,13 +9,12 @@ use Rattle.vc_commands.specs.DictRun.{IsSpent, seat_in}
 use Rattle.vc_commands.proofs.Ran.{append-asked, asking, other-told, spent-put, spent-still, spent-told, unasked, unneeded}
 use Rattle.vc_commands.proofs.dict.running.run.Goals as goal
 
-pub returns-in-Insert-clause-step : goal.returns-in-Insert-clause-step
-returns-in-Insert-clause-step g c =
-    rw c.in-Insert.is (rw (sym c.as_slice.ensures) c.insert.ensures.runs.step)
-
-pub returns-in-Insert-clause-asked : goal.returns-in-Insert-clause-asked
-returns-in-Insert-clause-asked g c =
-    rw c.in-Insert.is (rw (sym c.as_slice.ensures) c.insert.ensures.runs.asked)
+pub returns-in-Insert-clause-runs : goal.returns-in-Insert-clause-runs
+returns-in-Insert-clause-runs g c = record {
+  step = rw c.in-Insert.is (rw (sym c.as_slice.ensures) c.insert.ensures.runs.step);
+  leaves = c.insert.ensures.runs.leaves;
+  asked = rw c.in-Insert.is (rw (sym c.as_slice.ensures) c.insert.ensures.runs.asked);
+}
 
 pub returns-in-Insert-clause-disc : goal.returns-in-Insert-clause-disc
 returns-in-Insert-clause-disc g c =
@@ -25,13 +24,12 @@ pub returns-in-Insert-clause-err : goal.returns-in-Insert-clause-err
 returns-in-Insert-clause-err g c =
     rw c.in-Insert.is (spent-put c.insert.result (g.D.DictDisc.gone c.args.kind.now) (g.D.DictDisc.gone c.args.kind.now) (IsSpent (seat_in (λ z. (goal.SegDisc-dyn g z).state z.1) (g.D.DictDisc.rules c.args.kind.now) c.args.best.now c.args.dict.now) (rest_in c.insert.new.best) (dictionary_in c.insert.new.dict c.insert.new.best)) refl c.insert.ensures.err)
 
-pub returns-in-Attach-clause-step : goal.returns-in-Attach-clause-step
-returns-in-Attach-clause-step g c =
-    rw c.in-Attach.is (rw (sym c.as_slice-in-Attach.ensures) c.attach.ensures.runs.step)
-
-pub returns-in-Attach-clause-asked : goal.returns-in-Attach-clause-asked
-returns-in-Attach-clause-asked g c =
-    rw c.in-Attach.is (rw (sym c.as_slice-in-Attach.ensures) c.attach.ensures.runs.asked)
+pub returns-in-Attach-clause-runs : goal.returns-in-Attach-clause-runs
+returns-in-Attach-clause-runs g c = record {
+  step = rw c.in-Attach.is (rw (sym c.as_slice-in-Attach.ensures) c.attach.ensures.runs.step);
+  leaves = c.attach.ensures.runs.leaves;
+  asked = rw c.in-Attach.is (rw (sym c.as_slice-in-Attach.ensures) c.attach.ensures.runs.asked);
+}
 
 pub returns-in-Attach-clause-disc : goal.returns-in-Attach-clause-disc
 returns-in-Attach-clause-disc g c =
@@ -41,13 +39,12 @@ pub returns-in-Attach-clause-err : goal.returns-in-Attach-clause-err
 returns-in-Attach-clause-err g c =
     rw c.in-Attach.is (spent-put c.attach.result (g.D.DictDisc.gone c.args.kind.now) (g.D.DictDisc.gone c.args.kind.now) (IsSpent (seat_in (λ z. (goal.SegDisc-dyn g z).state z.1) (g.D.DictDisc.rules c.args.kind.now) c.args.best.now c.args.dict.now) (rest_in c.attach.new.best) (dictionary_in c.attach.new.dict c.attach.new.best)) refl c.attach.ensures.err)
 
-pub returns-in-Append-clause-step : goal.returns-in-Append-clause-step
-returns-in-Append-clause-step g c =
-    rw c.in-Append.is (rw (sym c.as_slice-in-Append.ensures) c.append.ensures.runs.step)
-
-pub returns-in-Append-clause-asked : goal.returns-in-Append-clause-asked
-returns-in-Append-clause-asked g c =
-    rw c.in-Append.is (rw (sym c.as_slice-in-Append.ensures) (append-asked c.append.result (seat_in (λ z. (goal.SegDisc-dyn g z).state z.1) (g.D.DictDisc.rules c.args.kind.now) c.args.best.now c.args.dict.now) c.as_slice-in-Append.result.now ((g.D.DictDisc.rules c.args.kind.now).made c.as_slice-in-Append.result.now) (rest_in c.append.new.best) (dictionary_in c.append.new.dict c.append.new.best) (g.D.DictDisc.gone c.args.kind.now) (g.D.DictDisc.gone c.args.kind.now) (disc_in (λ z. (goal.SegDisc-dyn g z).state z.1) c.args.best.now) (disc_in (λ z. (goal.SegDisc-dyn g z).state z.1) c.append.new.best) c.append.ensures.runs.step c.append.ensures.runs.asked))
+pub returns-in-Append-clause-runs : goal.returns-in-Append-clause-runs
+returns-in-Append-clause-runs g c = record {
+  step = rw c.in-Append.is (rw (sym c.as_slice-in-Append.ensures) c.append.ensures.runs.step);
+  leaves = c.append.ensures.runs.leaves;
+  asked = rw c.in-Append.is (rw (sym c.as_slice-in-Append.ensures) (append-asked c.append.result (seat_in (λ z. (goal.SegDisc-dyn g z).state z.1) (g.D.DictDisc.rules c.args.kind.now) c.args.best.now c.args.dict.now) c.as_slice-in-Append.result.now ((g.D.DictDisc.rules c.args.kind.now).made c.as_slice-in-Append.result.now) (rest_in c.append.new.best) (dictionary_in c.append.new.dict c.append.new.best) (g.D.DictDisc.gone c.args.kind.now) (g.D.DictDisc.gone c.args.kind.now) (disc_in (λ z. (goal.SegDisc-dyn g z).state z.1) c.args.best.now) (disc_in (λ z. (goal.SegDisc-dyn g z).state z.1) c.append.new.best) c.append.ensures.runs.step c.append.ensures.runs.asked));
+}
 
 pub returns-in-Append-clause-disc : goal.returns-in-Append-clause-disc
 returns-in-Append-clause-disc g c =
@@ -57,37 +54,34 @@ pub returns-in-Append-clause-err : goal.returns-in-Append-clause-err
 returns-in-Append-clause-err g c =
     rw c.in-Append.is (spent-still c.append.result c.args.best.now c.append.new.best c.args.dict.now c.append.new.dict (g.D.DictDisc.gone c.args.kind.now) (g.D.DictDisc.gone c.args.kind.now) refl c.append.ensures.err)
 
-pub returns-in-Delete-clause-step : goal.returns-in-Delete-clause-step
-returns-in-Delete-clause-step g c =
-    rw c.in-Delete.is c.delete.ensures.takes.step
-
-pub returns-in-Delete-clause-asked : goal.returns-in-Delete-clause-asked
-returns-in-Delete-clause-asked g c =
-    rw c.in-Delete.is (unasked c.delete.result None [] (disc_in (λ z. (goal.SegDisc-dyn g z).state z.1) c.args.best.now) (disc_in (λ z. (goal.SegDisc-dyn g z).state z.1) c.delete.new.best) c.delete.ensures.takes.disc c.delete.ensures.takes.need)
+pub returns-in-Delete-clause-runs : goal.returns-in-Delete-clause-runs
+returns-in-Delete-clause-runs g c = record {
+  step = rw c.in-Delete.is c.delete.ensures.takes.step;
+  leaves = c.delete.ensures.takes.leaves;
+  asked = rw c.in-Delete.is (unasked c.delete.result None [] (disc_in (λ z. (goal.SegDisc-dyn g z).state z.1) c.args.best.now) (disc_in (λ z. (goal.SegDisc-dyn g z).state z.1) c.delete.new.best) c.delete.ensures.takes.disc c.delete.ensures.takes.need);
+}
 
 pub returns-in-Delete-clause-err : goal.returns-in-Delete-clause-err
 returns-in-Delete-clause-err g c =
     rw c.in-Delete.is (spent-told c.delete.result c.args.best.now c.delete.new.best c.args.dict.now c.delete.new.dict (g.D.DictDisc.gone c.args.kind.now) (g.D.DictDisc.gone c.delete.new.kind) c.delete.ensures.takes.err)
 
-pub returns-in-Detach-clause-step : goal.returns-in-Detach-clause-step
-returns-in-Detach-clause-step g c =
-    rw c.in-Detach.is (rw (sym c.as_slice-in-Detach.ensures) c.take.ensures.takes.step)
-
-pub returns-in-Detach-clause-asked : goal.returns-in-Detach-clause-asked
-returns-in-Detach-clause-asked g c =
-    rw c.in-Detach.is (unasked c.take.result None [] (disc_in (λ z. (goal.SegDisc-dyn g z).state z.1) c.args.best.now) (disc_in (λ z. (goal.SegDisc-dyn g z).state z.1) c.take.new.best) c.take.ensures.takes.disc c.take.ensures.takes.need)
+pub returns-in-Detach-clause-runs : goal.returns-in-Detach-clause-runs
+returns-in-Detach-clause-runs g c = record {
+  step = rw c.in-Detach.is (rw (sym c.as_slice-in-Detach.ensures) c.take.ensures.takes.step);
+  leaves = c.take.ensures.takes.leaves;
+  asked = rw c.in-Detach.is (unasked c.take.result None [] (disc_in (λ z. (goal.SegDisc-dyn g z).state z.1) c.args.best.now) (disc_in (λ z. (goal.SegDisc-dyn g z).state z.1) c.take.new.best) c.take.ensures.takes.disc c.take.ensures.takes.need);
+}
 
 pub returns-in-Detach-clause-err : goal.returns-in-Detach-clause-err
 returns-in-Detach-clause-err g c =
     rw c.in-Detach.is (spent-told c.take.result c.args.best.now c.take.new.best c.args.dict.now c.take.new.dict (g.D.DictDisc.gone c.args.kind.now) (g.D.DictDisc.gone c.take.new.kind) c.take.ensures.takes.err)
 
-pub returns-in-Remethod-clause-step : goal.returns-in-Remethod-clause-step
-returns-in-Remethod-clause-step g c =
-    rw c.in-Remethod.is c.remethod.ensures.runs.step
-
-pub returns-in-Remethod-clause-asked : goal.returns-in-Remethod-clause-asked
-returns-in-Remethod-clause-asked g c =
-    rw c.in-Remethod.is c.remethod.ensures.runs.asked
+pub returns-in-Remethod-clause-runs : goal.returns-in-Remethod-clause-runs
+returns-in-Remethod-clause-runs g c = record {
+  step = rw c.in-Remethod.is c.remethod.ensures.runs.step;
+  leaves = c.remethod.ensures.runs.leaves;
+  asked = rw c.in-Remethod.is c.remethod.ensures.runs.asked;
+}
 
 pub returns-in-Remethod-clause-disc : goal.returns-in-Remethod-clause-disc
 returns-in-Remethod-clause-disc g c =
@@ -97,35 +91,31 @@ pub returns-in-Remethod-clause-err : goal.returns-in-Remethod-clause-err
 returns-in-Remethod-clause-err g c =
     rw c.in-Remethod.is (spent-told c.remethod.result c.args.best.now c.remethod.new.best c.args.dict.now c.remethod.new.dict (g.D.DictDisc.gone c.args.kind.now) (g.D.DictDisc.gone c.remethod.new.kind) c.remethod.ensures.err)
 
-pub returns-in-Count-clause-step : goal.returns-in-Count-clause-step
-returns-in-Count-clause-step g c =
-    rw c.in-Count.is (record { region = refl; dict = refl; reply = sym c.count.ensures; told = refl })
+pub returns-in-Count-clause-runs : goal.returns-in-Count-clause-runs
+returns-in-Count-clause-runs g c = record {
+  step = rw c.in-Count.is (record { region = refl; dict = refl; reply = sym c.count.ensures; told = refl });
+  leaves = leaves-self (λ z. (goal.SegDisc-dyn g z).state z.1) (g.D.DictDisc.rules c.args.kind.now) c.args.best.now c.args.dict.now c.requires.whole;
+  asked = rw (c.in-Count.is, c.count.ensures) refl;
+}
 
-pub returns-in-Count-clause-leaves : goal.returns-in-Count-clause-leaves
-returns-in-Count-clause-leaves g c =
-    leaves-self (λ z. (goal.SegDisc-dyn g z).state z.1) (g.D.DictDisc.rules c.args.kind.now) c.args.best.now c.args.dict.now c.requires.whole
-
-pub returns-in-Count-clause-asked : goal.returns-in-Count-clause-asked
-returns-in-Count-clause-asked g c =
-    rw (c.in-Count.is, c.count.ensures) refl
-
-pub returns-in-Empty-clause-step : goal.returns-in-Empty-clause-step
-returns-in-Empty-clause-step g c =
-    rw c.in-Empty.is c.empty.ensures.step
-
-pub returns-in-Empty-clause-asked : goal.returns-in-Empty-clause-asked
-returns-in-Empty-clause-asked g c =
-    rw c.in-Empty.is (unneeded None [] c.empty.result (disc_in (λ z. (goal.SegDisc-dyn g z).state z.1) c.args.best.now) (disc_in (λ z. (goal.SegDisc-dyn g z).state z.1) c.empty.new.best) (ap (λ (d : Discipline). d.faults) c.empty.ensures.disc) c.empty.ensures.need)
+pub returns-in-Empty-clause-runs : goal.returns-in-Empty-clause-runs
+returns-in-Empty-clause-runs g c = record {
+  step = rw c.in-Empty.is c.empty.ensures.step;
+  leaves = c.empty.ensures.leaves;
+  asked = rw c.in-Empty.is (unneeded None [] c.empty.result (disc_in (λ z. (goal.SegDisc-dyn g z).state z.1) c.args.best.now) (disc_in (λ z. (goal.SegDisc-dyn g z).state z.1) c.empty.new.best) (ap (λ (d : Discipline). d.faults) c.empty.ensures.disc) c.empty.ensures.need);
+}
 
 pub returns-in_default : goal.returns-in_default
 returns-in_default g c =
     let told = other-told (seat_in (λ z. (goal.SegDisc-dyn g z).state z.1) (g.D.DictDisc.rules c.args.kind.now) c.args.best.now c.args.dict.now) c.args.command.now NoNeed
     c.in_default.not-Insert c.in_default.not-Append c.in_default.not-Attach c.in_default.not-Delete c.in_default.not-Detach c.in_default.not-Count c.in_default.not-Remethod c.in_default.not-Empty in
     record {
-      step = rw told (record { region = refl; dict = refl; reply = refl; told = refl });
-      leaves = leaves-self (λ z. (goal.SegDisc-dyn g z).state z.1) (g.D.DictDisc.rules c.args.kind.now) c.args.best.now c.args.dict.now c.requires.whole;
+      runs = record {
+        step = rw told (record { region = refl; dict = refl; reply = refl; told = refl });
+        leaves = leaves-self (λ z. (goal.SegDisc-dyn g z).state z.1) (g.D.DictDisc.rules c.args.kind.now) c.args.best.now c.args.dict.now c.requires.whole;
+        asked = refl;
+      };
       rules = refl;
-      asked = refl;
       disc = λ _. refl;
       err = tt;
     }

@@ -1,149 +1,117 @@
-use Rattle.std.proofs.Common.{SFits, rules, ◌≡◌, [], IfOk, List, ℕ, ap, refl, subst, sym}
+use Rattle.std.proofs.Common.{SFits, rules, refl, subst, sym}
 use Rattle.std.specs.Int.{w64}
 use Rattle.std.proofs.lemmas.Int.{to_z-of_z}
 use Rattle.vc_model.specs.Discipline.{Discipline}
-use Rattle.vc_script.specs.declared.reply.Reply.TheVariants.{Refused}
-use Rattle.vc_script.specs.declared.refusal.Refusal.TheVariants.{NoSegment}
+use Rattle.vc_script.specs.Needs.{NoNeed}
+use Rattle.vc_script.specs.declared.refusal.Refusal.TheVariants as why
 use Rattle.vc_commands.specs.Held.{home_of}
-use Rattle.vc_commands.specs.Audit.{check_in, poke_in, profile_in}
-use Rattle.vc_commands.specs.Blocks.{read_in, size_in}
+use Rattle.vc_commands.specs.Audit.{poke_in}
 use Rattle.vc_commands.specs.RegionRun.{RunsRegion, held_of, region_with}
-use Rattle.vc_commands.specs.Home.{Changed, told}
-use Rattle.vc_commands.specs.declared.region.labels.Labels.{Labels}
-use Rattle.vc_commands.specs.Whole.{addr_in, clear_in, compact_in, list_blocks, list_segments, segment_in, stat_in}
-use Rattle.vc_commands.proofs.Answers.{change-same, gives-changed, get_ok, if_ok-map}
-use Rattle.vc_commands.proofs.Grants.{granted-addr, granted-check, granted-profile, granted-read, granted-segment, granted-size, not_refused}
+use Rattle.vc_commands.proofs.Answers.{change-same, err-all, gives-changed, gives-unchanged, if_ok-map, none-no_segment}
+use Rattle.vc_commands.proofs.Grants.{granted-addr, granted-check, granted-poke, granted-profile, granted-read, granted-segment, granted-size, granted-write}
+use Rattle.vc_commands.proofs.Runs.{other-region, runs-any, runs-granted}
 use Rattle.vc_commands.proofs.region.home.HomeEntry.run.Given as given
 use Rattle.vc_commands.proofs.region.home.HomeEntry.run.Goals as goal
 
 abbrev meaning : (g : given.Over) → (x : g.dyn-1.0.I) × (g.dyn-1.0.entry x).0.Denot → Discipline
 meaning g p = (g.dyn-1.0.entry p.0).1.state p.1
 
-pub returns-in-ClearRegion-clause-step : goal.returns-in-ClearRegion-clause-step
-returns-in-ClearRegion-clause-step g c = rw c.in-ClearRegion.is c.clear.ensures.step
+pub returns-in-ClearRegion-clause-runs : goal.returns-in-ClearRegion-clause-runs
+returns-in-ClearRegion-clause-runs g c =
+    rw c.in-ClearRegion.is (runs-granted _ _ _ _ _ _ _ _ (λ h need. tt) c.clear.ensures.step tt c.clear.ensures.faults)
 
-pub returns-in-ClearRegion-clause-unserved : goal.returns-in-ClearRegion-clause-unserved
-returns-in-ClearRegion-clause-unserved g c = λ e.
-    let k = home_of (held_of (meaning g) [] c.args.self.now c.args.labels.now) in
-    absurd (not_refused (clear_in k c.in-ClearRegion.name c.args.line) c.clear.result (tt) ((c.clear.ensures.step []).replied) (ap (get_ok c.clear.result) e))
+pub returns-in-Compact-clause-runs : goal.returns-in-Compact-clause-runs
+returns-in-Compact-clause-runs g c =
+    rw c.in-Compact.is
+    (runs-granted _ _ _ _ _ _ _ _ (λ h need. tt) (λ r. gives-changed (home_of (held_of (meaning g) r c.args.self.now c.args.labels.now)) _ _ c.compact.result (c.compact.ensures.step c.args.labels.now r)) tt c.compact.ensures.faults)
 
-pub returns-in-Compact-clause-step : goal.returns-in-Compact-clause-step
-returns-in-Compact-clause-step g c = λ r.
-    rw c.in-Compact.is (gives-changed (home_of (held_of (meaning g) r c.args.self.now c.args.labels.now)) _ _ c.compact.result (c.compact.ensures.step c.args.labels.now r))
+pub returns-in-Alloc-clause-runs : goal.returns-in-Alloc-clause-runs
+returns-in-Alloc-clause-runs g c =
+    rw c.in-Alloc.is c.allocate.ensures.runs
 
-pub returns-in-Compact-clause-unserved : goal.returns-in-Compact-clause-unserved
-returns-in-Compact-clause-unserved g c = λ e.
-    let k = home_of (held_of (meaning g) [] c.args.self.now c.args.labels.now) in
-    absurd (not_refused (compact_in k c.in-Compact.name) c.compact.result (tt) (ap (λ (d : Changed). d.reply) (c.compact.ensures.step c.args.labels.now [])) (ap (get_ok c.compact.result) e))
+pub returns-in-Align-clause-runs : goal.returns-in-Align-clause-runs
+returns-in-Align-clause-runs g c =
+    rw c.in-Align.is c.align.ensures.runs
 
-pub returns-in-Alloc-clause-step : goal.returns-in-Alloc-clause-step
-returns-in-Alloc-clause-step g c = rw c.in-Alloc.is c.allocate.ensures.step
+pub returns-in-Resize-clause-runs : goal.returns-in-Resize-clause-runs
+returns-in-Resize-clause-runs g c =
+    rw c.in-Resize.is c.resize.ensures.runs
 
-pub returns-in-Align-clause-step : goal.returns-in-Align-clause-step
-returns-in-Align-clause-step g c = rw c.in-Align.is c.align.ensures.step
+pub returns-in-Free-clause-runs : goal.returns-in-Free-clause-runs
+returns-in-Free-clause-runs g c =
+    rw c.in-Free.is (runs-any _ _ _ _ _ _ _ _ c.free.ensures.runs)
 
-pub returns-in-Resize-clause-step : goal.returns-in-Resize-clause-step
-returns-in-Resize-clause-step g c = rw c.in-Resize.is c.resize.ensures.step
+pub returns-in-WriteBlock-clause-runs : goal.returns-in-WriteBlock-clause-runs
+returns-in-WriteBlock-clause-runs g c =
+    rw (c.in-WriteBlock.is, sym c.as_slice.ensures) (runs-granted _ _ _ _ _ _ _ _ (λ h need. granted-write h c.in-WriteBlock.block c.in-WriteBlock.off c.as_slice.result.now) c.write.ensures.step tt c.write.ensures.faults)
 
-pub returns-in-Free-clause-step : goal.returns-in-Free-clause-step
-returns-in-Free-clause-step g c = rw c.in-Free.is c.free.ensures.step
+pub returns-in-ReadBlock-clause-runs : goal.returns-in-ReadBlock-clause-runs
+returns-in-ReadBlock-clause-runs g c =
+    rw c.in-ReadBlock.is (runs-granted _ c.read.result _ _ _ _ _ _ (λ h need. granted-read h c.in-ReadBlock.block c.in-ReadBlock.off c.in-ReadBlock.len) c.read.ensures (err-all c.read.result refl) refl)
 
-pub returns-in-WriteBlock-clause-step : goal.returns-in-WriteBlock-clause-step
-returns-in-WriteBlock-clause-step g c = rw (c.in-WriteBlock.is, sym c.as_slice.ensures) c.write.ensures.step
+pub returns-in-SizeOf-clause-runs : goal.returns-in-SizeOf-clause-runs
+returns-in-SizeOf-clause-runs g c =
+    rw c.in-SizeOf.is (runs-granted _ _ _ _ _ _ _ _ (λ h need. granted-size h c.in-SizeOf.block) c.size.ensures tt refl)
 
-pub returns-in-ReadBlock-clause-step : goal.returns-in-ReadBlock-clause-step
-returns-in-ReadBlock-clause-step g c = rw c.in-ReadBlock.is c.read.ensures
+pub returns-in-AddrOf-clause-runs : goal.returns-in-AddrOf-clause-runs
+returns-in-AddrOf-clause-runs g c =
+    rw c.in-AddrOf.is (runs-granted _ _ _ _ _ _ _ _ (λ h need. granted-addr h c.in-AddrOf.at) (λ r. gives-changed (home_of (held_of (meaning g) r c.args.self.now c.args.labels.now)) _ _ c.addr.result (c.addr.ensures r)) tt refl)
 
-pub returns-in-ReadBlock-clause-unserved : goal.returns-in-ReadBlock-clause-unserved
-returns-in-ReadBlock-clause-unserved g c = λ e.
-    let k = home_of (held_of (meaning g) [] c.args.self.now c.args.labels.now) in
-    let gives = subst (λ r. IfOk r (λ told. RunsRegion (meaning g) (λ h. read_in h c.in-ReadBlock.block c.in-ReadBlock.off c.in-ReadBlock.len) c.args.self.now c.args.labels.now (region_with c.args.self.now c.args.labels.now) told)) e c.read.ensures in
-    absurd (not_refused (read_in k c.in-ReadBlock.block c.in-ReadBlock.off c.in-ReadBlock.len) (Refused NoSegment) (granted-read k c.in-ReadBlock.block c.in-ReadBlock.off c.in-ReadBlock.len) (gives []).replied refl)
+pub returns-in-SegmentOf-clause-runs : goal.returns-in-SegmentOf-clause-runs
+returns-in-SegmentOf-clause-runs g c =
+    rw c.in-SegmentOf.is
+    (runs-granted _ _ _ _ _ _ _ _ (λ h need. granted-segment h c.in-SegmentOf.at) (λ r. gives-changed (home_of (held_of (meaning g) r c.args.self.now c.args.labels.now)) _ _ c.segment.result (c.segment.ensures c.args.labels.now r)) tt refl)
 
-pub returns-in-SizeOf-clause-step : goal.returns-in-SizeOf-clause-step
-returns-in-SizeOf-clause-step g c = rw c.in-SizeOf.is c.size.ensures
+pub returns-in-StatOf-clause-runs : goal.returns-in-StatOf-clause-runs
+returns-in-StatOf-clause-runs g c =
+    rw c.in-StatOf.is (runs-granted _ _ _ _ _ _ _ _ (λ h need. tt) (λ r. gives-changed (home_of (held_of (meaning g) r c.args.self.now c.args.labels.now)) _ _ c.stat.result (c.stat.ensures c.args.labels.now r)) tt refl)
 
-pub returns-in-SizeOf-clause-unserved : goal.returns-in-SizeOf-clause-unserved
-returns-in-SizeOf-clause-unserved g c = λ e.
-    let k = home_of (held_of (meaning g) [] c.args.self.now c.args.labels.now) in
-    absurd (not_refused (size_in k c.in-SizeOf.block) c.size.result (granted-size k c.in-SizeOf.block) ((c.size.ensures []).replied) (ap (get_ok c.size.result) e))
+pub returns-in-Segments-clause-runs : goal.returns-in-Segments-clause-runs
+returns-in-Segments-clause-runs g c =
+    rw c.in-Segments.is
+    (runs-granted _ c.segments.result _ _ _ _ _ _ (λ h need. tt)
+    (if_ok-map c.segments.result _ _ (λ told eq r. gives-changed (home_of (held_of (meaning g) r c.args.self.now c.args.labels.now)) _ _ told (eq c.args.labels.now r)) c.segments.ensures) (err-all c.segments.result refl) refl)
 
-pub returns-in-AddrOf-clause-step : goal.returns-in-AddrOf-clause-step
-returns-in-AddrOf-clause-step g c = λ r.
-    rw c.in-AddrOf.is (gives-changed (home_of (held_of (meaning g) r c.args.self.now c.args.labels.now)) _ _ c.addr.result (c.addr.ensures r))
+pub returns-in-Blocks-clause-runs : goal.returns-in-Blocks-clause-runs
+returns-in-Blocks-clause-runs g c =
+    rw c.in-Blocks.is
+    (runs-granted _ c.blocks-in-Blocks.result _ _ _ _ _ _ (λ h need. tt)
+    (if_ok-map c.blocks-in-Blocks.result _ _ (λ told eq r. gives-changed (home_of (held_of (meaning g) r c.args.self.now c.args.labels.now)) _ _ told (eq r)) c.blocks-in-Blocks.ensures) (err-all c.blocks-in-Blocks.result refl) refl)
 
-pub returns-in-AddrOf-clause-unserved : goal.returns-in-AddrOf-clause-unserved
-returns-in-AddrOf-clause-unserved g c = λ e.
-    let k = home_of (held_of (meaning g) [] c.args.self.now c.args.labels.now) in
-    absurd (not_refused (addr_in k c.in-AddrOf.at) c.addr.result (granted-addr k c.in-AddrOf.at) (ap (λ (d : Changed). d.reply) (c.addr.ensures [])) (ap (get_ok c.addr.result) e))
-
-pub returns-in-SegmentOf-clause-step : goal.returns-in-SegmentOf-clause-step
-returns-in-SegmentOf-clause-step g c = λ r.
-    rw c.in-SegmentOf.is (gives-changed (home_of (held_of (meaning g) r c.args.self.now c.args.labels.now)) _ _ c.segment.result (c.segment.ensures c.args.labels.now r))
-
-pub returns-in-SegmentOf-clause-unserved : goal.returns-in-SegmentOf-clause-unserved
-returns-in-SegmentOf-clause-unserved g c = λ e.
-    let k = home_of (held_of (meaning g) [] c.args.self.now c.args.labels.now) in
-    absurd (not_refused (segment_in k c.in-SegmentOf.at) c.segment.result (granted-segment k c.in-SegmentOf.at) (ap (λ (d : Changed). d.reply) (c.segment.ensures c.args.labels.now [])) (ap (get_ok c.segment.result) e))
-
-pub returns-in-StatOf-clause-step : goal.returns-in-StatOf-clause-step
-returns-in-StatOf-clause-step g c = λ r.
-    rw c.in-StatOf.is (gives-changed (home_of (held_of (meaning g) r c.args.self.now c.args.labels.now)) _ _ c.stat.result (c.stat.ensures c.args.labels.now r))
-
-pub returns-in-StatOf-clause-unserved : goal.returns-in-StatOf-clause-unserved
-returns-in-StatOf-clause-unserved g c = λ e.
-    let k = home_of (held_of (meaning g) [] c.args.self.now c.args.labels.now) in
-    absurd (not_refused (stat_in k) c.stat.result (tt) (ap (λ (d : Changed). d.reply) (c.stat.ensures c.args.labels.now [])) (ap (get_ok c.stat.result) e))
-
-pub returns-in-Segments-clause-step : goal.returns-in-Segments-clause-step
-returns-in-Segments-clause-step g c =
-    rw c.in-Segments.is (if_ok-map c.segments.result _ _ (λ told eq r. gives-changed (home_of (held_of (meaning g) r c.args.self.now c.args.labels.now)) _ _ told (eq c.args.labels.now r)) c.segments.ensures)
-
-pub returns-in-Segments-clause-unserved : goal.returns-in-Segments-clause-unserved
-returns-in-Segments-clause-unserved g c = λ e.
-    let k = home_of (held_of (meaning g) [] c.args.self.now c.args.labels.now) in
-    let eq = subst (λ r. IfOk r (λ reply. (labels : Labels) (n : List ℕ) → list_segments (home_of (held_of (meaning g) n c.args.self.now labels)) ≡ told (home_of (held_of (meaning g) n c.args.self.now labels)) reply)) e c.segments.ensures in
-    absurd (not_refused (list_segments k) (Refused NoSegment) tt (ap (λ (d : Changed). d.reply) (eq c.args.labels.now [])) refl)
-
-pub returns-in-Blocks-clause-step : goal.returns-in-Blocks-clause-step
-returns-in-Blocks-clause-step g c =
-    rw c.in-Blocks.is (if_ok-map c.blocks-in-Blocks.result _ _ (λ told eq r. gives-changed (home_of (held_of (meaning g) r c.args.self.now c.args.labels.now)) _ _ told (eq r)) c.blocks-in-Blocks.ensures)
-
-pub returns-in-Blocks-clause-unserved : goal.returns-in-Blocks-clause-unserved
-returns-in-Blocks-clause-unserved g c = λ e.
-    let k = home_of (held_of (meaning g) [] c.args.self.now c.args.labels.now) in
-    let eq = subst (λ r. IfOk r (λ reply. (n : List ℕ) → list_blocks (home_of (held_of (meaning g) n c.args.self.now c.args.labels.now)) ≡ told (home_of (held_of (meaning g) n c.args.self.now c.args.labels.now)) reply)) e c.blocks-in-Blocks.ensures in
-    absurd (not_refused (list_blocks k) (Refused NoSegment) tt (ap (λ (d : Changed). d.reply) (eq [])) refl)
-
-pub returns-in-Poke-clause-step : goal.returns-in-Poke-clause-step
-returns-in-Poke-clause-step g c =
+pub returns-in-Poke-clause-runs : goal.returns-in-Poke-clause-runs
+returns-in-Poke-clause-runs g c =
     let fits : SFits w64 c.in-Poke.off = search rules in
     rw c.in-Poke.is
+    (runs-granted _ _ _ _ _ _ _ _ (λ h need. granted-poke h c.in-Poke.block c.in-Poke.off c.in-Poke.byte)
     (subst (λ z. RunsRegion (meaning g) (λ h. poke_in h c.in-Poke.block z c.in-Poke.byte) c.args.self.now c.args.labels.now (region_with c.poke.new.self c.args.labels.now) c.poke.result)
-    (to_z-of_z w64 c.in-Poke.off fits) c.poke.ensures.step)
+    (to_z-of_z w64 c.in-Poke.off fits) c.poke.ensures.step) tt c.poke.ensures.faults)
 
-pub returns-in-Check-clause-step : goal.returns-in-Check-clause-step
-returns-in-Check-clause-step g c =
-    rw c.in-Check.is (if_ok-map c.check.result _ _ (λ told eq r. gives-changed (home_of (held_of (meaning g) r c.args.self.now c.args.labels.now)) _ _ told (eq r)) c.check.ensures)
+pub returns-in-Check-clause-runs : goal.returns-in-Check-clause-runs
+returns-in-Check-clause-runs g c =
+    rw c.in-Check.is
+    (runs-granted _ c.check.result _ _ _ _ _ _ (λ h need. granted-check h)
+    (if_ok-map c.check.result _ _ (λ told eq r. gives-changed (home_of (held_of (meaning g) r c.args.self.now c.args.labels.now)) _ _ told (eq r)) c.check.ensures) (err-all c.check.result refl) refl)
 
-pub returns-in-Check-clause-unserved : goal.returns-in-Check-clause-unserved
-returns-in-Check-clause-unserved g c = λ e.
-    let k = home_of (held_of (meaning g) [] c.args.self.now c.args.labels.now) in
-    let eq = subst (λ r. IfOk r (λ reply. (n : List ℕ) → check_in (home_of (held_of (meaning g) n c.args.self.now c.args.labels.now)) ≡ told (home_of (held_of (meaning g) n c.args.self.now c.args.labels.now)) reply)) e c.check.ensures in
-    absurd (not_refused (check_in k) (Refused NoSegment) (granted-check k) (ap (λ (d : Changed). d.reply) (eq [])) refl)
+pub returns-in-Watch-clause-runs : goal.returns-in-Watch-clause-runs
+returns-in-Watch-clause-runs g c =
+    rw c.in-Watch.is (runs-any _ _ _ _ _ _ _ _ c.watch.ensures.runs)
 
-pub returns-in-Watch-clause-step : goal.returns-in-Watch-clause-step
-returns-in-Watch-clause-step g c = rw c.in-Watch.is c.watch.ensures.step
+pub returns-in-ProfileOf-clause-runs : goal.returns-in-ProfileOf-clause-runs
+returns-in-ProfileOf-clause-runs g c =
+    rw c.in-ProfileOf.is
+    (runs-granted _ c.profile.result _ _ _ _ _ _ (λ h need. granted-profile h)
+    (if_ok-map c.profile.result _ _ (λ told eq r. gives-changed (home_of (held_of (meaning g) r c.args.self.now c.args.labels.now)) _ _ told (eq c.args.labels.now r)) c.profile.ensures) (err-all c.profile.result refl) refl)
 
-pub returns-in-ProfileOf-clause-step : goal.returns-in-ProfileOf-clause-step
-returns-in-ProfileOf-clause-step g c =
-    rw c.in-ProfileOf.is (if_ok-map c.profile.result _ _ (λ told eq r. gives-changed (home_of (held_of (meaning g) r c.args.self.now c.args.labels.now)) _ _ told (eq c.args.labels.now r)) c.profile.ensures)
-
-pub returns-in-ProfileOf-clause-unserved : goal.returns-in-ProfileOf-clause-unserved
-returns-in-ProfileOf-clause-unserved g c = λ e.
-    let k = home_of (held_of (meaning g) [] c.args.self.now c.args.labels.now) in
-    let eq = subst (λ r. IfOk r (λ reply. (labels : Labels) (n : List ℕ) → profile_in (home_of (held_of (meaning g) n c.args.self.now labels)) ≡ told (home_of (held_of (meaning g) n c.args.self.now labels)) reply)) e c.profile.ensures in
-    absurd (not_refused (profile_in k) (Refused NoSegment) (granted-profile k) (ap (λ (d : Changed). d.reply) (eq c.args.labels.now [])) refl)
+pub returns-in_default-clause-runs : goal.returns-in_default-clause-runs
+returns-in_default-clause-runs g c =
+    record {
+      step = λ r.
+          gives-unchanged (home_of (held_of (meaning g) r c.args.self.now c.args.labels.now)) _ why.NoRegion
+          (other-region (home_of (held_of (meaning g) r c.args.self.now c.args.labels.now)) c.args.line c.args.command.now NoNeed c.in_default.not-ClearRegion c.in_default.not-Compact c.in_default.not-Alloc c.in_default.not-Align c.in_default.not-Resize c.in_default.not-Free c.in_default.not-WriteBlock c.in_default.not-ReadBlock c.in_default.not-SizeOf c.in_default.not-AddrOf c.in_default.not-SegmentOf c.in_default.not-StatOf c.in_default.not-Segments c.in_default.not-Blocks c.in_default.not-Poke c.in_default.not-Check c.in_default.not-Watch c.in_default.not-ProfileOf);
+      err = tt;
+      unserved = λ e. absurd (none-no_segment why.NoRegion (λ is. cc) e);
+      faults = λ _. refl;
+    }
 
 pub returns-in-ClearRegion-clause-change : goal.returns-in-ClearRegion-clause-change
 returns-in-ClearRegion-clause-change g c = rw c.in-ClearRegion.is c.clear.ensures.change

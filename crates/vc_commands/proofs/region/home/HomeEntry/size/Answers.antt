@@ -1,7 +1,6 @@
 use Rattle.std.proofs.Common.{refl, sym, ap, ◌∙◌}
 use Rattle.vc_model.specs.Addr.{place_of}
 use Rattle.vc_model.specs.Discipline.{Discipline}
-use Rattle.vc_region.specs.Cells.{rest_in}
 use Rattle.vc_region.specs.Parts.{region_of}
 use Rattle.vc_script.specs.declared.reply.Reply.TheVariants.{Size}
 use Rattle.vc_commands.specs.Held.{home_of}
@@ -10,8 +9,8 @@ use Rattle.vc_commands.specs.RegionRun.{held_of}
 use Rattle.vc_commands.specs.Home.{told, unchanged}
 use Rattle.vc_commands.specs.declared.region.labels.Label.{Label}
 use Rattle.vc_commands.proofs.Answers.{gives-unchanged}
-use Rattle.vc_commands.proofs.FoundBlocks.{on_block-none, the_block}
-use Rattle.vc_region.proofs.RestFound.{has-rest, rest-size}
+use Rattle.vc_commands.proofs.FoundBlocks.{name-there, on_block-none}
+use Rattle.vc_region.proofs.RestFound.{rest-size}
 use Rattle.vc_commands.proofs.Touching.{gives-size, size-told}
 use Rattle.vc_commands.proofs.region.home.HomeEntry.size.Given as given
 use Rattle.vc_commands.proofs.region.home.HomeEntry.size.Goals as goal
@@ -21,9 +20,7 @@ meaning g p = (g.dyn-1.0.entry p.0).1.state p.1
 
 pub size-requires : goal.size-requires
 size-requires g c =
-    let label : Label = record { name = c.args.name.now; at = c.in-Some.at } in
-    let f = c.in-Some.ensures.some in
-    has-rest (region_of c.args.self.now.region) label.at.0 (the_block (rest_in c.args.self.now.region) c.args.labels.now c.args.name.now f.0 label c.requires.names refl f.1 f.2).there
+    name-there c.args.self.now.region c.args.labels.now c.args.name.now c.in-Some.at c.requires.names c.in-Some.ensures.some
 
 pub returns-in-None : goal.returns-in-None
 returns-in-None g c = λ r.

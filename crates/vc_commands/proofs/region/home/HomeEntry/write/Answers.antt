@@ -1,4 +1,4 @@
-use Rattle.std.proofs.Common.{◌≡◌, ◌+◌, length, refl, ap, ◌∙◌, arith, sym}
+use Rattle.std.proofs.Common.{◌≡◌, ◌+◌, List, ℕ, length, refl, ap, ◌∙◌, arith, subst, sym}
 use Rattle.std.specs.Prelude.{nat_le}
 use Rattle.vc_model.specs.Addr.{place_of}
 use Rattle.vc_model.specs.Discipline.{Discipline}
@@ -8,15 +8,15 @@ use Rattle.vc_region.specs.Cells.{cells_in, region_cells, rest_in, rest_of}
 use Rattle.vc_region.specs.Parts.{disc_in, region_of}
 use Rattle.vc_region.proofs.Sound.{own_places}
 use Rattle.vc_script.specs.declared.refusal.Refusal.TheVariants as why
-use Rattle.vc_commands.specs.Held.{home_of}
+use Rattle.vc_commands.specs.Held.{Held, home_of}
 use Rattle.vc_commands.specs.Blocks.{write_block, write_in}
 use Rattle.vc_commands.specs.RegionRun.{held_of}
 use Rattle.vc_commands.specs.Home.{unchanged}
 use Rattle.vc_commands.specs.declared.region.labels.Label.{Label}
-use Rattle.vc_commands.proofs.Answers.{changed-by, gives-unchanged, kept-same, out-same}
-use Rattle.vc_commands.proofs.FoundBlocks.{on_block-none, the_block}
+use Rattle.vc_commands.proofs.Answers.{NotNoSegment, changed-by, gives-unchanged, kept-same, out-same}
+use Rattle.vc_commands.proofs.FoundBlocks.{name-there, on_block-none, the_block}
 use Rattle.vc_commands.proofs.Touching.{gives-written, le-beyond, le-within, named-written, size-told, write-range}
-use Rattle.vc_region.proofs.RestFound.{has-rest, rest-own, rest-size}
+use Rattle.vc_region.proofs.RestFound.{rest-own, rest-size}
 use Rattle.vc_commands.proofs.Seen.{cells-written, seen-write, seen-written}
 use Rattle.vc_commands.proofs.region.home.HomeEntry.write.Given as given
 use Rattle.vc_commands.proofs.region.home.HomeEntry.write.Goals as goal
@@ -26,21 +26,15 @@ meaning g p = (g.dyn-1.0.entry p.0).1.state p.1
 
 pub size-requires : goal.size-requires
 size-requires g c =
-    let label : Label = record { name = c.args.name.now; at = c.in-Some.at } in
-    let f = c.in-Some.ensures.some in
-    has-rest (region_of c.args.self.now.region) label.at.0 (the_block (rest_in c.args.self.now.region) c.args.labels.now c.args.name.now f.0 label c.requires.names refl f.1 f.2).there
+    name-there c.args.self.now.region c.args.labels.now c.args.name.now c.in-Some.at c.requires.names c.in-Some.ensures.some
 
 pub watch_line-watch-requires : goal.watch_line-watch-requires
 watch_line-watch-requires g c =
-    let label : Label = record { name = c.args.name.now; at = c.in-Some.at } in
-    let f = c.in-Some.ensures.some in
-    has-rest (region_of c.args.self.now.region) label.at.0 (the_block (rest_in c.args.self.now.region) c.args.labels.now c.args.name.now f.0 label c.requires.names refl f.1 f.2).there
+    name-there c.args.self.now.region c.args.labels.now c.args.name.now c.in-Some.at c.requires.names c.in-Some.ensures.some
 
 pub write-requires-clause-block : goal.write-requires-clause-block
 write-requires-clause-block g c =
-    let label : Label = record { name = c.args.name.now; at = c.in-Some.at } in
-    let f = c.in-Some.ensures.some in
-    has-rest (region_of c.args.self.now.region) label.at.0 (the_block (rest_in c.args.self.now.region) c.args.labels.now c.args.name.now f.0 label c.requires.names refl f.1 f.2).there
+    name-there c.args.self.now.region c.args.labels.now c.args.name.now c.in-Some.at c.requires.names c.in-Some.ensures.some
 
 pub returns-in-None-clause-step : goal.returns-in-None-clause-step
 returns-in-None-clause-step g c = λ r.
@@ -59,31 +53,32 @@ returns-then-off-bytes-clause-step g c = λ r.
     (write-range h c.args.name.now f.0 label c.requires.names refl f.1 f.2 c.args.off c.args.bytes.now
     (ap (nat_le last) size ∙ le-beyond last c.size.result (omega arith)))
 
-pub returns-else-off-bytes-clause-step : goal.returns-else-off-bytes-clause-step
-returns-else-off-bytes-clause-step g c = λ r.
-    let h = held_of (meaning g) r c.args.self.now c.args.labels.now in
-    let label : Label = record { name = c.args.name.now; at = c.in-Some.at } in
+pub returns-else-off-bytes : goal.returns-else-off-bytes
+returns-else-off-bytes g c =
+    let before : List ℕ → Held = λ r. held_of (meaning g) r c.args.self.now c.args.labels.now in
+    let name = c.args.name.now in
+    let off = c.args.off in
+    let bytes = c.args.bytes.now in
+    let label : Label = record { name = name; at = c.in-Some.at } in
     let f = c.in-Some.ensures.some in
     let was = region_of c.args.self.now.region in
     let at = place_of label.at.0 in
-    let b = the_block h.region h.labels c.args.name.now f.0 label c.requires.names refl f.1 f.2 in
-    let put : rest_in c.write.new.self ≡ region_write h.region at c.args.off c.args.bytes.now = ap rest_of c.write.ensures.region ∙ seen-write was label.at.0 b.block b.found b.first c.args.off c.args.bytes.now in
-    let last = c.args.off + length c.args.bytes.now in
-    let size = size-told h c.args.name.now f.0 label c.requires.names refl f.1 f.2 c.size.result (rest-size (region_of c.args.self.now.region) (place_of label.at.0) ∙ c.size.ensures) in
-    gives-written h c.args.name.now f.0 label c.requires.names refl f.1 f.2 c.args.off c.args.bytes.now (rest_in c.write.new.self)
-    (ap (nat_le last) size ∙ le-within last c.size.result (omega arith)) put c.watch_line-watch.result c.watch_line-watch.ensures
-
-pub returns-else-off-bytes-clause-change : goal.returns-else-off-bytes-clause-change
-returns-else-off-bytes-clause-change g c = λ r.
-    let h = held_of (meaning g) r c.args.self.now c.args.labels.now in
-    let label : Label = record { name = c.args.name.now; at = c.in-Some.at } in
-    let f = c.in-Some.ensures.some in
-    let was = region_of c.args.self.now.region in
-    let at = place_of label.at.0 in
-    let b = the_block h.region h.labels c.args.name.now f.0 label c.requires.names refl f.1 f.2 in
-    let put : rest_in c.write.new.self ≡ region_write h.region at c.args.off c.args.bytes.now = ap rest_of c.write.ensures.region ∙ seen-write was label.at.0 b.block b.found b.first c.args.off c.args.bytes.now in
+    let old = rest_in c.args.self.now.region in
     let new = rest_in c.write.new.self in
-    let disc = disc_in (meaning g) c.write.new.self in
-    let segments : segments_of new ≡ segments_of h.region = ap segments_of put ∙ written-segments h.region at c.args.off c.args.bytes.now in
-    changed-by h disc new (cells_in c.write.new.self) h.labels (ap region_cells c.write.ensures.region ∙ cells-written was label.at.0 b.block b.found b.first c.args.off c.args.bytes.now) c.requires.lent (kept-same h.disc disc c.write.ensures.disc) (out-same h.disc disc (segments_of h.region) (segments_of new) c.write.ensures.disc segments)
-    (named-written h c.args.name.now f.0 label c.requires.names refl f.1 f.2 c.args.off c.args.bytes.now new put (seen-written was label.at.0 b.block b.found b.first c.args.off c.args.bytes.now (region_of c.write.new.self) c.write.ensures.region c.write.ensures.others) (rest-own (region_of c.write.new.self) (own_places c.write.new.self)))
+    let disc = disc_in (meaning g) c.args.self.now.region in
+    let disc' = disc_in (meaning g) c.write.new.self in
+    let b = the_block old c.args.labels.now name f.0 label c.requires.names refl f.1 f.2 in
+    let put : new ≡ region_write old at off bytes = ap rest_of c.write.ensures.region ∙ seen-write was label.at.0 b.block b.found b.first off bytes in
+    let segments : segments_of new ≡ segments_of old = ap segments_of put ∙ written-segments old at off bytes in
+    let last = off + length bytes in
+    record {
+      step = λ r.
+          let size = size-told (before r) name f.0 label c.requires.names refl f.1 f.2 c.size.result (rest-size was at ∙ c.size.ensures) in
+          gives-written (before r) name f.0 label c.requires.names refl f.1 f.2 off bytes new (ap (nat_le last) size ∙ le-within last c.size.result (omega arith)) put c.watch_line-watch.result c.watch_line-watch.ensures;
+      change = λ r.
+          changed-by (before r) disc' new (cells_in c.write.new.self) c.args.labels.now (ap region_cells c.write.ensures.region ∙ cells-written was label.at.0 b.block b.found b.first off bytes) c.requires.lent
+          (kept-same disc disc' c.write.ensures.disc) (out-same disc disc' (segments_of old) (segments_of new) c.write.ensures.disc segments)
+          (named-written (before r) name f.0 label c.requires.names refl f.1 f.2 off bytes new put (seen-written was label.at.0 b.block b.found b.first off bytes (region_of c.write.new.self) c.write.ensures.region c.write.ensures.others) (rest-own (region_of c.write.new.self) (own_places c.write.new.self)));
+      granted = λ e. subst NotNoSegment e tt;
+      faults = ap (λ (d : Discipline). d.faults) c.write.ensures.disc;
+    }
