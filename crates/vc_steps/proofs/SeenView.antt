@@ -1,5 +1,5 @@
 -- The step of a view by what it answered, over the regions and dictionaries of a session as they are stored.
-use Rattle.std.proofs.Common.{◌≡◌, ℕ, List, Some, None, length, map, refl, sym, subst}
+use Rattle.std.proofs.Common.{◌≡◌, ℕ, ◌<◌, List, Option, Some, None, length, map, refl, sym, ap, ◌∙◌, subst}
 use Rattle.std.specs.Prelude.{slice_get}
 use Rattle.std.specs.List.{IsDistinct, position}
 use Rattle.std.specs.Map.{keys_of, values_of}
@@ -7,7 +7,7 @@ use Rattle.std.specs.Str.{bytes_eq}
 use Rattle.vc_model.specs.Discipline.{Discipline}
 use Rattle.vc_dtdisc.specs.Rules.{Gone, Rules}
 use Rattle.vc_paths.specs.Layers.{Layered}
-use Rattle.vc_paths.specs.Links.{ArePaths, Links, linked}
+use Rattle.vc_paths.specs.Links.{ArePaths, Links, linked, numbers}
 use Rattle.vc_paths.specs.Path.{IsPath}
 use Rattle.vc_paths.specs.View.{view_fault}
 use Rattle.vc_paths.specs.declared.fault.ViewFault.{ViewFault}
@@ -27,7 +27,8 @@ use Rattle.vc_views.specs.Views.{dict_named, is_dict, refusal_of}
 use Rattle.vc_views.proofs.LinkChanges.{linked-ended}
 use Rattle.vc_views.proofs.LinkLemmas.{number-within}
 use Rattle.vc_views.proofs.LinkRefusals.{linked-viewed}
-use Rattle.vc_steps.specs.Account.{state_of}
+use Rattle.vc_views.proofs.NumbersToNames.{all-at}
+use Rattle.vc_steps.specs.Account.{IsSession, KeepsAccounts, accounts, settled, state_of}
 use Rattle.vc_steps.specs.DictHomes.{AreDicts, dict_over, dicts_in}
 use Rattle.vc_steps.specs.Dicts.{dict_step}
 use Rattle.vc_steps.specs.Homes.{held_all}
@@ -40,12 +41,62 @@ use Rattle.vc_steps.proofs.DictsStay.{Entry}
 use Rattle.vc_steps.proofs.RegionSteps.{moment_over}
 use Rattle.vc_steps.proofs.SessionLayers.{layers-here, path-here}
 use Rattle.vc_steps.proofs.Sessions.{Slots}
+use Rattle.vc_steps.proofs.Settling.{keeps-equal}
 use Rattle.vc_steps.proofs.Steps.{steps-quiet}
 use Rattle.vc_steps.proofs.Viewing.{granted-fault, view-done, view-ended, view-missing, view-refused}
 
-module _ {I : Type 0} {V : I → Type 0} (meaning : (x : I) × V x → Discipline) (kinds : List Rules) (slots : Slots) (homes : List (List ℕ × HomeEntry I V)) (labels : List Labels) (links : Links) (es : List Entry) (gone : List Gone)
-    (named : length labels ≡ length homes) (dicts : AreDicts kinds (held_all meaning homes labels) es) (are : AreLinked links es) (paths : ArePaths links) (names : IsDistinct bytes_eq (keys_of es))
-    (name : List ℕ) (i : ℕ) (v : DictEntry) (index : position (bytes_eq name) (keys_of es) ≡ Some i) (value : slice_get (values_of es) i ≡ Some v) where
+-- a session over regions and dictionaries as they are stored, what its kinds were told of, and what holds of it
+pub record SessionHere {I : Type 0} {V : I → Type 0} (meaning : (x : I) × V x → Discipline) : Type 0 where
+  pub kinds : List Rules
+  pub slots : Slots
+  pub homes : List (List ℕ × HomeEntry I V)
+  pub labels : List Labels
+  pub links : Links
+  pub es : List Entry
+  pub gone : List Gone
+  pub named : length labels ≡ length homes
+  pub dicts : AreDicts kinds (held_all meaning homes labels) es
+  pub are : AreLinked links es
+  pub paths : ArePaths links
+  pub names : IsDistinct bytes_eq (keys_of es)
+
+-- the dictionary of a name and an index
+pub record DictAt (es : List Entry) : Type 0 where
+  pub name : List ℕ
+  pub i : ℕ
+  pub v : DictEntry
+  pub index : position (bytes_eq name) (keys_of es) ≡ Some i
+  pub value : slice_get (values_of es) i ≡ Some v
+
+-- it stands there
+pub stands-at : (es : List Entry) (d : DictAt es) → slice_get es d.i ≡ Some (d.name, d.v)
+stands-at es d = pair-read es d.i d.name d.v (key-at es d.name d.i d.index) d.value
+
+module _ {I : Type 0} {V : I → Type 0} (meaning : (x : I) × V x → Discipline) (here : SessionHere meaning) (own : DictAt here.es) where
+  abbrev kinds : List Rules
+  kinds = here.kinds
+
+  abbrev slots : Slots
+  slots = here.slots
+
+  abbrev homes : List (List ℕ × HomeEntry I V)
+  homes = here.homes
+
+  abbrev labels : List Labels
+  labels = here.labels
+
+  abbrev links : Links
+  links = here.links
+
+  abbrev es : List Entry
+  es = here.es
+
+  abbrev name : List ℕ
+  name = own.name
+
+  abbrev v : DictEntry
+  v = own.v
+
   abbrev hs : List Held
   hs = held_all meaning homes labels
 
@@ -55,90 +106,115 @@ module _ {I : Type 0} {V : I → Type 0} (meaning : (x : I) × V x → Disciplin
   abbrev all : Layered
   all = layered_by kinds (map region_seen homes) es
 
-  at : slice_get es i ≡ Some e
-  at = pair-read es i name v (key-at es name i index) value
+  at : slice_get es own.i ≡ Some e
+  at = stands-at es own
 
-  first : IsFirst (is_dict name) (dicts_in hs (views_by links es) es) i
-  first = first-dict hs (views_by links es) es name i index
+  first : IsFirst (is_dict name) (dicts_in hs (views_by links es) es) own.i
+  first = first-dict hs (views_by links es) es name own.i own.index
+
+  -- its number is one of view paths
+  pub number-below : v.number < numbers
+  number-below = all-at (λ (f : Entry). f.1.number < numbers) es own.i e here.are.numbered.below at
 
   pub path-named : IsPath all links v.number
-  path-named = path-here meaning kinds homes labels es named dicts links are i e at
+  path-named = path-here meaning kinds homes labels es here.named here.dicts links here.are own.i e at
 
   abbrev s : State
   s = state_of kinds slots hs (dicts_in hs (views_by links es) es)
 
   -- the moment of a session with these links
   abbrev pub moment_by_links : List (List ℕ × HomeEntry I V) → List Entry → Links → Moment
-  moment_by_links homes' es' links' = moment_over slots es' (views_by links' es') kinds gone (held_all meaning homes' labels)
+  moment_by_links homes' es' links' = moment_over slots es' (views_by links' es') kinds here.gone (held_all meaning homes' labels)
 
   abbrev before : Moment
   before = moment_by_links homes es links
 
+  -- a view is answered so, and these are the regions, the dictionaries and the links then
+  abbrev pub ViewsTo : List (List ℕ × HomeEntry I V) → List Entry → Links → Option (List ℕ) → Reply → Type 0
+  ViewsTo homes' es' links' viewed reply = Steps before (moment_by_links homes' es' links') (View name viewed) (dict_step s name (View name viewed) (need_shown reply)) reply
+
+  -- what holds of it over these regions, dictionaries and links, and that no account is another one
+  pub record HeldHere (homes' : List (List ℕ × HomeEntry I V)) (es' : List Entry) (links' : Links) : Type 0 where
+    pub named : length labels ≡ length homes'
+    pub held : IsSession slots (held_all meaning homes' labels)
+    pub dicts : AreDicts kinds (held_all meaning homes' labels) es'
+    pub views : AreLinked links' es'
+    pub accounts : KeepsAccounts (settled (accounts slots) hs) (settled (accounts slots) (held_all meaning homes' labels))
+
   -- it ends
-  pub steps-ended : (links' : Links) → links' ≡ linked v.number None links
-      → Steps before (moment_by_links homes es links') (View name None) (dict_step s name (View name None) (need_shown (Views name None))) (Views name None)
+  pub steps-ended : (links' : Links) → links' ≡ linked v.number None links → ViewsTo homes es links' None (Views name None)
   steps-ended links' same =
-      subst (λ ls. Steps before (moment_by_links homes es ls) (View name None) (dict_step s name (View name None) (need_shown (Views name None))) (Views name None)) (sym same)
+      subst (λ ls. ViewsTo homes es ls None (Views name None)) (sym same)
       (steps-quiet before (moment_by_links homes es (linked v.number None links)) (View name None) (dict_step s name (View name None) (need_shown (Views name None))) (Views name None)
-      (view-ended kinds slots hs links es names are paths dicts i e at first (need_shown (Views name None))) refl refl tt)
+      (view-ended kinds slots hs links es here.names here.are here.paths here.dicts own.i e at first (need_shown (Views name None))) refl refl tt)
 
   pub links-ended : AreLinked (linked v.number None links) es
-  links-ended = linked-ended links es v.number (number-within links es i e paths are.numbered at) are
+  links-ended = linked-ended links es v.number (number-within links es own.i e here.paths here.are.numbered at) here.are
 
   -- there is none of the name
-  pub steps-missing : (lower : List ℕ) → dict_named lower s.dicts ≡ None
-      → Steps before before (View name (Some lower)) (dict_step s name (View name (Some lower)) (need_shown (Refused why.NoDictionary))) (Refused why.NoDictionary)
+  pub steps-missing : (lower : List ℕ) → dict_named lower s.dicts ≡ None → ViewsTo homes es links (Some lower) (Refused why.NoDictionary)
   steps-missing lower none =
       steps-quiet before before (View name (Some lower)) (dict_step s name (View name (Some lower)) (need_shown (Refused why.NoDictionary))) (Refused why.NoDictionary)
-      (view-missing kinds slots hs links es names are paths dicts i e at first lower (need_shown (Refused why.NoDictionary)) none) refl refl tt
+      (view-missing kinds slots hs links es here.names here.are here.paths here.dicts own.i e at first lower (need_shown (Refused why.NoDictionary)) none) refl refl tt
 
-  module _ (lower : List ℕ) (j : ℕ) (u : DictEntry) (index' : position (bytes_eq lower) (keys_of es) ≡ Some j) (value' : slice_get (values_of es) j ≡ Some u) where
+  module _ (other : DictAt here.es) where
+    abbrev u : DictEntry
+    u = other.v
+
     abbrev f : Entry
-    f = (lower, u)
+    f = (other.name, u)
 
-    there : slice_get es j ≡ Some f
-    there = pair-read es j lower u (key-at es lower j index') value'
+    there : slice_get es other.i ≡ Some f
+    there = stands-at es other
 
-    other : IsFirst (is_dict lower) (dicts_in hs (views_by links es) es) j
-    other = first-dict hs (views_by links es) es lower j index'
+    first-other : IsFirst (is_dict other.name) (dicts_in hs (views_by links es) es) other.i
+    first-other = first-dict hs (views_by links es) es other.name other.i other.index
 
     pub path-other : IsPath all links u.number
-    path-other = path-here meaning kinds homes labels es named dicts links are j f there
+    path-other = path-here meaning kinds homes labels es here.named here.dicts links here.are other.i f there
 
     abbrev set_links : Links
     set_links = linked v.number (Some u.number) links
 
-    abbrev command_reply : Moment → Reply → Type 0
-    command_reply next reply = Steps before next (View name (Some lower)) (dict_step s name (View name (Some lower)) (need_shown reply)) reply
-
     -- the regions and the dictionaries stay
     module _ (homes' : List (List ℕ × HomeEntry I V)) (es' : List Entry) (links' : Links) (same_homes : homes' ≡ homes) (same_dicts : es' ≡ es) where
-      carry : (reply : Reply) (ls : Links) → links' ≡ ls → command_reply (moment_by_links homes es ls) reply → command_reply (moment_by_links homes' es' links') reply
+      carry : (reply : Reply) (ls : Links) → links' ≡ ls → ViewsTo homes es ls (Some other.name) reply → ViewsTo homes' es' links' (Some other.name) reply
       carry reply ls same steps =
-          subst (λ hm. command_reply (moment_by_links hm es' links') reply) (sym same_homes)
-          (subst (λ ds. command_reply (moment_by_links homes ds links') reply) (sym same_dicts)
-          (subst (λ l. command_reply (moment_by_links homes es l) reply) (sym same) steps))
+          subst (λ hm. ViewsTo hm es' links' (Some other.name) reply) (sym same_homes)
+          (subst (λ ds. ViewsTo homes ds links' (Some other.name) reply) (sym same_dicts)
+          (subst (λ l. ViewsTo homes es l (Some other.name) reply) (sym same) steps))
 
       -- it is set
-      pub steps-set : view_fault all links v.number u.number ≡ None → links' ≡ set_links → command_reply (moment_by_links homes' es' links') (Views name (Some lower))
+      pub steps-set : view_fault all links v.number u.number ≡ None → links' ≡ set_links → ViewsTo homes' es' links' (Some other.name) (Views name (Some other.name))
       steps-set none same =
-          carry (Views name (Some lower)) set_links same
-          (steps-quiet before (moment_by_links homes es set_links) (View name (Some lower)) (dict_step s name (View name (Some lower)) (need_shown (Views name (Some lower)))) (Views name (Some lower))
-          (view-done kinds slots hs links es names are paths dicts i e at first j f there other all (layers-here meaning kinds homes labels es named dicts) (need_shown (Views name (Some lower))) none) refl refl tt)
+          carry (Views name (Some other.name)) set_links same
+          (steps-quiet before (moment_by_links homes es set_links) (View name (Some other.name)) (dict_step s name (View name (Some other.name)) (need_shown (Views name (Some other.name)))) (Views name (Some other.name))
+          (view-done kinds slots hs links es here.names here.are here.paths here.dicts own.i e at first other.i f there first-other all (layers-here meaning kinds homes labels es here.named here.dicts) (need_shown (Views name (Some other.name))) none)
+          refl refl tt)
 
       pub links-set : view_fault all links v.number u.number ≡ None → links' ≡ set_links → AreLinked links' es'
       links-set none same =
           subst (AreLinked links') (sym same_dicts)
           (subst (λ ls. AreLinked ls es) (sym same)
-          (linked-viewed (dict_over hs) all links es names are (layers-here meaning kinds homes labels es named dicts) paths i e at j f there none))
+          (linked-viewed (dict_over hs) all links es here.names here.are (layers-here meaning kinds homes labels es here.named here.dicts) here.paths own.i e at other.i f there none))
 
       -- it can't be
-      pub steps-refused : (fault : ViewFault) → view_fault all links v.number u.number ≡ Some fault → links' ≡ links → command_reply (moment_by_links homes' es' links') (Refused (refusal_of fault))
+      pub steps-refused : (fault : ViewFault) → view_fault all links v.number u.number ≡ Some fault → links' ≡ links → ViewsTo homes' es' links' (Some other.name) (Refused (refusal_of fault))
       steps-refused fault is same =
           carry (Refused (refusal_of fault)) links same
-          (steps-quiet before before (View name (Some lower)) (dict_step s name (View name (Some lower)) (need_shown (Refused (refusal_of fault)))) (Refused (refusal_of fault))
-          (view-refused kinds slots hs links es names are paths dicts i e at first j f there other all (layers-here meaning kinds homes labels es named dicts) (need_shown (Refused (refusal_of fault))) fault is)
+          (steps-quiet before before (View name (Some other.name)) (dict_step s name (View name (Some other.name)) (need_shown (Refused (refusal_of fault)))) (Refused (refusal_of fault))
+          (view-refused kinds slots hs links es here.names here.are here.paths here.dicts own.i e at first other.i f there first-other all (layers-here meaning kinds homes labels es here.named here.dicts) (need_shown (Refused (refusal_of fault))) fault is)
           refl refl (granted-fault fault))
 
       pub links-refused : links' ≡ links → AreLinked links' es'
-      links-refused same = subst (AreLinked links') (sym same_dicts) (subst (λ ls. AreLinked ls es) (sym same) are)
+      links-refused same = subst (AreLinked links') (sym same_dicts) (subst (λ ls. AreLinked ls es) (sym same) here.are)
+
+      -- the session stands over them
+      pub stands-viewed : IsSession slots hs → AreLinked links' es' → HeldHere homes' es' links'
+      stands-viewed held linked = record {
+        named = here.named ∙ ap length (sym same_homes);
+        held = subst (λ hm. IsSession slots (held_all meaning hm labels)) (sym same_homes) held;
+        dicts = subst (λ hm. AreDicts kinds (held_all meaning hm labels) es') (sym same_homes) (subst (AreDicts kinds hs) (sym same_dicts) here.dicts);
+        views = linked;
+        accounts = keeps-equal _ _ (ap (λ hm. settled (accounts slots) (held_all meaning hm labels)) same_homes);
+      }

@@ -28,3 +28,4 @@ pub mod Dicts
 pub mod DictHomes
 pub mod Lacks
 pub mod Table
+pub mod Sizes

@@ -9,6 +9,7 @@ mod dict_view;
 mod dicts;
 mod open;
 mod session;
+mod sizes;
 
 pub use session::{Session, dict_of, region_of};
 pub use vc_commands::{DictEntry, HomeEntry};

@@ -208,11 +208,6 @@ number-is es i u read = ap number_or (pair-at es i u read).1
 pub still-within : (old new : List DictRegion) (es es' : List Entry) (i : ℕ) → map (dict_seen new) es' ≡ map (dict_seen old) es → i < length es → i < length es'
 still-within old new es es' i seen within = subst (λ n. i < n) (sym (sym (length-map es' (dict_seen new)) ∙ ap length seen ∙ length-map es (dict_seen old))) within
 
--- regions and dictionaries that are the same ones
-pub moved : {I : Type 0} {V : I → Type 0} {kinds kinds' : List Rules} {homes homes' : List (List ℕ × HomeEntry I V)} {dicts dicts' : List Entry} → AreDictsOver kinds (map region_seen homes) dicts → kinds ≡ kinds' → homes ≡ homes' → dicts ≡ dicts' → AreDictsOver kinds' (map region_seen homes') dicts'
-moved {I} {V} {kinds} {kinds'} {homes} {homes'} {dicts} {dicts'} are k p q =
-    subst (λ z. AreDictsOver z (map region_seen homes') dicts') k (subst (AreDictsOver kinds (map region_seen homes')) q (subst (λ h. AreDictsOver kinds (map region_seen h) dicts) p are))
-
 module _ (kinds : List Rules) (old new : List DictRegion) (es es' : List Entry) (seen : map (dict_seen new) es' ≡ map (dict_seen old) es) (are : AreDictsOver kinds new es') (distinct : AreDistinct (map number_in es))
     (i : ℕ) (u : DictEntry) (read_old : slice_get (values_of es) i ≡ Some u) (v : DictEntry) (read : slice_get (values_of es') i ≡ Some v) (at : Addr)
     (there : IsSome (bytes_there at.0 ((layered_by kinds old es).layer u.number).objects)) where

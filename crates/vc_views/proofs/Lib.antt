@@ -16,3 +16,4 @@ pub mod NamedSeen
 pub mod NumbersToNames
 pub mod Touching
 pub mod Values
+pub mod Through

@@ -3,4 +3,5 @@ pub mod LayerLaws
 pub mod Leaves
 pub mod Looks
 pub mod Numbers
+pub mod Promises
 pub mod Views

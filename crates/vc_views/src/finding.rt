@@ -1,14 +1,12 @@
 // What is found in a dictionary.
 ghost use Rattle.std.specs.Prelude.{◌≡◌, ◌<◌, ℕ, List, Some, length, map, slice_get};
 ghost use Rattle.std.specs.Option.{option_map};
-ghost use Rattle.vc_dict.specs.Listed.{holders_of};
-ghost use Rattle.vc_dtdisc.specs.Finds.{find_key};
 ghost use Rattle.vc_dtdisc.specs.Rules.{Rules};
 ghost use Rattle.vc_base.specs.Address.{number_of};
 ghost use Rattle.vc_objects.specs.Parts.{IsWhole};
-ghost use Rattle.vc_paths.specs.Layers.{place_with};
-ghost use Rattle.vc_views.specs.Dicts.{AreDictsOver, cells_held, home_rest, layer_of, region_named, region_seen};
-ghost use Rattle.vc_views.specs.Leaves.{IsBestNamed, KeepsDicts, LooksAt};
+ghost use Rattle.vc_views.specs.Dicts.{AreDictsOver, home_rest, layer_of, region_seen};
+ghost use Rattle.vc_views.specs.Leaves.{IsBestNamed, LooksAt};
+ghost use Rattle.vc_views.specs.Promises.{LeavesDicts, cells_under, holder_with, place_keyed};
 ghost use Rattle.vc_commands.specs.declared.dict.entry.DictEntry.{DictEntry as Entry};
 
 use crate::places::kind_of;
@@ -30,11 +28,9 @@ fn find_in<D: DictDisc, L>(
 ) -> Option<Addr>
     requires region { IsBestNamed (map region_seen homes.old.entries) name.now }
     requires whole { IsWhole (D.rules kind.now) dict.old
-        (cells_held (region_named (map region_seen homes.old.entries) name.now)) }
-    ensures found { option_map number_of result ≡ find_key (D.rules kind.now)
-        (cells_held (region_named (map region_seen homes.old.entries) name.now)) key.now
-        (holders_of dict.old
-        (cells_held (region_named (map region_seen homes.old.entries) name.now))) }
+        (cells_under (map region_seen homes.old.entries) name.now) }
+    ensures found { option_map number_of result ≡ holder_with (D.rules kind.now) dict.old
+        (cells_under (map region_seen homes.old.entries) name.now) key.now }
     ensures looks { LooksAt (D.rules kind.now) name.now (map region_seen homes.old.entries) dict.old
         (map region_seen homes.new.entries) dict.new }
     ensures rest { map home_rest homes.new.entries ≡ map home_rest homes.old.entries }
@@ -61,12 +57,9 @@ pub(crate) fn find_at<D: DictDisc, L>(
         (map region_seen homes.old.entries) dicts.old.entries }
     requires index { i < length dicts.old.entries }
     ensures found { (e : List ℕ × Entry) → slice_get dicts.old.entries i ≡ Some e
-        → option_map number_of result ≡ place_with
-        (layer_of (map D.rules kinds.now.items) (map region_seen homes.old.entries) e).rules key.now
-        (layer_of (map D.rules kinds.now.items) (map region_seen homes.old.entries) e).objects }
-    ensures dicts { AreDictsOver (map D.rules kinds.now.items)
-        (map region_seen homes.new.entries) dicts.new.entries }
-    ensures keeps { KeepsDicts (map D.rules kinds.now.items) (map D.rules kinds.now.items)
+        → option_map number_of result ≡ place_keyed (layer_of (map D.rules kinds.now.items)
+        (map region_seen homes.old.entries) e) key.now }
+    ensures leaves { LeavesDicts (map D.rules kinds.now.items)
         homes.old.entries homes.new.entries dicts.old.entries dicts.new.entries }
 {
     let entry = &mut dicts[i];

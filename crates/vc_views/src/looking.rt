@@ -1,13 +1,9 @@
 // The commands that look through a dictionary of a session.
-ghost use Rattle.std.specs.Prelude.{◌≡◌, ◌<◌, true, IfErr, IfOk, length, map};
-ghost use Rattle.std.specs.Option.{option_map};
-ghost use Rattle.vc_base.specs.Address.{number_of};
+ghost use Rattle.std.specs.Prelude.{◌≡◌, true, IfOk, map};
 ghost use Rattle.vc_dtdisc.specs.Rules.{Rules};
 ghost use Rattle.vc_commands.specs.Looking.{is_look};
 ghost use Rattle.vc_paths.specs.Path.{IsPath};
-ghost use Rattle.vc_views.specs.Dicts.{AreDictsOver, AreNumbered, dict_seen, home_rest, layered_by, number_at, region_seen, with_current_at};
-ghost use Rattle.vc_views.specs.Leaves.{KeepsDicts};
-ghost use Rattle.vc_views.specs.Looks.{place_through, reply_through};
+ghost use Rattle.vc_views.specs.Promises.{CanLook, IsLook, LeavesDicts, LooksThrough, layered_over};
 
 use crate::layers::DictLayers;
 use crate::places::{entry_of, kind_of};
@@ -29,17 +25,12 @@ fn look_through<D: DictDisc>(
     d: u32,
     command: &Command,
 ) -> Result<(Reply, Option<Addr>), OutOfMemory>
-    requires path { IsPath (layered_by (map D.rules kinds.now.items)
-        (map region_seen homes.old.entries) dicts.old.entries) paths.now d }
+    requires path { IsPath (layered_over (map D.rules kinds.now.items) homes.old.entries
+        dicts.old.entries) paths.now d }
     requires look { is_look command.now ≡ true }
-    ensures reply { IfOk result (λ r. r.0 ≡ reply_through (layered_by (map D.rules kinds.now.items)
-        (map region_seen homes.old.entries) dicts.old.entries) paths.now d command.now) }
-    ensures place { IfOk result (λ r. option_map number_of r.1
-        ≡ place_through (layered_by (map D.rules kinds.now.items)
-        (map region_seen homes.old.entries) dicts.old.entries) paths.now d command.now) }
-    ensures dicts { AreDictsOver (map D.rules kinds.now.items)
-        (map region_seen homes.new.entries) dicts.new.entries }
-    ensures keeps { KeepsDicts (map D.rules kinds.now.items) (map D.rules kinds.now.items)
+    ensures look { IfOk result (IsLook (layered_over (map D.rules kinds.now.items)
+        homes.old.entries dicts.old.entries) paths.now d command.now) }
+    ensures leaves { LeavesDicts (map D.rules kinds.now.items)
         homes.old.entries homes.new.entries dicts.old.entries dicts.new.entries }
 {
     let kind = kind_of(kinds, entry_of(dicts, d).dict.kind);
@@ -64,31 +55,11 @@ pub fn look_at<D: DictDisc>(
     i: usize,
     command: &Command,
 ) -> Result<Reply, OutOfMemory>
-    requires dicts { AreDictsOver (map D.rules kinds.now.items)
-        (map region_seen homes.old.entries) dicts.old.entries }
-    requires numbers { AreNumbered dicts.old.entries }
-    requires index { i < length dicts.old.entries }
-    requires path { IsPath (layered_by (map D.rules kinds.now.items)
-        (map region_seen homes.old.entries) dicts.old.entries) paths.now
-        (number_at i dicts.old.entries) }
-    requires look { is_look command.now ≡ true }
-
-    ensures reply { IfOk result (λ reply. reply
-        ≡ reply_through (layered_by (map D.rules kinds.now.items)
-        (map region_seen homes.old.entries) dicts.old.entries) paths.now
-        (number_at i dicts.old.entries) command.now) }
-    ensures homes { map home_rest homes.new.entries ≡ map home_rest homes.old.entries }
-    ensures dicts { AreDictsOver (map D.rules kinds.now.items)
-        (map region_seen homes.new.entries) dicts.new.entries }
-    ensures ok { IfOk result (λ _. map (dict_seen (map region_seen homes.new.entries))
-        dicts.new.entries
-        ≡ with_current_at i (place_through (layered_by (map D.rules kinds.now.items)
-        (map region_seen homes.old.entries) dicts.old.entries) paths.now
-        (number_at i dicts.old.entries) command.now)
-        (map (dict_seen (map region_seen homes.old.entries)) dicts.old.entries)) }
-    ensures err { IfErr result (λ _. map (dict_seen (map region_seen homes.new.entries))
-        dicts.new.entries
-        ≡ map (dict_seen (map region_seen homes.old.entries)) dicts.old.entries) }
+    requires { CanLook (map D.rules kinds.now.items)
+        homes.old.entries dicts.old.entries paths.now i command.now }
+    ensures { LooksThrough (map D.rules kinds.now.items)
+        homes.old.entries homes.new.entries dicts.old.entries dicts.new.entries
+        paths.now i command.now result }
 {
     let d = dicts[i].number;
     let (reply, place) = look_through(alloc, homes, dicts, kinds, paths, d, command)?;

@@ -3,7 +3,8 @@ ghost use Rattle.std.specs.Prelude.{◌≡◌, ◌<◌, Some, IsSome, length, ma
 ghost use Rattle.std.specs.Option.{option_map};
 ghost use Rattle.vc_model.specs.Numbered.{at_number};
 ghost use Rattle.vc_best.specs.Cells.{cells_in};
-ghost use Rattle.vc_views.specs.Dicts.{cells_held, entry_numbered, region_named, region_seen};
+ghost use Rattle.vc_views.specs.Dicts.{entry_numbered, region_seen};
+ghost use Rattle.vc_views.specs.Promises.{cells_under};
 ghost use Rattle.vc_views.specs.Leaves.{IsBestNamed};
 
 use indexmap::IndexMap;
@@ -47,7 +48,7 @@ pub(crate) fn kind_of<'a, D: DictDisc>(kinds: &'a Vec<D>, k: u32) -> &'a D
 pub(crate) fn best_of<'a>(homes: &'a IndexMap<Name, HomeEntry>, name: &Name) -> &'a Best
     requires { IsBestNamed (map region_seen homes.now.entries) name.now }
     ensures { cells_in result.now
-        ≡ cells_held (region_named (map region_seen homes.now.entries) name.now) }
+        ≡ cells_under (map region_seen homes.now.entries) name.now }
 {
     let Some(j) = homes.get_index_of(name) else {
         unreachable!()

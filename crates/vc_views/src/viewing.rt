@@ -5,7 +5,7 @@ ghost use Rattle.vc_dtdisc.specs.Rules.{Rules};
 ghost use Rattle.vc_paths.specs.Links.{linked};
 ghost use Rattle.vc_paths.specs.Path.{IsPath};
 ghost use Rattle.vc_paths.specs.View.{view_fault};
-ghost use Rattle.vc_views.specs.Dicts.{layered_by, region_seen};
+ghost use Rattle.vc_views.specs.Promises.{layered_over};
 
 use crate::layers::DictLayers;
 use indexmap::IndexMap;
@@ -24,12 +24,12 @@ pub fn view_at<D: DictDisc>(
     d: u32,
     e: u32,
 ) -> Result<(), ViewFault>
-    requires first { IsPath (layered_by (map D.rules kinds.now.items)
-        (map region_seen homes.old.entries) dicts.old.entries) paths.old d }
-    requires second { IsPath (layered_by (map D.rules kinds.now.items)
-        (map region_seen homes.old.entries) dicts.old.entries) paths.old e }
-    ensures fault { result_err result ≡ view_fault (layered_by (map D.rules kinds.now.items)
-        (map region_seen homes.old.entries) dicts.old.entries) paths.old d e }
+    requires first { IsPath (layered_over (map D.rules kinds.now.items)
+        homes.old.entries dicts.old.entries) paths.old d }
+    requires second { IsPath (layered_over (map D.rules kinds.now.items)
+        homes.old.entries dicts.old.entries) paths.old e }
+    ensures fault { result_err result ≡ view_fault (layered_over (map D.rules kinds.now.items)
+        homes.old.entries dicts.old.entries) paths.old d e }
     ensures ok { IfOk result (λ _. paths.new ≡ linked d (Some e) paths.old) }
     ensures err { IfErr result (λ _. paths.new ≡ paths.old) }
     ensures homes { homes.new ≡ homes.old }

@@ -53,8 +53,8 @@ returns-clause-found g c = λ e at.
     ∙ ap (λ (l : Layer). place_with l.rules key l.objects) (sym (layer-is kinds regions (p.0, v) is))
     ∙ ap (λ x. place_with (layer_of kinds regions x).rules key (layer_of kinds regions x).objects) (same_Some (p.0, v) e (sym p.1 ∙ at))
 
-pub returns-clause-dicts : goal.returns-clause-dicts
-returns-clause-dicts g c =
+pub returns-clause-leaves : goal.returns-clause-leaves
+returns-clause-leaves g c =
     let es = c.args.dicts.now.entries in
     let kinds = map g.D.DictDisc.rules c.args.kinds.now.items in
     let old = map region_seen c.args.homes.now.entries in
@@ -62,21 +62,15 @@ returns-clause-dicts g c =
     let v = c.index_mut-entry.result.now in
     let p = pair-at es c.args.i v c.index_mut-entry.ensures.value in
     let dict = c.find_in.new.dict in
-    subst (AreDictsOver kinds new) (sym (value-set es c.args.i (p.0, v) (record { home = v.home; number = v.number; dict = dict }) p.1))
-    (dicts-looked kinds old new es c.args.i p.0 v p.1 c.requires.dicts (g.D.DictDisc.rules c.kind_of-kind.result.now) c.kind_of-kind.ensures dict c.find_in.ensures.looks)
-
-pub returns-clause-keeps : goal.returns-clause-keeps
-returns-clause-keeps g c =
-    let es = c.args.dicts.now.entries in
-    let kinds = map g.D.DictDisc.rules c.args.kinds.now.items in
-    let old = map region_seen c.args.homes.now.entries in
-    let new = map region_seen c.find_in.new.homes.entries in
-    let v = c.index_mut-entry.result.now in
-    let p = pair-at es c.args.i v c.index_mut-entry.ensures.value in
-    let dict = c.find_in.new.dict in
+    let set = value-set es c.args.i (p.0, v) (record { home = v.home; number = v.number; dict = dict }) p.1 in
     record {
-      rules = refl;
-      rest = c.find_in.ensures.rest;
-      seen = ap (map (dict_seen new)) (value-set es c.args.i (p.0, v) (record { home = v.home; number = v.number; dict = dict }) p.1)
-          ∙ seen-looked kinds old new es c.args.i p.0 v p.1 c.requires.dicts (g.D.DictDisc.rules c.kind_of-kind.result.now) c.kind_of-kind.ensures dict c.find_in.ensures.looks;
+      dicts =
+          subst (AreDictsOver kinds new) (sym set)
+          (dicts-looked kinds old new es c.args.i p.0 v p.1 c.requires.dicts (g.D.DictDisc.rules c.kind_of-kind.result.now) c.kind_of-kind.ensures dict c.find_in.ensures.looks);
+      keeps = record {
+        rules = refl;
+        rest = c.find_in.ensures.rest;
+        seen = ap (map (dict_seen new)) set
+            ∙ seen-looked kinds old new es c.args.i p.0 v p.1 c.requires.dicts (g.D.DictDisc.rules c.kind_of-kind.result.now) c.kind_of-kind.ensures dict c.find_in.ensures.looks;
+      };
     }

@@ -1,11 +1,15 @@
-use Rattle.std.proofs.Common.{map, option_map, subst, sym, ap, ◌∙◌}
+use Rattle.std.proofs.Common.{◌≡◌, rules, map, option_map, subst, sym, ap, ◌∙◌}
 use Rattle.vc_base.specs.Address.{number_of}
 use Rattle.vc_paths.specs.Path.{IsPath}
-use Rattle.vc_views.specs.Dicts.{dict_seen, layered_by, region_seen, with_current_at}
+use Rattle.vc_views.specs.Dicts.{dict_seen, layered_by, number_at, region_seen, with_current_at}
+use Rattle.vc_views.specs.Promises.{layered_over}
 use Rattle.vc_views.specs.LayerLaws.{are-layers}
 use Rattle.vc_views.specs.Looks.{place_through, reply_through}
 use Rattle.vc_views.proofs.Currents.{current-none, dicts-current, number-is, own-there, seen-after, still-within}
+use Rattle.vc_views.proofs.Through.{look-halted}
+use Rattle.vc_views.proofs.looking.look_at.Given.{Over}
 use Rattle.vc_views.proofs.looking.look_at.Goals as goal
+use Rattle.vc_views.proofs.looking.look_at.Goals.{In_ok-reply}
 
 pub look_through-requires-clause-path : goal.look_through-requires-clause-path
 look_through-requires-clause-path g c =
@@ -14,57 +18,60 @@ look_through-requires-clause-path g c =
 
 pub index_mut-requires : goal.index_mut-requires
 index_mut-requires g c =
-    still-within (map region_seen c.args.homes.now.entries) (map region_seen c.look_through.new.homes.entries) c.args.dicts.now.entries c.look_through.new.dicts.entries c.args.i c.look_through.ensures.keeps.seen c.requires.index
+    still-within (map region_seen c.args.homes.now.entries) (map region_seen c.look_through.new.homes.entries) c.args.dicts.now.entries c.look_through.new.dicts.entries c.args.i c.look_through.ensures.leaves.keeps.seen c.requires.index
 
-pub returns-in_default-clause-reply : goal.returns-in_default-clause-reply
-returns-in_default-clause-reply g c =
-    let all = layered_by (map g.D.DictDisc.rules c.args.kinds.now.items) (map region_seen c.args.homes.now.entries) c.args.dicts.now.entries in
-    c.in_ok-reply.ensures.reply
+pub returns-in_err-reply : goal.returns-in_err-reply
+returns-in_err-reply g c =
+    look-halted (map g.D.DictDisc.rules c.args.kinds.now.items) c.args.homes.now.entries c.look_through.new.homes.entries c.args.dicts.now.entries c.look_through.new.dicts.entries c.args.paths.now c.args.i c.args.command.now
+    c.from_residual.result (search rules) c.look_through.ensures.leaves
+
+-- the reply is that of the dictionary's number
+replied : (g : Over) (c : In_ok-reply g) → c.in_ok-reply.reply ≡ reply_through (layered_over (map g.D.DictDisc.rules c.args.kinds.now.items) c.args.homes.now.entries c.args.dicts.now.entries) c.args.paths.now (number_at c.args.i c.args.dicts.now.entries) c.args.command.now
+replied g c =
+    let all = layered_over (map g.D.DictDisc.rules c.args.kinds.now.items) c.args.homes.now.entries c.args.dicts.now.entries in
+    c.in_ok-reply.ensures.look.reply
     ∙ ap (λ d. reply_through all c.args.paths.now d c.args.command.now) (sym (number-is c.args.dicts.now.entries c.args.i c.index.result.now c.index.ensures))
 
-pub returns-in_default-clause-ok : goal.returns-in_default-clause-ok
-returns-in_default-clause-ok g c =
+pub returns-in_default : goal.returns-in_default
+returns-in_default g c =
     let regions = map region_seen c.args.homes.now.entries in
     let es = c.args.dicts.now.entries in
     let all = layered_by (map g.D.DictDisc.rules c.args.kinds.now.items) regions es in
     let seen = map (dict_seen regions) es in
-    c.look_through.ensures.keeps.seen ∙ sym (current-none c.args.i seen)
-    ∙ ap (λ p. with_current_at c.args.i p seen) (sym (ap (option_map number_of) c.in_default.is) ∙ c.in_ok-reply.ensures.place)
-    ∙ ap (λ d. with_current_at c.args.i (place_through all c.args.paths.now d c.args.command.now) seen) (sym (number-is es c.args.i c.index.result.now c.index.ensures))
+    let leaves = c.look_through.ensures.leaves in
+    record {
+      reply = replied g (goal.at.returns-in_default g c).In_ok-reply;
+      homes = leaves.keeps.rest;
+      dicts = leaves.dicts;
+      ok = leaves.keeps.seen ∙ sym (current-none c.args.i seen)
+          ∙ ap (λ p. with_current_at c.args.i p seen) (sym (ap (option_map number_of) c.in_default.is) ∙ c.in_ok-reply.ensures.look.place)
+          ∙ ap (λ d. with_current_at c.args.i (place_through all c.args.paths.now d c.args.command.now) seen) (sym (number-is es c.args.i c.index.result.now c.index.ensures));
+      err = tt;
+    }
 
-pub returns-clause-reply : goal.returns-clause-reply
-returns-clause-reply g c =
-    let all = layered_by (map g.D.DictDisc.rules c.args.kinds.now.items) (map region_seen c.args.homes.now.entries) c.args.dicts.now.entries in
-    c.in_ok-reply.ensures.reply
-    ∙ ap (λ d. reply_through all c.args.paths.now d c.args.command.now) (sym (number-is c.args.dicts.now.entries c.args.i c.index.result.now c.index.ensures))
-
-pub returns-clause-dicts : goal.returns-clause-dicts
-returns-clause-dicts g c =
+pub returns : goal.returns
+returns g c =
     let kinds = map g.D.DictDisc.rules c.args.kinds.now.items in
     let old = map region_seen c.args.homes.now.entries in
     let new = map region_seen c.look_through.new.homes.entries in
     let es = c.args.dicts.now.entries in
     let all = layered_by kinds old es in
     let d = c.index.result.now.number in
+    let leaves = c.look_through.ensures.leaves in
     let path = subst (IsPath all c.args.paths.now) (number-is es c.args.i c.index.result.now c.index.ensures) c.requires.path in
-    let there = own-there all c.args.paths.now d (are-layers g.D.DictDisc.rules g.met.D.DictDisc.lawful c.args.kinds.now.items old es) path (all.layer d).rules c.args.command.now c.in-Some.at.0
-    (sym c.in_ok-reply.ensures.place ∙ ap (option_map number_of) c.in-Some.is) in
-    dicts-current kinds old new es c.look_through.new.dicts.entries c.look_through.ensures.keeps.seen c.look_through.ensures.dicts c.requires.numbers.distinct
-    c.args.i c.index.result.now c.index.ensures c.index_mut.result.now c.index_mut.ensures.value c.in-Some.at there
-
-pub returns-clause-ok : goal.returns-clause-ok
-returns-clause-ok g c =
-    let kinds = map g.D.DictDisc.rules c.args.kinds.now.items in
-    let old = map region_seen c.args.homes.now.entries in
-    let new = map region_seen c.look_through.new.homes.entries in
-    let es = c.args.dicts.now.entries in
-    let all = layered_by kinds old es in
-    let d = c.index.result.now.number in
-    let path = subst (IsPath all c.args.paths.now) (number-is es c.args.i c.index.result.now c.index.ensures) c.requires.path in
-    let place = sym c.in_ok-reply.ensures.place ∙ ap (option_map number_of) c.in-Some.is in
+    let place = sym c.in_ok-reply.ensures.look.place ∙ ap (option_map number_of) c.in-Some.is in
     let there = own-there all c.args.paths.now d (are-layers g.D.DictDisc.rules g.met.D.DictDisc.lawful c.args.kinds.now.items old es) path (all.layer d).rules c.args.command.now c.in-Some.at.0 place in
     let seen = map (dict_seen old) es in
-    seen-after kinds old new es c.look_through.new.dicts.entries c.look_through.ensures.keeps.seen c.look_through.ensures.dicts c.requires.numbers.distinct
-    c.args.i c.index.result.now c.index.ensures c.index_mut.result.now c.index_mut.ensures.value c.in-Some.at there
-    ∙ ap (λ p. with_current_at c.args.i p seen) (sym place)
-    ∙ ap (λ k. with_current_at c.args.i (place_through all c.args.paths.now k c.args.command.now) seen) (sym (number-is es c.args.i c.index.result.now c.index.ensures))
+    record {
+      reply = replied g (goal.at.returns g c).In_ok-reply;
+      homes = leaves.keeps.rest;
+      dicts =
+          dicts-current kinds old new es c.look_through.new.dicts.entries leaves.keeps.seen leaves.dicts c.requires.numbers.distinct
+          c.args.i c.index.result.now c.index.ensures c.index_mut.result.now c.index_mut.ensures.value c.in-Some.at there;
+      ok =
+          seen-after kinds old new es c.look_through.new.dicts.entries leaves.keeps.seen leaves.dicts c.requires.numbers.distinct
+          c.args.i c.index.result.now c.index.ensures c.index_mut.result.now c.index_mut.ensures.value c.in-Some.at there
+          ∙ ap (λ p. with_current_at c.args.i p seen) (sym place)
+          ∙ ap (λ k. with_current_at c.args.i (place_through all c.args.paths.now k c.args.command.now) seen) (sym (number-is es c.args.i c.index.result.now c.index.ensures));
+      err = tt;
+    }

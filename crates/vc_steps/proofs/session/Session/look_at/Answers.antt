@@ -3,6 +3,8 @@ use Rattle.std.proofs.lemmas.List.{length-map}
 use Rattle.vc_model.specs.Discipline.{Discipline}
 use Rattle.vc_paths.specs.Path.{IsPath}
 use Rattle.vc_views.specs.Dicts.{dict_seen, home_rest, layered_by, region_seen, with_current_at}
+use Rattle.vc_views.specs.Promises.{layered_over}
+use Rattle.vc_views.proofs.Firsts.{within-some}
 use Rattle.vc_views.specs.Looks.{place_through, reply_through}
 use Rattle.vc_views.specs.Numbers.{views_by}
 use Rattle.vc_steps.specs.Homes.{held_in, slots_on}
@@ -18,21 +20,23 @@ use Rattle.vc_steps.proofs.session.Session.look_at.Goals as goal
 abbrev meaning : (g : given.Over) → (x : g.dyn-1.0.I) × (g.dyn-1.0.entry x).0.Denot → Discipline
 meaning g p = (g.dyn-1.0.entry p.0).1.state p.1
 
-pub look_at-requires-clause-dicts : goal.look_at-requires-clause-dicts
-look_at-requires-clause-dicts g c =
-    let session = c.args.self.now in
-    are-over (meaning g) (rules_in g.D.DictDisc.rules c.args.kinds.now.items) session.homes.entries session.labels.items session.dicts.entries c.requires.session.regions.named c.requires.session.dicts
-
-pub look_at-requires-clause-path : goal.look_at-requires-clause-path
-look_at-requires-clause-path g c =
+pub look_at-requires : goal.look_at-requires
+look_at-requires g c =
     let session = c.args.self.now in
     let kinds = rules_in g.D.DictDisc.rules c.args.kinds.now.items in
     let es = session.dicts.entries in
     let name = c.args.name.now in
     let entry = entry-named es name c.args.i c.requires.index in
-    subst (IsPath (layered_by kinds (map region_seen session.homes.entries) es) session.paths) (sym (number-named es name c.args.i c.requires.index))
-    (path-here (meaning g) kinds session.homes.entries session.labels.items es c.requires.session.regions.named c.requires.session.dicts
-    session.paths c.requires.session.views c.args.i (name, entry.0) entry.1)
+    let are = c.requires.session in
+    record {
+      dicts = are-over (meaning g) kinds session.homes.entries session.labels.items es are.regions.named are.dicts;
+      numbers = are.views.numbered;
+      index = within-some es c.args.i (name, entry.0) entry.1;
+      path =
+          subst (IsPath (layered_over kinds session.homes.entries es) session.paths) (sym (number-named es name c.args.i c.requires.index))
+          (path-here (meaning g) kinds session.homes.entries session.labels.items es are.regions.named are.dicts session.paths are.views c.args.i (name, entry.0) entry.1);
+      look = c.requires.look;
+    }
 
 pub returns : goal.returns
 returns g c =

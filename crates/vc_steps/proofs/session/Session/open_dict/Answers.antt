@@ -1,4 +1,4 @@
-use Rattle.std.proofs.Common.{◌≡◌, ℕ, ◌-◌, rules, true, false, is_some, [], ◌∷◌, ◌++◌, Some, None, length, option_map, set, refl, sym, ap, ◌∙◌, subst, arith}
+use Rattle.std.proofs.Common.{◌≡◌, ℕ, ◌-◌, ◌≤◌, Option, rules, true, false, is_some, [], ◌∷◌, ◌++◌, Some, None, length, option_map, set, refl, sym, ap, ◌∙◌, subst, arith}
 use Rattle.std.specs.Prelude.{nat_le, slice_get}
 use Rattle.std.specs.Map.{lookup}
 use Rattle.std.specs.Str.{bytes_eq}
@@ -16,6 +16,7 @@ use Rattle.vc_objects.specs.Objects.{owned}
 use Rattle.vc_objects.specs.Parts.{dictionary_of}
 use Rattle.vc_script.specs.Needs.{NoNeed, need_shown}
 use Rattle.vc_script.specs.declared.command.Command.TheVariants.{OpenDict}
+use Rattle.vc_script.specs.declared.refusal.Refusal.{Refusal}
 use Rattle.vc_script.specs.declared.reply.Reply.TheVariants.{Opened, Refused}
 use Rattle.vc_region.specs.Region.{is_best}
 use Rattle.vc_commands.specs.declared.dict.entry.DictEntry.{DictEntry}
@@ -27,7 +28,7 @@ use Rattle.vc_views.proofs.LinkChanges.{linked-more, views-free, views-more}
 use Rattle.vc_steps.specs.Account.{IsSession, Settles, accounts, settled, state_of}
 use Rattle.vc_steps.specs.DictHomes.{AreDicts, dict_home, dicts_in}
 use Rattle.vc_steps.specs.Dicts.{dict_limit, dict_refused, open_dict_step}
-use Rattle.vc_steps.specs.Homes.{held_all, held_in, slots_on}
+use Rattle.vc_steps.specs.Homes.{held_all, held_in, slots_on, state_over}
 use Rattle.vc_commands.specs.RegionRun.{held_of}
 use Rattle.vc_commands.specs.Labels.{name_of}
 use Rattle.vc_commands.specs.Home.{is_home}
@@ -36,89 +37,95 @@ use Rattle.vc_steps.specs.Steps.{StepsBy}
 use Rattle.vc_steps.specs.Told.{gone_in, rules_in}
 use Rattle.vc_commands.proofs.Agreeing.{from_ok}
 use Rattle.vc_steps.proofs.BestRegions.{no-other}
-use Rattle.vc_steps.proofs.Cells.{at_number-from_one, set_same}
+use Rattle.vc_steps.proofs.Cells.{at_number-from_one}
 use Rattle.vc_steps.proofs.Changing.{session-change, settles-none}
 use Rattle.vc_steps.proofs.DictNamed.{any-dict}
 use Rattle.vc_steps.proofs.DictOpening.{dicts-failed, dicts-opened, open-done, open-none, open-refused, steps-failed}
 use Rattle.vc_steps.proofs.DictRefusing.{best-relabelled}
 use Rattle.vc_steps.proofs.DictRegion.{best_entry, entry-best, held_after, region-change, touches}
-use Rattle.vc_steps.proofs.DictWhy.{few-within, kind-within, lacks-early, refused-early, refused-none, settles-early}
+use Rattle.vc_steps.proofs.DictWhy.{IsAllowed, few-within, kind-within, lacks-early, refused-early, refused-none, settles-early}
 use Rattle.vc_steps.proofs.Ending.{if_some-at}
 use Rattle.vc_commands.proofs.Firsts.{find-none}
-use Rattle.vc_steps.proofs.Helds.{any-named, first-named, held-read, held-set, index-within, length-set, name-at, none_of, slice-or}
-use Rattle.vc_steps.proofs.Placed.{home-at, labels-at}
+use Rattle.vc_steps.proofs.Helds.{any-named, index-within, none_of, slice-or}
+use Rattle.vc_steps.proofs.Placed.{home-at}
+use Rattle.vc_steps.proofs.RegionAt.{RegionAt, helds-set, label_at, named-set, region-first, region-stands, region_at, with_value}
 use Rattle.vc_steps.proofs.Sessions.{held-at}
 use Rattle.vc_steps.proofs.RegionSteps.{moment_over}
 use Rattle.vc_steps.proofs.Settling.{keeps-same, keeps-settles, settles-same}
 use Rattle.vc_steps.proofs.Steps.{halts-same, halts-steps, keeps-steps}
 use Rattle.vc_steps.proofs.session.Session.open_dict.Given as given
 use Rattle.vc_steps.proofs.session.Session.open_dict.Goals as goal
+use Rattle.vc_steps.proofs.session.Session.open_dict.Goals.{After-dict_refused}
 
 abbrev meaning : (g : given.Over) → (x : g.dyn-1.0.I) × (g.dyn-1.0.entry x).0.Denot → Discipline
 meaning g p = (g.dyn-1.0.entry p.0).1.state p.1
 
+-- the region of the name
+abbrev place : (g : given.Over) (c : After-dict_refused g) → RegionAt c.args.self.now.homes.entries c.args.self.now.labels.items c.args.region
+place g c =
+    let index = sym c.get_index_of.ensures.index ∙ c.in-Some.is in
+    let v = home-at c.args.self.now.homes.entries c.in-Some.j (index-within (meaning g) c.args.self.now.homes.entries c.args.region c.in-Some.j index) in
+    record { named = c.requires.session.regions.named; j = c.in-Some.j; index = index; v = v.0; value = v.1 }
+
+abbrev region : (g : given.Over) (c : After-dict_refused g) → Held
+region g c = region_at (meaning g) c.args.self.now.homes.entries c.args.self.now.labels.items c.args.region (place g c)
+
+-- why no dictionary is opened there, if none is
+abbrev Why : (g : given.Over) (c : After-dict_refused g) → Option Refusal
+Why g c = dict_refused (state_over (meaning g) (rules_in g.D.DictDisc.rules c.args.kinds.now.items) c.args.shelf.now c.args.self.now) (home_of (region g c)) c.args.name c.args.kind
+
+why : (g : given.Over) (c : After-dict_refused g) → c.dict_refused.result ≡ Why g c
+why g c =
+    let s = state_over (meaning g) (rules_in g.D.DictDisc.rules c.args.kinds.now.items) c.args.shelf.now c.args.self.now in
+    if_some-at (λ (q : Held). c.dict_refused.result ≡ dict_refused s (home_of q) c.args.name c.args.kind) (slice_get (held_in (meaning g) c.args.self.now) c.in-Some.j) (region g c)
+    (region-stands (meaning g) c.args.self.now.homes.entries c.args.self.now.labels.items c.args.region (place g c)) c.dict_refused.ensures
+
+-- where it is not refused
+may : (g : given.Over) (c : After-dict_refused g) → c.dict_refused.result ≡ None
+    → IsAllowed (state_over (meaning g) (rules_in g.D.DictDisc.rules c.args.kinds.now.items) c.args.shelf.now c.args.self.now) (home_of (region g c)) c.args.name c.args.kind
+may g c is =
+    refused-none (state_over (meaning g) (rules_in g.D.DictDisc.rules c.args.kinds.now.items) c.args.shelf.now c.args.self.now) (home_of (region g c)) c.args.name c.args.kind (sym (why g c) ∙ is)
+
+-- its kind is one of those that there are
+range : (g : given.Over) (c : After-dict_refused g) → c.dict_refused.result ≡ None → (1 ≤ c.args.kind) × (c.args.kind ≤ length c.args.kinds.now.items)
+range g c is =
+    let parts = kind-within c.args.kind (length (rules_in g.D.DictDisc.rules c.args.kinds.now.items)) (may g c is).kind in
+    (parts.0, subst (λ n. c.args.kind ≤ n) (length-map c.args.kinds.now.items g.D.DictDisc.rules) parts.1)
+
 pub returns-in_default-clause-steps : goal.returns-in_default-clause-steps
 returns-in_default-clause-steps g c =
     let M = meaning g in
-    let vs = views_by c.args.self.now.paths c.args.self.now.dicts.entries in
-    let items = c.args.kinds.now.items in
-    let item = g.D.DictDisc.rules in
-    let kinds = rules_in item items in
-    let gone = gone_in g.D.DictDisc.gone items in
-    let slots = slots_on M c.args.shelf.now in
-    let helds = held_in M c.args.self.now in
-    let entries = c.args.self.now.homes.entries in
-    let labels = c.args.self.now.labels.items in
-    let named = c.requires.session.regions.named in
-    let ds = c.args.self.now.dicts.entries in
-    let d = c.args.name in
-    let method = c.args.method in
-    let r = c.args.region in
-    let k = c.args.kind in
-    let s = state_of kinds slots helds (dicts_in helds vs ds) in
+    let session = c.args.self.now in
+    let s = state_over M (rules_in g.D.DictDisc.rules c.args.kinds.now.items) c.args.shelf.now session in
     record {
-      gives = open-none s gone d r method k NoNeed (find-none (is_home r) s.homes (any-named M entries labels r named ∙ (sym c.get_index_of.ensures.found ∙ ap is_some c.in_default.is)));
+      gives =
+          open-none s (gone_in g.D.DictDisc.gone c.args.kinds.now.items) c.args.name c.args.region c.args.method c.args.kind NoNeed
+          (find-none (is_home c.args.region) s.homes (any-named M session.homes.entries session.labels.items c.args.region c.requires.session.regions.named ∙ (sym c.get_index_of.ensures.found ∙ ap is_some c.in_default.is)));
       settles = settles-same _;
       lacks = tt;
     }
 
 pub returns-in-Some-dict_refused-clause-steps : goal.returns-in-Some-dict_refused-clause-steps
 returns-in-Some-dict_refused-clause-steps g c =
+    let a = (goal.at.returns-in-Some-dict_refused-clause-steps g c).After-dict_refused in
     let M = meaning g in
-    let vs = views_by c.args.self.now.paths c.args.self.now.dicts.entries in
+    let session = c.args.self.now in
     let items = c.args.kinds.now.items in
-    let item = g.D.DictDisc.rules in
-    let kinds = rules_in item items in
-    let gone = gone_in g.D.DictDisc.gone items in
+    let kinds = rules_in g.D.DictDisc.rules items in
     let slots = slots_on M c.args.shelf.now in
-    let helds = held_in M c.args.self.now in
-    let entries = c.args.self.now.homes.entries in
-    let labels = c.args.self.now.labels.items in
-    let named = c.requires.session.regions.named in
-    let session = c.requires.session.regions.held in
-    let dicts = c.requires.session.dicts in
-    let ds = c.args.self.now.dicts.entries in
+    let helds = held_in M session in
+    let s = state_over M kinds c.args.shelf.now session in
     let d = c.args.name in
     let method = c.args.method in
     let r = c.args.region in
     let k = c.args.kind in
-    let s = state_of kinds slots helds (dicts_in helds vs ds) in
-    let j = c.in-Some.j in
-    let index = sym c.get_index_of.ensures.index ∙ c.in-Some.is in
-    let within = index-within M entries r j index in
-    let l = labels-at entries j within labels named in
-    let v = home-at entries j within in
-    let name = name-at M entries r j index in
-    let h = held_of M r v.0 l.0 in
-    let at = held-read M entries labels j r v.0 l.0 name v.1 l.1 in
-    let first = first-named M entries labels r j named index in
-    let why : c.dict_refused.result ≡ dict_refused s (home_of h) d k =
-    if_some-at (λ (q : Held). c.dict_refused.result ≡ dict_refused s (home_of q) d k) (slice_get helds j) h at c.dict_refused.ensures in
     let refusal = c.in-Some-dict_refused.why in
-    let is : dict_refused s (home_of h) d k ≡ Some refusal = sym why ∙ c.in-Some-dict_refused.is in
-    let early = refused-early s (home_of h) d k refusal is in
+    let is : Why g a ≡ Some refusal = sym (why g a) ∙ c.in-Some-dict_refused.is in
+    let early = refused-early s (home_of (region g a)) d k refusal is in
     record {
-      gives = open-refused kinds slots helds ds vs j h at r first session dicts d method k gone (need_shown (Refused refusal)) refusal is;
+      gives =
+          open-refused kinds slots helds session.dicts.entries (views_by session.paths session.dicts.entries) c.in-Some.j (region g a) (region-stands M session.homes.entries session.labels.items r (place g a)) r
+          (region-first M session.homes.entries session.labels.items r (place g a)) c.requires.session.regions.held c.requires.session.dicts d method k (gone_in g.D.DictDisc.gone items) (need_shown (Refused refusal)) refusal is;
       settles = settles-early s (settled (accounts slots) helds) d r method k refusal early;
       lacks = lacks-early s helds helds d r method k refusal early;
     }
@@ -126,7 +133,6 @@ returns-in-Some-dict_refused-clause-steps g c =
 pub returns-in_err-reserve : goal.returns-in_err-reserve
 returns-in_err-reserve g c =
     let M = meaning g in
-    let vs = views_by c.args.self.now.paths c.args.self.now.dicts.entries in
     let kinds = rules_in g.D.DictDisc.rules c.args.kinds.now.items in
     let slots = slots_on M c.args.shelf.now in
     let helds = held_in M c.args.self.now in
@@ -149,106 +155,37 @@ returns-in_err-reserve g c =
 
 pub unreachable-requires : goal.unreachable-requires
 unreachable-requires g c =
+    let a = (goal.at.unreachable-requires g c).After-dict_refused in
     let M = meaning g in
-    let vs = views_by c.args.self.now.paths c.args.self.now.dicts.entries in
-    let items = c.args.kinds.now.items in
-    let item = g.D.DictDisc.rules in
-    let kinds = rules_in item items in
-    let slots = slots_on M c.args.shelf.now in
-    let helds = held_in M c.args.self.now in
-    let entries = c.args.self.now.homes.entries in
-    let labels = c.args.self.now.labels.items in
-    let named = c.requires.session.regions.named in
-    let ds = c.args.self.now.dicts.entries in
-    let d = c.args.name in
-    let r = c.args.region in
-    let k = c.args.kind in
-    let s = state_of kinds slots helds (dicts_in helds vs ds) in
-    let j = c.in-Some.j in
-    let index = sym c.get_index_of.ensures.index ∙ c.in-Some.is in
-    let within = index-within M entries r j index in
-    let l = labels-at entries j within labels named in
-    let v = home-at entries j within in
-    let name = name-at M entries r j index in
-    let h = held_of M r v.0 l.0 in
-    let at = held-read M entries labels j r v.0 l.0 name v.1 l.1 in
-    let why : c.dict_refused.result ≡ dict_refused s (home_of h) d k =
-    if_some-at (λ (q : Held). c.dict_refused.result ≡ dict_refused s (home_of q) d k) (slice_get helds j) h at c.dict_refused.ensures in
-    let none : dict_refused s (home_of h) d k ≡ None = sym why ∙ c.in_default-dict_refused.is in
-    let may = refused-none s (home_of h) d k none in
+    let l = label_at M c.args.self.now.homes.entries c.args.self.now.labels.items c.args.region (place g a) in
     let home = c.index_mut.result.now in
-    let same_home : v.0 ≡ home = same_Some v.0 home (sym v.1 ∙ c.index_mut.ensures.value) in
+    let same : (place g a).v ≡ home = same_Some (place g a).v home (sym (place g a).value ∙ c.index_mut.ensures.value) in
     let best : is_best (rest_in home.region) ≡ true =
-    sym (best-relabelled (name_of l.0) (rest_in home.region)) ∙ (ap (λ (x : HomeEntry _ _). is_best (home_of (held_of M r x l.0)).region) (sym same_home) ∙ may.best) in
+    sym (best-relabelled (name_of l.0) (rest_in home.region))
+    ∙ (ap (λ (x : HomeEntry _ _). is_best (home_of (held_of M c.args.region x l.0)).region) (sym same) ∙ (may g a c.in_default-dict_refused.is).best) in
     no-other home.region best c.in_default-region.not-Best
 
 pub overflow_sub-kind : goal.overflow_sub-kind
-overflow_sub-kind g c =
-    let M = meaning g in
-    let vs = views_by c.args.self.now.paths c.args.self.now.dicts.entries in
-    let items = c.args.kinds.now.items in
-    let item = g.D.DictDisc.rules in
-    let kinds = rules_in item items in
-    let slots = slots_on M c.args.shelf.now in
-    let helds = held_in M c.args.self.now in
-    let entries = c.args.self.now.homes.entries in
-    let labels = c.args.self.now.labels.items in
-    let named = c.requires.session.regions.named in
-    let ds = c.args.self.now.dicts.entries in
-    let d = c.args.name in
-    let r = c.args.region in
-    let k = c.args.kind in
-    let s = state_of kinds slots helds (dicts_in helds vs ds) in
-    let j = c.in-Some.j in
-    let index = sym c.get_index_of.ensures.index ∙ c.in-Some.is in
-    let within = index-within M entries r j index in
-    let l = labels-at entries j within labels named in
-    let v = home-at entries j within in
-    let name = name-at M entries r j index in
-    let h = held_of M r v.0 l.0 in
-    let at = held-read M entries labels j r v.0 l.0 name v.1 l.1 in
-    let why : c.dict_refused.result ≡ dict_refused s (home_of h) d k =
-    if_some-at (λ (q : Held). c.dict_refused.result ≡ dict_refused s (home_of q) d k) (slice_get helds j) h at c.dict_refused.ensures in
-    let none : dict_refused s (home_of h) d k ≡ None = sym why ∙ c.in_default-dict_refused.is in
-    let may = refused-none s (home_of h) d k none in
-    let range = kind-within k (length kinds) may.kind in
-    range.0
+overflow_sub-kind g c = (range g (goal.at.overflow_sub-kind g c).After-dict_refused c.in_default-dict_refused.is).0
 
 pub index-requires : goal.index-requires
 index-requires g c =
-    let M = meaning g in
-    let vs = views_by c.args.self.now.paths c.args.self.now.dicts.entries in
-    let items = c.args.kinds.now.items in
-    let item = g.D.DictDisc.rules in
-    let kinds = rules_in item items in
-    let slots = slots_on M c.args.shelf.now in
-    let helds = held_in M c.args.self.now in
-    let entries = c.args.self.now.homes.entries in
-    let labels = c.args.self.now.labels.items in
-    let named = c.requires.session.regions.named in
-    let ds = c.args.self.now.dicts.entries in
-    let d = c.args.name in
-    let r = c.args.region in
-    let k = c.args.kind in
-    let s = state_of kinds slots helds (dicts_in helds vs ds) in
-    let j = c.in-Some.j in
-    let index = sym c.get_index_of.ensures.index ∙ c.in-Some.is in
-    let within = index-within M entries r j index in
-    let l = labels-at entries j within labels named in
-    let v = home-at entries j within in
-    let name = name-at M entries r j index in
-    let h = held_of M r v.0 l.0 in
-    let at = held-read M entries labels j r v.0 l.0 name v.1 l.1 in
-    let why : c.dict_refused.result ≡ dict_refused s (home_of h) d k =
-    if_some-at (λ (q : Held). c.dict_refused.result ≡ dict_refused s (home_of q) d k) (slice_get helds j) h at c.dict_refused.ensures in
-    let none : dict_refused s (home_of h) d k ≡ None = sym why ∙ c.in_default-dict_refused.is in
-    let may = refused-none s (home_of h) d k none in
-    let range = kind-within k (length kinds) may.kind in
-    let many = length-map items item in
-    omega (arith, range.0, range.1, many, c.args.kinds.now.ok.0)
+    let within = range g (goal.at.index-requires g c).After-dict_refused c.in_default-dict_refused.is in
+    omega (arith, within.0, within.1, c.args.kinds.now.ok.0)
+
+pub free_number-number-requires : goal.free_number-number-requires
+free_number-number-requires g c =
+    let a = (goal.at.free_number-number-requires g c).After-dict_refused in
+    let session = c.args.self.now in
+    let ds = session.dicts.entries in
+    let many = length-map ds (dict_home (held_in (meaning g) session) (views_by session.paths ds)) in
+    let few = few-within (length ds) (ap (nat_le dict_limit) (sym many) ∙ (may g a c.in_default-dict_refused.is).few) in
+    let kept = ap length c.reserve.ensures.entries in
+    omega (arith, few, kept)
 
 pub returns-in-Err : goal.returns-in-Err
 returns-in-Err g c =
+    let a = (goal.at.returns-in-Err g c).After-dict_refused in
     let M = meaning g in
     let vs = views_by c.args.self.now.paths c.args.self.now.dicts.entries in
     let items = c.args.kinds.now.items in
@@ -259,7 +196,6 @@ returns-in-Err g c =
     let helds = held_in M c.args.self.now in
     let entries = c.args.self.now.homes.entries in
     let labels = c.args.self.now.labels.items in
-    let named = c.requires.session.regions.named in
     let session = c.requires.session.regions.held in
     let dicts = c.requires.session.dicts in
     let ds = c.args.self.now.dicts.entries in
@@ -267,44 +203,33 @@ returns-in-Err g c =
     let method = c.args.method in
     let r = c.args.region in
     let k = c.args.kind in
-    let s = state_of kinds slots helds (dicts_in helds vs ds) in
     let j = c.in-Some.j in
-    let index = sym c.get_index_of.ensures.index ∙ c.in-Some.is in
-    let within = index-within M entries r j index in
-    let l = labels-at entries j within labels named in
-    let v = home-at entries j within in
-    let name = name-at M entries r j index in
-    let h = held_of M r v.0 l.0 in
-    let at = held-read M entries labels j r v.0 l.0 name v.1 l.1 in
-    let first = first-named M entries labels r j named index in
-    let why : c.dict_refused.result ≡ dict_refused s (home_of h) d k =
-    if_some-at (λ (q : Held). c.dict_refused.result ≡ dict_refused s (home_of q) d k) (slice_get helds j) h at c.dict_refused.ensures in
-    let none : dict_refused s (home_of h) d k ≡ None = sym why ∙ c.in_default-dict_refused.is in
-    let may = refused-none s (home_of h) d k none in
+    let none = sym (why g a) ∙ c.in_default-dict_refused.is in
     let old = c.in-Best.best in
-    let place = c.index_mut.result.now.place in
-    let home = best_entry place old in
+    let place' = c.index_mut.result.now.place in
     let at_home = entry-best _ c.index_mut.result.now old c.index_mut.ensures.value c.in-Best.is in
-    let same_home : v.0 ≡ home = same_Some v.0 home (sym v.1 ∙ at_home) in
-    let h' = held_of M r home l.0 in
-    let at' = held-read M entries labels j r home l.0 name at_home l.1 in
-    let none' : dict_refused s (home_of h') d k ≡ None = ap (λ (x : HomeEntry _ _). dict_refused s (home_of (held_of M r x l.0)) d k) (sym same_home) ∙ none in
+    let x = with_value (place g a) (best_entry place' old) at_home in
+    let l = label_at M entries labels r x in
+    let h' = region_at M entries labels r x in
+    let at' = region-stands M entries labels r x in
+    let first = region-first M entries labels r x in
+    let same_home = same_Some (place g a).v (best_entry place' old) (sym (place g a).value ∙ at_home) in
+    let none' = ap (λ (v : HomeEntry _ _). dict_refused (state_of kinds slots helds (dicts_in helds vs ds)) (home_of (held_of M r v l.0)) d k) (sym same_home) ∙ none in
     let held = held-at slots helds j h' at' session in
     let after = c.open.new.best in
-    let entry = best_entry place after in
+    let entry = best_entry place' after in
     let homes' = set_value_at entries j entry in
     let kept = c.reserve.ensures.entries in
     let mine = [] in
-    let leaves = c.in-Err.ensures.err.3 in
-    let g' = held_after M r place old after l.0 [] mine leaves in
-    let touch = touches M r place old after l.0 [] mine leaves in
-    let change = region-change M r place old after l.0 [] mine leaves held.lent held.names in
-    let helds' : held_all M homes' labels ≡ set helds j g' =
-    ap (λ ls. held_all M homes' ls) (sym (set_same labels j l.0 l.1)) ∙ held-set M entries labels j r entry l.0 named name in
-    let named' : length labels ≡ length homes' = sym (ap length (set_same labels j l.0 l.1)) ∙ length-set M entries labels j entry l.0 named in
+    let leaves = c.in-Err.ensures.err.1.leaves in
+    let g' = held_after M r place' old after l.0 [] mine leaves in
+    let touch = touches M r place' old after l.0 [] mine leaves in
+    let change = region-change M r place' old after l.0 [] mine leaves held.lent held.names in
+    let helds' = helds-set M entries labels r x entry in
+    let named' = named-set M entries labels r x entry in
     let fault = c.in-Err.fault in
     let refusal = c.in-Err.ensures.err.0 in
-    let region = ap (λ (q : Layout ℕ). OfBest q) c.in-Err.ensures.err.1 in
+    let region = ap (λ (q : Layout ℕ). OfBest q) c.in-Err.ensures.err.1.region in
     let new = c.reserve.new.self.entries in
     let hs' = held_all M homes' labels in
     let steps =
@@ -331,6 +256,7 @@ returns-in-Err g c =
 
 pub returns-in-Ok : goal.returns-in-Ok
 returns-in-Ok g c =
+    let a = (goal.at.returns-in-Ok g c).After-dict_refused in
     let M = meaning g in
     let vs = views_by c.args.self.now.paths c.args.self.now.dicts.entries in
     let items = c.args.kinds.now.items in
@@ -341,7 +267,6 @@ returns-in-Ok g c =
     let helds = held_in M c.args.self.now in
     let entries = c.args.self.now.homes.entries in
     let labels = c.args.self.now.labels.items in
-    let named = c.requires.session.regions.named in
     let session = c.requires.session.regions.held in
     let dicts = c.requires.session.dicts in
     let ds = c.args.self.now.dicts.entries in
@@ -349,52 +274,40 @@ returns-in-Ok g c =
     let method = c.args.method in
     let r = c.args.region in
     let k = c.args.kind in
-    let s = state_of kinds slots helds (dicts_in helds vs ds) in
     let j = c.in-Some.j in
-    let index = sym c.get_index_of.ensures.index ∙ c.in-Some.is in
-    let within = index-within M entries r j index in
-    let l = labels-at entries j within labels named in
-    let v = home-at entries j within in
-    let name = name-at M entries r j index in
-    let h = held_of M r v.0 l.0 in
-    let at = held-read M entries labels j r v.0 l.0 name v.1 l.1 in
-    let first = first-named M entries labels r j named index in
-    let why : c.dict_refused.result ≡ dict_refused s (home_of h) d k =
-    if_some-at (λ (q : Held). c.dict_refused.result ≡ dict_refused s (home_of q) d k) (slice_get helds j) h at c.dict_refused.ensures in
-    let none : dict_refused s (home_of h) d k ≡ None = sym why ∙ c.in_default-dict_refused.is in
-    let may = refused-none s (home_of h) d k none in
-    let range = kind-within k (length kinds) may.kind in
-    let many = length-map items item in
+    let none = sym (why g a) ∙ c.in_default-dict_refused.is in
     let old = c.in-Best.best in
-    let place = c.index_mut.result.now.place in
-    let home = best_entry place old in
+    let place' = c.index_mut.result.now.place in
     let at_home = entry-best _ c.index_mut.result.now old c.index_mut.ensures.value c.in-Best.is in
-    let same_home : v.0 ≡ home = same_Some v.0 home (sym v.1 ∙ at_home) in
-    let h' = held_of M r home l.0 in
-    let at' = held-read M entries labels j r home l.0 name at_home l.1 in
-    let none' : dict_refused s (home_of h') d k ≡ None = ap (λ (x : HomeEntry _ _). dict_refused s (home_of (held_of M r x l.0)) d k) (sym same_home) ∙ none in
+    let x = with_value (place g a) (best_entry place' old) at_home in
+    let l = label_at M entries labels r x in
+    let h' = region_at M entries labels r x in
+    let at' = region-stands M entries labels r x in
+    let first = region-first M entries labels r x in
+    let same_home = same_Some (place g a).v (best_entry place' old) (sym (place g a).value ∙ at_home) in
+    let none' = ap (λ (v : HomeEntry _ _). dict_refused (state_of kinds slots helds (dicts_in helds vs ds)) (home_of (held_of M r v l.0)) d k) (sym same_home) ∙ none in
     let held = held-at slots helds j h' at' session in
+    let within = range g a c.in_default-dict_refused.is in
     let after = c.open.new.best in
-    let entry = best_entry place after in
+    let entry = best_entry place' after in
     let homes' = set_value_at entries j entry in
     let kept = c.reserve.ensures.entries in
     let mine = owned (dictionary_of c.in-Ok.dict (cells_in after)) in
-    let leaves = c.in-Ok.ensures.leaves in
-    let g' = held_after M r place old after l.0 [] mine leaves in
-    let touch = touches M r place old after l.0 [] mine leaves in
-    let change = region-change M r place old after l.0 [] mine leaves held.lent held.names in
-    let helds' : held_all M homes' labels ≡ set helds j g' =
-    ap (λ ls. held_all M homes' ls) (sym (set_same labels j l.0 l.1)) ∙ held-set M entries labels j r entry l.0 named name in
-    let named' : length labels ≡ length homes' = sym (ap length (set_same labels j l.0 l.1)) ∙ length-set M entries labels j entry l.0 named in
+    let leaves = c.in-Ok.ensures.ok.leaves in
+    let g' = held_after M r place' old after l.0 [] mine leaves in
+    let touch = touches M r place' old after l.0 [] mine leaves in
+    let change = region-change M r place' old after l.0 [] mine leaves held.lent held.names in
+    let helds' = helds-set M entries labels r x entry in
+    let named' = named-set M entries labels r x entry in
     let dict = c.in-Ok.dict in
     let kind = c.index.result.now in
-    let its_kind : slice_get items (k - 1) ≡ Some kind = slice-or items (k - 1) kind (omega (arith, range.0, range.1, many)) c.index.ensures in
+    let its_kind : slice_get items (k - 1) ≡ Some kind = slice-or items (k - 1) kind (omega (arith, within.0, within.1)) c.index.ensures in
     let by : at_number kinds k ≡ Some (item kind) =
-    at_number-from_one kinds k range.0 ∙ (slice_get-map item items (k - 1) ∙ ap (option_map item) its_kind) in
+    at_number-from_one kinds k within.0 ∙ (slice_get-map item items (k - 1) ∙ ap (option_map item) its_kind) in
     let n = c.free_number-number.result in
     let links = c.args.self.now.paths in
     let lain : DictEntry = record { home = r; number = n; dict = dict } in
-    let absent : is_some (lookup (bytes_eq d) ds) ≡ false = sym (any-dict helds vs ds d) ∙ may.new in
+    let absent : is_some (lookup (bytes_eq d) ds) ≡ false = sym (any-dict helds vs ds d) ∙ (may g a c.in_default-dict_refused.is).new in
     let new = c.insert.new.self.entries in
     let put = from_ok c.insert.result (c.insert.ensures.succeeds (omega (arith, c.in_ok-reserve.ensures.ok))) c.insert.ensures.entries in
     let free = none_of (lookup (bytes_eq d) c.reserve.new.self.entries) (ap (λ es. is_some (lookup (bytes_eq d) es)) kept ∙ absent) in
@@ -409,8 +322,8 @@ returns-in-Ok g c =
     record {
       steps = record {
         gives =
-            subst (λ x. GivesStep (open_dict_step s d method r k NoNeed) gone (Opened d) x gone) (sym state')
-            (open-done kinds slots helds ds vs j h' at' r first session dicts d method k g' dict n (views-free links ds n c.requires.session.views fresh) change touch refl c.in-Ok.ensures.kind (item kind) by c.in-Ok.ensures.whole gone none' c.in-Ok.ensures.ok);
+            subst (λ x. GivesStep (open_dict_step (state_of kinds slots helds (dicts_in helds vs ds)) d method r k NoNeed) gone (Opened d) x gone) (sym state')
+            (open-done kinds slots helds ds vs j h' at' r first session dicts d method k g' dict n (views-free links ds n c.requires.session.views fresh) change touch refl c.in-Ok.ensures.ok.numbered (item kind) by c.in-Ok.ensures.ok.whole gone none' c.in-Ok.ensures.ok.grown);
         settles = quiet;
         lacks = tt;
       };
@@ -420,7 +333,7 @@ returns-in-Ok g c =
             regions = record { named = named'; held = subst (IsSession slots) (sym helds') (session-change slots helds j h' g' at' session change) };
             dicts =
                 subst (λ hs. AreDicts kinds hs new) (sym helds')
-                (subst (AreDicts kinds (set helds j g')) (sym last) (dicts-opened kinds slots helds ds vs j h' at' r first session dicts d method k g' dict n (views-free links ds n c.requires.session.views fresh) change touch refl c.in-Ok.ensures.kind (item kind) by c.in-Ok.ensures.whole));
+                (subst (AreDicts kinds (set helds j g')) (sym last) (dicts-opened kinds slots helds ds vs j h' at' r first session dicts d method k g' dict n (views-free links ds n c.requires.session.views fresh) change touch refl c.in-Ok.ensures.ok.numbered (item kind) by c.in-Ok.ensures.ok.whole));
             views = subst (AreLinked links) (sym last) (linked-more links ds (d, lain) c.requires.session.views fresh c.free_number-number.ensures.below);
           };
           keeps_rules = refl;
@@ -429,32 +342,3 @@ returns-in-Ok g c =
         spent = refl;
       };
     }
-
-pub free_number-number-requires : goal.free_number-number-requires
-free_number-number-requires g c =
-    let M = meaning g in
-    let vs = views_by c.args.self.now.paths c.args.self.now.dicts.entries in
-    let kinds = rules_in g.D.DictDisc.rules c.args.kinds.now.items in
-    let helds = held_in M c.args.self.now in
-    let entries = c.args.self.now.homes.entries in
-    let labels = c.args.self.now.labels.items in
-    let named = c.requires.session.regions.named in
-    let ds = c.args.self.now.dicts.entries in
-    let d = c.args.name in
-    let r = c.args.region in
-    let k = c.args.kind in
-    let s = state_of kinds (slots_on M c.args.shelf.now) helds (dicts_in helds vs ds) in
-    let j = c.in-Some.j in
-    let index = sym c.get_index_of.ensures.index ∙ c.in-Some.is in
-    let within = index-within M entries r j index in
-    let l = labels-at entries j within labels named in
-    let v = home-at entries j within in
-    let h = held_of M r v.0 l.0 in
-    let at = held-read M entries labels j r v.0 l.0 (name-at M entries r j index) v.1 l.1 in
-    let why : c.dict_refused.result ≡ dict_refused s (home_of h) d k =
-    if_some-at (λ (q : Held). c.dict_refused.result ≡ dict_refused s (home_of q) d k) (slice_get helds j) h at c.dict_refused.ensures in
-    let may = refused-none s (home_of h) d k (sym why ∙ c.in_default-dict_refused.is) in
-    let many = length-map ds (dict_home helds vs) in
-    let few = few-within (length ds) (ap (nat_le dict_limit) (sym many) ∙ may.few) in
-    let kept = ap length c.reserve.ensures.entries in
-    omega (arith, few, kept)

@@ -151,22 +151,22 @@ returns g c =
       alone = c.requires.alone;
       free = λ turn. linked-here kinds slots (held_in M c.args.self.now) links es c.show_names.ensures views i (name, e) there ∙ free-turn links e.number c.args.command.now free turn;
     } in
-    let seen = views-ran M kinds slots homes labels es vs name e hv.place old j i regions.named regions.held c.requires.session.dicts at_home home c.requires.index dict (rules one) at_rules after new c.run.ensures.leaves kinds' same_kinds links in
+    let seen = views-ran M kinds slots homes labels es vs name e hv.place old j i regions.named regions.held c.requires.session.dicts at_home home c.requires.index dict (rules one) at_rules after new c.run.ensures.runs.leaves kinds' same_kinds links in
     let steps =
-    steps-ran M kinds slots homes labels es vs name e hv.place old j i regions.named regions.held c.requires.session.dicts at_home home c.requires.index dict (rules one) at_rules after new c.run.ensures.leaves kinds' same_kinds
-    (views_by links (set_value_at es i (record e { dict = new }))) seen c.run.result c.args.command.now gone gone' (g.D.DictDisc.gone one) (g.D.DictDisc.gone told) c.requires.name alone at_gone is_gone c.run.ensures.step c.run.ensures.err c.run.ensures.asked in
+    steps-ran M kinds slots homes labels es vs name e hv.place old j i regions.named regions.held c.requires.session.dicts at_home home c.requires.index dict (rules one) at_rules after new c.run.ensures.runs.leaves kinds' same_kinds
+    (views_by links (set_value_at es i (record e { dict = new }))) seen c.run.result c.args.command.now gone gone' (g.D.DictDisc.gone one) (g.D.DictDisc.gone told) c.requires.name alone at_gone is_gone c.run.ensures.runs.step c.run.ensures.err c.run.ensures.runs.asked in
     record {
       steps = steps;
       stays = record {
         lasts = record {
           stands = record {
             regions = record {
-              named = named-ran M kinds slots homes labels es vs name e hv.place old j i regions.named regions.held c.requires.session.dicts at_home home c.requires.index dict (rules one) at_rules after new c.run.ensures.leaves kinds' same_kinds;
-              held = session-ran M kinds slots homes labels es vs name e hv.place old j i regions.named regions.held c.requires.session.dicts at_home home c.requires.index dict (rules one) at_rules after new c.run.ensures.leaves kinds' same_kinds;
+              named = named-ran M kinds slots homes labels es vs name e hv.place old j i regions.named regions.held c.requires.session.dicts at_home home c.requires.index dict (rules one) at_rules after new c.run.ensures.runs.leaves kinds' same_kinds;
+              held = session-ran M kinds slots homes labels es vs name e hv.place old j i regions.named regions.held c.requires.session.dicts at_home home c.requires.index dict (rules one) at_rules after new c.run.ensures.runs.leaves kinds' same_kinds;
             };
-            dicts = dicts-ran M kinds slots homes labels es vs name e hv.place old j i regions.named regions.held c.requires.session.dicts at_home home c.requires.index dict (rules one) at_rules after new c.run.ensures.leaves kinds' same_kinds;
-            views = linked-ran M kinds slots homes labels es vs name e hv.place old j i regions.named regions.held c.requires.session.dicts at_home home c.requires.index dict (rules one) at_rules after new c.run.ensures.leaves kinds' same_kinds links views
-                c.run.result c.args.command.now (g.D.DictDisc.gone one) (g.D.DictDisc.gone told) free c.run.ensures.step c.run.ensures.err;
+            dicts = dicts-ran M kinds slots homes labels es vs name e hv.place old j i regions.named regions.held c.requires.session.dicts at_home home c.requires.index dict (rules one) at_rules after new c.run.ensures.runs.leaves kinds' same_kinds;
+            views = linked-ran M kinds slots homes labels es vs name e hv.place old j i regions.named regions.held c.requires.session.dicts at_home home c.requires.index dict (rules one) at_rules after new c.run.ensures.runs.leaves kinds' same_kinds links views
+                c.run.result c.args.command.now (g.D.DictDisc.gone one) (g.D.DictDisc.gone told) free c.run.ensures.runs.step c.run.ensures.err;
           };
           keeps_rules = same_kinds;
           accounts = keeps-steps c.run.result _ _ c.args.command.now _ steps;

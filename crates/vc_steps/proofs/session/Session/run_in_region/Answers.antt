@@ -104,11 +104,11 @@ returns g c =
     let change = c.run.ensures.change r in
     let after = held-set M entries labels i r c.run.new.self c.run.new.labels named name in
     let free = clear-free command (lies_in r es) (sym c.if-clears_busy.ensures) in
-    let gives = if_ok_at c.run.result _ _ (λ reply is runs. runs r) c.run.ensures.step in
+    let gives = if_ok_at c.run.result _ _ (λ reply is runs. runs r) c.run.ensures.runs.step in
     record {
       steps = λ kinds gone dicts.
           subst (λ hs. StepsBy c.run.result (moment_over slots es vs kinds gone helds) (moment_over slots es vs kinds gone hs) command (λ s need. step_of s c.args.line command need (Some r))) (sym after)
-          (steps-region slots helds es vs i h k at session c.args.line command change r first c.requires.dict c.requires.region free c.run.result gives c.run.ensures.err c.run.ensures.unserved c.run.ensures.faults kinds gone dicts);
+          (steps-region slots helds es vs i h k at session c.args.line command change r first c.requires.dict c.requires.region free c.run.result gives c.run.ensures.runs.err c.run.ensures.runs.unserved c.run.ensures.runs.faults kinds gone dicts);
       regions = record {
         regions = record {
           named = length-set M entries labels i c.run.new.self c.run.new.labels named;
@@ -116,7 +116,7 @@ returns g c =
         };
         dicts = λ kinds dicts.
             subst (λ hs. AreDicts kinds hs es) (sym after)
-            (region-dicts slots helds es vs i h k at session c.args.line command change r first c.requires.dict c.requires.region free c.run.result gives c.run.ensures.err c.run.ensures.unserved c.run.ensures.faults kinds dicts);
+            (region-dicts slots helds es vs i h k at session c.args.line command change r first c.requires.dict c.requires.region free c.run.result gives c.run.ensures.runs.err c.run.ensures.runs.unserved c.run.ensures.runs.faults kinds dicts);
         views = λ are. are;
         spent = refl;
       };

@@ -27,9 +27,9 @@ returns-clause-layers g c =
     let old = map region_seen c.args.self.now.homes.now.entries in
     let new = map region_seen c.find_at.new.homes.entries in
     record {
-      has = λ d has. record { dicts = c.find_at.ensures.dicts; there = still-there old new c.args.self.now.dicts.now.entries c.find_at.new.dicts.entries d c.find_at.ensures.keeps.seen has.there };
-      layers = ap (λ ss. λ d. layer_seen kinds (find (has_number d) ss)) c.find_at.ensures.keeps.seen;
+      has = λ d has. record { dicts = c.find_at.ensures.leaves.dicts; there = still-there old new c.args.self.now.dicts.now.entries c.find_at.new.dicts.entries d c.find_at.ensures.leaves.keeps.seen has.there };
+      layers = ap (λ ss. λ d. layer_seen kinds (find (has_number d) ss)) c.find_at.ensures.leaves.keeps.seen;
     }
 
 pub returns-clause-stays : goal.returns-clause-stays
-returns-clause-stays g c = (refl, refl, c.find_at.ensures.keeps)
+returns-clause-stays g c = (refl, refl, c.find_at.ensures.leaves.keeps)
