@@ -5,6 +5,7 @@
 #   bench/time.sh segments  fifty runs of 1,026 lines
 #   bench/time.sh one       2,000,000 lines
 #   bench/time.sh live      4,000, 8,000 and 20,000 blocks of one byte in one region, each in a run of its own
+#   bench/time.sh quiet     the same with --quiet
 # Run by hand at the top of the repository. It needs awk and GNU time.
 set -eu
 
@@ -15,18 +16,22 @@ run() {
     bench/script.sh "$@" > "$script"
     echo "$*: $(wc -l < "$script") lines"
     env time -f '%e seconds, %M KiB' \
-        sh -c 'for i in $(seq "$2"); do bin/vmreplay < "$1" > /dev/null; done' sh "$script" "$runs"
+        sh -c 'for i in $(seq "$2"); do bin/vmreplay $3 < "$1" > /dev/null; done' sh "$script" "$runs" "$words"
 }
 
 case "${1-}" in
-    frees | resizes | segments | one | live) ;;
-    *) echo "usage: bench/time.sh frees|resizes|segments|one|live" >&2; exit 2 ;;
+    frees | resizes | segments | one | live | quiet) ;;
+    *) echo "usage: bench/time.sh frees|resizes|segments|one|live|quiet" >&2; exit 2 ;;
 esac
 make all > /dev/null
 script=$(mktemp)
 trap 'rm -f "$script"' EXIT
+words=
+case "$1" in
+    quiet) words=--quiet ;;
+esac
 case "$1" in
     segments) run 50 segments ;;
-    live) for blocks in 4000 8000 20000; do run 1 live "$blocks"; done ;;
+    live | quiet) for blocks in 4000 8000 20000; do run 1 live "$blocks"; done ;;
     *) run 1 "$1" ;;
 esac

@@ -1,26 +1,28 @@
--- The numbers of the region that is found by a name, and the region of the dictionary that is found by one.
-use Rattle.std.proofs.Common.{◌≡◌, ℕ, Bool, true, false, cond, is_some, List, [], ◌∷◌, Option, Some, length, map, option_map, refl, sym, ap, ◌∙◌}
+-- The region that is found by a name, and the region of the dictionary that is found by one.
+use Rattle.std.proofs.Common.{◌≡◌, ℕ, Bool, true, false, cond, is_some, List, [], ◌∷◌, Option, None, Some, length, map, option_map, refl, sym, ap, ◌∙◌}
 use Rattle.std.specs.Prelude.{slice_get}
 use Rattle.std.specs.List.{position}
 use Rattle.std.specs.Map.{keys_of, lookup, values_of}
 use Rattle.std.specs.Str.{bytes_eq}
-use Rattle.std.proofs.lemmas.Option.{same_Some, slice_get-map}
-use Rattle.vc_commands.proofs.Firsts.{find-first, find-none}
+use Rattle.vc_commands.proofs.Firsts.{find-none}
 use Rattle.vc_commands.specs.Held.{Held, home_of}
-use Rattle.vc_commands.specs.Home.{Home, is_home}
+use Rattle.vc_commands.specs.Home.{is_home}
 use Rattle.vc_commands.specs.Labels.{name_of}
 use Rattle.vc_commands.specs.RegionRun.{held_of}
 use Rattle.vc_commands.specs.declared.dict.entry.DictEntry.{DictEntry}
 use Rattle.vc_commands.specs.declared.region.home.HomeEntry.{HomeEntry}
 use Rattle.vc_commands.specs.declared.region.labels.Labels.{Labels}
 use Rattle.vc_model.specs.Discipline.{Discipline}
-use Rattle.vc_region.proofs.Relabel.{stat-relabelled}
-use Rattle.vc_region.proofs.Rest.{rest-stat}
+use Rattle.vc_region.proofs.Relabel.{segments-relabelled, stat-relabelled}
+use Rattle.vc_region.proofs.Rest.{rest-segments, rest-stat}
 use Rattle.vc_region.specs.Cells.{rest_in}
 use Rattle.vc_region.specs.Parts.{region_of}
+use Rattle.vc_region.specs.Region.{segments_of}
 use Rattle.vc_region.specs.Stat.{stat_of}
 use Rattle.vc_script.specs.declared.command.Command.{Command}
-use Rattle.vc_steps.proofs.Helds.{any-named, first-named, held-read, index-within, name-at, swapped}
+use Rattle.vc_seg.specs.declared.stat.Stat.{Stat}
+use Rattle.vc_steps.proofs.Helds.{any-named, index-within, swapped}
+use Rattle.vc_steps.proofs.HomeThere.{home-there}
 use Rattle.vc_steps.proofs.Placed.{labels-at}
 use Rattle.vc_steps.specs.DictHomes.{dict_home, dicts_in}
 use Rattle.vc_steps.specs.Dicts.{dict_of, region_named}
@@ -29,26 +31,29 @@ use Rattle.vc_steps.specs.State.{home_named}
 use Rattle.vc_steps.specs.declared.session.Session.{Session}
 use Rattle.vc_views.specs.Numbers.{views_by}
 use Rattle.vc_views.specs.Views.{DictHome, dict_named}
-use Rattle.vc_counts.specs.Working.{home_tally, no_tally, open_state, region_worked, tally, tally_at, worked_in}
+use Rattle.vc_counts.specs.Working.{busy_in_home, open_state, region_worked, segments_at, segments_in, worked_in}
 
 module _ {I : Type 0} {V : I → Type 0} (meaning : (x : I) × V x → Discipline) (homes : List (List ℕ × HomeEntry I V)) (labels : List Labels) (r : List ℕ) (named : length labels ≡ length homes) where
   abbrev hs : List Held
   hs = held_all meaning homes labels
 
   -- no region has the name
-  pub tally-none : is_some (lookup (bytes_eq r) homes) ≡ false → tally_at (Some r) (map home_of hs) ≡ no_tally
-  tally-none none = ap home_tally (find-none (is_home r) (map home_of hs) (any-named meaning homes labels r named ∙ none))
+  pub home-none : is_some (lookup (bytes_eq r) homes) ≡ false → home_named r (map home_of hs) ≡ None
+  home-none none = find-none (is_home r) (map home_of hs) (any-named meaning homes labels r named ∙ none)
 
-  -- the region of an index has the name
-  pub tally-found : (i : ℕ) (h : HomeEntry I V) → position (bytes_eq r) (keys_of homes) ≡ Some i → slice_get (values_of homes) i ≡ Some h → tally_at (Some r) (map home_of hs) ≡ tally (stat_of (region_of h.region))
-  tally-found i h at here =
-      let first = first-named meaning homes labels r i named at in
-      let own = labels-at homes i (index-within meaning homes r i at) labels named in
-      let read : slice_get hs i ≡ Some (held_of meaning r h own.0) = held-read meaning homes labels i r h own.0 (name-at meaning homes r i at) here own.1 in
-      let item : first.item ≡ home_of (held_of meaning r h own.0) =
-      same_Some first.item (home_of (held_of meaning r h own.0)) (sym first.at ∙ (slice_get-map home_of hs i ∙ ap (option_map home_of) read)) in
-      let found : home_named r (map home_of hs) ≡ Some (home_of (held_of meaning r h own.0)) = find-first (is_home r) (map home_of hs) i first ∙ ap (λ (k : Home). Some k) item in
-      ap home_tally found ∙ ap tally (stat-relabelled (name_of own.0) (rest_in h.region) ∙ rest-stat (region_of h.region))
+  module _ (i : ℕ) (h : HomeEntry I V) (at : position (bytes_eq r) (keys_of homes) ≡ Some i) (here : slice_get (values_of homes) i ≡ Some h) where
+    own : (l : Labels) × (slice_get labels i ≡ Some l)
+    own = labels-at homes i (index-within meaning homes r i at) labels named
+
+    there : home_named r (map home_of hs) ≡ Some (home_of (held_of meaning r h own.0))
+    there = home-there meaning homes labels r named i at h here own.0 own.1
+
+    -- the region of an index has the name: its blocks' bytes, and its segments
+    pub busy-found : (stat_of (region_of h.region)).sbusy ≡ busy_in_home (home_named r (map home_of hs))
+    busy-found = sym (ap busy_in_home there ∙ ap (λ (t : Stat). t.sbusy) (stat-relabelled (name_of own.0) (rest_in h.region) ∙ rest-stat (region_of h.region)))
+
+    pub segments-found : segments_of (region_of h.region) ≡ segments_at (Some r) (map home_of hs)
+    segments-found = sym (ap segments_in there ∙ (segments-relabelled (name_of own.0) (rest_in h.region) ∙ rest-segments (region_of h.region)))
 
 -- the dictionary of a name lies in the region that its entry tells
 module _ (hs : List Held) (views : ℕ → Option (List ℕ)) (d : List ℕ) where

@@ -9,10 +9,9 @@ use Rattle.vc_region.specs.Region.{Region}
 use Rattle.vc_region.specs.Stat.{stat_of}
 use Rattle.vc_steps.specs.State.{home_named, with_region, without_home}
 use Rattle.vc_commands.proofs.Names.{same_bytes}
+use Rattle.vc_counts.specs.Working.{busy_home}
 
--- the bytes of a region's blocks, and of those of regions
-abbrev pub busy_home : Home → ℕ
-busy_home h = (stat_of h.region).sbusy
+-- the bytes of the blocks of regions
 
 abbrev pub busy_homes : List Home → ℕ
 busy_homes homes = sum (map (λ h. (stat_of h.region).sbusy) homes)
@@ -23,7 +22,7 @@ busy-cons h hs = sum-map busy_home (h ∷ hs) ∙ (sum_by-cons busy_home h hs �
 pub busy-push : (hs : List Home) (h : Home) → busy_homes (hs ++ h ∷ []) ≡ busy_homes hs + busy_home h
 busy-push hs h = sum-map busy_home (hs ++ h ∷ []) ∙ (sum_by_push busy_home hs h ∙ ap (λ n. n + busy_home h) (sym (sum-map busy_home hs)))
 
-abbrev put_region : Region Label → Kept → Home → Home
+abbrev pub put_region : Region Label → Kept → Home → Home
 put_region region kept h = record h { region = region; kept = kept }
 
 module _ (r : List ℕ) (region : Region Label) (kept : Kept) where

@@ -1,11 +1,14 @@
--- The region that a command works in, and its numbers that a run counts.
-use Rattle.std.specs.Prelude.{ℕ, ◌+◌, ◌-◌, List, [], Option, Some, None, Bool, max, if◌then◌else◌}
+-- The region that a command works in, and what a run reads there before it and after it.
+use Rattle.std.specs.Prelude.{ℕ, ◌+◌, ◌-◌, List, [], Option, Some, None, Bool, true, false, drop, map, max, if◌then◌else◌}
+use Rattle.vc_blocks.specs.Tally.{tally_of}
+use Rattle.vc_blocks.specs.declared.tally.Tally.{Tally}
 use Rattle.vc_commands.specs.Home.{Home}
+use Rattle.vc_commands.specs.Sizes.{size_named}
 use Rattle.vc_model.specs.Discipline.{Discipline}
+use Rattle.vc_region.specs.Region.{segments_of}
 use Rattle.vc_region.specs.Stat.{stat_of}
 use Rattle.vc_script.specs.declared.command.Command.{Command}
-use Rattle.vc_script.specs.declared.command.Command.TheVariants.{CloseRegion}
-use Rattle.vc_seg.specs.declared.stat.Stat.{Stat}
+use Rattle.vc_script.specs.declared.command.Command.TheVariants.{Alloc, Align, Resize, Free, ClearRegion, CloseRegion, OpenDict, Insert, Append, Attach, Delete, Detach, Remethod, Empty, Shut}
 use Rattle.vc_steps.specs.Account.{state_of}
 use Rattle.vc_steps.specs.DictHomes.{dicts_in}
 use Rattle.vc_steps.specs.Dicts.{dict_of, region_named}
@@ -15,7 +18,6 @@ use Rattle.vc_steps.specs.Step.{opened_in}
 use Rattle.vc_steps.specs.declared.session.Session.{Session}
 use Rattle.vc_views.specs.Numbers.{views_by}
 use Rattle.vc_counts.specs.declared.counts.Counts.{Counts}
-use Rattle.vc_counts.specs.declared.tally.Tally.{Tally}
 
 -- the region that a command names: the one in which it asks for segments, or that it closes
 abbrev pub worked_in : Command → Option (List ℕ)
@@ -36,30 +38,74 @@ abbrev pub home_at : Option (List ℕ) → List Home → Option Home
 home_at None homes = None
 home_at (Some r) homes = home_named r homes
 
--- of a region's numbers those that a run counts
-abbrev pub tally : Stat → Tally
-tally stat = record { busy = stat.sbusy; segments = stat.segs; extent = stat.extent }
+-- the one block whose size a command may change: it is put, resized or freed
+abbrev pub block_of : Command → Option (List ℕ)
+block_of (Alloc r x size site) = Some x
+block_of (Align r x size align) = Some x
+block_of (Resize r x size may_move) = Some x
+block_of (Free r x) = Some x
+block_of command = None
 
--- no region
-abbrev pub no_tally : Tally
-no_tally = record { busy = 0; segments = 0; extent = 0 }
+-- whether a command may put or free blocks that it doesn't name
+abbrev pub changes_any : Command → Bool
+changes_any (ClearRegion r) = true
+changes_any (CloseRegion r) = true
+changes_any (OpenDict d method r kind) = true
+changes_any (Insert d bytes) = true
+changes_any (Append d bytes) = true
+changes_any (Attach d bytes) = true
+changes_any (Delete d object) = true
+changes_any (Detach d bytes) = true
+changes_any (Remethod d method) = true
+changes_any (Empty d) = true
+changes_any (Shut d) = true
+changes_any command = false
 
-abbrev pub home_tally : Option Home → Tally
-home_tally None = no_tally
-home_tally (Some h) = tally (stat_of h.region)
+-- the bytes of all blocks of a region
+abbrev pub busy_home : Home → ℕ
+busy_home h = (stat_of h.region).sbusy
+
+abbrev pub busy_in_home : Option Home → ℕ
+busy_in_home None = 0
+busy_in_home (Some h) = busy_home h
+
+-- the bytes of those blocks of a region that a command may put, resize or free
+abbrev pub reached_by : Option (List ℕ) → Bool → Home → ℕ
+reached_by (Some x) any h = size_named x h.region
+reached_by None any h = if any then busy_home h else 0
+
+abbrev pub reached : Command → Home → ℕ
+reached command h = reached_by (block_of command) (changes_any command) h
+
+abbrev pub reached_in : Command → Option Home → ℕ
+reached_in command None = 0
+reached_in command (Some h) = reached command h
 
 -- those of the region of that name, where it is open
-abbrev pub tally_at : Option (List ℕ) → List Home → Tally
-tally_at name homes = home_tally (home_at name homes)
+abbrev pub reached_at : Command → Option (List ℕ) → List Home → ℕ
+reached_at command name homes = reached_in command (home_at name homes)
 
--- what is counted with one more command, from the numbers of its region before it to those after it
-abbrev pub counts_after : Counts → Bool → Tally → Tally → Counts
-counts_after c refused before after =
+abbrev pub segments_in : Option Home → List (ℕ × ℕ)
+segments_in None = []
+segments_in (Some h) = segments_of h.region
+
+-- its segments
+abbrev pub segments_at : Option (List ℕ) → List Home → List (ℕ × ℕ)
+segments_at name homes = segments_in (home_at name homes)
+
+-- of segments those behind the first ones, counted and in bytes
+abbrev pub tally_behind : ℕ → List (ℕ × ℕ) → Tally
+tally_behind first segments = tally_of (map (λ s. s.1) (drop first segments))
+
+-- what is counted with one more command, from the bytes that it reached before it to those after it, and the segments that
+-- came
+abbrev pub counts_after : Counts → Bool → ℕ → ℕ → Tally → Counts
+counts_after c refused before after lent =
     record {
       done = c.done + (if refused then 0 else 1);
       refused = c.refused + (if refused then 1 else 0);
-      segments = c.segments + (after.segments - before.segments);
-      bytes = c.bytes + (after.extent - before.extent);
-      busy = c.busy - before.busy + after.busy;
-      peak = max c.peak (c.busy - before.busy + after.busy);
+      segments = c.segments + lent.count;
+      bytes = c.bytes + lent.bytes;
+      busy = c.busy - before + after;
+      peak = max c.peak (c.busy - before + after);
     }

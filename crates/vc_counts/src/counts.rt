@@ -4,7 +4,7 @@ ghost use Rattle.vc_counts.specs.CanCount.{IsInRange, commands};
 ghost use Rattle.vc_counts.specs.Counts.{no_counts};
 ghost use Rattle.vc_counts.specs.Working.{counts_after};
 
-use crate::tally::Tally;
+use vc_blocks::Tally;
 
 /// What a run counts of its commands.
 #[derive(Clone, Copy, Debug, PartialEq, Eq)]
@@ -38,12 +38,14 @@ impl Counts {
         }
     }
 
-    // Counts one more command, by whether it was refused, and by the numbers of its region before it and after it.
-    pub(crate) fn add(&mut self, refused: bool, before: Tally, after: Tally)
+    // Counts one more command, by whether it was refused, by the bytes that it reached before it and after it, and by the
+    // segments that came.
+    pub(crate) fn add(&mut self, refused: bool, before: u64, after: u64, lent: Tally)
         requires range { IsInRange self.old }
         requires few { commands self.old + 1 < 2 ^ 32 }
-        requires part { before.busy ≤ self.old.busy }
-        ensures value { self.new ≡ counts_after self.old refused before after }
+        requires part { before ≤ self.old.busy }
+        requires segments { lent.count ≤ 1023 }
+        ensures value { self.new ≡ counts_after self.old refused before after lent }
         ensures range { IsInRange self.new }
     {
         if refused {
@@ -51,9 +53,9 @@ impl Counts {
         } else {
             self.done += 1;
         }
-        self.segments += after.segments.saturating_sub(before.segments) as u64;
-        self.bytes += after.extent.saturating_sub(before.extent) as u128;
-        self.busy = self.busy - before.busy as u128 + after.busy as u128;
+        self.segments += lent.count;
+        self.bytes += lent.bytes as u128;
+        self.busy = self.busy - before as u128 + after as u128;
         self.peak = self.peak.max(self.busy);
     }
 }

@@ -3,8 +3,8 @@
 #![tactic(auto)]
 
 mod counts;
+mod segments;
 mod step;
-mod tally;
 
 pub use counts::Counts;
 pub use step::counted_step;
