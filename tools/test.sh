@@ -111,7 +111,7 @@ while IFS= read -r line; do
         'case '*) finish_case; begin_case "$rest" ;;
         'run '*)
             who=${rest%% *}
-            words=${rest#"$who"}
+            words=$(printf '%b' "${rest#"$who"}")
             ;;
         'input '*) from=$rest ;;
         'output '*) to=$rest ;;

@@ -42,7 +42,8 @@ fn run(
     dtrun(alloc, words, shelf, kinds, source, out, err)
 }
 
-// Disciplines 1 to 12 never refuse a segment, and 13 to 16 have a budget. With no memory for them nothing is read or written.
+// Disciplines 1 to 12 never refuse a segment, and 13 to 16 have a budget. With no memory for them nothing is read or
+// written.
 fn main(rt: HostRuntime) -> ExitCode {
     let alloc = rt.alloc();
     let Ok(words) = words_of(&rt) else {

@@ -11,8 +11,8 @@ use std::marker::Model;
 use vc_base::OutOfMemory;
 use vc_script::{Command, Tool};
 
-/// The commands that a tool makes of a seed, one for each word of PCG32 between a fixed beginning and end (this project's
-/// own rule). A generator stands for the commands that are still to come.
+/// The commands that a tool makes of a seed, one for each word of PCG32 between a fixed beginning and end (this
+/// project's own rule). A generator stands for the commands that are still to come.
 #[derive(Drop)]
 pub struct Generator {
     tool: Tool,
@@ -33,11 +33,11 @@ impl Model for Generator {
 }
 
 impl Generator {
-    /// The commands of `tool` for the first `count` words of `seed`, of which the tools ask for 1 to 1,000,000. Takes no
-    /// memory.
+    /// The commands of `tool` for the first `count` words of `seed`, of which the tools ask for 1 to 1,000,000. Takes
+    /// no memory.
     ///
-    /// vmreplay opens `r`, allocates, resizes and frees blocks `x0` to `x255` of 1 to 1000 bytes, and closes `r`. dtrun opens
-    /// `r` and the ordered set `d`, inserts, deletes and searches objects `k0` to `k999`, and ends both.
+    /// vmreplay opens `r`, allocates, resizes and frees blocks `x0` to `x255` of 1 to 1000 bytes, and closes `r`. dtrun
+    /// opens `r` and the ordered set `d`, inserts, deletes and searches objects `k0` to `k999`, and ends both.
     pub fn new(tool: Tool, count: u32, seed: u32) -> Generator
         ensures { result ≡ generated tool count seed }
     {

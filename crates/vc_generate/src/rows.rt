@@ -17,8 +17,8 @@ pub fn reference_words()
     ensures { words_of 42 5 ≡ 0xa15c02b7 ∷ 0x7b47f409 ∷ 0xba1d3330 ∷ 0x83d2f293 ∷ 0xbfa4784b ∷ [] }
 {}
 
-/// vmreplay has two commands more than words, and dtrun four. The names in each are names of the script language, and the
-/// numbers are its numbers. vmreplay allocates no block that stands, and resizes and frees none that doesn't.
+/// vmreplay has two commands more than words, and dtrun four. The names in each are names of the script language, and
+/// the numbers are its numbers. vmreplay allocates no block that stands, and resizes and frees none that doesn't.
 pub fn generated_commands()
     ensures vmreplay { (count seed : ℕ) → length (generated Vmreplay count seed) ≡ count + 2 }
     ensures dtrun { (count seed : ℕ) → length (generated Dtrun count seed) ≡ count + 4 }

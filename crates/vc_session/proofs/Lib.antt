@@ -11,6 +11,7 @@ pub mod ProperSites
 pub mod ProperSteps
 pub mod ShownNeeds
 pub mod Progress
+pub mod Promising
 pub mod Running
 pub mod Ranges
 pub mod Rest

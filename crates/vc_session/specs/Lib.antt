@@ -28,6 +28,7 @@ pub mod Replay
 pub mod Streams
 pub mod Headline
 pub mod Completes
+pub mod Promises
 pub mod Engine
 pub mod Progress
 pub mod Generating

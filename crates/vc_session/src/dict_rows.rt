@@ -39,7 +39,8 @@ pub fn ordered_set_of_fruit()
         ≡ codes "r open\nd open\nnew pear\nnew apple\nold pear\n2 apple pear\n" }
 {}
 
-/// An ordered bag without regard to the case of letters: those that match stand in the order of coming, and the first goes.
+/// An ordered bag without regard to the case of letters: those that match stand in the order of coming, and the first
+/// goes.
 pub fn ordered_bag_without_case()
     ensures { plain_text (run with_kinds (script Dtrun
         (codes "open r best 1\ndict d obag r 3\ninsert d b\ninsert d A\ninsert d B\nwalk d\n"

@@ -1,11 +1,10 @@
 // The lines of a source, run in order as they come.
 ghost use Rattle.std.specs.Prelude.{◌≡◌, [], Some, IfOk, IsTrue, OnOk};
 ghost use Rattle.vc_counts.specs.CanCount.{CanCount};
-ghost use Rattle.vc_counts.specs.Counts.{busy_in, counted};
+ghost use Rattle.vc_counts.specs.Counts.{busy_in};
 ghost use Rattle.vc_script.specs.Answer.{answer};
 ghost use Rattle.vc_script.specs.Cutting.{new_cutting};
-ghost use Rattle.vc_script.specs.Needs.{need_shown};
-ghost use Rattle.vc_session.specs.Engine.{IsStep, LineRan, RunsLines};
+ghost use Rattle.vc_session.specs.Engine.{LineRan, RunsLines};
 ghost use Rattle.vc_session.specs.Progress.{CanCountOn};
 ghost use Rattle.vc_session.specs.ProperState.{IsProperOver};
 ghost use Rattle.vc_session.specs.Run.{nothing_ran};
@@ -14,17 +13,16 @@ ghost use Rattle.vc_session.specs.Streams.{flows};
 ghost use Rattle.vc_session.specs.Text.{counts_of};
 ghost use Rattle.vc_steps.specs.Homes.{IsSessionOver, state_over};
 ghost use Rattle.vc_steps.specs.Moment.{moment, over_sink};
-ghost use Rattle.vc_steps.specs.Step.{step};
-ghost use Rattle.vc_steps.specs.Steps.{Lasts, StepsBy};
+ghost use Rattle.vc_steps.specs.Steps.{Lasts};
 ghost use Rattle.vc_steps.specs.Told.{rules_in};
 
-use crate::gather::gather;
+use crate::command::run_answer;
 use crate::stream::write_all;
 use std::alloc::Global;
 use vc_base::{OutOfMemory, ReadFailed, Sink, Source, WriteFailed};
-use vc_counts::{Counts, counted_step};
+use vc_counts::Counts;
 use vc_dtdisc::DictDisc;
-use vc_script::{Command, Cut, LineAnswer, LineCutter, LineFault, Reply, Tool, read_line};
+use vc_script::{Cut, LineAnswer, LineCutter, LineFault, Tool, read_line};
 use vc_seg::{BoxedDisc, SegDisc, Shelf};
 use vc_steps::Session;
 
@@ -64,67 +62,6 @@ impl From<WriteFailed> for Stop {
     fn from(_: WriteFailed) -> Stop {
         Stop::Write
     }
-}
-
-// Runs the command of the line of that number. A quiet run counts it.
-fn run_command<D: DictDisc>(
-    quiet: bool,
-    session: &mut Session<D>,
-    shelf: &mut Shelf,
-    kinds: &mut Vec<D>,
-    n: u32,
-    command: &Command,
-    counts: &mut Counts,
-) -> Result<Reply, OutOfMemory>
-    requires session { IsSessionOver state D.rules shelf.old session.old kinds.old.items }
-    requires counts { IsTrue quiet → CanCount counts.old (busy_in
-        (state_over state (rules_in D.rules kinds.old.items) shelf.old session.old)) n }
-    ensures steps { StepsBy result
-        (moment state D.rules D.gone shelf.old session.old kinds.old.items)
-        (moment state D.rules D.gone shelf.new session.new kinds.new.items)
-        command.now (λ s. step s n command.now) }
-    ensures lasts { Lasts state D.rules shelf.old session.old kinds.old.items
-        shelf.new session.new kinds.new.items }
-    ensures counts { IfOk result (λ reply. IsTrue quiet → counts.new ≡ counted counts.old
-        (step (state_over state (rules_in D.rules kinds.old.items) shelf.old session.old)
-        n command.now (need_shown reply))) }
-    ensures can { OnOk result (CanCountOn quiet counts.new
-        (state_over state (rules_in D.rules kinds.new.items) shelf.new session.new) n) }
-{
-    if quiet {
-        return counted_step(session, shelf, kinds, n, command, counts);
-    }
-    session.step(shelf, kinds, n, command)
-}
-
-// Runs the command of the line of that number, and gathers what is written of its reply. A quiet run counts it.
-pub(crate) fn run_answer<D: DictDisc>(
-    alloc: Global,
-    quiet: bool,
-    session: &mut Session<D>,
-    shelf: &mut Shelf,
-    kinds: &mut Vec<D>,
-    n: u32,
-    command: &Command,
-    counts: &mut Counts,
-    replies: &mut Vec<u8>,
-) -> Result<(), OutOfMemory>
-    requires session { IsSessionOver state D.rules shelf.old session.old kinds.old.items }
-    requires counts { IsTrue quiet → CanCount counts.old (busy_in
-        (state_over state (rules_in D.rules kinds.old.items) shelf.old session.old)) n }
-    ensures ran { OnOk result (IsStep quiet
-        (over_sink (moment state D.rules D.gone shelf.old session.old kinds.old.items)
-        (Some replies.old.items))
-        (over_sink (moment state D.rules D.gone shelf.new session.new kinds.new.items)
-        (Some replies.new.items))
-        counts.old counts.new n command.now) }
-    ensures lasts { Lasts state D.rules shelf.old session.old kinds.old.items
-        shelf.new session.new kinds.new.items }
-    ensures can { OnOk result (CanCountOn quiet counts.new
-        (state_over state (rules_in D.rules kinds.new.items) shelf.new session.new) n) }
-{
-    let reply = run_command(quiet, session, shelf, kinds, n, command, counts)?;
-    gather(alloc, quiet, n, &reply, replies)
 }
 
 // Runs the line of that number and gathers what is written of its reply, or answers what is wrong with it.

@@ -19,7 +19,8 @@ ghost use Rattle.vc_steps.specs.Steps.{Lasts};
 ghost use Rattle.vc_steps.specs.Told.{KeepRules, rules_in};
 
 use crate::asked::Asked;
-use crate::engine::{Stop, run_answer};
+use crate::command::run_answer;
+use crate::engine::Stop;
 use crate::stream::write_all;
 use crate::tail::gather_tail;
 use indexmap::IndexMap;
@@ -33,8 +34,8 @@ use vc_seg::{BoxedDisc, SegDisc, Shelf};
 use vc_steps::Session;
 use vc_words::Words;
 
-/// All commands that a tool makes of a seed, with one for each of `n` words, which are 1 to 1,000,000 (this project's own
-/// rule). vmreplay has two commands more, and dtrun four.
+/// All commands that a tool makes of a seed, with one for each of `n` words, which are 1 to 1,000,000 (this project's
+/// own rule). vmreplay has two commands more, and dtrun four.
 ///
 /// # Errors
 /// [`OutOfMemory`] where there's none for the list or for the bytes of an object.
@@ -100,8 +101,9 @@ fn run_made<D: DictDisc>(
     )
 }
 
-// Runs the commands of a generator quietly and counts them, each on the line of its number from 1 on, and answers how many
-// there were. The lines of refused segments are gathered in an empty vector, and written as they grow and at the end.
+// Runs the commands of a generator quietly and counts them, each on the line of its number from 1 on, and answers how
+// many there were. The lines of refused segments are gathered in an empty vector, and written as they grow and at the
+// end.
 fn run_commands<D: DictDisc, O: Sink>(
     alloc: Global,
     session: &mut Session<D>,

@@ -3,6 +3,7 @@
 
 mod asked;
 pub mod audit_rows;
+mod command;
 pub mod dict_rows;
 mod engine;
 mod gather;

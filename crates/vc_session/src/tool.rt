@@ -1,9 +1,8 @@
 // The top calls: a script from a source or of generated commands, its replies to one sink, a fault to another.
-ghost use Rattle.std.specs.Prelude.{◌≡◌, [], None, Some, IsSome, IsSomeAnd, map, string_bytes};
+ghost use Rattle.std.specs.Prelude.{◌≡◌, [], Some, IsSome, map, string_bytes};
 ghost use Rattle.vc_script.specs.declared.tool.Tool.TheVariants.{Dtrun, Vmreplay};
-ghost use Rattle.vc_session.specs.Completes.{Completes};
 ghost use Rattle.vc_session.specs.Engine.{RunsAsked};
-ghost use Rattle.vc_session.specs.Headline.{Headline};
+ghost use Rattle.vc_session.specs.Promises.{Promises, lent};
 ghost use Rattle.vc_session.specs.Streams.{flows, streams};
 ghost use Rattle.vc_steps.specs.Moment.{Keeps, rest_by, rest_of};
 ghost use Rattle.vc_steps.specs.Told.{KeepRules};
@@ -63,15 +62,11 @@ fn run_words<D: DictDisc, S: Source, O: Sink, E: Sink>(
     out: &mut O,
     err: &mut E,
 ) -> Status
-    ensures headline { Headline tool (Some asked.now.words)
-        (rest_of state D.rules D.gone shelf.old kinds.old.items)
-        (rest_of state D.rules D.gone shelf.new kinds.new.items)
-        (streams S.left S.failures O.written O.failures E.written E.failures
-        source.old out.old err.old)
-        (streams S.left S.failures O.written O.failures E.written E.failures
-        source.new out.new err.new) result }
-    ensures quiet { result ≡ Status.Ok → err.new ≡ err.old }
-    ensures generated { IsSome asked.now.words.generate → source.new ≡ source.old }
+    ensures { Promises tool (Some asked.now.words) result
+        (lent shelf.old kinds.old source.old out.old err.old)
+        (lent shelf.new kinds.new source.new out.new err.new)
+        (λ shelf kinds. rest_of state D.rules D.gone shelf kinds.items)
+        (streams S.left S.failures O.written O.failures E.written E.failures) }
 {
     match run_asked(alloc, tool, asked, shelf, kinds, source, out) {
         Ok(None) => Status::Ok,
@@ -105,24 +100,11 @@ fn run_tool<D: DictDisc, S: Source, O: Sink, E: Sink>(
     out: &mut O,
     err: &mut E,
 ) -> Status
-    ensures headline { Headline tool (words_of (map string_bytes words.now))
-        (rest_of state D.rules D.gone shelf.old kinds.old.items)
-        (rest_of state D.rules D.gone shelf.new kinds.new.items)
-        (streams S.left S.failures O.written O.failures E.written E.failures
-        source.old out.old err.old)
-        (streams S.left S.failures O.written O.failures E.written E.failures
-        source.new out.new err.new) result }
-    ensures completes { Completes tool (words_of (map string_bytes words.now))
-        (streams S.left S.failures O.written O.failures E.written E.failures
-        source.old out.old err.old)
-        (streams S.left S.failures O.written O.failures E.written E.failures
-        source.new out.new err.new) result }
-    ensures quiet { result ≡ Status.Ok → err.new ≡ err.old }
-    ensures refused_words { words_of (map string_bytes words.now) ≡ None
-        → (source.new ≡ source.old) × (out.new ≡ out.old)
-        × (shelf.new ≡ shelf.old) × (kinds.new ≡ kinds.old) }
-    ensures generated { IsSomeAnd (words_of (map string_bytes words.now)) (λ w. IsSome w.generate)
-        → source.new ≡ source.old }
+    ensures { Promises tool (words_of (map string_bytes words.now)) result
+        (lent shelf.old kinds.old source.old out.old err.old)
+        (lent shelf.new kinds.new source.new out.new err.new)
+        (λ shelf kinds. rest_of state D.rules D.gone shelf kinds.items)
+        (streams S.left S.failures O.written O.failures E.written E.failures) }
 {
     match read_words(alloc, words) {
         Ok(Some(words)) => {
@@ -144,9 +126,9 @@ fn run_tool<D: DictDisc, S: Source, O: Sink, E: Sink>(
 /// with a status. The words are read before anything else; where they are refused nothing but `err` is touched. With
 /// `--gen` no call is made on the source. The source is read in pieces of at most 4,096 bytes. What is written of the
 /// replies to the lines of one piece is gathered and goes to `out` before the next read; gathering takes memory. With
-/// `--quiet` or `--gen` that is only a line for each refused segment, and behind it five lines of what was counted; with
-/// `--stat` a line for each open region follows, both with status 0 and 1 alone. A fault goes to `err`, as one line. Where
-/// nothing was wrong nothing is written to `err`.
+/// `--quiet` or `--gen` that is only a line for each refused segment, and behind it five lines of what was counted;
+/// with `--stat` a line for each open region follows, both with status 0 and 1 alone. A fault goes to `err`, as one
+/// line. Where nothing was wrong nothing is written to `err`.
 pub fn replay<S: Source, O: Sink, E: Sink>(
     alloc: Global,
     words: &[String],
@@ -155,23 +137,11 @@ pub fn replay<S: Source, O: Sink, E: Sink>(
     out: &mut O,
     err: &mut E,
 ) -> Status
-    ensures headline { Headline Vmreplay (words_of (map string_bytes words.now))
-        (rest_by state [] [] shelf.old) (rest_by state [] [] shelf.new)
-        (streams S.left S.failures O.written O.failures E.written E.failures
-        source.old out.old err.old)
-        (streams S.left S.failures O.written O.failures E.written E.failures
-        source.new out.new err.new) result }
-    ensures completes { Completes Vmreplay (words_of (map string_bytes words.now))
-        (streams S.left S.failures O.written O.failures E.written E.failures
-        source.old out.old err.old)
-        (streams S.left S.failures O.written O.failures E.written E.failures
-        source.new out.new err.new) result }
-    ensures quiet { result ≡ Status.Ok → err.new ≡ err.old }
-    ensures refused_words { words_of (map string_bytes words.now) ≡ None
-        → (source.new ≡ source.old) × (out.new ≡ out.old)
-        × (shelf.new ≡ shelf.old) }
-    ensures generated { IsSomeAnd (words_of (map string_bytes words.now)) (λ w. IsSome w.generate)
-        → source.new ≡ source.old }
+    ensures { Promises Vmreplay (words_of (map string_bytes words.now)) result
+        (lent shelf.old (tt {0}) source.old out.old err.old)
+        (lent shelf.new (tt {0}) source.new out.new err.new)
+        (λ shelf _. rest_by state [] [] shelf)
+        (streams S.left S.failures O.written O.failures E.written E.failures) }
 {
     let mut kinds: Vec<BuiltIn> = Vec::new(alloc);
     run_tool(
@@ -197,24 +167,11 @@ pub fn dtrun<D: DictDisc, S: Source, O: Sink, E: Sink>(
     out: &mut O,
     err: &mut E,
 ) -> Status
-    ensures headline { Headline Dtrun (words_of (map string_bytes words.now))
-        (rest_of state D.rules D.gone shelf.old kinds.old.items)
-        (rest_of state D.rules D.gone shelf.new kinds.new.items)
-        (streams S.left S.failures O.written O.failures E.written E.failures
-        source.old out.old err.old)
-        (streams S.left S.failures O.written O.failures E.written E.failures
-        source.new out.new err.new) result }
-    ensures completes { Completes Dtrun (words_of (map string_bytes words.now))
-        (streams S.left S.failures O.written O.failures E.written E.failures
-        source.old out.old err.old)
-        (streams S.left S.failures O.written O.failures E.written E.failures
-        source.new out.new err.new) result }
-    ensures quiet { result ≡ Status.Ok → err.new ≡ err.old }
-    ensures refused_words { words_of (map string_bytes words.now) ≡ None
-        → (source.new ≡ source.old) × (out.new ≡ out.old)
-        × (shelf.new ≡ shelf.old) × (kinds.new ≡ kinds.old) }
-    ensures generated { IsSomeAnd (words_of (map string_bytes words.now)) (λ w. IsSome w.generate)
-        → source.new ≡ source.old }
+    ensures { Promises Dtrun (words_of (map string_bytes words.now)) result
+        (lent shelf.old kinds.old source.old out.old err.old)
+        (lent shelf.new kinds.new source.new out.new err.new)
+        (λ shelf kinds. rest_of state D.rules D.gone shelf kinds.items)
+        (streams S.left S.failures O.written O.failures E.written E.failures) }
 {
     run_tool(alloc, Tool::Dtrun, words, shelf, kinds, source, out, err)
 }

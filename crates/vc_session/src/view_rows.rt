@@ -4,9 +4,10 @@ ghost use Rattle.vc_script.specs.declared.tool.Tool.TheVariants.{Dtrun};
 ghost use Rattle.vc_session.specs.Rows.{plain_text, with_kinds};
 ghost use Rattle.vc_session.specs.Run.{run, script};
 
-/// A set over another one hides what it matches there, until that goes; neither is shut or turned while it is viewed, and the
-/// lower one can't view the upper one. An ordered set over another one is seen with it in the order of keys. A bag hides no
-/// equal objects of its own layer, and all equal ones below; a removal acts on the first one alone, and none views itself.
+/// A set over another one hides what it matches there, until that goes; neither is shut or turned while it is viewed,
+/// and the lower one can't view the upper one. An ordered set over another one is seen with it in the order of keys. A
+/// bag hides no equal objects of its own layer, and all equal ones below; a removal acts on the first one alone, and
+/// none views itself.
 pub fn views()
     ensures set_over_set { plain_text (run with_kinds (script Dtrun
         (codes "open r best 1\ndict up set r 5\ndict low set r 5\ninsert up key1-up\n"

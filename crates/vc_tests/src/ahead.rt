@@ -1,5 +1,5 @@
-// Nothing is read ahead: a read comes when the replies to what came before are written, and none behind a failed write, a bad
-// line or the end of the input.
+// Nothing is read ahead: a read comes when the replies to what came before are written, and none behind a failed write,
+// a bad line or the end of the input.
 ghost use Rattle.std.specs.Prelude.{◌≡◌, ◌≤◌, Some, IfOk, OnErr};
 ghost use Rattle.vc_model.specs.Count.{Rose};
 ghost use Rattle.vc_model.specs.Stream.{Reads, Writes};
@@ -80,8 +80,8 @@ fn sink(
     }
 }
 
-// A script that comes in pieces of 14 bytes, each a line; the reads and writes that fail; and how it ends: the calls in order,
-// where 1 is a read, 2 a write of replies and 3 one of the line of what is wrong, and what is left to be read.
+// A script that comes in pieces of 14 bytes, each a line; the reads and writes that fail; and how it ends: the calls in
+// order, where 1 is a read, 2 a write of replies and 3 one of the line of what is wrong, and what is left to be read.
 struct Row {
     script: &'static [u8],
     reads: &'static [u64],

@@ -10,8 +10,8 @@ use vc_script::Tool;
 use vc_seg::{BudgetDisc, HeapDisc, Shelf};
 use vc_session::{Status, dtrun, replay};
 
-// Words with a blank between each two, or none; a script that comes in one piece; the reads that fail, by their numbers from
-// 1 on; the room for bytes of replies; and what comes out, and what is left to be read.
+// Words with a blank between each two, or none; a script that comes in one piece; the reads that fail, by their numbers
+// from 1 on; the room for bytes of replies; and what comes out, and what is left to be read.
 #[derive(Drop)]
 struct Row {
     tool: Tool,

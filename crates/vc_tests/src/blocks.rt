@@ -133,8 +133,8 @@ fn aligned(alloc: Global, align: u32) -> Result<Talk, AllocError> {
     Ok(talk)
 }
 
-// Each alignment, in a segment of 32,768 bytes. The gap that the freed block leaves holds a block at its offset up to the
-// third block, and no greater one, which goes behind that.
+// Each alignment, in a segment of 32,768 bytes. The gap that the freed block leaves holds a block at its offset up to
+// the third block, and no greater one, which goes behind that.
 #[test]
 fn alignments(rt: HostRuntime) -> Result<(), Fail> {
     for align in [32u32, 64, 128, 256, 512, 1024, 2048, 4096] {

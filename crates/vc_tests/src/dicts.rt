@@ -12,7 +12,8 @@ struct Row {
 }
 
 const ROWS: &[Row] = &[
-    // A list inserts before its current object and appends behind it; what is found is current, and what is behind one that goes.
+    // A list inserts before its current object and appends behind it; what is found is current, and what is behind one
+    // that goes.
     Row {
         lends: &[],
         script: b"open r best 1\ndict l list r 1\ninsert l a\ninsert l b\nappend l c\nfirst l\ninsert l d\ndelete l d\nappend l e\nwalk l\n",
@@ -98,8 +99,8 @@ const ROWS: &[Row] = &[
     },
 ];
 
-// What a dictionary without regard to the case of letters has after a change of method, where b, B and a were put into it, and
-// where b, c and a were.
+// What a dictionary without regard to the case of letters has after a change of method, where b, B and a were put into
+// it, and where b, c and a were.
 struct Turn {
     from: &'static [u8],
     to: &'static [u8],

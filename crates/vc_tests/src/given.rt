@@ -7,8 +7,8 @@ use vc_dtdisc::{BuiltIn, DictDisc, Shape};
 use vc_seg::{FuseDisc, SegDisc, Shelf};
 use vc_session::{Status, dtrun, replay};
 
-// What a script is given: it comes in pieces, some reads and writes fail, by their numbers from 1 on, and there's room for
-// so many bytes of replies.
+// What a script is given: it comes in pieces, some reads and writes fail, by their numbers from 1 on, and there's room
+// for so many bytes of replies.
 #[derive(Clone, Copy)]
 pub(crate) struct Given<'a> {
     pub script: &'a [u8],
@@ -137,8 +137,8 @@ pub(crate) fn kinds(alloc: Global) -> Result<Vec<BuiltIn>, AllocError> {
     Ok(kinds)
 }
 
-// Runs a script over dictionaries of these kinds with no failing call, looks at the status and at the line of what is wrong,
-// and gives what was written.
+// Runs a script over dictionaries of these kinds with no failing call, looks at the status and at the line of what is
+// wrong, and gives what was written.
 pub(crate) fn run_to<D: DictDisc>(
     rt: &impl Abort,
     alloc: Global,
@@ -196,7 +196,8 @@ pub(crate) fn put(rt: &impl Abort, shelf: &mut Shelf, disc: Box<dyn SegDisc>) {
     assert!(rt; shelf.put(disc).is_ok());
 }
 
-// A script with no failing call, over two disciplines that round to 4,096 bytes and refuse these lends, in pieces of seven bytes and whole.
+// A script with no failing call, over two disciplines that round to 4,096 bytes and refuse these lends, in pieces of
+// seven bytes and whole.
 pub(crate) fn replies(
     rt: &impl Abort,
     alloc: Global,

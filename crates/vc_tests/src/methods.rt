@@ -42,7 +42,8 @@ const ROWS: &[Row] = &[
         script: b"open r pool 1\nalloc r a 2000\nalloc r b 2000\nalloc r c 2000\nalloc r d 2000\nalloc r e 2000\nfree r c\nfree r e\nfree r a\nfree r d\nalloc r f 2000\nfree r f\ncompact r\nalloc r g 2000\nalloc r h 2000\nalloc r i 2000\nalloc r j 2000\nsegments r\nstat r\nblocks r\n",
         out: b"r open\na 1:32\nb 1:2048\nc 2:32\nd 2:2048\ne 3:32\nc freed\ne freed\na freed\nd freed\nf 2:2048\nf freed\nr compacted 2\ng 1:32\nh 2:32\ni 2:2048\nj 3:32\nsegments 3 1:4096 2:4096 3:4096\nbusy 5 free 1 sbusy 10000 sfree 2016 mbusy 2000 mfree 2016 segs 3 extent 12288\nblocks 5 g@1:32+2000 b@1:2048+2000 h@2:32+2000 i@2:2048+2000 j@3:32+2000\n",
     },
-    // The two newest segments go, and the one before them is the newest; the latest block is resized in place and moves.
+    // The two newest segments go, and the one before them is the newest; the latest block is resized in place and
+    // moves.
     Row {
         script: b"open r last 1\nalloc r a 4000\nalloc r b 4000\nalloc r c 4000\nfree r c\nfree r b\ncompact r\nalloc r d 10\nresize r d 16 fixed\nresize r a 1 move\nalloc r e 10\nresize r e 20 fixed\nresize r d 1 fixed\nfree r e\nresize r d 20 fixed\nresize r d 20 move\nsegments r\nblocks r\nstat r\nfree r a\nfree r d\nfree r a\n",
         out: b"r open\na 1:32\nb 2:32\nc 3:32\nc freed\nb freed\nr compacted 2\nd 1:4064\nd 1:4064\nrefused: not last\ne 2:32\ne 2:32\nrefused: not last\ne freed\nrefused: cannot grow here\nd 2:32\nsegments 2 1:4096 2:4096\nblocks 2 a@1:32+4000 d@2:32+20\nbusy 2 free 2 sbusy 4020 sfree 4032 mbusy 4000 mfree 4000 segs 2 extent 8192\nrefused: not last\nd freed\na freed\n",
@@ -150,8 +151,8 @@ fn is_said_within(rt: &impl Abort, alloc: Global, talk: &Talk) -> Result<(), All
     run(rt, alloc, &[], &mut shelf, given, fine(talk.out.as_slice()))
 }
 
-// Every byte of the guards and of a block of 100 bytes is poked in turn: with another byte those of the guards are found,
-// and with the byte of guards none.
+// Every byte of the guards and of a block of 100 bytes is poked in turn: with another byte those of the guards are
+// found, and with the byte of guards none.
 #[test]
 fn damage(rt: HostRuntime) -> Result<(), Fail> {
     for byte in [7u32, 165] {

@@ -13,8 +13,8 @@ use std::rc::Rc;
 use std::test::Fail;
 use vc_seg::{BudgetDisc, LendFault, SegDisc, Segment, Shelf};
 
-// A discipline with a budget that notes each segment that it takes back, by two digits behind those of earlier ones: its
-// own, and that of the segment's number.
+// A discipline with a budget that notes each segment that it takes back, by two digits behind those of earlier ones:
+// its own, and that of the segment's number.
 #[derive(Drop)]
 struct Noting {
     inner: BudgetDisc,
@@ -195,8 +195,8 @@ fn noted(
     Ok(found)
 }
 
-// compact gives back 1 and 3 of the first, close 1 to 3 of the second, whose 2 has no block, and the end 1, 2 and 4 of the
-// first, whose 2 has none, and then 1 to 4 of the second. The second has room for four segments of 4,096 bytes.
+// compact gives back 1 and 3 of the first, close 1 to 3 of the second, whose 2 has no block, and the end 1, 2 and 4 of
+// the first, whose 2 has none, and then 1 to 4 of the second. The second has room for four segments of 4,096 bytes.
 #[test]
 fn order(rt: HostRuntime) -> Result<(), Fail> {
     let alloc = rt.alloc();

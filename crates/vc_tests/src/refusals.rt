@@ -82,8 +82,8 @@ fn unserved(lends: u32) -> Ends {
     }
 }
 
-// Runs a script over one discipline with a budget of 4,096 bytes, looks at its end and at the number of lends, and gives what
-// was written.
+// Runs a script over one discipline with a budget of 4,096 bytes, looks at its end and at the number of lends, and
+// gives what was written.
 fn ran(rt: &impl Abort, alloc: Global, script: &[u8], ends: Ends) -> Result<Vec<u8>, AllocError> {
     let lends = Rc::new(alloc, Cell::new(0))?;
     let disc = Counting {

@@ -80,7 +80,8 @@ const ROWS: &[Row] = &[
         out: b"r open\na 1:4096\nbusy 1 free 2 sbusy 10 sfree 8128 mbusy 10 mfree 4064 segs 1 extent 8192\n",
         err: b"",
     },
-    // A resize in place at each edge: within its span, into the free bytes behind it, up to their end, one past, and back.
+    // A resize in place at each edge: within its span, into the free bytes behind it, up to their end, one past, and
+    // back.
     Row {
         lends: &[],
         script: b"open r best 1\nalloc r a 10\nalloc r b 40\nalloc r c 1\nfree r b\nresize r a 16 fixed\nstat r\nresize r a 17 fixed\nstat r\nresize r a 80 fixed\nstat r\nresize r a 81 fixed\nread r a 16 64\nwrite r a 0 hello\nresize r a 3 fixed\nstat r\nresize r a 80 fixed\nread r a 0 5\nblocks r\n",

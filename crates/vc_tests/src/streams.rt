@@ -220,8 +220,8 @@ fn front<'a>(rt: &impl Abort, bytes: &'a [u8], len: usize) -> &'a [u8] {
     &bytes[..len]
 }
 
-// The script comes in 28 pieces of one byte, 14 a line, and its end is the read behind them. A read that fails leaves the
-// replies of the lines that were wholly read.
+// The script comes in 28 pieces of one byte, 14 a line, and its end is the read behind them. A read that fails leaves
+// the replies of the lines that were wholly read.
 #[test]
 fn each_read(rt: HostRuntime) -> Result<(), Fail> {
     let alloc = rt.alloc();
@@ -271,8 +271,8 @@ fn each_room(rt: HostRuntime) -> Result<(), Fail> {
     Ok(())
 }
 
-// 2,000 lines in 4,096 bytes, 1,739 of them empty, whose replies have 1,050 bytes, and 44 other lines, whose replies have
-// 176.
+// 2,000 lines in 4,096 bytes, 1,739 of them empty, whose replies have 1,050 bytes, and 44 other lines, whose replies
+// have 176.
 fn many_lines(talk: &mut Talk, blank: &[u8]) -> Result<(), AllocError> {
     talk.say(b"open r best 1\nalloc r a 1\n", REPLIES)?;
     talk.say(blank, b"")?;
@@ -282,9 +282,9 @@ fn many_lines(talk: &mut Talk, blank: &[u8]) -> Result<(), AllocError> {
     Ok(())
 }
 
-// The first read gives the 2,000 lines, and the second the other 44. The replies to each are one write: the first may fail,
-// or the second, and there is no third. Of room there is as much as one byte less than the replies to what was read, as much
-// as them, and one byte more.
+// The first read gives the 2,000 lines, and the second the other 44. The replies to each are one write: the first may
+// fail, or the second, and there is no third. Of room there is as much as one byte less than the replies to what was
+// read, as much as them, and one byte more.
 #[test]
 fn gathered(rt: HostRuntime) -> Result<(), Fail> {
     let alloc = rt.alloc();
@@ -348,8 +348,8 @@ const TOO_LONG: &[u8] = b"vmreplay: line 1: line too long\n";
 
 const UNKNOWN: &[u8] = b"vmreplay: line 1: unknown command\n";
 
-// A line of 4,096 bytes is one, also with a CR among them; one byte more is too many, also in a comment, and also where a
-// later read fails: no byte that shows a fault was read before.
+// A line of 4,096 bytes is one, also with a CR among them; one byte more is too many, also in a comment, and also where
+// a later read fails: no byte that shows a fault was read before.
 #[test]
 fn long_lines(rt: HostRuntime) -> Result<(), Fail> {
     let alloc = rt.alloc();

@@ -25,8 +25,8 @@ fn note(notes: &Rc<RefCell<Vec<u8>>>, digit: u8, sign: u8, obj: &[u8]) {
     }
 }
 
-// A kind that notes, behind its digit, each prototype that it makes an object of by a plus, and each object that it is told of
-// by a minus.
+// A kind that notes, behind its digit, each prototype that it makes an object of by a plus, and each object that it is
+// told of by a minus.
 #[derive(Drop)]
 struct Noting {
     inner: BuiltIn,
@@ -102,7 +102,8 @@ fn is_noted(
     Ok(())
 }
 
-// At the end a stack, an ordered set of the other kind and a queue are shut in order of opening, each told as it is walked.
+// At the end a stack, an ordered set of the other kind and a queue are shut in order of opening, each told as it is
+// walked.
 const ENDED: &[u8] = b"\
 open r best 1\n\
 open s best 2\n\
@@ -123,8 +124,9 @@ const ENDED_NOTES: &[u8] = b"\
 1-a6 1-b2 1-a1 2-b4 2-c3 1-a5 1-b7 \
 ";
 
-// A bag becomes a set, which drops 3, 4 and 5; a queue becomes an ordered set, which drops 4 and 3 by their keys; the set is
-// emptied of 1, 2 and 6; the ordered set is shut with 2 and 1. The set deletes 7, takes 8 out untold, and has 9 at the end.
+// A bag becomes a set, which drops 3, 4 and 5; a queue becomes an ordered set, which drops 4 and 3 by their keys; the
+// set is emptied of 1, 2 and 6; the ordered set is shut with 2 and 1. The set deletes 7, takes 8 out untold, and has 9
+// at the end.
 const TAKEN: &[u8] = b"\
 open r best 1\n\
 dict d bag r 1\n\
@@ -157,8 +159,8 @@ const TAKEN_NOTES: &[u8] = b"\
 1+c7 1+a8 2-a2 2-b1 1-c7 1+b9 1-b9 \
 ";
 
-// Of every command that puts an object, takes one out or looks for one: `insert` and `append` make one, `attach` makes none,
-// and the kind is told of the bytes that are there.
+// Of every command that puts an object, takes one out or looks for one: `insert` and `append` make one, `attach` makes
+// none, and the kind is told of the bytes that are there.
 const EACH: &[u8] = b"\
 open r best 1\n\
 dict l list r 3\n\

@@ -20,7 +20,8 @@ struct Row {
 }
 
 const ROWS: &[Row] = &[
-    // The upper layer is found before the lower one, and what it hid is seen once it went; what is viewed is neither shut nor turned.
+    // The upper layer is found before the lower one, and what it hid is seen once it went; what is viewed is neither
+    // shut nor turned.
     Row {
         script: b"open r best 1\ndict up set r 5\ndict low set r 5\ninsert up key1-up\ninsert low key1-low\ninsert low key2\nview up low\nsearch up key1\nwalk up\ndelete up key1\nsearch up key1\nwalk up\nview low up\nshut low\nmethod up bag\nclose r\n",
         out: b"r open\nup open\nlow open\nnew key1-up\nnew key1-low\nnew key2\nup views low\nfound key1-up\n2 key1-up key2\ngone key1-up\nfound key1-low\n2 key1-low key2\nrefused: view cycle\nrefused: viewed\nrefused: viewed\nrefused: busy\n",
@@ -55,7 +56,8 @@ const ROWS: &[Row] = &[
         script: b"open r best 1\ndict u list r 1\ndict l list r 1\nappend u a\nappend u b\nappend l c\nappend l d\nview u l\nsearch u a\nsearch u c\nappend u x\nwalk u\nappend l z\nwalk l\nlast u\ninsert u y\nnext u b\ninsert l w\nwalk u\nfirst u\nprev u c\nappend u v\nwalk u\n",
         out: b"r open\nu open\nl open\nnew a\nnew b\nnew c\nnew d\nu views l\nfound a\nfound c\nnew x\n5 a x b c d\nnew z\n3 c d z\nfound z\nnew y\nfound c\nnew w\n8 a y x b c d w z\nfound a\nfound b\nnew v\n9 a y x b v c d w z\n",
     },
-    // Each refusal of a view in its order; one that is refused leaves what was viewed, which doesn't count where it is replaced.
+    // Each refusal of a view in its order; one that is refused leaves what was viewed, which doesn't count where it is
+    // replaced.
     Row {
         script: b"open r best 1\nview a b\ndict a bag r 1\nview a b\ndict b queue r 1\ndict c bag r 3\ndict d bag r 1\ndict e bag r 1\nview a b\nview a c\nview b a\nview a a\nview a d\nview d a\nview a b\nview a x\ninsert d o\nwalk a\nview d e\nview a e\nview d a\nview e d\nview a -\nview e a\nwalk e\ninsert e p\nwalk d\nmethod a bag\nmethod d set\nmethod e stack\nshut a\nshut e\nshut d\nview d -\nview d a\nview d -\nmethod a stack\nmethod d set\nshut a\n",
         out: b"r open\nrefused: no dictionary\na open\nrefused: no dictionary\nb open\nc open\nd open\ne open\nrefused: view differs\nrefused: view differs\nrefused: view differs\nrefused: view cycle\na views d\nrefused: view cycle\nrefused: view differs\nrefused: no dictionary\nnew o\n1 o\nd views e\na views e\nd views a\nrefused: view cycle\na views -\ne views a\n0\nnew p\n1 o\nrefused: viewed\nrefused: viewed\nrefused: viewed\nrefused: viewed\ne shut\nd shut\nrefused: no dictionary\nrefused: no dictionary\nrefused: no dictionary\na method stack\nrefused: no dictionary\na shut\n",
@@ -152,7 +154,8 @@ fn hundred(alloc: Global, method: &[u8]) -> Result<Vec<u8>, AllocError> {
     Ok(script)
 }
 
-// A walk along one dictionary of a hundred objects makes at most a hundred compares in an ordered method, and none in another.
+// A walk along one dictionary of a hundred objects makes at most a hundred compares in an ordered method, and none in
+// another.
 #[test]
 fn walks(rt: HostRuntime) -> Result<(), Fail> {
     let alloc = rt.alloc();

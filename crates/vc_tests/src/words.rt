@@ -144,6 +144,14 @@ const ROWS: &[Row] = &[
         read: None,
     },
     Row {
+        line: "--gen ",
+        read: None,
+    },
+    Row {
+        line: "--seed --stat",
+        read: None,
+    },
+    Row {
         line: "--gen 1 --gen 1",
         read: None,
     },
@@ -202,6 +210,10 @@ const ROWS: &[Row] = &[
     },
     Row {
         line: "--seed=+1",
+        read: None,
+    },
+    Row {
+        line: "--seed -1",
         read: None,
     },
     Row {

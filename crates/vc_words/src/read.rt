@@ -59,10 +59,10 @@ fn asked(matches: &ArgMatches) -> Option<Words>
 }
 
 /// What the words behind a tool's name ask for, or none where they are refused. They are read by clap's rules: each of
-/// `--quiet`, `--stat`, `--gen N` and `--seed K` may stand once, in any order, N and K also behind `=`, and `--` may end
-/// them. Refused are an operand, any other option, also for help, an option twice, a flag with a text, an option without
-/// its text, an N that is no number from 1 to 1,000,000, and a K that is no number, by the rule of scripts: one to ten
-/// digits, at most 4,294,967,295. The rule is this project's own.
+/// `--quiet`, `--stat`, `--gen N` and `--seed K` may stand once, in any order, N and K also behind `=`, and `--` may
+/// end them. Refused are an operand, any other option, also for help, an option twice, a flag with a text, an option
+/// without its text, an N that is no number from 1 to 1,000,000, and a K that is no number, by the rule of scripts: one
+/// to ten digits, at most 4,294,967,295. The rule is this project's own.
 pub fn read_words(alloc: Global, words: &[String]) -> Result<Option<Words>, OutOfMemory>
     ensures { IfOk result (λ read. read ≡ words_of (map string_bytes words.now)) }
 {

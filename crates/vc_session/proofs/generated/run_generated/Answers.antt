@@ -17,8 +17,8 @@ run_all-ended-requires-clause-session g c =
 pub run_all-ended-requires-clause-most : goal.run_all-ended-requires-clause-most
 run_all-ended-requires-clause-most g c = asked-most c.args.asked.now.words.generate c.in-Some.n c.in-Some.is c.args.asked.now.in_range
 
-pub returns-clause-runs : goal.returns-clause-runs
-returns-clause-runs g c =
+pub returns : goal.returns
+returns g c =
     let M = meaning g in
     let rules = g.D.DictDisc.rules in
     let gone = g.D.DictDisc.gone in
@@ -27,21 +27,13 @@ returns-clause-runs g c =
     let before = rest_of M rules gone c.args.shelf.now c.args.kinds.now.items in
     let after = rest_of M rules gone c.end.new.shelf c.end.new.kinds.items in
     let same : start ≡ before = new-moment M rules gone c.args.shelf.now c.in_ok-session.session c.args.kinds.now.items c.in_ok-session.ensures.none in
-    if_some _ c.args.asked.now.words.generate c.in-Some.n c.in-Some.is
-    (generated-rests c.args.tool c.args.asked.now.words c.in-Some.n start before (ended last) after _ _ _ _ c.run_all-ended.result same
-    (λ written. record { written = refl; accounts = c.end.ensures.shelf; gone = c.end.ensures.gone }) c.run_all-ended.ensures.runs)
-
-pub returns-clause-keeps : goal.returns-clause-keeps
-returns-clause-keeps g c =
-    let M = meaning g in
-    let rules = g.D.DictDisc.rules in
-    let gone = g.D.DictDisc.gone in
-    let start = moment M rules gone c.args.shelf.now c.in_ok-session.session c.args.kinds.now.items in
-    let last = moment M rules gone c.run_all-ended.new.shelf c.run_all-ended.new.session c.run_all-ended.new.kinds.items in
-    let before = rest_of M rules gone c.args.shelf.now c.args.kinds.now.items in
-    let same : start ≡ before = new-moment M rules gone c.args.shelf.now c.in_ok-session.session c.args.kinds.now.items c.in_ok-session.ensures.none in
-    subst (λ a. KeepsAccounts before.accounts a) (sym c.end.ensures.shelf)
-    (subst (λ (m : Moment). KeepsAccounts m.accounts last.accounts) same c.run_all-ended.ensures.lasts.accounts)
-
-pub returns-clause-rules : goal.returns-clause-rules
-returns-clause-rules g c = c.end.ensures.rules ∙ c.run_all-ended.ensures.lasts.keeps_rules
+    record {
+      runs =
+          if_some _ c.args.asked.now.words.generate c.in-Some.n c.in-Some.is
+          (generated-rests c.args.tool c.args.asked.now.words c.in-Some.n start before (ended last) after _ _ _ _ c.run_all-ended.result same
+          (λ written. record { written = refl; accounts = c.end.ensures.shelf; gone = c.end.ensures.gone }) c.run_all-ended.ensures.runs);
+      keeps =
+          subst (λ a. KeepsAccounts before.accounts a) (sym c.end.ensures.shelf)
+          (subst (λ (m : Moment). KeepsAccounts m.accounts last.accounts) same c.run_all-ended.ensures.lasts.accounts);
+      rules = c.end.ensures.rules ∙ c.run_all-ended.ensures.lasts.keeps_rules;
+    }

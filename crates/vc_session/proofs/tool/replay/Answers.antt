@@ -1,7 +1,16 @@
+use Rattle.std.proofs.Common.{refl}
 use Rattle.vc_session.proofs.Rest.{headline-none}
 use Rattle.vc_session.proofs.tool.replay.Given as given
 use Rattle.vc_session.proofs.tool.replay.Goals as goal
 
-pub returns-clause-headline : goal.returns-clause-headline
-returns-clause-headline g c =
-    headline-none (λ z. (given.SegDisc-dyn g z).state z.1) _ _ c.args.shelf.now c.run_tool.new.shelf c.new-kinds.result.items c.run_tool.new.kinds.items c.new-kinds.ensures.items c.run_tool.ensures.headline
+pub returns : goal.returns
+returns g c =
+    let p = c.run_tool.ensures in
+    record {
+      headline =
+          headline-none (λ z. (given.SegDisc-dyn g z).state z.1) _ _ c.args.shelf.now c.run_tool.new.shelf c.new-kinds.result.items c.run_tool.new.kinds.items c.new-kinds.ensures.items p.headline;
+      completes = p.completes;
+      quiet = p.quiet;
+      refused_words = λ none. let same = p.refused_words none in (same.0, same.1, same.2, refl);
+      generated = p.generated;
+    }

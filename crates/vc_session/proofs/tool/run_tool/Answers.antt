@@ -1,10 +1,35 @@
+use Rattle.std.proofs.Common.{rules, refl, inl, inr, sym}
 use Rattle.std.specs.Prelude.{map, string_bytes}
 use Rattle.vc_session.proofs.Completing.{completes-memory}
+use Rattle.vc_session.proofs.Promising.{promises-taken}
 use Rattle.vc_session.proofs.Ranges.{in_range}
 use Rattle.vc_session.proofs.tool.run_tool.Goals as goal
 
 pub invariant_of-asked : goal.invariant_of-asked
 invariant_of-asked g c = record { in_range = in_range (map string_bytes c.args.words.now) c.in-Ok-Some.words (rw c.in-Ok-Some.field-0-is at c.in-Ok-Some.ensures) }
 
-pub returns-in-Err-clause-completes : goal.returns-in-Err-clause-completes
-returns-in-Err-clause-completes g c = completes-memory _ _ _ _
+pub returns-in-Ok-Some : goal.returns-in-Ok-Some
+returns-in-Ok-Some g c =
+    promises-taken (sym (rw c.in-Ok-Some.field-0-is at c.in-Ok-Some.ensures)) c.run_words.ensures
+
+pub returns-in-Err : goal.returns-in-Err
+returns-in-Err g c = record {
+  headline = record {
+    ok = λ other. absurd (cc other);
+    script = λ other. absurd (cc other);
+    words_refused = λ none. inr (inl refl);
+    usage = λ other. absurd (cc other);
+    read = λ other. absurd (cc other);
+    cut_short = λ other. absurd (cc other);
+    write = λ other. absurd (cc other);
+    memory = search rules;
+    reads = search rules;
+    writes = search rules;
+    keeps = search rules;
+    rules = refl;
+  };
+  completes = completes-memory _ _ _ _;
+  quiet = λ other. absurd (cc other);
+  refused_words = λ none. (refl, refl, refl, refl);
+  generated = λ some. refl;
+}

@@ -1,5 +1,5 @@
 use Rattle.vc_session.proofs.Counting.{on_ok-map, on_ok-of}
-use Rattle.vc_session.proofs.engine.run_answer.Goals as goal
+use Rattle.vc_session.proofs.command.run_answer.Goals as goal
 
 pub returns-clause-ran : goal.returns-clause-ran
 returns-clause-ran g c =
