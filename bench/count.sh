@@ -3,6 +3,9 @@
 #   bench/count.sh calls         the system's calls in a run of 2,000,000 lines, by 'strace -c'
 #   bench/count.sh instructions  the instructions of the scripts 'resizes' of 20,000 and of 100,000 lines, by
 #                                'valgrind --tool=callgrind', and how many that is for each line
+#   bench/count.sh regions       the instructions of a best region's calls alone, in runs of 100,000 and of 1,000,000
+#                                generated commands, and how many that is for each command; and those of the function
+#                                that runs a command in a region, in which some of them are inlined
 # Run by hand at the top of the repository. It needs awk, and strace or valgrind.
 set -eu
 
@@ -20,9 +23,20 @@ calls() {
     awk '$NF == "read" || $NF == "write" { print $NF ": " $4 " calls" }' "$dir/log"
 }
 
+regions() {
+    for commands in 100000 1000000; do
+        valgrind --tool=callgrind --callgrind-out-file="$dir/calls" bin/vmreplay --gen "$commands" --seed 7 2> "$dir/log" > /dev/null
+        callgrind_annotate --tree=calling --inclusive=yes "$dir/calls" 2> /dev/null | tr -d , | awk -v commands="$commands" '
+            / \*  .*HomeEntry::run / { inside = 1; own = $1; next }
+            inside && / >  / { own -= $1; if (/vc_best|vc_gaps|vc_extent/) calls += $1 }
+            inside && /^$/ { exit }
+            END { print commands " commands: " calls " instructions, " int(calls / commands) " a command, and " own " of HomeEntry::run, " int(own / commands) " a command" }'
+    done
+}
+
 case "${1-}" in
-    calls | instructions) ;;
-    *) echo "usage: bench/count.sh calls|instructions" >&2; exit 2 ;;
+    calls | instructions | regions) ;;
+    *) echo "usage: bench/count.sh calls|instructions|regions" >&2; exit 2 ;;
 esac
 make all > /dev/null
 dir=$(mktemp -d)
