@@ -60,3 +60,18 @@ pub fn resize(
         None => assert!(rt; false),
     }
 }
+
+// Seven blocks, of which the second, the fourth and the sixth go. Behind the four that stay there are gaps of 128, 256,
+// 544 and 3,008 bytes.
+pub fn with_gaps(rt: &impl Abort, best: &mut Best, steps: &mut Steps<Counted>) {
+    take(rt, best, steps, 16, 32, (1, 32));
+    take(rt, best, steps, 100, 32, (1, 64));
+    take(rt, best, steps, 16, 32, (1, 192));
+    take(rt, best, steps, 240, 32, (1, 224));
+    take(rt, best, steps, 16, 32, (1, 480));
+    take(rt, best, steps, 500, 32, (1, 512));
+    take(rt, best, steps, 16, 32, (1, 1056));
+    free(rt, best, steps, (1, 64));
+    free(rt, best, steps, (1, 224));
+    free(rt, best, steps, (1, 512));
+}

@@ -1,23 +1,9 @@
-use crate::calls::{Counted, free, resize, take};
+use crate::calls::{Counted, free, resize, take, with_gaps};
 use std::process::Abort;
 use std::test::Fail;
 use vc_base::Steps;
 use vc_best::Best;
 use vc_seg::HeapDisc;
-
-// Four blocks of 16 bytes, with gaps of 128, 256, 544 and 3,008 bytes behind them.
-fn with_four(rt: &impl Abort, best: &mut Best, steps: &mut Steps<Counted>) {
-    take(rt, best, steps, 16, 32, (1, 32));
-    take(rt, best, steps, 100, 32, (1, 64));
-    take(rt, best, steps, 16, 32, (1, 192));
-    take(rt, best, steps, 240, 32, (1, 224));
-    take(rt, best, steps, 16, 32, (1, 480));
-    take(rt, best, steps, 500, 32, (1, 512));
-    take(rt, best, steps, 16, 32, (1, 1056));
-    free(rt, best, steps, (1, 64));
-    free(rt, best, steps, (1, 224));
-    free(rt, best, steps, (1, 512));
-}
 
 // Fills gaps, resizes in place and frees.
 fn fill(rt: &impl Abort, best: &mut Best, steps: &mut Steps<Counted>) {
@@ -33,13 +19,14 @@ fn fill(rt: &impl Abort, best: &mut Best, steps: &mut Steps<Counted>) {
     free(rt, best, steps, (1, 480));
 }
 
-// A region in which nothing else is done. `bench/allocations.sh` counts the allocations of this test and of the next one.
+// A region in which nothing else is done. `bench/allocations.sh` counts the allocations of this test and of the next
+// one.
 #[test]
 fn gaps_alone(rt: HostRuntime) -> Result<(), Fail> {
     let disc = Box::new(rt.alloc(), HeapDisc::new(4096))?;
     let mut steps: Steps<Counted> = Steps::new(rt.alloc());
     match Best::open(rt.alloc(), disc) {
-        Ok(mut best) => with_four(&rt, &mut best, &mut steps),
+        Ok(mut best) => with_gaps(&rt, &mut best, &mut steps),
         Err(_) => assert!(rt; false),
     }
     Ok(())
@@ -51,7 +38,7 @@ fn gaps_filled(rt: HostRuntime) -> Result<(), Fail> {
     let mut steps: Steps<Counted> = Steps::new(rt.alloc());
     match Best::open(rt.alloc(), disc) {
         Ok(mut best) => {
-            with_four(&rt, &mut best, &mut steps);
+            with_gaps(&rt, &mut best, &mut steps);
             fill(&rt, &mut best, &mut steps);
         }
         Err(_) => assert!(rt; false),

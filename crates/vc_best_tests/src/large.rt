@@ -33,8 +33,8 @@ fn free_half(rt: &impl Abort, best: &mut Best, steps: &mut Steps<Counted>, block
     }
 }
 
-// A million blocks of 16 bytes in 489 segments; half of them go in mixed order, and as many come. Were each gap looked at
-// for each block, this would take hours.
+// A million blocks of 16 bytes in 489 segments; half of them go in mixed order, and as many come. Were each gap looked
+// at for each block, this would take hours.
 #[test]
 fn a_million_blocks(rt: HostRuntime) -> Result<(), Fail> {
     let disc = Box::new(rt.alloc(), HeapDisc::new(65_536))?;

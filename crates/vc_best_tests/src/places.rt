@@ -1,26 +1,12 @@
-use crate::calls::{Counted, free, take};
+use crate::calls::{Counted, free, take, with_gaps};
 use std::process::Abort;
 use std::test::Fail;
 use vc_base::Steps;
 use vc_best::Best;
 use vc_seg::HeapDisc;
 
-// Seven blocks, of which the second, the fourth and the sixth go, and leave gaps of 128, 256 and 544 bytes.
-fn with_gaps(rt: &impl Abort, best: &mut Best, steps: &mut Steps<Counted>) {
-    take(rt, best, steps, 16, 32, (1, 32));
-    take(rt, best, steps, 100, 32, (1, 64));
-    take(rt, best, steps, 16, 32, (1, 192));
-    take(rt, best, steps, 240, 32, (1, 224));
-    take(rt, best, steps, 16, 32, (1, 480));
-    take(rt, best, steps, 500, 32, (1, 512));
-    take(rt, best, steps, 16, 32, (1, 1056));
-    free(rt, best, steps, (1, 64));
-    free(rt, best, steps, (1, 224));
-    free(rt, best, steps, (1, 512));
-}
-
-// The least gap has a place for a block at a multiple of 64 and at one of 128, and none at one of 256, which the next gap
-// has. No gap has a multiple of 4,096: that block lies in a segment of its own.
+// The least gap has a place for a block at a multiple of 64 and at one of 128, and none at one of 256, which the next
+// gap has. No gap has a multiple of 4,096: that block lies in a segment of its own.
 fn by_alignment(rt: &impl Abort, best: &mut Best, steps: &mut Steps<Counted>) {
     take(rt, best, steps, 48, 64, (1, 64));
     take(rt, best, steps, 48, 128, (1, 128));
