@@ -10,7 +10,7 @@ use Rattle.vc_splay.specs.Store.{Store}
 use Rattle.vc_splay.specs.Walks.{run}
 use Rattle.vc_splay.specs.Moves.{Context, Top, Under, IsRising, IsRound, depth, joined, name_at, count, one, plug, tally, tally_round}
 use Rattle.vc_splay.proofs.StandsLemmas.{some_held}
-use Rattle.vc_splay.proofs.StepLemmas.{IsLoose-held, Stands-held}
+use Rattle.vc_splay.proofs.StepLemmas.{IsInHand-held, Stands-held}
 use Rattle.vc_splay.proofs.TallyLemmas.{one-other, one-same, tally-plug}
 
 -- names that each stand once
@@ -52,21 +52,21 @@ pub deep : (c : Context) (t : Tree) → depth c + length (names t) ≤ length (n
 deep Top t = omega arith
 deep (Under d n sibling c) t = let h = deep c (joined d t n sibling) in let e = length-joined d t n sibling in omega arith
 
-rising_once : (s : Store) (at below above : ℕ) (c : Context) (t : Tree) → IsRising s at below above c t → (n : ℕ) → count n (names (plug c t)) ≤ 1
+rising_once : (s : Store) (at below above left right : ℕ) (c : Context) (t : Tree) → IsRising s at below above left right c t → (n : ℕ) → count n (names (plug c t)) ≤ 1
 unfolding tally
-rising_once s at below above c t r n = let k = r.once n in let e = tally-plug n c t in omega arith
+rising_once s at below above left right c t r n = let k = r.once n in let e = tally-plug n c t in omega arith
 
-rising_fits : (s : Store) (at below above : ℕ) (c : Context) (t : Tree) → ((n : ℕ) → s.has n ≡ true → n < 2 ^ 32) → IsRising s at below above c t → (n : ℕ) → 1 ≤ count n (names (plug c t)) → n < 2 ^ 32
+rising_fits : (s : Store) (at below above left right : ℕ) (c : Context) (t : Tree) → ((n : ℕ) → s.has n ≡ true → n < 2 ^ 32) → IsRising s at below above left right c t → (n : ℕ) → 1 ≤ count n (names (plug c t)) → n < 2 ^ 32
 unfolding tally
-rising_fits s at below above c t fits r n h = elim (cases_lt 0 (tally n t)) as (λ _. n < 2 ^ 32) [
-  | inl some ↦ fits n (IsLoose-held s at t n r.loose (omega arith))
+rising_fits s at below above left right c t fits r n h = elim (cases_lt 0 (tally n t)) as (λ _. n < 2 ^ 32) [
+  | inl some ↦ fits n (IsInHand-held s at left right t n r.hand (omega arith))
   | inr none ↦ fits n (IsRound-held s c below n r.round (let e = tally-plug n c t in omega arith))
 ]
 
 -- fewer than 2^32 nodes are above one on its way up
-pub few_above : (s : Store) (at below above : ℕ) (c : Context) (t : Tree) → ((n : ℕ) → s.has n ≡ true → n < 2 ^ 32) → IsRising s at below above c t → depth c ≤ 2 ^ 32
-few_above s at below above c t fits r =
-    let k = few (names (plug c t)) (rising_once s at below above c t r) (rising_fits s at below above c t fits r) in
+pub few_above : (s : Store) (at below above left right : ℕ) (c : Context) (t : Tree) → ((n : ℕ) → s.has n ≡ true → n < 2 ^ 32) → IsRising s at below above left right c t → depth c ≤ 2 ^ 32
+few_above s at below above left right c t fits r =
+    let k = few (names (plug c t)) (rising_once s at below above left right c t r) (rising_fits s at below above left right c t fits r) in
     let j = deep c t in omega arith
 
 -- so a walk up by the links takes as many steps
@@ -81,5 +81,5 @@ run-depth (suc k) s (Under d n sibling c) below none r h =
     let e : run k s.parent (s.parent n) ≡ run k s.parent (name_at c) = ap (run k s.parent) r.0.parent in
     omega arith)
 
-pub rising_run : (s : Store) (at below above : ℕ) (c : Context) (t : Tree) → s.has 0 ≡ false → ((n : ℕ) → s.has n ≡ true → n < 2 ^ 32) → IsRising s at below above c t → run (2 ^ 32) s.parent above ≡ depth c
-rising_run s at below above c t none fits r = ap (run (2 ^ 32) s.parent) r.parent ∙ run-depth (2 ^ 32) s c below none r.round (few_above s at below above c t fits r)
+pub rising_run : (s : Store) (at below above left right : ℕ) (c : Context) (t : Tree) → s.has 0 ≡ false → ((n : ℕ) → s.has n ≡ true → n < 2 ^ 32) → IsRising s at below above left right c t → run (2 ^ 32) s.parent above ≡ depth c
+rising_run s at below above left right c t none fits r = ap (run (2 ^ 32) s.parent) r.parent ∙ run-depth (2 ^ 32) s c below none r.round (few_above s at below above left right c t fits r)

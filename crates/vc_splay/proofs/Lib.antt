@@ -1,7 +1,7 @@
 pub mod StoreLemmas
 pub mod TallyLemmas
 pub mod StandsLemmas
-pub mod LiftLemmas
+pub mod HangLemmas
 pub mod RotationLemmas
 pub mod StepLemmas
 pub mod PlugLemmas

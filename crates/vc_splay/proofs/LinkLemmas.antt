@@ -6,22 +6,23 @@ use Rattle.std.proofs.lemmas.Bool.{true≢false}
 use Rattle.std.proofs.lemmas.Bool.Decides.{eqb_tells}
 use Rattle.vc_base.specs.Holders.{contains}
 use Rattle.vc_splay.specs.Tree.{Tree, Leaf, Node, names, name_of}
-use Rattle.vc_splay.specs.Store.{Store, SameLinks, with_kid, with_parent}
-use Rattle.vc_splay.specs.Stands.{IsNode, IsTree, Stands, TreeAfter}
+use Rattle.vc_splay.specs.Store.{Store, SameLinks, with_kid}
+use Rattle.vc_splay.specs.Stands.{IsTree, Stands, TreeAfter}
+use Rattle.vc_splay.specs.Writes.{with_kid_of}
 use Rattle.vc_splay.specs.Guide.{CanFind, CanLink, RisesFrom, asked, linked}
-use Rattle.vc_splay.specs.Moves.{Context, Top, Under, IsFrame, IsRound, count, name_at, one, plug, side_in, tally, tally_round}
+use Rattle.vc_splay.specs.Moves.{Context, Top, Under, IsCut, IsInHand, IsRising, name_at, one, plug, side_in, tally, tally_round}
 use Rattle.vc_splay.specs.Searches.{Gap}
 use Rattle.vc_splay.specs.Unique.{IsTree-one}
 use Rattle.vc_splay.specs.Walks.{run}
 use Rattle.vc_splay.proofs.GuideLemmas.{linked-before, linked-behind, rises-behind, rises-front}
-use Rattle.vc_splay.proofs.LiftLemmas.{SameLinks-on}
+use Rattle.vc_splay.proofs.HangLemmas.{SameLinks-on, SameLinks-same}
 use Rattle.vc_splay.proofs.NeighbourLemmas.{before, behind, names-plug}
-use Rattle.vc_splay.proofs.PlugLemmas.{IsRound-close, IsRound-open}
-use Rattle.vc_splay.proofs.SearchLemmas.{asked_few, asked_some, rises_each, run-asked, search_leaf, within_tally}
+use Rattle.vc_splay.proofs.PlugLemmas.{IsRound-open}
+use Rattle.vc_splay.proofs.SearchLemmas.{asked_few, asked_some, rises_each, run-asked, search_leaf}
 use Rattle.vc_splay.proofs.SplayLemmas.{tally-apart, tally-once}
 use Rattle.vc_splay.proofs.StandsLemmas.{HasKid-kept, IsRound-kept, some_held}
-use Rattle.vc_splay.proofs.StoreLemmas.{kid-here, kid-near, kid-opposite, kid-other, parent-here, parent-other}
-use Rattle.vc_splay.proofs.TallyLemmas.{apart-count, count-distinct, one-other, one-same, tally-leaf, tally-node, tally-plug}
+use Rattle.vc_splay.proofs.StoreLemmas.{kid-here, kid-opposite, kid-other, kid_of-none, kid_of-some}
+use Rattle.vc_splay.proofs.TallyLemmas.{apart-count, one-other, one-same, tally-leaf, tally-node, tally-plug}
 
 -- the walk is at the top of this part
 pub record Seeking (s : Store) (side : ℕ → Ordering) (tree : Tree) (above : ℕ) (left : Bool) (at start now : ℕ) : Type 0 where
@@ -147,46 +148,6 @@ seek_end s side tree above left at start now none w e =
       steps = omega arith;
     }
 
--- a store in which a node has no child, and this parent
-pub leafed : ℕ → ℕ → Store → Store
-leafed at above s = with_parent at above (with_kid false at 0 (with_kid true at 0 s))
-
-pub record IsLeafed (old new : Store) (at above : ℕ) : Type 0 where
-  pub has : new.has ≡ old.has
-  pub left : new.kid true at ≡ 0
-  pub right : new.kid false at ≡ 0
-  pub parent : new.parent at ≡ above
-  pub others : (n : ℕ) → n ≢ at → SameLinks old new n
-
-kids_leafed : (at above : ℕ) (s : Store) → (leafed at above s).kid ≡ (with_kid false at 0 (with_kid true at 0 s)).kid
-unfolding leafed with_parent
-kids_leafed at above s = refl
-
-pub has_leafed : (s : Store) (at above : ℕ) → (with_parent at above (with_kid false at 0 (with_kid true at 0 s))).has ≡ s.has
-unfolding with_parent with_kid
-has_leafed s at above = refl
-
-parents_leafed : (s : Store) (at n : ℕ) → (with_kid false at 0 (with_kid true at 0 s)).parent n ≡ s.parent n
-unfolding with_kid
-parents_leafed s at n = refl
-
-pub is_leafed : (s : Store) (at above : ℕ) → IsLeafed s (with_parent at above (with_kid false at 0 (with_kid true at 0 s))) at above
-unfolding leafed
-is_leafed s at above =
-    let s1 = with_kid true at 0 s in
-    let s2 = with_kid false at 0 s1 in
-    let k : (d : Bool) (n : ℕ) → (leafed at above s).kid d n ≡ s2.kid d n = λ d n. ap (λ f. f d n) (kids_leafed at above s) in
-    record {
-      has = has_leafed s at above;
-      left = k true at ∙ kid-near true at 0 s1 at ∙ kid-here true at 0 s;
-      right = k false at ∙ kid-here false at 0 s1;
-      parent = parent-here at above s2;
-      others = λ n ne. record {
-        kid = λ d. k d n ∙ kid-other false at 0 s1 d n ne ∙ kid-other true at 0 s d n ne;
-        parent = parent-other at above s2 n ne ∙ parents_leafed s at n;
-      };
-    }
-
 -- the other links where a child is written
 pub has_kid : (d : Bool) (n v : ℕ) (s : Store) → (with_kid d n v s).has ≡ s.has
 unfolding with_kid
@@ -196,17 +157,18 @@ pub parents_kid : (d : Bool) (n v : ℕ) (s : Store) (m : ℕ) → (with_kid d n
 unfolding with_kid
 parents_kid d n v s m = refl
 
+same_kid : (d : Bool) (n v : ℕ) (s : Store) (m : ℕ) → m ≢ n → SameLinks s (with_kid d n v s) m
+same_kid d n v s m ne = record { kid = λ e. kid-other d n v s e m ne; parent = parents_kid d n v s m }
+
+pub has_kid_of : (d : Bool) (n v : ℕ) (s : Store) → (with_kid_of d n v s).has ≡ s.has
+has_kid_of d n v s = elim (eqb_tells n 0) as (λ _. (with_kid_of d n v s).has ≡ s.has) [
+  | inl same ↦ ap (λ (z : Store). z.has) (sym (kid_of-none d n v s same.1))
+  | inr apart ↦ ap (λ (z : Store). z.has) (sym (kid_of-some d n v s apart.1)) ∙ has_kid d n v s
+]
+
 pub apart_tally : (n : ℕ) (t : Tree) → tally n t ≡ 0 → contains (names t) n ≡ false
 unfolding tally
 apart_tally n t h = apart-count n (names t) h
-
--- the one node of a tree
-only_node : (s : Store) (at : ℕ) → s.has at ≡ true → s.parent at ≡ 0 → s.kid true at ≡ 0 → s.kid false at ≡ 0 → IsTree s at (Node Leaf at Leaf)
-only_node s at held up left right = record { top = refl; stands = (record { held = held; parent = up; left_kid = left; right_kid = right }, tt, tt); distinct = (refl, tt) }
-
-top_context : (s : Store) (c : Context) (t : Tree) → s.has 0 ≡ false → Stands s 0 (plug c t) → 0 ≡ name_at c → c ≡ Top
-top_context s Top t none h e = refl
-top_context s (Under d n sibling c) t none h e = absurd (some_held s n none (IsRound-open s (Under d n sibling c) t h).0.0.other_kid.held (sym e))
 
 apart_cons : (n at : ℕ) (xs : List ℕ) → contains (at ∷ xs) n ≡ false → (n ≢ at) × (contains xs n ≡ false)
 apart_cons n at xs h = elim (eqb_tells at n) as (λ _. (n ≢ at) × (contains xs n ≡ false)) [
@@ -214,136 +176,103 @@ apart_cons n at xs h = elim (eqb_tells at n) as (λ _. (n ≢ at) × (contains x
   | inr apart ↦ (λ e. apart.1 (sym e), rw apart.0 at h)
 ]
 
--- a node alone, where the root was none
-pub link_first : (s : Store) (side : ℕ → Ordering) (root at : ℕ) (t : Tree) (above : ℕ) (left : Bool) (start now : ℕ) → s.has 0 ≡ false → s.has at ≡ true → IsTree s root t → Gap side t above left start now → above ≡ 0
-    → TreeAfter s (with_parent at above (with_kid false at 0 (with_kid true at 0 s))) (at ∷ names t) at (linked side at (names t))
-link_first s side root at t above left start now none held k w e =
-    let new = with_parent at above (with_kid false at 0 (with_kid true at 0 s)) in
-    let l = is_leafed s at above in
-    let stands : Stands s 0 (plug w.context Leaf) = subst (λ z. Stands s 0 z) (sym w.whole) k.stands in
-    let top = top_context s w.context Leaf none stands (sym e ∙ w.above_is) in
-    record {
-      tree = Node Leaf at Leaf;
-      is_tree = only_node new at (ap (λ f. f at) l.has ∙ held) (l.parent ∙ e) l.left l.right;
-      list = sym (ap (λ z. names (plug z (Node Leaf at Leaf))) top) ∙ w.list at;
-      others = λ n h. l.others n (apart_cons n at (names t) h).0;
-    }
+-- a node with no child in hand, in a place where there was none
+pub record Hung (old new : Store) (at above : ℕ) (c : Context) : Type 0 where
+  pub rising : IsRising new at at above 0 0 c (Node Leaf at Leaf)
+  pub others : (n : ℕ) → tally_round n c ≡ 0 → SameLinks old new n
 
--- a node below another one
-pub record Hung (old new : Store) (side : ℕ → Ordering) (root at : ℕ) (t : Tree) : Type 0 where
-  pub tree : Tree
-  pub is_tree : IsTree new root tree
-  pub list : names tree ≡ linked side at (names t)
-  pub within : contains (names tree) at ≡ true
-  pub others : (n : ℕ) → contains (at ∷ names t) n ≡ false → SameLinks old new n
-  pub apart : (n : ℕ) → contains (at ∷ names t) n ≡ false → contains (names tree) n ≡ false
+in_hand : (s : Store) (at : ℕ) → s.has at ≡ true → IsInHand s at 0 0 (Node Leaf at Leaf)
+in_hand s at held =
+    let none : IsCut s 0 Leaf = record { up = 0; stands = tt; top_is = refl } in
+    record { left_tree = Leaf; right_tree = Leaf; whole = refl; held = held; left_cut = none; right_cut = none }
 
-plug_name : (c : Context) (t u : Tree) → name_of t ≡ name_of u → name_of (plug c t) ≡ name_of (plug c u)
-plug_name Top t u e = e
-plug_name (Under true n sibling c) t u e = plug_name c (Node t n sibling) (Node u n sibling) refl
-plug_name (Under false n sibling c) t u e = plug_name c (Node sibling n t) (Node sibling n u) refl
+leaf_among : (at : ℕ) → 1 ≤ tally at (Node Leaf at Leaf)
+leaf_among at = let a = tally-node at at Leaf Leaf in let b = one-same at at refl in omega arith
 
-under_name : (d : Bool) (n : ℕ) (sibling : Tree) (c : Context) (t u : Tree) → name_of (plug (Under d n sibling c) t) ≡ name_of (plug (Under d n sibling c) u)
-under_name true n sibling c t u = plug_name c (Node t n sibling) (Node u n sibling) refl
-under_name false n sibling c t u = plug_name c (Node sibling n t) (Node sibling n u) refl
-
-hang_at : (s : Store) (root at : ℕ) (d : Bool) (n : ℕ) (sibling : Tree) (c : Context) → s.has 0 ≡ false → s.has at ≡ true → IsTree s root (plug (Under d n sibling c) Leaf) → ((m : ℕ) → m ≡ at → tally_round m (Under d n sibling c) ≡ 0)
-    → IsTree (with_kid d n at (with_parent at n (with_kid false at 0 (with_kid true at 0 s)))) root (plug (Under d n sibling c) (Node Leaf at Leaf)) × ((m : ℕ) → m ≢ at → m ≢ n → SameLinks s (with_kid d n at (with_parent at n (with_kid false at 0 (with_kid true at 0 s)))) m)
-unfolding tally
-hang_at s root at d n sibling c none held k apart =
-    let s1 = with_parent at n (with_kid false at 0 (with_kid true at 0 s)) in
-    let new = with_kid d n at s1 in
-    let l = is_leafed s at n in
-    let frames = Under d n sibling c in
-    let q = IsRound-open s frames Leaf k.stands in
-    let once : (m : ℕ) → one m n + count m (names sibling) + tally_round m c ≤ 1 = λ m. let a = tally-plug m frames Leaf in let b = tally-once m (plug frames Leaf) k.distinct in omega arith in
-    let ne : n ≢ at = λ e. let a = apart n e in let b = one-same n n refl in absurd (omega arith) in
-    let has : new.has ≡ s.has = has_kid d n at s1 ∙ l.has in
-    let kept : (m : ℕ) → m ≢ at → m ≢ n → SameLinks s new m = λ m na nn. record {
-      kid = λ e. kid-other d n at s1 e m nn ∙ (l.others m na).kid e;
-      parent = parents_kid d n at s1 m ∙ (l.others m na).parent;
-    } in
-    let other : (m : ℕ) → one m n ≡ 0 → 1 ≤ tally_round m frames → SameLinks s new m = λ m z i. kept m (λ e. let a = apart m e in absurd (omega arith)) (λ e. let a = one-same m n e in absurd (omega arith)) in
-    let frame : IsFrame new d n at (name_at c) sibling = record {
-      kid = kid-here d n at s1;
-      parent = parents_kid d n at s1 n ∙ (l.others n ne).parent ∙ q.0.0.parent;
-      other_kid = HasKid-kept s new (not d) n sibling has (kid-opposite d n at s1 n ∙ (l.others n ne).kid (not d)) (λ m i. other m (let a = once m in omega arith) (omega arith)) q.0.0.other_kid;
-    } in
-    let round : IsRound new c n = IsRound-kept s new c n has (λ m i. other m (let a = once m in omega arith) (omega arith)) q.0.1 in
-    let node : IsNode new n at 0 0 = record {
-      held = ap (λ f. f at) has ∙ held;
-      parent = parents_kid d n at s1 at ∙ l.parent;
-      left_kid = kid-other d n at s1 true at (λ e. ne (sym e)) ∙ l.left;
-      right_kid = kid-other d n at s1 false at (λ e. ne (sym e)) ∙ l.right;
-    } in
-    let tree = plug frames (Node Leaf at Leaf) in
-    let single : (m : ℕ) → count m (names tree) ≤ 1 = λ m.
-    let a = tally-plug m frames (Node Leaf at Leaf) in
-    let b = once m in
-    elim (eqb_tells m at) as (λ _. count m (names tree) ≤ 1) [
-      | inl same ↦ let z = apart m same.1 in let i = one-same m at same.1 in omega arith
+leaf_once : (at : ℕ) (c : Context) → ((m : ℕ) → tally_round m c ≤ 1) → tally_round at c ≡ 0 → (m : ℕ) → tally m (Node Leaf at Leaf) + tally_round m c ≤ 1
+leaf_once at c once apart m =
+    let a = tally-node m at Leaf Leaf in
+    let b = tally-leaf m in
+    let k = once m in
+    elim (eqb_tells m at) as (λ _. tally m (Node Leaf at Leaf) + tally_round m c ≤ 1) [
+      | inl same ↦ let z : tally_round m c ≡ 0 = ap (λ z. tally_round z c) same.1 ∙ apart in let i = one-same m at same.1 in omega arith
       | inr other ↦ let i = one-other m at other.1 in omega arith
-    ] in (
-      record {
-        top = k.top ∙ under_name d n sibling c Leaf (Node Leaf at Leaf);
-        stands = IsRound-close new frames (Node Leaf at Leaf) (frame, round) (node, tt, tt);
-        distinct = count-distinct (names tree) single;
-      },
-      kept,
-    )
+    ]
 
-hung_at : (s : Store) (side : ℕ → Ordering) (root at : ℕ) (t : Tree) (d : Bool) (n : ℕ) (sibling : Tree) (c : Context) → s.has 0 ≡ false → s.has at ≡ true → contains (names t) at ≡ false → IsTree s root t → plug (Under d n sibling c) Leaf ≡ t
-    → names (plug (Under d n sibling c) (Node Leaf at Leaf)) ≡ linked side at (names t) → Hung s (with_kid d n at (with_parent at n (with_kid false at 0 (with_kid true at 0 s)))) side root at t
-hung_at s side root at t d n sibling c none held apart k whole list =
-    let frames = Under d n sibling c in
-    let is : IsTree s root (plug frames Leaf) = subst (λ z. IsTree s root z) (sym whole) k in
-    let w : (m : ℕ) → tally m t ≡ tally_round m frames = λ m. let a = tally-plug m frames Leaf in let b = tally-leaf m in let e = ap (tally m) whole in omega arith in
-    let free : (m : ℕ) → m ≡ at → tally_round m frames ≡ 0 = λ m e. sym (w m) ∙ ap (λ z. tally z t) e ∙ tally-apart at t apart in
-    let h = hang_at s root at d n sibling c none held is free in
-    let u : (m : ℕ) → tally m (plug frames (Node Leaf at Leaf)) ≡ one m at + tally m t = λ m. let a = tally-plug m frames (Node Leaf at Leaf) in let b = tally-node m at Leaf Leaf in let e = tally-leaf m in let f = w m in omega arith in
+hung_at : (s : Store) (at : ℕ) (d : Bool) (n : ℕ) (sibling : Tree) (c : Context) → s.has 0 ≡ false → s.has at ≡ true → Stands s 0 (plug (Under d n sibling c) Leaf) → ((m : ℕ) → tally_round m (Under d n sibling c) ≤ 1) → tally_round at (Under d n sibling c) ≡ 0
+    → Hung s (with_kid d n at s) at n (Under d n sibling c)
+hung_at s at d n sibling c none held stands once apart =
+    let new = with_kid d n at s in
+    let q = IsRound-open s (Under d n sibling c) Leaf stands in
+    let other : (m : ℕ) → one m n ≡ 0 → SameLinks s new m = λ m z. same_kid d n at s m (λ e. let a = one-same m n e in absurd (omega arith)) in
     record {
-      tree = plug frames (Node Leaf at Leaf);
-      is_tree = h.0;
-      list = list;
-      within = within_tally at (plug frames (Node Leaf at Leaf)) (let a = u at in let b = one-same at at refl in omega arith);
-      others = λ m i.
-          let p = apart_cons m at (names t) i in
-          h.1 m p.0 (λ e. let a = w m in let b = tally-apart m t p.1 in let f = one-same m n e in absurd (omega arith));
-      apart = λ m i. let p = apart_cons m at (names t) i in apart_tally m (plug frames (Node Leaf at Leaf)) (let a = u m in let b = one-other m at p.0 in let f = tally-apart m t p.1 in omega arith);
+      rising = record {
+        hand = in_hand new at (ap (λ f. f at) (has_kid d n at s) ∙ held);
+        round = (
+          record {
+            kid = kid-here d n at s;
+            parent = parents_kid d n at s n ∙ q.0.0.parent;
+            other_kid = HasKid-kept s new (not d) n sibling (has_kid d n at s) (kid-opposite d n at s n) (λ m i. other m (let a = once m in omega arith)) q.0.0.other_kid;
+          },
+          IsRound-kept s new c n (has_kid d n at s) (λ m i. other m (let a = once m in omega arith)) q.0.1,
+        );
+        parent = refl;
+        once = leaf_once at (Under d n sibling c) once apart;
+        among = leaf_among at;
+      };
+      others = λ m zero. other m (omega arith);
     }
 
-hung_by : (s : Store) (side : ℕ → Ordering) (root at : ℕ) (t : Tree) (above : ℕ) (left : Bool) (c : Context) → s.has 0 ≡ false → s.has at ≡ true → contains (names t) at ≡ false → IsTree s root t → plug c Leaf ≡ t → above ≡ name_at c → left ≡ side_in c
-    → names (plug c (Node Leaf at Leaf)) ≡ linked side at (names t) → above ≢ 0 → Hung s (with_kid left above at (with_parent at above (with_kid false at 0 (with_kid true at 0 s)))) side root at t
-hung_by s side root at t above left Top none held apart k whole e f list some = absurd (some e)
-hung_by s side root at t above left (Under d n sibling c) none held apart k whole e f list some =
-    subst (λ z. Hung s (with_kid z above at (with_parent at above (with_kid false at 0 (with_kid true at 0 s)))) side root at t) (sym f)
-    (subst (λ z. Hung s (with_kid d z at (with_parent at z (with_kid false at 0 (with_kid true at 0 s)))) side root at t) (sym e)
-    (hung_at s side root at t d n sibling c none held apart k whole list))
+hung_by : (s : Store) (at above : ℕ) (left : Bool) (c : Context) → s.has 0 ≡ false → s.has at ≡ true → Stands s 0 (plug c Leaf) → ((m : ℕ) → tally_round m c ≤ 1) → tally_round at c ≡ 0 → above ≡ name_at c → left ≡ side_in c
+    → Hung s (with_kid_of left above at s) at above c
+hung_by s at above left Top none held stands once apart e f =
+    subst (λ z. Hung s z at above Top) (kid_of-none left above at s e)
+    (record {
+      rising = record { hand = in_hand s at held; round = tt; parent = e; once = leaf_once at Top once apart; among = leaf_among at };
+      others = λ n zero. SameLinks-same s n;
+    })
+hung_by s at above left (Under d n sibling c) none held stands once apart e f =
+    let some = some_held s n none (IsRound-open s (Under d n sibling c) Leaf stands).0.0.other_kid.held in
+    subst (λ z. Hung s (with_kid_of z above at s) at above (Under d n sibling c)) (sym f)
+    (subst (λ z. Hung s (with_kid_of d z at s) at z (Under d n sibling c)) (sym e)
+    (subst (λ z. Hung s z at n (Under d n sibling c)) (kid_of-some d n at s some)
+    (hung_at s at d n sibling c none held stands once apart)))
 
-pub hung : (s : Store) (side : ℕ → Ordering) (root at : ℕ) (t : Tree) (above : ℕ) (left : Bool) (start now : ℕ) → s.has 0 ≡ false → s.has at ≡ true → contains (names t) at ≡ false → IsTree s root t → Gap side t above left start now → above ≢ 0
-    → Hung s (with_kid left above at (with_parent at above (with_kid false at 0 (with_kid true at 0 s)))) side root at t
-hung s side root at t above left start now none held apart k w some = hung_by s side root at t above left w.context none held apart k w.whole w.above_is w.side_is (w.list at) some
+-- where a walk found the place
+round_of : (t : Tree) (c : Context) → plug c Leaf ≡ t → (m : ℕ) → tally m t ≡ tally_round m c
+round_of t c whole m = let a = tally-plug m c Leaf in let b = tally-leaf m in let e = ap (tally m) whole in omega arith
 
--- the names that are there, and the node above, before it is written
-pub hung_has : (left : Bool) (above at : ℕ) (s : Store) → (with_kid left above at (with_parent at above (with_kid false at 0 (with_kid true at 0 s)))).has ≡ s.has
-hung_has left above at s = has_kid left above at (with_parent at above (with_kid false at 0 (with_kid true at 0 s))) ∙ has_leafed s at above
+pub hung : (s : Store) (side : ℕ → Ordering) (root at : ℕ) (t : Tree) (above : ℕ) (left : Bool) (start now : ℕ) → s.has 0 ≡ false → s.has at ≡ true → contains (names t) at ≡ false → IsTree s root t → (w : Gap side t above left start now)
+    → Hung s (with_kid_of left above at s) at above w.context
+hung s side root at t above left start now none held apart k w =
+    let r = round_of t w.context w.whole in
+    hung_by s at above left w.context none held (subst (λ z. Stands s 0 z) (sym w.whole) k.stands) (λ m. let a = r m in let b = tally-once m t k.distinct in omega arith)
+    (let a = r at in let b = tally-apart at t apart in omega arith) w.above_is w.side_is
 
-above_by : (s : Store) (t : Tree) (above : ℕ) (c : Context) → Stands s 0 (plug c Leaf) → above ≡ name_at c → above ≢ 0 → s.has above ≡ true
-above_by s t above Top h e some = absurd (some e)
-above_by s t above (Under d n sibling c) h e some = ap s.has e ∙ (IsRound-open s (Under d n sibling c) Leaf h).0.0.other_kid.held
+-- the node above is there
+above_by : (s : Store) (above : ℕ) (c : Context) → Stands s 0 (plug c Leaf) → above ≡ name_at c → above ≢ 0 → s.has above ≡ true
+above_by s above Top h e some = absurd (some e)
+above_by s above (Under d n sibling c) h e some = ap s.has e ∙ (IsRound-open s (Under d n sibling c) Leaf h).0.0.other_kid.held
 
-pub above_held : (s : Store) (side : ℕ → Ordering) (root at : ℕ) (t : Tree) (above : ℕ) (left : Bool) (start now : ℕ) → IsTree s root t → Gap side t above left start now → above ≢ 0 → (with_parent at above (with_kid false at 0 (with_kid true at 0 s))).has above ≡ true
-above_held s side root at t above left start now k w some =
-    ap (λ f. f above) (has_leafed s at above) ∙ above_by s t above w.context (subst (λ z. Stands s 0 z) (sym w.whole) k.stands) w.above_is some
+pub above_held : (s : Store) (side : ℕ → Ordering) (root : ℕ) (t : Tree) (above : ℕ) (left : Bool) (start now : ℕ) → IsTree s root t → Gap side t above left start now → above ≢ 0 → s.has above ≡ true
+above_held s side root t above left start now k w some = above_by s above w.context (subst (λ z. Stands s 0 z) (sym w.whole) k.stands) w.above_is some
 
--- then it is splayed
-pub link_end : (s mid new : Store) (side : ℕ → Ordering) (root at : ℕ) (t : Tree) (result : ℕ) (h : Hung s mid side root at t) → TreeAfter mid new (names h.tree) result (names h.tree) → TreeAfter s new (at ∷ names t) result (linked side at (names t))
-link_end s mid new side root at t result h a = record {
-  tree = a.tree;
-  is_tree = a.is_tree;
-  list = a.list ∙ h.list;
-  others = λ n i. SameLinks-on s mid new n (h.others n i) (a.others n (h.apart n i));
-}
+-- then it rises
+pub link_end : (s mid new : Store) (side : ℕ → Ordering) (at : ℕ) (t : Tree) (above : ℕ) (left : Bool) (start now : ℕ) (w : Gap side t above left start now) → Hung s mid at above w.context
+    → TreeAfter mid new (names (plug w.context (Node Leaf at Leaf))) at (names (plug w.context (Node Leaf at Leaf))) → TreeAfter s new (at ∷ names t) at (linked side at (names t))
+link_end s mid new side at t above left start now w h a =
+    let r = round_of t w.context w.whole in
+    let leaf = plug w.context (Node Leaf at Leaf) in
+    record {
+      tree = a.tree;
+      is_tree = a.is_tree;
+      list = a.list ∙ w.list at;
+      others = λ n i.
+          let p = apart_cons n at (names t) i in
+          let zero : tally_round n w.context ≡ 0 = sym (r n) ∙ tally-apart n t p.1 in
+          let out : tally n leaf ≡ 0 = let b = tally-plug n w.context (Node Leaf at Leaf) in let c = tally-node n at Leaf Leaf in let d = tally-leaf n in let e = one-other n at p.0 in omega arith in
+          SameLinks-on s mid new n (h.others n zero) (a.others n (apart_tally n leaf out));
+    }
 
 -- the names of a root's one tree
 pub find_of_link : (s : Store) (side : ℕ → Ordering) (root at : ℕ) → CanLink s side root at → CanFind s side root

@@ -10,13 +10,11 @@ use Rattle.vc_splay.specs.Store.{Store}
 use Rattle.vc_splay.specs.Stands.{IsTree, Stands, TreeAfter}
 use Rattle.vc_splay.specs.Guide.{CanFind, Rises, RisesFrom, asked, first_at, least_at}
 use Rattle.vc_splay.specs.Moves.{one, tally}
-use Rattle.vc_splay.specs.Searches.{CanReach, Search}
+use Rattle.vc_splay.specs.Searches.{CanReach, Search, is_found}
 use Rattle.vc_splay.specs.Unique.{IsTree-one}
 use Rattle.vc_splay.specs.Walks.{run}
 use Rattle.vc_splay.proofs.GuideLemmas.{first_by_least, least-here, least-skip, only_equal, rises-behind, rises-front}
-use Rattle.vc_splay.proofs.LiftLemmas.{SameLinks-same}
-use Rattle.vc_splay.proofs.SplayLemmas.{tally-within}
-use Rattle.vc_splay.proofs.StepLemmas.{Stands-held}
+use Rattle.vc_splay.proofs.HangLemmas.{SameLinks-same}
 use Rattle.vc_splay.proofs.StandsLemmas.{some_held}
 use Rattle.vc_splay.proofs.TallyLemmas.{one-same, tally-node, tally-root, within-count}
 
@@ -213,9 +211,6 @@ pub first_none : (s : Store) (side : ℕ → Ordering) (root : ℕ) (t : Tree) �
 first_none s side root t none k e = ap (λ z. first_at side (names z)) (sym (no_tree s root t none k e))
 
 -- what a search found
-pub found_held : (s : Store) (side : ℕ → Ordering) (root deepest found before now : ℕ) (t : Tree) → IsTree s root t → Search side t deepest found before now → found ≢ 0 → s.has found ≡ true
-found_held s side root deepest found before now t k w some = Stands-held s 0 t found k.stands (tally-within found t (w.found_in some))
-
 pub can_reach : (s : Store) (side : ℕ → Ordering) (root deepest found least before now : ℕ) (t : Tree) → IsTree s root t → Search side t deepest least before now → (found ≢ 0 → found ≡ least) → CanReach s root deepest found
 can_reach s side root deepest found least before now t k w e = record {
   tree = t;
@@ -245,18 +240,17 @@ pub first_found : (s : Store) (side : ℕ → Ordering) (root deepest least foun
 first_found s side root deepest least found before now t none h k w e =
     ap some_address e ∙ test_is side least (least == 0) refl ∙ ap (only_equal side) w.first ∙ sym (first_by_least 0 side (names t) (rises_each s side root t none h k))
 
+-- one more answer on the way down
+pub found_next : (side : ℕ → Ordering) (at least : ℕ) (before : Bool) → at ≢ 0 → before ≡ is_found side least → cond (is_ge (side at)) (is_eq (side at)) before ≡ is_found side (cond (is_ge (side at)) at least)
+found_next side at least before some e = by (is_ge (side at))
+  where
+    by : (t : Bool) → cond t (is_eq (side at)) before ≡ is_found side (cond t at least)
+    by true = rw (ne_eqb at 0 some) refl
+    by false = e
+
 pub found_is : (side : ℕ → Ordering) (least found : ℕ) → found ≡ cond (not (least == 0) && is_eq (side least)) least 0 → found ≢ 0 → found ≡ least
 found_is side least found e some = e ∙ by (not (least == 0) && is_eq (side least)) (λ z. some (e ∙ z))
   where
     by : (t : Bool) → (cond t least 0 ≢ 0) → cond t least 0 ≡ least
     by true ne = refl
     by false ne = absurd (ne refl)
-
--- with at most one more step
-pub at_least_on : (before now after : ℕ) (t : Bool) → before + 1 ≤ now → after ≡ now + cond t 0 1 → before + 1 ≤ after
-at_least_on before now after true h e = omega arith
-at_least_on before now after false h e = omega arith
-
-pub at_most_on : (before now after : ℕ) (t : Bool) (n : ℕ) → now ≤ before + n → after ≡ now + cond t 0 1 → after ≤ before + n + 1
-at_most_on before now after true n h e = omega arith
-at_most_on before now after false n h e = omega arith

@@ -1,19 +1,20 @@
 -- A splay, from its first step to the end.
-use Rattle.std.proofs.Common.{◌≡◌, ◌≢◌, ℕ, ◌+◌, ◌<◌, ◌≤◌, ◌^◌, true, false, refl, sym, ap, ◌∙◌, arith, subst}
+use Rattle.std.proofs.Common.{◌≡◌, ◌≢◌, ℕ, ◌+◌, ◌<◌, ◌≤◌, ◌^◌, Bool, true, false, List, refl, sym, ap, ◌∙◌, arith, subst}
 use Rattle.vc_base.specs.Holders.{AreDistinct, contains}
 use Rattle.vc_splay.specs.Tree.{Tree, Node, names, name_of}
 use Rattle.vc_splay.specs.Store.{Store, SameLinks, with_parent}
-use Rattle.vc_splay.specs.Stands.{IsIn, IsNode, IsTree, Stands, TreeAfter}
+use Rattle.vc_splay.specs.Stands.{IsIn, IsTree, Stands, TreeAfter}
 use Rattle.vc_splay.specs.Walks.{run}
-use Rattle.vc_splay.specs.Moves.{Context, Top, Under, IsLoose, IsRising, Step, one, plug, tally}
+use Rattle.vc_splay.specs.Writes.{CanSettle, settled, with_child}
+use Rattle.vc_splay.specs.Moves.{Context, Top, Under, HasKid, IsInHand, IsRising, IsTaken, Step, Topped, one, plug, tally}
 use Rattle.vc_splay.specs.Unique.{IsTree-one}
 use Rattle.vc_splay.proofs.FewLemmas.{rising_run}
-use Rattle.vc_splay.proofs.LiftLemmas.{SameLinks-on, SameLinks-same}
+use Rattle.vc_splay.proofs.HangLemmas.{Hanging, IsCut-held, SameLinks-on, SameLinks-same, hang-cut, hang-far, hang-near, hang-same, has-child}
 use Rattle.vc_splay.proofs.PlugLemmas.{IsRound-open, place}
-use Rattle.vc_splay.proofs.StandsLemmas.{Stands-kept, some_held}
+use Rattle.vc_splay.proofs.StandsLemmas.{HasKid-kept, Stands-joined, some_held}
 use Rattle.vc_splay.proofs.StepLemmas.{Stands-held}
 use Rattle.vc_splay.proofs.StoreLemmas.{parent-here, parent-other}
-use Rattle.vc_splay.proofs.TallyLemmas.{count-apart, count-within, distinct-count, one-same, tally-list, tally-node, tally-plug}
+use Rattle.vc_splay.proofs.TallyLemmas.{count-apart, count-distinct, count-within, distinct-count, one-same, tally-list, tally-node, tally-plug}
 
 -- how often a name stands in the tree of a root
 pub tally-apart : (n : ℕ) (t : Tree) → contains (names t) n ≡ false → tally n t ≡ 0
@@ -28,48 +29,75 @@ pub tally-once : (n : ℕ) (t : Tree) → AreDistinct (names t) → tally n t �
 unfolding tally
 tally-once n t d = distinct-count n (names t) d
 
--- since a splay began that tree became this one with a node on its way up
-pub record Climb (old now : Store) (at : ℕ) (tree : Tree) (below above : ℕ) : Type 0 where
+-- a name of a tree, taken in hand
+pub record Start (s : Store) (at below above left right : ℕ) (tree : Tree) : Type 0 where
   pub context : Context
   pub part : Tree
-  pub rising : IsRising now at below above context part
+  pub rising : IsRising s at below above left right context part
+  pub whole : plug context part ≡ tree
+
+start_at : (s : Store) (at : ℕ) (c : Context) (l r : Tree) (above left right : ℕ) → Stands s 0 (plug c (Node l at r)) → AreDistinct (names (plug c (Node l at r)))
+    → above ≡ s.parent at → left ≡ s.kid true at → right ≡ s.kid false at → IsRising s at at above left right c (Node l at r)
+start_at s at c l r above left right stands distinct up e f =
+    let q = IsRound-open s c (Node l at r) stands in
+    record {
+      hand = record {
+        left_tree = l;
+        right_tree = r;
+        whole = refl;
+        held = q.1.0.held;
+        left_cut = record { up = at; stands = q.1.1; top_is = e ∙ q.1.0.left_kid };
+        right_cut = record { up = at; stands = q.1.2; top_is = f ∙ q.1.0.right_kid };
+      };
+      round = q.0;
+      parent = up ∙ q.1.0.parent;
+      once = λ n. let k = tally-once n (plug c (Node l at r)) distinct in let e = tally-plug n c (Node l at r) in omega arith;
+      among = let e = one-same at at refl in let k = tally-node at at l r in omega arith;
+    }
+
+pub start : (s : Store) (root at below above left right : ℕ) (t : Tree) → IsTree s root t → contains (names t) at ≡ true → IsTaken s at below above left right → Start s at below above left right t
+start s root at below above left right t h within k =
+    let p = place t at (tally-within at t within) in
+    let back : t ≡ plug p.context (Node p.left at p.right) = sym p.whole in
+    let r = start_at s at p.context p.left p.right above left right (subst (λ z. Stands s 0 z) back h.stands) (subst (λ z. AreDistinct (names z)) back h.distinct) k.above_is k.left_is k.right_is in
+    record {
+      context = p.context;
+      part = Node p.left at p.right;
+      rising = subst (λ z. IsRising s at z above left right p.context (Node p.left at p.right)) (sym k.below_is) r;
+      whole = p.whole;
+    }
+
+-- the root, which is there already
+pub root_stays : (s : Store) (root at : ℕ) (t : Tree) → IsTree s root t → at ≡ root → TreeAfter s s (names t) at (names t)
+root_stays s root at t k e = record {
+  tree = t;
+  is_tree = record { top = e ∙ k.top; stands = k.stands; distinct = k.distinct };
+  list = refl;
+  others = λ n h. SameLinks-same s n;
+}
+
+-- since a node began to rise that tree became this one with the node on its way up
+pub record Climb (old now : Store) (at : ℕ) (tree : Tree) (below above left right : ℕ) : Type 0 where
+  pub context : Context
+  pub part : Tree
+  pub rising : IsRising now at below above left right context part
   pub list : names (plug context part) ≡ names tree
   pub others : (n : ℕ) → tally n tree ≡ 0 → SameLinks old now n
 
 -- at the start
-climb_from : (s : Store) (at : ℕ) (c : Context) (l r : Tree) (above : ℕ) → Stands s 0 (plug c (Node l at r)) → AreDistinct (names (plug c (Node l at r))) → above ≡ s.parent at → Climb s s at (plug c (Node l at r)) at above
-climb_from s at c l r above stands distinct up =
-    let q = IsRound-open s c (Node l at r) stands in
-    record {
-      context = c;
-      part = Node l at r;
-      rising = record {
-        loose = record {
-          left = l;
-          right = r;
-          whole = refl;
-          left_kid = record { held = q.1.0.held; kid = q.1.0.left_kid; stands = q.1.1 };
-          right_kid = record { held = q.1.0.held; kid = q.1.0.right_kid; stands = q.1.2 };
-        };
-        round = q.0;
-        parent = up ∙ q.1.0.parent;
-        once = λ n. let k = tally-once n (plug c (Node l at r)) distinct in let e = tally-plug n c (Node l at r) in omega arith;
-        among = let e = one-same at at refl in let k = tally-node at at l r in omega arith;
-      };
-      list = refl;
-      others = λ n h. SameLinks-same s n;
-    }
-
-pub climb_start : (s : Store) (root at : ℕ) (t : Tree) (above : ℕ) → IsTree s root t → contains (names t) at ≡ true → above ≡ s.parent at → Climb s s at t at above
-climb_start s root at t above h within up =
-    let p = place t at (tally-within at t within) in
-    let back : t ≡ plug p.context (Node p.left at p.right) = sym p.whole in
-    subst (λ z. Climb s s at z at above) p.whole
-    (climb_from s at p.context p.left p.right above (subst (λ z. Stands s 0 z) back h.stands) (subst (λ z. AreDistinct (names z)) back h.distinct) up)
+pub climb_start : (s : Store) (at below above left right : ℕ) (c : Context) (t : Tree) → IsRising s at below above left right c t → Climb s s at (plug c t) below above left right
+climb_start s at below above left right c t r = record {
+  context = c;
+  part = t;
+  rising = r;
+  list = refl;
+  others = λ n h. SameLinks-same s n;
+}
 
 -- after a step
-pub climb_on : (old now new : Store) (at : ℕ) (t : Tree) (below above under over : ℕ) (k : Climb old now at t below above) → Step now new at k.context k.part under over → Climb old new at t under over
-climb_on old now new at t below above under over k s = record {
+pub climb_on : (old now new : Store) (at : ℕ) (t : Tree) (below above left right under over left2 right2 : ℕ) (k : Climb old now at t below above left right)
+    → Step now new at k.context k.part under over left2 right2 → Climb old new at t under over left2 right2
+climb_on old now new at t below above left right under over left2 right2 k s = record {
   context = s.context;
   part = s.tree;
   rising = s.rising;
@@ -78,49 +106,100 @@ climb_on old now new at t below above under over k s = record {
 }
 
 -- at the end
-at_top : (s : Store) (at below : ℕ) (c : Context) (t : Tree) → s.has 0 ≡ false → IsRising s at below 0 c t → c ≡ Top
-at_top s at below Top t none r = refl
-at_top s at below (Under d n sibling c) t none r = absurd (some_held s n none r.round.0.other_kid.held (sym r.parent))
+at_top : (s : Store) (at below above left right : ℕ) (c : Context) (t : Tree) → s.has 0 ≡ false → IsRising s at below above left right c t → above ≡ 0 → c ≡ Top
+at_top s at below above left right Top t none r e = refl
+at_top s at below above left right (Under d n sibling c) t none r e = absurd (some_held s n none r.round.0.other_kid.held (sym r.parent ∙ e))
+
+pub climb_end : (old now : Store) (at below above left right : ℕ) (t : Tree) → now.has 0 ≡ false → above ≡ 0 → Climb old now at t below above left right → Topped old now at (names t) left right
+climb_end old now at below above left right t none e k =
+    let top = at_top now at below above left right k.context k.part none k.rising e in
+    record {
+      tree = k.part;
+      hand = k.rising.hand;
+      once = λ n. let a = k.rising.once n in omega arith;
+      list = ap (λ z. names (plug z k.part)) (sym top) ∙ k.list;
+      others = λ n i. k.others n (tally-apart n t i);
+    }
+
+-- each step makes the walk up shorter
+pub climb_less : (old now new : Store) (at : ℕ) (t : Tree) (below above left right under over left2 right2 : ℕ) (k : Climb old now at t below above left right) → now.has 0 ≡ false → ((n : ℕ) → now.has n ≡ true → n < 2 ^ 32)
+    → new.has ≡ now.has → Step now new at k.context k.part under over left2 right2 → run (2 ^ 32) new.parent over < run (2 ^ 32) now.parent above
+climb_less old now new at t below above left right under over left2 right2 k none fits has s =
+    let a = rising_run now at below above left right k.context k.part none fits k.rising in
+    let b = rising_run new at under over left2 right2 s.context s.tree (ap (λ f. f 0) has ∙ none) (λ n h. fits n (sym (ap (λ f. f n) has) ∙ h)) s.rising in
+    let c = s.shorter in
+    omega arith
+
+-- a node at the top, once it is settled
+pub can_settle : (s : Store) (at left right : ℕ) (t : Tree) → IsInHand s at left right t → CanSettle s at left right
+can_settle s at left right t l = record {
+  held = l.held;
+  left_held = IsCut-held s left l.left_tree l.left_cut;
+  right_held = IsCut-held s right l.right_tree l.right_cut;
+}
 
 other_parent : (s : Store) (at n : ℕ) → n ≢ at → SameLinks s (with_parent at 0 s) n
 unfolding with_parent
 other_parent s at n ne = record { kid = λ d. refl; parent = parent-other at 0 s n ne }
 
-topped : (s : Store) (at : ℕ) (t : Tree) → IsLoose s at t → ((n : ℕ) → tally n t ≤ 1) → Stands (with_parent at 0 s) 0 t × (at ≡ name_of t)
+kid_kept : (s : Store) (at : ℕ) (d : Bool) (t : Tree) → ((n : ℕ) → 1 ≤ tally n t → n ≢ at) → HasKid s d at t → HasKid (with_parent at 0 s) d at t
 unfolding with_parent
-topped s at t l once =
-    let new = with_parent at 0 s in
-    let w : (n : ℕ) → tally n t ≡ tally n l.left + (one n at + tally n l.right) = λ n. ap (tally n) l.whole ∙ tally-node n at l.left l.right in
-    let other : (n : ℕ) → one n at ≡ 0 → SameLinks s new n = λ n z. record { kid = λ d. refl; parent = parent-other at 0 s n (λ e. let k = one-same n at e in absurd (omega arith)) } in
-    let left : Stands new at l.left = Stands-kept s new at l.left refl (λ n i. other n (let k = once n in let j = w n in omega arith)) l.left_kid.stands in
-    let right : Stands new at l.right = Stands-kept s new at l.right refl (λ n i. other n (let k = once n in let j = w n in omega arith)) l.right_kid.stands in
-    let node : IsNode new 0 at (name_of l.left) (name_of l.right) = record { held = l.left_kid.held; parent = parent-here at 0 s; left_kid = l.left_kid.kid; right_kid = l.right_kid.kid } in
-    (subst (λ z. Stands new 0 z) (sym l.whole) (node, left, right), ap name_of (sym l.whole))
+kid_kept s at d t apart k = HasKid-kept s (with_parent at 0 s) d at t refl refl (λ n i. other_parent s at n (apart n i)) k
 
-pub climb_end : (old now : Store) (root at below : ℕ) (t : Tree) → now.has 0 ≡ false → IsTree old root t → contains (names t) at ≡ true → Climb old now at t below 0 → TreeAfter old (with_parent at 0 now) (names t) at (names t)
-climb_end old now root at below t none h within k =
-    let top = at_top now at below k.context k.part none k.rising in
-    let same : names k.part ≡ names t = ap (λ z. names (plug z k.part)) (sym top) ∙ k.list in
-    let once : (n : ℕ) → tally n k.part ≤ 1 = λ n. let e = tally-list n k.part t same in let j = tally-once n t h.distinct in omega arith in
-    let q = topped now at k.part k.rising.loose once in
+-- a settled node: its tree stands, and other names keep their links
+record Settled (old new : Store) (at : ℕ) (t : Tree) : Type 0 where
+  stands : Stands new 0 t
+  top : at ≡ name_of t
+  others : (n : ℕ) → tally n t ≡ 0 → SameLinks old new n
+
+settle : (s : Store) (at left right : ℕ) (t : Tree) → s.has 0 ≡ false → IsInHand s at left right t → ((n : ℕ) → tally n t ≤ 1) → Settled s (settled at left right s) at t
+unfolding settled
+settle s at left right t none l once =
+    let w : (n : ℕ) → tally n l.left_tree + (one n at + tally n l.right_tree) ≤ 1 = λ n. let k = once n in let e = ap (tally n) l.whole ∙ tally-node n at l.left_tree l.right_tree in omega arith in
+    let h : Hanging s at left l.left_tree = record { none = none; held = l.held; cut = l.left_cut; apart = λ n. let k = w n in omega arith } in
+    let s1 = with_child true at left s in
+    let h1 : Hanging s1 at right l.right_tree = record {
+      none = ap (λ f. f 0) (has-child true at left s) ∙ none;
+      held = ap (λ f. f at) (has-child true at left s) ∙ l.held;
+      cut = hang-cut s true at left l.left_tree right l.right_tree h (λ n i. let k = w n in omega arith) l.right_cut;
+      apart = λ n. let k = w n in omega arith;
+    } in
+    let s2 = with_child false at right s1 in
+    let new = with_parent at 0 s2 in
+    let left2 : HasKid s2 true at l.left_tree = hang-far s1 false at right l.right_tree l.left_tree h1 (λ n i. let k = w n in omega arith) (hang-near s true at left l.left_tree h) in
+    let right2 : HasKid s2 false at l.right_tree = hang-near s1 false at right l.right_tree h1 in
+    let left3 : HasKid new true at l.left_tree = kid_kept s2 at true l.left_tree (λ n i e. let a = one-same n at e in let k = w n in absurd (omega arith)) left2 in
+    let right3 : HasKid new false at l.right_tree = kid_kept s2 at false l.right_tree (λ n i e. let a = one-same n at e in let k = w n in absurd (omega arith)) right2 in
     record {
-      tree = k.part;
-      is_tree = record { top = q.1; stands = q.0; distinct = subst AreDistinct (sym same) h.distinct };
-      list = same;
-      others = λ n i.
-          let zero = tally-apart n t i in
-          SameLinks-on old now (with_parent at 0 now) n (k.others n zero)
-          (other_parent now at n (λ e. let j = tally-within at t within in let z : tally at t ≡ 0 = subst (λ z. tally z t ≡ 0) e zero in absurd (omega arith)));
+      stands = subst (λ z. Stands new 0 z) (sym l.whole) (Stands-joined new 0 true l.left_tree at l.right_tree (parent-here at 0 s2) left3 right3);
+      top = ap name_of (sym l.whole);
+      others = λ n zero.
+          let e = ap (tally n) l.whole ∙ tally-node n at l.left_tree l.right_tree in
+          SameLinks-on s s2 new n
+          (SameLinks-on s s1 s2 n (hang-same s true at left l.left_tree h n (omega arith)) (hang-same s1 false at right l.right_tree h1 n (omega arith)))
+          (other_parent s2 at n (λ f. let a = one-same n at f in absurd (omega arith)));
     }
 
--- each step makes the walk up shorter
-pub climb_less : (old now new : Store) (at : ℕ) (t : Tree) (below above under over : ℕ) (k : Climb old now at t below above) → now.has 0 ≡ false → ((n : ℕ) → now.has n ≡ true → n < 2 ^ 32)
-    → new.has ≡ now.has → Step now new at k.context k.part under over → run (2 ^ 32) new.parent over < run (2 ^ 32) now.parent above
-climb_less old now new at t below above under over k none fits has s =
-    let a = rising_run now at below above k.context k.part none fits k.rising in
-    let b = rising_run new at under over s.context s.tree (ap (λ f. f 0) has ∙ none) (λ n h. fits n (sym (ap (λ f. f n) has) ∙ h)) s.rising in
-    let c = s.shorter in
-    omega arith
+distinct_once : (t : Tree) → ((n : ℕ) → tally n t ≤ 1) → AreDistinct (names t)
+unfolding tally
+distinct_once t once = count-distinct (names t) once
+
+apart_from : (n : ℕ) (t : Tree) (xs : List ℕ) → names t ≡ xs → contains xs n ≡ false → tally n t ≡ 0
+apart_from n t xs e i = tally-apart n t (ap (λ z. contains z n) e ∙ i)
+
+pub settled_tree : (old now : Store) (at left right : ℕ) (xs : List ℕ) → now.has 0 ≡ false → Topped old now at xs left right → TreeAfter old (settled at left right now) xs at xs
+settled_tree old now at left right xs none k =
+    let q = settle now at left right k.tree none k.hand k.once in
+    record {
+      tree = k.tree;
+      is_tree = record { top = q.top; stands = q.stands; distinct = distinct_once k.tree k.once };
+      list = k.list;
+      others = λ n i. SameLinks-on old now (settled at left right now) n (k.others n i) (q.others n (apart_from n k.tree xs k.list i));
+    }
+
+pub has-settled : (at left right : ℕ) (s : Store) → (settled at left right s).has ≡ s.has
+unfolding settled with_parent
+has-settled at left right s = has-child false at right (with_child true at left s) ∙ has-child true at left s
 
 -- a name of a root's one tree is in each tree that it stands for
 pub IsIn-each : (s : Store) (root at : ℕ) → s.has 0 ≡ false → IsIn s root at → (t : Tree) → IsTree s root t → contains (names t) at ≡ true

@@ -5,27 +5,53 @@ use Rattle.std.proofs.lemmas.Bool.Decides.{eqb_tells}
 use Rattle.vc_splay.specs.Tree.{Tree, Leaf, Node, names, name_of}
 use Rattle.vc_splay.specs.Store.{Store}
 use Rattle.vc_splay.specs.Stands.{Stands}
-use Rattle.vc_splay.specs.Moves.{CanLift, Context, Top, Under, HasKid, IsFrame, IsLoose, IsRising, IsRound, Step, joined, lifted, name_at, one, plug, tally, tally_round}
-use Rattle.vc_splay.proofs.StoreLemmas.{not_not}
+use Rattle.vc_splay.specs.Writes.{AreTurned, CanHang, CanTurn, with_child, zig_zag, zig_zig}
+use Rattle.vc_splay.specs.Moves.{Context, Top, Under, HasKid, IsCut, IsFrame, IsInHand, IsRising, IsRound, Step, joined, name_at, one, plug, tally, tally_round}
 use Rattle.vc_splay.proofs.TallyLemmas.{one-same, one-other, tally-joined, tally-leaf, tally-node, tally-root}
 use Rattle.vc_splay.proofs.RotationLemmas.{plug-names, plug-tally, rotate, rotate_across, rotate_twice}
-use Rattle.vc_splay.proofs.LiftLemmas.{Lifting, SameLinks-on, can_lift, keep-kid, keep-near, keep-round, lift-far, lift-same, lift_of}
+use Rattle.vc_splay.proofs.HangLemmas.{Hanging, IsCut-held, IsCut-joined, IsCut-kid, IsCut-named, SameLinks-on, can_hang, hang-cut, hang-far, hang-kid, hang-near, hang-round, hang-same, has-child}
 
--- a node with loose links, by its two sides
-pub record Sides (s : Store) (side : Bool) (n : ℕ) (t : Tree) : Type 0 where
-  pub outer : Tree
-  pub inner : Tree
-  pub whole : t ≡ joined side outer n inner
-  pub near : HasKid s side n outer
-  pub far : HasKid s (not side) n inner
+-- a node in hand, by its two sides
+pub record Sides (s : Store) (side : Bool) (n near inner : ℕ) (t : Tree) : Type 0 where
+  pub near_tree : Tree
+  pub inner_tree : Tree
+  pub whole : t ≡ joined side near_tree n inner_tree
+  pub near_cut : IsCut s near near_tree
+  pub inner_cut : IsCut s inner inner_tree
 
-pub sides_of : (s : Store) (side : Bool) (n : ℕ) (t : Tree) → IsLoose s n t → Sides s side n t
-sides_of s true n t l = record { outer = l.left; inner = l.right; whole = l.whole; near = l.left_kid; far = l.right_kid }
-sides_of s false n t l = record { outer = l.right; inner = l.left; whole = l.whole; near = l.right_kid; far = l.left_kid }
+pub sides_of : (s : Store) (side : Bool) (n left right near inner : ℕ) (t : Tree) → AreTurned side left right near inner → IsInHand s n left right t → Sides s side n near inner t
+sides_of s true n left right near inner t e h = record {
+  near_tree = h.left_tree;
+  inner_tree = h.right_tree;
+  whole = h.whole;
+  near_cut = IsCut-named s left near h.left_tree e.first_is h.left_cut;
+  inner_cut = IsCut-named s right inner h.right_tree e.second_is h.right_cut;
+}
+sides_of s false n left right near inner t e h = record {
+  near_tree = h.right_tree;
+  inner_tree = h.left_tree;
+  whole = h.whole;
+  near_cut = IsCut-named s right near h.right_tree e.first_is h.right_cut;
+  inner_cut = IsCut-named s left inner h.left_tree e.second_is h.left_cut;
+}
 
-pub IsLoose-joined : (s : Store) (side : Bool) (n : ℕ) (t u : Tree) → HasKid s side n t → HasKid s (not side) n u → IsLoose s n (joined side t n u)
-IsLoose-joined s true n t u k j = record { left = t; right = u; whole = refl; left_kid = k; right_kid = j }
-IsLoose-joined s false n t u k j = record { left = u; right = t; whole = refl; left_kid = j; right_kid = k }
+pub IsInHand-joined : (s : Store) (side : Bool) (n near far left right : ℕ) (t u : Tree) → AreTurned side near far left right → s.has n ≡ true → IsCut s near t → IsCut s far u → IsInHand s n left right (joined side t n u)
+IsInHand-joined s true n near far left right t u e held k j = record {
+  left_tree = t;
+  right_tree = u;
+  whole = refl;
+  held = held;
+  left_cut = IsCut-named s near left t e.first_is k;
+  right_cut = IsCut-named s far right u e.second_is j;
+}
+IsInHand-joined s false n near far left right t u e held k j = record {
+  left_tree = u;
+  right_tree = t;
+  whole = refl;
+  held = held;
+  left_cut = IsCut-named s far left u e.first_is j;
+  right_cut = IsCut-named s near right t e.second_is k;
+}
 
 -- the names below a node are there
 pub Stands-held : (s : Store) (up : ℕ) (t : Tree) (n : ℕ) → Stands s up t → 1 ≤ tally n t → s.has n ≡ true
@@ -38,12 +64,12 @@ Stands-held s up (Node l m r) n k h = elim (eqb_tells n m) as (λ _. s.has n ≡
   ]
 ]
 
-pub IsLoose-held : (s : Store) (x : ℕ) (t : Tree) (n : ℕ) → IsLoose s x t → 1 ≤ tally n t → s.has n ≡ true
-IsLoose-held s x t n l h = elim (eqb_tells n x) as (λ _. s.has n ≡ true) [
-  | inl same ↦ ap s.has same.1 ∙ l.left_kid.held
-  | inr apart ↦ elim (cases_lt 0 (tally n l.left)) as (λ _. s.has n ≡ true) [
-    | inl some ↦ Stands-held s x l.left n l.left_kid.stands (omega arith)
-    | inr none ↦ Stands-held s x l.right n l.right_kid.stands (let w = tally-node n x l.left l.right in let q = ap (tally n) l.whole in let e = one-other n x apart.1 in omega arith)
+pub IsInHand-held : (s : Store) (x left right : ℕ) (t : Tree) (n : ℕ) → IsInHand s x left right t → 1 ≤ tally n t → s.has n ≡ true
+IsInHand-held s x left right t n k h = elim (eqb_tells n x) as (λ _. s.has n ≡ true) [
+  | inl same ↦ ap s.has same.1 ∙ k.held
+  | inr apart ↦ elim (cases_lt 0 (tally n k.left_tree)) as (λ _. s.has n ≡ true) [
+    | inl some ↦ Stands-held s k.left_cut.up k.left_tree n k.left_cut.stands (omega arith)
+    | inr none ↦ Stands-held s k.right_cut.up k.right_tree n k.right_cut.stands (let w = tally-node n x k.left_tree k.right_tree in let q = ap (tally n) k.whole in let e = one-other n x apart.1 in omega arith)
   ]
 ]
 
@@ -56,34 +82,38 @@ frame-side s false n below up sibling f some apart = ne_eqb (s.kid true n) below
     let q : 1 ≤ tally below sibling = subst (λ z. 1 ≤ tally z sibling) same r in
     absurd (omega arith))
 
--- a lift at the top
-pub record Single (s : Store) (side : Bool) (x below p : ℕ) (c : Context) (t : Tree) : Type 0 where
-  pub can : CanLift s side x p
-  pub step : Step s (lifted side x p s) x c t below 0
+-- a step below the root
+pub record Single (s : Store) (side : Bool) (x p inner : ℕ) (c : Context) (t : Tree) (below left right : ℕ) : Type 0 where
+  pub can : CanHang s p inner
+  pub step : Step s (with_child side p inner s) x c t below 0 left right
 
-pub zig : (s : Store) (d : Bool) (x below p : ℕ) (sibling t : Tree) → s.has 0 ≡ false → IsRising s x below p (Under d p sibling Top) t → Single s d x below p (Under d p sibling Top) t
-zig s d x below p sibling t none r =
-    let v = sides_of s d x t r.loose in
-    let w : (n : ℕ) → tally n t ≡ tally n v.outer + (one n x + tally n v.inner) = λ n. ap (tally n) v.whole ∙ tally-joined n x d v.outer v.inner in
-    let l : Lifting s d x p v.inner = record {
+pub zig-step : (s : Store) (d : Bool) (x below p left right near inner left2 right2 : ℕ) (sibling t : Tree) → s.has 0 ≡ false
+    → AreTurned d left right near inner → AreTurned d near p left2 right2 → IsRising s x below p left right (Under d p sibling Top) t
+    → Single s d x p inner (Under d p sibling Top) t below left2 right2
+zig-step s d x below p left right near inner left2 right2 sibling t none before after r =
+    let v = sides_of s d x left right near inner t before r.hand in
+    let w : (n : ℕ) → tally n t ≡ tally n v.near_tree + (one n x + tally n v.inner_tree) = λ n. ap (tally n) v.whole ∙ tally-joined n x d v.near_tree v.inner_tree in
+    let h : Hanging s p inner v.inner_tree = record {
       none = none;
-      inner_kid = v.far;
-      over_held = r.round.0.other_kid.held;
+      held = r.round.0.other_kid.held;
+      cut = v.inner_cut;
       apart = λ n. let k = r.once n in let j = w n in omega arith;
     } in
-    let new = lifted d x p s in
-    let tree = joined d v.outer x (joined d v.inner p sibling) in
-    let list : names tree ≡ names (joined d t p sibling) = sym (rotate d v.outer x v.inner p sibling) ∙ ap (λ z. names (joined d z p sibling)) (sym v.whole) in
+    let new = with_child d p inner s in
+    let tree = joined d v.near_tree x (joined d v.inner_tree p sibling) in
+    let list : names tree ≡ names (joined d t p sibling) = sym (rotate d v.near_tree x v.inner_tree p sibling) ∙ ap (λ z. names (joined d z p sibling)) (sym v.whole) in
     let same : (n : ℕ) → tally n tree + 0 ≡ tally n t + (one n p + tally n sibling + 0) = λ n. plug-tally n (Under d p sibling Top) t Top tree list in
     record {
-      can = can_lift s d x p v.inner l;
+      can = can_hang s p inner v.inner_tree h;
       step = record {
         context = Top;
         tree = tree;
         rising = record {
-          loose = IsLoose-joined new d x v.outer (joined d v.inner p sibling)
-              (keep-near s d x p v.inner v.outer l (λ n i. let k = r.once n in let j = w n in omega arith) v.near)
-              (lift-far s d x p v.inner sibling l (λ n. let k = r.once n in let j = w n in omega arith) r.round.0.other_kid);
+          hand = IsInHand-joined new d x near p left2 right2 v.near_tree (joined d v.inner_tree p sibling) after
+              (ap (λ f. f x) (has-child d p inner s) ∙ r.hand.held)
+              (hang-cut s d p inner v.inner_tree near v.near_tree h (λ n i. let k = r.once n in let j = w n in omega arith) v.near_cut)
+              (IsCut-joined new d v.inner_tree p sibling (hang-near s d p inner v.inner_tree h)
+              (hang-far s d p inner v.inner_tree sibling h (λ n i. let k = r.once n in let j = w n in omega arith) r.round.0.other_kid));
           round = tt;
           parent = refl;
           once = λ n. let k = same n in let j = r.once n in omega arith;
@@ -91,120 +121,146 @@ zig s d x below p sibling t none r =
         };
         list = list;
         shorter = omega arith;
-        others = λ n zero. lift-same s d x p v.inner l n (let j = w n in omega arith);
+        others = λ n zero. hang-same s d p inner v.inner_tree h n (let j = w n in omega arith);
       };
     }
 
--- two lifts of one side: the upper node over its parent, then the node over that one
-pub record Double (s middle new : Store) (first second : Bool) (a b x p : ℕ) (c : Context) (t : Tree) (below above : ℕ) : Type 0 where
-  pub can : CanLift s first a b
-  pub can_then : CanLift middle second x p
-  pub step : Step s new x c t below above
+-- two steps
+pub record Double (s new : Store) (x above top first second : ℕ) (c : Context) (t : Tree) (next left right : ℕ) : Type 0 where
+  pub can : CanTurn s above top first second
+  pub step : Step s new x c t top next left right
 
-pub zig_zig : (s : Store) (d : Bool) (x below p : ℕ) (sibling : Tree) (g : ℕ) (uncle : Tree) (c : Context) (t : Tree) → s.has 0 ≡ false
-    → IsRising s x below p (Under d p sibling (Under d g uncle c)) t
-    → Double s (lifted d p g s) (lifted d x p (lifted d p g s)) d d p g x p (Under d p sibling (Under d g uncle c)) t g (name_at c)
-zig_zig s d x below p sibling g uncle c t none r =
-    let v = sides_of s d x t r.loose in
-    let w : (n : ℕ) → tally n v.outer + (one n x + tally n v.inner) + (one n p + tally n sibling + (one n g + tally n uncle + tally_round n c)) ≤ 1
-    = λ n. let q = ap (tally n) v.whole ∙ tally-joined n x d v.outer v.inner in let k = r.once n in omega arith in
-    let l : Lifting s d p g sibling = record {
+-- that no name stands twice in the parts, where a node is on its way up below two
+parts_once : (s : Store) (d : Bool) (x below p left right : ℕ) (sibling : Tree) (e : Bool) (g : ℕ) (uncle : Tree) (c : Context) (t near inner : Tree) → t ≡ joined d near x inner
+    → IsRising s x below p left right (Under d p sibling (Under e g uncle c)) t
+    → (n : ℕ) → tally n near + (one n x + tally n inner) + (one n p + tally n sibling + (one n g + tally n uncle + tally_round n c)) ≤ 1
+parts_once s d x below p left right sibling e g uncle c t near inner whole r n =
+    let q = ap (tally n) whole ∙ tally-joined n x d near inner in let k = r.once n in omega arith
+
+pub zig_zig-step : (s : Store) (d : Bool) (x below p left right near inner left2 right2 : ℕ) (sibling : Tree) (g : ℕ) (uncle : Tree) (c : Context) (t : Tree) → s.has 0 ≡ false
+    → AreTurned d left right near inner → AreTurned d near p left2 right2 → IsRising s x below p left right (Under d p sibling (Under d g uncle c)) t
+    → Double s (zig_zig d inner p g s) x p g (s.kid (not d) p) inner (Under d p sibling (Under d g uncle c)) t (name_at c) left2 right2
+unfolding zig_zig
+zig_zig-step s d x below p left right near inner left2 right2 sibling g uncle c t none before after r =
+    let v = sides_of s d x left right near inner t before r.hand in
+    let w = parts_once s d x below p left right sibling d g uncle c t v.near_tree v.inner_tree v.whole r in
+    let middle = s.kid (not d) p in
+    let low = joined d sibling g uncle in
+    let u : (n : ℕ) → tally n low ≡ tally n sibling + (one n g + tally n uncle) = λ n. tally-joined n g d sibling uncle in
+    let h : Hanging s g middle sibling = record {
       none = none;
-      inner_kid = r.round.0.other_kid;
-      over_held = r.round.1.0.other_kid.held;
+      held = r.round.1.0.other_kid.held;
+      cut = IsCut-kid s (not d) p sibling r.round.0.other_kid;
       apart = λ n. let k = w n in omega arith;
     } in
-    let s1 = lifted d p g s in
-    let x_p : one x p ≡ 0 = let k = w x in let e = one-same x x refl in omega arith in
-    let x_g : one x g ≡ 0 = let k = w x in let e = one-same x x refl in omega arith in
-    let inner1 : HasKid s1 (not d) x v.inner = keep-kid s d p g sibling (not d) x v.inner l x_p x_g (λ n i. let k = w n in omega arith) v.far in
-    let outer1 : HasKid s1 d x v.outer = keep-kid s d p g sibling d x v.outer l x_p x_g (λ n i. let k = w n in omega arith) v.near in
-    let far1 : HasKid s1 (not d) p (joined d sibling g uncle) = lift-far s d p g sibling uncle l (λ n. let k = w n in omega arith) r.round.1.0.other_kid in
-    let round1 : IsRound s1 c g = keep-round s d p g sibling c g l (λ n i. let k = w n in omega arith) r.round.1.1 in
-    let u : (n : ℕ) → tally n (joined d sibling g uncle) ≡ tally n sibling + (one n g + tally n uncle) = λ n. tally-joined n g d sibling uncle in
-    let m : Lifting s1 d x p v.inner = record {
-      none = ap (λ f. f 0) (lift_of s d p g sibling l).has ∙ none;
-      inner_kid = inner1;
-      over_held = far1.held;
+    let s1 = with_child d g middle s in
+    let h1 : Hanging s1 p g low = record {
+      none = ap (λ f. f 0) (has-child d g middle s) ∙ none;
+      held = ap (λ f. f p) (has-child d g middle s) ∙ r.round.0.other_kid.held;
+      cut = IsCut-joined s1 d sibling g uncle (hang-near s d g middle sibling h) (hang-far s d g middle sibling uncle h (λ n i. let k = w n in omega arith) r.round.1.0.other_kid);
+      apart = λ n. let k = w n in let j = u n in omega arith;
+    } in
+    let s2 = with_child (not d) p g s1 in
+    let inner1 : IsCut s1 inner v.inner_tree = hang-cut s d g middle sibling inner v.inner_tree h (λ n i. let k = w n in omega arith) v.inner_cut in
+    let h2 : Hanging s2 p inner v.inner_tree = record {
+      none = ap (λ f. f 0) (has-child (not d) p g s1) ∙ h1.none;
+      held = ap (λ f. f p) (has-child (not d) p g s1) ∙ h1.held;
+      cut = hang-cut s1 (not d) p g low inner v.inner_tree h1 (λ n i. let k = w n in let j = u n in omega arith) inner1;
       apart = λ n. let k = w n in omega arith;
     } in
-    let new = lifted d x p s1 in
-    let tree = joined d v.outer x (joined d v.inner p (joined d sibling g uncle)) in
+    let new = with_child d p inner s2 in
+    let near1 : IsCut s1 near v.near_tree = hang-cut s d g middle sibling near v.near_tree h (λ n i. let k = w n in omega arith) v.near_cut in
+    let near2 : IsCut s2 near v.near_tree = hang-cut s1 (not d) p g low near v.near_tree h1 (λ n i. let k = w n in let j = u n in omega arith) near1 in
+    let round1 : IsRound s1 c g = hang-round s d g middle sibling c g h (λ n i. let k = w n in omega arith) r.round.1.1 in
+    let round2 : IsRound s2 c g = hang-round s1 (not d) p g low c g h1 (λ n i. let k = w n in let j = u n in omega arith) round1 in
+    let tree = joined d v.near_tree x (joined d v.inner_tree p low) in
     let list : names (plug c tree) ≡ names (plug c (joined d (joined d t p sibling) g uncle)) =
-    plug-names c tree (joined d (joined d t p sibling) g uncle) (sym (rotate_twice d v.outer x v.inner p sibling g uncle) ∙ ap (λ z. names (joined d (joined d z p sibling) g uncle)) (sym v.whole)) in
+    plug-names c tree (joined d (joined d t p sibling) g uncle) (sym (rotate_twice d v.near_tree x v.inner_tree p sibling g uncle) ∙ ap (λ z. names (joined d (joined d z p sibling) g uncle)) (sym v.whole)) in
     let same : (n : ℕ) → tally n tree + tally_round n c ≡ tally n t + (one n p + tally n sibling + (one n g + tally n uncle + tally_round n c)) = λ n. plug-tally n (Under d p sibling (Under d g uncle c)) t c tree list in
     record {
-      can = can_lift s d p g sibling l;
-      can_then = can_lift s1 d x p v.inner m;
+      can = record {
+        above_held = r.round.0.other_kid.held;
+        top_held = h.held;
+        first_held = IsCut-held s middle sibling h.cut;
+        second_held = IsCut-held s inner v.inner_tree v.inner_cut;
+      };
       step = record {
         context = c;
         tree = tree;
         rising = record {
-          loose = IsLoose-joined new d x v.outer (joined d v.inner p (joined d sibling g uncle))
-              (keep-near s1 d x p v.inner v.outer m (λ n i. let k = w n in omega arith) outer1)
-              (lift-far s1 d x p v.inner (joined d sibling g uncle) m (λ n. let k = w n in let j = u n in omega arith) far1);
-          round = keep-round s1 d x p v.inner c g m (λ n i. let k = w n in omega arith) round1;
+          hand = IsInHand-joined new d x near p left2 right2 v.near_tree (joined d v.inner_tree p low) after
+              (ap (λ f. f x) (has-child d p inner s2 ∙ has-child (not d) p g s1 ∙ has-child d g middle s) ∙ r.hand.held)
+              (hang-cut s2 d p inner v.inner_tree near v.near_tree h2 (λ n i. let k = w n in omega arith) near2)
+              (IsCut-joined new d v.inner_tree p low (hang-near s2 d p inner v.inner_tree h2)
+              (hang-far s2 d p inner v.inner_tree low h2 (λ n i. let k = w n in let j = u n in omega arith) (hang-near s1 (not d) p g low h1)));
+          round = hang-round s2 d p inner v.inner_tree c g h2 (λ n i. let k = w n in omega arith) round2;
           parent = refl;
           once = λ n. let k = same n in let j = r.once n in omega arith;
           among = let k = same g in let j = r.once g in let e = one-same g g refl in omega arith;
         };
         list = list;
         shorter = omega arith;
-        others = λ n zero. let q = ap (tally n) v.whole ∙ tally-joined n x d v.outer v.inner in
-            SameLinks-on s s1 new n (lift-same s d p g sibling l n (omega arith)) (lift-same s1 d x p v.inner m n (omega arith));
+        others = λ n zero. let q = ap (tally n) v.whole ∙ tally-joined n x d v.near_tree v.inner_tree in let j = u n in
+            SameLinks-on s s2 new n
+            (SameLinks-on s s1 s2 n (hang-same s d g middle sibling h n (omega arith)) (hang-same s1 (not d) p g low h1 n (omega arith)))
+            (hang-same s2 d p inner v.inner_tree h2 n (omega arith));
       };
     }
 
-pub zig_zag : (s : Store) (d : Bool) (x below p : ℕ) (sibling : Tree) (g : ℕ) (uncle : Tree) (c : Context) (t : Tree) → s.has 0 ≡ false
-    → IsRising s x below p (Under d p sibling (Under (not d) g uncle c)) t
-    → Double s (lifted d x p s) (lifted (not d) x g (lifted d x p s)) d (not d) x p x g (Under d p sibling (Under (not d) g uncle c)) t g (name_at c)
-zig_zag s d x below p sibling g uncle c t none r =
-    let v = sides_of s d x t r.loose in
-    let w : (n : ℕ) → tally n v.outer + (one n x + tally n v.inner) + (one n p + tally n sibling + (one n g + tally n uncle + tally_round n c)) ≤ 1
-    = λ n. let q = ap (tally n) v.whole ∙ tally-joined n x d v.outer v.inner in let k = r.once n in omega arith in
-    let l : Lifting s d x p v.inner = record {
+pub zig_zag-step : (s : Store) (d : Bool) (x below p left right near inner left2 right2 : ℕ) (sibling : Tree) (g : ℕ) (uncle : Tree) (c : Context) (t : Tree) → s.has 0 ≡ false
+    → AreTurned d left right near inner → AreTurned d g p left2 right2 → IsRising s x below p left right (Under d p sibling (Under (not d) g uncle c)) t
+    → Double s (zig_zag d near inner p g s) x p g near inner (Under d p sibling (Under (not d) g uncle c)) t (name_at c) left2 right2
+unfolding zig_zag
+zig_zag-step s d x below p left right near inner left2 right2 sibling g uncle c t none before after r =
+    let v = sides_of s d x left right near inner t before r.hand in
+    let w = parts_once s d x below p left right sibling (not d) g uncle c t v.near_tree v.inner_tree v.whole r in
+    let low = joined d v.inner_tree p sibling in
+    let u : (n : ℕ) → tally n low ≡ tally n v.inner_tree + (one n p + tally n sibling) = λ n. tally-joined n p d v.inner_tree sibling in
+    let h : Hanging s p inner v.inner_tree = record {
       none = none;
-      inner_kid = v.far;
-      over_held = r.round.0.other_kid.held;
+      held = r.round.0.other_kid.held;
+      cut = v.inner_cut;
       apart = λ n. let k = w n in omega arith;
     } in
-    let s1 = lifted d x p s in
-    let g_x : one g x ≡ 0 = let k = w g in let e = one-same g g refl in omega arith in
+    let s1 = with_child d p inner s in
+    let h1 : Hanging s1 g near v.near_tree = record {
+      none = ap (λ f. f 0) (has-child d p inner s) ∙ none;
+      held = ap (λ f. f g) (has-child d p inner s) ∙ r.round.1.0.other_kid.held;
+      cut = hang-cut s d p inner v.inner_tree near v.near_tree h (λ n i. let k = w n in omega arith) v.near_cut;
+      apart = λ n. let k = w n in omega arith;
+    } in
+    let new = with_child (not d) g near s1 in
     let g_p : one g p ≡ 0 = let k = w g in let e = one-same g g refl in omega arith in
-    let outer1 : HasKid s1 d x v.outer = keep-near s d x p v.inner v.outer l (λ n i. let k = w n in omega arith) v.near in
-    let far1 : HasKid s1 (not d) x (joined d v.inner p sibling) = lift-far s d x p v.inner sibling l (λ n. let k = w n in omega arith) r.round.0.other_kid in
-    let uncle1 : HasKid s1 (not (not d)) g uncle = keep-kid s d x p v.inner (not (not d)) g uncle l g_x g_p (λ n i. let k = w n in omega arith) r.round.1.0.other_kid in
-    let round1 : IsRound s1 c g = keep-round s d x p v.inner c g l (λ n i. let k = w n in omega arith) r.round.1.1 in
-    let u : (n : ℕ) → tally n (joined d v.inner p sibling) ≡ tally n v.inner + (one n p + tally n sibling) = λ n. tally-joined n p d v.inner sibling in
-    let m : Lifting s1 (not d) x g v.outer = record {
-      none = ap (λ f. f 0) (lift_of s d x p v.inner l).has ∙ none;
-      inner_kid = subst (λ z. HasKid s1 z x v.outer) (sym (not_not d)) outer1;
-      over_held = uncle1.held;
-      apart = λ n. let k = w n in omega arith;
-    } in
-    let new = lifted (not d) x g s1 in
-    let tree = joined d (joined (not d) v.outer g uncle) x (joined d v.inner p sibling) in
+    let low1 : IsCut s1 p low = IsCut-joined s1 d v.inner_tree p sibling (hang-near s d p inner v.inner_tree h) (hang-far s d p inner v.inner_tree sibling h (λ n i. let k = w n in omega arith) r.round.0.other_kid) in
+    let uncle1 : HasKid s1 (not (not d)) g uncle = hang-kid s d p inner v.inner_tree (not (not d)) g uncle h g_p (λ n i. let k = w n in omega arith) r.round.1.0.other_kid in
+    let round1 : IsRound s1 c g = hang-round s d p inner v.inner_tree c g h (λ n i. let k = w n in omega arith) r.round.1.1 in
+    let tree = joined d (joined (not d) v.near_tree g uncle) x low in
     let list : names (plug c tree) ≡ names (plug c (joined (not d) (joined d t p sibling) g uncle)) =
-    plug-names c tree (joined (not d) (joined d t p sibling) g uncle) (sym (rotate_across d v.outer x v.inner p sibling g uncle) ∙ ap (λ z. names (joined (not d) (joined d z p sibling) g uncle)) (sym v.whole)) in
+    plug-names c tree (joined (not d) (joined d t p sibling) g uncle) (sym (rotate_across d v.near_tree x v.inner_tree p sibling g uncle) ∙ ap (λ z. names (joined (not d) (joined d z p sibling) g uncle)) (sym v.whole)) in
     let same : (n : ℕ) → tally n tree + tally_round n c ≡ tally n t + (one n p + tally n sibling + (one n g + tally n uncle + tally_round n c)) = λ n. plug-tally n (Under d p sibling (Under (not d) g uncle c)) t c tree list in
     record {
-      can = can_lift s d x p v.inner l;
-      can_then = can_lift s1 (not d) x g v.outer m;
+      can = record {
+        above_held = h.held;
+        top_held = r.round.1.0.other_kid.held;
+        first_held = IsCut-held s near v.near_tree v.near_cut;
+        second_held = IsCut-held s inner v.inner_tree v.inner_cut;
+      };
       step = record {
         context = c;
         tree = tree;
         rising = record {
-          loose = IsLoose-joined new d x (joined (not d) v.outer g uncle) (joined d v.inner p sibling)
-              (subst (λ z. HasKid new z x (joined (not d) v.outer g uncle)) (not_not d) (lift-far s1 (not d) x g v.outer uncle m (λ n. let k = w n in omega arith) uncle1))
-              (keep-near s1 (not d) x g v.outer (joined d v.inner p sibling) m (λ n i. let k = w n in let j = u n in omega arith) far1);
-          round = keep-round s1 (not d) x g v.outer c g m (λ n i. let k = w n in omega arith) round1;
+          hand = IsInHand-joined new d x g p left2 right2 (joined (not d) v.near_tree g uncle) low after
+              (ap (λ f. f x) (has-child (not d) g near s1 ∙ has-child d p inner s) ∙ r.hand.held)
+              (IsCut-joined new (not d) v.near_tree g uncle (hang-near s1 (not d) g near v.near_tree h1) (hang-far s1 (not d) g near v.near_tree uncle h1 (λ n i. let k = w n in omega arith) uncle1))
+              (hang-cut s1 (not d) g near v.near_tree p low h1 (λ n i. let k = w n in let j = u n in omega arith) low1);
+          round = hang-round s1 (not d) g near v.near_tree c g h1 (λ n i. let k = w n in omega arith) round1;
           parent = refl;
           once = λ n. let k = same n in let j = r.once n in omega arith;
           among = let k = same g in let j = r.once g in let e = one-same g g refl in omega arith;
         };
         list = list;
         shorter = omega arith;
-        others = λ n zero. let q = ap (tally n) v.whole ∙ tally-joined n x d v.outer v.inner in
-            SameLinks-on s s1 new n (lift-same s d x p v.inner l n (omega arith)) (lift-same s1 (not d) x g v.outer m n (omega arith));
+        others = λ n zero. let q = ap (tally n) v.whole ∙ tally-joined n x d v.near_tree v.inner_tree in
+            SameLinks-on s s1 new n (hang-same s d p inner v.inner_tree h n (omega arith)) (hang-same s1 (not d) g near v.near_tree h1 n (omega arith));
       };
     }

@@ -3,7 +3,7 @@ use Rattle.std.proofs.Common.{◌≡◌, ◌≢◌, ℕ, Bool, true, false, not,
 use Rattle.std.proofs.lemmas.Bool.{eq-eqb, ne_eqb, true≢false}
 use Rattle.std.proofs.lemmas.Bool.Decides.{eqb_tells}
 use Rattle.vc_splay.specs.Store.{Store, with_kid, with_parent, is_same}
-use Rattle.vc_splay.specs.Moves.{with_parent_of}
+use Rattle.vc_splay.specs.Writes.{with_kid_of, with_parent_of}
 
 pub not_not : (d : Bool) → not (not d) ≡ d
 not_not true = refl
@@ -69,6 +69,15 @@ parent_of-some n v s some = rw (ne_eqb n 0 some) refl
 pub parent_of-none : (n v : ℕ) (s : Store) → n ≡ 0 → s ≡ with_parent_of n v s
 unfolding with_parent_of
 parent_of-none n v s none = rw (eq-eqb n 0 none) refl
+
+-- a name with a child is one with another child, where there is a name
+pub kid_of-some : (d : Bool) (n v : ℕ) (s : Store) → n ≢ 0 → with_kid d n v s ≡ with_kid_of d n v s
+unfolding with_kid_of
+kid_of-some d n v s some = rw (ne_eqb n 0 some) refl
+
+pub kid_of-none : (d : Bool) (n v : ℕ) (s : Store) → n ≡ 0 → s ≡ with_kid_of d n v s
+unfolding with_kid_of
+kid_of-none d n v s none = rw (eq-eqb n 0 none) refl
 
 -- stores with the same names and links are one
 pub same_store : (s t : Store) → ((n : ℕ) → s.has n ≡ t.has n) → ((d : Bool) (n : ℕ) → s.kid d n ≡ t.kid d n) → ((n : ℕ) → s.parent n ≡ t.parent n) → s ≡ t

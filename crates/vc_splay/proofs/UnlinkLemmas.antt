@@ -5,9 +5,10 @@ use Rattle.vc_base.specs.Holders.{AreDistinct, contains, last_in, last_of, some_
 use Rattle.vc_splay.specs.Tree.{Tree, Leaf, Node, names, name_of}
 use Rattle.vc_splay.specs.Store.{Store, SameLinks, with_kid, with_parent}
 use Rattle.vc_splay.specs.Stands.{IsNode, IsTree, Stands, TreeAfter}
-use Rattle.vc_splay.specs.Moves.{count, one, tally, with_parent_of}
+use Rattle.vc_splay.specs.Moves.{Topped, count, one, tally}
 use Rattle.vc_splay.specs.Searches.{IsPair}
-use Rattle.vc_splay.proofs.LiftLemmas.{SameLinks-on, SameLinks-same}
+use Rattle.vc_splay.specs.Writes.{with_parent_of}
+use Rattle.vc_splay.proofs.HangLemmas.{SameLinks-on, SameLinks-same}
 use Rattle.vc_splay.proofs.LinkLemmas.{apart_tally, parents_kid}
 use Rattle.vc_splay.proofs.NeighbourLemmas.{apart_here, apart_on, last_both, once_before}
 use Rattle.vc_splay.proofs.SearchLemmas.{search_leaf}
@@ -219,26 +220,6 @@ join_both old s left right top end a b none has p left_some right_some e same af
           (kept n (λ z. let f : 1 ≤ tally n a = subst (λ y. 1 ≤ tally y a) (sym z) top_in in absurd (omega arith)) (λ z. let f : 1 ≤ tally n b = subst (λ y. 1 ≤ tally y b) (sym z) right_in in absurd (omega arith)));
     }
 
--- a root's subtrees
-pub record Halves (s : Store) (root : ℕ) (t : Tree) : Type 0 where
-  pub front : Tree
-  pub back : Tree
-  pub whole : t ≡ Node front root back
-  pub node : IsNode s 0 root (name_of front) (name_of back)
-  pub front_stands : Stands s root front
-  pub back_stands : Stands s root back
-
-pub halves : (s : Store) (root : ℕ) (t : Tree) → IsTree s root t → root ≢ 0 → Halves s root t
-halves s root Leaf k some = absurd (some k.top)
-halves s root (Node l n r) k some = subst (λ z. Halves s z (Node l n r)) (sym k.top) (record {
-  front = l;
-  back = r;
-  whole = refl;
-  node = k.stands.0;
-  front_stands = k.stands.1;
-  back_stands = k.stands.2;
-})
-
 without-split : (xs : List ℕ) (at : ℕ) (ys : List ℕ) → contains xs at ≡ false → without at (xs ++ at ∷ ys) ≡ xs ++ ys
 without-split [] at ys h = rw (eq-eqb at at refl) refl
 without-split (x ∷ xs) at ys h = rw (ne_eqb x at (apart_here x xs at h)) (ap (λ z. x ∷ z) (without-split xs at ys (apart_on x xs at h)))
@@ -252,41 +233,38 @@ pub record Split (old s new : Store) (at left right : ℕ) (t : Tree) : Type 0 w
   pub others : (n : ℕ) → contains (names t) n ≡ false → SameLinks old new n
   pub apart : (n : ℕ) → contains (names t) n ≡ false → contains (names front ++ names back) n ≡ false
 
-pub split_at : (old s : Store) (root at left right : ℕ) (t : Tree) → s.has 0 ≡ false → at ≢ 0 → IsTree old root t → TreeAfter old s (names t) at (names t) → left ≡ s.kid true at → right ≡ s.kid false at → Split old s (with_parent_of left 0 s) at left right t
-split_at old s root at left right t none some k after el er =
-    let h = halves s at after.tree after.is_tree some in
+pub split_at : (old s : Store) (at left right : ℕ) (t : Tree) → s.has 0 ≡ false → AreDistinct (names t) → Topped old s at (names t) left right → Split old s (with_parent_of left 0 s) at left right t
+split_at old s at left right t none distinct k =
+    let front = k.hand.left_tree in
+    let back = k.hand.right_tree in
+    let cut = k.hand.left_cut in
     let new = with_parent_of left 0 s in
-    let list : names t ≡ names h.front ++ at ∷ names h.back = sym after.list ∙ ap names h.whole in
-    let w : (n : ℕ) → tally n t ≡ tally n h.front + (one n at + tally n h.back) = λ n. let q = tally-list n after.tree t after.list in let u = ap (tally n) h.whole in let v = tally-node n at h.front h.back in omega arith in
-    let once : (n : ℕ) → tally n t ≤ 1 = λ n. tally-once n t k.distinct in
-    let left_is : left ≡ name_of h.front = el ∙ h.node.left_kid in
-    let front : Stands new 0 h.front = raised s at 0 left h.front none h.front_stands left_is (λ n. let a = once n in let b = w n in omega arith) in
-    let left_in : left ≢ 0 → 1 ≤ tally left h.front = λ f. subst (λ z. 1 ≤ tally z h.front) (sym left_is) (tally-root h.front (λ z. f (left_is ∙ z))) in
-    let back : Stands new at h.back = Stands-kept s new at h.back (has_parent_of left 0 s)
-    (λ n i. other_parents s left 0 n (λ f z. let g = left_in f in let q : 1 ≤ tally n h.front = subst (λ y. 1 ≤ tally y h.front) (sym z) g in let a = once n in let b = w n in absurd (omega arith)))
-    h.back_stands in
+    let list : names t ≡ names front ++ at ∷ names back = sym k.list ∙ ap names k.hand.whole in
+    let w : (n : ℕ) → tally n t ≡ tally n front + (one n at + tally n back) = λ n. let q = tally-list n k.tree t k.list in let u = ap (tally n) k.hand.whole in let v = tally-node n at front back in omega arith in
+    let once : (n : ℕ) → tally n t ≤ 1 = λ n. tally-once n t distinct in
+    let left_in : left ≢ 0 → 1 ≤ tally left front = λ f. subst (λ z. 1 ≤ tally z front) (sym cut.top_is) (tally-root front (λ z. f (cut.top_is ∙ z))) in
     record {
-      front = h.front;
-      back = h.back;
+      front = front;
+      back = back;
       pair = record {
-        up = at;
-        front_is = record { top = left_is; stands = front; distinct = distinct_of h.front (λ n. let a = once n in let b = w n in omega arith) };
-        back_stands = back;
-        back_top = er ∙ h.node.right_kid;
-        distinct = count-distinct (names h.front ++ names h.back) (λ n. let a = once n in let b = w n in let c = parts_count n h.front h.back in omega arith);
+        up = k.hand.right_cut.up;
+        front_is = record {
+          top = cut.top_is;
+          stands = raised s cut.up 0 left front none cut.stands cut.top_is (λ n. let a = once n in let b = w n in omega arith);
+          distinct = distinct_of front (λ n. let a = once n in let b = w n in omega arith);
+        };
+        back_stands = Stands-kept s new k.hand.right_cut.up back (has_parent_of left 0 s)
+            (λ n i. other_parents s left 0 n (λ f z. let g = left_in f in let q : 1 ≤ tally n front = subst (λ y. 1 ≤ tally y front) (sym z) g in let a = once n in let b = w n in absurd (omega arith)))
+            k.hand.right_cut.stands;
+        back_top = k.hand.right_cut.top_is;
+        distinct = count-distinct (names front ++ names back) (λ n. let a = once n in let b = w n in let c = parts_count n front back in omega arith);
       };
-      list = ap (without at) list ∙ without-split (names h.front) at (names h.back) (once_before (names h.front) at (names h.back) (subst AreDistinct list k.distinct));
+      list = ap (without at) list ∙ without-split (names front) at (names back) (once_before (names front) at (names back) (subst AreDistinct list distinct));
       others = λ n i.
-          SameLinks-on old s new n (after.others n i)
-          (other_parents s left 0 n (λ f z. let g = left_in f in let q : 1 ≤ tally n h.front = subst (λ y. 1 ≤ tally y h.front) (sym z) g in let a = tally-apart n t i in let b = w n in absurd (omega arith)));
-      apart = λ n i. apart-count n (names h.front ++ names h.back) (let a = tally-apart n t i in let b = w n in let c = parts_count n h.front h.back in omega arith);
+          SameLinks-on old s new n (k.others n i)
+          (other_parents s left 0 n (λ f z. let g = left_in f in let q : 1 ≤ tally n front = subst (λ y. 1 ≤ tally y front) (sym z) g in let a = tally-apart n t i in let b = w n in absurd (omega arith)));
+      apart = λ n i. apart-count n (names front ++ names back) (let a = tally-apart n t i in let b = w n in let c = parts_count n front back in omega arith);
     }
-
-pub left_held : (old s : Store) (root at left : ℕ) (t : Tree) → s.has 0 ≡ false → at ≢ 0 → IsTree old root t → TreeAfter old s (names t) at (names t) → left ≡ s.kid true at → left ≢ 0 → s.has left ≡ true
-left_held old s root at left t none some k after el f =
-    let h = halves s at after.tree after.is_tree some in
-    let left_is : left ≡ name_of h.front = el ∙ h.node.left_kid in
-    Stands-held s at h.front left h.front_stands (subst (λ z. 1 ≤ tally z h.front) (sym left_is) (tally-root h.front (λ z. f (left_is ∙ z))))
 
 -- the two are joined
 pub unlink_end : (old s mid new : Store) (at left right : ℕ) (t : Tree) (result : ℕ) (h : Split old s mid at left right t) → TreeAfter mid new (names h.front ++ names h.back) result (names h.front ++ names h.back) → TreeAfter old new (names t) result (without at (names t))

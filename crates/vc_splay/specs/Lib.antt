@@ -1,6 +1,7 @@
 pub mod Tree
 pub mod Store
 pub mod Stands
+pub mod Writes
 pub mod Moves
 pub mod Unique
 pub mod Walks

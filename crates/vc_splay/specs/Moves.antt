@@ -1,6 +1,7 @@
 -- Parts of a tree on the way up from a node, and what a step of a splay does to them.
-use Rattle.std.specs.Prelude.{◌≡◌, ◌≢◌, ℕ, ◌+◌, ◌≤◌, Bool, true, false, not, List, [], ◌∷◌, ◌==◌, ◌&&◌, if◌then◌else◌}
-use Rattle.vc_splay.specs.Store.{Store, SameLinks, with_kid, with_parent}
+use Rattle.std.specs.Prelude.{◌≡◌, ◌≢◌, ℕ, ◌+◌, ◌≤◌, Bool, true, false, not, List, [], ◌∷◌, ◌==◌, if◌then◌else◌}
+use Rattle.vc_base.specs.Holders.{contains}
+use Rattle.vc_splay.specs.Store.{Store, SameLinks}
 use Rattle.vc_splay.specs.Stands.{Stands}
 use Rattle.vc_splay.specs.Tree.{Tree, Node, names, name_of}
 
@@ -69,54 +70,60 @@ abbrev pub IsRound : Store → Context → ℕ → Type 0
 IsRound s Top below = Unit {0}
 IsRound s (Under side n sibling c) below = IsFrame s side n below (name_at c) sibling × IsRound s c n
 
--- the subtrees of a node have their links so; nothing is said of its parent
-pub record IsLoose (s : Store) (n : ℕ) (t : Tree) : Type 0 where
-  pub left : Tree
-  pub right : Tree
-  pub whole : t ≡ Node left n right
-  pub left_kid : HasKid s true n left
-  pub right_kid : HasKid s false n right
+-- a tree whose root has this name, 0 where it has no node; nothing is said of the root's parent
+pub record IsCut (s : Store) (top : ℕ) (t : Tree) : Type 0 where
+  pub up : ℕ
+  pub stands : Stands s up t
+  pub top_is : top ≡ name_of t
 
--- a node on its way up: what is above it still names as its child one of the names below it
-pub record IsRising (s : Store) (at below above : ℕ) (c : Context) (t : Tree) : Type 0 where
-  pub loose : IsLoose s at t
+-- a node in hand: its subtrees have these names; nothing is said of the links between it and them, nor of its parent
+pub record IsInHand (s : Store) (n left right : ℕ) (t : Tree) : Type 0 where
+  pub left_tree : Tree
+  pub right_tree : Tree
+  pub whole : t ≡ Node left_tree n right_tree
+  pub held : s.has n ≡ true
+  pub left_cut : IsCut s left left_tree
+  pub right_cut : IsCut s right right_tree
+
+-- a node in hand on its way up: what is above it still names as its child one of the names below it
+pub record IsRising (s : Store) (at below above left right : ℕ) (c : Context) (t : Tree) : Type 0 where
+  pub hand : IsInHand s at left right t
   pub round : IsRound s c below
   pub parent : above ≡ name_at c
   pub once : (n : ℕ) → tally n t + tally_round n c ≤ 1
   pub among : 1 ≤ tally below t
 
--- with another parent of this name, where there is one
-unfoldable pub with_parent_of : ℕ → ℕ → Store → Store
-with_parent_of n v s = record {
-  has = s.has;
-  kid = s.kid;
-  parent = λ m. if not (n == 0) && (m == n) then v else s.parent m;
-}
-
--- with a node, the child on this side of another one, lifted above that one
-unfoldable pub lifted : Bool → ℕ → ℕ → Store → Store
-lifted side n over s =
-    let inner = s.kid (not side) n in
-    with_parent over n (with_kid (not side) n over (with_parent_of inner over (with_kid side over inner s)))
-
--- what a lift asks: both names are there, and so is the node whose place changes, where there is one
-pub record CanLift (s : Store) (side : Bool) (n over : ℕ) : Type 0 where
-  pub held : s.has n ≡ true
-  pub over_held : s.has over ≡ true
-  pub inner_held : s.kid (not side) n ≢ 0 → s.has (s.kid (not side) n) ≡ true
-
--- what a step asks: a node is on its way up, and there is one above it
-pub record CanStep (s : Store) (at below above : ℕ) : Type 0 where
+-- a node is so on its way up
+pub record CanRise (s : Store) (at below above left right : ℕ) : Type 0 where
   pub context : Context
   pub tree : Tree
-  pub rising : IsRising s at below above context tree
+  pub rising : IsRising s at below above left right context tree
+
+-- a node taken in hand where it is
+pub record IsTaken (s : Store) (at below above left right : ℕ) : Type 0 where
+  pub below_is : below ≡ at
+  pub above_is : above ≡ s.parent at
+  pub left_is : left ≡ s.kid true at
+  pub right_is : right ≡ s.kid false at
+
+-- a node in hand at the top of a tree with these names, where all other names keep their links
+pub record Topped (old new : Store) (at : ℕ) (in_order : List ℕ) (left right : ℕ) : Type 0 where
+  pub tree : Tree
+  pub hand : IsInHand new at left right tree
+  pub once : (n : ℕ) → tally n tree ≤ 1
+  pub list : names tree ≡ in_order
+  pub others : (n : ℕ) → contains in_order n ≡ false → SameLinks old new n
+
+-- what a step asks: there is a node above the one on its way up
+pub record CanStep (s : Store) (at below above left right : ℕ) : Type 0 where
+  pub can_rise : CanRise s at below above left right
   pub some : above ≢ 0
 
 -- one step up: fewer nodes are above it, the names stand in the same order, and all others keep their links
-pub record Step (old new : Store) (at : ℕ) (c : Context) (t : Tree) (below above : ℕ) : Type 0 where
+pub record Step (old new : Store) (at : ℕ) (c : Context) (t : Tree) (below above left right : ℕ) : Type 0 where
   pub context : Context
   pub tree : Tree
-  pub rising : IsRising new at below above context tree
+  pub rising : IsRising new at below above left right context tree
   pub list : names (plug context tree) ≡ names (plug c t)
   pub shorter : depth context + 1 ≤ depth c
   pub others : (n : ℕ) → tally n t + tally_round n c ≡ 0 → SameLinks old new n

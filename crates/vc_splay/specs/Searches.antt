@@ -1,6 +1,6 @@
 -- What a walk down a tree ends with.
-use Rattle.std.specs.Prelude.{◌++◌, Bool, ◌≡◌, ◌≢◌, ℕ, ◌+◌, true}
-use Rattle.std.specs.Ordering.{is_ge, is_gt}
+use Rattle.std.specs.Prelude.{◌++◌, Bool, ◌≡◌, ◌≢◌, ℕ, ◌+◌, true, not, ◌==◌, ◌&&◌}
+use Rattle.std.specs.Ordering.{is_eq, is_ge, is_gt}
 use Rattle.std.specs.declared.cmp.Ordering.{Ordering}
 use Rattle.vc_base.specs.Holders.{AreDistinct, contains, some_address}
 use Rattle.vc_splay.specs.Store.{Store}
@@ -15,6 +15,10 @@ pub record Search (side : ℕ → Ordering) (tree : Tree) (deepest found before 
   pub found_in : found ≢ 0 → contains (names tree) found ≡ true
   pub deepest_in : contains (names tree) deepest ≡ true
   pub steps : now ≡ before + asked (λ n. is_ge (side n)) tree
+
+-- whether there is such a first one, and it is what is sought
+abbrev pub is_found : (ℕ → Ordering) → ℕ → Bool
+is_found side least = not (least == 0) && is_eq (side least)
 
 -- it stands for a tree with this name in it, and another one that is in it too or is 0
 pub record CanReach (s : Store) (root deepest found : ℕ) : Type 0 where

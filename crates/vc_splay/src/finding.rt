@@ -1,19 +1,20 @@
-ghost use Rattle.std.specs.Prelude.{◌≡◌, ◌≢◌, ℕ, ◌+◌, ◌≤◌, true, length, if◌then◌else◌, ◌==◌, ◌&&◌, not};
-ghost use Rattle.std.specs.Ordering.{is_eq};
+ghost use Rattle.std.specs.Prelude.{◌≡◌, ◌≢◌, ℕ, ◌+◌, ◌≤◌, length, if◌then◌else◌};
+ghost use Rattle.std.specs.Ordering.{is_eq, is_ge};
 ghost use Rattle.vc_base.specs.Holders.{some_address};
 ghost use Rattle.vc_splay.specs.Guide.{CanFind, first_at, least_at};
-ghost use Rattle.vc_splay.specs.Searches.{CanReach, Search};
+ghost use Rattle.vc_splay.specs.Searches.{CanReach, Search, is_found};
 ghost use Rattle.vc_splay.specs.Stands.{IsTree, TreeAfter};
 ghost use Rattle.vc_splay.specs.Tree.{Tree, names};
 
 use crate::sides::kid;
 use crate::splaying::splay;
 use crate::{Guide, Nodes};
+use std::cmp::Ordering;
 use vc_base::Steps;
 
 /// The new root, and the first node that is what the guide seeks, or 0 where none is. It takes one step for each node
-/// that it asks the guide of: at least one where there is a node, and at most one more than there are. Condition: along
-/// the tree the guide's answers never fall.
+/// that it asks the guide of: at least one where there is a node, and at most as many as there are. Condition: along the
+/// tree the guide's answers never fall.
 pub fn find_first<N: Nodes, G: Guide<N>, L>(
     nodes: &mut N,
     root: u32,
@@ -27,15 +28,15 @@ pub fn find_first<N: Nodes, G: Guide<N>, L>(
         → some_address result.1 ≡ first_at (G.side_of guide.now nodes.old) (names tree) }
     ensures least_steps { root ≢ 0 → steps.old + 1 ≤ steps.new }
     ensures most_steps { (tree : Tree) → IsTree (N.store nodes.old) root tree
-        → steps.new ≤ steps.old + length (names tree) + 1 }
+        → steps.new ≤ steps.old + length (names tree) }
     ensures held { (N.store nodes.new).has ≡ (N.store nodes.old).has }
     ensures rest { N.stays nodes.old nodes.new }
 {
     if root == 0 {
         return (0, 0);
     }
-    let (deepest, least) = descend(nodes, root, guide, steps);
-    let found = equal_or_none(nodes, least, guide, steps);
+    let (deepest, least, equal) = descend(nodes, root, guide, steps);
+    let found = chosen(equal, least, 0);
     (reach(nodes, root, deepest, found), found)
 }
 
@@ -62,33 +63,50 @@ pub fn find_least_at<N: Nodes, G: Guide<N>, L>(
     if root == 0 {
         return (0, 0);
     }
-    let (deepest, least) = descend(nodes, root, guide, steps);
+    let (deepest, least, _equal) = descend(nodes, root, guide, steps);
     (reach(nodes, root, deepest, least), least)
 }
 
-// Reads down to the first node that isn't before what is sought: the deepest node that was read, and that one or 0.
+// Reads down to the first node that isn't before what is sought: the deepest node that was read, that one or 0, and
+// whether there is one and it is what is sought.
 #[inline(always)]
 fn descend<N: Nodes, G: Guide<N>, L>(
     nodes: &N,
     root: u32,
     guide: &G,
     steps: &mut Steps<L>,
-) -> (u32, u32)
+) -> (u32, u32, bool)
     requires tree { CanFind (N.store nodes.now) (G.side_of guide.now nodes.now) root }
     requires some { root ≢ 0 }
-    ensures { (tree : Tree) → IsTree (N.store nodes.now) root tree
+    ensures search { (tree : Tree) → IsTree (N.store nodes.now) root tree
         → Search (G.side_of guide.now nodes.now) tree result.0 result.1 steps.old steps.new }
+    ensures equal { result.2 ≡ is_found (G.side_of guide.now nodes.now) result.1 }
 {
     let mut deepest = root;
     let mut least = 0;
+    let mut equal = false;
     let mut at = root;
     while at != 0 {
         deepest = at;
-        let left = guide.side(nodes, at, steps).is_ge();
+        let answer = guide.side(nodes, at, steps);
+        let left = answer.is_ge();
         least = chosen(left, at, least);
+        equal = equal_by(answer, equal);
         at = kid(nodes, left, at);
     }
-    (deepest, least)
+    (deepest, least, equal)
+}
+
+// Whether the first node that isn't before what is sought is what is sought, after one more answer on the way down.
+#[inline(always)]
+fn equal_by(answer: Ordering, before: bool) -> bool
+    ensures { result ≡ (if is_ge answer then is_eq answer else before) }
+{
+    match answer {
+        Ordering::Less => before,
+        Ordering::Equal => true,
+        Ordering::Greater => false,
+    }
 }
 
 // One of two names.
@@ -97,26 +115,6 @@ fn chosen(first: bool, a: u32, b: u32) -> u32
     ensures { result ≡ (if first then a else b) }
 {
     if first { a } else { b }
-}
-
-// That node where it is what is sought, and otherwise 0.
-#[inline(always)]
-fn equal_or_none<N: Nodes, G: Guide<N>, L>(
-    nodes: &N,
-    least: u32,
-    guide: &G,
-    steps: &mut Steps<L>,
-) -> u32
-    requires { least ≢ 0 → (N.store nodes.now).has least ≡ true }
-    ensures value { result
-        ≡ (if not (least == 0) && is_eq (G.side_of guide.now nodes.now least) then least else 0) }
-    ensures steps { steps.new ≡ steps.old + (if least == 0 then 0 else 1) }
-{
-    if least != 0 && guide.side(nodes, least, steps).is_eq() {
-        least
-    } else {
-        0
-    }
 }
 
 // Splays the deepest node that was read, and then the one that is answered, where there is one.

@@ -8,6 +8,7 @@ mod linking;
 mod links;
 mod neighbours;
 mod nodes;
+mod rising;
 mod sides;
 mod splaying;
 mod unlinking;

@@ -1,12 +1,11 @@
-ghost use Rattle.std.specs.Prelude.{◌≡◌, ◌≢◌, ℕ, ◌+◌, ◌≤◌, ◌∷◌, true, false, length};
+ghost use Rattle.std.specs.Prelude.{◌≡◌, ◌≢◌, ◌+◌, ◌≤◌, ◌∷◌, length};
 ghost use Rattle.vc_splay.specs.Guide.{CanFind, CanLink, linked};
 ghost use Rattle.vc_splay.specs.Searches.{Gap};
 ghost use Rattle.vc_splay.specs.Stands.{IsTree, TreeAfter};
-ghost use Rattle.vc_splay.specs.Store.{with_kid, with_parent};
 ghost use Rattle.vc_splay.specs.Tree.{Tree, names};
 
-use crate::sides::{kid, set_kid};
-use crate::splaying::splay;
+use crate::rising::{Rising, rise};
+use crate::sides::{kid, set_kid_of};
 use crate::{Guide, Nodes};
 use vc_base::Steps;
 
@@ -33,12 +32,18 @@ pub fn link_after_equals<N: Nodes, G: Guide<N>, L>(
     ensures rest { N.stays nodes.old nodes.new }
 {
     let (above, left) = descend_behind(nodes, root, guide, steps);
-    make_leaf(nodes, at, above);
-    if above == 0 {
-        return at;
-    }
-    set_kid(nodes, left, above, at);
-    splay(nodes, root, at)
+    set_kid_of(nodes, left, above, at);
+    rise(
+        nodes,
+        at,
+        Rising {
+            below: at,
+            above,
+            left: 0,
+            right: 0,
+        },
+    );
+    at
 }
 
 // Reads down to the place right behind the last node that isn't behind what is sought: the node above that place, 0
@@ -63,17 +68,4 @@ fn descend_behind<N: Nodes, G: Guide<N>, L>(
         at = kid(nodes, left, at);
     }
     (above, left)
-}
-
-// Gives a node no child, and this parent.
-#[inline(always)]
-fn make_leaf<N: Nodes>(nodes: &mut N, at: u32, above: u32)
-    requires { (N.store nodes.old).has at ≡ true }
-    ensures store { N.store nodes.new
-        ≡ with_parent at above (with_kid false at 0 (with_kid true at 0 (N.store nodes.old))) }
-    ensures rest { N.stays nodes.old nodes.new }
-{
-    nodes.set_left(at, 0);
-    nodes.set_right(at, 0);
-    nodes.set_up(at, above);
 }

@@ -1,6 +1,6 @@
-ghost use Rattle.std.specs.Prelude.{◌≡◌, ◌≢◌, ℕ, true, false, ◌==◌};
-ghost use Rattle.vc_splay.specs.Store.{with_kid, with_parent};
-ghost use Rattle.vc_splay.specs.Moves.{CanLift, lifted, with_parent_of};
+ghost use Rattle.std.specs.Prelude.{◌≡◌, ◌≢◌, true, ◌==◌};
+ghost use Rattle.vc_splay.specs.Store.{with_kid};
+ghost use Rattle.vc_splay.specs.Writes.{AreTurned, CanHang, with_child, with_kid_of, with_parent_of};
 
 use crate::{Links, Nodes};
 
@@ -36,6 +36,18 @@ pub(crate) fn set_kid<N: Nodes>(nodes: &mut N, side: bool, n: u32, v: u32)
     }
 }
 
+// Gives a node another child on one side, where there is a node.
+#[inline(always)]
+pub(crate) fn set_kid_of<N: Nodes>(nodes: &mut N, side: bool, n: u32, v: u32)
+    requires { n ≢ 0 → (N.store nodes.old).has n ≡ true }
+    ensures store { N.store nodes.new ≡ with_kid_of side n v (N.store nodes.old) }
+    ensures rest { N.stays nodes.old nodes.new }
+{
+    if n != 0 {
+        set_kid(nodes, side, n, v);
+    }
+}
+
 // Gives a node another parent, where there is a node.
 #[inline(always)]
 pub(crate) fn set_up_of<N: Nodes>(nodes: &mut N, n: u32, v: u32)
@@ -48,17 +60,21 @@ pub(crate) fn set_up_of<N: Nodes>(nodes: &mut N, n: u32, v: u32)
     }
 }
 
-// Lifts a node above the one whose child on that side it is to be: the subtree between the two changes its node. The
-// link that leads down to that other one isn't written, nor the lifted node's parent.
+// Gives a node another child on one side, and this child, where there is one, that parent.
 #[inline(always)]
-pub(crate) fn lift<N: Nodes>(nodes: &mut N, side: bool, n: u32, over: u32)
-    requires { CanLift (N.store nodes.old) side n over }
-    ensures store { N.store nodes.new ≡ lifted side n over (N.store nodes.old) }
+pub(crate) fn hang<N: Nodes>(nodes: &mut N, side: bool, n: u32, child: u32)
+    requires { CanHang (N.store nodes.old) n child }
+    ensures store { N.store nodes.new ≡ with_child side n child (N.store nodes.old) }
     ensures rest { N.stays nodes.old nodes.new }
 {
-    let inner = kid(nodes, !side, n);
-    set_kid(nodes, side, over, inner);
-    set_up_of(nodes, inner, over);
-    set_kid(nodes, !side, n, over);
-    nodes.set_up(over, n);
+    set_kid(nodes, side, n, child);
+    set_up_of(nodes, child, n);
+}
+
+// Two names as they are on the left, and the other way round on the right.
+#[inline(always)]
+pub(crate) fn turned(side: bool, a: u32, b: u32) -> (u32, u32)
+    ensures { AreTurned side a b result.0 result.1 }
+{
+    if side { (a, b) } else { (b, a) }
 }

@@ -6,6 +6,7 @@ ghost use Rattle.vc_splay.specs.Tree.{Tree, names};
 
 use crate::Nodes;
 use crate::ends::last;
+use crate::rising::{climb, in_hand};
 use crate::sides::set_up_of;
 use crate::splaying::splay;
 
@@ -20,9 +21,8 @@ pub fn unlink<N: Nodes>(nodes: &mut N, root: u32, at: u32) -> u32
     ensures held { (N.store nodes.new).has ≡ (N.store nodes.old).has }
     ensures rest { N.stays nodes.old nodes.new }
 {
-    splay(nodes, root, at);
-    let left = nodes.left(at);
-    let right = nodes.right(at);
+    let hand = in_hand(nodes, at);
+    let (left, right) = climb(nodes, at, hand);
     set_up_of(nodes, left, 0);
     join(nodes, left, right)
 }

@@ -1,49 +1,58 @@
-use Rattle.std.proofs.Common.{◌≢◌, sym, ap, ◌∙◌, subst}
-use Rattle.vc_splay.specs.Stands.{TreeAfter}
+use Rattle.std.proofs.Common.{◌≡◌, ap, subst, sym, true, ◌∙◌}
+use Rattle.vc_base.specs.Holders.{contains}
+use Rattle.vc_splay.specs.Moves.{Topped}
 use Rattle.vc_splay.specs.Store.{Store}
 use Rattle.vc_splay.specs.Tree.{names}
-use Rattle.vc_splay.proofs.SplayLemmas.{IsIn-held}
-use Rattle.vc_splay.proofs.StandsLemmas.{some_held}
-use Rattle.vc_splay.proofs.UnlinkLemmas.{Split, has_parent_of, left_held, split_at, unlink_end}
+use Rattle.vc_splay.proofs.HangLemmas.{IsCut-held}
+use Rattle.vc_splay.proofs.SplayLemmas.{IsIn-each, IsIn-held, start}
+use Rattle.vc_splay.proofs.UnlinkLemmas.{Split, has_parent_of, split_at, unlink_end}
 use Rattle.vc_splay.proofs.unlinking.unlink.Goals as goal
 
-pub left-left-requires : goal.left-left-requires
-left-left-requires g c = ap (λ f. f c.args.at) c.splay.ensures.held ∙ IsIn-held (g.N.Links.store c.args.nodes.now) c.args.root c.args.at c.requires
+pub in_hand-hand-requires : goal.in_hand-hand-requires
+in_hand-hand-requires g c = IsIn-held (g.N.Links.store c.args.nodes.now) c.args.root c.args.at c.requires
 
-pub right-right-requires : goal.right-right-requires
-right-right-requires g c = ap (λ f. f c.args.at) c.splay.ensures.held ∙ IsIn-held (g.N.Links.store c.args.nodes.now) c.args.root c.args.at c.requires
+pub climb-left-requires : goal.climb-left-requires
+climb-left-requires g c =
+    let k = c.requires in
+    let h = c.in_hand-hand.result in
+    let b = start (g.N.Links.store c.args.nodes.now) c.args.root c.args.at h.below h.above h.left h.right k.tree k.is_tree k.within c.in_hand-hand.ensures in
+    record { context = b.context; tree = b.part; rising = b.rising }
 
 pub set_up_of-requires : goal.set_up_of-requires
 set_up_of-requires g c =
-    let old = g.N.Links.store c.args.nodes.now in
-    let s = g.N.Links.store c.splay.new.nodes in
-    let some : c.args.at ≢ 0 = some_held old c.args.at (g.met.N.Links.none c.args.nodes.now) (IsIn-held old c.args.root c.args.at c.requires) in
-    let t = c.requires.tree in
-    let after : TreeAfter old s (names t) c.args.at (names t) = subst (λ z. TreeAfter old s (names t) z (names t)) c.splay.ensures.root (c.splay.ensures.tree t c.requires.is_tree) in
-    left_held old s c.args.root c.args.at c.left-left.result t (g.met.N.Links.none c.splay.new.nodes) some c.requires.is_tree after c.left-left.ensures
+    let k = c.requires in
+    let h = c.in_hand-hand.result in
+    let b = start (g.N.Links.store c.args.nodes.now) c.args.root c.args.at h.below h.above h.left h.right k.tree k.is_tree k.within c.in_hand-hand.ensures in
+    let top = (c.climb-left.ensures.top b.context b.part b.rising).hand in
+    IsCut-held (g.N.Links.store c.climb-left.new.nodes) c.climb-left.result.0 top.left_tree top.left_cut
 
 pub join-requires : goal.join-requires
 join-requires g c =
     let old = g.N.Links.store c.args.nodes.now in
-    let s = g.N.Links.store c.splay.new.nodes in
-    let some : c.args.at ≢ 0 = some_held old c.args.at (g.met.N.Links.none c.args.nodes.now) (IsIn-held old c.args.root c.args.at c.requires) in
-    let t = c.requires.tree in
-    let after : TreeAfter old s (names t) c.args.at (names t) = subst (λ z. TreeAfter old s (names t) z (names t)) c.splay.ensures.root (c.splay.ensures.tree t c.requires.is_tree) in
-    let h = split_at old s c.args.root c.args.at c.left-left.result c.right-right.result t (g.met.N.Links.none c.splay.new.nodes) some c.requires.is_tree after c.left-left.ensures c.right-right.ensures in
-    rw c.set_up_of.ensures.store (record { front = h.front; back = h.back; pair = h.pair })
+    let s = g.N.Links.store c.climb-left.new.nodes in
+    let k = c.requires in
+    let h = c.in_hand-hand.result in
+    let b = start old c.args.root c.args.at h.below h.above h.left h.right k.tree k.is_tree k.within c.in_hand-hand.ensures in
+    let top : Topped old s c.args.at (names k.tree) c.climb-left.result.0 c.climb-left.result.1 =
+    subst (λ z. Topped old s c.args.at (names z) c.climb-left.result.0 c.climb-left.result.1) b.whole (c.climb-left.ensures.top b.context b.part b.rising) in
+    let p = split_at old s c.args.at c.climb-left.result.0 c.climb-left.result.1 k.tree (g.met.N.Links.none c.climb-left.new.nodes) k.is_tree.distinct top in
+    rw c.set_up_of.ensures.store (record { front = p.front; back = p.back; pair = p.pair })
 
 pub returns-clause-tree : goal.returns-clause-tree
 returns-clause-tree g c = λ t k.
     let old = g.N.Links.store c.args.nodes.now in
-    let s = g.N.Links.store c.splay.new.nodes in
+    let s = g.N.Links.store c.climb-left.new.nodes in
     let mid = g.N.Links.store c.set_up_of.new.nodes in
-    let some : c.args.at ≢ 0 = some_held old c.args.at (g.met.N.Links.none c.args.nodes.now) (IsIn-held old c.args.root c.args.at c.requires) in
-    let after : TreeAfter old s (names t) c.args.at (names t) = subst (λ z. TreeAfter old s (names t) z (names t)) c.splay.ensures.root (c.splay.ensures.tree t k) in
-    let h : Split old s mid c.args.at c.left-left.result c.right-right.result t =
-    subst (λ z. Split old s z c.args.at c.left-left.result c.right-right.result t) (sym c.set_up_of.ensures.store)
-    (split_at old s c.args.root c.args.at c.left-left.result c.right-right.result t (g.met.N.Links.none c.splay.new.nodes) some k after c.left-left.ensures c.right-right.ensures) in
-    unlink_end old s mid (g.N.Links.store c.join.new.nodes) c.args.at c.left-left.result c.right-right.result t c.join.result h (c.join.ensures.tree h.front h.back h.pair)
+    let left = c.climb-left.result.0 in
+    let right = c.climb-left.result.1 in
+    let h = c.in_hand-hand.result in
+    let within : contains (names t) c.args.at ≡ true = IsIn-each old c.args.root c.args.at (g.met.N.Links.none c.args.nodes.now) c.requires t k in
+    let b = start old c.args.root c.args.at h.below h.above h.left h.right t k within c.in_hand-hand.ensures in
+    let top : Topped old s c.args.at (names t) left right = subst (λ z. Topped old s c.args.at (names z) left right) b.whole (c.climb-left.ensures.top b.context b.part b.rising) in
+    let p : Split old s mid c.args.at left right t = subst (λ z. Split old s z c.args.at left right t) (sym c.set_up_of.ensures.store)
+    (split_at old s c.args.at left right t (g.met.N.Links.none c.climb-left.new.nodes) k.distinct top) in
+    unlink_end old s mid (g.N.Links.store c.join.new.nodes) c.args.at left right t c.join.result p (c.join.ensures.tree p.front p.back p.pair)
 
 pub returns-clause-held : goal.returns-clause-held
 returns-clause-held g c =
-    c.join.ensures.held ∙ ap (λ (z : Store). z.has) c.set_up_of.ensures.store ∙ has_parent_of c.left-left.result 0 (g.N.Links.store c.splay.new.nodes) ∙ c.splay.ensures.held
+    c.join.ensures.held ∙ ap (λ (z : Store). z.has) c.set_up_of.ensures.store ∙ has_parent_of c.climb-left.result.0 0 (g.N.Links.store c.climb-left.new.nodes) ∙ c.climb-left.ensures.held

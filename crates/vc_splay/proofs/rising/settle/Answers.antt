@@ -1,0 +1,19 @@
+use Rattle.std.proofs.Common.{refl}
+use Rattle.vc_splay.specs.Store.{with_kid}
+use Rattle.vc_splay.specs.Writes.{settled, with_child, with_parent_of}
+use Rattle.vc_splay.proofs.rising.settle.Goals as goal
+
+pub hang-requires : goal.hang-requires
+hang-requires g c = record { held = c.requires.held; child_held = c.requires.left_held }
+
+pub hang-requires-2 : goal.hang-requires-2
+unfolding with_child with_kid with_parent_of
+hang-requires-2 g c = rw c.hang.ensures.store (record { held = c.requires.held; child_held = c.requires.right_held })
+
+pub set_up-requires : goal.set_up-requires
+unfolding with_child with_kid with_parent_of
+set_up-requires g c = rw (c.hang-2.ensures.store, c.hang.ensures.store) c.requires.held
+
+pub returns-clause-store : goal.returns-clause-store
+unfolding settled
+returns-clause-store g c = rw (c.set_up.ensures.store, c.hang-2.ensures.store, c.hang.ensures.store) refl

@@ -1,0 +1,19 @@
+use Rattle.std.proofs.Common.{refl}
+use Rattle.vc_splay.specs.Store.{with_kid}
+use Rattle.vc_splay.specs.Writes.{with_child, with_parent_of, zig_zig}
+use Rattle.vc_splay.proofs.rising.zig_zig.Goals as goal
+
+pub hang-requires : goal.hang-requires
+hang-requires g c = rw c.kid-sibling.ensures (record { held = c.requires.top_held; child_held = c.requires.first_held })
+
+pub hang-requires-2 : goal.hang-requires-2
+unfolding with_child with_kid with_parent_of
+hang-requires-2 g c = rw c.hang.ensures.store (record { held = c.requires.above_held; child_held = λ _. c.requires.top_held })
+
+pub hang-requires-3 : goal.hang-requires-3
+unfolding with_child with_kid with_parent_of
+hang-requires-3 g c = rw (c.hang-2.ensures.store, c.hang.ensures.store) (record { held = c.requires.above_held; child_held = c.requires.second_held })
+
+pub returns-clause-store : goal.returns-clause-store
+unfolding zig_zig
+returns-clause-store g c = rw (c.hang-3.ensures.store, c.hang-2.ensures.store, c.hang.ensures.store, c.kid-sibling.ensures) refl
