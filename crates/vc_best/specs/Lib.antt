@@ -24,6 +24,7 @@ pub mod Counts
 pub mod Next
 pub mod Changes
 pub mod Ask
+pub mod Standing
 pub mod Parts
 pub mod Cells
 pub mod CellLaws

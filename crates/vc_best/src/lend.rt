@@ -1,21 +1,14 @@
-ghost use Rattle.std.specs.Prelude.{◌≡◌, ◌+◌, ◌-◌, ◌<◌, ◌≢◌, ◌≤◌, ◌%◌, [], ◌∷◌, ◌++◌, All, false, IfOk, IfErr, IsErrOf, None, OnErr, length, map};
-ghost use Rattle.vc_model.specs.Touch.{HasBlock};
-ghost use Rattle.vc_model.specs.Addr.{address, place_of};
-ghost use Rattle.vc_model.specs.Best.{best_alloc, best_need, place_in};
+ghost use Rattle.std.specs.Prelude.{◌≡◌, ◌-◌, ◌<◌, ◌≤◌, ◌%◌, ◌∷◌, [], ◌++◌, false, IfOk, IfErr, IsErrOf, None, OnErr, length, map};
+ghost use Rattle.vc_model.specs.Best.{best_need, place_in};
 ghost use Rattle.vc_model.specs.Discipline.{IsSegmentSize};
-ghost use Rattle.vc_model.specs.Place.{IsAlign};
-ghost use Rattle.vc_model.specs.Segments.{Granted, ask, span};
-ghost use Rattle.vc_seg.specs.Answer.{Answers, Asks};
+ghost use Rattle.vc_model.specs.Segments.{Granted, ask};
+ghost use Rattle.vc_seg.specs.Answer.{Asks};
 ghost use Rattle.vc_seg.specs.Segment.{pair_of};
 ghost use Rattle.vc_segments.specs.Lend.{IsAsked, IsNoGrant};
-ghost use Rattle.vc_blocks.specs.declared.order.Order.TheVariants.{ByAddress};
-ghost use Rattle.vc_blocks.specs.Put.{IsPutInNew};
 ghost use Rattle.vc_extent.specs.Extent.{free_extent, no_links};
 ghost use Rattle.vc_extent.specs.Tiling.{IsThere, tiling};
-ghost use Rattle.vc_gaps.specs.GapTree.{HasGaps};
-ghost use Rattle.vc_best.specs.Ask.{AsksForSegment};
 ghost use Rattle.vc_best.specs.Blocks.{layout_by};
-ghost use Rattle.vc_best.specs.Free.{IsMerged};
+ghost use Rattle.vc_best.specs.Standing.{AreAllowed, AreKept, AreWhole, HasRoomAt, IsPutByAsking, IsPutInLent};
 
 use crate::tree::put_block;
 use std::alloc::Global;
@@ -70,30 +63,23 @@ fn put_in_lent<L>(
     tag: u32,
     steps: &mut Steps<L>,
 ) -> Result<Addr, RegionFault>
-    requires some { 1 ≤ size }
-    requires most { size ≤ 16777264 }
-    requires bytes { IsSegmentSize bytes }
+    requires room { HasRoomAt bytes off size }
     requires multiple { bytes % (state disc.old).terms.round ≡ 0 }
-    requires first { 32 ≤ off }
-    requires offset { off % 32 ≡ 0 }
-    requires fits { off + span size ≤ bytes }
-    requires merged { IsMerged (tiling extents.old.segs.items) }
-    requires gaps { HasGaps (tiling extents.old.segs.items) root.old.0 [] }
-    ensures ok { IfOk result (λ a. IsPutInNew ByAddress (layout_by extents.old.segs.items)
-        (layout_by extents.new.segs.items) tag size bytes off a.0) }
-    ensures fault { IfErr result (IsNoGrant bytes (layout_by extents.old.segs.items).segments) }
-    ensures no_memory { IsErrOf result RegionFault.OutOfMemory
-        → length extents.old.segs.items < 1023 }
-    ensures err { OnErr result
-        (layout_by extents.new.segs.items ≡ layout_by extents.old.segs.items) }
+    requires kept { AreKept extents.old.segs.items root.old.0 }
+    ensures lent { IsPutInLent result (layout_by extents.old.segs.items)
+        (layout_by extents.new.segs.items) tag size bytes off }
     ensures disc { Asks result (state disc.old) (state disc.new)
         (layout_by extents.old.segs.items).segments (layout_by extents.new.segs.items).segments
         bytes }
-    ensures merged { IsMerged (tiling extents.new.segs.items) }
-    ensures gaps { HasGaps (tiling extents.new.segs.items) root.new.0 [] }
+    ensures kept { AreKept extents.new.segs.items root.new.0 }
 {
-    let number = lend_next(extents, disc, alloc, bytes)?;
-    Ok(put_block(extents, root, Addr::new(number, 32), off, size, tag, steps))
+    match lend_next(extents, disc, alloc, bytes) {
+        Ok(number) => {
+            let a = Addr::new(number, 32);
+            Ok(put_block(extents, root, a, off, size, tag, steps))
+        }
+        Err(fault) => Err(fault),
+    }
 }
 
 /// A block of zeros, which has no place, in a segment that the discipline lends for it.
@@ -107,30 +93,15 @@ pub(crate) fn put_in_new<L>(
     tag: u32,
     steps: &mut Steps<L>,
 ) -> Result<Addr, RegionFault>
-    requires some { 1 ≤ size }
-    requires most { size ≤ 16777264 }
-    requires align { IsAlign align }
-    requires merged { IsMerged (tiling extents.old.segs.items) }
-    requires gaps { HasGaps (tiling extents.old.segs.items) root.old.0 [] }
-    requires sizes { All (λ b. b.size ≤ 16777264) (layout_by extents.old.segs.items).blocks }
+    requires allowed { AreAllowed size align }
+    requires kept { AreWhole extents.old.segs.items root.old.0 }
     requires none { place_in (layout_by extents.old.segs.items) size align ≡ None }
-    ensures answer { Answers
-        (best_alloc (state disc.old).terms (layout_by extents.old.segs.items) tag size align)
-        result (layout_by extents.old.segs.items) (layout_by extents.new.segs.items) }
+    ensures put { IsPutByAsking (state disc.old).terms result (layout_by extents.old.segs.items)
+        (layout_by extents.new.segs.items) tag size align }
     ensures disc { Asks result (state disc.old) (state disc.new)
         (layout_by extents.old.segs.items).segments (layout_by extents.new.segs.items).segments
         (best_need (state disc.old).terms size align) }
-    ensures count { IfOk result (λ _. length (layout_by extents.new.segs.items).blocks
-        ≡ length (layout_by extents.old.segs.items).blocks + 1) }
-    ensures err { OnErr result
-        (layout_by extents.new.segs.items ≡ layout_by extents.old.segs.items) }
-    ensures no_memory { IsErrOf result RegionFault.OutOfMemory
-        → AsksForSegment (layout_by extents.old.segs.items) size align }
-    ensures fresh { IfOk result
-        (λ a. ¬ HasBlock (layout_by extents.old.segs.items).blocks a.0) }
-    ensures merged { IsMerged (tiling extents.new.segs.items) }
-    ensures gaps { HasGaps (tiling extents.new.segs.items) root.new.0 [] }
-    ensures sizes { All (λ b. b.size ≤ 16777264) (layout_by extents.new.segs.items).blocks }
+    ensures kept { AreWhole extents.new.segs.items root.new.0 }
 {
     let bytes = rounded_up(span_of(size) + align, round_of(disc));
     put_in_lent(extents, root, disc, alloc, bytes, align, size, tag, steps)

@@ -1,13 +1,12 @@
-ghost use Rattle.std.specs.Prelude.{◌≡◌, ℕ, ◌≤◌, ◌↔◌, [], IsTrue, length, map, take};
+ghost use Rattle.std.specs.Prelude.{◌≡◌, ◌≤◌, ◌↔◌, [], IsTrue};
 ghost use Rattle.vc_model.specs.Addr.{place_of};
 ghost use Rattle.vc_model.specs.Resize.{resize_there};
 ghost use Rattle.vc_model.specs.Segments.{span};
-ghost use Rattle.vc_seg.specs.Segment.{pair_of};
-ghost use Rattle.vc_extent.specs.Tiling.{IsBusy, IsNamed, change_extent, extent_of, tiling};
+ghost use Rattle.vc_extent.specs.Tiling.{IsBusy, IsNamed, extent_of, tiling};
 ghost use Rattle.vc_best.specs.Beside.{GapsChange, free_next};
 ghost use Rattle.vc_best.specs.Blocks.{layout_by};
-ghost use Rattle.vc_best.specs.Changes.{move_border};
 ghost use Rattle.vc_best.specs.Free.{IsMerged, room_of};
+ghost use Rattle.vc_best.specs.Standing.{CanResizeThere, IsBorderMoved};
 
 use crate::release::absorb_next;
 use vc_base::{Addr, Steps};
@@ -43,20 +42,8 @@ pub(crate) fn has_room<L>(extents: &Extents, a: Addr, size: u32, steps: &mut Ste
 
 /// Moves the border behind a block so that it has another size. What is new in it isn't said.
 fn move_border<L>(extents: &mut Extents, a: Addr, size: u32, steps: &mut Steps<L>)
-    requires busy { IsBusy (tiling extents.old.segs.items) a.0 }
-    requires merged { IsMerged (tiling extents.old.segs.items) }
-    requires some { 1 ≤ size }
-    requires most { size ≤ 16777264 }
-    requires room { span size ≤ room_of (tiling extents.old.segs.items) a.0 }
-    ensures tiling { tiling extents.new.segs.items ≡ change_extent a.0
-        (move_border size (extent_of (tiling extents.new.segs.items) a.0).body)
-        (tiling extents.old.segs.items) }
-    ensures len { length (extent_of (tiling extents.new.segs.items) a.0).body ≡ size }
-    ensures kept { (k : ℕ) → k ≤ size
-        → k ≤ (extent_of (tiling extents.old.segs.items) a.0).size
-        → take k (extent_of (tiling extents.new.segs.items) a.0).body
-        ≡ take k (extent_of (tiling extents.old.segs.items) a.0).body }
-    ensures pairs { map pair_of extents.new.segs.items ≡ map pair_of extents.old.segs.items }
+    requires { CanResizeThere (tiling extents.old.segs.items) a.0 size }
+    ensures moved { IsBorderMoved extents.old.segs.items extents.new.segs.items a.0 size }
     ensures gaps { GapsChange (tiling extents.old.segs.items) (tiling extents.new.segs.items)
         (free_next (tiling extents.old.segs.items) a.0)
         (free_next (tiling extents.new.segs.items) a.0) }
@@ -77,11 +64,7 @@ fn move_border<L>(extents: &mut Extents, a: Addr, size: u32, steps: &mut Steps<L
 
 /// Gives the block at an address another size where it is. What is new in it is zero.
 pub(crate) fn resize_there<L>(extents: &mut Extents, a: Addr, size: u32, steps: &mut Steps<L>)
-    requires busy { IsBusy (tiling extents.old.segs.items) a.0 }
-    requires merged { IsMerged (tiling extents.old.segs.items) }
-    requires some { 1 ≤ size }
-    requires most { size ≤ 16777264 }
-    requires room { span size ≤ room_of (tiling extents.old.segs.items) a.0 }
+    requires { CanResizeThere (tiling extents.old.segs.items) a.0 size }
     ensures layout { layout_by extents.new.segs.items
         ≡ resize_there (layout_by extents.old.segs.items) (place_of a.0) size }
     ensures merged { IsMerged (tiling extents.new.segs.items) }

@@ -8,6 +8,7 @@ use Rattle.vc_extent.specs.Extent.{Extent, busy_extent, extents, free_extent, no
 use Rattle.vc_extent.specs.Change.{Changes, behind, extent_in, first_of, stretch}
 use Rattle.vc_extent.specs.Field.{field_at}
 use Rattle.vc_extent.specs.Frame.{StaysBelow}
+use Rattle.vc_extent.specs.Stretch.{IsStretched}
 use Rattle.vc_extent.specs.Tiles.{IsTiled, Tiles}
 use Rattle.vc_extent.proofs.Frames.{lower, part-front, then-below}
 use Rattle.vc_extent.proofs.Changed.{IsWithin, changed, renamed, within}
@@ -47,11 +48,6 @@ stretch-head : (size : ℕ) (body : List ℕ) (e : Extent) (es : List Extent) �
 stretch-head size body e [] some = absurd (cc)
 stretch-head size body e (g ∷ es) some = (cond (eqb (e.span + g.span) (span size)) es (free_extent (e.off + span size) (e.span + g.span - span size) no_links ∷ es), refl)
 
-pub record IsStretched (o n : Bytes) (at size : ℕ) : Type 0 where
-  pub change : Changes (at + 16) (stretch size (extent_in (at + 16) (extents n.bytes)).body) o n
-  pub long : length (extent_in (at + 16) (extents n.bytes)).body ≡ size
-  pub kept : take (extent_in (at + 16) (extents o.bytes)).size (extent_in (at + 16) (extents n.bytes)).body ≡ (extent_in (at + 16) (extents o.bytes)).body
-
 pub stretched : (o a n : Bytes) (at size : ℕ) → IsTiled o.bytes → 0 < (extent_in (at + 16) (extents o.bytes)).span → 0 < (extent_in (at + 16) (extents o.bytes)).size → IsSome (first_of (behind (at + 16) (extents o.bytes))) →
     (extent_in (at + 16) (extents o.bytes)).span < span size → at + span size + 16 ≤ length o.bytes → StaysBelow (at + span size) o a → StaysBelow at a n →
     Tiles n.bytes (length n.bytes - 16) (field_at (at + 12) o.bytes) at (stretch size (take size (drop (at + 16) a.bytes)) (extent_in (at + 16) (extents o.bytes)) (behind (at + 16) (extents o.bytes))) → IsStretched o n at size
@@ -69,7 +65,7 @@ stretched o a n at size t named busy some above fits s u made =
     ap (λ (x : Extent). x.body) (renamed o n at (stretch size (take size (drop (at + 16) a.bytes))) (busy_extent e.off (span size) size e.tag (take size (drop (at + 16) a.bytes))) head.0 t named ch head.1 w.off) in
     record {
       change = subst (λ (b : List ℕ). Changes (at + 16) (stretch size b) o n) (sym is) ch;
-      long = ap length is ∙ part-length a.bytes (at + 16) size (omega (arith, s.len));
+      len = ap length is ∙ part-length a.bytes (at + 16) size (omega (arith, s.len));
       kept =
           ap (take e.size) is
           ∙ (take-take e.size size (drop (at + 16) a.bytes) (omega arith) ∙ (part-front o.bytes a.bytes (at + span size) s.below (at + 16) e.size (omega arith) ∙ sym w.body));

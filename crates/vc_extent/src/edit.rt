@@ -1,7 +1,8 @@
 ghost use Rattle.std.specs.Prelude.{◌≡◌, ℕ, ◌+◌, ◌%◌, ◌<◌, ◌≤◌, IfSome, IsSome, length, min, take};
 ghost use Rattle.vc_model.specs.Segments.{span};
 ghost use Rattle.vc_extent.specs.Extent.{extents};
-ghost use Rattle.vc_extent.specs.Change.{Changes, behind, extent_in, first_of, join, mark_busy, mark_free, set_size, shrink, split, stretch};
+ghost use Rattle.vc_extent.specs.Change.{Changes, behind, extent_in, first_of, join, mark_busy, mark_free, set_size, shrink, split};
+ghost use Rattle.vc_extent.specs.Stretch.{CanStretch, IsStretched};
 ghost use Rattle.vc_extent.specs.Tiles.{IsTiled};
 
 use crate::lay::{lay_busy, lay_free, lay_rest, set_boundary};
@@ -80,19 +81,8 @@ pub(crate) fn set_size_in(seg: &mut Segment, at: u32, size: u32)
 /// Moves the border behind the busy extent from a place on into the free one behind it, and answers how many bytes that
 /// one keeps.
 pub(crate) fn stretch_in(seg: &mut Segment, at: u32, size: u32) -> u32
-    requires tiled { IsTiled seg.old.bytes }
-    requires named { 0 < (extent_in (at + 16) (extents seg.old.bytes)).span }
-    requires busy { 0 < (extent_in (at + 16) (extents seg.old.bytes)).size }
-    requires some { IsSome (first_of (behind (at + 16) (extents seg.old.bytes))) }
-    requires above { (extent_in (at + 16) (extents seg.old.bytes)).span < span size }
-    requires fits { IfSome (first_of (behind (at + 16) (extents seg.old.bytes)))
-        (λ e. span size ≤ (extent_in (at + 16) (extents seg.old.bytes)).span + e.span) }
-    ensures change { Changes (at + 16)
-        (stretch size (extent_in (at + 16) (extents seg.new.bytes)).body) seg.old seg.new }
-    ensures len { length (extent_in (at + 16) (extents seg.new.bytes)).body ≡ size }
-    ensures kept { take (extent_in (at + 16) (extents seg.old.bytes)).size
-        (extent_in (at + 16) (extents seg.new.bytes)).body
-        ≡ (extent_in (at + 16) (extents seg.old.bytes)).body }
+    requires { CanStretch seg.old.bytes at size }
+    ensures stretched { IsStretched seg.old seg.new at size }
     ensures left { IfSome (first_of (behind (at + 16) (extents seg.old.bytes)))
         (λ e. result + span size ≡ (extent_in (at + 16) (extents seg.old.bytes)).span + e.span) }
     ensures within { at + span size + result + 16 ≤ length seg.old.bytes }

@@ -14,7 +14,6 @@ use Rattle.vc_best.proofs.Apart.{span-least}
 use Rattle.vc_best.proofs.Asking.{Answers-new, new-fresh, new-heads}
 use Rattle.vc_best.proofs.Counted.{put-count}
 use Rattle.vc_best.proofs.HeldHeads.{held-heads}
-use Rattle.vc_best.proofs.Lends.{few-by}
 use Rattle.vc_best.specs.Blocks.{layout_by}
 use Rattle.vc_best.proofs.Rounding.{IsAligned, IsAligned-from_IsAlign, IsSegmentSize-need}
 use Rattle.vc_best.proofs.lend.put_in_new.Goals as goal
@@ -26,13 +25,13 @@ count r s tag size bytes off (Ok a) p = put-count (with_segment r ((place_of a.0
 count r s tag size bytes off (Err e) p = tt
 
 aligned : (g : Over) (c : After-rounded_up-bytes g) → IsAligned c.args.align
-aligned g c = IsAligned-from_IsAlign c.args.align c.requires.align
+aligned g c = IsAligned-from_IsAlign c.args.align c.requires.allowed.aligned
 
 is : (g : Over) (c : After-rounded_up-bytes g) → c.rounded_up-bytes.result ≡ round_up (span c.args.size + c.args.align) c.round_of.result
 is g c = rw (← c.span_of.ensures) c.rounded_up-bytes.ensures
 
 legal : (g : Over) (c : After-rounded_up-bytes g) → IsSegmentSize c.rounded_up-bytes.result
-legal g c = rw (is g c) (IsSegmentSize-need c.round_of.result c.args.size c.args.align c.round_of.ensures.legal c.requires.some c.requires.most (aligned g c))
+legal g c = rw (is g c) (IsSegmentSize-need c.round_of.result c.args.size c.args.align c.round_of.ensures.legal c.requires.allowed.some c.requires.allowed.most (aligned g c))
 
 fits : (g : Over) (c : After-rounded_up-bytes g) → span c.args.size + c.args.align ≤ c.rounded_up-bytes.result
 fits g c = rw (is g c) (round_up-least (span c.args.size + c.args.align) c.round_of.result (let least = c.round_of.ensures.legal.least in omega (arith, least)))
@@ -44,40 +43,53 @@ terms g c = ((goal.SegDisc-dyn g (c.args.disc.now.vtable, c.args.disc.now.value)
 need : (g : Over) (c : After-rounded_up-bytes g) → c.rounded_up-bytes.result ≡ best_need (terms g c) c.args.size c.args.align
 need g c = is g c ∙ ap (round_up (span c.args.size + c.args.align)) c.round_of.ensures.value
 
-pub put_in_lent-requires-clause-bytes : goal.put_in_lent-requires-clause-bytes
-put_in_lent-requires-clause-bytes g c = legal g (goal.at.put_in_lent-requires-clause-bytes g c).After-rounded_up-bytes
+pub put_in_lent-requires-clause-room : goal.put_in_lent-requires-clause-room
+put_in_lent-requires-clause-room g c =
+    let b = (goal.at.put_in_lent-requires-clause-room g c).After-rounded_up-bytes in
+    let room = fits g b in
+    let ok = aligned g b in
+    record {
+      some = c.requires.allowed.some;
+      most = c.requires.allowed.most;
+      legal = legal g b;
+      first = ok.least;
+      offset = ok.multiple;
+      fits = omega (arith, room, span-least c.args.size);
+    }
 
-pub put_in_lent-requires-clause-first : goal.put_in_lent-requires-clause-first
-put_in_lent-requires-clause-first g c = (aligned g (goal.at.put_in_lent-requires-clause-first g c).After-rounded_up-bytes).least
-
-pub put_in_lent-requires-clause-offset : goal.put_in_lent-requires-clause-offset
-put_in_lent-requires-clause-offset g c = (aligned g (goal.at.put_in_lent-requires-clause-offset g c).After-rounded_up-bytes).multiple
-
-pub put_in_lent-requires-clause-fits : goal.put_in_lent-requires-clause-fits
-put_in_lent-requires-clause-fits g c = let room = fits g (goal.at.put_in_lent-requires-clause-fits g c).After-rounded_up-bytes in omega (arith, room, span-least c.args.size)
-
-pub returns-clause-answer : goal.returns-clause-answer
-returns-clause-answer g c =
-    let b = (goal.at.returns-clause-answer g c).After-rounded_up-bytes in
-    (Answers-new (layout_by c.args.extents.now.segs.items) (layout_by c.put_in_lent.new.extents.segs.items) (terms g b) c.args.tag c.args.size c.args.align c.rounded_up-bytes.result (held-heads c.args.extents.now.segs.items c.args.extents.now.index.items c.args.extents.now.kept c.requires.sizes) c.requires.none (need g b) (aligned g b) c.requires.some c.requires.most (legal g b) (fits g b) c.put_in_lent.result c.put_in_lent.ensures.ok c.put_in_lent.ensures.fault c.put_in_lent.ensures.err)
+pub put_in_lent-requires-clause-kept : goal.put_in_lent-requires-clause-kept
+put_in_lent-requires-clause-kept g c = record { merged = c.requires.kept.merged; gaps = c.requires.kept.gaps }
 
 pub returns-clause-disc : goal.returns-clause-disc
 returns-clause-disc g c = rw (← need g (goal.at.returns-clause-disc g c).After-rounded_up-bytes) c.put_in_lent.ensures.disc
 
-pub returns-clause-no_memory : goal.returns-clause-no_memory
-returns-clause-no_memory g c = λ e. record { none = c.requires.none; few = few-by c.args.extents.now.segs.items (c.put_in_lent.ensures.no_memory e) }
+pub returns-clause-put : goal.returns-clause-put
+returns-clause-put g c =
+    let b = (goal.at.returns-clause-put g c).After-rounded_up-bytes in
+    let old = layout_by c.args.extents.now.segs.items in
+    let new = layout_by c.put_in_lent.new.extents.segs.items in
+    let heads = held-heads c.args.extents.now.segs.items c.args.extents.now.index.items c.args.extents.now.kept c.requires.kept.sizes in
+    let a = c.requires.allowed in
+    let lent = c.put_in_lent.ensures.lent in
+    record {
+      answer = Answers-new old new (terms g b) c.args.tag c.args.size c.args.align c.rounded_up-bytes.result heads c.requires.none (need g b) (aligned g b) a.some a.most (legal g b) (fits g b) c.put_in_lent.result lent.ok lent.fault lent.err;
+      count = count old new c.args.tag c.args.size c.rounded_up-bytes.result c.args.align c.put_in_lent.result lent.ok;
+      err = lent.err;
+      no_memory = λ e. record { none = c.requires.none; few = lent.no_memory e };
+      fresh = new-fresh old new (terms g b) c.args.tag c.args.size c.args.align c.rounded_up-bytes.result heads c.requires.none (need g b) (aligned g b) a.some a.most (legal g b) (fits g b) c.put_in_lent.result lent.ok;
+    }
 
-pub returns-clause-fresh : goal.returns-clause-fresh
-returns-clause-fresh g c =
-    let b = (goal.at.returns-clause-fresh g c).After-rounded_up-bytes in
-    (new-fresh (layout_by c.args.extents.now.segs.items) (layout_by c.put_in_lent.new.extents.segs.items) (terms g b) c.args.tag c.args.size c.args.align c.rounded_up-bytes.result (held-heads c.args.extents.now.segs.items c.args.extents.now.index.items c.args.extents.now.kept c.requires.sizes) c.requires.none (need g b) (aligned g b) c.requires.some c.requires.most (legal g b) (fits g b) c.put_in_lent.result c.put_in_lent.ensures.ok)
-
-pub returns-clause-sizes : goal.returns-clause-sizes
-returns-clause-sizes g c =
-    let b = (goal.at.returns-clause-sizes g c).After-rounded_up-bytes in
-    let heads = new-heads (layout_by c.args.extents.now.segs.items) (layout_by c.put_in_lent.new.extents.segs.items) (terms g b) c.args.tag c.args.size c.args.align c.rounded_up-bytes.result (held-heads c.args.extents.now.segs.items c.args.extents.now.index.items c.args.extents.now.kept c.requires.sizes) c.requires.none (need g b) (aligned g b) c.requires.some c.requires.most (legal g b) (fits g b) c.put_in_lent.result c.put_in_lent.ensures.ok c.put_in_lent.ensures.err in
-    λ k d lt. (heads.blocks k d lt).slot.most
-
-pub returns-clause-count : goal.returns-clause-count
-returns-clause-count g c =
-    count (layout_by c.args.extents.now.segs.items) (layout_by c.put_in_lent.new.extents.segs.items) c.args.tag c.args.size c.rounded_up-bytes.result c.args.align c.put_in_lent.result c.put_in_lent.ensures.ok
+pub returns-clause-kept : goal.returns-clause-kept
+returns-clause-kept g c =
+    let b = (goal.at.returns-clause-kept g c).After-rounded_up-bytes in
+    let old = layout_by c.args.extents.now.segs.items in
+    let new = layout_by c.put_in_lent.new.extents.segs.items in
+    let heads = held-heads c.args.extents.now.segs.items c.args.extents.now.index.items c.args.extents.now.kept c.requires.kept.sizes in
+    let a = c.requires.allowed in
+    let lent = c.put_in_lent.ensures.lent in
+    let then = new-heads old new (terms g b) c.args.tag c.args.size c.args.align c.rounded_up-bytes.result heads c.requires.none (need g b) (aligned g b) a.some a.most (legal g b) (fits g b) c.put_in_lent.result lent.ok lent.err in
+    record {
+      merged = c.put_in_lent.ensures.kept.merged;
+      gaps = c.put_in_lent.ensures.kept.gaps;
+      sizes = λ k d lt. (then.blocks k d lt).slot.most;
+    }

@@ -1,4 +1,5 @@
-use Rattle.std.proofs.Common.{◌≡◌, ◌<◌, ◌∙◌, arith}
+use Rattle.std.proofs.Common.{◌≡◌, ◌<◌, ◌∙◌, ap, arith, sym, take}
+use Rattle.std.proofs.lemmas.List.{take-take}
 use Rattle.std.proofs.Math.Nat.{ℕ_set}
 use Rattle.std.proofs.Math.Bridge.{le_prop}
 use Rattle.std.proofs.Math.Logic.{∥∥₁_elim}
@@ -17,40 +18,42 @@ absorb_next-requires g c =
     let less : span c.args.size < (extent_of (tiling c.args.extents.now.segs.items) c.args.a.0).span = omega arith in
     record { free = ∥∥₁_elim c.args.extents.now.kept (hlevel (le_prop, ℕ_set)) (λ k. rest-free (tiling c.args.extents.now.segs.items) c.args.a.0 c.args.size (cut-of c.args.extents.now.segs.items c.args.extents.now.index.items c.args.a.0 k c.requires.busy.named) (tiling c.shrink-rest.new.self.segs.items) c.shrink-rest.result.0 c.requires.busy c.requires.some less c.shrink-rest.ensures.tiling c.shrink-rest.ensures.rest) }
 
-pub returns-then-wanted-own-clause-tiling : goal.returns-then-wanted-own-clause-tiling
-returns-then-wanted-own-clause-tiling g c =
+pub returns-then-wanted-own-clause-moved : goal.returns-then-wanted-own-clause-moved
+returns-then-wanted-own-clause-moved g c =
     let own = c.span_at-own.ensures.value in
     let wanted = c.span_of-wanted.ensures in
     let same : span c.args.size ≡ (extent_of (tiling c.args.extents.now.segs.items) c.args.a.0).span = omega arith in
-    c.set_size.ensures.tiling ∙ ∥∥₁_elim c.args.extents.now.kept (hlevel (tiling-set)) (λ k. border-same (tiling c.args.extents.now.segs.items) c.args.a.0 c.args.size (cut-of c.args.extents.now.segs.items c.args.extents.now.index.items c.args.a.0 k c.requires.busy.named) (extent_of (tiling c.set_size.new.self.segs.items) c.args.a.0).body same)
+    record {
+      border = c.set_size.ensures.tiling ∙ ∥∥₁_elim c.args.extents.now.kept (hlevel (tiling-set)) (λ k. border-same (tiling c.args.extents.now.segs.items) c.args.a.0 c.args.size (cut-of c.args.extents.now.segs.items c.args.extents.now.index.items c.args.a.0 k c.requires.busy.named) (extent_of (tiling c.set_size.new.self.segs.items) c.args.a.0).body same);
+      len = c.set_size.ensures.len;
+      kept = c.set_size.ensures.kept;
+      pairs = c.set_size.ensures.pairs;
+    }
 
-pub returns-then-wanted-own-2-clause-tiling : goal.returns-then-wanted-own-2-clause-tiling
-returns-then-wanted-own-2-clause-tiling g c =
+pub returns-then-wanted-own-2-clause-moved : goal.returns-then-wanted-own-2-clause-moved
+returns-then-wanted-own-2-clause-moved g c =
     let own = c.span_at-own.ensures.value in
     let wanted = c.span_of-wanted.ensures in
     let less : span c.args.size < (extent_of (tiling c.args.extents.now.segs.items) c.args.a.0).span = omega arith in
-    ∥∥₁_elim c.args.extents.now.kept (hlevel (tiling-set)) (λ k. border-shrunk (tiling c.args.extents.now.segs.items) c.args.a.0 c.args.size (cut-of c.args.extents.now.segs.items c.args.extents.now.index.items c.args.a.0 k c.requires.busy.named) (tiling c.shrink-rest.new.self.segs.items) c.shrink-rest.result.0 c.requires.busy c.requires.some less c.shrink-rest.ensures.tiling c.shrink-rest.ensures.rest (tiling c.absorb_next.new.extents.segs.items) c.absorb_next.ensures.tiling)
+    record {
+      border = ∥∥₁_elim c.args.extents.now.kept (hlevel (tiling-set)) (λ k. border-shrunk (tiling c.args.extents.now.segs.items) c.args.a.0 c.args.size (cut-of c.args.extents.now.segs.items c.args.extents.now.index.items c.args.a.0 k c.requires.busy.named) (tiling c.shrink-rest.new.self.segs.items) c.shrink-rest.result.0 c.requires.busy c.requires.some less c.shrink-rest.ensures.tiling c.shrink-rest.ensures.rest (tiling c.absorb_next.new.extents.segs.items) c.absorb_next.ensures.tiling);
+      len = ∥∥₁_elim c.args.extents.now.kept (hlevel (ℕ_set)) (λ k. shrunk-len (tiling c.args.extents.now.segs.items) c.args.a.0 c.args.size (cut-of c.args.extents.now.segs.items c.args.extents.now.index.items c.args.a.0 k c.requires.busy.named) (tiling c.shrink-rest.new.self.segs.items) c.shrink-rest.result.0 c.requires.busy c.requires.some less c.shrink-rest.ensures.tiling c.shrink-rest.ensures.rest (tiling c.absorb_next.new.extents.segs.items) c.absorb_next.ensures.tiling);
+      kept = λ n small smaller. ∥∥₁_elim c.args.extents.now.kept (hlevel (bytes-set)) (λ k. shrunk-kept (tiling c.args.extents.now.segs.items) c.args.a.0 c.args.size (cut-of c.args.extents.now.segs.items c.args.extents.now.index.items c.args.a.0 k c.requires.busy.named) (tiling c.shrink-rest.new.self.segs.items) c.shrink-rest.result.0 c.requires.busy c.requires.some less c.shrink-rest.ensures.tiling c.shrink-rest.ensures.rest (tiling c.absorb_next.new.extents.segs.items) c.absorb_next.ensures.tiling n small);
+      pairs = c.absorb_next.ensures.pairs ∙ c.shrink-rest.ensures.pairs;
+    }
 
-pub returns-then-wanted-own-2-clause-len : goal.returns-then-wanted-own-2-clause-len
-returns-then-wanted-own-2-clause-len g c =
-    let own = c.span_at-own.ensures.value in
-    let wanted = c.span_of-wanted.ensures in
-    let less : span c.args.size < (extent_of (tiling c.args.extents.now.segs.items) c.args.a.0).span = omega arith in
-    ∥∥₁_elim c.args.extents.now.kept (hlevel (ℕ_set)) (λ k. shrunk-len (tiling c.args.extents.now.segs.items) c.args.a.0 c.args.size (cut-of c.args.extents.now.segs.items c.args.extents.now.index.items c.args.a.0 k c.requires.busy.named) (tiling c.shrink-rest.new.self.segs.items) c.shrink-rest.result.0 c.requires.busy c.requires.some less c.shrink-rest.ensures.tiling c.shrink-rest.ensures.rest (tiling c.absorb_next.new.extents.segs.items) c.absorb_next.ensures.tiling)
-
-pub returns-then-wanted-own-2-clause-kept : goal.returns-then-wanted-own-2-clause-kept
-returns-then-wanted-own-2-clause-kept g c =
-    let own = c.span_at-own.ensures.value in
-    let wanted = c.span_of-wanted.ensures in
-    let less : span c.args.size < (extent_of (tiling c.args.extents.now.segs.items) c.args.a.0).span = omega arith in
-    λ n small smaller. ∥∥₁_elim c.args.extents.now.kept (hlevel (bytes-set)) (λ k. shrunk-kept (tiling c.args.extents.now.segs.items) c.args.a.0 c.args.size (cut-of c.args.extents.now.segs.items c.args.extents.now.index.items c.args.a.0 k c.requires.busy.named) (tiling c.shrink-rest.new.self.segs.items) c.shrink-rest.result.0 c.requires.busy c.requires.some less c.shrink-rest.ensures.tiling c.shrink-rest.ensures.rest (tiling c.absorb_next.new.extents.segs.items) c.absorb_next.ensures.tiling n small)
-
-pub returns-else-wanted-own-2-clause-tiling : goal.returns-else-wanted-own-2-clause-tiling
-returns-else-wanted-own-2-clause-tiling g c =
+pub returns-else-wanted-own-2-clause-moved : goal.returns-else-wanted-own-2-clause-moved
+returns-else-wanted-own-2-clause-moved g c =
     let own = c.span_at-own.ensures.value in
     let wanted = c.span_of-wanted.ensures in
     let more : (extent_of (tiling c.args.extents.now.segs.items) c.args.a.0).span < span c.args.size = omega arith in
-    c.stretch.ensures.tiling ∙ ∥∥₁_elim c.args.extents.now.kept (hlevel (tiling-set)) (λ k. border-stretched (tiling c.args.extents.now.segs.items) c.args.a.0 c.args.size (cut-of c.args.extents.now.segs.items c.args.extents.now.index.items c.args.a.0 k c.requires.busy.named) (extent_of (tiling c.stretch.new.self.segs.items) c.args.a.0).body more c.requires.room)
+    let n = (extent_of (tiling c.args.extents.now.segs.items) c.args.a.0).size in
+    record {
+      border = c.stretch.ensures.tiling ∙ ∥∥₁_elim c.args.extents.now.kept (hlevel (tiling-set)) (λ k. border-stretched (tiling c.args.extents.now.segs.items) c.args.a.0 c.args.size (cut-of c.args.extents.now.segs.items c.args.extents.now.index.items c.args.a.0 k c.requires.busy.named) (extent_of (tiling c.stretch.new.self.segs.items) c.args.a.0).body more c.requires.room);
+      len = c.stretch.ensures.len;
+      kept = λ k small le. sym (take-take k n (extent_of (tiling c.stretch.new.self.segs.items) c.args.a.0).body le) ∙ ap (take k) c.stretch.ensures.kept;
+      pairs = c.stretch.ensures.pairs;
+    }
 
 pub returns-then-wanted-own-clause-gaps : goal.returns-then-wanted-own-clause-gaps
 returns-then-wanted-own-clause-gaps g c =

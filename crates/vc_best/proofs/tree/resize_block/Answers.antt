@@ -10,15 +10,18 @@ use Rattle.vc_best.proofs.Linking.{gaps-none_more, gaps-whole}
 use Rattle.vc_best.proofs.Plain.{busy-still, layout-stays, merged-stays, next_name-stays, room-stays}
 use Rattle.vc_best.proofs.tree.resize_block.Goals as goal
 
-pub resize_there-requires-2-clause-busy : goal.resize_there-requires-2-clause-busy
-resize_there-requires-2-clause-busy g c = busy-still (tiling c.args.extents.now.segs.items) (tiling c.unlink_next.new.extents.segs.items) c.unlink_next.ensures.rest.extents c.args.a.0 c.requires.busy
-
-pub resize_there-requires-2-clause-merged : goal.resize_there-requires-2-clause-merged
-resize_there-requires-2-clause-merged g c = merged-stays (tiling c.args.extents.now.segs.items) (tiling c.unlink_next.new.extents.segs.items) c.unlink_next.ensures.rest.extents c.requires.merged
-
-pub resize_there-requires-2-clause-room : goal.resize_there-requires-2-clause-room
-resize_there-requires-2-clause-room g c =
-    subst (λ (n : ℕ). span c.args.size ≤ n) (sym (room-stays (tiling c.args.extents.now.segs.items) (tiling c.unlink_next.new.extents.segs.items) c.unlink_next.ensures.rest.extents c.args.a.0)) c.requires.room
+pub resize_there-requires-2 : goal.resize_there-requires-2
+resize_there-requires-2 g c =
+    let t = tiling c.args.extents.now.segs.items in
+    let t1 = tiling c.unlink_next.new.extents.segs.items in
+    let stays = c.unlink_next.ensures.rest.extents in
+    record {
+      busy = busy-still t t1 stays c.args.a.0 c.requires.busy;
+      merged = merged-stays t t1 stays c.requires.merged;
+      some = c.requires.some;
+      most = c.requires.most;
+      room = subst (λ (n : ℕ). span c.args.size ≤ n) (sym (room-stays t t1 stays c.args.a.0)) c.requires.room;
+    }
 
 pub link_next-requires-clause-gaps : goal.link_next-requires-clause-gaps
 link_next-requires-clause-gaps g c =

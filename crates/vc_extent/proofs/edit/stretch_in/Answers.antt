@@ -4,10 +4,11 @@ use Rattle.vc_seg.specs.Segment.{Bytes}
 use Rattle.vc_extent.specs.Extent.{Extent, busy_extent, extents, free_extent, no_links}
 use Rattle.vc_extent.specs.Change.{behind, extent_in}
 use Rattle.vc_extent.specs.Field.{field_at}
+use Rattle.vc_extent.specs.Stretch.{IsStretched}
 use Rattle.vc_extent.specs.Tiles.{Tiles}
 use Rattle.vc_extent.proofs.Frames.{field-front, lower}
 use Rattle.vc_extent.proofs.Changed.{here, within}
-use Rattle.vc_extent.proofs.Stretched.{IsStretched, fits-behind, rest-tiles, stretched, used-tiles}
+use Rattle.vc_extent.proofs.Stretched.{fits-behind, rest-tiles, stretched, used-tiles}
 use Rattle.vc_extent.proofs.edit.stretch_in.Goals as goal
 use Rattle.vc_extent.proofs.edit.stretch_in.Goals.{After-lay_busy, After-lay_busy-2}
 
@@ -29,14 +30,8 @@ used c =
     (used-tiles o a n at first second c.args.size c.tag_in-tag.result (take c.args.size (drop (at + 16) a.bytes)) (extent_in (at + 16) (extents o.bytes)) w.off c.span_in-first.ensures.value c.tag_in-tag.ensures boundary
     (behind (at + 16) (extents o.bytes)) c.requires.some c.span_behind.ensures.value bytes p.rest c.set_boundary.ensures.tiles c.lay_busy.ensures.tiles)
 
-pub returns-then-bytes-whole-clause-change : goal.returns-then-bytes-whole-clause-change
-returns-then-bytes-whole-clause-change c = (used (goal.at.returns-then-bytes-whole-clause-change c).After-lay_busy).change
-
-pub returns-then-bytes-whole-clause-len : goal.returns-then-bytes-whole-clause-len
-returns-then-bytes-whole-clause-len c = (used (goal.at.returns-then-bytes-whole-clause-len c).After-lay_busy).long
-
-pub returns-then-bytes-whole-clause-kept : goal.returns-then-bytes-whole-clause-kept
-returns-then-bytes-whole-clause-kept c = (used (goal.at.returns-then-bytes-whole-clause-kept c).After-lay_busy).kept
+pub returns-then-bytes-whole-clause-stretched : goal.returns-then-bytes-whole-clause-stretched
+returns-then-bytes-whole-clause-stretched c = used (goal.at.returns-then-bytes-whole-clause-stretched c).After-lay_busy
 
 left : (c : After-lay_busy-2) → IsStretched c.args.seg.now c.lay_busy-2.new.seg c.args.at c.args.size
 left c =
@@ -67,11 +62,5 @@ left c =
     (rest-tiles o a n at first second c.args.size c.tag_in-tag.result (take c.args.size (drop (at + 16) a.bytes)) (extent_in (at + 16) (extents o.bytes)) w.off c.span_in-first.ensures.value c.tag_in-tag.ensures boundary
     (behind (at + 16) (extents o.bytes)) c.requires.some c.span_behind.ensures.value (λ q. c.if-bytes-whole.false (is ∙ q)) p.rest one two)
 
-pub returns-clause-change : goal.returns-clause-change
-returns-clause-change c = (left (goal.at.returns-clause-change c).After-lay_busy-2).change
-
-pub returns-clause-len : goal.returns-clause-len
-returns-clause-len c = (left (goal.at.returns-clause-len c).After-lay_busy-2).long
-
-pub returns-clause-kept : goal.returns-clause-kept
-returns-clause-kept c = (left (goal.at.returns-clause-kept c).After-lay_busy-2).kept
+pub returns-clause-stretched : goal.returns-clause-stretched
+returns-clause-stretched c = left (goal.at.returns-clause-stretched c).After-lay_busy-2

@@ -68,14 +68,13 @@ put_in_gap-to-requires-clause-sizes g c = sizes g (goal.at.put_in_gap-to-require
 pub put_in_gap-to-requires-clause-gaps : goal.put_in_gap-to-requires-clause-gaps
 put_in_gap-to-requires-clause-gaps g c = gaps g (goal.at.put_in_gap-to-requires-clause-gaps g c).After-fit-least
 
-pub put_in_new-requires-clause-merged : goal.put_in_new-requires-clause-merged
-put_in_new-requires-clause-merged g c = merged g (goal.at.put_in_new-requires-clause-merged g c).After-fit-least
+pub put_in_new-requires-clause-allowed : goal.put_in_new-requires-clause-allowed
+put_in_new-requires-clause-allowed g c = record { some = c.requires.some; most = c.requires.most; aligned = c.requires.align }
 
-pub put_in_new-requires-clause-sizes : goal.put_in_new-requires-clause-sizes
-put_in_new-requires-clause-sizes g c = sizes g (goal.at.put_in_new-requires-clause-sizes g c).After-fit-least
-
-pub put_in_new-requires-clause-gaps : goal.put_in_new-requires-clause-gaps
-put_in_new-requires-clause-gaps g c = gaps g (goal.at.put_in_new-requires-clause-gaps g c).After-fit-least
+pub put_in_new-requires-clause-kept : goal.put_in_new-requires-clause-kept
+put_in_new-requires-clause-kept g c =
+    let f = (goal.at.put_in_new-requires-clause-kept g c).After-fit-least in
+    record { merged = merged g f; gaps = gaps g f; sizes = sizes g f }
 
 pub put_in_new-requires-clause-none : goal.put_in_new-requires-clause-none
 put_in_new-requires-clause-none g c =
@@ -113,18 +112,18 @@ invariant_of-self g c =
 pub invariant_of-self-in-Ok : goal.invariant_of-self-in-Ok
 invariant_of-self-in-Ok g c =
     let n = c.put_in_new.new.extents in
-    let h = held n.segs.items n.index.items n.kept c.put_in_new.ensures.sizes c.put_in_new.ensures.merged in
-    let one : length (layout_by n.segs.items).blocks ≡ length (layout_by c.fit-least.new.extents.segs.items).blocks + 1 = c.in-Ok.ensures.count in
+    let h = held n.segs.items n.index.items n.kept c.put_in_new.ensures.kept.sizes c.put_in_new.ensures.kept.merged in
+    let one : length (layout_by n.segs.items).blocks ≡ length (layout_by c.fit-least.new.extents.segs.items).blocks + 1 = c.in-Ok.ensures.put.count in
     let old = ap (λ (r : Layout ℕ). length r.blocks) (same g (goal.at.invariant_of-self-in-Ok g c).After-fit-least) in
     let all = c.args.self.now.counted in
-    record { sound = h.sound; whole = h.whole; merged = h.merged; gaps = ∣ c.put_in_new.ensures.gaps ∣₁; counted = omega (arith, one, old, all) }
+    record { sound = h.sound; whole = h.whole; merged = h.merged; gaps = ∣ c.put_in_new.ensures.kept.gaps ∣₁; counted = omega (arith, one, old, all) }
 
 pub invariant_of-self-in-Err-1 : goal.invariant_of-self-in-Err-1
 invariant_of-self-in-Err-1 g c =
     let n = c.put_in_new.new.extents in
-    let h = held n.segs.items n.index.items n.kept c.put_in_new.ensures.sizes c.put_in_new.ensures.merged in
-    let is : layout_by n.segs.items ≡ layout_by c.args.self.now.extents.segs.items = c.in-Err.ensures.err ∙ same g (goal.at.invariant_of-self-in-Err-1 g c).After-fit-least in
-    record { sound = h.sound; whole = h.whole; merged = h.merged; gaps = ∣ c.put_in_new.ensures.gaps ∣₁; counted = c.args.self.now.counted ∙ sym (ap (λ (r : Layout ℕ). length r.blocks) is) }
+    let h = held n.segs.items n.index.items n.kept c.put_in_new.ensures.kept.sizes c.put_in_new.ensures.kept.merged in
+    let is : layout_by n.segs.items ≡ layout_by c.args.self.now.extents.segs.items = c.in-Err.ensures.put.err ∙ same g (goal.at.invariant_of-self-in-Err-1 g c).After-fit-least in
+    record { sound = h.sound; whole = h.whole; merged = h.merged; gaps = ∣ c.put_in_new.ensures.kept.gaps ∣₁; counted = c.args.self.now.counted ∙ sym (ap (λ (r : Layout ℕ). length r.blocks) is) }
 
 -- the block in its gap, by the layout before the search
 place : (g : Over) (c : After-put_in_gap-to g) → layout_by c.fit-least.new.extents.segs.items ≡ layout_by c.args.self.now.extents.segs.items → place_in (layout_by c.args.self.now.extents.segs.items) c.args.size c.args.align ≡ Some (place_of c.put_in_gap-to.result.0)
@@ -182,7 +181,7 @@ returns-in-Ok-clause-answer g c =
     let m = layout_by c.fit-least.new.extents.segs.items in
     let n = layout_by c.put_in_new.new.extents.segs.items in
     let e = same g (goal.at.returns-in-Ok-clause-answer g c).After-fit-least in
-    Answers-same r m n _ c.args.tag c.args.size c.args.align (Ok c.in-Ok.to) e c.in-Ok.ensures.answer
+    Answers-same r m n _ c.args.tag c.args.size c.args.align (Ok c.in-Ok.to) e c.in-Ok.ensures.put.answer
 
 pub returns-in-Ok-clause-fresh : goal.returns-in-Ok-clause-fresh
 returns-in-Ok-clause-fresh g c =
@@ -190,7 +189,7 @@ returns-in-Ok-clause-fresh g c =
     let m = layout_by c.fit-least.new.extents.segs.items in
     let n = layout_by c.put_in_new.new.extents.segs.items in
     let e = same g (goal.at.returns-in-Ok-clause-fresh g c).After-fit-least in
-    subst (λ (l : Layout ℕ). ¬ HasBlock l.blocks c.in-Ok.to.0) e c.in-Ok.ensures.fresh
+    subst (λ (l : Layout ℕ). ¬ HasBlock l.blocks c.in-Ok.to.0) e c.in-Ok.ensures.put.fresh
 
 pub returns-in-Ok-clause-there : goal.returns-in-Ok-clause-there
 returns-in-Ok-clause-there g c =
@@ -198,7 +197,7 @@ returns-in-Ok-clause-there g c =
     let m = layout_by c.fit-least.new.extents.segs.items in
     let n = layout_by c.put_in_new.new.extents.segs.items in
     let e = same g (goal.at.returns-in-Ok-clause-there g c).After-fit-least in
-    there-alloc (Ok c.in-Ok.to) m n _ c.args.tag c.args.size c.args.align c.in-Ok.ensures.answer c.in-Ok.ensures.fresh
+    there-alloc (Ok c.in-Ok.to) m n _ c.args.tag c.args.size c.args.align c.in-Ok.ensures.put.answer c.in-Ok.ensures.put.fresh
 
 pub returns-in-Ok-clause-others : goal.returns-in-Ok-clause-others
 returns-in-Ok-clause-others g c =
@@ -207,7 +206,7 @@ returns-in-Ok-clause-others g c =
     let n = layout_by c.put_in_new.new.extents.segs.items in
     let e = same g (goal.at.returns-in-Ok-clause-others g c).After-fit-least in
     subst (λ (l : Layout ℕ). without_block (place_of c.in-Ok.to.0) n.blocks ≡ l.blocks) e
-    (others-if_alloc (Ok c.in-Ok.to) m n _ c.args.tag c.args.size c.args.align c.in-Ok.ensures.answer c.in-Ok.ensures.fresh)
+    (others-if_alloc (Ok c.in-Ok.to) m n _ c.args.tag c.args.size c.args.align c.in-Ok.ensures.put.answer c.in-Ok.ensures.put.fresh)
 
 pub returns-in-Err-clause-answer : goal.returns-in-Err-clause-answer
 returns-in-Err-clause-answer g c =
@@ -215,7 +214,7 @@ returns-in-Err-clause-answer g c =
     let m = layout_by c.fit-least.new.extents.segs.items in
     let n = layout_by c.put_in_new.new.extents.segs.items in
     let e = same g (goal.at.returns-in-Err-clause-answer g c).After-fit-least in
-    Answers-same r m n _ c.args.tag c.args.size c.args.align (Err c.in-Err.fault) e c.in-Err.ensures.answer
+    Answers-same r m n _ c.args.tag c.args.size c.args.align (Err c.in-Err.fault) e c.in-Err.ensures.put.answer
 
 pub returns-in-Err-clause-no_memory : goal.returns-in-Err-clause-no_memory
-returns-in-Err-clause-no_memory g c = λ e. subst (λ (r : Layout ℕ). AsksForSegment r c.args.size c.args.align) (same g (goal.at.returns-in-Err-clause-no_memory g c).After-fit-least) (c.in-Err.ensures.no_memory e)
+returns-in-Err-clause-no_memory g c = λ e. subst (λ (r : Layout ℕ). AsksForSegment r c.args.size c.args.align) (same g (goal.at.returns-in-Err-clause-no_memory g c).After-fit-least) (c.in-Err.ensures.put.no_memory e)

@@ -1,0 +1,81 @@
+-- What the private calls of a best region ask and promise together.
+use Rattle.std.specs.Prelude.{◌≡◌, ℕ, ◌+◌, ◌≤◌, ◌<◌, ◌%◌, List, [], All, IfErr, IfOk, IsErrOf, OnErr, Result, length, map, take}
+use Rattle.vc_base.specs.declared.addr.Addr.{Addr}
+use Rattle.vc_model.specs.Best.{best_alloc}
+use Rattle.vc_model.specs.Discipline.{IsSegmentSize, Terms}
+use Rattle.vc_model.specs.Layout.{Layout}
+use Rattle.vc_model.specs.Place.{IsAlign}
+use Rattle.vc_model.specs.Segments.{segment_limit, span}
+use Rattle.vc_model.specs.Touch.{HasBlock}
+use Rattle.vc_seg.specs.Answer.{Answers}
+use Rattle.vc_seg.specs.Segment.{Bytes, pair_of}
+use Rattle.vc_seg.specs.declared.fault.RegionFault.{RegionFault}
+use Rattle.vc_seg.specs.declared.fault.RegionFault.TheVariants as code
+use Rattle.vc_segments.specs.Lend.{IsNoGrant}
+use Rattle.vc_blocks.specs.declared.order.Order.TheVariants.{ByAddress}
+use Rattle.vc_blocks.specs.Put.{IsPutInNew}
+use Rattle.vc_extent.specs.Tiling.{IsBusy, change_extent, extent_of, tiling}
+use Rattle.vc_gaps.specs.ButLinks.{Tiling}
+use Rattle.vc_gaps.specs.GapTree.{HasGaps}
+use Rattle.vc_best.specs.Ask.{AsksForSegment}
+use Rattle.vc_best.specs.Blocks.{layout_by}
+use Rattle.vc_best.specs.Changes.{move_border}
+use Rattle.vc_best.specs.Free.{IsMerged, room_of}
+
+-- no two free extents stand beside each other, and the tree with this root has each of them
+pub record AreKept (segs : List Bytes) (root : ℕ) : Type 0 where
+  pub merged : IsMerged (tiling segs)
+  pub gaps : HasGaps (tiling segs) root []
+
+-- besides, no block has more bytes than a block can have
+pub record AreWhole (segs : List Bytes) (root : ℕ) : Type 0 where
+  pub merged : IsMerged (tiling segs)
+  pub gaps : HasGaps (tiling segs) root []
+  pub sizes : All (λ b. b.size ≤ 16777264) (layout_by segs).blocks
+
+-- a size and an alignment that a block can have
+pub record AreAllowed (size align : ℕ) : Type 0 where
+  pub some : 1 ≤ size
+  pub most : size ≤ 16777264
+  pub aligned : IsAlign align
+
+-- a new segment of that many bytes has room for a block of that size at that offset
+pub record HasRoomAt (bytes off size : ℕ) : Type 0 where
+  pub some : 1 ≤ size
+  pub most : size ≤ 16777264
+  pub legal : IsSegmentSize bytes
+  pub first : 32 ≤ off
+  pub offset : off % 32 ≡ 0
+  pub fits : off + span size ≤ bytes
+
+-- a block of zeros is put at an offset of a segment of that many bytes, which is lent for it; else nothing changes, and
+-- want of memory is the cause only where there may be one segment more
+pub record IsPutInLent (result : Result Addr RegionFault) (old new : Layout ℕ) (tag size bytes off : ℕ) : Type 0 where
+  pub ok : IfOk result (λ a. IsPutInNew ByAddress old new tag size bytes off a.0)
+  pub fault : IfErr result (IsNoGrant bytes old.segments)
+  pub no_memory : IsErrOf result code.OutOfMemory → length old.segments < segment_limit
+  pub err : OnErr result (new ≡ old)
+
+-- a block that no gap holds is put into a segment that is asked for, at an address that no block has; else nothing
+-- changes, and want of memory is the cause only where a segment is asked for
+pub record IsPutByAsking (terms : Terms) (result : Result Addr RegionFault) (old new : Layout ℕ) (tag size align : ℕ) : Type 0 where
+  pub answer : Answers (best_alloc terms old tag size align) result old new
+  pub count : IfOk result (λ _. length new.blocks ≡ length old.blocks + 1)
+  pub err : OnErr result (new ≡ old)
+  pub no_memory : IsErrOf result code.OutOfMemory → AsksForSegment old size align
+  pub fresh : IfOk result (λ a. ¬ HasBlock old.blocks a.0)
+
+-- a busy extent can have another size where it is
+pub record CanResizeThere (t : Tiling) (a size : ℕ) : Type 0 where
+  pub busy : IsBusy t a
+  pub merged : IsMerged t
+  pub some : 1 ≤ size
+  pub most : size ≤ 16777264
+  pub room : span size ≤ room_of t a
+
+-- it has that size, with the border behind it moved: its bytes up to the lesser size stay, and segments keep their sizes
+pub record IsBorderMoved (old new : List Bytes) (a size : ℕ) : Type 0 where
+  pub border : tiling new ≡ change_extent a (move_border size (extent_of (tiling new) a).body) (tiling old)
+  pub len : length (extent_of (tiling new) a).body ≡ size
+  pub kept : (k : ℕ) → k ≤ size → k ≤ (extent_of (tiling old) a).size → take k (extent_of (tiling new) a).body ≡ take k (extent_of (tiling old) a).body
+  pub pairs : map pair_of new ≡ map pair_of old
