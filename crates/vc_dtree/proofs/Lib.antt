@@ -1,0 +1,6 @@
+pub mod AnyLemmas
+pub mod SortedLemmas
+pub mod WrittenLemmas
+pub mod TreeLemmas
+pub mod TurnLemmas
+pub mod CallLemmas
