@@ -1,0 +1,13 @@
+pub mod Order
+pub mod Blocks
+pub mod Segments
+pub mod Writes
+pub mod Times
+pub mod Chains
+pub mod Keeps
+pub mod Stands
+pub mod Pools
+pub mod Calls
+pub mod Lists
+pub mod Types
+pub mod Steps

@@ -1,0 +1,15 @@
+pub use Rattle.vc_model.specs.Addr
+pub use Rattle.vc_model.specs.Best
+pub use Rattle.vc_model.specs.Bytes
+pub use Rattle.vc_model.specs.Layout
+pub use Rattle.vc_model.specs.Pool
+pub use Rattle.vc_model.specs.Resize
+pub use Rattle.vc_model.specs.Touch
+pub use Rattle.vc_seg.specs.Segment
+pub mod Cells
+pub mod Blocks
+pub mod Freed
+pub mod Kept
+pub mod Place
+pub mod Call
+pub mod Rows
