@@ -1,11 +1,14 @@
+use crate::OneHash;
 use crate::drive::{
     adopt, back, behind, empty, filled, find, link, order, remethod, take_first, unlink,
 };
 use crate::given::{given, number, same};
+use std::alloc::{AllocError, Global};
+use std::process::Abort;
 use std::test::Fail;
 use vc_base::Addr;
 use vc_dict::{Dict, DictMethod};
-use vc_dtdisc::{BuiltIn, Shape};
+use vc_dtdisc::{BuiltIn, DictDisc, Shape};
 
 const METHODS: [DictMethod; 7] = [
     DictMethod::DtSet,
@@ -146,25 +149,163 @@ fn remethods(rt: HostRuntime) -> Result<(), Fail> {
     Ok(())
 }
 
-// Of b, B and b again an ordered set keeps the first, and the others tell of one another.
+// What a method keeps of the three objects of another one, in its order, and behind these the first that it drops.
+fn turned<D: DictDisc>(
+    rt: &impl Abort,
+    kind: &D,
+    from: DictMethod,
+    to: DictMethod,
+    bytes: [u8; 3],
+    alloc: Global,
+) -> Result<[u32; 5], AllocError> {
+    let mut cells = given(alloc, bytes)?;
+    let mut dict = filled(rt, &mut cells, kind, from, alloc)?;
+    let dropped = remethod(rt, &mut dict, &mut cells, kind, to, alloc);
+    let [first, second, third, end] = order(&dict, &cells, kind);
+    Ok([first, second, third, end, dropped.first.0])
+}
+
+// Every change of one method to another, in the order of the methods: of b, a and B, or of b, a and C in sets.
+fn turns_of<D: DictDisc>(rt: &impl Abort, kind: &D, alloc: Global) -> Result<(), AllocError> {
+    let all = [1, 2, 3, 0, 0];
+    let sorted = [2, 1, 3, 0, 0];
+    let back = [3, 2, 1, 0, 0];
+    let back_sorted = [2, 3, 1, 0, 0];
+    let set = [1, 2, 0, 0, 3];
+    let sorted_set = [2, 1, 0, 0, 3];
+    let back_set = [3, 2, 0, 0, 1];
+    let back_sorted_set = [2, 3, 0, 0, 1];
+    let rows = [
+        (
+            DictMethod::DtSet,
+            *b"baC",
+            [all, all, sorted, sorted, all, all, all],
+        ),
+        (
+            DictMethod::DtBag,
+            *b"baB",
+            [set, all, sorted_set, sorted, all, all, all],
+        ),
+        (
+            DictMethod::DtOset,
+            *b"baC",
+            [sorted, sorted, sorted, sorted, sorted, sorted, sorted],
+        ),
+        (
+            DictMethod::DtObag,
+            *b"baB",
+            [
+                sorted_set, sorted, sorted_set, sorted, sorted, sorted, sorted,
+            ],
+        ),
+        (
+            DictMethod::DtList,
+            *b"baB",
+            [
+                back_set,
+                back,
+                back_sorted_set,
+                back_sorted,
+                back,
+                back,
+                back,
+            ],
+        ),
+        (
+            DictMethod::DtStack,
+            *b"baB",
+            [
+                back_set,
+                back,
+                back_sorted_set,
+                back_sorted,
+                back,
+                back,
+                back,
+            ],
+        ),
+        (
+            DictMethod::DtQueue,
+            *b"baB",
+            [set, all, sorted_set, sorted, all, all, all],
+        ),
+    ];
+    for (from, bytes, expected) in rows {
+        for i in 0..7 {
+            let found = turned(rt, kind, from, METHODS[i], bytes, alloc)?;
+            same(rt, found, expected[i]);
+        }
+    }
+    Ok(())
+}
+
+// With chains by hashes, and with one chain.
+#[test]
+fn turns(rt: HostRuntime) -> Result<(), Fail> {
+    let kind = BuiltIn::new(Shape::Fold);
+    turns_of(&rt, &kind, rt.alloc())?;
+    let kind = OneHash {
+        inner: BuiltIn::new(Shape::Fold),
+    };
+    turns_of(&rt, &kind, rt.alloc())?;
+    Ok(())
+}
+
+// Which of b, B and b again a set keeps, and the others, which tell of one another in walk order.
+fn dropped_of<D: DictDisc>(
+    rt: &impl Abort,
+    kind: &D,
+    from: DictMethod,
+    to: DictMethod,
+    alloc: Global,
+) -> Result<[u32; 4], AllocError> {
+    let mut cells = given(alloc, *b"bBb")?;
+    let mut dict = filled(rt, &mut cells, kind, from, alloc)?;
+    let dropped = remethod(rt, &mut dict, &mut cells, kind, to, alloc);
+    let [first, end, _, _] = order(&dict, &cells, kind);
+    let second = behind(rt, &dict, &cells, kind, dropped.first);
+    let third = behind(rt, &dict, &cells, kind, second);
+    same(rt, [end], [0]);
+    Ok([first, dropped.first.0, second.0, third.0])
+}
+
+// A set keeps the first of three that match, in walk order, and drops the others.
 #[test]
 fn drops(rt: HostRuntime) -> Result<(), Fail> {
+    let rows = [
+        (DictMethod::DtBag, [1, 2, 3, 0]),
+        (DictMethod::DtObag, [1, 2, 3, 0]),
+        (DictMethod::DtList, [3, 2, 1, 0]),
+        (DictMethod::DtStack, [3, 2, 1, 0]),
+        (DictMethod::DtQueue, [1, 2, 3, 0]),
+    ];
     let kind = BuiltIn::new(Shape::Fold);
-    let mut cells = given(rt.alloc(), *b"bBb")?;
-    let mut dict = filled(&rt, &mut cells, &kind, DictMethod::DtQueue, rt.alloc())?;
-    let dropped = remethod(
+    for (from, expected) in rows {
+        for to in [DictMethod::DtSet, DictMethod::DtOset] {
+            let found = dropped_of(&rt, &kind, from, to, rt.alloc())?;
+            same(&rt, found, expected);
+        }
+    }
+    Ok(())
+}
+
+// Where all keys have one hash, the first of two that match is found in a bag, and the other once that one is out.
+#[test]
+fn one_chain(rt: HostRuntime) -> Result<(), Fail> {
+    let kind = OneHash {
+        inner: BuiltIn::new(Shape::Fold),
+    };
+    let mut cells = given(rt.alloc(), *b"baB")?;
+    let mut dict = filled(&rt, &mut cells, &kind, DictMethod::DtBag, rt.alloc())?;
+    let first = find(&mut dict, &mut cells, &kind, b"B", rt.alloc());
+    let other = find(&mut dict, &mut cells, &kind, b"A", rt.alloc());
+    let gone = unlink(&mut dict, &mut cells, &kind, b"B", rt.alloc());
+    let second = find(&mut dict, &mut cells, &kind, b"b", rt.alloc());
+    same(
         &rt,
-        &mut dict,
-        &mut cells,
-        &kind,
-        DictMethod::DtOset,
-        rt.alloc(),
+        [number(first), number(other), number(gone), number(second)],
+        [1, 2, 1, 3],
     );
-    let found = order(&dict, &cells, &kind);
-    let second = behind(&rt, &dict, &cells, &kind, Addr(2));
-    let third = behind(&rt, &dict, &cells, &kind, Addr(3));
-    same(&rt, found, [1, 0, 0, 0]);
-    same(&rt, [dropped.first.0, second.0, third.0], [2, 3, 0]);
     Ok(())
 }
 

@@ -1,51 +1,16 @@
 ghost use Rattle.std.specs.Prelude.{◌≡◌, ◌∷◌, []};
 ghost use Rattle.vc_dthash.specs.Hashed.{HashFor};
 ghost use Rattle.vc_cells_tests.specs.Five.{AreSized};
-ghost use Rattle.vc_cells_tests.specs.OneHash.{one-lawful, with_one_hash};
 
+use crate::OneHash;
 use crate::drive::Compares;
 use crate::given::{given, number, same};
 use std::alloc::Global;
-use std::cmp::Ordering;
 use std::process::Abort;
 use std::test::Fail;
-use vc_base::{Addr, Cells, OutOfMemory, Steps};
+use vc_base::{Addr, Cells, Steps};
 use vc_dtdisc::{BuiltIn, DictDisc, Shape};
 use vc_dthash::DtHash;
-
-// A kind whose keys all have one hash, so that all its holders stand in one chain.
-#[derive(Drop)]
-pub(crate) struct OneHash {
-    inner: BuiltIn,
-}
-
-impl DictDisc for OneHash {
-    ghost rules = { λ s. with_one_hash s.inner };
-
-    ghost gone = { λ s. s.inner.gone };
-
-    ghost lawful = { λ s. one-lawful s.inner };
-
-    fn key<'a>(&self, obj: &'a [u8]) -> &'a [u8] {
-        self.inner.key(obj)
-    }
-
-    fn compare<L>(&self, a: &[u8], b: &[u8], steps: &mut Steps<L>) -> Ordering {
-        self.inner.compare(a, b, steps)
-    }
-
-    fn hash(&self, _key: &[u8]) -> u64 {
-        7
-    }
-
-    fn make(&self, obj: &[u8], out: &mut Vec<u8>) -> Result<(), OutOfMemory> {
-        self.inner.make(obj, out)
-    }
-
-    fn freed(&mut self, obj: &[u8]) {
-        self.inner.freed(obj);
-    }
-}
 
 // One of 1 and 2, with the block at 4 as its table.
 fn made<C: Cells, D: DictDisc>(rt: &impl Abort, cells: &mut C, kind: &D) -> DtHash

@@ -2,8 +2,10 @@
 #![tactic(auto)]
 
 mod five;
+mod one_hash;
 
 pub use five::FiveCells;
+pub use one_hash::OneHash;
 
 #[cfg(test)]
 mod dicts;

@@ -2,7 +2,11 @@ pub mod LengthLemmas
 pub mod HeadLemmas
 pub mod DictLemmas
 pub mod PassLemmas
+pub mod SortedLemmas
 pub mod WeedLemmas
+pub mod NeighbourLemmas
+pub mod ChainedLemmas
+pub mod SettledLemmas
 pub mod TurnedLemmas
 pub mod RemethodLemmas
 pub mod ApartLemmas

@@ -1,5 +1,5 @@
--- A dictionary made of what a pass kept.
-use Rattle.std.proofs.Common.{◌≡◌, ◌≢◌, ℕ, ◌≤◌, List, [], ◌∷◌, Bool, true, false, Option, Some, None, length, refl, sym, ap, ◌∙◌, subst, arith, inl, inr}
+-- A dictionary made of what its new method keeps.
+use Rattle.std.proofs.Common.{◌≡◌, ◌≢◌, ℕ, List, [], ◌∷◌, Bool, true, false, Option, Some, None, length, refl, sym, ap, ◌∙◌, subst, arith, inl, inr}
 use Rattle.std.specs.Prelude.{◌==◌, ◌&&◌, not, if◌then◌else◌}
 use Rattle.std.specs.Cmp.{IsTotalOrder}
 use Rattle.std.proofs.lemmas.Bool.{true≢false, eq-eqb}
@@ -10,13 +10,11 @@ use Rattle.vc_base.specs.Cells.{Blocks}
 use Rattle.vc_base.specs.Holders.{KeepsBut, contains}
 use Rattle.vc_dtdisc.specs.Rules.{Rules}
 use Rattle.vc_dtdisc.specs.Finds.{object_at}
-use Rattle.vc_dtlist.specs.Kept.{KeepsTables}
 use Rattle.vc_dtlist.specs.declared.dt_list.DtList.{DtList}
 use Rattle.vc_dtlist.specs.Linked.{StandsFor}
 use Rattle.vc_dtlist.proofs.HolderLemmas.{apart-cons, apart-head, apart-tail}
-use Rattle.vc_dtlist.proofs.KeptLemmas.{KeepsBut-none, KeepsTables-but, StandsFor-same}
 use Rattle.vc_dthash.specs.declared.dt_hash.DtHash.{DtHash}
-use Rattle.vc_dthash.specs.Hashed.{CanChain, ChainedUp, HasTable, HashFor, IsTable}
+use Rattle.vc_dthash.specs.Hashed.{CanChain, HasTable, HashFor, IsTable}
 use Rattle.vc_dthash.specs.Slots.{slots_for, wanted}
 use Rattle.vc_dthash.proofs.HashLemmas.{HasTable-kept}
 use Rattle.vc_dtord.specs.Ordered.{IsSorted}
@@ -26,13 +24,13 @@ use Rattle.vc_base.specs.Methods.{has_table, is_ordered}
 use Rattle.vc_dict.specs.Methods.{slots_between}
 use Rattle.vc_dict.specs.Orders.{dropped_by, kept_by, ordered_by}
 use Rattle.vc_dict.specs.Stands.{HeadsFor, Stands, hash_of, list_of}
-use Rattle.vc_dict.specs.Passes.{AreApart}
 use Rattle.vc_dict.specs.Turned.{CanRemethod, Remethoded}
+use Rattle.vc_dict.specs.Weeding.{CanSettle, IsSettled, Settled}
 use Rattle.vc_dict.proofs.DictLemmas.{Stands-unique}
 use Rattle.vc_dict.proofs.HeadLemmas.{as_hash, heads_by}
 use Rattle.vc_dict.proofs.OwnLemmas.{Stands-table, none-at_0}
-use Rattle.vc_dict.proofs.PassLemmas.{apart_back, differs}
-use Rattle.vc_dict.proofs.TurnedLemmas.{AreDropped-chain, IsSorted-turned, length-ordered, no_block, shorter, within_dropped_by, within_kept_by, within_ordered}
+use Rattle.vc_dict.proofs.PassLemmas.{differs}
+use Rattle.vc_dict.proofs.TurnedLemmas.{AreDropped-chain, IsSorted-ordered, IsSorted-turned, dropped_by_same, kept_by_same, length-ordered, no_block, within_kept_by, within_ordered}
 
 -- a hash that stands for nothing over whatever blocks has no slots
 pub no_slots : (h : DtHash) (rules : Rules) → HashFor rules h (λ a. None) [] → h.slots ≡ 0
@@ -107,17 +105,10 @@ not_both : (t : Bool) (old block a : ℕ) → contains (old ∷ block ∷ []) a 
 not_both true old block a h e = apart-head old (block ∷ []) a h (sym e)
 not_both false old block a h e = apart-head block [] a (apart-tail old (block ∷ []) a h) (sym e)
 
-keeps_by : (t : Bool) (method : DictMethod) (table : ℕ) (ys : List ℕ) (b b' : Blocks) → has_table method ≡ t → (has_table method ≡ true → KeepsTables (table ∷ []) ys b b') → (has_table method ≡ false → b' ≡ b) → KeepsTables (table ∷ []) ys b b'
-keeps_by true method table ys b b' e chained same = chained e
-keeps_by false method table ys b b' e chained same =
-    subst (λ z. KeepsTables (table ∷ []) ys b z) (sym (same e)) (KeepsTables-but (table ∷ []) ys b b (KeepsBut-none ys b))
-
--- it was turned: those that are kept are a list, and are put into the chains of a table, if it has one
-module _ (rules : Rules) (method : DictMethod) (d : Dict) (b b2 : Blocks) (block size : ℕ) (holders : List ℕ) (list gone : DtList) (n : ℕ) (table : Addr) (slots : ℕ)
+-- it was turned: its holders are a list in the method's order, and of these it keeps some in the form of the method
+module _ (rules : Rules) (method : DictMethod) (d : Dict) (b b1 : Blocks) (block size : ℕ) (holders : List ℕ) (list : DtList) (table : Addr) (slots : ℕ)
     (r : CanRemethod rules d b method block size) (s : Stands rules d b holders) (order : IsTotalOrder rules.compare)
-    (ls : StandsFor list b2 (kept_by method rules b (ordered_by method rules b holders))) (count : n ≡ length (kept_by method rules b (ordered_by method rules b holders)))
-    (gs : StandsFor gone b2 (dropped_by method rules b (ordered_by method rules b holders))) (keeps : KeepsBut holders b b2)
-    (apart : AreApart (kept_by method rules b (ordered_by method rules b holders)) (dropped_by method rules b (ordered_by method rules b holders)))
+    (ls : StandsFor list b1 (ordered_by method rules b holders)) (keeps : KeepsBut holders b b1)
     (te : table.0 ≡ (if has_table method && has_table d.method then d.table.0 else block)) (se : slots ≡ (if has_table method && has_table d.method then d.slots else size)) where
   abbrev xs : List ℕ
   xs = ordered_by method rules b holders
@@ -132,29 +123,23 @@ module _ (rules : Rules) (method : DictMethod) (d : Dict) (b b2 : Blocks) (block
   both = has_table method && has_table d.method
 
   abbrev turned : Dict
-  turned = record { method = method; kind = d.kind; count = n; current = record { 0 = 0 }; first = list.first; last = list.last; table = table; slots = slots }
+  turned = record d { method = method; current = record { 0 = 0 }; first = list.first; last = list.last; table = table; slots = slots }
 
   table-was : HasTable b holders (if both then d.table.0 else block) (if both then d.slots else size)
   table-was = table_before rules d b method block size holders both r s
 
-  fewer_kept : length ys ≤ length holders
-  fewer_kept =
-      let short : length ys ≤ length xs = shorter method rules b xs in
-      let long : length xs ≡ length holders = length-ordered method rules b holders in
-      omega (arith, short, long)
+  long : length xs ≡ length holders
+  long = length-ordered method rules b holders
 
-  kept-within : (a : ℕ) → contains holders a ≡ false → contains ys a ≡ false
-  kept-within a h = within_kept_by method rules b xs a (within_ordered method rules b holders a h)
+  xs-within : (a : ℕ) → contains holders a ≡ false → contains xs a ≡ false
+  xs-within a h = within_ordered method rules b holders a h
 
-  gone-within : (a : ℕ) → contains holders a ≡ false → contains zs a ≡ false
-  gone-within a h = within_dropped_by method rules b xs a (within_ordered method rules b holders a h)
-
-  table-now : HasTable b2 ys table.0 slots
+  table-now : HasTable b1 xs table.0 slots
   table-now =
-      let moved : HasTable b2 ys (if both then d.table.0 else block) (if both then d.slots else size) =
-      HasTable-kept b b2 holders ys (if both then d.table.0 else block) (if both then d.slots else size) keeps.there keeps.sizes
-      (λ small h. let few = fewer_kept in omega (arith, few, h)) (λ h. kept-within _ h) table-was in
-      subst (λ z. HasTable b2 ys z slots) (sym te) (subst (λ z. HasTable b2 ys (if both then d.table.0 else block) z) (sym se) moved)
+      let moved : HasTable b1 xs (if both then d.table.0 else block) (if both then d.slots else size) =
+      HasTable-kept b b1 holders xs (if both then d.table.0 else block) (if both then d.slots else size) keeps.there keeps.sizes
+      (λ small h. let same = long in omega (arith, same, h)) (λ h. xs-within _ h) table-was in
+      subst (λ z. HasTable b1 xs z slots) (sym te) (subst (λ z. HasTable b1 xs (if both then d.table.0 else block) z) (sym se) moved)
 
   table-out : contains holders table.0 ≡ false
   table-out = elim (eqb_tells table.0 0) as (λ _. contains holders table.0 ≡ false) [
@@ -162,51 +147,59 @@ module _ (rules : Rules) (method : DictMethod) (d : Dict) (b b2 : Blocks) (block
     | inr some ↦ subst (λ z. contains holders z ≡ false) (sym te) (table-was.some (λ e. some.1 (te ∙ e))).apart
   ]
 
-  pub can-chain : has_table method ≡ true → CanChain (hash_of turned) b2
+  can-chain : has_table method ≡ true → CanChain (hash_of turned) b1
   can-chain h = record {
-    holders = ys;
+    holders = xs;
     stands = ls;
-    count = count;
+    count = s.count ∙ sym long;
     table = table-now;
     empty = λ zero.
         let none = empty_by rules d b method block size holders (has_table d.method) refl r s h (sym te ∙ zero) in
-        let few = fewer_kept in
-        no_more ys (omega (arith, none, few));
+        no_more xs (long ∙ none);
   }
 
-  module _ (b3 : Blocks) (left : Addr) (le : left.0 ≡ (if has_table method then 0 else d.table.0)) (chained : has_table method ≡ true → ChainedUp rules (hash_of turned) ys b2 b3) (same : has_table method ≡ false → b3 ≡ b2) where
-    keeps-chained : KeepsTables (table.0 ∷ []) ys b2 b3
-    keeps-chained = keeps_by (has_table method) method table.0 ys b2 b3 refl (λ h. (chained h).keeps) same
+  pub can-settle : CanSettle rules method (hash_of turned) b1
+  can-settle = record {
+    holders = xs;
+    stands = ls;
+    count = s.count ∙ sym long;
+    chains = can-chain;
+    sorted = λ h. IsSorted-same rules b b1 xs (λ a w. keeps.bodies a) (IsSorted-ordered rules b method holders order h);
+  }
+
+  module _ (b2 : Blocks) (kept_in gone : DtList) (n : ℕ) (left : Addr) (le : left.0 ≡ (if has_table method then 0 else d.table.0))
+      (w : Settled rules method (hash_of turned) (ordered_by method rules b holders) b1 (record { kept = kept_in; dropped = gone; count = n }) b2) where
+    settled : IsSettled (has_table method) rules (hash_of turned) xs ys zs b1 (record { kept = kept_in; dropped = gone; count = n }) b2
+    settled =
+        subst (λ z. IsSettled (has_table method) rules (hash_of turned) xs ys z b1 (record { kept = kept_in; dropped = gone; count = n }) b2) (dropped_by_same method rules b b1 xs keeps.bodies)
+        (subst (λ z. IsSettled (has_table method) rules (hash_of turned) xs z (dropped_by method rules b1 xs) b1 (record { kept = kept_in; dropped = gone; count = n }) b2) (kept_by_same method rules b b1 xs keeps.bodies) w)
 
     in-none : (a : ℕ) → a ≢ table.0 → contains (table.0 ∷ []) a ≡ false
     in-none a ne = apart-cons table.0 [] a (λ e. ne (sym e)) refl
 
-    gone-stays : (a : ℕ) → contains zs a ≡ true → b3 a ≡ b2 a
-    gone-stays a h =
-        keeps-chained.others a (in-none a (λ e. differs zs a table.0 h (gone-within table.0 table-out) (sym e))) (apart_back ys zs apart a h)
+    ys-within : (a : ℕ) → contains holders a ≡ false → contains ys a ≡ false
+    ys-within a h = within_kept_by method rules b xs a (xs-within a h)
 
-    body-stays : (a : ℕ) → contains ys a ≡ true → object_at b3 a ≡ object_at b a
+    body-stays : (a : ℕ) → contains ys a ≡ true → object_at b2 a ≡ object_at b a
     body-stays a h =
-        keeps-chained.bodies a (in-none a (λ e. differs ys a table.0 h (kept-within table.0 table-out) (sym e))) ∙ keeps.bodies a
+        settled.keeps.bodies a (in-none a (λ e. differs ys a table.0 h (ys-within table.0 table-out) (sym e))) ∙ keeps.bodies a
 
-    pub Remethoded-made : Remethoded rules method block size holders d b turned b3 (record { first = gone.first; table = left })
-    Remethoded-made =
-        let dropped : StandsFor gone b3 zs = StandsFor-same gone b2 b3 zs gone-stays gs in
-        record {
-          stands = Stands-made rules turned b3 ys (λ h. (chained h).stands) (λ h. subst (λ z. StandsFor list z ys) (sym (same h)) ls) count
-              (λ h. IsSorted-same rules b b3 ys (λ a w. body-stays a w) (IsSorted-turned rules b method holders order h))
-              (λ h. te ∙ (ap (λ t. if t && has_table d.method then d.table.0 else block) h ∙ no_block d.method method d.count block size r.needs h)) table-now.none;
-          dropped = AreDropped-chain b3 0 gone.first.0 zs dropped.links.chain dropped.links.first;
-          method = refl;
-          kind = refl;
-          current = refl;
-          table = te;
-          slots = se;
-          left = le;
-          keeps = record {
-            there = λ a. keeps-chained.there a ∙ keeps.there a;
-            sizes = λ a. keeps-chained.sizes a ∙ keeps.sizes a;
-            bodies = λ a h. keeps-chained.bodies a (in-none a (λ e. not_both both d.table.0 block a h (e ∙ te))) ∙ keeps.bodies a;
-            others = λ a h k. keeps-chained.others a (in-none a (λ e. not_both both d.table.0 block a h (e ∙ te))) (kept-within a k) ∙ keeps.others a k;
-          };
-        }
+    pub Remethoded-made : Remethoded rules method block size holders d b (record turned { first = kept_in.first; last = kept_in.last; count = n }) b2 (record { first = gone.first; table = left })
+    Remethoded-made = record {
+      stands = Stands-made rules (record turned { first = kept_in.first; last = kept_in.last; count = n }) b2 ys settled.hashed settled.listed settled.count
+          (λ h. IsSorted-same rules b b2 ys (λ a u. body-stays a u) (IsSorted-turned rules b method holders order h))
+          (λ h. te ∙ (ap (λ t. if t && has_table d.method then d.table.0 else block) h ∙ no_block d.method method d.count block size r.needs h)) table-now.none;
+      dropped = AreDropped-chain b2 0 gone.first.0 zs settled.gone_stands.links.chain settled.gone_stands.links.first;
+      method = refl;
+      kind = refl;
+      current = refl;
+      table = te;
+      slots = se;
+      left = le;
+      keeps = record {
+        there = λ a. settled.keeps.there a ∙ keeps.there a;
+        sizes = λ a. settled.keeps.sizes a ∙ keeps.sizes a;
+        bodies = λ a h. settled.keeps.bodies a (in-none a (λ e. not_both both d.table.0 block a h (e ∙ te))) ∙ keeps.bodies a;
+        others = λ a h k. settled.keeps.others a (in-none a (λ e. not_both both d.table.0 block a h (e ∙ te))) (xs-within a k) ∙ keeps.others a k;
+      };
+    }

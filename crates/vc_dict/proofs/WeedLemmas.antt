@@ -1,21 +1,22 @@
--- One step of the pass that drops what matches.
-use Rattle.std.proofs.Common.{◌≡◌, ◌≢◌, ℕ, ◌+◌, ◌≤◌, List, [], ◌∷◌, ◌++◌, Bool, true, false, Option, Some, None, length, length-append, is_some, refl, sym, ap, ◌∙◌, subst, arith, append_assoc, append-nil}
+-- One step of a pass that drops what matches an earlier holder.
+use Rattle.std.proofs.Common.{◌≡◌, ◌≢◌, ℕ, ◌+◌, ◌≤◌, List, [], ◌∷◌, ◌++◌, Bool, true, false, Option, Some, None, length, length-append, is_some, refl, sym, ap, ◌∙◌, arith, append_assoc, append-nil}
 use Rattle.std.specs.Prelude.{if◌then◌else◌}
 use Rattle.std.specs.Option.{option_map}
 use Rattle.std.specs.Ordering.{is_eq}
 use Rattle.vc_base.specs.declared.addr.Addr.{Addr}
 use Rattle.vc_base.specs.Cells.{Blocks}
-use Rattle.vc_base.specs.Holders.{KeepsBut, contains}
+use Rattle.vc_base.specs.Holders.{KeepsBut, contains, last_of}
 use Rattle.vc_dtdisc.specs.Finds.{find_key, has_key, object_at}
 use Rattle.vc_dtdisc.specs.Rules.{Rules}
 use Rattle.vc_dtlist.specs.declared.dt_list.DtList.{DtList}
-use Rattle.vc_dtlist.specs.Linked.{StandsFor, Turned, number_of}
-use Rattle.vc_dtlist.proofs.HolderLemmas.{apart-append, apart-cons, apart-front, apart-head, apart-rest, apart-tail}
-use Rattle.vc_dtlist.proofs.KeptLemmas.{StandsFor-kept, within-tail}
-use Rattle.vc_dict.specs.declared.pass.Weeded.{Weeded}
+use Rattle.vc_dtlist.specs.Linked.{Turned, number_of}
+use Rattle.vc_dtlist.proofs.HolderLemmas.{apart-append, apart-cons, apart-front, apart-head, apart-rest, apart-tail, last-differs}
+use Rattle.vc_dtlist.proofs.KeptLemmas.{StandsFor-kept, within-head, within-tail}
+use Rattle.vc_dict.specs.declared.weeded.Weeded.{Weeded}
 use Rattle.vc_dict.specs.Orders.{dropped, has_match, kept}
-use Rattle.vc_dict.specs.Passes.{Added, AreApart, AreWeeded, Parts, Taken, Weeding}
-use Rattle.vc_dict.proofs.PassLemmas.{KeepsBut-step, apart_back, differs, tail_distinct}
+use Rattle.vc_dict.specs.Passes.{AreApart}
+use Rattle.vc_dict.specs.Weeding.{Added, Parts, Weeding, last_matches}
+use Rattle.vc_dict.proofs.PassLemmas.{apart_back, differs}
 
 -- parts over blocks that a call on another list left
 pub Parts-kept : (w : Weeded) (b b' : Blocks) (done gone others : List ℕ) → KeepsBut others b b' → AreApart done others → AreApart gone others → Parts w b done gone → Parts w b' done gone
@@ -67,25 +68,43 @@ Added-kept w b b' at done gone list n p d g t e =
       };
     }
 
--- a match is the same over blocks with the same bodies
-key_same : (rules : Rules) (b b' : Blocks) (key : List ℕ) (xs : List ℕ) → ((a : ℕ) → object_at b' a ≡ object_at b a) → find_key rules b' key xs ≡ find_key rules b key xs
+-- a match is the same over blocks with the same objects
+key_same : (rules : Rules) (b b' : Blocks) (key : List ℕ) (xs : List ℕ) → ((a : ℕ) → contains xs a ≡ true → object_at b' a ≡ object_at b a) → find_key rules b' key xs ≡ find_key rules b key xs
 key_same rules b b' key [] e = refl
 key_same rules b b' key (x ∷ xs) e =
-    ap (λ o. if is_eq (rules.compare (rules.key o) key) then Some x else find_key rules b' key xs) (e x)
-    ∙ ap (λ r. if has_key rules b key x then Some x else r) (key_same rules b b' key xs e)
+    ap (λ o. if is_eq (rules.compare (rules.key o) key) then Some x else find_key rules b' key xs) (e x (within-head x xs))
+    ∙ ap (λ r. if has_key rules b key x then Some x else r) (key_same rules b b' key xs (λ a h. e a (within-tail x xs a h)))
+
+match_there : (rules : Rules) (b b' : Blocks) (xs : List ℕ) (at : ℕ) → object_at b' at ≡ object_at b at → ((a : ℕ) → contains xs a ≡ true → object_at b' a ≡ object_at b a) → has_match rules b' xs at ≡ has_match rules b xs at
+match_there rules b b' xs at f e =
+    ap (λ o. is_some (find_key rules b' (rules.key o) xs)) f ∙ ap is_some (key_same rules b b' (rules.key (object_at b at)) xs e)
 
 pub match_same : (rules : Rules) (b b' : Blocks) (xs : List ℕ) (at : ℕ) → ((a : ℕ) → object_at b' a ≡ object_at b a) → has_match rules b' xs at ≡ has_match rules b xs at
-match_same rules b b' xs at e =
-    ap (λ o. is_some (find_key rules b' (rules.key o) xs)) (e at) ∙ ap is_some (key_same rules b b' (rules.key (object_at b at)) xs e)
+match_same rules b b' xs at e = match_there rules b b' xs at (e at) (λ a _. e a)
+
+pub last_same : (rules : Rules) (b b' : Blocks) (xs : List ℕ) (at : ℕ) → ((a : ℕ) → object_at b' a ≡ object_at b a) → last_matches rules b' xs at ≡ last_matches rules b xs at
+last_same rules b b' [] at e = refl
+last_same rules b b' (x ∷ xs) at e =
+    ap (λ o. is_eq (rules.compare (rules.key (object_at b' (last_of x xs))) (rules.key o))) (e at)
+    ∙ ap (λ o. is_eq (rules.compare (rules.key o) (rules.key (object_at b at)))) (e (last_of x xs))
 
 some_mapped : (o : Option Addr) (p : Option ℕ) → option_map number_of o ≡ p → is_some o ≡ is_some p
 some_mapped None p e = ap is_some e
 some_mapped (Some x) p e = ap is_some e
 
 -- what was found is a match
-pub found_match : (rules : Rules) (start b : Blocks) (holders done : List ℕ) (at : ℕ) (key : List ℕ) (o : Option Addr) (t : Bool) → KeepsBut holders start b → key ≡ rules.key (object_at b at) → option_map number_of o ≡ find_key rules b key done → t ≡ is_some o → has_match rules start done at ≡ t
-found_match rules start b holders done at key o t k e f h =
-    sym (match_same rules start b done at k.bodies) ∙ ap (λ z. is_some (find_key rules b z done)) (sym e) ∙ sym (some_mapped o (find_key rules b key done) f) ∙ sym h
+pub found_match : (rules : Rules) (start b : Blocks) (done : List ℕ) (at : ℕ) (key : List ℕ) (o : Option Addr) (t : Bool) → object_at b at ≡ object_at start at → ((a : ℕ) → contains done a ≡ true → object_at b a ≡ object_at start a) → key ≡ rules.key (object_at b at) → option_map number_of o ≡ find_key rules b key done → t ≡ is_some o → has_match rules start done at ≡ t
+found_match rules start b done at key o t own others e f h =
+    sym (match_there rules start b done at own others) ∙ ap (λ z. is_some (find_key rules b z done)) (sym e) ∙ sym (some_mapped o (find_key rules b key done) f) ∙ sym h
+
+-- the last of a list, if any, is what its end names
+pub last-none : (xs : List ℕ) (p : ℕ) → p ≡ last_of 0 xs → contains xs 0 ≡ false → p ≡ 0 → xs ≡ []
+last-none [] p e none zero = refl
+last-none (x ∷ xs) p e none zero = absurd (last-differs 0 x xs none (sym zero ∙ e))
+
+pub last-is : (rules : Rules) (b : Blocks) (xs : List ℕ) (p at : ℕ) → p ≡ last_of 0 xs → p ≢ 0 → last_matches rules b xs at ≡ has_key rules b (rules.key (object_at b at)) p
+last-is rules b [] p at e some = absurd (some e)
+last-is rules b (x ∷ xs) p at e some = ap (has_key rules b (rules.key (object_at b at))) (sym e)
 
 -- one more was kept or dropped
 kept_step : (rules : Rules) (start : Blocks) (done rest : List ℕ) (at : ℕ) (t : Bool) → has_match rules start done at ≡ t → kept rules start (if t then done else done ++ at ∷ []) rest ≡ kept rules start done (at ∷ rest)
@@ -105,60 +124,56 @@ other_apart : (t : Bool) (xs : List ℕ) (at a : ℕ) → contains xs a ≡ fals
 other_apart true xs at a h ne = h
 other_apart false xs at a h ne = apart-append xs (at ∷ []) a h (apart-cons at [] a ne refl)
 
-pub Weeding-next : (rules : Rules) (start : Blocks) (holders : List ℕ) (passed at : ℕ) (left left' : DtList) (w w' : Weeded) (b b1 b2 : Blocks) (t : Bool) (s : Weeding rules start holders passed left w b) (k : Taken at s.rest b left' b1) → has_match rules start s.done at ≡ t → Added at t s.done s.gone b1 w' b2 → Weeding rules start holders (passed + 1) left' w' b2
-Weeding-next rules start holders passed at left left' w w' b b1 b2 t s k e add =
-    let d : contains k.tail at ≡ false = tail_distinct left b at k.tail (subst (λ z. StandsFor left b z) k.whole s.left_stands) in
-    let out : (a : ℕ) → contains holders a ≡ false → contains (at ∷ k.tail) a ≡ false = λ a h. subst (λ z. contains z a ≡ false) k.whole (s.rest_within a h) in
-    let in_rest : (a : ℕ) → contains k.tail a ≡ true → contains s.rest a ≡ true = λ a h. subst (λ z. contains z a ≡ true) (sym k.whole) (within-tail at k.tail a h) in
-    let apart : AreApart k.tail (at ∷ (s.done ++ s.gone)) = λ a h. apart-cons at (s.done ++ s.gone) a (differs k.tail a at h d) (apart-append s.done s.gone a (s.apart_done a (in_rest a h)) (s.apart_gone a (in_rest a h))) in
-    let long : length s.rest ≡ length (at ∷ k.tail) = ap length k.whole in
-    let middle : KeepsBut holders start b1 = KeepsBut-step holders s.rest start b b1 s.keeps k.keeps s.rest_within in
+either_few : (t : Bool) (xs ys : List ℕ) (n : ℕ) → length xs ≤ n → length ys ≤ n → length (if t then xs else ys) ≤ n
+either_few true xs ys n e f = e
+either_few false xs ys n e f = f
+
+-- both are apart still
+both_apart : (t : Bool) (done gone : List ℕ) (at : ℕ) → AreApart done gone → contains done at ≡ false → contains gone at ≡ false → AreApart (if t then done else done ++ at ∷ []) (if t then gone ++ at ∷ [] else gone)
+both_apart true done gone at h d g = λ a w. apart-append gone (at ∷ []) a (h a w) (apart-cons at [] a (differs done a at w d) refl)
+both_apart false done gone at h d g =
+    apart_back gone (done ++ at ∷ []) (λ a w. apart-append done (at ∷ []) a (apart_back done gone h a w) (apart-cons at [] a (differs gone a at w g) refl))
+
+-- the first of what is left goes to those that are dropped, or to those that are kept
+pub Weeding-next : (rules : Rules) (start : Blocks) (holders : List ℕ) (passed at : ℕ) (done gone tail : List ℕ) (t : Bool) → contains tail at ≡ false → has_match rules start done at ≡ t → Weeding rules start holders passed done gone (at ∷ tail) → Weeding rules start holders (passed + 1) (if t then done else done ++ at ∷ []) (if t then gone ++ at ∷ [] else gone) tail
+Weeding-next rules start holders passed at done gone tail t d e s =
+    let in_rest : (a : ℕ) → contains tail a ≡ true → contains (at ∷ tail) a ≡ true = λ a h. within-tail at tail a h in
+    let long : length (done ++ at ∷ []) ≡ length done + 1 = length-append done (at ∷ []) in
     record {
-      done = if t then s.done else s.done ++ at ∷ [];
-      gone = if t then s.gone ++ at ∷ [] else s.gone;
-      rest = k.tail;
-      whole_kept = kept_step rules start s.done k.tail at t e ∙ ap (kept rules start s.done) (sym k.whole) ∙ s.whole_kept;
-      whole_dropped = dropped_step rules start s.done s.gone k.tail at t e ∙ ap (λ z. s.gone ++ dropped rules start s.done z) (sym k.whole) ∙ s.whole_dropped;
-      left_stands = StandsFor-kept left' b1 b2 k.tail (at ∷ (s.done ++ s.gone)) add.keeps apart k.stands;
-      parts = add.parts;
-      count = omega (arith, long, s.count);
-      apart_done = λ a h. other_apart t s.done at a (s.apart_done a (in_rest a h)) (differs k.tail a at h d);
-      apart_gone = λ a h. either_apart t s.gone at a (s.apart_gone a (in_rest a h)) (differs k.tail a at h d);
-      rest_within = λ a h. apart-tail at k.tail a (out a h);
-      done_within = λ a h. other_apart t s.done at a (s.done_within a h) (apart-head at k.tail a (out a h));
-      gone_within = λ a h. either_apart t s.gone at a (s.gone_within a h) (apart-head at k.tail a (out a h));
-      keeps = KeepsBut-step holders (at ∷ (s.done ++ s.gone)) start b1 b2 middle add.keeps
-          (λ a h. apart-cons at (s.done ++ s.gone) a (apart-head at k.tail a (out a h)) (apart-append s.done s.gone a (s.done_within a h) (s.gone_within a h)));
+      whole_kept = kept_step rules start done tail at t e ∙ s.whole_kept;
+      whole_dropped = dropped_step rules start done gone tail at t e ∙ s.whole_dropped;
+      count = omega (arith, s.count);
+      few = either_few t done (done ++ at ∷ []) (passed + 1) (omega (arith, s.few)) (omega (arith, s.few, long));
+      apart = both_apart t done gone at s.apart (s.apart_done at (within-head at tail)) (s.apart_gone at (within-head at tail));
+      apart_done = λ a h. other_apart t done at a (s.apart_done a (in_rest a h)) (differs tail a at h d);
+      apart_gone = λ a h. either_apart t gone at a (s.apart_gone a (in_rest a h)) (differs tail a at h d);
+      rest_within = λ a h. apart-tail at tail a (s.rest_within a h);
+      done_within = λ a h. other_apart t done at a (s.done_within a h) (apart-head at tail a (s.rest_within a h));
+      gone_within = λ a h. either_apart t gone at a (s.gone_within a h) (apart-head at tail a (s.rest_within a h));
     }
 
-pub Weeding-start : (rules : Rules) (list done gone : DtList) (b : Blocks) (holders : List ℕ) → StandsFor list b holders → StandsFor done b [] → StandsFor gone b [] → Weeding rules b holders 0 list (record { kept = done; dropped = gone; count = 0 }) b
-Weeding-start rules list done gone b holders s d g = record {
-  done = [];
-  gone = [];
-  rest = holders;
+pub Weeding-start : (rules : Rules) (b : Blocks) (holders : List ℕ) → Weeding rules b holders 0 [] [] holders
+Weeding-start rules b holders = record {
   whole_kept = refl;
   whole_dropped = refl;
-  left_stands = s;
-  parts = record { done_stands = d; gone_stands = g; count = refl; apart = λ a h. refl };
   count = omega arith;
+  few = omega arith;
+  apart = λ a h. refl;
   apart_done = λ a h. refl;
   apart_gone = λ a h. refl;
   rest_within = λ a h. h;
   done_within = λ a h. refl;
   gone_within = λ a h. refl;
-  keeps = record { there = λ a. refl; sizes = λ a. refl; bodies = λ a. refl; others = λ a h. refl };
 }
 
 no_rest : (xs : List ℕ) → length xs ≡ 0 → xs ≡ []
 no_rest [] h = refl
 no_rest (x ∷ xs) h = absurd (omega (arith, h))
 
-pub Weeding-end : (rules : Rules) (start : Blocks) (holders : List ℕ) (passed : ℕ) (left : DtList) (w : Weeded) (b : Blocks) → Weeding rules start holders passed left w b → length holders ≤ passed → AreWeeded holders (kept rules start [] holders) (dropped rules start [] holders) start w b
-Weeding-end rules start holders passed left w b s h =
-    let empty : s.rest ≡ [] = no_rest s.rest (omega (arith, s.count)) in
-    let all_kept : s.done ≡ kept rules start [] holders = ap (kept rules start s.done) (sym empty) ∙ s.whole_kept in
-    let all_dropped : s.gone ≡ dropped rules start [] holders = sym (append-nil s.gone) ∙ ap (λ z. s.gone ++ dropped rules start s.done z) (sym empty) ∙ s.whole_dropped in
-    record {
-      parts = subst (λ z. Parts w b (kept rules start [] holders) z) all_dropped (subst (λ z. Parts w b z s.gone) all_kept s.parts);
-      keeps = s.keeps;
-    }
+pub all-kept : (rules : Rules) (start : Blocks) (holders : List ℕ) (passed : ℕ) (done gone rest : List ℕ) → Weeding rules start holders passed done gone rest → length holders ≤ passed → done ≡ kept rules start [] holders
+all-kept rules start holders passed done gone rest s h =
+    ap (kept rules start done) (sym (no_rest rest (omega (arith, h, s.count)))) ∙ s.whole_kept
+
+pub all-dropped : (rules : Rules) (start : Blocks) (holders : List ℕ) (passed : ℕ) (done gone rest : List ℕ) → Weeding rules start holders passed done gone rest → length holders ≤ passed → gone ≡ dropped rules start [] holders
+all-dropped rules start holders passed done gone rest s h =
+    sym (append-nil gone) ∙ ap (λ z. gone ++ dropped rules start done z) (sym (no_rest rest (omega (arith, h, s.count)))) ∙ s.whole_dropped

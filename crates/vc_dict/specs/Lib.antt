@@ -3,6 +3,7 @@ pub mod Changes
 pub mod Orders
 pub mod Stands
 pub mod Passes
+pub mod Weeding
 pub mod Turned
 pub mod Rows
 pub mod Listed

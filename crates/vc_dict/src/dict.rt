@@ -5,16 +5,17 @@ ghost use Rattle.vc_base.specs.Holders.{contains, first_in, last_in, next_in, pr
 ghost use Rattle.vc_dtdisc.specs.Finds.{find_key};
 ghost use Rattle.vc_dtdisc.specs.Rules.{Rules};
 ghost use Rattle.vc_dtlist.specs.Linked.{Finds, StandsFor, number_of};
-ghost use Rattle.vc_dthash.specs.Hashed.{CanChain, ChainedUp};
 ghost use Rattle.vc_dtord.specs.Ordered.{placed};
 ghost use Rattle.vc_base.specs.Methods.{has_table, is_ordered};
 ghost use Rattle.vc_dict.specs.Methods.{slots_between, wanted_by};
 ghost use Rattle.vc_dict.specs.Changes.{before_current, behind_current, current_without, inserted, linked, removed};
 ghost use Rattle.vc_dict.specs.Turned.{CanRemethod, Remethoded, Unchanged, behind_dropped};
+ghost use Rattle.vc_dict.specs.Weeding.{CanSettle, Settled};
 ghost use Rattle.vc_dict.specs.Stands.{Adopted, Became, CanAdopt, CanLink, HeadsFor, IsDict, IsIn, IsKept, IsMember, Stands, compares_by, hash_of, heads_of, list_of, ord_of};
 
+use crate::dropping::weed_by;
 use crate::heads::Heads;
-use crate::pass::{order_by, weed_by};
+use crate::pass::order_by;
 use crate::places::put_linked;
 use vc_base::{Addr, Cells, DictMethod, Steps};
 use vc_dtdisc::DictDisc;
@@ -561,23 +562,14 @@ impl Dict {
     }
 
     // Takes that list and method, and the table that was brought, unless its own stays. Answers its own where it needs none.
-    fn turn(
-        &mut self,
-        method: DictMethod,
-        list: DtList,
-        count: u64,
-        table: Addr,
-        slots: u32,
-    ) -> Addr
+    fn turn(&mut self, method: DictMethod, list: DtList, table: Addr, slots: u32) -> Addr
         ensures left { result.0 ≡ (if has_table method then 0 else self.old.table.0) }
         ensures table { self.new.table
             ≡ (if has_table method && has_table self.old.method then self.old.table else table) }
         ensures slots { self.new.slots
             ≡ (if has_table method && has_table self.old.method then self.old.slots else slots) }
-        ensures same { self.new ≡ record {
+        ensures same { self.new ≡ record self.old {
           method = method;
-          kind = self.old.kind;
-          count = count;
           current = record { 0 = 0 };
           first = list.first;
           last = list.last;
@@ -596,24 +588,38 @@ impl Dict {
         self.method = method;
         self.first = list.first;
         self.last = list.last;
-        self.count = count;
         self.current = Addr::NONE;
         left
     }
 
-    // Puts the holders of the list into the chains of the table, where the method has one.
-    fn chain_up<C: Cells, D: DictDisc>(&self, cells: &mut C, kind: &D)
-        requires { has_table self.now.method ≡ true → CanChain (hash_of self.now) (C.blocks cells.old) }
-        ensures hash { has_table self.now.method ≡ true → (holders : List ℕ)
-            → StandsFor (list_of self.now) (C.blocks cells.old) holders
-            → ChainedUp (D.rules kind.now) (hash_of self.now) holders (C.blocks cells.old)
+    // Drops what its method doesn't keep of the list that it took, and puts the others into the form of the method. Answers
+    // the list of those that it dropped.
+    fn settle<C: Cells, D: DictDisc, L>(
+        &mut self,
+        cells: &mut C,
+        kind: &D,
+        steps: &mut Steps<L>,
+    ) -> DtList
+        requires { CanSettle (D.rules kind.now) self.old.method (hash_of self.old)
+            (C.blocks cells.old) }
+        ensures settled { (holders : List ℕ)
+            → StandsFor (list_of self.old) (C.blocks cells.old) holders
+            → Settled (D.rules kind.now) self.old.method (hash_of self.old) holders
+            (C.blocks cells.old)
+            (record { kept = list_of self.new; dropped = result; count = self.new.count })
             (C.blocks cells.new) }
-        ensures same { has_table self.now.method ≡ false → C.blocks cells.new ≡ C.blocks cells.old }
+        ensures same { self.new ≡ record self.old {
+          first = self.new.first;
+          last = self.new.last;
+          count = self.new.count;
+        } }
         ensures rest { C.RestStays cells.old cells.new }
     {
-        if self.method.has_table() {
-            self.hash().chain_up(cells, kind);
-        }
+        let weeded = weed_by(self.method, self.hash(), cells, kind, steps);
+        self.first = weeded.kept.first;
+        self.last = weeded.kept.last;
+        self.count = weeded.count;
+        weeded.dropped
     }
 
     // Turns it to another method.
@@ -636,11 +642,10 @@ impl Dict {
     {
         let list = self.heads().into_list(cells);
         let ordered = order_by(list, self.count, method, cells, kind, steps);
-        let weeded = weed_by(ordered, self.count, method, cells, kind, steps);
-        let left = self.turn(method, weeded.kept, weeded.count, table, slots);
-        self.chain_up(cells, kind);
+        let left = self.turn(method, ordered, table, slots);
+        let dropped = self.settle(cells, kind, steps);
         Dropped {
-            first: weeded.dropped.first,
+            first: dropped.first,
             table: left,
         }
     }

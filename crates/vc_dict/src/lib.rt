@@ -2,11 +2,15 @@
 //! through dictionaries are handed on.
 #![tactic(auto)]
 
+mod chained;
 mod dict;
+mod dropping;
 mod heads;
+mod neighbours;
 mod pass;
 mod places;
 mod rows;
+mod weeded;
 
 pub use dict::{Dict, Dropped, after_dropped};
 pub use rows::{insert_rows, list_rows, order_rows, remove_rows, table_rows};
