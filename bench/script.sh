@@ -1,10 +1,11 @@
 #!/bin/sh
-# Prints a script for vmreplay:
+# Prints a script for vmreplay, or for dtrun where it puts objects:
 #   bench/script.sh frees            20,000 lines: fifty names of blocks are allocated and freed in turn
 #   bench/script.sh resizes [LINES]  200,000 lines or so many: of two hundred names, each line allocates, resizes or frees one
 #   bench/script.sh segments         1,026 lines: of 1,025 allocations, 1,023 take a segment each
 #   bench/script.sh one [LINES]      2,000,000 lines or so many: one block is allocated and freed again and again
 #   bench/script.sh live BLOCKS      so many blocks of one byte are allocated in one region
+#   bench/script.sh puts OBJECTS     so many objects are put into one queue and taken out again
 # It needs awk.
 set -eu
 
@@ -62,7 +63,18 @@ live() {
     }'
 }
 
+puts() {
+    awk -v objects="$1" 'BEGIN {
+        print "open r best 9"
+        print "dict q queue r 1"
+        for (i = 1; i <= objects; i++) print "insert q o" i
+        for (i = 1; i <= objects; i++) print "delete q"
+        print "shut q"
+        print "close r"
+    }'
+}
+
 case "${1-} $#" in
-    "frees 1" | "segments 1" | "resizes 1" | "resizes 2" | "one 1" | "one 2" | "live 2") "$@" ;;
-    *) echo "usage: bench/script.sh frees | segments | resizes [LINES] | one [LINES] | live BLOCKS" >&2; exit 2 ;;
+    "frees 1" | "segments 1" | "resizes 1" | "resizes 2" | "one 1" | "one 2" | "live 2" | "puts 2") "$@" ;;
+    *) echo "usage: bench/script.sh frees | segments | resizes [LINES] | one [LINES] | live BLOCKS | puts OBJECTS" >&2; exit 2 ;;
 esac

@@ -1,11 +1,12 @@
 #!/bin/sh
-# Times vmreplay, and tells the memory that it took at most. The scripts are those of bench/script.sh:
+# Times vmreplay or dtrun, and tells the memory that it took at most. The scripts are those of bench/script.sh:
 #   bench/time.sh frees     20,000 lines
 #   bench/time.sh resizes   200,000 lines
 #   bench/time.sh segments  fifty runs of 1,026 lines
 #   bench/time.sh one       2,000,000 lines
 #   bench/time.sh live      4,000, 8,000 and 20,000 blocks of one byte in one region, each in a run of its own
 #   bench/time.sh quiet     the same with --quiet
+#   bench/time.sh puts      dtrun --quiet: 2,000, 4,000, 8,000 and 16,000 objects are put into a queue and taken out
 # Run by hand at the top of the repository. It needs awk and GNU time.
 set -eu
 
@@ -16,22 +17,25 @@ run() {
     bench/script.sh "$@" > "$script"
     echo "$*: $(wc -l < "$script") lines"
     env time -f '%e seconds, %M KiB' \
-        sh -c 'for i in $(seq "$2"); do bin/vmreplay $3 < "$1" > /dev/null; done' sh "$script" "$runs" "$words"
+        sh -c 'for i in $(seq "$2"); do bin/"$4" $3 < "$1" > /dev/null; done' sh "$script" "$runs" "$words" "$program"
 }
 
 case "${1-}" in
-    frees | resizes | segments | one | live | quiet) ;;
-    *) echo "usage: bench/time.sh frees|resizes|segments|one|live|quiet" >&2; exit 2 ;;
+    frees | resizes | segments | one | live | quiet | puts) ;;
+    *) echo "usage: bench/time.sh frees|resizes|segments|one|live|quiet|puts" >&2; exit 2 ;;
 esac
 make all > /dev/null
 script=$(mktemp)
 trap 'rm -f "$script"' EXIT
+program=vmreplay
 words=
 case "$1" in
     quiet) words=--quiet ;;
+    puts) program=dtrun words=--quiet ;;
 esac
 case "$1" in
     segments) run 50 segments ;;
+    puts) for objects in 2000 4000 8000 16000; do run 1 puts "$objects"; done ;;
     live | quiet) for blocks in 4000 8000 20000; do run 1 live "$blocks"; done ;;
     *) run 1 "$1" ;;
 esac

@@ -1,34 +1,54 @@
--- No two open regions have one name.
+-- No two open regions have one name, and no two dictionaries.
 use Rattle.std.proofs.Common.{◌≡◌, ℕ, Bool, true, false, cond, List, [], ◌∷◌, Some, None, length, map, refl, sym, ap, ◌∙◌, subst, arith}
+use Rattle.std.specs.Prelude.{find}
 use Rattle.std.specs.List.{AllByRecursion, IsDistinct}
 use Rattle.std.specs.Map.{keys_of}
 use Rattle.std.specs.Str.{bytes_eq}
 use Rattle.std.proofs.lemmas.Map.Keys.{IsDistinct-head, IsDistinct-tail}
 use Rattle.vc_commands.proofs.Names.{same_bytes}
-use Rattle.vc_commands.specs.Held.{home_of}
+use Rattle.vc_commands.specs.Held.{Held, home_of}
 use Rattle.vc_commands.specs.Home.{Home, is_home}
 use Rattle.vc_commands.specs.declared.region.home.HomeEntry.{HomeEntry}
 use Rattle.vc_commands.specs.declared.region.labels.Labels.{Labels}
+use Rattle.vc_dtdisc.specs.Finding.{without_first}
 use Rattle.vc_model.specs.Discipline.{Discipline}
+use Rattle.vc_steps.proofs.DictsStay.{Entry, Vs}
 use Rattle.vc_steps.proofs.Helds.{swapped}
+use Rattle.vc_steps.specs.DictHomes.{dicts_in}
+use Rattle.vc_steps.specs.Dicts.{without_dict}
 use Rattle.vc_steps.specs.Homes.{held_all}
 use Rattle.vc_steps.specs.State.{home_named, without_home}
+use Rattle.vc_views.specs.Views.{DictHome, dict_named, is_dict}
+use Rattle.vc_counts.proofs.DictWorks.{HaveOwnNames}
 use Rattle.vc_counts.proofs.Works.{AreAlone}
 
-none-named : (r : List ℕ) (hs : List Home) → AllByRecursion (λ n. bytes_eq r n ≡ false) (map (λ (h : Home). h.name) hs) → home_named r hs ≡ None
-none-named r [] all = refl
-none-named r (g ∷ hs) all = ap (λ b. cond b (Some g) (home_named r hs)) (swapped g.name r ∙ all.0) ∙ none-named r hs all.1
+-- items with names of their own
+module _ {A : Type 0} (named : A → List ℕ) where
+  abbrev has_name : List ℕ → A → Bool
+  has_name r a = bytes_eq (named a) r
 
-alone-by : (r : List ℕ) (b : Bool) (g : Home) (hs left : List Home) → b ≡ is_home r g → (is_home r g ≡ true → home_named r hs ≡ None) → home_named r left ≡ None → home_named r (cond b hs (g ∷ left)) ≡ None
-alone-by r true g hs left is here there = here (sym is)
-alone-by r false g hs left is here there = ap (λ b. cond b (Some g) (home_named r left)) (sym is) ∙ there
+  none-named : (r : List ℕ) (xs : List A) → AllByRecursion (λ n. bytes_eq r n ≡ false) (map named xs) → find (has_name r) xs ≡ None
+  none-named r [] all = refl
+  none-named r (x ∷ xs) all = ap (λ b. cond b (Some x) (find (has_name r) xs)) (swapped (named x) r ∙ all.0) ∙ none-named r xs all.1
 
-pub alone-homes : (hs : List Home) → IsDistinct bytes_eq (map (λ (h : Home). h.name) hs) → AreAlone hs
-alone-homes [] distinct r = refl
-alone-homes (g ∷ hs) distinct r =
-    alone-by r (is_home r g) g hs (without_home r hs) refl
-    (λ is. none-named r hs (subst (λ n. AllByRecursion (λ m. bytes_eq n m ≡ false) (map (λ (h : Home). h.name) hs)) (same_bytes g.name r is) (IsDistinct-head bytes_eq g.name (map (λ (h : Home). h.name) hs) distinct)))
-    (alone-homes hs (IsDistinct-tail bytes_eq g.name (map (λ (h : Home). h.name) hs) distinct) r)
+  alone-by : (r : List ℕ) (b : Bool) (x : A) (xs left : List A) → b ≡ has_name r x → (has_name r x ≡ true → find (has_name r) xs ≡ None) → find (has_name r) left ≡ None → find (has_name r) (cond b xs (x ∷ left)) ≡ None
+  alone-by r true x xs left is here there = here (sym is)
+  alone-by r false x xs left is here there = ap (λ b. cond b (Some x) (find (has_name r) left)) (sym is) ∙ there
+
+  alone-named : (xs : List A) → IsDistinct bytes_eq (map named xs) → (r : List ℕ) → find (has_name r) (without_first (has_name r) xs) ≡ None
+  alone-named [] distinct r = refl
+  alone-named (x ∷ xs) distinct r =
+      alone-by r (has_name r x) x xs (without_first (has_name r) xs) refl
+      (λ is. none-named r xs (subst (λ n. AllByRecursion (λ m. bytes_eq n m ≡ false) (map named xs)) (same_bytes (named x) r is) (IsDistinct-head bytes_eq (named x) (map named xs) distinct)))
+      (alone-named xs (IsDistinct-tail bytes_eq (named x) (map named xs) distinct) r)
+
+homes-without : (r : List ℕ) (hs : List Home) → without_home r hs ≡ without_first (is_home r) hs
+homes-without r [] = refl
+homes-without r (h ∷ hs) = ap (λ left. cond (is_home r h) hs (h ∷ left)) (homes-without r hs)
+
+dicts-without : (d : List ℕ) (ds : List DictHome) → without_dict d ds ≡ without_first (is_dict d) ds
+dicts-without d [] = refl
+dicts-without d (e ∷ ds) = ap (λ left. cond (is_dict d e) ds (e ∷ left)) (dicts-without d ds)
 
 module _ {I : Type 0} {V : I → Type 0} (meaning : (x : I) × V x → Discipline) where
   names-of : (homes : List (List ℕ × HomeEntry I V)) (labels : List Labels) → length labels ≡ length homes → keys_of homes ≡ map (λ (k : Home). k.name) (map home_of (held_all meaning homes labels))
@@ -38,5 +58,18 @@ module _ {I : Type 0} {V : I → Type 0} (meaning : (x : I) × V x → Disciplin
 
   -- those of a session are keys of a map
   pub alone-held : (homes : List (List ℕ × HomeEntry I V)) (labels : List Labels) → length labels ≡ length homes → IsDistinct bytes_eq (keys_of homes) → AreAlone (map home_of (held_all meaning homes labels))
-  alone-held homes labels same distinct =
-      alone-homes (map home_of (held_all meaning homes labels)) (subst (IsDistinct bytes_eq) (names-of homes labels same) distinct)
+  alone-held homes labels same distinct r =
+      let hs : List Home = map home_of (held_all meaning homes labels) in
+      ap (home_named r) (homes-without r hs)
+      ∙ alone-named (λ (h : Home). h.name) hs (subst (IsDistinct bytes_eq) (names-of homes labels same) distinct) r
+
+module _ (held : List Held) (vs : Vs) where
+  dicts-named : (es : List Entry) → keys_of es ≡ map (λ (k : DictHome). k.name) (dicts_in held vs es)
+  dicts-named [] = refl
+  dicts-named (e ∷ es) = ap (λ ns. e.0 ∷ ns) (dicts-named es)
+
+  pub lone-dicts : (es : List Entry) → IsDistinct bytes_eq (keys_of es) → HaveOwnNames (dicts_in held vs es)
+  lone-dicts es distinct d =
+      let ds : List DictHome = dicts_in held vs es in
+      ap (dict_named d) (dicts-without d ds)
+      ∙ alone-named (λ (k : DictHome). k.name) ds (subst (IsDistinct bytes_eq) (dicts-named es) distinct) d

@@ -1,26 +1,22 @@
 -- What a command in a region does to the bytes of its blocks: as much as to those of the block that it names.
-use Rattle.std.proofs.Common.{◌≡◌, ℕ, ◌+◌, ℤ, Bool, true, false, ◌&&◌, List, ◌∷◌, [], Option, Some, None, length, refl, ap, ◌∙◌, arith}
+use Rattle.std.proofs.Common.{◌≡◌, ℕ, ◌+◌, ℤ, Bool, ◌&&◌, List, ◌∷◌, [], Option, Some, None, length, refl, arith}
 use Rattle.std.specs.Prelude.{find, nat_le}
 use Rattle.vc_model.specs.Layout.{Block}
 use Rattle.vc_model.specs.Outcome.{Outcome, Done, Put, Refused}
-use Rattle.vc_region.specs.Region.{OfBest, OfPool, OfLast, OfDebug, OfProfile, Region, blocks_of, is_debug, is_profile, layout_in, region_align, region_alloc, region_free, region_resize, watch_at}
+use Rattle.vc_region.specs.Region.{Region, blocks_of, is_debug, is_profile, region_align, region_alloc, region_free, region_resize, watch_at}
 use Rattle.vc_region.specs.Stat.{stat_of}
 use Rattle.vc_script.specs.declared.command.Command.{Command}
-use Rattle.vc_script.specs.declared.command.Command.TheVariants.{ClearRegion, Compact, Alloc, Align, Resize, Free, WriteBlock, ReadBlock, SizeOf, Poke, Check, Watch, ProfileOf, Insert, Append, Attach, Delete, Detach, Remethod, Empty}
+use Rattle.vc_script.specs.declared.command.Command.TheVariants.{ClearRegion, Compact, Alloc, Align, Resize, Free, WriteBlock, ReadBlock, SizeOf, Poke, Check, Watch, ProfileOf}
 use Rattle.vc_script.specs.declared.refusal.Refusal.{Refusal}
 use Rattle.vc_script.specs.declared.refusal.Refusal.TheVariants as why
 use Rattle.vc_script.specs.Needs.{Need}
 use Rattle.vc_commands.specs.Audit.{is_poke, poke_block, poke_byte, poke_in, watch_block, watch_in}
 use Rattle.vc_commands.specs.Blocks.{align_refused, free_block, free_in, freed, has_label, has_room, is_block, is_name_of, is_size, kept_freed, put_by, put_in, put_new, read_block, resize_block, resize_in, site_of, size_refused, with_named, write_block, write_in}
-use Rattle.vc_commands.specs.DictCommands.{in_dict}
 use Rattle.vc_commands.specs.Home.{Changed, Home, Label, unchanged}
 use Rattle.vc_commands.specs.Kept.{Kept, without_name}
 use Rattle.vc_commands.specs.RegionCommands.{in_region, is_for_block}
 use Rattle.vc_commands.specs.Sizes.{size_named}
-use Rattle.vc_dtdisc.specs.Rules.{Rules}
-use Rattle.vc_steps.specs.Dicts.{seat_of}
-use Rattle.vc_views.specs.Views.{DictHome}
-use Rattle.vc_counts.specs.Working.{block_of, changes_any, reached_by}
+use Rattle.vc_counts.specs.Reach.{reach_of}
 use Rattle.vc_counts.proofs.CallOthers.{LeftIn, StaysIn, align-stays, alloc-stays, busy-sizes, compact-left, found-behind, free-left, name-own, no_label, others_in, poke-left, resize-stays, watch-left, write-left}
 use Rattle.vc_counts.proofs.Named.{IsProper}
 use Rattle.vc_counts.proofs.RegionLends.{either}
@@ -97,10 +93,10 @@ no-size : (h : Home) (region : Region Label) → others_in no_label region ≡ o
 no-size h region same = omega (arith, busy-sizes region, busy-sizes h.region, same)
 
 abbrev pub ReachesBy : Command → Home → Changed → Type 0
-ReachesBy command h c = Reaches command h c.region c.kept
+ReachesBy command h c = Reaches (reach_of command) h c.region c.kept
 
 -- all change as they do
-both-ways : (a b : ℕ) → a + b ≡ b + a
+pub both-ways : (a b : ℕ) → a + b ≡ b + a
 both-ways a b = omega arith
 
 pub command-reaches : (h : Home) → IsProper h → (line : ℕ) (command : Command) (need : Need) → IsProper (put_region (in_region h line command need).region (in_region h line command need).kept h) → ReachesBy command h (in_region h line command need)
@@ -136,33 +132,3 @@ command-reaches h proper line (Watch r x) need proper' =
 command-reaches h proper line (ProfileOf r) need proper' =
     no-size h (in_region h line (ProfileOf r) need).region (either (Leaves no_label h) (is_profile h.region) _ (unchanged h why.WrongMethod) refl refl)
 command-reaches h proper line command need proper' = refl
-
--- the region of a dictionary's command, where no block comes or goes
-layout-busy : (r : Region Label) → (stat_of (OfBest (layout_in r))).sbusy ≡ (stat_of r).sbusy
-layout-busy (OfBest l) = refl
-layout-busy (OfPool p) = refl
-layout-busy (OfLast l) = refl
-layout-busy (OfDebug d) = refl
-layout-busy (OfProfile p) = refl
-
-stays-so : (h : Home) (o : Option (List ℕ)) (any : Bool) → (stat_of (OfBest (layout_in h.region))).sbusy + reached_by o any h ≡ (stat_of h.region).sbusy + reached_by o any (put_region (OfBest (layout_in h.region)) h.kept h)
-stays-so h (Some x) any = ap (λ n. n + size_named x h.region) (layout-busy h.region)
-stays-so h None true = both-ways (stat_of (OfBest (layout_in h.region))).sbusy (stat_of h.region).sbusy
-stays-so h None false = ap (λ n. n + 0) (layout-busy h.region)
-
-pub dict-reaches : (d : DictHome) (h : Home) (rules : Rules) (command : Command) (need : Need) → Reaches command h (OfBest (in_dict (seat_of d h rules) command need).region) h.kept
-dict-reaches d h rules (Insert name bytes) need = both-ways _ (stat_of h.region).sbusy
-dict-reaches d h rules (Append name bytes) need = both-ways _ (stat_of h.region).sbusy
-dict-reaches d h rules (Attach name bytes) need = both-ways _ (stat_of h.region).sbusy
-dict-reaches d h rules (Delete name object) need = both-ways _ (stat_of h.region).sbusy
-dict-reaches d h rules (Detach name bytes) need = both-ways _ (stat_of h.region).sbusy
-dict-reaches d h rules (Remethod name method) need = both-ways _ (stat_of h.region).sbusy
-dict-reaches d h rules (Empty name) need = both-ways _ (stat_of h.region).sbusy
-dict-reaches d h rules command need = stays-so h (block_of command) (changes_any command)
-
--- a command that may change any block reaches all of them
-pub any-reaches : (command : Command) → block_of command ≡ None → changes_any command ≡ true → (h : Home) (region : Region Label) (kept : Kept) → Reaches command h region kept
-any-reaches command none any h region kept =
-    let is : (k : Home) → reached_by (block_of command) (changes_any command) k ≡ (stat_of k.region).sbusy =
-    λ k. ap (λ o. reached_by o (changes_any command) k) none ∙ ap (λ v. reached_by None v k) any in
-    omega (arith, is h, is (put_region region kept h))

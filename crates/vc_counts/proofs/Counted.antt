@@ -1,5 +1,5 @@
 -- A step's command is counted by what is read of its region before it and after it.
-use Rattle.std.proofs.Common.{◌≡◌, ℕ, ◌<◌, ◌≤◌, Bool, List, Option, length, sym, ap, ◌∙◌, subst, arith}
+use Rattle.std.proofs.Common.{◌≡◌, ℕ, ◌+◌, ◌<◌, ◌≤◌, Bool, List, Option, length, sym, ap, ◌∙◌, subst, arith}
 use Rattle.std.specs.List.{AllByRecursion}
 use Rattle.vc_blocks.specs.declared.tally.Tally.{Tally}
 use Rattle.vc_script.specs.Needs.{is_refusal, need_shown}
@@ -9,43 +9,81 @@ use Rattle.vc_steps.specs.State.{State, Stepped}
 use Rattle.vc_steps.specs.Step.{step}
 use Rattle.vc_counts.specs.CanCount.{CanCount, IsInRange}
 use Rattle.vc_counts.specs.Counts.{busy_in, counted}
+use Rattle.vc_counts.specs.Reach.{freed_by, put_by, reach_of}
 use Rattle.vc_counts.specs.Working.{counts_after, reached_at, region_worked, segments_at, tally_behind}
 use Rattle.vc_counts.specs.declared.counts.Counts.{Counts}
-use Rattle.vc_counts.proofs.Counting.{can-later, counts-after, part-of}
+use Rattle.vc_counts.specs.declared.reach.Reach.{Reach}
+use Rattle.vc_counts.proofs.Counting.{can-later, counts-after}
 use Rattle.vc_counts.proofs.Named.{IsProper}
-use Rattle.vc_counts.proofs.Tallies.{TalliesStep}
-use Rattle.vc_counts.proofs.Works.{AreAlone, works}
+use Rattle.vc_counts.proofs.Tallies.{TalliesStep, after_by, before_by}
+use Rattle.vc_counts.proofs.DictWorks.{HaveOwnNames}
+use Rattle.vc_counts.proofs.Works.{AreAlone, AreSeated, works}
 
-module _ (c : Counts) (s : State) (line : ℕ) (command : Command) (can : CanCount c (busy_in s) line) (name : Option (List ℕ)) (is : name ≡ region_worked s command) (before : ℕ) (at : before ≡ reached_at command name s.homes) where
-  -- the blocks that it reaches are among those that were counted
-  pub part-counted : before ≤ c.busy
-  part-counted = omega (arith, at, part-of command name s.homes, can.now)
+-- a command was run with a reply, from a state to another one
+pub record WasRun (s s' : State) (line : ℕ) (command : Command) (reply : Reply) : Type 0 where
+  pub alone : AreAlone s.homes
+  pub lone : HaveOwnNames s.dicts
+  pub seated : AreSeated s
+  pub proper : AllByRecursion IsProper s.homes
+  pub proper_then : AllByRecursion IsProper s'.homes
+  pub state : (step s line command (need_shown reply)).state ≡ s'
+  pub replied : (step s line command (need_shown reply)).reply ≡ reply
 
-  module _ (s' : State) (reply : Reply) (alone : AreAlone s.homes) (proper : AllByRecursion IsProper s.homes) (proper' : AllByRecursion IsProper s'.homes) (state : (step s line command (need_shown reply)).state ≡ s') (replied : (step s line command (need_shown reply)).reply ≡ reply) where
-    abbrev this_step : Stepped
-    this_step = step s line command (need_shown reply)
+-- what was read of the region of that name before it and after it
+pub record WasRead (s s' : State) (command : Command) (reply : Reply) (name : Option (List ℕ)) (reached : Reach) (held gone holds more : ℕ) : Type 0 where
+  pub region : name ≡ region_worked s command
+  pub reach : reached ≡ reach_of command
+  pub before : held ≡ reached_at reached name s.homes s.dicts
+  pub freed : gone ≡ freed_by reached reply
+  pub after : holds ≡ reached_at reached name s'.homes s'.dicts
+  pub put : more ≡ put_by reached reply
 
-    tallied : TalliesStep s command name this_step
+module _ (c : Counts) (s s' : State) (line : ℕ) (command : Command) (reply : Reply) (can : CanCount c (busy_in s) line) (run : WasRun s s' line command reply) where
+  abbrev this_step : Stepped
+  this_step = step s line command (need_shown reply)
+
+  -- and a command of a later line can be counted
+  pub can-next : (counts : Counts) → counts ≡ counted c this_step → IsInRange counts → (later : ℕ) → line < later → CanCount counts (busy_in s') later
+  can-next counts same range later behind =
+      subst (λ (x : Counts). CanCount x (busy_in s') later) (sym same)
+      (subst (λ (x : State). CanCount (counted c this_step) (busy_in x) later) run.state (can-later c s this_step line later can.before behind (subst IsInRange same range)))
+
+  module _ (name : Option (List ℕ)) (reached : Reach) (held gone holds more : ℕ) (read : WasRead s s' command reply name reached held gone holds more) where
+    tallied : TalliesStep s (reach_of command) name this_step
     tallied =
-        subst (λ o. TalliesStep s command o this_step) (sym is)
-        (works s line command (need_shown reply) alone proper (subst (λ (x : State). AllByRecursion IsProper x.homes) (sym state) proper'))
+        subst (λ o. TalliesStep s (reach_of command) o this_step) (sym read.region)
+        (works s line command (need_shown reply) run.alone run.lone run.seated run.proper (subst (λ (x : State). AllByRecursion IsProper x.homes) (sym run.state) run.proper_then))
+
+    before : held + gone ≡ before_by (reach_of command) name (step s line command (need_shown reply)).reply s
+    before =
+        omega (
+          arith,
+          read.before ∙ ap (λ k. reached_at k name s.homes s.dicts) read.reach,
+          read.freed ∙ (ap (λ k. freed_by k reply) read.reach ∙ ap (freed_by (reach_of command)) (sym run.replied)),
+        )
+
+    after : holds + more ≡ after_by (reach_of command) name (step s line command (need_shown reply)).reply (step s line command (need_shown reply)).state
+    after =
+        omega (
+          arith,
+          read.after ∙ (ap (λ k. reached_at k name s'.homes s'.dicts) read.reach ∙ ap (λ (x : State). reached_at (reach_of command) name x.homes x.dicts) (sym run.state)),
+          read.put ∙ (ap (λ k. put_by k reply) read.reach ∙ ap (put_by (reach_of command)) (sym run.replied)),
+        )
+
+    -- what is taken off the bytes that were counted is among them and those that come
+    pub part-counted : held + gone ≤ c.busy + (holds + more)
+    part-counted = omega (arith, before, after, tallied.busy, can.now)
 
     -- the counts by what is read of its region are those by the step
-    pub counts-step : (refused : Bool) (after had : ℕ) (has : List (ℕ × ℕ)) (lent : Tally) → refused ≡ is_refusal reply → after ≡ reached_at command name s'.homes → had ≡ length (segments_at name s.homes) → has ≡ segments_at name s'.homes → lent ≡ tally_behind had has → counts_after c refused before after lent ≡ counted c this_step
-    counts-step refused after had has lent told there first segments came =
+    pub counts-step : (refused : Bool) (had : ℕ) (has : List (ℕ × ℕ)) (lent : Tally) → refused ≡ is_refusal reply → had ≡ length (segments_at name s.homes) → has ≡ segments_at name s'.homes → lent ≡ tally_behind had has → counts_after c refused (held + gone) (holds + more) lent ≡ counted c this_step
+    counts-step refused had has lent told first segments came =
         let t = this_step in
-        let same : refused ≡ is_refusal t.reply = told ∙ ap is_refusal (sym replied) in
-        let later : after ≡ reached_at command name t.state.homes = there ∙ ap (λ (x : State). reached_at command name x.homes) (sym state) in
+        let reads : ℕ = before_by (reach_of command) name t.reply s in
+        let same : refused ≡ is_refusal t.reply = told ∙ ap is_refusal (sym run.replied) in
         let behind : lent ≡ tally_behind (length (segments_at name s.homes)) (segments_at name t.state.homes) =
-        came ∙ (ap (λ n. tally_behind n has) first ∙ ap (tally_behind (length (segments_at name s.homes))) (segments ∙ ap (λ (x : State). segments_at name x.homes) (sym state))) in
-        ap (λ b. counts_after c b before after lent) same
-        ∙ (ap (λ n. counts_after c (is_refusal t.reply) n after lent) at
-        ∙ (ap (λ n. counts_after c (is_refusal t.reply) (reached_at command name s.homes) n lent) later
-        ∙ (ap (counts_after c (is_refusal t.reply) (reached_at command name s.homes) (reached_at command name t.state.homes)) behind
-        ∙ counts-after c s t (reached_at command name s.homes) (reached_at command name t.state.homes) (segments_at name s.homes) (segments_at name t.state.homes) can.now (part-of command name s.homes) tallied)))
-
-    -- and a command of a later line can be counted
-    pub can-next : (counts : Counts) → counts ≡ counted c this_step → IsInRange counts → (later : ℕ) → line < later → CanCount counts (busy_in s') later
-    can-next counts same range later behind =
-        subst (λ (x : Counts). CanCount x (busy_in s') later) (sym same)
-        (subst (λ (x : State). CanCount (counted c this_step) (busy_in x) later) state (can-later c s this_step line later can.before behind (subst IsInRange same range)))
+        came ∙ (ap (λ n. tally_behind n has) first ∙ ap (tally_behind (length (segments_at name s.homes))) (segments ∙ ap (λ (x : State). segments_at name x.homes) (sym run.state))) in
+        ap (λ b. counts_after c b (held + gone) (holds + more) lent) same
+        ∙ (ap (λ n. counts_after c (is_refusal t.reply) n (holds + more) lent) before
+        ∙ (ap (λ n. counts_after c (is_refusal t.reply) reads n lent) after
+        ∙ (ap (counts_after c (is_refusal t.reply) reads (after_by (reach_of command) name t.reply t.state)) behind
+        ∙ counts-after c s t reads (after_by (reach_of command) name t.reply t.state) (segments_at name s.homes) (segments_at name t.state.homes) can.now tallied)))

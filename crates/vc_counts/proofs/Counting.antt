@@ -1,55 +1,26 @@
 -- What is counted by what is read of one region is what the step did.
-use Rattle.std.proofs.Common.{◌≡◌, ℕ, ◌+◌, ◌-◌, ◌<◌, ◌≤◌, Bool, true, false, cond, List, [], ◌∷◌, Option, Some, None, length, map, option_map, refl, sym, ap, ◌∙◌, arith}
-use Rattle.std.specs.Prelude.{find, max, sum, unwrap_or}
+use Rattle.std.proofs.Common.{◌≡◌, ℕ, ◌+◌, ◌-◌, ◌<◌, ◌≤◌, Bool, true, false, cond, List, [], length, map, refl, sym, ap, ◌∙◌, arith}
+use Rattle.std.specs.Prelude.{max, sum}
 use Rattle.std.proofs.lemmas.List.{length-map}
 use Rattle.vc_blocks.specs.Tally.{tally_of}
 use Rattle.vc_blocks.specs.declared.tally.Tally.{Tally}
 use Rattle.vc_blocks.proofs.Tallies.{tally_of-bytes, tally_of-count}
-use Rattle.vc_commands.specs.Blocks.{is_block}
-use Rattle.vc_commands.specs.Home.{Home, Label}
-use Rattle.vc_model.specs.Layout.{Block}
-use Rattle.vc_region.specs.Region.{blocks_of}
+use Rattle.vc_commands.specs.Home.{Home}
 use Rattle.vc_script.specs.Needs.{is_refusal}
-use Rattle.vc_script.specs.declared.command.Command.{Command}
-use Rattle.vc_steps.specs.State.{State, Stepped, home_named}
+use Rattle.vc_steps.specs.State.{State, Stepped}
 use Rattle.vc_counts.specs.CanCount.{CanCount, IsInRange, commands}
 use Rattle.vc_counts.specs.Counts.{busy_in, counted, no_counts}
-use Rattle.vc_counts.specs.Working.{block_of, busy_home, changes_any, counts_after, reached_at, reached_by, reached_in, tally_behind}
+use Rattle.vc_counts.specs.Working.{counts_after, tally_behind}
 use Rattle.vc_counts.specs.declared.counts.Counts.{Counts}
-use Rattle.vc_counts.proofs.CallOthers.{busy-sizes, no_label, whole}
-use Rattle.vc_counts.proofs.Others.{others}
-use Rattle.vc_counts.proofs.Sums.{busy_homes, busy-without}
+use Rattle.vc_counts.proofs.Sums.{busy_homes}
 use Rattle.vc_counts.proofs.Tallies.{Tallies}
-
--- what is found of some sizes is no more than their sum
-size-if : (test : Block Label → Bool) (b : Block Label) (bs : List (Block Label)) (v : Bool) → unwrap_or (option_map (λ c. c.size) (find test bs)) 0 ≤ others no_label whole bs → unwrap_or (option_map (λ c. c.size) (cond v (Some b) (find test bs))) 0 ≤ others no_label whole (b ∷ bs)
-size-if test b bs true rest = omega arith
-size-if test b bs false rest = omega (arith, rest)
-
-size-most : (test : Block Label → Bool) (bs : List (Block Label)) → unwrap_or (option_map (λ b. b.size) (find test bs)) 0 ≤ others no_label whole bs
-size-most test [] = omega arith
-size-most test (b ∷ bs) = size-if test b bs (test b) (size-most test bs)
-
-reached-most : (o : Option (List ℕ)) (any : Bool) (h : Home) → reached_by o any h ≤ busy_home h
-reached-most (Some x) any h = omega (arith, busy-sizes h.region, size-most (is_block x) (blocks_of h.region))
-reached-most None true h = omega arith
-reached-most None false h = omega arith
-
-part-found : (command : Command) (r : List ℕ) (hs : List Home) (o : Option Home) → home_named r hs ≡ o → reached_in command o ≤ busy_homes hs
-part-found command r hs None found = omega arith
-part-found command r hs (Some h) found = omega (arith, busy-without r hs h found, reached-most (block_of command) (changes_any command) h)
-
--- what a command reaches is among the blocks of all regions
-pub part-of : (command : Command) (name : Option (List ℕ)) (hs : List Home) → reached_at command name hs ≤ busy_homes hs
-part-of command None hs = omega arith
-part-of command (Some r) hs = part-found command r hs (home_named r hs) refl
 
 abbrev made : ℕ → ℕ → ℕ → ℕ → ℕ → ℕ → Counts
 made done refused segments bytes busy peak =
     record { done = done; refused = refused; segments = segments; bytes = bytes; busy = busy; peak = max peak busy }
 
-pub counts-after : (c : Counts) (s : State) (t : Stepped) (before after : ℕ) (had has : List (ℕ × ℕ)) → c.busy ≡ busy_in s → before ≤ busy_in s → Tallies before after (busy_in s) (busy_in t.state) had has t.granted → counts_after c (is_refusal t.reply) before after (tally_behind (length had) has) ≡ counted c t
-counts-after c s t before after had has now part tallies =
+pub counts-after : (c : Counts) (s : State) (t : Stepped) (before after : ℕ) (had has : List (ℕ × ℕ)) → c.busy ≡ busy_in s → Tallies before after (busy_in s) (busy_in t.state) had has t.granted → counts_after c (is_refusal t.reply) before after (tally_behind (length had) has) ≡ counted c t
+counts-after c s t before after had has now tallies =
     let b = is_refusal t.reply in
     let done = c.done + cond b 0 1 in
     let refused = c.refused + cond b 1 0 in
@@ -57,9 +28,9 @@ counts-after c s t before after had has now part tallies =
     let lent : tally_behind (length had) has ≡ tally_of sizes = ap (λ gs. tally_of (map (λ (g : ℕ × ℕ). g.1) gs)) (sym tallies.lent) in
     let count : (tally_behind (length had) has).count ≡ length t.granted = ap (λ (x : Tally). x.count) lent ∙ (tally_of-count sizes ∙ length-map t.granted (λ (g : ℕ × ℕ). g.1)) in
     let bytes : (tally_behind (length had) has).bytes ≡ sum sizes = ap (λ (x : Tally). x.bytes) lent ∙ tally_of-bytes sizes in
-    let busy : c.busy - before + after ≡ busy_in t.state = omega (arith, now, part, tallies.busy) in
-    ap (λ n. made done refused (c.segments + n) (c.bytes + (tally_behind (length had) has).bytes) (c.busy - before + after) c.peak) count
-    ∙ (ap (λ n. made done refused (c.segments + length t.granted) (c.bytes + n) (c.busy - before + after) c.peak) bytes
+    let busy : c.busy + after - before ≡ busy_in t.state = omega (arith, now, tallies.busy) in
+    ap (λ n. made done refused (c.segments + n) (c.bytes + (tally_behind (length had) has).bytes) (c.busy + after - before) c.peak) count
+    ∙ (ap (λ n. made done refused (c.segments + length t.granted) (c.bytes + n) (c.busy + after - before) c.peak) bytes
     ∙ ap (λ n. made done refused (c.segments + length t.granted) (c.bytes + sum sizes) n c.peak) busy)
 
 one-more : (b : Bool) (c : Counts) (n : ℕ) → commands c < n → c.done + cond b 0 1 + (c.refused + cond b 1 0) < n + 1

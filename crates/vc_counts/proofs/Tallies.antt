@@ -2,12 +2,19 @@
 use Rattle.std.proofs.Common.{◌≡◌, ℕ, ◌+◌, List, [], Option, Some, None, refl, sym, ap, subst, arith}
 use Rattle.vc_commands.specs.Home.{Home, Label}
 use Rattle.vc_commands.specs.Kept.{Kept}
+use Rattle.vc_commands.specs.Sizes.{size_named}
 use Rattle.vc_region.specs.Region.{Region, segments_of}
 use Rattle.vc_region.specs.Stat.{stat_of}
-use Rattle.vc_script.specs.declared.command.Command.{Command}
-use Rattle.vc_script.specs.declared.command.Command.TheVariants.{CloseRegion}
+use Rattle.vc_script.specs.declared.refusal.Refusal.{Refusal}
+use Rattle.vc_script.specs.declared.reply.Reply.{Reply}
+use Rattle.vc_script.specs.declared.reply.Reply.TheVariants.{Refused}
+use Rattle.vc_steps.specs.Sizes.{size_in}
 use Rattle.vc_steps.specs.State.{State, Stepped, home_named, with_region, without_home}
-use Rattle.vc_counts.specs.Working.{reached, reached_at, reached_in, segments_at, segments_in}
+use Rattle.vc_views.specs.Views.{DictHome}
+use Rattle.vc_counts.specs.Reach.{freed_by, put_by}
+use Rattle.vc_counts.specs.Working.{busy_home, busy_in_home, reached_at, segments_at, segments_in}
+use Rattle.vc_counts.specs.declared.reach.Reach.{Reach}
+use Rattle.vc_counts.specs.declared.reach.Reach.TheVariants.{Nothing, Block, Table, Dict, All}
 use Rattle.vc_counts.proofs.Lending.{Lends, lends-fewer, lends-same}
 use Rattle.vc_counts.proofs.Sums.{busy_homes, busy-with, busy-without, named-with, put_region}
 
@@ -17,39 +24,83 @@ pub record Tallies (before after : ℕ) (sum sum' : ℕ) (had has granted : List
   pub busy : sum' + before ≡ sum + after
   pub lent : Lends had has granted
 
+-- what is read before a step, and after it
+abbrev pub before_by : Reach → Option (List ℕ) → Reply → State → ℕ
+before_by reach name reply s = reached_at reach name s.homes s.dicts + freed_by reach reply
+
+abbrev pub after_by : Reach → Option (List ℕ) → Reply → State → ℕ
+after_by reach name reply s = reached_at reach name s.homes s.dicts + put_by reach reply
+
 -- so for the region of that name in a step
-abbrev pub TalliesIn : Command → Option (List ℕ) → List Home → List Home → List (ℕ × ℕ) → Type 0
-TalliesIn command name hs hs' granted =
-    Tallies (reached_at command name hs) (reached_at command name hs') (busy_homes hs) (busy_homes hs') (segments_at name hs) (segments_at name hs') granted
+abbrev pub TalliesStep : State → Reach → Option (List ℕ) → Stepped → Type 0
+TalliesStep s reach name t =
+    Tallies (before_by reach name t.reply s) (after_by reach name t.reply t.state) (busy_homes s.homes) (busy_homes t.state.homes)
+    (segments_at name s.homes) (segments_at name t.state.homes) t.granted
 
-abbrev pub TalliesStep : State → Command → Option (List ℕ) → Stepped → Type 0
-TalliesStep s command name t = TalliesIn command name s.homes t.state.homes t.granted
+-- where no region changes, and nothing is read
+pub idle : (name : Option (List ℕ)) (hs : List Home) → Tallies 0 0 (busy_homes hs) (busy_homes hs) (segments_at name hs) (segments_at name hs) []
+idle name hs = record { busy = refl; lent = lends-same (segments_at name hs) (segments_at name hs) refl }
 
--- where no region changes
-pub idle : (command : Command) (name : Option (List ℕ)) (hs : List Home) → TalliesIn command name hs hs []
-idle command name hs = record { busy = refl; lent = lends-same (segments_at name hs) (segments_at name hs) refl }
+-- or a command is refused
+no-holder : (reach : Reach) (why : Refusal) → freed_by reach (Refused why) ≡ put_by reach (Refused why)
+no-holder Nothing why = refl
+no-holder (Block x) why = refl
+no-holder (Table d) why = refl
+no-holder (Dict d) why = refl
+no-holder All why = refl
+
+pub refuses : (s : State) (reach : Reach) (name : Option (List ℕ)) (why : Refusal) → Tallies (before_by reach name (Refused why) s) (after_by reach name (Refused why) s) (busy_homes s.homes) (busy_homes s.homes) (segments_at name s.homes) (segments_at name s.homes) []
+refuses s reach name why =
+    record { busy = omega (arith, no-holder reach why); lent = lends-same (segments_at name s.homes) (segments_at name s.homes) refl }
+
+-- what a command on a region reaches of it
+abbrev pub reached_in : Reach → Home → ℕ
+reached_in Nothing h = 0
+reached_in (Block x) h = size_named x h.region
+reached_in (Table d) h = 0
+reached_in (Dict d) h = 0
+reached_in All h = busy_home h
 
 -- a region gets other blocks by a command
-abbrev pub Reaches : Command → Home → Region Label → Kept → Type 0
-Reaches command h region kept =
-    (stat_of region).sbusy + reached command h ≡ (stat_of h.region).sbusy + reached command (put_region region kept h)
+abbrev pub Reaches : Reach → Home → Region Label → Kept → Type 0
+Reaches reach h region kept =
+    (stat_of region).sbusy + reached_in reach h ≡ (stat_of h.region).sbusy + reached_in reach (put_region region kept h)
+
+-- it reaches no dictionary
+abbrev pub IsOfRegion : Reach → Type 0
+IsOfRegion Nothing = Unit {0}
+IsOfRegion (Block x) = Unit {0}
+IsOfRegion (Table d) = ⊥
+IsOfRegion (Dict d) = ⊥
+IsOfRegion All = Unit {0}
 
 module _ (r : List ℕ) (hs : List Home) (h : Home) (found : home_named r hs ≡ Some h) where
   -- the region of that name changes, by the segments that it is granted
-  pub tallies-changed : (command : Command) (region : Region Label) (kept : Kept) (granted : List (ℕ × ℕ)) → Lends (segments_of h.region) (segments_of region) granted → Reaches command h region kept → TalliesIn command (Some r) hs (with_region r region kept hs) granted
-  tallies-changed command region kept granted lends reaches =
-      let after : home_named r (with_region r region kept hs) ≡ Some (put_region region kept h) = named-with r region kept hs h found in
-      record {
-        busy = omega (arith, busy-with r region kept hs h found, reaches, ap (reached_in command) found, ap (reached_in command) after);
-        lent =
-            subst (λ had. Lends had (segments_at (Some r) (with_region r region kept hs)) granted) (sym (ap segments_in found))
-            (subst (λ has. Lends (segments_of h.region) has granted) (sym (ap segments_in after)) lends);
-      }
+  module _ (region : Region Label) (kept : Kept) where
+    abbrev changed : List Home
+    changed = with_region r region kept hs
+
+    there : home_named r (with_region r region kept hs) ≡ Some (put_region region kept h)
+    there = named-with r region kept hs h found
+
+    pub lends-changed : (granted : List (ℕ × ℕ)) → Lends (segments_of h.region) (segments_of region) granted → Lends (segments_at (Some r) hs) (segments_at (Some r) (with_region r region kept hs)) granted
+    lends-changed granted lends =
+        subst (λ had. Lends had (segments_at (Some r) changed) granted) (sym (ap segments_in found))
+        (subst (λ has. Lends (segments_of h.region) has granted) (sym (ap segments_in there)) lends)
+
+    pub busy-changed : (reach : Reach) (reply : Reply) (ds : List DictHome) → IsOfRegion reach → Reaches reach h region kept → busy_homes (with_region r region kept hs) + (reached_at reach (Some r) hs ds + freed_by reach reply) ≡ busy_homes hs + (reached_at reach (Some r) (with_region r region kept hs) ds + put_by reach reply)
+    busy-changed Nothing reply ds of reaches = omega (arith, busy-with r region kept hs h found, reaches)
+    busy-changed (Block x) reply ds of reaches =
+        omega (arith, busy-with r region kept hs h found, reaches, ap (size_in x) found, ap (size_in x) there)
+    busy-changed (Table d) reply ds of reaches = absurd of
+    busy-changed (Dict d) reply ds of reaches = absurd of
+    busy-changed All reply ds of reaches =
+        omega (arith, busy-with r region kept hs h found, reaches, ap busy_in_home found, ap busy_in_home there)
 
   -- it is closed, and no other has the name
-  pub tallies-closed : (x : List ℕ) → home_named r (without_home r hs) ≡ None → TalliesIn (CloseRegion x) (Some r) hs (without_home r hs) []
-  tallies-closed x alone =
+  pub tallies-closed : home_named r (without_home r hs) ≡ None → Tallies (busy_in_home (home_named r hs) + 0) (busy_in_home (home_named r (without_home r hs)) + 0) (busy_homes hs) (busy_homes (without_home r hs)) (segments_at (Some r) hs) (segments_at (Some r) (without_home r hs)) []
+  tallies-closed alone =
       record {
-        busy = omega (arith, busy-without r hs h found, ap (reached_in (CloseRegion x)) found, ap (reached_in (CloseRegion x)) alone);
+        busy = omega (arith, busy-without r hs h found, ap busy_in_home found, ap busy_in_home alone);
         lent = subst (λ has. Lends (segments_at (Some r) hs) has []) (sym (ap segments_in alone)) (lends-fewer (segments_at (Some r) hs) [] (omega arith));
       }

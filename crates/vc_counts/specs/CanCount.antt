@@ -6,12 +6,12 @@ use Rattle.vc_counts.specs.declared.counts.Counts.{Counts}
 abbrev pub commands : Counts → ℕ
 commands c = c.done + c.refused
 
--- for each command no more was counted than a region's numbers hold: a u32 of segments, and a u64
--- of bytes
+-- for each command no more was counted than a region's numbers hold: a u32 of segments, a u64 of
+-- their bytes, and another of the bytes that blocks have, with a holder
 pub record IsInRange (c : Counts) : Type 0 where
   pub segments : c.segments ≤ 2 ^ 32 * commands c
   pub bytes : c.bytes ≤ 2 ^ 64 * commands c
-  pub busy : c.busy ≤ 2 ^ 64 * commands c
+  pub busy : c.busy ≤ 2 ^ 65 * commands c
 
 -- a command at a line can be counted over regions whose blocks have so many bytes: no more commands
 -- were counted than there are lines before it

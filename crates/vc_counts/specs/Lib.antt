@@ -1,3 +1,5 @@
 pub mod Counts
+pub mod Reach
+pub mod Holders
 pub mod Working
 pub mod CanCount

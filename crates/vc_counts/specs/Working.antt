@@ -1,23 +1,28 @@
 -- The region that a command works in, and what a run reads there before it and after it.
-use Rattle.std.specs.Prelude.{ℕ, ◌+◌, ◌-◌, List, [], Option, Some, None, Bool, true, false, drop, map, max, if◌then◌else◌}
+use Rattle.std.specs.Prelude.{ℕ, ◌+◌, ◌-◌, List, [], Option, Some, None, Bool, drop, map, max, sum, if◌then◌else◌}
 use Rattle.vc_blocks.specs.Tally.{tally_of}
 use Rattle.vc_blocks.specs.declared.tally.Tally.{Tally}
 use Rattle.vc_commands.specs.Home.{Home}
-use Rattle.vc_commands.specs.Sizes.{size_named}
 use Rattle.vc_model.specs.Discipline.{Discipline}
+use Rattle.vc_dtdisc.specs.Objects.{Object}
+use Rattle.vc_objects.specs.Objects.{Dictionary, holder_size, slots_of, table_size}
 use Rattle.vc_region.specs.Region.{segments_of}
 use Rattle.vc_region.specs.Stat.{stat_of}
 use Rattle.vc_script.specs.declared.command.Command.{Command}
-use Rattle.vc_script.specs.declared.command.Command.TheVariants.{Alloc, Align, Resize, Free, ClearRegion, CloseRegion, OpenDict, Insert, Append, Attach, Delete, Detach, Remethod, Empty, Shut}
+use Rattle.vc_script.specs.declared.command.Command.TheVariants.{CloseRegion}
 use Rattle.vc_steps.specs.Account.{state_of}
 use Rattle.vc_steps.specs.DictHomes.{dicts_in}
 use Rattle.vc_steps.specs.Dicts.{dict_of, region_named}
 use Rattle.vc_steps.specs.Homes.{held_in}
+use Rattle.vc_steps.specs.Sizes.{size_in}
 use Rattle.vc_steps.specs.State.{State, home_named}
 use Rattle.vc_steps.specs.Step.{opened_in}
 use Rattle.vc_steps.specs.declared.session.Session.{Session}
 use Rattle.vc_views.specs.Numbers.{views_by}
+use Rattle.vc_views.specs.Views.{DictHome, dict_named}
 use Rattle.vc_counts.specs.declared.counts.Counts.{Counts}
+use Rattle.vc_counts.specs.declared.reach.Reach.{Reach}
+use Rattle.vc_counts.specs.declared.reach.Reach.TheVariants.{Nothing, Block, Table, Dict, All}
 
 -- the region that a command names: the one in which it asks for segments, or that it closes
 abbrev pub worked_in : Command → Option (List ℕ)
@@ -38,29 +43,6 @@ abbrev pub home_at : Option (List ℕ) → List Home → Option Home
 home_at None homes = None
 home_at (Some r) homes = home_named r homes
 
--- the one block whose size a command may change: it is put, resized or freed
-abbrev pub block_of : Command → Option (List ℕ)
-block_of (Alloc r x size site) = Some x
-block_of (Align r x size align) = Some x
-block_of (Resize r x size may_move) = Some x
-block_of (Free r x) = Some x
-block_of command = None
-
--- whether a command may put or free blocks that it doesn't name
-abbrev pub changes_any : Command → Bool
-changes_any (ClearRegion r) = true
-changes_any (CloseRegion r) = true
-changes_any (OpenDict d method r kind) = true
-changes_any (Insert d bytes) = true
-changes_any (Append d bytes) = true
-changes_any (Attach d bytes) = true
-changes_any (Delete d object) = true
-changes_any (Detach d bytes) = true
-changes_any (Remethod d method) = true
-changes_any (Empty d) = true
-changes_any (Shut d) = true
-changes_any command = false
-
 -- the bytes of all blocks of a region
 abbrev pub busy_home : Home → ℕ
 busy_home h = (stat_of h.region).sbusy
@@ -69,21 +51,32 @@ abbrev pub busy_in_home : Option Home → ℕ
 busy_in_home None = 0
 busy_in_home (Some h) = busy_home h
 
--- the bytes of those blocks of a region that a command may put, resize or free
-abbrev pub reached_by : Option (List ℕ) → Bool → Home → ℕ
-reached_by (Some x) any h = size_named x h.region
-reached_by None any h = if any then busy_home h else 0
+-- the bytes of a dictionary's table; 0 where it has none
+abbrev pub table_bytes : Dictionary → ℕ
+table_bytes d = table_size (slots_of d.table)
 
-abbrev pub reached : Command → Home → ℕ
-reached command h = reached_by (block_of command) (changes_any command) h
+abbrev pub table_in : Option DictHome → ℕ
+table_in None = 0
+table_in (Some d) = table_bytes d.dict
 
-abbrev pub reached_in : Command → Option Home → ℕ
-reached_in command None = 0
-reached_in command (Some h) = reached command h
+-- the bytes of the holders of objects, and of a dictionary's table and holders
+abbrev pub holders_bytes : List Object → ℕ
+holders_bytes objects = sum (map (λ o. holder_size o.bytes) objects)
 
--- those of the region of that name, where it is open
-abbrev pub reached_at : Command → Option (List ℕ) → List Home → ℕ
-reached_at command name homes = reached_in command (home_at name homes)
+abbrev pub dict_bytes : Dictionary → ℕ
+dict_bytes d = table_bytes d + holders_bytes d.objects
+
+abbrev pub dict_in : Option DictHome → ℕ
+dict_in None = 0
+dict_in (Some d) = dict_bytes d.dict
+
+-- the bytes of what a command reaches, but for a holder that its reply tells of
+abbrev pub reached_at : Reach → Option (List ℕ) → List Home → List DictHome → ℕ
+reached_at Nothing name homes dicts = 0
+reached_at (Block x) name homes dicts = size_in x (home_at name homes)
+reached_at (Table d) name homes dicts = table_in (dict_named d dicts)
+reached_at (Dict d) name homes dicts = dict_in (dict_named d dicts)
+reached_at All name homes dicts = busy_in_home (home_at name homes)
 
 abbrev pub segments_in : Option Home → List (ℕ × ℕ)
 segments_in None = []
@@ -106,6 +99,6 @@ counts_after c refused before after lent =
       refused = c.refused + (if refused then 1 else 0);
       segments = c.segments + lent.count;
       bytes = c.bytes + lent.bytes;
-      busy = c.busy - before + after;
-      peak = max c.peak (c.busy - before + after);
+      busy = c.busy + after - before;
+      peak = max c.peak (c.busy + after - before);
     }

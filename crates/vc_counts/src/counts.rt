@@ -40,10 +40,11 @@ impl Counts {
 
     // Counts one more command, by whether it was refused, by the bytes that it reached before it and after it, and by the
     // segments that came.
-    pub(crate) fn add(&mut self, refused: bool, before: u64, after: u64, lent: Tally)
+    pub(crate) fn add(&mut self, refused: bool, before: u128, after: u128, lent: Tally)
         requires range { IsInRange self.old }
         requires few { commands self.old + 1 < 2 ^ 32 }
-        requires part { before ≤ self.old.busy }
+        requires part { before ≤ self.old.busy + after }
+        requires reach { after ≤ 2 ^ 65 }
         requires segments { lent.count ≤ 1023 }
         ensures value { self.new ≡ counts_after self.old refused before after lent }
         ensures range { IsInRange self.new }
@@ -55,7 +56,7 @@ impl Counts {
         }
         self.segments += lent.count;
         self.bytes += lent.bytes as u128;
-        self.busy = self.busy - before as u128 + after as u128;
+        self.busy = self.busy + after - before;
         self.peak = self.peak.max(self.busy);
     }
 }

@@ -3,6 +3,8 @@
 #![tactic(auto)]
 
 mod counts;
+mod holders;
+mod reach;
 mod segments;
 mod step;
 

@@ -1,10 +1,13 @@
 // A step that is counted.
-ghost use Rattle.std.specs.Prelude.{◌≡◌, ◌<◌, ℕ, bytes_eq, false, length, map, IfOk, IsTrue, OnErr, OnOk};
+ghost use Rattle.std.specs.Prelude.{◌≡◌, ◌<◌, ◌^◌, ℕ, bytes_eq, false, length, map, IfOk, IsTrue, OnErr, OnOk};
 ghost use Rattle.std.specs.List.{IsDistinct};
 ghost use Rattle.std.specs.Map.{keys_of};
 ghost use Rattle.vc_counts.specs.CanCount.{CanCount};
 ghost use Rattle.vc_counts.specs.Counts.{busy_in, counted};
-ghost use Rattle.vc_counts.specs.Working.{block_of, busy_in_home, changes_any, open_state, reached_at, region_worked, segments_at, worked_in};
+ghost use Rattle.vc_counts.specs.Holders.{AreSomeDicts};
+ghost use Rattle.vc_counts.specs.Working.{busy_in_home, dict_in, open_state, reached_at, region_worked, segments_at, table_in, worked_in};
+ghost use Rattle.vc_objects.specs.Objects.{slots_of, table_size};
+ghost use Rattle.vc_objects.specs.Parts.{table_of};
 ghost use Rattle.vc_script.specs.Needs.{is_refusal, need_shown};
 ghost use Rattle.vc_seg.specs.Segment.{AreSegments, pair_of};
 ghost use Rattle.vc_steps.specs.Homes.{IsSessionOver, held_in, state_over};
@@ -14,21 +17,27 @@ ghost use Rattle.vc_steps.specs.State.{home_named};
 ghost use Rattle.vc_steps.specs.Step.{step};
 ghost use Rattle.vc_steps.specs.Steps.{Lasts, StepsBy};
 ghost use Rattle.vc_steps.specs.Told.{rules_in};
+ghost use Rattle.vc_views.specs.Views.{dict_named};
 
 use crate::counts::Counts;
+use crate::holders::holders_bytes;
+use crate::reach::{Reach, freed_by, put_by, reach_of};
 use crate::segments::tally_behind;
 use indexmap::IndexMap;
 use vc_base::{Name, OutOfMemory};
+use vc_dict::Dict;
 use vc_dtdisc::DictDisc;
 use vc_script::{Command, Reply};
 use vc_seg::{BoxedDisc, SegDisc, Segment, Shelf};
-use vc_steps::{HomeEntry, Session, dict_of, region_of};
+use vc_steps::{DictEntry, HomeEntry, Session, dict_of, region_of};
 
-// What is always true of the names of regions: no two are alike.
-fn show_names(homes: &IndexMap<Name, HomeEntry>)
-    ensures { IsDistinct bytes_eq (keys_of homes.now.entries) }
+// What is always true of the names of regions, and of those of dictionaries: no two are alike.
+fn show_names(homes: &IndexMap<Name, HomeEntry>, dicts: &IndexMap<Name, DictEntry>)
+    ensures homes { IsDistinct bytes_eq (keys_of homes.now.entries) }
+    ensures dicts { IsDistinct bytes_eq (keys_of dicts.now.entries) }
 {
-    let _count = homes.len();
+    let _regions = homes.len();
+    let _dictionaries = dicts.len();
 }
 
 // The region that a command names: the one in which it asks for segments, or that it closes.
@@ -54,39 +63,6 @@ fn region_worked<D>(session: &Session<D>, command: &Command) -> Option<Name>
     }
 }
 
-// The one block whose size a command may change: it is put, resized or freed.
-fn block_of(command: &Command) -> Option<Name>
-    ensures { result ≡ block_of command.now }
-{
-    match command {
-        Command::Alloc(_, block, _, _)
-        | Command::Align(_, block, _, _)
-        | Command::Resize(_, block, _, _)
-        | Command::Free(_, block) => Some(*block),
-        _ => None,
-    }
-}
-
-// Whether a command may put or free blocks that it doesn't name.
-fn changes_any(command: &Command) -> bool
-    ensures { result ≡ changes_any command.now }
-{
-    matches!(
-        command,
-        Command::ClearRegion(_)
-            | Command::CloseRegion(_)
-            | Command::OpenDict(_, _, _, _)
-            | Command::Insert(_, _)
-            | Command::Append(_, _)
-            | Command::Attach(_, _)
-            | Command::Delete(_, _)
-            | Command::Detach(_, _)
-            | Command::Remethod(_, _)
-            | Command::Empty(_)
-            | Command::Shut(_)
-    )
-}
-
 // The bytes of all blocks of the region of that name, where it is open.
 fn busy_named<D>(session: &Session<D>, name: &Name) -> u64
     requires { length session.now.labels.items ≡ length session.now.homes.entries }
@@ -98,24 +74,60 @@ fn busy_named<D>(session: &Session<D>, name: &Name) -> u64
     }
 }
 
-// The bytes of those blocks of a region that a command may put, resize or free.
-fn reached_at<D>(session: &Session<D>, command: &Command, region: &Option<Name>) -> u64
+// The bytes of a dictionary's table, or 0 where it has none.
+fn table_bytes(dict: &Dict) -> u64
+    ensures bytes { result ≡ table_size (slots_of (table_of dict.now.table.0 dict.now.slots)) }
+    ensures few { result < 2 ^ 35 }
+{
+    if dict.table().is_none() {
+        0
+    } else {
+        8 * dict.slots() as u64
+    }
+}
+
+// Those of the table of the dictionary of that name, where it is open.
+fn table_named<D>(session: &Session<D>, name: &Name) -> u64
+    ensures { result ≡ table_in (dict_named name.now (open_state state session.now).dicts) }
+{
+    match session.dicts.get(name) {
+        Some(entry) => table_bytes(&entry.dict),
+        None => 0,
+    }
+}
+
+// The bytes of the table and of the holders of the dictionary of that name, where it is open.
+fn dict_named<D>(session: &Session<D>, name: &Name) -> u64
+    requires labels { length session.now.labels.items ≡ length session.now.homes.entries }
+    requires dicts { AreSomeDicts (held_in state session.now) session.now.dicts.entries }
+    ensures { result ≡ dict_in (dict_named name.now (open_state state session.now).dicts) }
+{
+    match session.dicts.get(name) {
+        Some(entry) => table_bytes(&entry.dict) + holders_bytes(&session.homes, entry),
+        None => 0,
+    }
+}
+
+// The bytes of what a command reaches in a region, but for a holder that its reply tells of.
+fn reached_at<D>(session: &Session<D>, reach: &Reach, region: &Option<Name>) -> u64
     requires labels { length session.now.labels.items ≡ length session.now.homes.entries }
     requires names { AreNamed (held_in state session.now) }
-    ensures { result ≡ reached_at command.now region.now (open_state state session.now).homes }
+    requires dicts { AreSomeDicts (held_in state session.now) session.now.dicts.entries }
+    ensures { result ≡ reached_at reach.now region.now
+        (open_state state session.now).homes (open_state state session.now).dicts }
 {
-    let Some(name) = region else {
-        return 0;
-    };
-    match block_of(command) {
-        Some(block) => session.size_named(name, &block) as u64,
-        None => {
-            if changes_any(command) {
-                busy_named(session, name)
-            } else {
-                0
-            }
-        }
+    match reach {
+        Reach::Nothing => 0,
+        Reach::Block(block) => match region {
+            Some(name) => session.size_named(name, block) as u64,
+            None => 0,
+        },
+        Reach::Table(dict) => table_named(session, dict),
+        Reach::Dict(dict) => dict_named(session, dict),
+        Reach::All => match region {
+            Some(name) => busy_named(session, name),
+            None => 0,
+        },
     }
 }
 
@@ -142,8 +154,10 @@ fn is_refusal(reply: &Reply) -> bool
 }
 
 /// Runs the command of a line, numbered from 1 on, as `Session::step` does, and counts it. Each line stands behind those
-/// of the commands before it. Before it and after it only the block is read that it names, and how many segments its region
-/// has; where a command clears or closes a region, or changes a dictionary, all blocks of that region are.
+/// of the commands before it. Before it and after it are read how many segments its region has, and of the region's blocks
+/// those that it may put, resize or free: the one that it names, or the table of its dictionary, and its reply tells of a
+/// holder. Where it empties, turns or ends a dictionary all blocks of that are read, and all of the region where it clears
+/// or closes the region.
 /// With no memory nothing is counted, and every later step answers `OutOfMemory` as well.
 pub fn counted_step<D: DictDisc>(
     session: &mut Session<D>,
@@ -172,12 +186,15 @@ pub fn counted_step<D: DictDisc>(
     ensures can { OnOk result ((later : ℕ) → line < later → CanCount counts.new (busy_in
         (state_over state (rules_in D.rules kinds.new.items) shelf.new session.new)) later) }
 {
-    show_names(&session.homes);
+    show_names(&session.homes, &session.dicts);
+    let reach = reach_of(command);
     let region = region_worked(session, command);
     let had = segments_at(session, &region).len();
-    let before = reached_at(session, command, &region);
+    let held = reached_at(session, &reach, &region);
     let reply = session.step(shelf, kinds, line, command)?;
-    let after = reached_at(session, command, &region);
+    let before = held as u128 + freed_by(&reach, &reply) as u128;
+    let holds = reached_at(session, &reach, &region);
+    let after = holds as u128 + put_by(&reach, &reply) as u128;
     let lent = tally_behind(segments_at(session, &region), had);
     counts.add(is_refusal(&reply), before, after, lent);
     Ok(reply)

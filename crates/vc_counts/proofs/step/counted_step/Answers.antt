@@ -3,58 +3,89 @@ use Rattle.std.proofs.lemmas.List.{length-map}
 use Rattle.vc_model.specs.Discipline.{Discipline}
 use Rattle.vc_seg.specs.Segment.{pair_of}
 use Rattle.vc_steps.specs.Homes.{held_in, slots_on, state_over}
+use Rattle.vc_steps.specs.State.{State}
 use Rattle.vc_steps.specs.Told.{rules_in}
-use Rattle.vc_counts.proofs.Alone.{alone-held}
-use Rattle.vc_counts.proofs.Counted.{can-next, counts-step, part-counted}
+use Rattle.vc_views.specs.Numbers.{views_by}
+use Rattle.vc_counts.proofs.Alone.{alone-held, lone-dicts}
+use Rattle.vc_counts.proofs.Counted.{WasRead, WasRun, can-next, counts-step, part-counted}
 use Rattle.vc_counts.proofs.Named.{are-named, are-proper}
+use Rattle.vc_counts.proofs.Seated.{all-seated}
 use Rattle.vc_counts.proofs.step.counted_step.Given as given
 use Rattle.vc_counts.proofs.step.counted_step.Goals as goal
+use Rattle.vc_counts.proofs.step.counted_step.Goals.{After-is_refusal}
 
 abbrev meaning : (g : given.Over) → (x : g.dyn-1.0.I) × (g.dyn-1.0.entry x).0.Denot → Discipline
 meaning g p = (g.dyn-1.0.entry p.0).1.state p.1
 
-pub reached_at-before-requires-clause-names : goal.reached_at-before-requires-clause-names
-reached_at-before-requires-clause-names g c =
+-- before the step and after it
+abbrev before : (g : given.Over) → After-is_refusal g → State
+before g c = state_over (meaning g) (rules_in g.D.DictDisc.rules c.args.kinds.now.items) c.args.shelf.now c.args.session.now
+
+abbrev after : (g : given.Over) → After-is_refusal g → State
+after g c = state_over (meaning g) (rules_in g.D.DictDisc.rules c.step.new.kinds.items) c.step.new.shelf c.step.new.self
+
+was-run : (g : given.Over) (c : After-is_refusal g) → WasRun (before g c) (after g c) c.args.line c.args.command.now c.in_ok-reply.reply
+was-run g c =
+    let M = meaning g in
+    let session = c.args.session.now in
+    let held = held_in M session in
+    let held' = held_in M c.step.new.self in
+    let gives = c.in_ok-reply.ensures.steps.gives in
+    record {
+      alone = alone-held M session.homes.entries session.labels.items c.requires.session.regions.named c.show_names.ensures.homes;
+      lone = lone-dicts held (views_by session.paths session.dicts.entries) session.dicts.entries c.show_names.ensures.dicts;
+      seated = all-seated M _ session.homes.entries session.labels.items (views_by session.paths session.dicts.entries) session.dicts.entries c.requires.session.dicts;
+      proper = are-proper held (are-named (slots_on M c.args.shelf.now) held c.requires.session.regions.held);
+      proper_then = are-proper held' (are-named (slots_on M c.step.new.shelf) held' c.step.ensures.lasts.stands.regions.held);
+      state = gives.state_after;
+      replied = gives.replied;
+    }
+
+was-read : (g : given.Over) (c : After-is_refusal g) → WasRead (before g c) (after g c) c.args.command.now c.in_ok-reply.reply c.region_worked-region.result c.reach_of-reach.result c.reached_at-held.result c.freed_by.result c.reached_at-holds.result c.put_by.result
+was-read g c =
+    record {
+      region = c.region_worked-region.ensures;
+      reach = c.reach_of-reach.ensures;
+      before = c.reached_at-held.ensures;
+      freed = c.freed_by.ensures;
+      after = c.reached_at-holds.ensures;
+      put = c.put_by.ensures;
+    }
+
+pub reached_at-held-requires-clause-names : goal.reached_at-held-requires-clause-names
+reached_at-held-requires-clause-names g c =
     let M = meaning g in
     are-named (slots_on M c.args.shelf.now) (held_in M c.args.session.now) c.requires.session.regions.held
 
-pub reached_at-after-requires-clause-names : goal.reached_at-after-requires-clause-names
-reached_at-after-requires-clause-names g c =
+pub reached_at-holds-requires-clause-names : goal.reached_at-holds-requires-clause-names
+reached_at-holds-requires-clause-names g c =
     let M = meaning g in
     are-named (slots_on M c.step.new.shelf) (held_in M c.step.new.self) c.step.ensures.lasts.stands.regions.held
 
+pub reached_at-held-requires-clause-dicts : goal.reached_at-held-requires-clause-dicts
+reached_at-held-requires-clause-dicts g c = record { kinds = _; dicts = c.requires.session.dicts }
+
+pub reached_at-holds-requires-clause-dicts : goal.reached_at-holds-requires-clause-dicts
+reached_at-holds-requires-clause-dicts g c = record { kinds = _; dicts = c.step.ensures.lasts.stands.dicts }
+
 pub add-requires-clause-part : goal.add-requires-clause-part
 add-requires-clause-part g c =
-    let s = state_over (meaning g) (rules_in g.D.DictDisc.rules c.args.kinds.now.items) c.args.shelf.now c.args.session.now in
-    part-counted c.args.counts.now s c.args.line c.args.command.now c.requires.counts c.region_worked-region.result c.region_worked-region.ensures c.reached_at-before.result c.reached_at-before.ensures
+    let at = (goal.at.add-requires-clause-part g c).After-is_refusal in
+    part-counted c.args.counts.now (before g at) (after g at) c.args.line c.args.command.now c.in_ok-reply.reply c.requires.counts (was-run g at)
+    c.region_worked-region.result c.reach_of-reach.result c.reached_at-held.result c.freed_by.result c.reached_at-holds.result c.put_by.result (was-read g at)
 
 pub returns-clause-counts : goal.returns-clause-counts
 returns-clause-counts g c =
-    let M = meaning g in
-    let session = c.args.session.now in
-    let session' = c.step.new.self in
-    let s = state_over M (rules_in g.D.DictDisc.rules c.args.kinds.now.items) c.args.shelf.now session in
-    let s' = state_over M (rules_in g.D.DictDisc.rules c.step.new.kinds.items) c.step.new.shelf session' in
-    let alone = alone-held M session.homes.entries session.labels.items c.requires.session.regions.named c.show_names.ensures in
-    let proper = are-proper (held_in M session) (are-named (slots_on M c.args.shelf.now) (held_in M session) c.requires.session.regions.held) in
-    let proper' = are-proper (held_in M session') (are-named (slots_on M c.step.new.shelf) (held_in M session') c.step.ensures.lasts.stands.regions.held) in
-    let gives = c.in_ok-reply.ensures.steps.gives in
+    let at = (goal.at.returns-clause-counts g c).After-is_refusal in
     let had = sym (length-map c.segments_at-had.result.now pair_of) ∙ ap length c.segments_at-had.ensures.pairs in
     c.add.ensures.value
-    ∙ counts-step c.args.counts.now s c.args.line c.args.command.now c.requires.counts c.region_worked-region.result c.region_worked-region.ensures c.reached_at-before.result c.reached_at-before.ensures
-    s' c.in_ok-reply.reply alone proper proper' gives.state_after gives.replied c.is_refusal.result c.reached_at-after.result (length c.segments_at-had.result.now) (map pair_of c.segments_at.result.now) c.tally_behind-lent.result
-    c.is_refusal.ensures c.reached_at-after.ensures had c.segments_at.ensures.pairs c.tally_behind-lent.ensures.value
+    ∙ counts-step c.args.counts.now (before g at) (after g at) c.args.line c.args.command.now c.in_ok-reply.reply c.requires.counts (was-run g at)
+    c.region_worked-region.result c.reach_of-reach.result c.reached_at-held.result c.freed_by.result c.reached_at-holds.result c.put_by.result (was-read g at)
+    c.is_refusal.result (length c.segments_at-had.result.now) (map pair_of c.segments_at.result.now) c.tally_behind-lent.result
+    c.is_refusal.ensures had c.segments_at.ensures.pairs c.tally_behind-lent.ensures.value
 
 pub returns-clause-can : goal.returns-clause-can
 returns-clause-can g c =
-    let M = meaning g in
-    let session = c.args.session.now in
-    let session' = c.step.new.self in
-    let s = state_over M (rules_in g.D.DictDisc.rules c.args.kinds.now.items) c.args.shelf.now session in
-    let s' = state_over M (rules_in g.D.DictDisc.rules c.step.new.kinds.items) c.step.new.shelf session' in
-    let alone = alone-held M session.homes.entries session.labels.items c.requires.session.regions.named c.show_names.ensures in
-    let proper = are-proper (held_in M session) (are-named (slots_on M c.args.shelf.now) (held_in M session) c.requires.session.regions.held) in
-    let proper' = are-proper (held_in M session') (are-named (slots_on M c.step.new.shelf) (held_in M session') c.step.ensures.lasts.stands.regions.held) in
-    let gives = c.in_ok-reply.ensures.steps.gives in
-    can-next c.args.counts.now s c.args.line c.args.command.now c.requires.counts c.region_worked-region.result c.region_worked-region.ensures c.reached_at-before.result c.reached_at-before.ensures
-    s' c.in_ok-reply.reply alone proper proper' gives.state_after gives.replied c.add.new.self (returns-clause-counts g c) c.add.ensures.range
+    let at = (goal.at.returns-clause-can g c).After-is_refusal in
+    can-next c.args.counts.now (before g at) (after g at) c.args.line c.args.command.now c.in_ok-reply.reply c.requires.counts (was-run g at)
+    c.add.new.self (returns-clause-counts g c) c.add.ensures.range
