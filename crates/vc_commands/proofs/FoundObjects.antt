@@ -1,17 +1,17 @@
 -- An object that is found lies in one of the holders.
-use Rattle.std.proofs.Common.{◌≡◌, ℕ, zero, suc, List, [], ◌∷◌, Bool, true, false, Option, Some, None, length, map, refl, sym, ap, ◌∙◌, inl, inr, arith}
+use Rattle.std.proofs.Common.{◌≡◌, ℕ, List, [], ◌∷◌, Bool, true, false, Option, Some, None, map, refl, sym, ap, ◌∙◌, inl, inr, arith}
 use Rattle.std.specs.Prelude.{IfSome, option_map, if◌then◌else◌}
 use Rattle.std.specs.List.{AllByRecursion, find}
 use Rattle.std.proofs.lemmas.Bool.Decides.{eqb_tells}
 use Rattle.vc_base.specs.declared.addr.Addr.{Addr}
-use Rattle.vc_base.specs.Cells.{Blocks, HasBytes, word_at}
+use Rattle.vc_base.specs.Cells.{Blocks, HasBytes}
 use Rattle.vc_base.specs.Holders.{contains, some_address}
 use Rattle.vc_dtdisc.specs.Objects.{Object, bytes_of, first_with, has_key}
 use Rattle.vc_dtdisc.specs.Rules.{Rules}
 use Rattle.vc_dtlist.specs.Linked.{number_of}
 use Rattle.vc_dtlist.proofs.KeptLemmas.{within-head, within-tail}
 use Rattle.vc_dict.specs.declared.dict.Dict.{Dict}
-use Rattle.vc_dict.specs.Listed.{holders_from, holders_of}
+use Rattle.vc_dict.specs.Listed.{holders_of}
 use Rattle.vc_dict.proofs.OwnLemmas.{holder-address, holder-there}
 use Rattle.vc_best.specs.Cells.{cells_in}
 use Rattle.vc_best.specs.declared.best.Best.{Best}
@@ -88,11 +88,3 @@ module _ {I : Type 0} {V : I → Type 0} (d : Dict) (r : Best I V) where
         | inl none ↦ absurd (let no = none.1 in omega (arith, no, some))
         | inr apart ↦ rw apart.0 refl
       ]
-
--- as many as are counted
-counted-from : (b : Blocks) (count at : ℕ) → length (map (object_of b) (holders_from b count at)) ≡ count
-counted-from b zero at = refl
-counted-from b (suc count) at = ap suc (counted-from b count (word_at b at 1))
-
-pub counted : {I : Type 0} {V : I → Type 0} (d : Dict) (r : Best I V) → length (dictionary_in d r).objects ≡ d.count
-counted d r = counted-from (cells_in r) d.count d.first.0

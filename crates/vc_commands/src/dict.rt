@@ -1,6 +1,5 @@
 // The commands on one dictionary.
 mod entry;
-mod listing;
 mod look_rows;
 mod looking;
 mod putting;

@@ -239,12 +239,14 @@ ChainWeeding-start rules hash set lost b b1 holders steps r s te se c g =
 pub ChainWeeding-end : (rules : Rules) (hash : DtHash) (start : Blocks) (holders : List ℕ) (passed : ℕ) (left : DtList) (set : DtHash) (lost : DtList) (b : Blocks) (begun steps : ℕ) → ChainWeeding rules hash start holders passed left set lost b begun steps → length holders ≤ passed → IsSettled true rules hash holders (kept rules start [] holders) (dropped rules start [] holders) start (record { kept = list_of set; dropped = lost; count = set.count }) b
 ChainWeeding-end rules hash start holders passed left set lost b begun steps s h =
     let all = all-kept rules start holders passed s.done s.gone s.rest s.weeding h in
+    let lost-all = all-dropped rules start holders passed s.done s.gone s.rest s.weeding h in
     let stands : HashFor rules (record set { table = hash.table; slots = hash.slots }) b s.done =
     subst (λ z. HashFor rules (record set { table = z; slots = hash.slots }) b s.done) s.table (subst (λ z. HashFor rules (record set { slots = z }) b s.done) s.slots s.done_stands) in
     record {
       hashed = λ _. subst (λ z. HashFor rules (record set { table = hash.table; slots = hash.slots }) b z) all stands;
       listed = λ e. absurd (true≢false e);
-      gone_stands = subst (λ z. StandsFor lost b z) (all-dropped rules start holders passed s.done s.gone s.rest s.weeding h) s.gone_stands;
+      gone_stands = subst (λ z. StandsFor lost b z) lost-all s.gone_stands;
+      apart = subst (λ z. AreApart z (dropped rules start [] holders)) all (subst (λ z. AreApart s.done z) lost-all s.weeding.apart);
       count = s.done_stands.count ∙ ap length all;
       keeps = s.keeps;
     }

@@ -15,7 +15,7 @@ use Rattle.vc_dtdisc.specs.Objects as objects
 use Rattle.vc_dtdisc.specs.Objects.{behind_object}
 use Rattle.vc_dtdisc.proofs.AddressLemmas.{behind_object-next_in}
 use Rattle.vc_dtord.specs.Ordered.{is_less}
-use Rattle.vc_dtord.proofs.OrdLemmas.{any-inserted}
+use Rattle.vc_dtord.proofs.SortedLemmas.{any-inserted}
 use Rattle.vc_dict.specs.Changes.{behind_current, current_without, inserted, linked, removed}
 use Rattle.vc_dict.proofs.PassLemmas.{apart-placed}
 

@@ -3,8 +3,6 @@ use Rattle.std.proofs.Common.{◌≡◌, ℕ, ◌<◌, ◌^◌, List, [], ◌∷
 use Rattle.std.specs.Option.{option_map}
 use Rattle.std.proofs.lemmas.Bool.{true≢false}
 use Rattle.vc_base.specs.declared.addr.Addr.{Addr}
-use Rattle.vc_base.specs.declared.dict_method.DictMethod.{DictMethod}
-use Rattle.vc_base.specs.declared.dict_method.DictMethod.TheVariants.{DtSet, DtBag, DtOset, DtObag, DtList as ByList, DtStack, DtQueue}
 use Rattle.vc_base.specs.Cells.{Blocks}
 use Rattle.vc_base.specs.Holders.{KeepsBut, contains}
 use Rattle.vc_dtdisc.specs.Rules.{Rules}
@@ -20,26 +18,8 @@ use Rattle.vc_dtord.specs.Ordered.{OrdFor}
 use Rattle.vc_dict.specs.declared.dict.Dict.{Dict}
 use Rattle.vc_base.specs.Methods.{has_table, is_ordered}
 use Rattle.vc_dict.specs.Stands.{Became, HeadsFor, IsMember, Stands, hash_of, heads_of}
-use Rattle.vc_dict.proofs.HeadLemmas.{heads-hash, heads-links, heads-order}
+use Rattle.vc_dict.proofs.HeadLemmas.{heads-hash, heads-links, heads-order, ordered_plain}
 use Rattle.vc_dict.proofs.OwnLemmas.{count-fits, holders-told}
-
-pub table_unordered : (method : DictMethod) → has_table method ≡ true → is_ordered method ≡ false
-table_unordered DtSet h = refl
-table_unordered DtBag h = refl
-table_unordered DtOset h = absurd (true≢false (sym h))
-table_unordered DtObag h = absurd (true≢false (sym h))
-table_unordered ByList h = refl
-table_unordered DtStack h = refl
-table_unordered DtQueue h = refl
-
-pub ordered_plain : (method : DictMethod) → is_ordered method ≡ true → has_table method ≡ false
-ordered_plain DtSet h = absurd (true≢false (sym h))
-ordered_plain DtBag h = absurd (true≢false (sym h))
-ordered_plain DtOset h = refl
-ordered_plain DtObag h = refl
-ordered_plain ByList h = refl
-ordered_plain DtStack h = refl
-ordered_plain DtQueue h = refl
 
 -- it counts fewer than 2^32 holders, and stands for one list alone
 pub few : (rules : Rules) (d : Dict) (b : Blocks) (xs : List ℕ) → Stands rules d b xs → d.count < 2 ^ 32
@@ -68,8 +48,9 @@ Became-hash rules d hash b b' at xs ys h t =
     }
 
 -- a list or an ordered one changed
-pub Became-plain : (rules : Rules) (d : Dict) (first last : Addr) (n : ℕ) (b b' : Blocks) (written xs ys : List ℕ) → Stands rules d b xs → HeadsFor rules (heads_of (record d { first = first; last = last; count = n })) b' ys → n ≡ length ys → KeepsBut written b b' → Became rules written d b (record d { first = first; last = last; count = n }) b' ys d.current.0
-Became-plain rules d first last n b b' written xs ys s heads count keeps = record {
+pub Became-plain : (rules : Rules) (d : Dict) (first last root : Addr) (n : ℕ) (b b' : Blocks) (written xs ys : List ℕ) → Stands rules d b xs → HeadsFor rules (heads_of (record d { first = first; last = last; root = root; count = n })) b' ys → n ≡ length ys → KeepsBut written b b'
+    → Became rules written d b (record d { first = first; last = last; root = root; count = n }) b' ys d.current.0
+Became-plain rules d first last root n b b' written xs ys s heads count keeps = record {
   stands = record { heads = heads; count = count; plain = λ h. record { table = (s.plain h).table; slots = (s.plain h).slots } };
   current = refl;
   method = refl;
@@ -79,15 +60,15 @@ Became-plain rules d first last n b b' written xs ys s heads count keeps = recor
   keeps = KeepsTables-but (d.table.0 ∷ []) written b b' keeps;
 }
 
-pub Became-ord : (rules : Rules) (d : Dict) (ord : DtOrd) (n : ℕ) (b b' : Blocks) (written xs ys : List ℕ) → is_ordered d.method ≡ true → Stands rules d b xs → OrdFor rules ord b' ys → n ≡ length ys → KeepsBut written b b' → Became rules written d b (record d { first = ord.first; last = ord.last; count = n }) b' ys d.current.0
+pub Became-ord : (rules : Rules) (d : Dict) (ord : DtOrd) (n : ℕ) (b b' : Blocks) (written xs ys : List ℕ) → is_ordered d.method ≡ true → Stands rules d b xs → OrdFor rules ord b' ys → n ≡ length ys → KeepsBut written b b' → Became rules written d b (record d { root = ord.root; count = n }) b' ys d.current.0
 Became-ord rules d ord n b b' written xs ys o s stands count keeps =
-    let new : Dict = record d { first = ord.first; last = ord.last; count = n } in
-    Became-plain rules d ord.first ord.last n b b' written xs ys s (subst (λ z. HeadsFor rules z b' ys) (sym (heads-order new (ordered_plain d.method o) o)) stands) count keeps
+    let new : Dict = record d { root = ord.root; count = n } in
+    Became-plain rules d d.first d.last ord.root n b b' written xs ys s (subst (λ z. HeadsFor rules z b' ys) (sym (heads-order new (ordered_plain d.method o) o)) stands) count keeps
 
 pub Became-list : (rules : Rules) (d : Dict) (list : DtList) (n : ℕ) (b b' : Blocks) (written xs ys : List ℕ) → has_table d.method ≡ false → is_ordered d.method ≡ false → Stands rules d b xs → StandsFor list b' ys → n ≡ length ys → KeepsBut written b b' → Became rules written d b (record d { first = list.first; last = list.last; count = n }) b' ys d.current.0
 Became-list rules d list n b b' written xs ys h o s stands count keeps =
     let new : Dict = record d { first = list.first; last = list.last; count = n } in
-    Became-plain rules d list.first list.last n b b' written xs ys s (subst (λ z. HeadsFor rules z b' ys) (sym (heads-links new h o)) stands) count keeps
+    Became-plain rules d list.first list.last d.root n b b' written xs ys s (subst (λ z. HeadsFor rules z b' ys) (sym (heads-links new h o)) stands) count keeps
 
 -- one of the holders needs no naming beside them
 pub KeepsTables-within : (tables xs : List ℕ) (at : ℕ) (b b' : Blocks) → contains xs at ≡ true → KeepsTables tables (at ∷ xs) b b' → KeepsTables tables xs b b'

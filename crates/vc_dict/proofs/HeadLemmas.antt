@@ -1,7 +1,9 @@
 -- The heads of a dictionary by its method, and what they tell of its holders in whichever form.
-use Rattle.std.proofs.Common.{◌≡◌, ◌≢◌, ℕ, ◌+◌, ◌%◌, ◌≤◌, List, [], ◌∷◌, Bool, true, false, None, length, refl, sym, ap, ◌∙◌, subst}
+use Rattle.std.proofs.Common.{◌≡◌, ◌≢◌, ℕ, ◌+◌, ◌%◌, ◌≤◌, List, [], ◌∷◌, Bool, true, false, None, length, refl, sym, ap, ◌∙◌, subst, arith}
 use Rattle.std.specs.Prelude.{◌==◌, if◌then◌else◌}
-use Rattle.std.proofs.lemmas.Bool.{eqb-true}
+use Rattle.std.proofs.lemmas.Bool.{eqb-true, true≢false}
+use Rattle.vc_base.specs.declared.dict_method.DictMethod.{DictMethod}
+use Rattle.vc_base.specs.declared.dict_method.DictMethod.TheVariants.{DtSet, DtBag, DtOset, DtObag, DtList as ByList, DtStack, DtQueue}
 use Rattle.vc_base.specs.Cells.{Blocks, word_at}
 use Rattle.vc_base.specs.Holders.{contains, first_of}
 use Rattle.vc_dtdisc.specs.Rules.{Rules}
@@ -15,14 +17,33 @@ use Rattle.vc_dthash.specs.Hashed.{CanLink as HashLink, HashFor, IsLinked as InH
 use Rattle.vc_dthash.specs.Slots.{wanted}
 use Rattle.vc_dthash.proofs.HashLemmas.{HashFor-holders, HashFor-same}
 use Rattle.vc_dtord.specs.declared.dt_ord.DtOrd.{DtOrd}
-use Rattle.vc_dtord.specs.Ordered.{CanLink as OrdLink, IsLinked as InOrd, OrdFor}
-use Rattle.vc_dtord.proofs.OrdLemmas.{OrdFor-holders, OrdFor-same}
+use Rattle.vc_dtord.specs.Ordered.{CanLink as OrdLink, IsLinked as InOrd, OrdFor, in_order}
+use Rattle.vc_dtord.proofs.TreeLemmas.{OrdFor-holders, OrdFor-in_order, OrdFor-same}
 use Rattle.vc_dict.specs.declared.dict.Dict.{Dict}
 use Rattle.vc_dict.specs.declared.heads.Heads.{Heads}
 use Rattle.vc_dict.specs.declared.heads.Heads.TheVariants.{Hash, Links, Order}
 use Rattle.vc_dict.specs.Listed.{holders_from}
 use Rattle.vc_base.specs.Methods.{has_table, is_ordered}
 use Rattle.vc_dict.specs.Stands.{CanLink, HeadsFor, IsMember, Stands, compares_by, hash_of, heads_of, list_of, ord_of}
+
+-- no method has both a table and an order, by which a method that has one hasn't the other
+pub table_unordered : (method : DictMethod) → has_table method ≡ true → is_ordered method ≡ false
+table_unordered DtSet h = refl
+table_unordered DtBag h = refl
+table_unordered DtOset h = absurd (true≢false (sym h))
+table_unordered DtObag h = absurd (true≢false (sym h))
+table_unordered ByList h = refl
+table_unordered DtStack h = refl
+table_unordered DtQueue h = refl
+
+pub ordered_plain : (method : DictMethod) → is_ordered method ≡ true → has_table method ≡ false
+ordered_plain DtSet h = absurd (true≢false (sym h))
+ordered_plain DtBag h = absurd (true≢false (sym h))
+ordered_plain DtOset h = refl
+ordered_plain DtObag h = refl
+ordered_plain ByList h = refl
+ordered_plain DtStack h = refl
+ordered_plain DtQueue h = refl
 
 -- by two tests of the method
 abbrev pub heads_by : Bool → Bool → Dict → Heads
@@ -67,7 +88,7 @@ HeadsFor-holders rules (Hash hash) b xs s = HashFor-holders rules hash b xs s
 HeadsFor-holders rules (Order ord) b xs s = OrdFor-holders rules ord b xs s
 HeadsFor-holders rules (Links list) b xs s = LinksFor-holders list b xs s.links
 
--- which are read from the first one on
+-- which are read from the first one on, or in a tree from its root
 from-told : (b : Blocks) (before : ℕ) (xs : List ℕ) (behind at : ℕ) → Chain b before xs behind → at ≡ first_of xs behind → holders_from b (length xs) at ≡ xs
 from-told b before [] behind at c e = refl
 from-told b before (x ∷ xs) behind at c e =
@@ -76,13 +97,17 @@ from-told b before (x ∷ xs) behind at c e =
 links-told : (list : DtList) (b : Blocks) (xs : List ℕ) → LinksFor list b xs → holders_from b (length xs) list.first.0 ≡ xs
 links-told list b xs l = from-told b 0 xs 0 list.first.0 l.chain l.first
 
-told_by : (t u : Bool) (rules : Rules) (d : Dict) (b : Blocks) (xs : List ℕ) → HeadsFor rules (heads_by t u d) b xs → holders_from b (length xs) d.first.0 ≡ xs
-told_by true u rules d b xs s = links-told (list_of d) b xs s.links
-told_by false true rules d b xs s = links-told (list_of d) b xs s.list.links
-told_by false false rules d b xs s = links-told (list_of d) b xs s.links
+abbrev pub read_by : Bool → Dict → Blocks → ℕ → List ℕ
+read_by ordered d b n = if ordered then in_order b n d.root.0 else holders_from b n d.first.0
 
-pub heads-told : (rules : Rules) (d : Dict) (b : Blocks) (xs : List ℕ) → Stands rules d b xs → holders_from b (length xs) d.first.0 ≡ xs
-heads-told rules d b xs s = told_by (has_table d.method) (is_ordered d.method) rules d b xs s.heads
+told_by : (t u : Bool) (rules : Rules) (d : Dict) (b : Blocks) (xs : List ℕ) → (t ≡ true → u ≡ false) → HeadsFor rules (heads_by t u d) b xs → read_by u d b (length xs) ≡ xs
+told_by true true rules d b xs e s = absurd (true≢false (e refl))
+told_by true false rules d b xs e s = links-told (list_of d) b xs s.links
+told_by false true rules d b xs e s = OrdFor-in_order rules (ord_of d) b xs (length xs) s (omega arith)
+told_by false false rules d b xs e s = links-told (list_of d) b xs s.links
+
+pub heads-told : (rules : Rules) (d : Dict) (b : Blocks) (xs : List ℕ) → Stands rules d b xs → read_by (is_ordered d.method) d b (length xs) ≡ xs
+heads-told rules d b xs s = told_by (has_table d.method) (is_ordered d.method) rules d b xs (table_unordered d.method) s.heads
 
 -- and they stand for these still where what is at their addresses stays, and at the table's
 same_by : (t u : Bool) (rules : Rules) (d : Dict) (old new : Blocks) (xs : List ℕ) → ((a : ℕ) → contains xs a ≡ true → new a ≡ old a) → (d.table.0 ≢ 0 → new d.table.0 ≡ old d.table.0) → HeadsFor rules (heads_by t u d) old xs → HeadsFor rules (heads_by t u d) new xs

@@ -2,6 +2,7 @@ pub mod LengthLemmas
 pub mod HeadLemmas
 pub mod DictLemmas
 pub mod PassLemmas
+pub mod FlatLemmas
 pub mod SortedLemmas
 pub mod WeedLemmas
 pub mod NeighbourLemmas

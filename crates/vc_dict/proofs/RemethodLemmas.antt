@@ -13,23 +13,25 @@ use Rattle.vc_dtdisc.specs.Finds.{object_at}
 use Rattle.vc_dtlist.specs.declared.dt_list.DtList.{DtList}
 use Rattle.vc_dtlist.specs.Linked.{StandsFor}
 use Rattle.vc_dtlist.proofs.HolderLemmas.{apart-cons, apart-head, apart-tail}
+use Rattle.vc_dtlist.proofs.KeptLemmas.{StandsFor-kept}
 use Rattle.vc_dthash.specs.declared.dt_hash.DtHash.{DtHash}
 use Rattle.vc_dthash.specs.Hashed.{CanChain, HasTable, HashFor, IsTable}
 use Rattle.vc_dthash.specs.Slots.{slots_for, wanted}
 use Rattle.vc_dthash.proofs.HashLemmas.{HasTable-kept}
-use Rattle.vc_dtord.specs.Ordered.{IsSorted}
-use Rattle.vc_dtord.proofs.OrdLemmas.{IsSorted-same}
+use Rattle.vc_dtord.specs.Ordered.{OrdFor}
+use Rattle.vc_dtord.proofs.SortedLemmas.{IsSorted-same}
 use Rattle.vc_dict.specs.declared.dict.Dict.{Dict}
 use Rattle.vc_base.specs.Methods.{has_table, is_ordered}
 use Rattle.vc_dict.specs.Methods.{slots_between}
 use Rattle.vc_dict.specs.Orders.{dropped_by, kept_by, ordered_by}
-use Rattle.vc_dict.specs.Stands.{HeadsFor, Stands, hash_of, list_of}
+use Rattle.vc_dict.specs.Planting.{IsInOrder, Planted}
+use Rattle.vc_dict.specs.Stands.{HeadsFor, Stands, hash_of, list_of, ord_of}
 use Rattle.vc_dict.specs.Turned.{CanRemethod, Remethoded}
 use Rattle.vc_dict.specs.Weeding.{CanSettle, IsSettled, Settled}
 use Rattle.vc_dict.proofs.DictLemmas.{Stands-unique}
-use Rattle.vc_dict.proofs.HeadLemmas.{as_hash, heads_by}
+use Rattle.vc_dict.proofs.HeadLemmas.{as_hash, heads_by, ordered_plain, table_unordered}
 use Rattle.vc_dict.proofs.OwnLemmas.{Stands-table, none-at_0}
-use Rattle.vc_dict.proofs.PassLemmas.{differs}
+use Rattle.vc_dict.proofs.PassLemmas.{apart_back, differs}
 use Rattle.vc_dict.proofs.TurnedLemmas.{AreDropped-chain, IsSorted-ordered, IsSorted-turned, dropped_by_same, kept_by_same, length-ordered, no_block, within_kept_by, within_ordered}
 
 -- a hash that stands for nothing over whatever blocks has no slots
@@ -88,14 +90,14 @@ no_more [] h = refl
 no_more (x ∷ xs) h = absurd (omega (arith, h))
 
 -- its heads by the method, and that it has no table where the method has none
-made_by : (t u : Bool) (rules : Rules) (new : Dict) (b : Blocks) (xs : List ℕ) → has_table new.method ≡ t → is_ordered new.method ≡ u → (has_table new.method ≡ true → HashFor rules (hash_of new) b xs) → (has_table new.method ≡ false → StandsFor (list_of new) b xs) → (is_ordered new.method ≡ true → IsSorted rules b xs) → HeadsFor rules (heads_by t u new) b xs
-made_by true u rules new b xs h e hash list sorted = hash h
-made_by false true rules new b xs h e hash list sorted = record { list = list h; sorted = sorted e }
-made_by false false rules new b xs h e hash list sorted = list h
+made_by : (t u : Bool) (rules : Rules) (new : Dict) (b : Blocks) (xs : List ℕ) → has_table new.method ≡ t → is_ordered new.method ≡ u → (has_table new.method ≡ true → HashFor rules (hash_of new) b xs) → (has_table new.method ≡ false → is_ordered new.method ≡ false → StandsFor (list_of new) b xs) → (is_ordered new.method ≡ true → OrdFor rules (ord_of new) b xs) → HeadsFor rules (heads_by t u new) b xs
+made_by true u rules new b xs h e hash list ord = hash h
+made_by false true rules new b xs h e hash list ord = ord e
+made_by false false rules new b xs h e hash list ord = list h e
 
-Stands-made : (rules : Rules) (new : Dict) (b : Blocks) (xs : List ℕ) → (has_table new.method ≡ true → HashFor rules (hash_of new) b xs) → (has_table new.method ≡ false → StandsFor (list_of new) b xs) → new.count ≡ length xs → (is_ordered new.method ≡ true → IsSorted rules b xs) → (has_table new.method ≡ false → new.table.0 ≡ 0) → (new.table.0 ≡ 0 → new.slots ≡ 0) → Stands rules new b xs
-Stands-made rules new b xs hash list count sorted none slots = record {
-  heads = made_by (has_table new.method) (is_ordered new.method) rules new b xs refl refl hash list sorted;
+Stands-made : (rules : Rules) (new : Dict) (b : Blocks) (xs : List ℕ) → (has_table new.method ≡ true → HashFor rules (hash_of new) b xs) → (has_table new.method ≡ false → is_ordered new.method ≡ false → StandsFor (list_of new) b xs) → (is_ordered new.method ≡ true → OrdFor rules (ord_of new) b xs) → new.count ≡ length xs → (has_table new.method ≡ false → new.table.0 ≡ 0) → (new.table.0 ≡ 0 → new.slots ≡ 0) → Stands rules new b xs
+Stands-made rules new b xs hash list ord count none slots = record {
+  heads = made_by (has_table new.method) (is_ordered new.method) rules new b xs refl refl hash list ord;
   count = count;
   plain = λ h. record { table = none h; slots = slots (none h) };
 }
@@ -104,6 +106,11 @@ Stands-made rules new b xs hash list count sorted none slots = record {
 not_both : (t : Bool) (old block a : ℕ) → contains (old ∷ block ∷ []) a ≡ false → a ≢ (if t then old else block)
 not_both true old block a h e = apart-head old (block ∷ []) a h (sym e)
 not_both false old block a h e = apart-head block [] a (apart-tail old (block ∷ []) a h) (sym e)
+
+-- one that takes a list, a method and a table
+abbrev pub turned_to : DictMethod → Dict → DtList → Addr → ℕ → Dict
+turned_to method d list table slots =
+    record d { method = method; current = record { 0 = 0 }; first = list.first; last = list.last; table = table; root = record { 0 = 0 }; slots = slots }
 
 -- it was turned: its holders are a list in the method's order, and of these it keeps some in the form of the method
 module _ (rules : Rules) (method : DictMethod) (d : Dict) (b b1 : Blocks) (block size : ℕ) (holders : List ℕ) (list : DtList) (table : Addr) (slots : ℕ)
@@ -123,7 +130,7 @@ module _ (rules : Rules) (method : DictMethod) (d : Dict) (b b1 : Blocks) (block
   both = has_table method && has_table d.method
 
   abbrev turned : Dict
-  turned = record d { method = method; current = record { 0 = 0 }; first = list.first; last = list.last; table = table; slots = slots }
+  turned = turned_to method d list table slots
 
   table-was : HasTable b holders (if both then d.table.0 else block) (if both then d.slots else size)
   table-was = table_before rules d b method block size holders both r s
@@ -184,22 +191,49 @@ module _ (rules : Rules) (method : DictMethod) (d : Dict) (b b1 : Blocks) (block
     body-stays a h =
         settled.keeps.bodies a (in-none a (λ e. differs ys a table.0 h (ys-within table.0 table-out) (sym e))) ∙ keeps.bodies a
 
-    pub Remethoded-made : Remethoded rules method block size holders d b (record turned { first = kept_in.first; last = kept_in.last; count = n }) b2 (record { first = gone.first; table = left })
-    Remethoded-made = record {
-      stands = Stands-made rules (record turned { first = kept_in.first; last = kept_in.last; count = n }) b2 ys settled.hashed settled.listed settled.count
-          (λ h. IsSorted-same rules b b2 ys (λ a u. body-stays a u) (IsSorted-turned rules b method holders order h))
-          (λ h. te ∙ (ap (λ t. if t && has_table d.method then d.table.0 else block) h ∙ no_block d.method method d.count block size r.needs h)) table-now.none;
-      dropped = AreDropped-chain b2 0 gone.first.0 zs settled.gone_stands.links.chain settled.gone_stands.links.first;
-      method = refl;
-      kind = refl;
-      current = refl;
-      table = te;
-      slots = se;
-      left = le;
-      keeps = record {
-        there = λ a. settled.keeps.there a ∙ keeps.there a;
-        sizes = λ a. settled.keeps.sizes a ∙ keeps.sizes a;
-        bodies = λ a h. settled.keeps.bodies a (in-none a (λ e. not_both both d.table.0 block a h (e ∙ te))) ∙ keeps.bodies a;
-        others = λ a h k. settled.keeps.others a (in-none a (λ e. not_both both d.table.0 block a h (e ∙ te))) (xs-within a k) ∙ keeps.others a k;
-      };
+    -- where the method is ordered, what it keeps stands in order as a list
+    pub in-order : is_ordered method ≡ true → IsInOrder rules kept_in b2 ys
+    in-order h = record {
+      stands = settled.listed (ordered_plain method h);
+      sorted = IsSorted-same rules b b2 ys (λ a u. body-stays a u) (IsSorted-turned rules b method holders order h);
     }
+
+    pub kept-count : n ≡ length ys
+    kept-count = settled.count
+
+    -- and then as a tree
+    module _ (b3 : Blocks) (first last root : Addr) (p : Planted rules ys (record turned { first = kept_in.first; last = kept_in.last; count = n }) b2 (record turned { first = first; last = last; root = root; count = n }) b3) where
+      abbrev new : Dict
+      new = record turned { first = first; last = last; root = root; count = n }
+
+      hashed : has_table method ≡ true → HashFor rules (hash_of new) b3 ys
+      hashed h =
+          let u = table_unordered method h in
+          subst (λ z. HashFor rules (hash_of new) z ys) (sym (p.blocks u))
+          (subst (λ (z : DtList). HashFor rules (record (hash_of new) { first = z.first; last = z.last }) b2 ys) (sym (p.list u)) (settled.hashed h))
+
+      listed : has_table method ≡ false → is_ordered method ≡ false → StandsFor (list_of new) b3 ys
+      listed h u =
+          subst (λ z. StandsFor (list_of new) z ys) (sym (p.blocks u)) (subst (λ z. StandsFor z b2 ys) (sym (p.list u)) (settled.listed h))
+
+      gone-stands : StandsFor gone b3 zs
+      gone-stands = StandsFor-kept gone b2 b3 zs ys p.keeps (apart_back ys zs settled.apart) settled.gone_stands
+
+      pub Remethoded-made : Remethoded rules method block size holders d b new b3 (record { first = gone.first; table = left })
+      Remethoded-made = record {
+        stands = Stands-made rules new b3 ys hashed listed p.tree settled.count
+            (λ h. te ∙ (ap (λ t. if t && has_table d.method then d.table.0 else block) h ∙ no_block d.method method d.count block size r.needs h)) table-now.none;
+        dropped = AreDropped-chain b3 0 gone.first.0 zs gone-stands.links.chain gone-stands.links.first;
+        method = refl;
+        kind = refl;
+        current = refl;
+        table = te;
+        slots = se;
+        left = le;
+        keeps = record {
+          there = λ a. p.keeps.there a ∙ settled.keeps.there a ∙ keeps.there a;
+          sizes = λ a. p.keeps.sizes a ∙ settled.keeps.sizes a ∙ keeps.sizes a;
+          bodies = λ a h. p.keeps.bodies a ∙ settled.keeps.bodies a (in-none a (λ e. not_both both d.table.0 block a h (e ∙ te))) ∙ keeps.bodies a;
+          others = λ a h k. p.keeps.others a (ys-within a k) ∙ settled.keeps.others a (in-none a (λ e. not_both both d.table.0 block a h (e ∙ te))) (xs-within a k) ∙ keeps.others a k;
+        };
+      }

@@ -39,6 +39,7 @@ settled-chains rules hash holders b b' none c g = record {
   hashed = λ _. c.stands;
   listed = λ e. absurd (true≢false e);
   gone_stands = g;
+  apart = λ a h. refl;
   count = c.stands.count;
   keeps = c.keeps;
 }
@@ -49,6 +50,7 @@ settled-list rules hash holders done gone b w b' a = record {
   hashed = λ e. absurd (true≢false (sym e));
   listed = λ _. a.parts.done_stands;
   gone_stands = a.parts.gone_stands;
+  apart = a.parts.apart;
   count = a.parts.count;
   keeps = KeepsTables-but (hash.table.0 ∷ []) holders b b' a.keeps;
 }
@@ -59,6 +61,7 @@ settled-whole rules hash holders b none s count g = record {
   hashed = λ e. absurd (true≢false (sym e));
   listed = λ _. s;
   gone_stands = g;
+  apart = λ a h. refl;
   count = count;
   keeps = KeepsTables-but (hash.table.0 ∷ []) holders b b (KeepsBut-none holders b);
 }

@@ -3,6 +3,8 @@ pub mod Changes
 pub mod Orders
 pub mod Stands
 pub mod Passes
+pub mod Flattening
+pub mod Planting
 pub mod Weeding
 pub mod Turned
 pub mod Rows

@@ -18,7 +18,7 @@ use Rattle.vc_dict.specs.declared.heads.Heads.TheVariants.{Hash, Links, Order}
 use Rattle.vc_base.specs.Methods.{has_table, is_list, is_ordered, is_set}
 use Rattle.vc_dict.specs.Methods.{wanted_by}
 
--- its heads as those of a list, of a hash and of an ordered one
+-- its heads as those of a list, of a hash and of an ordered one: a method uses its own, whatever the others say
 abbrev pub list_of : Dict → DtList
 list_of dict = record { first = dict.first; last = dict.last }
 
@@ -32,7 +32,7 @@ hash_of dict = record {
 }
 
 abbrev pub ord_of : Dict → DtOrd
-ord_of dict = record { first = dict.first; last = dict.last }
+ord_of dict = record { root = dict.root }
 
 -- by its method: those of a hash for a set or bag, of an ordered one for an ordered set or bag, and else of a list
 abbrev pub heads_of : Dict → Heads
@@ -47,11 +47,12 @@ HeadsFor rules (Hash hash) blocks holders = HashFor rules hash blocks holders
 HeadsFor rules (Order ord) blocks holders = OrdFor rules ord blocks holders
 HeadsFor rules (Links list) blocks holders = StandsFor list blocks holders
 
--- they do so for some holders, by some kind's rules
-pub record AreHeads (heads : Heads) (blocks : Blocks) : Type 0 where
+-- they do so for so many holders, by some kind's rules
+pub record AreHeads (heads : Heads) (blocks : Blocks) (count : ℕ) : Type 0 where
   pub rules : Rules
   pub holders : List ℕ
   pub stands : HeadsFor rules heads blocks holders
+  pub length : count ≡ length holders
 
 -- neither a table nor slots
 pub record HasNoTable (dict : Dict) : Type 0 where

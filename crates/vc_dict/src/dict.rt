@@ -9,13 +9,15 @@ ghost use Rattle.vc_dtord.specs.Ordered.{placed};
 ghost use Rattle.vc_base.specs.Methods.{has_table, is_ordered};
 ghost use Rattle.vc_dict.specs.Methods.{slots_between, wanted_by};
 ghost use Rattle.vc_dict.specs.Changes.{before_current, behind_current, current_without, inserted, linked, removed};
+ghost use Rattle.vc_dict.specs.Passes.{IsCounted};
+ghost use Rattle.vc_dict.specs.Planting.{IsInOrder, Planted};
 ghost use Rattle.vc_dict.specs.Turned.{CanRemethod, Remethoded, Unchanged, behind_dropped};
 ghost use Rattle.vc_dict.specs.Weeding.{CanSettle, Settled};
 ghost use Rattle.vc_dict.specs.Stands.{Adopted, Became, CanAdopt, CanLink, HeadsFor, IsDict, IsIn, IsKept, IsMember, Stands, compares_by, hash_of, heads_of, list_of, ord_of};
 
 use crate::dropping::weed_by;
 use crate::heads::Heads;
-use crate::pass::order_by;
+use crate::pass::{into_tree, order_by};
 use crate::places::put_linked;
 use vc_base::{Addr, Cells, DictMethod, Steps};
 use vc_dtdisc::DictDisc;
@@ -38,6 +40,7 @@ pub struct Dict {
     first: Addr,
     last: Addr,
     table: Addr,
+    root: Addr,
     slots: u32,
 }
 
@@ -68,6 +71,7 @@ impl Dict {
             first: Addr::NONE,
             last: Addr::NONE,
             table: Addr::NONE,
+            root: Addr::NONE,
             slots: 0,
         }
     }
@@ -99,10 +103,7 @@ impl Dict {
     fn ord(&self) -> DtOrd
         ensures { result ≡ ord_of self.now }
     {
-        DtOrd {
-            first: self.first,
-            last: self.last,
-        }
+        DtOrd { root: self.root }
     }
 
     // Its heads in the form of its method.
@@ -216,8 +217,7 @@ impl Dict {
     {
         let mut ord = self.ord();
         ord.link(cells, kind, at, steps);
-        self.first = ord.first;
-        self.last = ord.last;
+        self.root = ord.root;
         self.count += 1;
     }
 
@@ -322,8 +322,7 @@ impl Dict {
     {
         let mut ord = self.ord();
         let found = ord.find(cells, kind, key, steps);
-        self.first = ord.first;
-        self.last = ord.last;
+        self.root = ord.root;
         found
     }
 
@@ -470,8 +469,7 @@ impl Dict {
         } else if self.method.is_ordered() {
             let mut ord = self.ord();
             ord.unlink(cells, at);
-            self.first = ord.first;
-            self.last = ord.last;
+            self.root = ord.root;
             self.count -= 1;
         } else {
             let mut list = self.list();
@@ -574,6 +572,7 @@ impl Dict {
           first = list.first;
           last = list.last;
           table = self.new.table;
+          root = record { 0 = 0 };
           slots = self.new.slots;
         } }
     {
@@ -588,6 +587,7 @@ impl Dict {
         self.method = method;
         self.first = list.first;
         self.last = list.last;
+        self.root = Addr::NONE;
         self.current = Addr::NONE;
         left
     }
@@ -622,6 +622,30 @@ impl Dict {
         weeded.dropped
     }
 
+    // Puts the list that it took into the tree of an ordered set or bag. By any other method nothing changes.
+    fn plant<C: Cells, D: DictDisc, L>(&mut self, cells: &mut C, kind: &D, steps: &mut Steps<L>)
+        requires { is_ordered self.old.method ≡ true
+            → IsCounted (list_of self.old) (C.blocks cells.old) self.old.count }
+        ensures planted { (holders : List ℕ)
+            → (is_ordered self.old.method ≡ true
+            → IsInOrder (D.rules kind.now) (list_of self.old) (C.blocks cells.old) holders)
+            → Planted (D.rules kind.now) holders self.old (C.blocks cells.old) self.new
+            (C.blocks cells.new) }
+        ensures same { self.new ≡ record self.old {
+          first = self.new.first;
+          last = self.new.last;
+          root = self.new.root;
+        } }
+        ensures rest { C.RestStays cells.old cells.new }
+    {
+        if self.method.is_ordered() {
+            let ord = into_tree(self.list(), self.count, cells, kind, steps);
+            self.first = Addr::NONE;
+            self.last = Addr::NONE;
+            self.root = ord.root;
+        }
+    }
+
     // Turns it to another method.
     fn change<C: Cells, D: DictDisc, L>(
         &mut self,
@@ -640,10 +664,11 @@ impl Dict {
             (C.blocks cells.old) self.new (C.blocks cells.new) result }
         ensures rest { C.RestStays cells.old cells.new }
     {
-        let list = self.heads().into_list(cells);
+        let list = self.heads().into_list(self.count, cells);
         let ordered = order_by(list, self.count, method, cells, kind, steps);
         let left = self.turn(method, ordered, table, slots);
         let dropped = self.settle(cells, kind, steps);
+        self.plant(cells, kind, steps);
         Dropped {
             first: dropped.first,
             table: left,

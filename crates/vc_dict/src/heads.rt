@@ -3,6 +3,7 @@ ghost use Rattle.vc_dtdisc.specs.Rules.{Rules};
 ghost use Rattle.vc_dthash.specs.Hashed.{Listed};
 ghost use Rattle.vc_dict.specs.Stands.{AreHeads, HeadsFor};
 
+use crate::flat::flatten;
 use vc_base::Cells;
 use vc_dthash::DtHash;
 use vc_dtlist::DtList;
@@ -20,9 +21,9 @@ pub(crate) enum Heads {
 }
 
 impl Heads {
-    // Their holders as a list.
-    pub(crate) fn into_list<C: Cells>(self, cells: &mut C) -> DtList
-        requires { AreHeads self (C.blocks cells.old) }
+    // Their holders, of which there are so many, as a list.
+    pub(crate) fn into_list<C: Cells>(self, count: u64, cells: &mut C) -> DtList
+        requires { AreHeads self (C.blocks cells.old) count }
         ensures list { (rules : Rules) (holders : List ℕ)
             → HeadsFor rules self (C.blocks cells.old) holders
             → Listed holders (C.blocks cells.old) result (C.blocks cells.new) }
@@ -30,10 +31,7 @@ impl Heads {
     {
         match self {
             Heads::Hash(hash) => hash.into_list(cells),
-            Heads::Order(ord) => DtList {
-                first: ord.first,
-                last: ord.last,
-            },
+            Heads::Order(ord) => flatten(ord, count, cells),
             Heads::Links(list) => list,
         }
     }

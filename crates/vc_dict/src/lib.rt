@@ -5,6 +5,7 @@
 mod chained;
 mod dict;
 mod dropping;
+mod flat;
 mod heads;
 mod neighbours;
 mod pass;

@@ -1,5 +1,5 @@
 -- Lists of which no element passes a test.
-use Rattle.std.proofs.Common.{◌≡◌, ℕ, List, [], ◌∷◌, Bool, true, false, inl, inr, refl}
+use Rattle.std.proofs.Common.{◌≡◌, ℕ, List, [], ◌∷◌, Bool, true, false, inl, inr, refl, sym, subst}
 use Rattle.std.specs.List.{list_any}
 use Rattle.std.proofs.lemmas.Bool.{true≢false}
 use Rattle.std.proofs.lemmas.Bool.Decides.{eqb_tells}
@@ -32,3 +32,11 @@ pub any-less : (p q : ℕ → Bool) (xs : List ℕ) → ((a : ℕ) → contains 
 any-less p q [] f h = refl
 any-less p q (x ∷ xs) f h =
     any-cons q x xs (f x (within-head x xs) (any-head p x xs h)) (any-less p q xs (λ a w. f a (within-tail x xs a w)) (any-tail p x xs h))
+
+-- nor does one that is in the list
+pub any-at : (p : ℕ → Bool) (xs : List ℕ) (a : ℕ) → list_any p xs ≡ false → contains xs a ≡ true → p a ≡ false
+any-at p [] a h w = absurd (true≢false (sym w))
+any-at p (x ∷ xs) a h w = elim (eqb_tells x a) as (λ _. p a ≡ false) [
+  | inl same ↦ subst (λ z. p z ≡ false) same.1 (any-head p x xs h)
+  | inr apart ↦ any-at p xs a (any-tail p x xs h) (rw apart.0 at w)
+]

@@ -1,3 +1,7 @@
 pub mod AnyLemmas
 pub mod FirstLemmas
-pub mod OrdLemmas
+pub mod SortedLemmas
+pub mod WrittenLemmas
+pub mod TreeLemmas
+pub mod TurnLemmas
+pub mod CallLemmas

@@ -1,1 +1,4 @@
+pub mod Nodes
+pub mod NodeLaws
+pub mod Written
 pub mod Ordered

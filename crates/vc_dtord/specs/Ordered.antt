@@ -1,18 +1,15 @@
--- Which holders an ordered set or bag stands for: they stand in order of their keys.
-use Rattle.std.specs.Prelude.{◌≡◌, ℕ, Bool, List, Option, Some, true, false}
-use Rattle.vc_base.specs.Cells.{Blocks, IsHolder}
+-- Which holders an ordered set or bag stands for: the nodes of its tree, which stand in order of their keys.
+use Rattle.std.specs.Prelude.{◌≡◌, ℕ, zero, suc, Bool, List, [], ◌∷◌, ◌++◌, true, false, All, ◌==◌, if◌then◌else◌}
+use Rattle.vc_base.specs.Cells.{Blocks, IsHolder, word_at}
 use Rattle.vc_base.specs.Holders.{KeepsBut, contains}
 use Rattle.vc_dtdisc.specs.Finds.{object_at}
 use Rattle.vc_dtdisc.specs.Objects as objects
 use Rattle.vc_dtdisc.specs.Objects.{is_greater, placed_among}
 use Rattle.vc_dtdisc.specs.Rules.{Rules}
-use Rattle.vc_dtlist.specs.declared.dt_list.DtList.{DtList}
-use Rattle.vc_dtlist.specs.Linked.{StandsFor}
+use Rattle.vc_splay.specs.Stands.{IsTree}
+use Rattle.vc_splay.specs.Tree.{Tree, names}
 use Rattle.vc_dtord.specs.declared.dt_ord.DtOrd.{DtOrd}
-
--- its holders, as a list
-abbrev pub list_of : DtOrd → DtList
-list_of ord = record { first = ord.first; last = ord.last }
+use Rattle.vc_dtord.specs.Nodes.{node_store}
 
 -- whether one holder's key is less than another's
 abbrev pub is_less : Rules → Blocks → ℕ → ℕ → Bool
@@ -26,10 +23,24 @@ IsSorted rules blocks holders = objects.IsSorted (object_at blocks) rules holder
 abbrev pub placed : Rules → Blocks → ℕ → List ℕ → List ℕ
 placed rules blocks at holders = placed_among (object_at blocks) rules at holders
 
--- it stands for these holders, which stand in order of their keys
+-- word 3 of a holder is 0
+abbrev pub IsPlain : Blocks → ℕ → Type 0
+IsPlain blocks at = word_at blocks at 3 ≡ 0
+
+-- it stands for these holders: they are the nodes of the tree at its root, in order, and stand in order of their keys
 pub record OrdFor (rules : Rules) (ord : DtOrd) (blocks : Blocks) (holders : List ℕ) : Type 0 where
-  pub list : StandsFor (list_of ord) blocks holders
+  pub tree : Tree
+  pub is_tree : IsTree (node_store blocks) ord.root.0 tree
+  pub list : names tree ≡ holders
+  pub plain : All (IsPlain blocks) holders
   pub sorted : IsSorted rules blocks holders
+
+-- the holders of the tree at an address that is at most so deep, in order
+abbrev pub in_order : Blocks → ℕ → ℕ → List ℕ
+in_order blocks zero at = []
+in_order blocks (suc depth) at =
+    if at == 0 then []
+    else in_order blocks depth (word_at blocks at 0) ++ at ∷ in_order blocks depth (word_at blocks at 1)
 
 -- it stands for some holders
 pub record IsOrd (rules : Rules) (ord : DtOrd) (blocks : Blocks) : Type 0 where
@@ -59,9 +70,3 @@ pub record IsLinked (ord : DtOrd) (blocks : Blocks) (at : ℕ) : Type 0 where
 pub record OrdTurned (rules : Rules) (written : List ℕ) (before : Blocks) (new : DtOrd) (after : Blocks) (changed : List ℕ) : Type 0 where
   pub stands : OrdFor rules new after changed
   pub keeps : KeepsBut written before after
-
--- the one named, if any, is one of the holders that a list stands for
-pub record IsMark (list : DtList) (blocks : Blocks) (mark : Option ℕ) : Type 0 where
-  pub holders : List ℕ
-  pub stands : StandsFor list blocks holders
-  pub within : (x : ℕ) → mark ≡ Some x → contains holders x ≡ true

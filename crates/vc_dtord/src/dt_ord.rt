@@ -1,43 +1,28 @@
-ghost use Rattle.std.specs.Prelude.{◌≡◌, ℕ, ◌+◌, ◌≤◌, Bool, List, [], ◌∷◌, None, length};
-ghost use Rattle.std.specs.List.{find};
+ghost use Rattle.std.specs.Prelude.{◌≡◌, ℕ, ◌+◌, ◌≤◌, List, [], ◌∷◌, None, length};
 ghost use Rattle.std.specs.Option.{option_map};
 ghost use Rattle.vc_base.specs.Cells.{Blocks};
 ghost use Rattle.vc_base.specs.Holders.{first_in, last_in, next_in, previous_in, without};
 ghost use Rattle.vc_dtdisc.specs.Rules.{Rules};
-ghost use Rattle.vc_dtlist.specs.Linked.{CanAdd, Finds, StandsFor, Turned, number_of};
+ghost use Rattle.vc_dtlist.specs.Linked.{Finds, number_of};
 ghost use Rattle.vc_dtlist.specs.Sought.{Seeks, stands_so};
-ghost use Rattle.vc_dtdisc.specs.Finding.{put_before};
-ghost use Rattle.vc_dtord.specs.Ordered.{CanLink, IsLinked, IsMark, IsOrd, IsOrdered, OrdFor, OrdTurned, list_of, placed};
+ghost use Rattle.vc_dtord.specs.Ordered.{CanLink, IsLinked, IsOrd, IsOrdered, OrdFor, OrdTurned, placed};
 
+use crate::calls::{at_least_in, find_in, link_in, unlink_in};
+use crate::holders::Holders;
+use crate::seen::Seen;
 use vc_base::{Addr, Cells, Steps};
 use vc_dtdisc::DictDisc;
-use vc_dtlist::{DtList, Sought};
+use vc_dtlist::{Sought, found};
+use vc_splay::{first, last, next, prev};
 
-/// A set or bag of holders in order of their objects' keys; those that match stand in order of insertion. It allocates
-/// nothing, and none of its calls can fail. This project's own layout.
+/// A set or bag of holders in order of their objects' keys; those that match stand in order of insertion. The holders are
+/// the nodes of a splay tree: words 0, 1 and 2 of each are the addresses of its left child, its right child and its
+/// parent, `Addr::NONE` where there is none, and word 3 is 0. It allocates nothing, and none of its calls can fail. This
+/// project's own layout.
 #[derive(Clone, Copy, Debug, PartialEq, Eq)]
 pub struct DtOrd {
-    /// The first holder.
-    pub first: Addr,
-    /// The last holder.
-    pub last: Addr,
-}
-
-// Puts a holder before one of the list, or at the end where none is named.
-fn put_before<C: Cells>(list: &mut DtList, cells: &mut C, mark: Option<Addr>, at: Addr)
-    requires list { CanAdd list.old (C.blocks cells.old) at.0 }
-    requires mark { IsMark list.old (C.blocks cells.old) (option_map number_of mark) }
-    ensures list { (test : ℕ → Bool) (holders : List ℕ)
-        → StandsFor list.old (C.blocks cells.old) holders
-        → option_map number_of mark ≡ find test holders
-        → Turned at.0 holders (C.blocks cells.old) list.new (C.blocks cells.new)
-        (put_before test at.0 holders) }
-    ensures rest { C.RestStays cells.old cells.new }
-{
-    match mark {
-        Some(behind) => list.before(cells, behind, at),
-        None => list.push_back(cells, at),
-    }
+    /// The holder at the root, or `Addr::NONE` where there are no holders.
+    pub root: Addr,
 }
 
 impl DtOrd {
@@ -45,20 +30,7 @@ impl DtOrd {
     pub fn new() -> DtOrd
         ensures { (rules : Rules) (blocks : Blocks) → OrdFor rules result blocks [] }
     {
-        DtOrd {
-            first: Addr::NONE,
-            last: Addr::NONE,
-        }
-    }
-
-    // Its holders.
-    fn list(&self) -> DtList
-        ensures { result ≡ list_of self.now }
-    {
-        DtList {
-            first: self.first,
-            last: self.last,
-        }
+        DtOrd { root: Addr::NONE }
     }
 
     /// Puts a holder behind the last one that isn't greater, or at the front, by at most as many compares as there are
@@ -80,17 +52,7 @@ impl DtOrd {
             → steps.new ≤ steps.old + length holders }
         ensures rest { C.RestStays cells.old cells.new }
     {
-        let mut list = self.list();
-        let mark = list.seek(
-            cells,
-            kind,
-            kind.key(cells.body(at)),
-            Sought::Greater,
-            steps,
-        );
-        put_before(&mut list, cells, mark, at);
-        self.first = list.first;
-        self.last = list.last;
+        *self = link_in(&mut Holders { cells, mark: at }, *self, kind, steps);
     }
 
     /// Takes a holder of the list out. It keeps its bytes behind the words.
@@ -102,10 +64,7 @@ impl DtOrd {
             (without at.0 holders) }
         ensures rest { C.RestStays cells.old cells.new }
     {
-        let mut list = self.list();
-        list.unlink(cells, at);
-        self.first = list.first;
-        self.last = list.last;
+        *self = unlink_in(&mut Holders { cells, mark: at }, *self);
     }
 
     /// The first holder whose object has that key, by at most as many compares as there are holders; none where no
@@ -128,7 +87,10 @@ impl DtOrd {
             (C.blocks cells.new) holders }
         ensures rest { C.RestStays cells.old cells.new }
     {
-        self.list().find(cells, kind, key, steps)
+        let mark = self.root;
+        let (ord, at) = find_in(&mut Holders { cells, mark }, *self, kind, key, steps);
+        *self = ord;
+        at
     }
 
     /// The first holder whose object's key isn't less than that one, by at most as many compares as there are holders;
@@ -151,7 +113,10 @@ impl DtOrd {
             (C.blocks cells.new) holders }
         ensures rest { C.RestStays cells.old cells.new }
     {
-        self.list().seek(cells, kind, key, Sought::NotLess, steps)
+        let mark = self.root;
+        let (ord, at) = at_least_in(&mut Holders { cells, mark }, *self, kind, key, steps);
+        *self = ord;
+        at
     }
 
     /// The first holder, or none where there are none.
@@ -161,7 +126,7 @@ impl DtOrd {
             → OrdFor rules self.now (C.blocks cells.now) holders
             → option_map number_of result ≡ first_in holders }
     {
-        self.list().first()
+        found(Addr(first(&Seen { cells }, self.root.0)))
     }
 
     /// The last holder, or none where there are none.
@@ -171,7 +136,7 @@ impl DtOrd {
             → OrdFor rules self.now (C.blocks cells.now) holders
             → option_map number_of result ≡ last_in holders }
     {
-        self.list().last()
+        found(Addr(last(&Seen { cells }, self.root.0)))
     }
 
     /// The holder behind one of the list, or none behind the last.
@@ -181,7 +146,7 @@ impl DtOrd {
             → OrdFor rules self.now (C.blocks cells.now) holders
             → option_map number_of result ≡ next_in at.0 holders }
     {
-        self.list().next(cells, at)
+        found(Addr(next(&Seen { cells }, at.0)))
     }
 
     /// The holder before one of the list, or none before the first.
@@ -191,6 +156,6 @@ impl DtOrd {
             → OrdFor rules self.now (C.blocks cells.now) holders
             → option_map number_of result ≡ previous_in None at.0 holders }
     {
-        self.list().prev(cells, at)
+        found(Addr(prev(&Seen { cells }, at.0)))
     }
 }

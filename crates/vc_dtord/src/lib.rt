@@ -1,8 +1,14 @@
-//! Ordered sets and bags of holders: objects stand in order of their keys, and those that match in order of insertion.
+//! Ordered sets and bags of holders in splay trees, whose links lie in the holders' words: objects stand in order of
+//! their keys, and those that match in order of insertion.
 #![tactic(auto)]
 
+mod calls;
 mod dt_ord;
+mod guides;
+mod holders;
 mod rows;
+mod seen;
+mod words;
 
 pub use dt_ord::DtOrd;
-pub use rows::place_rows;
+pub use rows::{one_list, place_rows};

@@ -7,7 +7,6 @@ ghost use Rattle.vc_objects.specs.Parts.{IsWhole, dictionary_in};
 ghost use Rattle.vc_commands.specs.DictCommands.{asks};
 ghost use Rattle.vc_commands.specs.DictRun.{IsSpentBy, RunsCommand, seat_in};
 
-use crate::dict::listing::count;
 use crate::dict::putting::{append, attach, insert};
 use crate::dict::taking::{delete, take};
 use crate::dict::turning::{empty, remethod};
@@ -49,7 +48,7 @@ pub fn run<D: DictDisc>(
         Command::Attach(_, object) => attach(alloc, best, dict, kind, object.as_slice()),
         Command::Delete(_, object) => delete(alloc, best, dict, kind, object),
         Command::Detach(_, object) => take(alloc, best, dict, kind, object.as_slice(), false),
-        Command::Count(_) => Ok(count(best, dict)),
+        Command::Count(_) => Ok(Reply::Number(dict.count)),
         Command::Remethod(name, method) => remethod(alloc, best, dict, kind, *name, *method),
         Command::Empty(name) => Ok(empty(best, dict, kind, *name)),
         _ => Ok(Reply::Refused(Refusal::NoDictionary)),

@@ -1,4 +1,5 @@
 use Rattle.std.proofs.Common.{arith}
+use Rattle.vc_base.specs.Holders.{without}
 use Rattle.vc_cells_tests.proofs.orders.asked.Goals as goal
 
 pub first-least-requires : goal.first-least-requires
@@ -25,3 +26,9 @@ pub unlink-requires : goal.unlink-requires
 unlink-requires g c =
     let r = c.requires in
     record { rules = g.D.DictDisc.rules c.args.kind.now; holders = r.holders; stands = r.stands; within = r.within 2 (omega arith) (omega arith) }
+
+pub first-left-requires : goal.first-left-requires
+first-left-requires g c =
+    let rules = g.D.DictDisc.rules c.args.kind.now in
+    let r = c.requires in
+    record { rules = rules; is = record { holders = without 2 r.holders; stands = (c.unlink.ensures.list rules r.holders r.stands).stands } }

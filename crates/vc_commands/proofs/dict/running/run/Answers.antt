@@ -1,10 +1,12 @@
 use Rattle.std.proofs.Common.{[], None, refl, sym, ap}
 use Rattle.vc_model.specs.Discipline.{Discipline}
-use Rattle.vc_best.specs.Cells.{rest_in}
+use Rattle.vc_best.specs.Cells.{cells_in, rest_in}
 use Rattle.vc_best.specs.Parts.{disc_in}
 use Rattle.vc_objects.specs.Parts.{dictionary_in}
 use Rattle.vc_objects.proofs.Leaving.{leaves-self}
+use Rattle.vc_objects.proofs.Remains.{counts-objects}
 use Rattle.vc_script.specs.Needs.{NoNeed}
+use Rattle.vc_script.specs.declared.reply.Reply.TheVariants.{Number}
 use Rattle.vc_commands.specs.DictRun.{IsSpent, seat_in}
 use Rattle.vc_commands.proofs.Ran.{append-asked, asking, other-told, spent-put, spent-still, spent-told, unasked, unneeded}
 use Rattle.vc_commands.proofs.dict.running.run.Goals as goal
@@ -93,9 +95,9 @@ returns-in-Remethod-clause-err g c =
 
 pub returns-in-Count-clause-runs : goal.returns-in-Count-clause-runs
 returns-in-Count-clause-runs g c = record {
-  step = rw c.in-Count.is (record { region = refl; dict = refl; reply = sym c.count.ensures; told = refl });
+  step = rw c.in-Count.is (record { region = refl; dict = refl; reply = ap Number (counts-objects (g.D.DictDisc.rules c.args.kind.now) c.args.dict.now (cells_in c.args.best.now) c.requires.whole); told = refl });
   leaves = leaves-self (λ z. (goal.SegDisc-dyn g z).state z.1) (g.D.DictDisc.rules c.args.kind.now) c.args.best.now c.args.dict.now c.requires.whole;
-  asked = rw (c.in-Count.is, c.count.ensures) refl;
+  asked = rw c.in-Count.is refl;
 }
 
 pub returns-in-Empty-clause-runs : goal.returns-in-Empty-clause-runs

@@ -1,6 +1,6 @@
 use Rattle.vc_dtord.specs.Ordered.{OrdFor}
-use Rattle.vc_dict.proofs.DictLemmas.{Became-ord, ordered_plain}
-use Rattle.vc_dict.proofs.HeadLemmas.{as_ord}
+use Rattle.vc_dict.proofs.DictLemmas.{Became-ord}
+use Rattle.vc_dict.proofs.HeadLemmas.{as_ord, ordered_plain}
 use Rattle.vc_dict.proofs.dict.Dict.find_ord.Goals as goal
 
 pub find-found-requires : goal.find-found-requires

@@ -1,7 +1,7 @@
 use Rattle.std.proofs.Common.{sym, subst, ◌≡◌, arith, ◌+◌, ◌∷◌, length}
 use Rattle.vc_dtord.specs.Ordered.{CanLink as OrdLink, OrdFor, placed}
-use Rattle.vc_dict.proofs.DictLemmas.{Became-ord, few, ordered_plain}
-use Rattle.vc_dict.proofs.HeadLemmas.{CanLink-ord, as_ord}
+use Rattle.vc_dict.proofs.DictLemmas.{Became-ord, few}
+use Rattle.vc_dict.proofs.HeadLemmas.{CanLink-ord, as_ord, ordered_plain}
 use Rattle.vc_dict.proofs.LengthLemmas.{length-placed}
 use Rattle.vc_dict.proofs.dict.Dict.link_ord.Goals as goal
 

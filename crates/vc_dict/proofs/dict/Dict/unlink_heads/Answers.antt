@@ -4,8 +4,8 @@ use Rattle.vc_dtlist.proofs.HolderLemmas.{length-without}
 use Rattle.vc_dtlist.specs.Linked.{IsIn as InList, StandsFor}
 use Rattle.vc_dthash.specs.Hashed.{HashFor, HashTurned, IsLinked as InHash}
 use Rattle.vc_dtord.specs.Ordered.{IsLinked as InOrd, OrdFor}
-use Rattle.vc_dict.proofs.DictLemmas.{Became-hash, Became-list, Became-ord, Became-within, member, ordered_plain}
-use Rattle.vc_dict.proofs.HeadLemmas.{IsMember-hash, IsMember-list, IsMember-ord, as_hash, as_list, as_ord}
+use Rattle.vc_dict.proofs.DictLemmas.{Became-hash, Became-list, Became-ord, Became-within, member}
+use Rattle.vc_dict.proofs.HeadLemmas.{IsMember-hash, IsMember-list, IsMember-ord, as_hash, as_list, as_ord, ordered_plain}
 use Rattle.vc_dict.proofs.dict.Dict.unlink_heads.Goals as goal
 
 pub unlink-requires : goal.unlink-requires

@@ -13,6 +13,13 @@ into_list-requires g c =
     let hash : HashFor r.rules c.in-Hash.hash b r.holders = subst (λ z. HeadsFor r.rules z b r.holders) c.in-Hash.is r.stands in
     record { rules = r.rules; is = record { holders = r.holders; stands = hash } }
 
+pub flatten-requires : goal.flatten-requires
+flatten-requires g c =
+    let r = c.requires in
+    let b = g.C.Cells.blocks c.args.cells.now in
+    let ord : OrdFor r.rules c.in-Order.ord b r.holders = subst (λ z. HeadsFor r.rules z b r.holders) c.in-Order.is r.stands in
+    record { rules = r.rules; holders = r.holders; stands = ord; length = r.length }
+
 pub returns-in-Hash-clause-list : goal.returns-in-Hash-clause-list
 returns-in-Hash-clause-list g c = λ rules holders s.
     let b = g.C.Cells.blocks c.args.cells.now in
@@ -23,7 +30,7 @@ pub returns-in-Order-clause-list : goal.returns-in-Order-clause-list
 returns-in-Order-clause-list g c = λ rules holders s.
     let b = g.C.Cells.blocks c.args.cells.now in
     let ord : OrdFor rules c.in-Order.ord b holders = subst (λ z. HeadsFor rules z b holders) c.in-Order.is s in
-    record { stands = ord.list; keeps = KeepsBut-none holders b }
+    c.flatten.ensures.listed rules holders ord
 
 pub returns-in-Links-clause-list : goal.returns-in-Links-clause-list
 returns-in-Links-clause-list g c = λ rules holders s.

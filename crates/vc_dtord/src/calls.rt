@@ -1,0 +1,105 @@
+// The calls that write links, where the cells are lent as nodes.
+ghost use Rattle.std.specs.Prelude.{◌≡◌, ℕ, ◌+◌, ◌≤◌, List, ◌∷◌, length};
+ghost use Rattle.vc_base.specs.Holders.{without};
+ghost use Rattle.vc_dtdisc.specs.Rules.{Rules};
+ghost use Rattle.vc_dtlist.specs.Linked.{Finds};
+ghost use Rattle.vc_dtlist.specs.Sought.{Seeks, stands_so};
+ghost use Rattle.vc_dtord.specs.Ordered.{CanLink, IsLinked, IsOrd, OrdFor, OrdTurned, placed};
+
+use crate::DtOrd;
+use crate::guides::{ByKey, ByMark};
+use crate::holders::Holders;
+use crate::words::clear_words;
+use vc_base::{Addr, Cells, Steps};
+use vc_dtdisc::DictDisc;
+use vc_dtlist::{Sought, found};
+use vc_splay::{find_first, find_least_at, link_after_equals, unlink};
+
+// Puts the holder at the mark in.
+#[inline(always)]
+pub(crate) fn link_in<'a, C: Cells, D: DictDisc, L>(
+    nodes: &mut Holders<'a, C>,
+    ord: DtOrd,
+    kind: &D,
+    steps: &mut Steps<L>,
+) -> DtOrd
+    requires { CanLink (D.rules kind.now) ord (C.blocks nodes.old.cells.now)
+        nodes.old.mark.0 }
+    ensures linked { (xs : List ℕ)
+        → OrdFor (D.rules kind.now) ord (C.blocks nodes.old.cells.now) xs
+        → OrdTurned (D.rules kind.now) (nodes.old.mark.0 ∷ xs)
+        (C.blocks nodes.old.cells.now) result (C.blocks nodes.new.cells.now)
+        (placed (D.rules kind.now) (C.blocks nodes.old.cells.now) nodes.old.mark.0 xs)
+        × (steps.new ≤ steps.old + length xs) }
+    ensures same { nodes.new.cells.ghost_name ≡ nodes.old.cells.ghost_name }
+    ensures rest { C.RestStays nodes.old.cells.now nodes.new.cells.now }
+{
+    let at = nodes.mark;
+    clear_words(nodes.cells, at);
+    let root = link_after_equals(nodes, ord.root.0, at.0, &ByMark { kind }, steps);
+    DtOrd { root: Addr(root) }
+}
+
+// Takes the holder at the mark out.
+#[inline(always)]
+pub(crate) fn unlink_in<'a, C: Cells>(nodes: &mut Holders<'a, C>, ord: DtOrd) -> DtOrd
+    requires { IsLinked ord (C.blocks nodes.old.cells.now) nodes.old.mark.0 }
+    ensures list { (rules : Rules) (xs : List ℕ)
+        → OrdFor rules ord (C.blocks nodes.old.cells.now) xs
+        → OrdTurned rules xs (C.blocks nodes.old.cells.now) result
+        (C.blocks nodes.new.cells.now) (without nodes.old.mark.0 xs) }
+    ensures same { nodes.new.cells.ghost_name ≡ nodes.old.cells.ghost_name }
+    ensures rest { C.RestStays nodes.old.cells.now nodes.new.cells.now }
+{
+    let at = nodes.mark;
+    let root = unlink(nodes, ord.root.0, at.0);
+    DtOrd { root: Addr(root) }
+}
+
+// The first holder whose object has that key. The mark is at the root.
+#[inline(always)]
+pub(crate) fn find_in<'a, C: Cells, D: DictDisc, L>(
+    nodes: &mut Holders<'a, C>,
+    ord: DtOrd,
+    kind: &D,
+    key: &[u8],
+    steps: &mut Steps<L>,
+) -> (DtOrd, Option<Addr>)
+    requires ord { IsOrd (D.rules kind.now) ord (C.blocks nodes.old.cells.now) }
+    requires mark { nodes.old.mark ≡ ord.root }
+    ensures found { (xs : List ℕ)
+        → OrdFor (D.rules kind.now) ord (C.blocks nodes.old.cells.now) xs
+        → Finds (D.rules kind.now) (C.blocks nodes.old.cells.now) key.now xs result.1
+        steps.old steps.new
+        × OrdTurned (D.rules kind.now) xs (C.blocks nodes.old.cells.now) result.0
+        (C.blocks nodes.new.cells.now) xs }
+    ensures same { nodes.new.cells.ghost_name ≡ nodes.old.cells.ghost_name }
+    ensures rest { C.RestStays nodes.old.cells.now nodes.new.cells.now }
+{
+    let (root, at) = find_first(nodes, ord.root.0, &ByKey { kind, key }, steps);
+    (DtOrd { root: Addr(root) }, found(Addr(at)))
+}
+
+// The first holder whose object's key isn't less than that one. The mark is at the root.
+#[inline(always)]
+pub(crate) fn at_least_in<'a, C: Cells, D: DictDisc, L>(
+    nodes: &mut Holders<'a, C>,
+    ord: DtOrd,
+    kind: &D,
+    key: &[u8],
+    steps: &mut Steps<L>,
+) -> (DtOrd, Option<Addr>)
+    requires ord { IsOrd (D.rules kind.now) ord (C.blocks nodes.old.cells.now) }
+    requires mark { nodes.old.mark ≡ ord.root }
+    ensures found { (xs : List ℕ)
+        → OrdFor (D.rules kind.now) ord (C.blocks nodes.old.cells.now) xs
+        → Seeks (stands_so Sought.NotLess (D.rules kind.now) (C.blocks nodes.old.cells.now)
+        key.now) xs result.1 steps.old steps.new
+        × OrdTurned (D.rules kind.now) xs (C.blocks nodes.old.cells.now) result.0
+        (C.blocks nodes.new.cells.now) xs }
+    ensures same { nodes.new.cells.ghost_name ≡ nodes.old.cells.ghost_name }
+    ensures rest { C.RestStays nodes.old.cells.now nodes.new.cells.now }
+{
+    let (root, at) = find_least_at(nodes, ord.root.0, &ByKey { kind, key }, steps);
+    (DtOrd { root: Addr(root) }, found(Addr(at)))
+}

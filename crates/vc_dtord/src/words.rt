@@ -1,0 +1,40 @@
+ghost use Rattle.std.specs.Prelude.{◌≡◌, ◌<◌, true};
+ghost use Rattle.vc_base.specs.Cells.{HasBytes, IsHolder, word_at};
+ghost use Rattle.vc_dtord.specs.Nodes.{is_node};
+ghost use Rattle.vc_dtord.specs.Written.{IsCleared, NumberWritten};
+
+use vc_base::{Addr, Cells};
+use vc_dtlist::neighbour;
+
+// Word k of a node, from 0 to 2: its left child, its right child or its parent.
+#[inline(always)]
+pub(crate) fn link_at<C: Cells>(cells: &C, n: u32, k: u32) -> u32
+    requires word { k < 3 }
+    requires node { is_node (C.blocks cells.now) n ≡ true }
+    ensures { result ≡ word_at (C.blocks cells.now) n k }
+{
+    neighbour(cells, Addr(n), k).0
+}
+
+// Writes a number below 2^32 into word k of a holder, from 0 to 3.
+#[inline(always)]
+pub(crate) fn write_word<C: Cells>(cells: &mut C, at: Addr, k: u32, value: u32)
+    requires word { k < 4 }
+    requires holder { HasBytes (C.blocks cells.old) at.0 32 }
+    ensures written { NumberWritten (C.blocks cells.old) (C.blocks cells.new) at.0 k value }
+    ensures rest { C.RestStays cells.old cells.new }
+{
+    cells.store(at, k, value as u64);
+}
+
+// Makes the four words of a holder 0, whatever they were.
+pub(crate) fn clear_words<C: Cells>(cells: &mut C, at: Addr)
+    requires { IsHolder (C.blocks cells.old) at.0 }
+    ensures cleared { IsCleared (C.blocks cells.old) (C.blocks cells.new) at.0 }
+    ensures rest { C.RestStays cells.old cells.new }
+{
+    write_word(cells, at, 0, 0);
+    write_word(cells, at, 1, 0);
+    write_word(cells, at, 2, 0);
+    write_word(cells, at, 3, 0);
+}

@@ -1,6 +1,0 @@
-pub mod AnyLemmas
-pub mod SortedLemmas
-pub mod WrittenLemmas
-pub mod TreeLemmas
-pub mod TurnLemmas
-pub mod CallLemmas

@@ -1,8 +1,0 @@
-use Rattle.std.proofs.Common.{rules}
-use Rattle.vc_dtree.proofs.dt_ord.DtOrd.link.Goals as goal
-
-pub returns-clause-list : goal.returns-clause-list
-returns-clause-list g c = λ xs s. let turned = (c.link_in.ensures.linked xs s).0 in search rules
-
-pub returns-clause-steps : goal.returns-clause-steps
-returns-clause-steps g c = λ xs s. (c.link_in.ensures.linked xs s).1

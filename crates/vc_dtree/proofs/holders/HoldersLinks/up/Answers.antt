@@ -1,5 +1,0 @@
-use Rattle.vc_dtree.specs.NodeLaws.{beside-node}
-use Rattle.vc_dtree.proofs.holders.HoldersLinks.up.Goals as goal
-
-pub link_at-requires-clause-node : goal.link_at-requires-clause-node
-link_at-requires-clause-node g c = beside-node (g.C.Cells.blocks c.args.self.now.cells.now) c.args.self.now.mark.0 c.args.n c.requires

@@ -1,4 +1,0 @@
-pub mod Nodes
-pub mod NodeLaws
-pub mod Written
-pub mod Ordered
