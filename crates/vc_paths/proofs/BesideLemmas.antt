@@ -28,7 +28,7 @@ pub before_apart : (rules : Rules) → AreOrdered rules → (x y : Seen ℕ) →
 before_apart rules laws x y h = fails (is_level rules x y) (not (is_before rules (Some x) y)) (λ m. ap not (laws.right y.bytes x.bytes m)) (ap not h)
 
 -- behind one that is greater all are
-all_behind_one : (rules : Rules) → AreOrdered rules → (x y : Seen ℕ) (ys : List (Seen ℕ)) → is_behind rules (Some x) y ≡ true → AreSorted rules (y ∷ ys) → AllByRecursion (λ z. is_behind rules (Some x) z ≡ true) (y ∷ ys)
+pub all_behind_one : (rules : Rules) → AreOrdered rules → (x y : Seen ℕ) (ys : List (Seen ℕ)) → is_behind rules (Some x) y ≡ true → AreSorted rules (y ∷ ys) → AllByRecursion (λ z. is_behind rules (Some x) z ≡ true) (y ∷ ys)
 all_behind_one rules laws x y ys t s = (t, all_weaker (IsUpto rules y) (λ z. is_behind rules (Some x) z ≡ true) (λ z h. up rules y.bytes z.bytes x.bytes laws t h) ys s.0)
 
 -- and none of them passes the test

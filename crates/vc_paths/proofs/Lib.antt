@@ -25,3 +25,4 @@ pub mod SpotLemmas
 pub mod StackedLemmas
 pub mod StartLemmas
 pub mod StayLemmas
+pub mod TogetherLemmas

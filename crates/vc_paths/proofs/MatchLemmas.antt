@@ -42,7 +42,7 @@ or-twice None a b = refl
 or-twice (Some x) a b = refl
 
 -- the rest behind an object, and its place
-rest-behind : (objects : List Object) (at : ℕ) (s : Standing objects at) → AreDistinct (map (λ o. o.at) objects) → objects_from (place_behind at objects) objects ≡ s.behind
+pub rest-behind : (objects : List Object) (at : ℕ) (s : Standing objects at) → AreDistinct (map (λ o. o.at) objects) → objects_from (place_behind at objects) objects ≡ s.behind
 rest-behind objects at s d =
     let whole : objects ≡ (s.before ++ s.one ∷ []) ++ s.behind = s.whole ∙ sym (append_assoc s.before (s.one ∷ []) s.behind) in
     ap (λ z. objects_from z objects) (behind-here objects at s)

@@ -1,5 +1,6 @@
-ghost use Rattle.std.specs.Prelude.{◌≡◌, ℕ, List, Some, None, IsSome, if◌then◌else◌};
+ghost use Rattle.std.specs.Prelude.{◌≡◌, ℕ, List, Some, None, IsSome, true, if◌then◌else◌};
 ghost use Rattle.std.specs.List.{filter, find};
+ghost use Rattle.vc_base.specs.Methods.{is_ordered};
 ghost use Rattle.vc_dtdisc.specs.Finding.{before_first, behind_last, first_of, last_of};
 ghost use Rattle.vc_dtdisc.specs.Objects.{is_match};
 ghost use Rattle.vc_paths.specs.Layers.{Same, bytes_there, place_in};
@@ -63,7 +64,7 @@ fn if_match<Y: Layers, L>(
 }
 
 // The last place in a dictionary whose object matches the one at a place: that one, or one behind it.
-fn last_match<Y: Layers, L>(layers: &Y, e: u32, at: Addr, steps: &mut Steps<L>) -> Addr
+fn last_of_all<Y: Layers, L>(layers: &Y, e: u32, at: Addr, steps: &mut Steps<L>) -> Addr
     requires dict { (Y.layered layers.now).Has e }
     requires place { IsSome (bytes_there at.0 ((Y.layered layers.now).layer e).objects) }
     ensures { (bytes : List ℕ)
@@ -79,6 +80,46 @@ fn last_match<Y: Layers, L>(layers: &Y, e: u32, at: Addr, steps: &mut Steps<L>) 
         next = layers.next(e, other);
     }
     last
+}
+
+// The same in an ordered dictionary, where matches stand together: one object behind the last of them is compared at most.
+fn last_together<Y: Layers, L>(layers: &Y, e: u32, at: Addr, steps: &mut Steps<L>) -> Addr
+    requires dict { (Y.layered layers.now).Has e }
+    requires place { IsSome (bytes_there at.0 ((Y.layered layers.now).layer e).objects) }
+    requires ordered { is_ordered ((Y.layered layers.now).layer e).method ≡ true }
+    ensures { (bytes : List ℕ)
+        → bytes_there at.0 ((Y.layered layers.now).layer e).objects ≡ Some bytes
+        → Some result.0 ≡ place_in (last_of (filter
+        (λ o. is_match ((Y.layered layers.now).layer e).rules bytes o.bytes)
+        ((Y.layered layers.now).layer e).objects)) }
+{
+    let mut last = at;
+    let mut next = layers.next(e, at);
+    while let Some(other) = next {
+        if !layers.compare_at(e, other, e, at, steps).is_eq() {
+            return last;
+        }
+        last = other;
+        next = layers.next(e, other);
+    }
+    last
+}
+
+// The last place in a dictionary whose object matches the one at a place, by its method.
+fn last_match<Y: Layers, L>(layers: &Y, e: u32, at: Addr, steps: &mut Steps<L>) -> Addr
+    requires dict { (Y.layered layers.now).Has e }
+    requires place { IsSome (bytes_there at.0 ((Y.layered layers.now).layer e).objects) }
+    ensures { (bytes : List ℕ)
+        → bytes_there at.0 ((Y.layered layers.now).layer e).objects ≡ Some bytes
+        → Some result.0 ≡ place_in (last_of (filter
+        (λ o. is_match ((Y.layered layers.now).layer e).rules bytes o.bytes)
+        ((Y.layered layers.now).layer e).objects)) }
+{
+    if layers.method(e).is_ordered() {
+        last_together(layers, e, at, steps)
+    } else {
+        last_of_all(layers, e, at, steps)
+    }
 }
 
 /// The first object that is seen through `d`, the number of a dictionary from 0 to 255; none where none is. Answered and

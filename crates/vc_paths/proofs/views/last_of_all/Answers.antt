@@ -5,7 +5,7 @@ use Rattle.vc_base.specs.Address.{number_of}
 use Rattle.vc_paths.specs.Layers.{bytes_there}
 use Rattle.vc_paths.specs.Shown.{IsPlaceIn, objects_from}
 use Rattle.vc_paths.proofs.MatchLemmas.{IsLastHere, bytes-of, last-end, last-next, last-start, match-itself, place-behind, shorter-behind}
-use Rattle.vc_paths.proofs.views.last_match.Goals as goal
+use Rattle.vc_paths.proofs.views.last_of_all.Goals as goal
 
 pub loop-next-init : goal.loop-next-init
 loop-next-init g c =
