@@ -12,8 +12,7 @@ use Rattle.vc_model.specs.Layout.{Block, Layout, footprints, with_segment}
 use Rattle.vc_model.specs.Outcome.{Done, Refused, TooManySegments, NoSegment}
 use Rattle.vc_model.specs.Place.{holds, least, lowest_offset}
 use Rattle.vc_model.specs.Segments.{Granted, NotLent, TooMany, ask, span}
-use Rattle.vc_blocks.specs.declared.order.Order.TheVariants.{ByAddress}
-use Rattle.vc_blocks.specs.Put.{with_zeros}
+use Rattle.vc_layouts.specs.Put.{with_zeros}
 use Rattle.vc_best.proofs.LeftGaps.{best_left, gaps_left, gaps_left_in}
 use Rattle.vc_best.proofs.HaveHeads.{HaveHeads}
 use Rattle.vc_best.proofs.Gaps.{least-None}
@@ -70,7 +69,7 @@ module _ (r : Layout ℕ) (terms : Terms) (tag size align : ℕ) (h : HaveHeads 
         ∙ ap (λ off. Some (n, off)) a.first
 
     pub alloc-granted : (refused : Bool) → ask (best_need terms size align) r.segments refused ≡ Granted n bytes →
-        best_alloc terms r tag size align refused ≡ Done (record { at = (n, align); region = with_zeros ByAddress (with_segment r (n, bytes)) tag size (n, align); granted = Some (n, bytes) })
+        best_alloc terms r tag size align refused ≡ Done (record { at = (n, align); region = with_zeros (with_segment r (n, bytes)) tag size (n, align); granted = Some (n, bytes) })
     alloc-granted refused e =
         alloc-asked refused
         ∙ (ap (put_in_new r tag size align) e ∙ ap (put (with_segment r (n, bytes)) tag size (Some (n, bytes))) place_in-new)

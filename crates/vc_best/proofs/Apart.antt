@@ -8,8 +8,8 @@ use Rattle.vc_model.specs.Layout.{Block, footprint, lies_before, with_block}
 use Rattle.vc_model.specs.Segments.{span}
 use Rattle.vc_model.specs.Sound.{EndsBefore, IsApart}
 use Rattle.vc_seg.proofs.Rounding.{round_up-least}
-use Rattle.vc_blocks.proofs.Apart.{AllPairs-head, AllPairs-tail}
-use Rattle.vc_blocks.proofs.Changes.{All-with}
+use Rattle.vc_layouts.proofs.Lists.{AllPairs-head, AllPairs-tail}
+use Rattle.vc_layouts.proofs.Blocks.{All-with}
 
 pub span-least : (size : ℕ) → size + 16 ≤ span size
 span-least size = round_up-least (size + 16) 32 (omega arith)

@@ -14,8 +14,7 @@ use Rattle.vc_seg.specs.declared.fault.RegionFault.{RegionFault}
 use Rattle.vc_seg.specs.declared.fault.RegionFault.TheVariants as code
 use Rattle.vc_seg.specs.Answer.{Answers, Asks, IsPut}
 use Rattle.vc_segments.specs.Lend.{IsNoGrant}
-use Rattle.vc_blocks.specs.declared.order.Order.TheVariants.{ByAddress}
-use Rattle.vc_blocks.specs.Put.{IsAddress, IsPutInNew, with_zeros}
+use Rattle.vc_layouts.specs.Put.{IsAddress, IsPutInNew, with_zeros}
 use Rattle.vc_best.proofs.HaveHeads.{HaveHeads}
 use Rattle.vc_best.proofs.Allocs.{alloc-granted, alloc-not_lent, alloc-too_many}
 use Rattle.vc_best.proofs.Placed.{HaveHeads-new, IsPlace, new-clear}
@@ -47,7 +46,7 @@ Asks-same old mid new d d' need result same h = subst (λ (r : Layout ℕ). Asks
 
 -- a block was put at its place, or there was no memory for it
 module _ (old new : Layout ℕ) (label size align : ℕ) (at : ℕ × ℕ) where
-  pub put-ok : (result : Result Addr RegionFault) → IfOk result (λ a. IsAddress a.0 at) → OnOk result (new ≡ with_zeros ByAddress old label size at) → IfOk result (λ a. IsPut (put_at old label size None at) a.0 new)
+  pub put-ok : (result : Result Addr RegionFault) → IfOk result (λ a. IsAddress a.0 at) → OnOk result (new ≡ with_zeros old label size at) → IfOk result (λ a. IsPut (put_at old label size None at) a.0 new)
   put-ok (Ok a) is ok = (is.0, sym is.1, ok)
   put-ok (Err e) is ok = tt
 
@@ -69,7 +68,7 @@ module _ (old new : Layout ℕ) (label size align : ℕ) (at : ℕ × ℕ) where
 -- a segment was asked for, where the block had no place
 module _ (old new : Layout ℕ) (terms : Terms) (label size align bytes : ℕ) (h : HaveHeads old) (none : place_in old size align ≡ None) (need : bytes ≡ best_need terms size align) (a : IsAligned align) (some : 1 ≤ size) (most : size ≤ 16777264)
     (legal : IsSegmentSize bytes) (fits : span size + align ≤ bytes) where
-  new-put : (to : ℕ) → IsPutInNew ByAddress old new label size bytes align to → IsPut (best_alloc terms old label size align false) to new
+  new-put : (to : ℕ) → IsPutInNew old new label size bytes align to → IsPut (best_alloc terms old label size align false) to new
   new-put to p =
       let n : ℕ = (place_of to).0 in
       let granted : ask (best_need terms size align) old.segments false ≡ Granted n bytes = subst (λ (k : ℕ). ask k old.segments false ≡ Granted n bytes) need p.granted in
@@ -85,19 +84,19 @@ module _ (old new : Layout ℕ) (terms : Terms) (label size align bytes : ℕ) (
   new-fault code.NotLast why same = absurd why
   new-fault code.WrongMethod why same = absurd why
 
-  pub Answers-new : (result : Result Addr RegionFault) → IfOk result (λ to. IsPutInNew ByAddress old new label size bytes align to.0) → IfErr result (IsNoGrant bytes old.segments) → OnErr result (new ≡ old) →
+  pub Answers-new : (result : Result Addr RegionFault) → IfOk result (λ to. IsPutInNew old new label size bytes align to.0) → IfErr result (IsNoGrant bytes old.segments) → OnErr result (new ≡ old) →
       Answers (best_alloc terms old label size align) result old new
   Answers-new (Ok to) ok fault err = new-put to.0 ok
   Answers-new (Err e) ok fault err = new-fault e fault err
 
-  pub new-heads : (result : Result Addr RegionFault) → IfOk result (λ to. IsPutInNew ByAddress old new label size bytes align to.0) → OnErr result (new ≡ old) → HaveHeads new
+  pub new-heads : (result : Result Addr RegionFault) → IfOk result (λ to. IsPutInNew old new label size bytes align to.0) → OnErr result (new ≡ old) → HaveHeads new
   new-heads (Ok to) ok err =
       let n : ℕ = (place_of to.0).0 in
       let numbered = subst (λ (r : Layout ℕ). HaveOwnNumbers r.segments) ok.layout ok.numbered in
       subst HaveHeads (sym ok.layout) (HaveHeads-new old label size align n bytes h a some most legal fits ok.fresh numbered)
   new-heads (Err e) ok err = subst HaveHeads (sym err) h
 
-  pub new-fresh : (result : Result Addr RegionFault) → IfOk result (λ to. IsPutInNew ByAddress old new label size bytes align to.0) → IfOk result (λ to. ¬ HasBlock old.blocks to.0)
+  pub new-fresh : (result : Result Addr RegionFault) → IfOk result (λ to. IsPutInNew old new label size bytes align to.0) → IfOk result (λ to. ¬ HasBlock old.blocks to.0)
   new-fresh (Ok to) ok =
       let n : ℕ = (place_of to.0).0 in
       none-at-clear old to.0 h size (n, align) ok.address.1 (new-clear old label size align n bytes h a some most legal fits ok.fresh)

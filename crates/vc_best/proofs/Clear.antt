@@ -9,8 +9,9 @@ use Rattle.vc_model.specs.Place.{lowest_offset}
 use Rattle.vc_model.specs.Segments.{span}
 use Rattle.vc_model.specs.Sound.{EndsBefore, IsApart}
 use Rattle.vc_seg.proofs.Rounding.{round_up-least}
-use Rattle.vc_blocks.proofs.Apart.{AllPairs-head, AllPairs-map, AllPairs-tail, apart_by_seg}
-use Rattle.vc_blocks.proofs.Inside.{All-unmap}
+use Rattle.vc_layouts.proofs.Lists.{AllPairs-head, AllPairs-map, AllPairs-tail}
+use Rattle.vc_layouts.proofs.Blocks.{apart_by_seg}
+use Rattle.vc_layouts.proofs.Lists.{All-unmap}
 use Rattle.vc_best.proofs.LeftGaps.{best_left, gaps_left, gaps_left_in}
 use Rattle.vc_best.proofs.HaveHeads.{HaveHeads, footprint_at}
 use Rattle.vc_best.proofs.Gaps.{best_left-All, best_left-holds, run_of-All}

@@ -9,7 +9,7 @@ use Rattle.vc_base.specs.Holders.{contains}
 use Rattle.vc_model.specs.Addr.{address, place_of}
 use Rattle.vc_model.specs.Order.{put_by}
 use Rattle.vc_seg.specs.Segment.{Bytes}
-use Rattle.vc_blocks.proofs.Frees.{place_of-address}
+use Rattle.vc_layouts.proofs.Blocks.{place_of-address}
 use Rattle.vc_extent.specs.Change.{IsOneFree, extent_in, first_of, one_free, spans}
 use Rattle.vc_extent.specs.Extent.{Extent, free_extent, no_links}
 use Rattle.vc_extent.specs.Tiling.{AreExtents, IsFree, IsThere, change_in, extent_of, extents_of, tiling}

@@ -9,8 +9,7 @@ use Rattle.vc_model.specs.Layout.{Block, Layout, is_at}
 use Rattle.vc_model.specs.Resize.{resize_there, sized}
 use Rattle.vc_model.specs.Touch.{HasBlock, change_block, rewritten, with_bytes_at}
 use Rattle.vc_seg.specs.Segment.{Bytes}
-use Rattle.vc_blocks.specs.declared.order.Order.TheVariants.{ByAddress}
-use Rattle.vc_blocks.specs.Put.{with_zeros}
+use Rattle.vc_layouts.specs.Put.{with_zeros}
 use Rattle.vc_extent.specs.Tiling.{AreExtents}
 use Rattle.vc_best.specs.Blocks.{layout_by}
 use Rattle.vc_best.proofs.Counting.{with-length}
@@ -19,7 +18,7 @@ use Rattle.vc_best.proofs.Stands.{one-less}
 use Rattle.vc_best.proofs.Tilings.{heads-of}
 
 -- one more where one is put
-pub put-count : (r s : Layout ℕ) (tag size : ℕ) (at : ℕ × ℕ) → s ≡ with_zeros ByAddress r tag size at → length s.blocks ≡ length r.blocks + 1
+pub put-count : (r s : Layout ℕ) (tag size : ℕ) (at : ℕ × ℕ) → s ≡ with_zeros r tag size at → length s.blocks ≡ length r.blocks + 1
 put-count r s tag size at e = let one = with-length (zeros tag size at) r.blocks in ap (λ (l : Layout ℕ). length l.blocks) e ∙ omega (arith, one)
 
 -- as many where one is changed

@@ -11,8 +11,8 @@ use Rattle.vc_model.specs.Gap.{bytes_of}
 use Rattle.vc_model.specs.Layout.{Block, lies_before, with_block}
 use Rattle.vc_model.specs.Numbers.{block_bytes, block_count, gap_bytes, gap_count, gaps_of, greatest, greatest_block, greatest_gap}
 use Rattle.vc_seg.specs.Segment.{Bytes, pair_of}
-use Rattle.vc_blocks.specs.Tally.{HasRoom, tally_of}
-use Rattle.vc_blocks.proofs.Tallies.{sizes-most, tally_of-bytes, tally_of-count, tally_of-most}
+use Rattle.vc_layouts.specs.Tally.{HasRoom, tally_of}
+use Rattle.vc_layouts.proofs.Tallies.{sizes-most, tally_of-bytes, tally_of-count, tally_of-most}
 use Rattle.vc_extent.specs.Extent.{Extent, extents}
 use Rattle.vc_extent.specs.Tiles.{IsTiled}
 use Rattle.vc_extent.specs.Tiling.{AreExtents, tiling}

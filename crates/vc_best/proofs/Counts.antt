@@ -3,14 +3,14 @@ use Rattle.std.proofs.Common.{◌≡◌, ℕ, List, ◌++◌, map, filter, ap, s
 use Rattle.std.proofs.lemmas.List.{length-append, map-append}
 use Rattle.std.proofs.lemmas.List.Sums.{sum_by-append}
 use Rattle.std.proofs.lemmas.List.Elements.{filter-append}
-use Rattle.vc_blocks.specs.Tally.{HasRoom, tallied_all}
-use Rattle.vc_blocks.proofs.Tallies.{HasRoom-rest, tallied_all-append}
+use Rattle.vc_layouts.specs.Tally.{HasRoom, tallied_all}
+use Rattle.vc_layouts.proofs.Tallies.{HasRoom-rest, tallied_all-append}
 use Rattle.vc_extent.specs.Extent.{Extent}
 use Rattle.vc_best.specs.Blocks.{is_busy}
 use Rattle.vc_best.specs.Counts.{HaveRoom, busy_sizes, counted, free_spans}
 use Rattle.vc_best.specs.Free.{is_free}
 use Rattle.vc_best.specs.declared.stat.Counts.{Counts}
-use Rattle.vc_blocks.specs.declared.tally.Tally.{Tally}
+use Rattle.vc_layouts.specs.declared.tally.Tally.{Tally}
 
 busy-append : (xs ys : List Extent) → busy_sizes (xs ++ ys) ≡ busy_sizes xs ++ busy_sizes ys
 busy-append xs ys = ap (map (λ (e : Extent). e.size)) (filter-append is_busy xs ys) ∙ map-append (λ (e : Extent). e.size) (filter is_busy xs) (filter is_busy ys)

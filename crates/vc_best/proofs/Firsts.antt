@@ -14,7 +14,7 @@ use Rattle.vc_model.specs.Touch.{HasBlock}
 use Rattle.vc_model.specs.Walk.{holds_byte, next_block}
 use Rattle.vc_base.specs.declared.addr.Addr.{Addr}
 use Rattle.vc_seg.specs.Segment.{Bytes}
-use Rattle.vc_blocks.proofs.Apart.{AllPairs-head, AllPairs-tail}
+use Rattle.vc_layouts.proofs.Lists.{AllPairs-head, AllPairs-tail}
 use Rattle.vc_extent.specs.Extent.{Extent}
 use Rattle.vc_extent.specs.Tiling.{AreExtents, IsBusy, IsNamed, extent_of, extents_of, next_of, tiling}
 use Rattle.vc_best.specs.Blocks.{all_busy, block_of, busy_in, in_order, layout_by}

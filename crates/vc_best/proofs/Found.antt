@@ -11,8 +11,8 @@ use Rattle.vc_model.specs.Addr.{place_of}
 use Rattle.vc_model.specs.Layout.{Block, address_of, is_at}
 use Rattle.vc_model.specs.Touch.{HasBlock, find_block}
 use Rattle.vc_seg.specs.Segment.{Bytes}
-use Rattle.vc_blocks.proofs.Apart.{AllPairs-head, AllPairs-tail}
-use Rattle.vc_blocks.proofs.Frees.{place_of-address}
+use Rattle.vc_layouts.proofs.Lists.{AllPairs-head, AllPairs-tail}
+use Rattle.vc_layouts.proofs.Blocks.{place_of-address}
 use Rattle.vc_extent.specs.Change.{extent_in}
 use Rattle.vc_extent.specs.Extent.{Extent, extents}
 use Rattle.vc_extent.specs.Tiles.{IsTiled}

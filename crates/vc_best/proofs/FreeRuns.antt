@@ -8,7 +8,7 @@ use Rattle.std.proofs.lemmas.List.Elements.{All-cons, All-filter, All-map, All-n
 use Rattle.vc_model.specs.Addr.{address, place_of}
 use Rattle.vc_model.specs.Gap.{Run}
 use Rattle.vc_model.specs.Place.{holds, least}
-use Rattle.vc_blocks.proofs.Frees.{place_of-address}
+use Rattle.vc_layouts.proofs.Blocks.{place_of-address}
 use Rattle.vc_seg.specs.Segment.{Bytes}
 use Rattle.vc_extent.specs.Extent.{Extent, extents}
 use Rattle.vc_extent.specs.Change.{extent_in}

@@ -11,7 +11,7 @@ use Rattle.vc_model.specs.Numbers.{gaps_of}
 use Rattle.vc_model.specs.Segments.{span}
 use Rattle.vc_model.specs.Sound.{IsApart}
 use Rattle.vc_seg.specs.Segment.{Bytes, pair_of}
-use Rattle.vc_blocks.proofs.Apart.{AllPairs-head, AllPairs-tail}
+use Rattle.vc_layouts.proofs.Lists.{AllPairs-head, AllPairs-tail}
 use Rattle.vc_extent.specs.Extent.{Extent, extents}
 use Rattle.vc_extent.specs.Tiles.{IsTiled}
 use Rattle.vc_extent.specs.Tiling.{AreExtents, extents_of, tiling}

@@ -9,7 +9,7 @@ use Rattle.vc_model.specs.Layout.{Block, Layout, footprint, footprints}
 use Rattle.vc_model.specs.Place.{holds, least, lesser}
 use Rattle.vc_model.specs.Segments.{span}
 use Rattle.vc_model.specs.Sound.{IsUsable}
-use Rattle.vc_blocks.proofs.Owned.{only-one}
+use Rattle.vc_layouts.proofs.Segments.{only-one}
 use Rattle.vc_best.proofs.LeftGaps.{best_left, gaps_left, gaps_left_in}
 use Rattle.vc_best.proofs.HaveHeads.{HaveHeads}
 use Rattle.vc_best.proofs.Apart.{span-least}

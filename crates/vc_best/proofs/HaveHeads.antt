@@ -1,12 +1,10 @@
 -- Blocks with heads, by address, that don't overlap.
-use Rattle.std.specs.Prelude.{ℕ, ◌+◌, ◌-◌, List, All, AllPairs}
+use Rattle.std.specs.Prelude.{◌≡◌, ℕ, ◌+◌, ◌-◌, ◌%◌, ◌<◌, ◌≤◌, List, All, AllPairs}
 use Rattle.vc_model.specs.Discipline.{IsSegmentSize}
 use Rattle.vc_model.specs.Gap.{Run}
 use Rattle.vc_model.specs.Layout.{Block, Layout, footprint}
 use Rattle.vc_model.specs.Segments.{span}
 use Rattle.vc_model.specs.Sound.{EndsBefore, HaveOwnNumbers, IsUsable}
-use Rattle.vc_blocks.specs.Layout.{slot_of_block}
-use Rattle.vc_blocks.specs.Slot.{IsSlot}
 
 -- what a block of that size takes of its segment, at a place
 abbrev pub footprint_at : ℕ → ℕ × ℕ → Run
@@ -16,9 +14,17 @@ footprint_at size at = record { seg = at.0; from = at.1 - 16; to = at.1 - 16 + s
 abbrev pub AreApart : {L : Type 0} → List (Block L) → Type 0
 AreApart blocks = AllPairs (λ a b. EndsBefore (footprint a) (footprint b)) blocks
 
+-- the offsets and sizes that a block can have
+pub record IsSlot (b : Block ℕ) : Type 0 where
+  pub first : 32 ≤ b.off
+  pub last : b.off < 33554432
+  pub multiple : b.off % 32 ≡ 0
+  pub some : 1 ≤ b.size
+  pub most : b.size ≤ 16777264
+
 -- a block that has an offset and a size that one can have, and lies in the usable part of a segment of these
 pub record HasHead (segments : List (ℕ × ℕ)) (b : Block ℕ) : Type 0 where
-  pub slot : IsSlot (slot_of_block b)
+  pub slot : IsSlot b
   pub usable : IsUsable segments (footprint b)
 
 -- such blocks, by address, of which no two overlap, in segments of legal sizes with numbers of their own

@@ -7,10 +7,9 @@ use Rattle.vc_model.specs.Best.{zeros}
 use Rattle.vc_model.specs.Discipline.{IsSegmentSize}
 use Rattle.vc_model.specs.Layout.{Layout, footprint, with_segment}
 use Rattle.vc_model.specs.Sound.{HaveOwnNumbers, IsApart, IsSound}
-use Rattle.vc_blocks.specs.declared.order.Order.TheVariants.{ByAddress}
-use Rattle.vc_blocks.specs.Put.{with_zeros}
-use Rattle.vc_blocks.proofs.Changes.{All-with}
-use Rattle.vc_blocks.proofs.Frees.{place_of-address}
+use Rattle.vc_layouts.specs.Put.{with_zeros}
+use Rattle.vc_layouts.proofs.Blocks.{All-with}
+use Rattle.vc_layouts.proofs.Blocks.{place_of-address}
 use Rattle.vc_best.proofs.HaveHeads.{HasHead, HaveHeads, footprint_at}
 use Rattle.vc_best.proofs.Apart.{Before-with}
 
@@ -26,7 +25,7 @@ IsSound-heads r h =
     }
 
 -- a block that overlaps none is put among them
-pub HaveHeads-put : (r : Layout ℕ) (tag size : ℕ) (at : ℕ × ℕ) → HaveHeads r → HasHead r.segments (zeros tag size at) → All (λ b. IsApart (footprint_at size at) (footprint b)) r.blocks → HaveHeads (with_zeros ByAddress r tag size at)
+pub HaveHeads-put : (r : Layout ℕ) (tag size : ℕ) (at : ℕ × ℕ) → HaveHeads r → HasHead r.segments (zeros tag size at) → All (λ b. IsApart (footprint_at size at) (footprint b)) r.blocks → HaveHeads (with_zeros r tag size at)
 HaveHeads-put r tag size at h here clear =
     record {
       blocks = All-with (HasHead r.segments) (zeros tag size at) r.blocks here h.blocks;

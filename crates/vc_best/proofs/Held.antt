@@ -14,7 +14,7 @@ use Rattle.vc_seg.specs.Segment.{Bytes, pair_of}
 use Rattle.vc_extent.specs.Extent.{Extent}
 use Rattle.vc_extent.specs.Change.{write}
 use Rattle.vc_extent.specs.Tiling.{AreExtents, IsBusy, change_extent, extent_of, tiling}
-use Rattle.vc_blocks.proofs.Changes.{All-change, All-without}
+use Rattle.vc_layouts.proofs.Blocks.{All-change, All-without}
 use Rattle.vc_gaps.specs.GapLaws.{gap_none}
 use Rattle.vc_gaps.specs.GapTree.{HasGaps}
 use Rattle.vc_gaps.specs.GapUnique.{HasGaps-prop}

@@ -6,8 +6,8 @@ use Rattle.std.proofs.lemmas.List.Elements.{All-head, All-tail}
 use Rattle.vc_model.specs.Layout.{Block, footprint, is_at, lies_before, place_of_block, with_block, without_block}
 use Rattle.vc_model.specs.Sound.{IsApart}
 use Rattle.vc_model.specs.Touch.{change_block, find_block}
-use Rattle.vc_blocks.proofs.Apart.{AllPairs-head, AllPairs-nil, AllPairs-tail}
-use Rattle.vc_blocks.proofs.Changes.{All-with}
+use Rattle.vc_layouts.proofs.Lists.{AllPairs-head, AllPairs-nil, AllPairs-tail}
+use Rattle.vc_layouts.proofs.Blocks.{All-with}
 use Rattle.vc_best.specs.Blocks.{in_order}
 use Rattle.vc_best.proofs.Apart.{Before, Before-with}
 

@@ -1,7 +1,7 @@
 -- A block in a segment that was lent for it.
 use Rattle.std.proofs.Common.{◌≡◌, ◌≢◌, ℕ, ◌+◌, ◌-◌, ◌<◌, ◌≤◌, length, List, [], ◌∷◌, ◌++◌, true, false, All, map, refl, ap, sym, subst, ◌∙◌, arith}
 use Rattle.std.proofs.Math.Bridge.{le_prop}
-use Rattle.vc_blocks.proofs.Puts.{HaveOwnNumbers-segments}
+use Rattle.vc_layouts.proofs.Segments.{HaveOwnNumbers-segments}
 use Rattle.std.proofs.Math.Logic.{∥∥₁_elim}
 use Rattle.std.proofs.lemmas.Bool.{eq-eqb, ne_eqb}
 use Rattle.std.proofs.lemmas.List.{length-map}
@@ -10,8 +10,7 @@ use Rattle.vc_model.specs.Addr.{address, place_of}
 use Rattle.vc_model.specs.Layout.{Layout, with_segment}
 use Rattle.vc_model.specs.Segments.{Granted, ask, segment_limit, span}
 use Rattle.vc_model.specs.Sound.{HaveOwnNumbers}
-use Rattle.vc_blocks.specs.declared.order.Order.TheVariants.{ByAddress}
-use Rattle.vc_blocks.specs.Put.{IsPutInNew, with_zeros}
+use Rattle.vc_layouts.specs.Put.{IsPutInNew, with_zeros}
 use Rattle.vc_seg.specs.Segment.{Bytes, pair_of}
 use Rattle.vc_extent.specs.Extent.{Extent, free_extent, no_links}
 use Rattle.vc_extent.specs.Change.{extent_in}
@@ -62,22 +61,22 @@ module _ (old lent : List Bytes) (n bytes a : ℕ) (place : place_of a ≡ (n, 3
   pub lent-fresh : All (λ s. s.0 ≢ n) (layout_by old).segments
   lent-fresh = subst (λ (ss : List (ℕ × ℕ)). All (λ s. s.0 ≢ n) ss) (sym (segments-by old)) (All-map (λ (s : ℕ × ℕ). s.0 ≢ n) pair_of old (apart-there n old none))
 
-  pub lent-layout : (new : List Bytes) (off size tag : ℕ) → layout_by new ≡ with_zeros ByAddress (layout_by lent) tag size ((place_of a).0, off)
-      → layout_by new ≡ with_zeros ByAddress (with_segment (layout_by old) (n, bytes)) tag size (n, off)
+  pub lent-layout : (new : List Bytes) (off size tag : ℕ) → layout_by new ≡ with_zeros (layout_by lent) tag size ((place_of a).0, off)
+      → layout_by new ≡ with_zeros (with_segment (layout_by old) (n, bytes)) tag size (n, off)
   lent-layout new off size tag e =
       e
-      ∙ ap (λ (p : ℕ × ℕ). with_zeros ByAddress (layout_by lent) tag size (p.0, off)) place
-      ∙ ap (λ (r : Layout ℕ). with_zeros ByAddress r tag size (n, off)) (layout-added old lent n bytes (bytes - 32) is pairs)
+      ∙ ap (λ (p : ℕ × ℕ). with_zeros (layout_by lent) tag size (p.0, off)) place
+      ∙ ap (λ (r : Layout ℕ). with_zeros r tag size (n, off)) (layout-added old lent n bytes (bytes - 32) is pairs)
 
 -- what that is, by the address that is answered
 pub put-in-new : (r s : Layout ℕ) (tag size bytes off n a : ℕ) → a ≡ address (n, off) → place_of a ≡ (n, off) → ask bytes r.segments false ≡ Granted n bytes →
-    s ≡ with_zeros ByAddress (with_segment r (n, bytes)) tag size (n, off) → All (λ q. q.0 ≢ n) r.segments → HaveOwnNumbers s.segments → IsPutInNew ByAddress r s tag size bytes off a
+    s ≡ with_zeros (with_segment r (n, bytes)) tag size (n, off) → All (λ q. q.0 ≢ n) r.segments → HaveOwnNumbers s.segments → IsPutInNew r s tag size bytes off a
 put-in-new r s tag size bytes off n a value place granted is fresh numbered =
     let seg : n ≡ (place_of a).0 = sym (ap (λ (p : ℕ × ℕ). p.0) place) in
     record {
       granted = subst (λ (m : ℕ). ask bytes r.segments false ≡ Granted m bytes) seg granted;
       address = subst (λ (m : ℕ). (a ≡ address (m, off)) × (place_of a ≡ (m, off))) seg (value, place);
-      layout = subst (λ (m : ℕ). s ≡ with_zeros ByAddress (with_segment r (m, bytes)) tag size (m, off)) seg is;
+      layout = subst (λ (m : ℕ). s ≡ with_zeros (with_segment r (m, bytes)) tag size (m, off)) seg is;
       fresh = subst (λ (m : ℕ). All (λ q. q.0 ≢ m) r.segments) seg fresh;
       numbered = numbered;
     }

@@ -2,7 +2,7 @@
 use Rattle.std.proofs.Common.{◌≡◌, ◌≢◌, ℕ, ◌+◌, ◌-◌, ◌<◌, List, [], ◌∷◌, ◌++◌, Bool, IsTrue, true, false, zero, suc, Option, Some, None, All, option_map, refl, ap, sym, subst, ◌∙◌, arith}
 use Rattle.std.proofs.lemmas.Bool.{ne_eqb}
 use Rattle.vc_model.specs.Addr.{address, place_of}
-use Rattle.vc_blocks.proofs.Frees.{place_of-address}
+use Rattle.vc_layouts.proofs.Blocks.{place_of-address}
 use Rattle.vc_extent.specs.Extent.{Extent}
 use Rattle.vc_extent.specs.Change.{behind, extent_in, first_of}
 use Rattle.vc_extent.specs.Tiling.{extent_of, extents_of, next_of}

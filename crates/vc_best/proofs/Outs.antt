@@ -6,7 +6,7 @@ use Rattle.vc_base.specs.Holders.{contains}
 use Rattle.vc_model.specs.Addr.{address, place_of}
 use Rattle.vc_model.specs.Bytes.{with_bytes}
 use Rattle.vc_seg.specs.Segment.{Bytes}
-use Rattle.vc_blocks.proofs.Frees.{place_of-address}
+use Rattle.vc_layouts.proofs.Blocks.{place_of-address}
 use Rattle.vc_extent.specs.Change.{behind, first_of, mark_busy, split, write}
 use Rattle.vc_extent.specs.Extent.{Extent, busy_extent}
 use Rattle.vc_extent.specs.Tiling.{AreExtents, IsBusy, IsNamed, change_extent, extent_of, extents_of, tiling}

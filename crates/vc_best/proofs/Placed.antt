@@ -11,9 +11,8 @@ use Rattle.vc_model.specs.Place.{IsAlign, lowest_offset}
 use Rattle.vc_model.specs.Segments.{span}
 use Rattle.vc_model.specs.Sound.{HaveOwnNumbers, IsApart, IsUsable}
 use Rattle.vc_seg.proofs.Rounding.{round_up-least, round_up-mod_32}
-use Rattle.vc_blocks.specs.declared.order.Order.TheVariants.{ByAddress}
-use Rattle.vc_blocks.specs.Put.{with_zeros}
-use Rattle.vc_blocks.proofs.Apart.{apart_by_seg}
+use Rattle.vc_layouts.specs.Put.{with_zeros}
+use Rattle.vc_layouts.proofs.Blocks.{apart_by_seg}
 use Rattle.vc_best.proofs.LeftGaps.{best_left}
 use Rattle.vc_best.proofs.HaveHeads.{HasHead, HaveHeads, footprint_at}
 use Rattle.vc_best.proofs.Apart.{span-least}
@@ -73,7 +72,7 @@ place-is r tag size align at h a some most e =
     subst (IsPlace r tag size) f.2 (place-gap r tag size align f.0 h (IsAligned-from_IsAlign align a) some most f.1)
 
 module _ (r : Layout ℕ) (tag size : ℕ) (at : ℕ × ℕ) (h : HaveHeads r) (p : IsPlace r tag size at) where
-  pub HaveHeads-place : HaveHeads (with_zeros ByAddress r tag size at)
+  pub HaveHeads-place : HaveHeads (with_zeros r tag size at)
   HaveHeads-place = HaveHeads-put r tag size at h p.head p.clear
 
 -- a block at an alignment's offset of a new segment, under a number that no other has
@@ -101,5 +100,5 @@ module _ (r : Layout ℕ) (tag size align n bytes : ℕ) (h : HaveHeads r) (a : 
         clear = new-clear;
       }
 
-  pub HaveHeads-new : HaveOwnNumbers (r.segments ++ (n, bytes) ∷ []) → HaveHeads (with_zeros ByAddress (with_segment r (n, bytes)) tag size (n, align))
+  pub HaveHeads-new : HaveOwnNumbers (r.segments ++ (n, bytes) ∷ []) → HaveHeads (with_zeros (with_segment r (n, bytes)) tag size (n, align))
   HaveHeads-new numbered = HaveHeads-place (with_segment r (n, bytes)) tag size (n, align) (HaveHeads-segment r (n, bytes) h legal numbered) new-place

@@ -11,9 +11,8 @@ use Rattle.vc_model.specs.Segments.{span}
 use Rattle.vc_model.specs.Touch.{HasBlock}
 use Rattle.vc_seg.specs.Segment.{Bytes, pair_of}
 use Rattle.vc_extent.specs.Tiling.{AreExtents, IsFree, change_extent, extent_of, tiling}
-use Rattle.vc_blocks.specs.declared.order.Order.TheVariants.{ByAddress}
-use Rattle.vc_blocks.specs.Put.{IsAddress, with_zeros}
-use Rattle.vc_blocks.proofs.Frees.{place_of-address}
+use Rattle.vc_layouts.specs.Put.{IsAddress, with_zeros}
+use Rattle.vc_layouts.proofs.Blocks.{place_of-address}
 use Rattle.vc_best.specs.Blocks.{layout_by}
 use Rattle.vc_best.specs.Changes.{carve}
 use Rattle.vc_best.specs.Free.{IsMerged, free_runs}
@@ -35,7 +34,7 @@ place-runs segs index size align k m = ap (λ (gs : List Run). option_map (place
 -- a block of zeros in a free extent
 module _ (old new : List Bytes) (i j : List ℕ) (k : ∥ AreExtents old i ∥₁) (l : ∥ AreExtents new j ∥₁) (a off size tag : ℕ) (free : IsFree (tiling old) a) (some : 1 ≤ size)
     (changed : tiling new ≡ change_extent a (carve off size tag) (tiling old)) where
-  pub carved-layout : map pair_of new ≡ map pair_of old → layout_by new ≡ with_zeros ByAddress (layout_by old) tag size ((place_of a).0, off)
+  pub carved-layout : map pair_of new ≡ map pair_of old → layout_by new ≡ with_zeros (layout_by old) tag size ((place_of a).0, off)
   carved-layout pairs =
       layout-put old new i j k l a (carve off size tag) free.named changed pairs (zeros tag size ((place_of a).0, off)) free.free
       (carve-busy (place_of a).0 off size tag (extent_of (tiling old) a) (behind_of (tiling old) a) some)

@@ -3,7 +3,7 @@ use Rattle.std.proofs.Common.{◌≡◌, ◌≢◌, ℕ, ◌+◌, ◌-◌, ◌%�
 use Rattle.std.specs.Prelude.{◌&&◌}
 use Rattle.std.proofs.lemmas.Bool.{cases_Bool, eq-eqb, ne_eqb, lt-ltb, le-ltb, and_parts, and_from}
 use Rattle.vc_model.specs.Addr.{address, place_of}
-use Rattle.vc_blocks.proofs.Frees.{place_of-address}
+use Rattle.vc_layouts.proofs.Blocks.{place_of-address}
 use Rattle.vc_extent.specs.Extent.{Extent, free_extent, no_links}
 use Rattle.vc_extent.specs.Change.{behind, change_at, extent_in, first_of, last_before, mark_free}
 use Rattle.vc_extent.specs.Tiling.{IsBusy, IsFree, IsNamed, change_extent, extent_of, extents_of, next_of, previous_of}

@@ -15,7 +15,7 @@ use Rattle.vc_model.specs.Addr.{address, place_of}
 use Rattle.vc_seg.specs.declared.fault.RegionFault.{RegionFault}
 use Rattle.vc_seg.specs.declared.fault.RegionFault.TheVariants as code
 use Rattle.vc_seg.specs.Answer.{IsPut, IsRefusal}
-use Rattle.vc_blocks.proofs.Found.{find-passes}
+use Rattle.vc_layouts.proofs.Lists.{find-passes}
 
 -- every number is the address of its place
 pub address-place_of : (a : ℕ) → address (place_of a) ≡ a

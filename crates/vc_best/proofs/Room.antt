@@ -13,7 +13,7 @@ use Rattle.vc_model.specs.Layout.{Block, footprint, is_at, lies_before, with_blo
 use Rattle.vc_model.specs.Resize.{can_stay, is_usable, meets, sized}
 use Rattle.vc_model.specs.Segments.{span}
 use Rattle.vc_seg.specs.Segment.{Bytes, pair_of}
-use Rattle.vc_blocks.proofs.Apart.{AllPairs-head, AllPairs-tail}
+use Rattle.vc_layouts.proofs.Lists.{AllPairs-head, AllPairs-tail}
 use Rattle.vc_extent.specs.Change.{extent_in, first_of}
 use Rattle.vc_extent.specs.Extent.{Extent, extents}
 use Rattle.vc_extent.specs.Tiles.{IsLegal, IsTiled}

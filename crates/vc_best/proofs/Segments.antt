@@ -10,7 +10,7 @@ use Rattle.std.proofs.lemmas.List.Elements.{All-append, All-head, All-map, All-n
 use Rattle.vc_model.specs.Compact.{is_occupied}
 use Rattle.vc_model.specs.Layout.{Block, lies_before, with_block, with_segment}
 use Rattle.vc_seg.specs.Segment.{Bytes, pair_of}
-use Rattle.vc_blocks.proofs.Apart.{AllPairs-head, AllPairs-tail}
+use Rattle.vc_layouts.proofs.Lists.{AllPairs-head, AllPairs-tail}
 use Rattle.vc_extent.specs.Change.{IsOneFree}
 use Rattle.vc_extent.specs.Extent.{Extent, extents, free_extent, no_links}
 use Rattle.vc_extent.specs.Tiles.{IsTiled}

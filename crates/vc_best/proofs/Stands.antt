@@ -9,9 +9,9 @@ use Rattle.vc_model.specs.Addr.{place_of}
 use Rattle.vc_model.specs.Layout.{Block, Layout, address_of, footprint, is_at, without_block}
 use Rattle.vc_model.specs.Sound.{IsApart}
 use Rattle.vc_model.specs.Touch.{HasBlock}
-use Rattle.vc_blocks.proofs.Apart.{AllPairs-head, AllPairs-tail}
-use Rattle.vc_blocks.proofs.Changes.{All-without}
-use Rattle.vc_blocks.proofs.Frees.{place_of-address}
+use Rattle.vc_layouts.proofs.Lists.{AllPairs-head, AllPairs-tail}
+use Rattle.vc_layouts.proofs.Blocks.{All-without}
+use Rattle.vc_layouts.proofs.Blocks.{place_of-address}
 use Rattle.vc_best.proofs.HaveHeads.{AreApart, HasHead, HaveHeads, footprint_at}
 use Rattle.vc_best.proofs.Apart.{Before, span-least}
 

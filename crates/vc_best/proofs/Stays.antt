@@ -10,7 +10,7 @@ use Rattle.vc_model.specs.Segments.{span}
 use Rattle.vc_model.specs.Touch.{HasBlock, find_block, rewritten, with_bytes_at}
 use Rattle.vc_seg.specs.Segment.{Bytes}
 use Rattle.vc_extent.specs.Tiling.{AreExtents, extent_of, tiling}
-use Rattle.vc_blocks.proofs.Changes.{All-change, All-without}
+use Rattle.vc_layouts.proofs.Blocks.{All-change, All-without}
 use Rattle.vc_best.specs.Blocks.{block_of, layout_by}
 use Rattle.vc_best.specs.Free.{IsMerged, room_of}
 use Rattle.vc_best.proofs.Found.{busy-of, found-of}

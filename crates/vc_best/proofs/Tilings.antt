@@ -9,7 +9,8 @@ use Rattle.vc_model.specs.Layout.{Block, footprint}
 use Rattle.vc_model.specs.Segments.{span}
 use Rattle.vc_model.specs.Sound.{HasWholeBlocks, HaveOwnNumbers, IsApart, IsSound, IsUsable}
 use Rattle.vc_seg.specs.Segment.{AreSegments, Bytes, IsRegionSegment, pair_of}
-use Rattle.vc_blocks.proofs.Apart.{AllPairs-head, AllPairs-map, AllPairs-nil, AllPairs-tail, apart_by_seg}
+use Rattle.vc_layouts.proofs.Lists.{AllPairs-head, AllPairs-map, AllPairs-nil, AllPairs-tail}
+use Rattle.vc_layouts.proofs.Blocks.{apart_by_seg}
 use Rattle.vc_extent.specs.Extent.{Extent, extents}
 use Rattle.vc_extent.specs.Tiles.{IsTiled}
 use Rattle.vc_extent.specs.Tiling.{AreExtents, tiling}

@@ -7,7 +7,7 @@ use Rattle.std.proofs.Math.Logic.{∥∥₁_elim}
 use Rattle.std.proofs.lemmas.Bool.{eq-eqb, ne_eqb}
 use Rattle.std.proofs.lemmas.List.Elements.{All-head, All-tail}
 use Rattle.vc_model.specs.Addr.{address, place_of}
-use Rattle.vc_blocks.proofs.Frees.{place_of-address}
+use Rattle.vc_layouts.proofs.Blocks.{place_of-address}
 use Rattle.vc_seg.specs.Segment.{Bytes}
 use Rattle.vc_base.specs.declared.addr.Addr.{Addr}
 use Rattle.vc_extent.specs.Extent.{Extent}

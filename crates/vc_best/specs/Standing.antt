@@ -12,8 +12,7 @@ use Rattle.vc_seg.specs.Segment.{Bytes, pair_of}
 use Rattle.vc_seg.specs.declared.fault.RegionFault.{RegionFault}
 use Rattle.vc_seg.specs.declared.fault.RegionFault.TheVariants as code
 use Rattle.vc_segments.specs.Lend.{IsNoGrant}
-use Rattle.vc_blocks.specs.declared.order.Order.TheVariants.{ByAddress}
-use Rattle.vc_blocks.specs.Put.{IsPutInNew}
+use Rattle.vc_layouts.specs.Put.{IsPutInNew}
 use Rattle.vc_extent.specs.Tiling.{IsBusy, change_extent, extent_of, tiling}
 use Rattle.vc_gaps.specs.ButLinks.{Tiling}
 use Rattle.vc_gaps.specs.GapTree.{HasGaps}
@@ -51,7 +50,7 @@ pub record HasRoomAt (bytes off size : ℕ) : Type 0 where
 -- a block of zeros is put at an offset of a segment of that many bytes, which is lent for it; else nothing changes, and
 -- want of memory is the cause only where there may be one segment more
 pub record IsPutInLent (result : Result Addr RegionFault) (old new : Layout ℕ) (tag size bytes off : ℕ) : Type 0 where
-  pub ok : IfOk result (λ a. IsPutInNew ByAddress old new tag size bytes off a.0)
+  pub ok : IfOk result (λ a. IsPutInNew old new tag size bytes off a.0)
   pub fault : IfErr result (IsNoGrant bytes old.segments)
   pub no_memory : IsErrOf result code.OutOfMemory → length old.segments < segment_limit
   pub err : OnErr result (new ≡ old)

@@ -6,8 +6,7 @@ ghost use Rattle.vc_model.specs.Place.{IsAlign, holds, least};
 ghost use Rattle.vc_model.specs.Resize.{resize_there};
 ghost use Rattle.vc_model.specs.Segments.{span};
 ghost use Rattle.vc_model.specs.Touch.{HasBlock};
-ghost use Rattle.vc_blocks.specs.declared.order.Order.TheVariants.{ByAddress};
-ghost use Rattle.vc_blocks.specs.Put.{with_zeros};
+ghost use Rattle.vc_layouts.specs.Put.{with_zeros};
 ghost use Rattle.vc_extent.specs.Tiling.{IsBusy, IsFree, IsNamed, extent_of, tiling};
 ghost use Rattle.vc_gaps.specs.ButLinks.{StaysButLinks};
 ghost use Rattle.vc_gaps.specs.Fits.{free_runs, run_at};
@@ -122,7 +121,7 @@ pub(crate) fn put_block<L>(
     requires merged { IsMerged (tiling extents.old.segs.items) }
     requires gaps { HasGaps (tiling extents.old.segs.items) root.old.0 (a.0 ∷ []) }
     ensures layout { layout_by extents.new.segs.items
-        ≡ with_zeros ByAddress (layout_by extents.old.segs.items) tag size ((place_of a.0).0, off) }
+        ≡ with_zeros (layout_by extents.old.segs.items) tag size ((place_of a.0).0, off) }
     ensures merged { IsMerged (tiling extents.new.segs.items) }
     ensures value { result.0 ≡ address ((place_of a.0).0, off) }
     ensures gaps { HasGaps (tiling extents.new.segs.items) root.new.0 [] }
@@ -157,7 +156,7 @@ pub(crate) fn put_in_gap<L>(
     ensures place { place_in (layout_by extents.old.segs.items) size align
         ≡ Some (place_of result.0) }
     ensures layout { layout_by extents.new.segs.items
-        ≡ with_zeros ByAddress (layout_by extents.old.segs.items) tag size (place_of result.0) }
+        ≡ with_zeros (layout_by extents.old.segs.items) tag size (place_of result.0) }
     ensures fresh { ¬ HasBlock (layout_by extents.old.segs.items).blocks result.0 }
     ensures merged { IsMerged (tiling extents.new.segs.items) }
     ensures sizes { All (λ b. b.size ≤ 16777264) (layout_by extents.new.segs.items).blocks }

@@ -1,7 +1,7 @@
 -- A step's command is counted by what is read of its region before it and after it.
 use Rattle.std.proofs.Common.{◌≡◌, ℕ, ◌+◌, ◌<◌, ◌≤◌, Bool, List, Option, length, sym, ap, ◌∙◌, subst, arith}
 use Rattle.std.specs.List.{AllByRecursion}
-use Rattle.vc_blocks.specs.declared.tally.Tally.{Tally}
+use Rattle.vc_layouts.specs.declared.tally.Tally.{Tally}
 use Rattle.vc_script.specs.Needs.{is_refusal, need_shown}
 use Rattle.vc_script.specs.declared.command.Command.{Command}
 use Rattle.vc_script.specs.declared.reply.Reply.{Reply}

@@ -2,9 +2,9 @@
 use Rattle.std.proofs.Common.{◌≡◌, ℕ, ◌+◌, ◌-◌, ◌<◌, ◌≤◌, Bool, true, false, cond, List, [], length, map, refl, sym, ap, ◌∙◌, arith}
 use Rattle.std.specs.Prelude.{max, sum}
 use Rattle.std.proofs.lemmas.List.{length-map}
-use Rattle.vc_blocks.specs.Tally.{tally_of}
-use Rattle.vc_blocks.specs.declared.tally.Tally.{Tally}
-use Rattle.vc_blocks.proofs.Tallies.{tally_of-bytes, tally_of-count}
+use Rattle.vc_layouts.specs.Tally.{tally_of}
+use Rattle.vc_layouts.specs.declared.tally.Tally.{Tally}
+use Rattle.vc_layouts.proofs.Tallies.{tally_of-bytes, tally_of-count}
 use Rattle.vc_commands.specs.Home.{Home}
 use Rattle.vc_script.specs.Needs.{is_refusal}
 use Rattle.vc_steps.specs.State.{State, Stepped}

@@ -1,5 +1,4 @@
 pub mod Alone
-pub mod Behind
 pub mod CallLends
 pub mod CallOthers
 pub mod Clear

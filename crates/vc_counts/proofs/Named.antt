@@ -5,7 +5,7 @@ use Rattle.std.specs.List.{AllByRecursion}
 use Rattle.std.proofs.lemmas.Bool.{cases_Bool}
 use Rattle.std.proofs.lemmas.List.Elements.{All-map}
 use Rattle.std.proofs.lemmas.Option.{none-some, same_Some}
-use Rattle.vc_blocks.proofs.Apart.{AllPairs-map}
+use Rattle.vc_layouts.proofs.Lists.{AllPairs-map}
 use Rattle.vc_commands.specs.Blocks.{is_block, is_name_of}
 use Rattle.vc_commands.specs.Held.{Held, IsLive, IsNamed, home_of}
 use Rattle.vc_commands.specs.Home as home

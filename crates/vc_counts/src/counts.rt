@@ -4,7 +4,7 @@ ghost use Rattle.vc_counts.specs.CanCount.{IsInRange, commands};
 ghost use Rattle.vc_counts.specs.Counts.{no_counts};
 ghost use Rattle.vc_counts.specs.Working.{counts_after};
 
-use vc_blocks::Tally;
+use vc_layouts::Tally;
 
 /// What a run counts of its commands.
 #[derive(Clone, Copy, Debug, PartialEq, Eq)]

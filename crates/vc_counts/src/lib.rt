@@ -5,7 +5,6 @@
 mod counts;
 mod holders;
 mod reach;
-mod segments;
 mod step;
 
 pub use counts::Counts;

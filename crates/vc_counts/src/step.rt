@@ -1,15 +1,14 @@
 // A step that is counted.
-ghost use Rattle.std.specs.Prelude.{◌≡◌, ◌<◌, ◌^◌, ℕ, bytes_eq, false, length, map, IfOk, IsTrue, OnErr, OnOk};
+ghost use Rattle.std.specs.Prelude.{◌≡◌, ◌<◌, ◌^◌, ℕ, bytes_eq, false, length, ◌≤◌, IfOk, IsTrue, OnErr, OnOk};
 ghost use Rattle.std.specs.List.{IsDistinct};
 ghost use Rattle.std.specs.Map.{keys_of};
 ghost use Rattle.vc_counts.specs.CanCount.{CanCount};
 ghost use Rattle.vc_counts.specs.Counts.{busy_in, counted};
 ghost use Rattle.vc_counts.specs.Holders.{AreSomeDicts};
-ghost use Rattle.vc_counts.specs.Working.{busy_in_home, dict_in, open_state, reached_at, region_worked, segments_at, table_in, worked_in};
+ghost use Rattle.vc_counts.specs.Working.{busy_in_home, dict_in, open_state, reached_at, region_worked, segments_at, table_in, tally_behind, worked_in};
 ghost use Rattle.vc_objects.specs.Objects.{slots_of, table_size};
 ghost use Rattle.vc_objects.specs.Parts.{table_of};
 ghost use Rattle.vc_script.specs.Needs.{is_refusal, need_shown};
-ghost use Rattle.vc_seg.specs.Segment.{AreSegments, pair_of};
 ghost use Rattle.vc_steps.specs.Homes.{IsSessionOver, held_in, state_over};
 ghost use Rattle.vc_steps.specs.Moment.{moment};
 ghost use Rattle.vc_steps.specs.Sizes.{AreNamed};
@@ -22,13 +21,13 @@ ghost use Rattle.vc_views.specs.Views.{dict_named};
 use crate::counts::Counts;
 use crate::holders::holders_bytes;
 use crate::reach::{Reach, freed_by, put_by, reach_of};
-use crate::segments::tally_behind;
 use indexmap::IndexMap;
 use vc_base::{Name, OutOfMemory};
+use vc_layouts::Tally;
 use vc_dict::Dict;
 use vc_dtdisc::DictDisc;
 use vc_script::{Command, Reply};
-use vc_seg::{BoxedDisc, SegDisc, Segment, Shelf};
+use vc_seg::{BoxedDisc, SegDisc, Shelf};
 use vc_steps::{DictEntry, HomeEntry, Session, dict_of, region_of};
 
 // What is always true of the names of regions, and of those of dictionaries: no two are alike.
@@ -131,19 +130,33 @@ fn reached_at<D>(session: &Session<D>, reach: &Reach, region: &Option<Name>) -> 
     }
 }
 
-// The segments of the region of that name, in order of lending.
-fn segments_at<'a, D>(session: &'a Session<D>, region: &Option<Name>) -> &'a [Segment]
+// How many segments the region of that name has, where it is open.
+fn segment_count_at<D>(session: &Session<D>, region: &Option<Name>) -> usize
     requires { length session.now.labels.items ≡ length session.now.homes.entries }
-    ensures pairs { map pair_of result.now
-        ≡ segments_at region.now (open_state state session.now).homes }
-    ensures legal { AreSegments result.now }
+    ensures { result ≡ length (segments_at region.now (open_state state session.now).homes) }
 {
     let Some(name) = region else {
-        return &[];
+        return 0;
     };
     match session.homes.get_index_of(name) {
-        Some(i) => session.homes[i].region.segments(),
-        None => &[],
+        Some(i) => session.homes[i].region.segment_count(),
+        None => 0,
+    }
+}
+
+// Those behind the first ones, in order of lending: none where there are no more than these.
+fn tally_behind_at<D>(session: &Session<D>, region: &Option<Name>, first: usize) -> Tally
+    requires { length session.now.labels.items ≡ length session.now.homes.entries }
+    ensures value { result ≡ tally_behind first
+        (segments_at region.now (open_state state session.now).homes) }
+    ensures few { result.count ≤ 1023 }
+{
+    let Some(name) = region else {
+        return Tally::new();
+    };
+    match session.homes.get_index_of(name) {
+        Some(i) => session.homes[i].region.tally_behind(first),
+        None => Tally::new(),
     }
 }
 
@@ -189,13 +202,13 @@ pub fn counted_step<D: DictDisc>(
     show_names(&session.homes, &session.dicts);
     let reach = reach_of(command);
     let region = region_worked(session, command);
-    let had = segments_at(session, &region).len();
+    let had = segment_count_at(session, &region);
     let held = reached_at(session, &reach, &region);
     let reply = session.step(shelf, kinds, line, command)?;
     let before = held as u128 + freed_by(&reach, &reply) as u128;
     let holds = reached_at(session, &reach, &region);
     let after = holds as u128 + put_by(&reach, &reply) as u128;
-    let lent = tally_behind(segments_at(session, &region), had);
+    let lent = tally_behind_at(session, &region, had);
     counts.add(is_refusal(&reply), before, after, lent);
     Ok(reply)
 }

@@ -12,7 +12,7 @@ use Rattle.vc_segments.specs.Memory.{bytes_of_number}
 use Rattle.vc_segments.proofs.Overwrites.{range-around}
 use Rattle.vc_extent.specs.Field.{field_at}
 use Rattle.vc_extent.proofs.Frames.{field-front}
-use Rattle.vc_blocks.proofs.Apart.{AllPairs-head, AllPairs-tail}
+use Rattle.vc_layouts.proofs.Lists.{AllPairs-head, AllPairs-tail}
 use Rattle.vc_last.specs.Row.{EndsFirst, IsRow}
 use Rattle.vc_last.specs.Head.{HasHead, StaysBut, before_of, block_of, bytes_at}
 use Rattle.vc_last.specs.Chain.{IsChain, IsLast, IsLastOf, LiesLower, blocks_from}

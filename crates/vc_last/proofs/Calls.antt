@@ -15,7 +15,7 @@ use Rattle.vc_base.specs.declared.addr.Addr.{Addr}
 use Rattle.vc_seg.specs.Answer.{IsPut}
 use Rattle.vc_seg.specs.declared.fault.RegionFault.{RegionFault}
 use Rattle.vc_seg.specs.declared.fault.RegionFault.TheVariants as code
-use Rattle.vc_blocks.proofs.Puts.{Served-same}
+use Rattle.vc_layouts.proofs.Segments.{Served-same}
 use Rattle.vc_last.specs.Call.{IsFreed, IsResize}
 use Rattle.vc_seg.specs.Segment.{Bytes, pair_of}
 use Rattle.vc_last.specs.Chain.{IsLast, blocks_from}

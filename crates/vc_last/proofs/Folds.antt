@@ -5,11 +5,11 @@ use Rattle.std.specs.List.{find}
 use Rattle.std.proofs.lemmas.Bool.{cases_Bool, ltb-true, ltb-false}
 use Rattle.std.proofs.lemmas.List.Elements.{All-head, All-tail}
 use Rattle.vc_model.specs.Order.{lesser_by}
-use Rattle.vc_blocks.specs.declared.tally.Tally.{Tally}
+use Rattle.vc_layouts.specs.declared.tally.Tally.{Tally}
 use Rattle.std.proofs.lemmas.List.{append-nil, length-append}
 use Rattle.std.proofs.lemmas.List.Sums.{fold-append, sum_by-append}
-use Rattle.vc_blocks.specs.Tally.{HasRoom, tallied, tallied_all}
-use Rattle.vc_blocks.proofs.Tallies.{tallied_all-bytes, tallied_all-count}
+use Rattle.vc_layouts.specs.Tally.{HasRoom, tallied, tallied_all}
+use Rattle.vc_layouts.proofs.Tallies.{tallied_all-bytes, tallied_all-count}
 
 module _ {S A : Type 0} (f : S → A → S) (swap : (s : S) (x y : A) → f (f s x) y ≡ f (f s y) x) where
   -- the last item may come first

@@ -16,7 +16,7 @@ use Rattle.vc_segments.specs.Memory.{bytes_of_number}
 use Rattle.vc_segments.proofs.Bytes.{bytes_of_number-at, bytes_of_number-most}
 use Rattle.vc_extent.specs.Field.{field_at}
 use Rattle.vc_extent.specs.Tiling.{index_from}
-use Rattle.vc_blocks.proofs.Puts.{HaveOwnNumbers-segments}
+use Rattle.vc_layouts.proofs.Segments.{HaveOwnNumbers-segments}
 use Rattle.vc_last.specs.Row.{IsRow}
 use Rattle.vc_last.specs.Head.{HasHead, LiesThere, StaysBut, before_of, block_of}
 use Rattle.vc_last.specs.Chain.{IsLast, IsLastOf, LiesLower, blocks_from, rank}

@@ -16,7 +16,7 @@ use Rattle.vc_seg.specs.declared.fault.RegionFault.TheVariants as code
 use Rattle.vc_segments.specs.Lend.{IsAsked, IsNoGrant}
 use Rattle.vc_segments.specs.Memory.{bytes_of_number}
 use Rattle.vc_segments.proofs.Bytes.{bytes_of_number-most}
-use Rattle.vc_blocks.proofs.Puts.{Served-lent, Served-same}
+use Rattle.vc_layouts.proofs.Segments.{Served-lent, Served-same}
 use Rattle.vc_last.specs.Head.{LiesThere, StaysBut}
 use Rattle.vc_last.specs.Chain.{IsLast, IsLastOf, blocks_from}
 use Rattle.vc_last.specs.Place.{IsPlace, with_latest}

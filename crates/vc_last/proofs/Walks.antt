@@ -9,7 +9,7 @@ use Rattle.vc_model.specs.Order.{lesser_by}
 use Rattle.vc_model.specs.Walk.{block_at, holds_byte, next_block}
 use Rattle.vc_model.specs.Touch.{HasBlock}
 use Rattle.vc_seg.specs.Segment.{Bytes}
-use Rattle.vc_blocks.proofs.Walks.{least_above-among, least_above-key}
+use Rattle.vc_layouts.proofs.Walks.{least_above-among, least_above-key}
 use Rattle.vc_last.specs.Chain.{IsLast, blocks_from}
 use Rattle.vc_last.specs.Head.{before_of, block_of}
 use Rattle.vc_last.specs.Read.{layout_by}

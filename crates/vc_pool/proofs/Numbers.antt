@@ -1,35 +1,34 @@
 -- The numbers of a pool by what it keeps.
-use Rattle.std.proofs.Common.{◌≡◌, ◌≢◌, ℕ, ◌-◌, ◌/◌, List, true, false, map, sum, refl, ap, sym, ◌∙◌, ⊎_elim, eqb, arith}
-use Rattle.std.proofs.lemmas.Bool.{cases_Bool, eq-eqb, ne_eqb, eqb-true}
-use Rattle.vc_model.specs.Layout.{Layout}
+use Rattle.std.proofs.Common.{◌≡◌, ◌≢◌, ℕ, ◌-◌, List, true, false, map, refl, ap, sym, ◌∙◌, ⊎_elim, eqb, arith}
+use Rattle.std.proofs.lemmas.Bool.{cases_Bool, eq-eqb, eqb-true, ne_eqb}
+use Rattle.vc_model.specs.Numbers.{block_count}
 use Rattle.vc_model.specs.Pool.{cell_count, cell_for, cell_of, free_cells, greatest_free_cell}
-use Rattle.vc_seg.specs.Segment.{Bytes, pair_of}
-use Rattle.vc_pool.specs.Cells.{element_of, pool_with}
+use Rattle.vc_pool_cells.specs.Blocks.{layout_by, pair_of}
+use Rattle.vc_pool_cells.specs.Place.{cells_in}
+use Rattle.vc_pool_cells.specs.declared.segment.PoolSegment.{PoolSegment}
+use Rattle.vc_pool_walks.specs.Sizes.{element_of}
+use Rattle.vc_pool.specs.Read.{pool_by}
 
-pub count-unset : (element : ℕ) (segments : List (ℕ × ℕ)) → element ≡ 0 → 0 ≡ cell_count (element_of element) segments
-count-unset element segments e = rw (eq-eqb element 0 e) refl
+module _ (segs : List PoolSegment) (element freed : ℕ) where
+  pub cell_of-is : cell_for element ≡ cell_of (pool_by segs element freed)
+  unfolding pool_by
+  cell_of-is =
+      ⊎_elim
+      (λ (t : eqb element 0 ≡ true). let zero = eqb-true element 0 t in rw t (omega (arith, zero)))
+      (λ (t : eqb element 0 ≡ false). rw t refl)
+      (cases_Bool (eqb element 0))
 
-pub count-set : (element n cell : ℕ) (segs : List Bytes) (segments : List (ℕ × ℕ)) → element ≢ 0 → cell ≡ cell_for element → map pair_of segs ≡ segments → n ≡ sum (map (λ (s : ℕ × ℕ). (s.1 - 32) / cell) (map pair_of segs)) → n ≡ cell_count (element_of element) segments
-count-set element n cell segs segments other is pairs count =
-    rw (ne_eqb element 0 other)
-    (count
-    ∙ (ap (λ (k : ℕ). sum (map (λ (s : ℕ × ℕ). (s.1 - 32) / k) (map pair_of segs))) is
-    ∙ ap (λ (ss : List (ℕ × ℕ)). sum (map (λ (s : ℕ × ℕ). (s.1 - 32) / cell_for element) ss)) pairs))
+  pub free-is : (cells blocks : ℕ) → cells ≡ cell_count (element_of element) (map pair_of (cells_in segs)) → blocks ≡ block_count (layout_by (cell_for element) (cells_in segs)) → cells - blocks ≡ free_cells (pool_by segs element freed)
+  unfolding pool_by layout_by
+  free-is cells blocks c b = ap (λ n. n - blocks) c ∙ ap (λ n. cell_count (element_of element) (map pair_of (cells_in segs)) - n) b
 
-pub cell_of-is : (r : Layout ℕ) (element : ℕ) (freed carved : List (ℕ × ℕ)) → cell_for element ≡ cell_of (pool_with r element freed carved)
-cell_of-is r element freed carved =
-    ⊎_elim
-    (λ (t : eqb element 0 ≡ true). let zero = eqb-true element 0 t in rw t (omega (arith, zero)))
-    (λ (t : eqb element 0 ≡ false). rw t refl)
-    (cases_Bool (eqb element 0))
+  module _ (free n : ℕ) (is : free ≡ free_cells (pool_by segs element freed)) where
+    pub greatest-none : free ≡ 0 → n ≡ 0 → n ≡ greatest_free_cell (pool_by segs element freed)
+    greatest-none e none =
+        let zero : eqb (free_cells (pool_by segs element freed)) 0 ≡ true = eq-eqb (free_cells (pool_by segs element freed)) 0 (sym is ∙ e) in
+        rw zero none
 
-module _ (r : Layout ℕ) (element : ℕ) (freed carved : List (ℕ × ℕ)) (free n : ℕ) (is : free ≡ free_cells (pool_with r element freed carved)) where
-  pub greatest-none : free ≡ 0 → n ≡ 0 → n ≡ greatest_free_cell (pool_with r element freed carved)
-  greatest-none e none =
-      let zero : eqb (free_cells (pool_with r element freed carved)) 0 ≡ true = eq-eqb (free_cells (pool_with r element freed carved)) 0 (sym is ∙ e) in
-      rw zero none
-
-  pub greatest-some : free ≢ 0 → n ≡ cell_for element → n ≡ greatest_free_cell (pool_with r element freed carved)
-  greatest-some other some =
-      let more : eqb (free_cells (pool_with r element freed carved)) 0 ≡ false = ne_eqb (free_cells (pool_with r element freed carved)) 0 (λ e. other (is ∙ e)) in
-      rw more (some ∙ cell_of-is r element freed carved)
+    pub greatest-some : free ≢ 0 → n ≡ cell_for element → n ≡ greatest_free_cell (pool_by segs element freed)
+    greatest-some other some =
+        let more : eqb (free_cells (pool_by segs element freed)) 0 ≡ false = ne_eqb (free_cells (pool_by segs element freed)) 0 (λ e. other (is ∙ e)) in
+        rw more (some ∙ cell_of-is)

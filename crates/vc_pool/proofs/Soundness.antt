@@ -1,107 +1,173 @@
--- Cells of which each is carved once don't overlap, and compacting keeps that.
-use Rattle.std.proofs.Common.{◌≡◌, ◌≢◌, ℕ, ◌≤◌, List, [], ◌∷◌, Bool, true, false, Option, Some, All, reverse, filter, length, get_or, refl, ap, sym, ◌∙◌, subst, ⊎_elim, eqb, arith}
-use Rattle.std.proofs.lemmas.Bool.{cases_Bool, eq-eqb, eqb-true, eqb-false}
-use Rattle.std.proofs.lemmas.List.Elements.{All-head, All-tail, All-nil, All-cons, All-filter, filter_passes}
-use Rattle.std.proofs.lemmas.List.Folds.{list_any_at}
-use Rattle.std.proofs.lemmas.List.Kept.{AllPairs-filter}
-use Rattle.vc_model.specs.Compact.{compacted, is_occupied}
-use Rattle.vc_model.specs.Layout.{Block, Layout}
-use Rattle.vc_model.specs.Pool.{IsPoolSound, Pool, carved_in, cell_for, cell_offset}
-use Rattle.vc_model.specs.Sound.{HaveOwnNumbers}
-use Rattle.vc_pool.specs.Cells.{AreCells, IsCarved, pool_with}
-use Rattle.vc_pool.proofs.Allocs.{element_of-some}
-use Rattle.vc_pool.proofs.Apart.{IsCarved-apart, IsCarved-inside, cell_for-least}
-use Rattle.vc_pool.proofs.Carvings.{carved_in-kept, carved_in-gone}
-use Rattle.vc_pool.proofs.Places.{HaveOwnPlaces-cells, pairs-times}
-use Rattle.vc_pool.proofs.Times.{times-filter}
+-- The blocks in the cells of segments don't overlap, lie in their segments and have places of their own.
+use Rattle.std.proofs.Common.{◌≡◌, ◌≢◌, ℕ, suc, ◌+◌, ◌<◌, ◌≤◌, List, [], ◌∷◌, Option, Some, All, AllPairs, Any, length, get_or, map, refl, ap, sym, ◌∙◌, subst, ⊎_elim, arith}
+use Rattle.std.specs.List.{flat_map}
+use Rattle.std.proofs.lemmas.Bool.{cases_eq, eq-eqb, ne_eqb}
+use Rattle.std.proofs.lemmas.List.{get_or-map, length-map}
+use Rattle.std.proofs.lemmas.List.Elements.{All-head, All-tail}
+use Rattle.vc_model.specs.Addr.{address, place_of}
+use Rattle.vc_model.specs.Layout.{Block, address_of}
+use Rattle.vc_model.specs.Pool.{IsInside, IsPoolSound, cell_for, cell_offset, cell_run}
+use Rattle.vc_model.specs.Sound.{HaveOwnNumbers, HaveOwnPlaces}
+use Rattle.vc_model.specs.Touch.{HasBlock}
+use Rattle.vc_seg.specs.Segment.{IsRegionSegment}
+use Rattle.vc_pool_cells.specs.Blocks.{blocks_of, in_order, layout_by, pair_of}
+use Rattle.vc_pool_cells.specs.Cells.{Cells}
+use Rattle.vc_pool_cells.specs.Freed.{cells_at}
+use Rattle.vc_pool_cells.specs.Kept.{AreCellular, segment_of}
+use Rattle.vc_pool_cells.specs.Place.{IsLive}
+use Rattle.vc_pool_cells.proofs.Order.{All-in_order}
+use Rattle.vc_pool_cells.proofs.Segments.{numbers-apart}
+use Rattle.vc_pool_cells.proofs.Stands.{all-legal, all-live, cell-there, fits-cell, place-there}
+use Rattle.vc_pool_walks.specs.Sizes.{element_of}
+use Rattle.vc_pool.proofs.Pairs.{Beside, beside-turn, pairs-all, pairs-order, sizes-all}
 
-sound-set : (r : Layout ℕ) (element : ℕ) (freed carved freed' : List (ℕ × ℕ)) → AreCells r element freed carved → IsPoolSound (record { layout = r; element = Some element; freed = freed'; carved = carved })
-sound-set r element freed carved freed' h =
-    let cell = cell_for element in
-    let pairs = pairs-times r.blocks (λ p. let all = h.alone p in omega (arith, all)) in
-    record {
-      apart = λ i j d lt within.
-          let b : Block ℕ = get_or r.blocks i d in
-          let c : Block ℕ = get_or r.blocks j d in
-          IsCarved-apart cell carved (b.seg, b.off) (c.seg, c.off) cell cell (h.blocks i d (omega (arith, lt, within))).cell (h.blocks j d within).cell (omega arith) (omega arith) (pairs i j d lt within);
-      inside = λ k d lt. let b : Block ℕ = get_or r.blocks k d in IsCarved-inside cell cell carved r.segments (b.seg, b.off) h.known h.within (h.blocks k d lt).cell (omega arith);
-      fits = λ k d lt. let size = (h.blocks k d lt).size in omega (arith, size, cell_for-least element);
-      places = HaveOwnPlaces-cells r element freed carved h;
-      numbered = h.numbered;
-    }
-
-sound-unset : (p : Pool ℕ) → p.layout.blocks ≡ [] → HaveOwnNumbers p.layout.segments → IsPoolSound p
-sound-unset p none numbered =
-    record {
-      apart = λ i j d lt within. absurd (omega (arith, within, ap length none));
-      inside = λ k d lt. absurd (omega (arith, lt, ap length none));
-      fits = λ k d lt. absurd (omega (arith, lt, ap length none));
-      places = record {
-        distinct = λ i j d lt within e. omega (arith, within, ap length none);
-        first = λ k d lt. absurd (omega (arith, lt, ap length none));
-        exact = λ k d lt. absurd (omega (arith, lt, ap length none));
-      };
-      numbered = numbered;
-    }
-
-pub IsPoolSound-cells : (r : Layout ℕ) (element : ℕ) (freed carved : List (ℕ × ℕ)) → AreCells r element freed carved → IsPoolSound (pool_with r element freed carved)
-IsPoolSound-cells r element freed carved h =
+-- the segment of a number is among them, with its size
+any-number : (P : ℕ × ℕ → Type 0) (n : ℕ) (segs : List Cells) → 1 ≤ length (cells_at n segs).pairs → P (n, length (cells_at n segs).bytes) → Any P (map pair_of segs)
+any-number P n [] some p = absurd (omega (arith, some))
+any-number P n (s ∷ ss) some p =
     ⊎_elim
-    (λ (t : eqb element 0 ≡ true).
-    let zero : element ≡ 0 = eqb-true element 0 t in
-    sound-unset (pool_with r element freed carved) (ap (λ (l : Layout ℕ). l.blocks) (h.unset zero).0) h.numbered)
-    (λ (t : eqb element 0 ≡ false).
-    let some : 1 ≤ element = let other = eqb-false element 0 t in omega (arith, other) in
-    subst (λ (o : Option ℕ). IsPoolSound (record { layout = r; element = o; freed = reverse freed; carved = carved })) (sym (element_of-some element some)) (sound-set r element freed carved (reverse freed) h))
-    (cases_Bool (eqb element 0))
+    (λ (e : s.number ≡ n).
+    let here : P (n, length s.bytes) = rw (eq-eqb s.number n e) at p in
+    let own : P (s.number, length s.bytes) = subst (λ m. P (m, length s.bytes)) (sym e) here in
+    (0, pair_of s, omega arith, refl, own))
+    (λ (e : s.number ≡ n → ⊥).
+    let more : 1 ≤ length (cells_at n ss).pairs = rw (ne_eqb s.number n e) at some in
+    let rest : P (n, length (cells_at n ss).bytes) = rw (ne_eqb s.number n e) at p in
+    let u = any-number P n ss more rest in
+    let within = u.2 in (suc u.0, u.1, omega (arith, within), u.3, u.4))
+    (cases_eq s.number n)
 
-filter-back : {A : Type 0} (P : A → Type 0) (test : A → Bool) (xs : List A) → All P (filter test xs) → All (λ x. test x ≡ true → P x) xs
-filter-back {A = A} P test [] h = All-nil (λ (x : A). test x ≡ true → P x)
-filter-back {A = A} P test (x ∷ xs) h =
-    let Q : A → Type 0 = λ y. test y ≡ true → P y in
+number-first : (n : ℕ) (segs : List Cells) → All (λ s. IsRegionSegment (segment_of s)) segs → 1 ≤ length (cells_at n segs).pairs → 1 ≤ n
+number-first n [] h some = absurd (omega (arith, some))
+number-first n (s ∷ ss) h some =
+    let P : Cells → Type 0 = λ x. IsRegionSegment (segment_of x) in
     ⊎_elim
-    (λ (t : test x ≡ true).
-    let all : All P (x ∷ filter test xs) = rw t at h in
-    All-cons Q x xs (λ e. All-head P x (filter test xs) all) (filter-back P test xs (All-tail P x (filter test xs) all)))
-    (λ (t : test x ≡ false).
-    let all : All P (filter test xs) = rw t at h in
-    All-cons Q x xs (λ e. let no : true ≡ false = sym e ∙ t in absurd (cc)) (filter-back P test xs all))
-    (cases_Bool (test x))
+    (λ (e : s.number ≡ n). subst (λ m. 1 ≤ m) e ((All-head P s ss h).first))
+    (λ (e : s.number ≡ n → ⊥). number-first n ss (All-tail P s ss h) (rw (ne_eqb s.number n e) at some))
+    (cases_eq s.number n)
 
--- the segments without a block go, with their freed cells and their counts
-pub AreCells-compacted : (r : Layout ℕ) (element : ℕ) (freed carved : List (ℕ × ℕ)) → AreCells r element freed carved →
-    AreCells (compacted r) element (filter (λ c. is_occupied r.blocks c.0) freed) (filter (λ c. is_occupied r.blocks c.0) carved)
-AreCells-compacted r element freed carved h =
-    let keeps : ℕ → Bool = is_occupied r.blocks in
-    let left = filter (λ (c : ℕ × ℕ). keeps c.0) carved in
-    let kept : (at : ℕ × ℕ) → keeps at.0 ≡ true → IsCarved (cell_for element) carved at → IsCarved (cell_for element) left at =
-    λ at here c. let same : carved_in at.0 left ≡ carved_in at.0 carved = carved_in-kept keeps at.0 carved here in let below = c.below in record { index = c.index; offset = c.offset; below = omega (arith, below, same) } in
+-- the numbers are their own
+pub own-numbers : (element : ℕ) (segs : List Cells) → AreCellular element segs → HaveOwnNumbers (map pair_of segs)
+own-numbers element segs h =
+    let d : Cells = record { number = 0; bytes = []; carved = 0; pairs = [] } in
+    let long = length-map segs pair_of in
+    let at : (k : ℕ) (e : ℕ × ℕ) → k < length segs → get_or (map pair_of segs) k e ≡ pair_of (get_or segs k d) = λ k e lt. get_or-map pair_of segs k d e lt in
     record {
-      most = h.most;
-      unset = λ e. let empty = h.unset e in (ap compacted empty.0, ap (filter (λ (c : ℕ × ℕ). keeps c.0)) empty.1, ap (filter (λ (c : ℕ × ℕ). keeps c.0)) empty.2);
-      blocks = λ k d lt.
-          let b : Block ℕ = get_or r.blocks k d in
-          let here : keeps b.seg ≡ true = list_any_at (λ (c : Block ℕ). eqb c.seg b.seg) r.blocks k d lt (eq-eqb b.seg b.seg refl) in
-          let there = h.blocks k d lt in
-          record { cell = kept (b.seg, b.off) here there.cell; size = there.size };
-      free = λ k d lt.
-          kept (get_or (filter (λ (c : ℕ × ℕ). keeps c.0) freed) k d) (filter_passes (λ (c : ℕ × ℕ). keeps c.0) freed k d lt) (All-filter (λ (c : ℕ × ℕ). keeps c.0) (IsCarved (cell_for element) carved) freed h.free k d lt);
-      alone = λ p. let before = h.alone p in let less = times-filter p (λ (c : ℕ × ℕ). keeps c.0) freed in omega (arith, before, less);
-      within = λ k d lt.
-          let s : ℕ × ℕ = get_or (filter (λ (c : ℕ × ℕ). keeps c.0) r.segments) k d in
-          let here : keeps s.0 ≡ true = filter_passes (λ (c : ℕ × ℕ). keeps c.0) r.segments k d lt in
-          subst (λ (i : ℕ). cell_offset (cell_for element) i ≤ s.1) (sym (carved_in-kept keeps s.0 carved here))
-          (All-filter (λ (c : ℕ × ℕ). keeps c.0) (λ (c : ℕ × ℕ). cell_offset (cell_for element) (carved_in c.0 carved) ≤ c.1) r.segments h.within k d lt);
-      small = All-filter (λ (c : ℕ × ℕ). keeps c.0) (λ (s : ℕ × ℕ). s.1 ≤ 33554432) r.segments h.small;
-      known = λ n none.
-          ⊎_elim
-          (λ (t : keeps n ≡ true).
-          carved_in-kept keeps n carved t
-          ∙ h.known n (λ k d lt q. filter-back (λ (s : ℕ × ℕ). s.0 ≢ n) (λ (c : ℕ × ℕ). keeps c.0) r.segments none k d lt (ap keeps q ∙ t) q))
-          (λ (t : keeps n ≡ false). carved_in-gone keeps n carved t)
-          (cases_Bool (keeps n));
-      numbered = record {
-        first = All-filter (λ (c : ℕ × ℕ). keeps c.0) (λ (s : ℕ × ℕ). 1 ≤ s.0) r.segments h.numbered.first;
-        distinct = AllPairs-filter (λ (s t : ℕ × ℕ). s.0 ≢ t.0) (λ (c : ℕ × ℕ). keeps c.0) r.segments h.numbered.distinct;
-      };
+      first = λ k e lt.
+          let low : k < length segs = omega (arith, lt, long) in
+          subst (λ (p : ℕ × ℕ). 1 ≤ p.0) (sym (at k e low)) ((all-legal segs h.segments k d low).first);
+      distinct = λ i j e lt within q.
+          let high : j < length segs = omega (arith, within, long) in
+          numbers-apart segs h.segments i j d lt high
+          (ap (λ (p : ℕ × ℕ). p.0) (sym (at i e (omega (arith, lt, high)))) ∙ (q ∙ ap (λ (p : ℕ × ℕ). p.0) (at j e high)));
     }
+
+module _ (element : ℕ) (segs : List Cells) (h : AreCellular element segs) where
+  abbrev cell : ℕ
+  cell = cell_for element
+
+  abbrev blocks : List (Block ℕ)
+  blocks = in_order (flat_map (blocks_of cell) segs)
+
+  live : All (λ b. IsLive cell segs (b.seg, b.off)) blocks
+  live = All-in_order (λ b. IsLive cell segs (b.seg, b.off)) (flat_map (blocks_of cell) segs) (all-live cell segs (numbers-apart segs h.segments))
+
+  some-of : (ss : List Cells) → (n : ℕ) → 1 ≤ length (cells_at n ss).pairs → (element ≡ 0 → length ss ≡ 0) → 1 ≤ element
+  some-of [] n there unset = absurd (omega (arith, there))
+  some-of (s ∷ ss) n there unset = ⊎_elim (λ (e : element ≡ 0). let none = unset e in absurd (omega (arith, none))) (λ (e : element ≡ 0 → ⊥). ne-one element e) (cases_eq element 0)
+    where
+      ne-one : (m : ℕ) → m ≢ 0 → 1 ≤ m
+      ne-one m other = omega (arith, other)
+
+  set-by : (b : Block ℕ) → IsLive cell segs (b.seg, b.off) → 1 ≤ element
+  set-by b l = let listed = l.listed in some-of segs b.seg (omega (arith, listed)) h.unset
+
+  exact-by : (b : Block ℕ) → IsLive cell segs (b.seg, b.off) → place_of (address_of b) ≡ (b.seg, b.off)
+  exact-by b l =
+      let pair : ℕ → ℕ → ℕ × ℕ = λ x y. (x, y) in
+      let off : pair b.seg b.off ≡ pair b.seg (cell_offset cell l.index) = ap (pair b.seg) l.offset in
+      ap place_of (ap address off) ∙ (place-there element segs h (set-by b l) b.seg l.index l.listed ∙ sym off)
+
+  inside-by : (b : Block ℕ) → IsLive cell segs (b.seg, b.off) → IsInside (map pair_of segs) (cell_run cell b)
+  inside-by b l =
+      let listed = l.listed in
+      let c = cell-there element segs h (set-by b l) b.seg l.index l.listed in
+      let inside = c.inside in
+      let off = l.offset in
+      any-number (λ s. (b.seg ≡ s.0) × (32 ≤ b.off) × (b.off + cell ≤ s.1)) b.seg segs (omega (arith, listed)) (refl, omega (arith, off), omega (arith, off, inside))
+
+  beside : AllPairs (Beside cell) blocks
+  beside = pairs-order (Beside cell) (beside-turn cell) (flat_map (blocks_of cell) segs) (pairs-all cell segs (numbers-apart segs h.segments))
+
+  -- two blocks whose cells don't overlap are at two places
+  apart-places : (a b : Block ℕ) → 1 ≤ cell → Beside cell a b → a.seg ≡ b.seg → a.off ≡ b.off → ⊥
+  apart-places a b some r seg off =
+      ⊎_elim
+      (λ x. ⊎_elim (λ y. omega (arith, y, seg)) (λ y. let low = y.1 in omega (arith, low, off, some)) x)
+      (λ x. ⊎_elim (λ y. omega (arith, y, seg)) (λ y. let low = y.1 in omega (arith, low, off, some)) x)
+      r
+
+  pub own-places : HaveOwnPlaces blocks
+  own-places =
+      record {
+        distinct = λ i j d lt within e.
+            let a : Block ℕ = get_or blocks i d in
+            let b : Block ℕ = get_or blocks j d in
+            let low : i < length blocks = omega (arith, lt, within) in
+            let same = sym (exact-by a (live i d low)) ∙ (ap place_of e ∙ exact-by b (live j d within)) in
+            let some = set-by b (live j d within) in
+            apart-places a b (omega (arith, some)) (beside i j d lt within) (ap (λ (p : ℕ × ℕ). p.0) same) (ap (λ (p : ℕ × ℕ). p.1) same);
+        first = λ k d lt.
+            let l = live k d lt in
+            let listed = l.listed in
+            number-first (get_or blocks k d).seg segs (all-legal segs h.segments) (omega (arith, listed));
+        exact = λ k d lt. exact-by (get_or blocks k d) (live k d lt);
+      }
+
+  fits : All (λ b. b.size ≤ cell) blocks
+  fits =
+      λ k d lt.
+      let size : (get_or blocks k d).size ≤ element = All-in_order (λ b. b.size ≤ element) (flat_map (blocks_of cell) segs) (sizes-all cell element segs h.cellular) k d lt in
+      omega (arith, size, fits-cell element)
+
+  -- with an element size
+  sound-set : (freed carved : List (ℕ × ℕ)) → IsPoolSound (record { layout = record { segments = map pair_of segs; blocks = blocks }; element = Some element; freed = freed; carved = carved })
+  sound-set freed carved =
+      record {
+        apart = beside;
+        inside = λ k d lt. inside-by (get_or blocks k d) (live k d lt);
+        fits = fits;
+        places = own-places;
+        numbered = own-numbers element segs h;
+      }
+
+  none-of : (k : ℕ) → k < length blocks → element ≡ 0 → ⊥
+  none-of k lt e = let b : Block ℕ = record { label = 0; seg = 0; off = 0; size = 0; bytes = [] } in let some = set-by (get_or blocks k b) (live k b lt) in omega (arith, some, e)
+
+  -- with a block an element size is set
+  pub block-some : (a : ℕ) → HasBlock (layout_by cell segs).blocks a → 1 ≤ element
+  unfolding layout_by
+  block-some a here =
+      let none : Block ℕ = record { label = 0; seg = 0; off = 0; size = 0; bytes = [] } in
+      let within : here.0 < length blocks = omega (arith, here.1, length-map blocks address_of) in
+      set-by (get_or blocks here.0 none) (live here.0 none within)
+
+  sound-unset : (element' : Option ℕ) (freed carved : List (ℕ × ℕ)) → element ≡ 0 → IsPoolSound (record { layout = record { segments = map pair_of segs; blocks = blocks }; element = element'; freed = freed; carved = carved })
+  sound-unset element' freed carved e =
+      record {
+        apart = λ i j d lt within. absurd (none-of j within e);
+        inside = λ k d lt. absurd (none-of k lt e);
+        fits = λ k d lt. absurd (none-of k lt e);
+        places = own-places;
+        numbered = own-numbers element segs h;
+      }
+
+  pub sound-by : (freed carved : List (ℕ × ℕ)) → IsPoolSound (record { layout = layout_by cell segs; element = element_of element; freed = freed; carved = carved })
+  unfolding layout_by
+  sound-by freed carved =
+      ⊎_elim
+      (λ (e : element ≡ 0). sound-unset (element_of element) freed carved e)
+      (λ (e : element ≡ 0 → ⊥).
+      let set : element_of element ≡ Some element = rw (ne_eqb element 0 e) refl in
+      subst (λ (o : Option ℕ). IsPoolSound (record { layout = record { segments = map pair_of segs; blocks = blocks }; element = o; freed = freed; carved = carved })) (sym set) (sound-set freed carved))
+      (cases_eq element 0)

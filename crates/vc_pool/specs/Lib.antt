@@ -7,7 +7,12 @@ pub use Rattle.vc_model.specs.Touch
 pub use Rattle.vc_model.specs.Walk
 pub use Rattle.vc_seg.specs.Answer
 pub use Rattle.vc_seg.specs.Boxed
-pub mod Cells
+pub use Rattle.vc_pool_cells.specs.Blocks
+pub use Rattle.vc_pool_cells.specs.Freed
+pub use Rattle.vc_pool_cells.specs.Kept
+pub use Rattle.vc_pool_cells.specs.Place
 pub mod Stat
 pub mod Read
 pub mod Parts
+pub mod Call
+pub mod Ask

@@ -9,7 +9,7 @@ use Rattle.vc_pool.specs.declared.pool.Pool.{Pool}
 
 -- its segments, its blocks and its cells
 abbrev pub pool_of : {I : Type 0} {V : I → Type 0} → Pool I V → model.Pool ℕ
-pool_of p = pool_by p.cells
+pool_of p = pool_by p.segs.items p.element p.freed.0
 
 -- its segments, as number and size in order of lending
 abbrev pub segments_in : {I : Type 0} {V : I → Type 0} → Pool I V → List (ℕ × ℕ)

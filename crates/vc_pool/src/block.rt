@@ -6,6 +6,7 @@ ghost use Rattle.vc_model.specs.Touch.{HasBlock, HasRange, find_block, with_byte
 
 use crate::pool::Pool;
 use vc_base::Addr;
+use vc_pool_cells::{pair_at, read_at, write_at};
 
 /// The calls on one block. They can't fail, and take no memory.
 impl Pool {
@@ -17,7 +18,7 @@ impl Pool {
         ensures { option_map (λ b. b.size) (find_block (place_of a.0) (blocks_in self.now))
             ≡ Some result }
     {
-        self.cells.layout().size(a)
+        pair_at(&self.segs, self.element, a).0
     }
 
     /// The tag of the block at that address.
@@ -26,7 +27,7 @@ impl Pool {
         ensures { option_map (λ b. b.label) (find_block (place_of a.0) (blocks_in self.now))
             ≡ Some result }
     {
-        self.cells.layout().tag(a)
+        pair_at(&self.segs, self.element, a).1
     }
 
     /// The bytes of a range of the block at that address. The range lies in the block.
@@ -36,7 +37,7 @@ impl Pool {
         ensures { option_map (λ b. take len (drop off b.bytes))
             (find_block (place_of a.0) (blocks_in self.now)) ≡ Some result.now }
     {
-        self.cells.layout().read(a, off, len)
+        read_at(&self.segs, self.element, a, off, len)
     }
 
     /// Puts bytes into the block at that address, from an offset on. They lie in the block.
@@ -51,6 +52,6 @@ impl Pool {
             ≡ without_block (place_of a.0) (blocks_in self.old) }
         ensures sound { IsPoolSound (pool_of self.new) }
     {
-        self.cells.write(a, off, src);
+        write_at(&mut self.segs, self.element, a, off, src);
     }
 }

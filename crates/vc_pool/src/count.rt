@@ -1,18 +1,30 @@
-ghost use Rattle.std.specs.Prelude.{◌≡◌, ℕ, ◌-◌, ◌*◌, ◌/◌, ◌≤◌, map, sum};
-ghost use Rattle.vc_seg.specs.Segment.{AreSegments, pair_of};
+ghost use Rattle.std.specs.Prelude.{◌≡◌, ℕ};
+ghost use Rattle.vc_pool.specs.Read.{pool_by};
+ghost use Rattle.vc_pool.specs.Stat.{pool_stat};
+ghost use Rattle.vc_pool_cells.specs.Kept.{AreCellular};
+ghost use Rattle.vc_pool_cells.specs.Place.{cells_in};
 
-use vc_seg::Segment;
+use vc_pool_cells::PoolSegment;
+use vc_pool_walks::{count_cells, tally_blocks, tally_segments};
+use vc_seg::{Stat, rounded_up};
 
-/// How many cells of this size these segments have.
-pub(crate) fn count_cells(segs: &[Segment], cell: u32) -> u64
-    requires legal { AreSegments segs.now }
-    requires cell { 1 ≤ cell }
-    ensures value { result ≡ sum (map (λ s. (s.1 - 32) / cell) (map pair_of segs.now)) }
-    ensures most { result ≤ 34359738368 }
+/// The numbers of blocks, cells and segments, and their sizes in bytes.
+pub(crate) fn stat_of(segs: &[PoolSegment], element: u32) -> Stat
+    requires kept { AreCellular element (cells_in segs.now) }
+    ensures { (freed : ℕ) → result ≡ pool_stat (pool_by segs.now element freed) }
 {
-    let mut count = 0u64;
-    for segment in segs {
-        count += u64::from((segment.size() - 32) / cell);
+    let blocks = tally_blocks(segs, element);
+    let segments = tally_segments(segs);
+    let cell = rounded_up(element, 32);
+    let free = count_cells(segs).saturating_sub(blocks.count);
+    Stat {
+        busy: blocks.count,
+        free,
+        sbusy: blocks.bytes,
+        sfree: free * u64::from(cell),
+        mbusy: blocks.most,
+        mfree: if free == 0 { 0 } else { u64::from(cell) },
+        segs: segments.count as u32,
+        extent: segments.bytes,
     }
-    count
 }

@@ -2,11 +2,10 @@
 #![tactic(auto, unfolding(crate::specs::Read::pool_by))]
 
 mod block;
-mod carved;
-mod cells;
 mod count;
+mod number;
 mod pool;
+mod put;
 mod segments;
 
-pub use cells::CellLists;
 pub use pool::Pool;

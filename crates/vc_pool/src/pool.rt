@@ -9,28 +9,40 @@ ghost use Rattle.vc_model.specs.Outcome.{Done};
 ghost use Rattle.vc_model.specs.Pool.{IsPoolSound, empty_pool, pool_alloc, pool_clear, pool_compact, pool_free, pool_need, pool_resize};
 ghost use Rattle.vc_model.specs.Touch.{HasBlock, find_block};
 ghost use Rattle.vc_model.specs.Walk.{block_at, next_block, next_segment, segment_at};
-ghost use Rattle.vc_pool.specs.Read.{pool_by};
+ghost use Rattle.vc_pool.specs.Ask.{LacksCell};
 ghost use Rattle.vc_pool.specs.Stat.{pool_stat};
+ghost use Rattle.vc_pool_cells.specs.Kept.{IsPool};
+ghost use Rattle.vc_pool_cells.specs.Place.{cells_in};
 ghost use Rattle.vc_seg.specs.Answer.{Answers, Asks, IsRefusal};
 
-use crate::cells::CellLists;
+use crate::count::stat_of;
+use crate::put::alloc_in;
 use std::alloc::Global;
 use vc_base::{Addr, OutOfMemory};
+use vc_pool_carve::clear_all;
+use vc_pool_cells::{PoolSegment, put_back, resize_at};
+use vc_pool_compact::{close_in, compact_in};
+use vc_pool_walks::{block_in, next_in, next_segment_in, segment_in};
 use vc_seg::{RegionFault, SegDisc, Stat};
 
 /// A region of cells of one size over the segments of a discipline, after Vmalloc's `Vmpool`. The first block that is
 /// granted sets the element size, which stays until `close`. Sizes and offsets are in bytes.
 #[derive(Drop)]
 pub struct Pool {
-    /// Its segments, its blocks and its cells.
-    pub cells: CellLists,
+    /// Its segments with their cells, in order of lending.
+    pub segs: Vec<PoolSegment>,
+    /// The element size, 0 while none is set.
+    pub element: u32,
+    /// The address of the cell freed last, `Addr::NONE` where none is free. The first 8 bytes of a freed cell name the one
+    /// that was freed before it.
+    pub freed: Addr,
     /// The discipline that lends its segments.
     pub disc: Box<dyn SegDisc>,
-    /// Where the memory of its segments and lists comes from.
+    /// Where the memory of its segments, of their list and of the tables of their cells comes from.
     pub alloc: Global,
-    /// No two cells with a block overlap, each lies in a segment, each block fits its cell, and blocks have places and
-    /// segments numbers of their own.
-    pub ghost sound: { ∥ IsPoolSound (pool_by cells) ∥₁ },
+    /// Segments have numbers of their own and a pair for each cell, those with a carved cell stand first and are full but
+    /// the last, and the freed cells are carved ones without a block, each of them once.
+    pub ghost kept: { ∥ IsPool element (cells_in segs.items) freed.0 ∥₁ },
 }
 
 impl Pool {
@@ -44,14 +56,18 @@ impl Pool {
         ensures ok { IfOk result (λ p. (pool_of p ≡ empty_pool) × (state p.disc ≡ state disc)) }
         ensures err { IfErr result (λ e. state e.1 ≡ state disc) }
     {
-        let cells = CellLists::new(alloc);
-        cells.show_invariant();
-        Ok(Pool { cells, disc, alloc })
+        Ok(Pool {
+            segs: Vec::new(alloc),
+            element: 0,
+            freed: Addr::NONE,
+            disc,
+            alloc,
+        })
     }
 
     /// A block of zeros: 1 to 16,777,216 bytes, in the cell freed last, else in the lowest uncarved cell of the first
-    /// segment that has one. Where there is none, a segment is asked for. `PoolSize` comes only where the size is
-    /// above the element size.
+    /// segment that has one. Where there is none, a segment is asked for, and `OutOfMemory` comes only then. `PoolSize` comes
+    /// only where the size is above the element size.
     pub fn alloc(&mut self, size: u32, tag: u32) -> Result<Addr, RegionFault>
         requires some { 1 ≤ size }
         requires most { size ≤ 16777216 }
@@ -61,6 +77,8 @@ impl Pool {
         ensures disc { Asks result (state self.old.disc) (state self.new.disc)
             (segments_in self.old) (segments_in self.new)
             (pool_need (state self.old.disc).terms (pool_of self.old) size) }
+        ensures no_memory { IsErrOf result RegionFault.OutOfMemory
+            → LacksCell (pool_of self.old) size }
 
         // The block stands there, at an address of its own, and the others stay.
         ensures there { IfOk result (λ a. find_block (place_of a.0) (blocks_in self.new)
@@ -70,7 +88,15 @@ impl Pool {
             (blocks_in self.new) ≡ blocks_in self.old) }
         ensures sound { IsPoolSound (pool_of self.new) }
     {
-        self.cells.alloc(&mut self.disc, self.alloc, size, tag)
+        alloc_in(
+            &mut self.segs,
+            &mut self.element,
+            &mut self.freed,
+            &mut self.disc,
+            self.alloc,
+            size,
+            tag,
+        )
     }
 
     /// Gives the block at that address another size, from 1 to 16,777,216 bytes, where it is. The first bytes of both
@@ -95,7 +121,11 @@ impl Pool {
             ≡ without_block (place_of a.0) (blocks_in self.old)) }
         ensures sound { IsPoolSound (pool_of self.new) }
     {
-        self.cells.resize(a, size)
+        if size > self.element {
+            return Err(RegionFault::PoolSize);
+        }
+        resize_at(&mut self.segs, self.element, a, size);
+        Ok(())
     }
 
     /// Frees the block at that address. Its cell is the one freed last.
@@ -113,8 +143,7 @@ impl Pool {
         ensures none_left { ¬ HasBlock (blocks_in self.new) a.0 }
         ensures sound { IsPoolSound (pool_of self.new) }
     {
-        self.cells.show_invariant();
-        self.cells.free(a);
+        put_back(&mut self.segs, &mut self.freed, self.element, a);
     }
 
     /// Frees all its blocks, and keeps its segments and the element size. Every cell is uncarved.
@@ -123,7 +152,8 @@ impl Pool {
         ensures disc { state self.new.disc ≡ state self.old.disc }
         ensures sound { IsPoolSound (pool_of self.new) }
     {
-        self.cells.clear();
+        clear_all(&mut self.segs);
+        self.freed = Addr::NONE;
     }
 
     /// Gives back each segment without a block, in ascending order of number, and answers how many those were. The cells
@@ -136,7 +166,12 @@ impl Pool {
             (segments_in self.old) (segments_in self.new) }
         ensures sound { IsPoolSound (pool_of self.new) }
     {
-        self.cells.compact(&mut self.disc)
+        compact_in(
+            &mut self.segs,
+            &mut self.freed,
+            self.element,
+            &mut self.disc,
+        )
     }
 
     /// Its numbers of blocks, cells and segments, and their sizes in bytes: `free` counts the cells that no block is in,
@@ -144,7 +179,7 @@ impl Pool {
     pub fn stat(&self) -> Stat
         ensures { result ≡ pool_stat (pool_of self.now) }
     {
-        self.cells.stat()
+        stat_of(&self.segs, self.element)
     }
 
     /// Gives all its segments back, in ascending order of number, and answers with the discipline and how many there
@@ -155,11 +190,13 @@ impl Pool {
         ensures count { result.1 ≡ length (segments_in self) }
     {
         let Pool {
-            cells,
+            mut segs,
+            element,
+            freed: _,
             mut disc,
             alloc: _,
         } = self;
-        let count = cells.close(&mut disc);
+        let count = close_in(&mut segs, element, &mut disc);
         (disc, count)
     }
 
@@ -171,21 +208,21 @@ impl Pool {
             (block_at (seg, off) (blocks_in self.now)) }
         ensures live { IfSome result (λ f. HasBlock (blocks_in self.now) f.0.0) }
     {
-        self.cells.layout().block_at(seg, off)
+        block_in(&self.segs, self.element, seg, off)
     }
 
     /// The size of the segment of that number, where it has a byte at that offset, else None.
     pub fn segment_at(&self, seg: u32, off: u32) -> Option<u32>
         ensures { result ≡ segment_at (seg, off) (segments_in self.now) }
     {
-        self.cells.layout().segment_at(seg, off)
+        segment_in(&self.segs, seg, off)
     }
 
     /// The segment with the least number above one, as number and size. A walk begins with 0, and ends with None.
     pub fn next_segment(&self, after: u32) -> Option<(u32, u32)>
         ensures { result ≡ next_segment after (segments_in self.now) }
     {
-        self.cells.layout().next_segment(after)
+        next_segment_in(&self.segs, after)
     }
 
     /// The block behind one in order of addresses. A walk begins with `Addr::NONE`, and ends with None.
@@ -194,6 +231,6 @@ impl Pool {
             ≡ option_map address_of (next_block after.0 (blocks_in self.now)) }
         ensures live { IfSome result (λ a. HasBlock (blocks_in self.now) a.0) }
     {
-        self.cells.layout().next_block(after)
+        next_in(&self.segs, self.element, after)
     }
 }

@@ -1,17 +1,26 @@
 // The segments of a pool.
-ghost use Rattle.std.specs.Prelude.{◌≡◌, map};
-ghost use Rattle.vc_seg.specs.Segment.{AreSegments, pair_of};
+ghost use Rattle.std.specs.Prelude.{◌≡◌, ◌≤◌, drop, length, map};
+ghost use Rattle.vc_layouts.specs.Tally.{tally_of};
 ghost use Rattle.vc_pool.specs.Parts.{segments_in};
 
 use crate::pool::Pool;
-use vc_seg::Segment;
+use vc_layouts::Tally;
+use vc_pool_walks::tally_behind;
 
 impl Pool {
-    /// Its segments, in order of lending.
-    pub fn segments(&self) -> &[Segment]
-        ensures pairs { map pair_of result.now ≡ segments_in self.now }
-        ensures legal { AreSegments result.now }
+    /// How many segments it has, at most 1,023.
+    pub fn segment_count(&self) -> usize
+        ensures { result ≡ length (segments_in self.now) }
     {
-        self.cells.layout().segments()
+        self.segs.len()
+    }
+
+    /// How many segments it has behind the first ones, in order of lending, with the sum of their sizes and the greatest, in
+    /// bytes: none where it has no more than these.
+    pub fn tally_behind(&self, first: usize) -> Tally
+        ensures value { result ≡ tally_of (map (λ s. s.1) (drop first (segments_in self.now))) }
+        ensures few { result.count ≤ 1023 }
+    {
+        tally_behind(&self.segs, first)
     }
 }

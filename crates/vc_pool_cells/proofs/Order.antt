@@ -5,7 +5,7 @@ use Rattle.std.proofs.lemmas.Bool.{cases_Bool, and_parts, and_from, or_cases, or
 use Rattle.std.proofs.lemmas.List.Elements.{All-head, All-tail}
 use Rattle.vc_model.specs.Layout.{Block, is_at, lies_before, place_of_block, with_block, without_block}
 use Rattle.vc_model.specs.Touch.{change_block, find_block}
-use Rattle.vc_blocks.proofs.Changes.{All-with}
+use Rattle.vc_layouts.proofs.Blocks.{All-with}
 use Rattle.vc_pool_cells.specs.Blocks.{in_order}
 
 -- the order of places

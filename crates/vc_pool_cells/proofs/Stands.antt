@@ -12,8 +12,8 @@ use Rattle.vc_model.specs.Layout.{Block, address_of}
 use Rattle.vc_model.specs.Pool.{cell_for, cell_offset}
 use Rattle.vc_model.specs.Touch.{HasBlock}
 use Rattle.vc_seg.specs.Segment.{AreSegments, IsRegionSegment}
-use Rattle.vc_blocks.proofs.Apart.{AllPairs-head, AllPairs-tail}
-use Rattle.vc_blocks.proofs.Frees.{place_of-address}
+use Rattle.vc_layouts.proofs.Lists.{AllPairs-head, AllPairs-tail}
+use Rattle.vc_layouts.proofs.Blocks.{place_of-address}
 use Rattle.vc_pool_cells.specs.Blocks.{block_in, blocks_from, blocks_of, in_order, layout_by}
 use Rattle.vc_pool_cells.specs.Cells.{Cells, HasCell, IsCell, pair_at}
 use Rattle.vc_pool_cells.specs.Freed.{IsFreeCell, cells_at, index_at}

@@ -11,5 +11,6 @@ mod touch;
 
 pub use cell::{index_of, offset_of};
 pub use chain::{put_back, reuse};
+pub use place::{find_cell, find_number};
 pub use segment::PoolSegment;
 pub use touch::{pair_at, read_at, resize_at, write_at};

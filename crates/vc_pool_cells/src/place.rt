@@ -13,8 +13,8 @@ use crate::cell::index_of;
 use vc_base::Addr;
 use vc_seg::rounded_up;
 
-/// Where the segment of that number is among these.
-fn find_number(segs: &[PoolSegment], number: u32) -> Option<usize>
+// Where the segment of that number is among these.
+fn search_number(segs: &[PoolSegment], number: u32) -> Option<usize>
     ensures found { IfSome result (λ i. (i < length segs.now)
         × HoldsAt (λ s. s.seg.number ≡ number) segs.now i) }
     ensures none { IfNone result (All (λ s. s.seg.number ≢ number) segs.now) }
@@ -27,20 +27,29 @@ fn find_number(segs: &[PoolSegment], number: u32) -> Option<usize>
     None
 }
 
-/// Where the segment of that number is among these. There is one. Numbers are given from 1 on, so it mostly stands where
-/// its number says.
+/// Where the segment of that number is among these. Numbers are given from 1 on, so it mostly stands where its number says.
 #[inline(always)]
-pub(crate) fn place_of_number(segs: &[PoolSegment], number: u32) -> usize
-    requires there { 1 ≤ length (cells_at number (cells_in segs.now)).pairs }
-    ensures within { result < length segs.now }
-    ensures number { HoldsAt (λ s. s.seg.number ≡ number) segs.now result }
+pub fn find_number(segs: &[PoolSegment], number: u32) -> Option<usize>
+    ensures found { IfSome result (λ i. (i < length segs.now)
+        × HoldsAt (λ s. s.seg.number ≡ number) segs.now i) }
+    ensures none { IfNone result (All (λ s. s.seg.number ≢ number) segs.now) }
 {
     if number > 0 {
         let near = number as usize - 1;
         if near < segs.len() && segs[near].seg.number() == number {
-            return near;
+            return Some(near);
         }
     }
+    search_number(segs, number)
+}
+
+// Where the segment of that number is among these. There is one.
+#[inline(always)]
+fn place_of_number(segs: &[PoolSegment], number: u32) -> usize
+    requires there { 1 ≤ length (cells_at number (cells_in segs.now)).pairs }
+    ensures within { result < length segs.now }
+    ensures number { HoldsAt (λ s. s.seg.number ≡ number) segs.now result }
+{
     match find_number(segs, number) {
         Some(place) => place,
         None => unreachable!(),
@@ -48,7 +57,7 @@ pub(crate) fn place_of_number(segs: &[PoolSegment], number: u32) -> usize
 }
 
 /// Where the segment of an address is among these, and the index there of the cell that begins at the address.
-pub(crate) fn find_cell(segs: &[PoolSegment], element: u32, a: Addr) -> (usize, u32)
+pub fn find_cell(segs: &[PoolSegment], element: u32, a: Addr) -> (usize, u32)
     requires kept { AreCellular element (cells_in segs.now) }
     requires some { 1 ≤ element }
     requires listed { IsListed (cell_for element) (cells_in segs.now) (place_of a.0) }

@@ -7,10 +7,11 @@ use Rattle.vc_model.specs.Best.{best_alloc, best_need, without_block_at}
 use Rattle.vc_model.specs.Resize.{best_resize, can_stay}
 use Rattle.vc_model.specs.Touch.{with_bytes_at}
 use Rattle.vc_model.specs.Compact.{cleared, compact_count, compacted}
-use Rattle.vc_model.specs.Pool.{Pool, cell_for, element_with, pool_alloc, pool_clear, pool_compact, pool_free, pool_need, pool_resize, relabel_pool, uncarved}
+use Rattle.vc_model.specs.Pool.{Pool, pool_alloc, pool_clear, pool_compact, pool_free, pool_need, pool_resize, relabel_pool}
 use Rattle.vc_model.specs.Last.{can_end, last_alloc, last_free, last_need, last_place, last_resize, latest}
 use Rattle.vc_seg.specs.declared.profile_row.ProfileRow.{ProfileRow}
 use Rattle.vc_best.specs.Ask.{AsksForSegment}
+use Rattle.vc_pool.specs.Ask.{LacksCell}
 use Rattle.vc_audit.specs.Debug.{Debug, DebugAsks, damaged, debug_alloc, debug_clear, debug_compact, debug_compact_count, debug_free, debug_need, debug_resize, debug_write, next_damaged, poked, relabel_debug, stays_debug, user_layout, watched_at, with_watch}
 use Rattle.vc_audit.specs.Profile.{Profile, bare_layout, profile_alloc, profile_clear, profile_compact, profile_free, profile_resize, profile_rows, profile_write, relabel_profile, row_at}
 
@@ -75,11 +76,6 @@ region_resize terms (OfDebug debug) at size may_move refused =
 region_resize terms (OfProfile profile) at size may_move refused =
     outcome_as OfProfile (profile_resize terms profile at size may_move refused)
 
--- no cell of a pool is free for a block, neither a freed one nor an uncarved one
-pub record LacksCell {L : Type 0} (pool : Pool L) (size : ℕ) : Type 0 where
-  pub freed : pool.freed ≡ []
-  pub uncarved : uncarved (cell_for (element_with pool size)) pool.carved pool.layout.segments ≡ None
-
 -- a block can't have a size where it is, and so goes elsewhere where it may: in a last region the latest alone, in a pool none
 abbrev pub MustMove : {L : Type 0} → Region L → ℕ → Block L → Type 0
 MustMove (OfBest layout) size b = can_stay layout size b ≡ false
@@ -104,10 +100,10 @@ RegionAsks (OfLast layout) size align = last_place layout size ≡ None
 RegionAsks (OfDebug debug) size align = DebugAsks debug size
 RegionAsks (OfProfile profile) size align = AsksForSegment (bare_layout profile) size align
 
--- a new block asks for memory: where it asks for a segment, and in a pool and in a profile region, which keep lists, at any time
+-- a new block asks for memory: where it asks for a segment, and in a profile region, which keeps lists, at any time
 abbrev pub AsksForMemory : {L : Type 0} → Region L → ℕ → ℕ → Type 0
 AsksForMemory (OfBest layout) size align = RegionAsks (OfBest layout) size align
-AsksForMemory (OfPool pool) size align = Unit {0}
+AsksForMemory (OfPool pool) size align = RegionAsks (OfPool pool) size align
 AsksForMemory (OfLast layout) size align = RegionAsks (OfLast layout) size align
 AsksForMemory (OfDebug debug) size align = RegionAsks (OfDebug debug) size align
 AsksForMemory (OfProfile profile) size align = Unit {0}

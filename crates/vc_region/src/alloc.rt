@@ -14,8 +14,8 @@ use vc_seg::{BoxedDisc, RegionFault, SegDisc};
 
 impl Region {
     /// A block of zeros: 1 to 16,777,216 bytes at an offset that 32 divides, where the method puts it. Where there is no
-    /// place for it, a segment is asked for. `OutOfMemory` comes only there, but in a pool and in a profile region, which
-    /// keep lists, at any time. `PoolSize` comes exactly in a pool, where the size is above the element size. The site,
+    /// place for it, a segment is asked for. `OutOfMemory` comes only there, but in a profile region, which keeps lists, at
+    /// any time. `PoolSize` comes exactly in a pool, where the size is above the element size. The site,
     /// of 1 to 32 bytes, is used in a profile region alone.
     pub fn alloc(&mut self, size: u32, tag: u32, site: &[u8]) -> Result<Addr, RegionFault>
         requires some { 1 ≤ size }

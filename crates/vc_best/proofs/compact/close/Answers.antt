@@ -1,5 +1,6 @@
 use Rattle.std.proofs.Common.{◌∙◌}
-use Rattle.vc_blocks.proofs.Compacts.{TookBack-all, filter-none}
+use Rattle.vc_layouts.proofs.Segments.{TookBack-all}
+use Rattle.vc_layouts.proofs.Lists.{filter-none}
 use Rattle.vc_best.proofs.compact.close.Goals as goal
 
 pub returns-clause-disc : goal.returns-clause-disc

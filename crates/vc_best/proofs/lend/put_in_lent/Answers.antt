@@ -3,7 +3,7 @@ use Rattle.std.specs.Prelude.{Err, IsErrOf, Result}
 use Rattle.vc_base.specs.declared.addr.Addr.{Addr}
 use Rattle.vc_model.specs.Addr.{address, place_of}
 use Rattle.vc_model.specs.Segments.{ask}
-use Rattle.vc_blocks.proofs.Frees.{place_of-address}
+use Rattle.vc_layouts.proofs.Blocks.{place_of-address}
 use Rattle.vc_extent.specs.Tiling.{tiling}
 use Rattle.vc_extent.specs.declared.extents.Extents.{Extents}
 use Rattle.vc_gaps.specs.GapTree.{HasGaps}

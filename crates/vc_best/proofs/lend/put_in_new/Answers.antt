@@ -4,8 +4,7 @@ use Rattle.vc_base.specs.declared.addr.Addr.{Addr}
 use Rattle.vc_model.specs.Addr.{place_of}
 use Rattle.vc_model.specs.Layout.{Layout, with_segment}
 use Rattle.vc_seg.specs.declared.fault.RegionFault.{RegionFault}
-use Rattle.vc_blocks.specs.declared.order.Order.TheVariants.{ByAddress}
-use Rattle.vc_blocks.specs.Put.{IsPutInNew}
+use Rattle.vc_layouts.specs.Put.{IsPutInNew}
 use Rattle.vc_model.specs.Best.{best_need}
 use Rattle.vc_model.specs.Discipline.{IsSegmentSize, Terms}
 use Rattle.vc_model.specs.Segments.{round_up, span}
@@ -20,7 +19,7 @@ use Rattle.vc_best.proofs.lend.put_in_new.Goals as goal
 use Rattle.vc_best.proofs.lend.put_in_new.Goals.{After-rounded_up-bytes}
 use Rattle.vc_best.proofs.lend.put_in_new.Given.{Over}
 
-count : (r s : Layout ℕ) (tag size bytes off : ℕ) (result : Result Addr RegionFault) → IfOk result (λ a. IsPutInNew ByAddress r s tag size bytes off a.0) → IfOk result (λ _. length s.blocks ≡ length r.blocks + 1)
+count : (r s : Layout ℕ) (tag size bytes off : ℕ) (result : Result Addr RegionFault) → IfOk result (λ a. IsPutInNew r s tag size bytes off a.0) → IfOk result (λ _. length s.blocks ≡ length r.blocks + 1)
 count r s tag size bytes off (Ok a) p = put-count (with_segment r ((place_of a.0).0, bytes)) s tag size ((place_of a.0).0, off) p.layout
 count r s tag size bytes off (Err e) p = tt
 

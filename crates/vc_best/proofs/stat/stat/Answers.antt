@@ -1,8 +1,8 @@
 use Rattle.std.proofs.Common.{ℕ, List, [], length, map, sum, ap, sym, subst, ◌∙◌, arith}
 use Rattle.std.proofs.lemmas.List.{length-map}
 use Rattle.vc_seg.specs.Segment.{Bytes, pair_of}
-use Rattle.vc_blocks.specs.Tally.{HasRoom, tally_of}
-use Rattle.vc_blocks.proofs.Tallies.{tally_of-bytes, tally_of-count}
+use Rattle.vc_layouts.specs.Tally.{HasRoom, tally_of}
+use Rattle.vc_layouts.proofs.Tallies.{tally_of-bytes, tally_of-count}
 use Rattle.vc_best.proofs.Counting.{blocks-bytes, blocks-count, blocks-most, gaps-bytes, gaps-count, gaps-most, room-all, room-segments}
 use Rattle.vc_best.proofs.Clears.{segments-of}
 use Rattle.vc_best.proofs.Lends.{segments-by}

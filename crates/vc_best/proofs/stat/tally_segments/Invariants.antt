@@ -1,6 +1,6 @@
 use Rattle.std.proofs.Common.{◌≡◌, drop, map}
 use Rattle.vc_seg.specs.Segment.{pair_of}
-use Rattle.vc_blocks.specs.Tally.{HasRoom, tallied_all, tally_of}
+use Rattle.vc_layouts.specs.Tally.{HasRoom, tallied_all, tally_of}
 use Rattle.vc_best.proofs.stat.tally_segments.Given as goal
 
 -- the tally so far, taken on over the segments that are left, is the result

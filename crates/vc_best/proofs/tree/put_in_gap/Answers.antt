@@ -4,9 +4,8 @@ use Rattle.vc_model.specs.Best.{zeros}
 use Rattle.vc_model.specs.Layout.{Block, Layout}
 use Rattle.vc_model.specs.Place.{lowest_offset}
 use Rattle.vc_model.specs.Segments.{round_up, span}
-use Rattle.vc_blocks.specs.declared.order.Order.TheVariants.{ByAddress}
-use Rattle.vc_blocks.specs.Put.{with_zeros}
-use Rattle.vc_blocks.proofs.Changes.{All-with}
+use Rattle.vc_layouts.specs.Put.{with_zeros}
+use Rattle.vc_layouts.proofs.Blocks.{All-with}
 use Rattle.vc_extent.specs.Tiling.{tiling}
 use Rattle.vc_gaps.specs.Fits.{run_at}
 use Rattle.vc_gaps.specs.GapLaws.{span-stays}
@@ -71,8 +70,8 @@ returns-clause-layout g c =
     let low : off ≡ lowest_offset c.args.align (run_at t a) =
     c.rounded_up-off.ensures ∙ ap (λ (n : ℕ). round_up n c.args.align) (c.off.ensures ∙ sym (best-from e.segs.items e.index.items e.kept s c.args.align a c.requires.best)) in
     c.put_block.ensures.layout
-    ∙ ap (λ (r : Layout ℕ). with_zeros ByAddress r c.args.tag c.args.size ((place_of a).0, off)) (layout-stays e.segs.items c.unlink_gap.new.extents.segs.items c.unlink_gap.ensures.rest)
-    ∙ ap (with_zeros ByAddress (layout_by e.segs.items) c.args.tag c.args.size) (sym (to-place e.segs.items e.index.items e.kept c.requires.merged c.requires.sizes (run_at t a) c.args.size c.args.align c.args.tag a off c.requires.some c.requires.most c.requires.align (least-by t s c.args.align (Some (run_at t a)) c.requires.best) value low c.put_block.result.0 c.put_block.ensures.value))
+    ∙ ap (λ (r : Layout ℕ). with_zeros r c.args.tag c.args.size ((place_of a).0, off)) (layout-stays e.segs.items c.unlink_gap.new.extents.segs.items c.unlink_gap.ensures.rest)
+    ∙ ap (with_zeros (layout_by e.segs.items) c.args.tag c.args.size) (sym (to-place e.segs.items e.index.items e.kept c.requires.merged c.requires.sizes (run_at t a) c.args.size c.args.align c.args.tag a off c.requires.some c.requires.most c.requires.align (least-by t s c.args.align (Some (run_at t a)) c.requires.best) value low c.put_block.result.0 c.put_block.ensures.value))
 
 pub returns-clause-fresh : goal.returns-clause-fresh
 returns-clause-fresh g c =
@@ -91,5 +90,5 @@ returns-clause-sizes g c =
     let e = c.args.extents.now in
     let p : ℕ × ℕ = ((place_of c.args.a.0).0, c.rounded_up-off.result) in
     let is =
-    c.put_block.ensures.layout ∙ ap (λ (r : Layout ℕ). with_zeros ByAddress r c.args.tag c.args.size p) (layout-stays e.segs.items c.unlink_gap.new.extents.segs.items c.unlink_gap.ensures.rest) in
+    c.put_block.ensures.layout ∙ ap (λ (r : Layout ℕ). with_zeros r c.args.tag c.args.size p) (layout-stays e.segs.items c.unlink_gap.new.extents.segs.items c.unlink_gap.ensures.rest) in
     subst (λ (r : Layout ℕ). AreMost r.blocks) (sym is) (All-with (λ (b : Block ℕ). b.size ≤ 16777264) (zeros c.args.tag c.args.size p) (layout_by e.segs.items).blocks c.requires.most c.requires.sizes)

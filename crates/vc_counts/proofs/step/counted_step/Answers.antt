@@ -1,11 +1,10 @@
-use Rattle.std.proofs.Common.{map, length, sym, ap, ◌∙◌}
-use Rattle.std.proofs.lemmas.List.{length-map}
+use Rattle.std.proofs.Common.{refl, ◌∙◌}
 use Rattle.vc_model.specs.Discipline.{Discipline}
-use Rattle.vc_seg.specs.Segment.{pair_of}
 use Rattle.vc_steps.specs.Homes.{held_in, slots_on, state_over}
 use Rattle.vc_steps.specs.State.{State}
 use Rattle.vc_steps.specs.Told.{rules_in}
 use Rattle.vc_views.specs.Numbers.{views_by}
+use Rattle.vc_counts.specs.Working.{segments_at}
 use Rattle.vc_counts.proofs.Alone.{alone-held, lone-dicts}
 use Rattle.vc_counts.proofs.Counted.{WasRead, WasRun, can-next, counts-step, part-counted}
 use Rattle.vc_counts.proofs.Named.{are-named, are-proper}
@@ -77,12 +76,11 @@ add-requires-clause-part g c =
 pub returns-clause-counts : goal.returns-clause-counts
 returns-clause-counts g c =
     let at = (goal.at.returns-clause-counts g c).After-is_refusal in
-    let had = sym (length-map c.segments_at-had.result.now pair_of) ∙ ap length c.segments_at-had.ensures.pairs in
     c.add.ensures.value
     ∙ counts-step c.args.counts.now (before g at) (after g at) c.args.line c.args.command.now c.in_ok-reply.reply c.requires.counts (was-run g at)
     c.region_worked-region.result c.reach_of-reach.result c.reached_at-held.result c.freed_by.result c.reached_at-holds.result c.put_by.result (was-read g at)
-    c.is_refusal.result (length c.segments_at-had.result.now) (map pair_of c.segments_at.result.now) c.tally_behind-lent.result
-    c.is_refusal.ensures had c.segments_at.ensures.pairs c.tally_behind-lent.ensures.value
+    c.is_refusal.result c.segment_count_at-had.result (segments_at c.region_worked-region.result (after g at).homes) c.tally_behind_at-lent.result
+    c.is_refusal.ensures c.segment_count_at-had.ensures refl c.tally_behind_at-lent.ensures.value
 
 pub returns-clause-can : goal.returns-clause-can
 returns-clause-can g c =

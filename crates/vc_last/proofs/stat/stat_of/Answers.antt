@@ -4,9 +4,9 @@ use Rattle.vc_model.specs.Gap.{bytes_of}
 use Rattle.vc_model.specs.Layout.{Block, Layout}
 use Rattle.vc_model.specs.Numbers.{block_bytes, block_count, block_sizes, gap_bytes, gap_count, gap_sizes, gaps_of, greatest_block, greatest_gap, segment_bytes, segment_count}
 use Rattle.vc_seg.specs.Segment.{pair_of}
-use Rattle.vc_blocks.specs.declared.tally.Tally.{Tally}
-use Rattle.vc_blocks.specs.Tally.{tally_of}
-use Rattle.vc_blocks.proofs.Tallies.{tally_of-count, tally_of-bytes, tally_of-most}
+use Rattle.vc_layouts.specs.declared.tally.Tally.{Tally}
+use Rattle.vc_layouts.specs.Tally.{tally_of}
+use Rattle.vc_layouts.proofs.Tallies.{tally_of-count, tally_of-bytes, tally_of-most}
 use Rattle.vc_last.specs.Chain.{blocks_from}
 use Rattle.vc_last.proofs.Backs.{HasRoom-blocks}
 use Rattle.vc_last.proofs.Kept.{layout-from, row-of}

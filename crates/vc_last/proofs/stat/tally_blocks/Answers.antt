@@ -1,6 +1,6 @@
 use Rattle.std.proofs.Common.{◌≡◌, ◌<◌, ◌++◌, [], ◌∷◌, ℕ, List, length, map, ap, sym, subst, ◌∙◌}
 use Rattle.vc_model.specs.Layout.{Block}
-use Rattle.vc_blocks.specs.Tally.{HasRoom, tallied, tallied_all}
+use Rattle.vc_layouts.specs.Tally.{HasRoom, tallied, tallied_all}
 use Rattle.vc_last.specs.Chain.{IsLast, blocks_from}
 use Rattle.vc_last.specs.Head.{before_of, block_of}
 use Rattle.vc_last.proofs.Backs.{sizes-last, sizes_back}

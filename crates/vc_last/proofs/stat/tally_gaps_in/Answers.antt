@@ -1,5 +1,5 @@
 use Rattle.std.proofs.Common.{◌≡◌, ◌<◌, ◌++◌, length, ap, sym, subst, ◌∙◌}
-use Rattle.vc_blocks.specs.Tally.{HasRoom, tallied_all}
+use Rattle.vc_layouts.specs.Tally.{HasRoom, tallied_all}
 use Rattle.vc_last.specs.Chain.{IsLast, blocks_from}
 use Rattle.vc_last.specs.Gaps.{below, sizes_above}
 use Rattle.vc_last.specs.Head.{before_of, block_of}

@@ -1,7 +1,7 @@
 use Rattle.std.proofs.Common.{ℕ, map, ap, sym, subst}
 use Rattle.vc_seg.specs.Segment.{pair_of}
-use Rattle.vc_blocks.specs.declared.tally.Tally.{Tally}
-use Rattle.vc_blocks.specs.Tally.{HasRoom, tallied_all}
+use Rattle.vc_layouts.specs.declared.tally.Tally.{Tally}
+use Rattle.vc_layouts.specs.Tally.{HasRoom, tallied_all}
 use Rattle.vc_last.proofs.Backs.{HasRoom-sizes}
 use Rattle.vc_last.proofs.stat.tally_segments.Goals as goal
 

@@ -5,8 +5,7 @@ use Rattle.vc_model.specs.Best.{place_in, put_at}
 use Rattle.vc_model.specs.Layout.{Layout, without_block}
 use Rattle.vc_model.specs.Segments.{span}
 use Rattle.vc_model.specs.Touch.{HasBlock}
-use Rattle.vc_blocks.specs.declared.order.Order.TheVariants.{ByAddress}
-use Rattle.vc_blocks.specs.Put.{with_zeros}
+use Rattle.vc_layouts.specs.Put.{with_zeros}
 use Rattle.vc_extent.specs.Tiling.{tiling}
 use Rattle.vc_gaps.proofs.GapTrees.{gap_tree-of}
 use Rattle.vc_gaps.specs.GapTree.{HasGaps}
@@ -134,7 +133,7 @@ put : (g : Over) (c : After-put_in_gap-to g) → layout_by c.fit-least.new.exten
 put g c e =
     let a = c.put_in_gap-to.result.0 in
     put-ok (layout_by c.args.self.now.extents.segs.items) (layout_by c.put_in_gap-to.new.extents.segs.items) c.args.tag c.args.size c.args.align (place_of a) (Ok c.put_in_gap-to.result) (sym (own-address a), refl)
-    (c.put_in_gap-to.ensures.layout ∙ ap (λ (r : Layout ℕ). with_zeros ByAddress r c.args.tag c.args.size (place_of a)) e)
+    (c.put_in_gap-to.ensures.layout ∙ ap (λ (r : Layout ℕ). with_zeros r c.args.tag c.args.size (place_of a)) e)
 
 fresh : (g : Over) (c : After-put_in_gap-to g) → layout_by c.fit-least.new.extents.segs.items ≡ layout_by c.args.self.now.extents.segs.items → ¬ HasBlock (layout_by c.args.self.now.extents.segs.items).blocks c.put_in_gap-to.result.0
 fresh g c e = subst (λ (r : Layout ℕ). ¬ HasBlock r.blocks c.put_in_gap-to.result.0) e c.put_in_gap-to.ensures.fresh

@@ -6,7 +6,8 @@ use Rattle.vc_last.proofs.Types.{have}
 use Rattle.vc_last.proofs.last.Last.close.Goals as goal
 use Rattle.vc_last.proofs.Marks.{took-by}
 use Rattle.std.proofs.lemmas.List.{length-map}
-use Rattle.vc_blocks.proofs.Compacts.{TookBack-all, filter-none}
+use Rattle.vc_layouts.proofs.Segments.{TookBack-all}
+use Rattle.vc_layouts.proofs.Lists.{filter-none}
 
 pub give_back-requires-clause-segments : goal.give_back-requires-clause-segments
 give_back-requires-clause-segments g c = (have c.args.self.segs.items c.args.self.latest.0 c.args.self.kept).segments

@@ -1,17 +1,56 @@
-use Rattle.std.proofs.Common.{ℕ, ap}
-use Rattle.vc_model.specs.Pool.{Pool}
+use Rattle.std.proofs.Common.{◌≡◌, ℕ, ◌++◌, List, take, drop, length, ap, sym, subst, ◌∙◌, arith}
+use Rattle.std.proofs.lemmas.List.{with_items_is}
+use Rattle.vc_model.specs.Addr.{place_of}
+use Rattle.vc_model.specs.Pool.{Pool, pool_free}
 use Rattle.vc_model.proofs.Owned.{free-freed, free-none_left, free-one_less}
+use Rattle.vc_pool_cells.specs.Call.{IsPutBack}
+use Rattle.vc_pool_cells.specs.Kept.{IsPool}
+use Rattle.vc_pool_cells.specs.Place.{cells_in}
+use Rattle.vc_pool_cells.specs.declared.segment.PoolSegment.{PoolSegment}
+use Rattle.vc_pool_cells.proofs.Types.{have}
 use Rattle.vc_pool.specs.Read.{pool_by}
+use Rattle.vc_pool.proofs.Have.{sound-of, with-block}
+use Rattle.vc_pool.proofs.Keeps.{freed-pool}
 use Rattle.vc_pool.proofs.pool.Pool.free.Goals as goal
+use Rattle.vc_pool.proofs.pool.Pool.free.Goals.{After-put_back}
+use Rattle.vc_pool.proofs.pool.Pool.free.Given.{Over}
+
+items : (g : Over) (c : After-put_back g) → take c.args.self.now.segs.len (c.put_back.new.segs ++ drop (length c.put_back.new.segs) c.args.self.now.segs.items) ≡ c.put_back.new.segs
+items g c = with_items_is c.args.self.now.segs c.put_back.new.segs (omega (arith, c.put_back.auto.segs, c.deref_mut.ensures.len))
+
+back : (g : Over) (c : After-put_back g) → IsPutBack c.args.self.now.element c.args.a.0 (cells_in c.args.self.now.segs.items) (cells_in c.put_back.new.segs) c.args.self.now.freed.0
+back g c = subst (λ (ss : List PoolSegment). IsPutBack c.args.self.now.element c.args.a.0 (cells_in ss) (cells_in c.put_back.new.segs) c.args.self.now.freed.0) c.deref_mut.ensures.value c.put_back.ensures.back
+
+pool : (g : Over) (c : After-put_back g) → pool_by (take c.args.self.now.segs.len (c.put_back.new.segs ++ drop (length c.put_back.new.segs) c.args.self.now.segs.items)) c.args.self.now.element c.put_back.new.freed.0
+    ≡ pool_free (pool_by c.args.self.now.segs.items c.args.self.now.element c.args.self.now.freed.0) (place_of c.args.a.0)
+pool g c =
+    ap (λ (ss : List PoolSegment). pool_by ss c.args.self.now.element c.put_back.new.freed.0) (items g c)
+    ∙ (ap (pool_by c.put_back.new.segs c.args.self.now.element) c.put_back.ensures.last
+    ∙ freed-pool c.args.self.now.segs.items c.put_back.new.segs c.args.self.now.element c.args.a.0 c.args.self.now.freed.0 (back g c))
+
+pub put_back-requires-clause-kept : goal.put_back-requires-clause-kept
+put_back-requires-clause-kept g c = rw c.deref_mut.ensures.value (have c.args.self.now.element (cells_in c.args.self.now.segs.items) c.args.self.now.freed.0 c.args.self.now.kept)
+
+pub put_back-requires-clause-some : goal.put_back-requires-clause-some
+put_back-requires-clause-some g c = with-block c.args.self.now.segs.items c.args.self.now.element c.args.self.now.freed.0 c.args.a.0 (have c.args.self.now.element (cells_in c.args.self.now.segs.items) c.args.self.now.freed.0 c.args.self.now.kept).cells c.requires
 
 pub returns-clause-one_less : goal.returns-clause-one_less
-unfolding pool_by
-returns-clause-one_less g c = free-one_less c.args.a.0 c.args.self.now.cells.layout.blocks c.free.new.self.layout.blocks (ap (λ (p : Pool ℕ). p.layout.blocks) c.free.ensures.pool) c.show_invariant.ensures.places c.requires
+returns-clause-one_less g c =
+    let h = have c.args.self.now.element (cells_in c.args.self.now.segs.items) c.args.self.now.freed.0 c.args.self.now.kept in
+    free-one_less c.args.a.0 _ _ (ap (λ (p : Pool ℕ). p.layout.blocks) (pool g (goal.at.returns-clause-one_less g c).After-put_back)) ((sound-of c.args.self.now.segs.items c.args.self.now.element c.args.self.now.freed.0 h.cells).places) c.requires
 
 pub returns-clause-freed : goal.returns-clause-freed
-unfolding pool_by
-returns-clause-freed g c = free-freed c.args.a.0 c.args.self.now.cells.layout.blocks c.free.new.self.layout.blocks (ap (λ (p : Pool ℕ). p.layout.blocks) c.free.ensures.pool) c.show_invariant.ensures.places
+returns-clause-freed g c =
+    let h = have c.args.self.now.element (cells_in c.args.self.now.segs.items) c.args.self.now.freed.0 c.args.self.now.kept in
+    free-freed c.args.a.0 _ _ (ap (λ (p : Pool ℕ). p.layout.blocks) (pool g (goal.at.returns-clause-freed g c).After-put_back)) ((sound-of c.args.self.now.segs.items c.args.self.now.element c.args.self.now.freed.0 h.cells).places)
 
 pub returns-clause-none_left : goal.returns-clause-none_left
-unfolding pool_by
-returns-clause-none_left g c = free-none_left c.args.a.0 c.args.self.now.cells.layout.blocks c.free.new.self.layout.blocks (ap (λ (p : Pool ℕ). p.layout.blocks) c.free.ensures.pool) c.show_invariant.ensures.places
+returns-clause-none_left g c =
+    let h = have c.args.self.now.element (cells_in c.args.self.now.segs.items) c.args.self.now.freed.0 c.args.self.now.kept in
+    free-none_left c.args.a.0 _ _ (ap (λ (p : Pool ℕ). p.layout.blocks) (pool g (goal.at.returns-clause-none_left g c).After-put_back)) ((sound-of c.args.self.now.segs.items c.args.self.now.element c.args.self.now.freed.0 h.cells).places)
+
+pub returns-clause-sound : goal.returns-clause-sound
+returns-clause-sound g c =
+    let at = (goal.at.returns-clause-sound g c).After-put_back in
+    sound-of _ c.args.self.now.element c.put_back.new.freed.0
+    (subst (λ (ss : List PoolSegment). IsPool c.args.self.now.element (cells_in ss) c.args.a.0) (sym (items g at)) (back g at).kept).cells

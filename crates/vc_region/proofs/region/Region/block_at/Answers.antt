@@ -11,3 +11,6 @@ returns-in-Profile-clause-live g c = rw c.in-Profile.is c.block_at-in-Profile.en
 
 pub returns-in-Last-clause-live : goal.returns-in-Last-clause-live
 returns-in-Last-clause-live g c = rw c.in-Last.is c.block_at-in-Last.ensures.live
+
+pub returns-in-Pool-clause-live : goal.returns-in-Pool-clause-live
+returns-in-Pool-clause-live g c = rw c.in-Pool.is c.block_at-in-Pool.ensures.live

@@ -14,3 +14,6 @@ returns-in-Profile-clause-live g c = rw c.in-Profile.is c.next_block-in-Profile.
 
 pub returns-in-Last-clause-live : goal.returns-in-Last-clause-live
 returns-in-Last-clause-live g c = rw c.in-Last.is c.next_block-in-Last.ensures.live
+
+pub returns-in-Pool-clause-live : goal.returns-in-Pool-clause-live
+returns-in-Pool-clause-live g c = rw c.in-Pool.is c.next_block-in-Pool.ensures.live

@@ -1,0 +1,5 @@
+pub mod Blocks
+pub mod Lists
+pub mod Segments
+pub mod Tallies
+pub mod Walks

@@ -1,0 +1,105 @@
+-- The segments of a layout: numbers of their own, the one that a lend adds, bytes that are written into one.
+use Rattle.std.proofs.Common.{All, AllPairs, List, [], ap, append_assoc, arith, cond, eqb, false, get_or, length, ltb, map, refl, subst, sym, true, ℕ, ⊎_elim, ◌++◌, ◌+◌, ◌<◌, ◌∙◌, ◌∷◌, ◌≡◌, ◌≢◌, ◌≤◌}
+use Rattle.std.proofs.lemmas.Bool.{cases_Bool, eqb-false, eqb-true, ltb-false, ltb-true, ne_eqb}
+use Rattle.std.proofs.lemmas.List.{get_or_default, length_push}
+use Rattle.std.proofs.lemmas.List.Elements.{All-map}
+use Rattle.std.specs.List.{Any}
+use Rattle.std.specs.Prelude.{Err}
+use Rattle.vc_layouts.proofs.Lists.{AllPairs-map}
+use Rattle.vc_model.specs.Bytes.{with_bytes}
+use Rattle.vc_model.specs.Discipline.{Discipline, Lent, Served, TookBack}
+use Rattle.vc_model.specs.Sound.{HaveOwnNumbers}
+use Rattle.vc_seg.specs.Answer.{Asks}
+use Rattle.vc_seg.specs.Segment.{AreSegments, Bytes, pair_of}
+use Rattle.vc_seg.specs.declared.fault.RegionFault.{RegionFault}
+use Rattle.vc_segments.proofs.Overwrites.{length-with_bytes}
+use Rattle.vc_segments.specs.Lend.{IsAsked}
+use Rattle.vc_segments.specs.Memory.{bytes_of_number, write_segment}
+use Rattle.vc_seg.specs.declared.fault.RegionFault.TheVariants as code
+
+pub TookBack-all : (a b : Discipline) (held : List (ℕ × ℕ)) (ss : List Bytes) → TookBack a b held (map pair_of ss) → ss ≡ [] → TookBack a b held []
+TookBack-all a b held ss h none = subst (TookBack a b held) (ap (map pair_of) none) h
+
+-- of segments with numbers of their own, one alone has a number
+pub only-one : (ss : List (ℕ × ℕ)) (n : ℕ) (P : ℕ × ℕ → Type 0) → AllPairs (λ s t. s.0 ≢ t.0) ss → Any (λ s. (s.0 ≡ n) × P s) ss → All (λ s. s.0 ≡ n → P s) ss
+only-one [] n P h any = absurd (omega (arith, any.2))
+only-one (s ∷ ss) n P h any = λ k d lt own.
+    let all = s ∷ ss in
+    let q : ℕ × ℕ = get_or all k d in
+    let i : ℕ = any.0 in
+    let there : get_or all i any.1 ≡ any.1 = any.3 in
+    ⊎_elim
+    (λ (t : eqb i k ≡ true).
+    let same : get_or all k any.1 ≡ any.1 = subst (λ (j : ℕ). get_or all j any.1 ≡ any.1) (eqb-true i k t) there in
+    let at : q ≡ any.1 = get_or_default all k d any.1 lt ∙ same in
+    subst P (sym at) any.4.1)
+    (λ (t : eqb i k ≡ false).
+    let other = eqb-false i k t in
+    let mine : (get_or all i d).0 ≡ n = ap (λ (x : ℕ × ℕ). x.0) (get_or_default all i d any.1 any.2 ∙ there) ∙ any.4.0 in
+    ⊎_elim
+    (λ (u : ltb i k ≡ true). absurd (h i k d (ltb-true i k u) lt (mine ∙ sym own)))
+    (λ (u : ltb i k ≡ false). let le = ltb-false i k u in absurd (h k i d (omega (arith, le, other)) any.2 (own ∙ sym mine)))
+    (cases_Bool (ltb i k)))
+    (cases_Bool (eqb i k))
+
+-- a discipline that was asked for nothing
+pub Served-same : (d : Discipline) (segments : List (ℕ × ℕ)) (bytes : ℕ) → Served d d segments segments bytes
+Served-same d segments bytes = record { terms = refl; faults = refl; out = λ rest e. e; room = λ other. absurd (other refl); same = λ e. refl }
+
+-- a discipline that lent a segment
+pub Served-lent : (old new : Discipline) (segments segments' : List (ℕ × ℕ)) (n bytes : ℕ) → segments' ≡ segments ++ (n, bytes) ∷ [] → Lent old new n bytes → Served old new segments segments' bytes
+Served-lent old new segments segments' n bytes e lent =
+    record {
+      terms = lent.terms;
+      faults = lent.faults;
+      out = λ rest o. lent.out ∙ (ap (λ (xs : List (ℕ × ℕ)). xs ++ (n, bytes) ∷ []) o ∙ (append_assoc rest segments ((n, bytes) ∷ []) ∙ ap (λ (xs : List (ℕ × ℕ)). rest ++ xs) (sym e)));
+      room = λ other. lent.room;
+      same = λ same. absurd (omega (arith, length_push segments (n, bytes), ap length (sym same ∙ e)));
+    }
+
+-- what a fault of asking leaves
+pub Asks-fault : (e : RegionFault) (old new : Discipline) (segments segments' : List (ℕ × ℕ)) (bytes : ℕ) → segments' ≡ segments → IsAsked (Err e) old new bytes → Asks (Err e) old new segments segments' bytes
+Asks-fault code.NoSegment old new segments segments' bytes same h = h
+Asks-fault code.TooManySegments old new segments segments' bytes same h = subst (λ (ss : List (ℕ × ℕ)). Served old new segments ss bytes) (sym same) (subst (λ (d : Discipline). Served old d segments segments bytes) (sym h) (Served-same old segments bytes))
+Asks-fault code.OutOfMemory old new segments segments' bytes same h = subst (λ (ss : List (ℕ × ℕ)). Served old new segments ss bytes) (sym same) (subst (λ (d : Discipline). Served old d segments segments bytes) (sym h) (Served-same old segments bytes))
+Asks-fault code.Fixed old new segments segments' bytes same h = subst (λ (ss : List (ℕ × ℕ)). Served old new segments ss bytes) (sym same) (subst (λ (d : Discipline). Served old d segments segments bytes) (sym h) (Served-same old segments bytes))
+Asks-fault code.PoolSize old new segments segments' bytes same h = subst (λ (ss : List (ℕ × ℕ)). Served old new segments ss bytes) (sym same) (subst (λ (d : Discipline). Served old d segments segments bytes) (sym h) (Served-same old segments bytes))
+Asks-fault code.NotLast old new segments segments' bytes same h = subst (λ (ss : List (ℕ × ℕ)). Served old new segments ss bytes) (sym same) (subst (λ (d : Discipline). Served old d segments segments bytes) (sym h) (Served-same old segments bytes))
+Asks-fault code.WrongMethod old new segments segments' bytes same h = subst (λ (ss : List (ℕ × ℕ)). Served old new segments ss bytes) (sym same) (subst (λ (d : Discipline). Served old d segments segments bytes) (sym h) (Served-same old segments bytes))
+
+-- the segments of a layout have numbers of their own
+pub HaveOwnNumbers-segments : (segs : List Bytes) → AreSegments segs → HaveOwnNumbers (map pair_of segs)
+HaveOwnNumbers-segments segs l =
+    record {
+      first = All-map (λ (s : ℕ × ℕ). 1 ≤ s.0) pair_of segs (λ k d lt. (l.legal k d lt).first);
+      distinct = AllPairs-map (λ (s t : ℕ × ℕ). s.0 ≢ t.0) pair_of segs l.distinct;
+    }
+
+module _ (n at : ℕ) (src : List ℕ) where
+  pub pairs-write : (segs : List Bytes) → at + length src ≤ length (bytes_of_number n segs) → map pair_of (write_segment n at src segs) ≡ map pair_of segs
+  pairs-write [] fits = refl
+  pairs-write (s ∷ ss) fits =
+      ⊎_elim
+      (λ e.
+      let own : at + length src ≤ length s.bytes = rw e at fits in
+      rw e (ap (λ size. (s.number, size) ∷ map pair_of ss) (length-with_bytes at src s.bytes own)))
+      (λ e. let rest : at + length src ≤ length (bytes_of_number n ss) = rw e at fits in rw e (ap (λ ps. pair_of s ∷ ps) (pairs-write ss rest)))
+      (cases_Bool (eqb s.number n))
+
+  pub bytes_of_number-write : (segs : List Bytes) → 0 < length (bytes_of_number n segs) → bytes_of_number n (write_segment n at src segs) ≡ with_bytes at src (bytes_of_number n segs)
+  bytes_of_number-write [] some = absurd (omega (arith, some))
+  bytes_of_number-write (s ∷ ss) some =
+      ⊎_elim
+      (λ e. rw e (rw e refl))
+      (λ e. let rest : 0 < length (bytes_of_number n ss) = rw e at some in rw e (rw e (bytes_of_number-write ss rest)))
+      (cases_Bool (eqb s.number n))
+
+  pub bytes_of_number-other : (m : ℕ) (segs : List Bytes) → m ≢ n → bytes_of_number m (write_segment n at src segs) ≡ bytes_of_number m segs
+  bytes_of_number-other m [] other = refl
+  bytes_of_number-other m (s ∷ ss) other =
+      ⊎_elim
+      (λ e.
+      let mine : eqb s.number m ≡ false = ne_eqb s.number m (λ q. other (sym q ∙ eqb-true s.number n e)) in
+      rw e (rw mine refl))
+      (λ e. rw e (ap (cond (eqb s.number m) s.bytes) (bytes_of_number-other m ss other)))
+      (cases_Bool (eqb s.number n))

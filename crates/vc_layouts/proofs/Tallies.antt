@@ -1,0 +1,51 @@
+-- Tallies of the blocks and segments of a layout.
+use Rattle.std.proofs.Common.{All, List, [], arith, fold, length, refl, sum, ℕ, ◌*◌, ◌++◌, ◌+◌, ◌∷◌, ◌≡◌, ◌≤◌}
+use Rattle.std.proofs.lemmas.List.{length-append}
+use Rattle.std.proofs.lemmas.List.Elements.{All-head, All-tail}
+use Rattle.std.proofs.lemmas.List.Sums.{fold-append, sum_by-append, sum_by-cons}
+use Rattle.std.specs.Prelude.{max}
+use Rattle.vc_layouts.specs.Tally.{HasRoom, tallied, tallied_all, tally_of}
+use Rattle.vc_layouts.specs.declared.tally.Tally.{Tally}
+use Rattle.vc_model.specs.Numbers.{greatest}
+
+pub tallied_all-append : (t : Tally) (xs ys : List ℕ) → tallied_all t (xs ++ ys) ≡ tallied_all (tallied_all t xs) ys
+tallied_all-append t xs ys = fold-append tallied t xs ys
+
+-- what sizes add
+pub tallied_all-count : (t : Tally) (ns : List ℕ) → (tallied_all t ns).count ≡ t.count + length ns
+tallied_all-count t [] = omega arith
+tallied_all-count t (n ∷ ns) = let rest = tallied_all-count (tallied t n) ns in omega (arith, rest)
+
+pub tallied_all-bytes : (t : Tally) (ns : List ℕ) → (tallied_all t ns).bytes ≡ t.bytes + sum ns
+tallied_all-bytes t [] = omega arith
+tallied_all-bytes t (n ∷ ns) = let rest = tallied_all-bytes (tallied t n) ns in let more = sum_by-cons (λ (m : ℕ). m) n ns in omega (arith, rest, more)
+
+pub HasRoom-rest : (t : Tally) (xs ys : List ℕ) → HasRoom t (xs ++ ys) → HasRoom (tallied_all t xs) ys
+HasRoom-rest t xs ys h =
+    let count = h.count in
+    let bytes = h.bytes in
+    record {
+      count = omega (arith, length-append xs ys, count, tallied_all-count t xs);
+      bytes = omega (arith, sum_by-append (λ (m : ℕ). m) xs ys, bytes, tallied_all-bytes t xs);
+    }
+
+tallied_all-most : (t : Tally) (ns : List ℕ) → (tallied_all t ns).most ≡ fold max t.most ns
+tallied_all-most t [] = refl
+tallied_all-most t (n ∷ ns) = tallied_all-most (tallied t n) ns
+
+pub tally_of-count : (ns : List ℕ) → (tally_of ns).count ≡ length ns
+tally_of-count ns = let all = tallied_all-count (tally_of []) ns in omega (arith, all)
+
+pub tally_of-bytes : (ns : List ℕ) → (tally_of ns).bytes ≡ sum ns
+tally_of-bytes ns = let all = tallied_all-bytes (tally_of []) ns in omega (arith, all)
+
+pub tally_of-most : (ns : List ℕ) → (tally_of ns).most ≡ greatest ns
+tally_of-most ns = tallied_all-most (tally_of []) ns
+
+pub sizes-most : (most : ℕ) (ns : List ℕ) → All (λ n. n ≤ most) ns → sum ns ≤ length ns * most
+sizes-most most [] h = omega arith
+sizes-most most (n ∷ ns) h =
+    let here : n ≤ most = All-head (λ (m : ℕ). m ≤ most) n ns h in
+    let rest = sizes-most most ns (All-tail (λ (m : ℕ). m ≤ most) n ns h) in
+    let more = sum_by-cons (λ (m : ℕ). m) n ns in
+    omega (arith, here, rest, more)

@@ -1,0 +1,39 @@
+ghost use Rattle.std.specs.Prelude.{◌≡◌, [], ◌∷◌};
+ghost use Rattle.vc_layouts.specs.Tally.{HasRoom, tallied, tally_of};
+
+/// How many sizes there are, their sum and the greatest, in bytes.
+#[derive(Clone, Copy)]
+pub struct Tally {
+    /// How many there are.
+    pub count: u64,
+    /// Their sum.
+    pub bytes: u64,
+    /// The greatest; 0 where there is none.
+    pub most: u64,
+}
+
+impl Tally {
+    /// Of no size.
+    pub fn new() -> Tally
+        ensures { result ≡ tally_of [] }
+    {
+        Tally {
+            count: 0,
+            bytes: 0,
+            most: 0,
+        }
+    }
+
+    /// With one more size.
+    pub fn with(self, size: u32) -> Tally
+        requires { HasRoom self (size ∷ []) }
+        ensures { result ≡ tallied self size }
+    {
+        let size = size as u64;
+        Tally {
+            count: self.count + 1,
+            bytes: self.bytes + size,
+            most: if self.most < size { size } else { self.most },
+        }
+    }
+}

@@ -1,0 +1,9 @@
+use Rattle.std.proofs.Common.{refl}
+use Rattle.vc_pool.proofs.Keeps.{empty-is, empty-kept}
+use Rattle.vc_pool.proofs.pool.Pool.open.Goals as goal
+
+pub invariant_of-result : goal.invariant_of-result
+invariant_of-result g c = record { kept = ∣ empty-kept c.new.result.items c.new.ensures.items ∣₁ }
+
+pub returns-clause-ok : goal.returns-clause-ok
+returns-clause-ok g c = (empty-is c.new.result.items c.new.ensures.items, refl)

@@ -1,0 +1,13 @@
+use Rattle.std.proofs.Common.{ℕ, List, drop, map, ap, sym, ◌∙◌}
+use Rattle.vc_layouts.specs.Tally.{tally_of}
+use Rattle.vc_pool_cells.specs.Blocks.{pair_of}
+use Rattle.vc_pool_cells.specs.Place.{cells_in}
+use Rattle.vc_pool_cells.specs.declared.segment.PoolSegment.{PoolSegment}
+use Rattle.vc_pool.proofs.Keeps.{pairs-of}
+use Rattle.vc_pool.proofs.pool.Pool.tally_behind.Goals as goal
+
+pub returns-clause-value : goal.returns-clause-value
+returns-clause-value g c =
+    c.tally_behind.ensures.value
+    ∙ (ap (λ (ss : List PoolSegment). tally_of (map (λ (s : ℕ × ℕ). s.1) (drop c.args.first (map pair_of (cells_in ss))))) c.deref.ensures.value
+    ∙ ap (λ (ps : List (ℕ × ℕ)). tally_of (map (λ (s : ℕ × ℕ). s.1) (drop c.args.first ps))) (sym (pairs-of c.args.self.now.segs.items c.args.self.now.element c.args.self.now.freed.0)))

@@ -1,0 +1,99 @@
+use Rattle.std.proofs.Common.{◌≡◌, ◌++◌, ◌≤◌, List, take, drop, length, ap, sym, subst, ◌∙◌, arith}
+use Rattle.std.proofs.lemmas.List.{with_items_is}
+use Rattle.vc_pool_cells.specs.Call.{IsReused}
+use Rattle.vc_pool_cells.specs.Kept.{IsPool}
+use Rattle.vc_pool_cells.specs.Place.{cells_in}
+use Rattle.vc_pool_cells.specs.declared.segment.PoolSegment.{PoolSegment}
+use Rattle.vc_pool.specs.Read.{pool_by}
+use Rattle.vc_pool.proofs.Calls.{asked-refusal, carved-disc, empty-freed, freed-some, full-is, granted-disc, pool-with, put-carved, put-granted, put-reused}
+use Rattle.vc_pool.proofs.Grants.{granted-from, no-grant-from}
+use Rattle.vc_pool.proofs.put.alloc_in.Goals as goal
+use Rattle.vc_pool.proofs.put.alloc_in.Goals.{After-element_with-set, After-reuse}
+use Rattle.vc_pool.proofs.put.alloc_in.Given.{Over}
+
+-- the segments with the element size that the block has
+h : (g : Over) (c : After-element_with-set g) → IsPool c.element_with-set.result (cells_in c.args.segs.now.items) c.args.freed.now.0
+h g c = pool-with c.element_with-set.result c.args.element.now (cells_in c.args.segs.now.items) c.args.freed.now.0 c.args.size c.element_with-set.ensures.set c.element_with-set.ensures.unset c.requires.most c.requires.kept
+
+most : (g : Over) (c : After-element_with-set g) → c.element_with-set.result ≤ 16777216
+most g c = (h g c).cells.most
+
+items : (g : Over) (c : After-reuse g) → take c.args.segs.now.len (c.reuse.new.segs ++ drop (length c.reuse.new.segs) c.args.segs.now.items) ≡ c.reuse.new.segs
+items g c = with_items_is c.args.segs.now c.reuse.new.segs (omega (arith, c.reuse.auto.segs, c.deref_mut.ensures.len))
+
+reused : (g : Over) (c : After-reuse g) → IsReused c.element_with-set.result c.args.tag c.args.size (cells_in c.args.segs.now.items) (cells_in c.reuse.new.segs) c.args.freed.now.0 c.reuse.new.freed.0
+reused g c = subst (λ (ss : List PoolSegment). IsReused c.element_with-set.result c.args.tag c.args.size (cells_in ss) (cells_in c.reuse.new.segs) c.args.freed.now.0 c.reuse.new.freed.0) c.deref_mut.ensures.value c.reuse.ensures.reused
+
+some : (g : Over) (c : After-reuse g) → 1 ≤ c.args.element.now
+some g c = freed-some c.args.element.now c.args.freed.now.0 (cells_in c.args.segs.now.items) c.requires.kept c.if-freed-ne0.true
+
+pub returns-then-freed-ne0-clause-kept : goal.returns-then-freed-ne0-clause-kept
+returns-then-freed-ne0-clause-kept g c =
+    let at = (goal.at.returns-then-freed-ne0-clause-kept g c).After-reuse in
+    subst (λ (ss : List PoolSegment). IsPool c.args.element.now (cells_in ss) c.reuse.new.freed.0) (sym (items g at))
+    (subst (λ n. IsPool n (cells_in c.reuse.new.segs) c.reuse.new.freed.0) (sym (c.element_with-set.ensures.set (some g at))) (reused g at).kept)
+
+pub returns-then-freed-ne0-clause-answer : goal.returns-then-freed-ne0-clause-answer
+returns-then-freed-ne0-clause-answer g c =
+    let at = (goal.at.returns-then-freed-ne0-clause-answer g c).After-reuse in
+    put-reused _ c.args.segs.now.items c.args.element.now c.args.freed.now.0 c.element_with-set.result c.args.tag c.args.size c.element_with-set.ensures.set c.element_with-set.ensures.unset
+    c.reuse.result.0 c.reuse.new.freed.0 _ c.reuse.new.segs (items g at) c.reuse.ensures.value (some g at) c.if-size-set.false (reused g at)
+
+pub returns-in-Some-clause-kept : goal.returns-in-Some-clause-kept
+returns-in-Some-clause-kept g c =
+    let at = (goal.at.returns-in-Some-clause-kept g c).After-element_with-set in
+    (c.in-Some.ensures.carved c.args.freed.now.0 (h g at)).kept
+
+pub returns-in-Some-clause-answer : goal.returns-in-Some-clause-answer
+returns-in-Some-clause-answer g c =
+    let at = (goal.at.returns-in-Some-clause-answer g c).After-element_with-set in
+    put-carved _ c.args.segs.now.items c.args.element.now c.args.freed.now.0 c.element_with-set.result c.args.tag c.args.size c.element_with-set.ensures.set c.element_with-set.ensures.unset
+    c.requires.kept.cells (most g at) c.if-freed-ne0.false c.if-size-set.false c.requires.some
+    c.in-Some.a.0 c.put_carved.new.segs.items (sym c.in-Some.ensures.place) (c.in-Some.ensures.carved c.args.freed.now.0 (h g at))
+
+pub returns-in-Some-clause-disc : goal.returns-in-Some-clause-disc
+returns-in-Some-clause-disc g c =
+    let at = (goal.at.returns-in-Some-clause-disc g c).After-element_with-set in
+    carved-disc _ c.args.segs.now.items c.args.element.now c.args.freed.now.0 c.element_with-set.result c.args.tag c.args.size c.element_with-set.ensures.set c.element_with-set.ensures.unset
+    c.requires.kept.cells (most g at) c.if-freed-ne0.false c.if-size-set.false c.requires.some
+    c.in-Some.a.0 c.put_carved.new.segs.items _ (c.in-Some.ensures.carved c.args.freed.now.0 (h g at))
+
+pub returns-in-Ok-clause-kept : goal.returns-in-Ok-clause-kept
+returns-in-Ok-clause-kept g c =
+    let granted = granted-from c.element_with-set.result c.args.tag c.args.size _ c.put_carved.new.segs.items c.args.segs.now.items (cells_in c.put_in_new.new.segs.items) _ _ c.in-Ok.a.0 c.in-None.ensures.same c.in-Ok.ensures.granted in
+    (granted.carved c.args.element.now c.args.freed.now.0 c.element_with-set.ensures.set c.requires.kept).kept
+
+pub returns-in-Ok-clause-answer : goal.returns-in-Ok-clause-answer
+returns-in-Ok-clause-answer g c =
+    let at = (goal.at.returns-in-Ok-clause-answer g c).After-element_with-set in
+    put-granted _ c.args.segs.now.items c.args.element.now c.args.freed.now.0 c.element_with-set.result c.args.tag c.args.size c.element_with-set.ensures.set c.element_with-set.ensures.unset
+    c.requires.kept.cells (most g at) c.if-freed-ne0.false c.if-size-set.false c.requires.some
+    (full-is c.args.segs.now.items c.args.element.now c.args.freed.now.0 c.element_with-set.result c.args.size c.element_with-set.ensures.set c.element_with-set.ensures.unset (sym c.in-None.ensures.place))
+    c.in-Ok.a.0 c.put_in_new.new.segs.items _ _ c.requires.kept
+    (granted-from c.element_with-set.result c.args.tag c.args.size _ c.put_carved.new.segs.items c.args.segs.now.items (cells_in c.put_in_new.new.segs.items) _ _ c.in-Ok.a.0 c.in-None.ensures.same c.in-Ok.ensures.granted)
+
+pub returns-in-Ok-clause-disc : goal.returns-in-Ok-clause-disc
+returns-in-Ok-clause-disc g c =
+    let at = (goal.at.returns-in-Ok-clause-disc g c).After-element_with-set in
+    granted-disc _ c.args.segs.now.items c.args.element.now c.args.freed.now.0 c.element_with-set.result c.args.tag c.args.size c.element_with-set.ensures.set c.element_with-set.ensures.unset
+    c.requires.kept.cells (most g at) c.if-freed-ne0.false c.if-size-set.false c.requires.some
+    (full-is c.args.segs.now.items c.args.element.now c.args.freed.now.0 c.element_with-set.result c.args.size c.element_with-set.ensures.set c.element_with-set.ensures.unset (sym c.in-None.ensures.place))
+    c.in-Ok.a.0 c.put_in_new.new.segs.items _ _ c.requires.kept
+    (granted-from c.element_with-set.result c.args.tag c.args.size _ c.put_carved.new.segs.items c.args.segs.now.items (cells_in c.put_in_new.new.segs.items) _ _ c.in-Ok.a.0 c.in-None.ensures.same c.in-Ok.ensures.granted)
+
+pub returns-in-Err-clause-answer : goal.returns-in-Err-clause-answer
+returns-in-Err-clause-answer g c =
+    let at = (goal.at.returns-in-Err-clause-answer g c).After-element_with-set in (
+      asked-refusal _ c.args.segs.now.items c.args.element.now c.args.freed.now.0 c.element_with-set.result c.args.tag c.args.size c.element_with-set.ensures.set c.element_with-set.ensures.unset
+          c.requires.kept.cells (most g at) c.if-freed-ne0.false c.if-size-set.false c.requires.some
+          (full-is c.args.segs.now.items c.args.element.now c.args.freed.now.0 c.element_with-set.result c.args.size c.element_with-set.ensures.set c.element_with-set.ensures.unset (sym c.in-None.ensures.place))
+          c.in-Err.fault (no-grant-from _ c.put_carved.new.segs.items c.args.segs.now.items c.in-Err.fault c.in-None.ensures.same c.in-Err.ensures.fault),
+      ap (λ (ss : List PoolSegment). pool_by ss c.args.element.now c.args.freed.now.0) (c.in-Err.ensures.same ∙ c.in-None.ensures.same),
+    )
+
+pub returns-in-Err-clause-no_memory : goal.returns-in-Err-clause-no_memory
+returns-in-Err-clause-no_memory g c =
+    λ e. record {
+      freed = empty-freed c.args.segs.now.items c.args.element.now c.args.freed.now.0 c.if-freed-ne0.false;
+      uncarved = full-is c.args.segs.now.items c.args.element.now c.args.freed.now.0 c.element_with-set.result c.args.size c.element_with-set.ensures.set c.element_with-set.ensures.unset (sym c.in-None.ensures.place);
+    }

@@ -1,0 +1,149 @@
+ghost use Rattle.std.specs.Prelude.{◌≡◌, ℕ, ◌+◌, ◌-◌, ◌/◌, ◌<◌, ◌≤◌, [], Err, None, IfErr, IfOk, IfSome, IfNone, IsErrOf, OnErr, OnOk, map, option_map, replicate, vec_capacity, vec_len};
+ghost use Rattle.vc_model.specs.Addr.{place_of};
+ghost use Rattle.vc_model.specs.Pool.{cell_for, pool_alloc, pool_need, uncarved};
+ghost use Rattle.vc_model.specs.Segments.{round_up};
+ghost use Rattle.vc_pool.specs.Ask.{LacksCell};
+ghost use Rattle.vc_pool.specs.Call.{IsGranted};
+ghost use Rattle.vc_pool.specs.Read.{pool_by};
+ghost use Rattle.vc_pool_carve.specs.Call.{IsCarvedAt};
+ghost use Rattle.vc_pool_cells.specs.Blocks.{carved_by, pair_of};
+ghost use Rattle.vc_pool_cells.specs.Kept.{AreCellular, IsFront, IsPool};
+ghost use Rattle.vc_pool_cells.specs.Place.{cells_in};
+ghost use Rattle.vc_seg.specs.Answer.{Answers, Asks};
+ghost use Rattle.vc_segments.specs.Lend.{IsAsked, IsNoGrant};
+
+use crate::number::lowest_unused;
+use std::alloc::Global;
+use vc_base::Addr;
+use vc_pool_carve::{carve_lowest, carve_new};
+use vc_pool_cells::{PoolSegment, reuse};
+use vc_seg::{RegionFault, SegDisc, round_of, rounded_up};
+use vc_segments::lend_segment;
+
+/// The element size when a block of this size is put: the first block sets it. 0 stands for none.
+fn element_with(element: u32, size: u32) -> u32
+    requires { 1 ≤ size }
+    ensures set { 1 ≤ element → element ≡ result }
+    ensures unset { element ≡ 0 → result ≡ size }
+    ensures some { 1 ≤ result }
+{
+    if element == 0 { size } else { element }
+}
+
+/// Room for one more.
+fn reserve_one<T>(list: &mut Vec<T>) -> Result<(), RegionFault>
+    ensures items { list.new.items ≡ list.old.items }
+    ensures ok { OnOk result (vec_len list.new < vec_capacity list.new) }
+    ensures only { IfErr result (λ e. e ≡ RegionFault.OutOfMemory) }
+{
+    list.reserve(1).map_err(|_| RegionFault::OutOfMemory)
+}
+
+/// A table with a pair (0, 0) for each of that many cells.
+fn table_of(alloc: Global, cells: u32) -> Result<Vec<(u32, u32)>, RegionFault>
+    ensures items { IfOk result (λ table. table.items ≡ replicate cells (0, 0)) }
+    ensures only { IfErr result (λ e. e ≡ RegionFault.OutOfMemory) }
+{
+    vec![in alloc; (0u32, 0u32); cells as usize].map_err(|_| RegionFault::OutOfMemory)
+}
+
+/// A block of zeros in the first cell of a segment that is asked for, under the least number that no segment has.
+/// `TooManySegments` comes exactly where there are 1,023, `NoSegment` where the discipline refuses. The memory for the
+/// list and for the table of the cells comes first, so that nothing is asked for in vain.
+fn put_in_new(
+    segs: &mut Vec<PoolSegment>,
+    disc: &mut Box<dyn SegDisc>,
+    alloc: Global,
+    element: u32,
+    size: u32,
+    tag: u32,
+) -> Result<Addr, RegionFault>
+    requires kept { AreCellular element (cells_in segs.old.items) }
+    requires full { uncarved (cell_for element) (carved_by (cells_in segs.old.items))
+        (map pair_of (cells_in segs.old.items)) ≡ None }
+    requires some { 1 ≤ size }
+    requires fits { size ≤ element }
+    ensures granted { IfOk result (λ a. IsGranted element tag size
+        (round_up (32 + cell_for element) (state disc.old).terms.round)
+        (cells_in segs.old.items) (cells_in segs.new.items) (state disc.old) (state disc.new) a.0) }
+    ensures fault { IfErr result (IsNoGrant
+        (round_up (32 + cell_for element) (state disc.old).terms.round)
+        (map pair_of (cells_in segs.old.items))) }
+    ensures same { OnErr result (segs.new.items ≡ segs.old.items) }
+    ensures disc { IfErr result (λ why. IsAsked (Err why) (state disc.old) (state disc.new)
+        (round_up (32 + cell_for element) (state disc.old).terms.round)) }
+{
+    if segs.len() >= 1023 {
+        return Err(RegionFault::TooManySegments);
+    }
+    let cell = rounded_up(element, 32);
+    let bytes = rounded_up(32 + cell, round_of(disc));
+    reserve_one(segs)?;
+    let table = table_of(alloc, (bytes - 32) / cell)?;
+    let number = lowest_unused(segs);
+    let segment = lend_segment(disc, alloc, number, bytes)?;
+    Ok(carve_new(segs, segment, table, element, size, tag))
+}
+
+/// A block of zeros in the lowest uncarved cell, where there is one.
+fn put_carved(segs: &mut Vec<PoolSegment>, element: u32, size: u32, tag: u32) -> Option<Addr>
+    requires kept { AreCellular element (cells_in segs.old.items) }
+    requires front { IsFront (cells_in segs.old.items) }
+    requires some { 1 ≤ size }
+    requires fits { size ≤ element }
+    ensures place { option_map (λ a. place_of a.0) result
+        ≡ uncarved (cell_for element) (carved_by (cells_in segs.old.items))
+        (map pair_of (cells_in segs.old.items)) }
+    ensures carved { IfSome result (λ a. (last : ℕ) → IsPool element (cells_in segs.old.items) last
+        → IsCarvedAt element tag size (cells_in segs.old.items) (cells_in segs.new.items) last a.0) }
+    ensures same { IfNone result (segs.new.items ≡ segs.old.items) }
+{
+    carve_lowest(segs, element, size, tag)
+}
+
+/// A block of zeros in the cell freed last, else in the lowest uncarved cell, else in a segment that is asked for.
+pub(crate) fn alloc_in(
+    segs: &mut Vec<PoolSegment>,
+    element: &mut u32,
+    freed: &mut Addr,
+    disc: &mut Box<dyn SegDisc>,
+    alloc: Global,
+    size: u32,
+    tag: u32,
+) -> Result<Addr, RegionFault>
+    requires kept { IsPool element.old (cells_in segs.old.items) freed.old.0 }
+    requires some { 1 ≤ size }
+    requires most { size ≤ 16777216 }
+    ensures kept { IsPool element.new (cells_in segs.new.items) freed.new.0 }
+    ensures answer { Answers (pool_alloc (state disc.old).terms
+        (pool_by segs.old.items element.old freed.old.0) tag size) result
+        (pool_by segs.old.items element.old freed.old.0)
+        (pool_by segs.new.items element.new freed.new.0) }
+    ensures disc { Asks result (state disc.old) (state disc.new)
+        (pool_by segs.old.items element.old freed.old.0).layout.segments
+        (pool_by segs.new.items element.new freed.new.0).layout.segments
+        (pool_need (state disc.old).terms (pool_by segs.old.items element.old freed.old.0) size) }
+    ensures no_memory { IsErrOf result RegionFault.OutOfMemory
+        → LacksCell (pool_by segs.old.items element.old freed.old.0) size }
+{
+    let set = element_with(*element, size);
+    if size > set {
+        return Err(RegionFault::PoolSize);
+    }
+    if freed.0 != 0 {
+        return Ok(reuse(segs, freed, set, size, tag));
+    }
+    match put_carved(segs, set, size, tag) {
+        Some(a) => {
+            *element = set;
+            Ok(a)
+        }
+        None => match put_in_new(segs, disc, alloc, set, size, tag) {
+            Ok(a) => {
+                *element = set;
+                Ok(a)
+            }
+            Err(fault) => Err(fault),
+        },
+    }
+}

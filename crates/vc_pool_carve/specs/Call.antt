@@ -1,0 +1,35 @@
+-- What the calls that carve a cell, or uncarve all, leave of a pool's segments, by those before and after and by the address of the cell freed last, 0 for none.
+use Rattle.std.specs.Prelude.{◌≡◌, ℕ, ◌≤◌, List, []}
+use Rattle.vc_model.specs.Addr.{place_of}
+use Rattle.vc_model.specs.Compact.{cleared}
+use Rattle.vc_model.specs.Layout.{with_segment}
+use Rattle.vc_model.specs.Pool.{carve, cell_for}
+use Rattle.vc_pool_cells.specs.Blocks.{carved_by, layout_by, with_zeros}
+use Rattle.vc_pool_cells.specs.Cells.{Cells}
+use Rattle.vc_pool_cells.specs.Freed.{freed_by}
+use Rattle.vc_pool_cells.specs.Kept.{IsPool}
+
+-- a block of zeros is in the lowest uncarved cell of a segment, which stands at an address
+pub record IsCarvedAt (element tag size : ℕ) (old new : List Cells) (last a : ℕ) : Type 0 where
+  pub kept : IsPool element new last
+  pub layout : layout_by (cell_for element) new ≡ with_zeros (layout_by (cell_for element) old) tag size (place_of a)
+  pub freed : freed_by new last ≡ freed_by old last
+  pub carved : carved_by new ≡ carve (place_of a).0 (carved_by old)
+
+-- the element size of a pool stays, or is set where none was, which is 0
+abbrev pub IsSetFrom : ℕ → ℕ → Type 0
+IsSetFrom element before = 1 ≤ before → before ≡ element
+
+-- one more segment, as number and size, stands behind the others, and a block of zeros is in its first cell
+pub record IsCarvedNew (element tag size : ℕ) (old new : List Cells) (segment : ℕ × ℕ) (last : ℕ) : Type 0 where
+  pub kept : IsPool element new last
+  pub layout : layout_by (cell_for element) new ≡ with_zeros (with_segment (layout_by (cell_for element) old) segment) tag size (segment.0, 32)
+  pub freed : freed_by new last ≡ freed_by old last
+  pub carved : carved_by new ≡ carve segment.0 (carved_by old)
+
+-- no block is left, and no cell is carved
+pub record IsCleared (element : ℕ) (old new : List Cells) : Type 0 where
+  pub kept : IsPool element new 0
+  pub layout : layout_by (cell_for element) new ≡ cleared (layout_by (cell_for element) old)
+  pub freed : freed_by new 0 ≡ []
+  pub carved : carved_by new ≡ []

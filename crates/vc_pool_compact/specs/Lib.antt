@@ -1,0 +1,13 @@
+pub use Rattle.vc_model.specs.Addr
+pub use Rattle.vc_model.specs.Compact
+pub use Rattle.vc_model.specs.Discipline
+pub use Rattle.vc_model.specs.Pool
+pub use Rattle.vc_seg.specs.Segment
+pub use Rattle.vc_pool_cells.specs.Blocks
+pub use Rattle.vc_pool_cells.specs.Cells
+pub use Rattle.vc_pool_cells.specs.Freed
+pub use Rattle.vc_pool_cells.specs.Kept
+pub use Rattle.vc_pool_cells.specs.Place
+pub mod Relink
+pub mod Marks
+pub mod Back

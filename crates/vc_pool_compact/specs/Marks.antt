@@ -1,0 +1,12 @@
+-- Which segments of a pool have a block.
+use Rattle.std.specs.Prelude.{ℕ, List, Bool, nat_lt, ◌==◌, ◌&&◌}
+use Rattle.std.specs.List.{list_any}
+use Rattle.vc_pool_cells.specs.Cells.{Cells}
+
+-- whether a block is in a cell of a segment
+abbrev pub has_block : Cells → Bool
+has_block s = list_any (λ (c : ℕ × ℕ). nat_lt 0 c.0) s.pairs
+
+-- whether one is in the segment of a number
+abbrev pub is_busy : List Cells → ℕ → Bool
+is_busy segs n = list_any (λ (s : Cells). (s.number == n) && has_block s) segs

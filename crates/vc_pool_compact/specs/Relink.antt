@@ -1,0 +1,41 @@
+-- A chain of freed cells of which some leave.
+use Rattle.std.specs.Prelude.{◌≡◌, ℕ, ◌≤◌, List, [], ◌∷◌, ◌++◌, Bool, filter, set, get_or}
+use Rattle.vc_model.specs.Addr.{place_of}
+use Rattle.vc_pool_cells.specs.Blocks.{carved_by, layout_by}
+use Rattle.vc_pool_cells.specs.Cells.{Cells, released}
+use Rattle.vc_pool_cells.specs.Freed.{IsChain, link_at}
+use Rattle.vc_pool_cells.specs.Kept.{IsPoolOf}
+use Rattle.vc_pool_cells.specs.Place.{IsCellAt}
+
+-- the cells at these places are linked, from one address on to another; `before` is the address before the first of them, and `last` that of the last, or `before` where there is none
+abbrev pub IsRun : List Cells → ℕ → ℕ → List (ℕ × ℕ) → ℕ → ℕ → Type 0
+IsRun segs a before [] last to = (before ≡ last) × (a ≡ to)
+IsRun segs a before (p ∷ ps) last to = (1 ≤ a) × (place_of a ≡ p) × IsRun segs (link_at segs a) a ps last to
+
+-- the chain of freed cells, up to the last of those that stay and from an address on
+pub record IsSplit (element : ℕ) (segs : List Cells) (freed last at : ℕ) (kept rest : List (ℕ × ℕ)) : Type 0 where
+  pub pool : IsPoolOf element segs freed (kept ++ rest)
+  pub run : IsRun segs freed 0 kept last at
+  pub chain : IsChain segs at rest
+
+abbrev pub HasSplit : ℕ → List Cells → ℕ → ℕ → ℕ → Type 0
+HasSplit element segs freed last at = (kept : List (ℕ × ℕ)) × (rest : List (ℕ × ℕ)) × IsSplit element segs freed last at kept rest
+
+-- of these freed cells those up to an address that are in segments that stay, and all from there on
+pub record IsSifted (element : ℕ) (stays : ℕ → Bool) (all : List (ℕ × ℕ)) (segs : List Cells) (freed last at : ℕ) : Type 0 where
+  pub kept : List (ℕ × ℕ)
+  pub rest : List (ℕ × ℕ)
+  pub split : IsSplit element segs freed last at kept rest
+  pub sifted : kept ++ filter (λ p. stays p.0) rest ≡ filter (λ p. stays p.0) all
+
+-- the cell at an address has a link, and no block
+pub record IsLinked (cell : ℕ) (old new : List Cells) (a link : ℕ) : Type 0 where
+  pub i : ℕ
+  pub index : ℕ
+  pub there : IsCellAt cell old (place_of a) i index
+  pub segs : (d : Cells) → new ≡ set old i (released cell index link (get_or old i d))
+
+-- the segments with their blocks stay, and their counts of carved cells
+pub record KeepsAll (cell : ℕ) (old new : List Cells) : Type 0 where
+  pub layout : layout_by cell new ≡ layout_by cell old
+  pub carved : carved_by new ≡ carved_by old

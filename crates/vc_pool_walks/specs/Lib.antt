@@ -1,0 +1,15 @@
+pub use Rattle.vc_layouts.specs.Tally
+pub use Rattle.vc_model.specs.Addr
+pub use Rattle.vc_model.specs.Numbers
+pub use Rattle.vc_model.specs.Order
+pub use Rattle.vc_model.specs.Pool
+pub use Rattle.vc_model.specs.Touch
+pub use Rattle.vc_model.specs.Walk
+pub use Rattle.vc_pool_cells.specs.Blocks
+pub use Rattle.vc_pool_cells.specs.Cells
+pub use Rattle.vc_pool_cells.specs.Freed
+pub use Rattle.vc_pool_cells.specs.Kept
+pub use Rattle.vc_pool_cells.specs.Place
+pub use Rattle.vc_seg.specs.Segment
+pub mod Sizes
+pub mod First

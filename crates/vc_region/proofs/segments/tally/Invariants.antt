@@ -1,0 +1,12 @@
+use Rattle.std.proofs.Common.{◌≡◌, drop, map}
+use Rattle.vc_seg.specs.Segment.{pair_of}
+use Rattle.vc_layouts.specs.Tally.{HasRoom, tallied_all, tally_of}
+use Rattle.vc_region.proofs.segments.tally.Given as goal
+
+-- the tally so far, taken on over the segments that are left, is the result
+abbrev pub invariant-loop-segment : goal.invariant-loop-segment
+invariant-loop-segment l =
+    record {
+      room : HasRoom l.tally (map (λ s. s.1) (map pair_of (drop l.segment-index l.segments)));
+      rest : tallied_all l.tally (map (λ s. s.1) (map pair_of (drop l.segment-index l.segments))) ≡ tally_of (map (λ s. s.1) (map pair_of l.segments));
+    }
