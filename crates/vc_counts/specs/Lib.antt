@@ -3,3 +3,4 @@ pub mod Reach
 pub mod Holders
 pub mod Working
 pub mod CanCount
+pub mod Counting

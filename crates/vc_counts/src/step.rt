@@ -1,20 +1,19 @@
 // A step that is counted.
-ghost use Rattle.std.specs.Prelude.{◌≡◌, ◌<◌, ◌^◌, ℕ, bytes_eq, false, length, ◌≤◌, IfOk, IsTrue, OnErr, OnOk};
+ghost use Rattle.std.specs.Prelude.{◌≡◌, ◌<◌, ◌^◌, ◌≤◌, bytes_eq, length};
 ghost use Rattle.std.specs.List.{IsDistinct};
 ghost use Rattle.std.specs.Map.{keys_of};
 ghost use Rattle.vc_counts.specs.CanCount.{CanCount};
-ghost use Rattle.vc_counts.specs.Counts.{busy_in, counted};
+ghost use Rattle.vc_counts.specs.Counting.{CountsStep, IsSpentBy};
+ghost use Rattle.vc_counts.specs.Counts.{busy_in};
 ghost use Rattle.vc_counts.specs.Holders.{AreSomeDicts};
 ghost use Rattle.vc_counts.specs.Working.{busy_in_home, dict_in, open_state, reached_at, region_worked, segments_at, table_in, tally_behind, worked_in};
 ghost use Rattle.vc_objects.specs.Objects.{slots_of, table_size};
 ghost use Rattle.vc_objects.specs.Parts.{table_of};
-ghost use Rattle.vc_script.specs.Needs.{is_refusal, need_shown};
+ghost use Rattle.vc_script.specs.Needs.{is_refusal};
 ghost use Rattle.vc_steps.specs.Homes.{IsSessionOver, held_in, state_over};
-ghost use Rattle.vc_steps.specs.Moment.{moment};
 ghost use Rattle.vc_steps.specs.Sizes.{AreNamed};
 ghost use Rattle.vc_steps.specs.State.{home_named};
-ghost use Rattle.vc_steps.specs.Step.{step};
-ghost use Rattle.vc_steps.specs.Steps.{Lasts, StepsBy};
+ghost use Rattle.vc_steps.specs.Steps.{RunsOver};
 ghost use Rattle.vc_steps.specs.Told.{rules_in};
 ghost use Rattle.vc_views.specs.Views.{dict_named};
 
@@ -23,9 +22,9 @@ use crate::holders::holders_bytes;
 use crate::reach::{Reach, freed_by, put_by, reach_of};
 use indexmap::IndexMap;
 use vc_base::{Name, OutOfMemory};
-use vc_layouts::Tally;
 use vc_dict::Dict;
 use vc_dtdisc::DictDisc;
+use vc_layouts::Tally;
 use vc_script::{Command, Reply};
 use vc_seg::{BoxedDisc, SegDisc, Shelf};
 use vc_steps::{DictEntry, HomeEntry, Session, dict_of, region_of};
@@ -183,21 +182,10 @@ pub fn counted_step<D: DictDisc>(
     requires session { IsSessionOver state D.rules shelf.old session.old kinds.old.items }
     requires counts { CanCount counts.old (busy_in
         (state_over state (rules_in D.rules kinds.old.items) shelf.old session.old)) line }
-    ensures steps { StepsBy result
-        (moment state D.rules D.gone shelf.old session.old kinds.old.items)
-        (moment state D.rules D.gone shelf.new session.new kinds.new.items)
-        command.now (λ s. step s line command.now) }
-    ensures lasts { Lasts state D.rules shelf.old session.old kinds.old.items
-        shelf.new session.new kinds.new.items }
-    ensures spent { IsTrue session.old.is_spent → OnOk result ⊥ }
-    ensures stays_spent { OnErr result (IsTrue session.new.is_spent) }
-    ensures not_spent { OnOk result (session.new.is_spent ≡ false) }
-    ensures counts { IfOk result (λ reply. counts.new ≡ counted counts.old
-        (step (state_over state (rules_in D.rules kinds.old.items) shelf.old session.old)
-        line command.now (need_shown reply))) }
-    ensures stays { OnErr result (counts.new ≡ counts.old) }
-    ensures can { OnOk result ((later : ℕ) → line < later → CanCount counts.new (busy_in
-        (state_over state (rules_in D.rules kinds.new.items) shelf.new session.new)) later) }
+    ensures runs { RunsOver state D.rules D.gone shelf.old session.old kinds.old.items
+        shelf.new session.new kinds.new.items
+        (λ now next. CountsStep result now next line command.now counts.old counts.new) }
+    ensures spent { IsSpentBy result session.old.is_spent session.new.is_spent }
 {
     show_names(&session.homes, &session.dicts);
     let reach = reach_of(command);

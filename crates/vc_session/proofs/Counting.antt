@@ -1,7 +1,6 @@
 -- A quiet run can count on.
-use Rattle.std.proofs.Common.{◌≡◌, ℕ, ◌<◌, ◌≤◌, Bool, false, List, [], map, Result, Ok, Err, OnOk, arith, ap, sym, ◌∙◌}
-use Rattle.std.specs.Prelude.{IsTrue, sum}
-use Rattle.std.proofs.lemmas.Bool.{false≢true}
+use Rattle.std.proofs.Common.{◌≡◌, ℕ, ◌<◌, ◌≤◌, Bool, List, [], map, Result, Ok, Err, OnOk, arith, ap, sym}
+use Rattle.std.specs.Prelude.{IfOk, IsTrue, sum}
 use Rattle.vc_counts.specs.CanCount.{CanCount}
 use Rattle.vc_counts.specs.Counts.{busy_in, no_counts}
 use Rattle.vc_counts.specs.declared.counts.Counts.{Counts}
@@ -17,9 +16,9 @@ use Rattle.vc_steps.specs.Homes.{held_all, state_over}
 use Rattle.vc_steps.specs.State.{State}
 use Rattle.vc_steps.specs.declared.session.Session.{Session}
 
-pub on_ok-map : {T E P Q : Type 0} (r : Result T E) → (P → Q) → OnOk r P → OnOk r Q
-on_ok-map (Ok x) f holds = f holds
-on_ok-map (Err e) f holds = tt
+pub if_ok-map : {T E P Q : Type 0} (r : Result T E) → (P → Q) → OnOk r P → IfOk r (λ _. Q)
+if_ok-map (Ok x) f holds = f holds
+if_ok-map (Err e) f holds = tt
 
 pub on_ok-of : {T E P : Type 0} (r : Result T E) → P → OnOk r P
 on_ok-of (Ok x) holds = holds
@@ -34,10 +33,6 @@ can-on quiet c busy n can is_quiet line later = can-later c busy n line later (c
 
 pub can-same : (quiet : Bool) (c : Counts) (busy n m : ℕ) → m ≡ n → (IsTrue quiet → (line : ℕ) → n < line → CanCount c busy line) → IsTrue quiet → (line : ℕ) → m < line → CanCount c busy line
 can-same quiet c busy n m same can is_quiet line later = can is_quiet line (omega (arith, same, later))
-
--- a run that isn't quiet counts nothing
-pub can-plain : (quiet : Bool) (c : Counts) (s : State) (n : ℕ) → quiet ≡ false → CanCountOn quiet c s n
-can-plain quiet c s n plain = λ is_quiet. absurd (false≢true (sym plain ∙ is_quiet))
 
 -- no block stands where no region is open
 pub busy-none : {I : Type 0} {V : I → Type 0} {D : Type 0} (meaning : (x : I) × V x → Discipline) (kinds : List Rules) (shelf : Shelf I V) (session : Session D I V) → session.homes.entries ≡ [] → busy_in (state_over meaning kinds shelf session) ≡ 0

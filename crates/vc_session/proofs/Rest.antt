@@ -1,8 +1,7 @@
 -- A run from a session in which nothing is open to the session's end.
-use Rattle.std.proofs.Common.{◌≡◌, zero, suc, refl, ℕ, Bool, List, [], ◌∷◌, Option, Some, None, Result, Ok, Err, IfOk, length, map, sym, ap, ◌∙◌, subst}
-use Rattle.std.specs.Prelude.{IfErr, IfSome, replicate, slice_get}
-use Rattle.std.proofs.lemmas.Option.{none-some}
-use Rattle.std.specs.List.{AllByRecursion, zip}
+use Rattle.std.proofs.Common.{◌≡◌, refl, ℕ, Bool, List, [], ◌∷◌, Option, Some, None, Result, Ok, Err, IfOk, map, sym, ap, ◌∙◌, subst}
+use Rattle.std.specs.Prelude.{IfErr, IfSome}
+use Rattle.std.specs.List.{AllByRecursion}
 use Rattle.vc_model.specs.Discipline.{Discipline}
 use Rattle.vc_dtdisc.specs.Rules.{Gone, Rules}
 use Rattle.vc_seg.specs.declared.shelf.Shelf.{Shelf}
@@ -10,11 +9,12 @@ use Rattle.vc_script.specs.declared.command.Command.{Command}
 use Rattle.vc_script.specs.declared.line_fault.LineFault.{LineFault}
 use Rattle.vc_script.specs.declared.tool.Tool.{Tool}
 use Rattle.vc_commands.specs.Held.{Held, home_of}
-use Rattle.vc_steps.specs.Account.{IsSession, Settles, accounts, settled, state_of}
-use Rattle.vc_paths.specs.Links.{link_at, no_links, numbers}
-use Rattle.vc_views.specs.Numbers.{AreLinked, views_by}
-use Rattle.vc_steps.specs.DictHomes.{AreDicts, dicts_in}
-use Rattle.vc_steps.specs.Homes.{held_entry, held_in, slots_on}
+use Rattle.vc_steps.specs.Account.{Settles, accounts, settled, state_of}
+use Rattle.vc_paths.specs.Links.{no_links}
+use Rattle.vc_views.specs.Numbers.{views_by}
+use Rattle.vc_steps.proofs.Starting.{new-stands, none-held}
+use Rattle.vc_steps.specs.DictHomes.{dicts_in}
+use Rattle.vc_steps.specs.Homes.{held_in, slots_on}
 use Rattle.vc_steps.specs.Moment.{Moment, moment, over_sink, rest_by, rest_of}
 use Rattle.vc_session.specs.ProperState.{IsProperHome, IsProperOver}
 use Rattle.vc_session.specs.Replay.{IsCutShort, IsGenerated, IsReplay, IsRun, Told, run_by}
@@ -94,33 +94,14 @@ runs-rest tool w start before now after old new answer same rests r =
       writes = r.writes;
     }
 
--- without links and dictionaries nothing is linked
-no-link : (k n : ℕ) → link_at (slice_get (replicate k None) n) ≡ None
-no-link zero n = refl
-no-link (suc k) zero = refl
-no-link (suc k) (suc n) = no-link k n
-
-none-linked : AreLinked no_links []
-none-linked = record {
-  numbered = record { distinct = tt; below = tt };
-  linked = λ n m is. absurd (none-some m (sym (no-link numbers n) ∙ is));
-}
-
 -- a session in which nothing is open
 module _ {I : Type 0} {V : I → Type 0} {D : Type 0} (meaning : (x : I) × V x → Discipline) (rules : D → Rules) (gone : D → Gone) (shelf : Shelf I V) (session : Session D I V) (kinds : List D) (none : (session.homes.entries ≡ []) × (session.labels.items ≡ []) × (session.dicts.entries ≡ []) × (session.paths ≡ no_links)) where
   no_held : held_in meaning session ≡ []
-  no_held = ap (λ es. map (held_entry meaning) (zip es session.labels.items)) none.0
+  no_held = none-held meaning rules shelf session kinds none
 
   pub new-session : IsProperOver meaning rules shelf session kinds
   new-session = record {
-    stands = record {
-      regions = record {
-        named = ap length none.1 ∙ sym (ap length none.0);
-        held = subst (IsSession (slots_on meaning shelf)) (sym no_held) tt;
-      };
-      dicts = subst (AreDicts (rules_in rules kinds) (held_in meaning session)) (sym none.2) tt;
-      views = subst (λ links. AreLinked links session.dicts.entries) (sym none.3) (subst (AreLinked no_links) (sym none.2) none-linked);
-    };
+    stands = new-stands meaning rules shelf session kinds none;
     proper = subst (λ hs. AllByRecursion IsProperHome (map home_of hs)) (sym no_held) tt;
   }
 

@@ -10,6 +10,7 @@ use Rattle.vc_script.specs.declared.line_answer.LineAnswer.TheVariants.{Blank, I
 use Rattle.vc_script.specs.declared.line_fault.LineFault.{LineFault}
 use Rattle.vc_script.specs.declared.reply.Reply.{Reply}
 use Rattle.vc_script.specs.declared.tool.Tool.{Tool}
+use Rattle.vc_session.specs.Progress.{CountsOn}
 use Rattle.vc_session.specs.QuietText.{line_by}
 use Rattle.vc_session.specs.Replay.{IsCutShort, IsGenerated, IsReplay, ReplaysBy, Told}
 use Rattle.vc_session.specs.SoFar.{AtEnd}
@@ -20,7 +21,7 @@ use Rattle.vc_session.specs.declared.engine.Stop.TheVariants.{Read, Write}
 use Rattle.vc_steps.specs.Account.{Settles}
 use Rattle.vc_steps.specs.Moment.{Moment, ended, over_sink}
 use Rattle.vc_steps.specs.Step.{step}
-use Rattle.vc_steps.specs.Steps.{Steps}
+use Rattle.vc_steps.specs.Steps.{Steps, StepsBy}
 use Rattle.vc_words.specs.declared.words.Words.{Words}
 
 -- nothing was run
@@ -37,6 +38,11 @@ pub record IsStep (quiet : Bool) (now next : Moment) (before counts : Counts) (n
   pub steps : Steps now next command (step now.state n command (need_shown reply)) reply
   pub told : Told now.written next.written (line_by quiet (n, reply))
   pub counted : IsTrue quiet → counts ≡ counted before (step now.state n command (need_shown reply))
+
+-- what running the command of a line promises by its answer: it is a step, and quietly it was counted
+pub record RunsCommand {E : Type 0} (quiet : Bool) (answer : Result Reply E) (now next : Moment) (before counts : Counts) (n : ℕ) (command : Command) : Type 0 where
+  pub steps : StepsBy answer now next command (λ s. step s n command)
+  pub counts_on : CountsOn quiet answer counts next n (λ reply. IsTrue quiet → counts ≡ counted before (step now.state n command (need_shown reply)))
 
 -- a line was run by its answer
 abbrev pub LineRan : Bool → Moment → Moment → Counts → Counts → ℕ → LineAnswer → Option LineFault → Type 0

@@ -1,19 +1,24 @@
--- A run in its middle, by the commands that it ran.
-use Rattle.std.specs.Prelude.{◌≡◌, ℕ, ◌<◌, ◌≤◌, List, Bool, IsTrue, map}
+-- A run at its beginning and in its middle, by the commands that it ran.
+use Rattle.std.specs.Prelude.{◌≡◌, ℕ, ◌<◌, ◌≤◌, List, Bool, Result, IfOk, IsTrue, OnOk, map}
 use Rattle.std.specs.List.{AllByRecursion}
 use Rattle.vc_counts.specs.CanCount.{CanCount}
 use Rattle.vc_counts.specs.Counts.{busy_in}
 use Rattle.vc_counts.specs.declared.counts.Counts.{Counts}
+use Rattle.vc_dtdisc.specs.Rules.{Rules}
+use Rattle.vc_model.specs.Discipline.{Discipline}
 use Rattle.vc_script.specs.declared.command.Command.{Command}
 use Rattle.vc_script.specs.Needs.{IsAscending, Need, ShowsNeeds}
 use Rattle.vc_script.specs.ProperReply.{IsProperReply}
-use Rattle.vc_session.specs.ProperState.{IsProperState}
-use Rattle.vc_session.specs.Run.{Ran, lines_of, run}
+use Rattle.vc_seg.specs.declared.shelf.Shelf.{Shelf}
+use Rattle.vc_session.specs.ProperState.{IsProperOver, IsProperState}
+use Rattle.vc_session.specs.Run.{Ran, lines_of, nothing_ran, run}
 use Rattle.vc_session.specs.Text.{body_of, counts_of}
 use Rattle.vc_steps.specs.Account.{Settles}
+use Rattle.vc_steps.specs.Homes.{state_over}
 use Rattle.vc_steps.specs.Moment.{Moment}
 use Rattle.vc_steps.specs.State.{State}
-use Rattle.vc_steps.specs.Told.{tell}
+use Rattle.vc_steps.specs.Told.{rules_in, tell}
+use Rattle.vc_steps.specs.declared.session.Session.{Session}
 
 -- these commands, on rising lines up to that number, were run for the needs that their replies show, and that is the text of the replies, quiet or not; a quiet run counted so much
 pub record Progress (quiet : Bool) (start now : Moment) (counts : Counts) (text : List ℕ) (count : ℕ) (done : List (ℕ × Command)) : Type 0 where
@@ -33,3 +38,14 @@ pub record Progress (quiet : Bool) (start now : Moment) (counts : Counts) (text 
 -- a quiet run can count a command on any line behind that number
 abbrev pub CanCountOn : Bool → Counts → State → ℕ → Type 0
 CanCountOn quiet counts s count = IsTrue quiet → (line : ℕ) → count < line → CanCount counts (busy_in s) line
+
+-- a session that stands over a shelf and kinds can begin a run with these counts: of no command
+pub record CanBegin {I : Type 0} {V : I → Type 0} {D : Type 0} (quiet : Bool) (meaning : (x : I) × V x → Discipline) (rules : D → Rules) (shelf : Shelf I V) (session : Session D I V) (kinds : List D) (counts : Counts) : Type 0 where
+  pub over : IsProperOver meaning rules shelf session kinds
+  pub can : CanCountOn quiet counts (state_over meaning (rules_in rules kinds) shelf session) 0
+  pub zero : counts ≡ counts_of (nothing_ran (state_over meaning (rules_in rules kinds) shelf session))
+
+-- what ran up to a line, where it ended well, did that, and if it was quiet it can count a command on any line behind
+pub record CountsOn {T E : Type 0} (quiet : Bool) (answer : Result T E) (counts : Counts) (now : Moment) (line : ℕ) (did : T → Type 0) : Type 0 where
+  pub ran : IfOk answer did
+  pub can : OnOk answer (CanCountOn quiet counts now.state line)

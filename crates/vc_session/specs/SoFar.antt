@@ -10,6 +10,7 @@ use Rattle.vc_script.specs.Cutting.{Cutting, IsCutting}
 use Rattle.vc_script.specs.Judged.{judged, judged_from, last_number, line_limit}
 use Rattle.vc_script.specs.Lines.{ended_after, lines_after}
 use Rattle.vc_steps.specs.Moment.{Moment, over_sink}
+use Rattle.vc_steps.specs.State.{State}
 use Rattle.vc_session.specs.Progress.{CanCountOn, Progress}
 use Rattle.vc_session.specs.Replay.{ShowsNoFault, Stops, Told}
 use Rattle.vc_session.specs.Run.{commands, fault_in, first_bad, script, wholly_read}
@@ -80,6 +81,11 @@ pub record EndsAll (tool : Tool) (quiet : Bool) (first now : Moment) (before cou
 pub record CanFeed (s : Cutting) : Type 0 where
   pub is_open : IsTrue s.is_open
   pub cutting : IsCutting s
+
+-- and a quiet run can count the commands of later lines
+pub record CanGoOn (quiet : Bool) (counts : Counts) (now : State) (s : Cutting) : Type 0 where
+  pub feeds : CanFeed s
+  pub can_count : CanCountOn quiet counts now s.count
 
 -- the bytes that can still be taken without a fault
 abbrev pub fuel : Cutting → ℕ

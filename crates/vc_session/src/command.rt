@@ -1,14 +1,12 @@
 // What one command does, and what is written of its reply.
-ghost use Rattle.std.specs.Prelude.{◌≡◌, Some, IfOk, IsTrue, OnOk};
+ghost use Rattle.std.specs.Prelude.{Some, IsTrue};
 ghost use Rattle.vc_counts.specs.CanCount.{CanCount};
-ghost use Rattle.vc_counts.specs.Counts.{busy_in, counted};
-ghost use Rattle.vc_script.specs.Needs.{need_shown};
-ghost use Rattle.vc_session.specs.Engine.{IsStep};
-ghost use Rattle.vc_session.specs.Progress.{CanCountOn};
+ghost use Rattle.vc_counts.specs.Counts.{busy_in};
+ghost use Rattle.vc_session.specs.Engine.{IsStep, RunsCommand};
+ghost use Rattle.vc_session.specs.Progress.{CountsOn};
 ghost use Rattle.vc_steps.specs.Homes.{IsSessionOver, state_over};
-ghost use Rattle.vc_steps.specs.Moment.{moment, over_sink};
-ghost use Rattle.vc_steps.specs.Step.{step};
-ghost use Rattle.vc_steps.specs.Steps.{Lasts, StepsBy};
+ghost use Rattle.vc_steps.specs.Moment.{over_sink};
+ghost use Rattle.vc_steps.specs.Steps.{RunsOver};
 ghost use Rattle.vc_steps.specs.Told.{rules_in};
 
 use crate::gather::gather;
@@ -33,17 +31,9 @@ fn run_command<D: DictDisc>(
     requires session { IsSessionOver state D.rules shelf.old session.old kinds.old.items }
     requires counts { IsTrue quiet → CanCount counts.old (busy_in
         (state_over state (rules_in D.rules kinds.old.items) shelf.old session.old)) n }
-    ensures steps { StepsBy result
-        (moment state D.rules D.gone shelf.old session.old kinds.old.items)
-        (moment state D.rules D.gone shelf.new session.new kinds.new.items)
-        command.now (λ s. step s n command.now) }
-    ensures lasts { Lasts state D.rules shelf.old session.old kinds.old.items
-        shelf.new session.new kinds.new.items }
-    ensures counts { IfOk result (λ reply. IsTrue quiet → counts.new ≡ counted counts.old
-        (step (state_over state (rules_in D.rules kinds.old.items) shelf.old session.old)
-        n command.now (need_shown reply))) }
-    ensures can { OnOk result (CanCountOn quiet counts.new
-        (state_over state (rules_in D.rules kinds.new.items) shelf.new session.new) n) }
+    ensures { RunsOver state D.rules D.gone shelf.old session.old kinds.old.items
+        shelf.new session.new kinds.new.items
+        (λ now next. RunsCommand quiet result now next counts.old counts.new n command.now) }
 {
     if quiet {
         return counted_step(session, shelf, kinds, n, command, counts);
@@ -66,16 +56,11 @@ pub(crate) fn run_answer<D: DictDisc>(
     requires session { IsSessionOver state D.rules shelf.old session.old kinds.old.items }
     requires counts { IsTrue quiet → CanCount counts.old (busy_in
         (state_over state (rules_in D.rules kinds.old.items) shelf.old session.old)) n }
-    ensures ran { OnOk result (IsStep quiet
-        (over_sink (moment state D.rules D.gone shelf.old session.old kinds.old.items)
-        (Some replies.old.items))
-        (over_sink (moment state D.rules D.gone shelf.new session.new kinds.new.items)
-        (Some replies.new.items))
-        counts.old counts.new n command.now) }
-    ensures lasts { Lasts state D.rules shelf.old session.old kinds.old.items
-        shelf.new session.new kinds.new.items }
-    ensures can { OnOk result (CanCountOn quiet counts.new
-        (state_over state (rules_in D.rules kinds.new.items) shelf.new session.new) n) }
+    ensures { RunsOver state D.rules D.gone shelf.old session.old kinds.old.items
+        shelf.new session.new kinds.new.items
+        (λ now next. CountsOn quiet result counts.new next n (λ _. IsStep quiet
+        (over_sink now (Some replies.old.items)) (over_sink next (Some replies.new.items))
+        counts.old counts.new n command.now)) }
 {
     let reply = run_command(quiet, session, shelf, kinds, n, command, counts)?;
     gather(alloc, quiet, n, &reply, replies)

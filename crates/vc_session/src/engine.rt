@@ -1,19 +1,16 @@
 // The lines of a source, run in order as they come.
-ghost use Rattle.std.specs.Prelude.{◌≡◌, [], Some, IfOk, IsTrue, OnOk};
+ghost use Rattle.std.specs.Prelude.{◌≡◌, [], Some, IfOk, IsTrue};
 ghost use Rattle.vc_counts.specs.CanCount.{CanCount};
 ghost use Rattle.vc_counts.specs.Counts.{busy_in};
 ghost use Rattle.vc_script.specs.Answer.{answer};
 ghost use Rattle.vc_script.specs.Cutting.{new_cutting};
 ghost use Rattle.vc_session.specs.Engine.{LineRan, RunsLines};
-ghost use Rattle.vc_session.specs.Progress.{CanCountOn};
-ghost use Rattle.vc_session.specs.ProperState.{IsProperOver};
-ghost use Rattle.vc_session.specs.Run.{nothing_ran};
-ghost use Rattle.vc_session.specs.SoFar.{CanFeed, EndsAll, RunsPiece};
+ghost use Rattle.vc_session.specs.Progress.{CanBegin, CountsOn};
+ghost use Rattle.vc_session.specs.SoFar.{CanGoOn, EndsAll, RunsPiece};
 ghost use Rattle.vc_session.specs.Streams.{flows};
-ghost use Rattle.vc_session.specs.Text.{counts_of};
 ghost use Rattle.vc_steps.specs.Homes.{IsSessionOver, state_over};
-ghost use Rattle.vc_steps.specs.Moment.{moment, over_sink};
-ghost use Rattle.vc_steps.specs.Steps.{Lasts};
+ghost use Rattle.vc_steps.specs.Moment.{over_sink};
+ghost use Rattle.vc_steps.specs.Steps.{RunsOver};
 ghost use Rattle.vc_steps.specs.Told.{rules_in};
 
 use crate::command::run_answer;
@@ -80,16 +77,11 @@ fn run_line<D: DictDisc>(
     requires session { IsSessionOver state D.rules shelf.old session.old kinds.old.items }
     requires counts { IsTrue quiet → CanCount counts.old (busy_in
         (state_over state (rules_in D.rules kinds.old.items) shelf.old session.old)) n }
-    ensures ran { IfOk result (λ fault. LineRan quiet
-        (over_sink (moment state D.rules D.gone shelf.old session.old kinds.old.items)
-        (Some replies.old.items))
-        (over_sink (moment state D.rules D.gone shelf.new session.new kinds.new.items)
-        (Some replies.new.items))
-        counts.old counts.new n (answer tool line.now) fault) }
-    ensures lasts { Lasts state D.rules shelf.old session.old kinds.old.items
-        shelf.new session.new kinds.new.items }
-    ensures can { OnOk result (CanCountOn quiet counts.new
-        (state_over state (rules_in D.rules kinds.new.items) shelf.new session.new) n) }
+    ensures { RunsOver state D.rules D.gone shelf.old session.old kinds.old.items
+        shelf.new session.new kinds.new.items
+        (λ now next. CountsOn quiet result counts.new next n (LineRan quiet
+        (over_sink now (Some replies.old.items)) (over_sink next (Some replies.new.items))
+        counts.old counts.new n (answer tool line.now))) }
 {
     match read_line(alloc, tool, line)? {
         LineAnswer::Blank => Ok(None),
@@ -118,19 +110,14 @@ fn run_piece<D: DictDisc>(
     replies: &mut Vec<u8>,
 ) -> Result<Option<(u32, LineFault)>, OutOfMemory>
     requires session { IsSessionOver state D.rules shelf.old session.old kinds.old.items }
-    requires counts { CanCountOn quiet counts.old
-        (state_over state (rules_in D.rules kinds.old.items) shelf.old session.old)
-        cutter.old.count }
-    requires feeds { CanFeed cutter.old }
+    requires goes_on { CanGoOn quiet counts.old
+        (state_over state (rules_in D.rules kinds.old.items) shelf.old session.old) cutter.old }
     requires none { replies.old.items ≡ [] }
-    ensures runs { RunsPiece tool quiet result
-        (over_sink (moment state D.rules D.gone shelf.old session.old kinds.old.items)
-        (Some replies.old.items))
-        (over_sink (moment state D.rules D.gone shelf.new session.new kinds.new.items)
-        (Some replies.new.items))
-        counts.old counts.new replies.new.items cutter.old cutter.new piece.now }
-    ensures lasts { Lasts state D.rules shelf.old session.old kinds.old.items
-        shelf.new session.new kinds.new.items }
+    ensures { RunsOver state D.rules D.gone shelf.old session.old kinds.old.items
+        shelf.new session.new kinds.new.items
+        (λ now next. RunsPiece tool quiet result
+        (over_sink now (Some replies.old.items)) (over_sink next (Some replies.new.items))
+        counts.old counts.new replies.new.items cutter.old cutter.new piece.now) }
 {
     let mut rest = piece;
     while !rest.is_empty() {
@@ -174,19 +161,14 @@ fn run_last<D: DictDisc>(
     replies: &mut Vec<u8>,
 ) -> Result<Option<(u32, LineFault)>, OutOfMemory>
     requires session { IsSessionOver state D.rules shelf.old session.old kinds.old.items }
-    requires counts { CanCountOn quiet counts.old
-        (state_over state (rules_in D.rules kinds.old.items) shelf.old session.old)
-        cutter.old.count }
-    requires feeds { CanFeed cutter.old }
+    requires goes_on { CanGoOn quiet counts.old
+        (state_over state (rules_in D.rules kinds.old.items) shelf.old session.old) cutter.old }
     requires none { replies.old.items ≡ [] }
-    ensures ends { IfOk result (EndsAll tool quiet
-        (over_sink (moment state D.rules D.gone shelf.old session.old kinds.old.items)
-        (Some replies.old.items))
-        (over_sink (moment state D.rules D.gone shelf.new session.new kinds.new.items)
-        (Some replies.new.items))
-        counts.old counts.new replies.new.items cutter.old cutter.new.count) }
-    ensures lasts { Lasts state D.rules shelf.old session.old kinds.old.items
-        shelf.new session.new kinds.new.items }
+    ensures { RunsOver state D.rules D.gone shelf.old session.old kinds.old.items
+        shelf.new session.new kinds.new.items
+        (λ now next. IfOk result (EndsAll tool quiet
+        (over_sink now (Some replies.old.items)) (over_sink next (Some replies.new.items))
+        counts.old counts.new replies.new.items cutter.old cutter.new.count)) }
 {
     match cutter.end() {
         Cut::Whole => match run_line(
@@ -224,21 +206,14 @@ pub(crate) fn run_lines<D: DictDisc, S: Source, O: Sink>(
     counts: &mut Counts,
     replies: &mut Vec<u8>,
 ) -> Result<Option<(u32, LineFault)>, Stop>
-    requires session { IsProperOver state D.rules shelf.old session.old kinds.old.items }
-    requires counts { CanCountOn quiet counts.old
-        (state_over state (rules_in D.rules kinds.old.items) shelf.old session.old) 0 }
-    requires zero { counts.old ≡ counts_of (nothing_ran
-        (state_over state (rules_in D.rules kinds.old.items) shelf.old session.old)) }
+    requires begins { CanBegin quiet state D.rules shelf.old session.old kinds.old.items counts.old }
     requires new { cutter.old ≡ new_cutting }
     requires none { replies.old.items ≡ [] }
-    ensures runs { RunsLines tool quiet result
-        (moment state D.rules D.gone shelf.old session.old kinds.old.items)
-        (moment state D.rules D.gone shelf.new session.new kinds.new.items)
-        counts.new cutter.new.count
+    ensures { RunsOver state D.rules D.gone shelf.old session.old kinds.old.items
+        shelf.new session.new kinds.new.items
+        (λ start last. RunsLines tool quiet result start last counts.new cutter.new.count
         (flows S.left S.failures O.written O.failures source.old out.old)
-        (flows S.left S.failures O.written O.failures source.new out.new) }
-    ensures lasts { Lasts state D.rules shelf.old session.old kinds.old.items
-        shelf.new session.new kinds.new.items }
+        (flows S.left S.failures O.written O.failures source.new out.new)) }
 {
     let mut buf = [0u8; 4096];
     loop {

@@ -8,14 +8,12 @@ ghost use Rattle.vc_model.specs.Count.{Rose};
 ghost use Rattle.vc_script.specs.Proper.{IsProperCommand};
 ghost use Rattle.vc_session.specs.Engine.{IsStep, RunsGenerated};
 ghost use Rattle.vc_session.specs.Generating.{RunsCommands};
-ghost use Rattle.vc_session.specs.Progress.{CanCountOn};
+ghost use Rattle.vc_session.specs.Progress.{CanBegin, CountsOn};
 ghost use Rattle.vc_session.specs.ProperState.{IsProperOver};
 ghost use Rattle.vc_session.specs.Replay.{Told};
-ghost use Rattle.vc_session.specs.Run.{nothing_ran};
-ghost use Rattle.vc_session.specs.Text.{counts_of};
 ghost use Rattle.vc_steps.specs.Homes.{IsSessionOver, state_over};
-ghost use Rattle.vc_steps.specs.Moment.{Keeps, ended, moment, over_sink, rest_of};
-ghost use Rattle.vc_steps.specs.Steps.{Lasts};
+ghost use Rattle.vc_steps.specs.Moment.{Keeps, ended, over_sink, rest_of};
+ghost use Rattle.vc_steps.specs.Steps.{RunsOver};
 ghost use Rattle.vc_steps.specs.Told.{KeepRules, rules_in};
 
 use crate::asked::Asked;
@@ -85,16 +83,11 @@ fn run_made<D: DictDisc>(
     requires session { IsSessionOver state D.rules shelf.old session.old kinds.old.items }
     requires counts { CanCount counts.old (busy_in
         (state_over state (rules_in D.rules kinds.old.items) shelf.old session.old)) line }
-    ensures ran { OnOk result (IsStep true
-        (over_sink (moment state D.rules D.gone shelf.old session.old kinds.old.items)
-        (Some gathered.old.items))
-        (over_sink (moment state D.rules D.gone shelf.new session.new kinds.new.items)
-        (Some gathered.new.items))
-        counts.old counts.new line command) }
-    ensures lasts { Lasts state D.rules shelf.old session.old kinds.old.items
-        shelf.new session.new kinds.new.items }
-    ensures can { OnOk result (CanCountOn true counts.new
-        (state_over state (rules_in D.rules kinds.new.items) shelf.new session.new) line) }
+    ensures { RunsOver state D.rules D.gone shelf.old session.old kinds.old.items
+        shelf.new session.new kinds.new.items
+        (λ now next. CountsOn true result counts.new next line (λ _. IsStep true
+        (over_sink now (Some gathered.old.items)) (over_sink next (Some gathered.new.items))
+        counts.old counts.new line command)) }
 {
     run_answer(
         alloc, true, session, shelf, kinds, line, &command, counts, gathered,
@@ -114,21 +107,14 @@ fn run_commands<D: DictDisc, O: Sink>(
     counts: &mut Counts,
     gathered: &mut Vec<u8>,
 ) -> Result<u32, Stop>
-    requires session { IsProperOver state D.rules shelf.old session.old kinds.old.items }
-    requires counts { CanCountOn true counts.old
-        (state_over state (rules_in D.rules kinds.old.items) shelf.old session.old) 0 }
-    requires zero { counts.old ≡ counts_of (nothing_ran
-        (state_over state (rules_in D.rules kinds.old.items) shelf.old session.old)) }
+    requires begins { CanBegin true state D.rules shelf.old session.old kinds.old.items counts.old }
     requires few { length generator.old < 2 ^ 31 }
     requires proper { AllByRecursion IsProperCommand generator.old }
     requires none { gathered.old.items ≡ [] }
-    ensures runs { RunsCommands result generator.old
-        (moment state D.rules D.gone shelf.old session.old kinds.old.items)
-        (moment state D.rules D.gone shelf.new session.new kinds.new.items)
-        counts.new (O.written out.old) (O.written out.new)
-        (O.failures out.old) (O.failures out.new) }
-    ensures lasts { Lasts state D.rules shelf.old session.old kinds.old.items
-        shelf.new session.new kinds.new.items }
+    ensures { RunsOver state D.rules D.gone shelf.old session.old kinds.old.items
+        shelf.new session.new kinds.new.items
+        (λ start now. RunsCommands result generator.old start now counts.new
+        (O.written out.old) (O.written out.new) (O.failures out.old) (O.failures out.new)) }
 {
     let mut line = 0;
     while let Some(command) = generator.next(alloc)? {
@@ -157,12 +143,10 @@ fn run_all<D: DictDisc, O: Sink>(
     requires nothing { session.old.homes.entries ≡ [] }
     requires asked { words.now.generate ≡ Some n }
     requires most { n ≤ 1000000 }
-    ensures runs { RunsGenerated tool words.now n result
-        (moment state D.rules D.gone shelf.old session.old kinds.old.items)
-        (ended (moment state D.rules D.gone shelf.new session.new kinds.new.items))
-        (O.written out.old) (O.written out.new) (O.failures out.old) (O.failures out.new) }
-    ensures lasts { Lasts state D.rules shelf.old session.old kinds.old.items
-        shelf.new session.new kinds.new.items }
+    ensures { RunsOver state D.rules D.gone shelf.old session.old kinds.old.items
+        shelf.new session.new kinds.new.items
+        (λ start last. RunsGenerated tool words.now n result start (ended last)
+        (O.written out.old) (O.written out.new) (O.failures out.old) (O.failures out.new)) }
 {
     let mut generator = Generator::new(tool, n, words.seed);
     let mut counts = Counts::new();

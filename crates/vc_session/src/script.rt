@@ -5,8 +5,8 @@ ghost use Rattle.vc_session.specs.Engine.{RunsScript};
 ghost use Rattle.vc_session.specs.ProperState.{IsProperOver};
 ghost use Rattle.vc_session.specs.Streams.{flows};
 ghost use Rattle.vc_session.specs.Text.{good_lines};
-ghost use Rattle.vc_steps.specs.Moment.{Keeps, ended, moment, rest_of};
-ghost use Rattle.vc_steps.specs.Steps.{Lasts};
+ghost use Rattle.vc_steps.specs.Moment.{Keeps, ended, rest_of};
+ghost use Rattle.vc_steps.specs.Steps.{RunsOver};
 ghost use Rattle.vc_steps.specs.Told.{KeepRules};
 
 use crate::engine::{Stop, run_lines};
@@ -47,13 +47,11 @@ fn run_script<D: DictDisc, S: Source, O: Sink>(
     requires session { IsProperOver state D.rules shelf.old session.old kinds.old.items }
     requires nothing { session.old.homes.entries ≡ [] }
     requires new { cutter.old ≡ new_cutting }
-    ensures runs { RunsScript tool words.now result
-        (moment state D.rules D.gone shelf.old session.old kinds.old.items)
-        (ended (moment state D.rules D.gone shelf.new session.new kinds.new.items))
+    ensures { RunsOver state D.rules D.gone shelf.old session.old kinds.old.items
+        shelf.new session.new kinds.new.items
+        (λ start last. RunsScript tool words.now result start (ended last)
         (flows S.left S.failures O.written O.failures source.old out.old)
-        (flows S.left S.failures O.written O.failures source.new out.new) }
-    ensures lasts { Lasts state D.rules shelf.old session.old kinds.old.items
-        shelf.new session.new kinds.new.items }
+        (flows S.left S.failures O.written O.failures source.new out.new)) }
 {
     let mut counts = Counts::new();
     let mut replies = Vec::new(alloc);

@@ -54,6 +54,11 @@ pub record Lasts {I : Type 0} {V : I → Type 0} {D : Type 0} (meaning : (x : I)
   -- each place has its discipline, with the segments out and the terms that it had, and no fault less
   pub accounts : KeepsAccounts (settled_over meaning shelf session) (settled_over meaning shelf' session')
 
+-- a session was run over a shelf and kinds: that lasts of it, and that was run from the moment before to the one after
+pub record RunsOver {I : Type 0} {V : I → Type 0} {D : Type 0} (meaning : (x : I) × V x → Discipline) (rules : D → Rules) (gone : D → Gone) (shelf : Shelf I V) (session : Session D I V) (kinds : List D) (shelf' : Shelf I V) (session' : Session D I V) (kinds' : List D) (ran : Moment → Moment → Type 0) : Type 0 where
+  pub lasts : Lasts meaning rules shelf session kinds shelf' session' kinds'
+  pub runs : ran (moment meaning rules gone shelf session kinds) (moment meaning rules gone shelf' session' kinds')
+
 -- and whether it found no memory
 pub record Stays {I : Type 0} {V : I → Type 0} {D : Type 0} (meaning : (x : I) × V x → Discipline) (rules : D → Rules) (shelf : Shelf I V) (session : Session D I V) (kinds : List D) (shelf' : Shelf I V) (session' : Session D I V) (kinds' : List D) : Type 0 where
   pub lasts : Lasts meaning rules shelf session kinds shelf' session' kinds'

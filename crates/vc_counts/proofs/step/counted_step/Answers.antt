@@ -73,17 +73,23 @@ add-requires-clause-part g c =
     part-counted c.args.counts.now (before g at) (after g at) c.args.line c.args.command.now c.in_ok-reply.reply c.requires.counts (was-run g at)
     c.region_worked-region.result c.reach_of-reach.result c.reached_at-held.result c.freed_by.result c.reached_at-holds.result c.put_by.result (was-read g at)
 
-pub returns-clause-counts : goal.returns-clause-counts
-returns-clause-counts g c =
-    let at = (goal.at.returns-clause-counts g c).After-is_refusal in
+pub returns-clause-runs : goal.returns-clause-runs
+returns-clause-runs g c =
+    let at = (goal.at.returns-clause-runs g c).After-is_refusal in
+    let counted =
     c.add.ensures.value
     ∙ counts-step c.args.counts.now (before g at) (after g at) c.args.line c.args.command.now c.in_ok-reply.reply c.requires.counts (was-run g at)
     c.region_worked-region.result c.reach_of-reach.result c.reached_at-held.result c.freed_by.result c.reached_at-holds.result c.put_by.result (was-read g at)
     c.is_refusal.result c.segment_count_at-had.result (segments_at c.region_worked-region.result (after g at).homes) c.tally_behind_at-lent.result
-    c.is_refusal.ensures c.segment_count_at-had.ensures refl c.tally_behind_at-lent.ensures.value
-
-pub returns-clause-can : goal.returns-clause-can
-returns-clause-can g c =
-    let at = (goal.at.returns-clause-can g c).After-is_refusal in
-    can-next c.args.counts.now (before g at) (after g at) c.args.line c.args.command.now c.in_ok-reply.reply c.requires.counts (was-run g at)
-    c.add.new.self (returns-clause-counts g c) c.add.ensures.range
+    c.is_refusal.ensures c.segment_count_at-had.ensures refl c.tally_behind_at-lent.ensures.value in
+    record {
+      lasts = c.step.ensures.lasts;
+      runs = record {
+        steps = c.in_ok-reply.ensures.steps;
+        counts = counted;
+        stays = tt;
+        can =
+            can-next c.args.counts.now (before g at) (after g at) c.args.line c.args.command.now c.in_ok-reply.reply c.requires.counts (was-run g at)
+            c.add.new.self counted c.add.ensures.range;
+      };
+    }

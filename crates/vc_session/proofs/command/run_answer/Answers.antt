@@ -1,11 +1,16 @@
-use Rattle.vc_session.proofs.Counting.{on_ok-map, on_ok-of}
+use Rattle.vc_session.proofs.Counting.{if_ok-map, on_ok-of}
 use Rattle.vc_session.proofs.command.run_answer.Goals as goal
 
-pub returns-clause-ran : goal.returns-clause-ran
-returns-clause-ran g c =
-    on_ok-map c.gather.result
-    (λ told. record { reply = c.in_ok-reply.reply; steps = let s = c.in_ok-reply.ensures.steps in record { gives = s.gives; settles = s.settles; lacks = s.lacks }; told = told; counted = c.in_ok-reply.ensures.counts })
-    c.gather.ensures
-
-pub returns-clause-can : goal.returns-clause-can
-returns-clause-can g c = on_ok-of c.gather.result c.in_ok-reply.ensures.can
+pub returns : goal.returns
+returns g c =
+    let ran = c.in_ok-reply.ensures.runs in
+    record {
+      lasts = c.run_command.ensures.lasts;
+      runs = record {
+        ran =
+            if_ok-map c.gather.result
+            (λ told. record { reply = c.in_ok-reply.reply; steps = let s = ran.steps in record { gives = s.gives; settles = s.settles; lacks = s.lacks }; told = told; counted = ran.counts_on.ran })
+            c.gather.ensures;
+        can = on_ok-of c.gather.result ran.counts_on.can;
+      };
+    }

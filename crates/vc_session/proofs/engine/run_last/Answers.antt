@@ -6,30 +6,37 @@ use Rattle.vc_session.proofs.engine.run_last.Goals as goal
 pub run_line-requires-clause-counts : goal.run_line-requires-clause-counts
 run_line-requires-clause-counts g c =
     let follows = end-count c.args.cutter.now c.end.new.self c.end.result c.end.ensures.state c.end.ensures.cut c.in-Whole.is in
-    λ is_quiet. c.requires.counts is_quiet c.number.result (omega (arith, c.number.ensures.value, follows))
+    λ is_quiet. c.requires.goes_on.can_count is_quiet c.number.result (omega (arith, c.number.ensures.value, follows))
 
-pub returns-in-Some-clause-ends : goal.returns-in-Some-clause-ends
-returns-in-Some-clause-ends g c =
-    let is = c.requires.feeds.cutting in
+pub returns-in-Some : goal.returns-in-Some
+returns-in-Some g c =
+    let is = c.requires.goes_on.feeds.cutting in
     let last = end-whole c.args.cutter.now c.end.new.self c.end.result is c.end.ensures.state c.end.ensures.cut c.in-Whole.is in
     let follows = end-count c.args.cutter.now c.end.new.self c.end.result c.end.ensures.state c.end.ensures.cut c.in-Whole.is in
-    let ran = rw (c.line.ensures, c.number.ensures.value, c.in-Some.is) at c.in_ok-fault-in-Whole.ensures.ran in
-    rw c.number-in-Some.ensures.value
-    (record { end = λ after r at_end written. so_far-end_bad is _ _ c.end.new.self.count c.end.new.self.line last follows _ _ _ c.in-Some.fault c.end.new.self.count after refl refl (so_far-none _ c.requires.none r) at_end ran written })
+    let ran = rw (c.line.ensures, c.number.ensures.value, c.in-Some.is) at c.in_ok-fault-in-Whole.ensures.runs.ran in
+    record {
+      lasts = c.run_line.ensures.lasts;
+      runs =
+          rw c.number-in-Some.ensures.value
+          (record { end = λ after r at_end written. so_far-end_bad is _ _ c.end.new.self.count c.end.new.self.line last follows _ _ _ c.in-Some.fault c.end.new.self.count after refl refl (so_far-none _ c.requires.none r) at_end ran written });
+    }
 
-pub returns-in-None-clause-ends : goal.returns-in-None-clause-ends
-returns-in-None-clause-ends g c =
-    let is = c.requires.feeds.cutting in
+pub returns-in-None : goal.returns-in-None
+returns-in-None g c =
+    let is = c.requires.goes_on.feeds.cutting in
     let last = end-whole c.args.cutter.now c.end.new.self c.end.result is c.end.ensures.state c.end.ensures.cut c.in-Whole.is in
     let follows = end-count c.args.cutter.now c.end.new.self c.end.result c.end.ensures.state c.end.ensures.cut c.in-Whole.is in
-    let ran = rw (c.line.ensures, c.number.ensures.value, c.in-None.is) at c.in_ok-fault-in-Whole.ensures.ran in
-    record { end = λ after r at_end written. so_far-end_good is _ _ c.end.new.self.count c.end.new.self.line last follows _ _ _ after (omega (arith, c.number.ensures.value, c.number.ensures.few)) refl refl (so_far-none _ c.requires.none r) at_end ran written }
+    let ran = rw (c.line.ensures, c.number.ensures.value, c.in-None.is) at c.in_ok-fault-in-Whole.ensures.runs.ran in
+    record {
+      lasts = c.run_line.ensures.lasts;
+      runs = record { end = λ after r at_end written. so_far-end_good is _ _ c.end.new.self.count c.end.new.self.line last follows _ _ _ after (omega (arith, c.number.ensures.value, c.number.ensures.few)) refl refl (so_far-none _ c.requires.none r) at_end ran written };
+    }
 
-pub returns-in_default-clause-ends : goal.returns-in_default-clause-ends
-returns-in_default-clause-ends g c =
-    let is = c.requires.feeds.cutting in
+pub returns-in_default : goal.returns-in_default
+returns-in_default g c =
+    let is = c.requires.goes_on.feeds.cutting in
     let same = end-same c.args.cutter.now c.end.new.self c.end.result c.end.ensures.state c.end.ensures.cut c.in_default.not-Whole in
-    record { end = λ after r at_end written. so_far-end_none is c.end.new.self.count after same (so_far-none _ c.requires.none r) at_end (end-none c.args.cutter.now c.end.result is c.end.ensures.cut c.in_default.not-Whole) written }
-
-pub returns-in_default-clause-lasts : goal.returns-in_default-clause-lasts
-returns-in_default-clause-lasts g c = lasts-same c.requires.session
+    record {
+      lasts = lasts-same c.requires.session;
+      runs = record { end = λ after r at_end written. so_far-end_none is c.end.new.self.count after same (so_far-none _ c.requires.none r) at_end (end-none c.args.cutter.now c.end.result is c.end.ensures.cut c.in_default.not-Whole) written };
+    }

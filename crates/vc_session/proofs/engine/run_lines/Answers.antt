@@ -12,76 +12,79 @@ loop-n-init g c =
       room = refl;
       none = c.requires.none;
       feeds = record { is_open = refl; cutting = new-is };
-      lasts = lasts-same c.requires.session.stands;
-      counts = c.requires.counts;
+      lasts = lasts-same c.requires.begins.over.stands;
+      counts = c.requires.begins.can;
       text = [];
-      so_far = so_far-start _ _ _ _ _ c.requires.session.proper (λ is_quiet. c.requires.zero);
+      so_far = so_far-start _ _ _ _ _ c.requires.begins.over.proper (λ is_quiet. c.requires.begins.zero);
       told = told-none _;
       reads = omega arith;
       writes = omega arith;
     })
 
-pub returns-in_err-n-clause-runs : goal.returns-in_err-n-clause-runs
-returns-in_err-n-clause-runs g c =
+pub returns-in_err-n : goal.returns-in_err-n
+returns-in_err-n g c =
     let inv = c.loop-n.invariant in
     record {
-      at_end = search rules;
-      cut_short = if_err _ _ _ (so_far-cut_short _ _ inv.so_far inv.feeds.cutting c.in_err-n.ensures.err inv.told);
-      read = search rules;
-      write = search rules;
-      reads = omega (arith, inv.reads, c.read.ensures.never_falls);
-      writes = inv.writes;
+      lasts = inv.lasts;
+      runs = record {
+        at_end = search rules;
+        cut_short = if_err _ _ _ (so_far-cut_short _ _ inv.so_far inv.feeds.cutting c.in_err-n.ensures.err inv.told);
+        read = search rules;
+        write = search rules;
+        reads = omega (arith, inv.reads, c.read.ensures.never_falls);
+        writes = inv.writes;
+      };
     }
 
 pub run_piece-ran-requires-clause-session : goal.run_piece-ran-requires-clause-session
 run_piece-ran-requires-clause-session g c = c.loop-n.invariant.lasts.stands
 
-pub returns-in_err-write_all-clause-runs : goal.returns-in_err-write_all-clause-runs
-returns-in_err-write_all-clause-runs g c =
+pub returns-in_err-write_all : goal.returns-in_err-write_all
+returns-in_err-write_all g c =
     let inv = c.loop-n.invariant in
     record {
-      at_end = search rules;
-      cut_short = search rules;
-      read = search rules;
-      write = search rules;
-      reads = omega (arith, inv.reads, c.read.ensures.never_falls);
-      writes = omega (arith, inv.writes, c.write_all.ensures.never_falls);
+      lasts = lasts-trans inv.lasts c.run_piece-ran.ensures.lasts;
+      runs = record {
+        at_end = search rules;
+        cut_short = search rules;
+        read = search rules;
+        write = search rules;
+        reads = omega (arith, inv.reads, c.read.ensures.never_falls);
+        writes = omega (arith, inv.writes, c.write_all.ensures.never_falls);
+      };
     }
 
-pub returns-in_err-write_all-clause-lasts : goal.returns-in_err-write_all-clause-lasts
-returns-in_err-write_all-clause-lasts g c = lasts-trans c.loop-n.invariant.lasts c.run_piece-ran.ensures.lasts
-
-pub returns-in_err-bad-clause-runs : goal.returns-in_err-bad-clause-runs
-returns-in_err-bad-clause-runs g c =
+pub returns-in_err-bad : goal.returns-in_err-bad
+returns-in_err-bad g c =
     let inv = c.loop-n.invariant in
     record {
-      at_end = search rules;
-      cut_short = search rules;
-      read = search rules;
-      write = search rules;
-      reads = omega (arith, inv.reads, c.read.ensures.never_falls);
-      writes = omega (arith, inv.writes, c.write_all.ensures.never_falls);
+      lasts = lasts-trans inv.lasts c.run_piece-ran.ensures.lasts;
+      runs = record {
+        at_end = search rules;
+        cut_short = search rules;
+        read = search rules;
+        write = search rules;
+        reads = omega (arith, inv.reads, c.read.ensures.never_falls);
+        writes = omega (arith, inv.writes, c.write_all.ensures.never_falls);
+      };
     }
 
-pub returns-in_err-bad-clause-lasts : goal.returns-in_err-bad-clause-lasts
-returns-in_err-bad-clause-lasts g c = lasts-trans c.loop-n.invariant.lasts c.run_piece-ran.ensures.lasts
-
-pub returns-in-Some-clause-runs : goal.returns-in-Some-clause-runs
-returns-in-Some-clause-runs g c =
+pub returns-in-Some : goal.returns-in-Some
+returns-in-Some g c =
     let inv = c.loop-n.invariant in
     let so_far = so_far-read _ _ c.in_ok-n.n inv.so_far inv.feeds.cutting (c.read.auto.buf ∙ inv.room) c.in_ok-n.ensures.ok in
     let written = rw c.as_slice.ensures.value at c.in_ok-write_all.ensures.ok in
     record {
-      at_end = (c.run_piece-ran.ensures.runs.bad c.in-Some.bad (c.in_ok-bad.was ∙ ap (λ o. Ok o) c.in-Some.is)).end _ (so_far-over _ so_far) (told-more _ _ _ inv.text _ inv.told written);
-      cut_short = tt;
-      read = tt;
-      write = tt;
-      reads = omega (arith, inv.reads, c.read.ensures.never_falls);
-      writes = omega (arith, inv.writes, c.write_all.ensures.never_falls);
+      lasts = lasts-trans inv.lasts c.run_piece-ran.ensures.lasts;
+      runs = record {
+        at_end = (c.run_piece-ran.ensures.runs.bad c.in-Some.bad (c.in_ok-bad.was ∙ ap (λ o. Ok o) c.in-Some.is)).end _ (so_far-over _ so_far) (told-more _ _ _ inv.text _ inv.told written);
+        cut_short = tt;
+        read = tt;
+        write = tt;
+        reads = omega (arith, inv.reads, c.read.ensures.never_falls);
+        writes = omega (arith, inv.writes, c.write_all.ensures.never_falls);
+      };
     }
-
-pub returns-in-Some-clause-lasts : goal.returns-in-Some-clause-lasts
-returns-in-Some-clause-lasts g c = lasts-trans c.loop-n.invariant.lasts c.run_piece-ran.ensures.lasts
 
 pub loop-n-preserved : goal.loop-n-preserved
 loop-n-preserved g c =
@@ -105,53 +108,53 @@ loop-n-preserved g c =
 pub run_last-ran-requires-clause-session : goal.run_last-ran-requires-clause-session
 run_last-ran-requires-clause-session g c = c.loop-n.invariant.lasts.stands
 
-pub returns-in_err-write_all-2-clause-runs : goal.returns-in_err-write_all-2-clause-runs
-returns-in_err-write_all-2-clause-runs g c =
+pub returns-in_err-write_all-2 : goal.returns-in_err-write_all-2
+returns-in_err-write_all-2 g c =
     let inv = c.loop-n.invariant in
     record {
-      at_end = search rules;
-      cut_short = search rules;
-      read = search rules;
-      write = search rules;
-      reads = omega (arith, inv.reads, c.read.ensures.never_falls);
-      writes = omega (arith, inv.writes, c.write_all-2.ensures.never_falls);
+      lasts = lasts-trans inv.lasts c.run_last-ran.ensures.lasts;
+      runs = record {
+        at_end = search rules;
+        cut_short = search rules;
+        read = search rules;
+        write = search rules;
+        reads = omega (arith, inv.reads, c.read.ensures.never_falls);
+        writes = omega (arith, inv.writes, c.write_all-2.ensures.never_falls);
+      };
     }
 
-pub returns-in_err-write_all-2-clause-lasts : goal.returns-in_err-write_all-2-clause-lasts
-returns-in_err-write_all-2-clause-lasts g c = lasts-trans c.loop-n.invariant.lasts c.run_last-ran.ensures.lasts
-
-pub returns-in_err-ran-clause-runs : goal.returns-in_err-ran-clause-runs
-returns-in_err-ran-clause-runs g c =
+pub returns-in_err-ran : goal.returns-in_err-ran
+returns-in_err-ran g c =
     let inv = c.loop-n.invariant in
     record {
-      at_end = search rules;
-      cut_short = search rules;
-      read = search rules;
-      write = search rules;
-      reads = omega (arith, inv.reads, c.read.ensures.never_falls);
-      writes = omega (arith, inv.writes, c.write_all-2.ensures.never_falls);
+      lasts = lasts-trans inv.lasts c.run_last-ran.ensures.lasts;
+      runs = record {
+        at_end = search rules;
+        cut_short = search rules;
+        read = search rules;
+        write = search rules;
+        reads = omega (arith, inv.reads, c.read.ensures.never_falls);
+        writes = omega (arith, inv.writes, c.write_all-2.ensures.never_falls);
+      };
     }
 
-pub returns-in_err-ran-clause-lasts : goal.returns-in_err-ran-clause-lasts
-returns-in_err-ran-clause-lasts g c = lasts-trans c.loop-n.invariant.lasts c.run_last-ran.ensures.lasts
-
-pub returns-clause-runs : goal.returns-clause-runs
-returns-clause-runs g c =
+pub returns : goal.returns
+returns g c =
     let inv = c.loop-n.invariant in
     let room = c.read.auto.buf ∙ inv.room in
     let reads = subst (Reads _ _ c.read.new.buf) c.if-n-eq0.true c.in_ok-n.ensures.ok in
     let so_far = so_far-read _ c.read.new.buf 0 inv.so_far inv.feeds.cutting room reads in
     let end = at-end _ c.read.new.buf inv.so_far room reads in
     let written = rw c.as_slice-2.ensures.value at c.in_ok-write_all-2.ensures.ok in
-    let ends = rw c.in_ok-ran.was at c.run_last-ran.ensures.ends in
+    let ends = rw c.in_ok-ran.was at c.run_last-ran.ensures.runs in
     record {
-      at_end = ends.end _ (so_far-over _ so_far) end (told-more _ _ _ inv.text _ inv.told written);
-      cut_short = tt;
-      read = tt;
-      write = tt;
-      reads = omega (arith, inv.reads, c.read.ensures.never_falls);
-      writes = omega (arith, inv.writes, c.write_all-2.ensures.never_falls);
+      lasts = lasts-trans inv.lasts c.run_last-ran.ensures.lasts;
+      runs = record {
+        at_end = ends.end _ (so_far-over _ so_far) end (told-more _ _ _ inv.text _ inv.told written);
+        cut_short = tt;
+        read = tt;
+        write = tt;
+        reads = omega (arith, inv.reads, c.read.ensures.never_falls);
+        writes = omega (arith, inv.writes, c.write_all-2.ensures.never_falls);
+      };
     }
-
-pub returns-clause-lasts : goal.returns-clause-lasts
-returns-clause-lasts g c = lasts-trans c.loop-n.invariant.lasts c.run_last-ran.ensures.lasts

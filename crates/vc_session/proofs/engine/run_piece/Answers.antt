@@ -9,9 +9,9 @@ use Rattle.vc_session.proofs.engine.run_piece.Goals as goal
 
 pub loop-rest-init : goal.loop-rest-init
 loop-rest-init g c = record {
-  feeds = c.requires.feeds;
+  feeds = c.requires.goes_on.feeds;
   lasts = lasts-same c.requires.session;
-  counts = c.requires.counts;
+  counts = c.requires.goes_on.can_count;
   goes_on = record { on = λ r. so_far-none _ c.requires.none r };
   less = omega arith;
 }
@@ -31,39 +31,42 @@ loop-rest-preserved-in-More g c =
       less = omega (arith, inv.less, kept.less, c.feed-cut.ensures.within, length-drop c.feed-cut.result.1 c.loop-rest.rest.now);
     })
 
-pub returns-in-Bad-clause-runs : goal.returns-in-Bad-clause-runs
-returns-in-Bad-clause-runs g c =
+pub returns-in-Bad : goal.returns-in-Bad
+returns-in-Bad g c =
     let inv = c.loop-rest.invariant in
     let next = c.feed-cut.new.self in
     let e = fed-is c.loop-rest.cutter c.loop-rest.rest.now next _ _ c.feed-cut.result.1 c.feed-cut.ensures.fed c.in-Bad.is in
     record {
-      good = λ is. absurd (cc is);
-      bad = λ bad same.
-          subst (Ends _ _ _ _ _ _ _ _ _ _) (ap (λ n. (n + 1, c.in-Bad.fault)) (sym c.number.ensures.value) ∙ ok-some (c.number.result + 1, c.in-Bad.fault) bad same)
-          (record { end = λ after r written. so_far-bad_cut next c.feed-cut.result.1 inv.feeds.cutting c.in-Bad.fault next.count after (inv.goes_on.on r) e written });
-      open_is = λ is. absurd (cc is);
-      less = λ is. absurd (cc is);
-      counted = λ is. absurd (cc is);
+      lasts = inv.lasts;
+      runs = record {
+        good = λ is. absurd (cc is);
+        bad = λ bad same.
+            subst (Ends _ _ _ _ _ _ _ _ _ _) (ap (λ n. (n + 1, c.in-Bad.fault)) (sym c.number.ensures.value) ∙ ok-some (c.number.result + 1, c.in-Bad.fault) bad same)
+            (record { end = λ after r written. so_far-bad_cut next c.feed-cut.result.1 inv.feeds.cutting c.in-Bad.fault next.count after (inv.goes_on.on r) e written });
+        open_is = λ is. absurd (cc is);
+        less = λ is. absurd (cc is);
+        counted = λ is. absurd (cc is);
+      };
     }
 
-pub returns-in-Some-clause-runs : goal.returns-in-Some-clause-runs
-returns-in-Some-clause-runs g c =
+pub returns-in-Some : goal.returns-in-Some
+returns-in-Some g c =
     let inv = c.loop-rest.invariant in
     let next = c.feed-cut.new.self in
     let e = fed-is c.loop-rest.cutter c.loop-rest.rest.now next _ _ c.feed-cut.result.1 c.feed-cut.ensures.fed c.in-Whole.is in
-    let ran = rw (c.line.ensures, c.number-in-Whole.ensures.value, c.in-Some.is) at c.in_ok-fault-in-Whole.ensures.ran in
+    let ran = rw (c.line.ensures, c.number-in-Whole.ensures.value, c.in-Some.is) at c.in_ok-fault-in-Whole.ensures.runs.ran in
     record {
-      good = λ is. absurd (cc is);
-      bad = λ bad same.
-          subst (Ends _ _ _ _ _ _ _ _ _ _) (ap (λ n. (n, c.in-Some.fault)) (sym c.number-in-Some.ensures.value) ∙ ok-some (c.number-in-Some.result, c.in-Some.fault) bad same)
-          (record { end = λ after r written. so_far-bad_line _ _ _ _ _ next c.feed-cut.result.1 c.in-Some.fault next.count after refl refl inv.feeds.cutting (inv.goes_on.on r) e ran written });
-      open_is = λ is. absurd (cc is);
-      less = λ is. absurd (cc is);
-      counted = λ is. absurd (cc is);
+      lasts = lasts-trans inv.lasts c.run_line.ensures.lasts;
+      runs = record {
+        good = λ is. absurd (cc is);
+        bad = λ bad same.
+            subst (Ends _ _ _ _ _ _ _ _ _ _) (ap (λ n. (n, c.in-Some.fault)) (sym c.number-in-Some.ensures.value) ∙ ok-some (c.number-in-Some.result, c.in-Some.fault) bad same)
+            (record { end = λ after r written. so_far-bad_line _ _ _ _ _ next c.feed-cut.result.1 c.in-Some.fault next.count after refl refl inv.feeds.cutting (inv.goes_on.on r) e ran written });
+        open_is = λ is. absurd (cc is);
+        less = λ is. absurd (cc is);
+        counted = λ is. absurd (cc is);
+      };
     }
-
-pub returns-in-Some-clause-lasts : goal.returns-in-Some-clause-lasts
-returns-in-Some-clause-lasts g c = lasts-trans c.loop-rest.invariant.lasts c.run_line.ensures.lasts
 
 pub loop-rest-preserved : goal.loop-rest-preserved
 loop-rest-preserved g c =
@@ -71,12 +74,12 @@ loop-rest-preserved g c =
     let next = c.feed-cut.new.self in
     let e = fed-is c.loop-rest.cutter c.loop-rest.rest.now next _ _ c.feed-cut.result.1 c.feed-cut.ensures.fed c.in-Whole.is in
     let kept = whole-kept c.loop-rest.cutter c.loop-rest.rest.now next c.feed-cut.result.1 inv.feeds.cutting e in
-    let ran = rw (c.line.ensures, c.number-in-Whole.ensures.value, c.in-None.is) at c.in_ok-fault-in-Whole.ensures.ran in
+    let ran = rw (c.line.ensures, c.number-in-Whole.ensures.value, c.in-None.is) at c.in_ok-fault-in-Whole.ensures.runs.ran in
     rw take_rest
     (record {
       feeds = record { is_open = subst IsTrue (sym kept.fed) inv.feeds.is_open; cutting = kept.cutting };
       lasts = lasts-trans inv.lasts c.run_line.ensures.lasts;
-      counts = rw c.number-in-Whole.ensures.value at c.in_ok-fault-in-Whole.ensures.can;
+      counts = rw c.number-in-Whole.ensures.value at c.in_ok-fault-in-Whole.ensures.runs.can;
       goes_on = record { on = λ r. so_far-line _ _ _ _ next c.feed-cut.result.1 refl refl inv.feeds.cutting (inv.goes_on.on r) e ran };
       less = omega (arith, inv.less, kept.less, c.feed-cut.ensures.within, length-drop c.feed-cut.result.1 c.loop-rest.rest.now);
     })

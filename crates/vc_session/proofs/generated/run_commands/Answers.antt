@@ -1,15 +1,18 @@
-use Rattle.std.proofs.Common.{arith, rules}
+use Rattle.std.proofs.Common.{◌+◌, arith, refl}
 use Rattle.vc_session.proofs.Generating.{generating-end, generating-few, generating-start, generating-step, generating-write, next-none}
 use Rattle.vc_session.proofs.Lasting.{lasts-same, lasts-trans}
 use Rattle.vc_session.proofs.generated.run_commands.Goals as goal
 
 pub loop-command-init : goal.loop-command-init
 loop-command-init g c = record {
-  lasts = lasts-same c.requires.session.stands;
-  can = c.requires.counts;
-  generating = generating-start _ _ _ _ _ c.requires.session.proper c.requires.zero c.requires.none;
+  lasts = lasts-same c.requires.begins.over.stands;
+  can = c.requires.begins.can;
+  generating = generating-start _ _ _ _ _ c.requires.begins.over.proper c.requires.begins.zero c.requires.none;
   writes = omega arith;
 }
+
+pub run_made-requires-clause-counts : goal.run_made-requires-clause-counts
+run_made-requires-clause-counts g c = c.loop-command.invariant.can refl (c.loop-command.line + 1) (omega arith)
 
 pub loop-command-preserved : goal.loop-command-preserved
 loop-command-preserved g c =
@@ -18,19 +21,22 @@ loop-command-preserved g c =
     let told = c.in_ok-write_full.ensures.told in
     record {
       lasts = lasts-trans inv.lasts c.run_made.ensures.lasts;
-      can = c.in_ok-run_made.ensures.can;
-      generating = generating-write (generating-step inv.generating c.in-Some.command c.next.new.self next c.requires.proper c.in_ok-run_made.ensures.ran) told.0 told.1 told.2;
+      can = c.in_ok-run_made.ensures.runs.can;
+      generating = generating-write (generating-step inv.generating c.in-Some.command c.next.new.self next c.requires.proper c.in_ok-run_made.ensures.runs.ran) told.0 told.1 told.2;
       writes = omega (arith, inv.writes, c.write_full.ensures.never_falls);
     }
 
-pub returns-clause-runs : goal.returns-clause-runs
-returns-clause-runs g c =
+pub returns : goal.returns
+returns g c =
     let inv = c.loop-command.invariant in
     let none = next-none _ _ _ c.in_ok-command.ensures.next c.in_default.not-Some in
     let written = rw c.as_slice.ensures.value at c.in_ok-write_all.ensures.ok in
     record {
-      ran = generating-end inv.generating none written;
-      read = tt;
-      write = tt;
-      writes = omega (arith, inv.writes, c.write_all.ensures.never_falls);
+      lasts = inv.lasts;
+      runs = record {
+        ran = generating-end inv.generating none written;
+        read = tt;
+        write = tt;
+        writes = omega (arith, inv.writes, c.write_all.ensures.never_falls);
+      };
     }
