@@ -36,6 +36,8 @@ mod same;
 #[cfg(test)]
 mod streams;
 #[cfg(test)]
+mod tables;
+#[cfg(test)]
 mod told;
 #[cfg(test)]
 mod views;

@@ -1,0 +1,5 @@
+//! Tests of dictionaries in best regions.
+#![tactic(auto)]
+
+#[cfg(test)]
+mod large;
