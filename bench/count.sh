@@ -6,6 +6,9 @@
 #   bench/count.sh regions       the instructions of a best region's calls alone, in runs of 100,000 and of 1,000,000
 #                                generated commands, and how many that is for each command; and those of the function
 #                                that runs a command in a region, in which some of them are inlined
+#   bench/count.sh objects       the instructions of the calls on dictionaries and their region alone, in runs of 100,000 and
+#                                of 1,000,000 lines over an ordered set and over a set, and how many that is for each line;
+#                                and those of the function that runs a command, in which some of them are inlined
 # Run by hand at the top of the repository. It needs awk, and strace or valgrind.
 set -eu
 
@@ -34,9 +37,23 @@ regions() {
     done
 }
 
+objects() {
+    for method in oset set; do
+        for lines in 100000 1000000; do
+            bench/script.sh objects "$method" "$lines" > "$dir/script"
+            valgrind --tool=callgrind --callgrind-out-file="$dir/calls" bin/dtrun < "$dir/script" 2> "$dir/log" > /dev/null
+            callgrind_annotate --tree=calling --inclusive=yes --threshold=100 "$dir/calls" 2> /dev/null | tr -d , | awk -v method="$method" -v lines="$lines" '
+                function below() { return /:vc_(dict|dtord|dthash|dtlist|objects|best|gaps|extent|segments|seg|splay)::/ }
+                / \*  / { inside = below(); if (/Session::run_command/) whole = $1 }
+                / >  / { if (!inside && below()) calls += $1 }
+                END { printf "%s, %d lines: %d instructions, ", method, lines, calls; print int(calls / lines) " a line, of " whole " of Session::run_command, " int(whole / lines) " a line" }'
+        done
+    done
+}
+
 case "${1-}" in
-    calls | instructions | regions) ;;
-    *) echo "usage: bench/count.sh calls|instructions|regions" >&2; exit 2 ;;
+    calls | instructions | regions | objects) ;;
+    *) echo "usage: bench/count.sh calls|instructions|regions|objects" >&2; exit 2 ;;
 esac
 make all > /dev/null
 dir=$(mktemp -d)

@@ -6,6 +6,10 @@
 #   bench/script.sh one [LINES]      2,000,000 lines or so many: one block is allocated and freed again and again
 #   bench/script.sh live BLOCKS      so many blocks of one byte are allocated in one region
 #   bench/script.sh puts OBJECTS     so many objects are put into one queue and taken out again
+#   bench/script.sh objects METHOD LINES   so many lines: of a thousand objects, each line inserts, deletes or looks for one
+#                                    in a dictionary of that method, half of them insert
+#   bench/script.sh turns OBJECTS OLD NEW   so many objects are put into a dictionary, which is turned to one method and
+#                                    then to another
 # It needs awk.
 set -eu
 
@@ -74,7 +78,35 @@ puts() {
     }'
 }
 
+objects() {
+    awk -v method="$1" -v lines="$2" '
+    function random(n) { seed = (seed * 1103515245 + 12345) % 2147483648; return int(seed / 65536) % n }
+    BEGIN {
+        seed = 1
+        print "open r best 9"
+        print "dict d " method " r 1"
+        for (i = 0; i < lines - 4; i++) {
+            what = random(4)
+            print (what < 2 ? "insert" : what == 2 ? "delete" : "search") " d k" random(1000)
+        }
+        print "shut d"
+        print "close r"
+    }'
+}
+
+turns() {
+    awk -v objects="$1" -v old="$2" -v new="$3" 'BEGIN {
+        print "open r best 9"
+        print "dict d queue r 1"
+        for (i = 1; i <= objects; i++) print "insert d o" (i * 7919) % 1000003
+        print "method d " old
+        print "method d " new
+        print "shut d"
+        print "close r"
+    }'
+}
+
 case "${1-} $#" in
-    "frees 1" | "segments 1" | "resizes 1" | "resizes 2" | "one 1" | "one 2" | "live 2" | "puts 2") "$@" ;;
-    *) echo "usage: bench/script.sh frees | segments | resizes [LINES] | one [LINES] | live BLOCKS | puts OBJECTS" >&2; exit 2 ;;
+    "objects 3" | "turns 4" | "frees 1" | "segments 1" | "resizes 1" | "resizes 2" | "one 1" | "one 2" | "live 2" | "puts 2") "$@" ;;
+    *) echo "usage: bench/script.sh frees | segments | resizes [LINES] | one [LINES] | live BLOCKS | puts OBJECTS | objects METHOD LINES | turns OBJECTS OLD NEW" >&2; exit 2 ;;
 esac

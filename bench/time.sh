@@ -6,6 +6,8 @@
 #   bench/time.sh one       2,000,000 lines
 #   bench/time.sh live      4,000, 8,000 and 20,000 blocks of one byte in one region, each in a run of its own
 #   bench/time.sh quiet     the same with --quiet
+#   bench/time.sh turns     dtrun: 100,000 objects in a dictionary, which is turned to one method and then to another: the
+#                           longest run and the mean of those of all 42 pairs, and a run that turns it to none
 #   bench/time.sh puts      dtrun --quiet: 2,000, 4,000, 8,000 and 16,000 objects are put into a queue and taken out
 # Run by hand at the top of the repository. It needs awk and GNU time.
 set -eu
@@ -20,9 +22,25 @@ run() {
         sh -c 'for i in $(seq "$2"); do bin/"$4" $3 < "$1" > /dev/null; done' sh "$script" "$runs" "$words" "$program"
 }
 
+# The runs of each pair of methods.
+turns() {
+    bench/script.sh turns 100000 queue queue > "$script"
+    env time -f 'none: %e seconds, %M KiB' bin/dtrun < "$script" > /dev/null
+    for old in list stack queue set bag oset obag; do
+        for new in list stack queue set bag oset obag; do
+            test "$old" = "$new" && continue
+            bench/script.sh turns 100000 "$old" "$new" > "$script"
+            env time -f "%e $old $new" bin/dtrun < "$script" 2>&1 > /dev/null
+        done
+    done | awk '
+        { sum += $1; if ($1 > most) { most = $1; pair = $2 " " $3 } }
+        END { print "longest: " most " seconds, " pair "; mean: " sum / NR " seconds" }'
+}
+
 case "${1-}" in
+    turns) ;;
     frees | resizes | segments | one | live | quiet | puts) ;;
-    *) echo "usage: bench/time.sh frees|resizes|segments|one|live|quiet|puts" >&2; exit 2 ;;
+    *) echo "usage: bench/time.sh frees|resizes|segments|one|live|quiet|puts|turns" >&2; exit 2 ;;
 esac
 make all > /dev/null
 script=$(mktemp)
@@ -34,6 +52,7 @@ case "$1" in
     puts) program=dtrun words=--quiet ;;
 esac
 case "$1" in
+    turns) turns ;;
     segments) run 50 segments ;;
     puts) for objects in 2000 4000 8000 16000; do run 1 puts "$objects"; done ;;
     live | quiet) for blocks in 4000 8000 20000; do run 1 live "$blocks"; done ;;
