@@ -46,13 +46,18 @@ def words_of(pid):
         return []
 
 
-def is_gate(pid):
-    words = words_of(pid)
+def is_begun_here(pid):
+    """The gate works on a copy of the tree, so where it was begun is what its environment says."""
     try:
-        is_here = os.readlink(f"/proc/{pid}/cwd") == os.getcwd()
+        with open(f"/proc/{pid}/environ") as file:
+            return f"PWD={os.getcwd()}" in file.read().split("\0")
     except OSError:
         return False
-    return is_here and any(os.path.basename(rt) == "rt" and verb == "ci" for rt, verb in zip(words, words[1:]))
+
+
+def is_gate(pid):
+    words = words_of(pid)
+    return is_begun_here(pid) and any(os.path.basename(rt) == "rt" and verb == "ci" for rt, verb in zip(words, words[1:]))
 
 
 def work_of(words):
