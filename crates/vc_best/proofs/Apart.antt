@@ -8,8 +8,10 @@ use Rattle.vc_model.specs.Layout.{Block, footprint, lies_before, with_block}
 use Rattle.vc_model.specs.Segments.{span}
 use Rattle.vc_model.specs.Sound.{EndsBefore, IsApart}
 use Rattle.vc_seg.proofs.Rounding.{round_up-least}
-use Rattle.vc_layouts.proofs.Lists.{AllPairs-head, AllPairs-tail}
+use Rattle.vc_layouts.specs.InOrder.{in_order}
 use Rattle.vc_layouts.proofs.Blocks.{All-with}
+use Rattle.vc_layouts.proofs.InOrder.{All-in_order}
+use Rattle.vc_layouts.proofs.Lists.{AllPairs-head, AllPairs-nil, AllPairs-tail}
 
 pub span-least : (size : ℕ) → size + 16 ≤ span size
 span-least size = round_up-least (size + 16) 32 (omega arith)
@@ -69,3 +71,13 @@ Before-with s (t ∷ ts) here h apart pairs =
     let low : Before t s = Before-not_lower s t here head_t apart_t e in
     rw e (AllPairs-cons Before t (with_block s ts) (All-with (Before t) s ts low from_t) (Before-with s ts here (All-tail Q t ts h) (All-tail P t ts apart) (AllPairs-tail Before t ts pairs))))
     (cases_Bool (lies_before s t))
+
+-- blocks that don't overlap stand by address
+pub order-before : (bs : List (Block ℕ)) → All (λ b. 32 ≤ b.off) bs → AllPairs (λ a b. IsApart (footprint a) (footprint b)) bs → AllPairs Before (in_order bs)
+order-before [] h apart = AllPairs-nil Before
+order-before (b ∷ bs) h apart =
+    let P : Block ℕ → Type 0 = λ c. 32 ≤ c.off in
+    let R : Block ℕ → Block ℕ → Type 0 = λ c d. IsApart (footprint c) (footprint d) in
+    Before-with b (in_order bs) (All-head P b bs h) (All-in_order P bs (All-tail P b bs h))
+    (All-in_order (R b) bs (AllPairs-head R b bs apart))
+    (order-before bs (All-tail P b bs h) (AllPairs-tail R b bs apart))

@@ -13,11 +13,12 @@ use Rattle.vc_model.specs.Numbers.{block_bytes, block_count, gap_bytes, gap_coun
 use Rattle.vc_seg.specs.Segment.{Bytes, pair_of}
 use Rattle.vc_layouts.specs.Tally.{HasRoom, tally_of}
 use Rattle.vc_layouts.proofs.Tallies.{sizes-most, tally_of-bytes, tally_of-count, tally_of-most}
+use Rattle.vc_layouts.specs.InOrder.{in_order}
 use Rattle.vc_extent.specs.Extent.{Extent, extents}
 use Rattle.vc_extent.specs.Tiles.{IsTiled}
 use Rattle.vc_extent.specs.Tiling.{AreExtents, tiling}
 use Rattle.vc_extent.proofs.Tiled.{inside}
-use Rattle.vc_best.specs.Blocks.{all_busy, block_of, busy_in, in_order, is_busy, layout_by}
+use Rattle.vc_best.specs.Blocks.{all_busy, block_of, busy_in, is_busy, layout_by}
 use Rattle.vc_best.specs.Counts.{HaveRoom, all_extents, busy_sizes, counted, free_spans, no_counts}
 use Rattle.vc_best.specs.Free.{IsMerged, free_in, free_runs, is_free}
 use Rattle.vc_gaps.specs.Fits.{run_of_extent}

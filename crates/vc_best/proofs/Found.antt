@@ -13,12 +13,13 @@ use Rattle.vc_model.specs.Touch.{HasBlock, find_block}
 use Rattle.vc_seg.specs.Segment.{Bytes}
 use Rattle.vc_layouts.proofs.Lists.{AllPairs-head, AllPairs-tail}
 use Rattle.vc_layouts.proofs.Blocks.{place_of-address}
+use Rattle.vc_layouts.specs.InOrder.{in_order}
+use Rattle.vc_layouts.proofs.InOrder.{All-in_order, find-with}
 use Rattle.vc_extent.specs.Change.{extent_in}
 use Rattle.vc_extent.specs.Extent.{Extent, extents}
 use Rattle.vc_extent.specs.Tiles.{IsTiled}
 use Rattle.vc_extent.specs.Tiling.{AreExtents, IsBusy, extent_of, extents_of, tiling}
-use Rattle.vc_best.specs.Blocks.{all_busy, block_of, busy_in, in_order, layout_by}
-use Rattle.vc_best.proofs.InOrder.{All-in_order, find-with}
+use Rattle.vc_best.specs.Blocks.{all_busy, block_of, busy_in, layout_by}
 use Rattle.vc_best.proofs.Layouts.{blocks-busy, none-other, other_blocks, own-at}
 use Rattle.vc_best.proofs.Parts.{named-off}
 use Rattle.vc_best.proofs.Lies.{Lies, lies-behind, lies-tiled, lies-within}

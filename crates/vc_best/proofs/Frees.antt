@@ -12,19 +12,20 @@ use Rattle.vc_model.specs.Segments.{span}
 use Rattle.vc_model.specs.Sound.{IsApart}
 use Rattle.vc_seg.specs.Segment.{Bytes, pair_of}
 use Rattle.vc_layouts.proofs.Lists.{AllPairs-head, AllPairs-tail}
+use Rattle.vc_layouts.specs.InOrder.{in_order}
 use Rattle.vc_extent.specs.Extent.{Extent, extents}
 use Rattle.vc_extent.specs.Tiles.{IsTiled}
 use Rattle.vc_extent.specs.Tiling.{AreExtents, extents_of, tiling}
-use Rattle.vc_best.specs.Blocks.{all_busy, block_of, busy_in, in_order, layout_by}
+use Rattle.vc_best.specs.Blocks.{all_busy, block_of, busy_in, layout_by}
 use Rattle.vc_best.specs.Free.{IsMerged, free_in, free_runs, is_merged}
 use Rattle.vc_gaps.specs.Fits.{run_of_extent}
 use Rattle.vc_best.proofs.LeftGaps.{gaps_left, gaps_left_in}
-use Rattle.vc_best.proofs.InOrder.{order-before}
 use Rattle.vc_best.proofs.Layouts.{busy-seg}
 use Rattle.vc_best.proofs.Lies.{Ends, IsAt, Lies, lies-behind, lies-tiled}
 use Rattle.vc_best.proofs.Ordered.{gaps-left}
 use Rattle.vc_best.proofs.Sets.{runs-set}
 use Rattle.vc_best.proofs.Tilings.{All-busy_in, all-apart, all-lodged, other-seg}
+use Rattle.vc_best.proofs.Apart.{order-before}
 
 -- the blocks of one segment alone
 abbrev own_of : ℕ → List (Block ℕ) → List (Block ℕ)

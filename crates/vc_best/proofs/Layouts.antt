@@ -12,9 +12,10 @@ use Rattle.vc_extent.specs.Change.{behind, change_at, extent_in}
 use Rattle.vc_extent.specs.Extent.{Extent, extents}
 use Rattle.vc_extent.specs.Tiles.{IsTiled}
 use Rattle.vc_extent.specs.Tiling.{AreExtents, IsNamed, change_extent, change_in, extent_of, extents_of, tiling}
-use Rattle.vc_best.specs.Blocks.{all_busy, block_of, busy_in, in_order, is_busy, layout_by}
+use Rattle.vc_best.specs.Blocks.{all_busy, block_of, busy_in, is_busy, layout_by}
 use Rattle.vc_layouts.proofs.Lists.{AllPairs-head, AllPairs-tail}
-use Rattle.vc_best.proofs.InOrder.{NoneAt, All-in_order, change-with, order-middle, own-place, without-with}
+use Rattle.vc_layouts.specs.InOrder.{in_order}
+use Rattle.vc_layouts.proofs.InOrder.{All-in_order, NoneAt, change-with, order-middle, own-place, without-with}
 use Rattle.vc_best.proofs.Lies.{Ends, IsWithin, Lies, lies-behind, lies-tiled, lies-within}
 use Rattle.vc_best.proofs.Sets.{layout-set}
 use Rattle.vc_best.proofs.Parts.{above, below, busy-are, busy-changed, busy-none, busy-one, front, front-changed, front-is, lead, named-off, none-above, none-lead, none-others, rear}

@@ -35,7 +35,6 @@ pub mod Tilings
 pub mod Frees
 pub mod Segments
 pub mod Room
-pub mod InOrder
 pub mod Parts
 pub mod Held
 pub mod Walks

@@ -6,11 +6,11 @@ use Rattle.std.proofs.lemmas.List.{append_assoc, map-append}
 use Rattle.std.proofs.lemmas.List.Elements.{All-append, All-cons, All-filter, All-head, All-map, All-nil, All-tail, All-weaker, filter-append}
 use Rattle.vc_model.specs.Addr.{place_of}
 use Rattle.vc_model.specs.Layout.{Block, is_at}
+use Rattle.vc_layouts.proofs.InOrder.{NoneAt}
 use Rattle.vc_extent.specs.Extent.{Extent}
 use Rattle.vc_extent.specs.Change.{behind, change_at, extent_in}
 use Rattle.vc_extent.specs.Tiling.{IsNamed, change_extent, change_in, extent_of, extents_of}
 use Rattle.vc_best.specs.Blocks.{all_busy, block_of, busy_in, is_busy}
-use Rattle.vc_best.proofs.InOrder.{NoneAt}
 
 -- the extents before the one that an offset names
 abbrev pub front : ℕ → List Extent → List Extent

@@ -5,6 +5,7 @@ use Rattle.std.proofs.lemmas.Bool.{cases_Bool, eqb-true, ne_eqb, le-ltb, lt-ltb}
 use Rattle.std.proofs.lemmas.List.Elements.{All-cons, All-head, All-tail}
 use Rattle.vc_model.specs.Addr.{place_of}
 use Rattle.vc_seg.specs.Segment.{Bytes}
+use Rattle.vc_layouts.specs.InOrder.{in_order}
 use Rattle.vc_extent.specs.Change.{IsOneFree}
 use Rattle.vc_extent.specs.Extent.{Extent, free_extent, no_links}
 use Rattle.vc_extent.specs.Tiling.{IsBusy, IsFree, IsNamed, extent_of, extents_of, next_of, previous_of, tiling}
@@ -14,7 +15,7 @@ use Rattle.vc_gaps.specs.Fits as gaps
 use Rattle.vc_gaps.specs.GapLaws.{extents_of-plain, size-stays, span-stays, without-off, without-size}
 use Rattle.vc_gaps.proofs.Staying.{next-stays, previous-stays}
 use Rattle.vc_best.specs.Beside.{free_before, free_name, free_next}
-use Rattle.vc_best.specs.Blocks.{all_busy, block_of, busy_in, in_order, is_busy, layout_by}
+use Rattle.vc_best.specs.Blocks.{all_busy, block_of, busy_in, is_busy, layout_by}
 use Rattle.vc_best.specs.Free.{IsMerged, free_bytes, free_in, free_runs, is_free, is_merged, room_of}
 
 -- an extent with its links and without

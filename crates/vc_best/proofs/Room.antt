@@ -14,13 +14,14 @@ use Rattle.vc_model.specs.Resize.{can_stay, is_usable, meets, sized}
 use Rattle.vc_model.specs.Segments.{span}
 use Rattle.vc_seg.specs.Segment.{Bytes, pair_of}
 use Rattle.vc_layouts.proofs.Lists.{AllPairs-head, AllPairs-tail}
+use Rattle.vc_layouts.specs.InOrder.{in_order}
+use Rattle.vc_layouts.proofs.InOrder.{All-in_order, own-place}
 use Rattle.vc_extent.specs.Change.{extent_in, first_of}
 use Rattle.vc_extent.specs.Extent.{Extent, extents}
 use Rattle.vc_extent.specs.Tiles.{IsLegal, IsTiled}
 use Rattle.vc_extent.specs.Tiling.{AreExtents, IsBusy, extent_of, extents_of, tiling}
-use Rattle.vc_best.specs.Blocks.{all_busy, block_of, busy_in, in_order, layout_by}
+use Rattle.vc_best.specs.Blocks.{all_busy, block_of, busy_in, layout_by}
 use Rattle.vc_best.specs.Free.{IsMerged, free_bytes, is_free, is_merged, room_of}
-use Rattle.vc_best.proofs.InOrder.{All-in_order, own-place}
 use Rattle.vc_best.proofs.Layouts.{behind_of, below-others, busy-seg, lies-front}
 use Rattle.vc_best.proofs.Lies.{Ends, IsWithin, Lies, lies-behind, lies-tiled, lies-within}
 use Rattle.vc_best.proofs.Parts.{above, above-others, below, busy-are, busy-one, front, front-is, lead, named-off, rear}

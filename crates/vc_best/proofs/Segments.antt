@@ -11,13 +11,14 @@ use Rattle.vc_model.specs.Compact.{is_occupied}
 use Rattle.vc_model.specs.Layout.{Block, lies_before, with_block, with_segment}
 use Rattle.vc_seg.specs.Segment.{Bytes, pair_of}
 use Rattle.vc_layouts.proofs.Lists.{AllPairs-head, AllPairs-tail}
+use Rattle.vc_layouts.specs.InOrder.{in_order}
+use Rattle.vc_layouts.proofs.InOrder.{All-in_order}
 use Rattle.vc_extent.specs.Change.{IsOneFree}
 use Rattle.vc_extent.specs.Extent.{Extent, extents, free_extent, no_links}
 use Rattle.vc_extent.specs.Tiles.{IsTiled}
 use Rattle.vc_extent.specs.Tiling.{AreExtents, IsThere, extents_of, tiling}
-use Rattle.vc_best.specs.Blocks.{all_busy, busy_in, in_order, layout_by}
+use Rattle.vc_best.specs.Blocks.{all_busy, busy_in, layout_by}
 use Rattle.vc_best.specs.Free.{IsMerged, is_merged}
-use Rattle.vc_best.proofs.InOrder.{All-in_order}
 use Rattle.vc_best.proofs.Layouts.{busy-seg}
 use Rattle.vc_best.proofs.Lies.{Lies, lies-tiled}
 use Rattle.vc_best.proofs.Parts.{busy-none}

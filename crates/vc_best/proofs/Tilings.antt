@@ -11,15 +11,17 @@ use Rattle.vc_model.specs.Sound.{HasWholeBlocks, HaveOwnNumbers, IsApart, IsSoun
 use Rattle.vc_seg.specs.Segment.{AreSegments, Bytes, IsRegionSegment, pair_of}
 use Rattle.vc_layouts.proofs.Lists.{AllPairs-head, AllPairs-map, AllPairs-nil, AllPairs-tail}
 use Rattle.vc_layouts.proofs.Blocks.{apart_by_seg}
+use Rattle.vc_layouts.specs.InOrder.{in_order}
+use Rattle.vc_layouts.proofs.InOrder.{All-in_order}
 use Rattle.vc_extent.specs.Extent.{Extent, extents}
 use Rattle.vc_extent.specs.Tiles.{IsTiled}
 use Rattle.vc_extent.specs.Tiling.{AreExtents, tiling}
-use Rattle.vc_best.specs.Blocks.{all_busy, block_of, busy_in, in_order, is_busy, layout_by}
+use Rattle.vc_best.specs.Blocks.{all_busy, block_of, busy_in, is_busy, layout_by}
 use Rattle.vc_best.proofs.HaveHeads.{HaveHeads}
 use Rattle.vc_best.proofs.Heads.{IsSound-heads}
-use Rattle.vc_best.proofs.InOrder.{All-in_order, order-before}
 use Rattle.vc_best.proofs.Layouts.{busy-seg}
 use Rattle.vc_best.proofs.Lies.{Ends, IsWithin, Lies, lies-behind, lies-tiled, lies-within}
+use Rattle.vc_best.proofs.Apart.{order-before}
 
 -- the blocks of a segment, and those of all
 pub All-busy_in : (P : Block ℕ → Type 0) (n : ℕ) (es : List Extent) → All (λ e. 0 < e.size → P (block_of n e)) es → All P (busy_in (n, es))

@@ -1,8 +1,9 @@
 -- The segments and the blocks of a best region, read from the bytes of its segments.
 use Rattle.std.specs.Prelude.{ℕ, List, [], ◌∷◌, Bool, filter, map, nat_lt}
 use Rattle.std.specs.List.{flat_map}
-use Rattle.vc_model.specs.Layout.{Block, Layout, with_block}
+use Rattle.vc_model.specs.Layout.{Block, Layout}
 use Rattle.vc_seg.specs.Segment.{Bytes, pair_of}
+use Rattle.vc_layouts.specs.InOrder.{in_order}
 use Rattle.vc_extent.specs.Extent.{Extent}
 use Rattle.vc_extent.specs.Tiling.{tiling}
 
@@ -22,11 +23,6 @@ busy_in s = map (block_of s.0) (filter is_busy s.1)
 -- the blocks of all segments, as these stand
 abbrev pub all_busy : List (ℕ × List Extent) → List (Block ℕ)
 all_busy t = flat_map busy_in t
-
--- blocks by address
-abbrev pub in_order : List (Block ℕ) → List (Block ℕ)
-in_order [] = []
-in_order (b ∷ bs) = with_block b (in_order bs)
 
 -- its segments as number and size in order of lending, and its blocks by address
 unfoldable pub layout_by : List Bytes → Layout ℕ

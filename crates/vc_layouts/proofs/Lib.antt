@@ -1,4 +1,5 @@
 pub mod Blocks
+pub mod InOrder
 pub mod Lists
 pub mod Segments
 pub mod Tallies

@@ -7,7 +7,7 @@ use Rattle.vc_model.specs.Outcome.{Done, Refused, PoolSize, TooManySegments, NoS
 use Rattle.vc_model.specs.Pool.{Pool, carve, cell_for, element_with, pool_alloc, pool_need, pool_resize, put_asked, put_carving, put_free, uncarved}
 use Rattle.vc_model.specs.Resize.{resize_there}
 use Rattle.vc_model.specs.Segments.{Granted, TooMany, NotLent, ask}
-use Rattle.vc_pool_cells.specs.Blocks.{with_zeros}
+use Rattle.vc_layouts.specs.Put.{with_zeros}
 
 module _ (terms : Terms) (p : Pool ℕ) (tag size : ℕ) (refused : Bool) where
   -- the pool after it

@@ -10,11 +10,12 @@ use Rattle.vc_model.specs.Pool.{Pool, carve, cell_for, element_with, pool_alloc,
 use Rattle.vc_model.specs.Segments.{ask, round_up}
 use Rattle.vc_model.proofs.Owned.{address-place_of}
 use Rattle.vc_layouts.proofs.Segments.{Asks-fault, Served-lent, Served-same}
+use Rattle.vc_layouts.specs.Put.{with_zeros}
 use Rattle.vc_seg.specs.Answer.{Answers, Asks, IsPut, IsRefusal}
 use Rattle.vc_seg.specs.declared.fault.RegionFault.{RegionFault}
 use Rattle.vc_seg.specs.declared.fault.RegionFault.TheVariants as code
 use Rattle.vc_segments.specs.Lend.{IsAsked, IsNoGrant}
-use Rattle.vc_pool_cells.specs.Blocks.{carved_by, layout_by, pair_of, with_zeros}
+use Rattle.vc_pool_cells.specs.Blocks.{carved_by, layout_by, pair_of}
 use Rattle.vc_pool_cells.specs.Call.{IsReused}
 use Rattle.vc_pool_cells.specs.Cells.{Cells}
 use Rattle.vc_pool_cells.specs.Freed.{cells_at, freed_by}

@@ -10,12 +10,13 @@ use Rattle.vc_model.specs.Sound.{IsApart}
 use Rattle.vc_layouts.proofs.Lists.{AllPairs-head, AllPairs-nil, AllPairs-tail}
 use Rattle.vc_layouts.proofs.Blocks.{apart_by_seg}
 use Rattle.vc_layouts.proofs.Blocks.{All-with}
-use Rattle.vc_pool_cells.specs.Blocks.{block_in, blocks_from, blocks_of, in_order}
+use Rattle.vc_layouts.specs.InOrder.{in_order}
+use Rattle.vc_layouts.proofs.InOrder.{All-in_order}
+use Rattle.vc_pool_cells.specs.Blocks.{block_in, blocks_from, blocks_of}
 use Rattle.vc_pool_cells.specs.Cells.{Cells}
 use Rattle.vc_pool_cells.specs.Kept.{IsCellular}
 use Rattle.vc_pool_cells.specs.Place.{IsOther}
 use Rattle.vc_pool_cells.proofs.Blocks.{blocks-seg}
-use Rattle.vc_pool_cells.proofs.Order.{All-in_order}
 
 -- what is true of each two blocks is so in whichever order they are put
 module _ (R : Block ℕ → Block ℕ → Type 0) (turn : (a b : Block ℕ) → R a b → R b a) where

@@ -10,12 +10,13 @@ use Rattle.vc_model.specs.Pool.{IsInside, IsPoolSound, cell_for, cell_offset, ce
 use Rattle.vc_model.specs.Sound.{HaveOwnNumbers, HaveOwnPlaces}
 use Rattle.vc_model.specs.Touch.{HasBlock}
 use Rattle.vc_seg.specs.Segment.{IsRegionSegment}
-use Rattle.vc_pool_cells.specs.Blocks.{blocks_of, in_order, layout_by, pair_of}
+use Rattle.vc_layouts.specs.InOrder.{in_order}
+use Rattle.vc_layouts.proofs.InOrder.{All-in_order}
+use Rattle.vc_pool_cells.specs.Blocks.{blocks_of, layout_by, pair_of}
 use Rattle.vc_pool_cells.specs.Cells.{Cells}
 use Rattle.vc_pool_cells.specs.Freed.{cells_at}
 use Rattle.vc_pool_cells.specs.Kept.{AreCellular, segment_of}
 use Rattle.vc_pool_cells.specs.Place.{IsLive}
-use Rattle.vc_pool_cells.proofs.Order.{All-in_order}
 use Rattle.vc_pool_cells.proofs.Segments.{numbers-apart}
 use Rattle.vc_pool_cells.proofs.Stands.{all-legal, all-live, cell-there, fits-cell, place-there}
 use Rattle.vc_pool_walks.specs.Sizes.{element_of}

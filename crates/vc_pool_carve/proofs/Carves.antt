@@ -6,7 +6,8 @@ use Rattle.vc_model.specs.Addr.{place_of}
 use Rattle.vc_model.specs.Best.{zeros}
 use Rattle.vc_model.specs.Pool.{carve, cell_for, cell_offset}
 use Rattle.vc_seg.specs.Segment.{IsRegionSegment}
-use Rattle.vc_pool_cells.specs.Blocks.{block_in, carved_by, layout_by, with_zeros}
+use Rattle.vc_layouts.specs.Put.{with_zeros}
+use Rattle.vc_pool_cells.specs.Blocks.{block_in, carved_by, layout_by}
 use Rattle.vc_pool_cells.specs.Cells.{Cells, HasCell, carved_with, cells_of, pair_at}
 use Rattle.vc_pool_cells.specs.Freed.{IsFreeCell, cells_at, freed_by, index_at}
 use Rattle.vc_pool_cells.specs.Kept.{AreCellular, IsPool, IsPoolOf, segment_of}

@@ -7,7 +7,8 @@ use Rattle.vc_model.specs.Compact.{cleared}
 use Rattle.vc_model.specs.Layout.{Block}
 use Rattle.vc_model.specs.Pool.{cell_for}
 use Rattle.vc_seg.specs.Segment.{AreSegments}
-use Rattle.vc_pool_cells.specs.Blocks.{blocks_of, in_order, layout_by, pair_of}
+use Rattle.vc_layouts.specs.InOrder.{in_order}
+use Rattle.vc_pool_cells.specs.Blocks.{blocks_of, layout_by, pair_of}
 use Rattle.vc_pool_cells.specs.Cells.{Cells, uncarved_all}
 use Rattle.vc_pool_cells.specs.Freed.{IsFreeCell}
 use Rattle.vc_pool_cells.specs.Kept.{AreCellular, IsCellular, IsFront, IsFull, IsPoolOf, segment_of}

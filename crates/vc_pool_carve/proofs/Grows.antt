@@ -9,7 +9,8 @@ use Rattle.std.proofs.lemmas.List.Quantifiers.{all_pairs_push}
 use Rattle.vc_model.specs.Layout.{Block, with_segment}
 use Rattle.vc_model.specs.Pool.{cell_for}
 use Rattle.vc_seg.specs.Segment.{AreSegments, Bytes, IsRegionSegment}
-use Rattle.vc_pool_cells.specs.Blocks.{blocks_from, blocks_of, carved_by, in_order, layout_by, pair_of}
+use Rattle.vc_layouts.specs.InOrder.{in_order}
+use Rattle.vc_pool_cells.specs.Blocks.{blocks_from, blocks_of, carved_by, layout_by, pair_of}
 use Rattle.vc_pool_cells.specs.Cells.{Cells, pair_at}
 use Rattle.vc_pool_cells.specs.Freed.{IsFreeCell, cells_at, freed_by, index_at, no_cells, word_at}
 use Rattle.vc_pool_cells.specs.Kept.{AreCellular, IsCellular, IsFront, IsFull, IsPool, IsPoolOf, segment_of}

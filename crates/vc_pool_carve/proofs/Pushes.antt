@@ -5,7 +5,8 @@ use Rattle.std.proofs.lemmas.List.{get_or_push, length-map, map-append}
 use Rattle.vc_model.specs.Addr.{place_of}
 use Rattle.vc_model.specs.Layout.{Layout}
 use Rattle.vc_model.specs.Pool.{carve, cell_for, cell_offset, uncarved}
-use Rattle.vc_pool_cells.specs.Blocks.{carved_by, layout_by, pair_of, with_zeros}
+use Rattle.vc_layouts.specs.Put.{with_zeros}
+use Rattle.vc_pool_cells.specs.Blocks.{carved_by, layout_by, pair_of}
 use Rattle.vc_pool_cells.specs.Cells.{Cells, cells_of}
 use Rattle.vc_pool_cells.specs.Freed.{freed_by}
 use Rattle.vc_pool_cells.specs.Kept.{AreCellular, IsPool}

@@ -5,10 +5,10 @@ use Rattle.std.proofs.lemmas.List.{append_assoc, set_split, length-take-le, take
 use Rattle.std.proofs.lemmas.List.Elements.{All-append, All-head, All-tail, All-nil, All-cons, All-take}
 use Rattle.vc_model.specs.Layout.{Block, is_at}
 use Rattle.vc_model.specs.Pool.{cell_offset}
+use Rattle.vc_layouts.proofs.InOrder.{NoneAt}
 use Rattle.vc_extent.proofs.Frames.{part-back, part-front}
 use Rattle.vc_pool_cells.specs.Blocks.{block_in, blocks_from, blocks_of}
 use Rattle.vc_pool_cells.specs.Cells.{Cells, pair_at}
-use Rattle.vc_pool_cells.proofs.Order.{NoneAt}
 
 -- cells from an offset on, split at one of them
 pub blocks-split : (n : ℕ) (bytes : List ℕ) (cell off : ℕ) (front : List (ℕ × ℕ)) (c : ℕ × ℕ) (back : List (ℕ × ℕ)) →

@@ -8,7 +8,9 @@ use Rattle.vc_model.specs.Layout.{Block, Layout, is_at}
 use Rattle.vc_model.specs.Pool.{cell_for, cell_offset}
 use Rattle.vc_model.specs.Resize.{resize_there, sized}
 use Rattle.vc_model.specs.Touch.{HasBlock, change_block, find_block, rewritten, with_bytes_at}
-use Rattle.vc_pool_cells.specs.Blocks.{block_in, carved_by, layout_by, with_zeros}
+use Rattle.vc_layouts.specs.Put.{with_zeros}
+use Rattle.vc_layouts.proofs.InOrder.{own-place}
+use Rattle.vc_pool_cells.specs.Blocks.{block_in, carved_by, layout_by}
 use Rattle.vc_pool_cells.specs.Call.{Becomes, IsPutBack, IsReused}
 use Rattle.vc_pool_cells.specs.Cells.{Cells, HasCell, laid, link_in, pair_at, released, resized, written}
 use Rattle.vc_pool_cells.specs.Freed.{IsFreeCell, cells_at, freed_by, index_at, link_at, word_at}
@@ -17,7 +19,6 @@ use Rattle.vc_pool_cells.specs.Place.{IsCellAt, IsListed, IsLive}
 use Rattle.vc_pool_cells.proofs.Blocks.{ChangesCell}
 use Rattle.vc_pool_cells.proofs.Chains.{chain-small}
 use Rattle.vc_pool_cells.proofs.Keeps.{cellular-set, front-set, live-carved}
-use Rattle.vc_pool_cells.proofs.Order.{own-place}
 use Rattle.vc_pool_cells.proofs.Pools.{last-other, live-others, pool-freed, pool-of, pool-push, pool-set, tail-once}
 use Rattle.vc_pool_cells.proofs.Segments.{cells-first, cells-set, layout-changed, layout-freed, layout-found, layout-put, map-stays}
 use Rattle.vc_pool_cells.proofs.Stands.{all-few, all-legal, cell-there, fits-cell, index-is, index-same, number-last, stands}

@@ -1,4 +1,3 @@
-pub mod Order
 pub mod Blocks
 pub mod Segments
 pub mod Writes

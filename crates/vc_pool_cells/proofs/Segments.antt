@@ -10,12 +10,13 @@ use Rattle.vc_model.specs.Layout.{Block, is_at, with_block, without_block}
 use Rattle.vc_model.specs.Pool.{cell_offset}
 use Rattle.vc_model.specs.Touch.{change_block, find_block}
 use Rattle.vc_seg.specs.Segment.{AreSegments, Bytes}
-use Rattle.vc_pool_cells.specs.Blocks.{block_in, blocks_of, in_order, layout_by, pair_of}
+use Rattle.vc_layouts.specs.InOrder.{in_order}
+use Rattle.vc_layouts.proofs.InOrder.{All-in_order, NoneAt, change-with, find-with, order-middle, without-with}
+use Rattle.vc_pool_cells.specs.Blocks.{block_in, blocks_of, layout_by, pair_of}
 use Rattle.vc_pool_cells.specs.Cells.{Cells, pair_at}
 use Rattle.vc_pool_cells.specs.Freed.{cells_at}
 use Rattle.vc_pool_cells.specs.Kept.{segment_of}
 use Rattle.vc_pool_cells.specs.Place.{IsAlone, IsOther}
-use Rattle.vc_pool_cells.proofs.Order.{All-in_order, NoneAt, change-with, find-with, order-middle, without-with}
 use Rattle.vc_pool_cells.proofs.Blocks.{ChangesCell, back, blocks-new, blocks-old, front, none-before, none-behind, none-other}
 
 pub numbers-apart : (segs : List Cells) → AreSegments (map segment_of segs) → AllPairs (λ (a b : Cells). a.number ≢ b.number) segs

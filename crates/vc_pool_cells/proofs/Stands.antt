@@ -14,13 +14,14 @@ use Rattle.vc_model.specs.Touch.{HasBlock}
 use Rattle.vc_seg.specs.Segment.{AreSegments, IsRegionSegment}
 use Rattle.vc_layouts.proofs.Lists.{AllPairs-head, AllPairs-tail}
 use Rattle.vc_layouts.proofs.Blocks.{place_of-address}
-use Rattle.vc_pool_cells.specs.Blocks.{block_in, blocks_from, blocks_of, in_order, layout_by}
+use Rattle.vc_layouts.specs.InOrder.{in_order}
+use Rattle.vc_layouts.proofs.InOrder.{All-in_order}
+use Rattle.vc_pool_cells.specs.Blocks.{block_in, blocks_from, blocks_of, layout_by}
 use Rattle.vc_pool_cells.specs.Cells.{Cells, HasCell, IsCell, pair_at}
 use Rattle.vc_pool_cells.specs.Freed.{IsFreeCell, cells_at, index_at}
 use Rattle.vc_pool_cells.specs.Kept.{AreCellular, IsCellular, segment_of}
 use Rattle.vc_pool_cells.specs.Place.{IsLive, IsOther}
 use Rattle.vc_pool_cells.proofs.Blocks.{blocks-seg}
-use Rattle.vc_pool_cells.proofs.Order.{All-in_order}
 use Rattle.vc_pool_cells.proofs.Segments.{numbers-apart}
 
 -- the cells of an element size

@@ -1,8 +1,8 @@
 -- The blocks in the cells of a pool's segments.
 use Rattle.std.specs.Prelude.{ℕ, ◌+◌, List, [], ◌∷◌, ◌++◌, filter, length, map, nat_lt, take, drop, ◌==◌, if◌then◌else◌}
 use Rattle.std.specs.List.{flat_map}
-use Rattle.vc_model.specs.Best.{zeros}
-use Rattle.vc_model.specs.Layout.{Block, Layout, with_block}
+use Rattle.vc_model.specs.Layout.{Block, Layout}
+use Rattle.vc_layouts.specs.InOrder.{in_order}
 use Rattle.vc_pool_cells.specs.Cells.{Cells}
 
 -- a segment as number and size
@@ -25,19 +25,10 @@ blocks_from number bytes cell off (c ∷ cs) =
 abbrev pub blocks_of : ℕ → Cells → List (Block ℕ)
 blocks_of cell s = blocks_from s.number s.bytes cell 32 s.pairs
 
--- blocks by address
-abbrev pub in_order : List (Block ℕ) → List (Block ℕ)
-in_order [] = []
-in_order (b ∷ bs) = with_block b (in_order bs)
-
 -- segments as number and size in order of lending, and the blocks in their cells by address
 unfoldable pub layout_by : ℕ → List Cells → Layout ℕ
 layout_by cell segs =
     record { segments = map pair_of segs; blocks = in_order (flat_map (blocks_of cell) segs) }
-
--- a layout with a block of zeros
-abbrev pub with_zeros : Layout ℕ → ℕ → ℕ → ℕ × ℕ → Layout ℕ
-with_zeros r tag size at = record { segments = r.segments; blocks = with_block (zeros tag size at) r.blocks }
 
 -- how many cells of each segment were carved, where any were, in order of lending
 abbrev pub carved_by : List Cells → List (ℕ × ℕ)

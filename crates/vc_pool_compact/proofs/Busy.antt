@@ -7,7 +7,8 @@ use Rattle.std.proofs.lemmas.List.Elements.{All-head, All-tail}
 use Rattle.std.proofs.lemmas.List.Folds.{list_any-append}
 use Rattle.vc_model.specs.Compact.{is_occupied}
 use Rattle.vc_model.specs.Layout.{Block, lies_before, with_block}
-use Rattle.vc_pool_cells.specs.Blocks.{block_in, blocks_from, blocks_of, in_order, layout_by}
+use Rattle.vc_layouts.specs.InOrder.{in_order}
+use Rattle.vc_pool_cells.specs.Blocks.{block_in, blocks_from, blocks_of, layout_by}
 use Rattle.vc_pool_cells.specs.Cells.{Cells}
 use Rattle.vc_pool_compact.specs.Marks.{has_block, is_busy}
 

@@ -13,7 +13,8 @@ use Rattle.vc_model.specs.Pool.{cell_for}
 use Rattle.vc_seg.specs.Segment.{AreSegments, Bytes}
 use Rattle.vc_seg.proofs.Backs.{AreSegments-filter}
 use Rattle.vc_seg.proofs.Filters.{filter-filter, filter-map}
-use Rattle.vc_pool_cells.specs.Blocks.{blocks_of, carved_by, in_order, layout_by, pair_of}
+use Rattle.vc_layouts.specs.InOrder.{in_order}
+use Rattle.vc_pool_cells.specs.Blocks.{blocks_of, carved_by, layout_by, pair_of}
 use Rattle.vc_pool_cells.specs.Cells.{Cells, cells_of, pair_at}
 use Rattle.vc_pool_cells.specs.Freed.{IsFreeCell, cells_at, freed_by, index_at, word_at}
 use Rattle.vc_pool_cells.specs.Kept.{AreCellular, IsCellular, IsFront, IsFull, IsPool, IsPoolOf, segment_of}

@@ -7,7 +7,8 @@ use Rattle.std.proofs.lemmas.List.Elements.{All-set, All-weaker}
 use Rattle.vc_model.specs.Addr.{place_of}
 use Rattle.vc_model.specs.Discipline.{same_pair}
 use Rattle.vc_model.specs.Pool.{cell_for, cell_offset}
-use Rattle.vc_pool_cells.specs.Blocks.{blocks_of, in_order, layout_by, pair_of}
+use Rattle.vc_layouts.specs.InOrder.{in_order}
+use Rattle.vc_pool_cells.specs.Blocks.{blocks_of, layout_by, pair_of}
 use Rattle.vc_pool_cells.specs.Cells.{Cells, HasCell, pair_at, released}
 use Rattle.vc_pool_cells.specs.Freed.{IsFreeCell, cells_at, index_at, link_at, word_at}
 use Rattle.vc_pool_cells.specs.Kept.{AreCellular, IsCellular, IsFront}

@@ -10,6 +10,7 @@ use Rattle.vc_model.specs.Pool.{cell_for, cell_offset}
 use Rattle.vc_model.specs.Touch.{HasBlock, find_block}
 use Rattle.vc_seg.specs.Segment.{IsRegionSegment}
 use Rattle.vc_layouts.proofs.Lists.{AllPairs-head, AllPairs-tail}
+use Rattle.vc_layouts.proofs.InOrder.{All-in_order, own-place}
 use Rattle.vc_pool_cells.specs.Blocks.{block_in, blocks_from, blocks_of, layout_by}
 use Rattle.vc_pool_cells.specs.Cells.{Cells, cells_of, pair_at}
 use Rattle.vc_pool_cells.specs.Freed.{cells_at}
@@ -18,7 +19,6 @@ use Rattle.vc_pool_cells.specs.Place.{IsOther, cells_in}
 use Rattle.vc_pool_cells.specs.declared.segment.PoolSegment.{PoolSegment}
 use Rattle.vc_pool_cells.proofs.Blocks.{blocks-seg}
 use Rattle.vc_pool_cells.proofs.Lists.{alone-in, cells-get}
-use Rattle.vc_pool_cells.proofs.Order.{All-in_order, own-place}
 use Rattle.vc_pool_cells.proofs.Segments.{cells-first, layout-found, numbers-apart}
 use Rattle.vc_pool_cells.proofs.Stands.{IsCell-for, all-legal, cell-there, offset-multiple}
 use Rattle.vc_pool_cells.proofs.Writes.{one-block}

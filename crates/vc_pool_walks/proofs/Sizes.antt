@@ -13,7 +13,8 @@ use Rattle.vc_model.specs.Pool.{cell_count, cell_for}
 use Rattle.vc_layouts.specs.declared.tally.Tally.{Tally}
 use Rattle.vc_layouts.specs.Tally.{HasRoom, tallied, tallied_all, tally_of}
 use Rattle.vc_layouts.proofs.Tallies.{sizes-most, tally_of-count}
-use Rattle.vc_pool_cells.specs.Blocks.{blocks_from, blocks_of, in_order, layout_by, pair_of}
+use Rattle.vc_layouts.specs.InOrder.{in_order}
+use Rattle.vc_pool_cells.specs.Blocks.{blocks_from, blocks_of, layout_by, pair_of}
 use Rattle.vc_pool_cells.specs.Cells.{Cells, cells_of}
 use Rattle.vc_pool_cells.specs.Freed.{cell_total}
 use Rattle.vc_pool_cells.specs.Kept.{AreCellular, IsCellular, segment_of}

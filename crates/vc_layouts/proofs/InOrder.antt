@@ -1,15 +1,12 @@
 -- Blocks that are put by address one after another.
-use Rattle.std.proofs.Common.{◌≡◌, ℕ, ◌<◌, ◌≤◌, ◌⊎◌, List, [], ◌∷◌, ◌++◌, true, false, Some, All, AllPairs, refl, ap, sym, ◌∙◌, inl, inr, ⊎_elim, eqb, ltb, arith}
+use Rattle.std.proofs.Common.{◌≡◌, ℕ, ◌<◌, ◌⊎◌, List, [], ◌∷◌, ◌++◌, true, false, Some, All, refl, ap, sym, ◌∙◌, inl, inr, ⊎_elim, eqb, ltb, arith}
 use Rattle.std.specs.Prelude.{◌==◌, ◌&&◌}
 use Rattle.std.proofs.lemmas.Bool.{cases_Bool, and_parts, and_from, or_cases, or_left, or_right, eqb-true, eq-eqb, lt-ltb, ltb-true, ltb-false, false≢true}
 use Rattle.std.proofs.lemmas.List.Elements.{All-head, All-tail}
-use Rattle.vc_model.specs.Layout.{Block, footprint, is_at, lies_before, place_of_block, with_block, without_block}
-use Rattle.vc_model.specs.Sound.{IsApart}
+use Rattle.vc_model.specs.Layout.{Block, is_at, lies_before, place_of_block, with_block, without_block}
 use Rattle.vc_model.specs.Touch.{change_block, find_block}
-use Rattle.vc_layouts.proofs.Lists.{AllPairs-head, AllPairs-nil, AllPairs-tail}
+use Rattle.vc_layouts.specs.InOrder.{in_order}
 use Rattle.vc_layouts.proofs.Blocks.{All-with}
-use Rattle.vc_best.specs.Blocks.{in_order}
-use Rattle.vc_best.proofs.Apart.{Before, Before-with}
 
 -- the order of places
 abbrev Lower : Block ℕ → Block ℕ → Type 0
@@ -147,13 +144,3 @@ module _ (at : ℕ × ℕ) (b : Block ℕ) (own : is_at at b ≡ true) where
         (λ (e : lies_before b c ≡ true). rw e (rw (before-same c ∙ e) (rw own refl)))
         (λ (e : lies_before b c ≡ false). rw e (rw (before-same c ∙ e) (rw (All-head P c cs none) (ap (λ ds. c ∷ ds) (change-with cs (All-tail P c cs none))))))
         (cases_Bool (lies_before b c))
-
--- blocks that don't overlap stand by address
-pub order-before : (bs : List (Block ℕ)) → All (λ b. 32 ≤ b.off) bs → AllPairs (λ a b. IsApart (footprint a) (footprint b)) bs → AllPairs Before (in_order bs)
-order-before [] h apart = AllPairs-nil Before
-order-before (b ∷ bs) h apart =
-    let P : Block ℕ → Type 0 = λ c. 32 ≤ c.off in
-    let R : Block ℕ → Block ℕ → Type 0 = λ c d. IsApart (footprint c) (footprint d) in
-    Before-with b (in_order bs) (All-head P b bs h) (All-in_order P bs (All-tail P b bs h))
-    (All-in_order (R b) bs (AllPairs-head R b bs apart))
-    (order-before bs (All-tail P b bs h) (AllPairs-tail R b bs apart))
