@@ -2,7 +2,7 @@
 use Rattle.std.proofs.Common.{◌≡◌, ◌≢◌, ℕ, ◌+◌, ◌≤◌, List, [], ◌∷◌, ◌++◌, true, false, All, AllPairs, inl, inr, refl, sym, take, drop, ⊎_elim, eqb, arith, ◌∙◌}
 use Rattle.std.specs.List.{flat_map}
 use Rattle.std.proofs.lemmas.Bool.{cases_Bool}
-use Rattle.std.proofs.lemmas.List.Elements.{All-append, All-cons, All-head, All-nil, All-tail, All-weaker}
+use Rattle.std.proofs.lemmas.List.Elements.{All-append, All-head, All-nil, All-tail, All-weaker}
 use Rattle.std.proofs.lemmas.List.Kept.{AllPairs-cons}
 use Rattle.vc_model.specs.Layout.{Block, lies_before, with_block}
 use Rattle.vc_model.specs.Pool.{cell_run}
@@ -15,8 +15,7 @@ use Rattle.vc_layouts.proofs.InOrder.{All-in_order}
 use Rattle.vc_pool_cells.specs.Blocks.{block_in, blocks_from, blocks_of}
 use Rattle.vc_pool_cells.specs.Cells.{Cells}
 use Rattle.vc_pool_cells.specs.Kept.{IsCellular}
-use Rattle.vc_pool_cells.specs.Place.{IsOther}
-use Rattle.vc_pool_cells.proofs.Blocks.{blocks-seg}
+use Rattle.vc_pool_cells.proofs.Blocks.{All-block, blocks-seg, others-of}
 
 -- what is true of each two blocks is so in whichever order they are put
 module _ (R : Block ℕ → Block ℕ → Type 0) (turn : (a b : Block ℕ) → R a b → R b a) where
@@ -50,14 +49,6 @@ Beside cell a b = IsApart (cell_run cell a) (cell_run cell b)
 pub beside-turn : (cell : ℕ) (a b : Block ℕ) → Beside cell a b → Beside cell b a
 beside-turn cell a b h = ⊎_elim (λ l. inr l) (λ r. inl r) h
 
-All-one : (P : Block ℕ → Type 0) (n off : ℕ) (bytes : List ℕ) (c : ℕ × ℕ) → P (record { label = c.1; seg = n; off = off; size = c.0; bytes = take c.0 (drop off bytes) }) → All P (block_in n bytes off c)
-All-one P n off bytes c h =
-    let b : Block ℕ = record { label = c.1; seg = n; off = off; size = c.0; bytes = take c.0 (drop off bytes) } in
-    ⊎_elim
-    (λ (t : eqb c.0 0 ≡ true). rw t (All-nil P))
-    (λ (t : eqb c.0 0 ≡ false). rw t (All-cons P b [] h (All-nil P)))
-    (cases_Bool (eqb c.0 0))
-
 -- those of a segment stand one behind another
 abbrev Behind : ℕ → ℕ → Block ℕ → Type 0
 Behind n off b = (b.seg ≡ n) × (off ≤ b.off)
@@ -66,7 +57,7 @@ behind-run : (n cell off : ℕ) (bytes : List ℕ) (cs : List (ℕ × ℕ)) → 
 behind-run n cell off bytes [] = All-nil (Behind n off)
 behind-run n cell off bytes (c ∷ cs) =
     All-append (Behind n off) (block_in n bytes off c) (blocks_from n bytes cell (off + cell) cs)
-    (All-one (Behind n off) n off bytes c (refl, omega arith))
+    (All-block (Behind n off) n off bytes c (λ size. (refl, omega arith)))
     (All-weaker (Behind n (off + cell)) (Behind n off) (λ b h. let high = h.1 in (h.0, omega (arith, high))) (blocks_from n bytes cell (off + cell) cs) (behind-run n cell (off + cell) bytes cs))
 
 pairs-run : (n cell off : ℕ) (bytes : List ℕ) (cs : List (ℕ × ℕ)) → AllPairs (Beside cell) (blocks_from n bytes cell off cs)
@@ -81,15 +72,6 @@ pairs-run n cell off bytes (c ∷ cs) =
     (All-weaker (Behind n (off + cell)) (Beside cell b) (λ x h. inl (inr (sym h.0, h.1))) (blocks_from n bytes cell (off + cell) cs) (behind-run n cell (off + cell) bytes cs))
     rest))
     (cases_Bool (eqb c.0 0))
-
-others-of : (n cell : ℕ) (segs : List Cells) → All (IsOther n) segs → All (λ b. b.seg ≢ n) (flat_map (blocks_of cell) segs)
-others-of n cell [] h = All-nil (λ (b : Block ℕ). b.seg ≢ n)
-others-of n cell (s ∷ ss) h =
-    let P : Block ℕ → Type 0 = λ b. b.seg ≢ n in
-    let other = All-head (IsOther n) s ss h in
-    All-append P (blocks_of cell s) (flat_map (blocks_of cell) ss)
-    (All-weaker (λ (b : Block ℕ). b.seg ≡ s.number) P (λ b e q. other (sym e ∙ q)) (blocks_of cell s) (blocks-seg s.number s.bytes cell 32 s.pairs))
-    (others-of n cell ss (All-tail (IsOther n) s ss h))
 
 pub pairs-all : (cell : ℕ) (segs : List Cells) → AllPairs (λ (a b : Cells). a.number ≢ b.number) segs → AllPairs (Beside cell) (flat_map (blocks_of cell) segs)
 pairs-all cell [] h = AllPairs-nil (Beside cell)
@@ -109,7 +91,7 @@ sizes-run n cell element off bytes [] h = All-nil (λ (b : Block ℕ). b.size �
 sizes-run n cell element off bytes (c ∷ cs) h =
     let P : Block ℕ → Type 0 = λ b. b.size ≤ element in
     let Q : ℕ × ℕ → Type 0 = λ d. d.0 ≤ element in
-    All-append P (block_in n bytes off c) (blocks_from n bytes cell (off + cell) cs) (All-one P n off bytes c (All-head Q c cs h)) (sizes-run n cell element (off + cell) bytes cs (All-tail Q c cs h))
+    All-append P (block_in n bytes off c) (blocks_from n bytes cell (off + cell) cs) (All-block P n off bytes c (λ size. All-head Q c cs h)) (sizes-run n cell element (off + cell) bytes cs (All-tail Q c cs h))
 
 pub sizes-all : (cell element : ℕ) (segs : List Cells) → All (IsCellular cell element) segs → All (λ b. b.size ≤ element) (flat_map (blocks_of cell) segs)
 sizes-all cell element [] h = All-nil (λ (b : Block ℕ). b.size ≤ element)

@@ -3,22 +3,20 @@ use Rattle.std.proofs.Common.{◌≡◌, ◌≢◌, ℕ, suc, ◌+◌, ◌<◌, 
 use Rattle.std.specs.List.{flat_map}
 use Rattle.std.proofs.lemmas.Bool.{cases_eq, eq-eqb, ne_eqb}
 use Rattle.std.proofs.lemmas.List.{get_or-map, length-map}
-use Rattle.std.proofs.lemmas.List.Elements.{All-head, All-tail}
 use Rattle.vc_model.specs.Addr.{address, place_of}
 use Rattle.vc_model.specs.Layout.{Block, address_of}
 use Rattle.vc_model.specs.Pool.{IsInside, IsPoolSound, cell_for, cell_offset, cell_run}
 use Rattle.vc_model.specs.Sound.{HaveOwnNumbers, HaveOwnPlaces}
 use Rattle.vc_model.specs.Touch.{HasBlock}
-use Rattle.vc_seg.specs.Segment.{IsRegionSegment}
 use Rattle.vc_layouts.specs.InOrder.{in_order}
 use Rattle.vc_layouts.proofs.InOrder.{All-in_order}
 use Rattle.vc_pool_cells.specs.Blocks.{blocks_of, layout_by, pair_of}
 use Rattle.vc_pool_cells.specs.Cells.{Cells}
 use Rattle.vc_pool_cells.specs.Freed.{cells_at}
-use Rattle.vc_pool_cells.specs.Kept.{AreCellular, segment_of}
+use Rattle.vc_pool_cells.specs.Kept.{AreCellular}
 use Rattle.vc_pool_cells.specs.Place.{IsLive}
 use Rattle.vc_pool_cells.proofs.Segments.{numbers-apart}
-use Rattle.vc_pool_cells.proofs.Stands.{all-legal, all-live, cell-there, fits-cell, place-there}
+use Rattle.vc_pool_cells.proofs.Stands.{all-legal, all-live, cell-there, fits-cell, number-legal, place-there}
 use Rattle.vc_pool_walks.specs.Sizes.{element_of}
 use Rattle.vc_pool.proofs.Pairs.{Beside, beside-turn, pairs-all, pairs-order, sizes-all}
 
@@ -36,15 +34,6 @@ any-number P n (s ∷ ss) some p =
     let rest : P (n, length (cells_at n ss).bytes) = rw (ne_eqb s.number n e) at p in
     let u = any-number P n ss more rest in
     let within = u.2 in (suc u.0, u.1, omega (arith, within), u.3, u.4))
-    (cases_eq s.number n)
-
-number-first : (n : ℕ) (segs : List Cells) → All (λ s. IsRegionSegment (segment_of s)) segs → 1 ≤ length (cells_at n segs).pairs → 1 ≤ n
-number-first n [] h some = absurd (omega (arith, some))
-number-first n (s ∷ ss) h some =
-    let P : Cells → Type 0 = λ x. IsRegionSegment (segment_of x) in
-    ⊎_elim
-    (λ (e : s.number ≡ n). subst (λ m. 1 ≤ m) e ((All-head P s ss h).first))
-    (λ (e : s.number ≡ n → ⊥). number-first n ss (All-tail P s ss h) (rw (ne_eqb s.number n e) at some))
     (cases_eq s.number n)
 
 -- the numbers are their own
@@ -121,7 +110,7 @@ module _ (element : ℕ) (segs : List Cells) (h : AreCellular element segs) wher
         first = λ k d lt.
             let l = live k d lt in
             let listed = l.listed in
-            number-first (get_or blocks k d).seg segs (all-legal segs h.segments) (omega (arith, listed));
+            (number-legal (get_or blocks k d).seg segs h.segments (omega (arith, listed))).0;
         exact = λ k d lt. exact-by (get_or blocks k d) (live k d lt);
       }
 

@@ -1,14 +1,16 @@
 -- The blocks of a segment, of which one cell changes.
 use Rattle.std.proofs.Common.{◌≡◌, ◌≢◌, ℕ, suc, ◌+◌, ◌*◌, ◌<◌, ◌≤◌, List, [], ◌∷◌, ◌++◌, true, false, All, length, get_or, set, take, drop, refl, ap, sym, ◌∙◌, cond, ⊎_elim, eqb, arith}
-use Rattle.std.proofs.lemmas.Bool.{cases_Bool, and_right, and_left, ne_eqb}
+use Rattle.std.specs.List.{flat_map}
+use Rattle.std.proofs.lemmas.Bool.{cases_Bool, and_right, eqb-false, ne_eqb}
 use Rattle.std.proofs.lemmas.List.{append_assoc, set_split, length-take-le, take-append-drop, drop_more}
-use Rattle.std.proofs.lemmas.List.Elements.{All-append, All-head, All-tail, All-nil, All-cons, All-take}
+use Rattle.std.proofs.lemmas.List.Elements.{All-append, All-head, All-tail, All-nil, All-cons, All-take, All-weaker}
 use Rattle.vc_model.specs.Layout.{Block, is_at}
 use Rattle.vc_model.specs.Pool.{cell_offset}
 use Rattle.vc_layouts.proofs.InOrder.{NoneAt}
 use Rattle.vc_extent.proofs.Frames.{part-back, part-front}
 use Rattle.vc_pool_cells.specs.Blocks.{block_in, blocks_from, blocks_of}
 use Rattle.vc_pool_cells.specs.Cells.{Cells, pair_at}
+use Rattle.vc_pool_cells.specs.Place.{IsOther}
 
 -- cells from an offset on, split at one of them
 pub blocks-split : (n : ℕ) (bytes : List ℕ) (cell off : ℕ) (front : List (ℕ × ℕ)) (c : ℕ × ℕ) (back : List (ℕ × ℕ)) →
@@ -47,13 +49,13 @@ blocks-above n cell off t o s (c ∷ cs) same le =
     let rest = blocks-above n cell (off + cell) t o s cs same (omega (arith, le)) in
     ap (λ bs. bs ++ blocks_from n s cell (off + cell) cs) own ∙ ap (λ bs. block_in n o off c ++ bs) rest
 
--- what is true of a block in each cell is true of all blocks of cells
-All-block : (P : Block ℕ → Type 0) (n off : ℕ) (bytes : List ℕ) (c : ℕ × ℕ) → P (record { label = c.1; seg = n; off = off; size = c.0; bytes = take c.0 (drop off bytes) }) → All P (block_in n bytes off c)
+-- what is true of the block in a cell, where its pair has a size, is true of each block of the cell
+pub All-block : (P : Block ℕ → Type 0) (n off : ℕ) (bytes : List ℕ) (c : ℕ × ℕ) → (c.0 ≢ 0 → P (record { label = c.1; seg = n; off = off; size = c.0; bytes = take c.0 (drop off bytes) })) → All P (block_in n bytes off c)
 All-block P n off bytes c h =
     let b : Block ℕ = record { label = c.1; seg = n; off = off; size = c.0; bytes = take c.0 (drop off bytes) } in
     ⊎_elim
     (λ (t : eqb c.0 0 ≡ true). rw t (All-nil P))
-    (λ (t : eqb c.0 0 ≡ false). rw t (All-cons P b [] h (All-nil P)))
+    (λ (t : eqb c.0 0 ≡ false). rw t (All-cons P b [] (h (eqb-false c.0 0 t)) (All-nil P)))
     (cases_Bool (eqb c.0 0))
 
 -- blocks lie where their cells do
@@ -61,7 +63,7 @@ pub blocks-seg : (n : ℕ) (bytes : List ℕ) (cell off : ℕ) (cs : List (ℕ �
 blocks-seg n bytes cell off [] = All-nil (λ (b : Block ℕ). b.seg ≡ n)
 blocks-seg n bytes cell off (c ∷ cs) =
     let P : Block ℕ → Type 0 = λ b. b.seg ≡ n in
-    All-append P (block_in n bytes off c) (blocks_from n bytes cell (off + cell) cs) (All-block P n off bytes c refl) (blocks-seg n bytes cell (off + cell) cs)
+    All-append P (block_in n bytes off c) (blocks_from n bytes cell (off + cell) cs) (All-block P n off bytes c (λ some. refl)) (blocks-seg n bytes cell (off + cell) cs)
 
 -- none begins at an offset before or behind them
 pub none-front : (n at cell off : ℕ) (bytes : List ℕ) (cs : List (ℕ × ℕ)) → 1 ≤ cell → off + length cs * cell ≤ at → NoneAt (n, at) (blocks_from n bytes cell off cs)
@@ -70,7 +72,7 @@ none-front n at cell off bytes (c ∷ cs) some le =
     let P : Block ℕ → Type 0 = λ b. is_at (n, at) b ≡ false in
     let all : off + cell + length cs * cell ≤ at = omega (arith, le) in
     All-append P (block_in n bytes off c) (blocks_from n bytes cell (off + cell) cs)
-    (All-block P n off bytes c (and_right (eqb n n) (eqb off at) (ne_eqb off at (λ e. omega (arith, e, all, some)))))
+    (All-block P n off bytes c (λ size. and_right (eqb n n) (eqb off at) (ne_eqb off at (λ e. omega (arith, e, all, some)))))
     (none-front n at cell (off + cell) bytes cs some all)
 
 pub none-back : (n at cell off : ℕ) (bytes : List ℕ) (cs : List (ℕ × ℕ)) → at < off → NoneAt (n, at) (blocks_from n bytes cell off cs)
@@ -78,16 +80,18 @@ none-back n at cell off bytes [] le = All-nil (λ (b : Block ℕ). is_at (n, at)
 none-back n at cell off bytes (c ∷ cs) le =
     let P : Block ℕ → Type 0 = λ b. is_at (n, at) b ≡ false in
     All-append P (block_in n bytes off c) (blocks_from n bytes cell (off + cell) cs)
-    (All-block P n off bytes c (and_right (eqb n n) (eqb off at) (ne_eqb off at (λ e. omega (arith, e, le)))))
+    (All-block P n off bytes c (λ size. and_right (eqb n n) (eqb off at) (ne_eqb off at (λ e. omega (arith, e, le)))))
     (none-back n at cell (off + cell) bytes cs (omega (arith, le)))
 
-pub none-other : (n m at cell off : ℕ) (bytes : List ℕ) (cs : List (ℕ × ℕ)) → m ≢ n → NoneAt (n, at) (blocks_from m bytes cell off cs)
-none-other n m at cell off bytes [] other = All-nil (λ (b : Block ℕ). is_at (n, at) b ≡ false)
-none-other n m at cell off bytes (c ∷ cs) other =
-    let P : Block ℕ → Type 0 = λ b. is_at (n, at) b ≡ false in
-    All-append P (block_in m bytes off c) (blocks_from m bytes cell (off + cell) cs)
-    (All-block P m off bytes c (and_left (eqb m n) (eqb off at) (ne_eqb m n other)))
-    (none-other n m at cell (off + cell) bytes cs other)
+-- no block of segments with other numbers is in the one of a number
+pub others-of : (n cell : ℕ) (segs : List Cells) → All (IsOther n) segs → All (λ b. b.seg ≢ n) (flat_map (blocks_of cell) segs)
+others-of n cell [] h = All-nil (λ (b : Block ℕ). b.seg ≢ n)
+others-of n cell (s ∷ ss) h =
+    let P : Block ℕ → Type 0 = λ b. b.seg ≢ n in
+    let other = All-head (IsOther n) s ss h in
+    All-append P (blocks_of cell s) (flat_map (blocks_of cell) ss)
+    (All-weaker (λ (b : Block ℕ). b.seg ≡ s.number) P (λ b e q. other (sym e ∙ q)) (blocks_of cell s) (blocks-seg s.number s.bytes cell 32 s.pairs))
+    (others-of n cell ss (All-tail (IsOther n) s ss h))
 
 -- a segment before and after a change of one cell: the number and the bytes outside of the cell stay
 pub record ChangesCell (cell index : ℕ) (c : ℕ × ℕ) (o s : Cells) : Type 0 where

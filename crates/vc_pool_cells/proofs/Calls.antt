@@ -21,7 +21,7 @@ use Rattle.vc_pool_cells.proofs.Chains.{chain-small}
 use Rattle.vc_pool_cells.proofs.Keeps.{cellular-set, front-set, live-carved}
 use Rattle.vc_pool_cells.proofs.Pools.{last-other, live-others, pool-freed, pool-of, pool-push, pool-set, tail-once}
 use Rattle.vc_pool_cells.proofs.Segments.{cells-first, cells-set, layout-changed, layout-freed, layout-found, layout-put, map-stays}
-use Rattle.vc_pool_cells.proofs.Stands.{all-few, all-legal, cell-there, fits-cell, index-is, index-same, number-last, stands}
+use Rattle.vc_pool_cells.proofs.Stands.{all-few, all-legal, cell-there, fits-cell, index-is, index-same, number-legal, stands}
 use Rattle.vc_pool_cells.proofs.Writes.{block-laid, block-resized, block-written, laid-changes, no-block, one-block, released-changes, resized-changes, word-released, written-changes}
 
 -- the cell that a call is on
@@ -243,7 +243,7 @@ small-first element a segs (p ∷ q ∷ qs) h one =
     let f : IsFreeCell (cell_for element) segs q = All-head (IsFreeCell (cell_for element) segs) q qs (All-tail (IsFreeCell (cell_for element) segs) p (q ∷ qs) h.free) in
     let below = f.below in
     let there : 1 ≤ length (cells_at q.0 segs).pairs = omega (arith, below, all-few (cell_for element) element q.0 segs h.cells.cellular) in
-    chain-small segs (link_at segs a) q qs h.chain.2 (number-last q.0 segs h.cells.segments there)
+    chain-small segs (link_at segs a) q qs h.chain.2 ((number-legal q.0 segs h.cells.segments there).1)
 
 -- the address of the cell freed last is small
 last-first : (element a : ℕ) (segs : List Cells) (ps : List (ℕ × ℕ)) → IsPoolOf element segs a ps → a < 4294967296
@@ -252,7 +252,7 @@ last-first element a segs (p ∷ ps) h =
     let f : IsFreeCell (cell_for element) segs p = All-head (IsFreeCell (cell_for element) segs) p ps h.free in
     let below = f.below in
     let there : 1 ≤ length (cells_at p.0 segs).pairs = omega (arith, below, all-few (cell_for element) element p.0 segs h.cells.cellular) in
-    chain-small segs a p ps h.chain (number-last p.0 segs h.cells.segments there)
+    chain-small segs a p ps h.chain ((number-legal p.0 segs h.cells.segments there).1)
 
 pub last-small : (element a : ℕ) (segs : List Cells) → IsPool element segs a → a < 4294967296
 last-small element a segs h = last-first element a segs (freed_by segs a) h

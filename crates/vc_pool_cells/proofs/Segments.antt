@@ -1,10 +1,10 @@
 -- Of several segments one changes in one cell.
 use Rattle.std.proofs.Common.{◌≡◌, ◌≢◌, ℕ, zero, suc, ◌+◌, ◌<◌, ◌≤◌, List, [], ◌∷◌, ◌++◌, Some, true, false, All, AllPairs, length, get_or, set, map, take, drop, refl, ap, sym, ◌∙◌, subst, cond, ⊎_elim, eqb, arith}
 use Rattle.std.specs.List.{flat_map}
-use Rattle.std.proofs.lemmas.Bool.{cases_Bool, eq-eqb, ne_eqb}
+use Rattle.std.proofs.lemmas.Bool.{and_left, cases_Bool, eq-eqb, ne_eqb}
 use Rattle.std.proofs.lemmas.List.{append_assoc, drop_more, get_or-drop, get_or-map, get_or-take, get_or_default, length-drop, length-map, length-take, set_split, take-append-drop}
 use Rattle.std.proofs.lemmas.List.Concat.{flat_map-append}
-use Rattle.std.proofs.lemmas.List.Elements.{All-append, All-head, All-tail, All-nil}
+use Rattle.std.proofs.lemmas.List.Elements.{All-append, All-head, All-tail, All-weaker}
 use Rattle.vc_model.specs.Best.{without_block_at}
 use Rattle.vc_model.specs.Layout.{Block, is_at, with_block, without_block}
 use Rattle.vc_model.specs.Pool.{cell_offset}
@@ -17,7 +17,7 @@ use Rattle.vc_pool_cells.specs.Cells.{Cells, pair_at}
 use Rattle.vc_pool_cells.specs.Freed.{cells_at}
 use Rattle.vc_pool_cells.specs.Kept.{segment_of}
 use Rattle.vc_pool_cells.specs.Place.{IsAlone, IsOther}
-use Rattle.vc_pool_cells.proofs.Blocks.{ChangesCell, back, blocks-new, blocks-old, front, none-before, none-behind, none-other}
+use Rattle.vc_pool_cells.proofs.Blocks.{ChangesCell, back, blocks-new, blocks-old, front, none-before, none-behind, others-of}
 
 pub numbers-apart : (segs : List Cells) → AreSegments (map segment_of segs) → AllPairs (λ (a b : Cells). a.number ≢ b.number) segs
 numbers-apart segs h =
@@ -67,11 +67,10 @@ map-stays f (suc i) (s ∷ ss) new within e = ap (λ xs. f s ∷ xs) (map-stays 
 
 -- no block of segments of other numbers
 none-segments : (n at cell : ℕ) (segs : List Cells) → All (IsOther n) segs → NoneAt (n, at) (flat_map (blocks_of cell) segs)
-none-segments n at cell [] h = All-nil (λ (b : Block ℕ). is_at (n, at) b ≡ false)
-none-segments n at cell (s ∷ ss) h =
-    All-append (λ (b : Block ℕ). is_at (n, at) b ≡ false) (blocks_of cell s) (flat_map (blocks_of cell) ss)
-    (none-other n s.number at cell 32 s.bytes s.pairs (All-head (IsOther n) s ss h))
-    (none-segments n at cell ss (All-tail (IsOther n) s ss h))
+none-segments n at cell segs h =
+    All-weaker (λ (b : Block ℕ). b.seg ≢ n) (λ (b : Block ℕ). is_at (n, at) b ≡ false)
+    (λ b other. and_left (eqb b.seg n) (eqb b.off at) (ne_eqb b.seg n other))
+    (flat_map (blocks_of cell) segs) (others-of n cell segs h)
 
 -- the block of a cell, where there is one, among others
 abbrev pub with_cell : List (Block ℕ) → List (Block ℕ) → List (Block ℕ)

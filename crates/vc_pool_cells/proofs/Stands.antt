@@ -1,9 +1,9 @@
 -- Each block stands in a cell, and its address tells its place.
-use Rattle.std.proofs.Common.{◌≡◌, ◌≢◌, ℕ, suc, ◌+◌, ◌-◌, ◌*◌, ◌/◌, ◌%◌, ◌<◌, ◌≤◌, List, [], ◌∷◌, true, false, All, AllPairs, length, get_or, map, take, drop, refl, ap, sym, ◌∙◌, subst, ⊎_elim, eqb, arith}
+use Rattle.std.proofs.Common.{◌≡◌, ◌≢◌, ℕ, suc, ◌+◌, ◌-◌, ◌*◌, ◌/◌, ◌%◌, ◌<◌, ◌≤◌, List, [], ◌∷◌, All, AllPairs, length, get_or, map, refl, ap, sym, ◌∙◌, subst, ⊎_elim, arith}
 use Rattle.std.specs.List.{flat_map}
-use Rattle.std.proofs.lemmas.Bool.{cases_Bool, cases_eq, eq-eqb, eqb-false, ne_eqb}
+use Rattle.std.proofs.lemmas.Bool.{cases_eq, eq-eqb, ne_eqb}
 use Rattle.std.proofs.lemmas.List.{get_or-map, length-map}
-use Rattle.std.proofs.lemmas.List.Elements.{All-append, All-cons, All-head, All-nil, All-tail, All-weaker}
+use Rattle.std.proofs.lemmas.List.Elements.{All-append, All-head, All-nil, All-tail, All-weaker}
 use Rattle.std.proofs.lemmas.Nat.{div-add-mod', div-mul-add}
 use Rattle.std.proofs.Math.Nat.{mul-le-mul_right, mul-mod_right}
 use Rattle.vc_model.specs.Addr.{address, place_of}
@@ -14,14 +14,13 @@ use Rattle.vc_model.specs.Touch.{HasBlock}
 use Rattle.vc_seg.specs.Segment.{AreSegments, IsRegionSegment}
 use Rattle.vc_layouts.proofs.Lists.{AllPairs-head, AllPairs-tail}
 use Rattle.vc_layouts.proofs.Blocks.{place_of-address}
-use Rattle.vc_layouts.specs.InOrder.{in_order}
 use Rattle.vc_layouts.proofs.InOrder.{All-in_order}
 use Rattle.vc_pool_cells.specs.Blocks.{block_in, blocks_from, blocks_of, layout_by}
 use Rattle.vc_pool_cells.specs.Cells.{Cells, HasCell, IsCell, pair_at}
 use Rattle.vc_pool_cells.specs.Freed.{IsFreeCell, cells_at, index_at}
 use Rattle.vc_pool_cells.specs.Kept.{AreCellular, IsCellular, segment_of}
-use Rattle.vc_pool_cells.specs.Place.{IsLive, IsOther}
-use Rattle.vc_pool_cells.proofs.Blocks.{blocks-seg}
+use Rattle.vc_pool_cells.specs.Place.{IsLive}
+use Rattle.vc_pool_cells.proofs.Blocks.{All-block, others-of}
 use Rattle.vc_pool_cells.proofs.Segments.{numbers-apart}
 
 -- the cells of an element size
@@ -65,6 +64,15 @@ at-number P n (s ∷ ss) h some =
     (λ (e : s.number ≡ n → ⊥). let rest : 1 ≤ length (cells_at n ss).pairs = rw (ne_eqb s.number n e) at some in rw (ne_eqb s.number n e) (at-number P n ss (All-tail P s ss h) rest))
     (cases_eq s.number n)
 
+-- which has that number
+number-there : (n : ℕ) (segs : List Cells) → 1 ≤ length (cells_at n segs).pairs → (cells_at n segs).number ≡ n
+number-there n [] some = absurd (omega (arith, some))
+number-there n (s ∷ ss) some =
+    ⊎_elim
+    (λ (e : s.number ≡ n). rw (eq-eqb s.number n e) e)
+    (λ (e : s.number ≡ n → ⊥). rw (ne_eqb s.number n e) (number-there n ss (rw (ne_eqb s.number n e) at some)))
+    (cases_eq s.number n)
+
 pub all-few : (cell element n : ℕ) (segs : List Cells) → All (IsCellular cell element) segs → (cells_at n segs).carved ≤ length (cells_at n segs).pairs
 all-few cell element n [] h = omega arith
 all-few cell element n (s ∷ ss) h =
@@ -76,56 +84,55 @@ all-few cell element n (s ∷ ss) h =
 pub all-legal : (segs : List Cells) → AreSegments (map segment_of segs) → All (λ s. IsRegionSegment (segment_of s)) segs
 all-legal segs h = λ k d lt. subst IsRegionSegment (get_or-map segment_of segs k d (segment_of d) lt) (h.legal k (segment_of d) (omega (arith, lt, length-map segs segment_of)))
 
--- a block of a run of cells is in one of them
+-- a block is in a cell, and has the size of its pair
+pub record IsIn (cell : ℕ) (segs : List Cells) (b : Block ℕ) : Type 0 where
+  pub index : ℕ
+  pub offset : b.off ≡ cell_offset cell index
+  pub listed : index < length (cells_at b.seg segs).pairs
+  pub size : b.size ≡ (pair_at index (cells_at b.seg segs)).0
+  pub some : 1 ≤ b.size
+
+-- the same of a run of cells from an offset on
 record IsOf (n cell off : ℕ) (cs : List (ℕ × ℕ)) (b : Block ℕ) : Type 0 where
   index : ℕ
   seg : b.seg ≡ n
   offset : b.off ≡ off + index * cell
   listed : index < length cs
-  size : 1 ≤ (get_or cs index (0, 0)).0
-
-one-of : (n cell off : ℕ) (bytes : List ℕ) (c : ℕ × ℕ) (cs : List (ℕ × ℕ)) → All (IsOf n cell off (c ∷ cs)) (block_in n bytes off c)
-one-of n cell off bytes c cs =
-    let P : Block ℕ → Type 0 = IsOf n cell off (c ∷ cs) in
-    let b : Block ℕ = record { label = c.1; seg = n; off = off; size = c.0; bytes = take c.0 (drop off bytes) } in
-    ⊎_elim
-    (λ (t : eqb c.0 0 ≡ true). rw t (All-nil P))
-    (λ (t : eqb c.0 0 ≡ false).
-    let other = eqb-false c.0 0 t in
-    rw t (All-cons P b [] (record { index = 0; seg = refl; offset = omega arith; listed = omega arith; size = omega (arith, other) }) (All-nil P)))
-    (cases_Bool (eqb c.0 0))
+  size : b.size ≡ (get_or cs index (0, 0)).0
+  some : 1 ≤ b.size
 
 run-of : (n cell off : ℕ) (bytes : List ℕ) (cs : List (ℕ × ℕ)) → All (IsOf n cell off cs) (blocks_from n bytes cell off cs)
 run-of n cell off bytes [] = All-nil (IsOf n cell off [])
 run-of n cell off bytes (c ∷ cs) =
     All-append (IsOf n cell off (c ∷ cs)) (block_in n bytes off c) (blocks_from n bytes cell (off + cell) cs)
-    (one-of n cell off bytes c cs)
+    (All-block (IsOf n cell off (c ∷ cs)) n off bytes c (λ some. record { index = 0; seg = refl; offset = omega arith; listed = omega arith; size = refl; some = omega (arith, some) }))
     (All-weaker (IsOf n cell (off + cell) cs) (IsOf n cell off (c ∷ cs))
     (λ b h.
     let offset = h.offset in
     let listed = h.listed in
-    record { index = suc h.index; seg = h.seg; offset = omega (arith, offset); listed = omega (arith, listed); size = h.size })
+    record { index = suc h.index; seg = h.seg; offset = omega (arith, offset); listed = omega (arith, listed); size = h.size; some = h.some })
     (blocks_from n bytes cell (off + cell) cs)
     (run-of n cell (off + cell) bytes cs))
 
--- no block of segments with other numbers is in the one of a number
-others-of : (n cell : ℕ) (segs : List Cells) → All (IsOther n) segs → All (λ b. b.seg ≢ n) (flat_map (blocks_of cell) segs)
-others-of n cell [] h = All-nil (λ (b : Block ℕ). b.seg ≢ n)
-others-of n cell (s ∷ ss) h =
-    let P : Block ℕ → Type 0 = λ b. b.seg ≢ n in
-    let other = All-head (IsOther n) s ss h in
-    All-append P (blocks_of cell s) (flat_map (blocks_of cell) ss)
-    (All-weaker (λ (b : Block ℕ). b.seg ≡ s.number) P (λ b e q. other (sym e ∙ q)) (blocks_of cell s) (blocks-seg s.number s.bytes cell 32 s.pairs))
-    (others-of n cell ss (All-tail (IsOther n) s ss h))
+-- what is told of a block by the segment of its number
+moved : (cell : ℕ) (b : Block ℕ) (ss rs : List Cells) → cells_at b.seg ss ≡ cells_at b.seg rs → IsIn cell rs b → IsIn cell ss b
+moved cell b ss rs e h =
+    record {
+      index = h.index;
+      offset = h.offset;
+      listed = subst (λ (x : Cells). h.index < length x.pairs) (sym e) h.listed;
+      size = subst (λ (x : Cells). b.size ≡ (pair_at h.index x).0) (sym e) h.size;
+      some = h.some;
+    }
 
 -- each block is in a cell
-pub all-live : (cell : ℕ) (segs : List Cells) → AllPairs (λ (a b : Cells). a.number ≢ b.number) segs → All (λ b. IsLive cell segs (b.seg, b.off)) (flat_map (blocks_of cell) segs)
-all-live cell [] apart = All-nil (λ (b : Block ℕ). IsLive cell [] (b.seg, b.off))
-all-live cell (s ∷ ss) apart =
+all-in : (cell : ℕ) (segs : List Cells) → AllPairs (λ (a b : Cells). a.number ≢ b.number) segs → All (IsIn cell segs) (flat_map (blocks_of cell) segs)
+all-in cell [] apart = All-nil (IsIn cell [])
+all-in cell (s ∷ ss) apart =
     let R : Cells → Cells → Type 0 = λ x y. x.number ≢ y.number in
-    let P : Block ℕ → Type 0 = λ b. IsLive cell (s ∷ ss) (b.seg, b.off) in
+    let P : Block ℕ → Type 0 = IsIn cell (s ∷ ss) in
     let heads = AllPairs-head R s ss apart in
-    let rest = all-live cell ss (AllPairs-tail R s ss apart) in
+    let rest = all-in cell ss (AllPairs-tail R s ss apart) in
     let others = others-of s.number cell ss (λ k d lt e. heads k d lt (sym e)) in
     All-append P (blocks_of cell s) (flat_map (blocks_of cell) ss)
     (All-weaker (IsOf s.number cell 32 s.pairs) P
@@ -135,19 +142,26 @@ all-live cell (s ∷ ss) apart =
       index = h.index;
       offset = h.offset;
       listed = subst (λ (x : Cells). h.index < length x.pairs) (sym is) h.listed;
-      size = subst (λ (x : Cells). 1 ≤ (pair_at h.index x).0) (sym is) h.size;
+      size = subst (λ (x : Cells). b.size ≡ (pair_at h.index x).0) (sym is) h.size;
+      some = h.some;
     })
     (blocks_of cell s) (run-of s.number cell 32 s.bytes s.pairs))
     (λ k d lt.
     let b : Block ℕ = get_or (flat_map (blocks_of cell) ss) k d in
-    let l = rest k d lt in
-    let is : cells_at b.seg (s ∷ ss) ≡ cells_at b.seg ss = rw (ne_eqb s.number b.seg (λ e. others k d lt (sym e))) refl in
-    record {
-      index = l.index;
-      offset = l.offset;
-      listed = subst (λ (x : Cells). l.index < length x.pairs) (sym is) l.listed;
-      size = subst (λ (x : Cells). 1 ≤ (pair_at l.index x).0) (sym is) l.size;
-    })
+    moved cell b (s ∷ ss) ss (rw (ne_eqb s.number b.seg (λ e. others k d lt (sym e))) refl) (rest k d lt))
+
+-- so one is in the cell at its place
+in-live : (cell : ℕ) (segs : List Cells) (b : Block ℕ) → IsIn cell segs b → IsLive cell segs (b.seg, b.off)
+in-live cell segs b h =
+    record { index = h.index; offset = h.offset; listed = h.listed; size = let size = h.size in let some = h.some in omega (arith, size, some) }
+
+pub all-live : (cell : ℕ) (segs : List Cells) → AllPairs (λ (a b : Cells). a.number ≢ b.number) segs → All (λ b. IsLive cell segs (b.seg, b.off)) (flat_map (blocks_of cell) segs)
+all-live cell segs apart = All-weaker (IsIn cell segs) (λ (b : Block ℕ). IsLive cell segs (b.seg, b.off)) (in-live cell segs) (flat_map (blocks_of cell) segs) (all-in cell segs apart)
+
+pub blocks-in : (element : ℕ) (segs : List Cells) → AreCellular element segs → All (IsIn (cell_for element) segs) (layout_by (cell_for element) segs).blocks
+unfolding layout_by
+blocks-in element segs h =
+    All-in_order (IsIn (cell_for element) segs) (flat_map (blocks_of (cell_for element)) segs) (all-in (cell_for element) segs (numbers-apart segs h.segments))
 
 module _ (element : ℕ) (segs : List Cells) (h : AreCellular element segs) (some : 1 ≤ element) where
   -- a cell of a segment
@@ -168,15 +182,13 @@ module _ (element : ℕ) (segs : List Cells) (h : AreCellular element segs) (som
       place_of-address n (cell_offset (cell_for element) index) (omega (arith, inside, small, least)) (offset-multiple (cell_for element) index legal.multiple)
 
   pub stands : (a : ℕ) → HasBlock (layout_by (cell_for element) segs).blocks a → IsLive (cell_for element) segs (place_of a)
-  unfolding layout_by
   stands a live =
-      let blocks : List (Block ℕ) = in_order (flat_map (blocks_of (cell_for element)) segs) in
+      let blocks : List (Block ℕ) = (layout_by (cell_for element) segs).blocks in
       let none : Block ℕ = record { label = 0; seg = 0; off = 0; size = 0; bytes = [] } in
       let k : ℕ = live.0 in
       let within : k < length blocks = omega (arith, live.1, length-map blocks address_of) in
       let b : Block ℕ = get_or blocks k none in
-      let all : All (λ b. IsLive (cell_for element) segs (b.seg, b.off)) blocks = All-in_order (λ b. IsLive (cell_for element) segs (b.seg, b.off)) (flat_map (blocks_of (cell_for element)) segs) (all-live (cell_for element) segs (numbers-apart segs h.segments)) in
-      let l = all k none within in
+      let l = in-live (cell_for element) segs b (blocks-in element segs h k none within) in
       let own : address (b.seg, b.off) ≡ a = sym (get_or-map address_of blocks k none a within) ∙ live.2 in
       let pair : ℕ → ℕ → ℕ × ℕ = λ x y. (x, y) in
       let off : pair b.seg b.off ≡ pair b.seg (cell_offset (cell_for element) l.index) = ap (pair b.seg) l.offset in
@@ -192,15 +204,9 @@ live-other cell segs at p some l f e =
     let empty = f.empty in
     omega (arith, size, empty)
 
--- the number of a segment with cells is at most 1,023
-pub number-last : (n : ℕ) (segs : List Cells) → AreSegments (map segment_of segs) → 1 ≤ length (cells_at n segs).pairs → n ≤ 1023
-number-last n segs h some = by-cells n segs (all-legal segs h) some
-  where
-    by-cells : (n : ℕ) (segs : List Cells) → All (λ s. IsRegionSegment (segment_of s)) segs → 1 ≤ length (cells_at n segs).pairs → n ≤ 1023
-    by-cells n [] h some = absurd (omega (arith, some))
-    by-cells n (s ∷ ss) h some =
-        let P : Cells → Type 0 = λ x. IsRegionSegment (segment_of x) in
-        ⊎_elim
-        (λ (e : s.number ≡ n). subst (λ m. m ≤ 1023) e ((All-head P s ss h).last))
-        (λ (e : s.number ≡ n → ⊥). by-cells n ss (All-tail P s ss h) (rw (ne_eqb s.number n e) at some))
-        (cases_eq s.number n)
+-- the number of a segment with cells is from 1 to 1,023
+pub number-legal : (n : ℕ) (segs : List Cells) → AreSegments (map segment_of segs) → 1 ≤ length (cells_at n segs).pairs → (1 ≤ n) × (n ≤ 1023)
+number-legal n segs h some =
+    let legal = at-number (λ s. IsRegionSegment (segment_of s)) n segs (all-legal segs h) some in
+    let own = number-there n segs some in
+    (subst (λ m. 1 ≤ m) own legal.first, subst (λ m. m ≤ 1023) own legal.last)

@@ -11,7 +11,7 @@ use Rattle.vc_pool_cells.specs.Place.{IsListed}
 use Rattle.vc_pool_cells.proofs.Calls.{freed-listed, link-small}
 use Rattle.vc_pool_cells.proofs.Chains.{chain-same}
 use Rattle.vc_pool_cells.proofs.Pools.{pool-freed, pool-of}
-use Rattle.vc_pool_cells.proofs.Stands.{number-last}
+use Rattle.vc_pool_cells.proofs.Stands.{number-legal}
 use Rattle.vc_pool_cells.proofs.Times.{times-append}
 use Rattle.vc_pool_compact.specs.Relink.{HasSplit, IsLinked, IsRun, IsSifted, IsSplit, KeepsAll}
 use Rattle.vc_pool_compact.proofs.Relinks.{free-listed, linked-cells, linked-free, linked-front, linked-keeps, linked-link, linked-word}
@@ -76,7 +76,7 @@ module _ (element : ℕ) (segs : List Cells) (freed last at : ℕ) where
   split-number h one =
       let l = split-listed h one in
       let there = l.listed in
-      number-last (place_of at).0 segs (split-cells h).segments (omega (arith, there))
+      (number-legal (place_of at).0 segs (split-cells h).segments (omega (arith, there))).1
 
   last-of : (kept rest : List (ℕ × ℕ)) → IsSplit element segs freed last at kept rest → 1 ≤ last → IsFreeCell (cell_for element) segs (place_of last)
   last-of [] rest h one = let none : 0 ≡ last = h.run.0 in absurd (omega (arith, none, one))

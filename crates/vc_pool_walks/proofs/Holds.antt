@@ -11,9 +11,8 @@ use Rattle.vc_pool_cells.specs.Blocks.{layout_by}
 use Rattle.vc_pool_cells.specs.Cells.{Cells, pair_at}
 use Rattle.vc_pool_cells.specs.Freed.{cells_at}
 use Rattle.vc_pool_cells.specs.Kept.{AreCellular, IsCellular}
-use Rattle.vc_pool_cells.proofs.Stands.{at-number, fits-cell, index-same}
+use Rattle.vc_pool_cells.proofs.Stands.{IsIn, at-number, blocks-in, fits-cell, index-same}
 use Rattle.vc_pool_walks.proofs.Finds.{find-none, find-same}
-use Rattle.vc_pool_walks.proofs.Lives.{IsIn, blocks-in}
 
 -- the byte at an offset is in a cell's block
 pub record HasByte (cell n off : ℕ) (segs : List Cells) (k : ℕ) : Type 0 where

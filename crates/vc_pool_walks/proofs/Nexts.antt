@@ -18,10 +18,10 @@ use Rattle.vc_pool_cells.specs.Blocks.{layout_by, pair_of}
 use Rattle.vc_pool_cells.specs.Cells.{Cells, pair_at}
 use Rattle.vc_pool_cells.specs.Freed.{cells_at}
 use Rattle.vc_pool_cells.specs.Kept.{AreCellular, segment_of}
-use Rattle.vc_pool_cells.proofs.Stands.{all-legal, at-number}
+use Rattle.vc_pool_cells.proofs.Stands.{IsIn, all-legal, at-number, blocks-in}
 use Rattle.vc_pool_walks.specs.First.{AreEmpty, IsBare, IsFirstAbove, IsFirstIn}
 use Rattle.vc_pool_walks.proofs.Least.{IsLeast, least-found, least-is, least-no, least-none}
-use Rattle.vc_pool_walks.proofs.Lives.{IsIn, blocks-in, cell-multiple, cell-small}
+use Rattle.vc_pool_walks.proofs.Lives.{cell-multiple, cell-small}
 
 split : (m n : ℕ) → (m ≤ n) ⊎ (n < m)
 split m n = ⊎_elim (λ lt. inr lt) (λ le. inl le) (cases_lt n m)
