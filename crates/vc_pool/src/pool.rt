@@ -191,12 +191,12 @@ impl Pool {
     {
         let Pool {
             mut segs,
-            element,
+            element: _,
             freed: _,
             mut disc,
             alloc: _,
         } = self;
-        let count = close_in(&mut segs, element, &mut disc);
+        let count = close_in(&mut segs, &mut disc);
         (disc, count)
     }
 

@@ -13,7 +13,7 @@ use Rattle.vc_seg.proofs.Backs.{Apart, Contains-pair, without_last-segment}
 use Rattle.vc_seg.proofs.Filters.{filter-agree_on, filter-all, filter-filter}
 use Rattle.vc_pool_cells.specs.Blocks.{pair_of}
 use Rattle.vc_pool_cells.specs.Cells.{Cells, cells_of}
-use Rattle.vc_pool_cells.specs.Kept.{AreCellular}
+use Rattle.vc_pool_cells.specs.Kept.{segment_of}
 use Rattle.vc_pool_cells.specs.Place.{cells_in}
 use Rattle.vc_pool_cells.specs.declared.segment.PoolSegment.{PoolSegment}
 use Rattle.vc_pool_cells.proofs.Segments.{numbers-apart}
@@ -116,15 +116,15 @@ from-last keeps n ss h le =
     (λ k d lt. let last = h k d lt in rw (lt-leb n (get_or ss k d).seg.number (omega (arith, last))) refl)
 
 -- the numbers of a pool's segments
-module _ (element : ℕ) (segs : List PoolSegment) (k : AreCellular element (cells_in segs)) where
+module _ (segs : List PoolSegment) (k : AreSegments (map segment_of (cells_in segs))) where
   number-at : (i : ℕ) (d : PoolSegment) → i < length segs → (get_or (cells_in segs) i (cells_of d)).number ≡ (get_or segs i d).seg.number
   number-at i d lt = ap (λ (s : Cells). s.number) (get_or-map cells_of segs i d (cells_of d) lt)
 
   pub numbers-first : All (λ s. 1 ≤ s.seg.number) segs
-  numbers-first = λ i d lt. subst (λ n. 1 ≤ n) (number-at i d lt) ((all-legal (cells_in segs) k.segments i (cells_of d) (omega (arith, lt, length-map segs cells_of))).first)
+  numbers-first = λ i d lt. subst (λ n. 1 ≤ n) (number-at i d lt) ((all-legal (cells_in segs) k i (cells_of d) (omega (arith, lt, length-map segs cells_of))).first)
 
   pub numbers-last : All (λ s. s.seg.number ≤ 1023) segs
-  numbers-last = λ i d lt. subst (λ n. n ≤ 1023) (number-at i d lt) ((all-legal (cells_in segs) k.segments i (cells_of d) (omega (arith, lt, length-map segs cells_of))).last)
+  numbers-last = λ i d lt. subst (λ n. n ≤ 1023) (number-at i d lt) ((all-legal (cells_in segs) k i (cells_of d) (omega (arith, lt, length-map segs cells_of))).last)
 
   pub numbers-below : All (λ s. s.seg.number < 1024) segs
   numbers-below = λ i d lt. let last = numbers-last i d lt in omega (arith, last)
@@ -132,7 +132,7 @@ module _ (element : ℕ) (segs : List PoolSegment) (k : AreCellular element (cel
   pub numbers-own : AreApart segs
   numbers-own =
       λ i j d lt within e.
-      numbers-apart (cells_in segs) k.segments i j (cells_of d) lt (omega (arith, within, length-map segs cells_of))
+      numbers-apart (cells_in segs) k i j (cells_of d) lt (omega (arith, within, length-map segs cells_of))
       (number-at i d (omega (arith, lt, within)) ∙ (e ∙ sym (number-at j d within)))
 
 -- where none is marked none stays

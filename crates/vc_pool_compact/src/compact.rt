@@ -1,11 +1,12 @@
-ghost use Rattle.std.specs.Prelude.{◌≡◌, ℕ, ◌<◌, [], All, false, filter, length};
+ghost use Rattle.std.specs.Prelude.{◌≡◌, ℕ, ◌<◌, [], All, false, filter, length, map};
 ghost use Rattle.vc_model.specs.Compact.{compact_count, compacted, is_occupied};
 ghost use Rattle.vc_model.specs.Discipline.{HasOut, TookBack};
 ghost use Rattle.vc_model.specs.Pool.{cell_for};
-ghost use Rattle.vc_pool_cells.specs.Blocks.{carved_by, layout_by};
+ghost use Rattle.vc_pool_cells.specs.Blocks.{carved_by, layout_by, pair_of};
 ghost use Rattle.vc_pool_cells.specs.Freed.{freed_by};
-ghost use Rattle.vc_pool_cells.specs.Kept.{AreCellular, IsPool};
+ghost use Rattle.vc_pool_cells.specs.Kept.{IsPool, segment_of};
 ghost use Rattle.vc_pool_cells.specs.Place.{cells_in};
+ghost use Rattle.vc_seg.specs.Segment.{AreSegments};
 
 use crate::back::give_back;
 use crate::mark::mark;
@@ -51,17 +52,14 @@ pub fn compact_in(
 }
 
 /// Gives all segments back, in ascending order of number, and counts them.
-pub fn close_in(segs: &mut Vec<PoolSegment>, element: u32, disc: &mut Box<dyn SegDisc>) -> u32
-    requires kept { AreCellular element (cells_in segs.old.items) }
-    requires out { HasOut (state disc.old)
-        (layout_by (cell_for element) (cells_in segs.old.items)).segments }
+pub fn close_in(segs: &mut Vec<PoolSegment>, disc: &mut Box<dyn SegDisc>) -> u32
+    requires segments { AreSegments (map segment_of (cells_in segs.old.items)) }
+    requires out { HasOut (state disc.old) (map pair_of (cells_in segs.old.items)) }
     ensures none { segs.new.items ≡ [] }
-    ensures count { result ≡ length
-        (layout_by (cell_for element) (cells_in segs.old.items)).segments }
+    ensures count { result ≡ length (map pair_of (cells_in segs.old.items)) }
     ensures disc { TookBack (state disc.old) (state disc.new)
-        (layout_by (cell_for element) (cells_in segs.old.items)).segments [] }
+        (map pair_of (cells_in segs.old.items)) [] }
 {
-    let _element = element;
     let before = segs.len();
     give_back(segs, &[false; 1024], disc);
     before as u32

@@ -37,18 +37,18 @@ is g c =
     ∙ ap (filter (λ (s : PoolSegment). get_or c.mark.new.marks s.seg.number false)) (with_items_is c.args.segs.now c.relink.new.segs (omega (arith, c.relink.auto.segs, c.deref_mut.ensures.len)))
 
 pub mark-requires-clause-numbers : goal.mark-requires-clause-numbers
-mark-requires-clause-numbers g c = rw c.deref.ensures.value (numbers-below c.args.element c.args.segs.now.items c.requires.kept.cells)
+mark-requires-clause-numbers g c = rw c.deref.ensures.value (numbers-below c.args.segs.now.items c.requires.kept.cells.segments)
 
 pub give_back-requires-clause-first : goal.give_back-requires-clause-first
 give_back-requires-clause-first g c =
-    subst (λ (ss : List PoolSegment). All (λ s. 1 ≤ s.seg.number) ss) (sym (items g (goal.at.give_back-requires-clause-first g c).After-relink)) (numbers-first c.args.element c.relink.new.segs c.relink.ensures.kept.cells)
+    subst (λ (ss : List PoolSegment). All (λ s. 1 ≤ s.seg.number) ss) (sym (items g (goal.at.give_back-requires-clause-first g c).After-relink)) (numbers-first c.relink.new.segs c.relink.ensures.kept.cells.segments)
 
 pub give_back-requires-clause-last : goal.give_back-requires-clause-last
 give_back-requires-clause-last g c =
-    subst (λ (ss : List PoolSegment). All (λ s. s.seg.number ≤ 1023) ss) (sym (items g (goal.at.give_back-requires-clause-last g c).After-relink)) (numbers-last c.args.element c.relink.new.segs c.relink.ensures.kept.cells)
+    subst (λ (ss : List PoolSegment). All (λ s. s.seg.number ≤ 1023) ss) (sym (items g (goal.at.give_back-requires-clause-last g c).After-relink)) (numbers-last c.relink.new.segs c.relink.ensures.kept.cells.segments)
 
 pub give_back-requires-clause-distinct : goal.give_back-requires-clause-distinct
-give_back-requires-clause-distinct g c = subst AreApart (sym (items g (goal.at.give_back-requires-clause-distinct g c).After-relink)) (numbers-own c.args.element c.relink.new.segs c.relink.ensures.kept.cells)
+give_back-requires-clause-distinct g c = subst AreApart (sym (items g (goal.at.give_back-requires-clause-distinct g c).After-relink)) (numbers-own c.relink.new.segs c.relink.ensures.kept.cells.segments)
 
 pub give_back-requires-clause-out : goal.give_back-requires-clause-out
 give_back-requires-clause-out g c =

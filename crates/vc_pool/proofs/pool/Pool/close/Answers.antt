@@ -1,6 +1,19 @@
+use Rattle.std.proofs.Common.{◌++◌, length, refl, ap, sym, ◌∙◌}
 use Rattle.vc_pool_cells.specs.Place.{cells_in}
 use Rattle.vc_pool_cells.proofs.Types.{have}
+use Rattle.vc_pool_compact.proofs.Kept.{took-by}
+use Rattle.vc_pool.proofs.Keeps.{pairs-of}
 use Rattle.vc_pool.proofs.pool.Pool.close.Goals as goal
 
-pub close_in-count-requires-clause-kept : goal.close_in-count-requires-clause-kept
-close_in-count-requires-clause-kept g c = (have c.args.self.element (cells_in c.args.self.segs.items) c.args.self.freed.0 c.args.self.kept).cells
+pub close_in-count-requires-clause-segments : goal.close_in-count-requires-clause-segments
+close_in-count-requires-clause-segments g c = (have c.args.self.element (cells_in c.args.self.segs.items) c.args.self.freed.0 c.args.self.kept).cells.segments
+
+pub close_in-count-requires-clause-out : goal.close_in-count-requires-clause-out
+close_in-count-requires-clause-out g c =
+    (c.requires.0, c.requires.1 ∙ ap (λ ss. c.requires.0 ++ ss) (pairs-of c.args.self.segs.items c.args.self.element c.args.self.freed.0))
+
+pub returns-clause-disc : goal.returns-clause-disc
+returns-clause-disc g c = took-by _ _ _ _ _ _ (pairs-of c.args.self.segs.items c.args.self.element c.args.self.freed.0) refl c.close_in-count.ensures.disc
+
+pub returns-clause-count : goal.returns-clause-count
+returns-clause-count g c = c.close_in-count.ensures.count ∙ ap length (sym (pairs-of c.args.self.segs.items c.args.self.element c.args.self.freed.0))
