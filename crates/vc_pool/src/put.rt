@@ -1,13 +1,11 @@
-ghost use Rattle.std.specs.Prelude.{◌≡◌, ℕ, ◌+◌, ◌-◌, ◌/◌, ◌<◌, ◌≤◌, [], Err, None, IfErr, IfOk, IfSome, IfNone, IsErrOf, OnErr, OnOk, map, option_map, replicate, vec_capacity, vec_len};
-ghost use Rattle.vc_model.specs.Addr.{place_of};
+ghost use Rattle.std.specs.Prelude.{◌≡◌, ◌+◌, ◌-◌, ◌/◌, ◌<◌, ◌≤◌, Err, None, IfErr, IfOk, IsErrOf, OnErr, OnOk, map, replicate, vec_capacity, vec_len};
 ghost use Rattle.vc_model.specs.Pool.{cell_for, pool_alloc, pool_need, uncarved};
 ghost use Rattle.vc_model.specs.Segments.{round_up};
 ghost use Rattle.vc_pool.specs.Ask.{LacksCell};
 ghost use Rattle.vc_pool.specs.Call.{IsGranted};
 ghost use Rattle.vc_pool.specs.Read.{pool_by};
-ghost use Rattle.vc_pool_carve.specs.Call.{IsCarvedAt};
 ghost use Rattle.vc_pool_cells.specs.Blocks.{carved_by, pair_of};
-ghost use Rattle.vc_pool_cells.specs.Kept.{AreCellular, IsFront, IsPool};
+ghost use Rattle.vc_pool_cells.specs.Kept.{AreCellular, IsPool};
 ghost use Rattle.vc_pool_cells.specs.Place.{cells_in};
 ghost use Rattle.vc_seg.specs.Answer.{Answers, Asks};
 ghost use Rattle.vc_segments.specs.Lend.{IsAsked, IsNoGrant};
@@ -85,22 +83,6 @@ fn put_in_new(
     Ok(carve_new(segs, segment, table, element, size, tag))
 }
 
-/// A block of zeros in the lowest uncarved cell, where there is one.
-fn put_carved(segs: &mut Vec<PoolSegment>, element: u32, size: u32, tag: u32) -> Option<Addr>
-    requires kept { AreCellular element (cells_in segs.old.items) }
-    requires front { IsFront (cells_in segs.old.items) }
-    requires some { 1 ≤ size }
-    requires fits { size ≤ element }
-    ensures place { option_map (λ a. place_of a.0) result
-        ≡ uncarved (cell_for element) (carved_by (cells_in segs.old.items))
-        (map pair_of (cells_in segs.old.items)) }
-    ensures carved { IfSome result (λ a. (last : ℕ) → IsPool element (cells_in segs.old.items) last
-        → IsCarvedAt element tag size (cells_in segs.old.items) (cells_in segs.new.items) last a.0) }
-    ensures same { IfNone result (segs.new.items ≡ segs.old.items) }
-{
-    carve_lowest(segs, element, size, tag)
-}
-
 /// A block of zeros in the cell freed last, else in the lowest uncarved cell, else in a segment that is asked for.
 pub(crate) fn alloc_in(
     segs: &mut Vec<PoolSegment>,
@@ -133,7 +115,7 @@ pub(crate) fn alloc_in(
     if freed.0 != 0 {
         return Ok(reuse(segs, freed, set, size, tag));
     }
-    match put_carved(segs, set, size, tag) {
+    match carve_lowest(segs, set, size, tag) {
         Some(a) => {
             *element = set;
             Ok(a)

@@ -1,14 +1,17 @@
-use Rattle.std.proofs.Common.{◌≡◌, ◌++◌, ◌≤◌, List, take, drop, length, ap, sym, subst, ◌∙◌, arith}
+use Rattle.std.proofs.Common.{◌≡◌, ℕ, ◌++◌, ◌≤◌, List, Option, map, take, drop, length, ap, sym, subst, ◌∙◌, arith}
 use Rattle.std.proofs.lemmas.List.{with_items_is}
+use Rattle.vc_model.specs.Pool.{cell_for, uncarved}
+use Rattle.vc_pool_cells.specs.Blocks.{carved_by, pair_of}
 use Rattle.vc_pool_cells.specs.Call.{IsReused}
 use Rattle.vc_pool_cells.specs.Kept.{IsPool}
 use Rattle.vc_pool_cells.specs.Place.{cells_in}
 use Rattle.vc_pool_cells.specs.declared.segment.PoolSegment.{PoolSegment}
+use Rattle.vc_pool_carve.specs.Call.{IsCarvedAt}
 use Rattle.vc_pool.specs.Read.{pool_by}
 use Rattle.vc_pool.proofs.Calls.{asked-refusal, carved-disc, empty-freed, freed-some, full-is, granted-disc, pool-with, put-carved, put-granted, put-reused}
 use Rattle.vc_pool.proofs.Grants.{granted-from, no-grant-from}
 use Rattle.vc_pool.proofs.put.alloc_in.Goals as goal
-use Rattle.vc_pool.proofs.put.alloc_in.Goals.{After-element_with-set, After-reuse}
+use Rattle.vc_pool.proofs.put.alloc_in.Goals.{After-carve_lowest, After-element_with-set, After-reuse}
 use Rattle.vc_pool.proofs.put.alloc_in.Given.{Over}
 
 -- the segments with the element size that the block has
@@ -27,6 +30,26 @@ reused g c = subst (λ (ss : List PoolSegment). IsReused c.element_with-set.resu
 some : (g : Over) (c : After-reuse g) → 1 ≤ c.args.element.now
 some g c = freed-some c.args.element.now c.args.freed.now.0 (cells_in c.args.segs.now.items) c.requires.kept c.if-freed-ne0.true
 
+-- the list that was looked through for an uncarved cell
+looked : (g : Over) (c : After-carve_lowest g) → take c.args.segs.now.len (c.carve_lowest.new.segs ++ drop (length c.carve_lowest.new.segs) c.args.segs.now.items) ≡ c.carve_lowest.new.segs
+looked g c = with_items_is c.args.segs.now c.carve_lowest.new.segs (omega (arith, c.carve_lowest.auto.segs, c.deref_mut-2.ensures.len))
+
+place : (g : Over) (c : After-carve_lowest g) (at : Option (ℕ × ℕ)) → at ≡ uncarved (cell_for c.element_with-set.result) (carved_by (cells_in c.deref_mut-2.result.now)) (map pair_of (cells_in c.deref_mut-2.result.now)) →
+    uncarved (cell_for c.element_with-set.result) (carved_by (cells_in c.args.segs.now.items)) (map pair_of (cells_in c.args.segs.now.items)) ≡ at
+place g c at e = sym (e ∙ ap (λ (ss : List PoolSegment). uncarved (cell_for c.element_with-set.result) (carved_by (cells_in ss)) (map pair_of (cells_in ss))) c.deref_mut-2.ensures.value)
+
+carved : (g : Over) (c : After-carve_lowest g) (a : ℕ) → IsPool c.element_with-set.result (cells_in c.args.segs.now.items) c.args.freed.now.0 →
+    ((last : ℕ) → IsPool c.element_with-set.result (cells_in c.deref_mut-2.result.now) last → IsCarvedAt c.element_with-set.result c.args.tag c.args.size (cells_in c.deref_mut-2.result.now) (cells_in c.carve_lowest.new.segs) last a) →
+    IsCarvedAt c.element_with-set.result c.args.tag c.args.size (cells_in c.args.segs.now.items) (cells_in (take c.args.segs.now.len (c.carve_lowest.new.segs ++ drop (length c.carve_lowest.new.segs) c.args.segs.now.items))) c.args.freed.now.0 a
+carved g c a kept by =
+    subst (λ (ss : List PoolSegment). IsCarvedAt c.element_with-set.result c.args.tag c.args.size (cells_in c.args.segs.now.items) (cells_in ss) c.args.freed.now.0 a) (sym (looked g c))
+    (subst (λ (ss : List PoolSegment). (last : ℕ) → IsPool c.element_with-set.result (cells_in ss) last → IsCarvedAt c.element_with-set.result c.args.tag c.args.size (cells_in ss) (cells_in c.carve_lowest.new.segs) last a)
+    c.deref_mut-2.ensures.value by c.args.freed.now.0 kept)
+
+-- where there is none the list is the same
+unchanged : (g : Over) (c : After-carve_lowest g) → c.carve_lowest.new.segs ≡ c.deref_mut-2.result.now → take c.args.segs.now.len (c.carve_lowest.new.segs ++ drop (length c.carve_lowest.new.segs) c.args.segs.now.items) ≡ c.args.segs.now.items
+unchanged g c same = looked g c ∙ (same ∙ c.deref_mut-2.ensures.value)
+
 pub returns-then-freed-ne0-clause-kept : goal.returns-then-freed-ne0-clause-kept
 returns-then-freed-ne0-clause-kept g c =
     let at = (goal.at.returns-then-freed-ne0-clause-kept g c).After-reuse in
@@ -41,59 +64,63 @@ returns-then-freed-ne0-clause-answer g c =
 
 pub returns-in-Some-clause-kept : goal.returns-in-Some-clause-kept
 returns-in-Some-clause-kept g c =
-    let at = (goal.at.returns-in-Some-clause-kept g c).After-element_with-set in
-    (c.in-Some.ensures.carved c.args.freed.now.0 (h g at)).kept
+    let at = goal.at.returns-in-Some-clause-kept g c in
+    (carved g at.After-carve_lowest c.in-Some.a.0 (h g at.After-element_with-set) c.in-Some.ensures.carved).kept
 
 pub returns-in-Some-clause-answer : goal.returns-in-Some-clause-answer
 returns-in-Some-clause-answer g c =
-    let at = (goal.at.returns-in-Some-clause-answer g c).After-element_with-set in
+    let at = goal.at.returns-in-Some-clause-answer g c in
     put-carved _ c.args.segs.now.items c.args.element.now c.args.freed.now.0 c.element_with-set.result c.args.tag c.args.size c.element_with-set.ensures.set c.element_with-set.ensures.unset
-    c.requires.kept.cells (most g at) c.if-freed-ne0.false c.if-size-set.false c.requires.some
-    c.in-Some.a.0 c.put_carved.new.segs.items (sym c.in-Some.ensures.place) (c.in-Some.ensures.carved c.args.freed.now.0 (h g at))
+    c.requires.kept.cells (most g at.After-element_with-set) c.if-freed-ne0.false c.if-size-set.false c.requires.some
+    c.in-Some.a.0 _ (place g at.After-carve_lowest _ c.in-Some.ensures.place)
+    (carved g at.After-carve_lowest c.in-Some.a.0 (h g at.After-element_with-set) c.in-Some.ensures.carved)
 
 pub returns-in-Some-clause-disc : goal.returns-in-Some-clause-disc
 returns-in-Some-clause-disc g c =
-    let at = (goal.at.returns-in-Some-clause-disc g c).After-element_with-set in
+    let at = goal.at.returns-in-Some-clause-disc g c in
     carved-disc _ c.args.segs.now.items c.args.element.now c.args.freed.now.0 c.element_with-set.result c.args.tag c.args.size c.element_with-set.ensures.set c.element_with-set.ensures.unset
-    c.requires.kept.cells (most g at) c.if-freed-ne0.false c.if-size-set.false c.requires.some
-    c.in-Some.a.0 c.put_carved.new.segs.items _ (c.in-Some.ensures.carved c.args.freed.now.0 (h g at))
+    c.requires.kept.cells (most g at.After-element_with-set) c.if-freed-ne0.false c.if-size-set.false c.requires.some
+    c.in-Some.a.0 _ _
+    (carved g at.After-carve_lowest c.in-Some.a.0 (h g at.After-element_with-set) c.in-Some.ensures.carved)
 
 pub returns-in-Ok-clause-kept : goal.returns-in-Ok-clause-kept
 returns-in-Ok-clause-kept g c =
-    let granted = granted-from c.element_with-set.result c.args.tag c.args.size _ c.put_carved.new.segs.items c.args.segs.now.items (cells_in c.put_in_new.new.segs.items) _ _ c.in-Ok.a.0 c.in-None.ensures.same c.in-Ok.ensures.granted in
+    let at = goal.at.returns-in-Ok-clause-kept g c in
+    let granted = granted-from c.element_with-set.result c.args.tag c.args.size _ _ c.args.segs.now.items (cells_in c.put_in_new.new.segs.items) _ _ c.in-Ok.a.0 (unchanged g at.After-carve_lowest c.in-None.ensures.same) c.in-Ok.ensures.granted in
     (granted.carved c.args.element.now c.args.freed.now.0 c.element_with-set.ensures.set c.requires.kept).kept
 
 pub returns-in-Ok-clause-answer : goal.returns-in-Ok-clause-answer
 returns-in-Ok-clause-answer g c =
-    let at = (goal.at.returns-in-Ok-clause-answer g c).After-element_with-set in
+    let at = goal.at.returns-in-Ok-clause-answer g c in
     put-granted _ c.args.segs.now.items c.args.element.now c.args.freed.now.0 c.element_with-set.result c.args.tag c.args.size c.element_with-set.ensures.set c.element_with-set.ensures.unset
-    c.requires.kept.cells (most g at) c.if-freed-ne0.false c.if-size-set.false c.requires.some
-    (full-is c.args.segs.now.items c.args.element.now c.args.freed.now.0 c.element_with-set.result c.args.size c.element_with-set.ensures.set c.element_with-set.ensures.unset (sym c.in-None.ensures.place))
+    c.requires.kept.cells (most g at.After-element_with-set) c.if-freed-ne0.false c.if-size-set.false c.requires.some
+    (full-is c.args.segs.now.items c.args.element.now c.args.freed.now.0 c.element_with-set.result c.args.size c.element_with-set.ensures.set c.element_with-set.ensures.unset (place g at.After-carve_lowest _ c.in-None.ensures.place))
     c.in-Ok.a.0 c.put_in_new.new.segs.items _ _ c.requires.kept
-    (granted-from c.element_with-set.result c.args.tag c.args.size _ c.put_carved.new.segs.items c.args.segs.now.items (cells_in c.put_in_new.new.segs.items) _ _ c.in-Ok.a.0 c.in-None.ensures.same c.in-Ok.ensures.granted)
+    (granted-from c.element_with-set.result c.args.tag c.args.size _ _ c.args.segs.now.items (cells_in c.put_in_new.new.segs.items) _ _ c.in-Ok.a.0 (unchanged g at.After-carve_lowest c.in-None.ensures.same) c.in-Ok.ensures.granted)
 
 pub returns-in-Ok-clause-disc : goal.returns-in-Ok-clause-disc
 returns-in-Ok-clause-disc g c =
-    let at = (goal.at.returns-in-Ok-clause-disc g c).After-element_with-set in
+    let at = goal.at.returns-in-Ok-clause-disc g c in
     granted-disc _ c.args.segs.now.items c.args.element.now c.args.freed.now.0 c.element_with-set.result c.args.tag c.args.size c.element_with-set.ensures.set c.element_with-set.ensures.unset
-    c.requires.kept.cells (most g at) c.if-freed-ne0.false c.if-size-set.false c.requires.some
-    (full-is c.args.segs.now.items c.args.element.now c.args.freed.now.0 c.element_with-set.result c.args.size c.element_with-set.ensures.set c.element_with-set.ensures.unset (sym c.in-None.ensures.place))
+    c.requires.kept.cells (most g at.After-element_with-set) c.if-freed-ne0.false c.if-size-set.false c.requires.some
+    (full-is c.args.segs.now.items c.args.element.now c.args.freed.now.0 c.element_with-set.result c.args.size c.element_with-set.ensures.set c.element_with-set.ensures.unset (place g at.After-carve_lowest _ c.in-None.ensures.place))
     c.in-Ok.a.0 c.put_in_new.new.segs.items _ _ c.requires.kept
-    (granted-from c.element_with-set.result c.args.tag c.args.size _ c.put_carved.new.segs.items c.args.segs.now.items (cells_in c.put_in_new.new.segs.items) _ _ c.in-Ok.a.0 c.in-None.ensures.same c.in-Ok.ensures.granted)
+    (granted-from c.element_with-set.result c.args.tag c.args.size _ _ c.args.segs.now.items (cells_in c.put_in_new.new.segs.items) _ _ c.in-Ok.a.0 (unchanged g at.After-carve_lowest c.in-None.ensures.same) c.in-Ok.ensures.granted)
 
 pub returns-in-Err-clause-answer : goal.returns-in-Err-clause-answer
 returns-in-Err-clause-answer g c =
-    let at = (goal.at.returns-in-Err-clause-answer g c).After-element_with-set in (
+    let at = goal.at.returns-in-Err-clause-answer g c in (
       asked-refusal _ c.args.segs.now.items c.args.element.now c.args.freed.now.0 c.element_with-set.result c.args.tag c.args.size c.element_with-set.ensures.set c.element_with-set.ensures.unset
-          c.requires.kept.cells (most g at) c.if-freed-ne0.false c.if-size-set.false c.requires.some
-          (full-is c.args.segs.now.items c.args.element.now c.args.freed.now.0 c.element_with-set.result c.args.size c.element_with-set.ensures.set c.element_with-set.ensures.unset (sym c.in-None.ensures.place))
-          c.in-Err.fault (no-grant-from _ c.put_carved.new.segs.items c.args.segs.now.items c.in-Err.fault c.in-None.ensures.same c.in-Err.ensures.fault),
-      ap (λ (ss : List PoolSegment). pool_by ss c.args.element.now c.args.freed.now.0) (c.in-Err.ensures.same ∙ c.in-None.ensures.same),
+          c.requires.kept.cells (most g at.After-element_with-set) c.if-freed-ne0.false c.if-size-set.false c.requires.some
+          (full-is c.args.segs.now.items c.args.element.now c.args.freed.now.0 c.element_with-set.result c.args.size c.element_with-set.ensures.set c.element_with-set.ensures.unset (place g at.After-carve_lowest _ c.in-None.ensures.place))
+          c.in-Err.fault (no-grant-from _ _ c.args.segs.now.items c.in-Err.fault (unchanged g at.After-carve_lowest c.in-None.ensures.same) c.in-Err.ensures.fault),
+      ap (λ (ss : List PoolSegment). pool_by ss c.args.element.now c.args.freed.now.0) (c.in-Err.ensures.same ∙ unchanged g at.After-carve_lowest c.in-None.ensures.same),
     )
 
 pub returns-in-Err-clause-no_memory : goal.returns-in-Err-clause-no_memory
 returns-in-Err-clause-no_memory g c =
+    let at = goal.at.returns-in-Err-clause-no_memory g c in
     λ e. record {
       freed = empty-freed c.args.segs.now.items c.args.element.now c.args.freed.now.0 c.if-freed-ne0.false;
-      uncarved = full-is c.args.segs.now.items c.args.element.now c.args.freed.now.0 c.element_with-set.result c.args.size c.element_with-set.ensures.set c.element_with-set.ensures.unset (sym c.in-None.ensures.place);
+      uncarved = full-is c.args.segs.now.items c.args.element.now c.args.freed.now.0 c.element_with-set.result c.args.size c.element_with-set.ensures.set c.element_with-set.ensures.unset (place g at.After-carve_lowest _ c.in-None.ensures.place);
     }
