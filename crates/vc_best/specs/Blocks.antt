@@ -1,5 +1,5 @@
 -- The segments and the blocks of a best region, read from the bytes of its segments.
-use Rattle.std.specs.Prelude.{ℕ, List, [], ◌∷◌, Bool, filter, map, nat_lt}
+use Rattle.std.specs.Prelude.{ℕ, List, Bool, filter, map, nat_lt}
 use Rattle.std.specs.List.{flat_map}
 use Rattle.vc_model.specs.Layout.{Block, Layout}
 use Rattle.vc_seg.specs.Segment.{Bytes, pair_of}
