@@ -1,6 +1,7 @@
 -- Blocks that are put by address one after another.
-use Rattle.std.proofs.Common.{◌≡◌, ℕ, ◌<◌, ◌⊎◌, List, [], ◌∷◌, ◌++◌, true, false, Some, All, refl, ap, sym, ◌∙◌, inl, inr, ⊎_elim, eqb, ltb, arith}
-use Rattle.std.specs.Prelude.{◌==◌, ◌&&◌}
+use Rattle.std.proofs.Common.{◌≡◌, ℕ, ◌<◌, ◌⊎◌, List, [], ◌∷◌, ◌++◌, Bool, true, false, Some, All, refl, ap, sym, ◌∙◌, inl, inr, ⊎_elim, eqb, ltb, arith}
+use Rattle.std.specs.List.{list_any}
+use Rattle.std.specs.Prelude.{◌==◌, ◌&&◌, ◌||◌}
 use Rattle.std.proofs.lemmas.Bool.{cases_Bool, and_parts, and_from, or_cases, or_left, or_right, eqb-true, eq-eqb, lt-ltb, ltb-true, ltb-false, false≢true}
 use Rattle.std.proofs.lemmas.List.Elements.{All-head, All-tail}
 use Rattle.vc_model.specs.Layout.{Block, is_at, lies_before, place_of_block, with_block, without_block}
@@ -98,6 +99,26 @@ NoneAt at bs = All (λ c. is_at at c ≡ false) bs
 pub All-in_order : (P : Block ℕ → Type 0) (bs : List (Block ℕ)) → All P bs → All P (in_order bs)
 All-in_order P [] h = h
 All-in_order P (b ∷ bs) h = All-with P b (in_order bs) (All-head P b bs h) (All-in_order P bs (All-tail P b bs h))
+
+-- one of them passes a test where one does in whichever order they are put
+or-turn : (x y z : Bool) → (y || (x || z)) ≡ (x || (y || z))
+or-turn true true z = refl
+or-turn true false z = refl
+or-turn false true z = refl
+or-turn false false z = refl
+
+module _ (p : Block ℕ → Bool) where
+  any-with : (b : Block ℕ) (bs : List (Block ℕ)) → list_any p (with_block b bs) ≡ (p b || list_any p bs)
+  any-with b [] = refl
+  any-with b (c ∷ cs) =
+      ⊎_elim
+      (λ (t : lies_before b c ≡ true). rw t refl)
+      (λ (t : lies_before b c ≡ false). rw t (ap (λ r. p c || r) (any-with b cs) ∙ or-turn (p b) (p c) (list_any p cs)))
+      (cases_Bool (lies_before b c))
+
+  pub any-order : (bs : List (Block ℕ)) → list_any p (in_order bs) ≡ list_any p bs
+  any-order [] = refl
+  any-order (b ∷ bs) = any-with b (in_order bs) ∙ ap (λ r. p b || r) (any-order bs)
 
 -- a block may as well be put last, where none of those before it is at its place
 pub order-middle : (front : List (Block ℕ)) (b : Block ℕ) (back : List (Block ℕ)) → NoneAt (place_of_block b) front → in_order (front ++ b ∷ back) ≡ with_block b (in_order (front ++ back))

@@ -1,11 +1,14 @@
 -- Tallies of the blocks and segments of a layout.
-use Rattle.std.proofs.Common.{All, List, [], arith, fold, length, refl, sum, ℕ, ◌*◌, ◌++◌, ◌+◌, ◌∷◌, ◌≡◌, ◌≤◌}
+use Rattle.std.proofs.Common.{All, List, [], ap, arith, false, fold, length, map, refl, sum, true, ℕ, ⊎_elim, ◌*◌, ◌++◌, ◌+◌, ◌∙◌, ◌∷◌, ◌≡◌, ◌≤◌}
+use Rattle.std.proofs.lemmas.Bool.{cases_Bool}
 use Rattle.std.proofs.lemmas.List.{length-append}
 use Rattle.std.proofs.lemmas.List.Elements.{All-head, All-tail}
 use Rattle.std.proofs.lemmas.List.Sums.{fold-append, sum_by-append, sum_by-cons}
 use Rattle.std.specs.Prelude.{max}
+use Rattle.vc_layouts.specs.InOrder.{in_order}
 use Rattle.vc_layouts.specs.Tally.{HasRoom, tallied, tallied_all, tally_of}
 use Rattle.vc_layouts.specs.declared.tally.Tally.{Tally}
+use Rattle.vc_model.specs.Layout.{Block, lies_before, with_block}
 use Rattle.vc_model.specs.Numbers.{greatest}
 
 pub tallied_all-append : (t : Tally) (xs ys : List ℕ) → tallied_all t (xs ++ ys) ≡ tallied_all (tallied_all t xs) ys
@@ -49,3 +52,23 @@ sizes-most most (n ∷ ns) h =
     let rest = sizes-most most ns (All-tail (λ (m : ℕ). m ≤ most) n ns h) in
     let more = sum_by-cons (λ (m : ℕ). m) n ns in
     omega (arith, here, rest, more)
+
+-- sizes make one tally in whichever order they come
+tallied-twice : (t : Tally) (m n : ℕ) → tallied (tallied t m) n ≡ tallied (tallied t n) m
+tallied-twice t m n =
+    let bytes : t.bytes + m + n ≡ t.bytes + n + m = omega arith in
+    let most : max (max t.most m) n ≡ max (max t.most n) m = omega arith in
+    λ j. record { count = t.count + 1 + 1; bytes = bytes j; most = most j }
+
+tallied-with : (t : Tally) (b : Block ℕ) (bs : List (Block ℕ)) → tallied_all t (map (λ c. c.size) (with_block b bs)) ≡ tallied_all (tallied t b.size) (map (λ c. c.size) bs)
+tallied-with t b [] = refl
+tallied-with t b (c ∷ cs) =
+    ⊎_elim
+    (λ (e : lies_before b c ≡ true). rw e refl)
+    (λ (e : lies_before b c ≡ false).
+    rw e (tallied-with (tallied t c.size) b cs ∙ ap (λ u. tallied_all u (map (λ (d : Block ℕ). d.size) cs)) (tallied-twice t c.size b.size)))
+    (cases_Bool (lies_before b c))
+
+pub tallied-order : (t : Tally) (bs : List (Block ℕ)) → tallied_all t (map (λ c. c.size) (in_order bs)) ≡ tallied_all t (map (λ c. c.size) bs)
+tallied-order t [] = refl
+tallied-order t (b ∷ bs) = tallied-with t b (in_order bs) ∙ tallied-order (tallied t b.size) bs

@@ -6,29 +6,11 @@ use Rattle.std.proofs.lemmas.Bool.{cases_Bool, eqb-true, eqb-false, lt-ltb, le-l
 use Rattle.std.proofs.lemmas.List.Elements.{All-head, All-tail}
 use Rattle.std.proofs.lemmas.List.Folds.{list_any-append}
 use Rattle.vc_model.specs.Compact.{is_occupied}
-use Rattle.vc_model.specs.Layout.{Block, lies_before, with_block}
-use Rattle.vc_layouts.specs.InOrder.{in_order}
+use Rattle.vc_model.specs.Layout.{Block}
+use Rattle.vc_layouts.proofs.InOrder.{any-order}
 use Rattle.vc_pool_cells.specs.Blocks.{block_in, blocks_from, blocks_of, layout_by}
 use Rattle.vc_pool_cells.specs.Cells.{Cells}
 use Rattle.vc_pool_compact.specs.Marks.{has_block, is_busy}
-
-or-turn : (x y z : Bool) → (y || (x || z)) ≡ (x || (y || z))
-or-turn true true z = refl
-or-turn true false z = refl
-or-turn false true z = refl
-or-turn false false z = refl
-
-occupied-with : (n : ℕ) (b : Block ℕ) (bs : List (Block ℕ)) → is_occupied (with_block b bs) n ≡ (eqb b.seg n || is_occupied bs n)
-occupied-with n b [] = refl
-occupied-with n b (c ∷ cs) =
-    ⊎_elim
-    (λ (t : lies_before b c ≡ true). rw t refl)
-    (λ (t : lies_before b c ≡ false). rw t (ap (λ r. eqb c.seg n || r) (occupied-with n b cs) ∙ or-turn (eqb b.seg n) (eqb c.seg n) (is_occupied cs n)))
-    (cases_Bool (lies_before b c))
-
-occupied-order : (n : ℕ) (bs : List (Block ℕ)) → is_occupied (in_order bs) n ≡ is_occupied bs n
-occupied-order n [] = refl
-occupied-order n (b ∷ bs) = occupied-with n b (in_order bs) ∙ ap (λ r. eqb b.seg n || r) (occupied-order n bs)
 
 and-or : (a x y : Bool) → ((a && x) || (a && y)) ≡ (a && (x || y))
 and-or true x y = refl
@@ -75,7 +57,7 @@ occupied-all n cell (s ∷ ss) =
 
 pub occupied-busy : (n cell : ℕ) (segs : List Cells) → is_occupied (layout_by cell segs).blocks n ≡ is_busy segs n
 unfolding layout_by
-occupied-busy n cell segs = occupied-order n (flat_map (blocks_of cell) segs) ∙ occupied-all n cell segs
+occupied-busy n cell segs = any-order (λ b. eqb b.seg n) (flat_map (blocks_of cell) segs) ∙ occupied-all n cell segs
 
 -- no block is in the cells of a segment without one
 none-from : (n cell off : ℕ) (bytes : List ℕ) (cs : List (ℕ × ℕ)) → list_any (λ (c : ℕ × ℕ). ltb 0 c.0) cs ≡ false → blocks_from n bytes cell off cs ≡ []

@@ -1,19 +1,17 @@
 -- The sizes of the blocks in the cells of a pool's segments.
 use Rattle.std.proofs.Common.{◌≡◌, ℕ, ◌+◌, ◌-◌, ◌*◌, ◌/◌, ◌<◌, ◌≤◌, List, [], ◌∷◌, ◌++◌, true, false, All, length, get_or, map, sum, take, drop, refl, ap, sym, ◌∙◌, ⊎_elim, eqb, arith}
-use Rattle.std.specs.Prelude.{max, min}
+use Rattle.std.specs.Prelude.{min}
 use Rattle.std.specs.List.{flat_map}
 use Rattle.std.proofs.lemmas.Bool.{cases_Bool, cases_eq, eq-eqb, ne_eqb}
 use Rattle.std.proofs.lemmas.List.{append-nil, drop-map, drop_min, drop_more, get_or-drop, length-append, length-drop, length-map, map-append, take-append-drop, take_rest}
 use Rattle.std.proofs.lemmas.List.Elements.{All-append, All-cons, All-drop, All-head, All-map, All-nil, All-tail}
 use Rattle.std.proofs.lemmas.List.Sums.{sum_by-cons}
 use Rattle.std.proofs.Math.Nat.{div-mul-le_self, mul-le-mul_left}
-use Rattle.vc_model.specs.Layout.{Block, lies_before, with_block}
+use Rattle.vc_model.specs.Layout.{Block}
 use Rattle.vc_model.specs.Numbers.{block_sizes}
 use Rattle.vc_model.specs.Pool.{cell_count, cell_for}
-use Rattle.vc_layouts.specs.declared.tally.Tally.{Tally}
-use Rattle.vc_layouts.specs.Tally.{HasRoom, tallied, tallied_all, tally_of}
-use Rattle.vc_layouts.proofs.Tallies.{sizes-most, tally_of-count}
-use Rattle.vc_layouts.specs.InOrder.{in_order}
+use Rattle.vc_layouts.specs.Tally.{HasRoom, tally_of}
+use Rattle.vc_layouts.proofs.Tallies.{sizes-most, tallied-order, tally_of-count}
 use Rattle.vc_pool_cells.specs.Blocks.{blocks_from, blocks_of, layout_by, pair_of}
 use Rattle.vc_pool_cells.specs.Cells.{Cells, cells_of}
 use Rattle.vc_pool_cells.specs.Freed.{cell_total}
@@ -27,26 +25,6 @@ use Rattle.vc_pool_walks.specs.Sizes.{element_of, sizes_in}
 -- the sizes of the blocks in the cells of segments
 abbrev pub sizes_of : List Cells → List ℕ
 sizes_of segs = flat_map (λ s. sizes_in s.pairs) segs
-
--- sizes make one tally in whichever order they come
-tallied-twice : (t : Tally) (m n : ℕ) → tallied (tallied t m) n ≡ tallied (tallied t n) m
-tallied-twice t m n =
-    let bytes : t.bytes + m + n ≡ t.bytes + n + m = omega arith in
-    let most : max (max t.most m) n ≡ max (max t.most n) m = omega arith in
-    λ j. record { count = t.count + 1 + 1; bytes = bytes j; most = most j }
-
-tallied-with : (t : Tally) (b : Block ℕ) (bs : List (Block ℕ)) → tallied_all t (map (λ c. c.size) (with_block b bs)) ≡ tallied_all (tallied t b.size) (map (λ c. c.size) bs)
-tallied-with t b [] = refl
-tallied-with t b (c ∷ cs) =
-    ⊎_elim
-    (λ (e : lies_before b c ≡ true). rw e refl)
-    (λ (e : lies_before b c ≡ false).
-    rw e (tallied-with (tallied t c.size) b cs ∙ ap (λ u. tallied_all u (map (λ (d : Block ℕ). d.size) cs)) (tallied-twice t c.size b.size)))
-    (cases_Bool (lies_before b c))
-
-tallied-order : (t : Tally) (bs : List (Block ℕ)) → tallied_all t (map (λ c. c.size) (in_order bs)) ≡ tallied_all t (map (λ c. c.size) bs)
-tallied-order t [] = refl
-tallied-order t (b ∷ bs) = tallied-with t b (in_order bs) ∙ tallied-order (tallied t b.size) bs
 
 -- the blocks in cells have the sizes of their pairs
 sizes-from : (n : ℕ) (bytes : List ℕ) (cell off : ℕ) (cs : List (ℕ × ℕ)) → map (λ b. b.size) (blocks_from n bytes cell off cs) ≡ sizes_in cs
