@@ -31,7 +31,10 @@ some : (g : Over) (c : After-reuse g) → 1 ≤ c.args.element.now
 some g c = freed-some c.args.element.now c.args.freed.now.0 (cells_in c.args.segs.now.items) c.requires.kept c.if-freed-ne0.true
 
 -- the list that was looked through for an uncarved cell
-looked : (g : Over) (c : After-carve_lowest g) → take c.args.segs.now.len (c.carve_lowest.new.segs ++ drop (length c.carve_lowest.new.segs) c.args.segs.now.items) ≡ c.carve_lowest.new.segs
+abbrev after : (g : Over) → After-carve_lowest g → List PoolSegment
+after g c = take c.args.segs.now.len (c.carve_lowest.new.segs ++ drop (length c.carve_lowest.new.segs) c.args.segs.now.items)
+
+looked : (g : Over) (c : After-carve_lowest g) → after g c ≡ c.carve_lowest.new.segs
 looked g c = with_items_is c.args.segs.now c.carve_lowest.new.segs (omega (arith, c.carve_lowest.auto.segs, c.deref_mut-2.ensures.len))
 
 place : (g : Over) (c : After-carve_lowest g) (at : Option (ℕ × ℕ)) → at ≡ uncarved (cell_for c.element_with-set.result) (carved_by (cells_in c.deref_mut-2.result.now)) (map pair_of (cells_in c.deref_mut-2.result.now)) →
@@ -40,14 +43,14 @@ place g c at e = sym (e ∙ ap (λ (ss : List PoolSegment). uncarved (cell_for c
 
 carved : (g : Over) (c : After-carve_lowest g) (a : ℕ) → IsPool c.element_with-set.result (cells_in c.args.segs.now.items) c.args.freed.now.0 →
     ((last : ℕ) → IsPool c.element_with-set.result (cells_in c.deref_mut-2.result.now) last → IsCarvedAt c.element_with-set.result c.args.tag c.args.size (cells_in c.deref_mut-2.result.now) (cells_in c.carve_lowest.new.segs) last a) →
-    IsCarvedAt c.element_with-set.result c.args.tag c.args.size (cells_in c.args.segs.now.items) (cells_in (take c.args.segs.now.len (c.carve_lowest.new.segs ++ drop (length c.carve_lowest.new.segs) c.args.segs.now.items))) c.args.freed.now.0 a
+    IsCarvedAt c.element_with-set.result c.args.tag c.args.size (cells_in c.args.segs.now.items) (cells_in (after g c)) c.args.freed.now.0 a
 carved g c a kept by =
     subst (λ (ss : List PoolSegment). IsCarvedAt c.element_with-set.result c.args.tag c.args.size (cells_in c.args.segs.now.items) (cells_in ss) c.args.freed.now.0 a) (sym (looked g c))
     (subst (λ (ss : List PoolSegment). (last : ℕ) → IsPool c.element_with-set.result (cells_in ss) last → IsCarvedAt c.element_with-set.result c.args.tag c.args.size (cells_in ss) (cells_in c.carve_lowest.new.segs) last a)
     c.deref_mut-2.ensures.value by c.args.freed.now.0 kept)
 
 -- where there is none the list is the same
-unchanged : (g : Over) (c : After-carve_lowest g) → c.carve_lowest.new.segs ≡ c.deref_mut-2.result.now → take c.args.segs.now.len (c.carve_lowest.new.segs ++ drop (length c.carve_lowest.new.segs) c.args.segs.now.items) ≡ c.args.segs.now.items
+unchanged : (g : Over) (c : After-carve_lowest g) → c.carve_lowest.new.segs ≡ c.deref_mut-2.result.now → after g c ≡ c.args.segs.now.items
 unchanged g c same = looked g c ∙ (same ∙ c.deref_mut-2.ensures.value)
 
 pub returns-then-freed-ne0-clause-kept : goal.returns-then-freed-ne0-clause-kept
