@@ -1,6 +1,5 @@
 -- The counts of all extents are those of the blocks and of the gaps, and stay in 64 bits.
 use Rattle.std.proofs.Common.{◌≡◌, ℕ, suc, ◌+◌, ◌-◌, ◌*◌, ◌≤◌, List, [], ◌∷◌, ◌++◌, true, false, All, length, map, filter, fold, sum, refl, ap, sym, ◌∙◌, ⊎_elim, ltb, arith}
-use Rattle.std.specs.Prelude.{max}
 use Rattle.std.proofs.Math.Bridge.{le_prop}
 use Rattle.std.proofs.Math.Logic.{∥∥₁_elim}
 use Rattle.std.proofs.lemmas.Bool.{cases_Bool}
@@ -12,7 +11,7 @@ use Rattle.vc_model.specs.Layout.{Block, lies_before, with_block}
 use Rattle.vc_model.specs.Numbers.{block_bytes, block_count, gap_bytes, gap_count, gaps_of, greatest, greatest_block, greatest_gap}
 use Rattle.vc_seg.specs.Segment.{Bytes, pair_of}
 use Rattle.vc_layouts.specs.Tally.{HasRoom, tally_of}
-use Rattle.vc_layouts.proofs.Tallies.{sizes-most, tally_of-bytes, tally_of-count, tally_of-most}
+use Rattle.vc_layouts.proofs.Tallies.{sizes-most, tallied-order, tally_of-bytes, tally_of-count, tally_of-most}
 use Rattle.vc_layouts.specs.InOrder.{in_order}
 use Rattle.vc_extent.specs.Extent.{Extent, extents}
 use Rattle.vc_extent.specs.Tiles.{IsTiled}
@@ -135,42 +134,21 @@ with-length b [] = refl
 with-length b (c ∷ cs) =
     ⊎_elim (λ (t : lies_before b c ≡ true). rw t refl) (λ (t : lies_before b c ≡ false). rw t (ap suc (with-length b cs))) (cases_Bool (lies_before b c))
 
-with-sum : (b : Block ℕ) (bs : List (Block ℕ)) → sum (map (λ c. c.size) (with_block b bs)) ≡ b.size + sum (map (λ c. c.size) bs)
-with-sum b [] = let more = sum_by-cons (λ (m : ℕ). m) b.size [] in omega (arith, more)
-with-sum b (c ∷ cs) =
-    let rest = with-sum b cs in
-    let one = sum_by-cons (λ (m : ℕ). m) c.size (map (λ (d : Block ℕ). d.size) cs) in
-    ⊎_elim
-    (λ (t : lies_before b c ≡ true). rw t (let two = sum_by-cons (λ (m : ℕ). m) b.size (c.size ∷ map (λ (d : Block ℕ). d.size) cs) in omega (arith, one, two)))
-    (λ (t : lies_before b c ≡ false). rw t (let two = sum_by-cons (λ (m : ℕ). m) c.size (map (λ (d : Block ℕ). d.size) (with_block b cs)) in omega (arith, one, two, rest)))
-    (cases_Bool (lies_before b c))
-
-max-swap : (m a b : ℕ) → max (max m a) b ≡ max (max m b) a
-max-swap m a b = omega arith
-
-with-most : (m : ℕ) (b : Block ℕ) (bs : List (Block ℕ)) → fold max m (map (λ c. c.size) (with_block b bs)) ≡ fold max (max m b.size) (map (λ c. c.size) bs)
-with-most m b [] = refl
-with-most m b (c ∷ cs) =
-    ⊎_elim
-    (λ (t : lies_before b c ≡ true). rw t refl)
-    (λ (t : lies_before b c ≡ false). rw t (with-most (max m c.size) b cs ∙ ap (λ k. fold max k (map (λ (d : Block ℕ). d.size) cs)) (max-swap m c.size b.size)))
-    (cases_Bool (lies_before b c))
-
 order-length : (bs : List (Block ℕ)) → length (in_order bs) ≡ length bs
 order-length [] = refl
 order-length (b ∷ bs) = with-length b (in_order bs) ∙ ap suc (order-length bs)
 
 order-sum : (bs : List (Block ℕ)) → sum (map (λ c. c.size) (in_order bs)) ≡ sum (map (λ c. c.size) bs)
-order-sum [] = refl
-order-sum (b ∷ bs) =
-    let one = with-sum b (in_order bs) in
-    let rest = order-sum bs in
-    let two = sum_by-cons (λ (m : ℕ). m) b.size (map (λ (c : Block ℕ). c.size) bs) in
-    omega (arith, one, rest, two)
+order-sum bs =
+    sym (tally_of-bytes (map (λ (b : Block ℕ). b.size) (in_order bs)))
+    ∙ ap (λ t. t.bytes) (tallied-order (tally_of []) bs)
+    ∙ tally_of-bytes (map (λ (b : Block ℕ). b.size) bs)
 
-order-most : (m : ℕ) (bs : List (Block ℕ)) → fold max m (map (λ c. c.size) (in_order bs)) ≡ fold max m (map (λ c. c.size) bs)
-order-most m [] = refl
-order-most m (b ∷ bs) = with-most m b (in_order bs) ∙ order-most (max m b.size) bs
+order-most : (bs : List (Block ℕ)) → greatest (map (λ c. c.size) (in_order bs)) ≡ greatest (map (λ c. c.size) bs)
+order-most bs =
+    sym (tally_of-most (map (λ (b : Block ℕ). b.size) (in_order bs)))
+    ∙ ap (λ t. t.most) (tallied-order (tally_of []) bs)
+    ∙ tally_of-most (map (λ (b : Block ℕ). b.size) bs)
 
 module _ (segs : List Bytes) (index : List ℕ) (k : ∥ AreExtents segs index ∥₁) where
   few : length segs ≤ 1023
@@ -226,7 +204,7 @@ module _ (segs : List Bytes) (index : List ℕ) (k : ∥ AreExtents segs index �
   pub blocks-most : (counted no_counts (all_extents (tiling segs))).blocks.most ≡ greatest_block (layout_by segs)
   unfolding layout_by
   blocks-most =
-      tally_of-most (busy_sizes (all_extents (tiling segs))) ∙ (ap greatest (sym (sizes-all (tiling segs))) ∙ sym (order-most 0 (all_busy (tiling segs))))
+      tally_of-most (busy_sizes (all_extents (tiling segs))) ∙ (ap greatest (sym (sizes-all (tiling segs))) ∙ sym (order-most (all_busy (tiling segs))))
 
   module _ (merged : IsMerged (tiling segs)) where
     gap-sizes : map bytes_of (gaps_of (layout_by segs)) ≡ free_spans (all_extents (tiling segs))

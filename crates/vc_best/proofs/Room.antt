@@ -9,13 +9,13 @@ use Rattle.std.proofs.lemmas.List.Folds.{list_any-append}
 use Rattle.std.proofs.lemmas.List.Elements.{All-append, All-cons, All-head, All-nil, All-tail, All-weaker}
 use Rattle.vc_model.specs.Addr.{place_of}
 use Rattle.vc_model.specs.Gap.{Run}
-use Rattle.vc_model.specs.Layout.{Block, footprint, is_at, lies_before, with_block}
+use Rattle.vc_model.specs.Layout.{Block, footprint, is_at}
 use Rattle.vc_model.specs.Resize.{can_stay, is_usable, meets, sized}
 use Rattle.vc_model.specs.Segments.{span}
 use Rattle.vc_seg.specs.Segment.{Bytes, pair_of}
 use Rattle.vc_layouts.proofs.Lists.{AllPairs-head, AllPairs-tail}
 use Rattle.vc_layouts.specs.InOrder.{in_order}
-use Rattle.vc_layouts.proofs.InOrder.{All-in_order, own-place}
+use Rattle.vc_layouts.proofs.InOrder.{All-in_order, any-order, own-place}
 use Rattle.vc_extent.specs.Change.{extent_in, first_of}
 use Rattle.vc_extent.specs.Extent.{Extent, extents}
 use Rattle.vc_extent.specs.Tiles.{IsLegal, IsTiled}
@@ -41,29 +41,6 @@ all-true p [] h = refl
 all-true {A = A} p (x ∷ xs) h =
     let P : A → Type 0 = λ y. p y ≡ true in
     rw (All-head P x xs h) (all-true p xs (All-tail P x xs h))
-
-module _ (p : Block ℕ → Bool) where
-  any-with : (b : Block ℕ) (bs : List (Block ℕ)) → list_any p (b ∷ bs) ≡ true → list_any p (with_block b bs) ≡ true
-  any-with b [] h = h
-  any-with b (c ∷ cs) h =
-      ⊎_elim
-      (λ (t : lies_before b c ≡ true). rw t h)
-      (λ (t : lies_before b c ≡ false).
-      rw t
-      (⊎_elim
-      (λ (u : p c ≡ true). rw u refl)
-      (λ (u : p c ≡ false). let h' : list_any p (b ∷ cs) ≡ true = rw u at h in rw u (any-with b cs h'))
-      (cases_Bool (p c))))
-      (cases_Bool (lies_before b c))
-
-  pub any-order : (bs : List (Block ℕ)) → list_any p bs ≡ true → list_any p (in_order bs) ≡ true
-  any-order [] h = h
-  any-order (b ∷ bs) h =
-      any-with b (in_order bs)
-      (⊎_elim
-      (λ (u : p b ≡ true). rw u refl)
-      (λ (u : p b ≡ false). let h' : list_any p bs ≡ true = rw u at h in rw u (any-order bs h'))
-      (cases_Bool (p b)))
 
 -- a run in the segment of a number among these
 not-usable : (f : Run) (segs : List Bytes) → All (λ b. f.seg ≢ b.number) segs → is_usable (map pair_of segs) f ≡ false
@@ -320,7 +297,7 @@ module _ (segs : List Bytes) (index : List ℕ) (k : AreExtents segs index) (mer
       ap (list_any bad) in-parts ∙ (list_any-append bad (lead (tiling segs) a) (block_of n e ∷ busy_in (n, ys) ++ rear (tiling segs) a)
       ∙ or_right (list_any bad (lead (tiling segs) a)) (list_any bad (block_of n e ∷ busy_in (n, ys) ++ rear (tiling segs) a)) own_any) in
       and_right (is_usable (map pair_of segs) (wide n size e)) (list_all (passes n size e) (in_order (all_busy (tiling segs))))
-      (all-any (passes n size e) (in_order (all_busy (tiling segs))) ∙ ap not (any-order bad (all_busy (tiling segs)) all_any)))
+      (all-any (passes n size e) (in_order (all_busy (tiling segs))) ∙ ap not (any-order bad (all_busy (tiling segs)) ∙ all_any)))
       (past-end n size e stop rest.at ys rest.first behind_merged rest.lies less)
 
   stays-by-room : can_stay (layout_by segs) size (block_of n e) ≡ leb (span size) (e.span + free_bytes (first_of ys))

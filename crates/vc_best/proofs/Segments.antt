@@ -1,5 +1,6 @@
 -- Segments that come, go or are emptied.
-use Rattle.std.proofs.Common.{◌≡◌, ◌≢◌, ℕ, ◌-◌, ◌<◌, List, [], ◌∷◌, ◌++◌, Bool, All, AllPairs, true, false, map, filter, length, not, refl, ap, sym, subst, ◌∙◌, ⊎_elim, eqb, ltb, arith}
+use Rattle.std.proofs.Common.{All, AllPairs, Bool, List, [], ap, arith, eqb, false, filter, length, ltb, map, not, refl, subst, sym, true, ℕ, ⊎_elim, ◌++◌, ◌-◌, ◌<◌, ◌∙◌, ◌∷◌, ◌≡◌, ◌≢◌}
+use Rattle.std.specs.Prelude.{◌==◌}
 use Rattle.std.specs.List.{list_any}
 use Rattle.std.proofs.Math.Logic.{∥∥₁_elim}
 use Rattle.std.proofs.lemmas.Bool.{cases_Bool, eqb-true, eqb-false, eq-eqb, ne_eqb, ltb-false, or_left, or_right}
@@ -8,11 +9,11 @@ use Rattle.std.proofs.lemmas.List.{append-nil}
 use Rattle.std.proofs.lemmas.List.Folds.{list_any-append}
 use Rattle.std.proofs.lemmas.List.Elements.{All-append, All-head, All-map, All-nil, All-tail, All-weaker}
 use Rattle.vc_model.specs.Compact.{is_occupied}
-use Rattle.vc_model.specs.Layout.{Block, lies_before, with_block, with_segment}
+use Rattle.vc_model.specs.Layout.{Block, with_segment}
 use Rattle.vc_seg.specs.Segment.{Bytes, pair_of}
 use Rattle.vc_layouts.proofs.Lists.{AllPairs-head, AllPairs-tail}
 use Rattle.vc_layouts.specs.InOrder.{in_order}
-use Rattle.vc_layouts.proofs.InOrder.{All-in_order}
+use Rattle.vc_layouts.proofs.InOrder.{All-in_order, any-order}
 use Rattle.vc_extent.specs.Change.{IsOneFree}
 use Rattle.vc_extent.specs.Extent.{Extent, extents, free_extent, no_links}
 use Rattle.vc_extent.specs.Tiles.{IsTiled}
@@ -100,29 +101,6 @@ not-any n (b ∷ bs) h =
     let Q : Block ℕ → Type 0 = λ c. c.seg ≢ n in
     rw (ne_eqb b.seg n (All-head Q b bs h)) (not-any n bs (All-tail Q b bs h))
 
--- where a block is in it, one is so by address
-any-with : (n : ℕ) (b : Block ℕ) (bs : List (Block ℕ)) → is_occupied (b ∷ bs) n ≡ true → is_occupied (with_block b bs) n ≡ true
-any-with n b [] h = h
-any-with n b (c ∷ cs) h =
-    ⊎_elim
-    (λ (t : lies_before b c ≡ true). rw t h)
-    (λ (t : lies_before b c ≡ false).
-    rw t
-    (⊎_elim
-    (λ (u : eqb c.seg n ≡ true). rw u refl)
-    (λ (u : eqb c.seg n ≡ false). let h' : is_occupied (b ∷ cs) n ≡ true = rw u at h in rw u (any-with n b cs h'))
-    (cases_Bool (eqb c.seg n))))
-    (cases_Bool (lies_before b c))
-
-any-order : (n : ℕ) (bs : List (Block ℕ)) → is_occupied bs n ≡ true → is_occupied (in_order bs) n ≡ true
-any-order n [] h = h
-any-order n (b ∷ bs) h =
-    any-with n b (in_order bs)
-    (⊎_elim
-    (λ (u : eqb b.seg n ≡ true). rw u refl)
-    (λ (u : eqb b.seg n ≡ false). let h' : is_occupied bs n ≡ true = rw u at h in rw u (any-order n bs h'))
-    (cases_Bool (eqb b.seg n)))
-
 -- a segment that isn't one free extent has a block
 some-busy : (n stop at : ℕ) (es : List Extent) → at < stop → Lies stop at es → is_merged false es ≡ true → (IsOneFree es → ⊥) → is_occupied (busy_in (n, es)) n ≡ true
 some-busy n stop at [] lt h merged busy = absurd (omega (arith, h, lt))
@@ -177,4 +155,4 @@ module _ (old : List Bytes) (index : List ℕ) (n : ℕ) (k : ∥ AreExtents old
   pub occupied : IsMerged (tiling old) → IsThere n old → ¬ IsOneFree (extents_of n (tiling old)) → is_occupied (layout_by old).blocks n ≡ true
   unfolding layout_by
   occupied merged there busy =
-      ∥∥₁_elim k (hlevel (Bool-set)) (λ j. any-order n (all_busy (tiling old)) (occupied-in n old j.tiled merged there busy))
+      ∥∥₁_elim k (hlevel (Bool-set)) (λ j. any-order (λ b. b.seg == n) (all_busy (tiling old)) ∙ occupied-in n old j.tiled merged there busy)

@@ -1,5 +1,5 @@
 -- Tiled segments have blocks with heads.
-use Rattle.std.proofs.Common.{◌≡◌, ◌≢◌, ℕ, suc, ◌+◌, ◌-◌, ◌%◌, ◌<◌, ◌≤◌, List, [], ◌∷◌, ◌++◌, true, false, All, AllPairs, map, filter, length, get_or, refl, sym, ◌∙◌, inl, inr, ⊎_elim, ltb, arith}
+use Rattle.std.proofs.Common.{◌≡◌, ◌≢◌, ℕ, suc, ◌+◌, ◌-◌, ◌%◌, ◌<◌, ◌≤◌, List, [], ◌∷◌, true, false, All, AllPairs, map, filter, length, get_or, refl, sym, ◌∙◌, inl, inr, ⊎_elim, ltb, arith}
 use Rattle.std.proofs.Math.Logic.{∥∥₁_elim}
 use Rattle.std.proofs.lemmas.Bool.{cases_Bool, ltb-true}
 use Rattle.std.proofs.lemmas.List.Elements.{All-append, All-filter, All-head, All-map, All-nil, All-tail, All-weaker, filter_passes}
@@ -9,7 +9,7 @@ use Rattle.vc_model.specs.Layout.{Block, footprint}
 use Rattle.vc_model.specs.Segments.{span}
 use Rattle.vc_model.specs.Sound.{HasWholeBlocks, HaveOwnNumbers, IsApart, IsSound, IsUsable}
 use Rattle.vc_seg.specs.Segment.{AreSegments, Bytes, IsRegionSegment, pair_of}
-use Rattle.vc_layouts.proofs.Lists.{AllPairs-head, AllPairs-map, AllPairs-nil, AllPairs-tail}
+use Rattle.vc_layouts.proofs.Lists.{AllPairs-append, AllPairs-head, AllPairs-map, AllPairs-nil, AllPairs-tail}
 use Rattle.vc_layouts.proofs.Blocks.{apart_by_seg}
 use Rattle.vc_layouts.specs.InOrder.{in_order}
 use Rattle.vc_layouts.proofs.InOrder.{All-in_order}
@@ -34,14 +34,6 @@ All-all_busy P [] h = All-nil P
 All-all_busy P (s ∷ ss) h =
     let Q : ℕ × List Extent → Type 0 = λ x. All P (busy_in x) in
     All-append P (busy_in s) (all_busy ss) (All-head Q s ss h) (All-all_busy P ss (All-tail Q s ss h))
-
-pub AllPairs-append : {A : Type 0} (R : A → A → Type 0) (xs ys : List A) → AllPairs R xs → AllPairs R ys → All (λ x. All (R x) ys) xs → AllPairs R (xs ++ ys)
-AllPairs-append R [] ys one two between = two
-AllPairs-append {A = A} R (x ∷ xs) ys one two between =
-    let Q : A → Type 0 = λ z. All (R z) ys in
-    AllPairs-cons R x (xs ++ ys)
-    (All-append (R x) xs ys (AllPairs-head R x xs one) (All-head Q x xs between))
-    (AllPairs-append R xs ys (AllPairs-tail R x xs one) two (All-tail Q x xs between))
 
 -- blocks of one segment don't overlap
 abbrev Apart : Block ℕ → Block ℕ → Type 0

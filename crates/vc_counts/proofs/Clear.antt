@@ -6,7 +6,7 @@ use Rattle.std.proofs.lemmas.Bool.{cases_Bool, and_parts, eq-eqb, eqb-true, leb-
 use Rattle.std.proofs.lemmas.List.Elements.{All-append, All-contains_itself, All-cons, All-filter, All-head, All-nil, All-tail, All-weaker, filter_passes}
 use Rattle.std.proofs.lemmas.Option.{none-some, same_Some}
 use Rattle.vc_best.proofs.Gaps.{least-from}
-use Rattle.vc_best.proofs.Tilings.{AllPairs-append}
+use Rattle.vc_layouts.proofs.Lists.{AllPairs-append}
 use Rattle.vc_laws.specs.Maximal.{AreLawful, Covers}
 use Rattle.vc_laws.proofs.Maximality.{IsGap-from_gaps}
 use Rattle.vc_laws.proofs.Members.{Any-from_member, Member-append_left, Some_of-from_Any}

@@ -1,7 +1,7 @@
 -- What is true of each of a list, and of each two.
-use Rattle.std.proofs.Common.{All, AllPairs, Bool, List, Some, [], ap, arith, false, filter, map, refl, suc, sym, true, ⊎_elim, ◌∙◌, ◌∷◌, ◌≡◌}
+use Rattle.std.proofs.Common.{All, AllPairs, Bool, List, Some, [], ap, arith, false, filter, map, refl, suc, sym, true, ⊎_elim, ◌++◌, ◌∙◌, ◌∷◌, ◌≡◌}
 use Rattle.std.proofs.lemmas.Bool.{cases_Bool}
-use Rattle.std.proofs.lemmas.List.Elements.{All-cons, All-head, All-map, All-nil, All-tail}
+use Rattle.std.proofs.lemmas.List.Elements.{All-append, All-cons, All-head, All-map, All-nil, All-tail}
 use Rattle.std.proofs.lemmas.List.Kept.{AllPairs-cons}
 use Rattle.std.specs.List.{find}
 use Rattle.vc_seg.specs.Segment.{Bytes}
@@ -20,6 +20,14 @@ AllPairs-map {A = A} R f [] h = AllPairs-nil R
 AllPairs-map {A = A} R f (x ∷ xs) h =
     let S : A → A → Type 0 = λ x y. R (f x) (f y) in
     AllPairs-cons R (f x) (map f xs) (All-map (R (f x)) f xs (AllPairs-head S x xs h)) (AllPairs-map R f xs (AllPairs-tail S x xs h))
+
+pub AllPairs-append : {A : Type 0} (R : A → A → Type 0) (xs ys : List A) → AllPairs R xs → AllPairs R ys → All (λ x. All (R x) ys) xs → AllPairs R (xs ++ ys)
+AllPairs-append R [] ys one two between = two
+AllPairs-append {A = A} R (x ∷ xs) ys one two between =
+    let Q : A → Type 0 = λ z. All (R z) ys in
+    AllPairs-cons R x (xs ++ ys)
+    (All-append (R x) xs ys (AllPairs-head R x xs one) (All-head Q x xs between))
+    (AllPairs-append R xs ys (AllPairs-tail R x xs one) two (All-tail Q x xs between))
 
 pub filter-none : (segs : List Bytes) → filter (λ (b : Bytes). false) segs ≡ []
 filter-none [] = refl

@@ -1,5 +1,5 @@
 -- Blocks in cells, two by two.
-use Rattle.std.proofs.Common.{◌≡◌, ◌≢◌, ℕ, ◌+◌, ◌≤◌, List, [], ◌∷◌, ◌++◌, true, false, All, AllPairs, inl, inr, refl, sym, take, drop, ⊎_elim, eqb, arith, ◌∙◌}
+use Rattle.std.proofs.Common.{◌≡◌, ◌≢◌, ℕ, ◌+◌, ◌≤◌, List, [], ◌∷◌, true, false, All, AllPairs, inl, inr, refl, sym, take, drop, ⊎_elim, eqb, arith, ◌∙◌}
 use Rattle.std.specs.List.{flat_map}
 use Rattle.std.proofs.lemmas.Bool.{cases_Bool}
 use Rattle.std.proofs.lemmas.List.Elements.{All-append, All-head, All-nil, All-tail, All-weaker}
@@ -7,7 +7,7 @@ use Rattle.std.proofs.lemmas.List.Kept.{AllPairs-cons}
 use Rattle.vc_model.specs.Layout.{Block, lies_before, with_block}
 use Rattle.vc_model.specs.Pool.{cell_run}
 use Rattle.vc_model.specs.Sound.{IsApart}
-use Rattle.vc_layouts.proofs.Lists.{AllPairs-head, AllPairs-nil, AllPairs-tail}
+use Rattle.vc_layouts.proofs.Lists.{AllPairs-append, AllPairs-head, AllPairs-nil, AllPairs-tail}
 use Rattle.vc_layouts.proofs.Blocks.{apart_by_seg}
 use Rattle.vc_layouts.proofs.Blocks.{All-with}
 use Rattle.vc_layouts.specs.InOrder.{in_order}
@@ -33,14 +33,6 @@ module _ (R : Block ℕ → Block ℕ → Type 0) (turn : (a b : Block ℕ) → 
   pub pairs-order : (bs : List (Block ℕ)) → AllPairs R bs → AllPairs R (in_order bs)
   pairs-order [] h = h
   pairs-order (b ∷ bs) h = pairs-with b (in_order bs) (All-in_order (R b) bs (AllPairs-head R b bs h)) (pairs-order bs (AllPairs-tail R b bs h))
-
-pairs-append : (R : Block ℕ → Block ℕ → Type 0) (xs ys : List (Block ℕ)) → AllPairs R xs → AllPairs R ys → All (λ x. All (R x) ys) xs → AllPairs R (xs ++ ys)
-pairs-append R [] ys one two between = two
-pairs-append R (x ∷ xs) ys one two between =
-    let Q : Block ℕ → Type 0 = λ z. All (R z) ys in
-    AllPairs-cons R x (xs ++ ys)
-    (All-append (R x) xs ys (AllPairs-head R x xs one) (All-head Q x xs between))
-    (pairs-append R xs ys (AllPairs-tail R x xs one) two (All-tail Q x xs between))
 
 -- the cells of two blocks don't overlap
 abbrev pub Beside : ℕ → Block ℕ → Block ℕ → Type 0
@@ -79,7 +71,7 @@ pairs-all cell (s ∷ ss) h =
     let R : Cells → Cells → Type 0 = λ a b. a.number ≢ b.number in
     let heads = AllPairs-head R s ss h in
     let others = others-of s.number cell ss (λ k d lt e. heads k d lt (sym e)) in
-    pairs-append (Beside cell) (blocks_of cell s) (flat_map (blocks_of cell) ss)
+    AllPairs-append (Beside cell) (blocks_of cell s) (flat_map (blocks_of cell) ss)
     (pairs-run s.number cell 32 s.bytes s.pairs) (pairs-all cell ss (AllPairs-tail R s ss h))
     (All-weaker (λ (b : Block ℕ). b.seg ≡ s.number) (λ (b : Block ℕ). All (Beside cell b) (flat_map (blocks_of cell) ss))
     (λ b e. All-weaker (λ (x : Block ℕ). x.seg ≢ s.number) (Beside cell b) (λ x other. apart_by_seg (cell_run cell b) (cell_run cell x) (λ q. other (sym q ∙ e))) (flat_map (blocks_of cell) ss) others)
