@@ -1,6 +1,6 @@
 -- What a call that may ask for a segment answers, and leaves of the discipline.
 use Rattle.std.proofs.Common.{◌≡◌, ℕ, ◌+◌, ◌≤◌, List, ◌++◌, true, false, Option, None, Some, refl, ap, sym, ◌∙◌, subst}
-use Rattle.std.specs.Prelude.{IfOk, IfErr, OnErr, OnOk, Result, Ok, Err}
+use Rattle.std.specs.Prelude.{IfOk, IfErr, OnErr, Result, Ok, Err}
 use Rattle.vc_model.specs.Addr.{place_of}
 use Rattle.vc_model.specs.Best.{best_alloc, best_need, place_in, put_at, put_or_ask}
 use Rattle.vc_model.specs.Discipline.{Discipline, IsSegmentSize, Served, Terms}
@@ -14,10 +14,12 @@ use Rattle.vc_seg.specs.declared.fault.RegionFault.{RegionFault}
 use Rattle.vc_seg.specs.declared.fault.RegionFault.TheVariants as code
 use Rattle.vc_seg.specs.Answer.{Answers, Asks, IsPut}
 use Rattle.vc_segments.specs.Lend.{IsNoGrant}
-use Rattle.vc_layouts.specs.Put.{IsAddress, IsPutInNew, with_zeros}
+use Rattle.vc_layouts.specs.Put.{IsPutInNew}
+use Rattle.vc_best.specs.Standing.{IsPutByAsking, IsPutInGap}
 use Rattle.vc_best.proofs.HaveHeads.{HaveHeads}
 use Rattle.vc_best.proofs.Allocs.{alloc-granted, alloc-not_lent, alloc-too_many}
-use Rattle.vc_best.proofs.Placed.{HaveHeads-new, IsPlace, new-clear}
+use Rattle.vc_best.proofs.Outs.{own-address}
+use Rattle.vc_best.proofs.Placed.{HaveHeads-new, new-clear}
 use Rattle.vc_best.proofs.Rounding.{IsAligned}
 use Rattle.vc_best.proofs.Stands.{none-at-clear}
 
@@ -37,33 +39,20 @@ pub Served-later : (old new : Discipline) (segments mid later : List (ℕ × ℕ
 Served-later old new segments mid later need same h = subst (λ (ss : List (ℕ × ℕ)). Served old new segments ss need) (sym same) h
 
 -- before it the layout was the same, but for links
-pub Answers-same : (old mid new : Layout ℕ) (terms : Terms) (label size align : ℕ) (result : Result Addr RegionFault) → mid ≡ old →
-    Answers (best_alloc terms mid label size align) result mid new → Answers (best_alloc terms old label size align) result old new
-Answers-same old mid new terms label size align result same h = subst (λ (r : Layout ℕ). Answers (best_alloc terms r label size align) result r new) same h
+pub IsPutByAsking-same : (old mid new : Layout ℕ) (terms : Terms) (label size align : ℕ) (result : Result Addr RegionFault) → mid ≡ old →
+    IsPutByAsking terms result mid new label size align → IsPutByAsking terms result old new label size align
+IsPutByAsking-same old mid new terms label size align result same h = subst (λ (r : Layout ℕ). IsPutByAsking terms result r new label size align) same h
 
-pub Asks-same : (old mid new : Layout ℕ) (d d' : Discipline) (need : ℕ) (result : Result Addr RegionFault) → mid ≡ old → Asks result d d' mid.segments new.segments need → Asks result d d' old.segments new.segments need
-Asks-same old mid new d d' need result same h = subst (λ (r : Layout ℕ). Asks result d d' r.segments new.segments need) same h
+-- a block was put in a gap
+module _ (old new : Layout ℕ) (label size align : ℕ) (a : Addr) (p : IsPutInGap old new label size align a.0) where
+  put : IsPut (put_at old label size None (place_of a.0)) a.0 new
+  put = (sym (own-address a.0), refl, p.layout)
 
--- a block was put at its place, or there was no memory for it
-module _ (old new : Layout ℕ) (label size align : ℕ) (at : ℕ × ℕ) where
-  pub put-ok : (result : Result Addr RegionFault) → IfOk result (λ a. IsAddress a.0 at) → OnOk result (new ≡ with_zeros old label size at) → IfOk result (λ a. IsPut (put_at old label size None at) a.0 new)
-  put-ok (Ok a) is ok = (is.0, sym is.1, ok)
-  put-ok (Err e) is ok = tt
+  pub Answers-in_gap : (terms : Terms) → Answers (best_alloc terms old label size align) (Ok a) old new
+  Answers-in_gap terms = subst (λ (o : Option (ℕ × ℕ)). IsPut (put_or_ask terms old label size align false o) a.0 new) (sym p.place) put
 
-  pub put-fresh : (result : Result Addr RegionFault) → HaveHeads old → IsPlace old label size at → IfOk result (λ a. IsAddress a.0 at) → IfOk result (λ a. ¬ HasBlock old.blocks a.0)
-  put-fresh (Ok a) h p is = none-at-clear old a.0 h size at is.1 p.clear
-  put-fresh (Err e) h p is = tt
-
-  pub Answers-put : (terms : Terms) (result : Result Addr RegionFault) → place_in old size align ≡ Some at → IfOk result (λ a. IsPut (put_at old label size None at) a.0 new) → OnErr result (new ≡ old) →
-      IfErr result (λ e. e ≡ code.OutOfMemory) → Answers (best_alloc terms old label size align) result old new
-  Answers-put terms (Ok a) place ok err only = subst (λ (o : Option (ℕ × ℕ)). IsPut (put_or_ask terms old label size align false o) a.0 new) (sym place) ok
-  Answers-put terms (Err e) place ok err only = subst (λ (w : RegionFault). Answers (best_alloc terms old label size align) (Err w) old new) (sym only) (tt, err)
-
-  pub Asks-put : (d : Discipline) (need : ℕ) (result : Result Addr RegionFault) → IfOk result (λ a. IsPut (put_at old label size None at) a.0 new) → OnErr result (new ≡ old) →
-      IfErr result (λ e. e ≡ code.OutOfMemory) → Asks result d d old.segments new.segments need
-  Asks-put d need (Ok a) ok err only = Served-unasked d old.segments new.segments need (ap (λ (r : Layout ℕ). r.segments) ok.2)
-  Asks-put d need (Err e) ok err only =
-      subst (λ (w : RegionFault). Asks (Err w) d d old.segments new.segments need) (sym only) (Served-unasked d old.segments new.segments need (ap (λ (r : Layout ℕ). r.segments) err))
+  pub Asks-in_gap : (d : Discipline) (need : ℕ) → Asks (Ok a) d d old.segments new.segments need
+  Asks-in_gap d need = Served-unasked d old.segments new.segments need (ap (λ (r : Layout ℕ). r.segments) p.layout)
 
 -- a segment was asked for, where the block had no place
 module _ (old new : Layout ℕ) (terms : Terms) (label size align bytes : ℕ) (h : HaveHeads old) (none : place_in old size align ≡ None) (need : bytes ≡ best_need terms size align) (a : IsAligned align) (some : 1 ≤ size) (most : size ≤ 16777264)

@@ -20,6 +20,7 @@ use Rattle.vc_gaps.specs.GapTree.{HasGaps}
 use Rattle.vc_gaps.specs.GapUnique.{HasGaps-prop}
 use Rattle.vc_best.specs.Blocks.{block_of, is_busy, layout_by}
 use Rattle.vc_best.specs.Free.{IsMerged}
+use Rattle.vc_best.specs.Standing.{AreKept}
 use Rattle.vc_best.proofs.Found.{busy-of, found-of}
 use Rattle.vc_best.proofs.Layouts.{layout-changed}
 use Rattle.vc_best.proofs.Sets.{merged-prop}
@@ -37,6 +38,9 @@ merged-of t m = ∥∥₁_elim m (merged-prop t) (λ h. h)
 
 pub tree-of : (segs : List Bytes) (index : List ℕ) (root : ℕ) → ∥ AreExtents segs index ∥₁ → ∥ HasGaps (tiling segs) root [] ∥₁ → HasGaps (tiling segs) root []
 tree-of segs index root k g = ∥∥₁_elim g (HasGaps-prop (tiling segs) root (gap_none segs index k) []) (λ h. h)
+
+pub kept-of : (segs : List Bytes) (index : List ℕ) (root : ℕ) → ∥ AreExtents segs index ∥₁ → ∥ IsMerged (tiling segs) ∥₁ → ∥ HasGaps (tiling segs) root [] ∥₁ → AreKept segs root
+kept-of segs index root k m g = record { merged = merged-of (tiling segs) m; gaps = tree-of segs index root k g }
 
 -- what its type keeps, but for the tree of its gaps
 pub record AreHeld (segs : List Bytes) : Type 0 where

@@ -6,14 +6,16 @@ use Rattle.std.proofs.lemmas.Bool.{cases_Bool, and_from, eq-eqb}
 use Rattle.std.proofs.lemmas.List.Elements.{All-head, All-tail}
 use Rattle.vc_model.specs.Layout.{Block, Layout, is_at, lies_before, with_block, without_block}
 use Rattle.vc_model.specs.Touch.{HasBlock, with_bytes_at, change_block, find_block, rewritten}
-use Rattle.vc_model.specs.Best.{best_alloc, without_block_at, place_in, put_at, zeros}
+use Rattle.vc_model.specs.Best.{best_alloc, without_block_at, place_in, zeros}
 use Rattle.vc_model.specs.Resize.{sized}
 use Rattle.vc_model.specs.Addr.{place_of}
 use Rattle.vc_model.specs.Discipline.{Terms}
-use Rattle.vc_seg.specs.Answer.{Answers, IsPut}
+use Rattle.vc_seg.specs.Answer.{IsPut}
 use Rattle.vc_base.specs.declared.addr.Addr.{Addr}
 use Rattle.vc_seg.specs.declared.fault.RegionFault.{RegionFault}
-use Rattle.vc_best.proofs.Resizes.{IsNew, at-place, none-at, place-new, put_at-new}
+use Rattle.vc_best.specs.Standing.{IsPutByAsking, IsPutInGap}
+use Rattle.vc_best.proofs.Asking.{Answers-in_gap}
+use Rattle.vc_best.proofs.Resizes.{IsNew, at-place, none-at, place-new}
 
 -- one block changes and stays where it is
 changed : (f : Block ℕ → Block ℕ) → ((at : ℕ × ℕ) (b : Block ℕ) → is_at at (f b) ≡ is_at at b) → (at : ℕ × ℕ) (bs : List (Block ℕ)) → without_block at (change_block f at bs) ≡ without_block at bs
@@ -81,19 +83,16 @@ module _ (r : Layout ℕ) (label size to : ℕ) (mid : Layout ℕ) (fresh : ¬ H
       ap (without_block (place_of to)) is_new.blocks
       ∙ others-with (place_of to) (zeros label size (place_of to)) r.blocks (own-zeros label size (place_of to)) (none-at to r.blocks fresh)
 
-  pub others-put : (at : ℕ × ℕ) → IsPut (put_at r label size None at) to mid → without_block (place_of to) mid.blocks ≡ r.blocks
-  others-put at placed = others-new (put_at-new r r label size to None at mid refl placed)
-
   pub others-alloc : (terms : Terms) (align : ℕ) (refused : Bool) → IsPut (best_alloc terms r label size align refused) to mid → without_block (place_of to) mid.blocks ≡ r.blocks
   others-alloc terms align refused placed = others-new (place-new terms r label size align refused to (place_in r size align) mid placed)
 
 -- where a block was placed
-pub others-if_put : (result : Result Addr RegionFault) (r mid : Layout ℕ) (label size : ℕ) (at : ℕ × ℕ) → IfOk result (λ a. IsPut (put_at r label size None at) a.0 mid) →
-    IfOk result (λ a. ¬ HasBlock r.blocks a.0) → IfOk result (λ a. without_block (place_of a.0) mid.blocks ≡ r.blocks)
-others-if_put (Ok a) r mid label size at placed fresh = others-put r label size a.0 mid fresh at placed
-others-if_put (Err e) r mid label size at placed fresh = tt
+pub others-asked : (terms : Terms) (result : Result Addr RegionFault) (r new : Layout ℕ) (label size align : ℕ) → IsPutByAsking terms result r new label size align →
+    IfOk result (λ a. without_block (place_of a.0) new.blocks ≡ r.blocks)
+others-asked terms (Ok a) r new label size align p = others-alloc r label size a.0 new p.fresh terms align false p.answer
+others-asked terms (Err e) r new label size align p = tt
 
-pub others-if_alloc : (result : Result Addr RegionFault) (r mid : Layout ℕ) (terms : Terms) (label size align : ℕ) → Answers (best_alloc terms r label size align) result r mid →
-    IfOk result (λ a. ¬ HasBlock r.blocks a.0) → IfOk result (λ a. without_block (place_of a.0) mid.blocks ≡ r.blocks)
-others-if_alloc (Ok a) r mid terms label size align placed fresh = others-alloc r label size a.0 mid fresh terms align false placed
-others-if_alloc (Err e) r mid terms label size align placed fresh = tt
+pub others-in_gap : (r new : Layout ℕ) (label size align : ℕ) (a : Addr) → IsPutInGap r new label size align a.0 → without_block (place_of a.0) new.blocks ≡ r.blocks
+others-in_gap r new label size align a p =
+    let terms : Terms = record { round = 32 } in
+    others-alloc r label size a.0 new p.fresh terms align false (Answers-in_gap r new label size align a p terms)

@@ -6,16 +6,23 @@ use Rattle.std.proofs.lemmas.Bool.{leb-true}
 use Rattle.vc_model.specs.Addr.{address, place_of}
 use Rattle.vc_model.specs.Best.{place_in, zeros}
 use Rattle.vc_model.specs.Gap.{Run}
-use Rattle.vc_model.specs.Place.{IsAlign, holds, least, lowest_offset}
-use Rattle.vc_model.specs.Segments.{span}
-use Rattle.vc_model.specs.Touch.{HasBlock}
+use Rattle.vc_model.specs.Layout.{Block, Layout}
+use Rattle.vc_model.specs.Place.{holds, least, lowest_offset}
+use Rattle.vc_model.specs.Segments.{round_up, span}
+use Rattle.vc_seg.proofs.Rounding.{round_up-least}
 use Rattle.vc_seg.specs.Segment.{Bytes, pair_of}
 use Rattle.vc_extent.specs.Tiling.{AreExtents, IsFree, change_extent, extent_of, tiling}
-use Rattle.vc_layouts.specs.Put.{IsAddress, with_zeros}
-use Rattle.vc_layouts.proofs.Blocks.{place_of-address}
+use Rattle.vc_layouts.specs.Put.{with_zeros}
+use Rattle.vc_layouts.proofs.Blocks.{All-with, place_of-address}
+use Rattle.vc_gaps.specs.ButLinks.{Tiling, plain}
+use Rattle.vc_gaps.specs.Fits as gaps
+use Rattle.vc_gaps.specs.Fits.{run_at}
+use Rattle.vc_gaps.specs.GapLaws.{span-stays}
 use Rattle.vc_best.specs.Blocks.{layout_by}
 use Rattle.vc_best.specs.Changes.{carve}
 use Rattle.vc_best.specs.Free.{IsMerged, free_runs}
+use Rattle.vc_best.specs.Standing.{AreAllowed, AreWhole, CanPutBlock, IsPutInGap}
+use Rattle.vc_best.proofs.Bests.{best-address, best-free, best-from, least-by}
 use Rattle.vc_best.proofs.Carving.{carve-busy, merged-carved}
 use Rattle.vc_best.proofs.FreeRuns.{IsGap, gap-holds, gap-is}
 use Rattle.vc_best.proofs.Frees.{gaps-of}
@@ -24,6 +31,8 @@ use Rattle.vc_best.proofs.HeldHeads.{held-heads}
 use Rattle.vc_best.proofs.Known.{cut-of}
 use Rattle.vc_best.proofs.Layouts.{behind_of, layout-put}
 use Rattle.vc_best.proofs.Placed.{IsPlace, place-is, place_at}
+use Rattle.vc_best.proofs.Plain.{free-stays}
+use Rattle.vc_best.proofs.Rounding.{IsAligned-from_IsAlign}
 use Rattle.vc_best.proofs.Sets.{merged-prop}
 use Rattle.vc_best.proofs.Stands.{none-at-clear}
 
@@ -44,42 +53,70 @@ module _ (old new : List Bytes) (i j : List ℕ) (k : ∥ AreExtents old i ∥�
       subst IsMerged (sym changed)
       (∥∥₁_elim k (merged-prop _) (λ h. merged-carved (tiling old) a off size tag (cut-of old i a h free.named) free some m))
 
-module _ (old : List Bytes) (i : List ℕ) (k : ∥ AreExtents old i ∥₁) (m : IsMerged (tiling old)) (most : AreMost (layout_by old).blocks) (g : Run) (size align tag a off : ℕ) (some : 1 ≤ size) (large : size ≤ 16777264) (al : IsAlign align)
-    (is : least (filter (holds (span size) align) (free_runs (tiling old))) ≡ Some g) (value : a ≡ address (g.seg, g.from + 16)) (low : off ≡ lowest_offset align g) where
-  gap : IsGap (tiling old) g
-  gap = gap-is old i (span size) align g k is
+-- what can be put into a free extent can be where links alone differ
+pub can_put-stays : (t u : Tiling) → plain u ≡ plain t → (a off size : ℕ) → CanPutBlock t a off size → CanPutBlock u a off size
+can_put-stays t u same a off size h =
+    let span = span-stays t u same a in
+    let fits = h.fits in
+    record {
+      free = free-stays t u same a h.free;
+      some = h.some;
+      most = h.most;
+      first = h.first;
+      multiple = h.multiple;
+      fits = omega (arith, span, fits);
+    }
 
-  pub put-free : IsFree (tiling old) a
-  put-free = subst (IsFree (tiling old)) (sym value) gap.free
+-- a block of zeros in the least gap that holds it, at the lowest offset that the alignment divides
+module _ (old : List Bytes) (i : List ℕ) (k : ∥ AreExtents old i ∥₁) (root size align tag a off : ℕ) (whole : AreWhole old root) (allowed : AreAllowed size align)
+    (best : Some (run_at (tiling old) a) ≡ least (filter (holds (span size) align) (gaps.free_runs (tiling old)))) (low : off ≡ round_up (place_of a).1 align) where
+  abbrev run : Run
+  run = run_at (tiling old) a
 
-  gap-place : place_of a ≡ (g.seg, g.from + 16)
-  gap-place = ap place_of value ∙ place_of-address g.seg (g.from + 16) gap.below gap.multiple
+  is : least (filter (holds (span size) align) (free_runs (tiling old))) ≡ Some run
+  is = least-by (tiling old) (span size) align (Some run) best
 
-  pub put-seg : (place_of a).0 ≡ g.seg
-  put-seg = ap (λ (p : ℕ × ℕ). p.0) gap-place
+  from : run.from + 16 ≡ (place_of a).1
+  from = best-from old i k (span size) align a best
 
-  pub put-fits : off + span size ≤ (place_of a).1 + (extent_of (tiling old) a).span
-  put-fits =
-      let h : lowest_offset align g + span size ≤ g.to + 16 = leb-true (lowest_offset align g + span size) (g.to + 16) (gap-holds old i (span size) align g k is) in
-      let o : (place_of a).1 ≡ g.from + 16 = ap (λ (p : ℕ × ℕ). p.1) gap-place in
-      let s : g.from + (extent_of (tiling old) a).span ≡ g.to = ap (λ (n : ℕ). g.from + (extent_of (tiling old) n).span) value ∙ gap.span in
-      omega (arith, h, o, s, low)
+  lowest : off ≡ lowest_offset align run
+  lowest = low ∙ ap (λ (n : ℕ). round_up n align) (sym from)
 
-  pub put-place : place_in (layout_by old) size align ≡ Some (g.seg, off)
-  put-place = place-runs old i size align k m ∙ (ap (option_map (place_at align)) is ∙ ap (λ (n : ℕ). Some (g.seg, n)) (sym low))
+  own-place : place_in (layout_by old) size align ≡ Some ((place_of a).0, off)
+  own-place = place-runs old i size align k whole.kept.merged ∙ (ap (option_map (place_at align)) is ∙ ap (λ (n : ℕ). Some ((place_of a).0, n)) (sym lowest))
 
-  fit : IsPlace (layout_by old) tag size (g.seg, off)
-  fit = place-is (layout_by old) tag size align (g.seg, off) (held-heads old i k most) al some large put-place
+  fit : IsPlace (layout_by old) tag size ((place_of a).0, off)
+  fit = place-is (layout_by old) tag size align ((place_of a).0, off) (held-heads old i k whole.sizes) allowed.aligned allowed.some allowed.most own-place
 
-  module _ (to : ℕ) (answer : to ≡ address ((place_of a).0, off)) where
-    to-value : to ≡ address (g.seg, off)
-    to-value = answer ∙ ap (λ (n : ℕ). address (n, off)) put-seg
+  pub can_put : CanPutBlock (tiling old) a off size
+  can_put =
+      let gap : IsGap (tiling old) run = gap-is old i (span size) align run k is in
+      let h : lowest_offset align run + span size ≤ run.to + 16 = leb-true (lowest_offset align run + span size) (run.to + 16) (gap-holds old i (span size) align run k is) in
+      let s : run.from + (extent_of (tiling old) a).span ≡ run.to = ap (λ (n : ℕ). run.from + (extent_of (tiling old) n).span) (best-address old i k (span size) align a best) ∙ gap.span in
+      let l = lowest in
+      let f = from in
+      let aligned = IsAligned-from_IsAlign align allowed.aligned in
+      let least = aligned.least in
+      let up : (place_of a).1 ≤ round_up (place_of a).1 align = round_up-least (place_of a).1 align (omega (arith, least)) in
+      record {
+        free = best-free old i k (span size) align a best;
+        some = allowed.some;
+        most = allowed.most;
+        first = omega (arith, up, low);
+        multiple = fit.head.slot.multiple;
+        fits = omega (arith, h, s, l, f);
+      }
 
-    pub to-place : place_of to ≡ (g.seg, off)
-    to-place = ap place_of to-value ∙ place_of-address g.seg off fit.head.slot.last fit.head.slot.multiple
+  module _ (new : Layout ℕ) (to : ℕ) (answer : to ≡ address ((place_of a).0, off)) (put : new ≡ with_zeros (layout_by old) tag size ((place_of a).0, off)) where
+    to-place : place_of to ≡ ((place_of a).0, off)
+    to-place = ap place_of answer ∙ place_of-address (place_of a).0 off fit.head.slot.last fit.head.slot.multiple
 
-    pub put-address : IsAddress to (g.seg, off)
-    put-address = (to-value, to-place)
+    pub put-in_gap : IsPutInGap (layout_by old) new tag size align to
+    put-in_gap = record {
+      place = own-place ∙ ap (λ (p : ℕ × ℕ). Some p) (sym to-place);
+      layout = put ∙ ap (with_zeros (layout_by old) tag size) (sym to-place);
+      fresh = none-at-clear (layout_by old) to (held-heads old i k whole.sizes) size ((place_of a).0, off) to-place fit.clear;
+    }
 
-    pub put-fresh : ¬ HasBlock (layout_by old).blocks to
-    put-fresh = none-at-clear (layout_by old) to (held-heads old i k most) size (g.seg, off) to-place fit.clear
+    pub put-most : AreMost new.blocks
+    put-most = subst (λ (r : Layout ℕ). AreMost r.blocks) (sym put) (All-with (λ (b : Block ℕ). b.size ≤ 16777264) (zeros tag size ((place_of a).0, off)) (layout_by old).blocks allowed.most whole.sizes)

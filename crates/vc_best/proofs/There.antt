@@ -4,24 +4,30 @@ use Rattle.std.specs.Prelude.{IfOk, Ok, Err, option_map}
 use Rattle.std.specs.declared.result.Result.{Result}
 use Rattle.std.proofs.lemmas.Bool.{cases_Bool}
 use Rattle.vc_model.specs.Addr.{address, place_of}
-use Rattle.vc_model.specs.Best.{best_alloc, without_block_at, zeros}
+use Rattle.vc_model.specs.Best.{without_block_at, zeros}
 use Rattle.vc_model.specs.Discipline.{Terms}
 use Rattle.vc_model.specs.Layout.{Block, Layout, is_at, without_block}
 use Rattle.vc_model.specs.Resize.{sized}
 use Rattle.vc_model.specs.Touch.{HasBlock, change_block, find_block, rewritten, with_bytes_at}
-use Rattle.vc_seg.specs.Answer.{Answers}
 use Rattle.vc_base.specs.declared.addr.Addr.{Addr}
 use Rattle.vc_seg.specs.declared.fault.RegionFault.{RegionFault}
+use Rattle.vc_best.specs.Standing.{IsPutByAsking, IsPutInGap}
+use Rattle.vc_best.proofs.Asking.{Answers-in_gap}
 use Rattle.vc_best.proofs.Resizes.{address-place_of, at-place, new-found}
 
 abbrev label_of : Option (Block ℕ) → Option ℕ
 label_of o = option_map (λ b. b.label) o
 
 -- a block that was put
-pub there-alloc : (result : Result Addr RegionFault) (r mid : Layout ℕ) (terms : Terms) (label size align : ℕ) → Answers (best_alloc terms r label size align) result r mid →
-    IfOk result (λ a. ¬ HasBlock r.blocks a.0) → IfOk result (λ a. find_block (place_of a.0) mid.blocks ≡ Some (zeros label size (place_of a.0)))
-there-alloc (Ok a) r mid terms label size align placed fresh = new-found terms r label size align a.0 false mid placed fresh
-there-alloc (Err e) r mid terms label size align placed fresh = tt
+pub there-asked : (terms : Terms) (result : Result Addr RegionFault) (r new : Layout ℕ) (label size align : ℕ) → IsPutByAsking terms result r new label size align →
+    IfOk result (λ a. find_block (place_of a.0) new.blocks ≡ Some (zeros label size (place_of a.0)))
+there-asked terms (Ok a) r new label size align p = new-found terms r label size align a.0 false new p.answer p.fresh
+there-asked terms (Err e) r new label size align p = tt
+
+pub there-in_gap : (r new : Layout ℕ) (label size align : ℕ) (a : Addr) → IsPutInGap r new label size align a.0 → find_block (place_of a.0) new.blocks ≡ Some (zeros label size (place_of a.0))
+there-in_gap r new label size align a p =
+    let terms : Terms = record { round = 32 } in
+    new-found terms r label size align a.0 false new (Answers-in_gap r new label size align a p terms) p.fresh
 
 -- a change that keeps the place and the label
 changed : (f : Block ℕ → Block ℕ) → ((at : ℕ × ℕ) (b : Block ℕ) → is_at at (f b) ≡ is_at at b) → ((b : Block ℕ) → (f b).label ≡ b.label) → (at : ℕ × ℕ) (bs : List (Block ℕ)) →

@@ -1,8 +1,8 @@
 -- The free extents that stand beside others, by their addresses, and the tree of gaps where they change.
-use Rattle.std.specs.Prelude.{◌≡◌, ℕ, List, [], ◌∷◌, ◌++◌, Option, None, Some, ◌&&◌, nat_lt, if◌then◌else◌}
+use Rattle.std.specs.Prelude.{◌≡◌, ℕ, ◌+◌, List, [], ◌∷◌, ◌++◌, Option, None, Some, ◌&&◌, nat_lt, if◌then◌else◌}
 use Rattle.vc_model.specs.Addr.{address, place_of}
 use Rattle.vc_extent.specs.Extent.{Extent}
-use Rattle.vc_extent.specs.Tiling.{next_of, previous_of}
+use Rattle.vc_extent.specs.Tiling.{extent_of, next_of, previous_of}
 use Rattle.vc_gaps.specs.ButLinks.{Tiling}
 use Rattle.vc_base.specs.Holders.{contains}
 use Rattle.vc_gaps.specs.GapStore.{is_free as names_free}
@@ -24,6 +24,13 @@ free_before t a = free_name (place_of a).0 (previous_of t a)
 -- that of the free extent from an offset up to another, where it has a byte
 abbrev pub part_name : ℕ → ℕ → ℕ → List ℕ
 part_name seg from to = if nat_lt from to then address (seg, from) ∷ [] else []
+
+-- that of what of an extent lies before an offset, and from an offset on
+abbrev pub part_before : ℕ → ℕ → List ℕ
+part_before a off = part_name (place_of a).0 (place_of a).1 off
+
+abbrev pub part_from : Tiling → ℕ → ℕ → List ℕ
+part_from t a off = part_name (place_of a).0 off ((place_of a).1 + (extent_of t a).span)
 
 -- a tree without these gaps, and maybe without others, is one without those after a change
 abbrev pub GapsChange : Tiling → Tiling → List ℕ → List ℕ → Type 0

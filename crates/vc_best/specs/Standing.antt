@@ -1,25 +1,29 @@
 -- What the private calls of a best region ask and promise together.
-use Rattle.std.specs.Prelude.{◌≡◌, ℕ, ◌+◌, ◌≤◌, ◌<◌, ◌%◌, List, [], All, IfErr, IfOk, IsErrOf, OnErr, Result, length, map, take}
+use Rattle.std.specs.Prelude.{◌≡◌, ℕ, ◌+◌, ◌-◌, ◌≤◌, ◌<◌, ◌%◌, List, [], ◌∷◌, ◌++◌, All, IfErr, IfOk, IfSome, IsErrOf, OnErr, Result, Some, false, filter, length, map, take}
 use Rattle.vc_base.specs.declared.addr.Addr.{Addr}
-use Rattle.vc_model.specs.Best.{best_alloc}
+use Rattle.vc_model.specs.Addr.{place_of}
+use Rattle.vc_model.specs.Best.{best_alloc, place_in, without_block_at}
+use Rattle.vc_model.specs.Compact.{is_occupied}
 use Rattle.vc_model.specs.Discipline.{IsSegmentSize, Terms}
 use Rattle.vc_model.specs.Layout.{Layout}
 use Rattle.vc_model.specs.Place.{IsAlign}
-use Rattle.vc_model.specs.Segments.{segment_limit, span}
-use Rattle.vc_model.specs.Touch.{HasBlock}
+use Rattle.vc_model.specs.Segments.{Granted, ask, segment_limit, span}
+use Rattle.vc_model.specs.Touch.{HasBlock, find_block, with_bytes_at}
 use Rattle.vc_seg.specs.Answer.{Answers}
 use Rattle.vc_seg.specs.Segment.{Bytes, pair_of}
 use Rattle.vc_seg.specs.declared.fault.RegionFault.{RegionFault}
 use Rattle.vc_seg.specs.declared.fault.RegionFault.TheVariants as code
 use Rattle.vc_segments.specs.Lend.{IsNoGrant}
-use Rattle.vc_layouts.specs.Put.{IsPutInNew}
-use Rattle.vc_extent.specs.Tiling.{IsBusy, change_extent, extent_of, tiling}
+use Rattle.vc_layouts.specs.Put.{IsPutInNew, with_zeros}
+use Rattle.vc_extent.specs.Extent.{free_extent, no_links}
+use Rattle.vc_extent.specs.Tiling.{IsBusy, IsFree, IsThere, change_extent, extent_of, tiling}
 use Rattle.vc_gaps.specs.ButLinks.{Tiling}
 use Rattle.vc_gaps.specs.GapTree.{HasGaps}
 use Rattle.vc_best.specs.Ask.{AsksForSegment}
 use Rattle.vc_best.specs.Blocks.{layout_by}
 use Rattle.vc_best.specs.Changes.{move_border}
 use Rattle.vc_best.specs.Free.{IsMerged, room_of}
+use Rattle.vc_best.specs.Kept.{stays_but}
 
 -- no two free extents stand beside each other, and the tree with this root has each of them
 pub record AreKept (segs : List Bytes) (root : ℕ) : Type 0 where
@@ -28,8 +32,7 @@ pub record AreKept (segs : List Bytes) (root : ℕ) : Type 0 where
 
 -- besides, no block has more bytes than a block can have
 pub record AreWhole (segs : List Bytes) (root : ℕ) : Type 0 where
-  pub merged : IsMerged (tiling segs)
-  pub gaps : HasGaps (tiling segs) root []
+  pub kept : AreKept segs root
   pub sizes : All (λ b. b.size ≤ 16777264) (layout_by segs).blocks
 
 -- a size and an alignment that a block can have
@@ -37,6 +40,31 @@ pub record AreAllowed (size align : ℕ) : Type 0 where
   pub some : 1 ≤ size
   pub most : size ≤ 16777264
   pub aligned : IsAlign align
+
+-- a segment of that many bytes is lent under the least number that none of these has, and stands behind them as one free
+-- extent
+pub record IsLentFree (old new : List Bytes) (number bytes : ℕ) : Type 0 where
+  pub granted : ask bytes (map pair_of old) false ≡ Granted number bytes
+  pub extents : tiling new ≡ tiling old ++ (number, free_extent 32 (bytes - 32) no_links ∷ []) ∷ []
+  pub pairs : map pair_of new ≡ map pair_of old ++ (number, bytes) ∷ []
+  pub first : 1 ≤ number
+  pub last : number ≤ 1023
+  pub fresh : ¬ IsThere number old
+
+-- a free extent has room for a block of that size at that offset of its segment
+pub record CanPutBlock (t : Tiling) (a off size : ℕ) : Type 0 where
+  pub free : IsFree t a
+  pub some : 1 ≤ size
+  pub most : size ≤ 16777264
+  pub first : (place_of a).1 ≤ off
+  pub multiple : off % 32 ≡ 0
+  pub fits : off + span size ≤ (place_of a).1 + (extent_of t a).span
+
+-- a block of zeros is put where the least gap that holds it has it, at an address that no block has
+pub record IsPutInGap (old new : Layout ℕ) (tag size align a : ℕ) : Type 0 where
+  pub place : place_in old size align ≡ Some (place_of a)
+  pub layout : new ≡ with_zeros old tag size (place_of a)
+  pub fresh : ¬ HasBlock old.blocks a
 
 -- a new segment of that many bytes has room for a block of that size at that offset
 pub record HasRoomAt (bytes off size : ℕ) : Type 0 where
@@ -63,6 +91,17 @@ pub record IsPutByAsking (terms : Terms) (result : Result Addr RegionFault) (old
   pub err : OnErr result (new ≡ old)
   pub no_memory : IsErrOf result code.OutOfMemory → AsksForSegment old size align
   pub fresh : IfOk result (λ a. ¬ HasBlock old.blocks a.0)
+
+-- up to that many of the first bytes of a block are put into the front of another, and the block is gone
+pub record IsMovedInto (old new : Layout ℕ) (a to size : ℕ) : Type 0 where
+  pub moved : IfSome (find_block (place_of a) old.blocks) (λ b. new ≡ without_block_at (with_bytes_at old (place_of to) 0 (take size b.bytes)) (place_of a))
+  pub count : length new.blocks + 1 ≡ length old.blocks
+
+-- the segment of a number is gone, where there is one and no block is in it; that many were given back
+pub record IsGivenBack (old new : List Bytes) (number given : ℕ) : Type 0 where
+  pub segments : map pair_of new ≡ filter (stays_but (is_occupied (layout_by old).blocks) number) (map pair_of old)
+  pub blocks : (layout_by new).blocks ≡ (layout_by old).blocks
+  pub count : given + length (map pair_of new) ≡ length (map pair_of old)
 
 -- a busy extent can have another size where it is
 pub record CanResizeThere (t : Tiling) (a size : ℕ) : Type 0 where

@@ -3,8 +3,9 @@ ghost use Rattle.vc_model.specs.Addr.{address, place_of};
 ghost use Rattle.vc_model.specs.Segments.{span};
 ghost use Rattle.vc_seg.specs.Segment.{pair_of};
 ghost use Rattle.vc_extent.specs.Tiling.{IsFree, change_extent, extent_of, tiling};
-ghost use Rattle.vc_best.specs.Beside.{GapsChange, part_name};
+ghost use Rattle.vc_best.specs.Beside.{GapsChange, part_before, part_from};
 ghost use Rattle.vc_best.specs.Changes.{carve, cut_back, cut_front, lay_zeros};
+ghost use Rattle.vc_best.specs.Standing.{CanPutBlock};
 
 use vc_base::{Addr, Steps};
 use vc_extent::Extents;
@@ -21,7 +22,7 @@ fn cut_front(extents: &mut Extents, a: Addr, off: u32) -> Addr
     ensures pairs { map pair_of extents.new.segs.items ≡ map pair_of extents.old.segs.items }
     ensures value { result.0 ≡ address ((place_of a.0).0, off) }
     ensures gaps { GapsChange (tiling extents.old.segs.items) (tiling extents.new.segs.items)
-        (a.0 ∷ []) (result.0 ∷ part_name (place_of a.0).0 (place_of a.0).1 off) }
+        (a.0 ∷ []) (result.0 ∷ part_before a.0 off) }
 {
     if a.off() < off {
         extents.split(a, off - a.off())
@@ -39,8 +40,7 @@ fn cut_back<L>(extents: &mut Extents, a: Addr, bytes: u32, steps: &mut Steps<L>)
         ≡ change_extent a.0 (cut_back bytes) (tiling extents.old.segs.items) }
     ensures pairs { map pair_of extents.new.segs.items ≡ map pair_of extents.old.segs.items }
     ensures gaps { GapsChange (tiling extents.old.segs.items) (tiling extents.new.segs.items)
-        (a.0 ∷ []) (a.0 ∷ part_name (place_of a.0).0 ((place_of a.0).1 + bytes)
-        ((place_of a.0).1 + (extent_of (tiling extents.old.segs.items) a.0).span)) }
+        (a.0 ∷ []) (a.0 ∷ part_from (tiling extents.old.segs.items) a.0 ((place_of a.0).1 + bytes)) }
 {
     if bytes < extents.span_at(a, steps) {
         extents.split(a, bytes);
@@ -72,21 +72,14 @@ pub(crate) fn put_zeros<L>(
     tag: u32,
     steps: &mut Steps<L>,
 ) -> Addr
-    requires free { IsFree (tiling extents.old.segs.items) a.0 }
-    requires some { 1 ≤ size }
-    requires most { size ≤ 16777264 }
-    requires first { (place_of a.0).1 ≤ off }
-    requires multiple { off % 32 ≡ 0 }
-    requires fits { off + span size
-        ≤ (place_of a.0).1 + (extent_of (tiling extents.old.segs.items) a.0).span }
+    requires { CanPutBlock (tiling extents.old.segs.items) a.0 off size }
     ensures tiling { tiling extents.new.segs.items
         ≡ change_extent a.0 (carve off size tag) (tiling extents.old.segs.items) }
     ensures pairs { map pair_of extents.new.segs.items ≡ map pair_of extents.old.segs.items }
     ensures value { result.0 ≡ address ((place_of a.0).0, off) }
     ensures gaps { GapsChange (tiling extents.old.segs.items) (tiling extents.new.segs.items)
-        (a.0 ∷ []) (part_name (place_of a.0).0 (place_of a.0).1 off
-        ++ part_name (place_of a.0).0 (off + span size)
-        ((place_of a.0).1 + (extent_of (tiling extents.old.segs.items) a.0).span)) }
+        (a.0 ∷ []) (part_before a.0 off
+        ++ part_from (tiling extents.old.segs.items) a.0 (off + span size)) }
 {
     let to = cut_front(extents, a, off);
     cut_back(extents, to, span_of(size), steps);

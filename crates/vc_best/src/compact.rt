@@ -1,15 +1,13 @@
-ghost use Rattle.std.specs.Prelude.{◌≡◌, ℕ, ◌+◌, ◌↔◌, [], IsTrue, filter, length, map};
-ghost use Rattle.vc_model.specs.Compact.{cleared, compact_count, compacted, is_occupied};
+ghost use Rattle.std.specs.Prelude.{◌≡◌, ℕ, ◌+◌, ◌↔◌, [], IsTrue, length, map};
+ghost use Rattle.vc_model.specs.Compact.{cleared, compact_count, compacted};
 ghost use Rattle.vc_model.specs.Discipline.{HasOut, TookBack};
 ghost use Rattle.vc_seg.specs.Segment.{pair_of};
 ghost use Rattle.vc_extent.specs.Change.{IsOneFree, one_free};
 ghost use Rattle.vc_extent.specs.Tiling.{IsThere, change_in, extents_of, tiling};
 ghost use Rattle.vc_gaps.specs.ButLinks.{plain};
-ghost use Rattle.vc_gaps.specs.GapTree.{HasGaps};
 ghost use Rattle.vc_best.specs.Beside.{HasGapsBelow};
 ghost use Rattle.vc_best.specs.Blocks.{layout_by};
-ghost use Rattle.vc_best.specs.Free.{IsMerged};
-ghost use Rattle.vc_best.specs.Kept.{stays_but};
+ghost use Rattle.vc_best.specs.Standing.{AreKept, IsGivenBack};
 
 use vc_base::{Addr, Steps};
 use vc_extent::Extents;
@@ -33,18 +31,10 @@ fn give_back_one(
     disc: &mut Box<dyn SegDisc>,
     number: u32,
 ) -> u32
-    requires merged { IsMerged (tiling extents.old.segs.items) }
-    requires gaps { HasGaps (tiling extents.old.segs.items) root.old.0 [] }
+    requires kept { AreKept extents.old.segs.items root.old.0 }
     requires out { HasOut (state disc.old) (map pair_of extents.old.segs.items) }
-    ensures segments { map pair_of extents.new.segs.items
-        ≡ filter (stays_but (is_occupied (layout_by extents.old.segs.items).blocks) number)
-        (map pair_of extents.old.segs.items) }
-    ensures blocks { (layout_by extents.new.segs.items).blocks
-        ≡ (layout_by extents.old.segs.items).blocks }
-    ensures merged { IsMerged (tiling extents.new.segs.items) }
-    ensures gaps { HasGaps (tiling extents.new.segs.items) root.new.0 [] }
-    ensures count { result + length (map pair_of extents.new.segs.items)
-        ≡ length (map pair_of extents.old.segs.items) }
+    ensures given { IsGivenBack extents.old.segs.items extents.new.segs.items number result }
+    ensures kept { AreKept extents.new.segs.items root.new.0 }
     ensures disc { TookBack (state disc.old) (state disc.new)
         (map pair_of extents.old.segs.items) (map pair_of extents.new.segs.items) }
 {
@@ -63,13 +53,11 @@ fn give_back_one(
 
 /// The discipline takes back each segment without a block, in ascending order of number, and they are counted.
 pub(crate) fn compact(extents: &mut Extents, root: &mut Addr, disc: &mut Box<dyn SegDisc>) -> u32
-    requires merged { IsMerged (tiling extents.old.segs.items) }
-    requires gaps { HasGaps (tiling extents.old.segs.items) root.old.0 [] }
+    requires kept { AreKept extents.old.segs.items root.old.0 }
     requires out { HasOut (state disc.old) (map pair_of extents.old.segs.items) }
     ensures layout { layout_by extents.new.segs.items
         ≡ compacted (layout_by extents.old.segs.items) }
-    ensures merged { IsMerged (tiling extents.new.segs.items) }
-    ensures gaps { HasGaps (tiling extents.new.segs.items) root.new.0 [] }
+    ensures kept { AreKept extents.new.segs.items root.new.0 }
     ensures count { result ≡ compact_count (layout_by extents.old.segs.items) }
     ensures disc { TookBack (state disc.old) (state disc.new)
         (map pair_of extents.old.segs.items) (map pair_of extents.new.segs.items) }
@@ -99,8 +87,7 @@ fn clear_one<L>(extents: &mut Extents, root: &mut Addr, number: u32, steps: &mut
 /// Makes each segment one free extent.
 pub(crate) fn clear<L>(extents: &mut Extents, root: &mut Addr, steps: &mut Steps<L>)
     ensures layout { layout_by extents.new.segs.items ≡ cleared (layout_by extents.old.segs.items) }
-    ensures merged { IsMerged (tiling extents.new.segs.items) }
-    ensures gaps { HasGaps (tiling extents.new.segs.items) root.new.0 [] }
+    ensures kept { AreKept extents.new.segs.items root.new.0 }
 {
     *root = Addr::NONE;
     for number in 1..1024 {

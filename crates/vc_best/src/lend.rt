@@ -1,14 +1,11 @@
-ghost use Rattle.std.specs.Prelude.{◌≡◌, ◌-◌, ◌<◌, ◌≤◌, ◌%◌, ◌∷◌, [], ◌++◌, false, IfOk, IfErr, IsErrOf, None, OnErr, length, map};
+ghost use Rattle.std.specs.Prelude.{◌≡◌, ◌<◌, ◌%◌, IfOk, IfErr, IsErrOf, None, OnErr, length, map};
 ghost use Rattle.vc_model.specs.Best.{best_need, place_in};
 ghost use Rattle.vc_model.specs.Discipline.{IsSegmentSize};
-ghost use Rattle.vc_model.specs.Segments.{Granted, ask};
 ghost use Rattle.vc_seg.specs.Answer.{Asks};
 ghost use Rattle.vc_seg.specs.Segment.{pair_of};
 ghost use Rattle.vc_segments.specs.Lend.{IsAsked, IsNoGrant};
-ghost use Rattle.vc_extent.specs.Extent.{free_extent, no_links};
-ghost use Rattle.vc_extent.specs.Tiling.{IsThere, tiling};
 ghost use Rattle.vc_best.specs.Blocks.{layout_by};
-ghost use Rattle.vc_best.specs.Standing.{AreAllowed, AreKept, AreWhole, HasRoomAt, IsPutByAsking, IsPutInLent};
+ghost use Rattle.vc_best.specs.Standing.{AreAllowed, AreKept, AreWhole, HasRoomAt, IsLentFree, IsPutByAsking, IsPutInLent};
 
 use crate::tree::put_block;
 use std::alloc::Global;
@@ -28,15 +25,8 @@ fn lend_next(
     requires bytes { IsSegmentSize bytes }
     requires multiple { bytes % (state disc.old).terms.round ≡ 0 }
 
-    ensures granted { IfOk result (λ n. ask bytes (map pair_of extents.old.segs.items) false
-        ≡ Granted n bytes) }
-    ensures tiling { IfOk result (λ n. tiling extents.new.segs.items
-        ≡ tiling extents.old.segs.items ++ (n, free_extent 32 (bytes - 32) no_links ∷ []) ∷ []) }
-    ensures pairs { IfOk result (λ n. map pair_of extents.new.segs.items
-        ≡ map pair_of extents.old.segs.items ++ (n, bytes) ∷ []) }
-    ensures number { IfOk result (λ n. (1 ≤ n) × (n ≤ 1023)) }
-    ensures fresh { IfOk result (λ n. ¬ IsThere n extents.old.segs.items) }
-
+    ensures lent { IfOk result
+        (λ n. IsLentFree extents.old.segs.items extents.new.segs.items n bytes) }
     ensures fault { IfErr result (IsNoGrant bytes (map pair_of extents.old.segs.items)) }
     ensures no_memory { IsErrOf result RegionFault.OutOfMemory
         → length extents.old.segs.items < 1023 }
@@ -94,14 +84,14 @@ pub(crate) fn put_in_new<L>(
     steps: &mut Steps<L>,
 ) -> Result<Addr, RegionFault>
     requires allowed { AreAllowed size align }
-    requires kept { AreWhole extents.old.segs.items root.old.0 }
+    requires whole { AreWhole extents.old.segs.items root.old.0 }
     requires none { place_in (layout_by extents.old.segs.items) size align ≡ None }
     ensures put { IsPutByAsking (state disc.old).terms result (layout_by extents.old.segs.items)
         (layout_by extents.new.segs.items) tag size align }
     ensures disc { Asks result (state disc.old) (state disc.new)
         (layout_by extents.old.segs.items).segments (layout_by extents.new.segs.items).segments
         (best_need (state disc.old).terms size align) }
-    ensures kept { AreWhole extents.new.segs.items root.new.0 }
+    ensures whole { AreWhole extents.new.segs.items root.new.0 }
 {
     let bytes = rounded_up(span_of(size) + align, round_of(disc));
     put_in_lent(extents, root, disc, alloc, bytes, align, size, tag, steps)

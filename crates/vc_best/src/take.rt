@@ -1,11 +1,7 @@
-ghost use Rattle.std.specs.Prelude.{◌≡◌, ◌≤◌, ◌≢◌, ◌+◌, [], All, IfSome, length, take};
-ghost use Rattle.vc_model.specs.Addr.{place_of};
-ghost use Rattle.vc_model.specs.Best.{without_block_at};
-ghost use Rattle.vc_model.specs.Touch.{find_block, with_bytes_at};
+ghost use Rattle.std.specs.Prelude.{◌≤◌};
 ghost use Rattle.vc_extent.specs.Tiling.{IsBusy, extent_of, tiling};
-ghost use Rattle.vc_gaps.specs.GapTree.{HasGaps};
 ghost use Rattle.vc_best.specs.Blocks.{layout_by};
-ghost use Rattle.vc_best.specs.Free.{IsMerged};
+ghost use Rattle.vc_best.specs.Standing.{AreKept, AreWhole, IsMovedInto};
 
 use crate::tree::free_block;
 use vc_base::{Addr, Steps};
@@ -23,17 +19,10 @@ pub(crate) fn take_over<L>(
     requires busy { IsBusy (tiling extents.old.segs.items) a.0 }
     requires to { IsBusy (tiling extents.old.segs.items) to.0 }
     requires room { size ≤ (extent_of (tiling extents.old.segs.items) to.0).size }
-    requires merged { IsMerged (tiling extents.old.segs.items) }
-    requires gaps { HasGaps (tiling extents.old.segs.items) root.old.0 [] }
-    requires sizes { All (λ b. b.size ≤ 16777264) (layout_by extents.old.segs.items).blocks }
-    ensures moved { IfSome (find_block (place_of a.0) (layout_by extents.old.segs.items).blocks)
-        (λ b. layout_by extents.new.segs.items ≡ without_block_at
-        (with_bytes_at (layout_by extents.old.segs.items) (place_of to.0) 0 (take size b.bytes))
-        (place_of a.0)) }
-    ensures count { length (layout_by extents.new.segs.items).blocks + 1
-        ≡ length (layout_by extents.old.segs.items).blocks }
-    ensures merged { IsMerged (tiling extents.new.segs.items) }
-    ensures gaps { HasGaps (tiling extents.new.segs.items) root.new.0 [] }
+    requires whole { AreWhole extents.old.segs.items root.old.0 }
+    ensures moved { IsMovedInto (layout_by extents.old.segs.items) (layout_by extents.new.segs.items)
+        a.0 to.0 size }
+    ensures kept { AreKept extents.new.segs.items root.new.0 }
 {
     let own = extents.size_at(a);
     let len = if own < size { own } else { size };

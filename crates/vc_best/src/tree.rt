@@ -1,19 +1,19 @@
-ghost use Rattle.std.specs.Prelude.{◌≡◌, ◌≢◌, ℕ, ◌+◌, ◌≤◌, ◌<◌, ◌%◌, List, [], ◌∷◌, ◌++◌, All, Some, filter, false};
+ghost use Rattle.std.specs.Prelude.{◌≡◌, ◌≢◌, ℕ, ◌+◌, ◌≤◌, ◌<◌, ◌%◌, List, [], ◌∷◌, ◌++◌, Some, filter, false};
 ghost use Rattle.vc_base.specs.Holders.{contains};
 ghost use Rattle.vc_model.specs.Addr.{address, place_of};
-ghost use Rattle.vc_model.specs.Best.{place_in, without_block_at};
-ghost use Rattle.vc_model.specs.Place.{IsAlign, holds, least};
+ghost use Rattle.vc_model.specs.Best.{without_block_at};
+ghost use Rattle.vc_model.specs.Place.{holds, least};
 ghost use Rattle.vc_model.specs.Resize.{resize_there};
 ghost use Rattle.vc_model.specs.Segments.{span};
-ghost use Rattle.vc_model.specs.Touch.{HasBlock};
 ghost use Rattle.vc_layouts.specs.Put.{with_zeros};
-ghost use Rattle.vc_extent.specs.Tiling.{IsBusy, IsFree, IsNamed, extent_of, tiling};
+ghost use Rattle.vc_extent.specs.Tiling.{IsBusy, IsNamed, tiling};
 ghost use Rattle.vc_gaps.specs.ButLinks.{StaysButLinks};
 ghost use Rattle.vc_gaps.specs.Fits.{free_runs, run_at};
 ghost use Rattle.vc_gaps.specs.GapTree.{CanLinkGap, HasGaps};
 ghost use Rattle.vc_best.specs.Beside.{free_before, free_next, part_name};
 ghost use Rattle.vc_best.specs.Blocks.{layout_by};
 ghost use Rattle.vc_best.specs.Free.{IsMerged, room_of};
+ghost use Rattle.vc_best.specs.Standing.{AreAllowed, AreKept, AreWhole, CanPutBlock, IsPutInGap};
 
 use crate::carve::put_zeros;
 use crate::release::release;
@@ -111,20 +111,13 @@ pub(crate) fn put_block<L>(
     tag: u32,
     steps: &mut Steps<L>,
 ) -> Addr
-    requires free { IsFree (tiling extents.old.segs.items) a.0 }
-    requires some { 1 ≤ size }
-    requires most { size ≤ 16777264 }
-    requires first { (place_of a.0).1 ≤ off }
-    requires multiple { off % 32 ≡ 0 }
-    requires fits { off + span size
-        ≤ (place_of a.0).1 + (extent_of (tiling extents.old.segs.items) a.0).span }
+    requires room { CanPutBlock (tiling extents.old.segs.items) a.0 off size }
     requires merged { IsMerged (tiling extents.old.segs.items) }
     requires gaps { HasGaps (tiling extents.old.segs.items) root.old.0 (a.0 ∷ []) }
     ensures layout { layout_by extents.new.segs.items
         ≡ with_zeros (layout_by extents.old.segs.items) tag size ((place_of a.0).0, off) }
-    ensures merged { IsMerged (tiling extents.new.segs.items) }
     ensures value { result.0 ≡ address ((place_of a.0).0, off) }
-    ensures gaps { HasGaps (tiling extents.new.segs.items) root.new.0 [] }
+    ensures kept { AreKept extents.new.segs.items root.new.0 }
 {
     let start = a.off();
     let end = start + extents.span_at(a, steps);
@@ -145,22 +138,13 @@ pub(crate) fn put_in_gap<L>(
     tag: u32,
     steps: &mut Steps<L>,
 ) -> Addr
-    requires some { 1 ≤ size }
-    requires most { size ≤ 16777264 }
-    requires align { IsAlign align }
+    requires allowed { AreAllowed size align }
     requires best { Some (run_at (tiling extents.old.segs.items) a.0)
         ≡ least (filter (holds (span size) align) (free_runs (tiling extents.old.segs.items))) }
-    requires merged { IsMerged (tiling extents.old.segs.items) }
-    requires sizes { All (λ b. b.size ≤ 16777264) (layout_by extents.old.segs.items).blocks }
-    requires gaps { HasGaps (tiling extents.old.segs.items) root.old.0 [] }
-    ensures place { place_in (layout_by extents.old.segs.items) size align
-        ≡ Some (place_of result.0) }
-    ensures layout { layout_by extents.new.segs.items
-        ≡ with_zeros (layout_by extents.old.segs.items) tag size (place_of result.0) }
-    ensures fresh { ¬ HasBlock (layout_by extents.old.segs.items).blocks result.0 }
-    ensures merged { IsMerged (tiling extents.new.segs.items) }
-    ensures sizes { All (λ b. b.size ≤ 16777264) (layout_by extents.new.segs.items).blocks }
-    ensures gaps { HasGaps (tiling extents.new.segs.items) root.new.0 [] }
+    requires whole { AreWhole extents.old.segs.items root.old.0 }
+    ensures put { IsPutInGap (layout_by extents.old.segs.items) (layout_by extents.new.segs.items)
+        tag size align result.0 }
+    ensures whole { AreWhole extents.new.segs.items root.new.0 }
 {
     *root = unlink_gap(extents, *root, a);
     let off = rounded_up(a.off(), align);
@@ -170,12 +154,10 @@ pub(crate) fn put_in_gap<L>(
 /// Frees the block at an address. The free extent that it then is, or is part of, is in the tree.
 pub(crate) fn free_block<L>(extents: &mut Extents, root: &mut Addr, a: Addr, steps: &mut Steps<L>)
     requires busy { IsBusy (tiling extents.old.segs.items) a.0 }
-    requires merged { IsMerged (tiling extents.old.segs.items) }
-    requires gaps { HasGaps (tiling extents.old.segs.items) root.old.0 [] }
+    requires kept { AreKept extents.old.segs.items root.old.0 }
     ensures layout { layout_by extents.new.segs.items
         ≡ without_block_at (layout_by extents.old.segs.items) (place_of a.0) }
-    ensures merged { IsMerged (tiling extents.new.segs.items) }
-    ensures gaps { HasGaps (tiling extents.new.segs.items) root.new.0 [] }
+    ensures kept { AreKept extents.new.segs.items root.new.0 }
 {
     unlink_next(extents, root, a);
     unlink_before(extents, root, a);
@@ -192,15 +174,13 @@ pub(crate) fn resize_block<L>(
     steps: &mut Steps<L>,
 )
     requires busy { IsBusy (tiling extents.old.segs.items) a.0 }
-    requires merged { IsMerged (tiling extents.old.segs.items) }
     requires some { 1 ≤ size }
     requires most { size ≤ 16777264 }
     requires room { span size ≤ room_of (tiling extents.old.segs.items) a.0 }
-    requires gaps { HasGaps (tiling extents.old.segs.items) root.old.0 [] }
+    requires kept { AreKept extents.old.segs.items root.old.0 }
     ensures layout { layout_by extents.new.segs.items
         ≡ resize_there (layout_by extents.old.segs.items) (place_of a.0) size }
-    ensures merged { IsMerged (tiling extents.new.segs.items) }
-    ensures gaps { HasGaps (tiling extents.new.segs.items) root.new.0 [] }
+    ensures kept { AreKept extents.new.segs.items root.new.0 }
 {
     if span_of(size) == extents.span_at(a, steps) {
         resize_there(extents, a, size, steps);

@@ -39,10 +39,10 @@ all g c =
 pub returns-clause-layout : goal.returns-clause-layout
 returns-clause-layout g c = layout-cleared c.args.extents.now.segs.items c.loop-number.extents.segs.items c.loop-number.invariant.pairs (all g (goal.at.returns-clause-layout g c).After-loop-number)
 
-pub returns-clause-merged : goal.returns-clause-merged
-returns-clause-merged g c = free-merged (tiling c.loop-number.extents.segs.items) (all g (goal.at.returns-clause-merged g c).After-loop-number)
-
-pub returns-clause-gaps : goal.returns-clause-gaps
-returns-clause-gaps g c =
+pub returns-clause-kept : goal.returns-clause-kept
+returns-clause-kept g c =
     let e = c.loop-number.extents in
-    below-last e.segs.items e.index.items e.kept c.loop-number.number c.loop-number.root.0 c.loop-number-test.false c.loop-number.invariant.gaps
+    record {
+      merged = free-merged (tiling e.segs.items) (all g (goal.at.returns-clause-kept g c).After-loop-number);
+      gaps = below-last e.segs.items e.index.items e.kept c.loop-number.number c.loop-number.root.0 c.loop-number-test.false c.loop-number.invariant.gaps;
+    }

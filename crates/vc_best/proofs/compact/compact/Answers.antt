@@ -16,17 +16,13 @@ loop-number-init g c =
     record {
       segments = sym (stays_from-first (is_occupied (layout_by c.args.extents.now.segs.items).blocks) (map pair_of c.args.extents.now.segs.items) (∥∥₁_elim c.args.extents.now.kept (hlevel (le_prop)) (λ k. pairs-first c.args.extents.now.segs.items k.segments)));
       blocks = refl;
-      merged = c.requires.merged;
-      gaps = c.requires.gaps;
+      kept = c.requires.kept;
       count = omega arith;
       back = TookBack-none _ (map pair_of c.args.extents.now.segs.items);
     }
 
-pub give_back_one-count-requires-clause-merged : goal.give_back_one-count-requires-clause-merged
-give_back_one-count-requires-clause-merged g c = c.loop-number.invariant.merged
-
-pub give_back_one-count-requires-clause-gaps : goal.give_back_one-count-requires-clause-gaps
-give_back_one-count-requires-clause-gaps g c = c.loop-number.invariant.gaps
+pub give_back_one-count-requires-clause-kept : goal.give_back_one-count-requires-clause-kept
+give_back_one-count-requires-clause-kept g c = c.loop-number.invariant.kept
 
 pub give_back_one-count-requires-clause-out : goal.give_back_one-count-requires-clause-out
 give_back_one-count-requires-clause-out g c = HasOut-left _ _ (map pair_of c.args.extents.now.segs.items) (map pair_of c.loop-number.extents.segs.items) c.loop-number.invariant.back c.requires.out
@@ -36,16 +32,15 @@ loop-number-preserved g c =
     let keeps = (is_occupied (layout_by c.args.extents.now.segs.items).blocks) in
     let i = c.loop-number.invariant in
     let old = i.count in
-    let more = c.give_back_one-count.ensures.count in
+    let more = c.give_back_one-count.ensures.given.count in
     record {
       segments =
-          c.give_back_one-count.ensures.segments
+          c.give_back_one-count.ensures.given.segments
           ∙ (ap (λ (bs : List (Block ℕ)). filter (stays_but (is_occupied bs) c.loop-number.number) (map pair_of c.loop-number.extents.segs.items)) i.blocks
           ∙ (ap (filter (stays_but keeps c.loop-number.number)) i.segments
           ∙ stays_from-more keeps c.loop-number.number (map pair_of c.args.extents.now.segs.items)));
-      blocks = c.give_back_one-count.ensures.blocks ∙ i.blocks;
-      merged = c.give_back_one-count.ensures.merged;
-      gaps = c.give_back_one-count.ensures.gaps;
+      blocks = c.give_back_one-count.ensures.given.blocks ∙ i.blocks;
+      kept = c.give_back_one-count.ensures.kept;
       count = omega arith;
       back = TookBack-more _ _ _ (map pair_of c.args.extents.now.segs.items) (map pair_of c.loop-number.extents.segs.items) (map pair_of c.give_back_one-count.new.extents.segs.items) i.back c.give_back_one-count.ensures.disc;
     }
@@ -69,5 +64,5 @@ returns-clause-count g c =
     let count = i.count in
     omega arith
 
-pub returns-clause-gaps : goal.returns-clause-gaps
-returns-clause-gaps g c = c.loop-number.invariant.gaps
+pub returns-clause-kept : goal.returns-clause-kept
+returns-clause-kept g c = c.loop-number.invariant.kept

@@ -1,12 +1,10 @@
-use Rattle.std.proofs.Common.{◌≡◌, ◌+◌, [], filter, length, map}
+use Rattle.std.proofs.Common.{◌≡◌, ◌+◌, filter, length, map}
 use Rattle.vc_model.specs.Compact.{is_occupied}
 use Rattle.vc_model.specs.Discipline.{TookBack}
 use Rattle.vc_seg.specs.Segment.{pair_of}
-use Rattle.vc_extent.specs.Tiling.{tiling}
-use Rattle.vc_gaps.specs.GapTree.{HasGaps}
 use Rattle.vc_best.specs.Blocks.{layout_by}
-use Rattle.vc_best.specs.Free.{IsMerged}
 use Rattle.vc_best.specs.Kept.{stays_from}
+use Rattle.vc_best.specs.Standing.{AreKept}
 use Rattle.vc_best.proofs.compact.compact.Given as goal
 
 -- of those below the number, the segments without a block are back
@@ -15,8 +13,7 @@ invariant-loop-number g l =
     record {
       segments : map pair_of l.extents.segs.items ≡ filter (stays_from (is_occupied (layout_by l.initial.extents.segs.items).blocks) l.number) (map pair_of l.initial.extents.segs.items);
       blocks : (layout_by l.extents.segs.items).blocks ≡ (layout_by l.initial.extents.segs.items).blocks;
-      merged : IsMerged (tiling l.extents.segs.items);
-      gaps : HasGaps (tiling l.extents.segs.items) l.root.0 [];
+      kept : AreKept l.extents.segs.items l.root.0;
       count : l.count + length (map pair_of l.extents.segs.items) ≡ length (map pair_of l.initial.extents.segs.items);
       back : TookBack ((goal.SegDisc-dyn g (l.initial.disc.vtable, l.initial.disc.value)).state l.initial.disc.value) ((goal.SegDisc-dyn g (l.disc.vtable, l.disc.value)).state l.disc.value) (map pair_of l.initial.extents.segs.items) (map pair_of l.extents.segs.items);
     }

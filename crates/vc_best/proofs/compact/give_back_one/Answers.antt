@@ -1,4 +1,4 @@
-use Rattle.std.proofs.Common.{◌≡◌, ℕ, List, [], ◌∷◌, ◌++◌, true, false, filter, length, not, map, IsSome, eqb, refl, ap, sym, subst, ◌∙◌}
+use Rattle.std.proofs.Common.{◌≡◌, ℕ, List, [], ◌∷◌, ◌++◌, true, false, filter, length, not, map, IsSome, eqb, refl, ap, sym, subst, ◌∙◌, arith}
 use Rattle.std.proofs.Math.Nat.{ℕ_set}
 use Rattle.std.proofs.Math.Logic.{∥∥₁_elim}
 use Rattle.std.proofs.lemmas.List.Elements.{All-filter}
@@ -27,19 +27,30 @@ use Rattle.vc_best.proofs.compact.give_back_one.Given.{Over}
 use Rattle.vc_best.proofs.compact.give_back_one.Goals as goal
 use Rattle.vc_best.proofs.compact.give_back_one.Goals.{After-first-first, After-unlink_gap}
 
-pub returns-then-is_none-clause-segments : goal.returns-then-is_none-clause-segments
-returns-then-is_none-clause-segments g c =
-    sym (stays-none (is_occupied (layout_by c.args.extents.now.segs.items).blocks) c.args.number (map pair_of c.args.extents.now.segs.items) (sym c.has.ensures ∙ none-of c.has.result c.is_none.result c.is_none.ensures c.if-is_none.true))
+pub returns-then-is_none-clause-given : goal.returns-then-is_none-clause-given
+returns-then-is_none-clause-given g c =
+    let segs = c.args.extents.now.segs.items in
+    record {
+      segments = sym (stays-none (is_occupied (layout_by segs).blocks) c.args.number (map pair_of segs) (sym c.has.ensures ∙ none-of c.has.result c.is_none.result c.is_none.ensures c.if-is_none.true));
+      blocks = refl;
+      count = omega arith;
+    }
 
 pub is_one_free-requires : goal.is_one_free-requires
 is_one_free-requires g c = subst IsSome c.has.ensures (some-of c.has.result c.is_none.result c.is_none.ensures c.if-is_none.false)
 
-pub returns-then-not-is_one_free-clause-segments : goal.returns-then-not-is_one_free-clause-segments
-returns-then-not-is_one_free-clause-segments g c =
+pub returns-then-not-is_one_free-clause-given : goal.returns-then-not-is_one_free-clause-given
+returns-then-not-is_one_free-clause-given g c =
+    let e = c.args.extents.now in
     let there = subst IsSome c.has.ensures (some-of c.has.result c.is_none.result c.is_none.ensures c.if-is_none.false) in
     let no : c.is_one_free.result ≡ false = c.if-not-is_one_free.true in
-    sym (stays-kept (is_occupied (layout_by c.args.extents.now.segs.items).blocks) c.args.number (map pair_of c.args.extents.now.segs.items)
-    (occupied c.args.extents.now.segs.items c.args.extents.now.index.items c.args.number c.args.extents.now.kept c.requires.merged there (λ h. let yes = c.is_one_free.ensures.1 h in let q : false ≡ true = sym no ∙ yes in cc)))
+    record {
+      segments =
+          sym (stays-kept (is_occupied (layout_by e.segs.items).blocks) c.args.number (map pair_of e.segs.items)
+          (occupied e.segs.items e.index.items c.args.number e.kept c.requires.kept.merged there (λ h. let yes = c.is_one_free.ensures.1 h in let q : false ≡ true = sym no ∙ yes in cc)));
+      blocks = refl;
+      count = omega arith;
+    }
 
 -- the segment is one free extent, and its address is at an offset of 32
 one : (g : Over) (c : After-first-first g) → IsOneFree (extents_of c.args.number (tiling c.args.extents.now.segs.items))
@@ -58,7 +69,7 @@ named g c =
 pub unlink_gap-requires : goal.unlink_gap-requires
 unlink_gap-requires g c =
     let f = (goal.at.unlink_gap-requires g c).After-first-first in
-    in-tree (tiling c.args.extents.now.segs.items) c.args.root.now.0 [] c.first-first.result.0 c.requires.gaps (named g f) (subst IsOneFree (whole g f) (one g f)).0 refl
+    in-tree (tiling c.args.extents.now.segs.items) c.args.root.now.0 [] c.first-first.result.0 c.requires.kept.gaps (named g f) (subst IsOneFree (whole g f) (one g f)).0 refl
 
 -- it is so without its node
 still : (g : Over) (c : After-unlink_gap g) → IsOneFree (extents_of c.args.number (tiling c.unlink_gap.new.extents.segs.items))
@@ -75,46 +86,44 @@ take_back-requires g c =
     (subst (λ (ss : List (ℕ × ℕ)). HasOut ((goal.SegDisc-dyn g (c.args.disc.now.vtable, c.args.disc.now.value)).state c.args.disc.now.value) ss) (sym c.unlink_gap.ensures.rest.pairs) c.requires.out)
     (Contains-pair mid among.0 c.remove-segment.result among.1 (sym among.2))
 
-pub returns-clause-segments : goal.returns-clause-segments
-returns-clause-segments g c =
+pub returns-clause-given : goal.returns-clause-given
+returns-clause-given g c =
     let e = c.args.extents.now in
-    c.remove-segment.ensures.pairs
-    ∙ ap (filter (λ (s : ℕ × ℕ). not (eqb s.0 c.args.number))) c.unlink_gap.ensures.rest.pairs
-    ∙ stays-gone (is_occupied (layout_by e.segs.items).blocks) c.args.number (map pair_of e.segs.items)
-    (unoccupied e.segs.items e.index.items c.args.number e.kept (c.is_one_free.ensures.0 c.if-not-is_one_free.false))
-
-pub returns-clause-blocks : goal.returns-clause-blocks
-returns-clause-blocks g c =
     let m = c.unlink_gap.new.extents in
-    layout-removed m.segs.items m.index.items c.args.number m.kept c.remove-segment.new.self.segs.items (still g (goal.at.returns-clause-blocks g c).After-unlink_gap) c.remove-segment.ensures.tiling
-    ∙ ap (λ (r : Layout ℕ). r.blocks) (layout-stays c.args.extents.now.segs.items m.segs.items c.unlink_gap.ensures.rest)
+    record {
+      segments =
+          c.remove-segment.ensures.pairs
+          ∙ ap (filter (λ (s : ℕ × ℕ). not (eqb s.0 c.args.number))) c.unlink_gap.ensures.rest.pairs
+          ∙ stays-gone (is_occupied (layout_by e.segs.items).blocks) c.args.number (map pair_of e.segs.items)
+          (unoccupied e.segs.items e.index.items c.args.number e.kept (c.is_one_free.ensures.0 c.if-not-is_one_free.false));
+      blocks =
+          layout-removed m.segs.items m.index.items c.args.number m.kept c.remove-segment.new.self.segs.items (still g (goal.at.returns-clause-given g c).After-unlink_gap) c.remove-segment.ensures.tiling
+          ∙ ap (λ (r : Layout ℕ). r.blocks) (layout-stays e.segs.items m.segs.items c.unlink_gap.ensures.rest);
+      count =
+          ∥∥₁_elim m.kept (hlevel (ℕ_set)) (λ k. one-gone m.segs.items c.remove-segment.new.self.segs.items c.args.number c.remove-segment.result k.segments c.remove-segment.ensures.contains c.remove-segment.ensures.number c.remove-segment.ensures.segs)
+          ∙ ap length c.unlink_gap.ensures.rest.pairs;
+    }
 
-pub returns-clause-merged : goal.returns-clause-merged
-returns-clause-merged g c =
-    let t1 = tiling c.unlink_gap.new.extents.segs.items in
-    subst IsMerged (sym c.remove-segment.ensures.tiling)
-    (All-filter (λ (s : ℕ × List Extent). not (eqb s.0 c.args.number)) (λ (s : ℕ × List Extent). is_merged false s.1 ≡ true) t1
-    (merged-stays (tiling c.args.extents.now.segs.items) t1 c.unlink_gap.ensures.rest.extents c.requires.merged))
-
-pub returns-clause-gaps : goal.returns-clause-gaps
-returns-clause-gaps g c =
+pub returns-clause-kept : goal.returns-clause-kept
+returns-clause-kept g c =
     let e = c.args.extents.now in
     let n = c.args.number in
-    let t1 = tiling c.unlink_gap.new.extents.segs.items in
-    let o = one-first (extents_of n t1) (still g (goal.at.returns-clause-gaps g c).After-unlink_gap) in
     let m = c.unlink_gap.new.extents in
+    let t1 = tiling m.segs.items in
+    let o = one-first (extents_of n t1) (still g (goal.at.returns-clause-kept g c).After-unlink_gap) in
     let there : IsThere n e.segs.items = subst IsSome c.has.ensures (some-of c.has.result c.is_none.result c.is_none.ensures c.if-is_none.false) in
     let off : o.0.off ≡ 32 = first-off m.segs.items m.index.items n m.kept (subst (λ (ss : List (ℕ × ℕ)). IsSome (size_of n ss)) (sym c.unlink_gap.ensures.rest.pairs) there) o.0 [] o.1 in
     let first : c.first-first.result.0 ≡ address (n, 32) =
     start-address e.segs.items e.index.items n e.kept there c.first-first.result.0 c.first-first.ensures in
-    gaps-removed t1 (tiling c.remove-segment.new.self.segs.items) c.unlink_gap.result.0 n o.0 [] o.1 off c.remove-segment.ensures.tiling
-    (subst (λ (z : ℕ). HasGaps t1 c.unlink_gap.result.0 (z ∷ [])) first (c.unlink_gap.ensures.unlinked.gaps [] c.requires.gaps))
-
-pub returns-clause-count : goal.returns-clause-count
-returns-clause-count g c =
-    let m = c.unlink_gap.new.extents in
-    ∥∥₁_elim m.kept (hlevel (ℕ_set)) (λ k. one-gone m.segs.items c.remove-segment.new.self.segs.items c.args.number c.remove-segment.result k.segments c.remove-segment.ensures.contains c.remove-segment.ensures.number c.remove-segment.ensures.segs)
-    ∙ ap length c.unlink_gap.ensures.rest.pairs
+    record {
+      merged =
+          subst IsMerged (sym c.remove-segment.ensures.tiling)
+          (All-filter (λ (s : ℕ × List Extent). not (eqb s.0 n)) (λ (s : ℕ × List Extent). is_merged false s.1 ≡ true) t1
+          (merged-stays (tiling e.segs.items) t1 c.unlink_gap.ensures.rest.extents c.requires.kept.merged));
+      gaps =
+          gaps-removed t1 (tiling c.remove-segment.new.self.segs.items) c.unlink_gap.result.0 n o.0 [] o.1 off c.remove-segment.ensures.tiling
+          (subst (λ (z : ℕ). HasGaps t1 c.unlink_gap.result.0 (z ∷ [])) first (c.unlink_gap.ensures.unlinked.gaps [] c.requires.kept.gaps));
+    }
 
 pub returns-clause-disc : goal.returns-clause-disc
 returns-clause-disc g c =

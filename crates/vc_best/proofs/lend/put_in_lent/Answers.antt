@@ -20,11 +20,22 @@ use Rattle.vc_best.proofs.lend.put_in_lent.Goals as goal
 same_fault : (a b : RegionFault) → IsErrOf {T = Addr} (Err a) b → IsErrOf {T = ℕ} (Err a) b
 same_fault a b e = let s : a ≡ b = cc in let f : RegionFault → Result ℕ RegionFault = λ z. Err z in ap f s
 
-pub put_block-requires-clause-free : goal.put_block-requires-clause-free
-put_block-requires-clause-free g c = lent-free c.args.extents.now.segs.items c.lend_next.new.extents.segs.items c.in-Ok.number c.args.bytes c.new-a.result.0 c.new-a.ensures.place c.in-Ok.ensures.fresh c.requires.room.legal.least c.in-Ok.ensures.tiling c.in-Ok.ensures.pairs
-
-pub put_block-requires-clause-fits : goal.put_block-requires-clause-fits
-put_block-requires-clause-fits g c = lent-fits c.args.extents.now.segs.items c.lend_next.new.extents.segs.items c.in-Ok.number c.args.bytes c.new-a.result.0 c.new-a.ensures.place c.in-Ok.ensures.fresh c.requires.room.legal.least c.in-Ok.ensures.tiling c.in-Ok.ensures.pairs c.args.off c.args.size c.requires.room.fits
+pub put_block-requires-clause-room : goal.put_block-requires-clause-room
+put_block-requires-clause-room g c =
+    let segs = c.args.extents.now.segs.items in
+    let new = c.lend_next.new.extents.segs.items in
+    let l = c.in-Ok.ensures.lent in
+    let room = c.requires.room in
+    let start : (place_of c.new-a.result.0).1 ≡ 32 = ap (λ (p : ℕ × ℕ). p.1) c.new-a.ensures.place in
+    let first = room.first in
+    record {
+      free = lent-free segs new c.in-Ok.number c.args.bytes c.new-a.result.0 c.new-a.ensures.place l.fresh room.legal.least l.extents l.pairs;
+      some = room.some;
+      most = room.most;
+      first = omega (arith, start, first);
+      multiple = room.offset;
+      fits = lent-fits segs new c.in-Ok.number c.args.bytes c.new-a.result.0 c.new-a.ensures.place l.fresh room.legal.least l.extents l.pairs c.args.off c.args.size room.fits;
+    }
 
 pub returns-in-Ok-clause-lent : goal.returns-in-Ok-clause-lent
 returns-in-Ok-clause-lent g c =
@@ -38,9 +49,9 @@ returns-in-Ok-clause-lent g c =
     record {
       ok =
           put-in-new (layout_by c.args.extents.now.segs.items) (layout_by c.put_block.new.extents.segs.items) c.args.tag c.args.size c.args.bytes c.args.off n c.put_block.result.0 value place
-          (ap (λ ss. ask c.args.bytes ss false) (segments-by c.args.extents.now.segs.items) ∙ c.in-Ok.ensures.granted)
-          (lent-layout c.args.extents.now.segs.items c.lend_next.new.extents.segs.items c.in-Ok.number c.args.bytes c.new-a.result.0 c.new-a.ensures.place c.in-Ok.ensures.fresh c.requires.room.legal.least c.in-Ok.ensures.tiling c.in-Ok.ensures.pairs c.put_block.new.extents.segs.items c.args.off c.args.size c.args.tag c.put_block.ensures.layout)
-          (lent-fresh c.args.extents.now.segs.items c.lend_next.new.extents.segs.items c.in-Ok.number c.args.bytes c.new-a.result.0 c.new-a.ensures.place c.in-Ok.ensures.fresh c.requires.room.legal.least c.in-Ok.ensures.tiling c.in-Ok.ensures.pairs)
+          (ap (λ ss. ask c.args.bytes ss false) (segments-by c.args.extents.now.segs.items) ∙ c.in-Ok.ensures.lent.granted)
+          (lent-layout c.args.extents.now.segs.items c.lend_next.new.extents.segs.items c.in-Ok.number c.args.bytes c.new-a.result.0 c.new-a.ensures.place c.in-Ok.ensures.lent.fresh c.requires.room.legal.least c.in-Ok.ensures.lent.extents c.in-Ok.ensures.lent.pairs c.put_block.new.extents.segs.items c.args.off c.args.size c.args.tag c.put_block.ensures.layout)
+          (lent-fresh c.args.extents.now.segs.items c.lend_next.new.extents.segs.items c.in-Ok.number c.args.bytes c.new-a.result.0 c.new-a.ensures.place c.in-Ok.ensures.lent.fresh c.requires.room.legal.least c.in-Ok.ensures.lent.extents c.in-Ok.ensures.lent.pairs)
           (own-numbers c.put_block.new.extents.segs.items c.put_block.new.extents.index.items c.put_block.new.extents.kept);
       fault = tt;
       no_memory = λ e. absurd (cc);
@@ -48,15 +59,15 @@ returns-in-Ok-clause-lent g c =
     }
 
 pub returns-in-Ok-clause-kept : goal.returns-in-Ok-clause-kept
-returns-in-Ok-clause-kept g c = record { merged = c.put_block.ensures.merged; gaps = c.put_block.ensures.gaps }
+returns-in-Ok-clause-kept g c = c.put_block.ensures.kept
 
 pub put_block-requires-clause-merged : goal.put_block-requires-clause-merged
-put_block-requires-clause-merged g c = lent-merged c.args.extents.now.segs.items c.lend_next.new.extents.segs.items c.in-Ok.number c.args.bytes c.new-a.result.0 c.new-a.ensures.place c.in-Ok.ensures.fresh c.requires.room.legal.least c.in-Ok.ensures.tiling c.in-Ok.ensures.pairs c.requires.kept.merged
+put_block-requires-clause-merged g c = lent-merged c.args.extents.now.segs.items c.lend_next.new.extents.segs.items c.in-Ok.number c.args.bytes c.new-a.result.0 c.new-a.ensures.place c.in-Ok.ensures.lent.fresh c.requires.room.legal.least c.in-Ok.ensures.lent.extents c.in-Ok.ensures.lent.pairs c.requires.kept.merged
 
 pub put_block-requires-clause-gaps : goal.put_block-requires-clause-gaps
 put_block-requires-clause-gaps g c =
     subst (λ (z : ℕ). HasGaps (tiling c.lend_next.new.extents.segs.items) c.args.root.now.0 (z ∷ [])) (sym c.new-a.ensures.value)
-    (gaps-added c.args.extents.now.segs.items (tiling c.lend_next.new.extents.segs.items) c.args.root.now.0 c.in-Ok.number (c.args.bytes - 32) [] c.in-Ok.ensures.fresh c.in-Ok.ensures.tiling c.requires.kept.gaps)
+    (gaps-added c.args.extents.now.segs.items (tiling c.lend_next.new.extents.segs.items) c.args.root.now.0 c.in-Ok.number (c.args.bytes - 32) [] c.in-Ok.ensures.lent.fresh c.in-Ok.ensures.lent.extents c.requires.kept.gaps)
 
 pub returns-in-Err-clause-lent : goal.returns-in-Err-clause-lent
 returns-in-Err-clause-lent g c =

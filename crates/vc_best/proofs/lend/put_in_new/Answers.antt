@@ -56,9 +56,6 @@ put_in_lent-requires-clause-room g c =
       fits = omega (arith, room, span-least c.args.size);
     }
 
-pub put_in_lent-requires-clause-kept : goal.put_in_lent-requires-clause-kept
-put_in_lent-requires-clause-kept g c = record { merged = c.requires.kept.merged; gaps = c.requires.kept.gaps }
-
 pub returns-clause-disc : goal.returns-clause-disc
 returns-clause-disc g c = rw (← need g (goal.at.returns-clause-disc g c).After-rounded_up-bytes) c.put_in_lent.ensures.disc
 
@@ -67,7 +64,7 @@ returns-clause-put g c =
     let b = (goal.at.returns-clause-put g c).After-rounded_up-bytes in
     let old = layout_by c.args.extents.now.segs.items in
     let new = layout_by c.put_in_lent.new.extents.segs.items in
-    let heads = held-heads c.args.extents.now.segs.items c.args.extents.now.index.items c.args.extents.now.kept c.requires.kept.sizes in
+    let heads = held-heads c.args.extents.now.segs.items c.args.extents.now.index.items c.args.extents.now.kept c.requires.whole.sizes in
     let a = c.requires.allowed in
     let lent = c.put_in_lent.ensures.lent in
     record {
@@ -78,17 +75,16 @@ returns-clause-put g c =
       fresh = new-fresh old new (terms g b) c.args.tag c.args.size c.args.align c.rounded_up-bytes.result heads c.requires.none (need g b) (aligned g b) a.some a.most (legal g b) (fits g b) c.put_in_lent.result lent.ok;
     }
 
-pub returns-clause-kept : goal.returns-clause-kept
-returns-clause-kept g c =
-    let b = (goal.at.returns-clause-kept g c).After-rounded_up-bytes in
+pub returns-clause-whole : goal.returns-clause-whole
+returns-clause-whole g c =
+    let b = (goal.at.returns-clause-whole g c).After-rounded_up-bytes in
     let old = layout_by c.args.extents.now.segs.items in
     let new = layout_by c.put_in_lent.new.extents.segs.items in
-    let heads = held-heads c.args.extents.now.segs.items c.args.extents.now.index.items c.args.extents.now.kept c.requires.kept.sizes in
+    let heads = held-heads c.args.extents.now.segs.items c.args.extents.now.index.items c.args.extents.now.kept c.requires.whole.sizes in
     let a = c.requires.allowed in
     let lent = c.put_in_lent.ensures.lent in
     let then = new-heads old new (terms g b) c.args.tag c.args.size c.args.align c.rounded_up-bytes.result heads c.requires.none (need g b) (aligned g b) a.some a.most (legal g b) (fits g b) c.put_in_lent.result lent.ok lent.err in
     record {
-      merged = c.put_in_lent.ensures.kept.merged;
-      gaps = c.put_in_lent.ensures.kept.gaps;
+      kept = c.put_in_lent.ensures.kept;
       sizes = λ k d lt. (then.blocks k d lt).slot.most;
     }

@@ -13,31 +13,36 @@ use Rattle.vc_best.proofs.take.take_over.Goals.{then-own-size, else-own-size}
 pub free_block-requires-clause-busy : goal.free_block-requires-clause-busy
 free_block-requires-clause-busy g c = copied-busy c.args.extents.now.segs.items c.copy.new.self.segs.items c.args.extents.now.index.items c.copy.new.self.index.items c.args.a.0 c.args.to.0 (take c.if-own-size.len (extent_of (tiling c.args.extents.now.segs.items) c.args.a.0).body) c.args.extents.now.kept c.copy.new.self.kept c.requires.busy c.requires.to c.copy.ensures.tiling c.copy.ensures.pairs
 
-pub free_block-requires-clause-merged : goal.free_block-requires-clause-merged
-free_block-requires-clause-merged g c = copied-merged c.args.extents.now.segs.items c.copy.new.self.segs.items c.args.extents.now.index.items c.copy.new.self.index.items c.args.a.0 c.args.to.0 (take c.if-own-size.len (extent_of (tiling c.args.extents.now.segs.items) c.args.a.0).body) c.args.extents.now.kept c.copy.new.self.kept c.requires.busy c.requires.to c.copy.ensures.tiling c.copy.ensures.pairs c.requires.merged
-
-pub free_block-requires-clause-gaps : goal.free_block-requires-clause-gaps
-free_block-requires-clause-gaps g c =
-    let t = tiling c.args.extents.now.segs.items in
-    gaps-written t (tiling c.copy.new.self.segs.items) c.args.to.0 0 (take c.if-own-size.len (extent_of t c.args.a.0).body) c.copy.ensures.tiling c.requires.to c.args.root.now.0 [] c.requires.gaps
+pub free_block-requires-clause-kept : goal.free_block-requires-clause-kept
+free_block-requires-clause-kept g c =
+    let e = c.args.extents.now in
+    let n = c.copy.new.self in
+    let t = tiling e.segs.items in
+    let src = take c.if-own-size.len (extent_of t c.args.a.0).body in
+    record {
+      merged = copied-merged e.segs.items n.segs.items e.index.items n.index.items c.args.a.0 c.args.to.0 src e.kept n.kept c.requires.busy c.requires.to c.copy.ensures.tiling c.copy.ensures.pairs c.requires.whole.kept.merged;
+      gaps = gaps-written t (tiling n.segs.items) c.args.to.0 0 src c.copy.ensures.tiling c.requires.to c.args.root.now.0 [] c.requires.whole.kept.gaps;
+    }
 
 pub returns-clause-moved : goal.returns-clause-moved
 returns-clause-moved g c =
     let own = c.size_at-own.result in
     let len : ((c.if-own-size.len ≡ own) × (own ≤ c.args.size)) ⊎ (c.if-own-size.len ≡ c.args.size) =
     elim c.if-own-size.branch [ then-own-size w ↦ inl (w.len-is, let lt = w.if-own-size in omega arith) | else-own-size w ↦ inr w.len-is ] in
-    let long = body-long c.args.extents.now.segs.items c.args.extents.now.index.items c.args.a.0 c.args.extents.now.kept c.requires.busy ∙ sym c.size_at-own.ensures in
-    taken-over c.args.extents.now.segs.items c.copy.new.self.segs.items c.args.extents.now.index.items c.copy.new.self.index.items c.args.a.0 c.args.to.0 (take c.if-own-size.len (extent_of (tiling c.args.extents.now.segs.items) c.args.a.0).body) c.args.extents.now.kept c.copy.new.self.kept c.requires.busy c.requires.to c.copy.ensures.tiling c.copy.ensures.pairs (layout_by c.free_block.new.extents.segs.items) c.args.size c.free_block.ensures.layout (take-both c.if-own-size.len own c.args.size (extent_of (tiling c.args.extents.now.segs.items) c.args.a.0).body long len)
-
-pub returns-clause-count : goal.returns-clause-count
-returns-clause-count g c =
     let e = c.args.extents.now in
     let n = c.copy.new.self in
     let r = layout_by e.segs.items in
     let m = layout_by n.segs.items in
-    let src = take c.if-own-size.len (extent_of (tiling e.segs.items) c.args.a.0).body in
+    let last = layout_by c.free_block.new.extents.segs.items in
+    let body = (extent_of (tiling e.segs.items) c.args.a.0).body in
+    let src = take c.if-own-size.len body in
+    let long = body-long e.segs.items e.index.items c.args.a.0 e.kept c.requires.busy ∙ sym c.size_at-own.ensures in
     let copied = copied-layout e.segs.items n.segs.items e.index.items n.index.items c.args.a.0 c.args.to.0 src e.kept n.kept c.requires.busy c.requires.to c.copy.ensures.tiling c.copy.ensures.pairs in
     let busy = copied-busy e.segs.items n.segs.items e.index.items n.index.items c.args.a.0 c.args.to.0 src e.kept n.kept c.requires.busy c.requires.to c.copy.ensures.tiling c.copy.ensures.pairs in
-    freed-count n.segs.items n.index.items n.kept c.args.a.0 (layout_by c.free_block.new.extents.segs.items) (has-of n.segs.items n.index.items c.args.a.0 n.kept busy)
-    (most-written r m (place_of c.args.to.0) 0 src copied c.requires.sizes) c.free_block.ensures.layout
-    ∙ written-count r m (place_of c.args.to.0) 0 src copied
+    record {
+      moved = taken-over e.segs.items n.segs.items e.index.items n.index.items c.args.a.0 c.args.to.0 src e.kept n.kept c.requires.busy c.requires.to c.copy.ensures.tiling c.copy.ensures.pairs last c.args.size c.free_block.ensures.layout (take-both c.if-own-size.len own c.args.size body long len);
+      count =
+          freed-count n.segs.items n.index.items n.kept c.args.a.0 last (has-of n.segs.items n.index.items c.args.a.0 n.kept busy)
+          (most-written r m (place_of c.args.to.0) 0 src copied c.requires.whole.sizes) c.free_block.ensures.layout
+          ∙ written-count r m (place_of c.args.to.0) 0 src copied;
+    }

@@ -33,7 +33,7 @@ release-freed-requires-clause-busy g c =
 
 pub release-freed-requires-clause-merged : goal.release-freed-requires-clause-merged
 release-freed-requires-clause-merged g c =
-    merged-stays (tiling c.args.extents.now.segs.items) (tiling c.unlink_before.new.extents.segs.items) (rest g (goal.at.release-freed-requires-clause-merged g c).After-unlink_before).extents c.requires.merged
+    merged-stays (tiling c.args.extents.now.segs.items) (tiling c.unlink_before.new.extents.segs.items) (rest g (goal.at.release-freed-requires-clause-merged g c).After-unlink_before).extents c.requires.kept.merged
 
 -- the freed one alone is out
 freed : (g : Over) (c : After-release-freed g) → HasGaps (tiling c.release-freed.new.extents.segs.items) c.unlink_before.new.root.0 (c.release-freed.result.0 ∷ [])
@@ -61,8 +61,9 @@ returns-clause-layout g c =
     ∙ c.release-freed.ensures.layout
     ∙ ap (λ (r : Layout ℕ). without_block_at r (place_of c.args.a.0)) (layout-stays c.args.extents.now.segs.items c.unlink_before.new.extents.segs.items (rest g (goal.at.returns-clause-layout g c).After-unlink_before))
 
-pub returns-clause-merged : goal.returns-clause-merged
-returns-clause-merged g c = merged-stays (tiling c.release-freed.new.extents.segs.items) (tiling c.link_gap.new.extents.segs.items) c.link_gap.ensures.rest.extents c.release-freed.ensures.merged
-
-pub returns-clause-gaps : goal.returns-clause-gaps
-returns-clause-gaps g c = c.link_gap.ensures.linked.gaps [] (freed g (goal.at.returns-clause-gaps g c).After-release-freed) refl
+pub returns-clause-kept : goal.returns-clause-kept
+returns-clause-kept g c =
+    record {
+      merged = merged-stays (tiling c.release-freed.new.extents.segs.items) (tiling c.link_gap.new.extents.segs.items) c.link_gap.ensures.rest.extents c.release-freed.ensures.merged;
+      gaps = c.link_gap.ensures.linked.gaps [] (freed g (goal.at.returns-clause-kept g c).After-release-freed) refl;
+    }

@@ -17,7 +17,7 @@ resize_there-requires-2 g c =
     let stays = c.unlink_next.ensures.rest.extents in
     record {
       busy = busy-still t t1 stays c.args.a.0 c.requires.busy;
-      merged = merged-stays t t1 stays c.requires.merged;
+      merged = merged-stays t t1 stays c.requires.kept.merged;
       some = c.requires.some;
       most = c.requires.most;
       room = subst (λ (n : ℕ). span c.args.size ≤ n) (sym (room-stays t t1 stays c.args.a.0)) c.requires.room;
@@ -39,5 +39,9 @@ returns-clause-layout g c =
     ∙ c.resize_there-2.ensures.layout
     ∙ ap (λ (r : Layout ℕ). resize_there r (place_of c.args.a.0) c.args.size) (layout-stays c.args.extents.now.segs.items c.unlink_next.new.extents.segs.items c.unlink_next.ensures.rest)
 
-pub returns-clause-merged : goal.returns-clause-merged
-returns-clause-merged g c = merged-stays (tiling c.resize_there-2.new.extents.segs.items) (tiling c.link_next.new.extents.segs.items) c.link_next.ensures.rest.extents c.resize_there-2.ensures.merged
+pub returns-clause-kept : goal.returns-clause-kept
+returns-clause-kept g c =
+    record {
+      merged = merged-stays (tiling c.resize_there-2.new.extents.segs.items) (tiling c.link_next.new.extents.segs.items) c.link_next.ensures.rest.extents c.resize_there-2.ensures.merged;
+      gaps = c.link_next.ensures.gaps;
+    }

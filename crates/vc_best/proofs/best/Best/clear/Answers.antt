@@ -6,5 +6,5 @@ use Rattle.vc_best.proofs.best.Best.clear.Goals as goal
 
 pub invariant_of-self : goal.invariant_of-self
 invariant_of-self g c =
-    let h = held c.clear.new.extents.segs.items c.clear.new.extents.index.items c.clear.new.extents.kept (subst (λ (r : Layout ℕ). AreMost r.blocks) (sym c.clear.ensures.layout) (All-nil (λ (b : Block ℕ). b.size ≤ 16777264))) c.clear.ensures.merged in
-    record { sound = h.sound; whole = h.whole; merged = h.merged; gaps = ∣ c.clear.ensures.gaps ∣₁; counted = sym (ap (λ (r : Layout ℕ). length r.blocks) c.clear.ensures.layout) }
+    let h = held c.clear.new.extents.segs.items c.clear.new.extents.index.items c.clear.new.extents.kept (subst (λ (r : Layout ℕ). AreMost r.blocks) (sym c.clear.ensures.layout) (All-nil (λ (b : Block ℕ). b.size ≤ 16777264))) c.clear.ensures.kept.merged in
+    record { sound = h.sound; whole = h.whole; merged = h.merged; gaps = ∣ c.clear.ensures.kept.gaps ∣₁; counted = sym (ap (λ (r : Layout ℕ). length r.blocks) c.clear.ensures.layout) }

@@ -5,11 +5,10 @@ use Rattle.std.specs.List.{HoldsAt, remove}
 use Rattle.vc_model.specs.Addr.{place_of}
 use Rattle.vc_model.specs.Layout.{Layout, address_of}
 use Rattle.vc_model.specs.Touch.{HasBlock}
-use Rattle.vc_extent.specs.Tiling.{tiling}
 use Rattle.vc_best.specs.Blocks.{layout_by}
 use Rattle.vc_best.proofs.Counted.{freed-count}
 use Rattle.vc_best.proofs.Found.{busy-of}
-use Rattle.vc_best.proofs.Held.{held, merged-of, most-of, most-without, tree-of}
+use Rattle.vc_best.proofs.Held.{held, kept-of, most-of, most-without}
 use Rattle.vc_best.proofs.Sets.{blocks-set}
 use Rattle.vc_best.proofs.Stands.{none-there, one-less, stands-removed}
 use Rattle.vc_best.proofs.Tilings.{heads-of}
@@ -20,11 +19,8 @@ use Rattle.vc_best.proofs.best.Best.free.Goals.{After-free_block}
 pub free_block-requires-clause-busy : goal.free_block-requires-clause-busy
 free_block-requires-clause-busy g c = busy-of c.args.self.now.extents.segs.items c.args.self.now.extents.index.items c.args.a.0 c.args.self.now.extents.kept c.requires.block
 
-pub free_block-requires-clause-merged : goal.free_block-requires-clause-merged
-free_block-requires-clause-merged g c = merged-of (tiling c.args.self.now.extents.segs.items) c.args.self.now.merged
-
-pub free_block-requires-clause-gaps : goal.free_block-requires-clause-gaps
-free_block-requires-clause-gaps g c = tree-of c.args.self.now.extents.segs.items c.args.self.now.extents.index.items c.args.self.now.root.0 c.args.self.now.extents.kept c.args.self.now.gaps
+pub free_block-requires-clause-kept : goal.free_block-requires-clause-kept
+free_block-requires-clause-kept g c = kept-of c.args.self.now.extents.segs.items c.args.self.now.extents.index.items c.args.self.now.root.0 c.args.self.now.extents.kept c.args.self.now.merged c.args.self.now.gaps
 
 freed : (g : Over) (c : After-free_block g) → length (layout_by c.free_block.new.extents.segs.items).blocks + 1 ≡ length (layout_by c.args.self.now.extents.segs.items).blocks
 freed g c =
@@ -36,8 +32,8 @@ overflow_sub-self g c = let less = freed g (goal.at.overflow_sub-self g c).After
 
 pub invariant_of-self : goal.invariant_of-self
 invariant_of-self g c =
-    let h = held c.free_block.new.extents.segs.items c.free_block.new.extents.index.items c.free_block.new.extents.kept (most-without (layout_by c.args.self.now.extents.segs.items) (layout_by c.free_block.new.extents.segs.items) (place_of c.args.a.0) c.free_block.ensures.layout (most-of (layout_by c.args.self.now.extents.segs.items) c.args.self.now.whole)) c.free_block.ensures.merged in
-    record { sound = h.sound; whole = h.whole; merged = h.merged; gaps = ∣ c.free_block.ensures.gaps ∣₁; counted = let less = freed g (goal.at.invariant_of-self g c).After-free_block in let all = c.args.self.now.counted in omega (arith, less, all) }
+    let h = held c.free_block.new.extents.segs.items c.free_block.new.extents.index.items c.free_block.new.extents.kept (most-without (layout_by c.args.self.now.extents.segs.items) (layout_by c.free_block.new.extents.segs.items) (place_of c.args.a.0) c.free_block.ensures.layout (most-of (layout_by c.args.self.now.extents.segs.items) c.args.self.now.whole)) c.free_block.ensures.kept.merged in
+    record { sound = h.sound; whole = h.whole; merged = h.merged; gaps = ∣ c.free_block.ensures.kept.gaps ∣₁; counted = let less = freed g (goal.at.invariant_of-self g c).After-free_block in let all = c.args.self.now.counted in omega (arith, less, all) }
 
 pub returns-clause-one_less : goal.returns-clause-one_less
 returns-clause-one_less g c =

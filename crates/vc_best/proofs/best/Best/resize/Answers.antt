@@ -9,7 +9,7 @@ use Rattle.vc_best.proofs.Others.{others-moved, others-sized}
 use Rattle.vc_best.proofs.Resizes.{resize-stays, resize-fixed, resize-moves, resize-refused, new-among, new-room, old-among, old-found, none-stays}
 use Rattle.vc_best.proofs.Counted.{sized-count}
 use Rattle.vc_best.proofs.Found.{busy-of}
-use Rattle.vc_best.proofs.Held.{held, merged-of, most-of, tree-of}
+use Rattle.vc_best.proofs.Held.{held, kept-of, merged-of, most-of}
 use Rattle.vc_best.proofs.Stays.{label-by, most-sized, moved-most, moved-segments, size-by, stays-by}
 use Rattle.vc_best.proofs.There.{size-moved, size-sized, there-moved, there-sized}
 use Rattle.vc_best.proofs.best.Best.resize.Goals as goal
@@ -28,31 +28,30 @@ has_room-requires-clause-busy g c = busy-of c.args.self.now.extents.segs.items c
 pub resize_block-requires-clause-busy : goal.resize_block-requires-clause-busy
 resize_block-requires-clause-busy g c = busy-of c.args.self.now.extents.segs.items c.args.self.now.extents.index.items c.args.a.0 c.args.self.now.extents.kept c.requires.block
 
-pub resize_block-requires-clause-merged : goal.resize_block-requires-clause-merged
-resize_block-requires-clause-merged g c = (merged-of (tiling c.args.self.now.extents.segs.items) c.args.self.now.merged)
-
 pub resize_block-requires-clause-room : goal.resize_block-requires-clause-room
 resize_block-requires-clause-room g c = c.has_room.ensures.0 c.if-has_room.true
 
-pub resize_block-requires-clause-gaps : goal.resize_block-requires-clause-gaps
-resize_block-requires-clause-gaps g c = tree-of c.args.self.now.extents.segs.items c.args.self.now.extents.index.items c.args.self.now.root.0 c.args.self.now.extents.kept c.args.self.now.gaps
+pub resize_block-requires-clause-kept : goal.resize_block-requires-clause-kept
+resize_block-requires-clause-kept g c = kept-of c.args.self.now.extents.segs.items c.args.self.now.extents.index.items c.args.self.now.root.0 c.args.self.now.extents.kept c.args.self.now.merged c.args.self.now.gaps
 
-pub take_over-requires-clause-gaps : goal.take_over-requires-clause-gaps
-take_over-requires-clause-gaps g c = tree-of c.alloc.new.self.extents.segs.items c.alloc.new.self.extents.index.items c.alloc.new.self.root.0 c.alloc.new.self.extents.kept c.alloc.new.self.gaps
-
-pub take_over-requires-clause-sizes : goal.take_over-requires-clause-sizes
-take_over-requires-clause-sizes g c = most-of (layout_by c.alloc.new.self.extents.segs.items) c.alloc.new.self.whole
+pub take_over-requires-clause-whole : goal.take_over-requires-clause-whole
+take_over-requires-clause-whole g c =
+    let b = c.alloc.new.self in
+    record {
+      kept = kept-of b.extents.segs.items b.extents.index.items b.root.0 b.extents.kept b.merged b.gaps;
+      sizes = most-of (layout_by b.extents.segs.items) b.whole;
+    }
 
 pub overflow_sub-self : goal.overflow_sub-self
-overflow_sub-self g c = let less = c.take_over.ensures.count in let all = c.alloc.new.self.counted in omega (arith, less, all)
+overflow_sub-self g c = let less = c.take_over.ensures.moved.count in let all = c.alloc.new.self.counted in omega (arith, less, all)
 
 pub tag_at-tag-requires : goal.tag_at-tag-requires
 tag_at-tag-requires g c = (busy-of c.args.self.now.extents.segs.items c.args.self.now.extents.index.items c.args.a.0 c.args.self.now.extents.kept c.requires.block).named
 
 pub invariant_of-self : goal.invariant_of-self
 invariant_of-self g c =
-    let h = held c.resize_block.new.extents.segs.items c.resize_block.new.extents.index.items c.resize_block.new.extents.kept (most-sized (layout_by c.args.self.now.extents.segs.items) (layout_by c.resize_block.new.extents.segs.items) (place_of c.args.a.0) c.args.size c.resize_block.ensures.layout c.requires.most (most-of (layout_by c.args.self.now.extents.segs.items) c.args.self.now.whole)) c.resize_block.ensures.merged in
-    record { sound = h.sound; whole = h.whole; merged = h.merged; gaps = ∣ c.resize_block.ensures.gaps ∣₁; counted = c.args.self.now.counted ∙ sym (sized-count (layout_by c.args.self.now.extents.segs.items) (layout_by c.resize_block.new.extents.segs.items) (place_of c.args.a.0) c.args.size c.resize_block.ensures.layout) }
+    let h = held c.resize_block.new.extents.segs.items c.resize_block.new.extents.index.items c.resize_block.new.extents.kept (most-sized (layout_by c.args.self.now.extents.segs.items) (layout_by c.resize_block.new.extents.segs.items) (place_of c.args.a.0) c.args.size c.resize_block.ensures.layout c.requires.most (most-of (layout_by c.args.self.now.extents.segs.items) c.args.self.now.whole)) c.resize_block.ensures.kept.merged in
+    record { sound = h.sound; whole = h.whole; merged = h.merged; gaps = ∣ c.resize_block.ensures.kept.gaps ∣₁; counted = c.args.self.now.counted ∙ sym (sized-count (layout_by c.args.self.now.extents.segs.items) (layout_by c.resize_block.new.extents.segs.items) (place_of c.args.a.0) c.args.size c.resize_block.ensures.layout) }
 
 pub take_over-requires-clause-busy : goal.take_over-requires-clause-busy
 take_over-requires-clause-busy g c = busy-of c.alloc.new.self.extents.segs.items c.alloc.new.self.extents.index.items c.args.a.0 c.alloc.new.self.extents.kept (old-among _ (layout_by c.args.self.now.extents.segs.items) c.tag_at-tag.result c.args.size 32 c.in-Ok.to.0 false (layout_by c.alloc.new.self.extents.segs.items) c.in-Ok.ensures.answer c.in-Ok.ensures.fresh c.args.a.0 c.requires.block)
@@ -63,19 +62,16 @@ take_over-requires-clause-to g c = busy-of c.alloc.new.self.extents.segs.items c
 pub take_over-requires-clause-room : goal.take_over-requires-clause-room
 take_over-requires-clause-room g c = size-by c.alloc.new.self.extents.segs.items c.alloc.new.self.extents.index.items c.in-Ok.to.0 c.alloc.new.self.extents.kept (new-among _ (layout_by c.args.self.now.extents.segs.items) c.tag_at-tag.result c.args.size 32 c.in-Ok.to.0 false (layout_by c.alloc.new.self.extents.segs.items) c.in-Ok.ensures.answer c.in-Ok.ensures.fresh) c.args.size (new-room _ (layout_by c.args.self.now.extents.segs.items) c.tag_at-tag.result c.args.size 32 c.in-Ok.to.0 false (layout_by c.alloc.new.self.extents.segs.items) c.in-Ok.ensures.answer c.in-Ok.ensures.fresh)
 
-pub take_over-requires-clause-merged : goal.take_over-requires-clause-merged
-take_over-requires-clause-merged g c = merged-of (tiling c.alloc.new.self.extents.segs.items) c.alloc.new.self.merged
-
 pub invariant_of-self-in-Ok : goal.invariant_of-self-in-Ok
 invariant_of-self-in-Ok g c =
-    let h = held c.take_over.new.extents.segs.items c.take_over.new.extents.index.items c.take_over.new.extents.kept (moved-most c.alloc.new.self.extents.segs.items c.alloc.new.self.extents.index.items c.args.a.0 c.alloc.new.self.extents.kept (old-among _ (layout_by c.args.self.now.extents.segs.items) c.tag_at-tag.result c.args.size 32 c.in-Ok.to.0 false (layout_by c.alloc.new.self.extents.segs.items) c.in-Ok.ensures.answer c.in-Ok.ensures.fresh c.args.a.0 c.requires.block) (layout_by c.take_over.new.extents.segs.items) (place_of c.in-Ok.to.0) c.args.size c.take_over.ensures.moved (most-of (layout_by c.alloc.new.self.extents.segs.items) c.alloc.new.self.whole)) c.take_over.ensures.merged in
-    record { sound = h.sound; whole = h.whole; merged = h.merged; gaps = ∣ c.take_over.ensures.gaps ∣₁; counted = let less = c.take_over.ensures.count in let all = c.alloc.new.self.counted in omega (arith, less, all) }
+    let h = held c.take_over.new.extents.segs.items c.take_over.new.extents.index.items c.take_over.new.extents.kept (moved-most c.alloc.new.self.extents.segs.items c.alloc.new.self.extents.index.items c.args.a.0 c.alloc.new.self.extents.kept (old-among _ (layout_by c.args.self.now.extents.segs.items) c.tag_at-tag.result c.args.size 32 c.in-Ok.to.0 false (layout_by c.alloc.new.self.extents.segs.items) c.in-Ok.ensures.answer c.in-Ok.ensures.fresh c.args.a.0 c.requires.block) (layout_by c.take_over.new.extents.segs.items) (place_of c.in-Ok.to.0) c.args.size c.take_over.ensures.moved.moved (most-of (layout_by c.alloc.new.self.extents.segs.items) c.alloc.new.self.whole)) c.take_over.ensures.kept.merged in
+    record { sound = h.sound; whole = h.whole; merged = h.merged; gaps = ∣ c.take_over.ensures.kept.gaps ∣₁; counted = let less = c.take_over.ensures.moved.count in let all = c.alloc.new.self.counted in omega (arith, less, all) }
 
 pub returns-in-Ok-clause-answer : goal.returns-in-Ok-clause-answer
 returns-in-Ok-clause-answer g c =
     let same = old-found _ (layout_by c.args.self.now.extents.segs.items) c.tag_at-tag.result c.args.size 32 c.in-Ok.to.0 false (layout_by c.alloc.new.self.extents.segs.items) c.in-Ok.ensures.answer c.in-Ok.ensures.fresh c.args.a.0 c.requires.block in
     let can = (stays-by c.args.self.now.extents.segs.items c.args.self.now.extents.index.items c.args.a.0 c.args.self.now.extents.kept c.requires.block c.args.size c.has_room.result (merged-of (tiling c.args.self.now.extents.segs.items) c.args.self.now.merged) c.requires.some c.has_room.ensures.0 c.has_room.ensures.1) ∙ ap Some c.if-has_room.false in
-    resize-moves _ (layout_by c.args.self.now.extents.segs.items) c.args.a.0 c.args.size c.tag_at-tag.result c.args.may_move c.if-not-may_move.false c.in-Ok.to.0 (layout_by c.alloc.new.self.extents.segs.items) (layout_by c.take_over.new.extents.segs.items) same can (label-by c.args.self.now.extents.segs.items c.args.self.now.extents.index.items c.args.a.0 c.args.self.now.extents.kept c.requires.block c.tag_at-tag.result c.tag_at-tag.ensures) c.in-Ok.ensures.answer c.take_over.ensures.moved
+    resize-moves _ (layout_by c.args.self.now.extents.segs.items) c.args.a.0 c.args.size c.tag_at-tag.result c.args.may_move c.if-not-may_move.false c.in-Ok.to.0 (layout_by c.alloc.new.self.extents.segs.items) (layout_by c.take_over.new.extents.segs.items) same can (label-by c.args.self.now.extents.segs.items c.args.self.now.extents.index.items c.args.a.0 c.args.self.now.extents.kept c.requires.block c.tag_at-tag.result c.tag_at-tag.ensures) c.in-Ok.ensures.answer c.take_over.ensures.moved.moved
 
 pub returns-in-Err-clause-answer : goal.returns-in-Err-clause-answer
 returns-in-Err-clause-answer g c =
@@ -86,7 +82,7 @@ pub returns-then-has_room-clause-disc : goal.returns-then-has_room-clause-disc
 returns-then-has_room-clause-disc g c = Served-unasked _ _ _ _ (ap (λ (r : Layout ℕ). r.segments) c.resize_block.ensures.layout)
 
 pub returns-in-Ok-clause-disc : goal.returns-in-Ok-clause-disc
-returns-in-Ok-clause-disc g c = Served-later _ _ _ _ _ _ (moved-segments c.alloc.new.self.extents.segs.items c.alloc.new.self.extents.index.items c.args.a.0 c.alloc.new.self.extents.kept (old-among _ (layout_by c.args.self.now.extents.segs.items) c.tag_at-tag.result c.args.size 32 c.in-Ok.to.0 false (layout_by c.alloc.new.self.extents.segs.items) c.in-Ok.ensures.answer c.in-Ok.ensures.fresh c.args.a.0 c.requires.block) (layout_by c.take_over.new.extents.segs.items) (place_of c.in-Ok.to.0) c.args.size c.take_over.ensures.moved) c.in-Ok.ensures.disc
+returns-in-Ok-clause-disc g c = Served-later _ _ _ _ _ _ (moved-segments c.alloc.new.self.extents.segs.items c.alloc.new.self.extents.index.items c.args.a.0 c.alloc.new.self.extents.kept (old-among _ (layout_by c.args.self.now.extents.segs.items) c.tag_at-tag.result c.args.size 32 c.in-Ok.to.0 false (layout_by c.alloc.new.self.extents.segs.items) c.in-Ok.ensures.answer c.in-Ok.ensures.fresh c.args.a.0 c.requires.block) (layout_by c.take_over.new.extents.segs.items) (place_of c.in-Ok.to.0) c.args.size c.take_over.ensures.moved.moved) c.in-Ok.ensures.disc
 
 pub returns-in-Err-clause-no_memory : goal.returns-in-Err-clause-no_memory
 returns-in-Err-clause-no_memory g c = λ _. (none-stays (layout_by c.args.self.now.extents.segs.items) c.args.size _ ((stays-by c.args.self.now.extents.segs.items c.args.self.now.extents.index.items c.args.a.0 c.args.self.now.extents.kept c.requires.block c.args.size c.has_room.result (merged-of (tiling c.args.self.now.extents.segs.items) c.args.self.now.merged) c.requires.some c.has_room.ensures.0 c.has_room.ensures.1) ∙ ap Some c.if-has_room.false), c.if-not-may_move.false)
@@ -99,7 +95,7 @@ returns-then-has_room-clause-others g c =
 pub returns-in-Ok-clause-others : goal.returns-in-Ok-clause-others
 returns-in-Ok-clause-others g c =
     let same = old-found _ (layout_by c.args.self.now.extents.segs.items) c.tag_at-tag.result c.args.size 32 c.in-Ok.to.0 false (layout_by c.alloc.new.self.extents.segs.items) c.in-Ok.ensures.answer c.in-Ok.ensures.fresh c.args.a.0 c.requires.block in
-    others-moved (layout_by c.alloc.new.self.extents.segs.items) (layout_by c.take_over.new.extents.segs.items) (layout_by c.args.self.now.extents.segs.items) (place_of c.args.a.0) (place_of c.in-Ok.to.0) c.args.size c.tag_at-tag.result same (label-by c.args.self.now.extents.segs.items c.args.self.now.extents.index.items c.args.a.0 c.args.self.now.extents.kept c.requires.block c.tag_at-tag.result c.tag_at-tag.ensures) c.take_over.ensures.moved c.in-Ok.ensures.others
+    others-moved (layout_by c.alloc.new.self.extents.segs.items) (layout_by c.take_over.new.extents.segs.items) (layout_by c.args.self.now.extents.segs.items) (place_of c.args.a.0) (place_of c.in-Ok.to.0) c.args.size c.tag_at-tag.result same (label-by c.args.self.now.extents.segs.items c.args.self.now.extents.index.items c.args.a.0 c.args.self.now.extents.kept c.requires.block c.tag_at-tag.result c.tag_at-tag.ensures) c.take_over.ensures.moved.moved c.in-Ok.ensures.others
 
 pub returns-then-has_room-clause-there : goal.returns-then-has_room-clause-there
 returns-then-has_room-clause-there g c =
@@ -109,7 +105,7 @@ returns-then-has_room-clause-there g c =
 pub returns-in-Ok-clause-there : goal.returns-in-Ok-clause-there
 returns-in-Ok-clause-there g c =
     let same = old-found _ (layout_by c.args.self.now.extents.segs.items) c.tag_at-tag.result c.args.size 32 c.in-Ok.to.0 false (layout_by c.alloc.new.self.extents.segs.items) c.in-Ok.ensures.answer c.in-Ok.ensures.fresh c.args.a.0 c.requires.block in
-    there-moved (layout_by c.alloc.new.self.extents.segs.items) (layout_by c.take_over.new.extents.segs.items) (layout_by c.args.self.now.extents.segs.items) c.args.a.0 c.in-Ok.to.0 c.args.size c.tag_at-tag.result c.requires.block c.in-Ok.ensures.fresh same (label-by c.args.self.now.extents.segs.items c.args.self.now.extents.index.items c.args.a.0 c.args.self.now.extents.kept c.requires.block c.tag_at-tag.result c.tag_at-tag.ensures) c.take_over.ensures.moved c.in-Ok.ensures.there
+    there-moved (layout_by c.alloc.new.self.extents.segs.items) (layout_by c.take_over.new.extents.segs.items) (layout_by c.args.self.now.extents.segs.items) c.args.a.0 c.in-Ok.to.0 c.args.size c.tag_at-tag.result c.requires.block c.in-Ok.ensures.fresh same (label-by c.args.self.now.extents.segs.items c.args.self.now.extents.index.items c.args.a.0 c.args.self.now.extents.kept c.requires.block c.tag_at-tag.result c.tag_at-tag.ensures) c.take_over.ensures.moved.moved c.in-Ok.ensures.there
 
 pub returns-then-has_room-clause-sized : goal.returns-then-has_room-clause-sized
 returns-then-has_room-clause-sized g c =
@@ -119,4 +115,4 @@ returns-then-has_room-clause-sized g c =
 pub returns-in-Ok-clause-sized : goal.returns-in-Ok-clause-sized
 returns-in-Ok-clause-sized g c =
     let same = old-found _ (layout_by c.args.self.now.extents.segs.items) c.tag_at-tag.result c.args.size 32 c.in-Ok.to.0 false (layout_by c.alloc.new.self.extents.segs.items) c.in-Ok.ensures.answer c.in-Ok.ensures.fresh c.args.a.0 c.requires.block in
-    size-moved (layout_by c.alloc.new.self.extents.segs.items) (layout_by c.take_over.new.extents.segs.items) (layout_by c.args.self.now.extents.segs.items) c.args.a.0 c.in-Ok.to.0 c.args.size c.tag_at-tag.result c.requires.block c.in-Ok.ensures.fresh same (label-by c.args.self.now.extents.segs.items c.args.self.now.extents.index.items c.args.a.0 c.args.self.now.extents.kept c.requires.block c.tag_at-tag.result c.tag_at-tag.ensures) c.take_over.ensures.moved c.in-Ok.ensures.there
+    size-moved (layout_by c.alloc.new.self.extents.segs.items) (layout_by c.take_over.new.extents.segs.items) (layout_by c.args.self.now.extents.segs.items) c.args.a.0 c.in-Ok.to.0 c.args.size c.tag_at-tag.result c.requires.block c.in-Ok.ensures.fresh same (label-by c.args.self.now.extents.segs.items c.args.self.now.extents.index.items c.args.a.0 c.args.self.now.extents.kept c.requires.block c.tag_at-tag.result c.tag_at-tag.ensures) c.take_over.ensures.moved.moved c.in-Ok.ensures.there
