@@ -1,12 +1,12 @@
 -- The tree of gaps where the border behind a block moves.
-use Rattle.std.proofs.Common.{◌≡◌, ◌≢◌, ℕ, ◌+◌, ◌-◌, ◌%◌, ◌<◌, ◌≤◌, List, [], ◌∷◌, ◌++◌, Bool, true, false, not, cond, eqb, Option, Some, None, refl, ap, sym, subst, ◌∙◌, ⊎_elim, arith}
+use Rattle.std.proofs.Common.{◌≡◌, ◌≢◌, ℕ, ◌+◌, ◌-◌, ◌%◌, ◌<◌, ◌≤◌, List, [], ◌∷◌, ◌++◌, Bool, true, false, not, cond, eqb, Option, Some, None, map, refl, ap, sym, subst, ◌∙◌, ⊎_elim, arith}
 use Rattle.std.specs.Prelude.{◌&&◌}
 use Rattle.std.proofs.Math.Logic.{∥∥₁_elim}
 use Rattle.std.proofs.Math.Nat.{ℕ_set}
 use Rattle.std.proofs.lemmas.Bool.{and_parts, cases_Bool, cases_eq, eq-eqb, ne_eqb}
 use Rattle.vc_model.specs.Addr.{address, place_of}
 use Rattle.vc_model.specs.Segments.{span}
-use Rattle.vc_seg.specs.Segment.{Bytes}
+use Rattle.vc_seg.specs.Segment.{Bytes, pair_of}
 use Rattle.vc_extent.specs.Change.{behind, first_of, set_size, shrink, stretch}
 use Rattle.vc_extent.specs.Extent.{Extent, busy_extent, free_extent, no_links}
 use Rattle.vc_extent.specs.Tiling.{AreExtents, IsBusy, change_extent, extent_of, extents_of, next_of, tiling}
@@ -21,7 +21,8 @@ use Rattle.vc_best.specs.Beside.{GapsChange, free_name, free_next}
 use Rattle.vc_best.specs.Blocks.{is_busy}
 use Rattle.vc_best.specs.Changes.{absorb}
 use Rattle.vc_best.specs.Free.{IsMerged, free_bytes, is_free, is_merged, room_of}
-use Rattle.vc_best.proofs.Borders.{free-free, next-shrunk, rest-next}
+use Rattle.vc_best.specs.Standing.{IsBorderMoved}
+use Rattle.vc_best.proofs.Borders.{border-shrunk, free-free, next-shrunk, rest-next, shrunk-kept, shrunk-len}
 use Rattle.vc_best.proofs.Cuts.{behind-here}
 use Rattle.vc_best.proofs.Known.{cut-of, off-of, then-behind}
 use Rattle.vc_best.proofs.Layouts.{behind_of}
@@ -29,7 +30,7 @@ use Rattle.vc_best.proofs.Merges.{merged-in}
 use Rattle.vc_best.proofs.Nexts.{next-extent, next-off, next-place}
 use Rattle.vc_best.proofs.Outs.{inside-not, next-kept}
 use Rattle.vc_best.proofs.Releases.{busy-free}
-use Rattle.vc_best.proofs.Sets.{bytes-set}
+use Rattle.vc_best.proofs.Sets.{bytes-set, tiling-set}
 
 -- what stands behind a place where no two free extents stand beside each other
 merged-back : (xs zs : List Extent) (b : Bool) → is_merged b (xs ++ zs) ≡ true → (v : Bool) × (is_merged v zs ≡ true)
@@ -188,6 +189,17 @@ module _ (old new : List Bytes) (i j : List ℕ) (k : ∥ AreExtents old i ∥�
 -- its tail becomes free, and one with the free extent behind it
 module _ (old mid : List Bytes) (i : List ℕ) (k : ∥ AreExtents old i ∥₁) (new : Tiling) (a size rest : ℕ) (busy : IsBusy (tiling old) a) (some : 1 ≤ size) (less : span size < (extent_of (tiling old) a).span)
     (is : tiling mid ≡ change_extent a (shrink size) (tiling old)) (value : rest ≡ address ((place_of a).0, (place_of a).1 + span size)) where
+  pub border-cut : (last : List Bytes) → tiling last ≡ change_extent rest absorb (tiling mid) → map pair_of last ≡ map pair_of mid → map pair_of mid ≡ map pair_of old → IsBorderMoved old last a size
+  border-cut last is2 pairs2 pairs1 =
+      let t : Tiling = tiling old in
+      let l : Tiling = tiling last in
+      record {
+        border = ∥∥₁_elim k (hlevel (tiling-set)) (λ q. border-shrunk t a size (cut-of old i a q busy.named) (tiling mid) rest busy some less is value l is2);
+        len = ∥∥₁_elim k (hlevel (ℕ_set)) (λ q. shrunk-len t a size (cut-of old i a q busy.named) (tiling mid) rest busy some less is value l is2);
+        kept = λ n small smaller. ∥∥₁_elim k (hlevel (bytes-set)) (λ q. shrunk-kept t a size (cut-of old i a q busy.named) (tiling mid) rest busy some less is value l is2 n small);
+        pairs = pairs2 ∙ pairs1;
+      }
+
   pub gaps-cut : new ≡ change_extent rest absorb (tiling mid) → GapsChange (tiling mid) new (rest ∷ free_next (tiling mid) rest) (rest ∷ []) → GapsChange (tiling old) new (free_next (tiling old) a) (free_next new a)
   gaps-cut is2 g2 root out h =
       let same : free_next (tiling mid) rest ≡ free_next (tiling old) a =

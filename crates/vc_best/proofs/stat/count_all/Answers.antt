@@ -1,54 +1,59 @@
-use Rattle.std.proofs.Common.{◌≡◌, ℕ, suc, List, drop, get_or, ap, sym, subst, ◌∙◌, add-one}
+use Rattle.std.proofs.Common.{◌≡◌, ◌<◌, ℕ, suc, List, ◌++◌, drop, get_or, length, ap, sym, subst, ◌∙◌, add-one}
 use Rattle.vc_seg.specs.Segment.{Bytes}
 use Rattle.vc_extent.specs.Extent.{Extent, extents}
-use Rattle.vc_extent.specs.Tiling.{IsThere, tiling}
+use Rattle.vc_extent.specs.Tiling.{IsThere, extents_of, tiling}
 use Rattle.vc_best.specs.Counts.{HaveRoom, all_extents, counted}
 use Rattle.vc_best.proofs.Along.{pair-at, there-at, tiling-next}
 use Rattle.vc_best.proofs.Counts.{counted-append, room-front, room-rest}
+use Rattle.vc_best.proofs.stat.count_all.Given.{Over}
 use Rattle.vc_best.proofs.stat.count_all.Goals as goal
+use Rattle.vc_best.proofs.stat.count_all.Goals.{After-number}
+
+-- the segment that is counted, and the extents of those behind it
+abbrev here : (g : Over) (c : After-number g) → Bytes
+here g c = get_or c.args.extents.now.segs.items c.loop-segment.segment-index c.segment-item.result
+
+abbrev rest : (g : Over) (c : After-number g) → List Extent
+rest g c = all_extents (tiling (drop (suc c.loop-segment.segment-index) c.args.extents.now.segs.items))
+
+within : (g : Over) (c : After-number g) → c.loop-segment.segment-index < length c.args.extents.now.segs.items
+within g c = rw c.deref-segment-items.ensures.value at c.loop-segment-test.true
+
+-- its number, its extents, and the room for them
+number : (g : Over) (c : After-number g) → c.number.result ≡ (here g c).number
+number g c = c.number.ensures ∙ ap (λ (b : Bytes). b.number) (rw c.deref-segment-items.ensures.value at c.segment-item.is)
+
+own : (g : Over) (c : After-number g) → extents_of c.number.result (tiling c.args.extents.now.segs.items) ≡ extents (here g c).bytes
+own g c =
+    let e = c.args.extents.now in
+    ap (λ (q : ℕ × List Extent). q.1) (pair-at e.segs.items e.index.items c.loop-segment.segment-index c.segment-item.result c.number.result e.kept (within g c) (number g c))
+
+left : (g : Over) (c : After-number g) → all_extents (tiling (drop c.loop-segment.segment-index c.args.extents.now.segs.items)) ≡ extents (here g c).bytes ++ rest g c
+left g c = ap all_extents (tiling-next c.args.extents.now.segs.items c.loop-segment.segment-index c.segment-item.result (within g c))
+
+room : (g : Over) (c : After-number g) → HaveRoom c.loop-segment.counts (extents (here g c).bytes ++ rest g c)
+room g c = subst (HaveRoom c.loop-segment.counts) (left g c) c.loop-segment.invariant.room
 
 pub count_segment-counts-requires-clause-there : goal.count_segment-counts-requires-clause-there
 count_segment-counts-requires-clause-there g c =
-    let value = c.deref-segment-items.ensures.value in
-    let lt = rw value at c.loop-segment-test.true in
-    let is = rw value at c.segment-item.is in
-    let i = c.loop-segment.segment-index in
-    let number = c.number.ensures ∙ ap (λ (b : Bytes). b.number) is in
-    subst (λ (n : ℕ). IsThere n c.args.extents.now.segs.items) (sym number) (there-at c.args.extents.now.segs.items i c.segment-item.result lt)
+    let n = (goal.at.count_segment-counts-requires-clause-there g c).After-number in
+    subst (λ (m : ℕ). IsThere m c.args.extents.now.segs.items) (sym (number g n)) (there-at c.args.extents.now.segs.items c.loop-segment.segment-index c.segment-item.result (within g n))
 
 pub count_segment-counts-requires-clause-room : goal.count_segment-counts-requires-clause-room
 count_segment-counts-requires-clause-room g c =
-    let value = c.deref-segment-items.ensures.value in
-    let lt = rw value at c.loop-segment-test.true in
-    let is = rw value at c.segment-item.is in
-    let i = c.loop-segment.segment-index in
-    let number = c.number.ensures ∙ ap (λ (b : Bytes). b.number) is in
-    let s : Bytes = get_or c.args.extents.now.segs.items i c.segment-item.result in
-    let rest = tiling (drop (suc i) c.args.extents.now.segs.items) in
-    let pair = pair-at c.args.extents.now.segs.items c.args.extents.now.index.items i c.segment-item.result c.number.result c.args.extents.now.kept lt number in
-    subst (λ (q : ℕ × List Extent). HaveRoom c.loop-segment.counts q.1) (sym pair)
-    (room-front c.loop-segment.counts (extents s.bytes) (all_extents rest)
-    (subst (λ (t : List (ℕ × List Extent)). HaveRoom c.loop-segment.counts (all_extents t)) (tiling-next c.args.extents.now.segs.items i c.segment-item.result lt) c.loop-segment.invariant.room))
+    let n = (goal.at.count_segment-counts-requires-clause-room g c).After-number in
+    subst (HaveRoom c.loop-segment.counts) (sym (own g n)) (room-front c.loop-segment.counts (extents (here g n).bytes) (rest g n) (room g n))
 
 pub loop-segment-preserved : goal.loop-segment-preserved
 loop-segment-preserved g c =
-    let value = c.deref-segment-items.ensures.value in
-    let lt = rw value at c.loop-segment-test.true in
-    let is = rw value at c.segment-item.is in
-    let i = c.loop-segment.segment-index in
-    let number = c.number.ensures ∙ ap (λ (b : Bytes). b.number) is in
-    let s : Bytes = get_or c.args.extents.now.segs.items i c.segment-item.result in
-    let rest = tiling (drop (suc i) c.args.extents.now.segs.items) in
-    let pair = pair-at c.args.extents.now.segs.items c.args.extents.now.index.items i c.segment-item.result c.number.result c.args.extents.now.kept lt number in
-    let now : c.count_segment-counts.result ≡ counted c.loop-segment.counts (extents s.bytes) = c.count_segment-counts.ensures ∙ ap (λ (q : ℕ × List Extent). counted c.loop-segment.counts q.1) pair in
+    let n = (goal.at.loop-segment-preserved g c).After-number in
+    let es = extents (here g n).bytes in
+    let now : c.count_segment-counts.result ≡ counted c.loop-segment.counts es = c.count_segment-counts.ensures ∙ ap (counted c.loop-segment.counts) (own g n) in
     rw add-one
     record {
-      room = subst (λ k. HaveRoom k (all_extents rest)) (sym now)
-          (room-rest c.loop-segment.counts (extents s.bytes) (all_extents rest)
-          (subst (λ (t : List (ℕ × List Extent)). HaveRoom c.loop-segment.counts (all_extents t)) (tiling-next c.args.extents.now.segs.items i c.segment-item.result lt) c.loop-segment.invariant.room));
+      room = subst (λ k. HaveRoom k (rest g n)) (sym now) (room-rest c.loop-segment.counts es (rest g n) (room g n));
       rest =
-          ap (λ k. counted k (all_extents rest)) now
-          ∙ (sym (counted-append c.loop-segment.counts (extents s.bytes) (all_extents rest))
-          ∙ (ap (λ (t : List (ℕ × List Extent)). counted c.loop-segment.counts (all_extents t)) (sym (tiling-next c.args.extents.now.segs.items i c.segment-item.result lt))
-          ∙ c.loop-segment.invariant.rest));
+          ap (λ k. counted k (rest g n)) now
+          ∙ (sym (counted-append c.loop-segment.counts es (rest g n))
+          ∙ (ap (counted c.loop-segment.counts) (sym (left g n)) ∙ c.loop-segment.invariant.rest));
     }

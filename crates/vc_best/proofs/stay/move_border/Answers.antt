@@ -5,26 +5,36 @@ use Rattle.std.proofs.Math.Bridge.{le_prop}
 use Rattle.std.proofs.Math.Logic.{∥∥₁_elim}
 use Rattle.vc_model.specs.Segments.{span}
 use Rattle.vc_extent.specs.Tiling.{extent_of, tiling}
-use Rattle.vc_best.proofs.BorderGaps.{gaps-cut, gaps-grown, gaps-sized, gaps-sized_next}
-use Rattle.vc_best.proofs.Borders.{border-same, border-shrunk, border-stretched, rest-free, shrunk-kept, shrunk-len}
+use Rattle.vc_best.proofs.BorderGaps.{border-cut, gaps-cut, gaps-grown, gaps-sized, gaps-sized_next}
+use Rattle.vc_best.proofs.Borders.{border-same, border-stretched, rest-free}
 use Rattle.vc_best.proofs.Known.{cut-of}
-use Rattle.vc_best.proofs.Sets.{bytes-set, tiling-set}
+use Rattle.vc_best.proofs.Sets.{tiling-set}
+use Rattle.vc_best.proofs.stay.move_border.Given.{Over}
 use Rattle.vc_best.proofs.stay.move_border.Goals as goal
+use Rattle.vc_best.proofs.stay.move_border.Goals.{After-shrink-rest, After-stretch}
+
+-- which of the two spans is larger
+less : (g : Over) (c : After-shrink-rest g) → span c.args.size < (extent_of (tiling c.args.extents.now.segs.items) c.args.a.0).span
+less g c = omega (arith, c.span_at-own.ensures.value, c.span_of-wanted.ensures)
+
+more : (g : Over) (c : After-stretch g) → (extent_of (tiling c.args.extents.now.segs.items) c.args.a.0).span < span c.args.size
+more g c = omega (arith, c.span_at-own.ensures.value, c.span_of-wanted.ensures)
 
 pub absorb_next-requires : goal.absorb_next-requires
 absorb_next-requires g c =
-    let own = c.span_at-own.ensures.value in
-    let wanted = c.span_of-wanted.ensures in
-    let less : span c.args.size < (extent_of (tiling c.args.extents.now.segs.items) c.args.a.0).span = omega arith in
-    record { free = ∥∥₁_elim c.args.extents.now.kept (hlevel (le_prop, ℕ_set)) (λ k. rest-free (tiling c.args.extents.now.segs.items) c.args.a.0 c.args.size (cut-of c.args.extents.now.segs.items c.args.extents.now.index.items c.args.a.0 k c.requires.busy.named) (tiling c.shrink-rest.new.self.segs.items) c.shrink-rest.result.0 c.requires.busy c.requires.some less c.shrink-rest.ensures.tiling c.shrink-rest.ensures.rest) }
+    let e = c.args.extents.now in
+    let lt = less g (goal.at.absorb_next-requires g c).After-shrink-rest in
+    record {
+      free = ∥∥₁_elim e.kept (hlevel (le_prop, ℕ_set)) (λ k. rest-free (tiling e.segs.items) c.args.a.0 c.args.size (cut-of e.segs.items e.index.items c.args.a.0 k c.requires.busy.named) (tiling c.shrink-rest.new.self.segs.items) c.shrink-rest.result.0 c.requires.busy c.requires.some lt c.shrink-rest.ensures.tiling c.shrink-rest.ensures.rest);
+    }
 
 pub returns-then-wanted-own-clause-moved : goal.returns-then-wanted-own-clause-moved
 returns-then-wanted-own-clause-moved g c =
-    let own = c.span_at-own.ensures.value in
-    let wanted = c.span_of-wanted.ensures in
-    let same : span c.args.size ≡ (extent_of (tiling c.args.extents.now.segs.items) c.args.a.0).span = omega arith in
+    let e = c.args.extents.now in
+    let t = tiling e.segs.items in
+    let same : span c.args.size ≡ (extent_of t c.args.a.0).span = omega (arith, c.span_at-own.ensures.value, c.span_of-wanted.ensures) in
     record {
-      border = c.set_size.ensures.tiling ∙ ∥∥₁_elim c.args.extents.now.kept (hlevel (tiling-set)) (λ k. border-same (tiling c.args.extents.now.segs.items) c.args.a.0 c.args.size (cut-of c.args.extents.now.segs.items c.args.extents.now.index.items c.args.a.0 k c.requires.busy.named) (extent_of (tiling c.set_size.new.self.segs.items) c.args.a.0).body same);
+      border = c.set_size.ensures.tiling ∙ ∥∥₁_elim e.kept (hlevel (tiling-set)) (λ k. border-same t c.args.a.0 c.args.size (cut-of e.segs.items e.index.items c.args.a.0 k c.requires.busy.named) (extent_of (tiling c.set_size.new.self.segs.items) c.args.a.0).body same);
       len = c.set_size.ensures.len;
       kept = c.set_size.ensures.kept;
       pairs = c.set_size.ensures.pairs;
@@ -32,26 +42,23 @@ returns-then-wanted-own-clause-moved g c =
 
 pub returns-then-wanted-own-2-clause-moved : goal.returns-then-wanted-own-2-clause-moved
 returns-then-wanted-own-2-clause-moved g c =
-    let own = c.span_at-own.ensures.value in
-    let wanted = c.span_of-wanted.ensures in
-    let less : span c.args.size < (extent_of (tiling c.args.extents.now.segs.items) c.args.a.0).span = omega arith in
-    record {
-      border = ∥∥₁_elim c.args.extents.now.kept (hlevel (tiling-set)) (λ k. border-shrunk (tiling c.args.extents.now.segs.items) c.args.a.0 c.args.size (cut-of c.args.extents.now.segs.items c.args.extents.now.index.items c.args.a.0 k c.requires.busy.named) (tiling c.shrink-rest.new.self.segs.items) c.shrink-rest.result.0 c.requires.busy c.requires.some less c.shrink-rest.ensures.tiling c.shrink-rest.ensures.rest (tiling c.absorb_next.new.extents.segs.items) c.absorb_next.ensures.tiling);
-      len = ∥∥₁_elim c.args.extents.now.kept (hlevel (ℕ_set)) (λ k. shrunk-len (tiling c.args.extents.now.segs.items) c.args.a.0 c.args.size (cut-of c.args.extents.now.segs.items c.args.extents.now.index.items c.args.a.0 k c.requires.busy.named) (tiling c.shrink-rest.new.self.segs.items) c.shrink-rest.result.0 c.requires.busy c.requires.some less c.shrink-rest.ensures.tiling c.shrink-rest.ensures.rest (tiling c.absorb_next.new.extents.segs.items) c.absorb_next.ensures.tiling);
-      kept = λ n small smaller. ∥∥₁_elim c.args.extents.now.kept (hlevel (bytes-set)) (λ k. shrunk-kept (tiling c.args.extents.now.segs.items) c.args.a.0 c.args.size (cut-of c.args.extents.now.segs.items c.args.extents.now.index.items c.args.a.0 k c.requires.busy.named) (tiling c.shrink-rest.new.self.segs.items) c.shrink-rest.result.0 c.requires.busy c.requires.some less c.shrink-rest.ensures.tiling c.shrink-rest.ensures.rest (tiling c.absorb_next.new.extents.segs.items) c.absorb_next.ensures.tiling n small);
-      pairs = c.absorb_next.ensures.pairs ∙ c.shrink-rest.ensures.pairs;
-    }
+    let e = c.args.extents.now in
+    let n = c.shrink-rest.new.self in
+    let last = c.absorb_next.new.extents in
+    border-cut e.segs.items n.segs.items e.index.items e.kept (tiling last.segs.items) c.args.a.0 c.args.size c.shrink-rest.result.0 c.requires.busy c.requires.some (less g (goal.at.returns-then-wanted-own-2-clause-moved g c).After-shrink-rest)
+    c.shrink-rest.ensures.tiling c.shrink-rest.ensures.rest last.segs.items c.absorb_next.ensures.tiling c.absorb_next.ensures.pairs c.shrink-rest.ensures.pairs
 
 pub returns-else-wanted-own-2-clause-moved : goal.returns-else-wanted-own-2-clause-moved
 returns-else-wanted-own-2-clause-moved g c =
-    let own = c.span_at-own.ensures.value in
-    let wanted = c.span_of-wanted.ensures in
-    let more : (extent_of (tiling c.args.extents.now.segs.items) c.args.a.0).span < span c.args.size = omega arith in
-    let n = (extent_of (tiling c.args.extents.now.segs.items) c.args.a.0).size in
+    let e = c.args.extents.now in
+    let t = tiling e.segs.items in
+    let size = (extent_of t c.args.a.0).size in
+    let body = (extent_of (tiling c.stretch.new.self.segs.items) c.args.a.0).body in
+    let gt = more g (goal.at.returns-else-wanted-own-2-clause-moved g c).After-stretch in
     record {
-      border = c.stretch.ensures.tiling ∙ ∥∥₁_elim c.args.extents.now.kept (hlevel (tiling-set)) (λ k. border-stretched (tiling c.args.extents.now.segs.items) c.args.a.0 c.args.size (cut-of c.args.extents.now.segs.items c.args.extents.now.index.items c.args.a.0 k c.requires.busy.named) (extent_of (tiling c.stretch.new.self.segs.items) c.args.a.0).body more c.requires.room);
+      border = c.stretch.ensures.tiling ∙ ∥∥₁_elim e.kept (hlevel (tiling-set)) (λ k. border-stretched t c.args.a.0 c.args.size (cut-of e.segs.items e.index.items c.args.a.0 k c.requires.busy.named) body gt c.requires.room);
       len = c.stretch.ensures.len;
-      kept = λ k small le. sym (take-take k n (extent_of (tiling c.stretch.new.self.segs.items) c.args.a.0).body le) ∙ ap (take k) c.stretch.ensures.kept;
+      kept = λ k small le. sym (take-take k size body le) ∙ ap (take k) c.stretch.ensures.kept;
       pairs = c.stretch.ensures.pairs;
     }
 
@@ -70,22 +77,18 @@ returns-then-wanted-own-clause-same_span g c =
 pub returns-then-wanted-own-2-clause-gaps : goal.returns-then-wanted-own-2-clause-gaps
 returns-then-wanted-own-2-clause-gaps g c =
     let e = c.args.extents.now in
-    let own = c.span_at-own.ensures.value in
-    let wanted = c.span_of-wanted.ensures in
-    let less : span c.args.size < (extent_of (tiling e.segs.items) c.args.a.0).span = omega arith in
-    gaps-cut e.segs.items c.shrink-rest.new.self.segs.items e.index.items e.kept (tiling c.absorb_next.new.extents.segs.items) c.args.a.0 c.args.size c.shrink-rest.result.0 c.requires.busy c.requires.some less c.shrink-rest.ensures.tiling c.shrink-rest.ensures.rest c.absorb_next.ensures.tiling c.absorb_next.ensures.gaps
+    let n = c.shrink-rest.new.self in
+    gaps-cut e.segs.items n.segs.items e.index.items e.kept (tiling c.absorb_next.new.extents.segs.items) c.args.a.0 c.args.size c.shrink-rest.result.0 c.requires.busy c.requires.some (less g (goal.at.returns-then-wanted-own-2-clause-gaps g c).After-shrink-rest)
+    c.shrink-rest.ensures.tiling c.shrink-rest.ensures.rest c.absorb_next.ensures.tiling c.absorb_next.ensures.gaps
 
 pub returns-then-wanted-own-2-clause-same_span : goal.returns-then-wanted-own-2-clause-same_span
-returns-then-wanted-own-2-clause-same_span g c = λ same. absurd (let own = c.span_at-own.ensures.value in let wanted = c.span_of-wanted.ensures in omega arith)
+returns-then-wanted-own-2-clause-same_span g c = λ same. absurd (let lt = less g (goal.at.returns-then-wanted-own-2-clause-same_span g c).After-shrink-rest in omega arith)
 
 pub returns-else-wanted-own-2-clause-gaps : goal.returns-else-wanted-own-2-clause-gaps
 returns-else-wanted-own-2-clause-gaps g c =
     let e = c.args.extents.now in
     let n = c.stretch.new.self in
-    let own = c.span_at-own.ensures.value in
-    let wanted = c.span_of-wanted.ensures in
-    let more : (extent_of (tiling e.segs.items) c.args.a.0).span < span c.args.size = omega arith in
-    gaps-grown e.segs.items n.segs.items e.index.items n.index.items e.kept n.kept c.args.a.0 c.args.size c.requires.busy c.requires.some (extent_of (tiling n.segs.items) c.args.a.0).body more c.requires.room c.requires.merged c.stretch.ensures.tiling
+    gaps-grown e.segs.items n.segs.items e.index.items n.index.items e.kept n.kept c.args.a.0 c.args.size c.requires.busy c.requires.some (extent_of (tiling n.segs.items) c.args.a.0).body (more g (goal.at.returns-else-wanted-own-2-clause-gaps g c).After-stretch) c.requires.room c.requires.merged c.stretch.ensures.tiling
 
 pub returns-else-wanted-own-2-clause-same_span : goal.returns-else-wanted-own-2-clause-same_span
-returns-else-wanted-own-2-clause-same_span g c = λ same. absurd (let own = c.span_at-own.ensures.value in let wanted = c.span_of-wanted.ensures in omega arith)
+returns-else-wanted-own-2-clause-same_span g c = λ same. absurd (let gt = more g (goal.at.returns-else-wanted-own-2-clause-same_span g c).After-stretch in omega arith)
