@@ -12,6 +12,7 @@ use Rattle.vc_extent.specs.Extent.{Extent, busy_extent, free_extent, no_links}
 use Rattle.vc_extent.specs.Change.{change_at, extent_in, mark_busy, split, write}
 use Rattle.vc_extent.specs.Tiling.{IsFree, change_extent, extent_of}
 use Rattle.vc_best.specs.Changes.{carve, cut_back, cut_front, free_part, lay_zeros}
+use Rattle.vc_best.specs.Standing.{CanPutBlock}
 use Rattle.vc_best.proofs.Cuts.{change_at-here, change_at-skip, extent_in-here, extent_in-skip}
 use Rattle.vc_best.proofs.Known.{IsCut, end-of, now-none, now-same, off-of, then-extent, then-steps}
 use Rattle.vc_best.proofs.Layouts.{behind_of}
@@ -156,13 +157,12 @@ module _ (e : Extent) (ys : List Extent) (off size tag : ℕ) (free : e.size ≡
       ∙ ap (λ (n : ℕ). busy_extent off n size tag (replicate size 0) ∷ zs) back.1.span)))
 
 -- the calls on the segments
-module _ (t t1 : List (ℕ × List Extent)) (a to off size tag : ℕ) (c : IsCut t a) (free : IsFree t a) (some : 1 ≤ size) (first : (place_of a).1 ≤ off) (multiple : off % 32 ≡ 0)
-    (fits : off + span size ≤ (place_of a).1 + (extent_of t a).span) (value : to ≡ address ((place_of a).0, off)) (is1 : t1 ≡ change_extent a (cut_front off) t) where
+module _ (t t1 : List (ℕ × List Extent)) (a to off size tag : ℕ) (c : IsCut t a) (room : CanPutBlock t a off size) (value : to ≡ address ((place_of a).0, off)) (is1 : t1 ≡ change_extent a (cut_front off) t) where
   pub place : place_of to ≡ ((place_of a).0, off)
   place =
       let end = end-of t a c in
       let most = c.legal.most in
-      ap place_of value ∙ place_of-address (place_of a).0 off (omega arith) multiple
+      ap place_of value ∙ place_of-address (place_of a).0 off (omega (arith, room.fits)) room.multiple
 
   seg : (place_of to).0 ≡ (place_of a).0
   seg = ap (λ (p : ℕ × ℕ). p.0) place
@@ -171,16 +171,16 @@ module _ (t t1 : List (ℕ × List Extent)) (a to off size tag : ℕ) (c : IsCut
   at = ap (λ (p : ℕ × ℕ). p.1) place
 
   span-some : 0 < span size
-  span-some = omega arith
+  span-some = omega (arith, room.some)
 
   le : (place_of a).1 ≤ (place_of to).1
-  le = let o = at in omega arith
+  le = let o = at in omega (arith, o, room.first)
 
   low : (extent_of t a).off ≤ off
-  low = let o = off-of t a c in omega arith
+  low = let o = off-of t a c in omega (arith, o, room.first)
 
   high : off + span size ≤ (extent_of t a).off + (extent_of t a).span
-  high = let o = off-of t a c in omega arith
+  high = let o = off-of t a c in omega (arith, o, room.fits)
 
   free-from : (x : Extent) (s : ℕ) → 0 < s → IsSpan off s x → (t' : List (ℕ × List Extent)) → extent_of t' to ≡ x → IsFree t' to
   free-from x s some' is t' e =
@@ -191,7 +191,7 @@ module _ (t t1 : List (ℕ × List Extent)) (a to off size tag : ℕ) (c : IsCut
   fronted =
       let o = off-of t a c in
       let s = span-some in
-      let is = front-extent (extent_of t a) (behind_of t a) off size tag free.free low high span-some in
+      let is = front-extent (extent_of t a) (behind_of t a) off size tag room.free.free low high span-some in
       let e : extent_of t1 to ≡ extent_in off (cut_front off (extent_of t a) (behind_of t a)) = then-extent t t1 a to (cut_front off) c is1 seg le ∙ ap (λ (n : ℕ). extent_in n (cut_front off (extent_of t a) (behind_of t a))) at in
       free-from (extent_in off (cut_front off (extent_of t a) (behind_of t a))) ((extent_of t a).off + (extent_of t a).span - off) (omega arith) is t1 e
 
@@ -201,7 +201,7 @@ module _ (t t1 : List (ℕ × List Extent)) (a to off size tag : ℕ) (c : IsCut
       let p = at in
       let least = low in
       let most = high in
-      let is = front-extent (extent_of t a) (behind_of t a) off size tag free.free low high span-some in
+      let is = front-extent (extent_of t a) (behind_of t a) off size tag room.free.free low high span-some in
       let e : extent_of t1 to ≡ extent_in off (cut_front off (extent_of t a) (behind_of t a)) = then-extent t t1 a to (cut_front off) c is1 seg le ∙ ap (λ (n : ℕ). extent_in n (cut_front off (extent_of t a) (behind_of t a))) at in
       let s : (extent_of t1 to).span ≡ (extent_of t a).off + (extent_of t a).span - off = ap (λ (y : Extent). y.span) e ∙ is.span in
       omega (arith, o, p, least, most, s)
@@ -212,7 +212,7 @@ module _ (t t1 : List (ℕ × List Extent)) (a to off size tag : ℕ) (c : IsCut
 
     extent : (x : Extent) × IsSpan off (span size) x × (extent_of t2 to ≡ x)
     extent =
-        let is = back-extent (extent_of t a) (behind_of t a) off size tag free.free low high span-some in
+        let is = back-extent (extent_of t a) (behind_of t a) off size tag room.free.free low high span-some in
         let f : Extent → List Extent → List Extent = λ e ys. change_at (place_of to).1 (cut_back (span size)) (cut_front off e ys) in (
           extent_in off (change_at off (cut_back (span size)) (cut_front off (extent_of t a) (behind_of t a))),
           is,
@@ -230,7 +230,7 @@ module _ (t t1 : List (ℕ × List Extent)) (a to off size tag : ℕ) (c : IsCut
         let f : Extent → List Extent → List Extent = λ e ys. change_at (place_of to).1 (cut_back (span size)) (cut_front off e ys) in
         then-steps t t2 a to f c is-both seg le t3 (lay_zeros size tag) (carve off size tag) is3
         (ap (λ (n : ℕ). change_at n (lay_zeros size tag) (change_at n (cut_back (span size)) (cut_front off (extent_of t a) (behind_of t a)))) at
-        ∙ carve-is (extent_of t a) (behind_of t a) off size tag free.free low high span-some)
+        ∙ carve-is (extent_of t a) (behind_of t a) off size tag room.free.free low high span-some)
 
 -- what is before and behind the block is free
 module _ (t new : List (ℕ × List Extent)) (a off size tag : ℕ) (c : IsCut t a) (free : IsFree t a) (fits : off + span size ≤ (place_of a).1 + (extent_of t a).span) (is : new ≡ change_extent a (carve off size tag) t) where

@@ -1,6 +1,7 @@
 -- The free extents that stand beside others, by their addresses, and the tree of gaps where they change.
 use Rattle.std.specs.Prelude.{◌≡◌, ℕ, ◌+◌, List, [], ◌∷◌, ◌++◌, Option, None, Some, ◌&&◌, nat_lt, if◌then◌else◌}
 use Rattle.vc_model.specs.Addr.{address, place_of}
+use Rattle.vc_model.specs.Segments.{span}
 use Rattle.vc_extent.specs.Extent.{Extent}
 use Rattle.vc_extent.specs.Tiling.{extent_of, next_of, previous_of}
 use Rattle.vc_gaps.specs.ButLinks.{Tiling}
@@ -36,6 +37,11 @@ part_from t a off = part_name (place_of a).0 off ((place_of a).1 + (extent_of t 
 abbrev pub GapsChange : Tiling → Tiling → List ℕ → List ℕ → Type 0
 GapsChange old new gone come =
     (root : ℕ) (out : List ℕ) → HasGaps old root (gone ++ out) → HasGaps new root (come ++ out)
+
+-- the gap behind a busy extent is another once that has a size, and where it keeps its span no gap is another
+pub record GapBehindChanges (old new : Tiling) (a size : ℕ) : Type 0 where
+  pub gaps : GapsChange old new (free_next old a) (free_next new a)
+  pub same_span : span size ≡ (extent_of old a).span → GapsChange old new [] []
 
 -- the root stands for a tree of the free extents of the segments below a number
 pub record HasGapsBelow (number : ℕ) (t : Tiling) (root : ℕ) : Type 0 where

@@ -1,10 +1,9 @@
-ghost use Rattle.std.specs.Prelude.{◌≡◌, ◌+◌, ◌<◌, ◌≤◌, ◌%◌, [], ◌∷◌, ◌++◌, map};
+ghost use Rattle.std.specs.Prelude.{◌≡◌, ◌+◌, ◌<◌, ◌≤◌, ◌%◌, [], ◌∷◌, ◌++◌};
 ghost use Rattle.vc_model.specs.Addr.{address, place_of};
 ghost use Rattle.vc_model.specs.Segments.{span};
-ghost use Rattle.vc_seg.specs.Segment.{pair_of};
-ghost use Rattle.vc_extent.specs.Tiling.{IsFree, change_extent, extent_of, tiling};
+ghost use Rattle.vc_extent.specs.Tiling.{IsFree, extent_of, tiling};
 ghost use Rattle.vc_best.specs.Beside.{GapsChange, part_before, part_from};
-ghost use Rattle.vc_best.specs.Changes.{carve, cut_back, cut_front, lay_zeros};
+ghost use Rattle.vc_best.specs.Changes.{IsExtentChanged, carve, cut_back, cut_front, lay_zeros};
 ghost use Rattle.vc_best.specs.Standing.{CanPutBlock};
 
 use vc_base::{Addr, Steps};
@@ -17,9 +16,7 @@ fn cut_front(extents: &mut Extents, a: Addr, off: u32) -> Addr
     requires first { (place_of a.0).1 ≤ off }
     requires multiple { off % 32 ≡ 0 }
     requires within { off < (place_of a.0).1 + (extent_of (tiling extents.old.segs.items) a.0).span }
-    ensures tiling { tiling extents.new.segs.items
-        ≡ change_extent a.0 (cut_front off) (tiling extents.old.segs.items) }
-    ensures pairs { map pair_of extents.new.segs.items ≡ map pair_of extents.old.segs.items }
+    ensures changed { IsExtentChanged extents.old.segs.items extents.new.segs.items a.0 (cut_front off) }
     ensures value { result.0 ≡ address ((place_of a.0).0, off) }
     ensures gaps { GapsChange (tiling extents.old.segs.items) (tiling extents.new.segs.items)
         (a.0 ∷ []) (result.0 ∷ part_before a.0 off) }
@@ -36,9 +33,7 @@ fn cut_back<L>(extents: &mut Extents, a: Addr, bytes: u32, steps: &mut Steps<L>)
     requires free { IsFree (tiling extents.old.segs.items) a.0 }
     requires least { 32 ≤ bytes }
     requires multiple { bytes % 32 ≡ 0 }
-    ensures tiling { tiling extents.new.segs.items
-        ≡ change_extent a.0 (cut_back bytes) (tiling extents.old.segs.items) }
-    ensures pairs { map pair_of extents.new.segs.items ≡ map pair_of extents.old.segs.items }
+    ensures changed { IsExtentChanged extents.old.segs.items extents.new.segs.items a.0 (cut_back bytes) }
     ensures gaps { GapsChange (tiling extents.old.segs.items) (tiling extents.new.segs.items)
         (a.0 ∷ []) (a.0 ∷ part_from (tiling extents.old.segs.items) a.0 ((place_of a.0).1 + bytes)) }
 {
@@ -52,9 +47,7 @@ fn lay_zeros(extents: &mut Extents, a: Addr, size: u32, tag: u32)
     requires free { IsFree (tiling extents.old.segs.items) a.0 }
     requires some { 1 ≤ size }
     requires span { span size ≡ (extent_of (tiling extents.old.segs.items) a.0).span }
-    ensures tiling { tiling extents.new.segs.items
-        ≡ change_extent a.0 (lay_zeros size tag) (tiling extents.old.segs.items) }
-    ensures pairs { map pair_of extents.new.segs.items ≡ map pair_of extents.old.segs.items }
+    ensures changed { IsExtentChanged extents.old.segs.items extents.new.segs.items a.0 (lay_zeros size tag) }
     ensures gaps { GapsChange (tiling extents.old.segs.items) (tiling extents.new.segs.items)
         (a.0 ∷ []) [] }
 {
@@ -73,9 +66,7 @@ pub(crate) fn put_zeros<L>(
     steps: &mut Steps<L>,
 ) -> Addr
     requires { CanPutBlock (tiling extents.old.segs.items) a.0 off size }
-    ensures tiling { tiling extents.new.segs.items
-        ≡ change_extent a.0 (carve off size tag) (tiling extents.old.segs.items) }
-    ensures pairs { map pair_of extents.new.segs.items ≡ map pair_of extents.old.segs.items }
+    ensures changed { IsExtentChanged extents.old.segs.items extents.new.segs.items a.0 (carve off size tag) }
     ensures value { result.0 ≡ address ((place_of a.0).0, off) }
     ensures gaps { GapsChange (tiling extents.old.segs.items) (tiling extents.new.segs.items)
         (a.0 ∷ []) (part_before a.0 off

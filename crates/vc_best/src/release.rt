@@ -1,11 +1,10 @@
-ghost use Rattle.std.specs.Prelude.{◌≡◌, [], ◌∷◌, ◌++◌, map};
+ghost use Rattle.std.specs.Prelude.{◌≡◌, [], ◌∷◌, ◌++◌};
 ghost use Rattle.vc_model.specs.Addr.{place_of};
 ghost use Rattle.vc_model.specs.Best.{without_block_at};
-ghost use Rattle.vc_seg.specs.Segment.{pair_of};
-ghost use Rattle.vc_extent.specs.Tiling.{IsBusy, IsFree, change_extent, tiling};
+ghost use Rattle.vc_extent.specs.Tiling.{IsBusy, IsFree, tiling};
 ghost use Rattle.vc_best.specs.Beside.{GapsChange, free_before, free_next};
 ghost use Rattle.vc_best.specs.Blocks.{layout_by};
-ghost use Rattle.vc_best.specs.Changes.{absorb};
+ghost use Rattle.vc_best.specs.Changes.{IsExtentChanged, absorb};
 ghost use Rattle.vc_best.specs.Free.{IsMerged};
 
 use vc_base::Addr;
@@ -14,9 +13,7 @@ use vc_extent::Extents;
 /// Makes a free extent and the one behind it one, where that is free.
 pub(crate) fn absorb_next(extents: &mut Extents, a: Addr)
     requires free { IsFree (tiling extents.old.segs.items) a.0 }
-    ensures tiling { tiling extents.new.segs.items
-        ≡ change_extent a.0 absorb (tiling extents.old.segs.items) }
-    ensures pairs { map pair_of extents.new.segs.items ≡ map pair_of extents.old.segs.items }
+    ensures changed { IsExtentChanged extents.old.segs.items extents.new.segs.items a.0 absorb }
     ensures gaps { GapsChange (tiling extents.old.segs.items) (tiling extents.new.segs.items)
         (a.0 ∷ free_next (tiling extents.old.segs.items) a.0) (a.0 ∷ []) }
     ensures free { IsFree (tiling extents.new.segs.items) a.0 }

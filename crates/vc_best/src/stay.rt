@@ -1,9 +1,9 @@
-ghost use Rattle.std.specs.Prelude.{◌≡◌, ◌≤◌, ◌↔◌, [], IsTrue};
+ghost use Rattle.std.specs.Prelude.{◌≡◌, ◌≤◌, ◌↔◌, IsTrue};
 ghost use Rattle.vc_model.specs.Addr.{place_of};
 ghost use Rattle.vc_model.specs.Resize.{resize_there};
 ghost use Rattle.vc_model.specs.Segments.{span};
-ghost use Rattle.vc_extent.specs.Tiling.{IsBusy, IsNamed, extent_of, tiling};
-ghost use Rattle.vc_best.specs.Beside.{GapsChange, free_next};
+ghost use Rattle.vc_extent.specs.Tiling.{IsBusy, IsNamed, tiling};
+ghost use Rattle.vc_best.specs.Beside.{GapBehindChanges};
 ghost use Rattle.vc_best.specs.Blocks.{layout_by};
 ghost use Rattle.vc_best.specs.Free.{IsMerged, room_of};
 ghost use Rattle.vc_best.specs.Standing.{CanResizeThere, IsBorderMoved};
@@ -44,11 +44,8 @@ pub(crate) fn has_room<L>(extents: &Extents, a: Addr, size: u32, steps: &mut Ste
 fn move_border<L>(extents: &mut Extents, a: Addr, size: u32, steps: &mut Steps<L>)
     requires { CanResizeThere (tiling extents.old.segs.items) a.0 size }
     ensures moved { IsBorderMoved extents.old.segs.items extents.new.segs.items a.0 size }
-    ensures gaps { GapsChange (tiling extents.old.segs.items) (tiling extents.new.segs.items)
-        (free_next (tiling extents.old.segs.items) a.0)
-        (free_next (tiling extents.new.segs.items) a.0) }
-    ensures same_span { span size ≡ (extent_of (tiling extents.old.segs.items) a.0).span
-        → GapsChange (tiling extents.old.segs.items) (tiling extents.new.segs.items) [] [] }
+    ensures gaps { GapBehindChanges (tiling extents.old.segs.items) (tiling extents.new.segs.items)
+        a.0 size }
 {
     let own = extents.span_at(a, steps);
     let wanted = span_of(size);
@@ -69,11 +66,8 @@ pub(crate) fn resize_there<L>(extents: &mut Extents, a: Addr, size: u32, steps: 
         ≡ resize_there (layout_by extents.old.segs.items) (place_of a.0) size }
     ensures merged { IsMerged (tiling extents.new.segs.items) }
     ensures named { IsNamed (tiling extents.new.segs.items) a.0 }
-    ensures gaps { GapsChange (tiling extents.old.segs.items) (tiling extents.new.segs.items)
-        (free_next (tiling extents.old.segs.items) a.0)
-        (free_next (tiling extents.new.segs.items) a.0) }
-    ensures same_span { span size ≡ (extent_of (tiling extents.old.segs.items) a.0).span
-        → GapsChange (tiling extents.old.segs.items) (tiling extents.new.segs.items) [] [] }
+    ensures gaps { GapBehindChanges (tiling extents.old.segs.items) (tiling extents.new.segs.items)
+        a.0 size }
 {
     let old = extents.size_at(a);
     move_border(extents, a, size, steps);

@@ -1,4 +1,4 @@
-use Rattle.std.proofs.Common.{◌+◌, ◌∙◌, arith}
+use Rattle.std.proofs.Common.{◌+◌, refl, ◌∙◌, arith}
 use Rattle.std.proofs.Math.Logic.{∥∥₁_elim}
 use Rattle.vc_model.specs.Addr.{place_of}
 use Rattle.vc_extent.specs.Tiling.{extent_of, tiling}
@@ -8,17 +8,21 @@ use Rattle.vc_best.proofs.Outs.{gaps-back, gaps-no_back}
 use Rattle.vc_best.proofs.Sets.{tiling-set}
 use Rattle.vc_best.proofs.carve.cut_back.Goals as goal
 
-pub returns-then-bytes-span_at-clause-tiling : goal.returns-then-bytes-span_at-clause-tiling
-returns-then-bytes-span_at-clause-tiling g c =
-    ∥∥₁_elim c.args.extents.now.kept (hlevel (tiling-set))
-    (λ k.
-    c.split.ensures.tiling
-    ∙ back-some (tiling c.args.extents.now.segs.items) c.args.a.0 c.args.bytes (cut-of c.args.extents.now.segs.items c.args.extents.now.index.items c.args.a.0 k c.requires.free.named) (omega arith))
+pub returns-then-bytes-span_at-clause-changed : goal.returns-then-bytes-span_at-clause-changed
+returns-then-bytes-span_at-clause-changed g c =
+    let e = c.args.extents.now in
+    record {
+      extents = ∥∥₁_elim e.kept (hlevel (tiling-set)) (λ k. c.split.ensures.tiling ∙ back-some (tiling e.segs.items) c.args.a.0 c.args.bytes (cut-of e.segs.items e.index.items c.args.a.0 k c.requires.free.named) (omega arith));
+      pairs = c.split.ensures.pairs;
+    }
 
-pub returns-else-bytes-span_at-clause-tiling : goal.returns-else-bytes-span_at-clause-tiling
-returns-else-bytes-span_at-clause-tiling g c =
-    ∥∥₁_elim c.args.extents.now.kept (hlevel (tiling-set))
-    (λ k. back-none (tiling c.args.extents.now.segs.items) c.args.a.0 c.args.bytes (cut-of c.args.extents.now.segs.items c.args.extents.now.index.items c.args.a.0 k c.requires.free.named) (omega arith))
+pub returns-else-bytes-span_at-clause-changed : goal.returns-else-bytes-span_at-clause-changed
+returns-else-bytes-span_at-clause-changed g c =
+    let e = c.args.extents.now in
+    record {
+      extents = ∥∥₁_elim e.kept (hlevel (tiling-set)) (λ k. back-none (tiling e.segs.items) c.args.a.0 c.args.bytes (cut-of e.segs.items e.index.items c.args.a.0 k c.requires.free.named) (omega arith));
+      pairs = refl;
+    }
 
 pub returns-then-bytes-span_at-clause-gaps : goal.returns-then-bytes-span_at-clause-gaps
 returns-then-bytes-span_at-clause-gaps g c =

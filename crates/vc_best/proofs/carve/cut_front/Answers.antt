@@ -1,4 +1,4 @@
-use Rattle.std.proofs.Common.{ℕ, ◌-◌, ap, ◌∙◌, arith}
+use Rattle.std.proofs.Common.{ℕ, ◌-◌, refl, ap, ◌∙◌, arith}
 use Rattle.std.proofs.Math.Logic.{∥∥₁_elim}
 use Rattle.vc_model.specs.Addr.{address, place_of}
 use Rattle.vc_extent.specs.Tiling.{change_extent, tiling}
@@ -9,19 +9,27 @@ use Rattle.vc_best.proofs.Outs.{gaps-front, gaps-no_front}
 use Rattle.vc_best.proofs.Sets.{tiling-set}
 use Rattle.vc_best.proofs.carve.cut_front.Goals as goal
 
-pub returns-then-off-clause-tiling : goal.returns-then-off-clause-tiling
-returns-then-off-clause-tiling c =
-    let t = tiling c.args.extents.now.segs.items in
-    ∥∥₁_elim c.args.extents.now.kept (hlevel (tiling-set))
-    (λ k.
-    c.split.ensures.tiling
-    ∙ (ap (λ (n : ℕ). change_extent c.args.a.0 (split (c.args.off - n)) t) c.off-then-off.ensures
-    ∙ front-some t c.args.a.0 c.args.off (cut-of c.args.extents.now.segs.items c.args.extents.now.index.items c.args.a.0 k c.requires.free.named) (omega arith)))
+pub returns-then-off-clause-changed : goal.returns-then-off-clause-changed
+returns-then-off-clause-changed c =
+    let e = c.args.extents.now in
+    let t = tiling e.segs.items in
+    record {
+      extents =
+          ∥∥₁_elim e.kept (hlevel (tiling-set))
+          (λ k.
+          c.split.ensures.tiling
+          ∙ (ap (λ (n : ℕ). change_extent c.args.a.0 (split (c.args.off - n)) t) c.off-then-off.ensures
+          ∙ front-some t c.args.a.0 c.args.off (cut-of e.segs.items e.index.items c.args.a.0 k c.requires.free.named) (omega arith)));
+      pairs = c.split.ensures.pairs;
+    }
 
-pub returns-else-off-clause-tiling : goal.returns-else-off-clause-tiling
-returns-else-off-clause-tiling c =
-    ∥∥₁_elim c.args.extents.now.kept (hlevel (tiling-set))
-    (λ k. front-none (tiling c.args.extents.now.segs.items) c.args.a.0 c.args.off (cut-of c.args.extents.now.segs.items c.args.extents.now.index.items c.args.a.0 k c.requires.free.named) (omega arith))
+pub returns-else-off-clause-changed : goal.returns-else-off-clause-changed
+returns-else-off-clause-changed c =
+    let e = c.args.extents.now in
+    record {
+      extents = ∥∥₁_elim e.kept (hlevel (tiling-set)) (λ k. front-none (tiling e.segs.items) c.args.a.0 c.args.off (cut-of e.segs.items e.index.items c.args.a.0 k c.requires.free.named) (omega arith));
+      pairs = refl;
+    }
 
 pub returns-then-off-clause-gaps : goal.returns-then-off-clause-gaps
 returns-then-off-clause-gaps c =

@@ -1,4 +1,4 @@
-use Rattle.std.proofs.Common.{ap, replicate, arith}
+use Rattle.std.proofs.Common.{ap, replicate, ◌∙◌, arith}
 use Rattle.std.proofs.Math.Bridge.{le_prop}
 use Rattle.std.proofs.Math.Logic.{∥∥₁_elim}
 use Rattle.vc_extent.specs.Extent.{Extent}
@@ -30,12 +30,18 @@ fill-requires-clause-within c =
     let e = marked t (tiling c.mark_busy.new.self.segs.items) c.args.a.0 c.args.size c.args.tag (extent_of (tiling c.mark_busy.new.self.segs.items) c.args.a.0).body (cut-of c.args.extents.now.segs.items c.args.extents.now.index.items c.args.a.0 k c.requires.free.named) c.mark_busy.ensures.tiling in
     rw (ap (λ (x : Extent). x.size) e) (omega arith))
 
-pub returns-clause-tiling : goal.returns-clause-tiling
-returns-clause-tiling c =
-    ∥∥₁_elim c.args.extents.now.kept (hlevel (tiling-set))
-    (λ k.
-    laid (tiling c.args.extents.now.segs.items) (tiling c.mark_busy.new.self.segs.items) c.args.a.0 c.args.size c.args.tag (extent_of (tiling c.mark_busy.new.self.segs.items) c.args.a.0).body (cut-of c.args.extents.now.segs.items c.args.extents.now.index.items c.args.a.0 k c.requires.free.named) c.mark_busy.ensures.tiling
-    (tiling c.fill.new.self.segs.items) c.mark_busy.ensures.len c.fill.ensures.tiling)
+pub returns-clause-changed : goal.returns-clause-changed
+returns-clause-changed c =
+    let e = c.args.extents.now in
+    let t1 = tiling c.mark_busy.new.self.segs.items in
+    record {
+      extents =
+          ∥∥₁_elim e.kept (hlevel (tiling-set))
+          (λ k.
+          laid (tiling e.segs.items) t1 c.args.a.0 c.args.size c.args.tag (extent_of t1 c.args.a.0).body (cut-of e.segs.items e.index.items c.args.a.0 k c.requires.free.named) c.mark_busy.ensures.tiling
+          (tiling c.fill.new.self.segs.items) c.mark_busy.ensures.len c.fill.ensures.tiling);
+      pairs = c.fill.ensures.pairs ∙ c.mark_busy.ensures.pairs;
+    }
 
 pub returns-clause-gaps : goal.returns-clause-gaps
 returns-clause-gaps c =

@@ -46,7 +46,7 @@ returns-then-wanted-own-2-clause-moved g c =
     let n = c.shrink-rest.new.self in
     let last = c.absorb_next.new.extents in
     border-cut e.segs.items n.segs.items e.index.items e.kept (tiling last.segs.items) c.args.a.0 c.args.size c.shrink-rest.result.0 c.requires.busy c.requires.some (less g (goal.at.returns-then-wanted-own-2-clause-moved g c).After-shrink-rest)
-    c.shrink-rest.ensures.tiling c.shrink-rest.ensures.rest last.segs.items c.absorb_next.ensures.tiling c.absorb_next.ensures.pairs c.shrink-rest.ensures.pairs
+    c.shrink-rest.ensures.tiling c.shrink-rest.ensures.rest last.segs.items c.absorb_next.ensures.changed.extents c.absorb_next.ensures.changed.pairs c.shrink-rest.ensures.pairs
 
 pub returns-else-wanted-own-2-clause-moved : goal.returns-else-wanted-own-2-clause-moved
 returns-else-wanted-own-2-clause-moved g c =
@@ -66,29 +66,30 @@ pub returns-then-wanted-own-clause-gaps : goal.returns-then-wanted-own-clause-ga
 returns-then-wanted-own-clause-gaps g c =
     let e = c.args.extents.now in
     let n = c.set_size.new.self in
-    gaps-sized_next e.segs.items n.segs.items e.index.items n.index.items e.kept n.kept c.args.a.0 c.args.size c.requires.busy c.requires.some (extent_of (tiling n.segs.items) c.args.a.0).body c.set_size.ensures.tiling
-
-pub returns-then-wanted-own-clause-same_span : goal.returns-then-wanted-own-clause-same_span
-returns-then-wanted-own-clause-same_span g c =
-    let e = c.args.extents.now in
-    let n = c.set_size.new.self in
-    λ same. gaps-sized e.segs.items n.segs.items e.index.items n.index.items e.kept n.kept c.args.a.0 c.args.size c.requires.busy c.requires.some (extent_of (tiling n.segs.items) c.args.a.0).body c.set_size.ensures.tiling
+    let body = (extent_of (tiling n.segs.items) c.args.a.0).body in
+    record {
+      gaps = gaps-sized_next e.segs.items n.segs.items e.index.items n.index.items e.kept n.kept c.args.a.0 c.args.size c.requires.busy c.requires.some body c.set_size.ensures.tiling;
+      same_span = λ same. gaps-sized e.segs.items n.segs.items e.index.items n.index.items e.kept n.kept c.args.a.0 c.args.size c.requires.busy c.requires.some body c.set_size.ensures.tiling;
+    }
 
 pub returns-then-wanted-own-2-clause-gaps : goal.returns-then-wanted-own-2-clause-gaps
 returns-then-wanted-own-2-clause-gaps g c =
     let e = c.args.extents.now in
     let n = c.shrink-rest.new.self in
-    gaps-cut e.segs.items n.segs.items e.index.items e.kept (tiling c.absorb_next.new.extents.segs.items) c.args.a.0 c.args.size c.shrink-rest.result.0 c.requires.busy c.requires.some (less g (goal.at.returns-then-wanted-own-2-clause-gaps g c).After-shrink-rest)
-    c.shrink-rest.ensures.tiling c.shrink-rest.ensures.rest c.absorb_next.ensures.tiling c.absorb_next.ensures.gaps
-
-pub returns-then-wanted-own-2-clause-same_span : goal.returns-then-wanted-own-2-clause-same_span
-returns-then-wanted-own-2-clause-same_span g c = λ same. absurd (let lt = less g (goal.at.returns-then-wanted-own-2-clause-same_span g c).After-shrink-rest in omega arith)
+    let lt = less g (goal.at.returns-then-wanted-own-2-clause-gaps g c).After-shrink-rest in
+    record {
+      gaps =
+          gaps-cut e.segs.items n.segs.items e.index.items e.kept (tiling c.absorb_next.new.extents.segs.items) c.args.a.0 c.args.size c.shrink-rest.result.0 c.requires.busy c.requires.some lt
+          c.shrink-rest.ensures.tiling c.shrink-rest.ensures.rest c.absorb_next.ensures.changed.extents c.absorb_next.ensures.gaps;
+      same_span = λ same. absurd (omega (arith, lt, same));
+    }
 
 pub returns-else-wanted-own-2-clause-gaps : goal.returns-else-wanted-own-2-clause-gaps
 returns-else-wanted-own-2-clause-gaps g c =
     let e = c.args.extents.now in
     let n = c.stretch.new.self in
-    gaps-grown e.segs.items n.segs.items e.index.items n.index.items e.kept n.kept c.args.a.0 c.args.size c.requires.busy c.requires.some (extent_of (tiling n.segs.items) c.args.a.0).body (more g (goal.at.returns-else-wanted-own-2-clause-gaps g c).After-stretch) c.requires.room c.requires.merged c.stretch.ensures.tiling
-
-pub returns-else-wanted-own-2-clause-same_span : goal.returns-else-wanted-own-2-clause-same_span
-returns-else-wanted-own-2-clause-same_span g c = λ same. absurd (let gt = more g (goal.at.returns-else-wanted-own-2-clause-same_span g c).After-stretch in omega arith)
+    let gt = more g (goal.at.returns-else-wanted-own-2-clause-gaps g c).After-stretch in
+    record {
+      gaps = gaps-grown e.segs.items n.segs.items e.index.items n.index.items e.kept n.kept c.args.a.0 c.args.size c.requires.busy c.requires.some (extent_of (tiling n.segs.items) c.args.a.0).body gt c.requires.room c.requires.merged c.stretch.ensures.tiling;
+      same_span = λ same. absurd (omega (arith, gt, same));
+    }

@@ -75,16 +75,12 @@ returns-then-old-size-clause-gaps g c =
     let busy = moved g (goal.at.returns-then-old-size-clause-gaps g c).After-move_border in
     let off = c.size_at-old.result in
     let src = replicate (c.args.size - off) 0 in
-    λ root out h.
-    subst (λ (ns : List ℕ). HasGaps t2 root (ns ++ out)) (sym (next-written n.segs.items n.index.items n.kept t2 a off src busy.named c.fill.ensures.tiling))
-    (gaps-written t1 t2 a off src c.fill.ensures.tiling busy root (free_next t1 a ++ out) (c.move_border.ensures.gaps root out h))
-
-pub returns-then-old-size-clause-same_span : goal.returns-then-old-size-clause-same_span
-returns-then-old-size-clause-same_span g c =
-    let t1 = tiling c.move_border.new.extents.segs.items in
-    let off = c.size_at-old.result in
-    λ same root out h.
-    gaps-written t1 (tiling c.fill.new.self.segs.items) c.args.a.0 off (replicate (c.args.size - off) 0) c.fill.ensures.tiling (moved g (goal.at.returns-then-old-size-clause-same_span g c).After-move_border) root out (c.move_border.ensures.same_span same root out h)
+    record {
+      gaps = λ root out h.
+          subst (λ (ns : List ℕ). HasGaps t2 root (ns ++ out)) (sym (next-written n.segs.items n.index.items n.kept t2 a off src busy.named c.fill.ensures.tiling))
+          (gaps-written t1 t2 a off src c.fill.ensures.tiling busy root (free_next t1 a ++ out) (c.move_border.ensures.gaps.gaps root out h));
+      same_span = λ same root out h. gaps-written t1 t2 a off src c.fill.ensures.tiling busy root out (c.move_border.ensures.gaps.same_span same root out h);
+    }
 
 pub returns-else-old-size-clause-named : goal.returns-else-old-size-clause-named
 returns-else-old-size-clause-named g c = (moved g (goal.at.returns-else-old-size-clause-named g c).After-move_border).named

@@ -85,7 +85,7 @@ link_part-requires-clause-can g c =
     ap (λ (n : ℕ). address (n, c.off-start.result)) c.seg.ensures ∙ ap (λ (n : ℕ). address ((place_of a).0, n)) c.off-start.ensures ∙ own-address a in
     λ lt.
     let low : (place_of a).1 < c.args.off = let o = c.off-start.ensures in omega arith in
-    let free : IsFree t1 a = ∥∥₁_elim e.kept (hlevel (le_prop, ℕ_set)) (λ k. carved-front t t1 a c.args.off c.args.size c.args.tag (cut-of e.segs.items e.index.items a k c.requires.room.free.named) c.requires.room.free c.requires.room.fits c.put_zeros-to.ensures.tiling low) in
+    let free : IsFree t1 a = ∥∥₁_elim e.kept (hlevel (le_prop, ℕ_set)) (λ k. carved-front t t1 a c.args.off c.args.size c.args.tag (cut-of e.segs.items e.index.items a k c.requires.room.free.named) c.requires.room.free c.requires.room.fits c.put_zeros-to.ensures.changed.extents low) in
     let within : contains (fs ++ bs) a ≡ true =
     subst (λ (ps : List ℕ). contains (ps ++ bs) a ≡ true) (sym (part-some (place_of a).0 (place_of a).1 c.args.off low ∙ ap (λ (n : ℕ). n ∷ []) (own-address a))) (contains-head a bs) in
     subst (CanLinkGap t1 root) (sym name) (can_link-out t1 root (fs ++ bs) a (gaps-whole t1 root (fs ++ bs) (c.put_zeros-to.ensures.gaps root [] c.requires.gaps)) within free)
@@ -124,7 +124,7 @@ link_part-requires-2-clause-can g c =
     let h = left g (goal.at.link_part-requires-2-clause-can g c).After-link_part in
     λ lt.
     let more : c.args.off + span c.args.size < (place_of a).1 + (extent_of t a).span = let s = c.span_of.ensures in omega arith in
-    let free : IsFree t1 b = ∥∥₁_elim e.kept (hlevel (le_prop, ℕ_set)) (λ k. carved-back t t1 a c.args.off c.args.size c.args.tag (cut-of e.segs.items e.index.items a k c.requires.room.free.named) c.requires.room.free c.requires.room.fits c.put_zeros-to.ensures.tiling c.requires.room.first c.requires.room.multiple more) in
+    let free : IsFree t1 b = ∥∥₁_elim e.kept (hlevel (le_prop, ℕ_set)) (λ k. carved-back t t1 a c.args.off c.args.size c.args.tag (cut-of e.segs.items e.index.items a k c.requires.room.free.named) c.requires.room.free c.requires.room.fits c.put_zeros-to.ensures.changed.extents c.requires.room.first c.requires.room.multiple more) in
     let within : contains bs b ≡ true = subst (λ (ps : List ℕ). contains ps b ≡ true) (sym (part-some (place_of a).0 (c.args.off + span c.args.size) _ more)) (contains-head b []) in
     subst (CanLinkGap t2 root) (sym name) (can_link-out t2 root bs b h within (free-stays t1 t2 c.link_part.ensures.rest.extents b free))
 
@@ -134,7 +134,7 @@ returns-clause-layout g c =
     let n = c.put_zeros-to.new.extents in
     layout-stays c.link_part.new.extents.segs.items c.link_part-2.new.extents.segs.items c.link_part-2.ensures.rest
     ∙ layout-stays n.segs.items c.link_part.new.extents.segs.items c.link_part.ensures.rest
-    ∙ carved-layout e.segs.items n.segs.items e.index.items n.index.items e.kept n.kept c.args.a.0 c.args.off c.args.size c.args.tag c.requires.room.free c.requires.room.some c.put_zeros-to.ensures.tiling c.put_zeros-to.ensures.pairs
+    ∙ carved-layout e.segs.items n.segs.items e.index.items n.index.items e.kept n.kept c.args.a.0 c.args.off c.args.size c.args.tag c.requires.room.free c.requires.room.some c.put_zeros-to.ensures.changed.extents c.put_zeros-to.ensures.changed.pairs
 
 pub returns-clause-kept : goal.returns-clause-kept
 returns-clause-kept g c =
@@ -153,7 +153,7 @@ returns-clause-kept g c =
       merged =
           merged-stays t2 (tiling c.link_part-2.new.extents.segs.items) c.link_part-2.ensures.rest.extents
           (merged-stays (tiling n.segs.items) t2 c.link_part.ensures.rest.extents
-          (carved-merged e.segs.items n.segs.items e.index.items n.index.items e.kept n.kept a c.args.off c.args.size c.args.tag c.requires.room.free c.requires.room.some c.put_zeros-to.ensures.tiling c.requires.merged));
+          (carved-merged e.segs.items n.segs.items e.index.items n.index.items e.kept n.kept a c.args.off c.args.size c.args.tag c.requires.room.free c.requires.room.some c.put_zeros-to.ensures.changed.extents c.requires.merged));
       gaps =
           c.link_part-2.ensures.gaps [] (λ lt. refl)
           (subst (λ (ps : List ℕ). HasGaps t2 root (ps ++ [])) (sym name) (gaps-none_more t2 root bs (left g (goal.at.returns-clause-kept g c).After-link_part)));

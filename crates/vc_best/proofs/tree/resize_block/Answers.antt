@@ -31,7 +31,7 @@ link_next-requires-clause-gaps g c =
     let root = c.unlink_next.new.root.0 in
     let next = next_name-stays (tiling c.args.extents.now.segs.items) t1 c.unlink_next.ensures.rest.extents a in
     gaps-whole t2 root (free_next t2 a)
-    (c.resize_there-2.ensures.gaps root [] (gaps-none_more t1 root (free_next t1 a) (subst (HasGaps t1 root) (sym next) c.unlink_next.ensures.gaps)))
+    (c.resize_there-2.ensures.gaps.gaps root [] (gaps-none_more t1 root (free_next t1 a) (subst (HasGaps t1 root) (sym next) c.unlink_next.ensures.gaps)))
 
 pub returns-clause-layout : goal.returns-clause-layout
 returns-clause-layout g c =
