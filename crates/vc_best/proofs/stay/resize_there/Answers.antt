@@ -18,8 +18,21 @@ use Rattle.vc_best.proofs.stay.resize_there.Goals as goal
 use Rattle.vc_best.proofs.stay.resize_there.Given.{Over}
 use Rattle.vc_best.proofs.stay.resize_there.Goals.{After-move_border}
 
+-- once the border behind it has moved it is busy still, and no two free extents stand beside each other
+moved : (g : Over) (c : After-move_border g) → IsBusy (tiling c.move_border.new.extents.segs.items) c.args.a.0
+moved g c =
+    let e = c.args.extents.now in
+    let n = c.move_border.new.extents in
+    moved-busy e.segs.items n.segs.items e.index.items n.index.items c.args.a.0 c.args.size (extent_of (tiling n.segs.items) c.args.a.0).body e.kept n.kept c.requires.busy c.requires.some c.requires.room c.move_border.ensures.moved.border c.move_border.ensures.moved.pairs
+
+merged : (g : Over) (c : After-move_border g) → IsMerged (tiling c.move_border.new.extents.segs.items)
+merged g c =
+    let e = c.args.extents.now in
+    let n = c.move_border.new.extents in
+    moved-merged e.segs.items n.segs.items e.index.items n.index.items c.args.a.0 c.args.size (extent_of (tiling n.segs.items) c.args.a.0).body e.kept n.kept c.requires.busy c.requires.some c.requires.room c.move_border.ensures.moved.border c.move_border.ensures.moved.pairs c.requires.merged
+
 pub fill-requires-clause-busy : goal.fill-requires-clause-busy
-fill-requires-clause-busy g c = (moved-busy c.args.extents.now.segs.items c.move_border.new.extents.segs.items c.args.extents.now.index.items c.move_border.new.extents.index.items c.args.a.0 c.args.size (extent_of (tiling c.move_border.new.extents.segs.items) c.args.a.0).body c.args.extents.now.kept c.move_border.new.extents.kept c.requires.busy c.requires.some c.requires.room c.move_border.ensures.moved.border c.move_border.ensures.moved.pairs)
+fill-requires-clause-busy g c = moved g (goal.at.fill-requires-clause-busy g c).After-move_border
 
 pub fill-requires-clause-within : goal.fill-requires-clause-within
 fill-requires-clause-within g c =
@@ -34,7 +47,7 @@ returns-then-old-size-clause-layout g c =
     let zeros = replicate (c.args.size - e.size) 0 in
     let is : tiling c.fill.new.self.segs.items ≡ change_extent c.args.a.0 (write e.size zeros) (tiling c.move_border.new.extents.segs.items) =
     c.fill.ensures.tiling ∙ ap (λ (n : ℕ). change_extent c.args.a.0 (write n (replicate (c.args.size - n) 0)) (tiling c.move_border.new.extents.segs.items)) own in
-    there-filled c.args.extents.now.segs.items c.move_border.new.extents.segs.items c.args.extents.now.index.items c.move_border.new.extents.index.items c.args.a.0 c.args.size (extent_of (tiling c.move_border.new.extents.segs.items) c.args.a.0).body c.args.extents.now.kept c.move_border.new.extents.kept c.requires.busy c.requires.some c.requires.room c.move_border.ensures.moved.border c.move_border.ensures.moved.pairs (layout_by c.fill.new.self.segs.items) (layout-written c.move_border.new.extents.segs.items c.fill.new.self.segs.items c.move_border.new.extents.index.items c.fill.new.self.index.items c.args.a.0 e.size zeros c.move_border.new.extents.kept c.fill.new.self.kept (moved-busy c.args.extents.now.segs.items c.move_border.new.extents.segs.items c.args.extents.now.index.items c.move_border.new.extents.index.items c.args.a.0 c.args.size (extent_of (tiling c.move_border.new.extents.segs.items) c.args.a.0).body c.args.extents.now.kept c.move_border.new.extents.kept c.requires.busy c.requires.some c.requires.room c.move_border.ensures.moved.border c.move_border.ensures.moved.pairs) is c.fill.ensures.pairs) c.move_border.ensures.moved.len lt (c.move_border.ensures.moved.kept e.size (omega arith) (omega arith))
+    there-filled c.args.extents.now.segs.items c.move_border.new.extents.segs.items c.args.extents.now.index.items c.move_border.new.extents.index.items c.args.a.0 c.args.size (extent_of (tiling c.move_border.new.extents.segs.items) c.args.a.0).body c.args.extents.now.kept c.move_border.new.extents.kept c.requires.busy c.requires.some c.requires.room c.move_border.ensures.moved.border c.move_border.ensures.moved.pairs (layout_by c.fill.new.self.segs.items) (layout-written c.move_border.new.extents.segs.items c.fill.new.self.segs.items c.move_border.new.extents.index.items c.fill.new.self.index.items c.args.a.0 e.size zeros c.move_border.new.extents.kept c.fill.new.self.kept (moved g (goal.at.returns-then-old-size-clause-layout g c).After-move_border) is c.fill.ensures.pairs) c.move_border.ensures.moved.len lt (c.move_border.ensures.moved.kept e.size (omega arith) (omega arith))
 
 pub returns-then-old-size-clause-merged : goal.returns-then-old-size-clause-merged
 returns-then-old-size-clause-merged g c =
@@ -43,7 +56,7 @@ returns-then-old-size-clause-merged g c =
     subst IsMerged (sym c.fill.ensures.tiling)
     (∥∥₁_elim c.move_border.new.extents.kept (merged-prop _)
     (λ k.
-    merged-one (tiling c.move_border.new.extents.segs.items) c.args.a.0 (write c.size_at-old.result src) (busy_extent x.off x.span x.size x.tag (with_bytes c.size_at-old.result src x.body)) (cut-of c.move_border.new.extents.segs.items c.move_border.new.extents.index.items c.args.a.0 k (moved-busy c.args.extents.now.segs.items c.move_border.new.extents.segs.items c.args.extents.now.index.items c.move_border.new.extents.index.items c.args.a.0 c.args.size (extent_of (tiling c.move_border.new.extents.segs.items) c.args.a.0).body c.args.extents.now.kept c.move_border.new.extents.kept c.requires.busy c.requires.some c.requires.room c.move_border.ensures.moved.border c.move_border.ensures.moved.pairs).named) refl refl (moved-merged c.args.extents.now.segs.items c.move_border.new.extents.segs.items c.args.extents.now.index.items c.move_border.new.extents.index.items c.args.a.0 c.args.size (extent_of (tiling c.move_border.new.extents.segs.items) c.args.a.0).body c.args.extents.now.kept c.move_border.new.extents.kept c.requires.busy c.requires.some c.requires.room c.move_border.ensures.moved.border c.move_border.ensures.moved.pairs c.requires.merged)))
+    merged-one (tiling c.move_border.new.extents.segs.items) c.args.a.0 (write c.size_at-old.result src) (busy_extent x.off x.span x.size x.tag (with_bytes c.size_at-old.result src x.body)) (cut-of c.move_border.new.extents.segs.items c.move_border.new.extents.index.items c.args.a.0 k (moved g (goal.at.returns-then-old-size-clause-merged g c).After-move_border).named) refl refl (merged g (goal.at.returns-then-old-size-clause-merged g c).After-move_border)))
 
 pub returns-else-old-size-clause-layout : goal.returns-else-old-size-clause-layout
 returns-else-old-size-clause-layout g c =
@@ -53,14 +66,7 @@ returns-else-old-size-clause-layout g c =
     there-cut c.args.extents.now.segs.items c.move_border.new.extents.segs.items c.args.extents.now.index.items c.move_border.new.extents.index.items c.args.a.0 c.args.size (extent_of (tiling c.move_border.new.extents.segs.items) c.args.a.0).body c.args.extents.now.kept c.move_border.new.extents.kept c.requires.busy c.requires.some c.requires.room c.move_border.ensures.moved.border c.move_border.ensures.moved.pairs c.move_border.ensures.moved.len le (c.move_border.ensures.moved.kept c.args.size (omega arith) le)
 
 pub returns-else-old-size-clause-merged : goal.returns-else-old-size-clause-merged
-returns-else-old-size-clause-merged g c = moved-merged c.args.extents.now.segs.items c.move_border.new.extents.segs.items c.args.extents.now.index.items c.move_border.new.extents.index.items c.args.a.0 c.args.size (extent_of (tiling c.move_border.new.extents.segs.items) c.args.a.0).body c.args.extents.now.kept c.move_border.new.extents.kept c.requires.busy c.requires.some c.requires.room c.move_border.ensures.moved.border c.move_border.ensures.moved.pairs c.requires.merged
-
--- the block once the border behind it has moved
-moved : (g : Over) (c : After-move_border g) → IsBusy (tiling c.move_border.new.extents.segs.items) c.args.a.0
-moved g c =
-    let e = c.args.extents.now in
-    let n = c.move_border.new.extents in
-    moved-busy e.segs.items n.segs.items e.index.items n.index.items c.args.a.0 c.args.size (extent_of (tiling n.segs.items) c.args.a.0).body e.kept n.kept c.requires.busy c.requires.some c.requires.room c.move_border.ensures.moved.border c.move_border.ensures.moved.pairs
+returns-else-old-size-clause-merged g c = merged g (goal.at.returns-else-old-size-clause-merged g c).After-move_border
 
 pub returns-then-old-size-clause-named : goal.returns-then-old-size-clause-named
 returns-then-old-size-clause-named g c =

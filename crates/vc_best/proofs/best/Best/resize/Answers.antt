@@ -1,7 +1,8 @@
-use Rattle.std.proofs.Common.{sym, arith, ℕ, option_map, Some, false, refl, ap, ◌∙◌}
+use Rattle.std.proofs.Common.{◌≡◌, sym, arith, ℕ, option_map, Some, false, refl, ap, ◌∙◌}
 use Rattle.vc_model.specs.Addr.{place_of}
 use Rattle.vc_model.specs.Layout.{Layout, without_block}
-use Rattle.vc_model.specs.Touch.{find_block}
+use Rattle.vc_model.specs.Resize.{can_stay}
+use Rattle.vc_model.specs.Touch.{HasBlock, find_block}
 use Rattle.vc_extent.specs.Tiling.{tiling}
 use Rattle.vc_best.specs.Blocks.{layout_by}
 use Rattle.vc_best.proofs.Asking.{Served-later, Served-unasked}
@@ -12,15 +13,35 @@ use Rattle.vc_best.proofs.Found.{busy-of}
 use Rattle.vc_best.proofs.Held.{held, kept-of, merged-of, most-of}
 use Rattle.vc_best.proofs.Stays.{label-by, most-sized, moved-most, moved-segments, size-by, stays-by}
 use Rattle.vc_best.proofs.There.{size-moved, size-sized, there-moved, there-sized}
+use Rattle.vc_best.proofs.best.Best.resize.Given.{Over}
 use Rattle.vc_best.proofs.best.Best.resize.Goals as goal
+use Rattle.vc_best.proofs.best.Best.resize.Goals.{After-has_room, After-tag_at-tag, After-take_over}
+
+-- whether the block can stay, and its tag
+stays : (g : Over) (c : After-has_room g) → option_map (can_stay (layout_by c.args.self.now.extents.segs.items) c.args.size) (find_block (place_of c.args.a.0) (layout_by c.args.self.now.extents.segs.items).blocks) ≡ Some c.has_room.result
+stays g c =
+    let b = c.args.self.now in
+    stays-by b.extents.segs.items b.extents.index.items c.args.a.0 b.extents.kept c.requires.block c.args.size c.has_room.result (merged-of (tiling b.extents.segs.items) b.merged) c.requires.some c.has_room.ensures.0 c.has_room.ensures.1
+
+tag : (g : Over) (c : After-tag_at-tag g) → option_map (λ b. b.label) (find_block (place_of c.args.a.0) (layout_by c.args.self.now.extents.segs.items).blocks) ≡ Some c.tag_at-tag.result
+tag g c =
+    let e = c.args.self.now.extents in
+    label-by e.segs.items e.index.items c.args.a.0 e.kept c.requires.block c.tag_at-tag.result c.tag_at-tag.ensures
+
+-- beside the new block it stands where it did
+was : (g : Over) (c : After-take_over g) → find_block (place_of c.args.a.0) (layout_by c.alloc.new.self.extents.segs.items).blocks ≡ find_block (place_of c.args.a.0) (layout_by c.args.self.now.extents.segs.items).blocks
+was g c = old-found _ (layout_by c.args.self.now.extents.segs.items) c.tag_at-tag.result c.args.size 32 c.in-Ok.to.0 false (layout_by c.alloc.new.self.extents.segs.items) c.in-Ok.ensures.answer c.in-Ok.ensures.fresh c.args.a.0 c.requires.block
+
+still : (g : Over) (c : After-take_over g) → HasBlock (layout_by c.alloc.new.self.extents.segs.items).blocks c.args.a.0
+still g c = old-among _ (layout_by c.args.self.now.extents.segs.items) c.tag_at-tag.result c.args.size 32 c.in-Ok.to.0 false (layout_by c.alloc.new.self.extents.segs.items) c.in-Ok.ensures.answer c.in-Ok.ensures.fresh c.args.a.0 c.requires.block
 
 pub returns-then-has_room-clause-answer : goal.returns-then-has_room-clause-answer
 returns-then-has_room-clause-answer g c =
-    resize-stays _ (layout_by c.args.self.now.extents.segs.items) c.args.a.0 c.args.size c.args.may_move false (layout_by c.resize_block.new.extents.segs.items) ((stays-by c.args.self.now.extents.segs.items c.args.self.now.extents.index.items c.args.a.0 c.args.self.now.extents.kept c.requires.block c.args.size c.has_room.result (merged-of (tiling c.args.self.now.extents.segs.items) c.args.self.now.merged) c.requires.some c.has_room.ensures.0 c.has_room.ensures.1) ∙ ap Some c.if-has_room.true) c.resize_block.ensures.layout
+    resize-stays _ (layout_by c.args.self.now.extents.segs.items) c.args.a.0 c.args.size c.args.may_move false (layout_by c.resize_block.new.extents.segs.items) (stays g (goal.at.returns-then-has_room-clause-answer g c).After-has_room ∙ ap Some c.if-has_room.true) c.resize_block.ensures.layout
 
 pub returns-then-not-may_move-clause-answer : goal.returns-then-not-may_move-clause-answer
 returns-then-not-may_move-clause-answer g c =
-    (resize-fixed _ (layout_by c.args.self.now.extents.segs.items) (place_of c.args.a.0) c.args.size c.args.may_move false ((stays-by c.args.self.now.extents.segs.items c.args.self.now.extents.index.items c.args.a.0 c.args.self.now.extents.kept c.requires.block c.args.size c.has_room.result (merged-of (tiling c.args.self.now.extents.segs.items) c.args.self.now.merged) c.requires.some c.has_room.ensures.0 c.has_room.ensures.1) ∙ ap Some c.if-has_room.false) c.if-not-may_move.true, refl)
+    (resize-fixed _ (layout_by c.args.self.now.extents.segs.items) (place_of c.args.a.0) c.args.size c.args.may_move false (stays g (goal.at.returns-then-not-may_move-clause-answer g c).After-has_room ∙ ap Some c.if-has_room.false) c.if-not-may_move.true, refl)
 
 pub has_room-requires-clause-busy : goal.has_room-requires-clause-busy
 has_room-requires-clause-busy g c = busy-of c.args.self.now.extents.segs.items c.args.self.now.extents.index.items c.args.a.0 c.args.self.now.extents.kept c.requires.block
@@ -64,28 +85,28 @@ take_over-requires-clause-room g c = size-by c.alloc.new.self.extents.segs.items
 
 pub invariant_of-self-in-Ok : goal.invariant_of-self-in-Ok
 invariant_of-self-in-Ok g c =
-    let h = held c.take_over.new.extents.segs.items c.take_over.new.extents.index.items c.take_over.new.extents.kept (moved-most c.alloc.new.self.extents.segs.items c.alloc.new.self.extents.index.items c.args.a.0 c.alloc.new.self.extents.kept (old-among _ (layout_by c.args.self.now.extents.segs.items) c.tag_at-tag.result c.args.size 32 c.in-Ok.to.0 false (layout_by c.alloc.new.self.extents.segs.items) c.in-Ok.ensures.answer c.in-Ok.ensures.fresh c.args.a.0 c.requires.block) (layout_by c.take_over.new.extents.segs.items) (place_of c.in-Ok.to.0) c.args.size c.take_over.ensures.moved.moved (most-of (layout_by c.alloc.new.self.extents.segs.items) c.alloc.new.self.whole)) c.take_over.ensures.kept.merged in
+    let h = held c.take_over.new.extents.segs.items c.take_over.new.extents.index.items c.take_over.new.extents.kept (moved-most c.alloc.new.self.extents.segs.items c.alloc.new.self.extents.index.items c.args.a.0 c.alloc.new.self.extents.kept (still g (goal.at.invariant_of-self-in-Ok g c).After-take_over) (layout_by c.take_over.new.extents.segs.items) (place_of c.in-Ok.to.0) c.args.size c.take_over.ensures.moved.moved (most-of (layout_by c.alloc.new.self.extents.segs.items) c.alloc.new.self.whole)) c.take_over.ensures.kept.merged in
     record { sound = h.sound; whole = h.whole; merged = h.merged; gaps = ∣ c.take_over.ensures.kept.gaps ∣₁; counted = let less = c.take_over.ensures.moved.count in let all = c.alloc.new.self.counted in omega (arith, less, all) }
 
 pub returns-in-Ok-clause-answer : goal.returns-in-Ok-clause-answer
 returns-in-Ok-clause-answer g c =
-    let same = old-found _ (layout_by c.args.self.now.extents.segs.items) c.tag_at-tag.result c.args.size 32 c.in-Ok.to.0 false (layout_by c.alloc.new.self.extents.segs.items) c.in-Ok.ensures.answer c.in-Ok.ensures.fresh c.args.a.0 c.requires.block in
-    let can = (stays-by c.args.self.now.extents.segs.items c.args.self.now.extents.index.items c.args.a.0 c.args.self.now.extents.kept c.requires.block c.args.size c.has_room.result (merged-of (tiling c.args.self.now.extents.segs.items) c.args.self.now.merged) c.requires.some c.has_room.ensures.0 c.has_room.ensures.1) ∙ ap Some c.if-has_room.false in
-    resize-moves _ (layout_by c.args.self.now.extents.segs.items) c.args.a.0 c.args.size c.tag_at-tag.result c.args.may_move c.if-not-may_move.false c.in-Ok.to.0 (layout_by c.alloc.new.self.extents.segs.items) (layout_by c.take_over.new.extents.segs.items) same can (label-by c.args.self.now.extents.segs.items c.args.self.now.extents.index.items c.args.a.0 c.args.self.now.extents.kept c.requires.block c.tag_at-tag.result c.tag_at-tag.ensures) c.in-Ok.ensures.answer c.take_over.ensures.moved.moved
+    let same = was g (goal.at.returns-in-Ok-clause-answer g c).After-take_over in
+    let can = stays g (goal.at.returns-in-Ok-clause-answer g c).After-has_room ∙ ap Some c.if-has_room.false in
+    resize-moves _ (layout_by c.args.self.now.extents.segs.items) c.args.a.0 c.args.size c.tag_at-tag.result c.args.may_move c.if-not-may_move.false c.in-Ok.to.0 (layout_by c.alloc.new.self.extents.segs.items) (layout_by c.take_over.new.extents.segs.items) same can (tag g (goal.at.returns-in-Ok-clause-answer g c).After-tag_at-tag) c.in-Ok.ensures.answer c.take_over.ensures.moved.moved
 
 pub returns-in-Err-clause-answer : goal.returns-in-Err-clause-answer
 returns-in-Err-clause-answer g c =
-    let can = (stays-by c.args.self.now.extents.segs.items c.args.self.now.extents.index.items c.args.a.0 c.args.self.now.extents.kept c.requires.block c.args.size c.has_room.result (merged-of (tiling c.args.self.now.extents.segs.items) c.args.self.now.merged) c.requires.some c.has_room.ensures.0 c.has_room.ensures.1) ∙ ap Some c.if-has_room.false in
-    (resize-refused _ (layout_by c.args.self.now.extents.segs.items) c.args.a.0 c.args.size c.tag_at-tag.result c.args.may_move c.if-not-may_move.false c.in-Err.fault can (label-by c.args.self.now.extents.segs.items c.args.self.now.extents.index.items c.args.a.0 c.args.self.now.extents.kept c.requires.block c.tag_at-tag.result c.tag_at-tag.ensures) c.in-Err.ensures.answer.0, c.in-Err.ensures.answer.1)
+    let can = stays g (goal.at.returns-in-Err-clause-answer g c).After-has_room ∙ ap Some c.if-has_room.false in
+    (resize-refused _ (layout_by c.args.self.now.extents.segs.items) c.args.a.0 c.args.size c.tag_at-tag.result c.args.may_move c.if-not-may_move.false c.in-Err.fault can (tag g (goal.at.returns-in-Err-clause-answer g c).After-tag_at-tag) c.in-Err.ensures.answer.0, c.in-Err.ensures.answer.1)
 
 pub returns-then-has_room-clause-disc : goal.returns-then-has_room-clause-disc
 returns-then-has_room-clause-disc g c = Served-unasked _ _ _ _ (ap (λ (r : Layout ℕ). r.segments) c.resize_block.ensures.layout)
 
 pub returns-in-Ok-clause-disc : goal.returns-in-Ok-clause-disc
-returns-in-Ok-clause-disc g c = Served-later _ _ _ _ _ _ (moved-segments c.alloc.new.self.extents.segs.items c.alloc.new.self.extents.index.items c.args.a.0 c.alloc.new.self.extents.kept (old-among _ (layout_by c.args.self.now.extents.segs.items) c.tag_at-tag.result c.args.size 32 c.in-Ok.to.0 false (layout_by c.alloc.new.self.extents.segs.items) c.in-Ok.ensures.answer c.in-Ok.ensures.fresh c.args.a.0 c.requires.block) (layout_by c.take_over.new.extents.segs.items) (place_of c.in-Ok.to.0) c.args.size c.take_over.ensures.moved.moved) c.in-Ok.ensures.disc
+returns-in-Ok-clause-disc g c = Served-later _ _ _ _ _ _ (moved-segments c.alloc.new.self.extents.segs.items c.alloc.new.self.extents.index.items c.args.a.0 c.alloc.new.self.extents.kept (still g (goal.at.returns-in-Ok-clause-disc g c).After-take_over) (layout_by c.take_over.new.extents.segs.items) (place_of c.in-Ok.to.0) c.args.size c.take_over.ensures.moved.moved) c.in-Ok.ensures.disc
 
 pub returns-in-Err-clause-no_memory : goal.returns-in-Err-clause-no_memory
-returns-in-Err-clause-no_memory g c = λ _. (none-stays (layout_by c.args.self.now.extents.segs.items) c.args.size _ ((stays-by c.args.self.now.extents.segs.items c.args.self.now.extents.index.items c.args.a.0 c.args.self.now.extents.kept c.requires.block c.args.size c.has_room.result (merged-of (tiling c.args.self.now.extents.segs.items) c.args.self.now.merged) c.requires.some c.has_room.ensures.0 c.has_room.ensures.1) ∙ ap Some c.if-has_room.false), c.if-not-may_move.false)
+returns-in-Err-clause-no_memory g c = λ _. (none-stays (layout_by c.args.self.now.extents.segs.items) c.args.size _ (stays g (goal.at.returns-in-Err-clause-no_memory g c).After-has_room ∙ ap Some c.if-has_room.false), c.if-not-may_move.false)
 
 pub returns-then-has_room-clause-others : goal.returns-then-has_room-clause-others
 returns-then-has_room-clause-others g c =
@@ -94,8 +115,8 @@ returns-then-has_room-clause-others g c =
 
 pub returns-in-Ok-clause-others : goal.returns-in-Ok-clause-others
 returns-in-Ok-clause-others g c =
-    let same = old-found _ (layout_by c.args.self.now.extents.segs.items) c.tag_at-tag.result c.args.size 32 c.in-Ok.to.0 false (layout_by c.alloc.new.self.extents.segs.items) c.in-Ok.ensures.answer c.in-Ok.ensures.fresh c.args.a.0 c.requires.block in
-    others-moved (layout_by c.alloc.new.self.extents.segs.items) (layout_by c.take_over.new.extents.segs.items) (layout_by c.args.self.now.extents.segs.items) (place_of c.args.a.0) (place_of c.in-Ok.to.0) c.args.size c.tag_at-tag.result same (label-by c.args.self.now.extents.segs.items c.args.self.now.extents.index.items c.args.a.0 c.args.self.now.extents.kept c.requires.block c.tag_at-tag.result c.tag_at-tag.ensures) c.take_over.ensures.moved.moved c.in-Ok.ensures.others
+    let same = was g (goal.at.returns-in-Ok-clause-others g c).After-take_over in
+    others-moved (layout_by c.alloc.new.self.extents.segs.items) (layout_by c.take_over.new.extents.segs.items) (layout_by c.args.self.now.extents.segs.items) (place_of c.args.a.0) (place_of c.in-Ok.to.0) c.args.size c.tag_at-tag.result same (tag g (goal.at.returns-in-Ok-clause-others g c).After-tag_at-tag) c.take_over.ensures.moved.moved c.in-Ok.ensures.others
 
 pub returns-then-has_room-clause-there : goal.returns-then-has_room-clause-there
 returns-then-has_room-clause-there g c =
@@ -104,15 +125,15 @@ returns-then-has_room-clause-there g c =
 
 pub returns-in-Ok-clause-there : goal.returns-in-Ok-clause-there
 returns-in-Ok-clause-there g c =
-    let same = old-found _ (layout_by c.args.self.now.extents.segs.items) c.tag_at-tag.result c.args.size 32 c.in-Ok.to.0 false (layout_by c.alloc.new.self.extents.segs.items) c.in-Ok.ensures.answer c.in-Ok.ensures.fresh c.args.a.0 c.requires.block in
-    there-moved (layout_by c.alloc.new.self.extents.segs.items) (layout_by c.take_over.new.extents.segs.items) (layout_by c.args.self.now.extents.segs.items) c.args.a.0 c.in-Ok.to.0 c.args.size c.tag_at-tag.result c.requires.block c.in-Ok.ensures.fresh same (label-by c.args.self.now.extents.segs.items c.args.self.now.extents.index.items c.args.a.0 c.args.self.now.extents.kept c.requires.block c.tag_at-tag.result c.tag_at-tag.ensures) c.take_over.ensures.moved.moved c.in-Ok.ensures.there
+    let same = was g (goal.at.returns-in-Ok-clause-there g c).After-take_over in
+    there-moved (layout_by c.alloc.new.self.extents.segs.items) (layout_by c.take_over.new.extents.segs.items) (layout_by c.args.self.now.extents.segs.items) c.args.a.0 c.in-Ok.to.0 c.args.size c.tag_at-tag.result c.requires.block c.in-Ok.ensures.fresh same (tag g (goal.at.returns-in-Ok-clause-there g c).After-tag_at-tag) c.take_over.ensures.moved.moved c.in-Ok.ensures.there
 
 pub returns-then-has_room-clause-sized : goal.returns-then-has_room-clause-sized
 returns-then-has_room-clause-sized g c =
     ap (λ (r : Layout ℕ). option_map (λ b. b.size) (find_block (place_of c.args.a.0) r.blocks)) c.resize_block.ensures.layout
-    ∙ size-sized _ _ c.args.size (place_of c.args.a.0) (layout_by c.args.self.now.extents.segs.items).blocks (stays-by c.args.self.now.extents.segs.items c.args.self.now.extents.index.items c.args.a.0 c.args.self.now.extents.kept c.requires.block c.args.size c.has_room.result (merged-of (tiling c.args.self.now.extents.segs.items) c.args.self.now.merged) c.requires.some c.has_room.ensures.0 c.has_room.ensures.1)
+    ∙ size-sized _ _ c.args.size (place_of c.args.a.0) (layout_by c.args.self.now.extents.segs.items).blocks (stays g (goal.at.returns-then-has_room-clause-sized g c).After-has_room)
 
 pub returns-in-Ok-clause-sized : goal.returns-in-Ok-clause-sized
 returns-in-Ok-clause-sized g c =
-    let same = old-found _ (layout_by c.args.self.now.extents.segs.items) c.tag_at-tag.result c.args.size 32 c.in-Ok.to.0 false (layout_by c.alloc.new.self.extents.segs.items) c.in-Ok.ensures.answer c.in-Ok.ensures.fresh c.args.a.0 c.requires.block in
-    size-moved (layout_by c.alloc.new.self.extents.segs.items) (layout_by c.take_over.new.extents.segs.items) (layout_by c.args.self.now.extents.segs.items) c.args.a.0 c.in-Ok.to.0 c.args.size c.tag_at-tag.result c.requires.block c.in-Ok.ensures.fresh same (label-by c.args.self.now.extents.segs.items c.args.self.now.extents.index.items c.args.a.0 c.args.self.now.extents.kept c.requires.block c.tag_at-tag.result c.tag_at-tag.ensures) c.take_over.ensures.moved.moved c.in-Ok.ensures.there
+    let same = was g (goal.at.returns-in-Ok-clause-sized g c).After-take_over in
+    size-moved (layout_by c.alloc.new.self.extents.segs.items) (layout_by c.take_over.new.extents.segs.items) (layout_by c.args.self.now.extents.segs.items) c.args.a.0 c.in-Ok.to.0 c.args.size c.tag_at-tag.result c.requires.block c.in-Ok.ensures.fresh same (tag g (goal.at.returns-in-Ok-clause-sized g c).After-tag_at-tag) c.take_over.ensures.moved.moved c.in-Ok.ensures.there
