@@ -1,4 +1,4 @@
-use Rattle.std.proofs.Common.{◌≡◌, ◌≤◌, ◌+◌, length, arith, ℕ, [], refl, ap, sym, subst, ◌∙◌}
+use Rattle.std.proofs.Common.{◌≡◌, ◌≤◌, ◌+◌, length, arith, ℕ, [], ap, sym, subst, ◌∙◌}
 use Rattle.std.specs.Prelude.{Err, Ok, option_map}
 use Rattle.vc_model.specs.Addr.{place_of}
 use Rattle.vc_model.specs.Best.{place_in}
