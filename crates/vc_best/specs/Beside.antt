@@ -26,7 +26,7 @@ free_before t a = free_name (place_of a).0 (previous_of t a)
 abbrev pub part_name : ℕ → ℕ → ℕ → List ℕ
 part_name seg from to = if nat_lt from to then address (seg, from) ∷ [] else []
 
--- that of what of an extent lies before an offset, and from an offset on
+-- that of the part of a free extent before an offset, and that of the part from an offset on
 abbrev pub part_before : ℕ → ℕ → List ℕ
 part_before a off = part_name (place_of a).0 (place_of a).1 off
 
@@ -38,7 +38,7 @@ abbrev pub GapsChange : Tiling → Tiling → List ℕ → List ℕ → Type 0
 GapsChange old new gone come =
     (root : ℕ) (out : List ℕ) → HasGaps old root (gone ++ out) → HasGaps new root (come ++ out)
 
--- the gap behind a busy extent is another once that has a size, and where it keeps its span no gap is another
+-- a busy extent gets a size: a tree without the gap behind it is one still, and where its span stays so is a whole tree
 pub record GapBehindChanges (old new : Tiling) (a size : ℕ) : Type 0 where
   pub gaps : GapsChange old new (free_next old a) (free_next new a)
   pub same_span : span size ≡ (extent_of old a).span → GapsChange old new [] []

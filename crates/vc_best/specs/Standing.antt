@@ -60,7 +60,7 @@ pub record CanPutBlock (t : Tiling) (a off size : ℕ) : Type 0 where
   pub multiple : off % 32 ≡ 0
   pub fits : off + span size ≤ (place_of a).1 + (extent_of t a).span
 
--- a block of zeros is put where the least gap that holds it has it, at an address that no block has
+-- a block of zeros is put at its place in the least gap that holds it, at an address that no block has
 pub record IsPutInGap (old new : Layout ℕ) (tag size align a : ℕ) : Type 0 where
   pub place : place_in old size align ≡ Some (place_of a)
   pub layout : new ≡ with_zeros old tag size (place_of a)
@@ -92,7 +92,7 @@ pub record IsPutByAsking (terms : Terms) (result : Result Addr RegionFault) (old
   pub no_memory : IsErrOf result code.OutOfMemory → AsksForSegment old size align
   pub fresh : IfOk result (λ a. ¬ HasBlock old.blocks a.0)
 
--- up to that many of the first bytes of a block are put into the front of another, and the block is gone
+-- the first bytes of a block, that many at most, are put into the front of another, and the block is gone
 pub record IsMovedInto (old new : Layout ℕ) (a to size : ℕ) : Type 0 where
   pub moved : IfSome (find_block (place_of a) old.blocks) (λ b. new ≡ without_block_at (with_bytes_at old (place_of to) 0 (take size b.bytes)) (place_of a))
   pub count : length new.blocks + 1 ≡ length old.blocks
