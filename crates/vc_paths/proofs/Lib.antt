@@ -26,3 +26,4 @@ pub mod StackedLemmas
 pub mod StartLemmas
 pub mod StayLemmas
 pub mod TogetherLemmas
+pub mod WalkLemmas

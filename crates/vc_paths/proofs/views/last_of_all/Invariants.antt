@@ -1,19 +1,12 @@
-use Rattle.std.proofs.Common.{◌≡◌, ℕ, List, Some, length}
+use Rattle.std.proofs.Common.{length}
 use Rattle.std.specs.Option.{option_map}
-use Rattle.vc_dtdisc.specs.Objects.{is_match}
 use Rattle.vc_base.specs.Address.{number_of}
-use Rattle.vc_paths.specs.Layers.{bytes_there}
-use Rattle.vc_paths.specs.Shown.{IsPlaceIn, objects_from}
-use Rattle.vc_paths.proofs.MatchLemmas.{IsLastHere}
+use Rattle.vc_paths.specs.Shown.{objects_from}
+use Rattle.vc_paths.proofs.WalkLemmas.{IsLastUpTo}
 use Rattle.vc_paths.proofs.views.last_of_all.Given as goal
 
 abbrev pub invariant-loop-next : goal.invariant-loop-next
-invariant-loop-next g l = record {
-  place : IsPlaceIn ((g.Y.Layers.layered l.layers).layer l.e).objects (option_map number_of l.next);
-  here : (bytes : List ℕ) → bytes_there l.at.0 ((g.Y.Layers.layered l.layers).layer l.e).objects ≡ Some bytes
-      → IsLastHere ((g.Y.Layers.layered l.layers).layer l.e).objects
-      (λ o. is_match ((g.Y.Layers.layered l.layers).layer l.e).rules bytes o.bytes) l.last.0 (option_map number_of l.next);
-}
+invariant-loop-next g l = IsLastUpTo ((g.Y.Layers.layered l.layers).layer l.e) l.at.0 l.last.0 (option_map number_of l.next)
 
 abbrev pub decreases-loop-next : goal.decreases-loop-next
 decreases-loop-next g l = length (objects_from (option_map number_of l.next) ((g.Y.Layers.layered l.layers).layer l.e).objects)

@@ -1,19 +1,16 @@
 use Rattle.std.proofs.Common.{◌≡◌, ℕ, List, Some, false, length}
 use Rattle.std.specs.Option.{option_map}
-use Rattle.vc_dtdisc.specs.Objects.{is_greater, is_match}
+use Rattle.vc_dtdisc.specs.Objects.{is_greater}
 use Rattle.vc_base.specs.Address.{number_of}
 use Rattle.vc_paths.specs.Layers.{bytes_there}
-use Rattle.vc_paths.specs.Shown.{IsPlaceIn, objects_from}
-use Rattle.vc_paths.proofs.MatchLemmas.{IsLastHere}
+use Rattle.vc_paths.specs.Shown.{objects_from}
+use Rattle.vc_paths.proofs.WalkLemmas.{IsLastUpTo}
 use Rattle.vc_paths.proofs.views.last_together.Given as goal
 
 -- the next one isn't less than the object that is matched
 abbrev pub invariant-loop-next : goal.invariant-loop-next
 invariant-loop-next g l = record {
-  place : IsPlaceIn ((g.Y.Layers.layered l.layers).layer l.e).objects (option_map number_of l.next);
-  here : (bytes : List ℕ) → bytes_there l.at.0 ((g.Y.Layers.layered l.layers).layer l.e).objects ≡ Some bytes
-      → IsLastHere ((g.Y.Layers.layered l.layers).layer l.e).objects
-      (λ o. is_match ((g.Y.Layers.layered l.layers).layer l.e).rules bytes o.bytes) l.last.0 (option_map number_of l.next);
+  walks : IsLastUpTo ((g.Y.Layers.layered l.layers).layer l.e) l.at.0 l.last.0 (option_map number_of l.next);
   upto : (bytes other : List ℕ) (o : ℕ) → bytes_there l.at.0 ((g.Y.Layers.layered l.layers).layer l.e).objects ≡ Some bytes
       → option_map number_of l.next ≡ Some o → bytes_there o ((g.Y.Layers.layered l.layers).layer l.e).objects ≡ Some other
       → is_greater ((g.Y.Layers.layered l.layers).layer l.e).rules bytes other ≡ false;
