@@ -210,11 +210,11 @@ module _ (rules : Rules) (method : DictMethod) (d : Dict) (b b1 : Blocks) (block
       hashed h =
           let u = table_unordered method h in
           subst (λ z. HashFor rules (hash_of new) z ys) (sym (p.blocks u))
-          (subst (λ (z : DtList). HashFor rules (record (hash_of new) { first = z.first; last = z.last }) b2 ys) (sym (p.list u)) (settled.hashed h))
+          (subst (λ (z : DtList). HashFor rules (record (hash_of new) { first = z.first; last = z.last }) b2 ys) (sym (ap list_of (p.same u))) (settled.hashed h))
 
       listed : has_table method ≡ false → is_ordered method ≡ false → StandsFor (list_of new) b3 ys
       listed h u =
-          subst (λ z. StandsFor (list_of new) z ys) (sym (p.blocks u)) (subst (λ z. StandsFor z b2 ys) (sym (p.list u)) (settled.listed h))
+          subst (λ z. StandsFor (list_of new) z ys) (sym (p.blocks u)) (subst (λ z. StandsFor z b2 ys) (sym (ap list_of (p.same u))) (settled.listed h))
 
       gone-stands : StandsFor gone b3 zs
       gone-stands = StandsFor-kept gone b2 b3 zs ys p.keeps (apart_back ys zs settled.apart) settled.gone_stands

@@ -8,16 +8,22 @@ use Rattle.vc_dtlist.specs.declared.dt_list.DtList.{DtList}
 use Rattle.vc_dtlist.specs.Linked.{StandsFor}
 use Rattle.vc_dtord.specs.Ordered.{IsSorted, OrdFor}
 use Rattle.vc_dict.specs.declared.dict.Dict.{Dict}
-use Rattle.vc_dict.specs.Stands.{list_of, ord_of}
+use Rattle.vc_dict.specs.Stands.{ord_of}
 
 -- a list stands for these holders, which stand in order of their keys
 pub record IsInOrder (rules : Rules) (list : DtList) (blocks : Blocks) (holders : List ℕ) : Type 0 where
   pub stands : StandsFor list blocks holders
   pub sorted : IsSorted rules blocks holders
 
--- by an ordered method its tree stands for them, and by any other its list and the blocks stay
+-- neither a first nor a last holder
+pub record HasNoEnds (dict : Dict) : Type 0 where
+  pub first : dict.first.0 ≡ 0
+  pub last : dict.last.0 ≡ 0
+
+-- by an ordered method its tree stands for them, and its list has no ends; by any other it and the blocks stay
 pub record Planted (rules : Rules) (holders : List ℕ) (old : Dict) (before : Blocks) (new : Dict) (after : Blocks) : Type 0 where
   pub tree : is_ordered old.method ≡ true → OrdFor rules (ord_of new) after holders
-  pub list : is_ordered old.method ≡ false → list_of new ≡ list_of old
+  pub ends : is_ordered old.method ≡ true → HasNoEnds new
+  pub same : is_ordered old.method ≡ false → new ≡ old
   pub blocks : is_ordered old.method ≡ false → after ≡ before
   pub keeps : KeepsBut holders before after

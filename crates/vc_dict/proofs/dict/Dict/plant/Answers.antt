@@ -21,7 +21,8 @@ returns-then-is_ordered-clause-planted g c = λ holders i.
     let t = c.into_tree-ord.ensures.placed holders (subst (λ z. StandsFor z b holders) (sym c.list.ensures) l.stands) in
     record {
       tree = λ _. subst (λ z. OrdFor rules c.into_tree-ord.result b' z) (placed_each-sorted rules b [] holders l.sorted) t.stands;
-      list = λ e. absurd (true≢false (sym ordered ∙ e));
+      ends = λ _. record { first = refl; last = refl };
+      same = λ e. absurd (true≢false (sym ordered ∙ e));
       blocks = λ e. absurd (true≢false (sym ordered ∙ e));
       keeps = t.keeps;
     }
@@ -31,7 +32,8 @@ returns-else-is_ordered-clause-planted g c = λ holders i.
     let unordered = sym c.is_ordered.ensures ∙ c.if-is_ordered.false in
     record {
       tree = λ e. absurd (true≢false (sym e ∙ unordered));
-      list = λ _. refl;
+      ends = λ e. absurd (true≢false (sym e ∙ unordered));
+      same = λ _. refl;
       blocks = λ _. refl;
       keeps = KeepsBut-none holders (g.C.Cells.blocks c.args.cells.now);
     }
