@@ -7,6 +7,7 @@ use Rattle.std.proofs.lemmas.Nat.{pow_pos}
 use Rattle.vc_base.specs.declared.addr.Addr.{Addr}
 use Rattle.vc_base.specs.Cells.{Blocks, IsAddress, IsHolder, WordWritten, body_of, bytes_at, word_at}
 use Rattle.vc_base.specs.Holders.{contains, last_of, without}
+use Rattle.vc_dtdisc.specs.Finds.{object_at}
 use Rattle.vc_dtdisc.specs.Rules.{Rules}
 use Rattle.vc_dtlist.specs.Kept.{KeepsTables}
 use Rattle.vc_dtlist.specs.Linked.{LinksFor, Relinked}
@@ -205,9 +206,37 @@ last-points rules hash b xs front k before s small within e =
     }
 
 -- one joins at the end: its words 2 and 3 are written, then the end of its chain leads to it
-module _ (rules : Rules) (old : DtHash) (b0 b1 b2 : Blocks) (at hash s before : ℕ) (xs : List ℕ) (stands : HashFor rules old b0 xs) (apart : contains (old.table.0 ∷ xs) at ≡ false)
-    (holder : IsHolder b0 at) (address : IsAddress at) (small : s < old.slots) (he : hash ≡ hash_at rules b0 at) (se : s ≡ hash % old.slots)
-    (be : before ≡ last_of 0 (chain_of (hash_at rules b0) old.slots s xs)) (w2 : WordWritten b0 b1 at 2 0) (w3 : WordWritten b1 b2 at 3 hash) where
+pub record Joining (rules : Rules) (old : DtHash) (b0 b1 b2 : Blocks) (at hash s before : ℕ) (xs : List ℕ) : Type 0 where
+  pub stands : HashFor rules old b0 xs
+  pub apart : contains (old.table.0 ∷ xs) at ≡ false
+  pub holder : IsHolder b0 at
+  pub address : IsAddress at
+  pub small : s < old.slots
+  pub hash_is : hash ≡ hash_at rules b0 at
+  pub slot_is : s ≡ hash % old.slots
+  pub last : before ≡ last_of 0 (chain_of (hash_at rules b0) old.slots s xs)
+  pub ended : WordWritten b0 b1 at 2 0
+  pub hashed : WordWritten b1 b2 at 3 hash
+
+pub joins : {rules : Rules} {old : DtHash} {b0 b1 b2 : Blocks} {at hash s before : ℕ} {object key xs : List ℕ} → HashFor rules old b0 xs → contains (old.table.0 ∷ xs) at ≡ false → IsHolder b0 at → IsAddress at
+    → s ≡ hash % old.slots → s < old.slots → hash ≡ rules.hash key → key ≡ rules.key object → object ≡ object_at b0 at
+    → ((front rest : List ℕ) → IsPlace b0 old.table.0 s old.count 0 front rest → before ≡ last_of 0 front) → WordWritten b0 b1 at 2 0 → WordWritten b1 b2 at 3 hash → Joining rules old b0 b1 b2 at hash s before xs
+joins {rules = rules} {old = old} {b0 = b0} {s = s} {xs = xs} stands apart holder address slot_is small hash_is key_is object_is seek ended hashed = record {
+  stands = stands;
+  apart = apart;
+  holder = holder;
+  address = address;
+  small = small;
+  hash_is = hash_is ∙ ap rules.hash (key_is ∙ ap rules.key object_is);
+  slot_is = slot_is;
+  last = seek (chain_of (hash_at rules b0) old.slots s xs) [] (end-place rules old b0 xs s stands small);
+  ended = ended;
+  hashed = hashed;
+}
+
+module _ {rules : Rules} {old : DtHash} {b0 b1 b2 : Blocks} {at hash s before : ℕ} {xs : List ℕ} (joining : Joining rules old b0 b1 b2 at hash s before xs) where
+  open joining use {stands, apart, holder, address, small, hash_is as he, slot_is as se, last as be, ended as w2, hashed as w3}
+
   abbrev chain : List ℕ
   chain = chain_of (hash_at rules b0) old.slots s xs
 
@@ -361,8 +390,35 @@ module _ (rules : Rules) (old : DtHash) (b0 b1 b2 : Blocks) (at hash s before : 
       }
 
 -- one leaves: what leads to it leads on now
-module _ (rules : Rules) (old : DtHash) (b0 : Blocks) (at s before : ℕ) (xs : List ℕ) (stands : HashFor rules old b0 xs) (within : contains xs at ≡ true) (small : s < old.slots)
-    (se : s ≡ hash_at rules b0 at % old.slots) (pl : Split (chain_of (hash_at rules b0) old.slots s xs) at) (be : before ≡ last_of 0 pl.front) where
+pub record Parting (rules : Rules) (old : DtHash) (b0 : Blocks) (at s before : ℕ) (xs : List ℕ) : Type 0 where
+  pub stands : HashFor rules old b0 xs
+  pub within : contains xs at ≡ true
+  pub small : s < old.slots
+  pub slot_is : s ≡ hash_at rules b0 at % old.slots
+  pub place : Split (chain_of (hash_at rules b0) old.slots s xs) at
+  pub last : before ≡ last_of 0 place.front
+
+-- its place in its chain
+pub split-at : {rules : Rules} {old : DtHash} {b : Blocks} {at s word : ℕ} {xs : List ℕ} → HashFor rules old b xs → contains xs at ≡ true → s ≡ word % old.slots → word ≡ word_at b at 3 → Split (chain_of (hash_at rules b) old.slots s xs) at
+split-at {rules = rules} {old = old} {b = b} {at = at} {s = s} {xs = xs} stands within slot_is read =
+    in_chain rules old b xs s at (slot_is ∙ ap (λ z. z % old.slots) (read ∙ stands.hashes at within)) within
+
+pub parts : {rules : Rules} {old : DtHash} {b : Blocks} {at s before word : ℕ} {xs : List ℕ} → HashFor rules old b xs → contains xs at ≡ true → s ≡ word % old.slots → s < old.slots → word ≡ word_at b at 3
+    → ((front rest : List ℕ) → IsPlace b old.table.0 s old.count at front rest → before ≡ last_of 0 front) → Parting rules old b at s before xs
+parts {rules = rules} {old = old} {b = b} {at = at} {s = s} {xs = xs} stands within slot_is small read seek =
+    let place = split-at stands within slot_is read in
+    record {
+      stands = stands;
+      within = within;
+      small = small;
+      slot_is = slot_is ∙ ap (λ z. z % old.slots) (read ∙ stands.hashes at within);
+      place = place;
+      last = seek place.front (at ∷ place.rest) (holder-place rules old b xs s at stands small place);
+    }
+
+module _ {rules : Rules} {old : DtHash} {b0 : Blocks} {at s before : ℕ} {xs : List ℕ} (parting : Parting rules old b0 at s before xs) where
+  open parting use {stands, within, small, slot_is as se, place as pl, last as be}
+
   table-was : old.table.0 ≢ 0
   table-was = some-table rules old b0 xs stands (omega (arith, small))
 
@@ -402,8 +458,8 @@ module _ (rules : Rules) (old : DtHash) (b0 : Blocks) (at s before : ℕ) (xs : 
       slots-both k =
           word-same b1 b2 old.table.0 k (r.keeps.others old.table.0 (apart-cons at xs old.table.0 (no_table at within) was.apart))
 
-      parts : Redirects b0 b2 old.table.0 s before (word_at b0 at 2) xs
-      parts = record {
+      redirected : Redirects b0 b2 old.table.0 s before (word_at b0 at 2) xs
+      redirected = record {
         start = λ e. slots-both s ∙ p.start e;
         start_stays = λ some. slots-both s ∙ p.start_stays some;
         slots = λ k ne. slots-both k ∙ p.slots k ne;
@@ -421,7 +477,7 @@ module _ (rules : Rules) (old : DtHash) (b0 : Blocks) (at s before : ℕ) (xs : 
       chains-left : AreChained (hash_at rules b2) b2 old.table.0 old.slots (without at xs)
       chains-left =
           chains-hash (hash_at rules b0) (hash_at rules b2) b2 old.table.0 old.slots (without at xs) (λ a h. hash-both a (no_table a (left-in a h)))
-          (chains-parted (hash_at rules b0) b0 b2 old.table.0 old.slots s before at xs (stands.chains table-was) se small pl be stands.links.distinct no_zero parts)
+          (chains-parted (hash_at rules b0) b0 b2 old.table.0 old.slots s before at xs (stands.chains table-was) se small pl be stands.links.distinct no_zero redirected)
 
       hashes-left : (a : ℕ) → contains (without at xs) a ≡ true → IsHashed rules b2 a
       hashes-left a h =

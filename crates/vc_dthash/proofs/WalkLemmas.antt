@@ -5,7 +5,7 @@ use Rattle.std.specs.List.{find}
 use Rattle.std.specs.Ordering.{is_eq}
 use Rattle.std.specs.declared.cmp.Ordering.{Ordering}
 use Rattle.std.specs.declared.cmp.Ordering.TheVariants.{Equal, Greater, Less}
-use Rattle.std.proofs.lemmas.Bool.{true≢false, eq-eqb}
+use Rattle.std.proofs.lemmas.Bool.{true≢false, eq-eqb, eqb-false, eqb-true}
 use Rattle.vc_base.specs.declared.addr.Addr.{Addr}
 use Rattle.vc_base.specs.Cells.{Blocks, HasBytes, IsAddress, IsHolder, word_at}
 use Rattle.vc_base.specs.Holders.{contains, first_of, last_of}
@@ -182,15 +182,52 @@ found-in_chain rules b slots key holders law =
     filter-find (λ a. hash_at rules b a % slots == rules.hash key % slots) (has_key rules b key) holders
     (λ a h. eq-eqb (hash_at rules b a % slots) (rules.hash key % slots) (ap (λ z. z % slots) (hash-found rules b key a law h)))
 
--- what a walk found, or that it found nothing
-pub FindsInSlot-none : (rules : Rules) (b : Blocks) (slots : ℕ) (key holders : List ℕ) (passed at start now : ℕ) → AreLawful rules → Walked b (has_key rules b key) (chain_of (hash_at rules b) slots (rules.hash key % slots) holders) passed at start now → None ≡ find (has_key rules b key) (chain_of (hash_at rules b) slots (rules.hash key % slots) holders) → FindsInSlot rules slots b key holders None start now
-FindsInSlot-none rules b slots key holders passed at start now law w e = record {
-  first = e ∙ found-in_chain rules b slots key holders law;
-  steps = omega (arith, w.steps, w.count);
-}
+-- the chain of a key's slot
+abbrev pub key_chain : Rules → ℕ → Blocks → List ℕ → List ℕ → List ℕ
+key_chain rules slots b key holders = chain_of (hash_at rules b) slots (rules.hash key % slots) holders
 
-pub FindsInSlot-some : (rules : Rules) (b : Blocks) (slots : ℕ) (key holders : List ℕ) (passed start now after : ℕ) (at : Addr) → AreLawful rules → Walked b (has_key rules b key) (chain_of (hash_at rules b) slots (rules.hash key % slots) holders) passed at.0 start now → Next b (has_key rules b key) (chain_of (hash_at rules b) slots (rules.hash key % slots) holders) passed at.0 start now → has_key rules b key at.0 ≡ true → after ≤ now + 1 → FindsInSlot rules slots b key holders (Some at) start after
-FindsInSlot-some rules b slots key holders passed start now after at law w n t h = record {
-  first = n.found t ∙ found-in_chain rules b slots key holders law;
-  steps = omega (arith, w.steps, n.room, h);
-}
+-- so many of it were passed, none of which has the key, by at most a compare for each
+pub record SlotWalk (rules : Rules) (table slots : ℕ) (b : Blocks) (key holders : List ℕ) (passed at start now : ℕ) : Type 0 where
+  pub chain : IsChain b table (rules.hash key % slots) (key_chain rules slots b key holders)
+  pub walked : Walked b (has_key rules b key) (key_chain rules slots b key holders) passed at start now
+
+pub SlotWalk-start : (rules : Rules) (table slots : ℕ) (b : Blocks) (key holders : List ℕ) (hash k at start : ℕ) → hash ≡ rules.hash key → k ≡ hash % slots → IsChain b table k (chain_of (hash_at rules b) slots k holders) → at ≡ word_at b table k → SlotWalk rules table slots b key holders 0 at start start
+SlotWalk-start rules table slots b key holders hash k at start he ke chain e =
+    let slot = ke ∙ ap (λ z. z % slots) he in
+    let here = subst (λ z. IsChain b table z (chain_of (hash_at rules b) slots z holders)) slot chain in
+    record {
+      chain = here;
+      walked = Walked-start b (has_key rules b key) table (rules.hash key % slots) (key_chain rules slots b key holders) at start here (e ∙ ap (word_at b table) slot);
+    }
+
+module _ {rules : Rules} {table slots : ℕ} {b : Blocks} {key holders : List ℕ} {passed at start now : ℕ} (w : SlotWalk rules table slots b key holders passed at start now) where
+  abbrev chain : List ℕ
+  chain = key_chain rules slots b key holders
+
+  -- at a holder of it
+  pub SlotWalk-next : (at == 0) ≡ false → Next b (has_key rules b key) chain passed at start now
+  SlotWalk-next some = Walked-next b (has_key rules b key) table (rules.hash key % slots) chain passed at start now w.chain w.walked (eqb-false at 0 some)
+
+  pub SlotWalk-further : (at == 0) ≡ false → has_key rules b key at ≡ false → (n after : ℕ) → n ≡ word_at b at 2 → after ≤ now + 1 → SlotWalk rules table slots b key holders (passed + 1) n start after
+  SlotWalk-further some other n after e few = record { chain = w.chain; walked = (SlotWalk-next some).step other n after e few }
+
+  -- it found one, or nothing at the end or past as many as there are
+  pub SlotWalk-found : AreLawful rules → (at == 0) ≡ false → has_key rules b key at ≡ true → (after : ℕ) → after ≤ now + 1 → (found : Addr) → found.0 ≡ at → FindsInSlot rules slots b key holders (Some found) start after
+  SlotWalk-found law some has after few found is =
+      let n = SlotWalk-next some in
+      record {
+        first = ap (λ z. Some z) is ∙ n.found has ∙ found-in_chain rules b slots key holders law;
+        steps = omega (arith, w.walked.steps, n.room, few);
+      }
+
+  nothing : AreLawful rules → None ≡ find (has_key rules b key) chain → FindsInSlot rules slots b key holders None start now
+  nothing law none = record {
+    first = none ∙ found-in_chain rules b slots key holders law;
+    steps = omega (arith, w.walked.steps, w.walked.count);
+  }
+
+  pub SlotWalk-end : AreLawful rules → (at == 0) ≡ true → FindsInSlot rules slots b key holders None start now
+  SlotWalk-end law e = nothing law (Walked-end b (has_key rules b key) table (rules.hash key % slots) chain passed at start now w.chain w.walked (eqb-true at 0 e))
+
+  pub SlotWalk-over : AreLawful rules → length chain ≤ passed → FindsInSlot rules slots b key holders None start now
+  SlotWalk-over law all = nothing law (Walked-over b (has_key rules b key) chain passed at start now w.walked all)

@@ -1,10 +1,10 @@
-use Rattle.std.proofs.Common.{◌≡◌, [], ◌∷◌, false, arith, ap, ◌∙◌, refl}
+use Rattle.std.proofs.Common.{◌≡◌, [], ◌∷◌, false, arith, refl}
 use Rattle.vc_base.specs.Holders.{contains}
 use Rattle.vc_dtlist.proofs.HolderLemmas.{apart-tail}
 use Rattle.vc_dtlist.proofs.TurnLemmas.{fewer}
 use Rattle.vc_dtlist.proofs.WordLemmas.{HasBytes-written}
 use Rattle.vc_dthash.specs.Chained.{chain_of, hash_at}
-use Rattle.vc_dthash.proofs.HashLemmas.{HashFor-unique, HashTurned-joined, end-place, few, joined-holder, joined-links, joined-point, room, slots-wanted}
+use Rattle.vc_dthash.proofs.HashLemmas.{HashFor-unique, HashTurned-joined, end-place, few, joined-holder, joined-links, joined-point, joins, room, slots-wanted}
 use Rattle.vc_dthash.proofs.dt_hash.DtHash.link.Goals as goal
 
 pub body-requires : goal.body-requires
@@ -35,39 +35,20 @@ set_word-requires-2-clause-holder g c =
 
 pub point-requires : goal.point-requires
 point-requires g c =
-    let rules = g.D.DictDisc.rules c.args.kind.now in
-    let self = c.args.self.now in
-    let at = c.args.at.0 in
-    let b0 = g.C.Cells.blocks c.args.cells.now in
-    let b1 = g.C.Cells.blocks c.set_word.new.cells in
-    let b2 = g.C.Cells.blocks c.set_word-2.new.cells in
-    let k = c.slot_of-k.result in
-    let hash = c.hash-hash.ensures ∙ ap rules.hash (c.key.ensures ∙ ap rules.key c.body.ensures) in
-    let address = g.met.C.Cells.addresses c.args.cells.now at c.requires.holder.there in
-    let before = c.seek_before-before.ensures (chain_of (hash_at rules b0) self.slots k c.requires.holders) [] (end-place rules self b0 c.requires.holders k c.requires.stands c.slot_of-k.ensures.below) in
-    joined-point rules self b0 b1 b2 at c.hash-hash.result k c.seek_before-before.result.0 c.requires.holders c.requires.stands c.requires.apart c.requires.holder address c.slot_of-k.ensures.below
-    hash c.slot_of-k.ensures.value before c.set_word.ensures.written c.set_word-2.ensures.written
+    joined-point (joins c.requires.stands c.requires.apart c.requires.holder (g.met.C.Cells.addresses c.args.cells.now c.args.at.0 c.requires.holder.there) c.slot_of-k.ensures.value c.slot_of-k.ensures.below
+    c.hash-hash.ensures c.key.ensures c.body.ensures c.seek_before-before.ensures c.set_word.ensures.written c.set_word-2.ensures.written)
 
 pub join_back-requires : goal.join_back-requires
 join_back-requires g c =
-    let rules = g.D.DictDisc.rules c.args.kind.now in
-    let self = c.args.self.now in
-    let at = c.args.at.0 in
-    let b0 = g.C.Cells.blocks c.args.cells.now in
-    let b1 = g.C.Cells.blocks c.set_word.new.cells in
-    let b2 = g.C.Cells.blocks c.set_word-2.new.cells in
-    let k = c.slot_of-k.result in
-    let hash = c.hash-hash.ensures ∙ ap rules.hash (c.key.ensures ∙ ap rules.key c.body.ensures) in
-    let address = g.met.C.Cells.addresses c.args.cells.now at c.requires.holder.there in
-    let before = c.seek_before-before.ensures (chain_of (hash_at rules b0) self.slots k c.requires.holders) [] (end-place rules self b0 c.requires.holders k c.requires.stands c.slot_of-k.ensures.below) in
-    let b3 = g.C.Cells.blocks c.point.new.cells in
-    let links =
-    joined-links rules self b0 b1 b2 at c.hash-hash.result k c.seek_before-before.result.0 c.requires.holders c.requires.stands c.requires.apart c.requires.holder address c.slot_of-k.ensures.below
-    hash c.slot_of-k.ensures.value before c.set_word.ensures.written c.set_word-2.ensures.written b3 c.point.ensures.pointed in
-    let holder =
-    joined-holder rules self b0 b1 b2 at c.hash-hash.result k c.seek_before-before.result.0 c.requires.holders c.requires.stands c.requires.apart c.requires.holder address c.slot_of-k.ensures.below
-    hash c.slot_of-k.ensures.value before c.set_word.ensures.written c.set_word-2.ensures.written b3 c.point.ensures.pointed in
-    record { holders = c.requires.holders; links = rw c.list-list.ensures links; apart = apart-tail self.table.0 c.requires.holders at c.requires.apart; holder = holder }
+    let b = g.C.Cells.blocks c.point.new.cells in
+    let j = joins c.requires.stands c.requires.apart c.requires.holder (g.met.C.Cells.addresses c.args.cells.now c.args.at.0 c.requires.holder.there) c.slot_of-k.ensures.value c.slot_of-k.ensures.below
+    c.hash-hash.ensures c.key.ensures c.body.ensures c.seek_before-before.ensures c.set_word.ensures.written c.set_word-2.ensures.written in
+    record {
+      holders = c.requires.holders;
+      links = rw c.list-list.ensures (joined-links j b c.point.ensures.pointed);
+      apart = apart-tail c.args.self.now.table.0 c.requires.holders c.args.at.0 c.requires.apart;
+      holder = joined-holder j b c.point.ensures.pointed;
+    }
 
 pub overflow_add-self : goal.overflow_add-self
 overflow_add-self g c =
@@ -78,22 +59,12 @@ pub returns-clause-hash : goal.returns-clause-hash
 returns-clause-hash g c = λ holders s.
     let rules = g.D.DictDisc.rules c.args.kind.now in
     let self = c.args.self.now in
-    let at = c.args.at.0 in
-    let b0 = g.C.Cells.blocks c.args.cells.now in
-    let b1 = g.C.Cells.blocks c.set_word.new.cells in
-    let b2 = g.C.Cells.blocks c.set_word-2.new.cells in
-    let k = c.slot_of-k.result in
-    let hash = c.hash-hash.ensures ∙ ap rules.hash (c.key.ensures ∙ ap rules.key c.body.ensures) in
-    let address = g.met.C.Cells.addresses c.args.cells.now at c.requires.holder.there in
-    let before = c.seek_before-before.ensures (chain_of (hash_at rules b0) self.slots k holders) [] (end-place rules self b0 holders k s c.slot_of-k.ensures.below) in
-    let b3 = g.C.Cells.blocks c.point.new.cells in
-    let apart : contains (self.table.0 ∷ holders) at ≡ false = rw (HashFor-unique rules rules self b0 holders c.requires.holders s c.requires.stands) c.requires.apart in
-    let links =
-    joined-links rules self b0 b1 b2 at c.hash-hash.result k c.seek_before-before.result.0 holders s apart c.requires.holder address c.slot_of-k.ensures.below
-    hash c.slot_of-k.ensures.value before c.set_word.ensures.written c.set_word-2.ensures.written b3 c.point.ensures.pointed in
-    HashTurned-joined rules self b0 b1 b2 at c.hash-hash.result k c.seek_before-before.result.0 holders s apart c.requires.holder address c.slot_of-k.ensures.below
-    hash c.slot_of-k.ensures.value before c.set_word.ensures.written c.set_word-2.ensures.written b3 c.point.ensures.pointed
-    _ (g.C.Cells.blocks c.join_back.new.cells) (room self.slots self.count c.requires.room) (c.join_back.ensures.list holders (rw c.list-list.ensures links)) refl refl refl
+    let b = g.C.Cells.blocks c.point.new.cells in
+    let apart : contains (self.table.0 ∷ holders) c.args.at.0 ≡ false = rw (HashFor-unique rules rules self (g.C.Cells.blocks c.args.cells.now) holders c.requires.holders s c.requires.stands) c.requires.apart in
+    let j = joins s apart c.requires.holder (g.met.C.Cells.addresses c.args.cells.now c.args.at.0 c.requires.holder.there) c.slot_of-k.ensures.value c.slot_of-k.ensures.below
+    c.hash-hash.ensures c.key.ensures c.body.ensures c.seek_before-before.ensures c.set_word.ensures.written c.set_word-2.ensures.written in
+    HashTurned-joined j b c.point.ensures.pointed
+    _ (g.C.Cells.blocks c.join_back.new.cells) (room self.slots self.count c.requires.room) (c.join_back.ensures.list holders (rw c.list-list.ensures (joined-links j b c.point.ensures.pointed))) refl refl refl
 
 pub returns-clause-rest : goal.returns-clause-rest
 returns-clause-rest g c =
