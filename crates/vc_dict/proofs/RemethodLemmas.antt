@@ -112,11 +112,20 @@ abbrev pub turned_to : DictMethod → Dict → DtList → Addr → ℕ → Dict
 turned_to method d list table slots =
     record d { method = method; current = record { 0 = 0 }; first = list.first; last = list.last; table = table; root = record { 0 = 0 }; slots = slots }
 
--- it was turned: its holders are a list in the method's order, and of these it keeps some in the form of the method
-module _ (rules : Rules) (method : DictMethod) (d : Dict) (b b1 : Blocks) (block size : ℕ) (holders : List ℕ) (list : DtList) (table : Addr) (slots : ℕ)
-    (r : CanRemethod rules d b method block size) (s : Stands rules d b holders) (order : IsTotalOrder rules.compare)
-    (ls : StandsFor list b1 (ordered_by method rules b holders)) (keeps : KeepsBut holders b b1)
-    (te : table.0 ≡ (if has_table method && has_table d.method then d.table.0 else block)) (se : slots ≡ (if has_table method && has_table d.method then d.slots else size)) where
+-- it is being turned: its holders are a list in the method's order, which it takes with the table that it has then
+pub record Turning (rules : Rules) (method : DictMethod) (d : Dict) (b b1 : Blocks) (block size : ℕ) (holders : List ℕ) (list : DtList) (table : Addr) (slots : ℕ) : Type 0 where
+  pub can : CanRemethod rules d b method block size
+  pub stands : Stands rules d b holders
+  pub order : IsTotalOrder rules.compare
+  pub listed : StandsFor list b1 (ordered_by method rules b holders)
+  pub keeps : KeepsBut holders b b1
+  pub table_is : table.0 ≡ (if has_table method && has_table d.method then d.table.0 else block)
+  pub slots_is : slots ≡ (if has_table method && has_table d.method then d.slots else size)
+
+-- and of these it keeps some in the form of the method
+module _ {rules : Rules} {method : DictMethod} {d : Dict} {b b1 : Blocks} {block size : ℕ} {holders : List ℕ} {list : DtList} {table : Addr} {slots : ℕ} (turning : Turning rules method d b b1 block size holders list table slots) where
+  open turning use {can as r, stands as s, order, listed as ls, keeps, table_is as te, slots_is as se}
+
   abbrev xs : List ℕ
   xs = ordered_by method rules b holders
 
@@ -174,8 +183,7 @@ module _ (rules : Rules) (method : DictMethod) (d : Dict) (b b1 : Blocks) (block
     sorted = λ h. IsSorted-same rules b b1 xs (λ a w. keeps.bodies a) (IsSorted-ordered rules b method holders order h);
   }
 
-  module _ (b2 : Blocks) (kept_in gone : DtList) (n : ℕ) (left : Addr) (le : left.0 ≡ (if has_table method then 0 else d.table.0))
-      (w : Settled rules method (hash_of turned) (ordered_by method rules b holders) b1 (record { kept = kept_in; dropped = gone; count = n }) b2) where
+  module _ {b2 : Blocks} {kept_in gone : DtList} {n : ℕ} (w : Settled rules method (hash_of turned) (ordered_by method rules b holders) b1 (record { kept = kept_in; dropped = gone; count = n }) b2) where
     settled : IsSettled (has_table method) rules (hash_of turned) xs ys zs b1 (record { kept = kept_in; dropped = gone; count = n }) b2
     settled =
         subst (λ z. IsSettled (has_table method) rules (hash_of turned) xs ys z b1 (record { kept = kept_in; dropped = gone; count = n }) b2) (dropped_by_same method rules b b1 xs keeps.bodies)
@@ -202,7 +210,7 @@ module _ (rules : Rules) (method : DictMethod) (d : Dict) (b b1 : Blocks) (block
     kept-count = settled.count
 
     -- and then as a tree
-    module _ (b3 : Blocks) (first last root : Addr) (p : Planted rules ys (record turned { first = kept_in.first; last = kept_in.last; count = n }) b2 (record turned { first = first; last = last; root = root; count = n }) b3) where
+    module _ (b3 : Blocks) (first last root left : Addr) (le : left.0 ≡ (if has_table method then 0 else d.table.0)) (p : Planted rules ys (record turned { first = kept_in.first; last = kept_in.last; count = n }) b2 (record turned { first = first; last = last; root = root; count = n }) b3) where
       abbrev new : Dict
       new = record turned { first = first; last = last; root = root; count = n }
 
