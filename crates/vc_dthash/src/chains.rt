@@ -51,6 +51,7 @@ pub(crate) fn is_found<C: Cells, D: DictDisc, L>(
     requires hash { hash ≡ (D.rules kind.now).hash key.now }
     ensures value { result ≡ has_key (D.rules kind.now) (C.blocks cells.now) key.now at.0 }
     ensures steps { steps.new ≤ steps.old + 1 }
+    ensures none { word_at (C.blocks cells.now) at.0 3 ≢ hash → steps.new ≡ steps.old }
 {
     if cells.load(at, 3) != hash {
         return false;
