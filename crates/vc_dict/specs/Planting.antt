@@ -20,6 +20,11 @@ pub record HasNoEnds (dict : Dict) : Type 0 where
   pub first : dict.first.0 ≡ 0
   pub last : dict.last.0 ≡ 0
 
+-- the ends or the root that its method has no use for are none
+pub record HasNoOtherHeads (dict : Dict) : Type 0 where
+  pub root : is_ordered dict.method ≡ false → dict.root.0 ≡ 0
+  pub ends : is_ordered dict.method ≡ true → HasNoEnds dict
+
 -- by an ordered method its tree stands for them, and its list has no ends; by any other it and the blocks stay
 pub record Planted (rules : Rules) (holders : List ℕ) (old : Dict) (before : Blocks) (new : Dict) (after : Blocks) : Type 0 where
   pub tree : is_ordered old.method ≡ true → OrdFor rules (ord_of new) after holders

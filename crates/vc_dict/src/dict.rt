@@ -10,7 +10,7 @@ ghost use Rattle.vc_base.specs.Methods.{has_table, is_ordered};
 ghost use Rattle.vc_dict.specs.Methods.{slots_between, wanted_by};
 ghost use Rattle.vc_dict.specs.Changes.{before_current, behind_current, current_without, inserted, linked, removed};
 ghost use Rattle.vc_dict.specs.Passes.{IsCounted};
-ghost use Rattle.vc_dict.specs.Planting.{IsInOrder, Planted};
+ghost use Rattle.vc_dict.specs.Planting.{HasNoOtherHeads, IsInOrder, Planted};
 ghost use Rattle.vc_dict.specs.Turned.{CanRemethod, Remethoded, Unchanged, behind_dropped};
 ghost use Rattle.vc_dict.specs.Weeding.{CanSettle, Settled};
 ghost use Rattle.vc_dict.specs.Stands.{Adopted, Became, CanAdopt, CanLink, HeadsFor, IsDict, IsIn, IsKept, IsMember, Stands, compares_by, hash_of, heads_of, list_of, ord_of};
@@ -662,6 +662,7 @@ impl Dict {
             → Stands (D.rules kind.now) self.old (C.blocks cells.old) holders
             → Remethoded (D.rules kind.now) method table.0 slots holders self.old
             (C.blocks cells.old) self.new (C.blocks cells.new) result }
+        ensures heads { HasNoOtherHeads self.new }
         ensures rest { C.RestStays cells.old cells.new }
     {
         let list = self.heads().into_list(self.count, cells);

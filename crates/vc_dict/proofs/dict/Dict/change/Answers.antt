@@ -114,3 +114,17 @@ returns-clause-dict g c = λ holders s.
     (Remethoded-made t w b3 end.first end.last end.root c.turn-left.result c.turn-left.ensures.left
     (subst (λ z. Planted rules ys z b2 (record made { first = end.first; last = end.last; root = end.root; count = last.count }) b3) (same-so g at)
     (subst (λ z. Planted rules ys last b2 z b3) same planted)))
+
+pub returns-clause-heads : goal.returns-clause-heads
+returns-clause-heads g c =
+    let at = (goal.at.returns-clause-heads g c).After-settle-dropped in
+    let t = turning g (goal.at.returns-clause-heads g c).After-turn-left c.requires.holders c.requires.stands in
+    let ordered = ordered_by c.args.method (g.D.DictDisc.rules c.args.kind.now) (g.C.Cells.blocks c.args.cells.now) c.requires.holders in
+    let w = settled-so g at ordered t.listed in
+    let method = ap (λ (z : Dict). is_ordered z.method) c.plant.ensures.same in
+    let planted = c.plant.ensures.planted (kept_by c.args.method (g.D.DictDisc.rules c.args.kind.now) (g.C.Cells.blocks c.args.cells.now) ordered)
+    (λ h. in-order t w (sym (ap (λ (z : Dict). is_ordered z.method) (same-so g at)) ∙ h)) in
+    record {
+      root = λ unordered. ap (λ (z : Dict). z.root.0) (planted.same (sym method ∙ unordered) ∙ same-so g at);
+      ends = λ is. planted.ends (sym method ∙ is);
+    }
