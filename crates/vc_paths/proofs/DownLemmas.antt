@@ -15,14 +15,14 @@ pub down-step : (links : Links) (e : ℕ) → ArePaths links → down links (Som
 unfolding down
 down-step links e p = path-step links e p
 
--- each step leaves fewer
-pub down-smaller : (links : Links) (at : Option ℕ) (e : ℕ) → ArePaths links → at ≡ Some e → length (down links (below links e)) < length (down links at)
-down-smaller links at e p is =
-    let step : length (down links at) ≡ length (e ∷ down links (below links e)) = ap length (ap (down links) is ∙ down-step links e p) in
-    omega arith
+-- so does each step of a walk, and it leaves fewer
+pub down-on : {links : Links} {at : Option ℕ} {e : ℕ} {next : Option ℕ} → ArePaths links → at ≡ Some e → next ≡ below links e → down links at ≡ e ∷ down links next
+down-on {links} {at} {e} p is on = ap (down links) is ∙ down-step links e p ∙ ap (λ z. e ∷ down links z) (sym on)
 
-pub down-next : (links : Links) (at : Option ℕ) (e : ℕ) (next : Option ℕ) → ArePaths links → at ≡ Some e → next ≡ below links e → length (down links next) < length (down links at)
-down-next links at e next p is on = subst (λ z. length (down links z) < length (down links at)) (sym on) (down-smaller links at e p is)
+pub down-next : {links : Links} {at : Option ℕ} {e : ℕ} {next : Option ℕ} → ArePaths links → at ≡ Some e → next ≡ below links e → length (down links next) < length (down links at)
+down-next {links} {at} {e} {next} p is on =
+    let step : length (down links at) ≡ length (e ∷ down links next) = ap length (down-on p is on) in
+    omega arith
 
 -- the numbers before an end
 pub above-stop : (end : Option ℕ) (x : ℕ) (xs : List ℕ) → is_link_to x end ≡ true → above end (x ∷ xs) ≡ []
@@ -38,32 +38,22 @@ above-none (x ∷ xs) = ap (λ z. x ∷ z) (above-none xs)
 same-some : (x y : ℕ) → Some x ≡ Some y → x ≡ y
 same-some x y e = cc
 
-none-some : (x : ℕ) → ◌≡◌ {A = Option ℕ} None (Some x) → ⊥
-none-some x e = cc
-
 -- all on the way are like the first
-pub on-start : (all : Layered) (links : Links) (d : ℕ) → IsPath all links d → IsOnPath all links d (Some d)
+pub on-start : {all : Layered} {links : Links} {d : ℕ} → IsPath all links d → IsOnPath all links d (Some d)
 unfolding down
-on-start all links d p = record {
+on-start {all} {links} {d} p = record {
   number = λ e is. subst (λ z. z < numbers) (same-some d e is) p.number;
   alike = p.alike;
 }
 
-pub on-none : (all : Layered) (links : Links) (d : ℕ) → IsOnPath all links d None
-unfolding down
-on-none all links d = record { number = λ e is. absurd (none-some e is); alike = tt }
+pub on-head : {all : Layered} {links : Links} {d : ℕ} {at : Option ℕ} {e : ℕ} → ArePaths links → at ≡ Some e → IsOnPath all links d at → IsAlike all d e
+on-head {all} {links} {d} p is on = (subst (AllByRecursion (IsAlike all d)) (down-on p is refl) on.alike).0
 
-pub on-head : (all : Layered) (links : Links) (d : ℕ) (at : Option ℕ) (e : ℕ) → ArePaths links → at ≡ Some e → IsOnPath all links d at → IsAlike all d e
-on-head all links d at e p is on = (subst (AllByRecursion (IsAlike all d)) (ap (down links) is ∙ down-step links e p) on.alike).0
-
-pub on-step : (all : Layered) (links : Links) (d : ℕ) (at : Option ℕ) (e : ℕ) → ArePaths links → at ≡ Some e → IsOnPath all links d at → IsOnPath all links d (below links e)
-on-step all links d at e p is on = record {
-  number = λ n is. p.within e n is;
-  alike = (subst (AllByRecursion (IsAlike all d)) (ap (down links) is ∙ down-step links e p) on.alike).1;
+pub on-next : {all : Layered} {links : Links} {d : ℕ} {at : Option ℕ} {e : ℕ} {next : Option ℕ} → ArePaths links → at ≡ Some e → next ≡ below links e → IsOnPath all links d at → IsOnPath all links d next
+on-next {all} {links} {d} {at} {e} p is step on = record {
+  number = λ n there. p.within e n (sym step ∙ there);
+  alike = (subst (AllByRecursion (IsAlike all d)) (down-on p is step) on.alike).1;
 }
-
-pub on-next : (all : Layered) (links : Links) (d : ℕ) (at : Option ℕ) (e : ℕ) (next : Option ℕ) → ArePaths links → at ≡ Some e → next ≡ below links e → IsOnPath all links d at → IsOnPath all links d next
-on-next all links d at e next p is step on = subst (IsOnPath all links d) (sym step) (on-step all links d at e p is on)
 
 -- where a path is parted: what stands behind is the way on from there
 pub record IsParted (all : Layered) (links : Links) (d : ℕ) (e : ℕ) (lower : List ℕ) : Type 0 where
@@ -90,5 +80,5 @@ parted-at all links d [] (Some x) e lower p on is =
       rest = sym (tail_same x e (down links (below links x)) lower step) ∙ ap (λ z. down links (below links z)) same;
     }
 parted-at all links d (y ∷ ys) (Some x) e lower p on is =
-    parted-at all links d ys (below links x) e lower p (on-step all links d (Some x) x p refl on)
+    parted-at all links d ys (below links x) e lower p (on-next p refl refl on)
     (tail_same x y (down links (below links x)) (ys ++ e ∷ lower) (sym (down-step links x p) ∙ is))

@@ -1,108 +1,154 @@
 -- A walk along the objects of a dictionary, to the next one that isn't hidden.
-use Rattle.std.proofs.Common.{◌≡◌, ℕ, ◌+◌, ◌<◌, List, [], ◌∷◌, ◌++◌, map, Bool, true, false, not, length, Option, Some, None, refl, sym, ap, ◌∙◌, subst, arith, append_assoc, length-append}
-use Rattle.std.specs.List.{filter}
+use Rattle.std.proofs.Common.{◌≡◌, ℕ, ◌+◌, ◌<◌, List, [], ◌∷◌, ◌++◌, map, Bool, true, false, not, length, Option, Some, None, is_some, refl, sym, ap, ◌∙◌, subst, arith, append_assoc, length-append}
+use Rattle.std.specs.Prelude.{IsSome}
 use Rattle.std.specs.Option.{option_map}
 use Rattle.std.proofs.lemmas.List.{append-nil}
 use Rattle.std.proofs.lemmas.List.Elements.{filter-append}
 use Rattle.vc_base.specs.Holders.{AreDistinct}
 use Rattle.vc_dtdisc.specs.Finding.{first_of, last_of}
 use Rattle.vc_dtdisc.specs.Objects.{Object}
-use Rattle.vc_paths.specs.Layers.{Layered, bytes_there, place_before, place_behind, place_in, Same, Layer}
+use Rattle.vc_paths.specs.Layers.{AreLayers, Layered, bytes_there, place_before, place_behind, place_in, Same, Layer}
 use Rattle.vc_paths.specs.Links.{Links}
-use Rattle.vc_paths.specs.Shown.{IsPlaceIn, is_covered, objects_from, objects_up_to, places}
+use Rattle.vc_paths.specs.Path.{IsAlike}
+use Rattle.vc_paths.specs.Shown.{IsPlaceIn, is_covered, objects_from, objects_up_to, places, shown}
 use Rattle.vc_paths.proofs.EndLemmas.{first-map, last-append, last-map}
-use Rattle.vc_paths.proofs.PlaceLemmas.{Standing, before-here, behind-here, from-first, from-here, place-first, place-last, there, up_to-here, up_to-last}
-use Rattle.vc_paths.proofs.StayLemmas.{covered-kept}
+use Rattle.vc_paths.proofs.PlaceLemmas.{Standing, before-here, behind-here, from-first, from-here, place-first, place-last, standing, there, up_to-here, up_to-last}
+use Rattle.vc_paths.proofs.StayLemmas.{covered-kept, same-over}
 
--- those of some objects that aren't hidden
-abbrev pub unhidden : (List ℕ → Bool) → List Object → List Object
-unhidden hides objects = filter (λ o. not (hides o.bytes)) objects
-
-module _ (objects : List Object) (apart : AreDistinct (map (λ o. o.at) objects)) (a : ℕ) (s : Standing objects a) where
+module _ {objects : List Object} (apart : AreDistinct (map (λ o. o.at) objects)) {a : ℕ} (s : Standing objects a) where
   in_front : objects ≡ (s.before ++ s.one ∷ []) ++ s.behind
   in_front = s.whole ∙ sym (append_assoc s.before (s.one ∷ []) s.behind)
 
   -- from the one behind on, and up to the one before
-  pub from-next : (next : Option ℕ) → next ≡ place_behind a objects → objects_from next objects ≡ s.behind
-  from-next next e =
+  pub from-next : {next : Option ℕ} → next ≡ place_behind a objects → objects_from next objects ≡ s.behind
+  from-next e =
       ap (λ z. objects_from z objects) (e ∙ behind-here objects a s)
       ∙ ap (objects_from (place_in (first_of s.behind))) in_front
       ∙ from-first (s.before ++ s.one ∷ []) s.behind (subst (λ z. AreDistinct (map (λ o. o.at) z)) in_front apart)
 
-  pub up_to-previous : (previous : Option ℕ) → previous ≡ place_before a objects → objects_up_to previous objects ≡ s.before
-  up_to-previous previous e =
+  pub up_to-previous : {previous : Option ℕ} → previous ≡ place_before a objects → objects_up_to previous objects ≡ s.before
+  up_to-previous e =
       ap (λ z. objects_up_to z objects) (e ∙ before-here objects a s)
       ∙ ap (objects_up_to (place_in (last_of s.before))) s.whole
       ∙ up_to-last s.before (s.one ∷ s.behind) (subst (λ z. AreDistinct (map (λ o. o.at) z)) s.whole apart)
 
-  pub place-next : (next : Option ℕ) → next ≡ place_behind a objects → IsPlaceIn objects next
-  place-next next e =
+  pub place-next : {next : Option ℕ} → next ≡ place_behind a objects → IsPlaceIn objects next
+  place-next e =
       subst (IsPlaceIn objects) (sym (e ∙ behind-here objects a s))
       (subst (λ z. IsPlaceIn z (place_in (first_of s.behind))) (sym in_front) (place-first (s.before ++ s.one ∷ []) s.behind))
 
-  pub place-previous : (previous : Option ℕ) → previous ≡ place_before a objects → IsPlaceIn objects previous
-  place-previous previous e =
+  pub place-previous : {previous : Option ℕ} → previous ≡ place_before a objects → IsPlaceIn objects previous
+  place-previous e =
       subst (IsPlaceIn objects) (sym (e ∙ before-here objects a s))
       (subst (λ z. IsPlaceIn z (place_in (last_of s.before))) (sym s.whole) (place-last s.before (s.one ∷ s.behind)))
 
-  module _ (at : Option ℕ) (is : at ≡ Some a) where
-    from-at : objects_from at objects ≡ s.one ∷ s.behind
-    from-at = ap (λ z. objects_from z objects) is ∙ from-here objects a s
+-- an object that stood at a place stands there still
+pub place-kept : {all now : Layered} (e a : ℕ) → Same all now → IsSome (bytes_there a (all.layer e).objects) → IsSome (bytes_there a (now.layer e).objects)
+place-kept e a same h = subst (λ (z : ℕ → Layer). IsSome (bytes_there a (z e).objects)) (sym same.layers) h
 
-    up_to-at : objects_up_to at objects ≡ s.before ++ s.one ∷ []
-    up_to-at = ap (λ z. objects_up_to z objects) is ∙ up_to-here objects a s
+-- a walk at an object of e: what stood around it when the walk began, that all dictionaries stayed, and whether it is hidden
+pub record AtObject (all now : Layered) (links : Links) (d e a : ℕ) (at : Option ℕ) (hidden : Bool) : Type 0 where
+  pub is : at ≡ Some a
+  pub same : Same all now
+  pub apart : AreDistinct (map (λ o. o.at) (all.layer e).objects)
+  pub around : Standing (all.layer e).objects a
+  pub answer : is_covered all links d e around.one.bytes ≡ hidden
 
-    pub fewer-next : (next : Option ℕ) → next ≡ place_behind a objects → length (objects_from next objects) < length (objects_from at objects)
-    fewer-next next e =
-        let more : length (objects_from at objects) ≡ length (s.one ∷ s.behind) = ap length from-at in
-        let less : length (objects_from next objects) ≡ length s.behind = ap length (from-next next e) in
+-- so it is where a test of the object was told that
+pub at-object : {all before now : Layered} {links : Links} {d e a : ℕ} {at : Option ℕ} {hidden : Bool} → AreLayers all → IsAlike all d e → IsPlaceIn (all.layer e).objects at → at ≡ Some a
+    → Same all before → ((bytes : List ℕ) → bytes_there a (before.layer e).objects ≡ Some bytes → hidden ≡ is_covered before links d e bytes) → Same before now → AtObject all now links d e a at hidden
+at-object {all} {before} {now} {links} {d} {e} {a} laws like place is same told kept =
+    let apart = laws.distinct e like.there in
+    let s = standing (all.layer e).objects a apart (place a is) in
+    record {
+      is = is;
+      same = same-over same kept;
+      apart = apart;
+      around = s;
+      answer = sym (told s.one.bytes (ap (λ (z : ℕ → Layer). bytes_there a (z e).objects) same.layers ∙ there (all.layer e).objects a s) ∙ covered-kept links d e s.one.bytes same);
+    }
+
+module _ {all now : Layered} {links : Links} {d e a : ℕ} {at : Option ℕ} {hidden : Bool} (w : AtObject all now links d e a at hidden) where
+  abbrev objects : List Object
+  objects = (all.layer e).objects
+
+  abbrev around : Standing objects a
+  around = w.around
+
+  abbrev shows : List Object → List Object
+  shows = shown all links d e
+
+  from-at : objects_from at objects ≡ around.one ∷ around.behind
+  from-at = ap (λ z. objects_from z objects) w.is ∙ from-here objects a around
+
+  up_to-at : objects_up_to at objects ≡ around.before ++ around.one ∷ []
+  up_to-at = ap (λ z. objects_up_to z objects) w.is ∙ up_to-here objects a around
+
+  shown-up_to : shows (objects_up_to at objects) ≡ shows around.before ++ shows (around.one ∷ [])
+  shown-up_to = ap shows up_to-at ∙ filter-append (λ o. not (is_covered all links d e o.bytes)) around.before (around.one ∷ [])
+
+  pub there-still : IsSome (bytes_there a (now.layer e).objects)
+  there-still = place-kept e a w.same (ap is_some (there objects a around))
+
+  -- it isn't hidden
+  pub first-seen : hidden ≡ false → Some a ≡ place_in (first_of (shows (objects_from at objects)))
+  first-seen h =
+      let one : is_covered all links d e around.one.bytes ≡ false = w.answer ∙ h in
+      let seen : shows (around.one ∷ around.behind) ≡ around.one ∷ shows around.behind = rw one refl in
+      ap (λ z. Some z) (sym around.here) ∙ ap (λ z. place_in (first_of z)) (sym (ap shows from-at ∙ seen))
+
+  pub last-seen : hidden ≡ false → Some a ≡ place_in (last_of (shows (objects_up_to at objects)))
+  last-seen h =
+      let one : is_covered all links d e around.one.bytes ≡ false = w.answer ∙ h in
+      let seen : shows (around.one ∷ []) ≡ around.one ∷ [] = rw one refl in
+      ap (λ z. Some z) (sym around.here)
+      ∙ ap place_in (sym (ap last_of (shown-up_to ∙ ap (λ z. shows around.before ++ z) seen) ∙ last-append None (shows around.before) (around.one ∷ [])))
+
+  -- the walk goes on to the one behind, or to the one before
+  module _ {next : Option ℕ} (on : next ≡ place_behind a (now.layer e).objects) where
+    on-behind : next ≡ place_behind a objects
+    on-behind = on ∙ ap (λ (z : ℕ → Layer). place_behind a (z e).objects) w.same.layers
+
+    pub next-place : IsPlaceIn objects next
+    next-place = place-next w.apart around on-behind
+
+    pub fewer-next : length (objects_from next objects) < length (objects_from at objects)
+    fewer-next =
+        let more : length (objects_from at objects) ≡ length (around.one ∷ around.behind) = ap length from-at in
+        let less : length (objects_from next objects) ≡ length around.behind = ap length (from-next w.apart around on-behind) in
         omega arith
 
-    pub fewer-previous : (previous : Option ℕ) → previous ≡ place_before a objects → length (objects_up_to previous objects) < length (objects_up_to at objects)
-    fewer-previous previous e =
-        let more : length (objects_up_to at objects) ≡ length s.before + length (s.one ∷ []) = ap length up_to-at ∙ length-append s.before (s.one ∷ []) in
-        let less : length (objects_up_to previous objects) ≡ length s.before = ap length (up_to-previous previous e) in
+    pub first-past : hidden ≡ true → first_of (shows (objects_from at objects)) ≡ first_of (shows (objects_from next objects))
+    first-past h =
+        let one : is_covered all links d e around.one.bytes ≡ true = w.answer ∙ h in
+        let past : shows (around.one ∷ around.behind) ≡ shows around.behind = rw one refl in
+        ap first_of (ap shows from-at ∙ past ∙ ap shows (sym (from-next w.apart around on-behind)))
+
+  module _ {previous : Option ℕ} (on : previous ≡ place_before a (now.layer e).objects) where
+    on-before : previous ≡ place_before a objects
+    on-before = on ∙ ap (λ (z : ℕ → Layer). place_before a (z e).objects) w.same.layers
+
+    pub previous-place : IsPlaceIn objects previous
+    previous-place = place-previous w.apart around on-before
+
+    pub fewer-previous : length (objects_up_to previous objects) < length (objects_up_to at objects)
+    fewer-previous =
+        let more : length (objects_up_to at objects) ≡ length around.before + length (around.one ∷ []) = ap length up_to-at ∙ length-append around.before (around.one ∷ []) in
+        let less : length (objects_up_to previous objects) ≡ length around.before = ap length (up_to-previous w.apart around on-before) in
         omega arith
 
-    module _ (hides : List ℕ → Bool) where
-      -- it isn't hidden
-      pub first-seen : hides s.one.bytes ≡ false → at ≡ place_in (first_of (unhidden hides (objects_from at objects)))
-      first-seen h =
-          let seen : unhidden hides (s.one ∷ s.behind) ≡ s.one ∷ unhidden hides s.behind = rw h refl in
-          is ∙ ap (λ z. Some z) (sym s.here) ∙ ap (λ z. place_in (first_of z)) (sym (ap (unhidden hides) from-at ∙ seen))
-
-      pub last-seen : hides s.one.bytes ≡ false → at ≡ place_in (last_of (unhidden hides (objects_up_to at objects)))
-      last-seen h =
-          let seen : unhidden hides (s.one ∷ []) ≡ s.one ∷ [] = rw h refl in
-          let all : unhidden hides (objects_up_to at objects) ≡ unhidden hides s.before ++ s.one ∷ []
-          = ap (unhidden hides) up_to-at ∙ filter-append (λ o. not (hides o.bytes)) s.before (s.one ∷ []) ∙ ap (λ z. unhidden hides s.before ++ z) seen in
-          is ∙ ap (λ z. Some z) (sym s.here) ∙ ap place_in (sym (ap last_of all ∙ last-append None (unhidden hides s.before) (s.one ∷ [])))
-
-      -- it is hidden
-      pub first-past : (next : Option ℕ) → next ≡ place_behind a objects → hides s.one.bytes ≡ true → first_of (unhidden hides (objects_from at objects)) ≡ first_of (unhidden hides (objects_from next objects))
-      first-past next e h =
-          let seen : unhidden hides (s.one ∷ s.behind) ≡ unhidden hides s.behind = rw h refl in
-          ap first_of (ap (unhidden hides) from-at ∙ seen ∙ ap (unhidden hides) (sym (from-next next e)))
-
-      pub last-past : (previous : Option ℕ) → previous ≡ place_before a objects → hides s.one.bytes ≡ true → last_of (unhidden hides (objects_up_to at objects)) ≡ last_of (unhidden hides (objects_up_to previous objects))
-      last-past previous e h =
-          let seen : unhidden hides (s.one ∷ []) ≡ [] = rw h refl in
-          ap last_of (ap (unhidden hides) up_to-at ∙ filter-append (λ o. not (hides o.bytes)) s.before (s.one ∷ [])
-          ∙ ap (λ z. unhidden hides s.before ++ z) seen ∙ append-nil (unhidden hides s.before) ∙ ap (unhidden hides) (sym (up_to-previous previous e)))
+    pub last-past : hidden ≡ true → last_of (shows (objects_up_to at objects)) ≡ last_of (shows (objects_up_to previous objects))
+    last-past h =
+        let one : is_covered all links d e around.one.bytes ≡ true = w.answer ∙ h in
+        let past : shows (around.one ∷ []) ≡ [] = rw one refl in
+        ap last_of (shown-up_to ∙ ap (λ z. shows around.before ++ z) past ∙ append-nil (shows around.before) ∙ ap shows (sym (up_to-previous w.apart around on-before)))
 
 -- without a place there is none
-pub first-none : (hides : List ℕ → Bool) (objects : List Object) (at : Option ℕ) → at ≡ None → None ≡ place_in (first_of (unhidden hides (objects_from at objects)))
-first-none hides objects at is = ap (λ z. place_in (first_of (unhidden hides (objects_from z objects)))) (sym is)
+pub first-none : (all : Layered) (links : Links) (d e : ℕ) {at : Option ℕ} → at ≡ None → None ≡ place_in (first_of (shown all links d e (objects_from at (all.layer e).objects)))
+first-none all links d e is = ap (λ z. place_in (first_of (shown all links d e (objects_from z (all.layer e).objects)))) (sym is)
 
-pub last-none : (hides : List ℕ → Bool) (objects : List Object) (at : Option ℕ) → at ≡ None → None ≡ place_in (last_of (unhidden hides (objects_up_to at objects)))
-last-none hides objects at is = ap (λ z. place_in (last_of (unhidden hides (objects_up_to z objects)))) (sym is)
-
--- what a test of the object at a place was told, by a dictionary that stayed
-pub covered-told : (now all : Layered) (links : Links) (d e a : ℕ) (r : Bool) (s : Standing (all.layer e).objects a) → Same all now
-    → ((bytes : List ℕ) → bytes_there a (now.layer e).objects ≡ Some bytes → r ≡ is_covered now links d e bytes) → is_covered all links d e s.one.bytes ≡ r
-covered-told now all links d e a r s same told =
-    sym (told s.one.bytes (ap (λ (z : ℕ → Layer). bytes_there a (z e).objects) same.layers ∙ there (all.layer e).objects a s)
-    ∙ covered-kept links d e s.one.bytes same)
+pub last-none : (all : Layered) (links : Links) (d e : ℕ) {at : Option ℕ} → at ≡ None → None ≡ place_in (last_of (shown all links d e (objects_up_to at (all.layer e).objects)))
+last-none all links d e is = ap (λ z. place_in (last_of (shown all links d e (objects_up_to z (all.layer e).objects)))) (sym is)
 
 -- the ends of a dictionary
 pub place-start : (objects : List Object) (start : Option ℕ) → start ≡ place_in (first_of objects) → IsPlaceIn objects start

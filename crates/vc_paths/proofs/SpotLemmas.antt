@@ -1,5 +1,6 @@
 -- The neighbours of an object that is seen through a path, where the method is not ordered.
-use Rattle.std.proofs.Common.{◌≡◌, ℕ, List, [], ◌∷◌, ◌++◌, Bool, true, false, not, eqb, ◌||◌, ◌&&◌, Option, Some, None, refl, sym, ap, ◌∙◌, subst, inl, inr, append_assoc}
+use Rattle.std.proofs.Common.{◌≡◌, ℕ, List, [], ◌∷◌, ◌++◌, map, is_some, Bool, true, false, not, eqb, ◌||◌, ◌&&◌, Option, Some, None, refl, sym, ap, ◌∙◌, subst, inl, inr, append_assoc}
+use Rattle.std.specs.Prelude.{IsSome}
 use Rattle.std.specs.List.{filter, flat_map, list_any}
 use Rattle.std.specs.Option.{option_map, option_or}
 use Rattle.std.proofs.lemmas.Bool.{cases_Bool, eq-eqb, eqb-false, eqb-true, ne_eqb, or_from, or_parts, true≢false}
@@ -11,25 +12,30 @@ use Rattle.vc_base.specs.Holders.{AreDistinct, contains}
 use Rattle.vc_base.specs.Methods.{is_ordered}
 use Rattle.vc_dtdisc.specs.Finding.{before_first, behind_last, first_of, last_of}
 use Rattle.vc_dtdisc.specs.Objects.{Object}
-use Rattle.vc_paths.specs.Layers.{AreLayers, Layered, place_before, place_behind, place_in, stands_at}
+use Rattle.vc_paths.specs.Layers.{AreLayers, Layered, bytes_there, place_before, place_behind, place_in, stands_at}
 use Rattle.vc_paths.specs.Links.{ArePaths, Links, below}
-use Rattle.vc_paths.specs.Path.{IsPath, IsVisible, is_at, place_of, visible_of, is_place}
+use Rattle.vc_paths.specs.Path.{IsAlike, IsPath, IsVisible, is_at, place_of, visible_of, is_place}
 use Rattle.vc_paths.specs.Shown.{IsOnPath, above, down, is_covered, objects_from, objects_up_to, places, shown, shown_in}
-use Rattle.vc_paths.proofs.DownLemmas.{above-on, above-stop, on-head, on-start, parted-at}
+use Rattle.vc_paths.proofs.DownLemmas.{above-on, above-stop, on-head, on-next, on-start, parted-at}
 use Rattle.vc_paths.proofs.EndLemmas.{any-filter, any-flat_map, any-map, before-at, before-map, behind-at, behind-map, first-append, last-append, last-or, parted}
 use Rattle.vc_paths.proofs.PathLemmas.{path-distinct}
-use Rattle.vc_paths.proofs.PlaceLemmas.{Standing, apart-once, standing-any}
+use Rattle.vc_paths.proofs.PlaceLemmas.{Standing, apart-once, standing-any, there}
 use Rattle.vc_paths.proofs.SeenLemmas.{first-place, from-next, last-place, up_to-previous}
 use Rattle.vc_paths.proofs.ShownLemmas.{visible-places}
 
 -- where an object is seen: what its path has above and below, and what stands around it in its layer
 pub record Spot (all : Layered) (links : Links) (d e a : ℕ) : Type 0 where
+  pub paths : ArePaths links
+  pub start : IsOnPath all links d (Some d)
+  pub visible : map place_of (visible_of all links d) ≡ flat_map (shown_in all links d) (down links (Some d))
   pub upper : List ℕ
   pub lower : List ℕ
   pub whole : down links (Some d) ≡ upper ++ e ∷ lower
   pub on : IsOnPath all links d (Some e)
   pub rest : lower ≡ down links (below links e)
   pub end : above (Some e) (down links (Some d)) ≡ upper
+  pub alike : IsAlike all d e
+  pub apart : AreDistinct (map (λ o. o.at) (all.layer e).objects)
   pub around : Standing (all.layer e).objects a
   pub seen : is_covered all links d e around.one.bytes ≡ false
   pub first : list_any (is_place (e, a)) (flat_map (shown_in all links d) upper) ≡ false
@@ -96,41 +102,48 @@ seen-around all links d e a s h = elim (cases_Bool (is_covered all links d e s.o
   | inr k ↦ k
 ]
 
-spot-by : (all : Layered) (links : Links) (d e a : ℕ) (upper : List ℕ) (u : ℕ) (lower : List ℕ) → AreLayers all → ArePaths links → IsOnPath all links d (Some d) → down links (Some d) ≡ upper ++ u ∷ lower → Found all links d e a u → u ≡ e → Spot all links d e a
-spot-by all links d e a upper u lower laws p on whole found same =
-    let here : down links (Some d) ≡ upper ++ e ∷ lower = whole ∙ ap (λ z. upper ++ z ∷ lower) same in
+spot-by : (all : Layered) (links : Links) (d e a : ℕ) (upper : List ℕ) (u : ℕ) (lower : List ℕ) → AreLayers all → ArePaths links → IsOnPath all links d (Some d)
+    → map place_of (visible_of all links d) ≡ flat_map (shown_in all links d) (down links (Some d)) → down links (Some d) ≡ upper ++ u ∷ lower → Found all links d e a u → Spot all links d e a
+spot-by all links d e a upper u lower laws p on visible whole found =
+    let here : down links (Some d) ≡ upper ++ e ∷ lower = whole ∙ ap (λ z. upper ++ z ∷ lower) found.same in
     let parts = parted-at all links d upper (Some d) e lower p on here in
     let once = apart-once upper e lower (subst AreDistinct here (distinct-down links d p)) in
     let some : list_any (stands_at a) (shown all links d e (all.layer e).objects) ≡ true
-    = subst (λ z. list_any (stands_at a) (shown all links d z (all.layer z).objects) ≡ true) same found.some in
-    let apart = laws.distinct e (on-head all links d (Some e) e p refl parts.on).there in
+    = subst (λ z. list_any (stands_at a) (shown all links d z (all.layer z).objects) ≡ true) found.same found.some in
+    let alike = on-head p refl parts.on in
+    let apart = laws.distinct e alike.there in
     let s = standing-any (all.layer e).objects a apart (kept-any (stands_at a) (λ o. not (is_covered all links d e o.bytes)) (all.layer e).objects some) in
     record {
+      paths = p;
+      start = on;
+      visible = visible;
       upper = upper;
       lower = lower;
       whole = here;
       on = parts.on;
       rest = parts.rest;
       end = ap (above (Some e)) here ∙ above-at e upper lower once.0;
+      alike = alike;
+      apart = apart;
       around = s;
       seen = seen-around all links d e a s some;
       first = apart-none e a (λ x. shown all links d x (all.layer x).objects) upper once.0;
       last = apart-none e a (λ x. shown all links d x (all.layer x).objects) lower once.1;
     }
 
-pub spot : (all : Layered) (links : Links) (d e a : ℕ) → AreLayers all → ArePaths links → IsPath all links d → is_ordered (all.layer d).method ≡ false → IsVisible all links d (e, a) → Spot all links d e a
-spot all links d e a laws p is method h =
+pub spot : {all : Layered} {links : Links} {d e a : ℕ} → AreLayers all → ArePaths links → IsPath all links d → is_ordered (all.layer d).method ≡ false → IsVisible all links d (e, a) → Spot all links d e a
+spot {all} {links} {d} {e} {a} laws p is method h =
     let shows = shown_in all links d in
+    let visible = visible-places all links d p method in
     let some : list_any (λ u. list_any (is_place (e, a)) (shows u)) (down links (Some d)) ≡ true
     = sym (any-flat_map (is_place (e, a)) shows (down links (Some d)))
-    ∙ ap (list_any (is_place (e, a))) (sym (visible-places all links d p method))
+    ∙ ap (list_any (is_place (e, a))) (sym visible)
     ∙ any-map place_of (is_place (e, a)) (visible_of all links d)
     ∙ h in
     let w = parted (λ u. list_any (is_place (e, a)) (shows u)) (down links (Some d)) some in
-    let found = found-in all links d e a w.one w.passes in
-    spot-by all links d e a w.front w.one w.back laws p (on-start all links d is) w.whole found found.same
+    spot-by all links d e a w.front w.one w.back laws p (on-start is) visible w.whole (found-in all links d e a w.one w.passes)
 
-module _ (all : Layered) (links : Links) (d e a : ℕ) (s : Spot all links d e a) where
+module _ {all : Layered} {links : Links} {d e a : ℕ} (s : Spot all links d e a) where
   -- its layer around it
   layer-parts : shown_in all links d e ≡ places e (shown all links d e s.around.before) ++ (e, a) ∷ places e (shown all links d e s.around.behind)
   layer-parts =
@@ -179,7 +192,7 @@ module _ (all : Layered) (links : Links) (d e a : ℕ) (s : Spot all links d e a
       (any-here e a e xs (eq-eqb e e refl) ∙ any-filter (stands_at a) (λ o. not (is_covered all links d e o.bytes)) s.around.behind s.around.last) s.last
 
   -- the first behind it in its layer, or else the first that is seen below
-  pub spot-next : behind_last (is_place (e, a)) (flat_map (shown_in all links d) (down links (Some d)))
+  spot-next : behind_last (is_place (e, a)) (flat_map (shown_in all links d) (down links (Some d)))
       ≡ option_or (first_of (places e (shown all links d e s.around.behind))) (first_of (flat_map (shown_in all links d) (down links (below links e))))
   unfolding back
   spot-next =
@@ -189,7 +202,7 @@ module _ (all : Layered) (links : Links) (d e a : ℕ) (s : Spot all links d e a
       ∙ ap (λ z. option_or (first_of (places e (shown all links d e s.around.behind))) (first_of (flat_map (shown_in all links d) z))) s.rest
 
   -- the last before it in its layer, or else the last that is seen above
-  pub spot-previous : before_first (is_place (e, a)) (flat_map (shown_in all links d) (down links (Some d)))
+  spot-previous : before_first (is_place (e, a)) (flat_map (shown_in all links d) (down links (Some d)))
       ≡ option_or (last_of (places e (shown all links d e s.around.before))) (last_of (flat_map (shown_in all links d) (above (Some e) (down links (Some d)))))
   unfolding front
   spot-previous =
@@ -201,29 +214,30 @@ module _ (all : Layered) (links : Links) (d e a : ℕ) (s : Spot all links d e a
       ∙ last-or (last_of (f s.upper)) before
       ∙ ap (λ z. option_or (last_of before) (last_of (f z))) (sym s.end)
 
--- so what a walk finds from the next one on in the layer, or else below, is the answer
-pub walked-next : (all : Layered) (links : Links) (d e a : ℕ) (start r : Option ℕ) → AreLayers all → ArePaths links → is_ordered (all.layer d).method ≡ false → Spot all links d e a
-    → start ≡ place_behind a (all.layer e).objects → r ≡ place_in (first_of (shown all links d e (objects_from start (all.layer e).objects)))
-    → option_map place_of (behind_last (is_at (e, a)) (visible_of all links d)) ≡ option_or (option_map {U = ℕ × ℕ} (λ x. (e, x)) r) (first_of (flat_map (shown_in all links d) (down links (below links e))))
-walked-next all links d e a start r laws p method s at found =
-    let apart = laws.distinct e (on-head all links d (Some e) e p refl s.on).there in
-    let there = from-next (all.layer e).objects apart a s.around start at in
-    let rest = first_of (flat_map (shown_in all links d) (down links (below links e))) in
-    sym (behind-map place_of (is_place (e, a)) (visible_of all links d))
-    ∙ ap (behind_last (is_place (e, a))) (visible-places all links d p method)
-    ∙ spot-next all links d e a s
-    ∙ ap (λ z. option_or z rest) (sym (ap (option_map {U = ℕ × ℕ} (λ x. (e, x))) (found ∙ ap (λ z. place_in (first_of (shown all links d e z))) there)
-    ∙ first-place e (shown all links d e s.around.behind)))
+  -- it stands there, and the path goes on below its layer
+  pub spot-there : IsSome (bytes_there a (all.layer e).objects)
+  spot-there = ap is_some (there (all.layer e).objects a s.around)
 
-pub walked-previous : (all : Layered) (links : Links) (d e a : ℕ) (end r : Option ℕ) → AreLayers all → ArePaths links → is_ordered (all.layer d).method ≡ false → Spot all links d e a
-    → end ≡ place_before a (all.layer e).objects → r ≡ place_in (last_of (shown all links d e (objects_up_to end (all.layer e).objects)))
-    → option_map place_of (before_first (is_at (e, a)) (visible_of all links d)) ≡ option_or (option_map {U = ℕ × ℕ} (λ x. (e, x)) r) (last_of (flat_map (shown_in all links d) (above (Some e) (down links (Some d)))))
-walked-previous all links d e a end r laws p method s at found =
-    let apart = laws.distinct e (on-head all links d (Some e) e p refl s.on).there in
-    let there = up_to-previous (all.layer e).objects apart a s.around end at in
-    let rest = last_of (flat_map (shown_in all links d) (above (Some e) (down links (Some d)))) in
-    sym (before-map place_of None (is_place (e, a)) (visible_of all links d))
-    ∙ ap (before_first (is_place (e, a))) (visible-places all links d p method)
-    ∙ spot-previous all links d e a s
-    ∙ ap (λ z. option_or z rest) (sym (ap (option_map {U = ℕ × ℕ} (λ x. (e, x))) (found ∙ ap (λ z. place_in (last_of (shown all links d e z))) there)
-    ∙ last-place e (shown all links d e s.around.before)))
+  pub spot-below : {next : Option ℕ} → next ≡ below links e → IsOnPath all links d next
+  spot-below step = on-next s.paths refl step s.on
+
+  -- so what a walk finds from the next one on in the layer, or else below, is the answer
+  pub walked-next : {start r : Option ℕ} → start ≡ place_behind a (all.layer e).objects → r ≡ place_in (first_of (shown all links d e (objects_from start (all.layer e).objects)))
+      → option_map place_of (behind_last (is_at (e, a)) (visible_of all links d)) ≡ option_or (option_map {U = ℕ × ℕ} (λ x. (e, x)) r) (first_of (flat_map (shown_in all links d) (down links (below links e))))
+  walked-next at found =
+      let rest = first_of (flat_map (shown_in all links d) (down links (below links e))) in
+      sym (behind-map place_of (is_place (e, a)) (visible_of all links d))
+      ∙ ap (behind_last (is_place (e, a))) s.visible
+      ∙ spot-next
+      ∙ ap (λ z. option_or z rest) (sym (ap (option_map {U = ℕ × ℕ} (λ x. (e, x))) (found ∙ ap (λ z. place_in (first_of (shown all links d e z))) (from-next s.apart s.around at))
+      ∙ first-place e (shown all links d e s.around.behind)))
+
+  pub walked-previous : {end r : Option ℕ} → end ≡ place_before a (all.layer e).objects → r ≡ place_in (last_of (shown all links d e (objects_up_to end (all.layer e).objects)))
+      → option_map place_of (before_first (is_at (e, a)) (visible_of all links d)) ≡ option_or (option_map {U = ℕ × ℕ} (λ x. (e, x)) r) (last_of (flat_map (shown_in all links d) (above (Some e) (down links (Some d)))))
+  walked-previous at found =
+      let rest = last_of (flat_map (shown_in all links d) (above (Some e) (down links (Some d)))) in
+      sym (before-map place_of None (is_place (e, a)) (visible_of all links d))
+      ∙ ap (before_first (is_place (e, a))) s.visible
+      ∙ spot-previous
+      ∙ ap (λ z. option_or z rest) (sym (ap (option_map {U = ℕ × ℕ} (λ x. (e, x))) (found ∙ ap (λ z. place_in (last_of (shown all links d e z))) (up_to-previous s.apart s.around at))
+      ∙ last-place e (shown all links d e s.around.before)))

@@ -16,8 +16,8 @@ same-over s t = record { has = λ d h. t.has d (s.has d h); layers = t.layers �
 abbrev bare : (ℕ → Layer) → Layered
 bare layer = record { Has = λ d. Unit {0}; layer = layer }
 
-pub alike-kept : {old new : Layered} (d e : ℕ) → Same old new → IsAlike old d e → IsAlike new d e
-alike-kept d e s a = record {
+pub alike-kept : {old new : Layered} {d e : ℕ} → Same old new → IsAlike old d e → IsAlike new d e
+alike-kept {old} {new} {d} {e} s a = record {
   there = s.has e a.there;
   method = ap (λ (z : ℕ → Layer). (z e).method) s.layers ∙ a.method ∙ sym (ap (λ (z : ℕ → Layer). (z d).method) s.layers);
   kind = ap (λ (z : ℕ → Layer). (z e).kind) s.layers ∙ a.kind ∙ sym (ap (λ (z : ℕ → Layer). (z d).kind) s.layers);
@@ -25,10 +25,10 @@ alike-kept d e s a = record {
 
 all-kept : {old new : Layered} (d : ℕ) (es : List ℕ) → Same old new → AllByRecursion (IsAlike old d) es → AllByRecursion (IsAlike new d) es
 all-kept d [] s a = tt
-all-kept d (e ∷ es) s a = (alike-kept d e s a.0, all-kept d es s a.1)
+all-kept d (e ∷ es) s a = (alike-kept s a.0, all-kept d es s a.1)
 
-pub on-kept : {old new : Layered} (links : Links) (d : ℕ) (at : Option ℕ) → Same old new → IsOnPath old links d at → IsOnPath new links d at
-on-kept links d at s p = record { number = p.number; alike = all-kept d (down links at) s p.alike }
+pub on-kept : {old new : Layered} {links : Links} {d : ℕ} {at : Option ℕ} → Same old new → IsOnPath old links d at → IsOnPath new links d at
+on-kept {old} {new} {links} {d} {at} s p = record { number = p.number; alike = all-kept d (down links at) s p.alike }
 
 pub path-kept : {old new : Layered} (links : Links) (d : ℕ) → Same old new → IsPath old links d → IsPath new links d
 path-kept links d s p = record { number = p.number; alike = all-kept d (path links d) s p.alike }

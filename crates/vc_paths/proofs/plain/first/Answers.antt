@@ -7,10 +7,10 @@ use Rattle.vc_paths.proofs.ShownLemmas.{visible-places}
 use Rattle.vc_paths.proofs.plain.first.Goals as goal
 
 pub first_below-requires-clause-path : goal.first_below-requires-clause-path
-first_below-requires-clause-path g c = on-start (g.Y.Layers.layered c.args.layers.now) c.args.paths.now c.args.d c.requires.path
+first_below-requires-clause-path g c = on-start c.requires.path
 
 pub first_below-requires-clause-from : goal.first_below-requires-clause-from
-first_below-requires-clause-from g c = on-start (g.Y.Layers.layered c.args.layers.now) c.args.paths.now c.args.d c.requires.path
+first_below-requires-clause-from g c = on-start c.requires.path
 
 pub returns-clause-found : goal.returns-clause-found
 returns-clause-found g c =

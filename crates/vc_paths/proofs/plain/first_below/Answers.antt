@@ -1,4 +1,4 @@
-use Rattle.std.proofs.Common.{Some, ap, refl, sym, ◌∙◌}
+use Rattle.std.proofs.Common.{◌≡◌, ap, refl, sym, ◌∙◌}
 use Rattle.std.specs.Option.{option_map}
 use Rattle.vc_dtdisc.specs.Finding.{first_of}
 use Rattle.vc_paths.specs.Path.{numbers_of}
@@ -6,7 +6,17 @@ use Rattle.vc_paths.specs.Shown.{shown_in}
 use Rattle.vc_paths.proofs.DescentLemmas.{below-end, below-found, below-past, some-mapped}
 use Rattle.vc_paths.proofs.DownLemmas.{down-next, on-head, on-next}
 use Rattle.vc_paths.proofs.StayLemmas.{same-itself, same-over, alike-kept, on-kept, shown-kept}
+use Rattle.vc_paths.proofs.plain.first_below.Given.{Over}
 use Rattle.vc_paths.proofs.plain.first_below.Goals as goal
+use Rattle.vc_paths.proofs.plain.first_below.Goals.{After-first_in-found}
+
+-- what the layer at which the walk is shows first
+first : (g : Over) (c : After-first_in-found g) → option_map numbers_of c.first_in-found.result ≡ first_of (shown_in (g.Y.Layers.layered c.args.layers.now) c.args.paths.now c.args.d c.in-Some.e)
+first g c = c.first_in-found.ensures.found ∙ ap (λ z. first_of (z c.in-Some.e)) (shown-kept c.args.paths.now c.args.d c.loop-layer.invariant.same)
+
+stays : (g : Over) (c : After-first_in-found g) → g.Y.Layers.Stays c.args.layers.now c.first_in-found.new.layers
+stays g c =
+    g.met.Y.Layers.transitive c.args.layers.now c.loop-layer.layers c.first_in-found.new.layers c.loop-layer.invariant.stays c.first_in-found.ensures.stays
 
 pub loop-layer-init : goal.loop-layer-init
 loop-layer-init g c = record { same = same-itself (g.Y.Layers.layered c.args.layers.now); stays = g.met.Y.Layers.reflexive c.args.layers.now; path = c.requires.from; answer = refl }
@@ -14,59 +24,44 @@ loop-layer-init g c = record { same = same-itself (g.Y.Layers.layered c.args.lay
 pub first_in-found-requires : goal.first_in-found-requires
 first_in-found-requires g c =
     let i = c.loop-layer.invariant in
-    let all = g.Y.Layers.layered c.args.layers.now in
-    let links = c.args.paths.now in
-    let d = c.args.d in
-    let e = c.in-Some.e in
-    record {
-      path = on-kept links d (Some d) i.same c.requires.path;
-      other = alike-kept d e i.same (on-head all links d c.loop-layer.layer e c.show_invariant.ensures c.in-Some.is i.path);
-    }
+    record { path = on-kept i.same c.requires.path; other = alike-kept i.same (on-head c.show_invariant.ensures c.in-Some.is i.path) }
 
 pub returns-then-is_some : goal.returns-then-is_some
 returns-then-is_some g c =
     let i = c.loop-layer.invariant in
-    let all = g.Y.Layers.layered c.args.layers.now in
-    let links = c.args.paths.now in
-    let d = c.args.d in
-    let e = c.in-Some.e in
-    let r = option_map numbers_of c.first_in-found.result in
-    let found = c.first_in-found.ensures.found ∙ ap (λ z. first_of (z e)) (shown-kept links d i.same) in
+    let after = (goal.at.returns-then-is_some g c).After-first_in-found in
+    let some = some-mapped numbers_of c.first_in-found.result ∙ sym c.is_some.ensures ∙ c.if-is_some.true in
     record {
-      found = below-found (shown_in all links d) links c.loop-layer.layer e r c.show_invariant.ensures c.in-Some.is found (some-mapped numbers_of c.first_in-found.result ∙ sym c.is_some.ensures ∙ c.if-is_some.true) ∙ sym i.answer;
+      found = below-found (shown_in (g.Y.Layers.layered c.args.layers.now) c.args.paths.now c.args.d) c.show_invariant.ensures c.in-Some.is (first g after) some ∙ sym i.answer;
       layers = same-over i.same c.first_in-found.ensures.layers;
-      stays = g.met.Y.Layers.transitive c.args.layers.now c.loop-layer.layers c.first_in-found.new.layers i.stays c.first_in-found.ensures.stays;
+      stays = stays g after;
     }
 
 pub below-layer-requires : goal.below-layer-requires
 below-layer-requires g c = c.loop-layer.invariant.path.number c.in-Some.e c.in-Some.is
 
 pub loop-layer-smaller : goal.loop-layer-smaller
-loop-layer-smaller g c = down-next c.args.paths.now c.loop-layer.layer c.in-Some.e c.below-layer.result c.show_invariant.ensures c.in-Some.is c.below-layer.ensures
+loop-layer-smaller g c = down-next c.show_invariant.ensures c.in-Some.is c.below-layer.ensures
 
 pub loop-layer-preserved : goal.loop-layer-preserved
 loop-layer-preserved g c =
     let i = c.loop-layer.invariant in
-    let all = g.Y.Layers.layered c.args.layers.now in
-    let links = c.args.paths.now in
-    let d = c.args.d in
-    let e = c.in-Some.e in
-    let r = option_map numbers_of c.first_in-found.result in
-    let found = c.first_in-found.ensures.found ∙ ap (λ z. first_of (z e)) (shown-kept links d i.same) in
+    let paths = c.show_invariant.ensures in
+    let after = (goal.at.loop-layer-preserved g c).After-first_in-found in
+    let none = some-mapped numbers_of c.first_in-found.result ∙ sym c.is_some.ensures ∙ c.if-is_some.false in
     record {
       same = same-over i.same c.first_in-found.ensures.layers;
-      stays = g.met.Y.Layers.transitive c.args.layers.now c.loop-layer.layers c.first_in-found.new.layers i.stays c.first_in-found.ensures.stays;
-      path = on-next all links d c.loop-layer.layer e c.below-layer.result c.show_invariant.ensures c.in-Some.is c.below-layer.ensures i.path;
+      stays = stays g after;
+      path = on-next paths c.in-Some.is c.below-layer.ensures i.path;
       answer = i.answer
-          ∙ below-past (shown_in all links d) links c.loop-layer.layer e c.below-layer.result r c.show_invariant.ensures c.in-Some.is c.below-layer.ensures found (some-mapped numbers_of c.first_in-found.result ∙ sym c.is_some.ensures ∙ c.if-is_some.false);
+          ∙ below-past (shown_in (g.Y.Layers.layered c.args.layers.now) c.args.paths.now c.args.d) paths c.in-Some.is c.below-layer.ensures (first g after) none;
     }
 
 pub returns : goal.returns
 returns g c =
     let i = c.loop-layer.invariant in
-    let all = g.Y.Layers.layered c.args.layers.now in
     record {
-      found = below-end (shown_in all c.args.paths.now c.args.d) c.args.paths.now c.loop-layer.layer c.in_default.is ∙ sym i.answer;
+      found = below-end (shown_in (g.Y.Layers.layered c.args.layers.now) c.args.paths.now c.args.d) c.show_invariant.ensures c.in_default.is ∙ sym i.answer;
       layers = i.same;
       stays = i.stays;
     }

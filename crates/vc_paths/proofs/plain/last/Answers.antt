@@ -9,7 +9,7 @@ use Rattle.vc_paths.proofs.ShownLemmas.{visible-places}
 use Rattle.vc_paths.proofs.plain.last.Goals as goal
 
 pub last_above-requires : goal.last_above-requires
-last_above-requires g c = record { path = on-start (g.Y.Layers.layered c.args.layers.now) c.args.paths.now c.args.d c.requires.path }
+last_above-requires g c = record { path = on-start c.requires.path }
 
 pub returns-clause-found : goal.returns-clause-found
 returns-clause-found g c =

@@ -11,47 +11,34 @@ use Rattle.vc_paths.proofs.plain.last_above.Goals as goal
 
 pub returns-then-is_link_to-clause-found : goal.returns-then-is_link_to-clause-found
 returns-then-is_link_to-clause-found g c =
-    let i = c.loop-layer.invariant in
-    let all = g.Y.Layers.layered c.args.layers.now in
-    let links = c.args.paths.now in
-    let shows = shown_in all links c.args.d in
-    sym (i.answer ∙ above-last shows links c.args.end c.loop-layer.layer c.in-Some.e (option_map numbers_of c.loop-layer.best) c.show_invariant.ensures c.in-Some.is (sym c.is_link_to.ensures ∙ c.if-is_link_to.true))
+    let shows = shown_in (g.Y.Layers.layered c.args.layers.now) c.args.paths.now c.args.d in
+    sym (c.loop-layer.invariant.answer
+    ∙ above-last shows c.show_invariant.ensures c.args.end (option_map numbers_of c.loop-layer.best) c.in-Some.is (sym c.is_link_to.ensures ∙ c.if-is_link_to.true))
 
 pub last_in-requires-clause-other : goal.last_in-requires-clause-other
-last_in-requires-clause-other g c =
-    let i = c.loop-layer.invariant in
-    let all = g.Y.Layers.layered c.args.layers.now in
-    let d = c.args.d in
-    let e = c.in-Some.e in
-    alike-kept d e i.same (on-head all c.args.paths.now d c.loop-layer.layer e c.show_invariant.ensures c.in-Some.is i.path)
+last_in-requires-clause-other g c = alike-kept c.loop-layer.invariant.same (on-head c.show_invariant.ensures c.in-Some.is c.loop-layer.invariant.path)
 
 pub loop-layer-smaller : goal.loop-layer-smaller
-loop-layer-smaller g c = down-next c.args.paths.now c.loop-layer.layer c.in-Some.e c.below-layer.result c.show_invariant.ensures c.in-Some.is c.below-layer.ensures
+loop-layer-smaller g c = down-next c.show_invariant.ensures c.in-Some.is c.below-layer.ensures
 
 pub loop-layer-preserved : goal.loop-layer-preserved
 loop-layer-preserved g c =
     let i = c.loop-layer.invariant in
-    let all = g.Y.Layers.layered c.args.layers.now in
     let links = c.args.paths.now in
-    let d = c.args.d in
-    let e = c.in-Some.e in
-    let shows = shown_in all links d in
-    let r = option_map numbers_of c.last_in.result in
-    let best = option_map numbers_of c.loop-layer.best in
-    let found = c.last_in.ensures.found ∙ ap (λ z. last_of (z e)) (shown-kept links d i.same) in
+    let paths = c.show_invariant.ensures in
+    let shows = shown_in (g.Y.Layers.layered c.args.layers.now) links c.args.d in
+    let last = c.last_in.ensures.found ∙ ap (λ z. last_of (z c.in-Some.e)) (shown-kept links c.args.d i.same) in
     let rest = flat_map shows (above c.args.end (down links c.below-layer.result)) in
     record {
       same = same-over i.same c.last_in.ensures.layers;
       stays = g.met.Y.Layers.transitive c.args.layers.now c.loop-layer.layers c.last_in.new.layers i.stays c.last_in.ensures.stays;
-      path = on-next all links d c.loop-layer.layer e c.below-layer.result c.show_invariant.ensures c.in-Some.is c.below-layer.ensures i.path;
+      path = on-next paths c.in-Some.is c.below-layer.ensures i.path;
       answer = i.answer
-          ∙ above-past shows links c.args.end c.loop-layer.layer e c.below-layer.result best r c.show_invariant.ensures c.in-Some.is c.below-layer.ensures (sym c.is_link_to.ensures ∙ c.if-is_link_to.false) found
+          ∙ above-past shows paths c.args.end (option_map numbers_of c.loop-layer.best) c.in-Some.is c.below-layer.ensures (sym c.is_link_to.ensures ∙ c.if-is_link_to.false) last
           ∙ ap (λ z. last_from z rest) (sym (ap (option_map numbers_of) c.or-best.ensures ∙ or-mapped numbers_of c.last_in.result c.loop-layer.best));
     }
 
 pub returns-clause-found : goal.returns-clause-found
 returns-clause-found g c =
-    let i = c.loop-layer.invariant in
-    let all = g.Y.Layers.layered c.args.layers.now in
-    let links = c.args.paths.now in
-    sym (i.answer ∙ above-end (shown_in all links c.args.d) links c.args.end c.loop-layer.layer (option_map numbers_of c.loop-layer.best) c.in_default.is)
+    sym (c.loop-layer.invariant.answer
+    ∙ above-end (shown_in (g.Y.Layers.layered c.args.layers.now) c.args.paths.now c.args.d) c.show_invariant.ensures c.args.end (option_map numbers_of c.loop-layer.best) c.in_default.is)

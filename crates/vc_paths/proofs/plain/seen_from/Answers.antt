@@ -1,102 +1,76 @@
-use Rattle.std.proofs.Common.{Some, ap, refl, sym, subst, ◌∙◌, ℕ}
-use Rattle.std.specs.Prelude.{IsSome}
+use Rattle.std.proofs.Common.{ap, refl, sym, ◌∙◌}
 use Rattle.std.specs.Option.{option_map}
 use Rattle.vc_base.specs.Address.{number_of}
-use Rattle.vc_paths.specs.Layers.{bytes_there, place_behind, Layer}
-use Rattle.vc_paths.specs.Shown.{is_covered}
-use Rattle.vc_paths.proofs.PlaceLemmas.{standing}
-use Rattle.vc_paths.proofs.SeenLemmas.{covered-told, fewer-next, first-none, first-past, first-seen, place-next}
-use Rattle.vc_paths.proofs.StayLemmas.{same-itself, same-over, alike-kept, on-kept}
+use Rattle.vc_paths.specs.Layers.{place_in}
+use Rattle.vc_paths.proofs.SeenLemmas.{AtObject, at-object, fewer-next, first-none, first-past, first-seen, next-place, place-kept, there-still}
+use Rattle.vc_paths.proofs.StayLemmas.{same-itself, alike-kept, on-kept}
+use Rattle.vc_paths.proofs.plain.seen_from.Given.{Over}
 use Rattle.vc_paths.proofs.plain.seen_from.Goals as goal
+use Rattle.vc_paths.proofs.plain.seen_from.Goals.{After-is_hidden}
+
+-- the walk behind the test of an object
+here : (g : Over) (c : After-is_hidden g)
+    → AtObject (g.Y.Layers.layered c.args.layers.now) (g.Y.Layers.layered c.is_hidden.new.layers) c.args.paths.now c.args.d c.args.e c.in-Some.place.0 (option_map number_of c.loop-here.here) c.is_hidden.result
+here g c =
+    let i = c.loop-here.invariant in
+    at-object (g.met.Y.Layers.lawful c.args.layers.now) c.requires.other i.place (ap (option_map number_of) c.in-Some.is) i.same c.is_hidden.ensures.hidden c.is_hidden.ensures.layers
+
+stays : (g : Over) (c : After-is_hidden g) → g.Y.Layers.Stays c.args.layers.now c.is_hidden.new.layers
+stays g c =
+    g.met.Y.Layers.transitive c.args.layers.now c.loop-here.layers c.is_hidden.new.layers c.loop-here.invariant.stays c.is_hidden.ensures.stays
 
 pub loop-here-init : goal.loop-here-init
-loop-here-init g c = record { same = same-itself (g.Y.Layers.layered c.args.layers.now); stays = g.met.Y.Layers.reflexive c.args.layers.now; place = c.requires.place; answer = refl }
+loop-here-init g c = record {
+  same = same-itself (g.Y.Layers.layered c.args.layers.now);
+  stays = g.met.Y.Layers.reflexive c.args.layers.now;
+  place = c.requires.place;
+  answer = refl;
+}
 
 pub is_hidden-requires : goal.is_hidden-requires
 is_hidden-requires g c =
-    let i = c.loop-here.invariant in
-    let links = c.args.paths.now in
-    let d = c.args.d in
-    let e = c.args.e in
+    let same = c.loop-here.invariant.same in
     let a = c.in-Some.place.0 in
     record {
-      path = on-kept links d (Some d) i.same c.requires.path;
-      other = alike-kept d e i.same c.requires.other;
-      place = subst (λ (z : ℕ → Layer). IsSome (bytes_there a (z e).objects)) (sym i.same.layers) (i.place a (ap (option_map number_of) c.in-Some.is));
+      path = on-kept same c.requires.path;
+      other = alike-kept same c.requires.other;
+      place = place-kept c.args.e a same (c.loop-here.invariant.place a (ap (option_map number_of) c.in-Some.is));
     }
 
 pub returns-then-not-is_hidden : goal.returns-then-not-is_hidden
 returns-then-not-is_hidden g c =
-    let i = c.loop-here.invariant in
-    let all = g.Y.Layers.layered c.args.layers.now in
-    let links = c.args.paths.now in
-    let d = c.args.d in
-    let e = c.args.e in
-    let a = c.in-Some.place.0 in
-    let is = ap (option_map number_of) c.in-Some.is in
-    let apart = (g.met.Y.Layers.lawful c.args.layers.now).distinct e c.requires.other.there in
-    let s = standing (all.layer e).objects a apart (i.place a is) in
-    let told = covered-told (g.Y.Layers.layered c.loop-here.layers) all links d e a c.is_hidden.result s i.same c.is_hidden.ensures.hidden in
+    let after = (goal.at.returns-then-not-is_hidden g c).After-is_hidden in
+    let w = here g after in
     record {
-      found = sym is
-          ∙ first-seen (all.layer e).objects apart a s (option_map number_of c.loop-here.here) is (is_covered all links d e) (told ∙ c.if-not-is_hidden.true)
-          ∙ sym (ap (option_map (λ o. o.at)) i.answer);
-      layers = same-over i.same c.is_hidden.ensures.layers;
-      stays = g.met.Y.Layers.transitive c.args.layers.now c.loop-here.layers c.is_hidden.new.layers i.stays c.is_hidden.ensures.stays;
+      found = first-seen w c.if-not-is_hidden.true ∙ sym (ap place_in c.loop-here.invariant.answer);
+      layers = w.same;
+      stays = stays g after;
     }
 
 pub next-here-requires : goal.next-here-requires
 next-here-requires g c =
-    let i = c.loop-here.invariant in
-    let e = c.args.e in
-    let a = c.in-Some.place.0 in
-    let same = same-over i.same c.is_hidden.ensures.layers in
-    record {
-      dict = same.has e c.requires.other.there;
-      place = subst (λ (z : ℕ → Layer). IsSome (bytes_there a (z e).objects)) (sym same.layers) (i.place a (ap (option_map number_of) c.in-Some.is));
-    }
+    let w = here g (goal.at.next-here-requires g c).After-is_hidden in
+    record { dict = w.same.has c.args.e c.requires.other.there; place = there-still w }
 
 pub loop-here-smaller : goal.loop-here-smaller
-loop-here-smaller g c =
-    let i = c.loop-here.invariant in
-    let all = g.Y.Layers.layered c.args.layers.now in
-    let e = c.args.e in
-    let a = c.in-Some.place.0 in
-    let is = ap (option_map number_of) c.in-Some.is in
-    let apart = (g.met.Y.Layers.lawful c.args.layers.now).distinct e c.requires.other.there in
-    let s = standing (all.layer e).objects a apart (i.place a is) in
-    fewer-next (all.layer e).objects apart a s (option_map number_of c.loop-here.here) is (option_map number_of c.next-here.result)
-    (c.next-here.ensures ∙ ap (λ (z : ℕ → Layer). place_behind a (z e).objects) (same-over i.same c.is_hidden.ensures.layers).layers)
+loop-here-smaller g c = fewer-next (here g (goal.at.loop-here-smaller g c).After-is_hidden) c.next-here.ensures
 
 pub loop-here-preserved : goal.loop-here-preserved
 loop-here-preserved g c =
-    let i = c.loop-here.invariant in
-    let all = g.Y.Layers.layered c.args.layers.now in
-    let links = c.args.paths.now in
-    let d = c.args.d in
-    let e = c.args.e in
-    let a = c.in-Some.place.0 in
-    let is = ap (option_map number_of) c.in-Some.is in
-    let apart = (g.met.Y.Layers.lawful c.args.layers.now).distinct e c.requires.other.there in
-    let s = standing (all.layer e).objects a apart (i.place a is) in
-    let told = covered-told (g.Y.Layers.layered c.loop-here.layers) all links d e a c.is_hidden.result s i.same c.is_hidden.ensures.hidden in
-    let same = same-over i.same c.is_hidden.ensures.layers in
-    let next = c.next-here.ensures ∙ ap (λ (z : ℕ → Layer). place_behind a (z e).objects) same.layers in
+    let after = (goal.at.loop-here-preserved g c).After-is_hidden in
+    let w = here g after in
     record {
-      same = same;
-      stays = g.met.Y.Layers.transitive c.args.layers.now c.loop-here.layers c.is_hidden.new.layers i.stays c.is_hidden.ensures.stays;
-      place = place-next (all.layer e).objects apart a s (option_map number_of c.next-here.result) next;
-      answer = i.answer
-          ∙ first-past (all.layer e).objects apart a s (option_map number_of c.loop-here.here) is (is_covered all links d e) (option_map number_of c.next-here.result) next (told ∙ c.if-not-is_hidden.false);
+      same = w.same;
+      stays = stays g after;
+      place = next-place w c.next-here.ensures;
+      answer = c.loop-here.invariant.answer ∙ first-past w c.next-here.ensures c.if-not-is_hidden.false;
     }
 
 pub returns : goal.returns
 returns g c =
     let i = c.loop-here.invariant in
-    let all = g.Y.Layers.layered c.args.layers.now in
     record {
-      found = first-none (is_covered all c.args.paths.now c.args.d c.args.e) (all.layer c.args.e).objects (option_map number_of c.loop-here.here) (ap (option_map number_of) c.in_default.is)
-          ∙ sym (ap (option_map (λ o. o.at)) i.answer);
+      found = first-none (g.Y.Layers.layered c.args.layers.now) c.args.paths.now c.args.d c.args.e (ap (option_map number_of) c.in_default.is) ∙ sym (ap place_in i.answer);
       layers = i.same;
       stays = i.stays;
     }
