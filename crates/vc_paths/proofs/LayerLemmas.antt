@@ -315,16 +315,16 @@ backward_next all e p at here next laws h w fails n =
     (step.0, subst (λ z. length (until_place next (all.layer e).objects) < length (until_place z (all.layer e).objects)) (sym h) step.1)
 
 -- the neighbours of an object of a layer
-pub next_shown : (all : Layered) (d : ℕ) (p : ℕ × Addr) (next : Option Addr) → AreLayers all → Stands all d p → option_map number_of next ≡ place_behind p.1.0 (all.layer p.0).objects → Shows all p.0 next (behind_last (stands_at p.1.0) (all.layer p.0).objects)
-next_shown all d p next laws stands n =
+pub next_shown : {all : Layered} {d : ℕ} {p : ℕ × Addr} (next : Option Addr) → AreLayers all → Stands all d p → option_map number_of next ≡ place_behind p.1.0 (all.layer p.0).objects → Shows all p.0 next (behind_last (stands_at p.1.0) (all.layer p.0).objects)
+next_shown {all} {d} {p} next laws stands n =
     let objects = (all.layer p.0).objects in
     let s = split_at objects p.1.0 stands.object (laws.distinct p.0 stands.there) in
     let behind = behind_split objects p.1.0 s in
     let shown = since_shown all p.0 next (s.front ++ s.here ∷ []) s.rest stands.there (laws.distinct p.0 stands.there) (s.whole ∙ sym (append_assoc s.front (s.here ∷ []) s.rest)) (n ∙ ap place_in behind) in
     record { stands = shown.0.stands; object = shown.0.object ∙ ap (option_map (seen_in p.0)) (sym behind) }
 
-pub previous_shown : (all : Layered) (d : ℕ) (p : ℕ × Addr) (next : Option Addr) → AreLayers all → Stands all d p → option_map number_of next ≡ place_before p.1.0 (all.layer p.0).objects → Shows all p.0 next (before_first (stands_at p.1.0) (all.layer p.0).objects)
-previous_shown all d p next laws stands n =
+pub previous_shown : {all : Layered} {d : ℕ} {p : ℕ × Addr} (next : Option Addr) → AreLayers all → Stands all d p → option_map number_of next ≡ place_before p.1.0 (all.layer p.0).objects → Shows all p.0 next (before_first (stands_at p.1.0) (all.layer p.0).objects)
+previous_shown {all} {d} {p} next laws stands n =
     let objects = (all.layer p.0).objects in
     let s = split_at objects p.1.0 stands.object (laws.distinct p.0 stands.there) in
     let before = before_split objects p.1.0 s in

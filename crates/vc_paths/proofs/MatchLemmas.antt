@@ -167,15 +167,23 @@ implies all d key x xs t h a =
     all_weaker (IsThere all d) (Implies (has_key_in all d key) (is_at (place_of x)))
     (λ o there at. ap (has_key (all.layer d).rules key) (one-there all d x o t there at) ∙ h) xs a
 
+-- a place has an object that is seen, and before it stands the one before the first that has a key
+abbrev pub IsFirstWith : Layered → Links → ℕ → List ℕ → ℕ × ℕ → Type 0
+IsFirstWith all links d key p = Agree (is_at p) (visible_of all links d) (before_first (has_key_in all d key) (visible_of all links d)) (before_first (is_at p) (visible_of all links d))
+
+-- or behind it the one behind the last
+abbrev pub IsLastWith : Layered → Links → ℕ → List ℕ → ℕ × ℕ → Type 0
+IsLastWith all links d key p = Agree (is_at p) (visible_of all links d) (behind_last (has_key_in all d key) (visible_of all links d)) (behind_last (is_at p) (visible_of all links d))
+
 -- the object before the first that has a key is that before its place
-pub before-key : (all : Layered) (links : Links) (d : ℕ) (key : List ℕ) (p : ℕ × ℕ) → AreLayers all → IsPath all links d → Some p ≡ option_map place_of (find (has_key_in all d key) (visible_of all links d)) → Agree (is_at p) (visible_of all links d) (before_first (has_key_in all d key) (visible_of all links d)) (before_first (is_at p) (visible_of all links d))
+pub before-key : (all : Layered) (links : Links) (d : ℕ) (key : List ℕ) (p : ℕ × ℕ) → AreLayers all → IsPath all links d → Some p ≡ option_map place_of (find (has_key_in all d key) (visible_of all links d)) → IsFirstWith all links d key p
 before-key all links d key p lawful is_path h =
     let t = has_key_in all d key in
     let xs = visible_of all links d in
     let w = at-place (find t xs) p h in
     let there = visible-there all links d lawful is_path in
     let f = all-found (IsThere all d) t xs w.one there w.is in
-    subst (λ z. Agree (is_at z) xs (before_first t xs) (before_first (is_at z) xs)) w.here
+    subst (IsFirstWith all links d key) w.here
     (first-same t (is_at (place_of w.one)) xs w.one (implies all d key w.one xs f.0 f.1 there) w.is (at-itself w.one))
 
 -- a place that was found is that of an object that has the key
@@ -246,7 +254,7 @@ at-object None l h = absurd (none-some l (sym h))
 at-object (Some x) l h = record { one = x; is = refl; here = let same : l ≡ x.at = cc in sym same }
 
 -- the object behind the last that has a key is that behind its place
-behind-of : (all : Layered) (links : Links) (d : ℕ) (key : List ℕ) (x : Seen ℕ) (l : ℕ) → AreLayers all → IsPath all links d → IsThere all d x → has_key_in all d key x ≡ true → find (has_key_in all d key) (visible_of all links d) ≡ Some x → Some l ≡ place_in (last_of (filter (λ o. is_match (all.layer x.dict).rules x.bytes o.bytes) (all.layer x.dict).objects)) → Agree (is_at (x.dict, l)) (visible_of all links d) (behind_last (has_key_in all d key) (visible_of all links d)) (behind_last (is_at (x.dict, l)) (visible_of all links d))
+behind-of : (all : Layered) (links : Links) (d : ℕ) (key : List ℕ) (x : Seen ℕ) (l : ℕ) → AreLayers all → IsPath all links d → IsThere all d x → has_key_in all d key x ≡ true → find (has_key_in all d key) (visible_of all links d) ≡ Some x → Some l ≡ place_in (last_of (filter (λ o. is_match (all.layer x.dict).rules x.bytes o.bytes) (all.layer x.dict).objects)) → IsLastWith all links d key (x.dict, l)
 behind-of all links d key x l lawful is_path t k h e =
     let test = has_key_in all d key in
     let xs = visible_of all links d in
@@ -256,10 +264,10 @@ behind-of all links d key x l lawful is_path t k h e =
     let there = visible-there all links d lawful is_path in
     let ty = all-last (IsThere all d) (filter test xs) y (all_filter (IsThere all d) test xs there) last in
     let ky = all-last (λ o. test o ≡ true) (filter test xs) y (filter_kept test xs) last in
-    subst (λ z. Agree (is_at (x.dict, z)) xs (behind_last test xs) (behind_last (is_at (x.dict, z)) xs)) w.here
+    subst (λ z. IsLastWith all links d key (x.dict, z)) w.here
     (last-same test (is_at (place_of y)) xs y (implies all d key y xs ty ky there) last (at-itself y))
 
-pub behind-key : (all : Layered) (links : Links) (d : ℕ) (key : List ℕ) (p : ℕ × ℕ) (l : ℕ) → AreLayers all → IsPath all links d → Some p ≡ option_map place_of (find (has_key_in all d key) (visible_of all links d)) → ((bytes : List ℕ) → bytes_there p.1 (all.layer p.0).objects ≡ Some bytes → Some l ≡ place_in (last_of (filter (λ o. is_match (all.layer p.0).rules bytes o.bytes) (all.layer p.0).objects))) → Agree (is_at (p.0, l)) (visible_of all links d) (behind_last (has_key_in all d key) (visible_of all links d)) (behind_last (is_at (p.0, l)) (visible_of all links d))
+pub behind-key : (all : Layered) (links : Links) (d : ℕ) (key : List ℕ) (p : ℕ × ℕ) (l : ℕ) → AreLayers all → IsPath all links d → Some p ≡ option_map place_of (find (has_key_in all d key) (visible_of all links d)) → ((bytes : List ℕ) → bytes_there p.1 (all.layer p.0).objects ≡ Some bytes → Some l ≡ place_in (last_of (filter (λ o. is_match (all.layer p.0).rules bytes o.bytes) (all.layer p.0).objects))) → IsLastWith all links d key (p.0, l)
 behind-key all links d key p l lawful is_path h last =
     let test = has_key_in all d key in
     let w = at-place (find test (visible_of all links d)) p h in
@@ -268,7 +276,7 @@ behind-key all links d key p l lawful is_path h last =
     let back : bytes_there w.one.at (all.layer w.one.dict).objects ≡ bytes_there p.1 (all.layer p.0).objects = ap (λ (q : ℕ × ℕ). bytes_there q.1 (all.layer q.0).objects) w.here in
     let e : Some l ≡ place_in (last_of (filter (λ o. is_match (all.layer w.one.dict).rules w.one.bytes o.bytes) (all.layer w.one.dict).objects))
     = subst (λ z. Some l ≡ place_in (last_of (filter (λ o. is_match (all.layer z).rules w.one.bytes o.bytes) (all.layer z).objects))) (sym dict) (last w.one.bytes (sym back ∙ f.0.bytes)) in
-    subst (λ z. Agree (is_at (z, l)) (visible_of all links d) (behind_last test (visible_of all links d)) (behind_last (is_at (z, l)) (visible_of all links d))) dict
+    subst (λ z. IsLastWith all links d key (z, l)) dict
     (behind-of all links d key w.one l lawful is_path f.0 f.1 w.is e)
 
 -- an object matches itself

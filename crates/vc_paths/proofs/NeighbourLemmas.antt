@@ -19,7 +19,7 @@ use Rattle.vc_paths.specs.Ordered.{Stands, if_level, is_before, is_behind, is_le
 use Rattle.vc_paths.specs.Path.{Answers, IsAlike, IsPath, IsVisible, is_at, numbers_of, objects_of, place_of, seen_in, visible_of}
 use Rattle.vc_paths.specs.Visible.{Seen, is_hidden, seen_bytes, stacked}
 use Rattle.vc_paths.proofs.BesideLemmas.{AreLevel, any_level, before_apart, before_beside, behind_apart, behind_beside, fails}
-use Rattle.vc_paths.proofs.LayerLemmas.{find_split, next_shown, previous_shown, split_at, split_of, there_split}
+use Rattle.vc_paths.proofs.LayerLemmas.{find_split, next_shown, previous_shown, split_of}
 use Rattle.vc_paths.proofs.OrderLemmas.{AreOrdered, all_append, all_both, all_filter, all_none, all_weaker, any_more, any_none, filter_kept, filter_none, or_left, or_right, ordered}
 use Rattle.vc_paths.proofs.OrderedLemmas.{all_map, layer_sorted, path_head, visible_ordered}
 use Rattle.vc_paths.proofs.SortedLemmas.{AreSorted, all_sorted, all_stacked, itself, kept_sorted, layer_filter, onto_sorted}
@@ -150,16 +150,29 @@ any_found P test (x ∷ xs) h any = elim (cases_Bool (test x)) as (λ _. (y : _)
 ]
 
 -- a visible object stands at its place
-pub visible_stands : (all : Layered) (links : Links) (d : ℕ) (p : ℕ × Addr) → AreLayers all → IsPath all links d → is_ordered (all.layer d).method ≡ true → IsVisible all links d (numbers_of p) → Stands all d p
-visible_stands all links d p laws path' method visible' =
+record VisibleAt (all : Layered) (d : ℕ) (p : ℕ × Addr) : Type 0 where
+  bytes : List ℕ
+  there : bytes_there p.1.0 (all.layer p.0).objects ≡ Some bytes
+  alike : IsAlike all d p.0
+
+visible_at : (all : Layered) (links : Links) (d : ℕ) (p : ℕ × Addr) → AreLayers all → IsPath all links d → is_ordered (all.layer d).method ≡ true → IsVisible all links d (numbers_of p) → VisibleAt all d p
+visible_at all links d p laws path' method visible' =
     let found = any_found (InLayer all d) (is_at (numbers_of p)) (visible_of all links d) (all_visible all links d laws path' method) visible' in
     let y = found.0 in
     let parts = and_parts (y.dict == p.0) (y.at == p.1.0) found.1 in
     let dict = eqb-true y.dict p.0 parts.0 in
-    let at = eqb-true y.at p.1.0 parts.1 in
-    let alike : IsAlike all d p.0 = subst (IsAlike all d) dict found.2.alike in
-    let there : bytes_there p.1.0 (all.layer p.0).objects ≡ Some y.bytes = subst (λ z. bytes_there z (all.layer p.0).objects ≡ Some y.bytes) at (subst (λ z. bytes_there y.at (all.layer z).objects ≡ Some y.bytes) dict found.2.there) in
-    record { there = alike.there; kind = alike.kind; object = ap is_some there }
+    record {
+      bytes = y.bytes;
+      there = subst (λ z. bytes_there z (all.layer p.0).objects ≡ Some y.bytes) (eqb-true y.at p.1.0 parts.1)
+          (subst (λ z. bytes_there y.at (all.layer z).objects ≡ Some y.bytes) dict found.2.there);
+      alike = subst (IsAlike all d) dict found.2.alike;
+    }
+
+stands_of : {all : Layered} {d : ℕ} {p : ℕ × Addr} → VisibleAt all d p → Stands all d p
+stands_of v = record { there = v.alike.there; kind = v.alike.kind; object = ap is_some v.there }
+
+pub visible_stands : {all : Layered} {links : Links} {d : ℕ} {p : ℕ × Addr} → AreLayers all → IsPath all links d → is_ordered (all.layer d).method ≡ true → IsVisible all links d (numbers_of p) → Stands all d p
+visible_stands {all} {links} {d} {p} laws path' method visible' = stands_of (visible_at all links d p laws path' method visible')
 
 some_same : (x y : List ℕ) → Some x ≡ Some y → x ≡ y
 some_same x y e = cc
@@ -313,57 +326,54 @@ before_map e a before (x ∷ xs) = elim (cases_Bool (stands_at a x)) as (λ _. b
 ]
 
 -- what is known of the object at a visible place
-visited_at : (all : Layered) (links : Links) (d : ℕ) (p : ℕ × Addr) → AreLayers all → IsPath all links d → is_ordered (all.layer d).method ≡ true → IsVisible all links d (numbers_of p) → (x : Seen ℕ) × (object_there all p ≡ Some x) × Visited (all.layer d).rules all p x (visible_of all links d)
+record VisitedAt (all : Layered) (links : Links) (d : ℕ) (p : ℕ × Addr) : Type 0 where
+  one : Seen ℕ
+  is : object_there all p ≡ Some one
+  stands : Stands all d p
+  visited : Visited (all.layer d).rules all p one (visible_of all links d)
+  beside : (o : Option (Seen ℕ)) → if_level (all.layer p.0).rules (object_there all p) o ≡ if_level (all.layer d).rules (Some one) o
+
+visited_at : (all : Layered) (links : Links) (d : ℕ) (p : ℕ × Addr) → AreLayers all → IsPath all links d → is_ordered (all.layer d).method ≡ true → IsVisible all links d (numbers_of p) → VisitedAt all links d p
 visited_at all links d p laws path' method visible' =
     let rules = (all.layer d).rules in
-    let stands = visible_stands all links d p laws path' method visible' in
-    let found = any_found (InLayer all d) (is_at (numbers_of p)) (visible_of all links d) (all_visible all links d laws path' method) visible' in
-    let alike : IsAlike all d p.0 = subst (IsAlike all d) (eqb-true found.0.dict p.0 (and_parts (found.0.dict == p.0) (found.0.at == p.1.0) found.1).0) found.2.alike in
+    let v = visible_at all links d p laws path' method visible' in
     let h = (path_head (IsAlike all d) links d path'.alike).there in
-    let order = ordered rules (laws.lawful d h).order in
-    let s = split_at (all.layer p.0).objects p.1.0 stands.object (laws.distinct p.0 stands.there) in
-    let x = seen_in p.0 s.here in
-    let here : bytes_there p.1.0 (all.layer p.0).objects ≡ Some x.bytes = ap (option_map (λ (o : Object). o.bytes)) (find_split (all.layer p.0).objects p.1.0 s) in
-    let same = visible_ordered all links d method in (
-      x,
-      there_split all p.0 p.1 s,
-      subst (λ z. Visited rules all p x z) (sym same)
-          (visited_in rules order all d p x (path links d) here (all_layers all d (path links d) laws path'.alike) (all_objects all d p.0 laws alike) (layer_sorted all d p.0 laws h method alike) (subst (λ z. list_any (is_at (numbers_of p)) z ≡ true) same visible')),
-    )
+    let x = seen_in p.0 (record { at = p.1.0; bytes = v.bytes }) in
+    let is : object_there all p ≡ Some x = ap (option_map (λ (bytes : List ℕ). seen_in p.0 (record { at = p.1.0; bytes = bytes }))) v.there in
+    let same = visible_ordered all links d method in
+    record {
+      one = x;
+      is = is;
+      stands = stands_of v;
+      visited = subst (λ z. Visited rules all p x z) (sym same)
+          (visited_in rules (ordered rules (laws.lawful d h).order) all d p x (path links d) v.there (all_layers all d (path links d) laws path'.alike) (all_objects all d p.0 laws v.alike)
+          (layer_sorted all d p.0 laws h method v.alike) (subst (λ z. list_any (is_at (numbers_of p)) z ≡ true) same visible'));
+      beside = λ o. ap (λ r. if_level r (object_there all p) o) (laws.kinds p.0 d v.alike.there h v.alike.kind) ∙ ap (λ z. if_level rules z o) is;
+    }
 
 -- the object behind a visible one, by what was found beside it
-pub next_found : (all : Layered) (links : Links) (d : ℕ) (p : ℕ × Addr) (next : Option Addr) (near : Option (Seen ℕ)) → AreLayers all → IsPath all links d → is_ordered (all.layer d).method ≡ true → IsVisible all links d (numbers_of p) → option_map number_of next ≡ place_behind p.1.0 (all.layer p.0).objects → near ≡ if_level (all.layer p.0).rules (object_there all p) (object_at all (named p.0 next)) → behind_last (is_at (numbers_of p)) (visible_of all links d) ≡ option_or near (first_of (filter (is_behind (all.layer d).rules (object_there all p)) (visible_of all links d)))
-next_found all links d p next near laws path' method visible' n e =
+pub next_found : {all : Layered} {links : Links} {d : ℕ} (p : ℕ × Addr) (next : Option Addr) {near : Option (Seen ℕ)} → AreLayers all → IsPath all links d → is_ordered (all.layer d).method ≡ true → IsVisible all links d (numbers_of p)
+    → option_map number_of next ≡ place_behind p.1.0 (all.layer p.0).objects → near ≡ if_level (all.layer p.0).rules (object_there all p) (object_at all (named p.0 next))
+    → behind_last (is_at (numbers_of p)) (visible_of all links d) ≡ option_or near (first_of (filter (is_behind (all.layer d).rules (object_there all p)) (visible_of all links d)))
+next_found {all} {links} {d} p next {near} laws path' method visible' n e =
     let rules = (all.layer d).rules in
-    let h = (path_head (IsAlike all d) links d path'.alike).there in
-    let stands = visible_stands all links d p laws path' method visible' in
-    let visited = visited_at all links d p laws path' method visible' in
-    let shown = next_shown all d p next laws stands n in
-    let same : near ≡ if_level rules (Some visited.0) (behind_last (is_at (numbers_of p)) (objects_of all p.0)) =
-    e
-    ∙ ap (λ r. if_level r (object_there all p) (object_at all (named p.0 next))) (laws.kinds p.0 d stands.there h stands.kind)
-    ∙ ap (λ z. if_level rules z (object_at all (named p.0 next))) visited.1
-    ∙ ap (if_level rules (Some visited.0)) (shown.object ∙ sym (behind_map p.0 p.1.0 (all.layer p.0).objects)) in
-    next_among rules all p visited.0 (visible_of all links d) visited.2
-    ∙ ap (λ z. option_or z (first_of (filter (is_behind rules (Some visited.0)) (visible_of all links d)))) (sym same)
-    ∙ ap (λ z. option_or near (first_of (filter (is_behind rules z) (visible_of all links d)))) (sym visited.1)
+    let v = visited_at all links d p laws path' method visible' in
+    let beside = (next_shown next laws v.stands n).object ∙ sym (behind_map p.0 p.1.0 (all.layer p.0).objects) in
+    next_among rules all p v.one (visible_of all links d) v.visited
+    ∙ ap (λ z. option_or z (first_of (filter (is_behind rules (Some v.one)) (visible_of all links d)))) (sym (e ∙ v.beside (object_at all (named p.0 next)) ∙ ap (if_level rules (Some v.one)) beside))
+    ∙ ap (λ z. option_or near (first_of (filter (is_behind rules z) (visible_of all links d)))) (sym v.is)
 
 -- and before it
-pub previous_found : (all : Layered) (links : Links) (d : ℕ) (p : ℕ × Addr) (next : Option Addr) (near : Option (Seen ℕ)) → AreLayers all → IsPath all links d → is_ordered (all.layer d).method ≡ true → IsVisible all links d (numbers_of p) → option_map number_of next ≡ place_before p.1.0 (all.layer p.0).objects → near ≡ if_level (all.layer p.0).rules (object_there all p) (object_at all (named p.0 next)) → before_first (is_at (numbers_of p)) (visible_of all links d) ≡ option_or near (last_of (filter (is_before (all.layer d).rules (object_there all p)) (visible_of all links d)))
-previous_found all links d p next near laws path' method visible' n e =
+pub previous_found : {all : Layered} {links : Links} {d : ℕ} (p : ℕ × Addr) (next : Option Addr) {near : Option (Seen ℕ)} → AreLayers all → IsPath all links d → is_ordered (all.layer d).method ≡ true → IsVisible all links d (numbers_of p)
+    → option_map number_of next ≡ place_before p.1.0 (all.layer p.0).objects → near ≡ if_level (all.layer p.0).rules (object_there all p) (object_at all (named p.0 next))
+    → before_first (is_at (numbers_of p)) (visible_of all links d) ≡ option_or near (last_of (filter (is_before (all.layer d).rules (object_there all p)) (visible_of all links d)))
+previous_found {all} {links} {d} p next {near} laws path' method visible' n e =
     let rules = (all.layer d).rules in
-    let h = (path_head (IsAlike all d) links d path'.alike).there in
-    let stands = visible_stands all links d p laws path' method visible' in
-    let visited = visited_at all links d p laws path' method visible' in
-    let shown = previous_shown all d p next laws stands n in
-    let same : near ≡ if_level rules (Some visited.0) (before_first (is_at (numbers_of p)) (objects_of all p.0)) =
-    e
-    ∙ ap (λ r. if_level r (object_there all p) (object_at all (named p.0 next))) (laws.kinds p.0 d stands.there h stands.kind)
-    ∙ ap (λ z. if_level rules z (object_at all (named p.0 next))) visited.1
-    ∙ ap (if_level rules (Some visited.0)) (shown.object ∙ sym (before_map p.0 p.1.0 None (all.layer p.0).objects)) in
-    previous_among rules all p visited.0 (visible_of all links d) visited.2
-    ∙ ap (λ z. option_or z (last_of (filter (is_before rules (Some visited.0)) (visible_of all links d)))) (sym same)
-    ∙ ap (λ z. option_or near (last_of (filter (is_before rules z) (visible_of all links d)))) (sym visited.1)
+    let v = visited_at all links d p laws path' method visible' in
+    let beside = (previous_shown next laws v.stands n).object ∙ sym (before_map p.0 p.1.0 None (all.layer p.0).objects) in
+    previous_among rules all p v.one (visible_of all links d) v.visited
+    ∙ ap (λ z. option_or z (last_of (filter (is_before rules (Some v.one)) (visible_of all links d)))) (sym (e ∙ v.beside (object_at all (named p.0 next)) ∙ ap (if_level rules (Some v.one)) beside))
+    ∙ ap (λ z. option_or near (last_of (filter (is_before rules z) (visible_of all links d)))) (sym v.is)
 
 -- a place that stands is the answer where it comes first
 some_answer : (d : ℕ) (at : Addr) (o : Option (List ℕ)) (rest : Option (Seen ℕ)) → is_some o ≡ true → Some (d, at.0) ≡ option_map place_of (option_or (option_map (λ (bytes : List ℕ). seen_in d (record { at = at.0; bytes = bytes })) o) rest)

@@ -47,7 +47,7 @@ pub place-kept : {all now : Layered} (e a : ℕ) → Same all now → IsSome (by
 place-kept e a same h = subst (λ (z : ℕ → Layer). IsSome (bytes_there a (z e).objects)) (sym same.layers) h
 
 -- a walk at an object of e: what stood around it when the walk began, that all dictionaries stayed, and whether it is hidden
-pub record AtObject (all now : Layered) (links : Links) (d e a : ℕ) (at : Option ℕ) (hidden : Bool) : Type 0 where
+pub record Stop (all now : Layered) (links : Links) (d e a : ℕ) (at : Option ℕ) (hidden : Bool) : Type 0 where
   pub is : at ≡ Some a
   pub same : Same all now
   pub apart : AreDistinct (map (λ o. o.at) (all.layer e).objects)
@@ -55,9 +55,11 @@ pub record AtObject (all now : Layered) (links : Links) (d e a : ℕ) (at : Opti
   pub answer : is_covered all links d e around.one.bytes ≡ hidden
 
 -- so it is where a test of the object was told that
-pub at-object : {all before now : Layered} {links : Links} {d e a : ℕ} {at : Option ℕ} {hidden : Bool} → AreLayers all → IsAlike all d e → IsPlaceIn (all.layer e).objects at → at ≡ Some a
-    → Same all before → ((bytes : List ℕ) → bytes_there a (before.layer e).objects ≡ Some bytes → hidden ≡ is_covered before links d e bytes) → Same before now → AtObject all now links d e a at hidden
-at-object {all} {before} {now} {links} {d} {e} {a} laws like place is same told kept =
+pub stop-at : {all before now : Layered} {links : Links} {d e a : ℕ} {at : Option ℕ} {hidden : Bool}
+    → AreLayers all → IsAlike all d e → IsPlaceIn (all.layer e).objects at → at ≡ Some a → Same all before
+    → ((bytes : List ℕ) → bytes_there a (before.layer e).objects ≡ Some bytes → hidden ≡ is_covered before links d e bytes) → Same before now
+    → Stop all now links d e a at hidden
+stop-at {all} {before} {now} {links} {d} {e} {a} laws like place is same told kept =
     let apart = laws.distinct e like.there in
     let s = standing (all.layer e).objects a apart (place a is) in
     record {
@@ -65,10 +67,11 @@ at-object {all} {before} {now} {links} {d} {e} {a} laws like place is same told 
       same = same-over same kept;
       apart = apart;
       around = s;
-      answer = sym (told s.one.bytes (ap (λ (z : ℕ → Layer). bytes_there a (z e).objects) same.layers ∙ there (all.layer e).objects a s) ∙ covered-kept links d e s.one.bytes same);
+      answer = sym (told s.one.bytes (ap (λ (z : ℕ → Layer). bytes_there a (z e).objects) same.layers ∙ there (all.layer e).objects a s)
+          ∙ covered-kept links d e s.one.bytes same);
     }
 
-module _ {all now : Layered} {links : Links} {d e a : ℕ} {at : Option ℕ} {hidden : Bool} (w : AtObject all now links d e a at hidden) where
+module _ {all now : Layered} {links : Links} {d e a : ℕ} {at : Option ℕ} {hidden : Bool} (w : Stop all now links d e a at hidden) where
   abbrev objects : List Object
   objects = (all.layer e).objects
 

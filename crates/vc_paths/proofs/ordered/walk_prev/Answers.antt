@@ -1,40 +1,43 @@
-use Rattle.std.proofs.Common.{ℕ, Some, None, Option, refl, subst, sym}
-use Rattle.vc_paths.specs.Ordered.{object_there}
+use Rattle.std.proofs.Common.{ℕ, Some, Option, refl, subst, sym}
+use Rattle.vc_paths.specs.Ordered.{Stands}
 use Rattle.vc_paths.specs.Path.{Answers}
 use Rattle.vc_paths.specs.Visible.{Seen}
 use Rattle.vc_paths.proofs.LayerLemmas.{previous_shown}
 use Rattle.vc_paths.proofs.NeighbourLemmas.{near_answers, previous_found, visible_stands}
+use Rattle.vc_paths.proofs.ordered.walk_prev.Given.{Over}
 use Rattle.vc_paths.proofs.ordered.walk_prev.Goals as goal
+use Rattle.vc_paths.proofs.ordered.walk_prev.Goals.{Start}
 
-pub prev-requires-clause-dict : goal.prev-requires-clause-dict
-prev-requires-clause-dict g c = (visible_stands (g.Y.Layers.layered c.args.layers.now) c.args.paths.now c.args.d c.args.from (g.met.Y.Layers.lawful c.args.layers.now) c.requires.path c.requires.method c.requires.from).there
+-- the object stands in a layer of the path
+stands : (g : Over) (c : Start g) → Stands (g.Y.Layers.layered c.args.layers.now) c.args.d c.args.from
+stands g c = visible_stands (g.met.Y.Layers.lawful c.args.layers.now) c.requires.path c.requires.method c.requires.from
 
-pub prev-requires-clause-place : goal.prev-requires-clause-place
-prev-requires-clause-place g c = (visible_stands (g.Y.Layers.layered c.args.layers.now) c.args.paths.now c.args.d c.args.from (g.met.Y.Layers.lawful c.args.layers.now) c.requires.path c.requires.method c.requires.from).object
+pub prev-requires : goal.prev-requires
+prev-requires g c =
+    let s = stands g (goal.at.prev-requires g c).Start in
+    record { dict = s.there; place = s.object }
 
-pub matching-requires-clause-place : goal.matching-requires-clause-place
-matching-requires-clause-place g c =
-    let s = visible_stands (g.Y.Layers.layered c.args.layers.now) c.args.paths.now c.args.d c.args.from (g.met.Y.Layers.lawful c.args.layers.now) c.requires.path c.requires.method c.requires.from in
-    record { there = s.there; kind = refl; object = s.object }
-
-pub matching-requires-clause-beside : goal.matching-requires-clause-beside
-matching-requires-clause-beside g c =
-    let all = g.Y.Layers.layered c.args.layers.now in
-    let laws = g.met.Y.Layers.lawful c.args.layers.now in
-    let s = visible_stands all c.args.paths.now c.args.d c.args.from laws c.requires.path c.requires.method c.requires.from in
-    (previous_shown all c.args.d c.args.from c.prev.result laws s c.prev.ensures).stands
+pub matching-requires : goal.matching-requires
+matching-requires g c =
+    let s = stands g (goal.at.matching-requires g c).Start in
+    record {
+      place = record { there = s.there; kind = refl; object = s.object };
+      beside = (previous_shown c.prev.result (g.met.Y.Layers.lawful c.args.layers.now) s c.prev.ensures).stands;
+    }
 
 pub greatest_before-requires-clause-other : goal.greatest_before-requires-clause-other
-greatest_before-requires-clause-other g c = visible_stands (g.Y.Layers.layered c.args.layers.now) c.args.paths.now c.args.d c.args.from (g.met.Y.Layers.lawful c.args.layers.now) c.requires.path c.requires.method c.requires.from
+greatest_before-requires-clause-other g c = stands g (goal.at.greatest_before-requires-clause-other g c).Start
 
 pub returns-in-Some : goal.returns-in-Some
 returns-in-Some g c =
-    let all = g.Y.Layers.layered c.args.layers.now in
-    let found = previous_found all c.args.paths.now c.args.d c.args.from c.prev.result (object_there all c.in-Some.place) (g.met.Y.Layers.lawful c.args.layers.now) c.requires.path c.requires.method c.requires.from c.prev.ensures c.in-Some.ensures.object in
-    subst (λ (z : Option (Seen ℕ)). Answers (Some c.in-Some.place) z) (sym found) (near_answers all c.args.from.0 c.in-Some.place _ c.in-Some.ensures.stands)
+    let laws = g.met.Y.Layers.lawful c.args.layers.now in
+    subst (λ (z : Option (Seen ℕ)). Answers (Some c.in-Some.place) z)
+    (sym (previous_found c.args.from c.prev.result laws c.requires.path c.requires.method c.requires.from c.prev.ensures c.in-Some.ensures.object))
+    (near_answers (g.Y.Layers.layered c.args.layers.now) c.args.from.0 c.in-Some.place _ c.in-Some.ensures.stands)
 
 pub returns-in-None : goal.returns-in-None
 returns-in-None g c =
-    let all = g.Y.Layers.layered c.args.layers.now in
-    let found = previous_found all c.args.paths.now c.args.d c.args.from c.prev.result None (g.met.Y.Layers.lawful c.args.layers.now) c.requires.path c.requires.method c.requires.from c.prev.ensures c.in-None.ensures.object in
-    subst (λ (z : Option (Seen ℕ)). Answers c.greatest_before.result z) (sym found) c.greatest_before.ensures
+    let laws = g.met.Y.Layers.lawful c.args.layers.now in
+    subst (λ (z : Option (Seen ℕ)). Answers c.greatest_before.result z)
+    (sym (previous_found c.args.from c.prev.result laws c.requires.path c.requires.method c.requires.from c.prev.ensures c.in-None.ensures.object))
+    c.greatest_before.ensures

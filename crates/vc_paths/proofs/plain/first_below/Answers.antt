@@ -11,7 +11,8 @@ use Rattle.vc_paths.proofs.plain.first_below.Goals as goal
 use Rattle.vc_paths.proofs.plain.first_below.Goals.{After-first_in-found}
 
 -- what the layer at which the walk is shows first
-first : (g : Over) (c : After-first_in-found g) → option_map numbers_of c.first_in-found.result ≡ first_of (shown_in (g.Y.Layers.layered c.args.layers.now) c.args.paths.now c.args.d c.in-Some.e)
+first : (g : Over) (c : After-first_in-found g)
+    → option_map numbers_of c.first_in-found.result ≡ first_of (shown_in (g.Y.Layers.layered c.args.layers.now) c.args.paths.now c.args.d c.in-Some.e)
 first g c = c.first_in-found.ensures.found ∙ ap (λ z. first_of (z c.in-Some.e)) (shown-kept c.args.paths.now c.args.d c.loop-layer.invariant.same)
 
 stays : (g : Over) (c : After-first_in-found g) → g.Y.Layers.Stays c.args.layers.now c.first_in-found.new.layers
@@ -19,7 +20,12 @@ stays g c =
     g.met.Y.Layers.transitive c.args.layers.now c.loop-layer.layers c.first_in-found.new.layers c.loop-layer.invariant.stays c.first_in-found.ensures.stays
 
 pub loop-layer-init : goal.loop-layer-init
-loop-layer-init g c = record { same = same-itself (g.Y.Layers.layered c.args.layers.now); stays = g.met.Y.Layers.reflexive c.args.layers.now; path = c.requires.from; answer = refl }
+loop-layer-init g c = record {
+  same = same-itself (g.Y.Layers.layered c.args.layers.now);
+  stays = g.met.Y.Layers.reflexive c.args.layers.now;
+  path = c.requires.from;
+  answer = refl;
+}
 
 pub first_in-found-requires : goal.first_in-found-requires
 first_in-found-requires g c =
@@ -31,8 +37,9 @@ returns-then-is_some g c =
     let i = c.loop-layer.invariant in
     let after = (goal.at.returns-then-is_some g c).After-first_in-found in
     let some = some-mapped numbers_of c.first_in-found.result ∙ sym c.is_some.ensures ∙ c.if-is_some.true in
+    let shows = shown_in (g.Y.Layers.layered c.args.layers.now) c.args.paths.now c.args.d in
     record {
-      found = below-found (shown_in (g.Y.Layers.layered c.args.layers.now) c.args.paths.now c.args.d) c.show_invariant.ensures c.in-Some.is (first g after) some ∙ sym i.answer;
+      found = below-found shows c.show_invariant.ensures c.in-Some.is (first g after) some ∙ sym i.answer;
       layers = same-over i.same c.first_in-found.ensures.layers;
       stays = stays g after;
     }

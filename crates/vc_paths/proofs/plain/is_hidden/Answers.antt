@@ -3,25 +3,35 @@ use Rattle.vc_paths.specs.Layers.{bytes_there}
 use Rattle.vc_paths.specs.Shown.{has_match}
 use Rattle.vc_paths.proofs.CoverLemmas.{cover-end, cover-is, cover-less, cover-stop, cover-there, match-told}
 use Rattle.vc_paths.proofs.DownLemmas.{down-next, on-head, on-next}
-use Rattle.vc_paths.proofs.StayLemmas.{alike-kept, same-over}
+use Rattle.vc_paths.proofs.StayLemmas.{alike-kept, same-itself, same-over}
 use Rattle.vc_paths.proofs.plain.is_hidden.Given.{Over}
 use Rattle.vc_paths.proofs.plain.is_hidden.Goals as goal
 use Rattle.vc_paths.proofs.plain.is_hidden.Goals.{After-has_like}
 
 -- whether the layer at which the walk is has a match, by the rules of the path
-matched : (g : Over) (c : After-has_like g) (bytes : List ℕ) → bytes_there c.args.at.0 ((g.Y.Layers.layered c.args.layers.now).layer c.args.e).objects ≡ Some bytes
+matched : (g : Over) (c : After-has_like g) (bytes : List ℕ)
+    → bytes_there c.args.at.0 ((g.Y.Layers.layered c.args.layers.now).layer c.args.e).objects ≡ Some bytes
     → has_match (g.Y.Layers.layered c.args.layers.now) c.args.d bytes c.in-Some.u ≡ c.has_like.result
 matched g c =
     let i = c.loop-upper.invariant in
     let paths = c.show_invariant.ensures in
-    match-told c.args.e c.args.at.0 i.same (g.met.Y.Layers.lawful c.args.layers.now) (on-head paths refl c.requires.path) (on-head paths c.in-Some.is i.path) c.has_like.ensures.found
+    match-told c.args.e c.args.at.0 i.same (g.met.Y.Layers.lawful c.args.layers.now)
+    (on-head paths refl c.requires.path) (on-head paths c.in-Some.is i.path) c.has_like.ensures.found
+
+pub loop-upper-init : goal.loop-upper-init
+loop-upper-init g c =
+    let all = g.Y.Layers.layered c.args.layers.now in
+    record {
+      same = same-itself all;
+      stays = g.met.Y.Layers.reflexive c.args.layers.now;
+      path = c.requires.path;
+      answer = λ bytes _. cover-is all c.args.paths.now c.args.d c.args.e bytes;
+    }
 
 pub returns-then-e-u-clause-hidden : goal.returns-then-e-u-clause-hidden
 returns-then-e-u-clause-hidden g c = λ bytes there.
-    let all = g.Y.Layers.layered c.args.layers.now in
-    sym (cover-is all c.args.paths.now c.args.d c.args.e bytes
-    ∙ c.loop-upper.invariant.answer bytes there
-    ∙ cover-stop (has_match all c.args.d bytes) c.show_invariant.ensures c.args.e c.in-Some.is c.if-e-u.true)
+    sym (c.loop-upper.invariant.answer bytes there
+    ∙ cover-stop (has_match (g.Y.Layers.layered c.args.layers.now) c.args.d bytes) c.show_invariant.ensures c.args.e c.in-Some.is c.if-e-u.true)
 
 pub has_like-requires-clause-upper : goal.has_like-requires-clause-upper
 has_like-requires-clause-upper g c =
@@ -35,11 +45,9 @@ has_like-requires-clause-kinds g c =
 
 pub returns-then-has_like-clause-hidden : goal.returns-then-has_like-clause-hidden
 returns-then-has_like-clause-hidden g c = λ bytes there.
-    let told = matched g (goal.at.returns-then-has_like-clause-hidden g c).After-has_like bytes there in
-    let all = g.Y.Layers.layered c.args.layers.now in
-    sym (cover-is all c.args.paths.now c.args.d c.args.e bytes
-    ∙ c.loop-upper.invariant.answer bytes there
-    ∙ cover-there (has_match all c.args.d bytes) c.show_invariant.ensures c.args.e c.in-Some.is c.if-e-u.false (told ∙ c.if-has_like.true))
+    let found = matched g (goal.at.returns-then-has_like-clause-hidden g c).After-has_like bytes there ∙ c.if-has_like.true in
+    sym (c.loop-upper.invariant.answer bytes there
+    ∙ cover-there (has_match (g.Y.Layers.layered c.args.layers.now) c.args.d bytes) c.show_invariant.ensures c.args.e c.in-Some.is c.if-e-u.false found)
 
 pub loop-upper-smaller : goal.loop-upper-smaller
 loop-upper-smaller g c = down-next c.show_invariant.ensures c.in-Some.is c.below-upper.ensures
@@ -53,14 +61,12 @@ loop-upper-preserved g c =
       stays = g.met.Y.Layers.transitive c.args.layers.now c.loop-upper.layers c.has_like.new.layers i.stays c.has_like.ensures.stays;
       path = on-next paths c.in-Some.is c.below-upper.ensures i.path;
       answer = λ bytes there.
-          let told = matched g (goal.at.loop-upper-preserved g c).After-has_like bytes there in
-          i.answer bytes there
-          ∙ cover-less (has_match (g.Y.Layers.layered c.args.layers.now) c.args.d bytes) paths c.args.e c.in-Some.is c.if-e-u.false c.below-upper.ensures (told ∙ c.if-has_like.false);
+          let none = matched g (goal.at.loop-upper-preserved g c).After-has_like bytes there ∙ c.if-has_like.false in
+          let likes = has_match (g.Y.Layers.layered c.args.layers.now) c.args.d bytes in
+          i.answer bytes there ∙ cover-less likes paths c.args.e c.in-Some.is c.if-e-u.false c.below-upper.ensures none;
     }
 
 pub returns-clause-hidden : goal.returns-clause-hidden
 returns-clause-hidden g c = λ bytes there.
-    let all = g.Y.Layers.layered c.args.layers.now in
-    sym (cover-is all c.args.paths.now c.args.d c.args.e bytes
-    ∙ c.loop-upper.invariant.answer bytes there
-    ∙ cover-end (has_match all c.args.d bytes) c.show_invariant.ensures c.args.e c.in_default.is)
+    sym (c.loop-upper.invariant.answer bytes there
+    ∙ cover-end (has_match (g.Y.Layers.layered c.args.layers.now) c.args.d bytes) c.show_invariant.ensures c.args.e c.in_default.is)

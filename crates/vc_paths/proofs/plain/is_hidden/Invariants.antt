@@ -1,7 +1,7 @@
 use Rattle.std.proofs.Common.{◌≡◌, ℕ, List, Some, length}
 use Rattle.std.specs.List.{list_any}
 use Rattle.vc_paths.specs.Layers.{bytes_there, Same}
-use Rattle.vc_paths.specs.Shown.{IsOnPath, above, down, has_match}
+use Rattle.vc_paths.specs.Shown.{IsOnPath, above, down, has_match, is_covered}
 use Rattle.vc_paths.proofs.plain.is_hidden.Given as goal
 
 abbrev pub invariant-loop-upper : goal.invariant-loop-upper
@@ -11,7 +11,7 @@ invariant-loop-upper g l =
       stays : g.Y.Layers.Stays l.fn.layers l.layers;
       path : IsOnPath (g.Y.Layers.layered l.fn.layers) l.paths l.d l.upper;
       answer : (bytes : List ℕ) → bytes_there l.at.0 ((g.Y.Layers.layered l.fn.layers).layer l.e).objects ≡ Some bytes
-          → list_any (has_match (g.Y.Layers.layered l.fn.layers) l.d bytes) (above (Some l.e) (down l.paths (Some l.d)))
+          → is_covered (g.Y.Layers.layered l.fn.layers) l.paths l.d l.e bytes
           ≡ list_any (has_match (g.Y.Layers.layered l.fn.layers) l.d bytes) (above (Some l.e) (down l.paths l.upper));
     }
 

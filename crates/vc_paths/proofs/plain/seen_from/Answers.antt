@@ -2,7 +2,7 @@ use Rattle.std.proofs.Common.{ap, refl, sym, ◌∙◌}
 use Rattle.std.specs.Option.{option_map}
 use Rattle.vc_base.specs.Address.{number_of}
 use Rattle.vc_paths.specs.Layers.{place_in}
-use Rattle.vc_paths.proofs.SeenLemmas.{AtObject, at-object, fewer-next, first-none, first-past, first-seen, next-place, place-kept, there-still}
+use Rattle.vc_paths.proofs.SeenLemmas.{Stop, stop-at, fewer-next, first-none, first-past, first-seen, next-place, place-kept, there-still}
 use Rattle.vc_paths.proofs.StayLemmas.{same-itself, alike-kept, on-kept}
 use Rattle.vc_paths.proofs.plain.seen_from.Given.{Over}
 use Rattle.vc_paths.proofs.plain.seen_from.Goals as goal
@@ -10,10 +10,12 @@ use Rattle.vc_paths.proofs.plain.seen_from.Goals.{After-is_hidden}
 
 -- the walk behind the test of an object
 here : (g : Over) (c : After-is_hidden g)
-    → AtObject (g.Y.Layers.layered c.args.layers.now) (g.Y.Layers.layered c.is_hidden.new.layers) c.args.paths.now c.args.d c.args.e c.in-Some.place.0 (option_map number_of c.loop-here.here) c.is_hidden.result
+    → Stop (g.Y.Layers.layered c.args.layers.now) (g.Y.Layers.layered c.is_hidden.new.layers)
+    c.args.paths.now c.args.d c.args.e c.in-Some.place.0 (option_map number_of c.loop-here.here) c.is_hidden.result
 here g c =
     let i = c.loop-here.invariant in
-    at-object (g.met.Y.Layers.lawful c.args.layers.now) c.requires.other i.place (ap (option_map number_of) c.in-Some.is) i.same c.is_hidden.ensures.hidden c.is_hidden.ensures.layers
+    stop-at (g.met.Y.Layers.lawful c.args.layers.now) c.requires.other i.place (ap (option_map number_of) c.in-Some.is) i.same
+    c.is_hidden.ensures.hidden c.is_hidden.ensures.layers
 
 stays : (g : Over) (c : After-is_hidden g) → g.Y.Layers.Stays c.args.layers.now c.is_hidden.new.layers
 stays g c =
@@ -70,7 +72,8 @@ pub returns : goal.returns
 returns g c =
     let i = c.loop-here.invariant in
     record {
-      found = first-none (g.Y.Layers.layered c.args.layers.now) c.args.paths.now c.args.d c.args.e (ap (option_map number_of) c.in_default.is) ∙ sym (ap place_in i.answer);
+      found = first-none (g.Y.Layers.layered c.args.layers.now) c.args.paths.now c.args.d c.args.e (ap (option_map number_of) c.in_default.is)
+          ∙ sym (ap place_in i.answer);
       layers = i.same;
       stays = i.stays;
     }

@@ -1,55 +1,45 @@
-use Rattle.std.proofs.Common.{◌≡◌, ℕ, List, Some, None, refl, sym, ap, ◌∙◌, subst}
+use Rattle.std.proofs.Common.{◌≡◌, ℕ, List, Some, None, is_some, sym, ap, ◌∙◌, subst}
 use Rattle.std.specs.List.{filter, find}
 use Rattle.std.specs.Option.{option_map}
-use Rattle.std.specs.Prelude.{IsSome}
 use Rattle.vc_dtdisc.specs.Finding.{behind_last, last_of}
 use Rattle.vc_dtdisc.specs.Objects.{is_match}
 use Rattle.vc_paths.specs.Layers.{bytes_there, place_in, Layer}
 use Rattle.vc_paths.specs.Path.{Answers, is_at, numbers_of, place_of, visible_of}
 use Rattle.vc_paths.specs.Seek.{has_key_in}
-use Rattle.vc_paths.proofs.MatchLemmas.{behind-key, key-at}
+use Rattle.vc_paths.proofs.MatchLemmas.{IsLastWith, behind-key, key-at}
 use Rattle.vc_paths.proofs.SeekLemmas.{none-there}
+use Rattle.vc_paths.proofs.SeenLemmas.{place-kept}
 use Rattle.vc_paths.proofs.SightLemmas.{none-behind}
 use Rattle.vc_paths.proofs.StayLemmas.{visible-kept, seen-kept}
+use Rattle.vc_paths.proofs.views.next.Given.{Over}
 use Rattle.vc_paths.proofs.views.next.Goals as goal
+use Rattle.vc_paths.proofs.views.next.Goals.{After-last_match-last}
 
-pub last_match-last-requires-clause-dict : goal.last_match-last-requires-clause-dict
-last_match-last-requires-clause-dict g c =
-    let all = g.Y.Layers.layered c.args.layers.now in
-    let key = key-at all c.args.paths.now c.args.d c.args.key.now (numbers_of c.in-Some.from) (g.met.Y.Layers.lawful c.args.layers.now) c.requires
-    (ap (option_map numbers_of) (sym c.in-Some.is) ∙ c.search.ensures.found) in
-    c.search.ensures.layers.has c.in-Some.from.0 key.dict
+-- behind the last match of what was found stands what stands behind the last that has the key
+last : (g : Over) (c : After-last_match-last g) → IsLastWith (g.Y.Layers.layered c.args.layers.now) c.args.paths.now c.args.d c.args.key.now (c.in-Some.from.0, c.last_match-last.result.0)
+last g c =
+    let match = subst (λ (z : ℕ → Layer). (bytes : List ℕ) → bytes_there c.in-Some.from.1.0 (z c.in-Some.from.0).objects ≡ Some bytes
+    → Some c.last_match-last.result.0 ≡ place_in (last_of (filter (λ o. is_match (z c.in-Some.from.0).rules bytes o.bytes) (z c.in-Some.from.0).objects)))
+    c.search.ensures.layers.layers c.last_match-last.ensures in
+    behind-key (g.Y.Layers.layered c.args.layers.now) c.args.paths.now c.args.d c.args.key.now (numbers_of c.in-Some.from) c.last_match-last.result.0 (g.met.Y.Layers.lawful c.args.layers.now) c.requires
+    (ap (option_map numbers_of) (sym c.in-Some.is) ∙ c.search.ensures.found) match
 
-pub last_match-last-requires-clause-place : goal.last_match-last-requires-clause-place
-last_match-last-requires-clause-place g c =
-    let all = g.Y.Layers.layered c.args.layers.now in
-    let key = key-at all c.args.paths.now c.args.d c.args.key.now (numbers_of c.in-Some.from) (g.met.Y.Layers.lawful c.args.layers.now) c.requires
+pub last_match-last-requires : goal.last_match-last-requires
+last_match-last-requires g c =
+    let key = key-at (g.Y.Layers.layered c.args.layers.now) c.args.paths.now c.args.d c.args.key.now (numbers_of c.in-Some.from) (g.met.Y.Layers.lawful c.args.layers.now) c.requires
     (ap (option_map numbers_of) (sym c.in-Some.is) ∙ c.search.ensures.found) in
-    subst (λ (z : ℕ → Layer). IsSome (bytes_there c.in-Some.from.1.0 (z c.in-Some.from.0).objects)) (sym c.search.ensures.layers.layers)
-    (subst IsSome (sym key.there) refl)
+    let same = c.search.ensures.layers in
+    record { dict = same.has c.in-Some.from.0 key.dict; place = place-kept c.in-Some.from.0 c.in-Some.from.1.0 same (ap is_some key.there) }
 
 pub walk_next-requires-clause-place : goal.walk_next-requires-clause-place
 walk_next-requires-clause-place g c =
-    let all = g.Y.Layers.layered c.args.layers.now in
-    let e = c.in-Some.from.0 in
-    let last
-    = subst (λ (z : ℕ → Layer). (bytes : List ℕ) → bytes_there c.in-Some.from.1.0 (z e).objects ≡ Some bytes → Some c.last_match-last.result.0 ≡ place_in (last_of (filter (λ o. is_match (z e).rules bytes o.bytes) (z e).objects)))
-    c.search.ensures.layers.layers c.last_match-last.ensures in
-    let agree = behind-key all c.args.paths.now c.args.d c.args.key.now (numbers_of c.in-Some.from) c.last_match-last.result.0 (g.met.Y.Layers.lawful c.args.layers.now) c.requires
-    (ap (option_map numbers_of) (sym c.in-Some.is) ∙ c.search.ensures.found) last in
-    seen-kept c.args.paths.now c.args.d (e, c.last_match-last.result.0) c.search.ensures.layers agree.there
+    seen-kept c.args.paths.now c.args.d (c.in-Some.from.0, c.last_match-last.result.0) c.search.ensures.layers
+    (last g (goal.at.walk_next-requires-clause-place g c).After-last_match-last).there
 
 pub returns-in-Some-clause-found : goal.returns-in-Some-clause-found
 returns-in-Some-clause-found g c =
-    let all = g.Y.Layers.layered c.args.layers.now in
-    let e = c.in-Some.from.0 in
-    let last
-    = subst (λ (z : ℕ → Layer). (bytes : List ℕ) → bytes_there c.in-Some.from.1.0 (z e).objects ≡ Some bytes → Some c.last_match-last.result.0 ≡ place_in (last_of (filter (λ o. is_match (z e).rules bytes o.bytes) (z e).objects)))
-    c.search.ensures.layers.layers c.last_match-last.ensures in
-    let agree = behind-key all c.args.paths.now c.args.d c.args.key.now (numbers_of c.in-Some.from) c.last_match-last.result.0 (g.met.Y.Layers.lawful c.args.layers.now) c.requires
-    (ap (option_map numbers_of) (sym c.in-Some.is) ∙ c.search.ensures.found) last in
-    subst (λ z. Answers c.walk_next.result (behind_last (is_at (e, c.last_match-last.result.0)) z)) (visible-kept c.args.paths.now c.args.d c.search.ensures.layers) c.walk_next.ensures.found
-    ∙ ap (option_map place_of) (sym agree.same)
+    subst (λ z. Answers c.walk_next.result (behind_last (is_at (c.in-Some.from.0, c.last_match-last.result.0)) z)) (visible-kept c.args.paths.now c.args.d c.search.ensures.layers) c.walk_next.ensures.found
+    ∙ ap (option_map place_of) (sym (last g (goal.at.returns-in-Some-clause-found g c).After-last_match-last).same)
 
 pub returns-in-None-clause-found : goal.returns-in-None-clause-found
 returns-in-None-clause-found g c =

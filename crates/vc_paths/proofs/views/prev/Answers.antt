@@ -4,26 +4,28 @@ use Rattle.std.specs.Option.{option_map}
 use Rattle.vc_dtdisc.specs.Finding.{before_first}
 use Rattle.vc_paths.specs.Path.{Answers, is_at, numbers_of, place_of, visible_of}
 use Rattle.vc_paths.specs.Seek.{has_key_in}
-use Rattle.vc_paths.proofs.MatchLemmas.{before-key}
+use Rattle.vc_paths.proofs.MatchLemmas.{IsFirstWith, before-key}
 use Rattle.vc_paths.proofs.SeekLemmas.{none-there}
 use Rattle.vc_paths.proofs.SightLemmas.{none-before}
 use Rattle.vc_paths.proofs.StayLemmas.{visible-kept, seen-kept}
+use Rattle.vc_paths.proofs.views.prev.Given.{Over}
 use Rattle.vc_paths.proofs.views.prev.Goals as goal
+use Rattle.vc_paths.proofs.views.prev.Goals.{In-Some}
+
+-- before what was found stands what stands before the first that has the key
+first : (g : Over) (c : In-Some g) → IsFirstWith (g.Y.Layers.layered c.args.layers.now) c.args.paths.now c.args.d c.args.key.now (numbers_of c.in-Some.from)
+first g c =
+    before-key (g.Y.Layers.layered c.args.layers.now) c.args.paths.now c.args.d c.args.key.now (numbers_of c.in-Some.from) (g.met.Y.Layers.lawful c.args.layers.now) c.requires
+    (ap (option_map numbers_of) (sym c.in-Some.is) ∙ c.search.ensures.found)
 
 pub walk_prev-requires-clause-place : goal.walk_prev-requires-clause-place
 walk_prev-requires-clause-place g c =
-    let all = g.Y.Layers.layered c.args.layers.now in
-    let agree = before-key all c.args.paths.now c.args.d c.args.key.now (numbers_of c.in-Some.from) (g.met.Y.Layers.lawful c.args.layers.now) c.requires
-    (ap (option_map numbers_of) (sym c.in-Some.is) ∙ c.search.ensures.found) in
-    seen-kept c.args.paths.now c.args.d (numbers_of c.in-Some.from) c.search.ensures.layers agree.there
+    seen-kept c.args.paths.now c.args.d (numbers_of c.in-Some.from) c.search.ensures.layers (first g (goal.at.walk_prev-requires-clause-place g c).In-Some).there
 
 pub returns-in-Some-clause-found : goal.returns-in-Some-clause-found
 returns-in-Some-clause-found g c =
-    let all = g.Y.Layers.layered c.args.layers.now in
-    let agree = before-key all c.args.paths.now c.args.d c.args.key.now (numbers_of c.in-Some.from) (g.met.Y.Layers.lawful c.args.layers.now) c.requires
-    (ap (option_map numbers_of) (sym c.in-Some.is) ∙ c.search.ensures.found) in
     subst (λ z. Answers c.walk_prev.result (before_first (is_at (numbers_of c.in-Some.from)) z)) (visible-kept c.args.paths.now c.args.d c.search.ensures.layers) c.walk_prev.ensures.found
-    ∙ ap (option_map place_of) (sym agree.same)
+    ∙ ap (option_map place_of) (sym (first g (goal.at.returns-in-Some-clause-found g c).In-Some).same)
 
 pub returns-in-None-clause-found : goal.returns-in-None-clause-found
 returns-in-None-clause-found g c =
