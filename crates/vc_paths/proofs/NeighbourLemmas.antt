@@ -1,5 +1,5 @@
 -- The neighbours of a visible object in order of keys: those in its dictionary that match it, or one beyond them.
-use Rattle.std.proofs.Common.{◌≡◌, ℕ, List, [], ◌∷◌, ◌++◌, Bool, true, false, Option, Some, None, is_some, refl, sym, ap, ◌∙◌, subst, inl, inr, append_assoc, append-nil}
+use Rattle.std.proofs.Common.{◌≡◌, ℕ, List, [], ◌∷◌, ◌++◌, Bool, true, false, Option, Some, None, is_some, refl, sym, ap, ◌∙◌, subst, inl, inr, append-nil}
 use Rattle.std.specs.Prelude.{map, not, ◌||◌, ◌&&◌, ◌==◌}
 use Rattle.std.specs.List.{AllByRecursion, filter, find, list_any}
 use Rattle.std.specs.Option.{option_map, option_or}
@@ -7,7 +7,6 @@ use Rattle.std.proofs.lemmas.Bool.{true≢false, and_parts, cases_Bool, eq-eqb, 
 use Rattle.std.proofs.lemmas.List.Elements.{filter-append}
 use Rattle.std.proofs.lemmas.List.Folds.{list_any-append}
 use Rattle.vc_base.specs.declared.addr.Addr.{Addr}
-use Rattle.vc_base.specs.Holders.{AreDistinct}
 use Rattle.vc_base.specs.Methods.{is_ordered}
 use Rattle.vc_dtdisc.specs.Objects.{Object, is_greater, is_match, placed_each}
 use Rattle.vc_dtdisc.specs.Rules.{Rules}
@@ -19,9 +18,10 @@ use Rattle.vc_paths.specs.Ordered.{Stands, if_level, is_before, is_behind, is_le
 use Rattle.vc_paths.specs.Path.{Answers, IsAlike, IsPath, IsVisible, is_at, numbers_of, objects_of, place_of, seen_in, visible_of}
 use Rattle.vc_paths.specs.Visible.{Seen, is_hidden, seen_bytes, stacked}
 use Rattle.vc_paths.proofs.BesideLemmas.{AreLevel, any_level, before_apart, before_beside, behind_apart, behind_beside, fails}
-use Rattle.vc_paths.proofs.LayerLemmas.{find_split, next_shown, previous_shown, split_of}
+use Rattle.vc_paths.proofs.LayerLemmas.{next_shown, previous_shown}
 use Rattle.vc_paths.proofs.OrderLemmas.{AreOrdered, all_append, all_both, all_filter, all_none, all_weaker, any_more, any_none, filter_kept, filter_none, or_left, or_right, ordered}
-use Rattle.vc_paths.proofs.OrderedLemmas.{all_map, layer_sorted, path_head, visible_ordered}
+use Rattle.vc_paths.proofs.OrderedLemmas.{layer_sorted, path_head, visible_ordered}
+use Rattle.vc_paths.proofs.SightLemmas.{IsThere, each-there, layers-there, visible-there}
 use Rattle.vc_paths.proofs.SortedLemmas.{AreSorted, all_sorted, all_stacked, itself, kept_sorted, layer_filter, onto_sorted}
 
 -- objects that match one match each other
@@ -110,37 +110,6 @@ level_stacked rules all e a x above (f ∷ es) s l h any =
           ]
     ]
 
--- each object of a layer is the one at its address
-pub all_there : (objects front rest : List Object) → objects ≡ front ++ rest → AreDistinct (map (λ o. o.at) objects) → AllByRecursion (λ o. bytes_there o.at objects ≡ Some o.bytes) rest
-all_there objects front [] whole d = tt
-all_there objects front (x ∷ xs) whole d =
-    let s = split_of objects front x xs x.at whole d refl in (
-      ap (option_map (λ (o : Object). o.bytes)) (find_split objects x.at s),
-      all_there objects (front ++ x ∷ []) xs (whole ∙ sym (append_assoc front (x ∷ []) xs)) d,
-    )
-
--- an object that stands in a dictionary of the path
-pub record InLayer (all : Layered) (d : ℕ) (y : Seen ℕ) : Type 0 where
-  pub alike : IsAlike all d y.dict
-  pub there : bytes_there y.at (all.layer y.dict).objects ≡ Some y.bytes
-
-pub all_objects : (all : Layered) (d e : ℕ) → AreLayers all → IsAlike all d e → AllByRecursion (InLayer all d) (objects_of all e)
-all_objects all d e laws alike =
-    all_map (InLayer all d) (seen_in e) (all.layer e).objects
-    (all_weaker (λ o. bytes_there o.at (all.layer e).objects ≡ Some o.bytes) (λ o. InLayer all d (seen_in e o)) (λ o h. record { alike = alike; there = h }) (all.layer e).objects
-    (all_there (all.layer e).objects [] (all.layer e).objects refl (laws.distinct e alike.there)))
-
-pub all_layers : (all : Layered) (d : ℕ) (es : List ℕ) → AreLayers all → AllByRecursion (IsAlike all d) es → AllByRecursion (AllByRecursion (InLayer all d)) (map (objects_of all) es)
-all_layers all d [] laws alike = tt
-all_layers all d (e ∷ es) laws alike = (all_objects all d e laws alike.0, all_layers all d es laws alike.1)
-
-pub all_visible : (all : Layered) (links : Links) (d : ℕ) → AreLayers all → IsPath all links d → is_ordered (all.layer d).method ≡ true → AllByRecursion (InLayer all d) (visible_of all links d)
-all_visible all links d laws path' method =
-    let rules = (all.layer d).rules in
-    let layers = map (objects_of all) (path links d) in
-    subst (λ z. AllByRecursion (InLayer all d) z) (sym (visible_ordered all links d method))
-    (all_sorted rules (InLayer all d) [] (stacked rules [] layers) tt (all_stacked rules (InLayer all d) [] layers (all_layers all d (path links d) laws path'.alike)))
-
 -- where an element passes a test, what holds of each holds of one that passes
 pub any_found : {A : Type 0} (P : A → Type 0) (test : A → Bool) (xs : List A) → AllByRecursion P xs → list_any test xs ≡ true → (y : A) × (test y ≡ true) × P y
 any_found P test [] h any = absurd (true≢false (sym any))
@@ -157,14 +126,14 @@ record VisibleAt (all : Layered) (d : ℕ) (p : ℕ × Addr) : Type 0 where
 
 visible_at : (all : Layered) (links : Links) (d : ℕ) (p : ℕ × Addr) → AreLayers all → IsPath all links d → is_ordered (all.layer d).method ≡ true → IsVisible all links d (numbers_of p) → VisibleAt all d p
 visible_at all links d p laws path' method visible' =
-    let found = any_found (InLayer all d) (is_at (numbers_of p)) (visible_of all links d) (all_visible all links d laws path' method) visible' in
+    let found = any_found (IsThere all d) (is_at (numbers_of p)) (visible_of all links d) (visible-there all links d laws path') visible' in
     let y = found.0 in
     let parts = and_parts (y.dict == p.0) (y.at == p.1.0) found.1 in
     let dict = eqb-true y.dict p.0 parts.0 in
     record {
       bytes = y.bytes;
       there = subst (λ z. bytes_there z (all.layer p.0).objects ≡ Some y.bytes) (eqb-true y.at p.1.0 parts.1)
-          (subst (λ z. bytes_there y.at (all.layer z).objects ≡ Some y.bytes) dict found.2.there);
+          (subst (λ z. bytes_there y.at (all.layer z).objects ≡ Some y.bytes) dict found.2.bytes);
       alike = subst (IsAlike all d) dict found.2.alike;
     }
 
@@ -178,12 +147,12 @@ some_same : (x y : List ℕ) → Some x ≡ Some y → x ≡ y
 some_same x y e = cc
 
 -- what stands at the place of an object matches it
-in_level : (rules : Rules) → AreOrdered rules → (all : Layered) (d : ℕ) (p : ℕ × Addr) (x : Seen ℕ) → bytes_there p.1.0 (all.layer p.0).objects ≡ Some x.bytes → (y : Seen ℕ) → InLayer all d y → is_at (numbers_of p) y ≡ true → is_level rules x y ≡ true
+in_level : (rules : Rules) → AreOrdered rules → (all : Layered) (d : ℕ) (p : ℕ × Addr) (x : Seen ℕ) → bytes_there p.1.0 (all.layer p.0).objects ≡ Some x.bytes → (y : Seen ℕ) → IsThere all d y → is_at (numbers_of p) y ≡ true → is_level rules x y ≡ true
 in_level rules laws all d p x here y inner t =
     let parts = and_parts (y.dict == p.0) (y.at == p.1.0) t in
     let there : bytes_there p.1.0 (all.layer p.0).objects ≡ Some y.bytes =
     subst (λ z. bytes_there z (all.layer p.0).objects ≡ Some y.bytes) (eqb-true y.at p.1.0 parts.1)
-    (subst (λ z. bytes_there y.at (all.layer z).objects ≡ Some y.bytes) (eqb-true y.dict p.0 parts.0) inner.there) in
+    (subst (λ z. bytes_there y.at (all.layer z).objects ≡ Some y.bytes) (eqb-true y.dict p.0 parts.0) inner.bytes) in
     subst (λ z. is_match rules x.bytes z ≡ true) (some_same x.bytes y.bytes (sym here ∙ there)) (laws.tied x.bytes x.bytes (itself rules laws x) (itself rules laws x))
 
 -- an object of a layer passes the test on its place
@@ -213,21 +182,21 @@ pub record Visited (rules : Rules) (all : Layered) (p : ℕ × Addr) (x : Seen �
   pub layer_any : list_any (is_at (numbers_of p)) (objects_of all p.0) ≡ true
 
 -- by what is known of the layers
-visited_in : (rules : Rules) → AreOrdered rules → (all : Layered) (d : ℕ) (p : ℕ × Addr) (x : Seen ℕ) (es : List ℕ) → bytes_there p.1.0 (all.layer p.0).objects ≡ Some x.bytes → AllByRecursion (AllByRecursion (InLayer all d)) (map (objects_of all) es) → AllByRecursion (InLayer all d) (objects_of all p.0) → AreSorted rules (objects_of all p.0) → list_any (is_at (numbers_of p)) (placed_each seen_bytes rules [] (stacked rules [] (map (objects_of all) es))) ≡ true → Visited rules all p x (placed_each seen_bytes rules [] (stacked rules [] (map (objects_of all) es)))
+visited_in : (rules : Rules) → AreOrdered rules → (all : Layered) (d : ℕ) (p : ℕ × Addr) (x : Seen ℕ) (es : List ℕ) → bytes_there p.1.0 (all.layer p.0).objects ≡ Some x.bytes → AllByRecursion (AllByRecursion (IsThere all d)) (map (objects_of all) es) → AllByRecursion (IsThere all d) (objects_of all p.0) → AreSorted rules (objects_of all p.0) → list_any (is_at (numbers_of p)) (placed_each seen_bytes rules [] (stacked rules [] (map (objects_of all) es))) ≡ true → Visited rules all p x (placed_each seen_bytes rules [] (stacked rules [] (map (objects_of all) es)))
 visited_in rules laws all d p x es here layers layer layer_sorted any =
     let test = is_at (numbers_of p) in
     let heap = stacked rules [] (map (objects_of all) es) in
-    let level_of : (ys : List (Seen ℕ)) → AllByRecursion (InLayer all d) ys → AreLevel rules x test ys =
-    λ ys h. all_weaker (InLayer all d) (λ y. test y ≡ true → is_level rules x y ≡ true) (λ y inner. in_level rules laws all d p x here y inner) ys h in
-    let in_heap = all_stacked rules (InLayer all d) [] (map (objects_of all) es) layers in
-    let in_seen = all_sorted rules (InLayer all d) [] heap tt in_heap in
+    let level_of : (ys : List (Seen ℕ)) → AllByRecursion (IsThere all d) ys → AreLevel rules x test ys =
+    λ ys h. all_weaker (IsThere all d) (λ y. test y ≡ true → is_level rules x y ≡ true) (λ y inner. in_level rules laws all d p x here y inner) ys h in
+    let in_heap = all_stacked rules (IsThere all d) [] (map (objects_of all) es) layers in
+    let in_seen = all_sorted rules (IsThere all d) [] heap tt in_heap in
     let same = kept_sorted rules laws (is_level rules x) (λ y u h g. level_upto rules laws x y u h g) heap in
     let heap_any : list_any test heap ≡ true =
     sym (any_level rules x test heap (level_of heap in_heap)) ∙ ap (list_any test) (sym same) ∙ any_level rules x test (placed_each seen_bytes rules [] heap) (level_of (placed_each seen_bytes rules [] heap) in_seen) ∙ any in
     let layer_level = level_of (objects_of all p.0) layer in
     let layer_any = found_at p.0 p.1.0 (all.layer p.0).objects (ap is_some here) in
     let seeks : Seeks rules all p.0 p.1.0 x = record { laws = laws; present = any_along rules x test (objects_of all p.0) layer_level layer_any } in
-    let levels = all_weaker (AllByRecursion (InLayer all d)) (AreLevel rules x test) level_of (map (objects_of all) es) layers in
+    let levels = all_weaker (AllByRecursion (IsThere all d)) (AreLevel rules x test) level_of (map (objects_of all) es) layers in
     record {
       laws = laws;
       sorted = onto_sorted rules laws [] heap tt;
@@ -346,7 +315,7 @@ visited_at all links d p laws path' method visible' =
       is = is;
       stands = stands_of v;
       visited = subst (λ z. Visited rules all p x z) (sym same)
-          (visited_in rules (ordered rules (laws.lawful d h).order) all d p x (path links d) v.there (all_layers all d (path links d) laws path'.alike) (all_objects all d p.0 laws v.alike)
+          (visited_in rules (ordered rules (laws.lawful d h).order) all d p x (path links d) v.there (layers-there all d (path links d) laws path'.alike) (each-there all d p.0 [] (all.layer p.0).objects v.alike refl (laws.distinct p.0 v.alike.there))
           (layer_sorted all d p.0 laws h method v.alike) (subst (λ z. list_any (is_at (numbers_of p)) z ≡ true) same visible'));
       beside = λ o. ap (λ r. if_level r (object_there all p) o) (laws.kinds p.0 d v.alike.there h v.alike.kind) ∙ ap (λ z. if_level rules z o) is;
     }

@@ -4,8 +4,9 @@ use Rattle.std.specs.Prelude.{IsSome}
 use Rattle.std.specs.List.{find, list_any}
 use Rattle.std.specs.Option.{option_map}
 use Rattle.std.proofs.lemmas.Bool.{cases_Bool, eq-eqb, eqb-true, ne_eqb, or_from, or_parts, true≢false}
+use Rattle.std.proofs.lemmas.Option.{none-some}
 use Rattle.vc_base.specs.Holders.{AreDistinct, contains}
-use Rattle.vc_dtdisc.specs.Finding.{first_of, last_of}
+use Rattle.vc_dtdisc.specs.Finding.{before_first, behind_last, first_of, last_of}
 use Rattle.vc_dtdisc.specs.Objects.{Object}
 use Rattle.vc_paths.specs.Layers.{bytes_there, place_before, place_behind, place_in, stands_at}
 use Rattle.vc_paths.specs.Shown.{IsPlaceIn, from_at, objects_from, objects_up_to, up_to}
@@ -76,6 +77,12 @@ find-past : (at : ℕ) (xs ys : List Object) → list_any (stands_at at) xs ≡ 
 find-past at [] ys none = refl
 find-past at (x ∷ xs) ys none = let w = or_parts (stands_at at x) (list_any (stands_at at) xs) none in rw w.0 (find-past at xs ys w.1)
 
+-- an object among others is the one at its address
+pub there-at : (xs : List Object) (y : Object) (ys : List Object) → AreDistinct (map (λ o. o.at) (xs ++ y ∷ ys)) → bytes_there y.at (xs ++ y ∷ ys) ≡ Some y.bytes
+there-at xs y ys d =
+    let found : find (stands_at y.at) (y ∷ ys) ≡ Some y = rw (eq-eqb y.at y.at refl) refl in
+    ap (option_map (λ o. o.bytes)) (find-past y.at xs (y ∷ ys) (apart-object xs y ys d).0 ∙ found)
+
 from-past : (at : ℕ) (xs : List Object) (y : Object) (ys : List Object) → list_any (stands_at at) xs ≡ false → y.at ≡ at → from_at at (xs ++ y ∷ ys) ≡ y ∷ ys
 from-past at [] y ys none e = rw (eq-eqb y.at at e) refl
 from-past at (x ∷ xs) y ys none e = let w = or_parts (stands_at at x) (list_any (stands_at at) xs) none in rw w.0 (from-past at xs y ys w.1 e)
@@ -97,15 +104,17 @@ module _ (objects : List Object) (at : ℕ) (s : Standing objects at) where
   pub up_to-here : objects_up_to (Some at) objects ≡ s.before ++ s.one ∷ []
   up_to-here = ap (λ z. up_to at z) s.whole ∙ up_to-past at s.before s.one s.behind s.first s.here
 
+  pub behind-one : behind_last (stands_at at) objects ≡ first_of s.behind
+  behind-one = ap (behind_last (stands_at at)) s.whole ∙ behind-at (stands_at at) s.before s.one s.behind (eq-eqb s.one.at at s.here) s.last
+
+  pub before-one : before_first (stands_at at) objects ≡ last_of s.before
+  before-one = ap (before_first (stands_at at)) s.whole ∙ before-at (stands_at at) None s.before s.one s.behind (eq-eqb s.one.at at s.here) s.first
+
   pub behind-here : place_behind at objects ≡ place_in (first_of s.behind)
-  behind-here =
-      ap (λ z. place_behind at z) s.whole
-      ∙ ap place_in (behind-at (stands_at at) s.before s.one s.behind (eq-eqb s.one.at at s.here) s.last)
+  behind-here = ap place_in behind-one
 
   pub before-here : place_before at objects ≡ place_in (last_of s.before)
-  before-here =
-      ap (λ z. place_before at z) s.whole
-      ∙ ap place_in (before-at (stands_at at) None s.before s.one s.behind (eq-eqb s.one.at at s.here) s.first)
+  before-here = ap place_in before-one
 
 -- the objects from the first of a rest on are that rest, and those up to the last of a front are that front
 pub from-first : (front rest : List Object) → AreDistinct (map (λ o. o.at) (front ++ rest)) → objects_from (place_in (first_of rest)) (front ++ rest) ≡ rest
@@ -133,6 +142,24 @@ up_to-last front rest d = elim (ends front) as (λ _. objects_up_to (place_in (l
       ∙ ap (λ z. up_to y.at z) joined
       ∙ up_to-past y.at less y rest (apart-object less y rest (subst (λ z. AreDistinct (map (λ o. o.at) z)) joined d)).0 refl
       ∙ sym e
+]
+
+-- the first of a rest, or the last of a front, is the one at its address
+pub first-there : (front rest : List Object) (x : Object) → AreDistinct (map (λ o. o.at) (front ++ rest)) → first_of rest ≡ Some x → bytes_there x.at (front ++ rest) ≡ Some x.bytes
+first-there front [] x d e = cc
+first-there front (y ∷ ys) x d e =
+    let same : y ≡ x = cc in
+    subst (λ (z : Object). bytes_there z.at (front ++ y ∷ ys) ≡ Some z.bytes) same (there-at front y ys d)
+
+pub last-there : (front rest : List Object) (x : Object) → AreDistinct (map (λ o. o.at) (front ++ rest)) → last_of front ≡ Some x → bytes_there x.at (front ++ rest) ≡ Some x.bytes
+last-there front rest x d e = elim (ends front) as (λ _. bytes_there x.at (front ++ rest) ≡ Some x.bytes) [
+  | none k ↦ absurd (none-some x (ap last_of (sym k) ∙ e))
+  | some less y k ↦
+      let joined : front ++ rest ≡ less ++ y ∷ rest = ap (λ z. z ++ rest) k ∙ append_assoc less (y ∷ []) rest in
+      let last : Some y ≡ Some x = sym (ap last_of k ∙ last-append None less (y ∷ [])) ∙ e in
+      let same : y ≡ x = cc in
+      subst (λ (z : Object). bytes_there z.at (front ++ rest) ≡ Some z.bytes) same
+      (ap (bytes_there y.at) joined ∙ there-at less y rest (subst (λ z. AreDistinct (map (λ o. o.at) z)) joined d))
 ]
 
 -- an object of a list stands at a place

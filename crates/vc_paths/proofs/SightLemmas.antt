@@ -13,7 +13,7 @@ use Rattle.vc_paths.specs.Layers.{AreLayers, Layered, bytes_there}
 use Rattle.vc_paths.specs.Links.{Links, path}
 use Rattle.vc_paths.specs.Path.{IsAlike, IsPath, is_at, objects_of, place_of, seen_in, visible_of}
 use Rattle.vc_paths.specs.Visible.{Seen, seen_bytes, stacked}
-use Rattle.vc_paths.proofs.LayerLemmas.{apart_from, turned}
+use Rattle.vc_paths.proofs.PlaceLemmas.{there-at}
 use Rattle.vc_paths.proofs.SortedLemmas.{all_sorted, all_stacked}
 
 -- an object that is seen stands in its dictionary, which is like the one that it is seen through
@@ -21,12 +21,7 @@ pub record IsThere (all : Layered) (d : ℕ) (o : Seen ℕ) : Type 0 where
   pub alike : IsAlike all d o.dict
   pub bytes : bytes_there o.at (all.layer o.dict).objects ≡ Some o.bytes
 
-there-at : (xs : List Object) (y : Object) (ys : List Object) → AreDistinct (map (λ o. o.at) (xs ++ y ∷ ys)) → bytes_there y.at (xs ++ y ∷ ys) ≡ Some y.bytes
-there-at [] y ys d = rw (eq-eqb y.at y.at refl) refl
-there-at (x ∷ xs) y ys d =
-    rw (turned y.at x.at (apart_from y x.at xs ys d.0)) (there-at xs y ys d.1)
-
-each-there : (all : Layered) (d e : ℕ) (xs ys : List Object) → IsAlike all d e → (all.layer e).objects ≡ xs ++ ys → AreDistinct (map (λ o. o.at) (all.layer e).objects) → AllByRecursion (IsThere all d) (map (seen_in e) ys)
+pub each-there : (all : Layered) (d e : ℕ) (xs ys : List Object) → IsAlike all d e → (all.layer e).objects ≡ xs ++ ys → AreDistinct (map (λ o. o.at) (all.layer e).objects) → AllByRecursion (IsThere all d) (map (seen_in e) ys)
 each-there all d e xs [] h w apart = tt
 each-there all d e xs (y ∷ ys) h w apart = (
   record {
@@ -36,7 +31,7 @@ each-there all d e xs (y ∷ ys) h w apart = (
   each-there all d e (xs ++ y ∷ []) ys h (w ∙ sym (append_assoc xs (y ∷ []) ys)) apart,
 )
 
-layers-there : (all : Layered) (d : ℕ) (es : List ℕ) → AreLayers all → AllByRecursion (IsAlike all d) es → AllByRecursion (AllByRecursion (IsThere all d)) (map (objects_of all) es)
+pub layers-there : (all : Layered) (d : ℕ) (es : List ℕ) → AreLayers all → AllByRecursion (IsAlike all d) es → AllByRecursion (AllByRecursion (IsThere all d)) (map (objects_of all) es)
 layers-there all d [] lawful a = tt
 layers-there all d (e ∷ es) lawful a = (
   each-there all d e [] (all.layer e).objects a.0 refl (lawful.distinct e a.0.there),

@@ -10,13 +10,14 @@ use Rattle.vc_base.specs.Methods.{is_ordered}
 use Rattle.vc_dtdisc.specs.Finding.{first_of, last_of}
 use Rattle.vc_dtdisc.specs.Objects.{Object, is_greater}
 use Rattle.vc_dtdisc.specs.Rules.{Rules}
-use Rattle.vc_paths.specs.Layers.{AreLayers, Layered, place_before, place_behind, place_in}
+use Rattle.vc_paths.specs.Layers.{AreLayers, Layered, place_before, place_behind}
 use Rattle.vc_paths.specs.Ordered.{IsStanding, Stands, is_before, is_behind, object_at, object_there, start_before, start_behind}
 use Rattle.vc_paths.specs.Path.{seen_in}
 use Rattle.vc_paths.specs.Visible.{Seen}
-use Rattle.vc_paths.proofs.LayerLemmas.{Backward, Onward, backward_start, before_split, behind_split, onward_start, since_shown, split_at, there_split, until_shown}
+use Rattle.vc_paths.proofs.LayerLemmas.{Backward, Onward, backward_start, object_one, onward_start, since_shown, until_shown}
 use Rattle.vc_paths.proofs.OrderLemmas.{AreOrdered, filter_none, ordered}
 use Rattle.vc_paths.proofs.OrderedLemmas.{objects_sorted}
+use Rattle.vc_paths.proofs.PlaceLemmas.{before-here, behind-here, standing}
 use Rattle.vc_paths.proofs.SortedLemmas.{AreSorted, IsUpto, itself}
 
 all_middle : (P : Seen ℕ → Type 0) (e : ℕ) (front : List Object) (x : Object) (rest : List Object) → AllByRecursion P (map (seen_in e) (front ++ x ∷ rest)) → P (seen_in e x)
@@ -39,15 +40,15 @@ onward_own : (all : Layered) (e : ℕ) (at : Addr) (next : Option Addr) → AreL
 onward_own all e at next laws h method stands n =
     let rules = (all.layer e).rules in
     let objects = (all.layer e).objects in
-    let s = split_at objects at.0 stands.object (laws.distinct e h) in
-    let test = is_behind rules (Some (seen_in e s.here)) in
-    let parts = s.whole ∙ sym (append_assoc s.front (s.here ∷ []) s.rest) in
-    let shown = since_shown all e next (s.front ++ s.here ∷ []) s.rest h (laws.distinct e h) parts (n ∙ ap place_in (behind_split objects at.0 s)) in
-    let sorted : AreSorted rules (map (seen_in e) (s.front ++ s.here ∷ s.rest)) = subst (λ z. AreSorted rules (map (seen_in e) z)) s.whole (objects_sorted rules e objects (laws.sorted e h method)) in
-    subst (λ (z : Option (Seen ℕ)). Onward all e (is_behind rules z) next) (sym (there_split all e at s)) (record {
+    let s = standing objects at.0 (laws.distinct e h) stands.object in
+    let test = is_behind rules (Some (seen_in e s.one)) in
+    let parts = s.whole ∙ sym (append_assoc s.before (s.one ∷ []) s.behind) in
+    let shown = since_shown all e next (s.before ++ s.one ∷ []) s.behind h (laws.distinct e h) parts (n ∙ behind-here objects at.0 s) in
+    let sorted : AreSorted rules (map (seen_in e) (s.before ++ s.one ∷ s.behind)) = subst (λ z. AreSorted rules (map (seen_in e) z)) s.whole (objects_sorted rules e objects (laws.sorted e h method)) in
+    subst (λ (z : Option (Seen ℕ)). Onward all e (is_behind rules z) next) (sym (object_one all e at s)) (record {
       stands = shown.0.stands;
       same = ap (λ z. first_of (filter test (map (seen_in e) z))) shown.1
-          ∙ ap first_of (sym (front_dropped rules (ordered rules (laws.lawful e h).order) e s.front s.here s.rest sorted))
+          ∙ ap first_of (sym (front_dropped rules (ordered rules (laws.lawful e h).order) e s.before s.one s.behind sorted))
           ∙ sym (ap (λ z. first_of (filter test (map (seen_in e) z))) s.whole);
     })
 
@@ -56,14 +57,14 @@ backward_own : (all : Layered) (e : ℕ) (at : Addr) (next : Option Addr) → Ar
 backward_own all e at next laws h method stands n =
     let rules = (all.layer e).rules in
     let objects = (all.layer e).objects in
-    let s = split_at objects at.0 stands.object (laws.distinct e h) in
-    let test = is_before rules (Some (seen_in e s.here)) in
-    let shown = until_shown all e next s.front (s.here ∷ s.rest) h (laws.distinct e h) s.whole (n ∙ ap place_in (before_split objects at.0 s)) in
-    let sorted : AreSorted rules (map (seen_in e) (s.front ++ s.here ∷ s.rest)) = subst (λ z. AreSorted rules (map (seen_in e) z)) s.whole (objects_sorted rules e objects (laws.sorted e h method)) in
-    subst (λ (z : Option (Seen ℕ)). Backward all e (is_before rules z) next) (sym (there_split all e at s)) (record {
+    let s = standing objects at.0 (laws.distinct e h) stands.object in
+    let test = is_before rules (Some (seen_in e s.one)) in
+    let shown = until_shown all e next s.before (s.one ∷ s.behind) h (laws.distinct e h) s.whole (n ∙ before-here objects at.0 s) in
+    let sorted : AreSorted rules (map (seen_in e) (s.before ++ s.one ∷ s.behind)) = subst (λ z. AreSorted rules (map (seen_in e) z)) s.whole (objects_sorted rules e objects (laws.sorted e h method)) in
+    subst (λ (z : Option (Seen ℕ)). Backward all e (is_before rules z) next) (sym (object_one all e at s)) (record {
       stands = shown.0.stands;
       same = ap (λ z. last_of (filter test (map (seen_in e) z))) shown.1
-          ∙ ap last_of (sym (rest_dropped rules (ordered rules (laws.lawful e h).order) e s.front s.here s.rest sorted))
+          ∙ ap last_of (sym (rest_dropped rules (ordered rules (laws.lawful e h).order) e s.before s.one s.behind sorted))
           ∙ sym (ap (λ z. last_of (filter test (map (seen_in e) z))) s.whole);
     })
 

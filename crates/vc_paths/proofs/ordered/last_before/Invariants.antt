@@ -1,6 +1,9 @@
 use Rattle.std.proofs.Common.{length}
+use Rattle.std.specs.Option.{option_map}
+use Rattle.vc_base.specs.Address.{number_of}
 use Rattle.vc_paths.specs.Ordered.{is_before, object_at}
-use Rattle.vc_paths.proofs.LayerLemmas.{Backward, until_place}
+use Rattle.vc_paths.specs.Shown.{objects_up_to}
+use Rattle.vc_paths.proofs.LayerLemmas.{Backward}
 use Rattle.vc_paths.proofs.ordered.last_before.Given as goal
 
 abbrev pub invariant-loop-next : goal.invariant-loop-next
@@ -8,4 +11,4 @@ invariant-loop-next g l =
     Backward (g.Y.Layers.layered l.layers) l.e (is_before ((g.Y.Layers.layered l.layers).layer l.e).rules (object_at (g.Y.Layers.layered l.layers) l.other)) l.next
 
 abbrev pub decreases-loop-next : goal.decreases-loop-next
-decreases-loop-next g l = length (until_place l.next ((g.Y.Layers.layered l.layers).layer l.e).objects)
+decreases-loop-next g l = length (objects_up_to (option_map number_of l.next) ((g.Y.Layers.layered l.layers).layer l.e).objects)
