@@ -1,6 +1,7 @@
 -- The way down a path, link by link.
 use Rattle.std.proofs.Common.{◌≡◌, ℕ, ◌<◌, List, [], ◌∷◌, ◌++◌, true, false, length, Option, Some, None, refl, sym, ap, ◌∙◌, subst, arith}
 use Rattle.std.specs.List.{AllByRecursion}
+use Rattle.std.proofs.lemmas.Option.{same_Some}
 use Rattle.vc_paths.specs.Layers.{Layered}
 use Rattle.vc_paths.specs.Links.{ArePaths, Links, below, is_link_to, numbers}
 use Rattle.vc_paths.specs.Path.{IsAlike, IsPath}
@@ -35,14 +36,11 @@ pub above-none : (xs : List ℕ) → above None xs ≡ xs
 above-none [] = refl
 above-none (x ∷ xs) = ap (λ z. x ∷ z) (above-none xs)
 
-same-some : (x y : ℕ) → Some x ≡ Some y → x ≡ y
-same-some x y e = cc
-
 -- all on the way are like the first
 pub on-start : {all : Layered} {links : Links} {d : ℕ} → IsPath all links d → IsOnPath all links d (Some d)
 unfolding down
 on-start {all} {links} {d} p = record {
-  number = λ e is. subst (λ z. z < numbers) (same-some d e is) p.number;
+  number = λ e is. subst (λ z. z < numbers) (same_Some d e is) p.number;
   alike = p.alike;
 }
 

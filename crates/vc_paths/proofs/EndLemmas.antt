@@ -53,6 +53,21 @@ behind-map f t (x ∷ xs) = elim (cases_Bool (t (f x))) as (λ _. behind_last t 
   | inr h ↦ rw h (behind-map f t xs)
 ]
 
+-- what a filter keeps of a mapped list, and what another one keeps that agrees
+pub filter-map : {A B : Type 0} (f : A → B) (t : B → Bool) (xs : List A) → filter t (map f xs) ≡ map f (filter (λ x. t (f x)) xs)
+filter-map f t [] = refl
+filter-map f t (x ∷ xs) = elim (cases_Bool (t (f x))) as (λ _. filter t (map f (x ∷ xs)) ≡ map f (filter (λ y. t (f y)) (x ∷ xs))) [
+  | inl h ↦ rw h (ap (λ z. f x ∷ z) (filter-map f t xs))
+  | inr h ↦ rw h (filter-map f t xs)
+]
+
+pub filter-same : {A : Type 0} (t s : A → Bool) (xs : List A) → ((x : A) → t x ≡ s x) → filter t xs ≡ filter s xs
+filter-same t s [] same = refl
+filter-same t s (x ∷ xs) same = elim (cases_Bool (s x)) as (λ _. filter t (x ∷ xs) ≡ filter s (x ∷ xs)) [
+  | inl k ↦ rw (same x, k) (ap (λ z. x ∷ z) (filter-same t s xs same))
+  | inr k ↦ rw (same x, k) (filter-same t s xs same)
+]
+
 -- whether some passes where lists are joined by a map, and where a filter leaves some out
 pub any-flat_map : {A B : Type 0} (t : B → Bool) (f : A → List B) (xs : List A) → list_any t (flat_map f xs) ≡ list_any (λ x. list_any t (f x)) xs
 any-flat_map t f [] = refl

@@ -2,14 +2,14 @@
 use Rattle.std.proofs.Common.{◌≡◌, ℕ, List, [], ◌∷◌, ◌++◌, Bool, true, false, Option, Some, None, refl, sym, ap, ◌∙◌, subst, inl, inr}
 use Rattle.std.specs.Prelude.{not, ◌||◌, map, if◌then◌else◌}
 use Rattle.std.specs.List.{AllByRecursion, filter, list_any}
-use Rattle.std.proofs.lemmas.Bool.{true≢false, cases_Bool}
+use Rattle.std.proofs.lemmas.Bool.{true≢false, cases_Bool, or_right}
 use Rattle.std.proofs.lemmas.List.Folds.{list_any-append}
 use Rattle.vc_dtdisc.specs.Objects.{is_greater, is_match, placed_among, placed_each}
 use Rattle.vc_dtdisc.specs.Rules.{Rules}
 use Rattle.vc_dtdisc.specs.Finding.{last_from, last_of}
 use Rattle.vc_paths.specs.Ordered.{greater, is_behind}
 use Rattle.vc_paths.specs.Visible.{Seen, is_hidden, seen_bytes, stacked}
-use Rattle.vc_paths.proofs.OrderLemmas.{AreOrdered, all_append, all_kept, all_weaker, any_more, any_none, or_right, up}
+use Rattle.vc_paths.proofs.OrderLemmas.{AreOrdered, all_append, all_kept, all_weaker, any_more, any_none, up}
 use Rattle.vc_paths.proofs.SortedLemmas.{AreSorted, IsUpto, filter_sorted, filter_stacked, itself, layers_filter, placed_sorted}
 
 -- whether the greatest so far stays behind an object

@@ -20,7 +20,7 @@ use Rattle.vc_paths.specs.Path.{IsPath, is_at, objects_of, place_of, seen_in, vi
 use Rattle.vc_paths.specs.Seek.{has_key_in}
 use Rattle.vc_paths.specs.Shown.{IsPlaceIn, objects_from}
 use Rattle.vc_paths.specs.Visible.{Seen, seen_bytes, stacked}
-use Rattle.vc_paths.proofs.EndLemmas.{last-append, last-map, last-or}
+use Rattle.vc_paths.proofs.EndLemmas.{last-append, last-map, last-or, filter-map, filter-same}
 use Rattle.vc_paths.proofs.OrderLemmas.{all_filter, all_weaker, filter_kept, ordered, tied_keys}
 use Rattle.vc_paths.proofs.PlaceLemmas.{Standing, behind-here, from-first, from-here, place-first, standing, there}
 use Rattle.vc_paths.proofs.SameLemmas.{Agree, Implies, first-same, last-same}
@@ -215,21 +215,6 @@ match-key : (rules : Rules) (key bytes : List ℕ) → AreLawful rules → has_k
 match-key rules key bytes lawful h o =
     ap is_eq (alike_right lawful.order (rules.key bytes) key (rules.key o) ((Equal-is (rules.compare (rules.key bytes) key)).0 h))
 
--- tests that agree keep the same
-filter-agree : {A : Type 0} (p q : A → Bool) (xs : List A) → ((x : A) → p x ≡ q x) → filter p xs ≡ filter q xs
-filter-agree p q [] e = refl
-filter-agree p q (x ∷ xs) e = elim (cases_Bool (q x)) as (λ _. filter p (x ∷ xs) ≡ filter q (x ∷ xs)) [
-  | inl k ↦ rw (e x, k) (ap (λ z. x ∷ z) (filter-agree p q xs e))
-  | inr k ↦ rw (e x, k) (filter-agree p q xs e)
-]
-
-filter-map : {A B : Type 0} (f : A → B) (test : B → Bool) (xs : List A) → filter test (map f xs) ≡ map f (filter (λ x. test (f x)) xs)
-filter-map f test [] = refl
-filter-map f test (x ∷ xs) = elim (cases_Bool (test (f x))) as (λ _. filter test (map f (x ∷ xs)) ≡ map f (filter (λ y. test (f y)) (x ∷ xs))) [
-  | inl k ↦ rw k (ap (λ z. f x ∷ z) (filter-map f test xs))
-  | inr k ↦ rw k (filter-map f test xs)
-]
-
 -- the last that matches what was found is the last that has the key
 last-key : (all : Layered) (links : Links) (d : ℕ) (key : List ℕ) (x : Seen ℕ) → AreLayers all → IsPath all links d → IsThere all d x → has_key_in all d key x ≡ true → find (has_key_in all d key) (visible_of all links d) ≡ Some x → last_of (filter (has_key_in all d key) (visible_of all links d)) ≡ option_map (seen_in x.dict) (last_of (filter (λ o. is_match (all.layer x.dict).rules x.bytes o.bytes) (all.layer x.dict).objects))
 last-key all links d key x lawful is_path t k h =
@@ -240,7 +225,7 @@ last-key all links d key x lawful is_path t k h =
     ap last_of (key-layer all links d key x laws h)
     ∙ ap last_of (filter-map (seen_in x.dict) (has_key_in all d key) objects)
     ∙ last-map (seen_in x.dict) None (filter (λ o. has_key (all.layer d).rules key o.bytes) objects)
-    ∙ ap (λ z. option_map (seen_in x.dict) (last_of z)) (sym (filter-agree (λ o. is_match (all.layer x.dict).rules x.bytes o.bytes) (λ o. has_key (all.layer d).rules key o.bytes) objects
+    ∙ ap (λ z. option_map (seen_in x.dict) (last_of z)) (sym (filter-same (λ o. is_match (all.layer x.dict).rules x.bytes o.bytes) (λ o. has_key (all.layer d).rules key o.bytes) objects
     (λ o. ap (λ z. is_match z x.bytes o.bytes) rules ∙ match-key (all.layer d).rules key x.bytes laws k o.bytes)))
 
 -- a place of an object

@@ -3,25 +3,27 @@ use Rattle.std.proofs.Common.{◌≡◌, ℕ, List, [], ◌∷◌, ◌++◌, Boo
 use Rattle.std.specs.Prelude.{map, not, ◌||◌, ◌&&◌, ◌==◌}
 use Rattle.std.specs.List.{AllByRecursion, filter, find, list_any}
 use Rattle.std.specs.Option.{option_map, option_or}
-use Rattle.std.proofs.lemmas.Bool.{true≢false, and_parts, cases_Bool, eq-eqb, eqb-true, not-true}
+use Rattle.std.proofs.lemmas.Bool.{true≢false, and_parts, cases_Bool, eq-eqb, eqb-true, not-true, or_left, or_right}
 use Rattle.std.proofs.lemmas.List.Elements.{filter-append}
 use Rattle.std.proofs.lemmas.List.Folds.{list_any-append}
+use Rattle.std.proofs.lemmas.Option.{same_Some}
 use Rattle.vc_base.specs.declared.addr.Addr.{Addr}
 use Rattle.vc_base.specs.Methods.{is_ordered}
 use Rattle.vc_dtdisc.specs.Objects.{Object, is_greater, is_match, placed_each}
 use Rattle.vc_dtdisc.specs.Rules.{Rules}
 use Rattle.vc_base.specs.Address.{number_of}
-use Rattle.vc_dtdisc.specs.Finding.{before_first, before_first_from, behind_last, first_of, last_from, last_of}
+use Rattle.vc_dtdisc.specs.Finding.{before_first, before_first_from, behind_last, first_of, last_of}
 use Rattle.vc_paths.specs.Layers.{AreLayers, Layered, bytes_there, place_before, place_behind, stands_at}
 use Rattle.vc_paths.specs.Links.{Links, path}
 use Rattle.vc_paths.specs.Ordered.{Stands, if_level, is_before, is_behind, is_level, named, object_at, object_there}
 use Rattle.vc_paths.specs.Path.{Answers, IsAlike, IsPath, IsVisible, is_at, numbers_of, objects_of, place_of, seen_in, visible_of}
 use Rattle.vc_paths.specs.Visible.{Seen, is_hidden, seen_bytes, stacked}
 use Rattle.vc_paths.proofs.BesideLemmas.{AreLevel, any_level, before_apart, before_beside, behind_apart, behind_beside, fails}
+use Rattle.vc_paths.proofs.EndLemmas.{any-map, before-map, behind-map}
 use Rattle.vc_paths.proofs.LayerLemmas.{next_shown, previous_shown}
-use Rattle.vc_paths.proofs.OrderLemmas.{AreOrdered, all_append, all_both, all_filter, all_none, all_weaker, any_more, any_none, filter_kept, filter_none, or_left, or_right, ordered}
+use Rattle.vc_paths.proofs.OrderLemmas.{AreOrdered, all_append, all_both, all_filter, all_none, all_weaker, any_more, any_none, filter_kept, filter_none, ordered}
 use Rattle.vc_paths.proofs.OrderedLemmas.{layer_sorted, path_head, visible_ordered}
-use Rattle.vc_paths.proofs.SightLemmas.{IsThere, each-there, layers-there, visible-there}
+use Rattle.vc_paths.proofs.SightLemmas.{IsThere, each-there, layers-there, visible-there, all-last}
 use Rattle.vc_paths.proofs.SortedLemmas.{AreSorted, all_sorted, all_stacked, itself, kept_sorted, layer_filter, onto_sorted}
 
 -- objects that match one match each other
@@ -143,9 +145,6 @@ stands_of v = record { there = v.alike.there; kind = v.alike.kind; object = ap i
 pub visible_stands : {all : Layered} {links : Links} {d : ℕ} {p : ℕ × Addr} → AreLayers all → IsPath all links d → is_ordered (all.layer d).method ≡ true → IsVisible all links d (numbers_of p) → Stands all d p
 visible_stands {all} {links} {d} {p} laws path' method visible' = stands_of (visible_at all links d p laws path' method visible')
 
-some_same : (x y : List ℕ) → Some x ≡ Some y → x ≡ y
-some_same x y e = cc
-
 -- what stands at the place of an object matches it
 in_level : (rules : Rules) → AreOrdered rules → (all : Layered) (d : ℕ) (p : ℕ × Addr) (x : Seen ℕ) → bytes_there p.1.0 (all.layer p.0).objects ≡ Some x.bytes → (y : Seen ℕ) → IsThere all d y → is_at (numbers_of p) y ≡ true → is_level rules x y ≡ true
 in_level rules laws all d p x here y inner t =
@@ -153,7 +152,7 @@ in_level rules laws all d p x here y inner t =
     let there : bytes_there p.1.0 (all.layer p.0).objects ≡ Some y.bytes =
     subst (λ z. bytes_there z (all.layer p.0).objects ≡ Some y.bytes) (eqb-true y.at p.1.0 parts.1)
     (subst (λ z. bytes_there y.at (all.layer z).objects ≡ Some y.bytes) (eqb-true y.dict p.0 parts.0) inner.bytes) in
-    subst (λ z. is_match rules x.bytes z ≡ true) (some_same x.bytes y.bytes (sym here ∙ there)) (laws.tied x.bytes x.bytes (itself rules laws x) (itself rules laws x))
+    subst (λ z. is_match rules x.bytes z ≡ true) (same_Some x.bytes y.bytes (sym here ∙ there)) (laws.tied x.bytes x.bytes (itself rules laws x) (itself rules laws x))
 
 -- an object of a layer passes the test on its place
 found_at : (e a : ℕ) (xs : List Object) → is_some (option_map (λ (o : Object). o.bytes) (find (stands_at a) xs)) ≡ true → list_any (is_at (e, a)) (map (seen_in e) xs) ≡ true
@@ -220,10 +219,6 @@ all_behind P test (x ∷ xs) b h e = elim (cases_Bool (test x && not (list_any t
   | inr t ↦ all_behind P test xs b h.1 (rw t at e)
 ]
 
-all_last : (P : Seen ℕ → Type 0) (before : Option (Seen ℕ)) (xs : List (Seen ℕ)) (b : Seen ℕ) → ((a : Seen ℕ) → before ≡ Some a → P a) → AllByRecursion P xs → last_from before xs ≡ Some b → P b
-all_last P before [] b f h e = f b e
-all_last P before (x ∷ xs) b f h e = all_last P (Some x) xs b (λ a same. let one : x ≡ a = cc in subst P one h.0) h.1 e
-
 all_before : (P : Seen ℕ → Type 0) (test : Seen ℕ → Bool) (before : Option (Seen ℕ)) (xs : List (Seen ℕ)) (b : Seen ℕ) → ((a : Seen ℕ) → before ≡ Some a → P a) → AllByRecursion P xs → before_first_from before test xs ≡ Some b → P b
 all_before P test before [] b f h e = cc
 all_before P test before (x ∷ xs) b f h e = elim (cases_Bool (test x)) as (λ _. P b) [
@@ -260,39 +255,22 @@ previous_among rules all p x seen v =
     let b = last_of (filter (is_before rules (Some x)) layer) in
     let same = if_level_or rules x a b
     (λ y e. all_before (λ z. is_level rules x z ≡ true) test None (filter (is_level rules x) layer) y (λ u none. cc) (filter_kept (is_level rules x) layer) e)
-    (λ y e. before_apart rules v.laws x y (all_last (λ z. is_before rules (Some x) z ≡ true) None (filter (is_before rules (Some x)) layer) y (λ u none. cc) (filter_kept (is_before rules (Some x)) layer) e)) in
+    (λ y e. before_apart rules v.laws x y (all-last (λ z. is_before rules (Some x) z ≡ true) (filter (is_before rules (Some x)) layer) y (filter_kept (is_before rules (Some x)) layer) e)) in
     before_beside rules v.laws x test seen v.sorted v.level v.any
     ∙ ap (λ z. option_or z (last_of (filter (is_before rules (Some x)) seen)))
     (ap (before_first test) v.kept ∙ sym same ∙ ap (if_level rules (Some x)) (sym (before_beside rules v.laws x test layer v.layer_sorted v.layer_level v.layer_any)))
 
 -- the neighbours in the layer, by its objects
-at_same : (e a : ℕ) (o : Object) → is_at (e, a) (seen_in e o) ≡ stands_at a o
-at_same e a o = rw (eq-eqb e e refl) refl
-
-first_map : (e : ℕ) (xs : List Object) → first_of (map (seen_in e) xs) ≡ option_map (seen_in e) (first_of xs)
-first_map e [] = refl
-first_map e (x ∷ xs) = refl
-
 pub any_map : (e a : ℕ) (xs : List Object) → list_any (is_at (e, a)) (map (seen_in e) xs) ≡ list_any (stands_at a) xs
-any_map e a [] = refl
-any_map e a (x ∷ xs) = ap (λ z. z || list_any (is_at (e, a)) (map (seen_in e) xs)) (at_same e a x) ∙ ap (λ z. stands_at a x || z) (any_map e a xs)
+any_map e a xs = any-map (seen_in e) (is_at (e, a)) xs ∙ ap (λ t. list_any (λ (o : Object). t && stands_at a o) xs) (eq-eqb e e refl)
 
 pub behind_map : (e a : ℕ) (xs : List Object) → behind_last (is_at (e, a)) (map (seen_in e) xs) ≡ option_map (seen_in e) (behind_last (stands_at a) xs)
-behind_map e a [] = refl
-behind_map e a (x ∷ xs) =
-    let one = at_same e a x in
-    let more = any_map e a xs in
-    elim (cases_Bool (stands_at a x && not (list_any (stands_at a) xs))) as (λ _. behind_last (is_at (e, a)) (map (seen_in e) (x ∷ xs)) ≡ option_map (seen_in e) (behind_last (stands_at a) (x ∷ xs))) [
-      | inl t ↦ rw (one, more, t) (first_map e xs)
-      | inr t ↦ rw (one, more, t) (behind_map e a xs)
-    ]
+behind_map e a xs = behind-map (seen_in e) (is_at (e, a)) xs ∙ ap (λ t. option_map (seen_in e) (behind_last (λ (o : Object). t && stands_at a o) xs)) (eq-eqb e e refl)
 
 pub before_map : (e a : ℕ) (before : Option Object) (xs : List Object) → before_first_from (option_map (seen_in e) before) (is_at (e, a)) (map (seen_in e) xs) ≡ option_map (seen_in e) (before_first_from before (stands_at a) xs)
-before_map e a before [] = refl
-before_map e a before (x ∷ xs) = elim (cases_Bool (stands_at a x)) as (λ _. before_first_from (option_map (seen_in e) before) (is_at (e, a)) (map (seen_in e) (x ∷ xs)) ≡ option_map (seen_in e) (before_first_from before (stands_at a) (x ∷ xs))) [
-  | inl t ↦ rw (at_same e a x, t) refl
-  | inr t ↦ rw (at_same e a x, t) (before_map e a (Some x) xs)
-]
+before_map e a before xs =
+    before-map (seen_in e) before (is_at (e, a)) xs
+    ∙ ap (λ t. option_map (seen_in e) (before_first_from before (λ (o : Object). t && stands_at a o) xs)) (eq-eqb e e refl)
 
 -- what is known of the object at a visible place
 record VisitedAt (all : Layered) (links : Links) (d : ℕ) (p : ℕ × Addr) : Type 0 where

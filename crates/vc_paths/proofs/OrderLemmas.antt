@@ -1,6 +1,5 @@
 -- How objects stand to each other by their keys, and what holds of each of a list.
 use Rattle.std.proofs.Common.{◌≡◌, ℕ, List, [], ◌∷◌, ◌++◌, Bool, true, false, refl, sym, ap, ◌∙◌, inl, inr}
-use Rattle.std.specs.Prelude.{◌||◌}
 use Rattle.std.specs.List.{AllByRecursion, filter, list_any}
 use Rattle.std.specs.Cmp.{IsTotalOrder}
 use Rattle.std.specs.Ordering.{is_eq, is_gt, ordering_reverse}
@@ -62,15 +61,6 @@ down rules x y o laws h g = elim (cases_Bool (is_greater rules x y)) as (λ _. i
   | inl t ↦ t
   | inr t ↦ absurd (true≢false (sym h ∙ laws.upto x y o t g))
 ]
-
--- one of two tests
-pub or_left : (a b : Bool) → a ≡ true → (a || b) ≡ true
-or_left true b h = refl
-or_left false b h = absurd (true≢false (sym h))
-
-pub or_right : (a b : Bool) → b ≡ true → (a || b) ≡ true
-or_right true b h = refl
-or_right false b h = h
 
 -- what holds of each of a list
 pub all_weaker : {A : Type 0} (P Q : A → Type 0) → ((x : A) → P x → Q x) → (xs : List A) → AllByRecursion P xs → AllByRecursion Q xs

@@ -4,6 +4,7 @@ use Rattle.std.specs.Prelude.{map}
 use Rattle.std.specs.List.{AllByRecursion, filter}
 use Rattle.std.specs.Option.{option_map}
 use Rattle.std.proofs.lemmas.Bool.{true≢false}
+use Rattle.std.proofs.lemmas.Option.{same_Some}
 use Rattle.vc_base.specs.declared.addr.Addr.{Addr}
 use Rattle.vc_base.specs.Methods.{is_ordered}
 use Rattle.vc_dtdisc.specs.Objects.{IsSorted, Object, bytes_of, is_greater, is_match, placed_each}
@@ -89,13 +90,10 @@ pub record Left (all : Layered) (links : Links) (d : ℕ) (best : Option (ℕ ×
   pub within : (e : ℕ) → next ≡ Some e → e < numbers
   pub stands : IsStanding all d best
 
-some_one : (a b : ℕ) → Some a ≡ Some b → a ≡ b
-some_one a b e = cc
-
 pub left_start : (all : Layered) (links : Links) (d : ℕ) → IsPath all links d → Left all links d None (Some d)
 left_start all links d path = record {
   alike = path.alike;
-  within = λ e same. subst (λ z. z < numbers) (some_one d e same) path.number;
+  within = λ e same. subst (λ z. z < numbers) (same_Some d e same) path.number;
   stands = tt;
 }
 

@@ -4,7 +4,7 @@ use Rattle.std.specs.Prelude.{IsSome}
 use Rattle.std.specs.List.{find, list_any}
 use Rattle.std.specs.Option.{option_map}
 use Rattle.std.proofs.lemmas.Bool.{cases_Bool, eq-eqb, eqb-true, ne_eqb, or_from, or_parts, true≢false}
-use Rattle.std.proofs.lemmas.Option.{none-some}
+use Rattle.std.proofs.lemmas.Option.{none-some, same_Some}
 use Rattle.vc_base.specs.Holders.{AreDistinct, contains}
 use Rattle.vc_dtdisc.specs.Finding.{before_first, behind_last, first_of, last_of}
 use Rattle.vc_dtdisc.specs.Objects.{Object}
@@ -170,22 +170,19 @@ there-first (x ∷ xs) y rest = elim (cases_Bool (stands_at y.at x)) as (λ _. I
   | inr h ↦ rw h (there-first xs y rest)
 ]
 
-same-some : (x y : ℕ) → Some x ≡ Some y → x ≡ y
-same-some x y e = cc
-
 pub place-first : (front rest : List Object) → IsPlaceIn (front ++ rest) (place_in (first_of rest))
 place-first front [] = λ a e. absurd (none_some a e)
   where
     none_some : (a : ℕ) → ◌≡◌ {A = Option ℕ} None (Some a) → ⊥
     none_some a e = cc
-place-first front (y ∷ ys) = λ a e. subst (λ z. IsSome (bytes_there z (front ++ y ∷ ys))) (same-some y.at a e) (there-first front y ys)
+place-first front (y ∷ ys) = λ a e. subst (λ z. IsSome (bytes_there z (front ++ y ∷ ys))) (same_Some y.at a e) (there-first front y ys)
 
 pub place-last : (front rest : List Object) → IsPlaceIn (front ++ rest) (place_in (last_of front))
 place-last front rest = elim (ends front) as (λ _. IsPlaceIn (front ++ rest) (place_in (last_of front))) [
   | none e ↦ λ a h. absurd (none_some a (ap (λ z. place_in (last_of z)) (sym e) ∙ h))
   | some less y e ↦ λ a h.
       let joined : front ++ rest ≡ less ++ y ∷ rest = ap (λ z. z ++ rest) e ∙ append_assoc less (y ∷ []) rest in
-      let same = same-some y.at a (ap place_in (sym (last-append None less (y ∷ []))) ∙ ap (λ z. place_in (last_of z)) (sym e) ∙ h) in
+      let same = same_Some y.at a (ap place_in (sym (last-append None less (y ∷ []))) ∙ ap (λ z. place_in (last_of z)) (sym e) ∙ h) in
       subst (λ z. IsSome (bytes_there z (front ++ rest))) same (subst (λ z. IsSome (bytes_there y.at z)) (sym joined) (there-first less y rest))
 ]
   where

@@ -1,6 +1,5 @@
 -- What is seen through a view path is the same list, renamed, where each layer's dictionary has another name.
-use Rattle.std.proofs.Common.{◌≡◌, List, [], ◌∷◌, ◌++◌, Bool, not, map, refl, sym, ap, ◌∙◌}
-use Rattle.std.specs.Prelude.{if◌then◌else◌}
+use Rattle.std.proofs.Common.{◌≡◌, List, [], ◌∷◌, ◌++◌, not, map, refl, sym, ap, ◌∙◌}
 use Rattle.std.specs.List.{filter}
 use Rattle.std.proofs.lemmas.List.{map-append}
 use Rattle.vc_base.specs.declared.dict_method.DictMethod.{DictMethod}
@@ -10,18 +9,7 @@ use Rattle.vc_dtdisc.specs.Rules.{Rules}
 use Rattle.vc_dtdisc.proofs.FindingLemmas.{list_any-map, list_by}
 use Rattle.vc_dtdisc.proofs.ObjectsLemmas.{placed_each-map}
 use Rattle.vc_paths.specs.Visible.{Seen, is_hidden, rename, seen_bytes, stacked, visible}
-
-filter-map : {A B : Type 0} (h : A → B) (test : B → Bool) (xs : List A) → filter test (map h xs) ≡ map h (filter (λ x. test (h x)) xs)
-filter-map h test [] = refl
-filter-map h test (x ∷ xs) =
-    list_by h (test (h x)) (x ∷ filter (λ y. test (h y)) xs) (filter (λ y. test (h y)) xs) (h x ∷ filter test (map h xs)) (filter test (map h xs))
-    (ap (λ ys. h x ∷ ys) (filter-map h test xs)) (filter-map h test xs)
-
-filter-same : {A : Type 0} (test other : A → Bool) (xs : List A) → ((x : A) → test x ≡ other x) → filter test xs ≡ filter other xs
-filter-same test other [] same = refl
-filter-same test other (x ∷ xs) same =
-    ap (λ t. if t then x ∷ filter test xs else filter test xs) (same x)
-    ∙ ap (λ ys. if other x then x ∷ ys else ys) (filter-same test other xs same)
+use Rattle.vc_paths.proofs.EndLemmas.{filter-map, filter-same}
 
 module _ {N M : Type 0} (r : N → M) (rules : Rules) where
   pub is_hidden-renamed : (above : List (Seen N)) (o : Seen N) → is_hidden rules (map (rename r) above) (rename r o) ≡ is_hidden rules above o

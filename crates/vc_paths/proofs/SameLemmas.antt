@@ -2,7 +2,7 @@
 use Rattle.std.proofs.Common.{◌≡◌, List, [], ◌∷◌, Bool, true, false, Option, Some, None, refl, sym, ap, ◌∙◌, inl, inr}
 use Rattle.std.specs.List.{AllByRecursion, filter, find, list_any}
 use Rattle.std.proofs.lemmas.Bool.{cases_Bool, or_right, true≢false}
-use Rattle.std.proofs.lemmas.Option.{none-some}
+use Rattle.std.proofs.lemmas.Option.{none-some, same_Some}
 use Rattle.vc_dtdisc.specs.Finding.{before_first, before_first_from, behind_last, first_of, last_from, last_of}
 use Rattle.vc_paths.proofs.StackedLemmas.{filter-none}
 
@@ -48,12 +48,9 @@ last-more t x xs h = elim (cases_Bool (t x)) as (λ _. last_of (filter t (x ∷ 
 
 last-this : {A : Type 0} (t : A → Bool) (x y : A) (xs : List A) → list_any t xs ≡ false → last_of (filter t (x ∷ xs)) ≡ Some y → (t x ≡ true) × (x ≡ y)
 last-this t x y xs h e = elim (cases_Bool (t x)) as (λ _. (t x ≡ true) × (x ≡ y)) [
-  | inl k ↦ (k, same (rw (k, filter-none t xs h) at e))
+  | inl k ↦ (k, same_Some x y (rw (k, filter-none t xs h) at e))
   | inr k ↦ absurd (none-some y (rw (k, filter-none t xs h) at e))
 ]
-  where
-    same : Some x ≡ Some y → x ≡ y
-    same h = cc
 
 -- it stands in the list, and its neighbour is the same
 pub record Agree {A : Type 0} (s : A → Bool) (xs : List A) (one other : Option A) : Type 0 where
@@ -82,7 +79,7 @@ first-from : {A : Type 0} (t s : A → Bool) (o : Option A) (xs : List A) (y : A
 first-from t s o [] y w e h = absurd (none-some y e)
 first-from t s o (x ∷ xs) y w e h = elim (cases_Bool (t x)) as (λ _. Agree s (x ∷ xs) (before_first_from o t (x ∷ xs)) (before_first_from o s (x ∷ xs))) [
   | inl k ↦
-      let passes : s x ≡ true = ap s (same (rw k at e)) ∙ h in
+      let passes : s x ≡ true = ap s (same_Some x y (rw k at e)) ∙ h in
       record {
         same = rw (k, passes) refl;
         there = rw passes refl;
@@ -95,9 +92,6 @@ first-from t s o (x ∷ xs) y w e h = elim (cases_Bool (t x)) as (λ _. Agree s 
         there = rw other rest.there;
       }
 ]
-  where
-    same : Some x ≡ Some y → x ≡ y
-    same h = cc
 
 pub first-same : {A : Type 0} (t s : A → Bool) (xs : List A) (y : A) → AllByRecursion (Implies t s) xs → find t xs ≡ Some y → s y ≡ true → Agree s xs (before_first t xs) (before_first s xs)
 first-same t s xs y w e h = first-from t s None xs y w e h

@@ -1,7 +1,7 @@
 -- What is seen through a path, layer by layer, where the method is not ordered.
-use Rattle.std.proofs.Common.{◌≡◌, ◌≢◌, ℕ, List, [], ◌∷◌, ◌++◌, map, Bool, true, false, not, eqb, Some, refl, sym, ap, ◌∙◌, inl, inr, append_assoc}
+use Rattle.std.proofs.Common.{◌≡◌, ◌≢◌, ℕ, List, [], ◌∷◌, ◌++◌, map, true, false, not, eqb, Some, refl, sym, ap, ◌∙◌, append_assoc}
 use Rattle.std.specs.List.{filter, flat_map, list_any}
-use Rattle.std.proofs.lemmas.Bool.{cases_Bool, eq-eqb, ne_eqb, or_left, or_right, true≢false}
+use Rattle.std.proofs.lemmas.Bool.{eq-eqb, ne_eqb, or_left, or_right, true≢false}
 use Rattle.std.proofs.lemmas.List.{append-nil, map-append}
 use Rattle.std.proofs.lemmas.List.Elements.{filter_agree}
 use Rattle.vc_base.specs.Holders.{AreDistinct, contains}
@@ -14,7 +14,7 @@ use Rattle.vc_paths.specs.Path.{objects_of, place_of, seen_in, visible_of}
 use Rattle.vc_paths.specs.Shown.{above, down, has_match, is_covered, places, shown_in}
 use Rattle.vc_paths.specs.Visible.{Seen, is_hidden, stacked}
 use Rattle.vc_paths.proofs.DownLemmas.{above-on, above-stop}
-use Rattle.vc_paths.proofs.EndLemmas.{any-flat_map, any-map}
+use Rattle.vc_paths.proofs.EndLemmas.{any-flat_map, any-map, filter-map}
 use Rattle.vc_paths.proofs.PathLemmas.{path-distinct}
 use Rattle.vc_paths.proofs.StackedLemmas.{any-agree}
 
@@ -28,13 +28,6 @@ flat-agree f g (x ∷ xs) h =
 map-flat : {A B : Type 0} (f : A → B) (g : ℕ → List A) (xs : List ℕ) → map f (flat_map g xs) ≡ flat_map (λ x. map f (g x)) xs
 map-flat f g [] = refl
 map-flat f g (x ∷ xs) = map-append f (g x) (flat_map g xs) ∙ ap (λ z. map f (g x) ++ z) (map-flat f g xs)
-
-filter-map : {A B : Type 0} (p : B → Bool) (f : A → B) (xs : List A) → filter p (map f xs) ≡ map f (filter (λ x. p (f x)) xs)
-filter-map p f [] = refl
-filter-map p f (x ∷ xs) = elim (cases_Bool (p (f x))) as (λ _. filter p (map f (x ∷ xs)) ≡ map f (filter (λ y. p (f y)) (x ∷ xs))) [
-  | inl h ↦ rw h (ap (λ z. f x ∷ z) (filter-map p f xs))
-  | inr h ↦ rw h (filter-map p f xs)
-]
 
 -- those of a layer that some layers above it don't hide
 abbrev left_of : (rules : Rules) (layer : ℕ → List (Seen ℕ)) (upper : List (Seen ℕ)) → ℕ → List (Seen ℕ)
@@ -71,7 +64,7 @@ placed-map e (x ∷ xs) = ap (λ z. (e, x.at) ∷ z) (placed-map e xs)
 left-places : (all : Layered) (d e : ℕ) (upper : List ℕ) → map place_of (left_of (all.layer d).rules (objects_of all) (flat_map (objects_of all) upper) e) ≡ places e (filter (λ o. not (list_any (has_match all d o.bytes) upper)) (all.layer e).objects)
 left-places all d e upper =
     let keeps = λ (o : Seen ℕ). not (is_hidden (all.layer d).rules (flat_map (objects_of all) upper) o) in
-    ap (map place_of) (filter-map keeps (seen_in e) (all.layer e).objects)
+    ap (map place_of) (filter-map (seen_in e) keeps (all.layer e).objects)
     ∙ placed-map e (filter (λ o. keeps (seen_in e o)) (all.layer e).objects)
     ∙ ap (places e) (filter_agree (λ o. keeps (seen_in e o)) (λ o. not (list_any (has_match all d o.bytes) upper)) (λ o. ap not (hidden-match all d e upper o)) (all.layer e).objects)
 

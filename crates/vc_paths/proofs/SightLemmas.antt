@@ -3,7 +3,7 @@ use Rattle.std.proofs.Common.{◌≡◌, ℕ, List, [], ◌∷◌, ◌++◌, map
 use Rattle.std.specs.List.{AllByRecursion, find}
 use Rattle.std.specs.Prelude.{◌==◌}
 use Rattle.std.proofs.lemmas.Bool.{and_parts, cases_Bool, eq-eqb, eqb-true}
-use Rattle.std.proofs.lemmas.Option.{none-some}
+use Rattle.std.proofs.lemmas.Option.{none-some, same_Some}
 use Rattle.vc_base.specs.Holders.{AreDistinct}
 use Rattle.vc_base.specs.Methods.{is_ordered}
 use Rattle.vc_dtdisc.specs.Objects.{Object, placed_each}
@@ -50,15 +50,12 @@ visible-there all links d lawful p =
     (all_stacked rules (IsThere all d) [] layers (layers-there all d (path links d) lawful p.alike))
 
 -- two objects at one place are one
-some-same : (a b : List ℕ) → Some a ≡ Some b → a ≡ b
-some-same a b h = cc
-
 pub one-there : (all : Layered) (d : ℕ) (x y : Seen ℕ) → IsThere all d x → IsThere all d y → is_at (place_of x) y ≡ true → y.bytes ≡ x.bytes
 one-there all d x y tx ty h =
     let parts = and_parts (y.dict == x.dict) (y.at == x.at) h in
     let dict = eqb-true y.dict x.dict parts.0 in
     let at = eqb-true y.at x.at parts.1 in
-    some-same y.bytes x.bytes
+    same_Some y.bytes x.bytes
     (sym ty.bytes ∙ ap (λ z. bytes_there z (all.layer y.dict).objects) at ∙ ap (λ z. bytes_there x.at (all.layer z).objects) dict ∙ tx.bytes)
 
 pub at-itself : (x : Seen ℕ) → is_at (place_of x) x ≡ true
