@@ -12,11 +12,12 @@ use Rattle.vc_dtdisc.specs.Objects.{Object, is_greater, placed_each}
 use Rattle.vc_dtdisc.specs.Rules.{Rules}
 use Rattle.vc_paths.specs.Layers.{AreLayers, Layered, bytes_there, place_before, place_behind, place_in, stands_at}
 use Rattle.vc_paths.specs.Links.{Links, below, onward, path, path_of}
-use Rattle.vc_paths.specs.Path.{Answers, IsAlike, IsPath, IsVisible, is_at, numbers_of, objects_of, place_of, seen_in, visible_of}
+use Rattle.vc_paths.specs.Path.{Answers, IsPath, IsVisible, is_at, numbers_of, objects_of, place_of, seen_in, visible_of}
 use Rattle.vc_paths.specs.Visible.{Seen, is_hidden, seen_bytes, stacked}
 use Rattle.vc_paths.proofs.NeighbourLemmas.{any_map, at_elsewhere, before_map, behind_map, none_hidden}
 use Rattle.vc_paths.proofs.OrderLemmas.{any_none}
-use Rattle.vc_paths.proofs.OrderedLemmas.{layer_sorted, path_head, visible_ordered}
+use Rattle.vc_paths.proofs.OrderedLemmas.{layer_sorted, visible_ordered}
+use Rattle.vc_paths.proofs.SeekLemmas.{path-first}
 use Rattle.vc_paths.proofs.SortedLemmas.{AreSorted, IsUpto, placed_last}
 
 -- what is none
@@ -48,7 +49,7 @@ pub visible_alone : (all : Layered) (links : Links) (d : ℕ) → AreLayers all 
 visible_alone all links d laws path' none =
     let rules = (all.layer d).rules in
     let objects = objects_of all d in
-    let like = path_head (IsAlike all d) links d path'.alike in
+    let like = path-first all links d path' in
     let whole : stacked rules [] (map (objects_of all) (path links d)) ≡ objects =
     ap (λ z. stacked rules [] (map (objects_of all) z)) (path_alone links d none)
     ∙ append-nil (filter (λ o. not (is_hidden rules [] o)) objects)

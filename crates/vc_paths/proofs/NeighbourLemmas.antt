@@ -22,8 +22,9 @@ use Rattle.vc_paths.proofs.BesideLemmas.{AreLevel, any_level, before_apart, befo
 use Rattle.vc_paths.proofs.EndLemmas.{any-map, before-map, behind-map}
 use Rattle.vc_paths.proofs.LayerLemmas.{next_shown, previous_shown}
 use Rattle.vc_paths.proofs.OrderLemmas.{AreOrdered, all_append, all_both, all_filter, all_none, all_weaker, any_more, any_none, filter_kept, filter_none, ordered}
-use Rattle.vc_paths.proofs.OrderedLemmas.{layer_sorted, path_head, visible_ordered}
+use Rattle.vc_paths.proofs.OrderedLemmas.{layer_sorted, visible_ordered}
 use Rattle.vc_paths.proofs.SightLemmas.{IsThere, each-there, layers-there, visible-there, all-last}
+use Rattle.vc_paths.proofs.SeekLemmas.{path-first}
 use Rattle.vc_paths.proofs.SortedLemmas.{AreSorted, all_sorted, all_stacked, itself, kept_sorted, layer_filter, onto_sorted}
 
 -- objects that match one match each other
@@ -284,7 +285,7 @@ visited_at : (all : Layered) (links : Links) (d : ℕ) (p : ℕ × Addr) → Are
 visited_at all links d p laws path' method visible' =
     let rules = (all.layer d).rules in
     let v = visible_at all links d p laws path' method visible' in
-    let h = (path_head (IsAlike all d) links d path'.alike).there in
+    let h = (path-first all links d path').there in
     let x = seen_in p.0 (record { at = p.1.0; bytes = v.bytes }) in
     let is : object_there all p ≡ Some x = ap (option_map (λ (bytes : List ℕ). seen_in p.0 (record { at = p.1.0; bytes = bytes }))) v.there in
     let same = visible_ordered all links d method in

@@ -1,6 +1,6 @@
 use Rattle.std.proofs.Common.{length}
-use Rattle.vc_paths.specs.Links.{onward, path}
 use Rattle.vc_paths.specs.Ordered.{object_at}
+use Rattle.vc_paths.specs.Shown.{down}
 use Rattle.vc_paths.proofs.OrderedLemmas.{Greatest}
 use Rattle.vc_paths.proofs.ordered.greatest_before.Given as goal
 
@@ -8,4 +8,4 @@ abbrev pub invariant-loop-next : goal.invariant-loop-next
 invariant-loop-next g l = Greatest (g.Y.Layers.layered l.layers) l.paths l.d (object_at (g.Y.Layers.layered l.layers) l.other) l.best l.next
 
 abbrev pub decreases-loop-next : goal.decreases-loop-next
-decreases-loop-next g l = length (onward (path l.paths) l.next)
+decreases-loop-next g l = length (down l.paths l.next)
