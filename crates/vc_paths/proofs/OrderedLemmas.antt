@@ -69,13 +69,13 @@ answers_at all d None s = refl
 answers_at all d (Some p) s = answers_there p.0 p.1 (bytes_there p.1.0 (all.layer p.0).objects) s.object
 
 -- where it stands beside another dictionary of the kind
-pub stands_along : (all : Layered) (d e : ℕ) (p : Option (ℕ × Addr)) → IsAlike all d e → IsStanding all d p → IsStanding all e p
-stands_along all d e None alike s = tt
-stands_along all d e (Some p) alike s = record { there = s.there; kind = s.kind ∙ sym alike.kind; object = s.object }
+pub stands_along : {all : Layered} {d e : ℕ} (p : Option (ℕ × Addr)) → IsAlike all d e → IsStanding all d p → IsStanding all e p
+stands_along None alike s = tt
+stands_along (Some p) alike s = record { there = s.there; kind = s.kind ∙ sym alike.kind; object = s.object }
 
-pub stands_back : (all : Layered) (d e : ℕ) (p : Option (ℕ × Addr)) → IsAlike all d e → IsStanding all e p → IsStanding all d p
-stands_back all d e None alike s = tt
-stands_back all d e (Some p) alike s = record { there = s.there; kind = s.kind ∙ alike.kind; object = s.object }
+stands_back : {all : Layered} {d e : ℕ} (p : Option (ℕ × Addr)) → IsAlike all d e → IsStanding all e p → IsStanding all d p
+stands_back None alike s = tt
+stands_back (Some p) alike s = record { there = s.there; kind = s.kind ∙ alike.kind; object = s.object }
 
 -- the least so far
 pub record Least (all : Layered) (links : Links) (d : ℕ) (other : Option (Seen ℕ)) (best : Option (ℕ × Addr)) (next : Option ℕ) : Type 0 where
@@ -84,9 +84,9 @@ pub record Least (all : Layered) (links : Links) (d : ℕ) (other : Option (Seen
   pub same : least_of (all.layer d).rules (object_at all best) (map (filter (is_behind (all.layer d).rules other)) (map (objects_of all) (down links next)))
       ≡ first_of (filter (is_behind (all.layer d).rules other) (visible_of all links d))
 
-pub least_start : (all : Layered) (links : Links) (d : ℕ) (other : Option (Seen ℕ)) → AreLayers all → IsPath all links d → is_ordered (all.layer d).method ≡ true → Least all links d other None (Some d)
+pub least_start : {all : Layered} {links : Links} {d : ℕ} {other : Option (Seen ℕ)} → AreLayers all → IsPath all links d → is_ordered (all.layer d).method ≡ true → Least all links d other None (Some d)
 unfolding down
-least_start all links d other laws path' method =
+least_start {all} {links} {d} {other} laws path' method =
     let rules = (all.layer d).rules in
     let h = (path-first all links d path').there in
     let order = ordered rules (laws.lawful d h).order in
@@ -99,25 +99,25 @@ least_start all links d other laws path' method =
           );
     }
 
-pub least_next : (all : Layered) {links : Links} {d e : ℕ} (other : Option (Seen ℕ)) {best : Option (ℕ × Addr)} (better : Option (ℕ × Addr)) {here next : Option ℕ} → AreLayers all → IsPath all links d → ArePaths links → here ≡ Some e → next ≡ below links e
+pub least_next : {all : Layered} {links : Links} {d e : ℕ} {other : Option (Seen ℕ)} {best better : Option (ℕ × Addr)} {here next : Option ℕ} → AreLayers all → IsPath all links d → ArePaths links → here ≡ Some e → next ≡ below links e
     → Least all links d other best here → IsStanding all e better → object_at all better ≡ lesser (all.layer e).rules (object_at all best) (first_of (filter (is_behind (all.layer e).rules other) (objects_of all e)))
     → Least all links d other better next
-least_next all {links} {d} {e} other {best} better {here} {next} laws path' paths is on s stands object =
+least_next {all} {links} {d} {e} {other} {best} {better} {here} {next} laws path' paths is on s stands object =
     let alike = on-head paths is s.on in
     let rules = alike-rules all d e laws (path-first all links d path').there alike in
     let rest = map (filter (is_behind (all.layer d).rules other)) (map (objects_of all) (down links next)) in
     record {
       on = on-next paths is on s.on;
-      stands = stands_back all d e better alike stands;
+      stands = stands_back better alike stands;
       same =
           ap (λ z. least_of (all.layer d).rules z rest) (object ∙ ap (λ r. lesser r (object_at all best) (first_of (filter (is_behind r other) (objects_of all e)))) rules)
           ∙ sym (ap (λ z. least_of (all.layer d).rules (object_at all best) (map (filter (is_behind (all.layer d).rules other)) (map (objects_of all) z))) (down-on paths is on))
           ∙ s.same;
     }
 
-pub least_end : (all : Layered) (links : Links) (d : ℕ) (other : Option (Seen ℕ)) (best : Option (ℕ × Addr)) {next : Option ℕ} → next ≡ None → Least all links d other best next → Answers best (first_of (filter (is_behind (all.layer d).rules other) (visible_of all links d)))
+pub least_end : {all : Layered} {links : Links} {d : ℕ} {other : Option (Seen ℕ)} {best : Option (ℕ × Addr)} {next : Option ℕ} → next ≡ None → Least all links d other best next → Answers best (first_of (filter (is_behind (all.layer d).rules other) (visible_of all links d)))
 unfolding down
-least_end all links d other best is s =
+least_end {all} {links} {d} {other} {best} is s =
     let done = subst (λ z. Least all links d other best z) is s in
     subst (λ z. Answers best z) done.same (answers_at all d best done.stands)
 
@@ -128,9 +128,9 @@ pub record Greatest (all : Layered) (links : Links) (d : ℕ) (other : Option (S
   pub same : greatest_of (all.layer d).rules (object_at all best) (map (filter (is_before (all.layer d).rules other)) (map (objects_of all) (down links next)))
       ≡ last_of (filter (is_before (all.layer d).rules other) (visible_of all links d))
 
-pub greatest_start : (all : Layered) (links : Links) (d : ℕ) (other : Option (Seen ℕ)) → AreLayers all → IsPath all links d → is_ordered (all.layer d).method ≡ true → Greatest all links d other None (Some d)
+pub greatest_start : {all : Layered} {links : Links} {d : ℕ} {other : Option (Seen ℕ)} → AreLayers all → IsPath all links d → is_ordered (all.layer d).method ≡ true → Greatest all links d other None (Some d)
 unfolding down
-greatest_start all links d other laws path' method =
+greatest_start {all} {links} {d} {other} laws path' method =
     let rules = (all.layer d).rules in
     let h = (path-first all links d path').there in
     let order = ordered rules (laws.lawful d h).order in
@@ -143,24 +143,24 @@ greatest_start all links d other laws path' method =
           );
     }
 
-pub greatest_next : (all : Layered) {links : Links} {d e : ℕ} (other : Option (Seen ℕ)) {best : Option (ℕ × Addr)} (better : Option (ℕ × Addr)) {here next : Option ℕ} → AreLayers all → IsPath all links d → ArePaths links → here ≡ Some e → next ≡ below links e
+pub greatest_next : {all : Layered} {links : Links} {d e : ℕ} {other : Option (Seen ℕ)} {best better : Option (ℕ × Addr)} {here next : Option ℕ} → AreLayers all → IsPath all links d → ArePaths links → here ≡ Some e → next ≡ below links e
     → Greatest all links d other best here → IsStanding all e better → object_at all better ≡ greater (all.layer e).rules (object_at all best) (last_of (filter (is_before (all.layer e).rules other) (objects_of all e)))
     → Greatest all links d other better next
-greatest_next all {links} {d} {e} other {best} better {here} {next} laws path' paths is on s stands object =
+greatest_next {all} {links} {d} {e} {other} {best} {better} {here} {next} laws path' paths is on s stands object =
     let alike = on-head paths is s.on in
     let rules = alike-rules all d e laws (path-first all links d path').there alike in
     let rest = map (filter (is_before (all.layer d).rules other)) (map (objects_of all) (down links next)) in
     record {
       on = on-next paths is on s.on;
-      stands = stands_back all d e better alike stands;
+      stands = stands_back better alike stands;
       same =
           ap (λ z. greatest_of (all.layer d).rules z rest) (object ∙ ap (λ r. greater r (object_at all best) (last_of (filter (is_before r other) (objects_of all e)))) rules)
           ∙ sym (ap (λ z. greatest_of (all.layer d).rules (object_at all best) (map (filter (is_before (all.layer d).rules other)) (map (objects_of all) z))) (down-on paths is on))
           ∙ s.same;
     }
 
-pub greatest_end : (all : Layered) (links : Links) (d : ℕ) (other : Option (Seen ℕ)) (best : Option (ℕ × Addr)) {next : Option ℕ} → next ≡ None → Greatest all links d other best next → Answers best (last_of (filter (is_before (all.layer d).rules other) (visible_of all links d)))
+pub greatest_end : {all : Layered} {links : Links} {d : ℕ} {other : Option (Seen ℕ)} {best : Option (ℕ × Addr)} {next : Option ℕ} → next ≡ None → Greatest all links d other best next → Answers best (last_of (filter (is_before (all.layer d).rules other) (visible_of all links d)))
 unfolding down
-greatest_end all links d other best is s =
+greatest_end {all} {links} {d} {other} {best} is s =
     let done = subst (λ z. Greatest all links d other best z) is s in
     subst (λ z. Answers best z) done.same (answers_at all d best done.stands)

@@ -123,7 +123,3 @@ too_long-step links k d e b h =
     ap₂ (λ a c. nat_lt a (length (path_of c links e))) near near_more
     ∙ one_on links (15 - k) d e b
     ∙ sym (ap₂ (λ a c. nat_lt a (length (path_of c links d))) far far_more)
-
--- what is left of a path behind a number is shorter
-pub onward-shorter : (links : Links) (d : ℕ) → ArePaths links → length (onward (path links) (below links d)) < length (path links d)
-onward-shorter links d p = omega (arith, ap length (path-step links d p))

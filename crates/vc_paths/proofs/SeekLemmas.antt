@@ -1,17 +1,18 @@
 -- What has a key among the objects that are seen through a dictionary: where the first layer has it that has some.
-use Rattle.std.proofs.Common.{◌≡◌, ℕ, ◌<◌, List, [], ◌∷◌, map, Bool, true, false, cond, Option, Some, None, refl, sym, ap, ◌∙◌, subst, inl, inr}
-use Rattle.std.specs.List.{AllByRecursion, find, list_any}
+use Rattle.std.proofs.Common.{◌≡◌, ℕ, List, [], ◌∷◌, map, Bool, true, false, cond, Option, Some, None, refl, sym, ap, ◌∙◌, inl, inr}
+use Rattle.std.specs.List.{find, list_any}
 use Rattle.std.specs.Option.{option_map, option_or}
 use Rattle.std.proofs.lemmas.Bool.{cases_Bool}
 use Rattle.vc_base.specs.Methods.{is_ordered}
 use Rattle.vc_dtdisc.specs.Objects.{Object, has_key, placed_each}
 use Rattle.vc_dtdisc.specs.Rules.{AreLawful, Rules}
-use Rattle.vc_paths.specs.Layers.{AreLayers, Layered, place_in, place_with}
-use Rattle.vc_paths.specs.Links.{ArePaths, Links, below, numbers, onward, path, path_of}
+use Rattle.vc_paths.specs.Layers.{AreLayers, Layer, Layered, Same, place_in, place_with}
+use Rattle.vc_paths.specs.Links.{ArePaths, Links, below, path}
 use Rattle.vc_paths.specs.Path.{IsAlike, IsPath, objects_of, place_of, seen_in, visible_of}
 use Rattle.vc_paths.specs.Seek.{has_key_in}
+use Rattle.vc_paths.specs.Shown.{IsOnPath, down}
 use Rattle.vc_paths.specs.Visible.{Seen, seen_bytes, stacked}
-use Rattle.vc_paths.proofs.PathLemmas.{path-step}
+use Rattle.vc_paths.proofs.DownLemmas.{down-none, down-on, on-head, on-next, on-start}
 use Rattle.vc_paths.proofs.SortedLemmas.{found_sorted}
 use Rattle.vc_paths.proofs.StackedLemmas.{first_having, stacked-found, with_key}
 
@@ -79,25 +80,30 @@ place-found all rules e key =
 pub alike-rules : (all : Layered) (d e : ℕ) → AreLayers all → all.Has d → IsAlike all d e → (all.layer e).rules ≡ (all.layer d).rules
 alike-rules all d e lawful h a = lawful.kinds e d a.there h a.kind
 
--- a search that has come to a link: what the layers from there on find is what is found
-pub record IsSought (all : Layered) (links : Links) (d : ℕ) (key : List ℕ) (at : Option ℕ) : Type 0 where
-  pub number : (e : ℕ) → at ≡ Some e → e < numbers
-  pub alike : AllByRecursion (IsAlike all d) (onward (path links) at)
-  pub found : found_along all (has_key_in all d key) (onward (path links) at) ≡ find (has_key_in all d key) (visible_of all links d)
-
 pub path-first : (all : Layered) (links : Links) (d : ℕ) → IsPath all links d → IsAlike all d d
 path-first all links d p = p.alike.0
 
-pub IsSought-start : (all : Layered) (links : Links) (d : ℕ) (key : List ℕ) → AreLayers all → IsPath all links d → IsSought all links d key (Some d)
-IsSought-start all links d key lawful p = record {
-  number = λ e h. let same : d ≡ e = cc in subst (λ z. z < numbers) same p.number;
-  alike = p.alike;
+-- what a dictionary that stayed tells of a key is what is found among its objects by the rules of the path
+found-here : {all now : Layered} {links : Links} {d e : ℕ} (key : List ℕ) {r : Option ℕ} → AreLayers all → IsPath all links d → IsAlike all d e → Same all now → r ≡ place_with (now.layer e).rules key (now.layer e).objects
+    → option_map place_of (find (has_key_in all d key) (objects_of all e)) ≡ option_map {U = ℕ × ℕ} (λ a. (e, a)) r
+found-here {all} {now} {links} {d} {e} key lawful path like same told =
+    place-found all (all.layer d).rules e key
+    ∙ ap (option_map {U = ℕ × ℕ} (λ a. (e, a)))
+    (ap (λ z. place_with z key (all.layer e).objects) (sym (alike-rules all d e lawful (path-first all links d path).there like))
+    ∙ ap (λ (z : ℕ → Layer). place_with (z e).rules key (z e).objects) (sym same.layers)
+    ∙ sym told)
+
+-- a search that has come to a link: what the layers from there on find is what is found
+pub record IsSought (all : Layered) (links : Links) (d : ℕ) (key : List ℕ) (at : Option ℕ) : Type 0 where
+  pub on : IsOnPath all links d at
+  pub found : found_along all (has_key_in all d key) (down links at) ≡ find (has_key_in all d key) (visible_of all links d)
+
+pub IsSought-start : {all : Layered} {links : Links} {d : ℕ} {key : List ℕ} → AreLayers all → IsPath all links d → IsSought all links d key (Some d)
+unfolding down
+IsSought-start {all} {links} {d} {key} lawful p = record {
+  on = on-start p;
   found = sym (found-visible all links d key (lawful.lawful d (path-first all links d p).there));
 }
-
--- the layer there finds it, or the search goes on
-alike-step : (all : Layered) (links : Links) (d e : ℕ) → ArePaths links → AllByRecursion (IsAlike all d) (path links e) → AllByRecursion (IsAlike all d) (e ∷ onward (path links) (below links e))
-alike-step all links d e p h = subst (AllByRecursion (IsAlike all d)) (path-step links e p) h
 
 pub none-there : (o : Option (Seen ℕ)) → option_map place_of o ≡ None → o ≡ None
 none-there None h = refl
@@ -106,19 +112,15 @@ none-there (Some o) h = absurd (some_none (place_of o) h)
     some_none : (p : ℕ × ℕ) → Some p ≡ None → ⊥
     some_none p h = cc
 
-pub IsSought-next : (all : Layered) (links : Links) (d e : ℕ) (key : List ℕ) → AreLayers all → ArePaths links → all.Has d → IsSought all links d key (Some e) → place_with (all.layer e).rules key (all.layer e).objects ≡ None → IsSought all links d key (below links e)
-IsSought-next all links d e key lawful p h s missed =
-    let rest = alike-step all links d e p s.alike in
-    let rules = alike-rules all d e lawful h s.alike.0 in
-    let nothing : find (has_key_in all d key) (objects_of all e) ≡ None
-    = none-there (find (has_key_in all d key) (objects_of all e)) (place-found all (all.layer d).rules e key ∙ ap (option_map (λ a. (e, a))) (ap (λ z. place_with z key (all.layer e).objects) (sym rules) ∙ missed)) in
+-- the layer there finds it, or the search goes on, up to the end
+pub IsSought-next : {all now : Layered} {links : Links} {d e : ℕ} {key : List ℕ} {at next : Option ℕ} → AreLayers all → IsPath all links d → ArePaths links → at ≡ Some e → next ≡ below links e → IsSought all links d key at
+    → Same all now → None ≡ place_with (now.layer e).rules key (now.layer e).objects → IsSought all links d key next
+IsSought-next {all} {now} {links} {d} {e} {key} {at} {next} lawful path p is on s same missed =
+    let test = has_key_in all d key in
+    let nothing = none-there (find test (objects_of all e)) (found-here key lawful path (on-head p is s.on) same missed) in
     record {
-      number = λ x b. p.within e x b;
-      alike = rest.1;
-      found =
-          ap (λ z. option_or z (found_along all (has_key_in all d key) (onward (path links) (below links e)))) (sym nothing)
-          ∙ ap (found_along all (has_key_in all d key)) (sym (path-step links e p))
-          ∙ s.found;
+      on = on-next p is on s.on;
+      found = ap (λ z. option_or z (found_along all test (down links next))) (sym nothing) ∙ ap (found_along all test) (sym (down-on p is on)) ∙ s.found;
     }
 
 none_some : (p : ℕ × ℕ) → None ≡ Some p → ⊥
@@ -128,13 +130,13 @@ some-there : (o more : Option (Seen ℕ)) (p : ℕ × ℕ) → option_map place_
 some-there None more p h = absurd (none_some p h)
 some-there (Some o) more p h = h
 
-pub IsSought-found : (all : Layered) (links : Links) (d e at : ℕ) (key : List ℕ) → AreLayers all → all.Has d → IsSought all links d key (Some e) → place_with (all.layer e).rules key (all.layer e).objects ≡ Some at → option_map place_of (find (has_key_in all d key) (visible_of all links d)) ≡ Some (e, at)
-IsSought-found all links d e at key lawful h s hit =
-    let rules = alike-rules all d e lawful h s.alike.0 in
-    let here : option_map place_of (find (has_key_in all d key) (objects_of all e)) ≡ Some (e, at)
-    = place-found all (all.layer d).rules e key ∙ ap (option_map (λ a. (e, a))) (ap (λ z. place_with z key (all.layer e).objects) (sym rules) ∙ hit) in
-    ap (option_map place_of) (sym s.found)
-    ∙ some-there (find (has_key_in all d key) (objects_of all e)) (found_along all (has_key_in all d key) (onward (path_of 15 links) (below links e))) (e, at) here
+pub IsSought-found : {all now : Layered} {links : Links} {d e a : ℕ} {key : List ℕ} {at : Option ℕ} → AreLayers all → IsPath all links d → ArePaths links → at ≡ Some e → IsSought all links d key at
+    → Same all now → Some a ≡ place_with (now.layer e).rules key (now.layer e).objects → Some (e, a) ≡ option_map place_of (find (has_key_in all d key) (visible_of all links d))
+IsSought-found {all} {now} {links} {d} {e} {a} {key} lawful path p is s same hit =
+    let test = has_key_in all d key in
+    sym (ap (option_map place_of) (sym s.found ∙ ap (found_along all test) (down-on p is refl))
+    ∙ some-there (find test (objects_of all e)) (found_along all test (down links (below links e))) (e, a) (found-here key lawful path (on-head p is s.on) same hit))
 
-pub IsSought-end : (all : Layered) (links : Links) (d : ℕ) (key : List ℕ) → IsSought all links d key None → find (has_key_in all d key) (visible_of all links d) ≡ None
-IsSought-end all links d key s = sym s.found
+pub IsSought-end : {all : Layered} {links : Links} {d : ℕ} {key : List ℕ} {at : Option ℕ} → at ≡ None → IsSought all links d key at → ◌≡◌ {A = Option (ℕ × ℕ)} None (option_map place_of (find (has_key_in all d key) (visible_of all links d)))
+IsSought-end {all} {links} {d} {key} is s =
+    ap (option_map place_of) (sym (ap (found_along all (has_key_in all d key)) (ap (down links) is ∙ down-none links)) ∙ s.found)

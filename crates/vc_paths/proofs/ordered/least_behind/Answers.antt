@@ -1,24 +1,20 @@
 use Rattle.std.proofs.Common.{ap, ◌∙◌}
 use Rattle.vc_base.specs.Methods.{is_ordered}
-use Rattle.vc_paths.specs.Ordered.{object_at}
 use Rattle.vc_paths.proofs.DownLemmas.{down-next, on-head}
 use Rattle.vc_paths.proofs.OrderedLemmas.{least_end, least_next, least_start, stands_along}
 use Rattle.vc_paths.proofs.ordered.least_behind.Goals as goal
 
 pub loop-next-init : goal.loop-next-init
-loop-next-init g c =
-    let all = g.Y.Layers.layered c.args.layers.now in
-    least_start all c.args.paths.now c.args.d (object_at all c.args.other) (g.met.Y.Layers.lawful c.args.layers.now) c.requires.path c.requires.method
+loop-next-init g c = least_start (g.met.Y.Layers.lawful c.args.layers.now) c.requires.path c.requires.method
 
 pub lesser_with-best-requires : goal.lesser_with-best-requires
 lesser_with-best-requires g c =
-    let all = g.Y.Layers.layered c.args.layers.now in
     let alike = on-head c.show_invariant.ensures c.in-Some.is c.loop-next.invariant.on in
     record {
       dict = alike.there;
       method = ap is_ordered alike.method ∙ c.requires.method;
-      best = stands_along all c.args.d c.in-Some.e c.loop-next.best alike c.loop-next.invariant.stands;
-      other = stands_along all c.args.d c.in-Some.e c.args.other alike c.requires.other;
+      best = stands_along c.loop-next.best alike c.loop-next.invariant.stands;
+      other = stands_along c.args.other alike c.requires.other;
     }
 
 pub loop-next-smaller : goal.loop-next-smaller
@@ -27,11 +23,7 @@ loop-next-smaller g c = down-next c.show_invariant.ensures c.in-Some.is c.below-
 pub loop-next-preserved : goal.loop-next-preserved
 loop-next-preserved g c =
     let better = c.lesser_with-best.ensures in
-    let all = g.Y.Layers.layered c.args.layers.now in
-    least_next all (object_at all c.args.other) c.lesser_with-best.result (g.met.Y.Layers.lawful c.args.layers.now) c.requires.path c.show_invariant.ensures
-    c.in-Some.is c.below-next.ensures c.loop-next.invariant better.stands better.object
+    least_next (g.met.Y.Layers.lawful c.args.layers.now) c.requires.path c.show_invariant.ensures c.in-Some.is c.below-next.ensures c.loop-next.invariant better.stands better.object
 
 pub returns : goal.returns
-returns g c =
-    let all = g.Y.Layers.layered c.args.layers.now in
-    least_end all c.args.paths.now c.args.d (object_at all c.args.other) c.loop-next.best c.in_default.is c.loop-next.invariant
+returns g c = least_end c.in_default.is c.loop-next.invariant

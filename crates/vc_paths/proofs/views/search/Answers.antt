@@ -1,8 +1,5 @@
-use Rattle.std.proofs.Common.{◌≡◌, ◌<◌, sym, subst, subst₂, length, Some, None, ℕ}
-use Rattle.vc_paths.specs.Layers.{place_with, Layer}
-use Rattle.vc_paths.specs.Links.{onward, path}
-use Rattle.vc_paths.proofs.PathLemmas.{onward-shorter}
-use Rattle.vc_paths.proofs.SeekLemmas.{IsSought, IsSought-found, IsSought-next, IsSought-start, path-first}
+use Rattle.vc_paths.proofs.DownLemmas.{down-next, on-head}
+use Rattle.vc_paths.proofs.SeekLemmas.{IsSought-end, IsSought-found, IsSought-next, IsSought-start}
 use Rattle.vc_paths.proofs.StayLemmas.{same-itself, same-over}
 use Rattle.vc_paths.proofs.views.search.Goals as goal
 
@@ -10,37 +7,34 @@ pub loop-at-init : goal.loop-at-init
 loop-at-init g c = record {
   layers = same-itself (g.Y.Layers.layered c.args.layers.now);
   stays = g.met.Y.Layers.reflexive c.args.layers.now;
-  sought =
-      IsSought-start (g.Y.Layers.layered c.args.layers.now) c.args.paths.now c.args.d c.args.key.now (g.met.Y.Layers.lawful c.args.layers.now) c.requires;
+  sought = IsSought-start (g.met.Y.Layers.lawful c.args.layers.now) c.requires;
 }
+
+pub find-requires : goal.find-requires
+find-requires g c =
+    let i = c.loop-at.invariant in
+    i.layers.has c.in-Some.e (on-head c.show_invariant.ensures c.in-Some.is i.sought.on).there
 
 pub returns-in-Some-find-clause-found : goal.returns-in-Some-find-clause-found
 returns-in-Some-find-clause-found g c =
-    let all = g.Y.Layers.layered c.args.layers.now in
-    let hit : place_with (all.layer c.in-Some.e).rules c.args.key.now (all.layer c.in-Some.e).objects ≡ Some c.in-Some-find.place.0
-    = subst (λ (z : ℕ → Layer). place_with (z c.in-Some.e).rules c.args.key.now (z c.in-Some.e).objects ≡ Some c.in-Some-find.place.0)
-    c.loop-at.invariant.layers.layers (sym c.in-Some-find.ensures.found) in
-    sym (IsSought-found all c.args.paths.now c.args.d c.in-Some.e c.in-Some-find.place.0 c.args.key.now (g.met.Y.Layers.lawful c.args.layers.now)
-    (path-first all c.args.paths.now c.args.d c.requires).there
-    (subst (IsSought all c.args.paths.now c.args.d c.args.key.now) c.in-Some.is c.loop-at.invariant.sought) hit)
+    let i = c.loop-at.invariant in
+    IsSought-found (g.met.Y.Layers.lawful c.args.layers.now) c.requires c.show_invariant.ensures c.in-Some.is i.sought i.layers c.in-Some-find.ensures.found
+
+pub below-at-requires : goal.below-at-requires
+below-at-requires g c = c.loop-at.invariant.sought.on.number c.in-Some.e c.in-Some.is
 
 pub loop-at-smaller : goal.loop-at-smaller
-loop-at-smaller g c =
-    subst₂ (λ a b. length (onward (path c.args.paths.now) a) < length (onward (path c.args.paths.now) b)) (sym c.below-at.ensures) (sym c.in-Some.is)
-    (onward-shorter c.args.paths.now c.in-Some.e c.show_invariant.ensures)
+loop-at-smaller g c = down-next c.show_invariant.ensures c.in-Some.is c.below-at.ensures
 
 pub loop-at-preserved : goal.loop-at-preserved
 loop-at-preserved g c =
-    let all = g.Y.Layers.layered c.args.layers.now in
-    let missed : place_with (all.layer c.in-Some.e).rules c.args.key.now (all.layer c.in-Some.e).objects ≡ None
-    = subst (λ (z : ℕ → Layer). place_with (z c.in-Some.e).rules c.args.key.now (z c.in-Some.e).objects ≡ None)
-    c.loop-at.invariant.layers.layers (sym c.in_default-find.ensures.found) in
+    let i = c.loop-at.invariant in
+    let laws = g.met.Y.Layers.lawful c.args.layers.now in
     record {
-      layers = same-over c.loop-at.invariant.layers c.find.ensures.layers;
-      stays = g.met.Y.Layers.transitive c.args.layers.now c.loop-at.layers c.find.new.self c.loop-at.invariant.stays c.find.ensures.stays;
-      sought =
-          subst (IsSought all c.args.paths.now c.args.d c.args.key.now) (sym c.below-at.ensures)
-          (IsSought-next all c.args.paths.now c.args.d c.in-Some.e c.args.key.now (g.met.Y.Layers.lawful c.args.layers.now) c.show_invariant.ensures
-          (path-first all c.args.paths.now c.args.d c.requires).there
-          (subst (IsSought all c.args.paths.now c.args.d c.args.key.now) c.in-Some.is c.loop-at.invariant.sought) missed);
+      layers = same-over i.layers c.find.ensures.layers;
+      stays = g.met.Y.Layers.transitive c.args.layers.now c.loop-at.layers c.find.new.self i.stays c.find.ensures.stays;
+      sought = IsSought-next laws c.requires c.show_invariant.ensures c.in-Some.is c.below-at.ensures i.sought i.layers c.in_default-find.ensures.found;
     }
+
+pub returns-clause-found : goal.returns-clause-found
+returns-clause-found g c = IsSought-end c.in_default.is c.loop-at.invariant.sought

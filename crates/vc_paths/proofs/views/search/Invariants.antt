@@ -1,5 +1,5 @@
 use Rattle.std.proofs.Common.{length}
-use Rattle.vc_paths.specs.Links.{onward, path}
+use Rattle.vc_paths.specs.Shown.{down}
 use Rattle.vc_paths.proofs.SeekLemmas.{IsSought}
 use Rattle.vc_paths.specs.Layers.{Same}
 use Rattle.vc_paths.proofs.views.search.Given as goal
@@ -12,4 +12,4 @@ invariant-loop-at g l = record {
 }
 
 abbrev pub decreases-loop-at : goal.decreases-loop-at
-decreases-loop-at g l = length (onward (path l.paths) l.at)
+decreases-loop-at g l = length (down l.paths l.at)
