@@ -138,7 +138,7 @@ pub record IsGuarded (r mid new : Layout ℕ) (label size x : ℕ) : Type 0 wher
   pub written : new ≡ with_guards mid (place_of x) size
   pub sound : ∥ IsSound new ∥₁
 
-module _ (r mid new : Layout ℕ) (label size x : ℕ) (h : IsGuarded r mid new label size x) where
+module _ {r mid new : Layout ℕ} {label size x : ℕ} (h : IsGuarded r mid new label size x) where
   blocks-guarded : new.blocks ≡ (with_guards mid (place_of x) size).blocks
   blocks-guarded = ap (λ (q : Layout ℕ). q.blocks) h.written
 
@@ -155,7 +155,7 @@ module _ (r mid new : Layout ℕ) (label size x : ℕ) (h : IsGuarded r mid new 
   pub below-guarded : (place_of x).1 + 33 ≤ 33554432
   below-guarded = below-end new guards-guarded h.sound x live-guarded
 
-  module _ (a : ℕ) (next : a ≡ x + 1) where
+  module _ {a : ℕ} (next : a ≡ x + 1) where
     pub user-guarded : UserAt new a x
     user-guarded = at_user new h.sound guards-guarded a x next live-guarded
 
@@ -186,7 +186,7 @@ pub record IsResized (r mid new : Layout ℕ) (size kept x y : ℕ) : Type 0 whe
   pub written : new ≡ with_zeros mid (place_of y) kept size
   pub sound : ∥ IsSound new ∥₁
 
-module _ (r mid new : Layout ℕ) (size kept x y : ℕ) (h : IsResized r mid new size kept x y) where
+module _ {r mid new : Layout ℕ} {size kept x y : ℕ} (h : IsResized r mid new size kept x y) where
   blocks-resized : new.blocks ≡ (with_zeros mid (place_of y) kept size).blocks
   blocks-resized = ap (λ (q : Layout ℕ). q.blocks) h.written
 
@@ -203,7 +203,7 @@ module _ (r mid new : Layout ℕ) (size kept x y : ℕ) (h : IsResized r mid new
   pub below-resized : (place_of y).1 + 33 ≤ 33554432
   below-resized = below-end new guards-resized h.sound y live-resized
 
-  module _ (a to : ℕ) (old : UserAt r a x) (next : to ≡ y + 1) where
+  module _ {a to : ℕ} (old : UserAt r a x) (next : to ≡ y + 1) where
     pub user-resized : UserAt new to y
     user-resized = at_user new h.sound guards-resized to y next live-resized
 

@@ -4,6 +4,7 @@ pub mod DebugFills
 pub mod DebugPuts
 pub mod DebugFrees
 pub mod DebugPokes
+pub mod DebugUser
 pub mod DebugWalks
 pub mod DebugSizes
 pub mod DebugChecks

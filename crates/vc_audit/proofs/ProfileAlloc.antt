@@ -1,5 +1,5 @@
 -- What a profile region counts when a block is put.
-use Rattle.std.proofs.Common.{◌≡◌, ◌≢◌, ℕ, suc, ◌+◌, ◌*◌, ◌<◌, ◌≤◌, eqb, false, Bool, cond, List, [], ◌∷◌, Some, IsSome, Option, None, is_some, map, max, refl, sym, ap, ◌∙◌, subst, arith}
+use Rattle.std.proofs.Common.{◌≡◌, ◌≢◌, ℕ, suc, ◌+◌, ◌*◌, ◌<◌, ◌≤◌, eqb, false, Bool, cond, List, [], ◌∷◌, Some, IsSome, Option, None, is_some, map, refl, sym, ap, ◌∙◌, subst, arith}
 use Rattle.std.specs.Prelude.{unwrap_or}
 use Rattle.std.specs.List.{AllByRecursion, IsDistinct}
 use Rattle.std.specs.Map.{keys_of, lookup}
@@ -26,7 +26,7 @@ use Rattle.vc_audit.proofs.ProfileFree.{profile}
 use Rattle.vc_audit.proofs.ProfileHeld.{held-put, other-site, row-any}
 use Rattle.vc_audit.proofs.ProfileLists.{all-both, all-map, all-weaken, all-with}
 use Rattle.vc_audit.proofs.ProfilePuts.{HasOneMore, WithSites, alloc-blocks, put-profile, refusal-with, with-sites}
-use Rattle.vc_audit.proofs.ProfileRows.{own_site, peaks-put, put-own, rows-put}
+use Rattle.vc_audit.proofs.ProfileRows.{IsRowWith, own_site, peak-with, peaks-put, put-own, rows-put}
 
 pub some-of : {A : Type 0} (o : Option A) (d : A) → IsSome o → o ≡ Some (unwrap_or o d)
 some-of None d h = absurd (cc)
@@ -48,16 +48,16 @@ alloc-refused t r es terms tag site size align e name named h =
     (refusal-with (profile_after (with_site site (peaks_of es))) (best_alloc terms r tag size align) (best_alloc terms (sited t r) (tag, site) size align) (alloc-bare t r terms tag site size align) e h)
 
 -- the sums of the site have room for one more
-pub few-bytes : (r : Layout ℕ) (t : List Sited) (es : Rows) (site : List ℕ) → IsCounted r t es → (row_for site es).bytes ≤ 16777216 * 4294967295
-few-bytes r t es site counted =
+pub few-bytes : {r : Layout ℕ} {t : List Sited} {es : Rows} (site : List ℕ) (v : Row) → IsCounted r t es → v ≡ row_for site es → v.bytes ≤ 16777216 * 4294967295
+few-bytes {r} {t} {es} site v counted is =
     let S = map (with_its_site t) r.blocks in
-    let row = row-any t es site r.blocks counted.held counted.counted in
+    let row = subst (λ x. IsRow S (site, x)) (sym is) (row-any t es site r.blocks counted.held counted.counted) in
     let sizes : AllByRecursion (λ (b : Block (ℕ × List ℕ)). b.size ≤ 16777216) S = all-map (with_its_site t) (λ (b : Block (ℕ × List ℕ)). b.size ≤ 16777216) r.blocks (all-weaken (IsHeld t es) (λ b. b.size ≤ 16777216) r.blocks (λ b h. h.most) counted.held) in
     omega (arith, bytes-few site S sizes, row.blocks_are, row.bytes_are, row.few)
 
 module _ (r : Layout ℕ) (t : List Sited) (es : Rows) (counted : IsCounted r t es) (distinct : IsDistinct bytes_eq (keys_of es)) (terms : Terms) (tag : ℕ) (site : List ℕ) (size align : ℕ) (most : size ≤ 16777216) (a : ℕ) (fresh : ¬ HasBlock r.blocks a) (r' : Layout ℕ) (placed : IsPut (best_alloc terms r tag size align false) a r')
     (t' : List Sited) (kept : (q : ℕ) → site_at q t' ≡ cond (eqb a q) (Some site) (site_at q t))
-    (w : Row) (few : (row_for site es).blocks < 4294967295) (w_blocks : w.blocks ≡ (row_for site es).blocks + 1) (w_bytes : w.bytes ≡ (row_for site es).bytes + size) (w_peak : w.peak ≡ max (row_for site es).peak w.bytes) where
+    (v w : Row) (row : v ≡ row_for site es) (few : v.blocks < 4294967295) (with : IsRowWith v (v.blocks + 1) (v.bytes + size) w) where
   abbrev S : List (Block (ℕ × List ℕ))
   S = map (with_its_site t) r.blocks
 
@@ -110,8 +110,8 @@ module _ (r : Layout ℕ) (t : List Sited) (es : Rows) (counted : IsCounted r t 
   bytes-more : (x : List ℕ) → site_bytes x q.blocks ≡ size_at x z + site_bytes x S
   bytes-more x = ap (site_bytes x) put.holds ∙ (bytes-total x (with_block z S) ∙ (total-with (size_at x) z S ∙ ap (λ n. size_at x z + n) (sym (bytes-total x S))))
 
-  row-is : IsRow S (site, row_for site es)
-  row-is = row-any t es site r.blocks counted.held counted.counted
+  row-is : IsRow S (site, v)
+  row-is = subst (λ x. IsRow S (site, x)) (sym row) (row-any t es site r.blocks counted.held counted.counted)
 
   own-one : one site z ≡ 1
   own-one = ap (λ v. cond v 1 0) (own_site site)
@@ -127,10 +127,10 @@ module _ (r : Layout ℕ) (t : List Sited) (es : Rows) (counted : IsCounted r t 
 
   w-is : IsRow q.blocks (site, w)
   w-is = record {
-    blocks_are = omega (arith, row-is.blocks_are, blocks-more site, own-one, w_blocks);
-    bytes_are = omega (arith, row-is.bytes_are, bytes-more site, own-size, w_bytes);
-    few = omega (arith, few, w_blocks);
-    peak = omega (arith, w_peak);
+    blocks_are = omega (arith, row-is.blocks_are, blocks-more site, own-one, with.blocks);
+    bytes_are = omega (arith, row-is.bytes_are, bytes-more site, own-size, with.bytes);
+    few = omega (arith, few, with.blocks);
+    peak = omega (arith, peak-with v v _ _ w refl with);
   }
 
   z-held : IsHeld t' es' (relabel_block bare z)
@@ -156,9 +156,9 @@ module _ (r : Layout ℕ) (t : List Sited) (es : Rows) (counted : IsCounted r t 
 
   put-is : IsPut (profile_alloc terms (profile t r es) tag site size align false) a (profile t' r' es')
   put-is =
-      let with : Layout (ℕ × List ℕ) → List (List ℕ × ℕ) → Profile ℕ = λ l ps. record { layout = l; peaks = ps } in
+      let made : Layout (ℕ × List ℕ) → List (List ℕ × ℕ) → Profile ℕ = λ l ps. record { layout = l; peaks = ps } in
       put-profile (with_site site (peaks_of es)) outcome a r' (HasOneMore (sited t r) (tag, site) size) put (profile t' r' es')
-      (ap (λ l. with l (peaks_of es')) layout-is ∙ ap (with q) (peaks-put S q.blocks site w w-is same es distinct counted.counted w_peak))
+      (ap (λ l. made l (peaks_of es')) layout-is ∙ ap (made q) (peaks-put S q.blocks site w w-is same es distinct counted.counted (peak-with v (row_for site es) _ _ w row with)))
 
   pub profile-put : (name : List ℕ) → site ≡ name → (rows : Rows) → rows ≡ es' → IsPut (profile_alloc terms (profile t r es) tag name size align false) a (profile t' r' rows)
   profile-put name named rows is =

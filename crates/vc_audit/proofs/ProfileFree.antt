@@ -1,5 +1,5 @@
 -- What a profile region counts when a block goes.
-use Rattle.std.proofs.Common.{◌≡◌, ◌≢◌, ℕ, ◌+◌, ◌-◌, ◌≤◌, false, cond, List, [], Some, IsSome, map, max, option_map, sym, ap, ◌∙◌, subst, arith}
+use Rattle.std.proofs.Common.{◌≡◌, ◌≢◌, ℕ, ◌+◌, ◌-◌, ◌≤◌, false, cond, List, [], Some, IsSome, map, option_map, refl, sym, ap, ◌∙◌, subst, arith}
 use Rattle.std.specs.Prelude.{unwrap_or}
 use Rattle.std.specs.List.{AllByRecursion, IsDistinct}
 use Rattle.std.specs.Map.{keys_of, lookup}
@@ -17,15 +17,40 @@ use Rattle.vc_audit.specs.declared.profile.rows.Row.{Row}
 use Rattle.vc_audit.specs.declared.profile.sites.Sited.{Sited}
 use Rattle.vc_audit.proofs.ProfileBare.{layout, sited-alike, sited-find, sited-without}
 use Rattle.vc_audit.proofs.ProfileCounts.{blocks-total, bytes-total, one, size_at, total-without}
-use Rattle.vc_audit.proofs.ProfileHeld.{TheBlock, held-put, other-site, row-any}
+use Rattle.vc_audit.proofs.ProfileHeld.{TheBlock, held-put, other-site, row-any, told-block, told-is}
 use Rattle.vc_audit.proofs.ProfileLists.{all-both, all-found, all-weaken, all-without, others-apart}
-use Rattle.vc_audit.proofs.ProfileRows.{own_site, peaks-put, rows-put, site-there}
+use Rattle.vc_audit.proofs.ProfileRows.{IsRowWith, own_site, peak-with, peaks-put, rows-put, site-there}
 
 -- a profile by its parts
 abbrev pub profile : List Sited → Layout ℕ → Rows → Profile ℕ
 profile t r es = record { layout = sited t r; peaks = peaks_of es }
 
-module _ (r : Layout ℕ) (t : List Sited) (es : Rows) (counted : IsCounted r t es) (places : HaveOwnPlaces r.blocks) (a : ℕ) (b : TheBlock r.blocks a) (site : List ℕ) (at : site_at a t ≡ Some site) where
+-- every block has a site
+pub has-site : {r : Layout ℕ} {t : List Sited} {es : Rows} → IsCounted r t es → (a size : ℕ) → option_map (λ (x : Block ℕ). x.size) (find_block (place_of a) r.blocks) ≡ Some size → IsSome (site_at a t)
+has-site {r} {t} {es} counted a size told =
+    let b = told-block (λ (x : Block ℕ). x.size) r.blocks a size told in
+    subst (λ n. IsSome (site_at n t)) b.address (all-found (place_of a) b.block (IsHeld t es) r.blocks b.found counted.held).kept
+
+-- a block of a profile by what is told of it: its size, its site, and the row of the site
+pub record IsAtSite (r : Layout ℕ) (t : List Sited) (es : Rows) (a size : ℕ) (site : List ℕ) (v : Row) : Type 0 where
+  pub counted : IsCounted r t es
+  pub places : HaveOwnPlaces r.blocks
+  pub the : TheBlock r.blocks a
+  pub sized : the.block.size ≡ size
+  pub kept : site_at a t ≡ Some site
+  pub row : v ≡ row_for site es
+  pub distinct : IsDistinct bytes_eq (keys_of es)
+
+pub at-site : {r : Layout ℕ} {t : List Sited} {es : Rows} {a size : ℕ} {site : List ℕ} {v : Row} → IsCounted r t es → HaveOwnPlaces r.blocks → option_map (λ (x : Block ℕ). x.size) (find_block (place_of a) r.blocks) ≡ Some size
+    → site_at a t ≡ Some site → v ≡ row_for site es → IsDistinct bytes_eq (keys_of es) → IsAtSite r t es a size site v
+at-site {r} {t} {es} {a} {size} counted places told kept row distinct =
+    let b = told-block (λ (x : Block ℕ). x.size) r.blocks a size told in
+    record { counted = counted; places = places; the = b; sized = told-is (λ (x : Block ℕ). x.size) r.blocks a size b told; kept = kept; row = row; distinct = distinct }
+
+module _ {r : Layout ℕ} {t : List Sited} {es : Rows} {a size : ℕ} {site : List ℕ} {v : Row} (at : IsAtSite r t es a size site v) where
+  abbrev b : Block ℕ
+  b = at.the.block
+
   abbrev pub p : ℕ × ℕ
   p = place_of a
 
@@ -33,37 +58,34 @@ module _ (r : Layout ℕ) (t : List Sited) (es : Rows) (counted : IsCounted r t 
   S = map (with_its_site t) r.blocks
 
   abbrev pub own : Block (ℕ × List ℕ)
-  own = with_its_site t b.block
+  own = with_its_site t b
 
-  pub own-is : site_of t b.block ≡ site
-  own-is = ap (λ n. unwrap_or (site_at n t) []) b.address ∙ ap (λ o. unwrap_or o []) at
+  pub own-is : site_of t b ≡ site
+  own-is = ap (λ n. unwrap_or (site_at n t) []) at.the.address ∙ ap (λ o. unwrap_or o []) at.kept
 
   pub own-found : find_block p S ≡ Some own
-  own-found = sited-find t p r.blocks ∙ ap (option_map (with_its_site t)) b.found
+  own-found = sited-find t p r.blocks ∙ ap (option_map (with_its_site t)) at.the.found
 
-  pub own-held : IsHeld t es b.block
-  own-held = all-found p b.block (IsHeld t es) r.blocks b.found counted.held
+  pub own-held : IsHeld t es b
+  own-held = all-found p b (IsHeld t es) r.blocks at.the.found at.counted.held
 
   pub has-row : IsSome (lookup (bytes_eq site) es)
   has-row = subst (λ x. IsSome (lookup (bytes_eq x) es)) own-is own-held.row
 
-  abbrev pub row : Row
-  row = row_for site es
-
-  pub row-is : IsRow S (site, row)
-  row-is = row-any t es site r.blocks counted.held counted.counted
+  pub row-is : IsRow S (site, v)
+  row-is = subst (λ x. IsRow S (site, x)) (sym at.row) (row-any t es site r.blocks at.counted.held at.counted.counted)
 
   pub own-one : one site own ≡ 1
-  own-one = ap (λ v. cond v 1 0) (ap (bytes_eq site) own-is ∙ own_site site)
+  own-one = ap (λ x. cond x 1 0) (ap (bytes_eq site) own-is ∙ own_site site)
 
-  pub own-size : size_at site own ≡ b.block.size
-  own-size = ap (λ v. cond v b.block.size 0) (ap (bytes_eq site) own-is ∙ own_site site)
+  pub own-size : size_at site own ≡ size
+  own-size = ap (λ x. cond x b.size 0) (ap (bytes_eq site) own-is ∙ own_site site) ∙ at.sized
 
   pub other-one : (x : List ℕ) → bytes_eq site x ≡ false → one x own ≡ 0
-  other-one x e = ap (λ v. cond v 1 0) (ap (bytes_eq x) own-is ∙ other-site site x e)
+  other-one x e = ap (λ y. cond y 1 0) (ap (bytes_eq x) own-is ∙ other-site site x e)
 
   pub other-size : (x : List ℕ) → bytes_eq site x ≡ false → size_at x own ≡ 0
-  other-size x e = ap (λ v. cond v b.block.size 0) (ap (bytes_eq x) own-is ∙ other-site site x e)
+  other-size x e = ap (λ y. cond y b.size 0) (ap (bytes_eq x) own-is ∙ other-site site x e)
 
   -- the blocks but for this one
   abbrev pub rest : List (Block (ℕ × List ℕ))
@@ -76,19 +98,19 @@ module _ (r : Layout ℕ) (t : List Sited) (es : Rows) (counted : IsCounted r t 
   bytes-split x = bytes-total x S ∙ (total-without (size_at x) p own S own-found ∙ ap (λ n. size_at x own + n) (sym (bytes-total x rest)))
 
   -- the sums of the site have the block
-  pub enough-blocks : 1 ≤ row.blocks
+  pub enough-blocks : 1 ≤ v.blocks
   enough-blocks = omega (arith, row-is.blocks_are, blocks-split site, own-one)
 
-  pub enough-bytes : b.block.size ≤ row.bytes
+  pub enough-bytes : size ≤ v.bytes
   enough-bytes = omega (arith, row-is.bytes_are, bytes-split site, own-size)
 
   pub away : AllByRecursion (λ c. address_of c ≢ a) (without_block p r.blocks)
   away =
-      all-weaken (λ c. address_of c ≢ address_of b.block) (λ c. address_of c ≢ a) (without_block p r.blocks) (λ c differs e. differs (e ∙ sym b.address))
-      (others-apart p b.block r.blocks b.found places)
+      all-weaken (λ c. address_of c ≢ address_of b) (λ c. address_of c ≢ a) (without_block p r.blocks) (λ c differs e. differs (e ∙ sym at.the.address))
+      (others-apart p b r.blocks at.the.found at.places)
 
   -- the block goes
-  module _ (t' : List Sited) (others : (q : ℕ) → q ≢ a → site_at q t' ≡ site_at q t) (w : Row) (w_blocks : w.blocks ≡ row.blocks - 1) (w_bytes : w.bytes ≡ row.bytes - b.block.size) (w_peak : w.peak ≡ max row.peak w.bytes) (distinct : IsDistinct bytes_eq (keys_of es)) where
+  module _ (t' : List Sited) (others : (q : ℕ) → q ≢ a → site_at q t' ≡ site_at q t) (w : Row) (with : IsRowWith v (v.blocks - 1) (v.bytes - size) w) where
     abbrev left : List (Block ℕ)
     left = without_block p r.blocks
 
@@ -105,20 +127,20 @@ module _ (r : Layout ℕ) (t : List Sited) (es : Rows) (counted : IsCounted r t 
 
     w-is : IsRow rest (site, w)
     w-is = record {
-      blocks_are = omega (arith, row-is.blocks_are, blocks-split site, own-one, w_blocks);
-      bytes_are = omega (arith, row-is.bytes_are, bytes-split site, own-size, w_bytes);
-      few = omega (arith, row-is.few, w_blocks);
-      peak = omega (arith, w_peak);
+      blocks_are = omega (arith, row-is.blocks_are, blocks-split site, own-one, with.blocks);
+      bytes_are = omega (arith, row-is.bytes_are, bytes-split site, own-size, with.bytes);
+      few = omega (arith, row-is.few, with.blocks);
+      peak = omega (arith, peak-with v v _ _ w refl with);
     }
 
     pub counted-freed : IsCounted (without_block_at r p) t' es'
     counted-freed = record {
-      held = all-both (IsHeld t es) (λ c. address_of c ≢ a) (IsHeld t' es') left (λ c h differs. held-put t t' es site w c h (others (address_of c) differs)) (all-without (IsHeld t es) p r.blocks counted.held) away;
-      counted = subst (λ bs. AllByRecursion (IsRow bs) es') (sym left-is) (rows-put S rest site w w-is same es distinct counted.counted);
+      held = all-both (IsHeld t es) (λ c. address_of c ≢ a) (IsHeld t' es') left (λ c h differs. held-put t t' es site w c h (others (address_of c) differs)) (all-without (IsHeld t es) p r.blocks at.counted.held) away;
+      counted = subst (λ bs. AllByRecursion (IsRow bs) es') (sym left-is) (rows-put S rest site w w-is same es at.distinct at.counted.counted);
     }
 
     pub profile-freed : profile t' (without_block_at r p) es' ≡ profile_free (profile t r es) p
     profile-freed =
-        let with : Layout (ℕ × List ℕ) → List (List ℕ × ℕ) → Profile ℕ = λ l ps. record { layout = l; peaks = ps } in
-        ap (λ bs. with (layout r.segments bs) (peaks_of es')) left-is
-        ∙ ap (with (layout r.segments rest)) (peaks-put S rest site w w-is same es distinct counted.counted w_peak ∙ ap (peaked rest) (site-there site es has-row))
+        let made : Layout (ℕ × List ℕ) → List (List ℕ × ℕ) → Profile ℕ = λ l ps. record { layout = l; peaks = ps } in
+        ap (λ bs. made (layout r.segments bs) (peaks_of es')) left-is
+        ∙ ap (made (layout r.segments rest)) (peaks-put S rest site w w-is same es at.distinct at.counted.counted (peak-with v (row_for site es) _ _ w at.row with) ∙ ap (peaked rest) (site-there site es has-row))

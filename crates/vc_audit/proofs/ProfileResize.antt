@@ -1,8 +1,8 @@
 -- What a profile region counts when a block gets another size.
-use Rattle.std.proofs.Common.{◌≡◌, ◌≢◌, ℕ, suc, ◌+◌, ◌-◌, ◌≤◌, false, Bool, cond, List, [], ◌∷◌, Some, IsSome, is_some, map, max, option_map, sym, ap, ◌∙◌, subst, ⊎_elim, arith}
+use Rattle.std.proofs.Common.{◌≡◌, ◌≢◌, ℕ, suc, ◌+◌, ◌-◌, ◌≤◌, false, Bool, cond, List, [], ◌∷◌, Some, IsSome, is_some, map, option_map, refl, sym, ap, ◌∙◌, subst, ⊎_elim, arith}
 use Rattle.std.specs.Prelude.{unwrap_or}
-use Rattle.std.specs.List.{AllByRecursion, IsDistinct}
-use Rattle.std.specs.Map.{keys_of, lookup}
+use Rattle.std.specs.List.{AllByRecursion}
+use Rattle.std.specs.Map.{lookup}
 use Rattle.std.specs.Str.{bytes_eq}
 use Rattle.std.proofs.lemmas.Bool.{cases_Bool}
 use Rattle.std.proofs.lemmas.Option.{none-some}
@@ -26,11 +26,11 @@ use Rattle.vc_audit.proofs.ProfileAlloc.{some-of}
 use Rattle.vc_audit.proofs.ProfileBare.{IsKept, bare, bare-layout, kept-layout, sited-alike, sited-find, sited-without}
 use Rattle.vc_audit.proofs.ProfileCounts.{blocks-total, bytes-total, one, size_at, total-without}
 use Rattle.vc_audit.proofs.ProfileFree as free
-use Rattle.vc_audit.proofs.ProfileFree.{profile}
+use Rattle.vc_audit.proofs.ProfileFree.{IsAtSite, profile}
 use Rattle.vc_audit.proofs.ProfileHeld.{TheBlock, held-put, other-site}
 use Rattle.vc_audit.proofs.ProfileLists.{all-both, all-found, all-join, all-map, all-unmap, all-weaken, all-without, others-apart, first_at, later_at}
 use Rattle.vc_audit.proofs.ProfilePuts.{Keeps, WithSites, put-profile, refusal-with, resize-all, with-sites}
-use Rattle.vc_audit.proofs.ProfileRows.{own_site, peaks-put, put-own, rows-put, site-there}
+use Rattle.vc_audit.proofs.ProfileRows.{IsRowWith, own_site, peak-with, peaks-put, put-own, rows-put, site-there}
 
 -- the block that is found stands there
 has-found : (p : ℕ × ℕ) (a : ℕ) (b : Block ℕ) (bs : List (Block ℕ)) → find_block p bs ≡ Some b → address_of b ≡ a → HasBlock bs a
@@ -52,10 +52,20 @@ pub resize-refused : (t : List Sited) (r : Layout ℕ) (es : Rows) (terms : Term
 resize-refused t r es terms at size may_move e h =
     refusal-with (profile_after (peaks_of es)) (best_resize terms r at size may_move) (best_resize terms (sited t r) at size may_move) (resize-bare t r terms at size may_move) e h
 
-module _ (r : Layout ℕ) (t : List Sited) (es : Rows) (counted : IsCounted r t es) (places : HaveOwnPlaces r.blocks) (a : ℕ) (b : TheBlock r.blocks a) (site : List ℕ) (at : site_at a t ≡ Some site)
-    (distinct : IsDistinct bytes_eq (keys_of es)) (terms : Terms) (size : ℕ) (may_move : Bool) (most : size ≤ 16777216) (to : ℕ) (r' : Layout ℕ) (placed : IsPut (best_resize terms r (place_of a) size may_move false) to r')
-    (nb : TheBlock r'.blocks to) (others_r : without_block (place_of to) r'.blocks ≡ without_block (place_of a) r.blocks) (places' : HaveOwnPlaces r'.blocks)
-    (t' : List Sited) (there : site_at to t' ≡ Some site) (others_t : (q : ℕ) → q ≢ a → q ≢ to → site_at q t' ≡ site_at q t) where
+-- the block of an address with its site is at another one, of another size, and the others stay
+pub record IsMovedTo (r r' : Layout ℕ) (t t' : List Sited) (a to size : ℕ) (site : List ℕ) : Type 0 where
+  pub places : HaveOwnPlaces r'.blocks
+  pub the : TheBlock r'.blocks to
+  pub sized : the.block.size ≡ size
+  pub others : without_block (place_of to) r'.blocks ≡ without_block (place_of a) r.blocks
+  pub kept : site_at to t' ≡ Some site
+  pub others_kept : (q : ℕ) → q ≢ a → q ≢ to → site_at q t' ≡ site_at q t
+
+module _ {r : Layout ℕ} {t : List Sited} {es : Rows} {a was : ℕ} {site : List ℕ} {v : Row} {r' : Layout ℕ} {t' : List Sited} {to now : ℕ} (at : IsAtSite r t es a was site v) (moved : IsMovedTo r r' t t' a to now site)
+    (terms : Terms) (size : ℕ) (may_move : Bool) (most : size ≤ 16777216) (placed : IsPut (best_resize terms r (place_of a) size may_move false) to r') where
+  abbrev b : Block ℕ
+  b = moved.the.block
+
   abbrev p : ℕ × ℕ
   p = place_of a
 
@@ -66,17 +76,17 @@ module _ (r : Layout ℕ) (t : List Sited) (es : Rows) (counted : IsCounted r t 
   outcome = best_resize terms (sited t r) p size may_move false
 
   away_a : AllByRecursion (λ c. address_of c ≢ a) (without_block p r.blocks)
-  away_a = free.away r t es counted places a b site at
+  away_a = free.away at
 
   away_to : AllByRecursion (λ c. address_of c ≢ to) (without_block p r.blocks)
   away_to =
-      subst (AllByRecursion (λ c. address_of c ≢ to)) others_r
-      (all-weaken (λ c. address_of c ≢ address_of nb.block) (λ c. address_of c ≢ to) (without_block (place_of to) r'.blocks) (λ c differs e. differs (e ∙ sym nb.address))
-      (others-apart (place_of to) nb.block r'.blocks nb.found places'))
+      subst (AllByRecursion (λ c. address_of c ≢ to)) moved.others
+      (all-weaken (λ c. address_of c ≢ address_of b) (λ c. address_of c ≢ to) (without_block (place_of to) r'.blocks) (λ c differs e. differs (e ∙ sym moved.the.address))
+      (others-apart (place_of to) b r'.blocks moved.the.found moved.places))
 
   -- the sites of the others are kept as before
   rest_alike : AllByRecursion (λ c. site_at (address_of c) t' ≡ site_at (address_of c) t) (without_block p r.blocks)
-  rest_alike = all-both (λ c. address_of c ≢ a) (λ c. address_of c ≢ to) (λ c. site_at (address_of c) t' ≡ site_at (address_of c) t) (without_block p r.blocks) (λ c x y. others_t (address_of c) x y) away_a away_to
+  rest_alike = all-both (λ c. address_of c ≢ a) (λ c. address_of c ≢ to) (λ c. site_at (address_of c) t' ≡ site_at (address_of c) t) (without_block p r.blocks) (λ c x y. moved.others_kept (address_of c) x y) away_a away_to
 
   -- every block's site is kept now, but where one has moved away
   abbrev P : Block (ℕ × List ℕ) → Type 0
@@ -88,10 +98,10 @@ module _ (r : Layout ℕ) (t : List Sited) (es : Rows) (counted : IsCounted r t 
   old-kept : AllByRecursion P S
   old-kept =
       all-map (with_its_site t) P r.blocks
-      (all-join p b.block (λ c. P (with_its_site t c)) r.blocks b.found
-      ((λ moved. ap (λ n. site_at n t') (b.address ∙ moved b.address) ∙ (there ∙ ap (λ x. Some x) (sym (free.own-is r t es counted places a b site at)))), (free.own-held r t es counted places a b site at).most)
-      (all-both (IsHeld t es) (λ c. site_at (address_of c) t' ≡ site_at (address_of c) t) (λ c. P (with_its_site t c)) (without_block p r.blocks) (λ c h same. ((λ moved. same ∙ site-kept c h), h.most))
-      (all-without (IsHeld t es) p r.blocks counted.held) rest_alike))
+      (all-join p at.the.block (λ c. P (with_its_site t c)) r.blocks at.the.found
+      ((λ e. ap (λ n. site_at n t') (at.the.address ∙ e at.the.address) ∙ (moved.kept ∙ ap (λ x. Some x) (sym (free.own-is at)))), (free.own-held at).most)
+      (all-both (IsHeld t es) (λ c. site_at (address_of c) t' ≡ site_at (address_of c) t) (λ c. P (with_its_site t c)) (without_block p r.blocks) (λ c h same. ((λ e. same ∙ site-kept c h), h.most))
+      (all-without (IsHeld t es) p r.blocks at.counted.held) rest_alike))
 
   put : WithSites outcome to r' (Keeps P (λ src c h. h) size (λ c h. (h.0, most)) terms (sited t r) p old-kept)
   put =
@@ -105,18 +115,18 @@ module _ (r : Layout ℕ) (t : List Sited) (es : Rows) (counted : IsCounted r t 
   -- the block that is found is the one that has the site
   its-site : (c : Block (ℕ × List ℕ)) → find_block p S ≡ Some c → c.label.1 ≡ site
   its-site c e =
-      let same : Some c ≡ Some (with_its_site t b.block) = sym e ∙ free.own-found r t es counted places a b site at in
-      let is : c ≡ with_its_site t b.block = cc in
-      ap (λ (d : Block (ℕ × List ℕ)). d.label.1) is ∙ free.own-is r t es counted places a b site at
+      let same : Some c ≡ Some (with_its_site t at.the.block) = sym e ∙ free.own-found at in
+      let is : c ≡ with_its_site t at.the.block = cc in
+      ap (λ (d : Block (ℕ × List ℕ)). d.label.1) is ∙ free.own-is at
 
   new-kept : AllByRecursion P q.blocks
-  new-kept = put.holds (λ c e. ((λ moved. ap (λ n. site_at n t') (sym put.address) ∙ (there ∙ ap (λ x. Some x) (sym (its-site c e)))), most))
+  new-kept = put.holds (λ c e. ((λ stays. ap (λ n. site_at n t') (sym put.address) ∙ (moved.kept ∙ ap (λ x. Some x) (sym (its-site c e)))), most))
 
   -- none stands where it was, if it moved
   gone : AllByRecursion (λ c. address_of c ≡ a → a ≡ to) r'.blocks
   gone =
-      all-join (place_of to) nb.block (λ c. address_of c ≡ a → a ≡ to) r'.blocks nb.found (λ e. sym e ∙ nb.address)
-      (subst (AllByRecursion (λ (c : Block ℕ). address_of c ≡ a → a ≡ to)) (sym others_r) (all-weaken (λ c. address_of c ≢ a) (λ c. address_of c ≡ a → a ≡ to) (without_block p r.blocks) (λ c away e. absurd (away e)) away_a))
+      all-join (place_of to) b (λ c. address_of c ≡ a → a ≡ to) r'.blocks moved.the.found (λ e. sym e ∙ moved.the.address)
+      (subst (AllByRecursion (λ (c : Block ℕ). address_of c ≡ a → a ≡ to)) (sym moved.others) (all-weaken (λ c. address_of c ≢ a) (λ c. address_of c ≡ a → a ≡ to) (without_block p r.blocks) (λ c away e. absurd (away e)) away_a))
 
   gone-q : AllByRecursion (λ (c : Block (ℕ × List ℕ)). address_of c ≡ a → a ≡ to) q.blocks
   gone-q = all-unmap (relabel_block bare) (λ c. address_of c ≡ a → a ≡ to) q.blocks (subst (λ (l : Layout ℕ). AllByRecursion (λ c. address_of c ≡ a → a ≡ to) l.blocks) put.layout gone)
@@ -131,32 +141,32 @@ module _ (r : Layout ℕ) (t : List Sited) (es : Rows) (counted : IsCounted r t 
       subst (λ (l : Layout ℕ). AllByRecursion (λ c. c.size ≤ 16777216) l.blocks) (sym put.layout)
       (all-map (relabel_block bare) (λ c. c.size ≤ 16777216) q.blocks (all-weaken P (λ c. c.size ≤ 16777216) q.blocks (λ c h. h.1) new-kept))
 
-  pub size-most : nb.block.size ≤ 16777216
-  size-most = all-found (place_of to) nb.block (λ c. c.size ≤ 16777216) r'.blocks nb.found sizes
+  pub size-most : b.size ≤ 16777216
+  size-most = all-found (place_of to) b (λ c. c.size ≤ 16777216) r'.blocks moved.the.found sizes
 
   -- the sums change by the block's size
   abbrev S' : List (Block (ℕ × List ℕ))
   S' = map (with_its_site t') r'.blocks
 
   abbrev own : Block (ℕ × List ℕ)
-  own = with_its_site t' nb.block
+  own = with_its_site t' b
 
   abbrev rest : List (Block (ℕ × List ℕ))
   rest = without_block p S
 
-  own-kept : site_at (address_of nb.block) t' ≡ Some site
-  own-kept = ap (λ n. site_at n t') nb.address ∙ there
+  own-kept : site_at (address_of b) t' ≡ Some site
+  own-kept = ap (λ n. site_at n t') moved.the.address ∙ moved.kept
 
-  own-is : site_of t' nb.block ≡ site
+  own-is : site_of t' b ≡ site
   own-is = ap (λ o. unwrap_or o []) own-kept
 
   rest-is : without_block (place_of to) S' ≡ rest
   rest-is =
       sym (sited-without t' (place_of to) r'.blocks)
-      ∙ (ap (map (with_its_site t')) others_r ∙ (sited-alike t t' (without_block p r.blocks) rest_alike ∙ sited-without t p r.blocks))
+      ∙ (ap (map (with_its_site t')) moved.others ∙ (sited-alike t t' (without_block p r.blocks) rest_alike ∙ sited-without t p r.blocks))
 
   found' : find_block (place_of to) S' ≡ Some own
-  found' = sited-find t' (place_of to) r'.blocks ∙ ap (option_map (with_its_site t')) nb.found
+  found' = sited-find t' (place_of to) r'.blocks ∙ ap (option_map (with_its_site t')) moved.the.found
 
   blocks-now : (x : List ℕ) → site_blocks x S' ≡ one x own + site_blocks x rest
   blocks-now x =
@@ -173,53 +183,51 @@ module _ (r : Layout ℕ) (t : List Sited) (es : Rows) (counted : IsCounted r t 
   own-one : one site own ≡ 1
   own-one = ap (λ v. cond v 1 0) (ap (bytes_eq site) own-is ∙ own_site site)
 
-  own-size : size_at site own ≡ nb.block.size
-  own-size = ap (λ v. cond v nb.block.size 0) (ap (bytes_eq site) own-is ∙ own_site site)
+  own-size : size_at site own ≡ now
+  own-size = ap (λ v. cond v b.size 0) (ap (bytes_eq site) own-is ∙ own_site site) ∙ moved.sized
 
   same : (x : List ℕ) → bytes_eq site x ≡ false → (site_blocks x S' ≡ site_blocks x S) × (site_bytes x S' ≡ site_bytes x S)
   same x e =
       let none : one x own ≡ 0 = ap (λ v. cond v 1 0) (ap (bytes_eq x) own-is ∙ other-site site x e) in
-      let no_size : size_at x own ≡ 0 = ap (λ v. cond v nb.block.size 0) (ap (bytes_eq x) own-is ∙ other-site site x e) in (
-        omega (arith, blocks-now x, none, free.blocks-split r t es counted places a b site at x, free.other-one r t es counted places a b site at x e),
-        omega (arith, bytes-now x, no_size, free.bytes-split r t es counted places a b site at x, free.other-size r t es counted places a b site at x e),
+      let no_size : size_at x own ≡ 0 = ap (λ v. cond v b.size 0) (ap (bytes_eq x) own-is ∙ other-site site x e) in (
+        omega (arith, blocks-now x, none, free.blocks-split at x, free.other-one at x e),
+        omega (arith, bytes-now x, no_size, free.bytes-split at x, free.other-size at x e),
       )
 
-  module _ (w : Row) (w_blocks : w.blocks ≡ (row_for site es).blocks) (w_bytes : w.bytes ≡ (row_for site es).bytes - b.block.size + nb.block.size) (w_peak : w.peak ≡ max (row_for site es).peak w.bytes) where
+  module _ (w : Row) (with : IsRowWith v v.blocks (v.bytes - was + now) w) where
     abbrev es' : Rows
     es' = insert_entry bytes_eq es site w
 
     w-is : IsRow S' (site, w)
     w-is =
-        let was = free.row-is r t es counted places a b site at in
-        let own_was = free.own-one r t es counted places a b site at in
-        let size_was = free.own-size r t es counted places a b site at in
+        let before = free.row-is at in
         record {
-          blocks_are = omega (arith, was.blocks_are, free.blocks-split r t es counted places a b site at site, own_was, blocks-now site, own-one, w_blocks);
-          bytes_are = omega (arith, was.bytes_are, free.bytes-split r t es counted places a b site at site, size_was, bytes-now site, own-size, w_bytes);
-          few = omega (arith, was.few, w_blocks);
-          peak = omega (arith, w_peak);
+          blocks_are = omega (arith, before.blocks_are, free.blocks-split at site, free.own-one at, blocks-now site, own-one, with.blocks);
+          bytes_are = omega (arith, before.bytes_are, free.bytes-split at site, free.own-size at, bytes-now site, own-size, with.bytes);
+          few = omega (arith, before.few, with.blocks);
+          peak = omega (arith, peak-with v v _ _ w refl with);
         }
 
     pub counted-resized : IsCounted r' t' es'
     counted-resized = record {
       held =
-          all-join (place_of to) nb.block (IsHeld t' es') r'.blocks nb.found
+          all-join (place_of to) b (IsHeld t' es') r'.blocks moved.the.found
           (record {
             kept = ap is_some own-kept;
             row = subst (λ x. IsSome (lookup (bytes_eq x) es')) (sym own-is) (put-own site w es);
             most = size-most;
           })
-          (subst (AllByRecursion (IsHeld t' es')) (sym others_r)
+          (subst (AllByRecursion (IsHeld t' es')) (sym moved.others)
           (all-both (IsHeld t es) (λ c. site_at (address_of c) t' ≡ site_at (address_of c) t) (IsHeld t' es') (without_block p r.blocks) (λ c h alike. held-put t t' es site w c h alike)
-          (all-without (IsHeld t es) p r.blocks counted.held) rest_alike));
-      counted = rows-put S S' site w w-is same es distinct counted.counted;
+          (all-without (IsHeld t es) p r.blocks at.counted.held) rest_alike));
+      counted = rows-put S S' site w w-is same es at.distinct at.counted.counted;
     }
 
     put-is : IsPut (profile_resize terms (profile t r es) p size may_move false) to (profile t' r' es')
     put-is =
-        let with : Layout (ℕ × List ℕ) → List (List ℕ × ℕ) → Profile ℕ = λ l ps. record { layout = l; peaks = ps } in
+        let made : Layout (ℕ × List ℕ) → List (List ℕ × ℕ) → Profile ℕ = λ l ps. record { layout = l; peaks = ps } in
         put-profile (peaks_of es) outcome to r' (Keeps P (λ src c h. h) size (λ c h. (h.0, most)) terms (sited t r) p old-kept) put (profile t' r' es')
-        (ap (with (sited t' r')) (peaks-put S S' site w w-is same es distinct counted.counted w_peak ∙ ap (peaked S') (site-there site es (free.has-row r t es counted places a b site at)))
+        (ap (made (sited t' r')) (peaks-put S S' site w w-is same es at.distinct at.counted.counted (peak-with v (row_for site es) _ _ w at.row with) ∙ ap (peaked S') (site-there site es (free.has-row at)))
         ∙ ap (profile_after (peaks_of es)) layout-is)
 
     pub profile-resized : (rows : Rows) → rows ≡ es' → IsPut (profile_resize terms (profile t r es) p size may_move false) to (profile t' r' rows)

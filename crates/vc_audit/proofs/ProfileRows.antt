@@ -69,6 +69,15 @@ put-keeps x site w (e ∷ es) there =
     head true h = refl
     head false h = h
 
+-- a row with so many blocks and bytes, of which the peak takes note
+pub record IsRowWith (v : Row) (n m : ℕ) (w : Row) : Type 0 where
+  pub blocks : w.blocks ≡ n
+  pub bytes : w.bytes ≡ m
+  pub peak : w.peak ≡ max v.peak m
+
+pub peak-with : (v u : Row) (n m : ℕ) (w : Row) → v ≡ u → IsRowWith v n m w → w.peak ≡ max u.peak w.bytes
+peak-with v u n m w row with = with.peak ∙ (ap (max v.peak) (sym with.bytes) ∙ ap (λ (x : Row). max x.peak w.bytes) row)
+
 -- the sums of one site change
 module _ (bs bs' : List (Block (ℕ × List ℕ))) (site : List ℕ) (w : Row) (own : IsRow bs' (site, w)) (same : (x : List ℕ) → bytes_eq site x ≡ false → (site_blocks x bs' ≡ site_blocks x bs) × (site_bytes x bs' ≡ site_bytes x bs)) where
   rest-same : (es : Rows) → AllByRecursion (IsRow bs) es → AllByRecursion (λ k. bytes_eq site k ≡ false) (keys_of es) → AllByRecursion (IsRow bs') es

@@ -6,16 +6,23 @@ use Rattle.vc_model.specs.Touch.{HasBlock}
 use Rattle.vc_best.specs.Parts.{layout_of}
 use Rattle.vc_audit.specs.DebugMark.{without_mark}
 use Rattle.vc_audit.specs.Debug.{Debug, guarded_place}
-use Rattle.vc_audit.proofs.DebugBlocks.{address-place_of, guarded-at, live-down, user_at}
+use Rattle.vc_audit.proofs.DebugBlocks.{UserAt, address-place_of, guarded-at, live-down}
 use Rattle.vc_audit.proofs.DebugFills.{guards-without}
 use Rattle.vc_audit.proofs.DebugFrees.{freed-user}
+use Rattle.vc_audit.proofs.DebugUser.{user_in}
+use Rattle.vc_audit.proofs.debug.Debug.free.Given.{Over}
 use Rattle.vc_audit.proofs.debug.Debug.free.Goals as goal
+use Rattle.vc_audit.proofs.debug.Debug.free.Goals.{After-guarded_addr}
 
 pub guarded_addr-requires : goal.guarded_addr-requires
 guarded_addr-requires g c = (live-down (layout_of c.args.self.now.best).blocks c.args.a.0 c.requires).0
 
+-- the user's block, in the one with guards
+user : (g : Over) (c : After-guarded_addr g) → UserAt (layout_of c.args.self.now.best) c.args.a.0 c.guarded_addr.result.0
+user g c = user_in c.args.self.now c.args.a.0 c.guarded_addr.result.0 c.guarded_addr.ensures c.requires
+
 pub free-requires : goal.free-requires
-free-requires g c = record { block = (user_at (layout_of c.args.self.now.best) c.args.self.now.best.sound c.args.self.now.guarded c.args.a.0 c.guarded_addr.result.0 c.guarded_addr.ensures c.requires).live }
+free-requires g c = record { block = (user g (goal.at.free-requires g c).After-guarded_addr).live }
 
 pub invariant_of-self : goal.invariant_of-self
 invariant_of-self g c = record { guarded = rw c.free.ensures.layout (guards-without (place_of c.guarded_addr.result.0) (layout_of c.args.self.now.best).blocks c.args.self.now.guarded) }
@@ -25,13 +32,12 @@ returns-clause-debug g c =
     let r = layout_of c.args.self.now.best in
     let a = c.args.a.0 in
     let marks = c.args.self.now.marks.items in
-    let u = user_at (layout_of c.args.self.now.best) c.args.self.now.best.sound c.args.self.now.guarded c.args.a.0 c.guarded_addr.result.0 c.guarded_addr.ensures c.requires in
     let D : Layout ℕ → List (ℕ × ℕ) → Debug ℕ = λ l ms. record { best = l; marks = ms } in
-    ap (λ l. D l c.drop_mark.new.marks.items) (c.free.ensures.layout ∙ ap (without_block_at r) (sym (guarded-at r a c.guarded_addr.result.0 u)))
+    ap (λ l. D l c.drop_mark.new.marks.items) (c.free.ensures.layout ∙ ap (without_block_at r) (sym (guarded-at r a c.guarded_addr.result.0 (user g (goal.at.returns-clause-debug g c).After-guarded_addr))))
     ∙ ap (D (without_block_at r (guarded_place (place_of a)))) (c.drop_mark.ensures.items ∙ ap (λ n. without_mark n marks) (sym (address-place_of a)))
 
 pub returns-clause-freed : goal.returns-clause-freed
-returns-clause-freed g c = freed-user (layout_of c.args.self.now.best).blocks (layout_of c.free.new.self).blocks c.args.a.0 c.guarded_addr.result.0 (user_at (layout_of c.args.self.now.best) c.args.self.now.best.sound c.args.self.now.guarded c.args.a.0 c.guarded_addr.result.0 c.guarded_addr.ensures c.requires).next c.free.ensures.freed
+returns-clause-freed g c = freed-user (layout_of c.args.self.now.best).blocks (layout_of c.free.new.self).blocks c.args.a.0 c.guarded_addr.result.0 (user g (goal.at.returns-clause-freed g c).After-guarded_addr).next c.free.ensures.freed
 
 pub returns-clause-none_left : goal.returns-clause-none_left
 returns-clause-none_left g c = λ live. c.free.ensures.none_left (subst (HasBlock (layout_of c.free.new.self).blocks) (sym c.guarded_addr.ensures) (live-down (layout_of c.free.new.self).blocks c.args.a.0 live).1)

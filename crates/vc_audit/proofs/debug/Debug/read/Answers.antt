@@ -1,39 +1,33 @@
-use Rattle.std.proofs.Common.{◌≤◌, ℕ, ◌+◌, Option, IfSome, drop, option_map, take, ap, ◌∙◌, subst, arith}
+use Rattle.std.proofs.Common.{drop, option_map, take, ap, ◌∙◌, arith}
 use Rattle.vc_model.specs.Addr.{place_of}
-use Rattle.vc_model.specs.Layout.{Block}
 use Rattle.vc_model.specs.Touch.{find_block}
 use Rattle.vc_best.specs.Parts.{layout_of}
-use Rattle.vc_audit.specs.Debug.{user_block}
-use Rattle.vc_audit.proofs.DebugBlocks.{found-at, live-down, user_at}
-use Rattle.vc_audit.proofs.DebugFills.{found-live, range-below, range-user, read-user}
+use Rattle.vc_audit.proofs.DebugBlocks.{UserAt, live-down}
+use Rattle.vc_audit.proofs.DebugFills.{read-user}
+use Rattle.vc_audit.proofs.DebugUser.{found-in, range-guarded, range-in, range-most, user_in}
+use Rattle.vc_audit.proofs.debug.Debug.read.Given.{Over}
 use Rattle.vc_audit.proofs.debug.Debug.read.Goals as goal
+use Rattle.vc_audit.proofs.debug.Debug.read.Goals.{After-guarded_addr}
 
 pub guarded_addr-requires : goal.guarded_addr-requires
 guarded_addr-requires g c = (live-down (layout_of c.args.self.now.best).blocks c.args.a.0 c.requires.block).0
 
+-- the user's block, in the one with guards
+user : (g : Over) (c : After-guarded_addr g) → UserAt (layout_of c.args.self.now.best) c.args.a.0 c.guarded_addr.result.0
+user g c = user_in c.args.self.now c.args.a.0 c.guarded_addr.result.0 c.guarded_addr.ensures c.requires.block
+
 pub overflow_add-off : goal.overflow_add-off
-overflow_add-off g c =
-    let r = layout_of c.args.self.now.best in
-    let x = c.guarded_addr.result.0 in
-    let u = user_at (layout_of c.args.self.now.best) c.args.self.now.best.sound c.args.self.now.guarded c.args.a.0 c.guarded_addr.result.0 c.guarded_addr.ensures c.requires.block in
-    let range : IfSome (option_map user_block (find_block (place_of x) r.blocks)) (λ b. c.args.off + c.args.len ≤ b.size) = subst (λ (o : Option (Block ℕ)). IfSome o (λ b. c.args.off + c.args.len ≤ b.size)) (found-at r c.args.a.0 x u r.blocks) c.requires.range in
-    let below = range-below r.blocks (place_of x) c.args.off c.args.len c.args.self.now.guarded (found-live r c.args.self.now.best.sound x u.live) (range-user r.blocks (place_of x) c.args.off c.args.len c.args.self.now.guarded range) in
-    omega (arith, below)
+overflow_add-off g c = let most = range-most c.args.self.now (user g (goal.at.overflow_add-off g c).After-guarded_addr) c.args.off c.args.len c.requires.range in omega (arith, most)
 
 pub read-requires-clause-block : goal.read-requires-clause-block
-read-requires-clause-block g c = (user_at (layout_of c.args.self.now.best) c.args.self.now.best.sound c.args.self.now.guarded c.args.a.0 c.guarded_addr.result.0 c.guarded_addr.ensures c.requires.block).live
+read-requires-clause-block g c = (user g (goal.at.read-requires-clause-block g c).After-guarded_addr).live
 
 pub read-requires-clause-range : goal.read-requires-clause-range
-read-requires-clause-range g c =
-    let r = layout_of c.args.self.now.best in
-    let x = c.guarded_addr.result.0 in
-    let u = user_at (layout_of c.args.self.now.best) c.args.self.now.best.sound c.args.self.now.guarded c.args.a.0 c.guarded_addr.result.0 c.guarded_addr.ensures c.requires.block in
-    range-user r.blocks (place_of x) c.args.off c.args.len c.args.self.now.guarded (subst (λ (o : Option (Block ℕ)). IfSome o (λ b. c.args.off + c.args.len ≤ b.size)) (found-at r c.args.a.0 x u r.blocks) c.requires.range)
+read-requires-clause-range g c = range-guarded c.args.self.now (user g (goal.at.read-requires-clause-range g c).After-guarded_addr) c.args.off c.args.len c.requires.range
 
 pub returns : goal.returns
 returns g c =
-    let r = layout_of c.args.self.now.best in
-    let x = c.guarded_addr.result.0 in
-    let u = user_at (layout_of c.args.self.now.best) c.args.self.now.best.sound c.args.self.now.guarded c.args.a.0 c.guarded_addr.result.0 c.guarded_addr.ensures c.requires.block in
-    let range : IfSome (option_map user_block (find_block (place_of x) r.blocks)) (λ b. c.args.off + c.args.len ≤ b.size) = subst (λ (o : Option (Block ℕ)). IfSome o (λ b. c.args.off + c.args.len ≤ b.size)) (found-at r c.args.a.0 x u r.blocks) c.requires.range in
-    ap (option_map (λ b. take c.args.len (drop c.args.off b.bytes))) (found-at r c.args.a.0 x u r.blocks) ∙ read-user (find_block (place_of x) r.blocks) c.args.off c.args.len c.read.result.now range c.read.ensures
+    let d = c.args.self.now in
+    let u = user g (goal.at.returns g c).After-guarded_addr in
+    ap (option_map (λ b. take c.args.len (drop c.args.off b.bytes))) (found-in d u)
+    ∙ read-user (find_block (place_of c.guarded_addr.result.0) (layout_of d.best).blocks) c.args.off c.args.len c.read.result.now (range-in d u c.args.off c.args.len c.requires.range) c.read.ensures

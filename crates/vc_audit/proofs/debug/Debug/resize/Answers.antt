@@ -5,35 +5,29 @@ use Rattle.vc_model.specs.Layout.{Block, Layout}
 use Rattle.vc_model.specs.Touch.{find_block}
 use Rattle.vc_best.specs.Parts.{layout_of}
 use Rattle.vc_audit.specs.Debug.{Debug, stays_debug}
-use Rattle.vc_audit.proofs.DebugBlocks.{found-at, live-down, user_at}
-use Rattle.vc_audit.proofs.DebugPuts.{answer-resized, below-resized, guards-resized, live-sized, others-resized, refused-resized, stays-user, there-resized}
+use Rattle.vc_audit.proofs.DebugBlocks.{UserAt, found-at, live-down}
+use Rattle.vc_audit.proofs.DebugPuts.{IsResized, answer-resized, below-resized, guards-resized, live-sized, others-resized, refused-resized, stays-user, there-resized}
+use Rattle.vc_audit.proofs.DebugUser.{user_in}
+use Rattle.vc_audit.proofs.debug.Debug.resize.Given.{Over}
 use Rattle.vc_audit.proofs.debug.Debug.resize.Goals as goal
+use Rattle.vc_audit.proofs.debug.Debug.resize.Goals.{After-guarded_addr, After-write_zeros}
 
 pub guarded_addr-requires : goal.guarded_addr-requires
 guarded_addr-requires g c = (live-down (layout_of c.args.self.now.best).blocks c.args.a.0 c.requires.block).0
 
+-- the user's block, in the one with guards
+user : (g : Over) (c : After-guarded_addr g) → UserAt (layout_of c.args.self.now.best) c.args.a.0 c.guarded_addr.result.0
+user g c = user_in c.args.self.now c.args.a.0 c.guarded_addr.result.0 c.guarded_addr.ensures c.requires.block
+
 pub resize-requires-clause-block : goal.resize-requires-clause-block
-resize-requires-clause-block g c = (user_at (layout_of c.args.self.now.best) c.args.self.now.best.sound c.args.self.now.guarded c.args.a.0 c.guarded_addr.result.0 c.guarded_addr.ensures c.requires.block).live
+resize-requires-clause-block g c = (user g (goal.at.resize-requires-clause-block g c).After-guarded_addr).live
 
 pub write_zeros-requires-clause-block : goal.write_zeros-requires-clause-block
 write_zeros-requires-clause-block g c = live-sized (layout_of c.resize.new.self).blocks c.in-Ok.at.0 (c.args.size + 48) _ refl c.in-Ok.ensures.sized
 
-pub invariant_of-self : goal.invariant_of-self
-invariant_of-self g c = record {
-  guarded = guards-resized (layout_of c.args.self.now.best) (layout_of c.resize.new.self) (layout_of c.write_zeros.new.best) c.args.size c.min-kept.result c.guarded_addr.result.0 c.in-Ok.at.0 (record {
-    some = c.requires.some;
-    most = c.requires.most;
-    guards = c.args.self.now.guarded;
-    sized = c.in-Ok.ensures.sized;
-    there = c.in-Ok.ensures.there;
-    others = c.in-Ok.ensures.others;
-    written = c.write_zeros.ensures.layout;
-    sound = c.write_zeros.new.best.sound;
-  });
-}
-
-pub user_addr-to-requires : goal.user_addr-to-requires
-user_addr-to-requires g c = let low = below-resized (layout_of c.args.self.now.best) (layout_of c.resize.new.self) (layout_of c.write_zeros.new.best) c.args.size c.min-kept.result c.guarded_addr.result.0 c.in-Ok.at.0 (record {
+-- the block as it was given another size
+resized : (g : Over) (c : After-write_zeros g) → IsResized (layout_of c.args.self.now.best) (layout_of c.resize.new.self) (layout_of c.write_zeros.new.best) c.args.size c.min-kept.result c.guarded_addr.result.0 c.in-Ok.at.0
+resized g c = record {
   some = c.requires.some;
   most = c.requires.most;
   guards = c.args.self.now.guarded;
@@ -42,12 +36,20 @@ user_addr-to-requires g c = let low = below-resized (layout_of c.args.self.now.b
   others = c.in-Ok.ensures.others;
   written = c.write_zeros.ensures.layout;
   sound = c.write_zeros.new.best.sound;
-}) in omega (arith, low)
+}
+
+pub invariant_of-self : goal.invariant_of-self
+invariant_of-self g c = record {
+  guarded = guards-resized (resized g (goal.at.invariant_of-self g c).After-write_zeros);
+}
+
+pub user_addr-to-requires : goal.user_addr-to-requires
+user_addr-to-requires g c = let low = below-resized (resized g (goal.at.user_addr-to-requires g c).After-write_zeros) in omega (arith, low)
 
 pub returns-clause-answer : goal.returns-clause-answer
 returns-clause-answer g c =
     let D : Layout ℕ → Debug ℕ = λ l. record { best = l; marks = c.args.self.now.marks.items } in
-    (refused-resized (layout_of c.args.self.now.best) c.args.self.now.marks.items _ c.args.a.0 c.guarded_addr.result.0 c.args.size c.args.may_move c.in-Err.fault (user_at (layout_of c.args.self.now.best) c.args.self.now.best.sound c.args.self.now.guarded c.args.a.0 c.guarded_addr.result.0 c.guarded_addr.ensures c.requires.block) c.in-Err.ensures.answer.0, ap D c.in-Err.ensures.answer.1)
+    (refused-resized (layout_of c.args.self.now.best) c.args.self.now.marks.items _ c.args.a.0 c.guarded_addr.result.0 c.args.size c.args.may_move c.in-Err.fault (user g (goal.at.returns-clause-answer g c).After-guarded_addr) c.in-Err.ensures.answer.0, ap D c.in-Err.ensures.answer.1)
 
 pub returns-clause-no_memory : goal.returns-clause-no_memory
 returns-clause-no_memory g c = λ e.
@@ -55,41 +57,14 @@ returns-clause-no_memory g c = λ e.
     let d : Debug ℕ = record { best = r; marks = c.args.self.now.marks.items } in
     let x = c.guarded_addr.result.0 in
     let h = c.in-Err.ensures.no_memory e in
-    (subst (λ (o : Option (Block ℕ)). IfSome o (λ b. stays_debug d c.args.size b ≡ false)) (sym (found-at r c.args.a.0 x (user_at (layout_of c.args.self.now.best) c.args.self.now.best.sound c.args.self.now.guarded c.args.a.0 c.guarded_addr.result.0 c.guarded_addr.ensures c.requires.block) r.blocks)) (stays-user d c.args.size (find_block (place_of x) r.blocks) h.0), h.1)
+    (subst (λ (o : Option (Block ℕ)). IfSome o (λ b. stays_debug d c.args.size b ≡ false)) (sym (found-at r c.args.a.0 x (user g (goal.at.returns-clause-no_memory g c).After-guarded_addr) r.blocks)) (stays-user d c.args.size (find_block (place_of x) r.blocks) h.0), h.1)
 
 pub returns-in-Ok-clause-answer : goal.returns-in-Ok-clause-answer
 returns-in-Ok-clause-answer g c =
-    answer-resized (layout_of c.args.self.now.best) (layout_of c.resize.new.self) (layout_of c.write_zeros.new.best) c.args.size c.min-kept.result c.guarded_addr.result.0 c.in-Ok.at.0 (record {
-      some = c.requires.some;
-      most = c.requires.most;
-      guards = c.args.self.now.guarded;
-      sized = c.in-Ok.ensures.sized;
-      there = c.in-Ok.ensures.there;
-      others = c.in-Ok.ensures.others;
-      written = c.write_zeros.ensures.layout;
-      sound = c.write_zeros.new.best.sound;
-    }) c.args.a.0 c.user_addr-to.result.0 (user_at (layout_of c.args.self.now.best) c.args.self.now.best.sound c.args.self.now.guarded c.args.a.0 c.guarded_addr.result.0 c.guarded_addr.ensures c.requires.block) c.user_addr-to.ensures _ c.args.self.now.marks.items c.move_mark.new.marks.items c.args.may_move (ap (λ o. min (unwrap_or o 0) c.args.size) c.size.ensures ∙ sym c.min-kept.ensures) c.move_mark.ensures c.in-Ok.ensures.answer
+    answer-resized (resized g (goal.at.returns-in-Ok-clause-answer g c).After-write_zeros) (user g (goal.at.returns-in-Ok-clause-answer g c).After-guarded_addr) c.user_addr-to.ensures _ c.args.self.now.marks.items c.move_mark.new.marks.items c.args.may_move (ap (λ o. min (unwrap_or o 0) c.args.size) c.size.ensures ∙ sym c.min-kept.ensures) c.move_mark.ensures c.in-Ok.ensures.answer
 
 pub returns-in-Ok-clause-there : goal.returns-in-Ok-clause-there
-returns-in-Ok-clause-there g c = there-resized (layout_of c.args.self.now.best) (layout_of c.resize.new.self) (layout_of c.write_zeros.new.best) c.args.size c.min-kept.result c.guarded_addr.result.0 c.in-Ok.at.0 (record {
-  some = c.requires.some;
-  most = c.requires.most;
-  guards = c.args.self.now.guarded;
-  sized = c.in-Ok.ensures.sized;
-  there = c.in-Ok.ensures.there;
-  others = c.in-Ok.ensures.others;
-  written = c.write_zeros.ensures.layout;
-  sound = c.write_zeros.new.best.sound;
-}) c.args.a.0 c.user_addr-to.result.0 (user_at (layout_of c.args.self.now.best) c.args.self.now.best.sound c.args.self.now.guarded c.args.a.0 c.guarded_addr.result.0 c.guarded_addr.ensures c.requires.block) c.user_addr-to.ensures
+returns-in-Ok-clause-there g c = there-resized (resized g (goal.at.returns-in-Ok-clause-there g c).After-write_zeros) (user g (goal.at.returns-in-Ok-clause-there g c).After-guarded_addr) c.user_addr-to.ensures
 
 pub returns-in-Ok-clause-others : goal.returns-in-Ok-clause-others
-returns-in-Ok-clause-others g c = others-resized (layout_of c.args.self.now.best) (layout_of c.resize.new.self) (layout_of c.write_zeros.new.best) c.args.size c.min-kept.result c.guarded_addr.result.0 c.in-Ok.at.0 (record {
-  some = c.requires.some;
-  most = c.requires.most;
-  guards = c.args.self.now.guarded;
-  sized = c.in-Ok.ensures.sized;
-  there = c.in-Ok.ensures.there;
-  others = c.in-Ok.ensures.others;
-  written = c.write_zeros.ensures.layout;
-  sound = c.write_zeros.new.best.sound;
-}) c.args.a.0 c.user_addr-to.result.0 (user_at (layout_of c.args.self.now.best) c.args.self.now.best.sound c.args.self.now.guarded c.args.a.0 c.guarded_addr.result.0 c.guarded_addr.ensures c.requires.block) c.user_addr-to.ensures c.write_zeros.ensures.others
+returns-in-Ok-clause-others g c = others-resized (resized g (goal.at.returns-in-Ok-clause-others g c).After-write_zeros) (user g (goal.at.returns-in-Ok-clause-others g c).After-guarded_addr) c.user_addr-to.ensures c.write_zeros.ensures.others

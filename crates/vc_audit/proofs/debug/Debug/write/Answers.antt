@@ -1,15 +1,22 @@
-use Rattle.std.proofs.Common.{◌≤◌, ℕ, ◌+◌, Option, IfSome, length, option_map, sym, ap, ◌∙◌, subst, arith}
+use Rattle.std.proofs.Common.{ℕ, ◌+◌, length, sym, ap, ◌∙◌, arith}
 use Rattle.vc_model.specs.Addr.{place_of}
-use Rattle.vc_model.specs.Layout.{Block, Layout}
-use Rattle.vc_model.specs.Touch.{find_block, with_bytes_at}
+use Rattle.vc_model.specs.Layout.{Layout}
+use Rattle.vc_model.specs.Touch.{with_bytes_at}
 use Rattle.vc_best.specs.Parts.{layout_of}
-use Rattle.vc_audit.specs.Debug.{Debug, user_block}
-use Rattle.vc_audit.proofs.DebugBlocks.{found-at, guarded-at, live-down, others-at, user_at}
-use Rattle.vc_audit.proofs.DebugFills.{found-live, guards-written, range-below, range-user}
+use Rattle.vc_audit.specs.Debug.{Debug}
+use Rattle.vc_audit.proofs.DebugBlocks.{UserAt, guarded-at, live-down, others-at}
+use Rattle.vc_audit.proofs.DebugFills.{guards-written}
+use Rattle.vc_audit.proofs.DebugUser.{range-guarded, range-most, user_in}
+use Rattle.vc_audit.proofs.debug.Debug.write.Given.{Over}
 use Rattle.vc_audit.proofs.debug.Debug.write.Goals as goal
+use Rattle.vc_audit.proofs.debug.Debug.write.Goals.{After-guarded_addr}
 
 pub guarded_addr-requires : goal.guarded_addr-requires
 guarded_addr-requires g c = (live-down (layout_of c.args.self.now.best).blocks c.args.a.0 c.requires.block).0
+
+-- the user's block, in the one with guards
+user : (g : Over) (c : After-guarded_addr g) → UserAt (layout_of c.args.self.now.best) c.args.a.0 c.guarded_addr.result.0
+user g c = user_in c.args.self.now c.args.a.0 c.guarded_addr.result.0 c.guarded_addr.ensures c.requires.block
 
 pub invariant_of-self : goal.invariant_of-self
 invariant_of-self g c = record {
@@ -19,35 +26,19 @@ invariant_of-self g c = record {
 pub returns-clause-debug : goal.returns-clause-debug
 returns-clause-debug g c =
     let r = layout_of c.args.self.now.best in
-    let x = c.guarded_addr.result.0 in
-    let u = user_at (layout_of c.args.self.now.best) c.args.self.now.best.sound c.args.self.now.guarded c.args.a.0 c.guarded_addr.result.0 c.guarded_addr.ensures c.requires.block in
     let D : Layout ℕ → Debug ℕ = λ l. record { best = l; marks = c.args.self.now.marks.items } in
-    ap D (c.write.ensures.layout ∙ ap (λ p. with_bytes_at r p (32 + c.args.off) c.args.src.now) (sym (guarded-at r c.args.a.0 x u)))
+    ap D (c.write.ensures.layout ∙ ap (λ p. with_bytes_at r p (32 + c.args.off) c.args.src.now) (sym (guarded-at r c.args.a.0 c.guarded_addr.result.0 (user g (goal.at.returns-clause-debug g c).After-guarded_addr))))
 
 pub returns-clause-others : goal.returns-clause-others
 returns-clause-others g c =
-    let r = layout_of c.args.self.now.best in
-    let x = c.guarded_addr.result.0 in
-    let u = user_at (layout_of c.args.self.now.best) c.args.self.now.best.sound c.args.self.now.guarded c.args.a.0 c.guarded_addr.result.0 c.guarded_addr.ensures c.requires.block in
-    others-at r c.args.a.0 x u (layout_of c.write.new.self).blocks r.blocks c.write.ensures.others
+    let bs = (layout_of c.args.self.now.best).blocks in
+    others-at (layout_of c.args.self.now.best) c.args.a.0 c.guarded_addr.result.0 (user g (goal.at.returns-clause-others g c).After-guarded_addr) (layout_of c.write.new.self).blocks bs c.write.ensures.others
 
 pub overflow_add-off : goal.overflow_add-off
-overflow_add-off g c =
-    let r = layout_of c.args.self.now.best in
-    let x = c.guarded_addr.result.0 in
-    let n = length c.args.src.now in
-    let u = user_at (layout_of c.args.self.now.best) c.args.self.now.best.sound c.args.self.now.guarded c.args.a.0 c.guarded_addr.result.0 c.guarded_addr.ensures c.requires.block in
-    let range : IfSome (option_map user_block (find_block (place_of x) r.blocks)) (λ b. c.args.off + n ≤ b.size) = subst (λ (o : Option (Block ℕ)). IfSome o (λ b. c.args.off + n ≤ b.size)) (found-at r c.args.a.0 x u r.blocks) c.requires.range in
-    let below = range-below r.blocks (place_of x) c.args.off n c.args.self.now.guarded (found-live r c.args.self.now.best.sound x u.live) (range-user r.blocks (place_of x) c.args.off n c.args.self.now.guarded range) in
-    omega (arith, below)
+overflow_add-off g c = let most = range-most c.args.self.now (user g (goal.at.overflow_add-off g c).After-guarded_addr) c.args.off (length c.args.src.now) c.requires.range in omega (arith, most)
 
 pub write-requires-clause-block : goal.write-requires-clause-block
-write-requires-clause-block g c = (user_at (layout_of c.args.self.now.best) c.args.self.now.best.sound c.args.self.now.guarded c.args.a.0 c.guarded_addr.result.0 c.guarded_addr.ensures c.requires.block).live
+write-requires-clause-block g c = (user g (goal.at.write-requires-clause-block g c).After-guarded_addr).live
 
 pub write-requires-clause-range : goal.write-requires-clause-range
-write-requires-clause-range g c =
-    let r = layout_of c.args.self.now.best in
-    let x = c.guarded_addr.result.0 in
-    let n = length c.args.src.now in
-    let u = user_at (layout_of c.args.self.now.best) c.args.self.now.best.sound c.args.self.now.guarded c.args.a.0 c.guarded_addr.result.0 c.guarded_addr.ensures c.requires.block in
-    range-user r.blocks (place_of x) c.args.off n c.args.self.now.guarded (subst (λ (o : Option (Block ℕ)). IfSome o (λ b. c.args.off + n ≤ b.size)) (found-at r c.args.a.0 x u r.blocks) c.requires.range)
+write-requires-clause-range g c = range-guarded c.args.self.now (user g (goal.at.write-requires-clause-range g c).After-guarded_addr) c.args.off (length c.args.src.now) c.requires.range

@@ -1,4 +1,4 @@
-use Rattle.std.proofs.Common.{◌≡◌, ℕ, ◌+◌, ◌*◌, ◌<◌, ◌≤◌, Some, cond, eqb, max, sym, ap, ◌∙◌, subst, arith}
+use Rattle.std.proofs.Common.{◌≡◌, ℕ, ◌+◌, Some, cond, eqb, sym, ap, ◌∙◌, subst, arith}
 use Rattle.std.specs.Str.{bytes_eq}
 use Rattle.indexmap.specs.IndexMap.{insert_entry}
 use Rattle.vc_model.specs.Addr.{place_of}
@@ -7,43 +7,46 @@ use Rattle.vc_model.specs.Layout.{without_block}
 use Rattle.vc_model.specs.Touch.{HasBlock, find_block}
 use Rattle.vc_best.specs.Parts.{layout_of}
 use Rattle.vc_audit.specs.ProfileSites.{site_at}
-use Rattle.vc_audit.specs.ProfileSums.{IsCounted, row_for}
-use Rattle.vc_audit.specs.declared.profile.rows.Row.{Row}
+use Rattle.vc_audit.specs.ProfileSums.{IsCounted}
 use Rattle.vc_audit.proofs.ProfileAlloc.{alloc-refused, counted-put, few-bytes, profile-put}
 use Rattle.vc_audit.proofs.ProfileBare.{from-best, from-both}
 use Rattle.vc_audit.proofs.ProfileFree.{profile}
+use Rattle.vc_audit.proofs.ProfileRows.{IsRowWith}
+use Rattle.vc_audit.proofs.profile.Profile.alloc.Given.{Over}
 use Rattle.vc_audit.proofs.profile.Profile.alloc.Goals as goal
+use Rattle.vc_audit.proofs.profile.Profile.alloc.Goals.{After-put, After-put_row, After-with}
 
 pub overflow_add-bytes : goal.overflow_add-bytes
 overflow_add-bytes g c =
-    let me = c.args.self.now in
-    let few : c.row_for-row.result.bytes ≤ 16777216 * 4294967295 = subst (λ (v : Row). v.bytes ≤ 16777216 * 4294967295) (sym c.row_for-row.ensures.row) (few-bytes (layout_of me.best) me.sites.items.items me.rows.entries c.new-site.result me.counted) in
+    let few = few-bytes c.new-site.result c.row_for-row.result c.args.self.now.counted c.row_for-row.ensures.row in
     omega (arith, few, c.requires.most)
+
+-- the sites with the new one, the row after, and the rows with it
+kept : (g : Over) (c : After-put g) (q : ℕ) → site_at q c.put.new.self.items.items ≡ cond (eqb c.in-Ok.a.0 q) (Some c.new-site.result) (site_at q c.args.self.now.sites.items.items)
+kept g c q = c.put.ensures q ∙ ap (λ ss. cond (eqb c.in-Ok.a.0 q) (Some c.new-site.result) (site_at q ss)) c.reserve-2.ensures.same
+
+row : (g : Over) (c : After-with g) → IsRowWith c.row_for-row.result (c.row_for-row.result.blocks + 1) (c.row_for-row.result.bytes + c.args.size) c.with.result
+row g c = record { blocks = c.with.ensures.blocks; bytes = c.with.ensures.bytes; peak = c.with.ensures.peak }
+
+rows : (g : Over) (c : After-put_row g) → c.put_row.new.rows.entries ≡ insert_entry bytes_eq c.args.self.now.rows.entries c.new-site.result c.with.result
+rows g c = c.put_row.ensures ∙ ap (λ es. insert_entry bytes_eq es c.new-site.result c.with.result) c.reserve.ensures.entries
 
 pub invariant_of-self-in-Ok : goal.invariant_of-self-in-Ok
 invariant_of-self-in-Ok g c =
     let me = c.args.self.now in
-    let row = c.row_for-row.ensures.row in
-    let kept : (q : ℕ) → site_at q c.put.new.self.items.items ≡ cond (eqb c.in-Ok.a.0 q) (Some c.new-site.result) (site_at q me.sites.items.items) = λ q. c.put.ensures q ∙ ap (λ ss. cond (eqb c.in-Ok.a.0 q) (Some c.new-site.result) (site_at q ss)) c.reserve-2.ensures.same in
-    let few : (row_for c.new-site.result me.rows.entries).blocks < 4294967295 = subst (λ (v : Row). v.blocks < 4294967295) row c.if-row-ge4294967295.false in
-    let rows = c.put_row.ensures ∙ ap (λ es. insert_entry bytes_eq es c.new-site.result c.with.result) c.reserve.ensures.entries in
+    let h = goal.at.invariant_of-self-in-Ok g c in
     record {
-      counted = subst (IsCounted (layout_of c.alloc.new.self) c.put.new.self.items.items) (sym rows)
+      counted = subst (IsCounted (layout_of c.alloc.new.self) c.put.new.self.items.items) (sym (rows g h.After-put_row))
           (counted-put (layout_of me.best) me.sites.items.items me.rows.entries me.counted c.row_for-row.ensures.distinct _ c.args.tag c.new-site.result c.args.size c.args.align c.requires.most c.in-Ok.a.0 c.in-Ok.ensures.fresh (layout_of c.alloc.new.self) c.in-Ok.ensures.answer
-          c.put.new.self.items.items kept c.with.result few (c.with.ensures.blocks ∙ ap (λ (v : Row). v.blocks + 1) row) (c.with.ensures.bytes ∙ ap (λ (v : Row). v.bytes + c.args.size) row)
-          (c.with.ensures.peak ∙ (ap (λ n. max c.row_for-row.result.peak n) (sym c.with.ensures.bytes) ∙ ap (λ (v : Row). max v.peak c.with.result.bytes) row)));
+          c.put.new.self.items.items (kept g h.After-put) c.row_for-row.result c.with.result c.row_for-row.ensures.row c.if-row-ge4294967295.false (row g h.After-with));
     }
 
 pub returns-in-Ok-clause-answer : goal.returns-in-Ok-clause-answer
 returns-in-Ok-clause-answer g c =
     let me = c.args.self.now in
-    let row = c.row_for-row.ensures.row in
-    let kept : (q : ℕ) → site_at q c.put.new.self.items.items ≡ cond (eqb c.in-Ok.a.0 q) (Some c.new-site.result) (site_at q me.sites.items.items) = λ q. c.put.ensures q ∙ ap (λ ss. cond (eqb c.in-Ok.a.0 q) (Some c.new-site.result) (site_at q ss)) c.reserve-2.ensures.same in
-    let few : (row_for c.new-site.result me.rows.entries).blocks < 4294967295 = subst (λ (v : Row). v.blocks < 4294967295) row c.if-row-ge4294967295.false in
-    let rows = c.put_row.ensures ∙ ap (λ es. insert_entry bytes_eq es c.new-site.result c.with.result) c.reserve.ensures.entries in
+    let h = goal.at.returns-in-Ok-clause-answer g c in
     profile-put (layout_of me.best) me.sites.items.items me.rows.entries me.counted c.row_for-row.ensures.distinct _ c.args.tag c.new-site.result c.args.size c.args.align c.requires.most c.in-Ok.a.0 c.in-Ok.ensures.fresh (layout_of c.alloc.new.self) c.in-Ok.ensures.answer
-    c.put.new.self.items.items kept c.with.result few (c.with.ensures.blocks ∙ ap (λ (v : Row). v.blocks + 1) row) (c.with.ensures.bytes ∙ ap (λ (v : Row). v.bytes + c.args.size) row)
-    (c.with.ensures.peak ∙ (ap (λ n. max c.row_for-row.result.peak n) (sym c.with.ensures.bytes) ∙ ap (λ (v : Row). max v.peak c.with.result.bytes) row)) c.args.site.now c.new-site.ensures c.put_row.new.rows.entries rows
+    c.put.new.self.items.items (kept g h.After-put) c.row_for-row.result c.with.result c.row_for-row.ensures.row c.if-row-ge4294967295.false (row g h.After-with) c.args.site.now c.new-site.ensures c.put_row.new.rows.entries (rows g h.After-put_row)
 
 pub returns-in-Ok-clause-there : goal.returns-in-Ok-clause-there
 returns-in-Ok-clause-there g c =

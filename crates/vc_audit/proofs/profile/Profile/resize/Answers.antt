@@ -1,4 +1,4 @@
-use Rattle.std.proofs.Common.{◌≡◌, ℕ, ◌+◌, ◌-◌, ◌*◌, ◌≤◌, Some, IfSome, IsTrue, is_some, false, max, option_map, inr, sym, ap, ◌∙◌, subst, arith}
+use Rattle.std.proofs.Common.{◌≡◌, ℕ, ◌+◌, ◌-◌, IfSome, IsTrue, is_some, false, option_map, inr, sym, ap, ◌∙◌, subst, arith}
 use Rattle.std.proofs.lemmas.Bool.{false≢true}
 use Rattle.vc_model.specs.Addr.{place_of}
 use Rattle.vc_model.specs.Layout.{Block, Layout, without_block}
@@ -6,92 +6,77 @@ use Rattle.vc_model.specs.Resize.{can_stay}
 use Rattle.vc_model.specs.Touch.{HasBlock, find_block}
 use Rattle.vc_best.specs.Ask.{AsksForSegment}
 use Rattle.vc_best.specs.Parts.{layout_of}
-use Rattle.vc_audit.specs.ProfileSites.{site_at}
-use Rattle.vc_audit.specs.ProfileSums.{IsCounted, IsHeld, row_for}
-use Rattle.vc_audit.specs.declared.profile.rows.Row.{Row}
+use Rattle.vc_audit.specs.ProfileSums.{IsCounted}
 use Rattle.vc_audit.proofs.ProfileAlloc.{few-bytes}
 use Rattle.vc_audit.proofs.ProfileBare.{bare-layout, from-both, to-best}
-use Rattle.vc_audit.proofs.ProfileFree.{enough-bytes, has-row, profile}
+use Rattle.vc_audit.proofs.ProfileFree.{IsAtSite, at-site, enough-bytes, has-row, has-site, profile}
 use Rattle.vc_audit.proofs.ProfileHeld.{told-block, told-is}
-use Rattle.vc_audit.proofs.ProfileLists.{all-found}
-use Rattle.vc_audit.proofs.ProfileResize.{counted-resized, has-block, profile-resized, resize-refused}
+use Rattle.vc_audit.proofs.ProfileResize.{IsMovedTo, counted-resized, has-block, profile-resized, resize-refused}
+use Rattle.vc_audit.proofs.ProfileRows.{IsRowWith}
 use Rattle.vc_audit.proofs.ProfileSound.{best_places}
+use Rattle.vc_audit.proofs.profile.Profile.resize.Given.{Over}
 use Rattle.vc_audit.proofs.profile.Profile.resize.Goals as goal
+use Rattle.vc_audit.proofs.profile.Profile.resize.Goals.{After-move_to, After-row_for-row, After-with}
 
 pub size-before-requires : goal.size-before-requires
 size-before-requires g c = to-best (λ bs. HasBlock bs c.args.a.0) c.args.self.now.sites.items.items (layout_of c.args.self.now.best).blocks c.requires.block
 
 pub unreachable-requires : goal.unreachable-requires
-unreachable-requires g c =
-    let me = c.args.self.now in
-    let b = told-block (λ (x : Block ℕ). x.size) (layout_of me.best).blocks c.args.a.0 c.size-before.result c.size-before.ensures in
-    let held : IsHeld me.sites.items.items me.rows.entries b.block = all-found _ b.block (IsHeld me.sites.items.items me.rows.entries) (layout_of me.best).blocks b.found me.counted.held in
-    false≢true (ap is_some (sym c.in-None.is ∙ c.find.ensures) ∙ (ap (λ n. is_some (site_at n me.sites.items.items)) (sym b.address) ∙ held.kept))
+unreachable-requires g c = false≢true (ap is_some (sym c.in-None.is ∙ c.find.ensures) ∙ has-site c.args.self.now.counted c.args.a.0 c.size-before.result c.size-before.ensures)
+
+-- the block before, with its size, its site and the row of that
+before : (g : Over) (c : After-row_for-row g) → IsAtSite (layout_of c.args.self.now.best) c.args.self.now.sites.items.items c.args.self.now.rows.entries c.args.a.0 c.size-before.result c.in-Some.site c.row_for-row.result
+before g c = at-site c.args.self.now.counted (best_places c.args.self.now.best) c.size-before.ensures (sym c.find.ensures ∙ c.in-Some.is) c.row_for-row.ensures.row c.row_for-row.ensures.distinct
+
+-- and after, with the row
+moved : (g : Over) (c : After-move_to g) → IsMovedTo (layout_of c.args.self.now.best) (layout_of c.resize.new.self) c.args.self.now.sites.items.items c.move_to.new.self.items.items c.args.a.0 c.in-Ok.to.0 c.size-after.result c.in-Some.site
+moved g c =
+    let bs = (layout_of c.resize.new.self).blocks in
+    let b = told-block (λ (x : Block ℕ). x.size) bs c.in-Ok.to.0 c.size-after.result c.size-after.ensures in
+    record {
+      places = best_places c.resize.new.self;
+      the = b;
+      sized = told-is (λ (x : Block ℕ). x.size) bs c.in-Ok.to.0 c.size-after.result b c.size-after.ensures;
+      others = c.in-Ok.ensures.others;
+      kept = c.move_to.ensures.there;
+      others_kept = c.move_to.ensures.others;
+    }
+
+row : (g : Over) (c : After-with g) → IsRowWith c.row_for-row.result c.row_for-row.result.blocks (c.row_for-row.result.bytes - c.size-before.result + c.size-after.result) c.with.result
+row g c = record { blocks = c.with.ensures.blocks; bytes = c.with.ensures.bytes; peak = c.with.ensures.peak }
 
 pub resize-requires-clause-block : goal.resize-requires-clause-block
 resize-requires-clause-block g c = to-best (λ bs. HasBlock bs c.args.a.0) c.args.self.now.sites.items.items (layout_of c.args.self.now.best).blocks c.requires.block
 
 pub size-after-requires : goal.size-after-requires
 size-after-requires g c =
-    let me = c.args.self.now in
-    let b = told-block (λ (x : Block ℕ). x.size) (layout_of me.best).blocks c.args.a.0 c.size-before.result c.size-before.ensures in
-    has-block (layout_of c.resize.new.self).blocks c.in-Ok.to.0 (told-block (λ (x : Block ℕ). x.label) (layout_of c.resize.new.self).blocks c.in-Ok.to.0 b.block.label (c.in-Ok.ensures.there ∙ ap (option_map (λ (x : Block ℕ). x.label)) b.found))
+    let bs = (layout_of c.resize.new.self).blocks in
+    let b = (before g (goal.at.size-after-requires g c).After-row_for-row).the in
+    has-block bs c.in-Ok.to.0 (told-block (λ (x : Block ℕ). x.label) bs c.in-Ok.to.0 b.block.label (c.in-Ok.ensures.there ∙ ap (option_map (λ (x : Block ℕ). x.label)) b.found))
 
 pub overflow_sub-bytes : goal.overflow_sub-bytes
-overflow_sub-bytes g c =
-    let me = c.args.self.now in
-    let b = told-block (λ (x : Block ℕ). x.size) (layout_of me.best).blocks c.args.a.0 c.size-before.result c.size-before.ensures in
-    let at : site_at c.args.a.0 me.sites.items.items ≡ Some c.in-Some.site = sym c.find.ensures ∙ c.in-Some.is in
-    let size : b.block.size ≡ c.size-before.result = told-is (λ (x : Block ℕ). x.size) (layout_of me.best).blocks c.args.a.0 c.size-before.result b c.size-before.ensures in
-    let row : c.row_for-row.result ≡ row_for c.in-Some.site me.rows.entries = c.row_for-row.ensures.row in
-    let enough = enough-bytes (layout_of me.best) me.sites.items.items me.rows.entries me.counted (best_places me.best) c.args.a.0 b c.in-Some.site at in
-    subst (λ (v : Row). c.size-before.result ≤ v.bytes) (sym row) (omega (arith, enough, size))
+overflow_sub-bytes g c = enough-bytes (before g (goal.at.overflow_sub-bytes g c).After-row_for-row)
 
 pub overflow_add-bytes : goal.overflow_add-bytes
 overflow_add-bytes g c =
-    let me = c.args.self.now in
-    let few : c.row_for-row.result.bytes ≤ 16777216 * 4294967295 = subst (λ (v : Row). v.bytes ≤ 16777216 * 4294967295) (sym c.row_for-row.ensures.row) (few-bytes (layout_of me.best) me.sites.items.items me.rows.entries c.in-Some.site me.counted) in
+    let few = few-bytes c.in-Some.site c.row_for-row.result c.args.self.now.counted c.row_for-row.ensures.row in
     omega (arith, few, c.size-after.type_inv)
 
 pub put_row-requires : goal.put_row-requires
-put_row-requires g c =
-    let me = c.args.self.now in
-    let b = told-block (λ (x : Block ℕ). x.size) (layout_of me.best).blocks c.args.a.0 c.size-before.result c.size-before.ensures in
-    let at : site_at c.args.a.0 me.sites.items.items ≡ Some c.in-Some.site = sym c.find.ensures ∙ c.in-Some.is in
-    inr (has-row (layout_of me.best) me.sites.items.items me.rows.entries me.counted (best_places me.best) c.args.a.0 b c.in-Some.site at)
+put_row-requires g c = inr (has-row (before g (goal.at.put_row-requires g c).After-row_for-row))
 
 pub invariant_of-self : goal.invariant_of-self
 invariant_of-self g c =
-    let me = c.args.self.now in
-    let b = told-block (λ (x : Block ℕ). x.size) (layout_of me.best).blocks c.args.a.0 c.size-before.result c.size-before.ensures in
-    let at : site_at c.args.a.0 me.sites.items.items ≡ Some c.in-Some.site = sym c.find.ensures ∙ c.in-Some.is in
-    let size : b.block.size ≡ c.size-before.result = told-is (λ (x : Block ℕ). x.size) (layout_of me.best).blocks c.args.a.0 c.size-before.result b c.size-before.ensures in
-    let row : c.row_for-row.result ≡ row_for c.in-Some.site me.rows.entries = c.row_for-row.ensures.row in
-    let nb = told-block (λ (x : Block ℕ). x.size) (layout_of c.resize.new.self).blocks c.in-Ok.to.0 c.size-after.result c.size-after.ensures in
-    let after : nb.block.size ≡ c.size-after.result = told-is (λ (x : Block ℕ). x.size) (layout_of c.resize.new.self).blocks c.in-Ok.to.0 c.size-after.result nb c.size-after.ensures in
-    let bytes : c.with.result.bytes ≡ (row_for c.in-Some.site me.rows.entries).bytes - b.block.size + nb.block.size =
-    c.with.ensures.bytes ∙ (ap (λ (v : Row). v.bytes - c.size-before.result + c.size-after.result) row
-    ∙ (ap (λ n. (row_for c.in-Some.site me.rows.entries).bytes - n + c.size-after.result) (sym size) ∙ ap (λ n. (row_for c.in-Some.site me.rows.entries).bytes - b.block.size + n) (sym after))) in
+    let h = goal.at.invariant_of-self g c in
     record {
       counted = subst (IsCounted (layout_of c.resize.new.self) c.move_to.new.self.items.items) (sym c.put_row.ensures)
-          (counted-resized (layout_of me.best) me.sites.items.items me.rows.entries me.counted (best_places me.best) c.args.a.0 b c.in-Some.site at c.row_for-row.ensures.distinct _ c.args.size c.args.may_move c.requires.most c.in-Ok.to.0 (layout_of c.resize.new.self) c.in-Ok.ensures.answer nb c.in-Ok.ensures.others (best_places c.resize.new.self) c.move_to.new.self.items.items c.move_to.ensures.there c.move_to.ensures.others
-          c.with.result (c.with.ensures.blocks ∙ ap (λ (v : Row). v.blocks) row) bytes (c.with.ensures.peak ∙ (ap (λ n. max c.row_for-row.result.peak n) (sym c.with.ensures.bytes) ∙ ap (λ (v : Row). max v.peak c.with.result.bytes) row)));
+          (counted-resized (before g h.After-row_for-row) (moved g h.After-move_to) _ c.args.size c.args.may_move c.requires.most c.in-Ok.ensures.answer c.with.result (row g h.After-with));
     }
 
 pub returns-in-Ok-clause-answer : goal.returns-in-Ok-clause-answer
 returns-in-Ok-clause-answer g c =
-    let me = c.args.self.now in
-    let b = told-block (λ (x : Block ℕ). x.size) (layout_of me.best).blocks c.args.a.0 c.size-before.result c.size-before.ensures in
-    let at : site_at c.args.a.0 me.sites.items.items ≡ Some c.in-Some.site = sym c.find.ensures ∙ c.in-Some.is in
-    let size : b.block.size ≡ c.size-before.result = told-is (λ (x : Block ℕ). x.size) (layout_of me.best).blocks c.args.a.0 c.size-before.result b c.size-before.ensures in
-    let row : c.row_for-row.result ≡ row_for c.in-Some.site me.rows.entries = c.row_for-row.ensures.row in
-    let nb = told-block (λ (x : Block ℕ). x.size) (layout_of c.resize.new.self).blocks c.in-Ok.to.0 c.size-after.result c.size-after.ensures in
-    let after : nb.block.size ≡ c.size-after.result = told-is (λ (x : Block ℕ). x.size) (layout_of c.resize.new.self).blocks c.in-Ok.to.0 c.size-after.result nb c.size-after.ensures in
-    let bytes : c.with.result.bytes ≡ (row_for c.in-Some.site me.rows.entries).bytes - b.block.size + nb.block.size =
-    c.with.ensures.bytes ∙ (ap (λ (v : Row). v.bytes - c.size-before.result + c.size-after.result) row
-    ∙ (ap (λ n. (row_for c.in-Some.site me.rows.entries).bytes - n + c.size-after.result) (sym size) ∙ ap (λ n. (row_for c.in-Some.site me.rows.entries).bytes - b.block.size + n) (sym after))) in
-    profile-resized (layout_of me.best) me.sites.items.items me.rows.entries me.counted (best_places me.best) c.args.a.0 b c.in-Some.site at c.row_for-row.ensures.distinct _ c.args.size c.args.may_move c.requires.most c.in-Ok.to.0 (layout_of c.resize.new.self) c.in-Ok.ensures.answer nb c.in-Ok.ensures.others (best_places c.resize.new.self) c.move_to.new.self.items.items c.move_to.ensures.there c.move_to.ensures.others
-    c.with.result (c.with.ensures.blocks ∙ ap (λ (v : Row). v.blocks) row) bytes (c.with.ensures.peak ∙ (ap (λ n. max c.row_for-row.result.peak n) (sym c.with.ensures.bytes) ∙ ap (λ (v : Row). max v.peak c.with.result.bytes) row)) c.put_row.new.rows.entries c.put_row.ensures
+    let h = goal.at.returns-in-Ok-clause-answer g c in
+    profile-resized (before g h.After-row_for-row) (moved g h.After-move_to) _ c.args.size c.args.may_move c.requires.most c.in-Ok.ensures.answer c.with.result (row g h.After-with) c.put_row.new.rows.entries c.put_row.ensures
 
 pub returns-in-Ok-clause-there : goal.returns-in-Ok-clause-there
 returns-in-Ok-clause-there g c =
