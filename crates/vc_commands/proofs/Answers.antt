@@ -55,6 +55,11 @@ kept-same d e same = subst (Kept d) (sym same) (record { terms = refl; faults = 
 pub out-same : (d e : Discipline) (segments segments' : List (ℕ × ℕ)) → e ≡ d → segments' ≡ segments → KeepsOut d e segments segments'
 out-same d e segments segments' same alike = λ rest at. ap (λ (x : Discipline). x.out) same ∙ (at ∙ ap (λ s. rest ++ s) (sym alike))
 
+-- a region that changed, whose discipline and segments stay
+pub changed-alike : (h : Held) (disc : Discipline) (region : Region ℕ) (cells : Blocks) (labels : Labels) → cells ≡ h.cells → HasOut h.disc (segments_of h.region) → disc ≡ h.disc → segments_of region ≡ segments_of h.region → IsNamed region labels → IsChange h (record { name = h.name; place = h.place; disc = disc; region = region; cells = cells; labels = labels })
+changed-alike h disc region cells labels same has alike segments names =
+    changed-by h disc region cells labels same has (kept-same h.disc disc alike) (out-same h.disc disc (segments_of h.region) (segments_of region) alike segments) names
+
 served-kept : (d e : Discipline) (s s' : List (ℕ × ℕ)) (n : ℕ) → Served d e s s' n → Kept d e
 served-kept d e s s' n served = record { terms = served.terms; faults = omega (arith, served.faults) }
 

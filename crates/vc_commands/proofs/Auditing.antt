@@ -8,6 +8,7 @@ use Rattle.vc_audit.specs.DebugParts.{debug_of}
 use Rattle.vc_audit.proofs.DebugDamaged.{all-pass, behind, next-passes, none-passes}
 use Rattle.vc_audit.proofs.DebugRelabel.{relabel_found}
 use Rattle.vc_audit.proofs.DebugWalks.{own-best}
+use Rattle.vc_base.specs.declared.addr.Addr.{Addr}
 use Rattle.vc_model.specs.Addr.{address, place_of}
 use Rattle.vc_model.specs.Layout.{Block, address_of, relabel_block, without_block}
 use Rattle.vc_model.specs.Sound.{HaveOwnPlaces}
@@ -28,14 +29,14 @@ use Rattle.vc_script.specs.declared.refusal.Refusal.TheVariants as why
 use Rattle.vc_script.specs.declared.reply.Reply.TheVariants.{Poked, Watched}
 use Rattle.vc_commands.specs.Held.{Held, IsNamed, home_of}
 use Rattle.vc_commands.specs.Audit.{damage_item, is_poke, poke_block, poke_byte, poke_in, watch_block, watch_in}
-use Rattle.vc_commands.specs.Labels.{MovesLabel, kept_of, label_at, name_of, tag_of}
+use Rattle.vc_commands.specs.Labels.{MovesLabel, kept_of, name_of}
 use Rattle.vc_commands.specs.Home.{changed_to, unchanged}
 use Rattle.vc_commands.specs.RegionRun.{GivesRegion}
-use Rattle.vc_commands.specs.declared.region.labels.Label.{Label}
 use Rattle.vc_commands.specs.declared.region.labels.Labels.{Labels}
-use Rattle.vc_commands.proofs.FoundBlocks.{TheBlock, on_block-there, the_block}
+use Rattle.vc_commands.proofs.FoundBlocks.{HasName, TheBlock, label_of, on_block-there, the_block}
 use Rattle.vc_commands.proofs.Moving.{named-moved}
-use Rattle.vc_commands.proofs.Resizing.{found-place, from_some}
+use Rattle.vc_commands.proofs.Listing.{from_some}
+use Rattle.vc_commands.proofs.Resizing.{found-place}
 
 pub poked-segments : (r : Region ℕ) (at : ℕ × ℕ) (off : ℤ) (byte : ℕ) → segments_of (region_poke r at off byte) ≡ segments_of r
 poked-segments (OfBest l) at off byte = refl
@@ -51,24 +52,24 @@ watched-segments (OfLast l) at line = refl
 watched-segments (OfDebug d) at line = refl
 watched-segments (OfProfile p) at line = refl
 
-module _ (h : Held) (x : List ℕ) (tag : ℕ) (label : Label) (names : IsNamed h.region h.labels) (is_named : label.name ≡ x) (was_named : tag_of h.labels x ≡ Some tag) (was_at : label_at h.labels tag ≡ Some label) where
-  abbrev b : TheBlock h.region h.labels x tag label.at.0
-  b = the_block h.region h.labels x tag label names is_named was_named was_at
+module _ (h : Held) {x : List ℕ} {addr : Addr} (has : HasName h.region h.labels x addr) where
+  abbrev b : TheBlock h.region h.labels x has.tag addr.0
+  b = the_block has
 
   abbrev p : ℕ × ℕ
-  p = place_of label.at.0
+  p = place_of addr.0
 
   -- the names stay those of the blocks, where each block keeps its place and its label
   named-still : (region : Region ℕ) → keeps_freed region ≡ keeps_freed h.region → option_map (λ (c : Block ℕ). c.label) (find_block p (blocks_of region)) ≡ option_map (λ (c : Block ℕ). c.label) (find_block p (blocks_of h.region)) → without_block p (blocks_of region) ≡ without_block p (blocks_of h.region) → HaveOwnPlaces (blocks_of region) → IsNamed region h.labels
   named-still region keeps labels others places =
-      let first : 1 ≤ tag = subst (λ t. 1 ≤ t) b.is_tag b.first in
-      let still : MovesLabel h.labels h.labels tag label = record { first = first; at = was_at; other_tags = λ other low differs. refl; names = λ y. refl; count = refl } in
+      let first : 1 ≤ has.tag = subst (λ t. 1 ≤ t) b.is_tag b.first in
+      let still : MovesLabel h.labels h.labels has.tag (label_of x addr) = record { first = first; at = has.there; other_tags = λ other low differs. refl; names = λ y. refl; count = refl } in
       let told : option_map (λ (c : Block ℕ). c.label) (find_block p (blocks_of region)) ≡ Some b.block.label = labels ∙ ap (option_map (λ (c : Block ℕ). c.label)) b.found in
       let found = from_some (λ (c : Block ℕ). c.label) (find_block p (blocks_of region)) b.block.label told in
       let place : p ≡ (found.from.seg, found.from.off) = found-place p found.from (blocks_of region) found.was in
-      let same : label.at.0 ≡ address_of found.from = sym (address-place_of label.at.0) ∙ ap address place in
-      named-moved h.labels h.region names x tag label was_at b h.labels label still refl region found.from found.was found.to same place others names.agree places
-      (λ e. names.none (sym keeps ∙ e))
+      let same : addr.0 ≡ address_of found.from = sym (address-place_of addr.0) ∙ ap address place in
+      named-moved h.labels h.region has.names x has.tag (label_of x addr) has.there b h.labels (label_of x addr) still refl region found.from found.was found.to same place others has.names.agree places
+      (λ e. has.names.none (sym keeps ∙ e))
 
   module _ (off : ℤ) (byte : ℕ) where
     -- a region of another method
@@ -76,14 +77,14 @@ module _ (h : Held) (x : List ℕ) (tag : ℕ) (label : Label) (names : IsNamed 
     poke-method other =
         let k = home_of h in
         let c = relabel_block (name_of h.labels) b.block in
-        on_block-there h x tag label.at.0 b (poke_block k x off byte)
+        on_block-there h x has.tag addr.0 b (poke_block k x off byte)
         ∙ ap (λ v. cond v (poke_byte k x off byte c) (unchanged k why.WrongMethod)) (debug-relabelled (name_of h.labels) h.region ∙ other)
 
     poke-there : is_debug h.region ≡ true → poke_in (home_of h) x off byte ≡ poke_byte (home_of h) x off byte (relabel_block (name_of h.labels) b.block)
     poke-there is =
         let k = home_of h in
         let c = relabel_block (name_of h.labels) b.block in
-        on_block-there h x tag label.at.0 b (poke_block k x off byte)
+        on_block-there h x has.tag addr.0 b (poke_block k x off byte)
         ∙ ap (λ v. cond v (poke_byte k x off byte c) (unchanged k why.WrongMethod)) (debug-relabelled (name_of h.labels) h.region ∙ is)
 
     -- an offset out of the block's bytes and its guards, or a byte above 255
@@ -116,7 +117,7 @@ module _ (h : Held) (x : List ℕ) (tag : ℕ) (label : Label) (names : IsNamed 
     watch-method other =
         let k = home_of h in
         let at : ℕ × ℕ = (b.block.seg, b.block.off) in
-        on_block-there h x tag label.at.0 b (watch_block k line x)
+        on_block-there h x has.tag addr.0 b (watch_block k line x)
         ∙ ap (λ v. cond v (changed_to k (region_watch k.region at line) (Watched x)) (unchanged k why.WrongMethod)) (debug-relabelled (name_of h.labels) h.region ∙ other)
 
     pub gives-watched : (region : Region ℕ) → is_debug h.region ≡ true → region ≡ region_watch h.region p line → GivesRegion (watch_in (home_of h) line x) (relabelled (name_of h.labels) region, kept_of h.labels) (Watched x)
@@ -125,7 +126,7 @@ module _ (h : Held) (x : List ℕ) (tag : ℕ) (label : Label) (names : IsNamed 
         let f = name_of h.labels in
         let at : ℕ × ℕ = (b.block.seg, b.block.off) in
         let eq : watch_in k line x ≡ changed_to k (relabelled f region) (Watched x) =
-        on_block-there h x tag label.at.0 b (watch_block k line x)
+        on_block-there h x has.tag addr.0 b (watch_block k line x)
         ∙ (ap (λ v. cond v (changed_to k (region_watch k.region at line) (Watched x)) (unchanged k why.WrongMethod)) (debug-relabelled f h.region ∙ is)
         ∙ (ap (λ q. changed_to k (region_watch k.region q line) (Watched x)) (sym b.place)
         ∙ ap (λ r. changed_to k r (Watched x)) (marks-relabelled f h.region p line ∙ ap (relabelled f) (sym put)))) in

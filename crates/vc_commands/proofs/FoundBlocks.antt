@@ -1,5 +1,5 @@
 -- The block of a name, in a region with tags and in the one with names.
-use Rattle.std.proofs.Common.{◌≡◌, ℕ, ◌≤◌, suc, Bool, true, false, ◌||◌, ◌&&◌, is_some, List, [], ◌∷◌, Option, Some, None, option_map, map, refl, sym, ap, ◌∙◌, ⊎_elim, arith}
+use Rattle.std.proofs.Common.{◌≡◌, ℕ, ◌≤◌, suc, true, ◌||◌, is_some, List, [], ◌∷◌, Some, None, option_map, map, refl, sym, ap, ◌∙◌, ⊎_elim, arith}
 use Rattle.std.specs.Prelude.{Contains, find, ◌==◌}
 use Rattle.std.specs.List.{list_any}
 use Rattle.std.specs.Str.{bytes_eq}
@@ -26,6 +26,10 @@ use Rattle.vc_commands.specs.declared.region.labels.Label.{Label}
 use Rattle.vc_commands.specs.declared.region.labels.Labels.{Labels}
 use Rattle.vc_commands.specs.Labels.{kept_of, label_at, name_of, tag_of}
 use Rattle.vc_commands.specs.Held.{Held, IsLive, IsNamed, home_of}
+use Rattle.vc_script.specs.declared.refusal.Refusal.{Refusal}
+use Rattle.vc_script.specs.declared.reply.Reply.TheVariants.{Refused}
+use Rattle.vc_commands.specs.RegionRun.{GivesRegion}
+use Rattle.vc_commands.proofs.Answers.{gives-unchanged}
 use Rattle.vc_commands.proofs.Firsts.{find-none}
 use Rattle.vc_commands.proofs.Lists.{Passes, contains-among, found-any}
 use Rattle.vc_commands.proofs.Names.{has-label-any, name-first, name-here, named_by, same_bytes}
@@ -34,6 +38,10 @@ use Rattle.vc_commands.proofs.Names.{has-label-any, name-first, name-here, named
 pub on_block-none : (h : Held) (x : List ℕ) (act : Block home.Label → Changed) → IsNamed h.region h.labels → tag_of h.labels x ≡ None → on_block (home_of h) x act ≡ unchanged (home_of h) (no_block (line_of x (kept_of h.labels)))
 on_block-none h x act names none =
     ap (λ o. with_named (home_of h) x o act) (find-none (is_block x) (blocks_of (home_of h).region) (sym (names.known x) ∙ ap is_some none))
+
+pub gives-none : (h : Held) (x : List ℕ) (act : Home → Block home.Label → Changed) (why : Refusal) → IsNamed h.region h.labels → tag_of h.labels x ≡ None → why ≡ no_block (line_of x (kept_of h.labels)) → GivesRegion (on_block (home_of h) x (act (home_of h))) ((home_of h).region, (home_of h).kept) (Refused why)
+gives-none h x act why names none is =
+    gives-unchanged (home_of h) (on_block (home_of h) x (act (home_of h))) why (on_block-none h x (act (home_of h)) names none ∙ ap (unchanged (home_of h)) (sym is))
 
 name-some : (x : List ℕ) (o : home.Label) → is_name_of x o ≡ true → (y : List ℕ) × (o ≡ Some y) × (bytes_eq y x ≡ true)
 name-some x None e = absurd cc
@@ -51,31 +59,45 @@ pub record TheBlock (r : Region ℕ) (labels : Labels) (x : List ℕ) (tag a : �
   pub there : Contains (map address_of (blocks_of r)) a
   pub named : find (is_block x) (blocks_of (relabelled (name_of labels) r)) ≡ Some (relabel_block (name_of labels) block)
 
-module _ (r : Region ℕ) (labels : Labels) (x : List ℕ) (tag : ℕ) (label : Label) (names : IsNamed r labels) (is_named : label.name ≡ x) (was_named : tag_of labels x ≡ Some tag) (was_at : label_at labels tag ≡ Some label) where
-  passes : Passes (named_by (name_of labels) x) (blocks_of r)
-  passes = found-any (named_by (name_of labels) x) (blocks_of r) (sym (has-label-any (name_of labels) x r) ∙ (sym (names.known x) ∙ ap is_some was_named))
+-- a name of a region's blocks, by its tag, whose label has an address
+abbrev pub label_of : List ℕ → Addr → Label
+label_of x addr = record { name = x; at = addr }
 
-  pub the_block : TheBlock r labels x tag label.at.0
+pub record HasName (r : Region ℕ) (labels : Labels) (x : List ℕ) (addr : Addr) : Type 0 where
+  pub names : IsNamed r labels
+  pub tag : ℕ
+  pub named : tag_of labels x ≡ Some tag
+  pub there : label_at labels tag ≡ Some (label_of x addr)
+
+-- by what the labels tell of it
+pub has-name : {r : Region ℕ} {labels : Labels} {x : List ℕ} {addr : Addr} → IsNamed r labels → (tag : ℕ) × (tag_of labels x ≡ Some tag) × (label_at labels tag ≡ Some (label_of x addr)) → HasName r labels x addr
+has-name names found = record { names = names; tag = found.0; named = found.1; there = found.2 }
+
+module _ {r : Region ℕ} {labels : Labels} {x : List ℕ} {addr : Addr} (has : HasName r labels x addr) where
+  passes : Passes (named_by (name_of labels) x) (blocks_of r)
+  passes = found-any (named_by (name_of labels) x) (blocks_of r) (sym (has-label-any (name_of labels) x r) ∙ (sym (has.names.known x) ∙ ap is_some has.named))
+
+  pub the_block : TheBlock r labels x has.tag addr.0
   the_block =
       let f = name_of labels in
       let b = passes.item in
       let among : Among b (blocks_of r) = among-find (named_by f x) (blocks_of r) b passes.found in
       let some = name-some x (f b.label) passes.passes in
       let first : 1 ≤ b.label = name-first labels b.label some.0 some.1 in
-      let live : IsLive labels b = among-all (λ c. 1 ≤ c.label → IsLive labels c) b (blocks_of r) among names.live first in
+      let live : IsLive labels b = among-all (λ c. 1 ≤ c.label → IsLive labels c) b (blocks_of r) among has.names.live first in
       let own : live.label.name ≡ x = same_Some live.label.name some.0 (sym (name-here labels b.label live.label first live.here) ∙ some.1) ∙ same_bytes some.0 x some.2 in
-      let is_tag : b.label ≡ tag = same_Some b.label tag (sym (names.agree.named b.label live.label first live.here) ∙ (ap (tag_of labels) own ∙ was_named)) in
-      let same : live.label ≡ label = same_Some live.label label (sym live.here ∙ (ap (label_at labels) is_tag ∙ was_at)) in
-      let address : address_of b ≡ label.at.0 = sym live.at ∙ ap (λ (k : Label). k.at.0) same in
+      let is_tag : b.label ≡ has.tag = same_Some b.label has.tag (sym (has.names.agree.named b.label live.label first live.here) ∙ (ap (tag_of labels) own ∙ has.named)) in
+      let same : live.label ≡ (label_of x addr) = same_Some live.label (label_of x addr) (sym live.here ∙ (ap (label_at labels) is_tag ∙ has.there)) in
+      let address : address_of b ≡ addr.0 = sym live.at ∙ ap (λ (k : Label). k.at.0) same in
       record {
         block = b;
         first = first;
         is_tag = is_tag;
         name = some.1 ∙ ap (λ n. Some n) (same_bytes some.0 x some.2);
         address = address;
-        place = ap place_of (sym address) ∙ place-of (blocks_of r) b names.places among;
-        found = found-there (blocks_of r) b label.at.0 names.places among address;
-        there = contains-among label.at.0 b (blocks_of r) among address;
+        place = ap place_of (sym address) ∙ place-of (blocks_of r) b has.names.places among;
+        found = found-there (blocks_of r) b addr.0 has.names.places among address;
+        there = contains-among addr.0 b (blocks_of r) among address;
         named =
             ap (find (is_block x)) (blocks-relabelled f r)
             ∙ (find-relabel f (named_by f x) (is_block x) (λ c. refl) (blocks_of r)
@@ -83,9 +105,8 @@ module _ (r : Region ℕ) (labels : Labels) (x : List ℕ) (tag : ℕ) (label : 
       }
 
 -- it stands in a region of its tags at the address of the name
-pub name-there : {I : Type 0} {V : I → Type 0} (r : Open I V) (labels : Labels) (x : List ℕ) (at : Addr) → IsNamed (rest_in r) labels
-    → (tag : ℕ) × (tag_of labels x ≡ Some tag) × (let o : Option Label = Some (record { name = x; at = at }) in label_at labels tag ≡ o) → HasBlock (blocks_of (region_of r)) at.0
-name-there r labels x at names f = has-rest (region_of r) at.0 (the_block (rest_in r) labels x f.0 (record { name = x; at = at }) names refl f.1 f.2).there
+pub name-there : {I : Type 0} {V : I → Type 0} (r : Open I V) {labels : Labels} {x : List ℕ} {addr : Addr} → HasName (rest_in r) labels x addr → HasBlock (blocks_of (region_of r)) addr.0
+name-there r {addr = addr} has = has-rest (region_of r) addr.0 (the_block has).there
 
 -- what is done with it
 pub on_block-there : (h : Held) (x : List ℕ) (tag a : ℕ) (b : TheBlock h.region h.labels x tag a) (act : Block home.Label → Changed) → on_block (home_of h) x act ≡ act (relabel_block (name_of h.labels) b.block)
@@ -104,8 +125,3 @@ align-in align passes = among (32 ∷ 64 ∷ 128 ∷ 256 ∷ 512 ∷ 1024 ∷ 20
         let rest = among ys (sym (ap (λ b. b || list_any (λ n. align == n) ys) e) ∙ any) in
         (suc rest.0, omega (arith, rest.1), rest.2))
         (cases_Bool (align == y))
-
-pub both-parts : (a b : Bool) → (a && b) ≡ true → (a ≡ true) × (b ≡ true)
-both-parts true true e = (refl, refl)
-both-parts true false e = absurd cc
-both-parts false b e = absurd cc

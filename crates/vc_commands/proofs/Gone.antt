@@ -13,7 +13,7 @@ use Rattle.vc_script.specs.declared.reply.Reply.{Reply}
 use Rattle.vc_script.specs.declared.reply.Reply.TheVariants.{Freed}
 use Rattle.vc_commands.specs.Home.{unchanged}
 use Rattle.vc_commands.specs.Kept.{with_line}
-use Rattle.vc_commands.specs.Held.{Held, IsNamed, home_of}
+use Rattle.vc_commands.specs.Held.{Held, home_of}
 use Rattle.vc_commands.specs.Blocks.{free_block, free_in, freed, kept_freed}
 use Rattle.vc_commands.specs.Labels.{SameLabels, WithoutLabel, kept_of, label_at, name_of, tag_of}
 use Rattle.vc_seg.specs.Answer.{IsRefusal}
@@ -23,47 +23,47 @@ use Rattle.vc_commands.specs.RegionRun.{GivesRegion}
 use Rattle.vc_commands.specs.declared.region.labels.Label.{Label}
 use Rattle.vc_commands.specs.declared.region.labels.Labels.{Labels}
 use Rattle.vc_commands.proofs.Answers.{Told, fault-told}
-use Rattle.vc_commands.proofs.FoundBlocks.{TheBlock, on_block-there, the_block}
+use Rattle.vc_commands.proofs.FoundBlocks.{HasName, TheBlock, label_of, on_block-there, the_block}
 use Rattle.vc_commands.proofs.Moving.{region-less}
 
-module _ (h : Held) (x : List ℕ) (line tag : ℕ) (label : Label) (names : IsNamed h.region h.labels) (is_named : label.name ≡ x) (was_named : tag_of h.labels x ≡ Some tag) (was_at : label_at h.labels tag ≡ Some label) where
-  abbrev b : TheBlock h.region h.labels x tag label.at.0
-  b = the_block h.region h.labels x tag label names is_named was_named was_at
+module _ (h : Held) {x : List ℕ} {addr : Addr} (has : HasName h.region h.labels x addr) (line : ℕ) where
+  abbrev b : TheBlock h.region h.labels x has.tag addr.0
+  b = the_block has
 
-  free-named : free_in (home_of h) x line ≡ freed (home_of h) x (kept_freed (home_of h) x line) (watch_at h.region (place_of label.at.0)) (relabel_freed (name_of h.labels) (region_free h.region (place_of label.at.0)))
+  free-named : free_in (home_of h) x line ≡ freed (home_of h) x (kept_freed (home_of h) x line) (watch_at h.region (place_of addr.0)) (relabel_freed (name_of h.labels) (region_free h.region (place_of addr.0)))
   free-named =
       let k = home_of h in
       let f = name_of h.labels in
-      let p = place_of label.at.0 in
-      on_block-there h x tag label.at.0 b (free_block k x line)
+      let p = place_of addr.0 in
+      on_block-there h x has.tag addr.0 b (free_block k x line)
       ∙ (ap (λ q. freed k x (kept_freed k x line) (watch_at k.region q) (region_free k.region q)) (sym b.place)
       ∙ (ap (λ w. freed k x (kept_freed k x line) w (region_free k.region p)) (watch-relabelled f h.region p)
       ∙ ap (freed k x (kept_freed k x line) (watch_at h.region p)) (free-relabelled f h.region p)))
 
   pub gives-freed :
-      (new : Labels) → WithoutLabel h.labels new tag label → (region : Region ℕ) → region_free h.region (place_of label.at.0) ≡ Done region → blocks_of region ≡ without_block (place_of label.at.0) (blocks_of h.region) → kept_of new ≡ kept_freed (home_of h) x line
-      → (watch : Option ℕ) → watch ≡ watch_at h.region (place_of label.at.0) → GivesRegion (free_in (home_of h) x line) (relabelled (name_of new) region, kept_of new) (Freed x watch)
+      (new : Labels) → WithoutLabel h.labels new has.tag (label_of x addr) → (region : Region ℕ) → region_free h.region (place_of addr.0) ≡ Done region → blocks_of region ≡ without_block (place_of addr.0) (blocks_of h.region) → kept_of new ≡ kept_freed (home_of h) x line
+      → (watch : Option ℕ) → watch ≡ watch_at h.region (place_of addr.0) → GivesRegion (free_in (home_of h) x line) (relabelled (name_of new) region, kept_of new) (Freed x watch)
   gives-freed new w region is left keeps watch watched =
       let k = home_of h in
       let f = name_of h.labels in
-      let there = watch_at h.region (place_of label.at.0) in
+      let there = watch_at h.region (place_of addr.0) in
       let eq : free_in k x line ≡ freed k x (kept_freed k x line) there (Done (relabelled f region)) = free-named ∙ ap (λ o. freed k x (kept_freed k x line) there (relabel_freed f o)) is in
       subst (λ c. GivesRegion c (relabelled (name_of new) region, kept_of new) (Freed x watch)) (sym eq)
       (record {
-        region_after = sym (region-less h.labels h.region names x tag label was_at b new w is_named region left);
+        region_after = sym (region-less h.labels h.region has.names x has.tag (label_of x addr) has.there b new w refl region left);
         kept_after = sym keeps;
         replied = ap (λ o. Freed x o) (sym watched);
       })
 
-  pub gives-kept : (told : Reply) → Told (λ (refused : Bool). region_free h.region (place_of label.at.0)) told → (region : Region ℕ) → region ≡ h.region → GivesRegion (free_in (home_of h) x line) (relabelled (name_of h.labels) region, kept_of h.labels) told
+  pub gives-kept : (told : Reply) → Told (λ (refused : Bool). region_free h.region (place_of addr.0)) told → (region : Region ℕ) → region ≡ h.region → GivesRegion (free_in (home_of h) x line) (relabelled (name_of h.labels) region, kept_of h.labels) told
   gives-kept told t region same =
       let k = home_of h in
       let f = name_of h.labels in
-      let eq : free_in k x line ≡ unchanged k _ = free-named ∙ ap (λ o. freed k x (kept_freed k x line) (watch_at h.region (place_of label.at.0)) (relabel_freed f o)) t.refused in
+      let eq : free_in k x line ≡ unchanged k _ = free-named ∙ ap (λ o. freed k x (kept_freed k x line) (watch_at h.region (place_of addr.0)) (relabel_freed f o)) t.refused in
       subst (λ c. GivesRegion c (relabelled f region, kept_of h.labels) told) (sym eq) (record { region_after = ap (relabelled f) (sym same); kept_after = refl; replied = t.is })
 
-  pub step-kept : {E : Type 0} (fault : RegionFault) (result : Result Reply E) → TellsFault fault result → IsRefusal (λ (refused : Bool). region_free h.region (place_of label.at.0)) fault → (region : Region ℕ) → region ≡ h.region → IfOk result (λ told. GivesRegion (free_in (home_of h) x line) (relabelled (name_of h.labels) region, kept_of h.labels) told)
-  step-kept fault (Ok told) tells refusal region same = gives-kept told (fault-told (λ (refused : Bool). region_free h.region (place_of label.at.0)) fault told tells refusal) region same
+  pub step-kept : {E : Type 0} (fault : RegionFault) (result : Result Reply E) → TellsFault fault result → IsRefusal (λ (refused : Bool). region_free h.region (place_of addr.0)) fault → (region : Region ℕ) → region ≡ h.region → IfOk result (λ told. GivesRegion (free_in (home_of h) x line) (relabelled (name_of h.labels) region, kept_of h.labels) told)
+  step-kept fault (Ok told) tells refusal region same = gives-kept told (fault-told (λ (refused : Bool). region_free h.region (place_of addr.0)) fault told tells refusal) region same
   step-kept fault (Err e) tells refusal region same = tt
 
   -- the names that are kept then
@@ -72,12 +72,12 @@ module _ (h : Held) (x : List ℕ) (line tag : ℕ) (label : Label) (names : IsN
       e ∙ ap (λ v. cond v (with_line x line (kept_of h.labels)) (kept_of h.labels)) (is ∙ sym (keeps-relabelled (name_of h.labels) h.region))
 
   -- none where the region keeps none
-  pub none-after : (new : Labels) → kept_of new ≡ kept_freed (home_of h) x line → (region : Region ℕ) → region_free h.region (place_of label.at.0) ≡ Done region → keeps_freed region ≡ false → kept_of new ≡ []
+  pub none-after : (new : Labels) → kept_of new ≡ kept_freed (home_of h) x line → (region : Region ℕ) → region_free h.region (place_of addr.0) ≡ Done region → keeps_freed region ≡ false → kept_of new ≡ []
   none-after new e region is none =
-      let was : keeps_freed h.region ≡ false = sym (free-keeps h.region (place_of label.at.0) region is) ∙ none in
+      let was : keeps_freed h.region ≡ false = sym (free-keeps h.region (place_of addr.0) region is) ∙ none in
       e
       ∙ (ap (λ v. cond v (with_line x line (kept_of h.labels)) (kept_of h.labels)) (keeps-relabelled (name_of h.labels) h.region ∙ was)
-      ∙ names.none was)
+      ∙ has.names.none was)
 
 -- what holds once the block of a name was taken out
 pub removed-so : (old new : Labels) (x : List ℕ) (tag : ℕ) (P : Type 0) → tag_of old x ≡ Some tag → (o : Option Addr) → OnSome o P → IfNone o ((tag_of old x ≡ None) × SameLabels old new) → P

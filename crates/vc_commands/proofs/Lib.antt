@@ -18,7 +18,9 @@ pub mod Listing
 pub mod Lists
 pub mod Moving
 pub mod Names
+pub mod Placed
 pub mod PutBlocks
+pub mod Resized
 pub mod Resizing
 pub mod Seen
 pub mod Touching

@@ -1,5 +1,5 @@
 -- The block at a place, and the lists of segments and of blocks.
-use Rattle.std.proofs.Common.{◌≡◌, ℕ, ◌≤◌, List, [], ◌∷◌, Option, Some, None, filter, get_or, map, option_map, refl, sym, ap, ◌∙◌, arith}
+use Rattle.std.proofs.Common.{◌≡◌, ℕ, ◌<◌, ◌≤◌, List, [], ◌∷◌, Option, Some, None, filter, get_or, length, map, option_map, refl, sym, ap, ◌∙◌, arith}
 use Rattle.std.specs.Prelude.{find, ◌-◌}
 use Rattle.std.proofs.lemmas.Option.{same_Some, none-some}
 use Rattle.vc_model.specs.Addr.{place_of}
@@ -11,7 +11,12 @@ use Rattle.vc_model.specs.Walk.{block_at, by_address, by_number, holds_byte, nex
 use Rattle.vc_model.proofs.Pairs.{all-recursion}
 use Rattle.vc_model.proofs.Places.{among-above, among-find, found-there, place-of}
 use Rattle.vc_model.proofs.Relabel.{block_at-relabel, by_address-relabel}
+use Rattle.vc_region.specs.Cells.{rest_in}
+use Rattle.vc_region.specs.Parts.{region_of}
+use Rattle.vc_region.specs.declared.region.Region.{Region as Open}
 use Rattle.vc_region.proofs.Relabel.{blocks-relabelled}
+use Rattle.vc_region.proofs.RestFound.{rest-next, rest-own}
+use Rattle.vc_region.proofs.Sound.{own_places}
 use Rattle.vc_model.proofs.Sorting as sorting
 use Rattle.vc_script.specs.declared.place.Place.{Place}
 use Rattle.vc_script.specs.declared.reply.Reply.TheVariants.{AddrIn, AddrNone}
@@ -96,6 +101,24 @@ blocks-all bs places = sorting.all-passed address_of bs (all-recursion (λ b. 1 
   where
     some : (b : Block ℕ) → 1 ≤ b.seg → 1 ≤ address_of b
     some b first = omega (arith, first)
+
+-- by what is told of the next one
+pub fewer-above : (bs : List (Block ℕ)) (after a : ℕ) → HaveOwnPlaces bs → option_map address_of (next_block after bs) ≡ Some a → length (blocks_above a bs) < length (blocks_above after bs)
+fewer-above bs after a places next =
+    let b = from_some address_of (next_block after bs) a next in
+    let e = ap length (blocks-next after bs b.from a places b.was b.to) in
+    omega (arith, e)
+
+pub none-above : (bs : List (Block ℕ)) (after : ℕ) → HaveOwnPlaces bs → option_map address_of (next_block after bs) ≡ None → blocks_above after bs ≡ []
+none-above bs after places next = blocks-end after bs places (from_none address_of (next_block after bs) next)
+
+-- in an open region, but for the bytes in its cells
+module _ {I : Type 0} {V : I → Type 0} (r : Open I V) where
+  pub places_in : HaveOwnPlaces (blocks_of (rest_in r))
+  places_in = rest-own (region_of r) (own_places r)
+
+  pub next_in : (after : ℕ) (o : Option ℕ) → o ≡ option_map address_of (next_block after (blocks_of (region_of r))) → option_map address_of (next_block after (blocks_of (rest_in r))) ≡ o
+  next_in after o is = rest-next (region_of r) address_of (λ b. refl) after ∙ sym is
 
 -- the items of blocks under their names
 abbrev pub items_of : Labels → List (Block ℕ) → List (Label × Place × ℕ)

@@ -2,7 +2,7 @@
 use Rattle.std.proofs.Common.{◌≡◌, ◌≢◌, ℕ, ◌+◌, ◌≤◌, ◌||◌, ◌&&◌, length, Bool, true, false, cond, is_some, List, [], ◌∷◌, Option, Some, None, Result, Ok, Err, IfOk, OnErr, refl, sym, ap, ◌∙◌, subst, arith}
 use Rattle.std.specs.Prelude.{IfSome, nat_le, nat_lt, ◌==◌}
 use Rattle.std.specs.List.{AllByRecursion}
-use Rattle.std.proofs.lemmas.Bool.{eq-eqb, false≢true}
+use Rattle.std.proofs.lemmas.Bool.{and_parts, eq-eqb}
 use Rattle.std.proofs.lemmas.Bool.Decides.{nat_tests}
 use Rattle.std.proofs.lemmas.Option.{none-some}
 use Rattle.vc_base.specs.declared.addr.Addr.{Addr}
@@ -247,15 +247,10 @@ align-legal r size align e = align-cond (aligns r) (is_size size && is_align ali
 pub align-words : (h : Held) (size align : ℕ) → align_refused (home_of h).region size align ≡ align_refused h.region size align
 align-words h size align = ap (λ b. cond b (cond (is_size size && is_align align) None (Some why.Size)) (Some why.WrongMethod)) (aligns-relabelled (name_of h.labels) h.region)
 
-both-true : (a b : Bool) → (a && b) ≡ true → (a ≡ true) × (b ≡ true)
-both-true true true e = (refl, refl)
-both-true true false e = absurd (false≢true e)
-both-true false b e = absurd (false≢true e)
-
 -- a size of a script is one of a region
 pub size-range : (size : ℕ) → is_size size ≡ true → (1 ≤ size) × (size ≤ 16777216)
 size-range size e =
-    let parts = both-true (nat_le 1 size) (nat_le size 16777216) e in
+    let parts = and_parts (nat_le 1 size) (nat_le size 16777216) e in
     (le-told 1 size parts.0, le-told size 16777216 parts.1)
   where
     le-told : (a b : ℕ) → nat_le a b ≡ true → a ≤ b

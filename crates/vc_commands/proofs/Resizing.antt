@@ -1,7 +1,8 @@
 -- What giving the block of a name another size answers, and how it changes the region.
-use Rattle.std.proofs.Common.{◌≡◌, ℕ, Bool, true, false, cond, eqb, List, [], ◌∷◌, Option, Some, None, Result, Ok, Err, IfOk, option_map, refl, sym, ap, ◌∙◌, subst, ⊎_elim}
+use Rattle.std.proofs.Common.{◌≡◌, ℕ, Bool, true, false, cond, eqb, List, [], ◌∷◌, Option, Some, Result, Ok, Err, IfOk, option_map, refl, sym, ap, ◌∙◌, subst, ⊎_elim}
 use Rattle.std.proofs.lemmas.Bool.{cases_Bool, and_parts, eqb-true}
 use Rattle.std.proofs.lemmas.Option.{same_Some, none-some}
+use Rattle.vc_base.specs.declared.addr.Addr.{Addr}
 use Rattle.vc_model.specs.Addr.{address, place_of}
 use Rattle.vc_model.specs.Layout.{Block, is_at, without_block}
 use Rattle.vc_model.specs.Outcome.{Outcome, Put, outcome_as}
@@ -22,27 +23,18 @@ use Rattle.vc_script.specs.declared.reply.Reply.{Reply}
 use Rattle.vc_commands.specs.Home.{Changed, Home, unchanged}
 use Rattle.vc_commands.specs.Held.{Held, IsNamed, home_of}
 use Rattle.vc_commands.specs.Blocks.{at_place, is_size, put_in, resize_block, resize_in}
-use Rattle.vc_commands.specs.Labels.{AreLabels, MovesLabel, kept_of, label_at, name_of, tag_of}
+use Rattle.vc_commands.specs.Labels.{AreLabels, MovesLabel, kept_of, name_of}
 use Rattle.vc_commands.specs.Kept.{Kept}
 use Rattle.vc_commands.specs.RegionRun.{GivesRegion}
 use Rattle.vc_commands.specs.RegionCommands.{is_for_block}
 use Rattle.vc_commands.specs.declared.region.labels.Label.{Label}
 use Rattle.vc_commands.specs.declared.region.labels.Labels.{Labels}
 use Rattle.vc_commands.proofs.Answers.{Told, fault-told}
-use Rattle.vc_commands.proofs.FoundBlocks.{TheBlock, on_block-there, the_block}
+use Rattle.vc_commands.proofs.FoundBlocks.{HasName, TheBlock, label_of, on_block-there, the_block}
+use Rattle.vc_commands.proofs.Listing.{from_some}
 use Rattle.vc_commands.proofs.Moving.{name-moved, named-moved}
 use Rattle.vc_commands.proofs.Names.{relabelled-names}
 use Rattle.vc_commands.proofs.PutBlocks.{gives-put, put-address}
-
--- a map of an option that has a value
-pub record FromSome {A B : Type 0} (f : A → B) (o : Option A) (y : B) : Type 0 where
-  pub from : A
-  pub was : o ≡ Some from
-  pub to : f from ≡ y
-
-pub from_some : {A B : Type 0} (f : A → B) (o : Option A) (y : B) → option_map f o ≡ Some y → FromSome f o y
-from_some f None y e = absurd (none-some y e)
-from_some f (Some x) y e = record { from = x; was = refl; to = same_Some (f x) y e }
 
 found-at : (p : ℕ × ℕ) (b : Block ℕ) (bs : List (Block ℕ)) → find_block p bs ≡ Some b → is_at p b ≡ true
 found-at p b [] e = absurd (none-some b e)
@@ -60,29 +52,29 @@ found-place p b bs e =
     let off : b.off ≡ p.1 = eqb-true b.off p.1 both.1 in
     ap (λ s. let q : ℕ × ℕ = (s, p.1) in q) (sym seg) ∙ ap (λ o. let q : ℕ × ℕ = (b.seg, o) in q) (sym off)
 
-module _ (h : Held) (x : List ℕ) (tag : ℕ) (label : Label) (names : IsNamed h.region h.labels) (is_named : label.name ≡ x) (was_named : tag_of h.labels x ≡ Some tag) (was_at : label_at h.labels tag ≡ Some label) (size : ℕ) (may_move : Bool) where
-  abbrev b : TheBlock h.region h.labels x tag label.at.0
-  b = the_block h.region h.labels x tag label names is_named was_named was_at
+module _ (h : Held) {x : List ℕ} {addr : Addr} (has : HasName h.region h.labels x addr) (size : ℕ) (may_move : Bool) where
+  abbrev b : TheBlock h.region h.labels x has.tag addr.0
+  b = the_block has
 
   abbrev pub call : Bool → Outcome (Put (Region ℕ))
-  call refused = region_resize h.disc.terms h.region (place_of label.at.0) size may_move refused
+  call refused = region_resize h.disc.terms h.region (place_of addr.0) size may_move refused
 
   -- a size that no script can have
   pub resize-size : (u : Bool) → is_size size ≡ false → resize_in (home_of h) x size may_move u ≡ unchanged (home_of h) why.Size
   resize-size u sized =
       let k = home_of h in
-      on_block-there h x tag label.at.0 b (resize_block k x size may_move u)
+      on_block-there h x has.tag addr.0 b (resize_block k x size may_move u)
       ∙ ap (λ v. cond v (put_in k x k.kept (watch_at k.region (b.block.seg, b.block.off)) (region_resize k.terms k.region (b.block.seg, b.block.off) size may_move u)) (unchanged k why.Size)) sized
 
   module _ (sized : is_size size ≡ true) where
-    resize-named : (u : Bool) → resize_in (home_of h) x size may_move u ≡ put_in (home_of h) x (kept_of h.labels) (watch_at h.region (place_of label.at.0)) (outcome_as (relabelled (name_of h.labels)) (call u))
+    resize-named : (u : Bool) → resize_in (home_of h) x size may_move u ≡ put_in (home_of h) x (kept_of h.labels) (watch_at h.region (place_of addr.0)) (outcome_as (relabelled (name_of h.labels)) (call u))
     resize-named u =
         let k = home_of h in
-        on_block-there h x tag label.at.0 b (resize_block k x size may_move u)
+        on_block-there h x has.tag addr.0 b (resize_block k x size may_move u)
         ∙ (ap (λ v. cond v (put_in k x k.kept (watch_at k.region (b.block.seg, b.block.off)) (region_resize k.terms k.region (b.block.seg, b.block.off) size may_move u)) (unchanged k why.Size)) sized
         ∙ (ap (λ p. put_in k x k.kept (watch_at k.region p) (region_resize k.terms k.region p size may_move u)) (sym b.place)
-        ∙ (ap (λ w. put_in k x k.kept w (region_resize k.terms k.region (place_of label.at.0) size may_move u)) (watch-relabelled (name_of h.labels) h.region (place_of label.at.0))
-        ∙ ap (put_in k x k.kept (watch_at h.region (place_of label.at.0))) (resize-relabelled (name_of h.labels) h.disc.terms h.region (place_of label.at.0) size may_move u))))
+        ∙ (ap (λ w. put_in k x k.kept w (region_resize k.terms k.region (place_of addr.0) size may_move u)) (watch-relabelled (name_of h.labels) h.region (place_of addr.0))
+        ∙ ap (put_in k x k.kept (watch_at h.region (place_of addr.0))) (resize-relabelled (name_of h.labels) h.disc.terms h.region (place_of addr.0) size may_move u))))
 
     -- a fault leaves the region and its names
     pub gives-fault : (told : Reply) → Told call told → (region : Region ℕ) → region ≡ h.region → GivesRegion (resize_in (home_of h) x size may_move (is_for_block (need_shown told))) (relabelled (name_of h.labels) region, kept_of h.labels) told
@@ -90,29 +82,29 @@ module _ (h : Held) (x : List ℕ) (tag : ℕ) (label : Label) (names : IsNamed 
         let k = home_of h in
         let u = is_for_block (need_shown told) in
         let f = name_of h.labels in
-        let eq : resize_in k x size may_move u ≡ unchanged k _ = resize-named u ∙ ap (λ o. put_in k x (kept_of h.labels) (watch_at h.region (place_of label.at.0)) (outcome_as (relabelled f) o)) t.refused in
+        let eq : resize_in k x size may_move u ≡ unchanged k _ = resize-named u ∙ ap (λ o. put_in k x (kept_of h.labels) (watch_at h.region (place_of addr.0)) (outcome_as (relabelled f) o)) t.refused in
         subst (λ c. GivesRegion c (relabelled f region, kept_of h.labels) told) (sym eq) (record { region_after = ap (relabelled f) (sym same); kept_after = refl; replied = t.is })
 
-    module _ (new : Labels) (to : Label) (m : MovesLabel h.labels new tag to) (same_name : to.name ≡ label.name) (same_kept : kept_of new ≡ kept_of h.labels) (region : Region ℕ) (is : IsPut (call false) to.at.0 region) where
-      pub gives-resized : (watch : Option ℕ) → watch ≡ watch_at h.region (place_of label.at.0) → GivesRegion (resize_in (home_of h) x size may_move false) (relabelled (name_of new) region, kept_of new) (at_place x (place_of to.at.0) watch)
+    module _ (new : Labels) (to : Label) (m : MovesLabel h.labels new has.tag to) (same_name : to.name ≡ x) (same_kept : kept_of new ≡ kept_of h.labels) (region : Region ℕ) (is : IsPut (call false) to.at.0 region) where
+      pub gives-resized : (watch : Option ℕ) → watch ≡ watch_at h.region (place_of addr.0) → GivesRegion (resize_in (home_of h) x size may_move false) (relabelled (name_of new) region, kept_of new) (at_place x (place_of to.at.0) watch)
       gives-resized watch watched =
           let k = home_of h in
           let f = name_of h.labels in
-          let moved : relabelled (name_of new) region ≡ relabelled f region = relabelled-names h.labels new region (name-moved h.labels h.region names x tag label was_at b new to m same_name) in
-          let there = watch_at h.region (place_of label.at.0) in
+          let moved : relabelled (name_of new) region ≡ relabelled f region = relabelled-names h.labels new region (name-moved h.labels h.region has.names x has.tag (label_of x addr) has.there b new to m same_name) in
+          let there = watch_at h.region (place_of addr.0) in
           subst (λ w. GivesRegion (resize_in k x size may_move false) (relabelled (name_of new) region, kept_of new) (at_place x (place_of to.at.0) w)) (sym watched)
           (subst (λ c. GivesRegion c (relabelled (name_of new) region, kept_of new) (at_place x (place_of to.at.0) there)) (sym (resize-named false))
           (subst (λ r. GivesRegion (put_in k x (kept_of h.labels) there (outcome_as (relabelled f) (call false))) (r, kept_of new) (at_place x (place_of to.at.0) there)) (sym moved)
           (subst (λ q. GivesRegion (put_in k x (kept_of h.labels) there (outcome_as (relabelled f) (call false))) (relabelled f region, q) (at_place x (place_of to.at.0) there)) (sym same_kept)
           (gives-put k x (kept_of h.labels) there f (call false) to.at.0 region is))))
 
-      pub named-resized : option_map (λ c. c.label) (find_block (place_of to.at.0) (blocks_of region)) ≡ option_map (λ c. c.label) (find_block (place_of label.at.0) (blocks_of h.region)) → without_block (place_of to.at.0) (blocks_of region) ≡ without_block (place_of label.at.0) (blocks_of h.region) → AreLabels new → HaveOwnPlaces (blocks_of region) → IsNamed region new
+      pub named-resized : option_map (λ c. c.label) (find_block (place_of to.at.0) (blocks_of region)) ≡ option_map (λ c. c.label) (find_block (place_of addr.0) (blocks_of h.region)) → without_block (place_of to.at.0) (blocks_of region) ≡ without_block (place_of addr.0) (blocks_of h.region) → AreLabels new → HaveOwnPlaces (blocks_of region) → IsNamed region new
       named-resized there others agree places =
           let found = from_some (λ (c : Block ℕ). c.label) (find_block (place_of to.at.0) (blocks_of region)) b.block.label (there ∙ ap (option_map (λ (c : Block ℕ). c.label)) b.found) in
           let place : place_of to.at.0 ≡ (found.from.seg, found.from.off) = found-place (place_of to.at.0) found.from (blocks_of region) found.was in
-          named-moved h.labels h.region names x tag label was_at b new to m same_name region found.from found.was found.to
+          named-moved h.labels h.region has.names x has.tag (label_of x addr) has.there b new to m same_name region found.from found.was found.to
           (put-address (call false) to.at.0 region is ∙ ap address place) place others agree places
-          (λ e. same_kept ∙ names.none (sym (resize-keeps h.disc.terms h.region (place_of label.at.0) size may_move false to.at.0 region is) ∙ e))
+          (λ e. same_kept ∙ has.names.none (sym (resize-keeps h.disc.terms h.region (place_of addr.0) size may_move false to.at.0 region is) ∙ e))
 
 -- a place by its parts
 pub gives-place : (c : Changed) (r : Region home.Label × Kept) (x : List ℕ) (a : ℕ) (place : Place) (watch : Option ℕ) → place.seg ≡ (place_of a).0 → place.off ≡ (place_of a).1 → GivesRegion c r (at_place x (place_of a) watch) → GivesRegion c r (At x place watch)
@@ -120,8 +112,8 @@ gives-place c r x a place watch seg off gives =
     subst (λ o. GivesRegion c r (At x (record { seg = place.seg; off = o }) watch)) (sym off)
     (subst (λ s. GivesRegion c r (At x (record { seg = s; off = (place_of a).1 }) watch)) (sym seg) gives)
 
-module _ (h : Held) (x : List ℕ) (tag : ℕ) (label : Label) (names : IsNamed h.region h.labels) (is_named : label.name ≡ x) (was_named : tag_of h.labels x ≡ Some tag) (was_at : label_at h.labels tag ≡ Some label) (size : ℕ) (may_move : Bool) (sized : is_size size ≡ true) where
-  pub step-fault : {E : Type 0} (fault : RegionFault) (result : Result Reply E) → TellsFault fault result → IsRefusal (call h x tag label names is_named was_named was_at size may_move) fault → (region : Region ℕ) → region ≡ h.region → IfOk result (λ told. GivesRegion (resize_in (home_of h) x size may_move (is_for_block (need_shown told))) (relabelled (name_of h.labels) region, kept_of h.labels) told)
+module _ (h : Held) {x : List ℕ} {addr : Addr} (has : HasName h.region h.labels x addr) (size : ℕ) (may_move : Bool) (sized : is_size size ≡ true) where
+  pub step-fault : {E : Type 0} (fault : RegionFault) (result : Result Reply E) → TellsFault fault result → IsRefusal (call h has size may_move) fault → (region : Region ℕ) → region ≡ h.region → IfOk result (λ told. GivesRegion (resize_in (home_of h) x size may_move (is_for_block (need_shown told))) (relabelled (name_of h.labels) region, kept_of h.labels) told)
   step-fault fault (Ok told) tells refusal region same =
-      gives-fault h x tag label names is_named was_named was_at size may_move sized told (fault-told (call h x tag label names is_named was_named was_at size may_move) fault told tells refusal) region same
+      gives-fault h has size may_move sized told (fault-told (call h has size may_move) fault told tells refusal) region same
   step-fault fault (Err e) tells refusal region same = tt

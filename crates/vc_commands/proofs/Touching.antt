@@ -3,6 +3,7 @@ use Rattle.std.proofs.Common.{◌≡◌, ℕ, ◌+◌, ◌<◌, ◌≤◌, Bool,
 use Rattle.std.specs.Prelude.{nat_le}
 use Rattle.std.proofs.lemmas.Bool.Decides.{nat_tests}
 use Rattle.std.proofs.lemmas.Option.{same_Some}
+use Rattle.vc_base.specs.declared.addr.Addr.{Addr}
 use Rattle.vc_model.specs.Addr.{address, place_of}
 use Rattle.vc_model.specs.Layout.{Block, address_of, without_block}
 use Rattle.vc_region.specs.Region.{Region, blocks_of, region_write, relabelled, keeps_freed, watch_at}
@@ -15,13 +16,13 @@ use Rattle.vc_script.specs.declared.reply.Reply.TheVariants.{Written, Hex, Size}
 use Rattle.vc_commands.specs.Home.{changed_to, told, unchanged}
 use Rattle.vc_commands.specs.Held.{Held, IsNamed, home_of}
 use Rattle.vc_commands.specs.Blocks.{read_block, read_in, size_in, write_block, write_in}
-use Rattle.vc_commands.specs.Labels.{MovesLabel, kept_of, label_at, name_of, tag_of}
+use Rattle.vc_commands.specs.Labels.{MovesLabel, kept_of, name_of}
 use Rattle.vc_commands.specs.RegionRun.{GivesRegion}
-use Rattle.vc_commands.specs.declared.region.labels.Label.{Label}
-use Rattle.vc_commands.proofs.FoundBlocks.{TheBlock, on_block-there, the_block}
+use Rattle.vc_commands.proofs.FoundBlocks.{HasName, TheBlock, label_of, on_block-there, the_block}
 use Rattle.vc_model.proofs.Owned.{address-place_of}
 use Rattle.vc_region.proofs.Writing.{write-labels}
-use Rattle.vc_commands.proofs.Resizing.{found-place, from_some}
+use Rattle.vc_commands.proofs.Listing.{from_some}
+use Rattle.vc_commands.proofs.Resizing.{found-place}
 use Rattle.vc_commands.proofs.Moving.{named-moved}
 
 pub le-beyond : (a b : ℕ) → b < a → nat_le a b ≡ false
@@ -49,69 +50,69 @@ range-many off len size many =
 pub range-beyond : (off len size : ℕ) → size < off + len → ((nat_le 1 len && nat_le len 4096) && nat_le (off + len) size) ≡ false
 range-beyond off len size over = and-false (nat_le 1 len && nat_le len 4096) (nat_le (off + len) size) (le-beyond (off + len) size over)
 
-module _ (h : Held) (x : List ℕ) (tag : ℕ) (label : Label) (names : IsNamed h.region h.labels) (is_named : label.name ≡ x) (was_named : tag_of h.labels x ≡ Some tag) (was_at : label_at h.labels tag ≡ Some label) where
-  abbrev pub b : TheBlock h.region h.labels x tag label.at.0
-  b = the_block h.region h.labels x tag label names is_named was_named was_at
+module _ (h : Held) {x : List ℕ} {addr : Addr} (has : HasName h.region h.labels x addr) where
+  abbrev pub b : TheBlock h.region h.labels x has.tag addr.0
+  b = the_block has
 
   -- the size that is told of the address is that of the block
-  pub size-told : (size : ℕ) → option_map (λ c. c.size) (find_block (place_of label.at.0) (blocks_of h.region)) ≡ Some size → b.block.size ≡ size
+  pub size-told : (size : ℕ) → option_map (λ c. c.size) (find_block (place_of addr.0) (blocks_of h.region)) ≡ Some size → b.block.size ≡ size
   size-told size is = same_Some b.block.size size (sym (ap (option_map (λ (c : Block ℕ). c.size)) b.found) ∙ is)
 
   -- so are its bytes
-  pub bytes-told : (off len : ℕ) (bytes : List ℕ) → option_map (λ c. take len (drop off c.bytes)) (find_block (place_of label.at.0) (blocks_of h.region)) ≡ Some bytes → take len (drop off b.block.bytes) ≡ bytes
+  pub bytes-told : (off len : ℕ) (bytes : List ℕ) → option_map (λ c. take len (drop off c.bytes)) (find_block (place_of addr.0) (blocks_of h.region)) ≡ Some bytes → take len (drop off b.block.bytes) ≡ bytes
   bytes-told off len bytes is = same_Some (take len (drop off b.block.bytes)) bytes (sym (ap (option_map (λ (c : Block ℕ). take len (drop off c.bytes))) b.found) ∙ is)
 
-  pub range-told : (off len : ℕ) → off + len ≤ b.block.size → IfSome (find_block (place_of label.at.0) (blocks_of h.region)) (λ c. off + len ≤ c.size)
+  pub range-told : (off len : ℕ) → off + len ≤ b.block.size → IfSome (find_block (place_of addr.0) (blocks_of h.region)) (λ c. off + len ≤ c.size)
   range-told off len within = subst (λ o. IfSome o (λ (c : Block ℕ). off + len ≤ c.size)) (sym b.found) within
 
   pub gives-size : (size : ℕ) → b.block.size ≡ size → GivesRegion (size_in (home_of h) x) ((home_of h).region, kept_of h.labels) (Size x size)
   gives-size size is =
-      subst (λ c. GivesRegion c ((home_of h).region, kept_of h.labels) (Size x size)) (sym (on_block-there h x tag label.at.0 b (λ c. told (home_of h) (Size x c.size))))
+      subst (λ c. GivesRegion c ((home_of h).region, kept_of h.labels) (Size x size)) (sym (on_block-there h x has.tag addr.0 b (λ c. told (home_of h) (Size x c.size))))
       (record { region_after = refl; kept_after = refl; replied = ap (λ n. Size x n) is })
 
   pub gives-read : (off len : ℕ) (bytes : List ℕ) → ((nat_le 1 len && nat_le len 4096) && nat_le (off + len) b.block.size) ≡ true → take len (drop off b.block.bytes) ≡ bytes → GivesRegion (read_in (home_of h) x off len) ((home_of h).region, kept_of h.labels) (Hex x bytes)
   gives-read off len bytes passes is =
       let k = home_of h in
       let eq : read_in k x off len ≡ told k (Hex x (take len (drop off b.block.bytes))) =
-      on_block-there h x tag label.at.0 b (read_block k x off len)
+      on_block-there h x has.tag addr.0 b (read_block k x off len)
       ∙ ap (λ v. cond v (told k (Hex x (take len (drop off b.block.bytes)))) (unchanged k why.Range)) passes in
       subst (λ c. GivesRegion c (k.region, kept_of h.labels) (Hex x bytes)) (sym eq) (record { region_after = refl; kept_after = refl; replied = ap (λ n. Hex x n) is })
 
   pub read-range : (off len : ℕ) → ((nat_le 1 len && nat_le len 4096) && nat_le (off + len) b.block.size) ≡ false → read_in (home_of h) x off len ≡ unchanged (home_of h) why.Range
   read-range off len fails =
       let k = home_of h in
-      on_block-there h x tag label.at.0 b (read_block k x off len)
+      on_block-there h x has.tag addr.0 b (read_block k x off len)
       ∙ ap (λ v. cond v (told k (Hex x (take len (drop off b.block.bytes)))) (unchanged k why.Range)) fails
 
   module _ (off : ℕ) (bytes : List ℕ) where
     pub write-range : nat_le (off + length bytes) b.block.size ≡ false → write_in (home_of h) x off bytes ≡ unchanged (home_of h) why.Range
     write-range fails =
         let k = home_of h in
-        on_block-there h x tag label.at.0 b (write_block k x off bytes)
+        on_block-there h x has.tag addr.0 b (write_block k x off bytes)
         ∙ ap (λ v. cond v (changed_to k (region_write k.region (b.block.seg, b.block.off) off bytes) (Written x (length bytes) (watch_at k.region (b.block.seg, b.block.off)))) (unchanged k why.Range)) fails
 
-    pub gives-written : (region : Region ℕ) → nat_le (off + length bytes) b.block.size ≡ true → region ≡ region_write h.region (place_of label.at.0) off bytes → (watch : Option ℕ) → watch ≡ watch_at h.region (place_of label.at.0) → GivesRegion (write_in (home_of h) x off bytes) (relabelled (name_of h.labels) region, kept_of h.labels) (Written x (length bytes) watch)
+    pub gives-written : (region : Region ℕ) → nat_le (off + length bytes) b.block.size ≡ true → region ≡ region_write h.region (place_of addr.0) off bytes → (watch : Option ℕ) → watch ≡ watch_at h.region (place_of addr.0) → GivesRegion (write_in (home_of h) x off bytes) (relabelled (name_of h.labels) region, kept_of h.labels) (Written x (length bytes) watch)
     gives-written region passes is watch watched =
         let k = home_of h in
         let f = name_of h.labels in
         let eq : write_in k x off bytes ≡ changed_to k (relabelled f region) (Written x (length bytes) watch) =
-        on_block-there h x tag label.at.0 b (write_block k x off bytes)
+        on_block-there h x has.tag addr.0 b (write_block k x off bytes)
         ∙ (ap (λ v. cond v (changed_to k (region_write k.region (b.block.seg, b.block.off) off bytes) (Written x (length bytes) (watch_at k.region (b.block.seg, b.block.off)))) (unchanged k why.Range)) passes
         ∙ (ap (λ p. changed_to k (region_write k.region p off bytes) (Written x (length bytes) (watch_at k.region p))) (sym b.place)
-        ∙ (ap (λ w. changed_to k (region_write k.region (place_of label.at.0) off bytes) (Written x (length bytes) w)) (watch-relabelled f h.region (place_of label.at.0) ∙ sym watched)
-        ∙ ap (λ r. changed_to k r (Written x (length bytes) watch)) (write-relabelled f h.region (place_of label.at.0) off bytes ∙ ap (relabelled f) (sym is))))) in
+        ∙ (ap (λ w. changed_to k (region_write k.region (place_of addr.0) off bytes) (Written x (length bytes) w)) (watch-relabelled f h.region (place_of addr.0) ∙ sym watched)
+        ∙ ap (λ r. changed_to k r (Written x (length bytes) watch)) (write-relabelled f h.region (place_of addr.0) off bytes ∙ ap (relabelled f) (sym is))))) in
         subst (λ c. GivesRegion c (relabelled f region, kept_of h.labels) (Written x (length bytes) watch)) (sym eq) (record { region_after = refl; kept_after = refl; replied = refl })
 
-    pub named-written : (region : Region ℕ) → region ≡ region_write h.region (place_of label.at.0) off bytes → without_block (place_of label.at.0) (blocks_of region) ≡ without_block (place_of label.at.0) (blocks_of h.region) → HaveOwnPlaces (blocks_of region) → IsNamed region h.labels
+    pub named-written : (region : Region ℕ) → region ≡ region_write h.region (place_of addr.0) off bytes → without_block (place_of addr.0) (blocks_of region) ≡ without_block (place_of addr.0) (blocks_of h.region) → HaveOwnPlaces (blocks_of region) → IsNamed region h.labels
     named-written region is others places =
-        let p = place_of label.at.0 in
-        let first : 1 ≤ tag = subst (λ t. 1 ≤ t) b.is_tag b.first in
-        let still : MovesLabel h.labels h.labels tag label = record { first = first; at = was_at; other_tags = λ other low differs. refl; names = λ y. refl; count = refl } in
+        let p = place_of addr.0 in
+        let first : 1 ≤ has.tag = subst (λ t. 1 ≤ t) b.is_tag b.first in
+        let still : MovesLabel h.labels h.labels has.tag (label_of x addr) = record { first = first; at = has.there; other_tags = λ other low differs. refl; names = λ y. refl; count = refl } in
         let told : option_map (λ (c : Block ℕ). c.label) (find_block p (blocks_of region)) ≡ Some b.block.label =
         ap (λ r. option_map (λ (c : Block ℕ). c.label) (find_block p (blocks_of r))) is
         ∙ (write-labels h.region p p off bytes ∙ ap (option_map (λ (c : Block ℕ). c.label)) b.found) in
         let found = from_some (λ (c : Block ℕ). c.label) (find_block p (blocks_of region)) b.block.label told in
         let place : p ≡ (found.from.seg, found.from.off) = found-place p found.from (blocks_of region) found.was in
-        let address : label.at.0 ≡ address_of found.from = sym (address-place_of label.at.0) ∙ ap address place in
-        named-moved h.labels h.region names x tag label was_at b h.labels label still refl region found.from found.was found.to address place others names.agree places
-        (λ e. names.none (sym (ap keeps_freed is ∙ write-keeps h.region p off bytes) ∙ e))
+        let address : addr.0 ≡ address_of found.from = sym (address-place_of addr.0) ∙ ap address place in
+        named-moved h.labels h.region has.names x has.tag (label_of x addr) has.there b h.labels (label_of x addr) still refl region found.from found.was found.to address place others has.names.agree places
+        (λ e. has.names.none (sym (ap keeps_freed is ∙ write-keeps h.region p off bytes) ∙ e))

@@ -1,13 +1,12 @@
 use Rattle.std.proofs.Common.{refl, sym, ap, ◌∙◌}
-use Rattle.vc_region.proofs.Sound.{own_places}
 use Rattle.vc_region.specs.Cells.{rest_in}
 use Rattle.vc_region.specs.Parts.{region_of}
 use Rattle.vc_commands.specs.Home.{told}
-use Rattle.vc_commands.proofs.Listing.{addr-none, addr-some}
+use Rattle.vc_commands.proofs.Listing.{addr-none, addr-some, places_in}
 use Rattle.vc_model.specs.Addr.{place_of}
 use Rattle.vc_model.specs.Layout.{address_of}
 use Rattle.vc_model.specs.Discipline.{Discipline}
-use Rattle.vc_region.proofs.RestFound.{rest-block_at, rest-label, rest-own}
+use Rattle.vc_region.proofs.RestFound.{rest-block_at, rest-label}
 use Rattle.vc_commands.specs.Held.{home_of}
 use Rattle.vc_commands.specs.RegionRun.{held_of}
 use Rattle.vc_commands.proofs.region.home.HomeEntry.addr.Given as given
@@ -24,5 +23,5 @@ pub returns-in-Some : goal.returns-in-Some
 returns-in-Some g c = λ r.
     ap (told (home_of (held_of (meaning g) r c.args.self.now c.args.labels.now)))
     (addr-some (rest_in c.args.self.now.region) c.args.labels.now (c.args.at.seg, c.args.at.off) c.in-Some.block.0 c.in-Some.off c.tag.result c.name.result
-    (rest-own (region_of c.args.self.now.region) (own_places c.args.self.now.region)) (rest-block_at (region_of c.args.self.now.region) address_of (λ b. refl) (c.args.at.seg, c.args.at.off) ∙ sym c.in-Some.ensures.value)
+    (places_in c.args.self.now.region) (rest-block_at (region_of c.args.self.now.region) address_of (λ b. refl) (c.args.at.seg, c.args.at.off) ∙ sym c.in-Some.ensures.value)
     (rest-label (region_of c.args.self.now.region) (place_of c.in-Some.block.0) ∙ c.tag.ensures) c.name.ensures)

@@ -1,67 +1,65 @@
-use Rattle.std.proofs.Common.{◌+◌, ◌≤◌, Some, ◌&&◌, refl, sym, ap, ◌∙◌, arith}
+use Rattle.std.proofs.Common.{◌+◌, ◌≤◌, Some, ◌&&◌, sym, ap, ◌∙◌, arith}
 use Rattle.std.specs.Prelude.{nat_le}
 use Rattle.vc_model.specs.Addr.{place_of}
 use Rattle.vc_model.specs.Discipline.{Discipline}
+use Rattle.vc_region.specs.Cells.{rest_in}
 use Rattle.vc_region.specs.Parts.{region_of}
 use Rattle.vc_script.specs.declared.refusal.Refusal.TheVariants as why
 use Rattle.vc_commands.specs.Held.{home_of}
 use Rattle.vc_commands.specs.Blocks.{read_block, read_in}
 use Rattle.vc_commands.specs.RegionRun.{held_of}
-use Rattle.vc_commands.specs.Home.{unchanged}
-use Rattle.vc_commands.specs.declared.region.labels.Label.{Label}
 use Rattle.vc_commands.proofs.Answers.{gives-unchanged}
-use Rattle.vc_commands.proofs.FoundBlocks.{name-there, on_block-none}
+use Rattle.vc_commands.proofs.FoundBlocks.{HasName, has-name, name-there, gives-none}
 use Rattle.vc_region.proofs.RestFound.{rest-size}
 use Rattle.vc_commands.proofs.Seen.{seen-bytes}
 use Rattle.vc_commands.proofs.Touching.{b, bytes-told, gives-read, range-beyond, range-many, range-none, range-within, read-range, size-told}
 use Rattle.vc_commands.proofs.region.home.HomeEntry.read.Given as given
 use Rattle.vc_commands.proofs.region.home.HomeEntry.read.Goals as goal
+use Rattle.vc_commands.proofs.region.home.HomeEntry.read.Goals.{In-Some}
 use Rattle.vc_commands.proofs.region.home.HomeEntry.read.Goals.{then-len-eq0-via-then-len-eq0, then-len-eq0-via-else-len-eq0+then-len-gt4096, then-len-eq0-via-else-len-eq0+else-len-gt4096+then-off-len}
 
 abbrev meaning : (g : given.Over) → (x : g.dyn-1.0.I) × (g.dyn-1.0.entry x).0.Denot → Discipline
 meaning g p = (g.dyn-1.0.entry p.0).1.state p.1
 
+-- the block of the name
+named : (g : given.Over) (c : In-Some g) → HasName (rest_in c.args.self.now.region) c.args.labels.now c.args.name.now c.in-Some.at
+named g c = has-name c.requires.names c.in-Some.ensures.some
+
 pub size-requires : goal.size-requires
-size-requires g c =
-    name-there c.args.self.now.region c.args.labels.now c.args.name.now c.in-Some.at c.requires.names c.in-Some.ensures.some
+size-requires g c = name-there c.args.self.now.region (named g (goal.at.size-requires g c).In-Some)
 
 pub read-requires-clause-block : goal.read-requires-clause-block
-read-requires-clause-block g c =
-    name-there c.args.self.now.region c.args.labels.now c.args.name.now c.in-Some.at c.requires.names c.in-Some.ensures.some
+read-requires-clause-block g c = name-there c.args.self.now.region (named g (goal.at.read-requires-clause-block g c).In-Some)
 
 pub returns-in-None : goal.returns-in-None
 returns-in-None g c = λ r.
-    let h = held_of (meaning g) r c.args.self.now c.args.labels.now in
-    gives-unchanged (home_of h) (read_in (home_of h) c.args.name.now c.args.off c.args.len) c.no_block.result
-    (on_block-none h c.args.name.now (read_block (home_of h) c.args.name.now c.args.off c.args.len) c.requires.names c.in-None.ensures.none ∙ ap (unchanged (home_of h)) (sym c.no_block.ensures.value))
+    gives-none (held_of (meaning g) r c.args.self.now c.args.labels.now) c.args.name.now (λ k. read_block k c.args.name.now c.args.off c.args.len) c.no_block.result c.requires.names c.in-None.ensures.none c.no_block.ensures.value
 
 pub returns-then-len-eq0 : goal.returns-then-len-eq0
 returns-then-len-eq0 g c = λ r.
+    let has = named g (goal.at.returns-then-len-eq0 g c).In-Some in
     let h = held_of (meaning g) r c.args.self.now c.args.labels.now in
-    let label : Label = record { name = c.args.name.now; at = c.in-Some.at } in
-    let f = c.in-Some.ensures.some in
-    let block = (b h c.args.name.now f.0 label c.requires.names refl f.1 f.2).block in
+    let block = (b h has).block in
     gives-unchanged (home_of h) (read_in (home_of h) c.args.name.now c.args.off c.args.len) why.Range
-    (read-range h c.args.name.now f.0 label c.requires.names refl f.1 f.2 c.args.off c.args.len
+    (read-range h has c.args.off c.args.len
     (elim c.then-len-eq0.branch [
       | then-len-eq0-via-then-len-eq0 w ↦ range-none c.args.off c.args.len block.size (omega arith)
       | then-len-eq0-via-else-len-eq0+then-len-gt4096 w ↦ range-many c.args.off c.args.len block.size (omega arith)
       | then-len-eq0-via-else-len-eq0+else-len-gt4096+then-off-len w ↦
-          let same = size-told h c.args.name.now f.0 label c.requires.names refl f.1 f.2 w.size.result (rest-size (region_of c.args.self.now.region) (place_of label.at.0) ∙ w.size.ensures) in
+          let same = size-told h has w.size.result (rest-size (region_of c.args.self.now.region) (place_of c.in-Some.at.0) ∙ w.size.ensures) in
           range-beyond c.args.off c.args.len block.size (omega (arith, same))
     ]))
 
 pub returns-in_ok-bytes-in-Some : goal.returns-in_ok-bytes-in-Some
 returns-in_ok-bytes-in-Some g c = λ r.
+    let has = named g (goal.at.returns-in_ok-bytes-in-Some g c).In-Some in
     let h = held_of (meaning g) r c.args.self.now c.args.labels.now in
-    let label : Label = record { name = c.args.name.now; at = c.in-Some.at } in
-    let f = c.in-Some.ensures.some in
-    let block = b h c.args.name.now f.0 label c.requires.names refl f.1 f.2 in
+    let block = b h has in
     let few : c.args.len ≤ 4096 = omega arith in
     let some : 1 ≤ c.args.len = omega arith in
     let within : c.args.off + c.args.len ≤ c.size.result = omega arith in
-    let size = size-told h c.args.name.now f.0 label c.requires.names refl f.1 f.2 c.size.result (rest-size (region_of c.args.self.now.region) (place_of label.at.0) ∙ c.size.ensures) in
-    gives-read h c.args.name.now f.0 label c.requires.names refl f.1 f.2 c.args.off c.args.len c.from_vec.result
+    let size = size-told h has c.size.result (rest-size (region_of c.args.self.now.region) (place_of c.in-Some.at.0) ∙ c.size.ensures) in
+    gives-read h has c.args.off c.args.len c.from_vec.result
     (ap (λ n. (nat_le 1 c.args.len && nat_le c.args.len 4096) && nat_le (c.args.off + c.args.len) n) size ∙ range-within c.args.off c.args.len c.size.result some few within)
-    (bytes-told h c.args.name.now f.0 label c.requires.names refl f.1 f.2 c.args.off c.args.len c.from_vec.result
-    (seen-bytes (region_of c.args.self.now.region) label.at.0 block.block block.found block.first c.args.off c.args.len ∙ (c.read.ensures ∙ ap (λ bs. Some bs) (sym (c.from_vec.ensures ∙ c.in_ok-bytes-in-Some.ensures.items_if_clones_equal (λ x y same. same))))))
+    (bytes-told h has c.args.off c.args.len c.from_vec.result
+    (seen-bytes (region_of c.args.self.now.region) c.in-Some.at.0 block.block block.found block.first c.args.off c.args.len ∙ (c.read.ensures ∙ ap (λ bs. Some bs) (sym (c.from_vec.ensures ∙ c.in_ok-bytes-in-Some.ensures.items_if_clones_equal (λ x y same. same))))))

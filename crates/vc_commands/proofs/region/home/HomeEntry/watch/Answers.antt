@@ -4,82 +4,73 @@ use Rattle.vc_model.specs.Discipline.{Discipline}
 use Rattle.vc_region.specs.Region.{region_watch, segments_of}
 use Rattle.vc_region.specs.Cells.{cells_in, region_cells, rest_in, rest_of}
 use Rattle.vc_region.specs.Parts.{disc_in, region_of}
-use Rattle.vc_region.proofs.Sound.{own_places}
 use Rattle.vc_script.specs.declared.refusal.Refusal.TheVariants as why
 use Rattle.vc_commands.specs.Held.{Held, home_of}
 use Rattle.vc_commands.specs.Audit.{watch_block, watch_in}
 use Rattle.vc_commands.specs.RegionRun.{held_of}
-use Rattle.vc_commands.specs.Home.{unchanged}
-use Rattle.vc_commands.specs.declared.region.labels.Label.{Label}
-use Rattle.vc_commands.proofs.Answers.{change-same, changed-by, gives-unchanged, kept-same, out-same}
+use Rattle.vc_commands.proofs.Answers.{change-same, changed-alike, gives-unchanged}
 use Rattle.vc_commands.proofs.Auditing.{gives-watched, named-watched, watch-method, watched-segments}
-use Rattle.vc_commands.proofs.FoundBlocks.{name-there, on_block-none}
+use Rattle.vc_commands.proofs.FoundBlocks.{HasName, has-name, name-there, gives-none}
 use Rattle.vc_region.proofs.Rest.{rest-debug, rest-watch}
 use Rattle.vc_region.proofs.RestCells.{watch-cells}
-use Rattle.vc_region.proofs.RestFound.{rest-own}
 use Rattle.vc_commands.proofs.Grants.{granted-watch}
 use Rattle.vc_commands.proofs.Runs.{runs-granted}
+use Rattle.vc_commands.proofs.Listing.{places_in}
 use Rattle.vc_commands.proofs.region.home.HomeEntry.watch.Given as given
 use Rattle.vc_commands.proofs.region.home.HomeEntry.watch.Goals as goal
+use Rattle.vc_commands.proofs.region.home.HomeEntry.watch.Goals.{In-Some}
 
 abbrev meaning : (g : given.Over) → (x : g.dyn-1.0.I) × (g.dyn-1.0.entry x).0.Denot → Discipline
 meaning g p = (g.dyn-1.0.entry p.0).1.state p.1
 
+-- the block of the name
+named : (g : given.Over) (c : In-Some g) → HasName (rest_in c.args.self.now.region) c.args.labels.now c.args.name.now c.in-Some.at
+named g c = has-name c.requires.names c.in-Some.ensures.some
+
 pub watch-requires-clause-block : goal.watch-requires-clause-block
-watch-requires-clause-block g c =
-    name-there c.args.self.now.region c.args.labels.now c.args.name.now c.in-Some.at c.requires.names c.in-Some.ensures.some
+watch-requires-clause-block g c = name-there c.args.self.now.region (named g (goal.at.watch-requires-clause-block g c).In-Some)
 
 pub watch-requires-clause-method : goal.watch-requires-clause-method
 watch-requires-clause-method g c = sym (rest-debug (region_of c.args.self.now.region)) ∙ (sym c.is_debug.ensures ∙ c.if-not-is_debug.false)
 
 pub returns-in_default : goal.returns-in_default
 returns-in_default g c =
-    let before : List ℕ → Held = λ r. held_of (meaning g) r c.args.self.now c.args.labels.now in
     record {
       runs = runs-granted _ _ _ _ _ _ _ None (λ h need. granted-watch h c.args.line c.args.name.now)
-          (λ r.
-          let h = before r in
-          gives-unchanged (home_of h) (watch_in (home_of h) c.args.line c.args.name.now) c.no_block.result
-          (on_block-none h c.args.name.now (watch_block (home_of h) c.args.line c.args.name.now) c.requires.names c.in_default.ensures.none ∙ ap (unchanged (home_of h)) (sym c.no_block.ensures.value)))
+          (λ r. gives-none (held_of (meaning g) r c.args.self.now c.args.labels.now) c.args.name.now (λ k. watch_block k c.args.line c.args.name.now) c.no_block.result c.requires.names c.in_default.ensures.none c.no_block.ensures.value)
           tt refl;
-      change = λ r. change-same (before r) c.args.labels.now c.requires.lent c.requires.names;
+      change = λ r. change-same (held_of (meaning g) r c.args.self.now c.args.labels.now) c.args.labels.now c.requires.lent c.requires.names;
     }
 
 pub returns-then-not-is_debug : goal.returns-then-not-is_debug
 returns-then-not-is_debug g c =
-    let before : List ℕ → Held = λ r. held_of (meaning g) r c.args.self.now c.args.labels.now in
-    let label : Label = record { name = c.args.name.now; at = c.in-Some.at } in
-    let f = c.in-Some.ensures.some in
     record {
       runs = runs-granted _ _ _ _ _ _ _ None (λ h need. granted-watch h c.args.line c.args.name.now)
           (λ r.
-          gives-unchanged (home_of (before r)) (watch_in (home_of (before r)) c.args.line c.args.name.now) why.WrongMethod
-          (watch-method (before r) c.args.name.now f.0 label c.requires.names refl f.1 f.2 c.args.line (sym c.is_debug.ensures ∙ c.if-not-is_debug.true)))
+          let h = held_of (meaning g) r c.args.self.now c.args.labels.now in
+          gives-unchanged (home_of h) (watch_in (home_of h) c.args.line c.args.name.now) why.WrongMethod
+          (watch-method h (named g (goal.at.returns-then-not-is_debug g c).In-Some) c.args.line (sym c.is_debug.ensures ∙ c.if-not-is_debug.true)))
           tt refl;
-      change = λ r. change-same (before r) c.args.labels.now c.requires.lent c.requires.names;
+      change = λ r. change-same (held_of (meaning g) r c.args.self.now c.args.labels.now) c.args.labels.now c.requires.lent c.requires.names;
     }
 
 pub returns : goal.returns
 returns g c =
+    let has = named g (goal.at.returns g c).In-Some in
     let before : List ℕ → Held = λ r. held_of (meaning g) r c.args.self.now c.args.labels.now in
     let name = c.args.name.now in
     let line = c.args.line in
-    let label : Label = record { name = name; at = c.in-Some.at } in
-    let f = c.in-Some.ensures.some in
     let was = region_of c.args.self.now.region in
-    let at = place_of label.at.0 in
+    let at = place_of c.in-Some.at.0 in
     let old = rest_in c.args.self.now.region in
     let new = rest_in c.watch.new.self in
-    let disc = disc_in (meaning g) c.args.self.now.region in
-    let disc' = disc_in (meaning g) c.watch.new.self in
     let put : new ≡ region_watch old at line = ap rest_of c.in_ok-watch.ensures.ok ∙ sym (rest-watch was at line) in
     let segments : segments_of new ≡ segments_of old = ap segments_of put ∙ watched-segments old at line in
     record {
       runs = runs-granted _ _ _ _ _ _ _ None (λ h need. granted-watch h c.args.line c.args.name.now)
-          (λ r. gives-watched (before r) name f.0 label c.requires.names refl f.1 f.2 line new (sym c.is_debug.ensures ∙ c.if-not-is_debug.false) put)
+          (λ r. gives-watched (before r) has line new (sym c.is_debug.ensures ∙ c.if-not-is_debug.false) put)
           tt (ap (λ (d : Discipline). d.faults) c.watch.ensures.disc);
       change = λ r.
-          changed-by (before r) disc' new (cells_in c.watch.new.self) c.args.labels.now (ap region_cells c.in_ok-watch.ensures.ok ∙ watch-cells was at line) c.requires.lent
-          (kept-same disc disc' c.watch.ensures.disc) (out-same disc disc' (segments_of old) (segments_of new) c.watch.ensures.disc segments)
-          (named-watched (before r) name f.0 label c.requires.names refl f.1 f.2 line new put (rest-own (region_of c.watch.new.self) (own_places c.watch.new.self)));
+          changed-alike (before r) (disc_in (meaning g) c.watch.new.self) new (cells_in c.watch.new.self) c.args.labels.now (ap region_cells c.in_ok-watch.ensures.ok ∙ watch-cells was at line) c.requires.lent c.watch.ensures.disc segments
+          (named-watched (before r) has line new put (places_in c.watch.new.self));
     }

@@ -1,4 +1,4 @@
-use Rattle.std.proofs.Common.{◌≡◌, ◌+◌, List, ℕ, length, refl, ap, ◌∙◌, arith, subst, sym}
+use Rattle.std.proofs.Common.{◌≡◌, ◌+◌, List, ℕ, length, ap, ◌∙◌, arith, subst}
 use Rattle.std.specs.Prelude.{nat_le}
 use Rattle.vc_model.specs.Addr.{place_of}
 use Rattle.vc_model.specs.Discipline.{Discipline}
@@ -6,79 +6,72 @@ use Rattle.vc_region.specs.Region.{region_write, segments_of}
 use Rattle.vc_region.proofs.Clearing.{written-segments}
 use Rattle.vc_region.specs.Cells.{cells_in, region_cells, rest_in, rest_of}
 use Rattle.vc_region.specs.Parts.{disc_in, region_of}
-use Rattle.vc_region.proofs.Sound.{own_places}
 use Rattle.vc_script.specs.declared.refusal.Refusal.TheVariants as why
 use Rattle.vc_commands.specs.Held.{Held, home_of}
 use Rattle.vc_commands.specs.Blocks.{write_block, write_in}
 use Rattle.vc_commands.specs.RegionRun.{held_of}
-use Rattle.vc_commands.specs.Home.{unchanged}
-use Rattle.vc_commands.specs.declared.region.labels.Label.{Label}
-use Rattle.vc_commands.proofs.Answers.{NotNoSegment, changed-by, gives-unchanged, kept-same, out-same}
-use Rattle.vc_commands.proofs.FoundBlocks.{name-there, on_block-none, the_block}
+use Rattle.vc_commands.proofs.Answers.{NotNoSegment, changed-alike, gives-unchanged}
+use Rattle.vc_commands.proofs.FoundBlocks.{HasName, has-name, name-there, gives-none, the_block}
 use Rattle.vc_commands.proofs.Touching.{gives-written, le-beyond, le-within, named-written, size-told, write-range}
-use Rattle.vc_region.proofs.RestFound.{rest-own, rest-size}
+use Rattle.vc_region.proofs.RestFound.{rest-size}
 use Rattle.vc_commands.proofs.Seen.{cells-written, seen-write, seen-written}
+use Rattle.vc_commands.proofs.Listing.{places_in}
 use Rattle.vc_commands.proofs.region.home.HomeEntry.write.Given as given
 use Rattle.vc_commands.proofs.region.home.HomeEntry.write.Goals as goal
+use Rattle.vc_commands.proofs.region.home.HomeEntry.write.Goals.{In-Some}
 
 abbrev meaning : (g : given.Over) → (x : g.dyn-1.0.I) × (g.dyn-1.0.entry x).0.Denot → Discipline
 meaning g p = (g.dyn-1.0.entry p.0).1.state p.1
 
+-- the block of the name
+named : (g : given.Over) (c : In-Some g) → HasName (rest_in c.args.self.now.region) c.args.labels.now c.args.name.now c.in-Some.at
+named g c = has-name c.requires.names c.in-Some.ensures.some
+
 pub size-requires : goal.size-requires
-size-requires g c =
-    name-there c.args.self.now.region c.args.labels.now c.args.name.now c.in-Some.at c.requires.names c.in-Some.ensures.some
+size-requires g c = name-there c.args.self.now.region (named g (goal.at.size-requires g c).In-Some)
 
 pub watch_line-watch-requires : goal.watch_line-watch-requires
-watch_line-watch-requires g c =
-    name-there c.args.self.now.region c.args.labels.now c.args.name.now c.in-Some.at c.requires.names c.in-Some.ensures.some
+watch_line-watch-requires g c = name-there c.args.self.now.region (named g (goal.at.watch_line-watch-requires g c).In-Some)
 
 pub write-requires-clause-block : goal.write-requires-clause-block
-write-requires-clause-block g c =
-    name-there c.args.self.now.region c.args.labels.now c.args.name.now c.in-Some.at c.requires.names c.in-Some.ensures.some
+write-requires-clause-block g c = name-there c.args.self.now.region (named g (goal.at.write-requires-clause-block g c).In-Some)
 
 pub returns-in-None-clause-step : goal.returns-in-None-clause-step
 returns-in-None-clause-step g c = λ r.
-    let h = held_of (meaning g) r c.args.self.now c.args.labels.now in
-    gives-unchanged (home_of h) (write_in (home_of h) c.args.name.now c.args.off c.args.bytes.now) c.no_block.result
-    (on_block-none h c.args.name.now (write_block (home_of h) c.args.name.now c.args.off c.args.bytes.now) c.requires.names c.in-None.ensures.none ∙ ap (unchanged (home_of h)) (sym c.no_block.ensures.value))
+    gives-none (held_of (meaning g) r c.args.self.now c.args.labels.now) c.args.name.now (λ k. write_block k c.args.name.now c.args.off c.args.bytes.now) c.no_block.result c.requires.names c.in-None.ensures.none c.no_block.ensures.value
 
 pub returns-then-off-bytes-clause-step : goal.returns-then-off-bytes-clause-step
 returns-then-off-bytes-clause-step g c = λ r.
+    let has = named g (goal.at.returns-then-off-bytes-clause-step g c).In-Some in
     let h = held_of (meaning g) r c.args.self.now c.args.labels.now in
-    let label : Label = record { name = c.args.name.now; at = c.in-Some.at } in
-    let f = c.in-Some.ensures.some in
     let last = c.args.off + length c.args.bytes.now in
-    let size = size-told h c.args.name.now f.0 label c.requires.names refl f.1 f.2 c.size.result (rest-size (region_of c.args.self.now.region) (place_of label.at.0) ∙ c.size.ensures) in
+    let size = size-told h has c.size.result (rest-size (region_of c.args.self.now.region) (place_of c.in-Some.at.0) ∙ c.size.ensures) in
     gives-unchanged (home_of h) (write_in (home_of h) c.args.name.now c.args.off c.args.bytes.now) why.Range
-    (write-range h c.args.name.now f.0 label c.requires.names refl f.1 f.2 c.args.off c.args.bytes.now
+    (write-range h has c.args.off c.args.bytes.now
     (ap (nat_le last) size ∙ le-beyond last c.size.result (omega arith)))
 
 pub returns-else-off-bytes : goal.returns-else-off-bytes
 returns-else-off-bytes g c =
+    let has = named g (goal.at.returns-else-off-bytes g c).In-Some in
     let before : List ℕ → Held = λ r. held_of (meaning g) r c.args.self.now c.args.labels.now in
     let name = c.args.name.now in
     let off = c.args.off in
     let bytes = c.args.bytes.now in
-    let label : Label = record { name = name; at = c.in-Some.at } in
-    let f = c.in-Some.ensures.some in
     let was = region_of c.args.self.now.region in
-    let at = place_of label.at.0 in
+    let at = place_of c.in-Some.at.0 in
     let old = rest_in c.args.self.now.region in
     let new = rest_in c.write.new.self in
-    let disc = disc_in (meaning g) c.args.self.now.region in
-    let disc' = disc_in (meaning g) c.write.new.self in
-    let b = the_block old c.args.labels.now name f.0 label c.requires.names refl f.1 f.2 in
-    let put : new ≡ region_write old at off bytes = ap rest_of c.write.ensures.region ∙ seen-write was label.at.0 b.block b.found b.first off bytes in
+    let b = the_block has in
+    let put : new ≡ region_write old at off bytes = ap rest_of c.write.ensures.region ∙ seen-write was c.in-Some.at.0 b.block b.found b.first off bytes in
     let segments : segments_of new ≡ segments_of old = ap segments_of put ∙ written-segments old at off bytes in
     let last = off + length bytes in
     record {
       step = λ r.
-          let size = size-told (before r) name f.0 label c.requires.names refl f.1 f.2 c.size.result (rest-size was at ∙ c.size.ensures) in
-          gives-written (before r) name f.0 label c.requires.names refl f.1 f.2 off bytes new (ap (nat_le last) size ∙ le-within last c.size.result (omega arith)) put c.watch_line-watch.result c.watch_line-watch.ensures;
+          let size = size-told (before r) has c.size.result (rest-size was at ∙ c.size.ensures) in
+          gives-written (before r) has off bytes new (ap (nat_le last) size ∙ le-within last c.size.result (omega arith)) put c.watch_line-watch.result c.watch_line-watch.ensures;
       change = λ r.
-          changed-by (before r) disc' new (cells_in c.write.new.self) c.args.labels.now (ap region_cells c.write.ensures.region ∙ cells-written was label.at.0 b.block b.found b.first off bytes) c.requires.lent
-          (kept-same disc disc' c.write.ensures.disc) (out-same disc disc' (segments_of old) (segments_of new) c.write.ensures.disc segments)
-          (named-written (before r) name f.0 label c.requires.names refl f.1 f.2 off bytes new put (seen-written was label.at.0 b.block b.found b.first off bytes (region_of c.write.new.self) c.write.ensures.region c.write.ensures.others) (rest-own (region_of c.write.new.self) (own_places c.write.new.self)));
+          changed-alike (before r) (disc_in (meaning g) c.write.new.self) new (cells_in c.write.new.self) c.args.labels.now (ap region_cells c.write.ensures.region ∙ cells-written was c.in-Some.at.0 b.block b.found b.first off bytes) c.requires.lent c.write.ensures.disc segments
+          (named-written (before r) has off bytes new put (seen-written was c.in-Some.at.0 b.block b.found b.first off bytes (region_of c.write.new.self) c.write.ensures.region c.write.ensures.others) (places_in c.write.new.self));
       granted = λ e. subst NotNoSegment e tt;
       faults = ap (λ (d : Discipline). d.faults) c.write.ensures.disc;
     }
