@@ -30,7 +30,8 @@ use Rattle.vc_script.specs.declared.reply.Reply.TheVariants.{Poked, Watched}
 use Rattle.vc_commands.specs.Held.{Held, IsNamed, home_of}
 use Rattle.vc_commands.specs.Audit.{damage_item, is_poke, poke_block, poke_byte, poke_in, watch_block, watch_in}
 use Rattle.vc_commands.specs.Labels.{MovesLabel, kept_of, name_of}
-use Rattle.vc_commands.specs.Home.{changed_to, unchanged}
+use Rattle.vc_commands.specs.Home as home
+use Rattle.vc_commands.specs.Home.{Home, changed_to, unchanged}
 use Rattle.vc_commands.specs.RegionRun.{GivesRegion}
 use Rattle.vc_commands.specs.declared.region.labels.Labels.{Labels}
 use Rattle.vc_commands.proofs.FoundBlocks.{HasName, TheBlock, label_of, on_block-there, the_block}
@@ -56,6 +57,15 @@ module _ (h : Held) {x : List ℕ} {addr : Addr} (has : HasName h.region h.label
   abbrev b : TheBlock h.region h.labels x has.tag addr.0
   b = the_block has
 
+  abbrev k : Home
+  k = home_of h
+
+  abbrev f : ℕ → home.Label
+  f = name_of h.labels
+
+  abbrev at : ℕ × ℕ
+  at = (b.block.seg, b.block.off)
+
   abbrev p : ℕ × ℕ
   p = place_of addr.0
 
@@ -75,30 +85,21 @@ module _ (h : Held) {x : List ℕ} {addr : Addr} (has : HasName h.region h.label
     -- a region of another method
     pub poke-method : is_debug h.region ≡ false → poke_in (home_of h) x off byte ≡ unchanged (home_of h) why.WrongMethod
     poke-method other =
-        let k = home_of h in
-        let c = relabel_block (name_of h.labels) b.block in
         on_block-there h x has.tag addr.0 b (poke_block k x off byte)
-        ∙ ap (λ v. cond v (poke_byte k x off byte c) (unchanged k why.WrongMethod)) (debug-relabelled (name_of h.labels) h.region ∙ other)
+        ∙ ap (λ v. cond v (poke_byte k x off byte (relabel_block f b.block)) (unchanged k why.WrongMethod)) (debug-relabelled (name_of h.labels) h.region ∙ other)
 
     poke-there : is_debug h.region ≡ true → poke_in (home_of h) x off byte ≡ poke_byte (home_of h) x off byte (relabel_block (name_of h.labels) b.block)
     poke-there is =
-        let k = home_of h in
-        let c = relabel_block (name_of h.labels) b.block in
         on_block-there h x has.tag addr.0 b (poke_block k x off byte)
-        ∙ ap (λ v. cond v (poke_byte k x off byte c) (unchanged k why.WrongMethod)) (debug-relabelled (name_of h.labels) h.region ∙ is)
+        ∙ ap (λ v. cond v (poke_byte k x off byte (relabel_block f b.block)) (unchanged k why.WrongMethod)) (debug-relabelled (name_of h.labels) h.region ∙ is)
 
     -- an offset out of the block's bytes and its guards, or a byte above 255
     pub poke-range : is_debug h.region ≡ true → is_poke b.block.size off byte ≡ false → poke_in (home_of h) x off byte ≡ unchanged (home_of h) why.Range
     poke-range is fails =
-        let k = home_of h in
-        let at : ℕ × ℕ = (b.block.seg, b.block.off) in
         poke-there is ∙ ap (λ v. cond v (changed_to k (region_poke k.region at off byte) (Poked x (watch_at k.region at))) (unchanged k why.Range)) fails
 
     pub gives-poked : (region : Region ℕ) → is_debug h.region ≡ true → is_poke b.block.size off byte ≡ true → region ≡ region_poke h.region p off byte → (watch : Option ℕ) → watch ≡ watch_at h.region p → GivesRegion (poke_in (home_of h) x off byte) (relabelled (name_of h.labels) region, kept_of h.labels) (Poked x watch)
     gives-poked region is passes put watch watched =
-        let k = home_of h in
-        let f = name_of h.labels in
-        let at : ℕ × ℕ = (b.block.seg, b.block.off) in
         let eq : poke_in k x off byte ≡ changed_to k (relabelled f region) (Poked x watch) =
         poke-there is
         ∙ (ap (λ v. cond v (changed_to k (region_poke k.region at off byte) (Poked x (watch_at k.region at))) (unchanged k why.Range)) passes
@@ -115,16 +116,11 @@ module _ (h : Held) {x : List ℕ} {addr : Addr} (has : HasName h.region h.label
   module _ (line : ℕ) where
     pub watch-method : is_debug h.region ≡ false → watch_in (home_of h) line x ≡ unchanged (home_of h) why.WrongMethod
     watch-method other =
-        let k = home_of h in
-        let at : ℕ × ℕ = (b.block.seg, b.block.off) in
         on_block-there h x has.tag addr.0 b (watch_block k line x)
         ∙ ap (λ v. cond v (changed_to k (region_watch k.region at line) (Watched x)) (unchanged k why.WrongMethod)) (debug-relabelled (name_of h.labels) h.region ∙ other)
 
     pub gives-watched : (region : Region ℕ) → is_debug h.region ≡ true → region ≡ region_watch h.region p line → GivesRegion (watch_in (home_of h) line x) (relabelled (name_of h.labels) region, kept_of h.labels) (Watched x)
     gives-watched region is put =
-        let k = home_of h in
-        let f = name_of h.labels in
-        let at : ℕ × ℕ = (b.block.seg, b.block.off) in
         let eq : watch_in k line x ≡ changed_to k (relabelled f region) (Watched x) =
         on_block-there h x has.tag addr.0 b (watch_block k line x)
         ∙ (ap (λ v. cond v (changed_to k (region_watch k.region at line) (Watched x)) (unchanged k why.WrongMethod)) (debug-relabelled f h.region ∙ is)

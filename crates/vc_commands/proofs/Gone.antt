@@ -11,7 +11,8 @@ use Rattle.vc_region.proofs.Relabel.{free-relabelled, relabel_freed, keeps-relab
 use Rattle.vc_region.proofs.Freeing.{free-keeps}
 use Rattle.vc_script.specs.declared.reply.Reply.{Reply}
 use Rattle.vc_script.specs.declared.reply.Reply.TheVariants.{Freed}
-use Rattle.vc_commands.specs.Home.{unchanged}
+use Rattle.vc_commands.specs.Home as home
+use Rattle.vc_commands.specs.Home.{Home, unchanged}
 use Rattle.vc_commands.specs.Kept.{with_line}
 use Rattle.vc_commands.specs.Held.{Held, home_of}
 use Rattle.vc_commands.specs.Blocks.{free_block, free_in, freed, kept_freed}
@@ -30,10 +31,14 @@ module _ (h : Held) {x : List ℕ} {addr : Addr} (has : HasName h.region h.label
   abbrev b : TheBlock h.region h.labels x has.tag addr.0
   b = the_block has
 
+  abbrev k : Home
+  k = home_of h
+
+  abbrev f : ℕ → home.Label
+  f = name_of h.labels
+
   free-named : free_in (home_of h) x line ≡ freed (home_of h) x (kept_freed (home_of h) x line) (watch_at h.region (place_of addr.0)) (relabel_freed (name_of h.labels) (region_free h.region (place_of addr.0)))
   free-named =
-      let k = home_of h in
-      let f = name_of h.labels in
       let p = place_of addr.0 in
       on_block-there h x has.tag addr.0 b (free_block k x line)
       ∙ (ap (λ q. freed k x (kept_freed k x line) (watch_at k.region q) (region_free k.region q)) (sym b.place)
@@ -44,8 +49,6 @@ module _ (h : Held) {x : List ℕ} {addr : Addr} (has : HasName h.region h.label
       (new : Labels) → WithoutLabel h.labels new has.tag (label_of x addr) → (region : Region ℕ) → region_free h.region (place_of addr.0) ≡ Done region → blocks_of region ≡ without_block (place_of addr.0) (blocks_of h.region) → kept_of new ≡ kept_freed (home_of h) x line
       → (watch : Option ℕ) → watch ≡ watch_at h.region (place_of addr.0) → GivesRegion (free_in (home_of h) x line) (relabelled (name_of new) region, kept_of new) (Freed x watch)
   gives-freed new w region is left keeps watch watched =
-      let k = home_of h in
-      let f = name_of h.labels in
       let there = watch_at h.region (place_of addr.0) in
       let eq : free_in k x line ≡ freed k x (kept_freed k x line) there (Done (relabelled f region)) = free-named ∙ ap (λ o. freed k x (kept_freed k x line) there (relabel_freed f o)) is in
       subst (λ c. GivesRegion c (relabelled (name_of new) region, kept_of new) (Freed x watch)) (sym eq)
@@ -57,8 +60,6 @@ module _ (h : Held) {x : List ℕ} {addr : Addr} (has : HasName h.region h.label
 
   pub gives-kept : (told : Reply) → Told (λ (refused : Bool). region_free h.region (place_of addr.0)) told → (region : Region ℕ) → region ≡ h.region → GivesRegion (free_in (home_of h) x line) (relabelled (name_of h.labels) region, kept_of h.labels) told
   gives-kept told t region same =
-      let k = home_of h in
-      let f = name_of h.labels in
       let eq : free_in k x line ≡ unchanged k _ = free-named ∙ ap (λ o. freed k x (kept_freed k x line) (watch_at h.region (place_of addr.0)) (relabel_freed f o)) t.refused in
       subst (λ c. GivesRegion c (relabelled f region, kept_of h.labels) told) (sym eq) (record { region_after = ap (relabelled f) (sym same); kept_after = refl; replied = t.is })
 

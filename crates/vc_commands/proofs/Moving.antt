@@ -16,6 +16,7 @@ use Rattle.vc_region.proofs.Relabel.{relabelled-alike}
 use Rattle.vc_commands.specs.Blocks.{is_name_of}
 use Rattle.vc_commands.specs.declared.region.labels.Label.{Label}
 use Rattle.vc_commands.specs.declared.region.labels.Labels.{Labels}
+use Rattle.vc_commands.specs.Home as home
 use Rattle.vc_commands.specs.Labels.{AreLabels, MovesLabel, WithLabel, WithoutLabel, kept_of, label_at, name_of, tag_of}
 use Rattle.vc_commands.specs.Held.{IsLive, IsNamed, tag_count}
 use Rattle.vc_commands.proofs.FoundBlocks.{TheBlock}
@@ -108,6 +109,12 @@ module _ (old new : Labels) (tag : ℕ) (label : Label) (w : WithLabel old new t
 
 -- blocks that stand elsewhere than the one of a name have other tags
 module _ (old : Labels) (r : Region ℕ) (names : IsNamed r old) (x : List ℕ) (tag : ℕ) (label : Label) (was_at : label_at old tag ≡ Some label) (b : TheBlock r old x tag label.at.0) where
+  abbrev p : ℕ × ℕ
+  p = place_of label.at.0
+
+  abbrev f : ℕ → home.Label
+  f = name_of old
+
   differs : (c : Block ℕ) → (1 ≤ c.label → IsLive old c) → address_of c ≢ address_of b.block → 1 ≤ c.label → c.label ≢ tag
   differs c live other first e =
       let l = live first in
@@ -118,6 +125,10 @@ module _ (old : Labels) (r : Region ℕ) (names : IsNamed r old) (x : List ℕ) 
   stay-others new same [] all away = tt
   stay-others new same (c ∷ cs) all away =
       ((λ first. stay-other old new tag c same all.0 (differs c all.0 away.0 first) first), stay-others new same cs all.1 away.1)
+
+  -- the tags with its own
+  was : tag_count (blocks_of r) ≡ cond (nat_lt 0 b.block.label) 1 0 + tag_count (without_block p (blocks_of r))
+  was = count-split p b.block (λ c. nat_lt 0 c.label) (blocks_of r) b.found
 
   -- those behind without it
   pub rest-stays : (new : Labels) → ((t : ℕ) → 1 ≤ t → t ≢ tag → label_at new t ≡ label_at old t) → AllByRecursion (Stays old new) (without_block (place_of label.at.0) (blocks_of r))
@@ -143,13 +154,10 @@ module _ (old : Labels) (r : Region ℕ) (names : IsNamed r old) (x : List ℕ) 
 
     pub named-moved : (r' : Region ℕ) (b' : Block ℕ) → find_block (place_of to.at.0) (blocks_of r') ≡ Some b' → b'.label ≡ b.block.label → to.at.0 ≡ address_of b' → place_of to.at.0 ≡ (b'.seg, b'.off) → without_block (place_of to.at.0) (blocks_of r') ≡ without_block (place_of label.at.0) (blocks_of r) → AreLabels new → HaveOwnPlaces (blocks_of r') → (keeps_freed r' ≡ false → kept_of new ≡ []) → IsNamed r' new
     named-moved r' b' there tagged at place others agree places none =
-        let p = place_of label.at.0 in
         let q = place_of to.at.0 in
-        let f = name_of old in
         let stays : AllByRecursion (Stays old new) (without_block q (blocks_of r')) = subst (AllByRecursion (Stays old new)) (sym others) (rest-stays new m.other_tags) in
         let is_tag : b'.label ≡ tag = tagged ∙ b.is_tag in
         let all : tag_count (blocks_of r') ≡ cond (nat_lt 0 b'.label) 1 0 + tag_count (without_block q (blocks_of r')) = count-split q b' (λ c. nat_lt 0 c.label) (blocks_of r') there in
-        let was : tag_count (blocks_of r) ≡ cond (nat_lt 0 b.block.label) 1 0 + tag_count (without_block p (blocks_of r)) = count-split p b.block (λ c. nat_lt 0 c.label) (blocks_of r) b.found in
         let one : ◌≡◌ {A = ℕ} (cond (nat_lt 0 b'.label) 1 0) (cond (nat_lt 0 b.block.label) 1 0) = ap (λ t. cond (nat_lt 0 t) 1 0) tagged in
         let left : tag_count (without_block q (blocks_of r')) ≡ tag_count (without_block p (blocks_of r)) = ap tag_count others in
         record {
@@ -199,14 +207,11 @@ module _ (old : Labels) (r : Region ℕ) (names : IsNamed r old) (x : List ℕ) 
 
     pub named-left : (r' : Region ℕ) → blocks_of r' ≡ without_block (place_of label.at.0) (blocks_of r) → AreLabels new → HaveOwnPlaces (blocks_of r') → (keeps_freed r' ≡ false → kept_of new ≡ []) → IsNamed r' new
     named-left r' left agree places none =
-        let p = place_of label.at.0 in
-        let f = name_of old in
         let stays : AllByRecursion (Stays old new) (blocks_of r') = subst (AllByRecursion (Stays old new)) (sym left) (rest-stays new w.other_tags) in
         let live = lives old new (blocks_of r') stays in
         let low : 1 ≤ b.block.label = b.first in
         let first : nat_lt 0 b.block.label ≡ true = grind (arith, nat_tests, low) in
         let one : ◌≡◌ {A = ℕ} (cond (nat_lt 0 b.block.label) 1 0) 1 = ap (λ v. cond v 1 0) first in
-        let was : tag_count (blocks_of r) ≡ cond (nat_lt 0 b.block.label) 1 0 + tag_count (without_block p (blocks_of r)) = count-split p b.block (λ c. nat_lt 0 c.label) (blocks_of r) b.found in
         let same : tag_count (blocks_of r') ≡ tag_count (without_block p (blocks_of r)) = ap tag_count left in
         record {
           agree = agree;

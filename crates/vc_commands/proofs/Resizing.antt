@@ -56,20 +56,24 @@ module _ (h : Held) {x : List ℕ} {addr : Addr} (has : HasName h.region h.label
   abbrev b : TheBlock h.region h.labels x has.tag addr.0
   b = the_block has
 
+  abbrev k : Home
+  k = home_of h
+
+  abbrev f : ℕ → home.Label
+  f = name_of h.labels
+
   abbrev pub call : Bool → Outcome (Put (Region ℕ))
   call refused = region_resize h.disc.terms h.region (place_of addr.0) size may_move refused
 
   -- a size that no script can have
   pub resize-size : (u : Bool) → is_size size ≡ false → resize_in (home_of h) x size may_move u ≡ unchanged (home_of h) why.Size
   resize-size u sized =
-      let k = home_of h in
       on_block-there h x has.tag addr.0 b (resize_block k x size may_move u)
       ∙ ap (λ v. cond v (put_in k x k.kept (watch_at k.region (b.block.seg, b.block.off)) (region_resize k.terms k.region (b.block.seg, b.block.off) size may_move u)) (unchanged k why.Size)) sized
 
   module _ (sized : is_size size ≡ true) where
     resize-named : (u : Bool) → resize_in (home_of h) x size may_move u ≡ put_in (home_of h) x (kept_of h.labels) (watch_at h.region (place_of addr.0)) (outcome_as (relabelled (name_of h.labels)) (call u))
     resize-named u =
-        let k = home_of h in
         on_block-there h x has.tag addr.0 b (resize_block k x size may_move u)
         ∙ (ap (λ v. cond v (put_in k x k.kept (watch_at k.region (b.block.seg, b.block.off)) (region_resize k.terms k.region (b.block.seg, b.block.off) size may_move u)) (unchanged k why.Size)) sized
         ∙ (ap (λ p. put_in k x k.kept (watch_at k.region p) (region_resize k.terms k.region p size may_move u)) (sym b.place)
@@ -79,17 +83,13 @@ module _ (h : Held) {x : List ℕ} {addr : Addr} (has : HasName h.region h.label
     -- a fault leaves the region and its names
     pub gives-fault : (told : Reply) → Told call told → (region : Region ℕ) → region ≡ h.region → GivesRegion (resize_in (home_of h) x size may_move (is_for_block (need_shown told))) (relabelled (name_of h.labels) region, kept_of h.labels) told
     gives-fault told t region same =
-        let k = home_of h in
         let u = is_for_block (need_shown told) in
-        let f = name_of h.labels in
         let eq : resize_in k x size may_move u ≡ unchanged k _ = resize-named u ∙ ap (λ o. put_in k x (kept_of h.labels) (watch_at h.region (place_of addr.0)) (outcome_as (relabelled f) o)) t.refused in
         subst (λ c. GivesRegion c (relabelled f region, kept_of h.labels) told) (sym eq) (record { region_after = ap (relabelled f) (sym same); kept_after = refl; replied = t.is })
 
     module _ (new : Labels) (to : Label) (m : MovesLabel h.labels new has.tag to) (same_name : to.name ≡ x) (same_kept : kept_of new ≡ kept_of h.labels) (region : Region ℕ) (is : IsPut (call false) to.at.0 region) where
       pub gives-resized : (watch : Option ℕ) → watch ≡ watch_at h.region (place_of addr.0) → GivesRegion (resize_in (home_of h) x size may_move false) (relabelled (name_of new) region, kept_of new) (at_place x (place_of to.at.0) watch)
       gives-resized watch watched =
-          let k = home_of h in
-          let f = name_of h.labels in
           let moved : relabelled (name_of new) region ≡ relabelled f region = relabelled-names h.labels new region (name-moved h.labels h.region has.names x has.tag (label_of x addr) has.there b new to m same_name) in
           let there = watch_at h.region (place_of addr.0) in
           subst (λ w. GivesRegion (resize_in k x size may_move false) (relabelled (name_of new) region, kept_of new) (at_place x (place_of to.at.0) w)) (sym watched)

@@ -13,7 +13,8 @@ use Rattle.vc_model.specs.Touch.{find_block}
 use Rattle.vc_region.proofs.Relabel.{watch-relabelled, write-relabelled}
 use Rattle.vc_script.specs.declared.refusal.Refusal.TheVariants as why
 use Rattle.vc_script.specs.declared.reply.Reply.TheVariants.{Written, Hex, Size}
-use Rattle.vc_commands.specs.Home.{changed_to, told, unchanged}
+use Rattle.vc_commands.specs.Home as home
+use Rattle.vc_commands.specs.Home.{Home, changed_to, told, unchanged}
 use Rattle.vc_commands.specs.Held.{Held, IsNamed, home_of}
 use Rattle.vc_commands.specs.Blocks.{read_block, read_in, size_in, write_block, write_in}
 use Rattle.vc_commands.specs.Labels.{MovesLabel, kept_of, name_of}
@@ -54,6 +55,12 @@ module _ (h : Held) {x : List ℕ} {addr : Addr} (has : HasName h.region h.label
   abbrev pub b : TheBlock h.region h.labels x has.tag addr.0
   b = the_block has
 
+  abbrev k : Home
+  k = home_of h
+
+  abbrev f : ℕ → home.Label
+  f = name_of h.labels
+
   -- the size that is told of the address is that of the block
   pub size-told : (size : ℕ) → option_map (λ c. c.size) (find_block (place_of addr.0) (blocks_of h.region)) ≡ Some size → b.block.size ≡ size
   size-told size is = same_Some b.block.size size (sym (ap (option_map (λ (c : Block ℕ). c.size)) b.found) ∙ is)
@@ -72,7 +79,6 @@ module _ (h : Held) {x : List ℕ} {addr : Addr} (has : HasName h.region h.label
 
   pub gives-read : (off len : ℕ) (bytes : List ℕ) → ((nat_le 1 len && nat_le len 4096) && nat_le (off + len) b.block.size) ≡ true → take len (drop off b.block.bytes) ≡ bytes → GivesRegion (read_in (home_of h) x off len) ((home_of h).region, kept_of h.labels) (Hex x bytes)
   gives-read off len bytes passes is =
-      let k = home_of h in
       let eq : read_in k x off len ≡ told k (Hex x (take len (drop off b.block.bytes))) =
       on_block-there h x has.tag addr.0 b (read_block k x off len)
       ∙ ap (λ v. cond v (told k (Hex x (take len (drop off b.block.bytes)))) (unchanged k why.Range)) passes in
@@ -80,21 +86,17 @@ module _ (h : Held) {x : List ℕ} {addr : Addr} (has : HasName h.region h.label
 
   pub read-range : (off len : ℕ) → ((nat_le 1 len && nat_le len 4096) && nat_le (off + len) b.block.size) ≡ false → read_in (home_of h) x off len ≡ unchanged (home_of h) why.Range
   read-range off len fails =
-      let k = home_of h in
       on_block-there h x has.tag addr.0 b (read_block k x off len)
       ∙ ap (λ v. cond v (told k (Hex x (take len (drop off b.block.bytes)))) (unchanged k why.Range)) fails
 
   module _ (off : ℕ) (bytes : List ℕ) where
     pub write-range : nat_le (off + length bytes) b.block.size ≡ false → write_in (home_of h) x off bytes ≡ unchanged (home_of h) why.Range
     write-range fails =
-        let k = home_of h in
         on_block-there h x has.tag addr.0 b (write_block k x off bytes)
         ∙ ap (λ v. cond v (changed_to k (region_write k.region (b.block.seg, b.block.off) off bytes) (Written x (length bytes) (watch_at k.region (b.block.seg, b.block.off)))) (unchanged k why.Range)) fails
 
     pub gives-written : (region : Region ℕ) → nat_le (off + length bytes) b.block.size ≡ true → region ≡ region_write h.region (place_of addr.0) off bytes → (watch : Option ℕ) → watch ≡ watch_at h.region (place_of addr.0) → GivesRegion (write_in (home_of h) x off bytes) (relabelled (name_of h.labels) region, kept_of h.labels) (Written x (length bytes) watch)
     gives-written region passes is watch watched =
-        let k = home_of h in
-        let f = name_of h.labels in
         let eq : write_in k x off bytes ≡ changed_to k (relabelled f region) (Written x (length bytes) watch) =
         on_block-there h x has.tag addr.0 b (write_block k x off bytes)
         ∙ (ap (λ v. cond v (changed_to k (region_write k.region (b.block.seg, b.block.off) off bytes) (Written x (length bytes) (watch_at k.region (b.block.seg, b.block.off)))) (unchanged k why.Range)) passes

@@ -105,6 +105,13 @@ RunsCommand meaning result rules command before old told after new told' =
     (table_asked (seat_in meaning rules before old) command) (object_asked (seat_in meaning rules before old) command)
     before old told after new told'
 
+-- and with no memory: the kind was told of nothing, and what is left is spent by the command
+abbrev pub HaltsCommand : {I : Type 0} {V : I → Type 0} {E : Type 0} → ((x : I) × V x → Discipline)
+    → Result Reply E → Rules → Command → Best I V → Dict → Gone → Best I V → Dict → Gone → Type 0
+HaltsCommand meaning result rules command before old told after new told' =
+    OnErr result ((told' ≡ told)
+    × IsSpentBy (seat_in meaning rules before old) command (rest_in after) (dictionary_in new after))
+
 -- what one promises that takes an object out: it needs no segment, and with no memory nothing
 -- changed
 pub record TakesDict {I : Type 0} {V : I → Type 0} (meaning : (x : I) × V x → Discipline)

@@ -1,11 +1,11 @@
 // Running a command on a dictionary.
-ghost use Rattle.std.specs.Prelude.{◌≡◌, false, OnErr};
+ghost use Rattle.std.specs.Prelude.{◌≡◌, false};
 ghost use Rattle.vc_dtdisc.specs.Rules.{Gone, Rules};
-ghost use Rattle.vc_best.specs.Cells.{cells_in, rest_in};
+ghost use Rattle.vc_best.specs.Cells.{cells_in};
 ghost use Rattle.vc_best.specs.Parts.{disc_in};
-ghost use Rattle.vc_objects.specs.Parts.{IsWhole, dictionary_in};
+ghost use Rattle.vc_objects.specs.Parts.{IsWhole};
 ghost use Rattle.vc_commands.specs.DictCommands.{asks};
-ghost use Rattle.vc_commands.specs.DictRun.{IsSpentBy, RunsCommand, seat_in};
+ghost use Rattle.vc_commands.specs.DictRun.{HaltsCommand, RunsCommand};
 
 use crate::dict::putting::{append, attach, insert};
 use crate::dict::taking::{delete, take};
@@ -38,9 +38,8 @@ pub fn run<D: DictDisc>(
         → disc_in state best.new ≡ disc_in state best.old }
 
     // With no memory the kind was told of nothing.
-    ensures err { OnErr result ((D.gone kind.new ≡ D.gone kind.old)
-        × IsSpentBy (seat_in state (D.rules kind.old) best.old dict.old) command.now
-        (rest_in best.new) (dictionary_in dict.new best.new)) }
+    ensures err { HaltsCommand state result (D.rules kind.old) command.now
+        best.old dict.old (D.gone kind.old) best.new dict.new (D.gone kind.new) }
 {
     match command {
         Command::Insert(_, object) => insert(alloc, best, dict, kind, object.as_slice()),
