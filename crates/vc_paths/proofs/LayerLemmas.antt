@@ -96,11 +96,11 @@ onward_step all e p at next laws w fails n =
       omega arith,
     )
 
-pub onward_here : (all : Layered) (e : ℕ) (p : Seen ℕ → Bool) (at : Addr) (here : Option Addr) → AreLayers all → here ≡ Some at → Onward all e p here → ((y : Seen ℕ) → object_there all (e, at) ≡ Some y → true ≡ p y) → object_there all (e, at) ≡ first_of (filter p (objects_of all e))
-onward_here all e p at here laws h w passes = onward_passes all e p at laws (subst (λ z. Onward all e p z) h w) passes
+pub onward_here : {all : Layered} {e : ℕ} {p : Seen ℕ → Bool} {at : Addr} {here : Option Addr} → AreLayers all → here ≡ Some at → Onward all e p here → ((y : Seen ℕ) → object_there all (e, at) ≡ Some y → true ≡ p y) → object_there all (e, at) ≡ first_of (filter p (objects_of all e))
+onward_here {all} {e} {p} {at} laws h w passes = onward_passes all e p at laws (subst (λ z. Onward all e p z) h w) passes
 
-pub onward_next : (all : Layered) (e : ℕ) (p : Seen ℕ → Bool) (at : Addr) (here next : Option Addr) → AreLayers all → here ≡ Some at → Onward all e p here → ((y : Seen ℕ) → object_there all (e, at) ≡ Some y → false ≡ p y) → option_map number_of next ≡ place_behind at.0 (all.layer e).objects → Onward all e p next × (length (objects_from (option_map number_of next) (all.layer e).objects) < length (objects_from (option_map number_of here) (all.layer e).objects))
-onward_next all e p at here next laws h w fails n =
+pub onward_next : {all : Layered} {e : ℕ} {p : Seen ℕ → Bool} {at : Addr} {here next : Option Addr} → AreLayers all → here ≡ Some at → Onward all e p here → ((y : Seen ℕ) → object_there all (e, at) ≡ Some y → false ≡ p y) → option_map number_of next ≡ place_behind at.0 (all.layer e).objects → Onward all e p next × (length (objects_from (option_map number_of next) (all.layer e).objects) < length (objects_from (option_map number_of here) (all.layer e).objects))
+onward_next {all} {e} {p} {at} {here} {next} laws h w fails n =
     let step = onward_step all e p at next laws (subst (λ z. Onward all e p z) h w) fails n in
     (step.0, subst (λ z. length (objects_from (option_map number_of next) (all.layer e).objects) < length (objects_from (option_map number_of z) (all.layer e).objects)) (sym h) step.1)
 
@@ -161,11 +161,11 @@ backward_step all e p at next laws w fails n =
       omega arith,
     )
 
-pub backward_here : (all : Layered) (e : ℕ) (p : Seen ℕ → Bool) (at : Addr) (here : Option Addr) → AreLayers all → here ≡ Some at → Backward all e p here → ((y : Seen ℕ) → object_there all (e, at) ≡ Some y → true ≡ p y) → object_there all (e, at) ≡ last_of (filter p (objects_of all e))
-backward_here all e p at here laws h w passes = backward_passes all e p at laws (subst (λ z. Backward all e p z) h w) passes
+pub backward_here : {all : Layered} {e : ℕ} {p : Seen ℕ → Bool} {at : Addr} {here : Option Addr} → AreLayers all → here ≡ Some at → Backward all e p here → ((y : Seen ℕ) → object_there all (e, at) ≡ Some y → true ≡ p y) → object_there all (e, at) ≡ last_of (filter p (objects_of all e))
+backward_here {all} {e} {p} {at} laws h w passes = backward_passes all e p at laws (subst (λ z. Backward all e p z) h w) passes
 
-pub backward_next : (all : Layered) (e : ℕ) (p : Seen ℕ → Bool) (at : Addr) (here next : Option Addr) → AreLayers all → here ≡ Some at → Backward all e p here → ((y : Seen ℕ) → object_there all (e, at) ≡ Some y → false ≡ p y) → option_map number_of next ≡ place_before at.0 (all.layer e).objects → Backward all e p next × (length (objects_up_to (option_map number_of next) (all.layer e).objects) < length (objects_up_to (option_map number_of here) (all.layer e).objects))
-backward_next all e p at here next laws h w fails n =
+pub backward_next : {all : Layered} {e : ℕ} {p : Seen ℕ → Bool} {at : Addr} {here next : Option Addr} → AreLayers all → here ≡ Some at → Backward all e p here → ((y : Seen ℕ) → object_there all (e, at) ≡ Some y → false ≡ p y) → option_map number_of next ≡ place_before at.0 (all.layer e).objects → Backward all e p next × (length (objects_up_to (option_map number_of next) (all.layer e).objects) < length (objects_up_to (option_map number_of here) (all.layer e).objects))
+backward_next {all} {e} {p} {at} {here} {next} laws h w fails n =
     let step = backward_step all e p at next laws (subst (λ z. Backward all e p z) h w) fails n in
     (step.0, subst (λ z. length (objects_up_to (option_map number_of next) (all.layer e).objects) < length (objects_up_to (option_map number_of z) (all.layer e).objects)) (sym h) step.1)
 

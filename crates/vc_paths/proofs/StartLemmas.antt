@@ -69,9 +69,9 @@ backward_own all e at next laws h method stands n =
     })
 
 -- where a search begins, what is left has all that passes
-pub onward_from : (all : Layered) (e : ℕ) (other : Option (ℕ × Addr)) (next : Option Addr) → AreLayers all → all.Has e → is_ordered (all.layer e).method ≡ true → IsStanding all e other → option_map number_of next ≡ start_behind all e other → Onward all e (is_behind (all.layer e).rules (object_at all other)) next
-onward_from all e None next laws h method s n = onward_start all e (is_behind (all.layer e).rules None) next laws h n
-onward_from all e (Some p) next laws h method s n = elim (cases_Bool (p.0 == e)) as (λ _. Onward all e (is_behind (all.layer e).rules (object_there all p)) next) [
+pub onward_from : {all : Layered} {e : ℕ} (other : Option (ℕ × Addr)) {next : Option Addr} → AreLayers all → all.Has e → is_ordered (all.layer e).method ≡ true → IsStanding all e other → option_map number_of next ≡ start_behind all e other → Onward all e (is_behind (all.layer e).rules (object_at all other)) next
+onward_from {all} {e} None {next} laws h method s n = onward_start all e (is_behind (all.layer e).rules None) next laws h n
+onward_from {all} {e} (Some p) {next} laws h method s n = elim (cases_Bool (p.0 == e)) as (λ _. Onward all e (is_behind (all.layer e).rules (object_there all p)) next) [
   | inl t ↦
       let same = eqb-true p.0 e t in
       let own = onward_own all e p.1 next laws h method (subst (λ z. Stands all e (z, p.1)) same s) (rw t at n) in
@@ -79,9 +79,9 @@ onward_from all e (Some p) next laws h method s n = elim (cases_Bool (p.0 == e))
   | inr t ↦ onward_start all e (is_behind (all.layer e).rules (object_there all p)) next laws h (rw t at n)
 ]
 
-pub backward_from : (all : Layered) (e : ℕ) (other : Option (ℕ × Addr)) (next : Option Addr) → AreLayers all → all.Has e → is_ordered (all.layer e).method ≡ true → IsStanding all e other → option_map number_of next ≡ start_before all e other → Backward all e (is_before (all.layer e).rules (object_at all other)) next
-backward_from all e None next laws h method s n = backward_start all e (is_before (all.layer e).rules None) next laws h n
-backward_from all e (Some p) next laws h method s n = elim (cases_Bool (p.0 == e)) as (λ _. Backward all e (is_before (all.layer e).rules (object_there all p)) next) [
+pub backward_from : {all : Layered} {e : ℕ} (other : Option (ℕ × Addr)) {next : Option Addr} → AreLayers all → all.Has e → is_ordered (all.layer e).method ≡ true → IsStanding all e other → option_map number_of next ≡ start_before all e other → Backward all e (is_before (all.layer e).rules (object_at all other)) next
+backward_from {all} {e} None {next} laws h method s n = backward_start all e (is_before (all.layer e).rules None) next laws h n
+backward_from {all} {e} (Some p) {next} laws h method s n = elim (cases_Bool (p.0 == e)) as (λ _. Backward all e (is_before (all.layer e).rules (object_there all p)) next) [
   | inl t ↦
       let same = eqb-true p.0 e t in
       let own = backward_own all e p.1 next laws h method (subst (λ z. Stands all e (z, p.1)) same s) (rw t at n) in
