@@ -16,7 +16,7 @@ pub down-step : (links : Links) (e : ℕ) → ArePaths links → down links (Som
 unfolding down
 down-step links e p = path-step links e p
 
--- so does each step of a walk, and it leaves fewer
+-- each step of a walk passes one number, and leaves fewer
 pub down-on : {links : Links} {at : Option ℕ} {e : ℕ} {next : Option ℕ} → ArePaths links → at ≡ Some e → next ≡ below links e → down links at ≡ e ∷ down links next
 down-on {links} {at} {e} p is on = ap (down links) is ∙ down-step links e p ∙ ap (λ z. e ∷ down links z) (sym on)
 
