@@ -55,9 +55,18 @@ few-bytes {r} {t} {es} site v counted is =
     let sizes : AllByRecursion (λ (b : Block (ℕ × List ℕ)). b.size ≤ 16777216) S = all-map (with_its_site t) (λ (b : Block (ℕ × List ℕ)). b.size ≤ 16777216) r.blocks (all-weaken (IsHeld t es) (λ b. b.size ≤ 16777216) r.blocks (λ b h. h.most) counted.held) in
     omega (arith, bytes-few site S sizes, row.blocks_are, row.bytes_are, row.few)
 
-module _ (r : Layout ℕ) (t : List Sited) (es : Rows) (counted : IsCounted r t es) (distinct : IsDistinct bytes_eq (keys_of es)) (terms : Terms) (tag : ℕ) (site : List ℕ) (size align : ℕ) (most : size ≤ 16777216) (a : ℕ) (fresh : ¬ HasBlock r.blocks a) (r' : Layout ℕ) (placed : IsPut (best_alloc terms r tag size align false) a r')
-    (t' : List Sited) (kept : (q : ℕ) → site_at q t' ≡ cond (eqb a q) (Some site) (site_at q t))
-    (v w : Row) (row : v ≡ row_for site es) (few : v.blocks < 4294967295) (with : IsRowWith v (v.blocks + 1) (v.bytes + size) w) where
+-- a block is put at an address that none has, with a site that has the row and room for one more
+pub record IsPutAt (r : Layout ℕ) (t t' : List Sited) (es : Rows) (a size : ℕ) (site : List ℕ) (v : Row) : Type 0 where
+  pub counted : IsCounted r t es
+  pub distinct : IsDistinct bytes_eq (keys_of es)
+  pub most : size ≤ 16777216
+  pub fresh : ¬ HasBlock r.blocks a
+  pub kept : (q : ℕ) → site_at q t' ≡ cond (eqb a q) (Some site) (site_at q t)
+  pub row : v ≡ row_for site es
+  pub few : v.blocks < 4294967295
+
+module _ {r : Layout ℕ} {t t' : List Sited} {es : Rows} {a size : ℕ} {site : List ℕ} {v : Row} (new : IsPutAt r t t' es a size site v) (terms : Terms) (tag align : ℕ) (r' : Layout ℕ) (placed : IsPut (best_alloc terms r tag size align false) a r')
+    (w : Row) (with : IsRowWith v (v.blocks + 1) (v.bytes + size) w) where
   abbrev S : List (Block (ℕ × List ℕ))
   S = map (with_its_site t) r.blocks
 
@@ -80,23 +89,23 @@ module _ (r : Layout ℕ) (t : List Sited) (es : Rows) (counted : IsCounted r t 
   z-at = sym put.address
 
   kept-own : site_at a t' ≡ Some site
-  kept-own = kept a ∙ ap (λ v. cond v (Some site) (site_at a t)) (eq-eqb a a refl)
+  kept-own = new.kept a ∙ ap (λ v. cond v (Some site) (site_at a t)) (eq-eqb a a refl)
 
   kept-other : (n : ℕ) → n ≢ a → site_at n t' ≡ site_at n t
   kept-other n other =
       let differs : eqb a n ≡ false = grind (arith, nat_tests, other) in
-      kept n ∙ ap (λ v. cond v (Some site) (site_at n t)) differs
+      new.kept n ∙ ap (λ v. cond v (Some site) (site_at n t)) differs
 
   z-kept : IsKept t' z
   z-kept = ap (λ n. site_at n t') z-at ∙ kept-own
 
   elsewhere : AllByRecursion (λ b. address_of b ≢ a) r.blocks
-  elsewhere = all-elsewhere a r.blocks fresh
+  elsewhere = all-elsewhere a r.blocks new.fresh
 
   old-kept : AllByRecursion (IsKept t') S
   old-kept =
       all-map (with_its_site t) (IsKept t') r.blocks
-      (all-both (IsHeld t es) (λ b. address_of b ≢ a) (λ b. IsKept t' (with_its_site t b)) r.blocks (λ b h other. kept-other (address_of b) other ∙ some-of (site_at (address_of b) t) [] h.kept) counted.held elsewhere)
+      (all-both (IsHeld t es) (λ b. address_of b ≢ a) (λ b. IsKept t' (with_its_site t b)) r.blocks (λ b h other. kept-other (address_of b) other ∙ some-of (site_at (address_of b) t) [] h.kept) new.counted.held elsewhere)
 
   all-kept : AllByRecursion (IsKept t') q.blocks
   all-kept = subst (AllByRecursion (IsKept t')) (sym put.holds) (all-with (IsKept t') z S z-kept old-kept)
@@ -111,7 +120,7 @@ module _ (r : Layout ℕ) (t : List Sited) (es : Rows) (counted : IsCounted r t 
   bytes-more x = ap (site_bytes x) put.holds ∙ (bytes-total x (with_block z S) ∙ (total-with (size_at x) z S ∙ ap (λ n. size_at x z + n) (sym (bytes-total x S))))
 
   row-is : IsRow S (site, v)
-  row-is = subst (λ x. IsRow S (site, x)) (sym row) (row-any t es site r.blocks counted.held counted.counted)
+  row-is = subst (λ x. IsRow S (site, x)) (sym new.row) (row-any t es site r.blocks new.counted.held new.counted.counted)
 
   own-one : one site z ≡ 1
   own-one = ap (λ v. cond v 1 0) (own_site site)
@@ -129,7 +138,7 @@ module _ (r : Layout ℕ) (t : List Sited) (es : Rows) (counted : IsCounted r t 
   w-is = record {
     blocks_are = omega (arith, row-is.blocks_are, blocks-more site, own-one, with.blocks);
     bytes_are = omega (arith, row-is.bytes_are, bytes-more site, own-size, with.bytes);
-    few = omega (arith, few, with.blocks);
+    few = omega (arith, new.few, with.blocks);
     peak = omega (arith, peak-with v v _ _ w refl with);
   }
 
@@ -137,13 +146,13 @@ module _ (r : Layout ℕ) (t : List Sited) (es : Rows) (counted : IsCounted r t 
   z-held = record {
     kept = ap is_some z-kept;
     row = subst (λ o. IsSome (lookup (bytes_eq (unwrap_or o [])) es')) (sym z-kept) (put-own site w es);
-    most = most;
+    most = new.most;
   }
 
   old-held : AllByRecursion (λ (c : Block (ℕ × List ℕ)). IsHeld t' es' (relabel_block bare c)) S
   old-held =
       all-map (with_its_site t) (λ (c : Block (ℕ × List ℕ)). IsHeld t' es' (relabel_block bare c)) r.blocks
-      (all-both (IsHeld t es) (λ b. address_of b ≢ a) (IsHeld t' es') r.blocks (λ b h other. held-put t t' es site w b h (kept-other (address_of b) other)) counted.held elsewhere)
+      (all-both (IsHeld t es) (λ b. address_of b ≢ a) (IsHeld t' es') r.blocks (λ b h other. held-put t t' es site w b h (kept-other (address_of b) other)) new.counted.held elsewhere)
 
   pub counted-put : IsCounted r' t' es'
   counted-put = record {
@@ -151,14 +160,14 @@ module _ (r : Layout ℕ) (t : List Sited) (es : Rows) (counted : IsCounted r t 
         subst (λ (l : Layout ℕ). AllByRecursion (IsHeld t' es') l.blocks) (sym put.layout)
         (all-map (relabel_block bare) (IsHeld t' es') q.blocks
         (subst (AllByRecursion (λ (c : Block (ℕ × List ℕ)). IsHeld t' es' (relabel_block bare c))) (sym put.holds) (all-with (λ (c : Block (ℕ × List ℕ)). IsHeld t' es' (relabel_block bare c)) z S z-held old-held)));
-    counted = subst (λ (l : Layout (ℕ × List ℕ)). AllByRecursion (IsRow l.blocks) es') (sym layout-is) (rows-put S q.blocks site w w-is same es distinct counted.counted);
+    counted = subst (λ (l : Layout (ℕ × List ℕ)). AllByRecursion (IsRow l.blocks) es') (sym layout-is) (rows-put S q.blocks site w w-is same es new.distinct new.counted.counted);
   }
 
   put-is : IsPut (profile_alloc terms (profile t r es) tag site size align false) a (profile t' r' es')
   put-is =
       let made : Layout (ℕ × List ℕ) → List (List ℕ × ℕ) → Profile ℕ = λ l ps. record { layout = l; peaks = ps } in
       put-profile (with_site site (peaks_of es)) outcome a r' (HasOneMore (sited t r) (tag, site) size) put (profile t' r' es')
-      (ap (λ l. made l (peaks_of es')) layout-is ∙ ap (made q) (peaks-put S q.blocks site w w-is same es distinct counted.counted (peak-with v (row_for site es) _ _ w row with)))
+      (ap (λ l. made l (peaks_of es')) layout-is ∙ ap (made q) (peaks-put S q.blocks site w w-is same es new.distinct new.counted.counted (peak-with v (row_for site es) _ _ w new.row with)))
 
   pub profile-put : (name : List ℕ) → site ≡ name → (rows : Rows) → rows ≡ es' → IsPut (profile_alloc terms (profile t r es) tag name size align false) a (profile t' r' rows)
   profile-put name named rows is =

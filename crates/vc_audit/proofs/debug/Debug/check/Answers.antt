@@ -5,7 +5,7 @@ use Rattle.std.proofs.lemmas.Int.{to_z-of_z}
 use Rattle.std.proofs.Common.{SFits}
 use Rattle.vc_model.specs.Touch.{HasBlock}
 use Rattle.vc_best.specs.Parts.{layout_of}
-use Rattle.vc_audit.specs.Debug.{Debug}
+use Rattle.vc_audit.specs.DebugParts.{debug_of}
 use Rattle.vc_audit.proofs.DebugBlocks.{below-end, live-up}
 use Rattle.vc_audit.proofs.DebugChecks.{check-begins, check-over, check-passes, check-smaller, check-told, next-is}
 use Rattle.vc_audit.proofs.DebugWalks.{from-before, own-best}
@@ -13,9 +13,8 @@ use Rattle.vc_audit.proofs.debug.Debug.check.Goals as goal
 
 pub loop-next-init : goal.loop-next-init
 loop-next-init g c =
-    let d : Debug ℕ = record { best = layout_of c.args.self.now.best; marks = c.args.self.now.marks.items } in
     record {
-      same = check-begins d c.args.after.0 c.guarded_after-at.result.0 c.guarded_after-at.ensures (own-best (layout_of c.args.self.now.best) c.args.self.now.best.sound);
+      same = check-begins (debug_of c.args.self.now) c.args.after.0 c.guarded_after-at.result.0 c.guarded_after-at.ensures (own-best (layout_of c.args.self.now.best) c.args.self.now.best.sound);
       from = from-before (layout_of c.args.self.now.best).blocks c.args.after.0 c.guarded_after-at.result.0 c.guarded_after-at.ensures c.requires;
     }
 
@@ -36,11 +35,10 @@ user_addr-requires g c = below-end (layout_of c.args.self.now.best) c.args.self.
 
 pub returns-in-Some-damage_at-clause-value : goal.returns-in-Some-damage_at-clause-value
 returns-in-Some-damage_at-clause-value g c =
-    let d : Debug ℕ = record { best = layout_of c.args.self.now.best; marks = c.args.self.now.marks.items } in
     let fits : SFits w64 c.in-Some-damage_at.off = search rules in
     let with : ℤ → Option (ℕ × ℤ) = λ z. Some (c.user_addr.result.0, z) in
     ap with (to_z-of_z w64 c.in-Some-damage_at.off fits)
-    ∙ check-told d c.args.after.0 c.loop-next.at.0 c.in-Some.next.0 c.user_addr.result.0 c.in-Some-damage_at.off
+    ∙ check-told (debug_of c.args.self.now) c.args.after.0 c.loop-next.at.0 c.in-Some.next.0 c.user_addr.result.0 c.in-Some-damage_at.off
     (next-is (layout_of c.args.self.now.best).blocks c.loop-next.at.0 c.in-Some.next.0 (Some c.in-Some-damage_at.off) (own-best (layout_of c.args.self.now.best) c.args.self.now.best.sound) c.in-Some.ensures.value c.in-Some-damage_at.ensures)
     c.user_addr.ensures c.loop-next.invariant.same
 
@@ -49,5 +47,4 @@ returns-in-Some-damage_at-clause-live g c = subst (HasBlock _) (sym c.user_addr.
 
 pub returns-clause-value : goal.returns-clause-value
 returns-clause-value g c =
-    let d : Debug ℕ = record { best = layout_of c.args.self.now.best; marks = c.args.self.now.marks.items } in
-    check-over d c.args.after.0 c.loop-next.at.0 (own-best (layout_of c.args.self.now.best) c.args.self.now.best.sound) c.in_default.ensures.value c.loop-next.invariant.same
+    check-over (debug_of c.args.self.now) c.args.after.0 c.loop-next.at.0 (own-best (layout_of c.args.self.now.best) c.args.self.now.best.sound) c.in_default.ensures.value c.loop-next.invariant.same

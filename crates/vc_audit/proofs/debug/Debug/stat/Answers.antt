@@ -1,16 +1,13 @@
-use Rattle.std.proofs.Common.{ℕ, ◌-◌, ◌*◌, ◌≤◌, sym, ap, ◌∙◌, subst}
+use Rattle.std.proofs.Common.{◌-◌, ◌*◌, ◌≤◌, sym, ap, ◌∙◌, subst}
 use Rattle.vc_seg.specs.declared.stat.Stat.{Stat}
-use Rattle.vc_best.specs.Parts.{layout_of}
-use Rattle.vc_audit.specs.Debug.{Debug}
+use Rattle.vc_audit.specs.DebugParts.{debug_of}
 use Rattle.vc_audit.proofs.DebugSizes.{room-user, stat-user}
 use Rattle.vc_audit.proofs.debug.Debug.stat.Goals as goal
 
 pub without_guards-requires : goal.without_guards-requires
 without_guards-requires g c =
-    let d : Debug ℕ = record { best = layout_of c.args.self.now.best; marks = c.args.self.now.marks.items } in
-    subst (λ (s : Stat). 48 * s.busy ≤ s.sbusy) (sym c.stat.ensures) (room-user d c.args.self.now.guarded)
+    subst (λ (s : Stat). 48 * s.busy ≤ s.sbusy) (sym c.stat.ensures) (room-user (debug_of c.args.self.now) c.args.self.now.guarded)
 
 pub returns : goal.returns
 returns g c =
-    let d : Debug ℕ = record { best = layout_of c.args.self.now.best; marks = c.args.self.now.marks.items } in
-    c.without_guards.ensures ∙ (ap (λ (s : Stat). let t : Stat = record s { sbusy = s.sbusy - 48 * s.busy; mbusy = s.mbusy - 48 } in t) c.stat.ensures ∙ stat-user d c.args.self.now.guarded)
+    c.without_guards.ensures ∙ (ap (λ (s : Stat). let t : Stat = record s { sbusy = s.sbusy - 48 * s.busy; mbusy = s.mbusy - 48 } in t) c.stat.ensures ∙ stat-user (debug_of c.args.self.now) c.args.self.now.guarded)

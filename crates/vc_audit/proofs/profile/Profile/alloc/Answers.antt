@@ -1,4 +1,4 @@
-use Rattle.std.proofs.Common.{◌≡◌, ℕ, ◌+◌, Some, cond, eqb, sym, ap, ◌∙◌, subst, arith}
+use Rattle.std.proofs.Common.{◌≡◌, ◌+◌, Some, cond, eqb, sym, ap, ◌∙◌, subst, arith}
 use Rattle.std.specs.Str.{bytes_eq}
 use Rattle.indexmap.specs.IndexMap.{insert_entry}
 use Rattle.vc_model.specs.Addr.{place_of}
@@ -8,7 +8,7 @@ use Rattle.vc_model.specs.Touch.{HasBlock, find_block}
 use Rattle.vc_best.specs.Parts.{layout_of}
 use Rattle.vc_audit.specs.ProfileSites.{site_at}
 use Rattle.vc_audit.specs.ProfileSums.{IsCounted}
-use Rattle.vc_audit.proofs.ProfileAlloc.{alloc-refused, counted-put, few-bytes, profile-put}
+use Rattle.vc_audit.proofs.ProfileAlloc.{IsPutAt, alloc-refused, counted-put, few-bytes, profile-put}
 use Rattle.vc_audit.proofs.ProfileBare.{from-best, from-both}
 use Rattle.vc_audit.proofs.ProfileFree.{profile}
 use Rattle.vc_audit.proofs.ProfileRows.{IsRowWith}
@@ -21,9 +21,17 @@ overflow_add-bytes g c =
     let few = few-bytes c.new-site.result c.row_for-row.result c.args.self.now.counted c.row_for-row.ensures.row in
     omega (arith, few, c.requires.most)
 
--- the sites with the new one, the row after, and the rows with it
-kept : (g : Over) (c : After-put g) (q : ℕ) → site_at q c.put.new.self.items.items ≡ cond (eqb c.in-Ok.a.0 q) (Some c.new-site.result) (site_at q c.args.self.now.sites.items.items)
-kept g c q = c.put.ensures q ∙ ap (λ ss. cond (eqb c.in-Ok.a.0 q) (Some c.new-site.result) (site_at q ss)) c.reserve-2.ensures.same
+-- the block that is put, the row after, and the rows with it
+block : (g : Over) (c : After-put g) → IsPutAt (layout_of c.args.self.now.best) c.args.self.now.sites.items.items c.put.new.self.items.items c.args.self.now.rows.entries c.in-Ok.a.0 c.args.size c.new-site.result c.row_for-row.result
+block g c = record {
+  counted = c.args.self.now.counted;
+  distinct = c.row_for-row.ensures.distinct;
+  most = c.requires.most;
+  fresh = c.in-Ok.ensures.fresh;
+  kept = λ q. c.put.ensures q ∙ ap (λ ss. cond (eqb c.in-Ok.a.0 q) (Some c.new-site.result) (site_at q ss)) c.reserve-2.ensures.same;
+  row = c.row_for-row.ensures.row;
+  few = c.if-row-ge4294967295.false;
+}
 
 row : (g : Over) (c : After-with g) → IsRowWith c.row_for-row.result (c.row_for-row.result.blocks + 1) (c.row_for-row.result.bytes + c.args.size) c.with.result
 row g c = record { blocks = c.with.ensures.blocks; bytes = c.with.ensures.bytes; peak = c.with.ensures.peak }
@@ -33,20 +41,16 @@ rows g c = c.put_row.ensures ∙ ap (λ es. insert_entry bytes_eq es c.new-site.
 
 pub invariant_of-self-in-Ok : goal.invariant_of-self-in-Ok
 invariant_of-self-in-Ok g c =
-    let me = c.args.self.now in
     let h = goal.at.invariant_of-self-in-Ok g c in
     record {
       counted = subst (IsCounted (layout_of c.alloc.new.self) c.put.new.self.items.items) (sym (rows g h.After-put_row))
-          (counted-put (layout_of me.best) me.sites.items.items me.rows.entries me.counted c.row_for-row.ensures.distinct _ c.args.tag c.new-site.result c.args.size c.args.align c.requires.most c.in-Ok.a.0 c.in-Ok.ensures.fresh (layout_of c.alloc.new.self) c.in-Ok.ensures.answer
-          c.put.new.self.items.items (kept g h.After-put) c.row_for-row.result c.with.result c.row_for-row.ensures.row c.if-row-ge4294967295.false (row g h.After-with));
+          (counted-put (block g h.After-put) _ c.args.tag c.args.align (layout_of c.alloc.new.self) c.in-Ok.ensures.answer c.with.result (row g h.After-with));
     }
 
 pub returns-in-Ok-clause-answer : goal.returns-in-Ok-clause-answer
 returns-in-Ok-clause-answer g c =
-    let me = c.args.self.now in
     let h = goal.at.returns-in-Ok-clause-answer g c in
-    profile-put (layout_of me.best) me.sites.items.items me.rows.entries me.counted c.row_for-row.ensures.distinct _ c.args.tag c.new-site.result c.args.size c.args.align c.requires.most c.in-Ok.a.0 c.in-Ok.ensures.fresh (layout_of c.alloc.new.self) c.in-Ok.ensures.answer
-    c.put.new.self.items.items (kept g h.After-put) c.row_for-row.result c.with.result c.row_for-row.ensures.row c.if-row-ge4294967295.false (row g h.After-with) c.args.site.now c.new-site.ensures c.put_row.new.rows.entries (rows g h.After-put_row)
+    profile-put (block g h.After-put) _ c.args.tag c.args.align (layout_of c.alloc.new.self) c.in-Ok.ensures.answer c.with.result (row g h.After-with) c.args.site.now c.new-site.ensures c.put_row.new.rows.entries (rows g h.After-put_row)
 
 pub returns-in-Ok-clause-there : goal.returns-in-Ok-clause-there
 returns-in-Ok-clause-there g c =
@@ -56,9 +60,7 @@ pub returns-in-Ok-clause-fresh : goal.returns-in-Ok-clause-fresh
 returns-in-Ok-clause-fresh g c = from-best (λ bs. HasBlock bs c.in-Ok.a.0 → ⊥) c.args.self.now.sites.items.items (layout_of c.args.self.now.best).blocks c.in-Ok.ensures.fresh
 
 pub returns-in-Ok-clause-others : goal.returns-in-Ok-clause-others
-returns-in-Ok-clause-others g c =
-    let me = c.args.self.now in
-    from-both (λ xs ys. without_block (place_of c.in-Ok.a.0) xs ≡ ys) c.put.new.self.items.items me.sites.items.items (layout_of c.alloc.new.self).blocks (layout_of me.best).blocks c.in-Ok.ensures.others
+returns-in-Ok-clause-others g c = from-both (λ xs ys. without_block (place_of c.in-Ok.a.0) xs ≡ ys) c.put.new.self.items.items c.args.self.now.sites.items.items (layout_of c.alloc.new.self).blocks (layout_of c.args.self.now.best).blocks c.in-Ok.ensures.others
 
 pub returns-clause-answer : goal.returns-clause-answer
 returns-clause-answer g c =

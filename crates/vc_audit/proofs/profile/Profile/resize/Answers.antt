@@ -80,13 +80,12 @@ returns-in-Ok-clause-answer g c =
 
 pub returns-in-Ok-clause-there : goal.returns-in-Ok-clause-there
 returns-in-Ok-clause-there g c =
-    let me = c.args.self.now in
-    from-both (λ xs ys. option_map (λ (b : Block ℕ). b.label) (find_block (place_of c.in-Ok.to.0) xs) ≡ option_map (λ (b : Block ℕ). b.label) (find_block (place_of c.args.a.0) ys)) c.move_to.new.self.items.items me.sites.items.items (layout_of c.resize.new.self).blocks (layout_of me.best).blocks c.in-Ok.ensures.there
+    from-both (λ xs ys. option_map (λ (b : Block ℕ). b.label) (find_block (place_of c.in-Ok.to.0) xs) ≡ option_map (λ (b : Block ℕ). b.label) (find_block (place_of c.args.a.0) ys)) c.move_to.new.self.items.items c.args.self.now.sites.items.items
+    (layout_of c.resize.new.self).blocks (layout_of c.args.self.now.best).blocks c.in-Ok.ensures.there
 
 pub returns-in-Ok-clause-others : goal.returns-in-Ok-clause-others
 returns-in-Ok-clause-others g c =
-    let me = c.args.self.now in
-    from-both (λ xs ys. without_block (place_of c.in-Ok.to.0) xs ≡ without_block (place_of c.args.a.0) ys) c.move_to.new.self.items.items me.sites.items.items (layout_of c.resize.new.self).blocks (layout_of me.best).blocks c.in-Ok.ensures.others
+    from-both (λ xs ys. without_block (place_of c.in-Ok.to.0) xs ≡ without_block (place_of c.args.a.0) ys) c.move_to.new.self.items.items c.args.self.now.sites.items.items (layout_of c.resize.new.self).blocks (layout_of c.args.self.now.best).blocks c.in-Ok.ensures.others
 
 pub returns-clause-answer : goal.returns-clause-answer
 returns-clause-answer g c =
@@ -97,10 +96,8 @@ returns-clause-answer g c =
 
 pub returns-clause-no_memory : goal.returns-clause-no_memory
 returns-clause-no_memory g c =
-    let me = c.args.self.now in
-    λ e. subst (λ (l : Layout ℕ). IfSome (find_block (place_of c.args.a.0) l.blocks) (λ b. can_stay l c.args.size b ≡ false) × IsTrue c.args.may_move) (sym (bare-layout me.sites.items.items (layout_of me.best))) (c.in-Err.ensures.no_memory e)
+    λ e. subst (λ (l : Layout ℕ). IfSome (find_block (place_of c.args.a.0) l.blocks) (λ b. can_stay l c.args.size b ≡ false) × IsTrue c.args.may_move) (sym (bare-layout c.args.self.now.sites.items.items (layout_of c.args.self.now.best))) (c.in-Err.ensures.no_memory e)
 
 pub returns-clause-no_place : goal.returns-clause-no_place
 returns-clause-no_place g c =
-    let me = c.args.self.now in
-    λ e. subst (λ (l : Layout ℕ). AsksForSegment l c.args.size 32) (sym (bare-layout me.sites.items.items (layout_of me.best))) (c.in-Err.ensures.no_place e)
+    λ e. subst (λ (l : Layout ℕ). AsksForSegment l c.args.size 32) (sym (bare-layout c.args.self.now.sites.items.items (layout_of c.args.self.now.best))) (c.in-Err.ensures.no_place e)
