@@ -3,7 +3,7 @@ use Rattle.std.proofs.Common.{◌≡◌, ℕ, ◌<◌, ◌||◌, zero, suc, true
 use Rattle.std.specs.Prelude.{slice_get}
 use Rattle.std.specs.List.{list_any, position}
 use Rattle.std.specs.Str.{bytes_eq}
-use Rattle.std.specs.Map.{keys_of, lookup}
+use Rattle.std.specs.Map.{keys_of, lookup, values_of}
 use Rattle.std.proofs.lemmas.Bool.{cases_Bool}
 use Rattle.std.proofs.lemmas.List.Quantifiers.{position-Some}
 use Rattle.std.proofs.lemmas.Option.{none-some, same_Some}
@@ -45,6 +45,12 @@ pub key-at : {A : Type 0} (es : List (List ℕ × A)) (d : List ℕ) (i : ℕ) �
 key-at es d i at =
     let p = position-Some (bytes_eq d) (keys_of es) i [] at in
     key-get (keys_of es) i p.0 ∙ ap (λ n. Some n) (sym (same_bytes d (get_or (keys_of es) i []) p.1))
+
+-- what stands at a place, by its key and its value
+pub pair-read : {A : Type 0} (es : List (List ℕ × A)) (i : ℕ) (k : List ℕ) (x : A) → slice_get (keys_of es) i ≡ Some k → slice_get (values_of es) i ≡ Some x → slice_get es i ≡ Some (k, x)
+pair-read [] i k x key value = absurd (none-some k key)
+pair-read (e ∷ es) zero k x key value = ap (λ n. Some (n, e.1)) (same_Some e.0 k key) ∙ ap (λ y. Some (k, y)) (same_Some e.1 x value)
+pair-read (e ∷ es) (suc i) k x key value = pair-read es i k x key value
 
 none-of : (r : List ℕ) (xs : List (List ℕ)) (i : ℕ) → ((k : ℕ) → k < i → bytes_eq r (get_or xs k []) ≡ false) → list_any (λ n. bytes_eq n r) (take i xs) ≡ false
 none-of r [] zero none = refl

@@ -16,6 +16,7 @@ use Rattle.vc_commands.specs.Held.{Held, IsChange, IsNamed}
 use Rattle.vc_commands.specs.RegionRun.{held_of}
 use Rattle.vc_commands.proofs.Answers.{KeepsOut, changed-by}
 use Rattle.vc_steps.proofs.DictChange.{Touches}
+use Rattle.vc_steps.proofs.RegionAt.{RegionAt}
 use Rattle.vc_steps.proofs.Unlabelled.{named-labelled}
 
 -- an entry of a best region
@@ -25,6 +26,11 @@ best_entry place b = record { place = place; region = Best b }
 -- where a place has an entry whose region is a best one
 pub entry-best : {I : Type 0} {V : I → Type 0} (o : Option (HomeEntry I V)) (e : HomeEntry I V) (b : best.Best I V) → o ≡ Some e → e.region ≡ Best b → o ≡ Some (best_entry e.place b)
 entry-best o e b at is = at ∙ ap (λ r. Some (record { place = e.place; region = r })) is
+
+-- so stands the region of a name
+abbrev pub best_at : {I : Type 0} {V : I → Type 0} {homes : List (List ℕ × HomeEntry I V)} {labels : List Labels} {r : List ℕ} {j : ℕ} {v : HomeEntry I V} (x : RegionAt homes labels r j v) (b : best.Best I V) → v.region ≡ Best b
+    → RegionAt homes labels r j (best_entry v.place b)
+best_at {v = v} x b is = record { named = x.named; index = x.index; value = entry-best _ v b x.value is; l = x.l; own = x.own }
 
 module _ {I : Type 0} {V : I → Type 0} (meaning : (x : I) × V x → Discipline) (name : List ℕ) (place : ℕ) (old new : best.Best I V) (labels : Labels) (mine mine' : List ℕ) (leaves : Leaves meaning old new mine mine') where
   abbrev h : HomeEntry I V

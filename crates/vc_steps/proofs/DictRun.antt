@@ -1,12 +1,10 @@
 -- A command on a dictionary, over the regions and dictionaries of a session as they are stored.
-use Rattle.std.proofs.Common.{◌≡◌, ⊎_elim, ℕ, ◌-◌, ◌<◌, zero, suc, true, false, cond, List, [], ◌∷◌, Some, None, Result, Ok, Err, IfOk, OnErr, length, map, set, refl, sym, ap, ◌∙◌, subst, arith}
+use Rattle.std.proofs.Common.{◌≡◌, ⊎_elim, ℕ, ◌-◌, true, false, cond, List, [], Some, None, Result, Ok, Err, IfOk, OnErr, length, map, set, refl, sym, ap, ◌∙◌, subst}
 use Rattle.std.specs.Prelude.{slice_get}
-use Rattle.std.specs.List.{position}
 use Rattle.std.specs.Str.{bytes_eq}
-use Rattle.std.specs.Map.{keys_of, values_of}
+use Rattle.std.specs.Map.{keys_of}
 use Rattle.std.proofs.lemmas.Bool.{cases_Bool, false≢true}
-use Rattle.std.proofs.lemmas.List.{length-map}
-use Rattle.std.proofs.lemmas.Option.{none-some, same_Some}
+use Rattle.std.proofs.lemmas.Option.{same_Some}
 use Rattle.indexmap.specs.IndexMap.{set_value_at}
 use Rattle.vc_model.specs.Discipline.{Discipline}
 use Rattle.vc_model.specs.Numbered.{at_number}
@@ -27,8 +25,6 @@ use Rattle.vc_script.specs.declared.command.Command.TheVariants.{First, Last, Ma
 use Rattle.vc_script.specs.declared.refusal.Refusal.TheVariants as why
 use Rattle.vc_script.specs.declared.reply.Reply.{Reply}
 use Rattle.vc_commands.specs.declared.dict.entry.DictEntry.{DictEntry}
-use Rattle.vc_commands.specs.declared.region.home.HomeEntry.{HomeEntry}
-use Rattle.vc_commands.specs.declared.region.labels.Labels.{Labels}
 use Rattle.vc_commands.specs.Held.{Held, IsChange, home_of}
 use Rattle.vc_steps.specs.Account.{IsHeld, IsSession, Settles, accounts, settled, state_of}
 use Rattle.vc_steps.specs.DictHomes.{AreDicts, IsDictOf, dict_home, dicts_in}
@@ -43,29 +39,25 @@ use Rattle.vc_commands.specs.Home.{Home, is_home}
 use Rattle.vc_steps.specs.Moment.{Moment}
 use Rattle.vc_steps.specs.Step.{GivesStep}
 use Rattle.vc_steps.specs.Steps.{StepsBy}
-use Rattle.vc_paths.specs.Links.{Links}
 use Rattle.vc_views.specs.Numbers.{AreLinked, is_barred, views_by}
 use Rattle.vc_views.proofs.LinkChanges.{linked-changed, linked-remade, views-changed}
 use Rattle.vc_views.proofs.LinkLemmas.{unlinked}
-use Rattle.vc_steps.proofs.Barred.{free-turn}
 use Rattle.vc_steps.proofs.DictMethod.{method-ran}
 use Rattle.vc_steps.proofs.Cells.{at_number_some, set_same}
 use Rattle.vc_steps.proofs.Changing.{session-change, settles-none}
-use Rattle.vc_steps.proofs.DictChange.{Touches, dict-at}
-use Rattle.vc_steps.proofs.DictNamed.{first-dict, key-at, value-set}
+use Rattle.vc_steps.proofs.DictChange.{Touches}
+use Rattle.vc_steps.proofs.DictNamed.{first-dict, value-set}
 use Rattle.vc_steps.proofs.DictRegion.{best_entry, region-change, touches}
 use Rattle.vc_steps.proofs.DictReplies.{IsOther, other-dict}
-use Rattle.vc_steps.proofs.DictStep.{cut-after, dicts-after, lacks-after, settles-after, step-after, whole-here}
+use Rattle.vc_steps.proofs.DictStep.{cut-after, dicts-after, lacks-after, settles-after, step-after}
 use Rattle.vc_steps.proofs.DictsStay.{Entry, Vs}
 use Rattle.vc_commands.proofs.Firsts.{IsFirst}
-use Rattle.vc_steps.proofs.Helds.{first-named, held-read, held-set, index-within, length-set, name-at, some-at}
 use Rattle.vc_steps.proofs.Sessions.{Slots, held-at}
-
--- what stands at a place, by its key and its value
-pub pair-read : {A : Type 0} (es : List (List ℕ × A)) (i : ℕ) (k : List ℕ) (x : A) → slice_get (keys_of es) i ≡ Some k → slice_get (values_of es) i ≡ Some x → slice_get es i ≡ Some (k, x)
-pair-read [] i k x key value = absurd (none-some k key)
-pair-read (e ∷ es) zero k x key value = ap (λ n. Some (n, e.1)) (same_Some e.0 k key) ∙ ap (λ y. Some (k, y)) (same_Some e.1 x value)
-pair-read (e ∷ es) (suc i) k x key value = pair-read es i k x key value
+use Rattle.std.specs.List.{IsDistinct, position}
+use Rattle.vc_steps.proofs.Barred.{free-turn, linked-here}
+use Rattle.vc_steps.proofs.DictThere.{DictIn, its, whole-there}
+use Rattle.vc_steps.proofs.RegionAt.{helds-set, named-set, region-first, region-stands, region_at}
+use Rattle.vc_steps.proofs.SessionHere.{SessionHere, helds, state_here, views}
 
 -- a command runs on a dictionary alone, and turns none that is linked
 pub record RunsAlone (s : State) (d : DictHome) (command : Command) : Type 0 where
@@ -87,192 +79,247 @@ alone-command s (Remethod x method) need d h rules is =
     ap (λ t. cond t (refused s why.Viewed) (dict_changed s d h (in_dict (seat_of d h rules) (Remethod x method) need))) (is.free refl)
 alone-command s command need d h rules is = refl
 
-module _ {I : Type 0} {V : I → Type 0} (meaning : (x : I) × V x → Discipline) (kinds : List Rules) (slots : Slots) (homes : List (List ℕ × HomeEntry I V)) (labels : List Labels) (es : List Entry) (vs : Vs) (name : List ℕ) (entry : DictEntry) (place : ℕ) (before : Best I V) (j i : ℕ) (named : length labels ≡ length homes) (held : IsSession slots (held_all meaning homes labels)) (dicts : AreDicts kinds (held_all meaning homes labels) es) (at_home : position (bytes_eq entry.home) (keys_of homes) ≡ Some j) (home : slice_get (values_of homes) j ≡ Some (best_entry place before)) (at_dict : position (bytes_eq name) (keys_of es) ≡ Some i) (dict : slice_get (values_of es) i ≡ Some entry) where
+module _ {I : Type 0} {V : I → Type 0} {meaning : (x : I) × V x → Discipline} (place : ℕ) (before : Best I V) (x : DictIn meaning (best_entry place before)) (index : position (bytes_eq x.e.0) (keys_of x.here.es) ≡ Some x.i) where
+  abbrev here : SessionHere meaning
+  here = x.here
+
+  abbrev kinds : List Rules
+  kinds = here.kinds
+
+  abbrev slots : Slots
+  slots = here.slots
+
+  abbrev es : List Entry
+  es = here.es
+
+  abbrev vs : Vs
+  vs = views here
+
+  abbrev name : List ℕ
+  name = x.e.0
+
+  abbrev entry : DictEntry
+  entry = x.e.1
+
+  abbrev i : ℕ
+  i = x.i
+
   abbrev hs : List Held
-  hs = held_all meaning homes labels
-
-  within : j < length labels
-  within = omega (arith, named, length-map homes (λ (x : List ℕ × HomeEntry I V). x.0), index-within meaning homes entry.home j at_home)
-
-  some-label : (l : Labels) × (slice_get labels j ≡ Some l)
-  some-label = some-at labels j within
-
-  abbrev l : Labels
-  l = some-label.0
+  hs = helds here
 
   abbrev h : Held
-  h = held_of meaning entry.home (best_entry place before) l
+  h = region_at meaning x.region
 
   abbrev e : Entry
-  e = (name, entry)
+  e = x.e
 
-  at : slice_get hs j ≡ Some h
-  at = held-read meaning homes labels j entry.home (best_entry place before) l (name-at meaning homes entry.home j at_home) home some-label.1
+  at : slice_get hs x.j ≡ Some h
+  at = region-stands meaning x.region
 
-  there : slice_get es i ≡ Some e
-  there = pair-read es i name entry (key-at es name i at_dict) dict
-
-  first : IsFirst (is_home entry.home) (map home_of hs) j
-  first = first-named meaning homes labels entry.home j named at_home
+  first : IsFirst (is_home entry.home) (map home_of hs) x.j
+  first = region-first meaning x.region
 
   first_dict : IsFirst (is_dict name) (dicts_in hs vs es) i
-  first_dict = first-dict hs vs es name i at_dict
+  first_dict = first-dict hs vs es name i index
 
   abbrev s : State
-  s = state_of kinds slots hs (dicts_in hs vs es)
+  s = state_here here
 
   abbrev is : IsDictOf kinds hs e
-  is = dict-at kinds hs es i e there dicts
+  is = its x
 
   module _ (rules : Rules) (at_rules : at_number kinds entry.dict.kind ≡ Some rules) where
+    rules-are : rules ≡ is.rules
+    rules-are = same_Some rules is.rules (sym at_rules ∙ is.kind)
+
+    pub whole-by : IsWhole rules entry.dict (cells_in before)
+    whole-by = subst (λ r. IsWhole r entry.dict (cells_in before)) (sym rules-are) (whole-there x)
+
+  -- what a command on it left, by the rules of its kind
+  pub record DictRan : Type 0 where
+    pub rules : Rules
+    pub at_rules : at_number kinds entry.dict.kind ≡ Some rules
+    pub after : Best I V
+    pub new : Dict
+    pub leaves : LeavesRest meaning rules before entry.dict after new
+    pub kinds' : List Rules
+    pub same_kinds : kinds' ≡ kinds
+
+  module _ (ran : DictRan) where
+    abbrev rules : Rules
+    rules = ran.rules
+
+    abbrev after : Best I V
+    after = ran.after
+
+    abbrev new : Dict
+    new = ran.new
+
+    abbrev kinds' : List Rules
+    kinds' = ran.kinds'
+
     rules-is : rules ≡ is.rules
-    rules-is = same_Some rules is.rules (sym at_rules ∙ is.kind)
+    rules-is = rules-are ran.rules ran.at_rules
 
-    pub whole-there : IsWhole rules entry.dict (cells_in before)
-    whole-there =
-        subst (λ r. IsWhole r entry.dict (cells_in before)) (sym rules-is)
-        (whole-here kinds slots hs es vs j i h e at there first first_dict held dicts refl)
+    abbrev g : Held
+    g = held_of meaning entry.home (best_entry place after) x.region.l
 
-    module _ (after : Best I V) (new : Dict) (leaves : LeavesRest meaning rules before entry.dict after new) (kinds' : List Rules) (same_kinds : kinds' ≡ kinds) where
-      abbrev g : Held
-      g = held_of meaning entry.home (best_entry place after) l
+    abbrev mine : List ℕ
+    mine = owned (dictionary_in entry.dict before)
 
-      abbrev mine : List ℕ
-      mine = owned (dictionary_in entry.dict before)
+    abbrev mine' : List ℕ
+    mine' = owned (dictionary_in new after)
 
-      abbrev mine' : List ℕ
-      mine' = owned (dictionary_in new after)
+    change : IsChange (let k : Held = record h { cells = cells_in after } in k) g
+    change =
+        let is_held : IsHeld slots h = held-at slots hs x.j h at here.held in
+        region-change meaning entry.home place before after x.region.l mine mine' ran.leaves.rest is_held.lent is_held.names
 
-      change : IsChange (let k : Held = record h { cells = cells_in after } in k) g
-      change =
-          let is_held : IsHeld slots h = held-at slots hs j h at held in
-          region-change meaning entry.home place before after l mine mine' leaves.rest is_held.lent is_held.names
+    touch : Touches h g mine mine'
+    touch = touches meaning entry.home place before after x.region.l mine mine' ran.leaves.rest
 
-      touch : Touches h g mine mine'
-      touch = touches meaning entry.home place before after l mine mine' leaves.rest
+    whole-new : IsWhole is.rules new (cells_in after)
+    whole-new = subst (λ r. IsWhole r new (cells_in after)) rules-is ran.leaves.whole
 
-      whole-new : IsWhole is.rules new (cells_in after)
-      whole-new = subst (λ r. IsWhole r new (cells_in after)) rules-is leaves.whole
+    abbrev lain : DictEntry
+    lain = record { home = entry.home; number = entry.number; dict = new }
 
-      abbrev n : Entry
-      n = (name, record { home = entry.home; number = entry.number; dict = new })
+    abbrev n : Entry
+    n = (name, lain)
 
-      abbrev hs' : List Held
-      hs' = held_all meaning (set_value_at homes j (best_entry place after)) labels
+    abbrev hs' : List Held
+    hs' = held_all meaning (set_value_at here.homes x.j (best_entry place after)) here.labels
 
-      abbrev es' : List Entry
-      es' = set_value_at es i (record { home = entry.home; number = entry.number; dict = new })
+    abbrev es' : List Entry
+    es' = set_value_at es i lain
 
-      held-is : hs' ≡ set hs j g
-      held-is =
-          ap (held_all meaning (set_value_at homes j (best_entry place after))) (sym (set_same labels j l some-label.1))
-          ∙ held-set meaning homes labels j entry.home (best_entry place after) l named (name-at meaning homes entry.home j at_home)
+    held-is : hs' ≡ set hs x.j g
+    held-is = helds-set meaning x.region (best_entry place after)
 
-      es-is : es' ≡ set es i n
-      es-is = value-set es i name entry (record { home = entry.home; number = entry.number; dict = new }) there
+    es-is : es' ≡ set es i n
+    es-is = value-set es i name entry lain x.there
 
-      carry : (P : List Rules → List Held → List Entry → Type 0) → P kinds (set hs j g) (set es i n) → P kinds' hs' es'
-      carry P p = subst (λ x. P x hs' es') (sym same_kinds) (subst (λ x. P kinds x es') (sym held-is) (subst (P kinds (set hs j g)) (sym es-is) p))
+    carry : (P : List Rules → List Held → List Entry → Type 0) → P kinds (set hs x.j g) (set es i n) → P kinds' hs' es'
+    carry P p = subst (λ y. P y hs' es') (sym ran.same_kinds) (subst (λ y. P kinds y es') (sym held-is) (subst (P kinds (set hs x.j g)) (sym es-is) p))
 
-      pub session-ran : IsSession slots hs'
-      session-ran = carry (λ ks xs ys. IsSession slots xs) (session-change slots hs j h g at held change)
+    pub session-ran : IsSession slots hs'
+    session-ran = carry (λ ks xs ys. IsSession slots xs) (session-change slots hs x.j h g at here.held change)
 
-      pub named-ran : length labels ≡ length (set_value_at homes j (best_entry place after))
-      named-ran =
-          ap length (sym (set_same labels j l some-label.1))
-          ∙ length-set meaning homes labels j (best_entry place after) l named
+    pub named-ran : length here.labels ≡ length (set_value_at here.homes x.j (best_entry place after))
+    named-ran = named-set meaning x.region (best_entry place after)
 
-      pub dicts-ran : AreDicts kinds' hs' es'
-      dicts-ran =
-          carry AreDicts
-          (dicts-after kinds slots hs es vs j i h e at there first first_dict held dicts refl g new change touch refl leaves.kind whole-new)
+    pub dicts-ran : AreDicts kinds' hs' es'
+    dicts-ran =
+        carry AreDicts
+        (dicts-after kinds slots hs es vs x.j i h e at x.there first first_dict here.held here.dicts refl g new change touch refl ran.leaves.kind whole-new)
 
-      -- with no fault counted
-      pub quiet-ran : (disc_in meaning after).faults ≡ (disc_in meaning before).faults → Settles (settled (accounts slots) hs) (settled (accounts slots) hs') []
-      quiet-ran same =
-          carry (λ ks xs ys. Settles (settled (accounts slots) hs) (settled (accounts slots) xs) [])
-          (settles-none slots hs j h g at held change same)
+    -- with no fault counted
+    quiet-ran : (disc_in meaning after).faults ≡ (disc_in meaning before).faults → Settles (settled (accounts slots) hs) (settled (accounts slots) hs') []
+    quiet-ran same =
+        carry (λ ks xs ys. Settles (settled (accounts slots) hs) (settled (accounts slots) xs) [])
+        (settles-none slots hs x.j h g at here.held change same)
 
-      abbrev tags : Seat ℕ
-      tags = seat_in meaning rules before entry.dict
+    abbrev tags : Seat ℕ
+    tags = seat_in meaning rules before entry.dict
 
-      -- the seat by the rules that the kind has
-      abbrev seat_by : Rules → Seat ℕ
-      seat_by r = record { rules = r; terms = tags.terms; none = tags.none; region = tags.region; dict = tags.dict }
+    -- the seat by the rules that the kind has
+    abbrev seat_by : Rules → Seat ℕ
+    seat_by r = record { rules = r; terms = tags.terms; none = tags.none; region = tags.region; dict = tags.dict }
 
-      pub step-ran : (command : Command) (reply : Reply) (gone gone' : List Gone) (old told : Gone) → RunsAlone s (dict_home hs vs e) command → GivesDict (in_dict tags command (need_shown reply)) (rest_in after) (dictionary_in new after) reply old told → at_number gone entry.dict.kind ≡ Some old → gone' ≡ set gone (entry.dict.kind - 1) told → GivesStep (dict_step s name command (need_shown reply)) gone reply (state_of kinds' slots hs' (dicts_in hs' vs es')) gone'
-      step-ran command reply gone gone' old told alone gives at_gone is_gone =
-          carry (λ ks xs ys. GivesStep (dict_step s name command (need_shown reply)) gone reply (state_of ks slots xs (dicts_in xs vs ys)) gone')
-          (step-after kinds slots hs es vs j i h e at there first first_dict held dicts refl g new change touch refl leaves.kind whole-new command reply gone gone' old told
-          (alone-command s command (need_shown reply) (dict_home hs vs e) (home_of h) is.rules alone)
-          (subst (λ r. GivesDict (in_dict (seat_by r) command (need_shown reply)) (rest_in after) (dictionary_in new after) reply old told) rules-is gives)
-          at_gone is_gone)
+    abbrev GivesSo : Command → Gone → Gone → Reply → Type 0
+    GivesSo command old told reply = GivesDict (in_dict tags command (need_shown reply)) (rest_in after) (dictionary_in new after) reply old told
 
-      lacks-by : (command : Command) (reply : Reply) → LacksBy tags command reply (disc_in meaning before) (disc_in meaning after) → LacksBy (seat_by is.rules) command reply (disc_in meaning before) (disc_in meaning after)
-      lacks-by command reply lacks = subst (λ r. LacksBy (seat_by r) command reply (disc_in meaning before) (disc_in meaning after)) rules-is lacks
+    step-ran : (command : Command) (reply : Reply) (gone gone' : List Gone) (old told : Gone) → RunsAlone s (dict_home hs vs e) command → GivesSo command old told reply → at_number gone entry.dict.kind ≡ Some old → gone' ≡ set gone (entry.dict.kind - 1) told
+        → GivesStep (dict_step s name command (need_shown reply)) gone reply (state_of kinds' slots hs' (dicts_in hs' vs es')) gone'
+    step-ran command reply gone gone' old told alone gives at_gone is_gone =
+        carry (λ ks xs ys. GivesStep (dict_step s name command (need_shown reply)) gone reply (state_of ks slots xs (dicts_in xs vs ys)) gone')
+        (step-after kinds slots hs es vs x.j i h e at x.there first first_dict here.held here.dicts refl g new change touch refl ran.leaves.kind whole-new command reply gone gone' old told
+        (alone-command s command (need_shown reply) (dict_home hs vs e) (home_of h) is.rules alone)
+        (subst (λ r. GivesDict (in_dict (seat_by r) command (need_shown reply)) (rest_in after) (dictionary_in new after) reply old told) rules-is gives)
+        at_gone is_gone)
 
-      pub settles-ran : (command : Command) (reply : Reply) → dict_of command ≡ Some name → IsOther reply → LacksBy tags command reply (disc_in meaning before) (disc_in meaning after) → Settles (settled (accounts slots) hs) (settled (accounts slots) hs') (refusal_at s command reply)
-      settles-ran command reply works other lacks =
-          carry (λ ks xs ys. Settles (settled (accounts slots) hs) (settled (accounts slots) xs) (refusal_at s command reply))
-          (settles-after kinds slots hs es vs j i h e at there first first_dict held dicts refl g new change touch refl leaves.kind whole-new command reply works other (lacks-by command reply lacks))
+    lacks-by : (command : Command) (reply : Reply) → LacksBy tags command reply (disc_in meaning before) (disc_in meaning after) → LacksBy (seat_by is.rules) command reply (disc_in meaning before) (disc_in meaning after)
+    lacks-by command reply lacks = subst (λ r. LacksBy (seat_by r) command reply (disc_in meaning before) (disc_in meaning after)) rules-is lacks
 
-      pub lacks-ran : (command : Command) (reply : Reply) → dict_of command ≡ Some name → IsOther reply → LacksBy tags command reply (disc_in meaning before) (disc_in meaning after) → StepLacksFor s hs hs' command reply
-      lacks-ran command reply works other lacks =
-          carry (λ ks xs ys. StepLacksFor s hs xs command reply)
-          (lacks-after kinds slots hs es vs j i h e at there first first_dict held dicts refl g new change touch refl leaves.kind whole-new command reply works other (lacks-by command reply lacks))
+    settles-ran : (command : Command) (reply : Reply) → dict_of command ≡ Some name → IsOther reply → LacksBy tags command reply (disc_in meaning before) (disc_in meaning after) → Settles (settled (accounts slots) hs) (settled (accounts slots) hs') (refusal_at s command reply)
+    settles-ran command reply works other lacks =
+        carry (λ ks xs ys. Settles (settled (accounts slots) hs) (settled (accounts slots) xs) (refusal_at s command reply))
+        (settles-after kinds slots hs es vs x.j i h e at x.there first first_dict here.held here.dicts refl g new change touch refl ran.leaves.kind whole-new command reply works other (lacks-by command reply lacks))
 
-      pub cut-ran : (command : Command) → dict_of command ≡ Some name → IsSpentBy tags command (rest_in after) (dictionary_in new after) → IsCutOff s command (state_of kinds' slots hs' (dicts_in hs' vs es'))
-      cut-ran command works spent =
-          carry (λ ks xs ys. IsCutOff s command (state_of ks slots xs (dicts_in xs vs ys)))
-          (cut-after kinds slots hs es vs j i h e at there first first_dict held dicts refl g new change touch refl leaves.kind whole-new command works
-          (subst (λ r. IsSpentBy (seat_by r) command (rest_in after) (dictionary_in new after)) rules-is spent))
+    lacks-ran : (command : Command) (reply : Reply) → dict_of command ≡ Some name → IsOther reply → LacksBy tags command reply (disc_in meaning before) (disc_in meaning after) → StepLacksFor s hs hs' command reply
+    lacks-ran command reply works other lacks =
+        carry (λ ks xs ys. StepLacksFor s hs xs command reply)
+        (lacks-after kinds slots hs es vs x.j i h e at x.there first first_dict here.held here.dicts refl g new change touch refl ran.leaves.kind whole-new command reply works other (lacks-by command reply lacks))
 
-      -- its reply is of no block's segment
-      pub other-ran : (command : Command) (reply : Reply) (old told : Gone) → GivesDict (in_dict tags command (need_shown reply)) (rest_in after) (dictionary_in new after) reply old told → IsOther reply
-      other-ran command reply old told gives = subst IsOther gives.reply (other-dict tags command (need_shown reply))
+    cut-ran : (command : Command) → dict_of command ≡ Some name → IsSpentBy tags command (rest_in after) (dictionary_in new after) → IsCutOff s command (state_of kinds' slots hs' (dicts_in hs' vs es'))
+    cut-ran command works spent =
+        carry (λ ks xs ys. IsCutOff s command (state_of ks slots xs (dicts_in xs vs ys)))
+        (cut-after kinds slots hs es vs x.j i h e at x.there first first_dict here.held here.dicts refl g new change touch refl ran.leaves.kind whole-new command works
+        (subst (λ r. IsSpentBy (seat_by r) command (rest_in after) (dictionary_in new after)) rules-is spent))
 
-      abbrev moment_after : Vs → List Gone → Moment
-      moment_after seen gone = record { state = state_of kinds' slots hs' (dicts_in hs' seen es'); regions = hs'; written = None; accounts = settled (accounts slots) hs'; gone = gone }
+    -- its reply is of no block's segment
+    other-ran : (command : Command) (reply : Reply) (old told : Gone) → GivesSo command old told reply → IsOther reply
+    other-ran command reply old told gives = subst IsOther gives.reply (other-dict tags command (need_shown reply))
 
-      abbrev moment_before : List Gone → Moment
-      moment_before gone = record { state = s; regions = hs; written = None; accounts = settled (accounts slots) hs; gone = gone }
+    abbrev moment_after : Vs → List Gone → Moment
+    moment_after seen gone = record { state = state_of kinds' slots hs' (dicts_in hs' seen es'); regions = hs'; written = None; accounts = settled (accounts slots) hs'; gone = gone }
 
-      -- the step by what the command answered
-      steps-same : {E : Type 0} (answer : Result Reply E) (command : Command) (gone gone' : List Gone) (old told : Gone) → dict_of command ≡ Some name → RunsAlone s (dict_home hs vs e) command → at_number gone entry.dict.kind ≡ Some old → gone' ≡ set gone (entry.dict.kind - 1) told → IfOk answer (λ reply. GivesDict (in_dict tags command (need_shown reply)) (rest_in after) (dictionary_in new after) reply old told) → OnErr answer ((told ≡ old) × IsSpentBy tags command (rest_in after) (dictionary_in new after)) → AskedBy answer tags command (disc_in meaning before) (disc_in meaning after) → StepsBy answer (moment_before gone) (moment_after vs gone') command (λ st. dict_step st name command)
-      steps-same (Ok reply) command gone gone' old told works alone at_gone is_gone gives err asked =
-          let plain = other-ran command reply old told gives in
-          record {
-            gives = step-ran command reply gone gone' old told alone gives at_gone is_gone;
-            settles = settles-ran command reply works plain asked;
-            lacks = lacks-ran command reply works plain asked;
-          }
-      steps-same (Err e) command gone gone' old told works alone at_gone is_gone gives err asked =
-          record {
-            state = cut-ran command works err.1;
-            gone = is_gone ∙ (ap (set gone (entry.dict.kind - 1)) err.0 ∙ set_same gone (entry.dict.kind - 1) old (at_number_some gone entry.dict.kind old at_gone).1);
-            settles = quiet-ran asked;
-          }
+    abbrev moment_before : Moment
+    moment_before = record { state = s; regions = hs; written = None; accounts = settled (accounts slots) hs; gone = here.gone }
 
-      -- and each views what it did
-      pub steps-ran : (seen : Vs) → seen ≡ vs → {E : Type 0} (answer : Result Reply E) (command : Command) (gone gone' : List Gone) (old told : Gone) → dict_of command ≡ Some name → RunsAlone s (dict_home hs vs e) command → at_number gone entry.dict.kind ≡ Some old → gone' ≡ set gone (entry.dict.kind - 1) told → IfOk answer (λ reply. GivesDict (in_dict tags command (need_shown reply)) (rest_in after) (dictionary_in new after) reply old told) → OnErr answer ((told ≡ old) × IsSpentBy tags command (rest_in after) (dictionary_in new after)) → AskedBy answer tags command (disc_in meaning before) (disc_in meaning after) → StepsBy answer (moment_before gone) (moment_after seen gone') command (λ st. dict_step st name command)
-      steps-ran seen same answer command gone gone' old told works alone at_gone is_gone gives err asked =
-          subst (λ w. StepsBy answer (moment_before gone) (moment_after w gone') command (λ st. dict_step st name command)) (sym same)
-          (steps-same answer command gone gone' old told works alone at_gone is_gone gives err asked)
+    views-ran : views_by here.links es' ≡ vs
+    views-ran = ap (views_by here.links) es-is ∙ views-changed here.links es i e x.there new
 
-      abbrev lain : DictEntry
-      lain = record { home = entry.home; number = entry.number; dict = new }
+    -- the command, what it answered, and what the kind was told of before and after
+    module _ {E : Type 0} (answer : Result Reply E) (command : Command) (old told : Gone) where
+      -- no view stands against it
+      pub record CommandRan : Type 0 where
+        pub works : dict_of command ≡ Some name
+        pub alone : runs_alone command ≡ true
+        pub names : IsDistinct bytes_eq (keys_of es)
+        pub free : is_barred here.links entry.number command ≡ false
+        pub gives : IfOk answer (GivesSo command old told)
+        pub err : OnErr answer ((told ≡ old) × IsSpentBy tags command (rest_in after) (dictionary_in new after))
+        pub asked : AskedBy answer tags command (disc_in meaning before) (disc_in meaning after)
 
-      pub views-ran : (links : Links) → views_by links es' ≡ views_by links es
-      views-ran links = ap (views_by links) es-is ∙ views-changed links es i e there new
+      alone-ran : CommandRan → RunsAlone s (dict_home hs vs e) command
+      alone-ran did = record {
+        alone = did.alone;
+        free = λ turn. linked-here kinds slots hs here.links es did.names here.are i e x.there ∙ free-turn here.links entry.number command did.free turn;
+      }
 
-      -- links stay between the dictionaries
-      pub linked-ran : (links : Links) → AreLinked links es → {E : Type 0} (answer : Result Reply E) (command : Command) (old told : Gone) → is_barred links entry.number command ≡ false → IfOk answer (λ reply. GivesDict (in_dict tags command (need_shown reply)) (rest_in after) (dictionary_in new after) reply old told) → OnErr answer ((told ≡ old) × IsSpentBy tags command (rest_in after) (dictionary_in new after)) → AreLinked links es'
-      linked-ran links are answer command old told free gives err =
-          subst (AreLinked links) (sym es-is)
-          (⊎_elim
-          (λ turn.
-          let apart = unlinked links entry.number (free-turn links entry.number command free turn) in
-          linked-remade links es are i e there apart.0 apart.1 n refl)
-          (λ still.
-          linked-changed links es i e there new (method-ran tags (rest_in after) (dictionary_in new after) answer command old told still gives err) leaves.kind are)
-          (cases_Bool (is_turn command)))
+    -- the step by what the command answered
+    steps-same : {E : Type 0} (answer : Result Reply E) (command : Command) (gone' : List Gone) (old told : Gone) → CommandRan answer command old told → at_number here.gone entry.dict.kind ≡ Some old → gone' ≡ set here.gone (entry.dict.kind - 1) told
+        → StepsBy answer moment_before (moment_after vs gone') command (λ st. dict_step st name command)
+    steps-same (Ok reply) command gone' old told did at_gone is_gone =
+        let plain = other-ran command reply old told did.gives in
+        record {
+          gives = step-ran command reply here.gone gone' old told (alone-ran (Ok reply) command old told did) did.gives at_gone is_gone;
+          settles = settles-ran command reply did.works plain did.asked;
+          lacks = lacks-ran command reply did.works plain did.asked;
+        }
+    steps-same (Err y) command gone' old told did at_gone is_gone =
+        record {
+          state = cut-ran command did.works did.err.1;
+          gone = is_gone ∙ (ap (set here.gone (entry.dict.kind - 1)) did.err.0 ∙ set_same here.gone (entry.dict.kind - 1) old (at_number_some here.gone entry.dict.kind old at_gone).1);
+          settles = quiet-ran did.asked;
+        }
+
+    -- and each views what it did
+    pub steps-ran : {E : Type 0} (answer : Result Reply E) (command : Command) (gone' : List Gone) (old told : Gone) → CommandRan answer command old told → at_number here.gone entry.dict.kind ≡ Some old → gone' ≡ set here.gone (entry.dict.kind - 1) told
+        → StepsBy answer moment_before (moment_after (views_by here.links es') gone') command (λ st. dict_step st name command)
+    steps-ran answer command gone' old told did at_gone is_gone =
+        subst (λ w. StepsBy answer moment_before (moment_after w gone') command (λ st. dict_step st name command)) (sym views-ran)
+        (steps-same answer command gone' old told did at_gone is_gone)
+
+    -- links stay between the dictionaries
+    pub linked-ran : {E : Type 0} (answer : Result Reply E) (command : Command) (old told : Gone) → CommandRan answer command old told → AreLinked here.links es'
+    linked-ran answer command old told did =
+        subst (AreLinked here.links) (sym es-is)
+        (⊎_elim
+        (λ turn.
+        let apart = unlinked here.links entry.number (free-turn here.links entry.number command did.free turn) in
+        linked-remade here.links es here.are i e x.there apart.0 apart.1 n refl)
+        (λ still.
+        linked-changed here.links es i e x.there new (method-ran tags (rest_in after) (dictionary_in new after) answer command old told still did.gives did.err) ran.leaves.kind here.are)
+        (cases_Bool (is_turn command)))

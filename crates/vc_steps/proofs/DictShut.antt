@@ -1,38 +1,55 @@
 -- What the ending of a dictionary leaves of a session.
-use Rattle.std.proofs.Common.{◌≡◌, ℕ, ◌||◌, zero, suc, true, false, cond, List, [], ◌∷◌, Some, None, map, option_map, set, take, refl, sym, ap, ◌∙◌, subst, ⊎_elim}
+use Rattle.std.proofs.Common.{◌≡◌, ◌<◌, ℕ, ◌||◌, zero, suc, true, false, cond, List, [], ◌∷◌, Some, None, map, set, take, refl, sym, ap, ◌∙◌, subst, ⊎_elim, length}
 use Rattle.std.specs.Prelude.{remove, slice_get}
 use Rattle.std.specs.List.{AllByRecursion, list_any}
 use Rattle.std.specs.Map.{lookup}
 use Rattle.std.specs.Str.{bytes_eq}
 use Rattle.std.proofs.lemmas.Bool.{cases_Bool}
-use Rattle.std.proofs.lemmas.Option.{none-some, same_Some, slice_get-map}
+use Rattle.std.proofs.lemmas.Option.{none-some, same_Some}
 use Rattle.std.proofs.lemmas.Slice.Eq.{bytes_eq-Decides}
 use Rattle.vc_base.specs.Cells.{Blocks}
 use Rattle.vc_dtdisc.specs.Rules.{Rules}
 use Rattle.vc_model.specs.Layout.{Layout}
-use Rattle.vc_region.specs.Region.{OfBest, is_best, layout_in, relabelled}
+use Rattle.vc_region.specs.Region.{OfBest, layout_in, relabelled}
 use Rattle.vc_region.proofs.Relabel.{layout-relabelled}
 use Rattle.vc_objects.specs.Objects.{Dictionary, owned}
-use Rattle.vc_objects.specs.Parts.{IsWhole, dictionary_of}
+use Rattle.vc_objects.specs.Parts.{dictionary_of, dictionary_in}
 use Rattle.vc_objects.specs.Remove.{region_without}
 use Rattle.vc_objects.proofs.Named.{region_without-named}
 use Rattle.vc_commands.specs.Held.{Held, IsChange, home_of}
-use Rattle.vc_steps.specs.Account.{IsSession, held_named, state_of}
-use Rattle.vc_steps.specs.DictHomes.{AreDicts, IsDictOf, cells_held, dict_home, dicts_in}
+use Rattle.vc_steps.specs.Account.{IsSession, state_of, IsHeld, accounts, settled}
+use Rattle.vc_steps.specs.DictHomes.{AreDicts, dict_home, dicts_in, dict_over}
 use Rattle.vc_steps.specs.Dicts.{shut_in, shut_state, without_dict}
 use Rattle.vc_views.specs.Views.{is_dict, DictHome}
 use Rattle.vc_commands.specs.Labels.{kept_of, name_of}
-use Rattle.vc_steps.specs.State.{State, home_named, with_region}
-use Rattle.vc_commands.specs.Home.{Home, Label, is_home}
+use Rattle.vc_steps.specs.State.{State, with_region}
+use Rattle.vc_commands.specs.Home.{Home, Label}
 use Rattle.vc_steps.proofs.BestRegions.{best-named}
 use Rattle.vc_steps.proofs.Cells.{map-remove}
-use Rattle.vc_steps.proofs.Changing.{homes-change}
-use Rattle.vc_steps.proofs.DictChange.{IsClear, Touches, clear-others, dict-at, dicts-kept, dicts-remove, homes-kept}
+use Rattle.vc_steps.proofs.Changing.{homes-change, session-change, settled-same}
+use Rattle.vc_steps.proofs.DictChange.{IsClear, Touches, clear-others, dicts-kept, dicts-remove, homes-kept}
 use Rattle.vc_steps.proofs.DictNamed.{home-at}
 use Rattle.vc_steps.proofs.DictsStay.{Entry, Vs}
-use Rattle.vc_commands.proofs.Firsts.{IsFirst, find-first, first-unmap, or-false}
+use Rattle.vc_commands.proofs.Firsts.{or-false}
 use Rattle.vc_commands.proofs.Keeping.{swapped}
-use Rattle.vc_steps.proofs.Sessions.{Slots}
+use Rattle.vc_steps.proofs.Sessions.{Slots, held-at}
+use Rattle.vc_best.specs.Cells.{cells_in, rest_in}
+use Rattle.vc_best.specs.Parts.{disc_in}
+use Rattle.vc_best.specs.declared.best.Best.{Best}
+use Rattle.indexmap.specs.IndexMap.{set_value_at}
+use Rattle.vc_model.specs.Discipline.{Discipline}
+use Rattle.vc_objects.specs.Leaves.{Leaves}
+use Rattle.vc_paths.specs.Links.{ArePaths, Links, below, is_viewed, linked}
+use Rattle.vc_commands.specs.RegionRun.{held_of}
+use Rattle.vc_commands.specs.declared.region.home.HomeEntry.{HomeEntry}
+use Rattle.vc_views.specs.Numbers.{AreLinked, views_by}
+use Rattle.vc_views.proofs.LinkChanges.{ended-still, homes-shut, linked-shut}
+use Rattle.vc_views.proofs.LinkLemmas.{number-within}
+use Rattle.vc_steps.specs.Homes.{held_all}
+use Rattle.vc_steps.proofs.DictRegion.{best_entry, region-change, touches}
+use Rattle.vc_steps.proofs.DictThere.{DictIn, dict-is, held-first}
+use Rattle.vc_steps.proofs.RegionAt.{helds-set, named-set, region-first, region-named, region-stands, region_at}
+use Rattle.vc_steps.proofs.SessionHere.{helds, state_here, views}
 
 without-at : (d : List ℕ) (ks : List DictHome) (i : ℕ) (k : DictHome) → slice_get ks i ≡ Some k → is_dict d k ≡ true → list_any (is_dict d) (take i ks) ≡ false → without_dict d ks ≡ remove ks i
 without-at d [] i k at passes none = absurd (none-some k at)
@@ -54,82 +71,152 @@ none-left hs vs (e ∷ es) d (suc i) none =
     ∙ none-left hs vs es d i (sym (ap (λ b. cond b (Some e.1) (lookup (bytes_eq d) (remove es i))) is) ∙ none))
     (cases_Bool (bytes_eq d e.0))
 
--- a dictionary of a session, and the region that it lies in
-module _ (kinds : List Rules) (slots : Slots) (hs : List Held) (es : List Entry) (vs : Vs) (j i : ℕ) (h : Held) (e : Entry) (at : slice_get hs j ≡ Some h) (there : slice_get es i ≡ Some e) (first : IsFirst (is_home h.name) (map home_of hs) j) (session : IsSession slots hs) (dicts : AreDicts kinds hs es) (lies : h.name ≡ e.1.home) where
+-- a dictionary of a session, in its region
+module _ {I : Type 0} {V : I → Type 0} {meaning : (x : I) × V x → Discipline} {v : HomeEntry I V} (x : DictIn meaning v) where
+  abbrev kinds : List Rules
+  kinds = x.here.kinds
+
+  abbrev slots : Slots
+  slots = x.here.slots
+
+  abbrev hs : List Held
+  hs = helds x.here
+
+  abbrev es : List Entry
+  es = x.here.es
+
+  abbrev vs : Vs
+  vs = views x.here
+
+  abbrev e : Entry
+  e = x.e
+
+  abbrev h : Held
+  h = region_at meaning x.region
+
   abbrev d : DictHome
   d = dict_home hs vs e
 
   abbrev was : Dictionary
   was = dictionary_of e.1.dict h.cells
 
-  held-first : IsFirst (λ (k : Held). bytes_eq k.name h.name) hs j
-  held-first = first-unmap (is_home h.name) home_of hs j first
-
-  found-held : held_named hs (Some e.1.home) ≡ Some h
-  found-held =
-      subst (λ r. held_named hs (Some r) ≡ Some h) lies
-      (find-first (λ k. bytes_eq k.name h.name) hs j held-first ∙ ap (λ k. Some k) (same_Some held-first.item h (sym held-first.at ∙ at)))
-
-  found-home : home_named e.1.home (map home_of hs) ≡ Some (home_of h)
-  found-home =
-      subst (λ r. home_named r (map home_of hs) ≡ Some (home_of h)) lies
-      (find-first (is_home h.name) (map home_of hs) j first
-      ∙ ap (λ k. Some k) (same_Some first.item (home_of h) (sym first.at ∙ (slice_get-map home_of hs j ∙ ap (option_map home_of) at))))
-
-  abbrev pub its : IsDictOf kinds hs e
-  its = dict-at kinds hs es i e there dicts
-
-  home-is : its.home ≡ h
-  home-is = same_Some its.home h (sym its.found ∙ found-held)
-
-  -- what its ending asks
-  pub shut-best : is_best h.region ≡ true
-  shut-best = subst (λ (k : Held). is_best k.region ≡ true) home-is its.best
-
-  pub shut-whole : IsWhole its.rules e.1.dict h.cells
-  shut-whole = subst (λ (k : Held). IsWhole its.rules e.1.dict k.cells) home-is its.whole
-
-  pub dict-is : d.dict ≡ was
-  dict-is = ap (λ o. dictionary_of e.1.dict (cells_held o)) found-held
-
   -- its blocks go
   module _ (g : Held) {cells : Blocks} (change : IsChange (record h { cells = cells }) g) (touch : Touches h g (owned was) []) (labels : g.labels ≡ h.labels) (region : layout_in g.region ≡ region_without (layout_in h.region) was) where
     abbrev gs : List Held
-    gs = set hs j g
+    gs = set hs x.j g
 
-    clear : AllByRecursion (IsClear hs h.name (owned was)) (remove es i)
+    clear : AllByRecursion (IsClear hs e.1.home (owned was)) (remove es x.i)
     clear =
-        subst (λ (x : Dictionary). AllByRecursion (IsClear hs h.name (owned x)) (remove es i)) dict-is
-        (clear-others kinds hs h.name e ((bytes_eq-Decides h.name e.1.home).1 lies) es i there dicts)
+        subst (λ (y : Dictionary). AllByRecursion (IsClear hs e.1.home (owned y)) (remove es x.i)) (dict-is x)
+        (clear-others kinds hs e.1.home e ((bytes_eq-Decides e.1.home e.1.home).1 refl) es x.i x.there x.here.dicts)
 
-    pub dicts-shut : AreDicts kinds gs (remove es i)
-    dicts-shut = dicts-kept kinds hs j h g (owned was) [] held-first at touch (remove es i) (dicts-remove kinds hs es i dicts) clear
+    pub dicts-shut : AreDicts kinds gs (remove es x.i)
+    dicts-shut = dicts-kept kinds hs x.j h g (owned was) [] (held-first x) (region-stands meaning x.region) touch (remove es x.i) (dicts-remove kinds hs es x.i x.here.dicts) clear
 
-    homes-shut : dicts_in gs vs (remove es i) ≡ dicts_in hs vs (remove es i)
-    homes-shut = homes-kept kinds hs j h g (owned was) [] held-first at touch vs (remove es i) (dicts-remove kinds hs es i dicts) clear
+    dicts-same : dicts_in gs vs (remove es x.i) ≡ dicts_in hs vs (remove es x.i)
+    dicts-same = homes-kept kinds hs x.j h g (owned was) [] (held-first x) (region-stands meaning x.region) touch vs (remove es x.i) (dicts-remove kinds hs es x.i x.here.dicts) clear
 
     abbrev made : List Home → List DictHome → State
     made homes ds = record { shelf = (state_of kinds slots hs []).shelf; homes = homes; kinds = kinds; dicts = ds }
 
     region-is : OfBest (region_without (layout_in (home_of h).region) d.dict) ≡ (home_of g).region
     region-is =
-        ap (λ (x : Dictionary). OfBest (region_without (layout_in (home_of h).region) x)) dict-is
+        ap (λ (y : Dictionary). OfBest (region_without (layout_in (home_of h).region) y)) (dict-is x)
         ∙ (ap (λ (q : Layout Label). OfBest (region_without q was)) (layout-relabelled (name_of h.labels) h.region)
         ∙ (ap (λ (q : Layout Label). OfBest q) (region_without-named (name_of h.labels) (layout_in h.region) was)
         ∙ (best-named (name_of h.labels) g.region (region_without (layout_in h.region) was) touch.best (sym region)
         ∙ ap (λ l. relabelled (name_of l) g.region) (sym labels))))
 
-    region-shut : with_region h.name (OfBest (region_without (layout_in (home_of h).region) d.dict)) (home_of h).kept (map home_of hs) ≡ map home_of gs
+    region-shut : with_region e.1.home (OfBest (region_without (layout_in (home_of h).region) d.dict)) (home_of h).kept (map home_of hs) ≡ map home_of gs
     region-shut =
-        ap (λ q. with_region h.name q (home_of h).kept (map home_of hs)) region-is
-        ∙ (ap (λ l. with_region h.name (home_of g).region (kept_of l) (map home_of hs)) (sym labels)
-        ∙ homes-change slots hs j h g at session change h.name first)
+        ap (λ q. with_region e.1.home q (home_of h).kept (map home_of hs)) region-is
+        ∙ (ap (λ l. with_region e.1.home (home_of g).region (kept_of l) (map home_of hs)) (sym labels)
+        ∙ homes-change slots hs x.j h g (region-stands meaning x.region) x.here.held change e.1.home (region-first meaning x.region))
 
-    pub state-shut : list_any (is_dict e.0) (take i (dicts_in hs vs es)) ≡ false → state_of kinds slots gs (dicts_in gs vs (remove es i)) ≡ shut_state (state_of kinds slots hs (dicts_in hs vs es)) d
+    pub state-shut : list_any (is_dict e.0) (take x.i (dicts_in hs vs es)) ≡ false → state_of kinds slots gs (dicts_in gs vs (remove es x.i)) ≡ shut_state (state_here x.here) d
     state-shut none =
-        let ds : without_dict e.0 (dicts_in hs vs es) ≡ dicts_in gs vs (remove es i) =
-        without-at e.0 (dicts_in hs vs es) i d (home-at hs vs es i e there) ((bytes_eq-Decides e.0 e.0).1 refl) none
-        ∙ (sym (map-remove (dict_home hs vs) es i) ∙ sym homes-shut) in
+        let ds : without_dict e.0 (dicts_in hs vs es) ≡ dicts_in gs vs (remove es x.i) =
+        without-at e.0 (dicts_in hs vs es) x.i d (home-at hs vs es x.i e x.there) ((bytes_eq-Decides e.0 e.0).1 refl) none
+        ∙ (sym (map-remove (dict_home hs vs) es x.i) ∙ sym dicts-same) in
         sym
-        (ap (shut_in (state_of kinds slots hs (dicts_in hs vs es)) d) found-home
-        ∙ (ap (λ x. made x (without_dict e.0 (dicts_in hs vs es))) region-shut ∙ ap (made (map home_of gs)) ds))
+        (ap (shut_in (state_here x.here) d) (region-named meaning x.region)
+        ∙ (ap (λ y. made y (without_dict e.0 (dicts_in hs vs es))) region-shut ∙ ap (made (map home_of gs)) ds))
+
+-- in a best one
+module _ {I : Type 0} {V : I → Type 0} {meaning : (x : I) × V x → Discipline} (place : ℕ) (before : Best I V) (x : DictIn meaning (best_entry place before)) where
+  -- no other one views it; it was ended, its kind stays, and these links and dictionaries are left, none of its name among them
+  pub record DictEnded : Type 0 where
+    pub unviewed : is_viewed x.here.links x.e.1.number ≡ false
+    pub paths : ArePaths x.here.links
+    pub after : Best I V
+    pub leaves : Leaves meaning before after (owned (dictionary_in x.e.1.dict before)) []
+    pub region : rest_in after ≡ region_without (rest_in before) (dictionary_in x.e.1.dict before)
+    pub disc : disc_in meaning after ≡ disc_in meaning before
+    pub kinds' : List Rules
+    pub same_kinds : kinds' ≡ x.here.kinds
+    pub links' : Links
+    pub ended : links' ≡ linked x.e.1.number None x.here.links
+    pub es' : List Entry
+    pub left : es' ≡ remove x.here.es x.i
+    pub alone : lookup (bytes_eq x.e.0) es' ≡ None
+
+  module _ (o : DictEnded) where
+    abbrev lent : Held
+    lent = region_at meaning x.region
+
+    abbrev now : Held
+    now = held_of meaning x.e.1.home (best_entry place o.after) x.region.l
+
+    abbrev mine : List ℕ
+    mine = owned (dictionary_in x.e.1.dict before)
+
+    touched : Touches lent now mine []
+    touched = touches meaning x.e.1.home place before o.after x.region.l mine [] o.leaves
+
+    changed : IsChange (let k : Held = record lent { cells = cells_in o.after } in k) now
+    changed =
+        let is_held : IsHeld x.here.slots lent = held-at x.here.slots (helds x.here) x.j lent (region-stands meaning x.region) x.here.held in
+        region-change meaning x.e.1.home place before o.after x.region.l mine [] o.leaves is_held.lent is_held.names
+
+    abbrev hs' : List Held
+    hs' = held_all meaning (set_value_at x.here.homes x.j (best_entry place o.after)) x.here.labels
+
+    held-is : hs' ≡ set (helds x.here) x.j now
+    held-is = helds-set meaning x.region (best_entry place o.after)
+
+    carry : (P : List Rules → List Held → Links → List Entry → Type 0) → P x.here.kinds (set (helds x.here) x.j now) (linked x.e.1.number None x.here.links) (remove x.here.es x.i) → P o.kinds' hs' o.links' o.es'
+    carry P p =
+        subst (λ ks. P ks hs' o.links' o.es') (sym o.same_kinds)
+        (subst (λ gs. P x.here.kinds gs o.links' o.es') (sym held-is)
+        (subst (λ ls. P x.here.kinds (set (helds x.here) x.j now) ls o.es') (sym o.ended)
+        (subst (P x.here.kinds (set (helds x.here) x.j now) (linked x.e.1.number None x.here.links)) (sym o.left) p)))
+
+    pub named-ended : length x.here.labels ≡ length (set_value_at x.here.homes x.j (best_entry place o.after))
+    named-ended = named-set meaning x.region (best_entry place o.after)
+
+    pub session-ended : IsSession x.here.slots hs'
+    session-ended = carry (λ ks gs ls ds. IsSession x.here.slots gs) (session-change x.here.slots (helds x.here) x.j lent now (region-stands meaning x.region) x.here.held changed)
+
+    pub settled-ended : settled (accounts x.here.slots) hs' ≡ settled (accounts x.here.slots) (helds x.here)
+    settled-ended =
+        ap (settled (accounts x.here.slots)) held-is
+        ∙ settled-same x.here.slots (helds x.here) x.j lent now (region-stands meaning x.region) x.here.held changed (ap (λ (d : Discipline). d.faults) o.disc)
+
+    pub dicts-ended : AreDicts o.kinds' hs' o.es'
+    dicts-ended = carry (λ ks gs ls ds. AreDicts ks gs ds) (dicts-shut x now changed touched refl o.region)
+
+    number : x.e.1.number < length x.here.links
+    number = number-within x.here.links x.here.es x.i x.e o.paths x.here.are.numbered x.there
+
+    pub linked-ended : AreLinked o.links' o.es'
+    linked-ended = carry (λ ks gs ls ds. AreLinked ls ds) (linked-shut x.here.links x.here.es x.here.are x.i x.e x.there o.unviewed number)
+
+    -- what viewed none does so still
+    pub below-ended : (n : ℕ) → below x.here.links n ≡ None → below o.links' n ≡ None
+    below-ended n none = ap (λ ls. below ls n) o.ended ∙ ended-still x.here.links x.e.1.number n number none
+
+    pub state-ended : state_of o.kinds' x.here.slots hs' (dicts_in hs' (views_by o.links' o.es') o.es') ≡ shut_state (state_here x.here) (dict_home (helds x.here) (views x.here) x.e)
+    state-ended =
+        carry (λ ks gs ls ds. state_of ks x.here.slots gs (dicts_in gs (views_by ls ds) ds) ≡ shut_state (state_here x.here) (dict_home (helds x.here) (views x.here) x.e))
+        (ap (state_of x.here.kinds x.here.slots (set (helds x.here) x.j now)) (homes-shut x.here.links x.here.es x.here.are x.i x.e x.there o.unviewed number (dict_over (set (helds x.here) x.j now)))
+        ∙ state-shut x now changed touched refl o.region (none-left (helds x.here) (views x.here) x.here.es x.e.0 x.i (ap (lookup (bytes_eq x.e.0)) (sym o.left) ∙ o.alone)))

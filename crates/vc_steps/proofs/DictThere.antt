@@ -1,71 +1,63 @@
--- The kind of a dictionary is there, and the region that it lies in is a best one.
-use Rattle.std.proofs.Common.{◌≡◌, ℕ, ◌<◌, true, List, Some, length, map, refl, arith}
+-- A dictionary of a session, and the open region that it lies in.
+use Rattle.std.proofs.Common.{◌≡◌, ℕ, true, List, Some, sym, ap, ◌∙◌, subst}
 use Rattle.std.specs.Prelude.{slice_get}
-use Rattle.std.specs.List.{position}
 use Rattle.std.specs.Str.{bytes_eq}
-use Rattle.std.specs.Map.{keys_of, values_of}
-use Rattle.std.proofs.lemmas.List.{length-map}
+use Rattle.std.proofs.lemmas.Option.{same_Some}
 use Rattle.vc_model.specs.Discipline.{Discipline}
-use Rattle.vc_model.specs.Numbered.{at_number}
-use Rattle.vc_dtdisc.specs.Rules.{Rules}
-use Rattle.vc_region.specs.Cells.{rest_in}
+use Rattle.vc_best.specs.declared.best.Best as best
+use Rattle.vc_objects.specs.Parts.{IsWhole, dictionary_of}
+use Rattle.vc_region.specs.Cells.{cells_in, rest_in}
 use Rattle.vc_region.specs.Region.{is_best}
-use Rattle.vc_commands.specs.declared.dict.entry.DictEntry.{DictEntry}
-use Rattle.vc_commands.specs.declared.region.home.HomeEntry.{HomeEntry}
-use Rattle.vc_commands.specs.declared.region.labels.Labels.{Labels}
+use Rattle.vc_region.specs.declared.region.Region.TheVariants.{Best}
 use Rattle.vc_commands.specs.Held.{Held, home_of}
-use Rattle.vc_steps.specs.Account.{IsSession}
-use Rattle.vc_steps.specs.DictHomes.{AreDicts, IsDictOf, dicts_in}
-use Rattle.vc_views.specs.Views.{is_dict}
-use Rattle.vc_steps.specs.Homes.{held_all}
-use Rattle.vc_commands.specs.RegionRun.{held_of}
 use Rattle.vc_commands.specs.Home.{is_home}
-use Rattle.vc_steps.proofs.DictChange.{dict-at}
-use Rattle.vc_steps.proofs.DictNamed.{first-dict, key-at}
-use Rattle.vc_steps.proofs.DictRun.{pair-read}
-use Rattle.vc_steps.proofs.DictStep.{best-here}
-use Rattle.vc_steps.proofs.DictsStay.{Entry, Vs}
-use Rattle.vc_commands.proofs.Firsts.{IsFirst}
-use Rattle.vc_steps.proofs.Helds.{first-named, held-read, index-within, name-at, some-at}
-use Rattle.vc_steps.proofs.Sessions.{Slots}
+use Rattle.vc_commands.specs.declared.region.home.HomeEntry.{HomeEntry}
+use Rattle.vc_commands.proofs.Firsts.{IsFirst, find-first, first-unmap}
+use Rattle.vc_steps.specs.Account.{held_named}
+use Rattle.vc_steps.specs.DictHomes.{IsDictOf, cells_held, dict_over}
+use Rattle.vc_steps.proofs.DictRegion.{best_at, best_entry}
+use Rattle.vc_steps.proofs.DictsStay.{Entry}
+use Rattle.vc_steps.proofs.RegionAt.{RegionAt, region-first, region-stands, region_at}
+use Rattle.vc_steps.proofs.SessionHere.{SessionHere, helds, whole_in}
 
-module _ {I : Type 0} {V : I → Type 0} (meaning : (x : I) × V x → Discipline) (kinds : List Rules) (slots : Slots) (homes : List (List ℕ × HomeEntry I V)) (labels : List Labels) (es : List Entry) (vs : Vs) (name : List ℕ) (entry : DictEntry) (hv : HomeEntry I V) (j i : ℕ) (named : length labels ≡ length homes) (held : IsSession slots (held_all meaning homes labels)) (dicts : AreDicts kinds (held_all meaning homes labels) es) (at_home : position (bytes_eq entry.home) (keys_of homes) ≡ Some j) (home : slice_get (values_of homes) j ≡ Some hv) (at_dict : position (bytes_eq name) (keys_of es) ≡ Some i) (dict : slice_get (values_of es) i ≡ Some entry) where
+-- it lies there
+pub record DictIn {I : Type 0} {V : I → Type 0} (meaning : (x : I) × V x → Discipline) (v : HomeEntry I V) : Type 0 where
+  pub here : SessionHere meaning
+  pub i : ℕ
+  pub e : Entry
+  pub there : slice_get here.es i ≡ Some e
+  pub j : ℕ
+  pub region : RegionAt here.homes here.labels e.1.home j v
+
+-- in a best one
+abbrev pub in_best : {I : Type 0} {V : I → Type 0} {meaning : (x : I) × V x → Discipline} {v : HomeEntry I V} (x : DictIn meaning v) (b : best.Best I V) → v.region ≡ Best b → DictIn meaning (best_entry v.place b)
+in_best x b is = record { here = x.here; i = x.i; e = x.e; there = x.there; j = x.j; region = best_at x.region b is }
+
+module _ {I : Type 0} {V : I → Type 0} {meaning : (x : I) × V x → Discipline} {v : HomeEntry I V} (x : DictIn meaning v) where
   abbrev hs : List Held
-  hs = held_all meaning homes labels
-
-  within : j < length labels
-  within = omega (arith, named, length-map homes (λ (x : List ℕ × HomeEntry I V). x.0), index-within meaning homes entry.home j at_home)
-
-  some-label : (l : Labels) × (slice_get labels j ≡ Some l)
-  some-label = some-at labels j within
-
-  abbrev l : Labels
-  l = some-label.0
+  hs = helds x.here
 
   abbrev h : Held
-  h = held_of meaning entry.home hv l
+  h = region_at meaning x.region
 
-  abbrev e : Entry
-  e = (name, entry)
+  abbrev pub its : IsDictOf x.here.kinds hs x.e
+  its = whole_in x.here x.i x.e x.there
 
-  at : slice_get hs j ≡ Some h
-  at = held-read meaning homes labels j entry.home hv l (name-at meaning homes entry.home j at_home) home some-label.1
+  pub held-first : IsFirst (λ (k : Held). bytes_eq k.name x.e.1.home) hs x.j
+  held-first = first-unmap (is_home x.e.1.home) home_of hs x.j (region-first meaning x.region)
 
-  there : slice_get es i ≡ Some e
-  there = pair-read es i name entry (key-at es name i at_dict) dict
+  found-held : held_named hs (Some x.e.1.home) ≡ Some h
+  found-held = find-first (λ k. bytes_eq k.name x.e.1.home) hs x.j held-first ∙ ap (λ k. Some k) (same_Some held-first.item h (sym held-first.at ∙ region-stands meaning x.region))
 
-  first : IsFirst (is_home entry.home) (map home_of hs) j
-  first = first-named meaning homes labels entry.home j named at_home
+  home-is : its.home ≡ h
+  home-is = same_Some its.home h (sym its.found ∙ found-held)
 
-  first_dict : IsFirst (is_dict name) (dicts_in hs vs es) i
-  first_dict = first-dict hs vs es name i at_dict
+  -- the region is a best one, and the dictionary whole in it
+  pub best-there : is_best (rest_in v.region) ≡ true
+  best-there = subst (λ (k : Held). is_best k.region ≡ true) home-is its.best
 
-  abbrev is : IsDictOf kinds hs e
-  is = dict-at kinds hs es i e there dicts
+  pub whole-there : IsWhole its.rules x.e.1.dict (cells_in v.region)
+  whole-there = subst (λ (k : Held). IsWhole its.rules x.e.1.dict k.cells) home-is its.whole
 
-  pub kind-there : (r : Rules) × (at_number kinds entry.dict.kind ≡ Some r)
-  kind-there = (is.rules, is.kind)
-
-  -- its region is a best one
-  pub best-there : is_best (rest_in hv.region) ≡ true
-  best-there = best-here kinds slots hs es vs j i h e at there first first_dict held dicts refl
+  pub dict-is : dict_over hs x.e ≡ dictionary_of x.e.1.dict (cells_in v.region)
+  dict-is = ap (λ o. dictionary_of x.e.1.dict (cells_held o)) found-held

@@ -14,7 +14,7 @@ use Rattle.vc_commands.specs.declared.region.home.HomeEntry.{HomeEntry}
 use Rattle.vc_commands.specs.declared.region.labels.Labels.{Labels}
 use Rattle.vc_steps.specs.Homes.{held_all}
 use Rattle.vc_steps.specs.State.{home_named}
-use Rattle.vc_steps.proofs.Helds.{first-named, held-read, index-within, name-at}
+use Rattle.vc_steps.proofs.Helds.{first-named, held-read, name-at}
 
 -- what holds of all holds of each
 pub all-at : {A : Type 0} (P : A → Type 0) (xs : List A) (i : ℕ) (x : A) → AllByRecursion P xs → slice_get xs i ≡ Some x → P x

@@ -48,4 +48,7 @@ pub mod SeenView
 pub mod HomeThere
 pub mod Starting
 pub mod RegionAt
+pub mod SessionHere
+pub mod SameLists
+pub mod OpensHere
 pub mod RefusedAt

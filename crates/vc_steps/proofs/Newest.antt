@@ -36,7 +36,7 @@ pub record IsNewest {I : Type 0} {V : I → Type 0} (meaning : (x : I) × V x �
   pub emptied : slots' ≡ set slots (home.place - 1) None
   pub none : AreNone new
 
-module _ {I : Type 0} {V : I → Type 0} (meaning : (x : I) × V x → Discipline) (slots slots' : Slots) (entries entries' : List (List ℕ × HomeEntry I V)) (labels labels' : List Labels) (name : List ℕ) (method : Method) (home : HomeEntry I V) (new : Labels) (is : IsNewest meaning slots slots' entries entries' labels labels' name method home new) where
+module _ {I : Type 0} {V : I → Type 0} {meaning : (x : I) × V x → Discipline} {slots slots' : Slots} {entries entries' : List (List ℕ × HomeEntry I V)} {labels labels' : List Labels} {name : List ℕ} {method : Method} {home : HomeEntry I V} {new : Labels} (is : IsNewest meaning slots slots' entries entries' labels labels' name method home new) where
   abbrev before : List Held
   before = held_all meaning entries labels
 

@@ -1,11 +1,11 @@
 -- The step of a view by what it answered, over the regions and dictionaries of a session as they are stored.
 use Rattle.std.proofs.Common.{◌≡◌, ℕ, ◌<◌, List, Option, Some, None, length, map, refl, sym, ap, ◌∙◌, subst}
 use Rattle.std.specs.Prelude.{slice_get}
-use Rattle.std.specs.List.{IsDistinct, position}
-use Rattle.std.specs.Map.{keys_of, values_of}
+use Rattle.std.specs.List.{IsDistinct}
+use Rattle.std.specs.Map.{keys_of}
 use Rattle.std.specs.Str.{bytes_eq}
 use Rattle.vc_model.specs.Discipline.{Discipline}
-use Rattle.vc_dtdisc.specs.Rules.{Gone, Rules}
+use Rattle.vc_dtdisc.specs.Rules.{Rules}
 use Rattle.vc_paths.specs.Layers.{Layered}
 use Rattle.vc_paths.specs.Links.{ArePaths, Links, linked, numbers}
 use Rattle.vc_paths.specs.Path.{IsPath}
@@ -28,16 +28,15 @@ use Rattle.vc_views.proofs.LinkChanges.{linked-ended}
 use Rattle.vc_views.proofs.LinkLemmas.{number-within}
 use Rattle.vc_views.proofs.LinkRefusals.{linked-viewed}
 use Rattle.vc_views.proofs.NumbersToNames.{all-at}
-use Rattle.vc_steps.specs.Account.{IsSession, KeepsAccounts, accounts, settled, state_of}
+use Rattle.vc_steps.specs.Account.{IsSession, KeepsAccounts, accounts, settled}
 use Rattle.vc_steps.specs.DictHomes.{AreDicts, dict_over, dicts_in}
 use Rattle.vc_steps.specs.Dicts.{dict_step}
 use Rattle.vc_steps.specs.Homes.{held_all}
 use Rattle.vc_steps.specs.Moment.{Moment}
 use Rattle.vc_steps.specs.State.{State}
 use Rattle.vc_steps.specs.Steps.{Steps}
-use Rattle.vc_steps.proofs.DictNamed.{first-dict, key-at}
-use Rattle.vc_steps.proofs.DictRun.{pair-read}
 use Rattle.vc_steps.proofs.DictsStay.{Entry}
+use Rattle.vc_steps.proofs.SessionHere.{DictAt, SessionHere, first-at, helds, stands-at, state_here}
 use Rattle.vc_steps.proofs.RegionSteps.{moment_over}
 use Rattle.vc_steps.proofs.SessionLayers.{layers-here, path-here}
 use Rattle.vc_steps.proofs.Sessions.{Slots}
@@ -45,34 +44,16 @@ use Rattle.vc_steps.proofs.Settling.{keeps-equal}
 use Rattle.vc_steps.proofs.Steps.{steps-quiet}
 use Rattle.vc_steps.proofs.Viewing.{granted-fault, view-done, view-ended, view-missing, view-refused}
 
--- a session over regions and dictionaries as they are stored, what its kinds were told of, and what holds of it
-pub record SessionHere {I : Type 0} {V : I → Type 0} (meaning : (x : I) × V x → Discipline) : Type 0 where
-  pub kinds : List Rules
-  pub slots : Slots
-  pub homes : List (List ℕ × HomeEntry I V)
-  pub labels : List Labels
-  pub links : Links
-  pub es : List Entry
-  pub gone : List Gone
-  pub named : length labels ≡ length homes
-  pub dicts : AreDicts kinds (held_all meaning homes labels) es
-  pub are : AreLinked links es
-  pub paths : ArePaths links
-  pub names : IsDistinct bytes_eq (keys_of es)
+-- a session whose links are view paths, and whose dictionaries have names of their own
+pub record ViewsHere {I : Type 0} {V : I → Type 0} (meaning : (x : I) × V x → Discipline) : Type 0 where
+  pub here : SessionHere meaning
+  pub paths : ArePaths here.links
+  pub names : IsDistinct bytes_eq (keys_of here.es)
 
--- the dictionary of a name and an index
-pub record DictAt (es : List Entry) : Type 0 where
-  pub name : List ℕ
-  pub i : ℕ
-  pub v : DictEntry
-  pub index : position (bytes_eq name) (keys_of es) ≡ Some i
-  pub value : slice_get (values_of es) i ≡ Some v
+module _ {I : Type 0} {V : I → Type 0} (meaning : (x : I) × V x → Discipline) (seen : ViewsHere meaning) (own : DictAt seen.here.es) where
+  abbrev here : SessionHere meaning
+  here = seen.here
 
--- it stands there
-pub stands-at : (es : List Entry) (d : DictAt es) → slice_get es d.i ≡ Some (d.name, d.v)
-stands-at es d = pair-read es d.i d.name d.v (key-at es d.name d.i d.index) d.value
-
-module _ {I : Type 0} {V : I → Type 0} (meaning : (x : I) × V x → Discipline) (here : SessionHere meaning) (own : DictAt here.es) where
   abbrev kinds : List Rules
   kinds = here.kinds
 
@@ -98,7 +79,7 @@ module _ {I : Type 0} {V : I → Type 0} (meaning : (x : I) × V x → Disciplin
   v = own.v
 
   abbrev hs : List Held
-  hs = held_all meaning homes labels
+  hs = helds here
 
   abbrev e : Entry
   e = (name, v)
@@ -110,7 +91,7 @@ module _ {I : Type 0} {V : I → Type 0} (meaning : (x : I) × V x → Disciplin
   at = stands-at es own
 
   first : IsFirst (is_dict name) (dicts_in hs (views_by links es) es) own.i
-  first = first-dict hs (views_by links es) es name own.i own.index
+  first = first-at here own
 
   -- its number is one of view paths
   pub number-below : v.number < numbers
@@ -120,7 +101,7 @@ module _ {I : Type 0} {V : I → Type 0} (meaning : (x : I) × V x → Disciplin
   path-named = path-here meaning kinds homes labels es here.named here.dicts links here.are own.i e at
 
   abbrev s : State
-  s = state_of kinds slots hs (dicts_in hs (views_by links es) es)
+  s = state_here here
 
   -- the moment of a session with these links
   abbrev pub moment_by_links : List (List ℕ × HomeEntry I V) → List Entry → Links → Moment
@@ -146,18 +127,18 @@ module _ {I : Type 0} {V : I → Type 0} (meaning : (x : I) × V x → Disciplin
   steps-ended links' same =
       subst (λ ls. ViewsTo homes es ls None (Views name None)) (sym same)
       (steps-quiet before (moment_by_links homes es (linked v.number None links)) (View name None) (dict_step s name (View name None) (need_shown (Views name None))) (Views name None)
-      (view-ended kinds slots hs links es here.names here.are here.paths here.dicts own.i e at first (need_shown (Views name None))) refl refl tt)
+      (view-ended kinds slots hs links es seen.names here.are seen.paths here.dicts own.i e at first (need_shown (Views name None))) refl refl tt)
 
   pub links-ended : AreLinked (linked v.number None links) es
-  links-ended = linked-ended links es v.number (number-within links es own.i e here.paths here.are.numbered at) here.are
+  links-ended = linked-ended links es v.number (number-within links es own.i e seen.paths here.are.numbered at) here.are
 
   -- there is none of the name
   pub steps-missing : (lower : List ℕ) → dict_named lower s.dicts ≡ None → ViewsTo homes es links (Some lower) (Refused why.NoDictionary)
   steps-missing lower none =
       steps-quiet before before (View name (Some lower)) (dict_step s name (View name (Some lower)) (need_shown (Refused why.NoDictionary))) (Refused why.NoDictionary)
-      (view-missing kinds slots hs links es here.names here.are here.paths here.dicts own.i e at first lower (need_shown (Refused why.NoDictionary)) none) refl refl tt
+      (view-missing kinds slots hs links es seen.names here.are seen.paths here.dicts own.i e at first lower (need_shown (Refused why.NoDictionary)) none) refl refl tt
 
-  module _ (other : DictAt here.es) where
+  module _ (other : DictAt seen.here.es) where
     abbrev u : DictEntry
     u = other.v
 
@@ -168,7 +149,7 @@ module _ {I : Type 0} {V : I → Type 0} (meaning : (x : I) × V x → Disciplin
     there = stands-at es other
 
     first-other : IsFirst (is_dict other.name) (dicts_in hs (views_by links es) es) other.i
-    first-other = first-dict hs (views_by links es) es other.name other.i other.index
+    first-other = first-at here other
 
     pub path-other : IsPath all links u.number
     path-other = path-here meaning kinds homes labels es here.named here.dicts links here.are other.i f there
@@ -189,31 +170,31 @@ module _ {I : Type 0} {V : I → Type 0} (meaning : (x : I) × V x → Disciplin
       steps-set none same =
           carry (Views name (Some other.name)) set_links same
           (steps-quiet before (moment_by_links homes es set_links) (View name (Some other.name)) (dict_step s name (View name (Some other.name)) (need_shown (Views name (Some other.name)))) (Views name (Some other.name))
-          (view-done kinds slots hs links es here.names here.are here.paths here.dicts own.i e at first other.i f there first-other all (layers-here meaning kinds homes labels es here.named here.dicts) (need_shown (Views name (Some other.name))) none)
+          (view-done kinds slots hs links es seen.names here.are seen.paths here.dicts own.i e at first other.i f there first-other all (layers-here meaning kinds homes labels es here.named here.dicts) (need_shown (Views name (Some other.name))) none)
           refl refl tt)
 
       pub links-set : view_fault all links v.number u.number ≡ None → links' ≡ set_links → AreLinked links' es'
       links-set none same =
           subst (AreLinked links') (sym same_dicts)
           (subst (λ ls. AreLinked ls es) (sym same)
-          (linked-viewed (dict_over hs) all links es here.names here.are (layers-here meaning kinds homes labels es here.named here.dicts) here.paths own.i e at other.i f there none))
+          (linked-viewed (dict_over hs) all links es seen.names here.are (layers-here meaning kinds homes labels es here.named here.dicts) seen.paths own.i e at other.i f there none))
 
       -- it can't be
       pub steps-refused : (fault : ViewFault) → view_fault all links v.number u.number ≡ Some fault → links' ≡ links → ViewsTo homes' es' links' (Some other.name) (Refused (refusal_of fault))
       steps-refused fault is same =
           carry (Refused (refusal_of fault)) links same
           (steps-quiet before before (View name (Some other.name)) (dict_step s name (View name (Some other.name)) (need_shown (Refused (refusal_of fault)))) (Refused (refusal_of fault))
-          (view-refused kinds slots hs links es here.names here.are here.paths here.dicts own.i e at first other.i f there first-other all (layers-here meaning kinds homes labels es here.named here.dicts) (need_shown (Refused (refusal_of fault))) fault is)
+          (view-refused kinds slots hs links es seen.names here.are seen.paths here.dicts own.i e at first other.i f there first-other all (layers-here meaning kinds homes labels es here.named here.dicts) (need_shown (Refused (refusal_of fault))) fault is)
           refl refl (granted-fault fault))
 
       pub links-refused : links' ≡ links → AreLinked links' es'
       links-refused same = subst (AreLinked links') (sym same_dicts) (subst (λ ls. AreLinked ls es) (sym same) here.are)
 
       -- the session stands over them
-      pub stands-viewed : IsSession slots hs → AreLinked links' es' → HeldHere homes' es' links'
-      stands-viewed held linked = record {
+      pub stands-viewed : AreLinked links' es' → HeldHere homes' es' links'
+      stands-viewed linked = record {
         named = here.named ∙ ap length (sym same_homes);
-        held = subst (λ hm. IsSession slots (held_all meaning hm labels)) (sym same_homes) held;
+        held = subst (λ hm. IsSession slots (held_all meaning hm labels)) (sym same_homes) here.held;
         dicts = subst (λ hm. AreDicts kinds (held_all meaning hm labels) es') (sym same_homes) (subst (AreDicts kinds hs) (sym same_dicts) here.dicts);
         views = linked;
         accounts = keeps-equal _ _ (ap (λ hm. settled (accounts slots) (held_all meaning hm labels)) same_homes);

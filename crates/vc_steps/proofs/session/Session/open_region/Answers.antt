@@ -1,4 +1,4 @@
-use Rattle.std.proofs.Common.{◌≡◌, ◌-◌, ◌++◌, ◌∷◌, [], length, false, set, Some, None, is_some, refl, sym, ap, arith, ◌∙◌, subst}
+use Rattle.std.proofs.Common.{◌≡◌, ◌-◌, ◌++◌, ◌∷◌, [], false, set, Some, None, is_some, refl, sym, ap, arith, ◌∙◌}
 use Rattle.std.specs.Map.{lookup}
 use Rattle.std.specs.Str.{bytes_eq}
 use Rattle.std.proofs.lemmas.Bool.{false≢true}
@@ -10,9 +10,8 @@ use Rattle.vc_script.specs.declared.reply.Reply.TheVariants.{Opened, Refused}
 use Rattle.vc_script.specs.declared.refusal.Refusal.TheVariants.{RegionExists}
 use Rattle.vc_seg.specs.Boxed.{boxed}
 use Rattle.vc_commands.specs.declared.region.home.HomeEntry.{HomeEntry}
-use Rattle.vc_steps.specs.Account.{accounts, settled, state_of, IsSession}
-use Rattle.vc_steps.specs.DictHomes.{AreDicts, dicts_in}
-use Rattle.vc_steps.specs.Homes.{held_all, held_in, slots_on}
+use Rattle.vc_steps.specs.DictHomes.{dicts_in}
+use Rattle.vc_steps.specs.Homes.{held_in, slots_on, state_over}
 use Rattle.vc_views.specs.Numbers.{views_by}
 use Rattle.vc_steps.specs.State.{not_here}
 use Rattle.vc_steps.specs.State.{stepped}
@@ -21,6 +20,7 @@ use Rattle.vc_steps.proofs.Cells.{at_number_some, set_same}
 use Rattle.vc_steps.proofs.Helds.{any-named, none_of}
 use Rattle.vc_steps.proofs.Newest.{IsNewest, newest-dicts, newest-named, newest-session, newest-settled, newest-step}
 use Rattle.vc_steps.proofs.Dispatch.{open-granted}
+use Rattle.vc_steps.proofs.SameLists.{keeps-lists, settled-lists, state-lists}
 use Rattle.vc_steps.proofs.Steps.{halts-same, steps-quiet}
 use Rattle.vc_steps.proofs.Opening.{open_step-named, open_step-not_here}
 use Rattle.vc_steps.proofs.session.Session.open_region.Given as given
@@ -31,102 +31,52 @@ meaning g p = (g.dyn-1.0.entry p.0).1.state p.1
 
 pub returns-then-contains_key-clause-steps : goal.returns-then-contains_key-clause-steps
 returns-then-contains_key-clause-steps g c = λ kinds gone dicts.
-    let vs = views_by c.args.self.now.paths c.args.self.now.dicts.entries in
-    let slots = slots_on (meaning g) c.args.shelf.now in
-    let helds = held_in (meaning g) c.args.self.now in
+    let M = meaning g in
+    let session = c.args.self.now in
     let is =
-    open_step-named (state_of kinds slots helds (dicts_in helds vs c.args.self.now.dicts.entries)) c.args.name c.args.method c.args.n
-    (any-named (meaning g) c.args.self.now.homes.entries c.args.self.now.labels.items c.args.name c.requires.named ∙ sym c.if-contains_key.ensures) in
+    open_step-named (state_over M kinds c.args.shelf.now session) c.args.name c.args.method c.args.n
+    (any-named M session.homes.entries session.labels.items c.args.name c.requires.named ∙ sym c.if-contains_key.ensures) in
     steps-quiet _ _ _ _ (Refused RegionExists) is refl refl tt
 
 pub returns-in_default-clause-steps : goal.returns-in_default-clause-steps
 returns-in_default-clause-steps g c = λ kinds gone dicts.
     let M = meaning g in
-    let vs = views_by c.args.self.now.paths c.args.self.now.dicts.entries in
+    let session = c.args.self.now in
     let slots = slots_on M c.args.shelf.now in
-    let helds = held_in M c.args.self.now in
-    let entries = c.args.self.now.homes.entries in
-    let labels = c.args.self.now.labels.items in
-    let absent : is_some (lookup (bytes_eq c.args.name) entries) ≡ false = sym c.if-contains_key.ensures in
+    let helds = held_in M session in
+    let es = session.dicts.entries in
+    let vs = views_by session.paths es in
     let same : slots_on M c.take.new.self ≡ slots = ap (slots_of (boxed M)) c.in_default.ensures.none in
     let why : c.not_here.result ≡ not_here (place_at slots c.args.n) = c.not_here.ensures ∙ ap not_here (c.place.ensures ∙ ap (λ s. place_at s c.args.n) same) in
-    let held : held_all M c.reserve.new.self.entries c.reserve-2.new.self.items ≡ helds =
-    ap (λ es. held_all M es c.reserve-2.new.self.items) c.reserve.ensures.entries ∙ ap (λ ls. held_all M entries ls) c.reserve-2.ensures.items in
-    let es = c.args.self.now.dicts.entries in
-    let ds = dicts_in helds vs es in
     let is =
-    open_step-not_here kinds slots helds ds c.args.name c.args.method c.args.n (any-named M entries labels c.args.name c.requires.named ∙ absent) (λ e. false≢true (c.in_default.ensures.here.1 e))
-    ∙ (ap (λ w. stepped (state_of kinds slots helds ds) (Refused w)) (sym why)
-    ∙ (ap (λ hs. stepped (state_of kinds slots hs (dicts_in hs vs es)) (Refused c.not_here.result)) (sym held)
-    ∙ ap (λ s. let hs = held_all M c.reserve.new.self.entries c.reserve-2.new.self.items in stepped (state_of kinds s hs (dicts_in hs vs es)) (Refused c.not_here.result)) (sym same))) in
-    steps-quiet _ _ _ _ (Refused c.not_here.result) is refl
-    (ap (λ s. settled (accounts s) (held_all M c.reserve.new.self.entries c.reserve-2.new.self.items)) same ∙ ap (λ hs. settled (accounts slots) hs) held)
+    open_step-not_here kinds slots helds (dicts_in helds vs es) c.args.name c.args.method c.args.n (any-named M session.homes.entries session.labels.items c.args.name c.requires.named ∙ sym c.if-contains_key.ensures) (λ e. false≢true (c.in_default.ensures.here.1 e))
+    ∙ (ap (λ w. stepped (state_over M kinds c.args.shelf.now session) (Refused w)) (sym why)
+    ∙ ap (λ s. stepped s (Refused c.not_here.result)) (sym (state-lists M same c.reserve.ensures.entries c.reserve-2.ensures.items kinds vs es))) in
+    steps-quiet _ _ _ _ (Refused c.not_here.result) is refl (settled-lists M same c.reserve.ensures.entries c.reserve-2.ensures.items)
     (open-granted _ _ c.args.name c.args.method c.args.n (Refused c.not_here.result) is)
 
 pub returns-in_err-reserve-clause-regions : goal.returns-in_err-reserve-clause-regions
-returns-in_err-reserve-clause-regions g c =
-    let M = meaning g in
-    let vs = views_by c.args.self.now.paths c.args.self.now.dicts.entries in
-    let labels = c.args.self.now.labels.items in
-    let kept = c.reserve.ensures.entries in
-    record {
-      regions = record {
-        named = c.requires.named ∙ sym (ap length kept);
-        held = subst (λ es. IsSession (slots_on M c.args.shelf.now) (held_all M es labels)) (sym kept) c.requires.held;
-      };
-      dicts = λ kinds dicts. subst (λ es. AreDicts kinds (held_all M es labels) c.args.self.now.dicts.entries) (sym kept) dicts;
-      views = λ are. are;
-      spent = refl;
-    }
+returns-in_err-reserve-clause-regions g c = keeps-lists c.args.shelf.now c.requires refl c.reserve.ensures.entries refl refl refl refl
 
 pub returns-in_err-reserve-2-clause-regions : goal.returns-in_err-reserve-2-clause-regions
-returns-in_err-reserve-2-clause-regions g c =
-    let M = meaning g in
-    let vs = views_by c.args.self.now.paths c.args.self.now.dicts.entries in
-    let entries = c.args.self.now.homes.entries in
-    let held : held_all M c.reserve.new.self.entries c.reserve-2.new.self.items ≡ held_in M c.args.self.now =
-    ap (λ es. held_all M es c.reserve-2.new.self.items) c.reserve.ensures.entries ∙ ap (λ ls. held_all M entries ls) c.reserve-2.ensures.items in
-    record {
-      regions = record {
-        named = ap length c.reserve-2.ensures.items ∙ (c.requires.named ∙ sym (ap length c.reserve.ensures.entries));
-        held = subst (λ hs. IsSession (slots_on M c.args.shelf.now) hs) (sym held) c.requires.held;
-      };
-      dicts = λ kinds dicts. subst (λ hs. AreDicts kinds hs c.args.self.now.dicts.entries) (sym held) dicts;
-      views = λ are. are;
-      spent = refl;
-    }
+returns-in_err-reserve-2-clause-regions g c = keeps-lists c.args.shelf.now c.requires refl c.reserve.ensures.entries c.reserve-2.ensures.items refl refl refl
 
 pub returns-in_default-clause-regions : goal.returns-in_default-clause-regions
 returns-in_default-clause-regions g c =
-    let M = meaning g in
-    let vs = views_by c.args.self.now.paths c.args.self.now.dicts.entries in
-    let slots = slots_on M c.args.shelf.now in
-    let entries = c.args.self.now.homes.entries in
-    let same : slots_on M c.take.new.self ≡ slots = ap (slots_of (boxed M)) c.in_default.ensures.none in
-    let hs' = held_all M c.reserve.new.self.entries c.reserve-2.new.self.items in
-    let held : hs' ≡ held_in M c.args.self.now =
-    ap (λ es. held_all M es c.reserve-2.new.self.items) c.reserve.ensures.entries ∙ ap (λ ls. held_all M entries ls) c.reserve-2.ensures.items in
-    record {
-      regions = record {
-        named = ap length c.reserve-2.ensures.items ∙ (c.requires.named ∙ sym (ap length c.reserve.ensures.entries));
-        held = subst (λ s. IsSession s hs') (sym same) (subst (λ hs. IsSession slots hs) (sym held) c.requires.held);
-      };
-      dicts = λ kinds dicts. subst (λ hs. AreDicts kinds hs c.args.self.now.dicts.entries) (sym held) dicts;
-      views = λ are. are;
-      spent = refl;
-    }
+    let same : slots_on (meaning g) c.take.new.self ≡ slots_on (meaning g) c.args.shelf.now = ap (slots_of (boxed (meaning g))) c.in_default.ensures.none in
+    keeps-lists c.args.shelf.now c.requires same c.reserve.ensures.entries c.reserve-2.ensures.items refl refl refl
 
 pub returns-in-Ok : goal.returns-in-Ok
 returns-in-Ok g c =
     let M = meaning g in
-    let vs = views_by c.args.self.now.paths c.args.self.now.dicts.entries in
-    let entries = c.args.self.now.homes.entries in
-    let labels = c.args.self.now.labels.items in
+    let session = c.args.self.now in
+    let es = session.dicts.entries in
+    let entries = session.homes.entries in
     let absent : is_some (lookup (bytes_eq c.args.name) entries) ≡ false = sym c.if-contains_key.ensures in
     let home : HomeEntry _ _ = record { place = c.args.n; region = c.in-Ok.region } in
     let put = from_ok c.insert.result (c.insert.ensures.succeeds (omega (arith, c.in_ok-reserve.ensures.ok))) c.insert.ensures.entries in
     let gone = none_of (lookup (bytes_eq c.args.name) c.reserve.new.self.entries) (ap (λ es. is_some (lookup (bytes_eq c.args.name) es)) c.reserve.ensures.entries ∙ absent) in
-    let newest : IsNewest M (slots_on M c.args.shelf.now) (slots_on M c.take.new.self) entries c.insert.new.self.entries labels c.push_reserved.new.self.items c.args.name c.args.method home c.new.result = record {
+    let newest : IsNewest M (slots_on M c.args.shelf.now) (slots_on M c.take.new.self) entries c.insert.new.self.entries session.labels.items c.push_reserved.new.self.items c.args.name c.args.method home c.new.result = record {
       named = c.requires.named;
       session = c.requires.held;
       absent = absent;
@@ -137,49 +87,36 @@ returns-in-Ok g c =
       emptied = c.in-Some.ensures.emptied;
       none = record { agree = c.new.ensures.agree; names = c.new.ensures.no_names; count = c.new.ensures.count; kept = c.new.ensures.kept };
     } in
-    let es = c.args.self.now.dicts.entries in
-    let settled_is = newest-settled M (slots_on M c.args.shelf.now) (slots_on M c.take.new.self) entries c.insert.new.self.entries labels c.push_reserved.new.self.items c.args.name c.args.method home c.new.result newest in
     record {
-      steps = λ kinds gone dicts. steps-quiet _ _ _ _ (Opened c.args.name) (newest-step M (slots_on M c.args.shelf.now) (slots_on M c.take.new.self) entries c.insert.new.self.entries labels c.push_reserved.new.self.items c.args.name c.args.method home c.new.result newest kinds vs es dicts) refl settled_is tt;
+      steps = λ kinds gone dicts. steps-quiet _ _ _ _ (Opened c.args.name) (newest-step newest kinds (views_by session.paths es) es dicts) refl (newest-settled newest) tt;
       regions = record {
-        regions = record { named = newest-named M (slots_on M c.args.shelf.now) (slots_on M c.take.new.self) entries c.insert.new.self.entries labels c.push_reserved.new.self.items c.args.name c.args.method home c.new.result newest; held = newest-session M (slots_on M c.args.shelf.now) (slots_on M c.take.new.self) entries c.insert.new.self.entries labels c.push_reserved.new.self.items c.args.name c.args.method home c.new.result newest };
-        dicts = λ kinds dicts. newest-dicts M (slots_on M c.args.shelf.now) (slots_on M c.take.new.self) entries c.insert.new.self.entries labels c.push_reserved.new.self.items c.args.name c.args.method home c.new.result newest kinds es dicts;
+        regions = record { named = newest-named newest; held = newest-session newest };
+        dicts = λ kinds dicts. newest-dicts newest kinds es dicts;
         views = λ are. are;
         spent = refl;
       };
-      settled = settled_is;
+      settled = newest-settled newest;
     }
 
 pub returns-in-Err : goal.returns-in-Err
 returns-in-Err g c =
     let M = meaning g in
-    let vs = views_by c.args.self.now.paths c.args.self.now.dicts.entries in
     let slots = slots_on M c.args.shelf.now in
-    let entries = c.args.self.now.homes.entries in
+    let k = c.args.n - 1 in
     let d = boxed M c.in-Some.disc in
     let e = boxed M c.in-Err.disc in
-    let back : slots_on M c.give_back.new.self ≡ slots =
+    let same : slots_on M c.give_back.new.self ≡ slots =
     c.give_back.ensures.filled
-    ∙ (ap (λ s. set s (c.args.n - 1) (Some e)) c.in-Some.ensures.emptied
-    ∙ (set-set slots (c.args.n - 1) None (Some e)
-    ∙ (ap (λ x. set slots (c.args.n - 1) (Some x)) c.in-Err.ensures.err
-    ∙ set_same slots (c.args.n - 1) (Some d) (at_number_some slots c.args.n (Some d) c.in-Some.ensures.taken).1))) in
-    let held : held_all M c.reserve.new.self.entries c.reserve-2.new.self.items ≡ held_in M c.args.self.now =
-    ap (λ es. held_all M es c.reserve-2.new.self.items) c.reserve.ensures.entries ∙ ap (λ ls. held_all M entries ls) c.reserve-2.ensures.items in
+    ∙ (ap (λ s. set s k (Some e)) c.in-Some.ensures.emptied
+    ∙ (set-set slots k None (Some e)
+    ∙ (ap (λ x. set slots k (Some x)) c.in-Err.ensures.err
+    ∙ set_same slots k (Some d) (at_number_some slots c.args.n (Some d) c.in-Some.ensures.taken).1))) in
+    let kept = c.reserve.ensures.entries in
+    let kept' = c.reserve-2.ensures.items in
     let es = c.args.self.now.dicts.entries in
-    let hs' = held_all M c.reserve.new.self.entries c.reserve-2.new.self.items in
-    let settled_is = ap (λ s. settled (accounts s) hs') back ∙ ap (λ hs. settled (accounts slots) hs) held in
+    let settled_is = settled-lists M same kept kept' in
     record {
-      steps = λ kinds gone dicts.
-          halts-same _ _ _ (ap (λ s. state_of kinds s hs' (dicts_in hs' vs es)) back ∙ ap (λ hs. state_of kinds slots hs (dicts_in hs vs es)) held) refl settled_is;
-      regions = record {
-        regions = record {
-          named = ap length c.reserve-2.ensures.items ∙ (c.requires.named ∙ sym (ap length c.reserve.ensures.entries));
-          held = subst (λ s. IsSession s hs') (sym back) (subst (λ hs. IsSession slots hs) (sym held) c.requires.held);
-        };
-        dicts = λ kinds dicts. subst (λ hs. AreDicts kinds hs es) (sym held) dicts;
-        views = λ are. are;
-        spent = refl;
-      };
+      steps = λ kinds gone dicts. halts-same _ _ _ (state-lists M same kept kept' kinds (views_by c.args.self.now.paths es) es) refl settled_is;
+      regions = keeps-lists c.args.shelf.now c.requires same kept kept' refl refl refl;
       settled = settled_is;
     }

@@ -1,4 +1,4 @@
-use Rattle.std.proofs.Common.{◌≡◌, ◌<◌, ◌-◌, false, Some, length, refl, set, ap, ◌∙◌, subst, sym}
+use Rattle.std.proofs.Common.{◌≡◌, ◌<◌, ◌≤◌, ◌-◌, false, Some, length, refl, set, ap, ◌∙◌, subst, sym}
 use Rattle.std.proofs.lemmas.List.{map-set}
 use Rattle.std.proofs.lemmas.Option.{same_Some}
 use Rattle.std.specs.Prelude.{slice_get}
@@ -6,203 +6,148 @@ use Rattle.std.specs.List.{position}
 use Rattle.std.specs.Map.{keys_of}
 use Rattle.std.specs.Str.{bytes_eq}
 use Rattle.vc_model.specs.Discipline.{Discipline}
-use Rattle.indexmap.specs.IndexMap.{set_value_at}
-use Rattle.vc_views.specs.Numbers.{is_barred, views_by}
-use Rattle.vc_steps.proofs.Barred.{free-turn, linked-here}
+use Rattle.vc_commands.specs.declared.dict.entry.DictEntry.{DictEntry}
+use Rattle.vc_views.specs.Numbers.{is_barred}
 use Rattle.vc_steps.proofs.DictsStay.{Entry}
 use Rattle.vc_steps.proofs.Ending.{if_some-at}
-use Rattle.vc_steps.specs.Account.{state_of}
-use Rattle.vc_steps.specs.DictHomes.{dict_home, dicts_in}
-use Rattle.vc_steps.specs.Homes.{held_in, slots_on}
 use Rattle.vc_steps.specs.Told.{gone_in, rules_in}
 use Rattle.vc_steps.proofs.BestRegions.{no-other}
 use Rattle.vc_views.proofs.LinkLists.{map-set_same}
-use Rattle.vc_steps.proofs.DictChange.{dict-at}
-use Rattle.vc_steps.proofs.DictEnd.{no-home}
-use Rattle.vc_steps.proofs.DictNamed.{first-dict, key-at}
-use Rattle.vc_steps.proofs.DictRegion.{best_entry, entry-best}
-use Rattle.vc_steps.proofs.DictRun.{RunsAlone, dicts-ran, linked-ran, named-ran, pair-read, session-ran, steps-ran, views-ran, whole-there}
-use Rattle.vc_steps.proofs.DictThere.{best-there, kind-there}
+use Rattle.vc_steps.proofs.DictRegion.{best_at, best_entry}
+use Rattle.vc_steps.proofs.DictRun.{CommandRan, DictRan, dicts-ran, linked-ran, named-ran, session-ran, steps-ran, whole-by}
+use Rattle.vc_steps.proofs.DictThere.{DictIn, best-there, its}
 use Rattle.vc_steps.proofs.DictTold.{kind-at, kind-within}
-use Rattle.vc_steps.proofs.Helds.{any-named, slice-or}
+use Rattle.vc_steps.proofs.Helds.{slice-or}
+use Rattle.vc_steps.proofs.RegionAt.{stored_at}
+use Rattle.vc_steps.proofs.SessionHere.{DictAt, SessionHere, entry_at, home-open, session_here, stands-at, whole_at}
 use Rattle.vc_steps.proofs.Steps.{keeps-steps}
 use Rattle.vc_steps.proofs.session.Session.run_at.Given as given
 use Rattle.vc_steps.proofs.session.Session.run_at.Goals as goal
+use Rattle.vc_steps.proofs.session.Session.run_at.Goals.{After-index-entry, After-index_mut-3}
 
 abbrev meaning : (g : given.Over) → (x : g.dyn-1.0.I) × (g.dyn-1.0.entry x).0.Denot → Discipline
 meaning g p = (g.dyn-1.0.entry p.0).1.state p.1
 
+-- the session, and the dictionary of the name
+abbrev here : (g : given.Over) (c : After-index-entry g) → SessionHere (meaning g)
+here g c = session_here (meaning g) g.D.DictDisc.rules g.D.DictDisc.gone c.args.shelf.now c.args.self.now c.args.kinds.now.items c.requires.session
+
+abbrev own : (g : given.Over) (c : After-index-entry g) → DictAt c.args.self.now.dicts.entries
+own g c = record { name = c.args.name.now; i = c.args.i; v = c.index-entry.result.now; index = c.requires.index; value = c.index-entry.ensures }
+
+-- its kind is one of those that there are
+kind-range : (g : given.Over) (c : After-index-entry g) → (1 ≤ c.index-entry.result.now.dict.kind) × (c.index-entry.result.now.dict.kind - 1 < length c.args.kinds.now.items)
+kind-range g c =
+    let is = whole_at (here g c) (own g c) in
+    kind-within g.D.DictDisc.rules c.args.kinds.now.items c.index-entry.result.now.dict.kind is.rules is.kind
+
+-- it is the same when it changes
+same : (g : given.Over) (c : After-index_mut-3 g) → c.index-entry.result.now ≡ c.index_mut-2.result.now
+same g c = same_Some c.index-entry.result.now c.index_mut-2.result.now (sym c.index-entry.ensures ∙ c.index_mut-2.ensures.value)
+
+-- the best region that it lies in
+abbrev lies : (g : given.Over) (c : After-index_mut-3 g) → DictIn (meaning g) (best_entry c.index_mut.result.now.place c.in-Best.best)
+lies g c =
+    let session = c.args.self.now in
+    let region = stored_at session.homes.entries session.labels.items c.index_mut-2.result.now.home c.in-Some.j c.requires.session.regions.named
+    (subst (λ (e : DictEntry). position (bytes_eq e.home) (keys_of session.homes.entries) ≡ Some c.in-Some.j) (same g c) (sym c.in-Some.ensures.index)) c.index_mut.result.now c.index_mut.ensures.value in
+    record {
+      here = session_here (meaning g) g.D.DictDisc.rules g.D.DictDisc.gone c.args.shelf.now session c.args.kinds.now.items c.requires.session;
+      i = c.args.i;
+      e = (c.args.name.now, c.index_mut-2.result.now);
+      there = stands-at session.dicts.entries (record { name = c.args.name.now; i = c.args.i; v = c.index_mut-2.result.now; index = c.requires.index; value = c.index_mut-2.ensures.value });
+      j = c.in-Some.j;
+      region = best_at region c.in-Best.best c.in-Best.is;
+    }
+
+-- its kind stands at its number
+its-kind : (g : given.Over) (c : After-index_mut-3 g) → (1 ≤ c.index_mut-2.result.now.dict.kind) × (slice_get c.args.kinds.now.items (c.index_mut-2.result.now.dict.kind - 1) ≡ Some c.index_mut-3.result.now)
+its-kind g c =
+    let items = c.args.kinds.now.items in
+    let one = c.index_mut-3.result.now in
+    let is = its (lies g c) in
+    let range = kind-within g.D.DictDisc.rules items c.index_mut-2.result.now.dict.kind is.rules is.kind in
+    let within = subst (λ (e : DictEntry). e.dict.kind - 1 < length items) (sym (same g c)) range.1 in
+    (range.0, subst (λ (e : DictEntry). slice_get items (e.dict.kind - 1) ≡ Some one) (same g c) (slice-or items (c.index-entry.result.now.dict.kind - 1) one within c.index_mut-3.ensures.value))
+
 pub unreachable-requires : goal.unreachable-requires
 unreachable-requires g c =
-    let M = meaning g in
-    let vs = views_by c.args.self.now.paths c.args.self.now.dicts.entries in
-    let rules = g.D.DictDisc.rules in
-    let items = c.args.kinds.now.items in
-    let kinds = rules_in rules items in
-    let slots = slots_on M c.args.shelf.now in
-    let homes = c.args.self.now.homes.entries in
-    let labels = c.args.self.now.labels.items in
-    let es = c.args.self.now.dicts.entries in
-    let name = c.args.name.now in
-    let i = c.args.i in
-    let regions = c.requires.session.regions in
-    let e = c.index-entry.result.now in
-    let dict = c.index-entry.ensures in
-    let there = pair-read es i name e (key-at es name i c.requires.index) dict in
-    no-home kinds slots (held_in M c.args.self.now) es vs i (name, e) there (first-dict (held_in M c.args.self.now) vs es name i c.requires.index) c.requires.session.dicts
-    (any-named M homes labels e.home regions.named ∙ sym c.in_default.ensures.found)
+    let at = (goal.at.unreachable-requires g c).After-index-entry in
+    home-open (here g at) c.args.i (entry_at (own g at)) (stands-at c.args.self.now.dicts.entries (own g at)) (sym c.in_default.ensures.found)
 
 pub unreachable-requires-in_default-region : goal.unreachable-requires-in_default-region
 unreachable-requires-in_default-region g c =
-    let M = meaning g in
-    let vs = views_by c.args.self.now.paths c.args.self.now.dicts.entries in
-    let rules = g.D.DictDisc.rules in
-    let items = c.args.kinds.now.items in
-    let kinds = rules_in rules items in
-    let slots = slots_on M c.args.shelf.now in
-    let homes = c.args.self.now.homes.entries in
-    let labels = c.args.self.now.labels.items in
-    let es = c.args.self.now.dicts.entries in
-    let name = c.args.name.now in
-    let i = c.args.i in
-    let regions = c.requires.session.regions in
-    let e = c.index-entry.result.now in
-    let dict = c.index-entry.ensures in
-    let j = c.in-Some.j in
-    let at_home = sym c.in-Some.ensures.index in
-    let hv = c.index_mut.result.now in
-    let home = c.index_mut.ensures.value in
-    no-other hv.region (best-there M kinds slots homes labels es vs name e hv j i regions.named regions.held c.requires.session.dicts at_home home c.requires.index dict) c.in_default-region.not-Best
+    let at = (goal.at.unreachable-requires-in_default-region g c).After-index-entry in
+    let v = c.index_mut.result.now in
+    let region = stored_at c.args.self.now.homes.entries c.args.self.now.labels.items c.index-entry.result.now.home c.in-Some.j c.requires.session.regions.named (sym c.in-Some.ensures.index) v c.index_mut.ensures.value in
+    no-other v.region (best-there {meaning = meaning g} {v = v} (record { here = here g at; i = c.args.i; e = entry_at (own g at); there = stands-at c.args.self.now.dicts.entries (own g at); j = c.in-Some.j; region = region })) c.in_default-region.not-Best
+
+pub overflow_sub-k : goal.overflow_sub-k
+overflow_sub-k g c = (kind-range g (goal.at.overflow_sub-k g c).After-index-entry).0
+
+pub index_mut-requires-3 : goal.index_mut-requires-3
+index_mut-requires-3 g c =
+    subst (λ n. c.index-entry.result.now.dict.kind - 1 < n) (sym c.args.kinds.now.ok.0) (kind-range g (goal.at.index_mut-requires-3 g c).After-index-entry).1
 
 pub run-requires : goal.run-requires
 run-requires g c =
-    let M = meaning g in
-    let vs = views_by c.args.self.now.paths c.args.self.now.dicts.entries in
-    let rules = g.D.DictDisc.rules in
-    let items = c.args.kinds.now.items in
-    let kinds = rules_in rules items in
-    let slots = slots_on M c.args.shelf.now in
-    let homes = c.args.self.now.homes.entries in
-    let labels = c.args.self.now.labels.items in
-    let es = c.args.self.now.dicts.entries in
-    let name = c.args.name.now in
-    let i = c.args.i in
-    let regions = c.requires.session.regions in
-    let e = c.index_mut-2.result.now in
-    let dict = c.index_mut-2.ensures.value in
-    let same = same_Some c.index-entry.result.now e (sym c.index-entry.ensures ∙ dict) in
-    let j = c.in-Some.j in
-    let at_home = subst (λ (x : _). position (bytes_eq x.home) (keys_of homes) ≡ Some j) same (sym c.in-Some.ensures.index) in
-    let hv = c.index_mut.result.now in
-    let old = c.in-Best.best in
-    let home = entry-best _ hv old c.index_mut.ensures.value c.in-Best.is in
-    let there = kind-there M kinds slots homes labels es vs name e (best_entry hv.place old) j i regions.named regions.held c.requires.session.dicts at_home home c.requires.index dict in
-    let low = kind-within rules items e.dict.kind there.0 there.1 in
+    let at = (goal.at.run-requires g c).After-index_mut-3 in
+    let kind = its-kind g at in
     let one = c.index_mut-3.result.now in
-    let at_index = subst (λ (x : _). slice_get items (x.dict.kind - 1) ≡ Some one) same
-    (slice-or items (c.index-entry.result.now.dict.kind - 1) one (subst (λ (x : _). x.dict.kind - 1 < length items) (sym same) low.1) c.index_mut-3.ensures.value) in
-    let at_rules = kind-at rules items e.dict.kind one low.0 at_index in
-    record { whole = whole-there M kinds slots homes labels es vs name e hv.place old j i regions.named regions.held c.requires.session.dicts at_home home c.requires.index dict (rules one) at_rules }
+    let at_rules = kind-at g.D.DictDisc.rules c.args.kinds.now.items c.index_mut-2.result.now.dict.kind one kind.0 kind.1 in
+    record { whole = whole-by c.index_mut.result.now.place c.in-Best.best (lies g at) c.requires.index (g.D.DictDisc.rules one) at_rules }
 
 pub returns : goal.returns
 returns g c =
-    let M = meaning g in
-    let vs = views_by c.args.self.now.paths c.args.self.now.dicts.entries in
+    let at = (goal.at.returns g c).After-index_mut-3 in
+    let x = lies g at in
+    let index = c.requires.index in
+    let place = c.index_mut.result.now.place in
+    let best = c.in-Best.best in
     let rules = g.D.DictDisc.rules in
+    let gone = g.D.DictDisc.gone in
     let items = c.args.kinds.now.items in
-    let kinds = rules_in rules items in
-    let slots = slots_on M c.args.shelf.now in
-    let homes = c.args.self.now.homes.entries in
-    let labels = c.args.self.now.labels.items in
     let es = c.args.self.now.dicts.entries in
-    let name = c.args.name.now in
-    let i = c.args.i in
-    let regions = c.requires.session.regions in
+    let command = c.args.command.now in
     let e = c.index_mut-2.result.now in
-    let dict = c.index_mut-2.ensures.value in
-    let same = same_Some c.index-entry.result.now e (sym c.index-entry.ensures ∙ dict) in
-    let j = c.in-Some.j in
-    let at_home = subst (λ (x : _). position (bytes_eq x.home) (keys_of homes) ≡ Some j) same (sym c.in-Some.ensures.index) in
-    let hv = c.index_mut.result.now in
-    let old = c.in-Best.best in
-    let home = entry-best _ hv old c.index_mut.ensures.value c.in-Best.is in
-    let there = kind-there M kinds slots homes labels es vs name e (best_entry hv.place old) j i regions.named regions.held c.requires.session.dicts at_home home c.requires.index dict in
-    let low = kind-within rules items e.dict.kind there.0 there.1 in
     let one = c.index_mut-3.result.now in
-    let at_index = subst (λ (x : _). slice_get items (x.dict.kind - 1) ≡ Some one) same
-    (slice-or items (c.index-entry.result.now.dict.kind - 1) one (subst (λ (x : _). x.dict.kind - 1 < length items) (sym same) low.1) c.index_mut-3.ensures.value) in
-    let at_rules = kind-at rules items e.dict.kind one low.0 at_index in
-    let after = c.run.new.best in
-    let new = c.run.new.dict in
     let told = c.run.new.kind in
-    let place = c.index-entry.result.now.dict.kind - 1 in
-    let at_place = subst (λ (x : _). slice_get items (x.dict.kind - 1) ≡ Some one) (sym same) at_index in
-    let same_kinds = map-set_same rules items place one told at_place c.run.ensures.rules in
-    let kinds' = rules_in rules (set items place told) in
-    let gone = gone_in g.D.DictDisc.gone items in
-    let gone' = gone_in g.D.DictDisc.gone (set items place told) in
-    let at_gone = kind-at g.D.DictDisc.gone items e.dict.kind one low.0 at_index in
-    let is_gone = map-set g.D.DictDisc.gone items place told ∙ ap (λ (x : _). set gone (x.dict.kind - 1) (g.D.DictDisc.gone told)) same in
-    let links = c.args.self.now.paths in
-    let there = pair-read es i name e (key-at es name i c.requires.index) dict in
-    let views = c.requires.session.views in
-    let free = if_some-at (λ (x : Entry). is_barred links x.1.number c.args.command.now ≡ false) (slice_get es i) (name, e) there c.requires.free in
-    let alone : RunsAlone (state_of kinds slots (held_in M c.args.self.now) (dicts_in (held_in M c.args.self.now) vs es)) (dict_home (held_in M c.args.self.now) vs (name, e)) c.args.command.now = record {
-      alone = c.requires.alone;
-      free = λ turn. linked-here kinds slots (held_in M c.args.self.now) links es c.show_names.ensures views i (name, e) there ∙ free-turn links e.number c.args.command.now free turn;
+    let kind = its-kind g at in
+    let k = c.index-entry.result.now.dict.kind - 1 in
+    let at_k = subst (λ (y : DictEntry). slice_get items (y.dict.kind - 1) ≡ Some one) (sym (same g at)) kind.1 in
+    let same_kinds = map-set_same rules items k one told at_k c.run.ensures.rules in
+    let ran : DictRan place best x index = record {
+      rules = rules one;
+      at_rules = kind-at rules items e.dict.kind one kind.0 kind.1;
+      after = c.run.new.best;
+      new = c.run.new.dict;
+      leaves = c.run.ensures.runs.leaves;
+      kinds' = rules_in rules (set items k told);
+      same_kinds = same_kinds;
     } in
-    let seen = views-ran M kinds slots homes labels es vs name e hv.place old j i regions.named regions.held c.requires.session.dicts at_home home c.requires.index dict (rules one) at_rules after new c.run.ensures.runs.leaves kinds' same_kinds links in
-    let steps =
-    steps-ran M kinds slots homes labels es vs name e hv.place old j i regions.named regions.held c.requires.session.dicts at_home home c.requires.index dict (rules one) at_rules after new c.run.ensures.runs.leaves kinds' same_kinds
-    (views_by links (set_value_at es i (record e { dict = new }))) seen c.run.result c.args.command.now gone gone' (g.D.DictDisc.gone one) (g.D.DictDisc.gone told) c.requires.name alone at_gone is_gone c.run.ensures.runs.step c.run.ensures.err c.run.ensures.runs.asked in
+    let did : CommandRan place best x index ran c.run.result command (gone one) (gone told) = record {
+      works = c.requires.name;
+      alone = c.requires.alone;
+      names = c.show_names.ensures;
+      free = if_some-at (λ (f : Entry). is_barred c.args.self.now.paths f.1.number command ≡ false) (slice_get es c.args.i) (c.args.name.now, e) x.there c.requires.free;
+      gives = c.run.ensures.runs.step;
+      err = c.run.ensures.err;
+      asked = c.run.ensures.runs.asked;
+    } in
+    let is_gone = map-set gone items k told ∙ ap (λ (y : DictEntry). set (gone_in gone items) (y.dict.kind - 1) (gone told)) (same g at) in
+    let steps = steps-ran place best x index ran c.run.result command (gone_in gone (set items k told)) (gone one) (gone told) did (kind-at gone items e.dict.kind one kind.0 kind.1) is_gone in
     record {
       steps = steps;
       stays = record {
         lasts = record {
           stands = record {
-            regions = record {
-              named = named-ran M kinds slots homes labels es vs name e hv.place old j i regions.named regions.held c.requires.session.dicts at_home home c.requires.index dict (rules one) at_rules after new c.run.ensures.runs.leaves kinds' same_kinds;
-              held = session-ran M kinds slots homes labels es vs name e hv.place old j i regions.named regions.held c.requires.session.dicts at_home home c.requires.index dict (rules one) at_rules after new c.run.ensures.runs.leaves kinds' same_kinds;
-            };
-            dicts = dicts-ran M kinds slots homes labels es vs name e hv.place old j i regions.named regions.held c.requires.session.dicts at_home home c.requires.index dict (rules one) at_rules after new c.run.ensures.runs.leaves kinds' same_kinds;
-            views = linked-ran M kinds slots homes labels es vs name e hv.place old j i regions.named regions.held c.requires.session.dicts at_home home c.requires.index dict (rules one) at_rules after new c.run.ensures.runs.leaves kinds' same_kinds links views
-                c.run.result c.args.command.now (g.D.DictDisc.gone one) (g.D.DictDisc.gone told) free c.run.ensures.runs.step c.run.ensures.err;
+            regions = record { named = named-ran place best x index ran; held = session-ran place best x index ran };
+            dicts = dicts-ran place best x index ran;
+            views = linked-ran place best x index ran c.run.result command (gone one) (gone told) did;
           };
           keeps_rules = same_kinds;
-          accounts = keeps-steps c.run.result _ _ c.args.command.now _ steps;
+          accounts = keeps-steps c.run.result _ _ command _ steps;
         };
         spent = refl;
       };
     }
-
-pub overflow_sub-k : goal.overflow_sub-k
-overflow_sub-k g c =
-    let M = meaning g in
-    let vs = views_by c.args.self.now.paths c.args.self.now.dicts.entries in
-    let rules = g.D.DictDisc.rules in
-    let items = c.args.kinds.now.items in
-    let kinds = rules_in rules items in
-    let es = c.args.self.now.dicts.entries in
-    let name = c.args.name.now in
-    let i = c.args.i in
-    let e = c.index-entry.result.now in
-    let dict = c.index-entry.ensures in
-    let there = pair-read es i name e (key-at es name i c.requires.index) dict in
-    let is = dict-at kinds (held_in M c.args.self.now) es i (name, e) there c.requires.session.dicts in
-    (kind-within rules items e.dict.kind is.rules is.kind).0
-
-pub index_mut-requires-3 : goal.index_mut-requires-3
-index_mut-requires-3 g c =
-    let M = meaning g in
-    let vs = views_by c.args.self.now.paths c.args.self.now.dicts.entries in
-    let rules = g.D.DictDisc.rules in
-    let items = c.args.kinds.now.items in
-    let kinds = rules_in rules items in
-    let es = c.args.self.now.dicts.entries in
-    let name = c.args.name.now in
-    let i = c.args.i in
-    let e = c.index-entry.result.now in
-    let dict = c.index-entry.ensures in
-    let there = pair-read es i name e (key-at es name i c.requires.index) dict in
-    let is = dict-at kinds (held_in M c.args.self.now) es i (name, e) there c.requires.session.dicts in
-    subst (λ n. e.dict.kind - 1 < n) (sym c.args.kinds.now.ok.0) (kind-within rules items e.dict.kind is.rules is.kind).1

@@ -10,110 +10,94 @@ use Rattle.vc_commands.specs.Held.{home_of}
 use Rattle.vc_paths.specs.Links.{is_viewed, numbers}
 use Rattle.vc_views.specs.Numbers.{is_barred, views_by}
 use Rattle.vc_views.proofs.NumbersToNames.{all-at}
-use Rattle.vc_steps.specs.Account.{state_of}
-use Rattle.vc_steps.specs.DictHomes.{dicts_in}
 use Rattle.vc_steps.specs.Dicts.{dict_command, dict_of, dict_step, on_found}
-use Rattle.vc_steps.specs.Homes.{held_in, slots_on, state_over}
+use Rattle.vc_steps.specs.Homes.{held_in, state_over}
 use Rattle.vc_steps.specs.Moment.{moment}
 use Rattle.vc_steps.specs.Steps.{Steps}
 use Rattle.vc_steps.specs.Told.{gone_in, rules_in}
 use Rattle.vc_steps.proofs.Barred.{barred-refused, runs-alone, viewed-here}
 use Rattle.vc_steps.proofs.Changing.{gives-same}
-use Rattle.vc_steps.proofs.DictChange.{dict-at}
-use Rattle.vc_steps.proofs.DictEnd.{some-case, step-dict, step-shut}
-use Rattle.vc_steps.proofs.DictNamed.{dict-none, first-dict, key-at}
-use Rattle.vc_steps.proofs.DictRun.{pair-read}
+use Rattle.vc_steps.proofs.DictEnd.{step-dict, step-shut}
+use Rattle.vc_steps.proofs.DictNamed.{dict-none}
 use Rattle.vc_steps.proofs.DictsStay.{Entry}
-use Rattle.vc_steps.proofs.Ending.{if_some-to}
+use Rattle.vc_steps.proofs.Ending.{if_some-at, if_some-to}
+use Rattle.vc_steps.proofs.SessionHere.{DictAt, SessionHere, entry_at, first-at, helds, session_here, stands-at, state_here, views, whole_at}
 use Rattle.vc_steps.proofs.Settling.{settles-equal, settles-same}
 use Rattle.vc_steps.proofs.session.Session.run_on_dict.Given as given
 use Rattle.vc_steps.proofs.session.Session.run_on_dict.Goals as goal
+use Rattle.vc_steps.proofs.session.Session.run_on_dict.Goals.{After-index}
 
 abbrev meaning : (g : given.Over) → (x : g.dyn-1.0.I) × (g.dyn-1.0.entry x).0.Denot → Discipline
 meaning g p = (g.dyn-1.0.entry p.0).1.state p.1
 
+-- the session, and the dictionary of the name
+abbrev here : (g : given.Over) (c : After-index g) → SessionHere (meaning g)
+here g c = session_here (meaning g) g.D.DictDisc.rules g.D.DictDisc.gone c.args.shelf.now c.args.self.now c.args.kinds.now.items c.requires.session
+
+abbrev own : (g : given.Over) (c : After-index g) → DictAt c.args.self.now.dicts.entries
+own g c = record { name = c.args.name.now; i = c.in-Some.i; v = c.index.result.now; index = sym c.in-Some.ensures.index; value = c.index.ensures }
+
 pub returns-in_default-clause-steps : goal.returns-in_default-clause-steps
 returns-in_default-clause-steps g c =
     let M = meaning g in
-    let vs = views_by c.args.self.now.paths c.args.self.now.dicts.entries in
-    let hs = held_in M c.args.self.now in
-    let es = c.args.self.now.dicts.entries in
-    let s = state_of (rules_in g.D.DictDisc.rules c.args.kinds.now.items) (slots_on M c.args.shelf.now) hs (dicts_in hs vs es) in
+    let session = c.args.self.now in
+    let es = session.dicts.entries in
+    let s = state_over M (rules_in g.D.DictDisc.rules c.args.kinds.now.items) c.args.shelf.now session in
     let name = c.args.name.now in
     let command = c.args.command.now in
     record {
       gives =
           gives-same (dict_step s name command NoNeed) (gone_in g.D.DictDisc.gone c.args.kinds.now.items) (Refused NoDictionary) s
-          (ap (on_found s (dict_command s command NoNeed)) (dict-none hs vs es name (sym c.in_default.ensures.found)));
+          (ap (on_found s (dict_command s command NoNeed)) (dict-none (held_in M session) (views_by session.paths es) es name (sym c.in_default.ensures.found)));
       settles = settles-same _;
       lacks = tt;
     }
 
 pub is_barred-requires : goal.is_barred-requires
 is_barred-requires g c =
+    let a = (goal.at.is_barred-requires g c).After-index in
     let es = c.args.self.now.dicts.entries in
-    let name = c.args.name.now in
-    let i = c.in-Some.i in
-    let there = pair-read es i name c.index.result.now (key-at es name i (sym c.in-Some.ensures.index)) c.index.ensures in
-    all-at (λ (e : Entry). e.1.number < numbers) es i (name, c.index.result.now) c.requires.session.views.numbered.below there
+    all-at (λ (e : Entry). e.1.number < numbers) es c.in-Some.i (entry_at (own g a)) c.requires.session.views.numbered.below (stands-at es (own g a))
 
 pub returns-then-is_barred-clause-steps : goal.returns-then-is_barred-clause-steps
 returns-then-is_barred-clause-steps g c =
-    let M = meaning g in
-    let links = c.args.self.now.paths in
-    let kinds = rules_in g.D.DictDisc.rules c.args.kinds.now.items in
-    let slots = slots_on M c.args.shelf.now in
-    let hs = held_in M c.args.self.now in
-    let es = c.args.self.now.dicts.entries in
-    let vs = views_by links es in
-    let s = state_of kinds slots hs (dicts_in hs vs es) in
-    let name = c.args.name.now in
+    let a = (goal.at.returns-then-is_barred-clause-steps g c).After-index in
+    let all = here g a in
+    let d = own g a in
+    let there = stands-at all.es d in
+    let is = whole_at all d in
+    let s = state_here all in
     let command = c.args.command.now in
-    let i = c.in-Some.i in
-    let index = sym c.in-Some.ensures.index in
-    let e : Entry = (name, c.index.result.now) in
-    let there = pair-read es i name c.index.result.now (key-at es name i index) c.index.ensures in
-    let dicts = c.requires.session.dicts in
-    let is = dict-at kinds hs es i e there dicts in
     record {
       gives =
-          gives-same (dict_step s name command NoNeed) (gone_in g.D.DictDisc.gone c.args.kinds.now.items) (Refused Viewed) s
-          (step-dict kinds slots hs es vs i e there (first-dict hs vs es name i index) dicts command NoNeed
-          ∙ barred-refused kinds slots hs links es c.show_names.ensures c.requires.session.views i e there command NoNeed (home_of is.home) is.rules (sym c.if-is_barred.ensures));
+          gives-same (dict_step s d.name command NoNeed) all.gone (Refused Viewed) s
+          (step-dict all.kinds all.slots (helds all) all.es (views all) d.i (entry_at d) there (first-at all d) all.dicts command NoNeed
+          ∙ barred-refused all.kinds all.slots (helds all) all.links all.es c.show_names.ensures all.are d.i (entry_at d) there command NoNeed (home_of is.home) is.rules (sym c.if-is_barred.ensures));
       settles = settles-same _;
       lacks = tt;
     }
 
 pub shut_at-requires-clause-unviewed : goal.shut_at-requires-clause-unviewed
 shut_at-requires-clause-unviewed g c =
+    let d = own g (goal.at.shut_at-requires-clause-unviewed g c).After-index in
+    let links = c.args.self.now.paths in
     let es = c.args.self.now.dicts.entries in
-    let name = c.args.name.now in
-    let i = c.in-Some.i in
-    let there = pair-read es i name c.index.result.now (key-at es name i (sym c.in-Some.ensures.index)) c.index.ensures in
-    if_some-to (λ (e : Entry). is_viewed c.args.self.now.paths e.1.number ≡ false) (slice_get es i) (name, c.index.result.now) there
-    (ap (is_barred c.args.self.now.paths c.index.result.now.number) (sym c.in-Shut.is) ∙ sym c.if-is_barred.ensures)
+    if_some-to (λ (e : Entry). is_viewed links e.1.number ≡ false) (slice_get es d.i) (entry_at d) (stands-at es d)
+    (ap (is_barred links d.v.number) (sym c.in-Shut.is) ∙ sym c.if-is_barred.ensures)
 
 pub returns-in-Shut-clause-steps : goal.returns-in-Shut-clause-steps
 returns-in-Shut-clause-steps g c =
-    let M = meaning g in
-    let links = c.args.self.now.paths in
-    let kinds = rules_in g.D.DictDisc.rules c.args.kinds.now.items in
-    let slots = slots_on M c.args.shelf.now in
-    let hs = held_in M c.args.self.now in
-    let es = c.args.self.now.dicts.entries in
-    let vs = views_by links es in
-    let name = c.args.name.now in
-    let i = c.in-Some.i in
-    let index = sym c.in-Some.ensures.index in
-    let e : Entry = (name, c.index.result.now) in
-    let there = pair-read es i name c.index.result.now (key-at es name i index) c.index.ensures in
-    let shuts = some-case _ e _ there c.shut_at.ensures.shuts.shuts in
-    let unviewed = viewed-here kinds slots hs links es c.show_names.ensures c.requires.session.views i e there
-    ∙ (ap (is_barred links c.index.result.now.number) (sym c.in-Shut.is) ∙ sym c.if-is_barred.ensures) in
+    let a = (goal.at.returns-in-Shut-clause-steps g c).After-index in
+    let all = here g a in
+    let d = own g a in
+    let there = stands-at all.es d in
+    let shuts = if_some-at _ (slice_get all.es d.i) (entry_at d) there c.shut_at.ensures.shuts.shuts in
+    let unviewed = viewed-here all.kinds all.slots (helds all) all.links all.es c.show_names.ensures all.are d.i (entry_at d) there
+    ∙ (ap (is_barred all.links d.v.number) (sym c.in-Shut.is) ∙ sym c.if-is_barred.ensures) in
     record {
       gives =
-          step-shut kinds slots hs es vs i e there (first-dict hs vs es name i index) c.requires.session.dicts c.args.command.now c.in-Shut.field-0 _
-          (gone_in g.D.DictDisc.gone c.args.kinds.now.items) _ c.in-Shut.is unviewed shuts.state shuts.gone;
+          step-shut all.kinds all.slots (helds all) all.es (views all) d.i (entry_at d) there (first-at all d) all.dicts c.args.command.now c.in-Shut.field-0 _
+          all.gone _ c.in-Shut.is unviewed shuts.state shuts.gone;
       settles = settles-equal _ _ shuts.accounts;
       lacks = tt;
     }
@@ -124,11 +108,9 @@ run_at-requires-clause-alone g c =
 
 pub run_at-requires-clause-free : goal.run_at-requires-clause-free
 run_at-requires-clause-free g c =
+    let d = own g (goal.at.run_at-requires-clause-free g c).After-index in
     let es = c.args.self.now.dicts.entries in
-    let name = c.args.name.now in
-    let i = c.in-Some.i in
-    let there = pair-read es i name c.index.result.now (key-at es name i (sym c.in-Some.ensures.index)) c.index.ensures in
-    if_some-to (λ (e : Entry). is_barred c.args.self.now.paths e.1.number c.args.command.now ≡ false) (slice_get es i) (name, c.index.result.now) there (sym c.if-is_barred.ensures)
+    if_some-to (λ (e : Entry). is_barred c.args.self.now.paths e.1.number c.args.command.now ≡ false) (slice_get es d.i) (entry_at d) (stands-at es d) (sym c.if-is_barred.ensures)
 
 pub returns-in-View-clause-steps : goal.returns-in-View-clause-steps
 returns-in-View-clause-steps g c =

@@ -3,10 +3,10 @@ use Rattle.vc_model.specs.Discipline.{Discipline}
 use Rattle.vc_script.specs.declared.refusal.Refusal.TheVariants as why
 use Rattle.vc_script.specs.declared.reply.Reply.TheVariants.{Refused, Views}
 use Rattle.vc_views.specs.Numbers.{AreLinked, views_by}
-use Rattle.vc_steps.specs.Homes.{held_in, slots_on}
-use Rattle.vc_steps.specs.Told.{gone_in, rules_in}
+use Rattle.vc_steps.specs.Homes.{held_in}
 use Rattle.vc_steps.proofs.DictNamed.{dict-none}
-use Rattle.vc_steps.proofs.SeenView.{DictAt, SessionHere, ViewsTo, links-ended, links-refused, links-set, number-below, path-named, path-other, stands-viewed, steps-ended, steps-missing, steps-refused, steps-set}
+use Rattle.vc_steps.proofs.SeenView.{ViewsHere, ViewsTo, links-ended, links-refused, links-set, number-below, path-named, path-other, stands-viewed, steps-ended, steps-missing, steps-refused, steps-set}
+use Rattle.vc_steps.proofs.SessionHere.{DictAt, session_here}
 use Rattle.vc_steps.proofs.Settling.{keeps-same}
 use Rattle.vc_steps.proofs.session.Session.view_named.Given as given
 use Rattle.vc_steps.proofs.session.Session.view_named.Goals as goal
@@ -16,18 +16,9 @@ abbrev meaning : (g : given.Over) → (x : g.dyn-1.0.I) × (g.dyn-1.0.entry x).0
 meaning g p = (g.dyn-1.0.entry p.0).1.state p.1
 
 -- the session
-abbrev here : (g : given.Over) (c : After-index g) → SessionHere (meaning g)
+abbrev here : (g : given.Over) (c : After-index g) → ViewsHere (meaning g)
 here g c = record {
-  kinds = rules_in g.D.DictDisc.rules c.args.kinds.now.items;
-  slots = slots_on (meaning g) c.args.shelf.now;
-  homes = c.args.self.now.homes.entries;
-  labels = c.args.self.now.labels.items;
-  links = c.args.self.now.paths;
-  es = c.args.self.now.dicts.entries;
-  gone = gone_in g.D.DictDisc.gone c.args.kinds.now.items;
-  named = c.requires.session.regions.named;
-  dicts = c.requires.session.dicts;
-  are = c.requires.session.views;
+  here = session_here (meaning g) g.D.DictDisc.rules g.D.DictDisc.gone c.args.shelf.now c.args.self.now c.args.kinds.now.items c.requires.session;
   paths = c.show_invariant.ensures;
   names = c.show_names.ensures;
 }
@@ -113,7 +104,7 @@ returns-in-Ok-clause-stays g c =
     let same' = same-dicts g at.After-view_at in
     let linked =
     links-set (meaning g) (here g at.After-index) (own g at.After-index) (other g at.After-index-2) new.homes.entries new.dicts.entries new.paths same same' (sym c.in-Ok.ensures.fault) c.in-Ok.ensures.ok in
-    let stands = stands-viewed (meaning g) (here g at.After-index) (own g at.After-index) (other g at.After-index-2) new.homes.entries new.dicts.entries new.paths same same' c.requires.session.regions.held linked in
+    let stands = stands-viewed (meaning g) (here g at.After-index) (own g at.After-index) (other g at.After-index-2) new.homes.entries new.dicts.entries new.paths same same' linked in
     record {
       lasts = record {
         stands = record {
@@ -144,7 +135,7 @@ returns-in-Err-clause-stays g c =
     let same = same-homes g at.After-view_at in
     let same' = same-dicts g at.After-view_at in
     let linked = links-refused (meaning g) (here g at.After-index) (own g at.After-index) (other g at.After-index-2) new.homes.entries new.dicts.entries new.paths same same' c.in-Err.ensures.err in
-    let stands = stands-viewed (meaning g) (here g at.After-index) (own g at.After-index) (other g at.After-index-2) new.homes.entries new.dicts.entries new.paths same same' c.requires.session.regions.held linked in
+    let stands = stands-viewed (meaning g) (here g at.After-index) (own g at.After-index) (other g at.After-index-2) new.homes.entries new.dicts.entries new.paths same same' linked in
     record {
       lasts = record {
         stands = record {

@@ -1,0 +1,212 @@
+-- The opening of a dictionary in a session as it is stored.
+use Rattle.std.proofs.Common.{◌≡◌, ◌<◌, ℕ, List, [], ◌∷◌, ◌++◌, Some, None, Result, length, map, set, refl, sym, ap, ◌∙◌, subst}
+use Rattle.std.specs.Prelude.{slice_get}
+use Rattle.indexmap.specs.IndexMap.{set_value_at}
+use Rattle.vc_base.specs.declared.dict_method.DictMethod.{DictMethod}
+use Rattle.vc_dict.specs.declared.dict.Dict.{Dict}
+use Rattle.vc_model.specs.Discipline.{Discipline}
+use Rattle.vc_model.specs.Layout.{Layout}
+use Rattle.vc_model.specs.Numbered.{at_number}
+use Rattle.vc_dtdisc.specs.Rules.{Rules}
+use Rattle.vc_best.specs.Cells.{cells_in}
+use Rattle.vc_best.specs.Parts.{disc_in}
+use Rattle.vc_best.specs.declared.best.Best.{Best}
+use Rattle.vc_region.specs.Region.{OfBest}
+use Rattle.vc_seg.specs.Answer.{IsRefusal}
+use Rattle.vc_seg.specs.declared.fault.RegionFault.{RegionFault}
+use Rattle.vc_objects.specs.Leaves.{LacksTable, Leaves, RefusedBy}
+use Rattle.vc_objects.specs.Objects.{owned}
+use Rattle.vc_objects.specs.Parts.{dictionary_in}
+use Rattle.vc_objects.specs.Promises.{Opens, StaysAll, opening_in}
+use Rattle.vc_script.specs.Needs.{NoNeed}
+use Rattle.vc_script.specs.declared.command.Command.{Command}
+use Rattle.vc_script.specs.declared.command.Command.TheVariants.{OpenDict}
+use Rattle.vc_script.specs.declared.reply.Reply.{Reply}
+use Rattle.vc_script.specs.declared.reply.Reply.TheVariants.{Opened}
+use Rattle.vc_commands.specs.Held.{Held, IsChange, home_of}
+use Rattle.vc_commands.specs.Home.{is_home}
+use Rattle.vc_commands.specs.RegionRun.{held_of}
+use Rattle.vc_commands.proofs.Firsts.{IsFirst}
+use Rattle.vc_views.specs.Dicts.{entry_numbered}
+use Rattle.vc_paths.specs.Links.{numbers}
+use Rattle.vc_views.specs.Numbers.{AreLinked, views_by}
+use Rattle.vc_views.proofs.LinkChanges.{linked-more, views-free, views-more}
+use Rattle.vc_steps.specs.Account.{IsHeld, IsSession, Settles, accounts, settled, state_of}
+use Rattle.vc_steps.specs.DictHomes.{AreDicts, dicts_in}
+use Rattle.vc_steps.specs.Dicts.{dict_refused, open_dict_step}
+use Rattle.vc_steps.specs.Homes.{held_all}
+use Rattle.vc_steps.specs.Moment.{Moment}
+use Rattle.vc_steps.specs.Step.{GivesStep}
+use Rattle.vc_steps.specs.Steps.{Steps, StepsBy}
+use Rattle.vc_steps.specs.Table.{TellsTable}
+use Rattle.vc_steps.proofs.Changing.{session-change, settles-none}
+use Rattle.vc_steps.proofs.DictChange.{Touches}
+use Rattle.vc_steps.proofs.DictOpening.{dicts-failed, dicts-opened, open-done, steps-failed}
+use Rattle.vc_steps.proofs.DictRegion.{best_entry, region-change, touches}
+use Rattle.vc_steps.proofs.DictsStay.{Entry, Vs}
+use Rattle.vc_steps.proofs.RegionAt.{RegionAt, helds-set, named-set, region-first, region-stands, region_at}
+use Rattle.vc_steps.proofs.RegionSteps.{moment_over}
+use Rattle.vc_steps.proofs.SessionHere.{SessionHere, helds, state_here, views}
+use Rattle.vc_steps.proofs.Sessions.{Slots, held-at}
+
+-- a session, the best region of a name, and the dictionary that is opened there, where nothing stands against it
+pub record OpensIn {I : Type 0} {V : I → Type 0} (meaning : (x : I) × V x → Discipline) (place : ℕ) (before : Best I V) : Type 0 where
+  pub here : SessionHere meaning
+  pub r : List ℕ
+  pub j : ℕ
+  pub region : RegionAt here.homes here.labels r j (best_entry place before)
+  pub d : List ℕ
+  pub method : DictMethod
+  pub k : ℕ
+  pub allowed : dict_refused (state_here here) (home_of (region_at meaning region)) d k ≡ None
+
+module _ {I : Type 0} {V : I → Type 0} {meaning : (x : I) × V x → Discipline} (place : ℕ) (before : Best I V) (x : OpensIn meaning place before) where
+  abbrev here : SessionHere meaning
+  here = x.here
+
+  abbrev kinds : List Rules
+  kinds = here.kinds
+
+  abbrev slots : Slots
+  slots = here.slots
+
+  abbrev es : List Entry
+  es = here.es
+
+  abbrev vs : Vs
+  vs = views here
+
+  abbrev hs : List Held
+  hs = helds here
+
+  abbrev h : Held
+  h = region_at meaning x.region
+
+  at : slice_get hs x.j ≡ Some h
+  at = region-stands meaning x.region
+
+  first : IsFirst (is_home x.r) (map home_of hs) x.j
+  first = region-first meaning x.region
+
+  abbrev command : Command
+  command = OpenDict x.d x.method x.r x.k
+
+  abbrev moment_before : Moment
+  moment_before = moment_over slots es vs kinds here.gone hs
+
+  -- what the call left of the region
+  module _ (after : Best I V) (mine : List ℕ) (leaves : Leaves meaning before after [] mine) where
+    abbrev g : Held
+    g = held_of meaning x.r (best_entry place after) x.region.l
+
+    touch : Touches h g [] mine
+    touch = touches meaning x.r place before after x.region.l [] mine leaves
+
+    change : IsChange (let k : Held = record h { cells = cells_in after } in k) g
+    change =
+        let is_held : IsHeld slots h = held-at slots hs x.j h at here.held in
+        region-change meaning x.r place before after x.region.l [] mine leaves is_held.lent is_held.names
+
+    abbrev hs' : List Held
+    hs' = held_all meaning (set_value_at here.homes x.j (best_entry place after)) here.labels
+
+    held-is : hs' ≡ set hs x.j g
+    held-is = helds-set meaning x.region (best_entry place after)
+
+    pub named-opened : length here.labels ≡ length (set_value_at here.homes x.j (best_entry place after))
+    named-opened = named-set meaning x.region (best_entry place after)
+
+    pub session-opened : IsSession slots hs'
+    session-opened = subst (IsSession slots) (sym held-is) (session-change slots hs x.j h g at here.held change)
+
+  -- with these dictionaries
+  abbrev moment_with : List Held → List Entry → Moment
+  moment_with gs es' = moment_over slots es' (views_by here.links es') kinds here.gone gs
+
+  -- no block was put for its table
+  module _ (after : Best I V) (stays : StaysAll meaning before after) (es' : List Entry) (kept : es' ≡ es) where
+    abbrev gs : List Held
+    gs = hs' after [] stays.leaves
+
+    by-kept : (P : List Held → List Entry → Type 0) → P (set hs x.j (g after [] stays.leaves)) es → P gs es'
+    by-kept P p = subst (λ ks. P ks es') (sym (held-is after [] stays.leaves)) (subst (P (set hs x.j (g after [] stays.leaves))) (sym kept) p)
+
+    pub steps-unopened : {E : Type 0} (fault : RegionFault) (answer : Result Reply E) → TellsTable fault answer → RefusedBy fault (LacksTable (Some 16) (disc_in meaning before) (disc_in meaning after)) (disc_in meaning before) (disc_in meaning after)
+        → IsRefusal (opening_in meaning before x.method) fault → StepsBy answer moment_before (moment_with gs es') command (λ st. open_dict_step st x.d x.method x.r x.k)
+    steps-unopened fault answer tells asked refusal =
+        by-kept (λ ks ds. StepsBy answer moment_before (moment_with ks ds) command (λ st. open_dict_step st x.d x.method x.r x.k))
+        (steps-failed kinds slots hs es vs x.j h at x.r first here.held here.dicts x.d x.method x.k (g after [] stays.leaves) (change after [] stays.leaves) here.gone fault answer tells asked refusal x.allowed (touch after [] stays.leaves)
+        (ap (λ (q : Layout ℕ). OfBest q) stays.region) refl)
+
+    pub dicts-unopened : AreDicts kinds gs es'
+    dicts-unopened =
+        by-kept (AreDicts kinds) (dicts-failed kinds slots hs es vs x.j h at x.r first here.held here.dicts x.d x.method x.k (g after [] stays.leaves) (change after [] stays.leaves) (touch after [] stays.leaves))
+
+    pub linked-unopened : AreLinked here.links es'
+    linked-unopened = subst (AreLinked here.links) (sym kept) here.are
+
+  abbrev entry_new : ℕ → Dict → Entry
+  entry_new n dict = (x.d, record { home = x.r; number = n; dict = dict })
+
+  -- it was opened by the rules of its kind, under a number that none has, and is the last
+  pub record DictOpened : Type 0 where
+    pub rules : Rules
+    pub by : at_number kinds x.k ≡ Some rules
+    pub dict : Dict
+    pub after : Best I V
+    pub opens : Opens meaning rules x.method x.k before dict after
+    pub asked : (disc_in meaning after).faults ≡ (disc_in meaning before).faults
+    pub n : ℕ
+    pub free : entry_numbered n es ≡ None
+    pub below : n < numbers
+    pub es' : List Entry
+    pub last : es' ≡ es ++ entry_new n dict ∷ []
+
+  module _ (o : DictOpened) where
+    abbrev mine : List ℕ
+    mine = owned (dictionary_in o.dict o.after)
+
+    abbrev one : Held
+    one = g o.after mine o.opens.leaves
+
+    abbrev after_hs : List Held
+    after_hs = set hs x.j one
+
+    abbrev gs' : List Held
+    gs' = hs' o.after mine o.opens.leaves
+
+    same : gs' ≡ after_hs
+    same = held-is o.after mine o.opens.leaves
+
+    changed : IsChange (let k : Held = record h { cells = cells_in o.after } in k) one
+    changed = change o.after mine o.opens.leaves
+
+    touched : Touches h one [] mine
+    touched = touch o.after mine o.opens.leaves
+
+    unseen : vs o.n ≡ None
+    unseen = views-free here.links es o.n here.are o.free
+
+    state-is : (moment_with gs' o.es').state ≡ state_of kinds slots after_hs (dicts_in after_hs vs (es ++ entry_new o.n o.dict ∷ []))
+    state-is =
+        ap (λ ks. (moment_with ks o.es').state) same
+        ∙ (ap (λ ds. (moment_with after_hs ds).state) o.last
+        ∙ ap (λ v. state_of kinds slots after_hs (dicts_in after_hs v (es ++ entry_new o.n o.dict ∷ []))) (views-more here.links es (entry_new o.n o.dict) here.are o.free))
+
+    pub steps-opened : Steps moment_before (moment_with gs' o.es') command (open_dict_step (state_here here) x.d x.method x.r x.k NoNeed) (Opened x.d)
+    steps-opened = record {
+      gives =
+          subst (λ q. GivesStep (open_dict_step (state_here here) x.d x.method x.r x.k NoNeed) here.gone (Opened x.d) q here.gone) (sym state-is)
+          (open-done kinds slots hs es vs x.j h at x.r first here.held here.dicts x.d x.method x.k one o.dict o.n unseen changed touched refl o.opens.numbered o.rules o.by o.opens.whole here.gone x.allowed o.opens.grown);
+      settles = subst (λ ks. Settles (settled (accounts slots) hs) (settled (accounts slots) ks) []) (sym same) (settles-none slots hs x.j h one at here.held changed o.asked);
+      lacks = tt;
+    }
+
+    pub dicts-new : AreDicts kinds gs' o.es'
+    dicts-new =
+        subst (λ ks. AreDicts kinds ks o.es') (sym same)
+        (subst (AreDicts kinds after_hs) (sym o.last)
+        (dicts-opened kinds slots hs es vs x.j h at x.r first here.held here.dicts x.d x.method x.k one o.dict o.n unseen changed touched refl o.opens.numbered o.rules o.by o.opens.whole))
+
+    pub linked-new : AreLinked here.links o.es'
+    linked-new = subst (AreLinked here.links) (sym o.last) (linked-more here.links es (entry_new o.n o.dict) here.are o.free o.below)
