@@ -1,5 +1,5 @@
 -- A command on a dictionary, over the regions and dictionaries of a session as they are stored.
-use Rattle.std.proofs.Common.{◌≡◌, ⊎_elim, ℕ, ◌-◌, true, false, cond, List, [], Some, None, Result, Ok, Err, IfOk, OnErr, length, map, set, refl, sym, ap, ◌∙◌, subst}
+use Rattle.std.proofs.Common.{◌≡◌, ⊎_elim, ℕ, ◌-◌, true, false, cond, List, [], Some, None, Result, Ok, Err, IfOk, OnErr, length, set, refl, sym, ap, ◌∙◌, subst}
 use Rattle.std.specs.Prelude.{slice_get}
 use Rattle.std.specs.Str.{bytes_eq}
 use Rattle.std.specs.Map.{keys_of}
@@ -29,13 +29,13 @@ use Rattle.vc_commands.specs.Held.{Held, IsChange, home_of}
 use Rattle.vc_steps.specs.Account.{IsHeld, IsSession, Settles, accounts, settled, state_of}
 use Rattle.vc_steps.specs.DictHomes.{AreDicts, IsDictOf, dict_home, dicts_in}
 use Rattle.vc_steps.specs.Dicts.{dict_changed, dict_command, dict_of, dict_step, is_turn, runs_alone, seat_of}
-use Rattle.vc_views.specs.Views.{is_dict, is_linked_in, DictHome}
+use Rattle.vc_views.specs.Views.{is_linked_in, DictHome}
 use Rattle.vc_steps.specs.Homes.{held_all}
 use Rattle.vc_commands.specs.RegionRun.{held_of}
 use Rattle.vc_steps.specs.Lacks.{IsCutOff, StepLacksFor}
 use Rattle.vc_steps.specs.Refusals.{refusal_at}
 use Rattle.vc_steps.specs.State.{State, refused}
-use Rattle.vc_commands.specs.Home.{Home, is_home}
+use Rattle.vc_commands.specs.Home.{Home}
 use Rattle.vc_steps.specs.Moment.{Moment}
 use Rattle.vc_steps.specs.Step.{GivesStep}
 use Rattle.vc_steps.specs.Steps.{StepsBy}
@@ -46,17 +46,16 @@ use Rattle.vc_steps.proofs.DictMethod.{method-ran}
 use Rattle.vc_steps.proofs.Cells.{at_number_some, set_same}
 use Rattle.vc_steps.proofs.Changing.{session-change, settles-none}
 use Rattle.vc_steps.proofs.DictChange.{Touches}
-use Rattle.vc_steps.proofs.DictNamed.{first-dict, value-set}
+use Rattle.vc_steps.proofs.DictNamed.{value-set}
 use Rattle.vc_steps.proofs.DictRegion.{best_entry, region-change, touches}
 use Rattle.vc_steps.proofs.DictReplies.{IsOther, other-dict}
 use Rattle.vc_steps.proofs.DictStep.{cut-after, dicts-after, lacks-after, settles-after, step-after}
 use Rattle.vc_steps.proofs.DictsStay.{Entry, Vs}
-use Rattle.vc_commands.proofs.Firsts.{IsFirst}
 use Rattle.vc_steps.proofs.Sessions.{Slots, held-at}
 use Rattle.std.specs.List.{IsDistinct, position}
 use Rattle.vc_steps.proofs.Barred.{free-turn, linked-here}
 use Rattle.vc_steps.proofs.DictThere.{DictIn, its, whole-there}
-use Rattle.vc_steps.proofs.RegionAt.{helds-set, named-set, region-first, region-stands, region_at}
+use Rattle.vc_steps.proofs.RegionAt.{helds-set, named-set, region-stands, region_at}
 use Rattle.vc_steps.proofs.SessionHere.{SessionHere, helds, state_here, views}
 
 -- a command runs on a dictionary alone, and turns none that is linked
@@ -115,12 +114,6 @@ module _ {I : Type 0} {V : I → Type 0} {meaning : (x : I) × V x → Disciplin
 
   at : slice_get hs x.j ≡ Some h
   at = region-stands meaning x.region
-
-  first : IsFirst (is_home entry.home) (map home_of hs) x.j
-  first = region-first meaning x.region
-
-  first_dict : IsFirst (is_dict name) (dicts_in hs vs es) i
-  first_dict = first-dict hs vs es name i index
 
   abbrev s : State
   s = state_here here
@@ -211,7 +204,7 @@ module _ {I : Type 0} {V : I → Type 0} {meaning : (x : I) × V x → Disciplin
     pub dicts-ran : AreDicts kinds' hs' es'
     dicts-ran =
         carry AreDicts
-        (dicts-after kinds slots hs es vs x.j i h e at x.there first first_dict here.held here.dicts refl g new change touch refl ran.leaves.kind whole-new)
+        (dicts-after x index g new change touch refl ran.leaves.kind whole-new)
 
     -- with no fault counted
     quiet-ran : (disc_in meaning after).faults ≡ (disc_in meaning before).faults → Settles (settled (accounts slots) hs) (settled (accounts slots) hs') []
@@ -233,7 +226,7 @@ module _ {I : Type 0} {V : I → Type 0} {meaning : (x : I) × V x → Disciplin
         → GivesStep (dict_step s name command (need_shown reply)) gone reply (state_of kinds' slots hs' (dicts_in hs' vs es')) gone'
     step-ran command reply gone gone' old told alone gives at_gone is_gone =
         carry (λ ks xs ys. GivesStep (dict_step s name command (need_shown reply)) gone reply (state_of ks slots xs (dicts_in xs vs ys)) gone')
-        (step-after kinds slots hs es vs x.j i h e at x.there first first_dict here.held here.dicts refl g new change touch refl ran.leaves.kind whole-new command reply gone gone' old told
+        (step-after x index g new change touch refl ran.leaves.kind whole-new command reply gone gone' old told
         (alone-command s command (need_shown reply) (dict_home hs vs e) (home_of h) is.rules alone)
         (subst (λ r. GivesDict (in_dict (seat_by r) command (need_shown reply)) (rest_in after) (dictionary_in new after) reply old told) rules-is gives)
         at_gone is_gone)
@@ -244,17 +237,17 @@ module _ {I : Type 0} {V : I → Type 0} {meaning : (x : I) × V x → Disciplin
     settles-ran : (command : Command) (reply : Reply) → dict_of command ≡ Some name → IsOther reply → LacksBy tags command reply (disc_in meaning before) (disc_in meaning after) → Settles (settled (accounts slots) hs) (settled (accounts slots) hs') (refusal_at s command reply)
     settles-ran command reply works other lacks =
         carry (λ ks xs ys. Settles (settled (accounts slots) hs) (settled (accounts slots) xs) (refusal_at s command reply))
-        (settles-after kinds slots hs es vs x.j i h e at x.there first first_dict here.held here.dicts refl g new change touch refl ran.leaves.kind whole-new command reply works other (lacks-by command reply lacks))
+        (settles-after x index g new change touch refl ran.leaves.kind whole-new command reply works other (lacks-by command reply lacks))
 
     lacks-ran : (command : Command) (reply : Reply) → dict_of command ≡ Some name → IsOther reply → LacksBy tags command reply (disc_in meaning before) (disc_in meaning after) → StepLacksFor s hs hs' command reply
     lacks-ran command reply works other lacks =
         carry (λ ks xs ys. StepLacksFor s hs xs command reply)
-        (lacks-after kinds slots hs es vs x.j i h e at x.there first first_dict here.held here.dicts refl g new change touch refl ran.leaves.kind whole-new command reply works other (lacks-by command reply lacks))
+        (lacks-after x index g new change touch refl ran.leaves.kind whole-new command reply works other (lacks-by command reply lacks))
 
     cut-ran : (command : Command) → dict_of command ≡ Some name → IsSpentBy tags command (rest_in after) (dictionary_in new after) → IsCutOff s command (state_of kinds' slots hs' (dicts_in hs' vs es'))
     cut-ran command works spent =
         carry (λ ks xs ys. IsCutOff s command (state_of ks slots xs (dicts_in xs vs ys)))
-        (cut-after kinds slots hs es vs x.j i h e at x.there first first_dict here.held here.dicts refl g new change touch refl ran.leaves.kind whole-new command works
+        (cut-after x index g new change touch refl ran.leaves.kind whole-new command works
         (subst (λ r. IsSpentBy (seat_by r) command (rest_in after) (dictionary_in new after)) rules-is spent))
 
     -- its reply is of no block's segment

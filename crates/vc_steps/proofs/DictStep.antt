@@ -1,7 +1,7 @@
 -- What a command on a dictionary does to the state, to its kind and to the settled shelf.
 use Rattle.std.proofs.Common.{◌≡◌, ℕ, ◌-◌, true, false, List, Option, Some, None, map, option_map, set, refl, sym, ap, ◌∙◌, subst, inl, inr}
 use Rattle.std.specs.Prelude.{◌⊎◌, remove, slice_get}
-use Rattle.std.specs.List.{AllByRecursion}
+use Rattle.std.specs.List.{AllByRecursion, position}
 use Rattle.std.specs.Str.{bytes_eq}
 use Rattle.std.proofs.lemmas.Option.{none-some, same_Some, slice_get-map}
 use Rattle.std.proofs.lemmas.Slice.Eq.{bytes_eq-Decides}
@@ -14,7 +14,7 @@ use Rattle.vc_model.specs.Outcome.{Outcome, done_as}
 use Rattle.vc_dict.specs.declared.dict.Dict.{Dict}
 use Rattle.vc_dtdisc.specs.Rules.{Gone, Rules}
 use Rattle.vc_model.specs.Layout.{Layout, relabel_layout}
-use Rattle.vc_region.specs.Region.{OfBest, Region, is_best, layout_in, relabelled}
+use Rattle.vc_region.specs.Region.{OfBest, Region, layout_in, relabelled}
 use Rattle.vc_region.proofs.Relabel.{layout-relabelled}
 use Rattle.vc_objects.specs.Insert.{Grown, grow}
 use Rattle.vc_objects.specs.Leaves.{HasGrown, LacksHolder, LacksTable}
@@ -32,7 +32,7 @@ use Rattle.vc_script.specs.declared.refusal.Refusal.TheVariants.{NoSegment, NoSe
 use Rattle.vc_script.specs.declared.reply.Reply.{Reply}
 use Rattle.vc_script.specs.declared.reply.Reply.TheVariants.{Refused}
 use Rattle.vc_commands.specs.Held.{Held, IsChange, home_of}
-use Rattle.vc_steps.specs.Account.{IsSession, Settles, accounts, held_named, settled, state_of}
+use Rattle.vc_steps.specs.Account.{Settles, accounts, held_named, settled, state_of}
 use Rattle.vc_steps.specs.DictHomes.{AreDicts, IsDictOf, cells_held, dict_home, dicts_in, dict_over}
 use Rattle.vc_steps.specs.Dicts.{dict_changed, dict_command, dict_of, dict_step, on_found, on_seat, region_named, seat_of, with_dict}
 use Rattle.vc_views.specs.Views.{dict_named, is_dict, DictHome}
@@ -46,15 +46,20 @@ use Rattle.vc_steps.specs.Told.{tell}
 use Rattle.vc_steps.proofs.BestRegions.{best-is, best-named}
 use Rattle.vc_steps.proofs.Cells.{set_same}
 use Rattle.vc_steps.proofs.Changing.{homes-change, settles-none, settles-one}
-use Rattle.vc_steps.proofs.DictChange.{IsClear, Touches, clear-others, dict-at, dicts-set, homes-set, now-named}
-use Rattle.vc_steps.proofs.DictNamed.{dict-found, dict-set, home-at}
+use Rattle.vc_steps.proofs.DictChange.{IsClear, Touches, clear-others, dicts-set, homes-set, now-named}
+use Rattle.vc_steps.proofs.DictNamed.{dict-found, dict-set, first-dict, home-at}
 use Rattle.vc_steps.proofs.DictReplies.{IsOther}
 use Rattle.vc_steps.proofs.DictTold.{tell-each}
 use Rattle.vc_steps.proofs.DictsStay.{Entry, Vs}
-use Rattle.vc_commands.proofs.Firsts.{IsFirst, find-first, first-unmap}
+use Rattle.vc_commands.proofs.Firsts.{IsFirst}
 use Rattle.vc_steps.proofs.FirstHome.{with_region-first}
 use Rattle.vc_commands.proofs.Names.{name-none}
 use Rattle.vc_steps.proofs.Sessions.{Slots}
+use Rattle.std.specs.Map.{keys_of}
+use Rattle.vc_commands.specs.declared.region.home.HomeEntry.{HomeEntry}
+use Rattle.vc_steps.proofs.DictThere.{DictIn, best-there, dict-is, found-held, held-first, its}
+use Rattle.vc_steps.proofs.RegionAt.{region-first, region-named, region-stands, region_at}
+use Rattle.vc_steps.proofs.SessionHere.{helds, state_here, views}
 
 table-rose : (o : Option ℕ) (old new : Discipline) → LacksTable o old new → Rose old.faults new.faults
 table-rose None old new lacks = absurd lacks
@@ -68,10 +73,31 @@ command-lacks : (s : State) (command : Command) (reply : Reply) (old new : Disci
 command-lacks s (OpenDict x method r k) reply old new d works lacks = absurd (none-some d works)
 command-lacks s command reply old new d works lacks = lacks
 
--- a dictionary of a session, and the region that it lies in
-module _ (kinds : List Rules) (slots : Slots) (hs : List Held) (es : List Entry) (vs : Vs) (j i : ℕ) (h : Held) (e : Entry) (at : slice_get hs j ≡ Some h) (there : slice_get es i ≡ Some e) (first : IsFirst (is_home h.name) (map home_of hs) j) (first_dict : IsFirst (is_dict e.0) (dicts_in hs vs es) i) (session : IsSession slots hs) (dicts : AreDicts kinds hs es) (lies : h.name ≡ e.1.home) where
+-- a dictionary of a session, in its region
+module _ {I : Type 0} {V : I → Type 0} {meaning : (x : I) × V x → Discipline} {v : HomeEntry I V} (x : DictIn meaning v) (index : position (bytes_eq x.e.0) (keys_of x.here.es) ≡ Some x.i) where
+  abbrev kinds : List Rules
+  kinds = x.here.kinds
+
+  abbrev slots : Slots
+  slots = x.here.slots
+
+  abbrev hs : List Held
+  hs = helds x.here
+
+  abbrev es : List Entry
+  es = x.here.es
+
+  abbrev vs : Vs
+  vs = views x.here
+
+  abbrev h : Held
+  h = region_at meaning x.region
+
+  abbrev e : Entry
+  e = x.e
+
   abbrev s : State
-  s = state_of kinds slots hs (dicts_in hs vs es)
+  s = state_here x.here
 
   abbrev d : DictHome
   d = dict_home hs vs e
@@ -79,40 +105,26 @@ module _ (kinds : List Rules) (slots : Slots) (hs : List Held) (es : List Entry)
   abbrev was : Dictionary
   was = dictionary_of e.1.dict h.cells
 
-  found-dict : dict_named e.0 (dicts_in hs vs es) ≡ Some d
-  found-dict = dict-found hs vs es e.0 i e there first_dict
+  at : slice_get hs x.j ≡ Some h
+  at = region-stands meaning x.region
+
+  first : IsFirst (is_home e.1.home) s.homes x.j
+  first = region-first meaning x.region
+
+  first_dict : IsFirst (is_dict e.0) s.dicts x.i
+  first_dict = first-dict hs vs es e.0 x.i index
+
+  found-dict : dict_named e.0 s.dicts ≡ Some d
+  found-dict = dict-found hs vs es e.0 x.i e x.there first_dict
 
   home-item : first.item ≡ home_of h
-  home-item = same_Some first.item (home_of h) (sym first.at ∙ (slice_get-map home_of hs j ∙ ap (option_map home_of) at))
+  home-item = same_Some first.item (home_of h) (sym first.at ∙ (slice_get-map home_of hs x.j ∙ ap (option_map home_of) at))
 
   found-home : home_named e.1.home s.homes ≡ Some (home_of h)
-  found-home =
-      subst (λ r. home_named r (map home_of hs) ≡ Some (home_of h)) lies
-      (find-first (is_home h.name) (map home_of hs) j first ∙ ap (λ k. Some k) home-item)
-
-  held-first : IsFirst (λ (k : Held). bytes_eq k.name h.name) hs j
-  held-first = first-unmap (is_home h.name) home_of hs j first
-
-  found-held : held_named hs (Some e.1.home) ≡ Some h
-  found-held =
-      subst (λ r. held_named hs (Some r) ≡ Some h) lies
-      (find-first (λ k. bytes_eq k.name h.name) hs j held-first ∙ ap (λ k. Some k) (same_Some held-first.item h (sym held-first.at ∙ at)))
+  found-home = region-named meaning x.region
 
   abbrev is : IsDictOf kinds hs e
-  is = dict-at kinds hs es i e there dicts
-
-  home-is : is.home ≡ h
-  home-is = same_Some is.home h (sym is.found ∙ found-held)
-
-  -- what a call on it asks
-  pub best-here : is_best h.region ≡ true
-  best-here = subst (λ (k : Held). is_best k.region ≡ true) home-is is.best
-
-  pub whole-here : IsWhole is.rules e.1.dict h.cells
-  whole-here = subst (λ (k : Held). IsWhole is.rules e.1.dict k.cells) home-is is.whole
-
-  dict-is : d.dict ≡ was
-  dict-is = ap (λ o. dictionary_of e.1.dict (cells_held o)) found-held
+  is = its x
 
   -- the seat of a command, with tags for labels
   abbrev pub tags : Seat ℕ
@@ -121,7 +133,7 @@ module _ (kinds : List Rules) (slots : Slots) (hs : List Held) (es : List Entry)
   seat-is : seat_of d (home_of h) is.rules ≡ relabel_seat (name_of h.labels) tags
   seat-is =
       let made : Label → Layout Label → Dictionary → Seat Label = λ o r x. record { rules = is.rules; terms = h.disc.terms; none = o; region = r; dict = x } in
-      ap (made None (layout_in (home_of h).region)) dict-is
+      ap (made None (layout_in (home_of h).region)) (dict-is x)
       ∙ (ap (λ r. made None r was) (layout-relabelled (name_of h.labels) h.region)
       ∙ ap (λ o. made o (relabel_layout (name_of h.labels) (layout_in h.region)) was) (sym (name-none h.labels 0 refl)))
 
@@ -140,7 +152,7 @@ module _ (kinds : List Rules) (slots : Slots) (hs : List Held) (es : List Entry)
   -- the region and the dictionary change
   module _ (g : Held) (new : Dict) {cells : Blocks} (change : IsChange (record h { cells = cells }) g) (touch : Touches h g (owned was) (owned (dictionary_of new g.cells))) (labels : g.labels ≡ h.labels) (kind : new.kind ≡ e.1.dict.kind) (whole : IsWhole is.rules new g.cells) where
     abbrev gs : List Held
-    gs = set hs j g
+    gs = set hs x.j g
 
     abbrev pub entry_new : Entry
     entry_new = (e.0, record { home = e.1.home; number = e.1.number; dict = new })
@@ -149,7 +161,7 @@ module _ (kinds : List Rules) (slots : Slots) (hs : List Held) (es : List Entry)
     now = dictionary_of new g.cells
 
     now-held : held_named gs (Some e.1.home) ≡ Some g
-    now-held = subst (λ r. held_named gs (Some r) ≡ Some g) lies (now-named kinds hs j h g (owned was) (owned now) held-first at touch)
+    now-held = now-named kinds hs x.j h g (owned was) (owned now) (held-first x) at touch
 
     is-new : IsDictOf kinds gs entry_new
     is-new = record {
@@ -161,25 +173,25 @@ module _ (kinds : List Rules) (slots : Slots) (hs : List Held) (es : List Entry)
       whole = whole;
     }
 
-    here : bytes_eq h.name e.1.home ≡ true
-    here = (bytes_eq-Decides h.name e.1.home).1 lies
+    here : bytes_eq e.1.home e.1.home ≡ true
+    here = (bytes_eq-Decides e.1.home e.1.home).1 refl
 
     own-new : owned (dict_over gs entry_new) ≡ owned now
     own-new = ap (λ o. owned (dictionary_of new (cells_held o))) now-held
 
-    others-clear : AllByRecursion (IsClear hs h.name (owned was)) (remove es i)
+    others-clear : AllByRecursion (IsClear hs e.1.home (owned was)) (remove es x.i)
     others-clear =
-        subst (λ (x : Dictionary). AllByRecursion (IsClear hs h.name (owned x)) (remove es i)) dict-is
-        (clear-others kinds hs h.name e here es i there dicts)
+        subst (λ (y : Dictionary). AllByRecursion (IsClear hs e.1.home (owned y)) (remove es x.i)) (dict-is x)
+        (clear-others kinds hs e.1.home e here es x.i x.there x.here.dicts)
 
-    pub dicts-after : AreDicts kinds gs (set es i entry_new)
-    dicts-after = dicts-set kinds hs j h g (owned was) (owned now) held-first at touch entry_new is-new here own-new es i e there dicts others-clear
+    pub dicts-after : AreDicts kinds gs (set es x.i entry_new)
+    dicts-after = dicts-set kinds hs x.j h g (owned was) (owned now) (held-first x) at touch entry_new is-new here own-new es x.i e x.there x.here.dicts others-clear
 
-    homes-after : dicts_in gs vs (set es i entry_new) ≡ set (dicts_in hs vs es) i (dict_home gs vs entry_new)
-    homes-after = homes-set kinds hs j h g (owned was) (owned now) held-first at touch entry_new is-new here own-new vs es i e there dicts others-clear
+    homes-after : dicts_in gs vs (set es x.i entry_new) ≡ set (dicts_in hs vs es) x.i (dict_home gs vs entry_new)
+    homes-after = homes-set kinds hs x.j h g (owned was) (owned now) (held-first x) at touch entry_new is-new here own-new vs es x.i e x.there x.here.dicts others-clear
 
     abbrev pub after : State
-    after = state_of kinds slots gs (dicts_in gs vs (set es i entry_new))
+    after = state_of kinds slots gs (dicts_in gs vs (set es x.i entry_new))
 
     entry-home : (dict : Dictionary) → dict ≡ now → (let k : DictHome = record d { dict = dict } in k) ≡ dict_home gs vs entry_new
     entry-home dict same =
@@ -189,15 +201,15 @@ module _ (kinds : List Rules) (slots : Slots) (hs : List Held) (es : List Entry)
     abbrev made : List Home → List DictHome → State
     made homes ds = record { shelf = s.shelf; homes = homes; kinds = kinds; dicts = ds }
 
-    state-after : (region : Region Label) (dict : Dictionary) → region ≡ (home_of g).region → dict ≡ now → made (with_region h.name region (home_of h).kept s.homes) (with_dict e.0 dict s.dicts) ≡ after
+    state-after : (region : Region Label) (dict : Dictionary) → region ≡ (home_of g).region → dict ≡ now → made (with_region e.1.home region (home_of h).kept s.homes) (with_dict e.0 dict s.dicts) ≡ after
     state-after region dict same same_dict =
-        let homes : with_region h.name region (home_of h).kept s.homes ≡ map home_of gs =
-        ap (λ q. with_region h.name q (home_of h).kept s.homes) same
-        ∙ (ap (λ l. with_region h.name (home_of g).region (kept_of l) s.homes) (sym labels)
-        ∙ homes-change slots hs j h g at session change h.name first) in
-        let ds : with_dict e.0 dict s.dicts ≡ dicts_in gs vs (set es i entry_new) =
-        dict-set hs vs es e.0 i e there first_dict dict
-        ∙ (ap (set (dicts_in hs vs es) i) (entry-home dict same_dict) ∙ sym homes-after) in
+        let homes : with_region e.1.home region (home_of h).kept s.homes ≡ map home_of gs =
+        ap (λ q. with_region e.1.home q (home_of h).kept s.homes) same
+        ∙ (ap (λ l. with_region e.1.home (home_of g).region (kept_of l) s.homes) (sym labels)
+        ∙ homes-change slots hs x.j h g at x.here.held change e.1.home first) in
+        let ds : with_dict e.0 dict s.dicts ≡ dicts_in gs vs (set es x.i entry_new) =
+        dict-set hs vs es e.0 x.i e x.there first_dict dict
+        ∙ (ap (set (dicts_in hs vs es) x.i) (entry-home dict same_dict) ∙ sym homes-after) in
         ap (λ x. made x (with_dict e.0 dict s.dicts)) homes ∙ ap (made (map home_of gs)) ds
 
     relabel-after : (region : Layout ℕ) → region ≡ layout_in g.region → OfBest (relabel_layout (name_of h.labels) region) ≡ (home_of g).region
@@ -225,7 +237,7 @@ module _ (kinds : List Rules) (slots : Slots) (hs : List Held) (es : List Entry)
     settled-here command works rose =
         subst (λ o. Settled (place_named s o)) (sym (asked-home command works))
         (subst (λ o. Settled (home_place o)) (sym found-home)
-        (settles-one slots hs j h g at session change rose))
+        (settles-one slots hs x.j h g at x.here.held change rose))
 
     -- a refusal of its discipline counts
     pub settles-after : (command : Command) (reply : Reply) → dict_of command ≡ Some e.0 → IsOther reply → LacksBy tags command reply h.disc g.disc → Settled (refusal_at s command reply)
@@ -234,7 +246,7 @@ module _ (kinds : List Rules) (slots : Slots) (hs : List Held) (es : List Entry)
         settled-here command works (table-rose (table_asked tags command) h.disc g.disc lacks)
     settles-after command (Refused NoSegmentForObject) works other lacks =
         settled-here command works (object-rose (table_asked tags command) (object_asked tags command) h.disc g.disc lacks)
-    settles-after command reply works other lacks = settles-none slots hs j h g at session change lacks
+    settles-after command reply works other lacks = settles-none slots hs x.j h g at x.here.held change lacks
 
     in-held : (command : Command) (reply : Reply) → dict_of command ≡ Some e.0 → LacksBy tags command reply h.disc g.disc → InHeld (held_named hs (region_asked s command)) (held_named gs (region_asked s command)) (CommandLacks s command reply)
     in-held command reply works lacks =
@@ -248,7 +260,7 @@ module _ (kinds : List Rules) (slots : Slots) (hs : List Held) (es : List Entry)
         subst (λ o. DictLacks s command reply h.disc g.disc (dict_at s o)) (sym works)
         (subst (DictLacks s command reply h.disc g.disc) (sym found-dict) one) in
         subst (λ o. InHeld (held_named hs o) (held_named gs o) P) (sym (asked-home command works))
-        (subst (λ o. InHeld o (held_named gs (Some e.1.home)) P) (sym found-held)
+        (subst (λ o. InHeld o (held_named gs (Some e.1.home)) P) (sym (found-held x))
         (subst (λ o. InHeld (Some h) o P) (sym now-held) (command-lacks s command reply h.disc g.disc e.0 works at_dict)))
 
     -- what the segment was wanting for
@@ -258,14 +270,14 @@ module _ (kinds : List Rules) (slots : Slots) (hs : List Held) (es : List Entry)
     lacks-after command (Refused NoSegmentForObject) works other lacks = in-held command (Refused NoSegmentForObject) works lacks
     lacks-after command reply works other lacks = tt
 
-    same-state : made (with_region h.name (home_of h).region (home_of h).kept s.homes) (with_dict e.0 d.dict s.dicts) ≡ s
+    same-state : made (with_region e.1.home (home_of h).region (home_of h).kept s.homes) (with_dict e.0 d.dict s.dicts) ≡ s
     same-state =
-        let homes : with_region h.name (home_of h).region (home_of h).kept s.homes ≡ s.homes =
-        with_region-first h.name (home_of h).region (home_of h).kept s.homes j first
-        ∙ (ap (λ (k : Home). set s.homes j (record k { region = (home_of h).region; kept = (home_of h).kept })) home-item
-        ∙ set_same s.homes j (home_of h) (slice_get-map home_of hs j ∙ ap (option_map home_of) at)) in
+        let homes : with_region e.1.home (home_of h).region (home_of h).kept s.homes ≡ s.homes =
+        with_region-first e.1.home (home_of h).region (home_of h).kept s.homes x.j first
+        ∙ (ap (λ (k : Home). set s.homes x.j (record k { region = (home_of h).region; kept = (home_of h).kept })) home-item
+        ∙ set_same s.homes x.j (home_of h) (slice_get-map home_of hs x.j ∙ ap (option_map home_of) at)) in
         let ds : with_dict e.0 d.dict s.dicts ≡ s.dicts =
-        dict-set hs vs es e.0 i e there first_dict d.dict ∙ set_same s.dicts i d (home-at hs vs es i e there) in
+        dict-set hs vs es e.0 x.i e x.there first_dict d.dict ∙ set_same s.dicts x.i d (home-at hs vs es x.i e x.there) in
         ap (λ x. made x (with_dict e.0 d.dict s.dicts)) homes ∙ ap (made s.homes) ds
 
     grew-for : (o : Outcome (Grown ℕ)) → HasGrown o (layout_in g.region) now → GrewFor (done_as (relabel_grown (name_of h.labels)) o) s d (home_of h) after
@@ -286,7 +298,7 @@ module _ (kinds : List Rules) (slots : Slots) (hs : List Held) (es : List Entry)
     -- with no memory
     same-after : (layout_in g.region ≡ tags.region) × (now ≡ tags.dict) → after ≡ s
     same-after same =
-        sym (state-after (home_of h).region d.dict (ap (relabelled (name_of h.labels)) (best-is h.region best-here) ∙ relabel-after tags.region (sym same.0)) (dict-is ∙ sym same.1))
+        sym (state-after (home_of h).region d.dict (ap (relabelled (name_of h.labels)) (best-is h.region (best-there x)) ∙ relabel-after tags.region (sym same.0)) ((dict-is x) ∙ sym same.1))
         ∙ same-state
 
     halted-after : (command : Command) → dict_of command ≡ Some e.0 → IsSpent tags (layout_in g.region) now → (after ≡ s) ⊎ GrewBy s (dict_at s (dict_of command)) after

@@ -46,7 +46,7 @@ module _ {I : Type 0} {V : I → Type 0} {meaning : (x : I) × V x → Disciplin
   pub held-first : IsFirst (λ (k : Held). bytes_eq k.name x.e.1.home) hs x.j
   held-first = first-unmap (is_home x.e.1.home) home_of hs x.j (region-first meaning x.region)
 
-  found-held : held_named hs (Some x.e.1.home) ≡ Some h
+  pub found-held : held_named hs (Some x.e.1.home) ≡ Some h
   found-held = find-first (λ k. bytes_eq k.name x.e.1.home) hs x.j held-first ∙ ap (λ k. Some k) (same_Some held-first.item h (sym held-first.at ∙ region-stands meaning x.region))
 
   home-is : its.home ≡ h
