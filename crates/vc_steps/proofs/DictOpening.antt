@@ -1,8 +1,8 @@
 -- What the opening of a dictionary leaves of a session.
-use Rattle.std.proofs.Common.{◌≡◌, ℕ, false, Bool, List, [], ◌∷◌, ◌++◌, Option, Some, None, Result, Ok, Err, map, option_map, set, refl, sym, ap, ◌∙◌, subst}
+use Rattle.std.proofs.Common.{◌≡◌, ℕ, false, Bool, List, [], ◌∷◌, ◌++◌, Option, Some, None, Result, Ok, Err, map, set, refl, sym, ap, ◌∙◌, subst}
 use Rattle.std.specs.Prelude.{slice_get}
 use Rattle.std.specs.Str.{bytes_eq}
-use Rattle.std.proofs.lemmas.Option.{none-some, same_Some, slice_get-map}
+use Rattle.std.proofs.lemmas.Option.{none-some, same_Some}
 use Rattle.std.proofs.lemmas.Slice.Eq.{bytes_eq-Decides}
 use Rattle.vc_base.specs.Cells.{Blocks}
 use Rattle.vc_base.specs.declared.dict_method.DictMethod.{DictMethod}
@@ -32,7 +32,7 @@ use Rattle.vc_script.specs.declared.refusal.Refusal.TheVariants as why
 use Rattle.vc_script.specs.declared.reply.Reply.{Reply}
 use Rattle.vc_script.specs.declared.reply.Reply.TheVariants as reply
 use Rattle.vc_commands.specs.Held.{Held, IsChange, home_of}
-use Rattle.vc_steps.specs.Account.{IsSession, Settles, accounts, held_named, settled, state_of}
+use Rattle.vc_steps.specs.Account.{Settles, accounts, held_named, settled, state_of}
 use Rattle.vc_steps.specs.DictHomes.{AreDicts, IsDictOf, cells_held, dict_home, dicts_in, dict_over}
 use Rattle.vc_steps.specs.Dicts.{dict_opened, dict_refused, open_dict_in, open_dict_step, open_dict_unless}
 use Rattle.vc_commands.specs.Kept.{Kept}
@@ -51,8 +51,11 @@ use Rattle.vc_steps.proofs.BestRegions.{best-named}
 use Rattle.vc_steps.proofs.Changing.{gives-same, homes-change, settles-none, settles-one, state-same}
 use Rattle.vc_steps.proofs.DictChange.{Touches, clear-none, dicts-kept, dicts-push, homes-kept, homes-push, now-named, was-named}
 use Rattle.vc_steps.proofs.DictsStay.{Entry, Vs}
-use Rattle.vc_commands.proofs.Firsts.{IsFirst, find-first, first-unmap}
-use Rattle.vc_commands.proofs.Names.{name-none, same_bytes}
+use Rattle.vc_commands.proofs.Firsts.{IsFirst, first-unmap}
+use Rattle.vc_commands.proofs.Names.{name-none}
+use Rattle.vc_commands.specs.declared.region.home.HomeEntry.{HomeEntry}
+use Rattle.vc_steps.proofs.RegionAt.{RegionAt, region-first, region-named, region-stands, region_at}
+use Rattle.vc_steps.proofs.SessionHere.{SessionHere, helds, state_here, views}
 use Rattle.vc_steps.proofs.Sessions.{Slots}
 
 -- what a fault tells where no table is put
@@ -78,21 +81,61 @@ pub open-none : (s : State) (gone : List Gone) (d r : List ℕ) (method : DictMe
 open-none s gone d r method k need none =
     gives-same (open_dict_step s d method r k need) gone (reply.Refused why.NoRegion) s (ap (open_dict_in s d method k need) none)
 
-module _ (kinds : List Rules) (slots : Slots) (hs : List Held) (es : List Entry) (vs : Vs) (j : ℕ) (h : Held) (at : slice_get hs j ≡ Some h) (r : List ℕ) (first : IsFirst (is_home r) (map home_of hs) j) (session : IsSession slots hs) (dicts : AreDicts kinds hs es) (d : List ℕ) (method : DictMethod) (k : ℕ) where
-  abbrev s : State
-  s = state_of kinds slots hs (dicts_in hs vs es)
+-- in a region of a session, by its name and index, a dictionary is opened under a name, of a method, by the kind of a number
+pub record OpensIn {I : Type 0} {V : I → Type 0} (meaning : (x : I) × V x → Discipline) (v : HomeEntry I V) : Type 0 where
+  pub here : SessionHere meaning
+  pub r : List ℕ
+  pub j : ℕ
+  pub region : RegionAt here.homes here.labels r j v
+  pub d : List ℕ
+  pub method : DictMethod
+  pub k : ℕ
 
-  item-is : first.item ≡ home_of h
-  item-is = same_Some first.item (home_of h) (sym first.at ∙ (slice_get-map home_of hs j ∙ ap (option_map home_of) at))
+module _ {I : Type 0} {V : I → Type 0} {meaning : (x : I) × V x → Discipline} {v : HomeEntry I V} (x : OpensIn meaning v) where
+  abbrev kinds : List Rules
+  kinds = x.here.kinds
+
+  abbrev slots : Slots
+  slots = x.here.slots
+
+  abbrev hs : List Held
+  hs = helds x.here
+
+  abbrev es : List Entry
+  es = x.here.es
+
+  abbrev vs : Vs
+  vs = views x.here
+
+  abbrev r : List ℕ
+  r = x.r
+
+  abbrev d : List ℕ
+  d = x.d
+
+  abbrev method : DictMethod
+  method = x.method
+
+  abbrev k : ℕ
+  k = x.k
+
+  abbrev j : ℕ
+  j = x.j
+
+  abbrev h : Held
+  h = region_at meaning x.region
+
+  abbrev s : State
+  s = state_here x.here
+
+  at : slice_get hs j ≡ Some h
+  at = region-stands meaning x.region
 
   home-found : home_named r s.homes ≡ Some (home_of h)
-  home-found = find-first (is_home r) (map home_of hs) j first ∙ ap (λ x. Some x) item-is
+  home-found = region-named meaning x.region
 
-  name-is : h.name ≡ r
-  name-is = same_bytes h.name r (ap (is_home r) (sym item-is) ∙ first.passes)
-
-  named-first : IsFirst (λ (x : Held). bytes_eq x.name h.name) hs j
-  named-first = subst (λ n. IsFirst (λ (x : Held). bytes_eq x.name n) hs j) (sym name-is) (first-unmap (is_home r) home_of hs j first)
+  named-first : IsFirst (λ (y : Held). bytes_eq y.name r) hs j
+  named-first = first-unmap (is_home r) home_of hs j (region-first meaning x.region)
 
   -- it is refused before its table is asked for
   pub open-refused : (gone : List Gone) (need : Need) (refusal : Refusal) → dict_refused s (home_of h) d k ≡ Some refusal → GivesStep (open_dict_step s d method r k need) gone (reply.Refused refusal) s gone
@@ -133,17 +176,17 @@ module _ (kinds : List Rules) (slots : Slots) (hs : List Held) (es : List Entry)
     settles-failed code.OutOfMemory told same asked = absurd (none-some told same)
     settles-failed code.NoSegment told same asked =
         subst (λ x. Settled (refusal_at s (OpenDict d method r k) x)) (same_Some (reply.Refused NoSegmentForTable) told same)
-        (subst (λ o. Settled (home_place o)) (sym home-found) (settles-one slots hs j h g at session change asked.rose))
+        (subst (λ o. Settled (home_place o)) (sym home-found) (settles-one slots hs j h g at x.here.held change asked.rose))
     settles-failed fault told same asked =
-        subst (λ x. Settled (refusal_at s (OpenDict d method r k) x)) (same_Some (reply.Refused why.TooManySegments) told same) (settles-none slots hs j h g at session change asked)
+        subst (λ x. Settled (refusal_at s (OpenDict d method r k) x)) (same_Some (reply.Refused why.TooManySegments) told same) (settles-none slots hs j h g at x.here.held change asked)
 
     -- and was wanting for the table
     pub lacks-failed : (fault : RegionFault) (told : Reply) → table_reply fault ≡ Some told → RefusedBy fault (LacksTable (Some 16) h.disc g.disc) h.disc g.disc → Touches h g [] [] → StepLacksFor s hs gs (OpenDict d method r k) told
     lacks-failed code.OutOfMemory told same asked touch = absurd (none-some told same)
     lacks-failed code.NoSegment told same asked touch =
         let P : Discipline → Discipline → Type 0 = λ old new. LacksTable (Some 16) old new in
-        let now : held_named gs (Some r) ≡ Some g = subst (λ n. held_named gs (Some n) ≡ Some g) name-is (now-named kinds hs j h g [] [] named-first at touch) in
-        let was : held_named hs (Some r) ≡ Some h = subst (λ n. held_named hs (Some n) ≡ Some h) name-is (was-named kinds hs j h g [] [] named-first at touch) in
+        let now : held_named gs (Some r) ≡ Some g = now-named kinds hs j h g [] [] named-first at touch in
+        let was : held_named hs (Some r) ≡ Some h = was-named kinds hs j h g [] [] named-first at touch in
         subst (λ x. StepLacksFor s hs gs (OpenDict d method r k) x) (same_Some (reply.Refused NoSegmentForTable) told same)
         (subst (λ o. InHeld o (held_named gs (Some r)) P) (sym was) (subst (λ o. InHeld (Some h) o P) (sym now) asked))
     lacks-failed fault told same asked touch =
@@ -151,12 +194,12 @@ module _ (kinds : List Rules) (slots : Slots) (hs : List Held) (es : List Entry)
 
     -- all else stays
     pub dicts-failed : Touches h g [] [] → AreDicts kinds gs es
-    dicts-failed touch = dicts-kept kinds hs j h g [] [] named-first at touch es dicts (clear-none hs h.name es)
+    dicts-failed touch = dicts-kept kinds hs j h g [] [] named-first at touch es x.here.dicts (clear-none hs r es)
 
     pub state-failed : Touches h g [] [] → g.region ≡ h.region → g.labels ≡ h.labels → state_of kinds slots gs (dicts_in gs vs es) ≡ s
     state-failed touch region labels =
-        ap (state_of kinds slots gs) (homes-kept kinds hs j h g [] [] named-first at touch vs es dicts (clear-none hs h.name es))
-        ∙ state-same slots hs j h g at session change kinds (dicts_in hs vs es)
+        ap (state_of kinds slots gs) (homes-kept kinds hs j h g [] [] named-first at touch vs es x.here.dicts (clear-none hs r es))
+        ∙ state-same slots hs j h g at x.here.held change kinds (dicts_in hs vs es)
         (ap (λ q. let p : Region Label × Kept = (relabelled (name_of g.labels) q, kept_of g.labels) in p) region
         ∙ ap (λ l. let p : Region Label × Kept = (relabelled (name_of l) h.region, kept_of l) in p) labels)
 
@@ -178,7 +221,7 @@ module _ (kinds : List Rules) (slots : Slots) (hs : List Held) (es : List Entry)
         record {
           state = state-failed g change touch region labels;
           gone = refl;
-          settles = settles-none slots hs j h g at session change (no-fault fault tells asked);
+          settles = settles-none slots hs j h g at x.here.held change (no-fault fault tells asked);
         }
 
   -- its table is put
@@ -193,7 +236,7 @@ module _ (kinds : List Rules) (slots : Slots) (hs : List Held) (es : List Entry)
     mine = owned (dictionary_of new g.cells)
 
     opened-held : held_named after_hs (Some r) ≡ Some g
-    opened-held = subst (λ n. held_named after_hs (Some n) ≡ Some g) name-is (now-named kinds hs j h g [] mine named-first at touch)
+    opened-held = now-named kinds hs j h g [] mine named-first at touch
 
     opened-is : IsDictOf kinds after_hs entry_opened
     opened-is = record {
@@ -210,11 +253,11 @@ module _ (kinds : List Rules) (slots : Slots) (hs : List Held) (es : List Entry)
 
     pub dicts-opened : AreDicts kinds after_hs (es ++ entry_opened ∷ [])
     dicts-opened =
-        dicts-push kinds hs j h g [] mine named-first at touch entry_opened opened-is ((bytes_eq-Decides h.name r).1 name-is) opened-own es dicts (clear-none hs h.name es)
+        dicts-push kinds hs j h g [] mine named-first at touch entry_opened opened-is ((bytes_eq-Decides r r).1 refl) opened-own es x.here.dicts (clear-none hs r es)
 
     homes-opened : dicts_in after_hs vs (es ++ entry_opened ∷ []) ≡ dicts_in hs vs es ++ dict_home after_hs vs entry_opened ∷ []
     homes-opened =
-        homes-push kinds hs j h g [] mine named-first at touch entry_opened opened-is ((bytes_eq-Decides h.name r).1 name-is) opened-own vs es dicts (clear-none hs h.name es)
+        homes-push kinds hs j h g [] mine named-first at touch entry_opened opened-is ((bytes_eq-Decides r r).1 refl) opened-own vs es x.here.dicts (clear-none hs r es)
 
     abbrev pub opened_state : State
     opened_state = state_of kinds slots after_hs (dicts_in after_hs vs (es ++ entry_opened ∷ []))
@@ -222,17 +265,16 @@ module _ (kinds : List Rules) (slots : Slots) (hs : List Held) (es : List Entry)
     abbrev with_both : List Home → List DictHome → State
     with_both homes ds = record { shelf = s.shelf; homes = homes; kinds = kinds; dicts = ds }
 
-    entry-is : (dict : Dictionary) → dict ≡ dictionary_of new g.cells → (let x : DictHome = record { name = d; home = h.name; kind = k; views = None; dict = dict } in x) ≡ dict_home after_hs vs entry_opened
+    entry-is : (dict : Dictionary) → dict ≡ dictionary_of new g.cells → (let x : DictHome = record { name = d; home = r; kind = k; views = None; dict = dict } in x) ≡ dict_home after_hs vs entry_opened
     entry-is dict same =
         let one : List ℕ → ℕ → Option (List ℕ) → Dictionary → DictHome = λ n m v x. record { name = d; home = n; kind = m; views = v; dict = x } in
-        ap (λ n. one n k None dict) name-is
-        ∙ (ap (λ m. one r m None dict) (sym kind) ∙ (ap (λ v. one r new.kind v dict) (sym free) ∙ ap (one r new.kind (vs n)) (same ∙ sym (ap (λ o. dictionary_of new (cells_held o)) opened-held))))
+        ap (λ m. one r m None dict) (sym kind) ∙ (ap (λ v. one r new.kind v dict) (sym free) ∙ ap (one r new.kind (vs n)) (same ∙ sym (ap (λ o. dictionary_of new (cells_held o)) opened-held)))
 
-    region-opened : (region : Layout ℕ) → layout_in g.region ≡ region → with_region h.name (OfBest (relabel_layout (name_of h.labels) region)) (home_of h).kept s.homes ≡ map home_of after_hs
+    region-opened : (region : Layout ℕ) → layout_in g.region ≡ region → with_region r (OfBest (relabel_layout (name_of h.labels) region)) (home_of h).kept s.homes ≡ map home_of after_hs
     region-opened region same =
-        ap (λ (q : Region Label). with_region h.name q (home_of h).kept s.homes) (best-named (name_of h.labels) g.region region touch.best (sym same))
-        ∙ (ap (λ l. with_region h.name (relabelled (name_of l) g.region) (kept_of l) s.homes) (sym labels)
-        ∙ homes-change slots hs j h g at session change h.name (subst (λ n. IsFirst (is_home n) (map home_of hs) j) (sym name-is) first))
+        ap (λ (q : Region Label). with_region r q (home_of h).kept s.homes) (best-named (name_of h.labels) g.region region touch.best (sym same))
+        ∙ (ap (λ l. with_region r (relabelled (name_of l) g.region) (kept_of l) s.homes) (sym labels)
+        ∙ homes-change slots hs j h g at x.here.held change r (region-first meaning x.region))
 
     gives-opened : (gone : List Gone) (o : Outcome (Grown ℕ)) (t : Stepped) → HasGrown o (layout_in g.region) (dictionary_of new g.cells) → t ≡ dict_opened s (home_of h) d k (done_as (relabel_grown (name_of h.labels)) o) → GivesStep t gone (reply.Opened d) opened_state gone
     gives-opened gone (model.Refused fault) t grown is = absurd grown
@@ -241,7 +283,7 @@ module _ (kinds : List Rules) (slots : Slots) (hs : List Held) (es : List Entry)
           replied = ap (λ (q : Stepped). q.reply) is;
           state_after =
               ap (λ (q : Stepped). q.state) is
-              ∙ (ap (λ q. with_both q (s.dicts ++ (let y : DictHome = record { name = d; home = h.name; kind = k; views = None; dict = x.dict } in y) ∷ [])) (region-opened x.region grown.0)
+              ∙ (ap (λ q. with_both q (s.dicts ++ (let y : DictHome = record { name = d; home = r; kind = k; views = None; dict = x.dict } in y) ∷ [])) (region-opened x.region grown.0)
               ∙ (ap (λ q. with_both (map home_of after_hs) (s.dicts ++ q ∷ [])) (entry-is x.dict (sym grown.1))
               ∙ ap (with_both (map home_of after_hs)) (sym homes-opened)));
           told = sym (ap (λ (q : Stepped). tell q.told gone) is);

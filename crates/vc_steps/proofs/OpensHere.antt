@@ -1,8 +1,7 @@
 -- The opening of a dictionary in a session as it is stored.
-use Rattle.std.proofs.Common.{◌≡◌, ◌<◌, ℕ, List, [], ◌∷◌, ◌++◌, Some, None, Result, length, map, set, refl, sym, ap, ◌∙◌, subst}
+use Rattle.std.proofs.Common.{◌≡◌, ◌<◌, ℕ, List, [], ◌∷◌, ◌++◌, Some, None, Result, length, set, refl, sym, ap, ◌∙◌, subst}
 use Rattle.std.specs.Prelude.{slice_get}
 use Rattle.indexmap.specs.IndexMap.{set_value_at}
-use Rattle.vc_base.specs.declared.dict_method.DictMethod.{DictMethod}
 use Rattle.vc_dict.specs.declared.dict.Dict.{Dict}
 use Rattle.vc_model.specs.Discipline.{Discipline}
 use Rattle.vc_model.specs.Layout.{Layout}
@@ -24,9 +23,7 @@ use Rattle.vc_script.specs.declared.command.Command.TheVariants.{OpenDict}
 use Rattle.vc_script.specs.declared.reply.Reply.{Reply}
 use Rattle.vc_script.specs.declared.reply.Reply.TheVariants.{Opened}
 use Rattle.vc_commands.specs.Held.{Held, IsChange, home_of}
-use Rattle.vc_commands.specs.Home.{is_home}
 use Rattle.vc_commands.specs.RegionRun.{held_of}
-use Rattle.vc_commands.proofs.Firsts.{IsFirst}
 use Rattle.vc_views.specs.Dicts.{entry_numbered}
 use Rattle.vc_paths.specs.Links.{numbers}
 use Rattle.vc_views.specs.Numbers.{AreLinked, views_by}
@@ -41,26 +38,15 @@ use Rattle.vc_steps.specs.Steps.{Steps, StepsBy}
 use Rattle.vc_steps.specs.Table.{TellsTable}
 use Rattle.vc_steps.proofs.Changing.{session-change, settles-none}
 use Rattle.vc_steps.proofs.DictChange.{Touches}
-use Rattle.vc_steps.proofs.DictOpening.{dicts-failed, dicts-opened, open-done, steps-failed}
+use Rattle.vc_steps.proofs.DictOpening.{OpensIn, dicts-failed, dicts-opened, open-done, steps-failed}
 use Rattle.vc_steps.proofs.DictRegion.{best_entry, region-change, touches}
 use Rattle.vc_steps.proofs.DictsStay.{Entry, Vs}
-use Rattle.vc_steps.proofs.RegionAt.{RegionAt, helds-set, named-set, region-first, region-stands, region_at}
+use Rattle.vc_steps.proofs.RegionAt.{helds-set, named-set, region-stands, region_at}
 use Rattle.vc_steps.proofs.RegionSteps.{moment_over}
 use Rattle.vc_steps.proofs.SessionHere.{SessionHere, helds, state_here, views}
 use Rattle.vc_steps.proofs.Sessions.{Slots, held-at}
 
--- a session, the best region of a name, and the dictionary that is opened there, where nothing stands against it
-pub record OpensIn {I : Type 0} {V : I → Type 0} (meaning : (x : I) × V x → Discipline) (place : ℕ) (before : Best I V) : Type 0 where
-  pub here : SessionHere meaning
-  pub r : List ℕ
-  pub j : ℕ
-  pub region : RegionAt here.homes here.labels r j (best_entry place before)
-  pub d : List ℕ
-  pub method : DictMethod
-  pub k : ℕ
-  pub allowed : dict_refused (state_here here) (home_of (region_at meaning region)) d k ≡ None
-
-module _ {I : Type 0} {V : I → Type 0} {meaning : (x : I) × V x → Discipline} (place : ℕ) (before : Best I V) (x : OpensIn meaning place before) where
+module _ {I : Type 0} {V : I → Type 0} {meaning : (x : I) × V x → Discipline} (place : ℕ) (before : Best I V) (x : OpensIn meaning (best_entry place before)) (allowed : dict_refused (state_here x.here) (home_of (region_at meaning x.region)) x.d x.k ≡ None) where
   abbrev here : SessionHere meaning
   here = x.here
 
@@ -84,9 +70,6 @@ module _ {I : Type 0} {V : I → Type 0} {meaning : (x : I) × V x → Disciplin
 
   at : slice_get hs x.j ≡ Some h
   at = region-stands meaning x.region
-
-  first : IsFirst (is_home x.r) (map home_of hs) x.j
-  first = region-first meaning x.region
 
   abbrev command : Command
   command = OpenDict x.d x.method x.r x.k
@@ -135,12 +118,12 @@ module _ {I : Type 0} {V : I → Type 0} {meaning : (x : I) × V x → Disciplin
         → IsRefusal (opening_in meaning before x.method) fault → StepsBy answer moment_before (moment_with gs es') command (λ st. open_dict_step st x.d x.method x.r x.k)
     steps-unopened fault answer tells asked refusal =
         by-kept (λ ks ds. StepsBy answer moment_before (moment_with ks ds) command (λ st. open_dict_step st x.d x.method x.r x.k))
-        (steps-failed kinds slots hs es vs x.j h at x.r first here.held here.dicts x.d x.method x.k (g after [] stays.leaves) (change after [] stays.leaves) here.gone fault answer tells asked refusal x.allowed (touch after [] stays.leaves)
+        (steps-failed x (g after [] stays.leaves) (change after [] stays.leaves) here.gone fault answer tells asked refusal allowed (touch after [] stays.leaves)
         (ap (λ (q : Layout ℕ). OfBest q) stays.region) refl)
 
     pub dicts-unopened : AreDicts kinds gs es'
     dicts-unopened =
-        by-kept (AreDicts kinds) (dicts-failed kinds slots hs es vs x.j h at x.r first here.held here.dicts x.d x.method x.k (g after [] stays.leaves) (change after [] stays.leaves) (touch after [] stays.leaves))
+        by-kept (AreDicts kinds) (dicts-failed x (g after [] stays.leaves) (change after [] stays.leaves) (touch after [] stays.leaves))
 
     pub linked-unopened : AreLinked here.links es'
     linked-unopened = subst (AreLinked here.links) (sym kept) here.are
@@ -197,7 +180,7 @@ module _ {I : Type 0} {V : I → Type 0} {meaning : (x : I) × V x → Disciplin
     steps-opened = record {
       gives =
           subst (λ q. GivesStep (open_dict_step (state_here here) x.d x.method x.r x.k NoNeed) here.gone (Opened x.d) q here.gone) (sym state-is)
-          (open-done kinds slots hs es vs x.j h at x.r first here.held here.dicts x.d x.method x.k one o.dict o.n unseen changed touched refl o.opens.numbered o.rules o.by o.opens.whole here.gone x.allowed o.opens.grown);
+          (open-done x one o.dict o.n unseen changed touched refl o.opens.numbered o.rules o.by o.opens.whole here.gone allowed o.opens.grown);
       settles = subst (λ ks. Settles (settled (accounts slots) hs) (settled (accounts slots) ks) []) (sym same) (settles-none slots hs x.j h one at here.held changed o.asked);
       lacks = tt;
     }
@@ -206,7 +189,7 @@ module _ {I : Type 0} {V : I → Type 0} {meaning : (x : I) × V x → Disciplin
     dicts-new =
         subst (λ ks. AreDicts kinds ks o.es') (sym same)
         (subst (AreDicts kinds after_hs) (sym o.last)
-        (dicts-opened kinds slots hs es vs x.j h at x.r first here.held here.dicts x.d x.method x.k one o.dict o.n unseen changed touched refl o.opens.numbered o.rules o.by o.opens.whole))
+        (dicts-opened x one o.dict o.n unseen changed touched refl o.opens.numbered o.rules o.by o.opens.whole))
 
     pub linked-new : AreLinked here.links o.es'
     linked-new = subst (AreLinked here.links) (sym o.last) (linked-more here.links es (entry_new o.n o.dict) here.are o.free o.below)

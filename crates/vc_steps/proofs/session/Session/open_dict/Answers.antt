@@ -10,6 +10,7 @@ use Rattle.vc_region.specs.Cells.{rest_in}
 use Rattle.vc_script.specs.Needs.{NoNeed, need_shown}
 use Rattle.vc_script.specs.declared.reply.Reply.TheVariants.{Refused}
 use Rattle.vc_commands.specs.declared.dict.entry.DictEntry.{DictEntry}
+use Rattle.vc_commands.specs.declared.region.home.HomeEntry.{HomeEntry}
 use Rattle.vc_commands.specs.Held.{Held, home_of}
 use Rattle.vc_views.specs.Dicts.{entry_numbered}
 use Rattle.vc_views.specs.Numbers.{AreLinked, views_by}
@@ -24,21 +25,21 @@ use Rattle.vc_commands.proofs.Agreeing.{from_ok}
 use Rattle.vc_steps.proofs.BestRegions.{no-other}
 use Rattle.vc_steps.proofs.Cells.{at_number-from_one}
 use Rattle.vc_steps.proofs.DictNamed.{any-dict}
-use Rattle.vc_steps.proofs.DictOpening.{open-none, open-refused}
+use Rattle.vc_steps.proofs.DictOpening.{OpensIn, open-none, open-refused}
 use Rattle.vc_steps.proofs.DictRefusing.{best-relabelled}
 use Rattle.vc_steps.proofs.DictRegion.{best_at}
 use Rattle.vc_steps.proofs.DictWhy.{IsAllowed, few-within, kind-within, lacks-early, refused-early, refused-none, settles-early}
 use Rattle.vc_steps.proofs.Ending.{if_some-at}
 use Rattle.vc_commands.proofs.Firsts.{find-none}
 use Rattle.vc_steps.proofs.Helds.{any-named, none_of, slice-or}
-use Rattle.vc_steps.proofs.OpensHere.{DictOpened, OpensIn, dicts-new, dicts-unopened, linked-new, linked-unopened, named-opened, session-opened, steps-opened, steps-unopened}
-use Rattle.vc_steps.proofs.RegionAt.{RegionAt, found_at, region-first, region-stands, region_at, stored_at}
+use Rattle.vc_steps.proofs.OpensHere.{DictOpened, dicts-new, dicts-unopened, linked-new, linked-unopened, named-opened, session-opened, steps-opened, steps-unopened}
+use Rattle.vc_steps.proofs.RegionAt.{RegionAt, found_at, region-stands, region_at, stored_at}
 use Rattle.vc_steps.proofs.SessionHere.{SessionHere, helds, session_here, state_here, views}
 use Rattle.vc_steps.proofs.Settling.{keeps-same, keeps-settles, settles-same}
 use Rattle.vc_steps.proofs.Steps.{halts-same, halts-steps, keeps-steps}
 use Rattle.vc_steps.proofs.session.Session.open_dict.Given as given
 use Rattle.vc_steps.proofs.session.Session.open_dict.Goals as goal
-use Rattle.vc_steps.proofs.session.Session.open_dict.Goals.{After-dict_refused, After-index_mut, After-open}
+use Rattle.vc_steps.proofs.session.Session.open_dict.Goals.{After-dict_refused, After-index_mut}
 
 abbrev meaning : (g : given.Over) → (x : g.dyn-1.0.I) × (g.dyn-1.0.entry x).0.Denot → Discipline
 meaning g p = (g.dyn-1.0.entry p.0).1.state p.1
@@ -47,50 +48,35 @@ meaning g p = (g.dyn-1.0.entry p.0).1.state p.1
 abbrev here : (g : given.Over) (c : After-dict_refused g) → SessionHere (meaning g)
 here g c = session_here (meaning g) g.D.DictDisc.rules g.D.DictDisc.gone c.args.shelf.now c.args.self.now c.args.kinds.now.items c.requires.session
 
--- why no dictionary is opened in the region of the name, if none is
-why : (g : given.Over) (c : After-dict_refused g) (h : Held) → slice_get (held_in (meaning g) c.args.self.now) c.in-Some.j ≡ Some h → c.dict_refused.result ≡ dict_refused (state_here (here g c)) (home_of h) c.args.name c.args.kind
-why g c h at =
-    if_some-at (λ (q : Held). c.dict_refused.result ≡ dict_refused (state_here (here g c)) (home_of q) c.args.name c.args.kind) (slice_get (held_in (meaning g) c.args.self.now) c.in-Some.j) h at c.dict_refused.ensures
+-- a dictionary is opened in the region of the name
+abbrev opens : (g : given.Over) (c : After-dict_refused g) {v : HomeEntry _ _} → RegionAt c.args.self.now.homes.entries c.args.self.now.labels.items c.args.region c.in-Some.j v → OpensIn (meaning g) v
+opens g c region = record { here = here g c; r = c.args.region; j = c.in-Some.j; region = region; d = c.args.name; method = c.args.method; k = c.args.kind }
+
+-- why none is, if none is
+why : (g : given.Over) (c : After-dict_refused g) {v : HomeEntry _ _} (x : RegionAt c.args.self.now.homes.entries c.args.self.now.labels.items c.args.region c.in-Some.j v)
+    → c.dict_refused.result ≡ dict_refused (state_here (here g c)) (home_of (region_at (meaning g) x)) c.args.name c.args.kind
+why g c x =
+    if_some-at (λ (q : Held). c.dict_refused.result ≡ dict_refused (state_here (here g c)) (home_of q) c.args.name c.args.kind) (slice_get (helds (here g c)) c.in-Some.j) (region_at (meaning g) x) (region-stands (meaning g) x) c.dict_refused.ensures
 
 -- where it is not refused
-may : (g : given.Over) (c : After-dict_refused g) (h : Held) → slice_get (held_in (meaning g) c.args.self.now) c.in-Some.j ≡ Some h → c.dict_refused.result ≡ None → IsAllowed (state_here (here g c)) (home_of h) c.args.name c.args.kind
-may g c h at is = refused-none (state_here (here g c)) (home_of h) c.args.name c.args.kind (sym (why g c h at) ∙ is)
+may : (g : given.Over) (c : After-dict_refused g) {v : HomeEntry _ _} (x : RegionAt c.args.self.now.homes.entries c.args.self.now.labels.items c.args.region c.in-Some.j v)
+    → c.dict_refused.result ≡ None → IsAllowed (state_here (here g c)) (home_of (region_at (meaning g) x)) c.args.name c.args.kind
+may g c x is = refused-none (state_here (here g c)) (home_of (region_at (meaning g) x)) c.args.name c.args.kind (sym (why g c x) ∙ is)
 
--- by whatever region has the name
-some-may : (g : given.Over) (c : After-dict_refused g) → c.dict_refused.result ≡ None → (h : Held) × IsAllowed (state_here (here g c)) (home_of h) c.args.name c.args.kind
-some-may g c is =
-    let x = (found_at c.args.self.now.homes.entries c.args.self.now.labels.items c.args.region c.in-Some.j c.requires.session.regions.named (sym c.get_index_of.ensures.index ∙ c.in-Some.is)).1 in
-    (region_at (meaning g) x, may g c (region_at (meaning g) x) (region-stands (meaning g) x) is)
+-- some region has the name
+abbrev found : (g : given.Over) (c : After-dict_refused g) → (v : HomeEntry _ _) × RegionAt c.args.self.now.homes.entries c.args.self.now.labels.items c.args.region c.in-Some.j v
+found g c = found_at c.args.self.now.homes.entries c.args.self.now.labels.items c.args.region c.in-Some.j c.requires.session.regions.named (sym c.get_index_of.ensures.index ∙ c.in-Some.is)
 
 -- its kind is one of those that there are
 range : (g : given.Over) (c : After-dict_refused g) → c.dict_refused.result ≡ None → (1 ≤ c.args.kind) × (c.args.kind ≤ length c.args.kinds.now.items)
 range g c is =
-    let parts = kind-within c.args.kind (length (rules_in g.D.DictDisc.rules c.args.kinds.now.items)) (some-may g c is).1.kind in
+    let parts = kind-within c.args.kind (length (rules_in g.D.DictDisc.rules c.args.kinds.now.items)) (may g c (found g c).1 is).kind in
     (parts.0, subst (λ n. c.args.kind ≤ n) (length-map c.args.kinds.now.items g.D.DictDisc.rules) parts.1)
 
--- the region of the name, as it is stored
+-- the region as it is stored
 abbrev place : (g : given.Over) (c : After-index_mut g) → RegionAt c.args.self.now.homes.entries c.args.self.now.labels.items c.args.region c.in-Some.j c.index_mut.result.now
 place g c =
     stored_at c.args.self.now.homes.entries c.args.self.now.labels.items c.args.region c.in-Some.j c.requires.session.regions.named (sym c.get_index_of.ensures.index ∙ c.in-Some.is) c.index_mut.result.now c.index_mut.ensures.value
-
--- nothing stands against the dictionary that is opened there
-abbrev opens : (g : given.Over) (c : After-open g) → OpensIn (meaning g) c.index_mut.result.now.place c.in-Best.best
-opens g c =
-    let session = c.args.self.now in
-    let all = session_here (meaning g) g.D.DictDisc.rules g.D.DictDisc.gone c.args.shelf.now session c.args.kinds.now.items c.requires.session in
-    let index = sym c.get_index_of.ensures.index ∙ c.in-Some.is in
-    let region = best_at (stored_at session.homes.entries session.labels.items c.args.region c.in-Some.j c.requires.session.regions.named index c.index_mut.result.now c.index_mut.ensures.value) c.in-Best.best c.in-Best.is in
-    let refusal = if_some-at (λ (q : Held). c.dict_refused.result ≡ dict_refused (state_here all) (home_of q) c.args.name c.args.kind) (slice_get (helds all) c.in-Some.j) (region_at (meaning g) region) (region-stands (meaning g) region) c.dict_refused.ensures in
-    record {
-      here = all;
-      r = c.args.region;
-      j = c.in-Some.j;
-      region = region;
-      d = c.args.name;
-      method = c.args.method;
-      k = c.args.kind;
-      allowed = sym refusal ∙ c.in_default-dict_refused.is;
-    }
 
 pub returns-in_default-clause-steps : goal.returns-in_default-clause-steps
 returns-in_default-clause-steps g c =
@@ -108,23 +94,16 @@ returns-in_default-clause-steps g c =
 pub returns-in-Some-dict_refused-clause-steps : goal.returns-in-Some-dict_refused-clause-steps
 returns-in-Some-dict_refused-clause-steps g c =
     let a = (goal.at.returns-in-Some-dict_refused-clause-steps g c).After-dict_refused in
-    let M = meaning g in
-    let all = here g a in
-    let s = state_here all in
-    let d = c.args.name in
-    let method = c.args.method in
-    let r = c.args.region in
-    let k = c.args.kind in
-    let x = (found_at all.homes all.labels r c.in-Some.j all.named (sym c.get_index_of.ensures.index ∙ c.in-Some.is)).1 in
-    let h = region_at M x in
+    let x = opens g a (found g a).1 in
+    let s = state_here x.here in
+    let hs = helds x.here in
     let refusal = c.in-Some-dict_refused.why in
-    let is = sym (why g a h (region-stands M x)) ∙ c.in-Some-dict_refused.is in
-    let early = refused-early s (home_of h) d k refusal is in
+    let is = sym (why g a x.region) ∙ c.in-Some-dict_refused.is in
+    let early = refused-early s (home_of (region_at (meaning g) x.region)) x.d x.k refusal is in
     record {
-      gives =
-          open-refused all.kinds all.slots (helds all) all.es (views all) c.in-Some.j h (region-stands M x) r (region-first M x) all.held all.dicts d method k all.gone (need_shown (Refused refusal)) refusal is;
-      settles = settles-early s (settled (accounts all.slots) (helds all)) d r method k refusal early;
-      lacks = lacks-early s (helds all) (helds all) d r method k refusal early;
+      gives = open-refused x x.here.gone (need_shown (Refused refusal)) refusal is;
+      settles = settles-early s (settled (accounts x.here.slots) hs) x.d x.r x.method x.k refusal early;
+      lacks = lacks-early s hs hs x.d x.r x.method x.k refusal early;
     }
 
 pub returns-in_err-reserve : goal.returns-in_err-reserve
@@ -154,7 +133,7 @@ pub unreachable-requires : goal.unreachable-requires
 unreachable-requires g c =
     let at = goal.at.unreachable-requires g c in
     let x = place g at.After-index_mut in
-    let best = (may g at.After-dict_refused (region_at (meaning g) x) (region-stands (meaning g) x) c.in_default-dict_refused.is).best in
+    let best = (may g at.After-dict_refused x c.in_default-dict_refused.is).best in
     no-other c.index_mut.result.now.region (sym (best-relabelled (name_of x.l) (rest_in c.index_mut.result.now.region)) ∙ best) c.in_default-region.not-Best
 
 pub overflow_sub-kind : goal.overflow_sub-kind
@@ -170,28 +149,30 @@ free_number-number-requires g c =
     let a = (goal.at.free_number-number-requires g c).After-dict_refused in
     let all = here g a in
     let many = length-map all.es (dict_home (helds all) (views all)) in
-    let few = few-within (length all.es) (ap (nat_le dict_limit) (sym many) ∙ (some-may g a c.in_default-dict_refused.is).1.few) in
+    let few = few-within (length all.es) (ap (nat_le dict_limit) (sym many) ∙ (may g a (found g a).1 c.in_default-dict_refused.is).few) in
     let kept = ap length c.reserve.ensures.entries in
     omega (arith, few, kept)
 
 pub returns-in-Err : goal.returns-in-Err
 returns-in-Err g c =
-    let x = opens g (goal.at.returns-in-Err g c).After-open in
-    let place = c.index_mut.result.now.place in
+    let at = goal.at.returns-in-Err g c in
     let best = c.in-Best.best in
+    let x = opens g at.After-dict_refused (best_at (place g at.After-index_mut) best c.in-Best.is) in
+    let allowed = sym (why g at.After-dict_refused x.region) ∙ c.in_default-dict_refused.is in
+    let shelf = c.index_mut.result.now.place in
     let after = c.open.new.best in
     let stays = c.in-Err.ensures.err.1 in
     let new = c.reserve.new.self.entries in
     let kept = c.reserve.ensures.entries in
-    let steps = steps-unopened place best x after stays new kept c.in-Err.fault c.table_refused.result c.table_refused.ensures c.in-Err.ensures.asked c.in-Err.ensures.err.0 in
+    let steps = steps-unopened shelf best x allowed after stays new kept c.in-Err.fault c.table_refused.result c.table_refused.ensures c.in-Err.ensures.asked c.in-Err.ensures.err.0 in
     record {
       steps = steps;
       stays = record {
         lasts = record {
           stands = record {
-            regions = record { named = named-opened place best x after [] stays.leaves; held = session-opened place best x after [] stays.leaves };
-            dicts = dicts-unopened place best x after stays new kept;
-            views = linked-unopened place best x after stays new kept;
+            regions = record { named = named-opened shelf best x allowed after [] stays.leaves; held = session-opened shelf best x allowed after [] stays.leaves };
+            dicts = dicts-unopened shelf best x allowed after stays new kept;
+            views = linked-unopened shelf best x allowed after stays new kept;
           };
           keeps_rules = refl;
           accounts = keeps-steps c.table_refused.result _ _ _ _ steps;
@@ -203,9 +184,10 @@ returns-in-Err g c =
 pub returns-in-Ok : goal.returns-in-Ok
 returns-in-Ok g c =
     let at = goal.at.returns-in-Ok g c in
-    let x = opens g at.After-open in
-    let place = c.index_mut.result.now.place in
     let best = c.in-Best.best in
+    let x = opens g at.After-dict_refused (best_at (place g at.After-index_mut) best c.in-Best.is) in
+    let allowed = sym (why g at.After-dict_refused x.region) ∙ c.in_default-dict_refused.is in
+    let shelf = c.index_mut.result.now.place in
     let after = c.open.new.best in
     let dict = c.in-Ok.dict in
     let items = c.args.kinds.now.items in
@@ -218,10 +200,10 @@ returns-in-Ok g c =
     let kept = c.reserve.ensures.entries in
     let n = c.free_number-number.result in
     let lain : DictEntry = record { home = c.args.region; number = n; dict = dict } in
-    let absent : is_some (lookup (bytes_eq d) x.here.es) ≡ false = sym (any-dict (helds x.here) (views x.here) x.here.es d) ∙ (some-may g at.After-dict_refused c.in_default-dict_refused.is).1.new in
+    let absent : is_some (lookup (bytes_eq d) x.here.es) ≡ false = sym (any-dict (helds x.here) (views x.here) x.here.es d) ∙ (may g at.After-dict_refused x.region c.in_default-dict_refused.is).new in
     let put = from_ok c.insert.result (c.insert.ensures.succeeds (omega (arith, c.in_ok-reserve.ensures.ok))) c.insert.ensures.entries in
     let free = none_of (lookup (bytes_eq d) c.reserve.new.self.entries) (ap (λ es. is_some (lookup (bytes_eq d) es)) kept ∙ absent) in
-    let o : DictOpened place best x = record {
+    let o : DictOpened shelf best x allowed = record {
       rules = item kind;
       by = at_number-from_one (rules_in item items) k within.0 ∙ (slice_get-map item items (k - 1) ∙ ap (option_map item) its_kind);
       dict = dict;
@@ -234,15 +216,15 @@ returns-in-Ok g c =
       es' = c.insert.new.self.entries;
       last = put ∙ (insert_entry-new bytes_eq c.reserve.new.self d lain free ∙ ap (λ es. es ++ (d, lain) ∷ []) kept);
     } in
-    let steps = steps-opened place best x o in
+    let steps = steps-opened shelf best x allowed o in
     record {
       steps = steps;
       stays = record {
         lasts = record {
           stands = record {
-            regions = record { named = named-opened place best x after _ c.in-Ok.ensures.ok.leaves; held = session-opened place best x after _ c.in-Ok.ensures.ok.leaves };
-            dicts = dicts-new place best x o;
-            views = linked-new place best x o;
+            regions = record { named = named-opened shelf best x allowed after _ c.in-Ok.ensures.ok.leaves; held = session-opened shelf best x allowed after _ c.in-Ok.ensures.ok.leaves };
+            dicts = dicts-new shelf best x allowed o;
+            views = linked-new shelf best x allowed o;
           };
           keeps_rules = refl;
           accounts = keeps-settles steps.settles;
