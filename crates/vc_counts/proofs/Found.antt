@@ -10,7 +10,6 @@ use Rattle.vc_commands.proofs.Firsts.{find-none}
 use Rattle.vc_commands.specs.Held.{Held, home_of}
 use Rattle.vc_commands.specs.Home.{is_home}
 use Rattle.vc_commands.specs.Labels.{name_of}
-use Rattle.vc_commands.specs.RegionRun.{held_of}
 use Rattle.vc_commands.specs.declared.dict.entry.DictEntry.{DictEntry}
 use Rattle.vc_commands.specs.declared.region.home.HomeEntry.{HomeEntry}
 use Rattle.vc_commands.specs.declared.region.labels.Labels.{Labels}
@@ -26,9 +25,8 @@ use Rattle.vc_region.specs.Region.{segments_of}
 use Rattle.vc_region.specs.Stat.{stat_of}
 use Rattle.vc_script.specs.declared.command.Command.{Command}
 use Rattle.vc_seg.specs.declared.stat.Stat.{Stat}
-use Rattle.vc_steps.proofs.Helds.{any-named, index-within, swapped}
-use Rattle.vc_steps.proofs.HomeThere.{home-there}
-use Rattle.vc_steps.proofs.Placed.{labels-at}
+use Rattle.vc_steps.proofs.Helds.{any-named, swapped}
+use Rattle.vc_steps.proofs.RegionAt.{RegionAt, region-named, region_at, stored_at}
 use Rattle.vc_steps.proofs.DictRegions.{dicts-to, held_seen, over-seen, regions-held}
 use Rattle.vc_steps.specs.DictHomes.{cells_named, dict_home, dicts_in}
 use Rattle.vc_steps.specs.Dicts.{dict_of, region_named}
@@ -50,18 +48,18 @@ module _ {I : Type 0} {V : I → Type 0} (meaning : (x : I) × V x → Disciplin
   home-none none = find-none (is_home r) (map home_of hs) (any-named meaning homes labels r named ∙ none)
 
   module _ (i : ℕ) (h : HomeEntry I V) (at : position (bytes_eq r) (keys_of homes) ≡ Some i) (here : slice_get (values_of homes) i ≡ Some h) where
-    own : (l : Labels) × (slice_get labels i ≡ Some l)
-    own = labels-at homes i (index-within meaning homes r i at) labels named
+    own : RegionAt homes labels r i h
+    own = stored_at homes labels r i named at h here
 
-    there : home_named r (map home_of hs) ≡ Some (home_of (held_of meaning r h own.0))
-    there = home-there meaning homes labels r named i at h here own.0 own.1
+    there : home_named r (map home_of hs) ≡ Some (home_of (region_at meaning own))
+    there = region-named meaning own
 
     -- the region of an index has the name: its blocks' bytes, and its segments
     pub busy-found : (stat_of (region_of h.region)).sbusy ≡ busy_in_home (home_named r (map home_of hs))
-    busy-found = sym (ap busy_in_home there ∙ ap (λ (t : Stat). t.sbusy) (stat-relabelled (name_of own.0) (rest_in h.region) ∙ rest-stat (region_of h.region)))
+    busy-found = sym (ap busy_in_home there ∙ ap (λ (t : Stat). t.sbusy) (stat-relabelled (name_of own.l) (rest_in h.region) ∙ rest-stat (region_of h.region)))
 
     pub segments-found : segments_of (region_of h.region) ≡ segments_at (Some r) (map home_of hs)
-    segments-found = sym (ap segments_in there ∙ (segments-relabelled (name_of own.0) (rest_in h.region) ∙ rest-segments (region_of h.region)))
+    segments-found = sym (ap segments_in there ∙ (segments-relabelled (name_of own.l) (rest_in h.region) ∙ rest-segments (region_of h.region)))
 
 -- what the entry of a name tells of its dictionary, whatever the cells of its region
 module _ (hs : List Held) (views : ℕ → Option (List ℕ)) {A : Type 0} (told : DictHome → A) (by_entry : DictEntry → A) (same : (e : List ℕ × DictEntry) → told (dict_home hs views e) ≡ by_entry e.1) (d : List ℕ) where

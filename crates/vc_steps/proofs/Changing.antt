@@ -9,7 +9,6 @@ use Rattle.vc_base.specs.Cells.{Blocks}
 use Rattle.vc_model.specs.Count.{Rose}
 use Rattle.vc_model.specs.Discipline.{Terms}
 use Rattle.vc_model.specs.Numbered.{at_number}
-use Rattle.vc_region.specs.Cells.{no_cells}
 use Rattle.vc_script.specs.declared.command.Command.{Command}
 use Rattle.vc_script.specs.declared.command.Command.TheVariants.{ClearRegion, OpenDict}
 use Rattle.vc_script.specs.declared.reply.Reply.{Reply}
@@ -30,7 +29,7 @@ use Rattle.vc_steps.specs.Refusals.{refusal_at, place_named, home_place}
 use Rattle.vc_steps.specs.Told.{tell}
 use Rattle.vc_commands.proofs.Firsts.{IsFirst, first-unmap}
 use Rattle.vc_steps.specs.Account.{Account, CountsFaults, Lacks, held_named, IsHeld, IsSession, Settles, account, accounts, account_after, settled, state_of, without_faults}
-use Rattle.vc_commands.specs.Held.{Held, LacksSegment, IsChange, cells_left, home_of}
+use Rattle.vc_commands.specs.Held.{Held, LacksSegment, IsChange, home_of}
 use Rattle.vc_views.proofs.LinkLists.{map-set_same}
 use Rattle.vc_steps.proofs.Cells.{at_number-from_one, at_number_some, set_same}
 use Rattle.vc_commands.proofs.Firsts.{find-first, find-set}
@@ -200,8 +199,3 @@ module _ (slots : Slots) (hs : List Held) (i : ℕ) (h g : Held) (at : slice_get
   state-same kinds ds same =
       let home : home_of g ≡ home_of h = sym same_home ∙ ap (λ (q : Region Label × Kept). let k : Home = record (home_of h) { region = q.0; kept = q.1 } in k) same in
       ap (λ homes. let s : State = record (state_of kinds slots hs ds) { homes = homes } in s) (map-set_same home_of hs i h g at home)
-
--- a command leaves the cells, where it clears no region but one that has none
-pub cells-left : (command : Command) (cells : Blocks) → ((r : List ℕ) → command ≡ ClearRegion r → cells ≡ no_cells) → cells_left command cells ≡ cells
-cells-left (ClearRegion r) cells none = sym (none r refl)
-cells-left command cells none = refl

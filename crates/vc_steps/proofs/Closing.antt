@@ -54,11 +54,6 @@ session-closed slots slots' n (h ∷ hs) same away s = (
   session-closed slots slots' n hs same away.1 s.2,
 )
 
--- a list that isn't empty, by its first item and the rest
-pub first-rest : {A : Type 0} (xs : List A) (x : A) → slice_get xs 0 ≡ Some x → xs ≡ x ∷ remove xs 0
-first-rest [] x at = absurd (none-some x at)
-first-rest (y ∷ ys) x at = ap (λ z. z ∷ ys) (same_Some y x at)
-
 taken_of : (o : Option (Option Discipline)) → standing o ≡ Taken → o ≡ Some None
 taken_of None e = absurd cc
 taken_of (Some None) e = refl

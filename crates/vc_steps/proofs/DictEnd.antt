@@ -1,13 +1,8 @@
 -- The command that ends a dictionary.
-use Rattle.std.proofs.Common.{◌≡◌, ℕ, false, cond, List, [], ◌∷◌, Option, Some, map, option_map, refl, sym, ap, ◌∙◌, subst, ⊎_elim, arith}
-use Rattle.std.specs.Prelude.{IfSome, slice_get}
-use Rattle.std.specs.List.{list_any, position}
-use Rattle.std.specs.Map.{keys_of}
+use Rattle.std.proofs.Common.{◌≡◌, ℕ, false, cond, List, [], ◌∷◌, Some, map, option_map, refl, sym, ap, ◌∙◌, ⊎_elim}
+use Rattle.std.specs.Prelude.{slice_get}
 use Rattle.std.specs.Str.{bytes_eq}
 use Rattle.std.proofs.lemmas.Bool.{cases_Bool}
-use Rattle.std.proofs.lemmas.List.{length-map}
-use Rattle.std.proofs.lemmas.List.Quantifiers.{position-Some}
-use Rattle.std.proofs.lemmas.Option.{none-some, same_Some, slice_get-map}
 use Rattle.vc_model.specs.Numbered.{at_number}
 use Rattle.vc_dtdisc.specs.Rules.{Gone, Rules}
 use Rattle.vc_objects.specs.Remove.{bytes_of}
@@ -16,21 +11,18 @@ use Rattle.vc_script.specs.declared.command.Command.{Command}
 use Rattle.vc_script.specs.declared.command.Command.TheVariants.{Shut}
 use Rattle.vc_script.specs.declared.refusal.Refusal.TheVariants as why
 use Rattle.vc_script.specs.declared.reply.Reply.TheVariants.{ShutDown}
-use Rattle.vc_commands.specs.declared.dict.entry.DictEntry.{DictEntry}
 use Rattle.vc_commands.specs.Held.{Held, home_of}
 use Rattle.vc_steps.specs.Account.{held_named, state_of}
 use Rattle.vc_steps.specs.DictHomes.{AreDicts, IsDictOf, dict_home, dicts_in}
 use Rattle.vc_steps.specs.Dicts.{dict_command, dict_shut, dict_step, on_found, on_seat, shut_state, told_of}
 use Rattle.vc_views.specs.Views.{is_dict, is_viewed_in}
 use Rattle.vc_steps.specs.State.{State, Stepped, home_named, refused}
-use Rattle.vc_commands.specs.Home.{is_home}
 use Rattle.vc_steps.specs.Step.{GivesStep}
 use Rattle.vc_steps.specs.Told.{tell}
 use Rattle.vc_steps.proofs.DictChange.{dict-at}
-use Rattle.vc_steps.proofs.DictNamed.{dict-found, key-at}
+use Rattle.vc_steps.proofs.DictNamed.{dict-found}
 use Rattle.vc_steps.proofs.DictsStay.{Entry, Vs}
-use Rattle.vc_commands.proofs.Firsts.{IsFirst, find-none}
-use Rattle.vc_steps.proofs.Helds.{some-at}
+use Rattle.vc_commands.proofs.Firsts.{IsFirst}
 use Rattle.vc_steps.proofs.Sessions.{Slots}
 
 -- the home of a name is that of the open region of it
@@ -46,28 +38,12 @@ home-held (h ∷ hs) r =
     ∙ (home-held hs r ∙ sym (ap (λ b. option_map home_of (cond b (Some h) (held_named hs (Some r)))) e)))
     (cases_Bool (bytes_eq h.name r))
 
--- the dictionary at the place of a name
-pub entry-at : (es : List Entry) (d : List ℕ) (i : ℕ) → position (bytes_eq d) (keys_of es) ≡ Some i → (entry : DictEntry) × (slice_get es i ≡ Some (d, entry))
-entry-at es d i at =
-    let key : List ℕ × DictEntry → List ℕ = λ x. x.0 in
-    let p = some-at es i (omega (arith, length-map es key, (position-Some (bytes_eq d) (keys_of es) i [] at).0)) in
-    (p.0.1, p.1 ∙ ap (λ n. Some (n, p.0.1)) (same_Some p.0.0 d (sym (slice_get-map key es i ∙ ap (option_map key) p.1) ∙ key-at es d i at)))
-
-pub some-case : {A : Type 0} (o : Option A) (x : A) (P : A → Type 0) → o ≡ Some x → IfSome o P → P x
-some-case o x P is holds = subst (λ q. IfSome q P) is holds
-
 module _ (kinds : List Rules) (slots : Slots) (hs : List Held) (es : List Entry) (vs : Vs) (i : ℕ) (e : Entry) (there : slice_get es i ≡ Some e) (first : IsFirst (is_dict e.0) (dicts_in hs vs es) i) (dicts : AreDicts kinds hs es) where
   abbrev s : State
   s = state_of kinds slots hs (dicts_in hs vs es)
 
   abbrev is : IsDictOf kinds hs e
   is = dict-at kinds hs es i e there dicts
-
-  -- the region that it lies in is open
-  pub no-home : list_any (is_home e.1.home) (map home_of hs) ≡ false → ⊥
-  no-home none =
-      none-some (home_of is.home)
-      (sym (find-none (is_home e.1.home) (map home_of hs) none) ∙ (home-held hs e.1.home ∙ ap (option_map home_of) is.found))
 
   pub step-dict : (command : Command) (need : Need) → dict_step s e.0 command need ≡ dict_command s command need (dict_home hs vs e) (home_of is.home) is.rules
   step-dict command need =

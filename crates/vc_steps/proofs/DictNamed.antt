@@ -105,10 +105,6 @@ module _ (hs : List Held) (vs : Vs) where
     pub dict-found : dict_named d (dicts_in hs vs es) ≡ Some (dict_home hs vs e)
     dict-found = find-first (is_dict d) (dicts_in hs vs es) i first ∙ ap (λ k. Some k) same-home
 
-    -- the name is its own
-    pub dict-name : e.0 ≡ d
-    dict-name = same_bytes e.0 d (ap (is_dict d) (sym same-home) ∙ first.passes)
-
     pub dict-set : (dict : Dictionary) → with_dict d dict (dicts_in hs vs es) ≡ set (dicts_in hs vs es) i (record (dict_home hs vs e) { dict = dict })
     dict-set dict =
         dict-set_at d dict (dicts_in hs vs es) i first.item first.at first.passes first.before

@@ -39,9 +39,6 @@ module _ {I : Type 0} {V : I → Type 0} (meaning : (x : I) × V x → Disciplin
   abbrev after : HomeEntry I V
   after = best_entry place new
 
-  abbrev pub held_after : Held
-  held_after = held_of meaning name (best_entry place new) labels
-
   pub touches : Touches (held_of meaning name (best_entry place old) labels) (held_of meaning name (best_entry place new) labels) mine mine'
   touches = record { name = refl; best = refl; others = leaves.others; fresh = leaves.fresh }
 

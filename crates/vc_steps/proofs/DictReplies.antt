@@ -1,5 +1,5 @@
 -- A command on a dictionary is refused no segment for a block.
-use Rattle.std.proofs.Common.{◌≡◌, ℕ, Bool, true, false, cond, List, Option, Some, None, subst}
+use Rattle.std.proofs.Common.{ℕ, Bool, true, false, cond, List, Option, Some, None}
 use Rattle.vc_base.specs.declared.dict_method.DictMethod.{DictMethod}
 use Rattle.vc_base.specs.Methods.{is_list}
 use Rattle.vc_model.specs.Outcome as model
@@ -24,9 +24,6 @@ use Rattle.vc_commands.specs.Seat.{DictChanged, Seat, declined}
 abbrev pub IsOther : Reply → Type 0
 IsOther (reply.Refused why.NoSegment) = ⊥
 IsOther told = Unit {0}
-
-pub not_block : (told : Reply) → IsOther told → told ≡ reply.Refused why.NoSegment → ⊥
-not_block told other e = subst IsOther e other
 
 other-table : (w : Want) → IsOther (reply.Refused (table_refusal w))
 other-table want.TooManySegments = tt

@@ -32,9 +32,6 @@ Vs = ℕ → Option (List ℕ)
 abbrev pub home_of_entry : Vs → Entry → Dictionary → DictHome
 home_of_entry vs e dict = record { name = e.0; home = e.1.home; kind = e.1.dict.kind; views = vs e.1.number; dict = dict }
 
-abbrev home_of_views : List Held → Entry → Option (List ℕ) → DictHome
-home_of_views hs e views = record { name = e.0; home = e.1.home; kind = e.1.dict.kind; views = views; dict = dict_over hs e }
-
 -- a dictionary that is one over the regions before is the same one over those after
 abbrev pub Stays : List Rules → List Held → List Held → Entry → Type 0
 Stays kinds before after e = IsDictOf kinds before e → IsDictOf kinds after e × (dict_over after e ≡ dict_over before e)
@@ -110,12 +107,6 @@ pub stays-remove : (kinds : List Rules) (hs : List Held) (i : ℕ) (h : Held) �
 stays-remove kinds hs i h at e other =
     stays-found kinds hs (remove hs i) e
     (λ k found. found-remove (λ k. bytes_eq k.name e.1.home) hs i h at (swapped h.name e.1.home ∙ other) ∙ found)
-
--- what they stand for by other views is the same where each views the same
-pub dicts_in-views : (hs : List Held) (vs vs' : Vs) (es : List Entry) → AllByRecursion (λ e. vs' e.1.number ≡ vs e.1.number) es → dicts_in hs vs' es ≡ dicts_in hs vs es
-dicts_in-views hs vs vs' [] same = refl
-dicts_in-views hs vs vs' (e ∷ es) same =
-    ap (λ v. home_of_views hs e v ∷ dicts_in hs vs' es) same.0 ∙ ap (λ ds. dict_home hs vs e ∷ ds) (dicts_in-views hs vs vs' es same.1)
 
 -- whether a dictionary lies in a region
 pub busy-lies : (hs : List Held) (vs : Vs) (es : List Entry) (r : List ℕ) → list_any (λ (d : DictHome). bytes_eq d.home r) (dicts_in hs vs es) ≡ lies_in r es

@@ -1,5 +1,5 @@
 -- The end of a session: its dictionaries one after another, from the front.
-use Rattle.std.proofs.Common.{◌≡◌, ◌<◌, ℕ, length, arith, zero, suc, cond, List, [], ◌∷◌, ◌++◌, Option, Some, None, IfSome, map, refl, sym, ap, ◌∙◌, subst, ⊎_elim}
+use Rattle.std.proofs.Common.{◌≡◌, ℕ, length, arith, cond, List, [], ◌∷◌, ◌++◌, Option, Some, None, IfSome, map, refl, sym, ap, ◌∙◌, subst, ⊎_elim}
 use Rattle.std.proofs.lemmas.Bool.{cases_Bool}
 use Rattle.std.specs.Prelude.{slice_get}
 use Rattle.std.specs.List.{flat_map}
@@ -98,9 +98,3 @@ nothing-left (x ∷ xs) none = absurd (omega (arith, none))
 
 pub if_some-to : {A : Type 0} (P : A → Type 0) (o : Option A) (x : A) → o ≡ Some x → P x → IfSome o P
 if_some-to {A = A} P o x is p = let Q : Option A → Type 0 = λ q. IfSome q P in subst Q (sym is) p
-
--- an index at which a list has an item
-pub within-map : {A B : Type 0} (f : A → B) (xs : List A) (i : ℕ) (y : B) → slice_get (map f xs) i ≡ Some y → i < length xs
-within-map f [] i y at = absurd (none-some y at)
-within-map f (x ∷ xs) zero y at = omega arith
-within-map f (x ∷ xs) (suc i) y at = omega (arith, within-map f xs i y at)

@@ -136,15 +136,6 @@ module _ {I : Type 0} {V : I → Type 0} (meaning : (x : I) × V x → Disciplin
   held-new (e ∷ es) [] r h l same = absurd (omega (arith, same))
   held-new (e ∷ es) (k ∷ ks) r h l same = ap (λ hs. held_of meaning e.0 e.1 k ∷ hs) (held-new es ks r h l (omega (arith, same)))
 
-  pub held-none : (homes : Homes) (labels : List Labels) → length homes ≡ 0 → held_all meaning homes labels ≡ []
-  held-none [] labels none = refl
-  held-none (e ∷ es) labels none = absurd (omega (arith, none))
-
-  pub length-held : (homes : Homes) (labels : List Labels) → length labels ≡ length homes → length (held_all meaning homes labels) ≡ length homes
-  length-held [] labels same = refl
-  length-held (e ∷ es) [] same = absurd (omega (arith, same))
-  length-held (e ∷ es) (k ∷ ks) same = ap suc (length-held es ks (omega (arith, same)))
-
   -- one is taken out
   pub held-remove : (homes : Homes) (labels : List Labels) (i : ℕ) → length labels ≡ length homes → held_all meaning (remove homes i) (remove labels i) ≡ remove (held_all meaning homes labels) i
   held-remove [] [] zero same = refl

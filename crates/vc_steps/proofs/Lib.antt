@@ -45,7 +45,6 @@ pub mod SessionLayers
 pub mod LookSteps
 pub mod SeenEntry
 pub mod SeenView
-pub mod HomeThere
 pub mod Starting
 pub mod RegionAt
 pub mod SessionHere

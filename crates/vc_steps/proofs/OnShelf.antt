@@ -1,11 +1,6 @@
 -- What follows of an answer.
 use Rattle.std.proofs.Common.{◌≡◌, Result, Ok, Err, IfOk, OnErr, subst}
 
--- a fact of each answer follows from another
-pub if_ok : {T E : Type 0} (r : Result T E) (P Q : T → Type 0) → ((x : T) → P x → Q x) → IfOk r P → IfOk r Q
-if_ok (Ok x) P Q f p = f x p
-if_ok (Err e) P Q f p = tt
-
 pub on_error : {T E : Type 0} (r : Result T E) (P Q : Type 0) → (P → Q) → OnErr r P → OnErr r Q
 on_error (Ok x) P Q f p = tt
 on_error (Err e) P Q f p = f p

@@ -9,7 +9,7 @@ use Rattle.vc_model.specs.Numbered.{at_number}
 use Rattle.vc_model.specs.Discipline.{Discipline}
 use Rattle.vc_model.specs.Layout.{Block}
 use Rattle.vc_dtdisc.specs.Rules.{Rules}
-use Rattle.vc_region.specs.Cells.{no_cells, region_cells, rest_of}
+use Rattle.vc_region.specs.Cells.{rest_of}
 use Rattle.vc_region.specs.Region.{Region, blocks_of, relabelled, segments_of}
 use Rattle.vc_model.specs.Sound.{HaveOwnPlaces}
 use Rattle.vc_region.specs.Stat.{opened}
@@ -63,13 +63,6 @@ opened-rest VmPool = refl
 opened-rest VmLast = refl
 opened-rest VmDebug = refl
 opened-rest VmProfile = refl
-
-pub opened-cells : (m : Method) → region_cells (opened m) ≡ no_cells
-opened-cells VmBest = refl
-opened-cells VmPool = refl
-opened-cells VmLast = refl
-opened-cells VmDebug = refl
-opened-cells VmProfile = refl
 
 -- labels with no name
 pub record AreNone (labels : Labels) : Type 0 where

@@ -58,7 +58,7 @@ module _ (slots : Slots) (hs : List Held) (es : List Entry) (vs : Vs) (i : ℕ) 
   stay : (kinds : List Rules) → AllByRecursion (Stays kinds hs gs) es
   stay kinds = run-stays kinds es hs i h g at change.name r first command free (run-best h g line command answer gives err) change.cells
 
-  pub region-dicts : (kinds : List Rules) → AreDicts kinds hs es → AreDicts kinds gs es
+  region-dicts : (kinds : List Rules) → AreDicts kinds hs es → AreDicts kinds gs es
   region-dicts kinds dicts = dicts-stay kinds hs gs es (stay kinds) dicts
 
   module _ (kinds : List Rules) (gone : List Gone) (dicts : AreDicts kinds hs es) where
@@ -98,7 +98,12 @@ module _ (slots : Slots) (hs : List Held) (es : List Entry) (vs : Vs) (i : ℕ) 
         }
 
     -- the step by what the region answered
-    pub steps-region : StepsBy answer (moment_over slots es vs kinds gone hs) (moment_over slots es vs kinds gone gs) command (λ st need. step_of st line command need (Some r))
+    steps-region : StepsBy answer (moment_over slots es vs kinds gone hs) (moment_over slots es vs kinds gone gs) command (λ st need. step_of st line command need (Some r))
     steps-region =
         by-answer answer (moment_over slots es vs kinds gone hs) (moment_over slots es vs kinds gone gs) command (λ need. step_of s line command need (Some r)) step-ok step-err
         (λ st need. step_of st line command need (Some r)) refl
+
+  -- and what the region leaves of the session's dictionaries
+  pub region-ran : ((kinds : List Rules) (gone : List Gone) → AreDicts kinds hs es → StepsBy answer (moment_over slots es vs kinds gone hs) (moment_over slots es vs kinds gone gs) command (λ st need. step_of st line command need (Some r)))
+      × ((kinds : List Rules) → AreDicts kinds hs es → AreDicts kinds gs es)
+  region-ran = (steps-region, region-dicts)

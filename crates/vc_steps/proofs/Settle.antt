@@ -39,11 +39,6 @@ settled-keeps shelf k (h ∷ hs) off =
     settled-keeps (set shelf (h.place - 1) (Some (account_after h))) k hs off.1
     ∙ slice_get-set_other shelf (h.place - 1) k (Some (account_after h)) (λ e. off.0 (sym e))
 
-all-away-set : (p : ℕ) (hs : List Held) (i : ℕ) (h g : Held) → slice_get hs i ≡ Some h → g.place ≡ h.place → AllByRecursion (λ f. f.place ≢ p) hs → AllByRecursion (λ f. f.place ≢ p) (set hs i g)
-all-away-set p [] i h g at same all = tt
-all-away-set p (f ∷ hs) zero h g at same all = ((λ e. all.0 (ap (λ (x : Held). x.place) (same_Some f h at) ∙ (sym same ∙ e))), all.1)
-all-away-set p (f ∷ hs) (suc i) h g at same all = (all.0, all-away-set p hs i h g at same all.1)
-
 pub away-at : (p : ℕ) (hs : List Held) (i : ℕ) (h : Held) → slice_get hs i ≡ Some h → AllByRecursion (λ f. f.place ≢ p) hs → h.place ≢ p
 away-at p [] i h at all = absurd (none-some h at)
 away-at p (f ∷ hs) zero h at all = λ e. all.0 (ap (λ (x : Held). x.place) (same_Some f h at) ∙ e)

@@ -1,24 +1,19 @@
 -- The names of a region are those of its labelled blocks alone.
-use Rattle.std.proofs.Common.{◌≡◌, ℕ, ◌≤◌, Bool, true, false, ◌||◌, cond, List, [], ◌∷◌, Some, filter, length, option_map, refl, sym, ap, ◌∙◌, subst, ⊎_elim, arith}
-use Rattle.std.specs.Prelude.{find, nat_lt}
+use Rattle.std.proofs.Common.{◌≡◌, ℕ, ◌≤◌, Bool, true, false, ◌||◌, cond, List, [], ◌∷◌, filter, length, refl, sym, ap, ◌∙◌, subst, ⊎_elim, arith}
+use Rattle.std.specs.Prelude.{nat_lt}
 use Rattle.std.specs.List.{AllByRecursion, list_any}
 use Rattle.std.proofs.lemmas.Bool.{cases_Bool}
 use Rattle.std.proofs.lemmas.Bool.Decides.{nat_tests}
 use Rattle.std.proofs.lemmas.List.Sums.{length-filter}
-use Rattle.vc_model.specs.Layout.{Block, relabel_block}
+use Rattle.vc_model.specs.Layout.{Block}
 use Rattle.vc_model.specs.Sound.{HaveOwnPlaces}
-use Rattle.vc_model.proofs.Relabel.{find-relabel}
-use Rattle.vc_region.specs.Cells.{labelled, rest_of}
+use Rattle.vc_region.specs.Cells.{labelled}
 use Rattle.vc_region.specs.Region.{Region, blocks_of, keeps_freed, relabelled}
-use Rattle.vc_region.proofs.Labelled.{labelled-rest}
-use Rattle.vc_region.proofs.Relabel.{blocks-relabelled}
-use Rattle.vc_region.proofs.Rest.{rest-keeps}
-use Rattle.vc_region.proofs.RestFound.{rest-own}
 use Rattle.vc_commands.specs.Held.{IsLive, IsNamed, tag_count}
-use Rattle.vc_commands.specs.Blocks.{has_label, is_block, is_name_of, label_count}
+use Rattle.vc_commands.specs.Blocks.{has_label, is_name_of}
 use Rattle.vc_commands.specs.Labels.{name_of}
 use Rattle.vc_commands.specs.declared.region.labels.Labels.{Labels}
-use Rattle.vc_commands.proofs.Names.{has-label-any, label-count, name-none, named_by}
+use Rattle.vc_commands.proofs.Names.{has-label-any, name-none, named_by}
 
 -- a test that fails for what is left out passes for the same items of the rest
 module _ {A : Type 0} (keeps test : A → Bool) (fails : (x : A) → keeps x ≡ false → test x ≡ false) where
@@ -30,18 +25,6 @@ module _ {A : Type 0} (keeps test : A → Bool) (fails : (x : A) → keeps x ≡
       (λ t.
       ap (λ v. list_any test (cond v (x ∷ filter keeps xs) (filter keeps xs))) t
       ∙ (any-kept xs ∙ sym (ap (λ v. v || list_any test xs) (fails x t))))
-      (cases_Bool (keeps x))
-
-  find-kept : (xs : List A) → find test (filter keeps xs) ≡ find test xs
-  find-kept [] = refl
-  find-kept (x ∷ xs) =
-      ⊎_elim
-      (λ t.
-      ap (λ v. find test (cond v (x ∷ filter keeps xs) (filter keeps xs))) t
-      ∙ ap (λ o. cond (test x) (Some x) o) (find-kept xs))
-      (λ t.
-      ap (λ v. find test (cond v (x ∷ filter keeps xs) (filter keeps xs))) t
-      ∙ (find-kept xs ∙ sym (ap (λ v. cond v (Some x) (find test xs)) (fails x t))))
       (cases_Bool (keeps x))
 
 -- what holds of all holds of those that are kept; and of all, where it holds of what is left out
@@ -84,13 +67,6 @@ tags-labelled r = sym (length-filter has_tag (blocks_of r))
 pub has-labelled : (labels : Labels) (x : List ℕ) (r : Region ℕ) → has_label x (relabelled (name_of labels) r) ≡ list_any (named_by (name_of labels) x) (labelled r)
 has-labelled labels x r = has-label-any (name_of labels) x r ∙ sym (any-kept has_tag (named_by (name_of labels) x) (no-name labels x) (blocks_of r))
 
-pub find-labelled : (labels : Labels) (x : List ℕ) (r : Region ℕ) → find (is_block x) (blocks_of (relabelled (name_of labels) r)) ≡ option_map (relabel_block (name_of labels)) (find (named_by (name_of labels) x) (labelled r))
-find-labelled labels x r =
-    let f = name_of labels in
-    ap (find (is_block x)) (blocks-relabelled f r)
-    ∙ (find-relabel f (named_by f x) (is_block x) (λ c. refl) (blocks_of r)
-    ∙ ap (option_map (relabel_block f)) (sym (find-kept has_tag (named_by f x) (no-name labels x) (blocks_of r))))
-
 -- a region with the same labelled blocks, whatever its other blocks
 module _ (labels : Labels) (r r' : Region ℕ) (same : labelled r' ≡ labelled r) where
   pub named-labelled : IsNamed r labels → HaveOwnPlaces (blocks_of r') → keeps_freed r' ≡ keeps_freed r → IsNamed r' labels
@@ -104,22 +80,3 @@ module _ (labels : Labels) (r r' : Region ℕ) (same : labelled r' ≡ labelled 
         places = places;
         none = λ e. n.none (sym keeps ∙ e);
       }
-
-  -- a name is that of a block as before, and of the same block
-  pub has_label-labelled : (x : List ℕ) → has_label x (relabelled (name_of labels) r') ≡ has_label x (relabelled (name_of labels) r)
-  has_label-labelled x = has-labelled labels x r' ∙ (ap (list_any (named_by (name_of labels) x)) same ∙ sym (has-labelled labels x r))
-
-  pub named_block-labelled : (x : List ℕ) → find (is_block x) (blocks_of (relabelled (name_of labels) r')) ≡ find (is_block x) (blocks_of (relabelled (name_of labels) r))
-  named_block-labelled x =
-      find-labelled labels x r'
-      ∙ (ap (λ bs. option_map (relabel_block (name_of labels)) (find (named_by (name_of labels) x) bs)) same ∙ sym (find-labelled labels x r))
-
-  -- as many blocks have a name
-  pub label_count-labelled : IsNamed r labels → IsNamed r' labels → label_count (relabelled (name_of labels) r') ≡ label_count (relabelled (name_of labels) r)
-  label_count-labelled n n' = label-count r' labels n' ∙ (tags-labelled r' ∙ (ap length same ∙ (sym (tags-labelled r) ∙ sym (label-count r labels n))))
-
--- the same of regions that are seen but for the bytes in their cells
-pub named-rest : (labels : Labels) (r r' : Region ℕ) → labelled r' ≡ labelled r → HaveOwnPlaces (blocks_of r') → keeps_freed r' ≡ keeps_freed r → IsNamed (rest_of r) labels → IsNamed (rest_of r') labels
-named-rest labels r r' same places keeps n =
-    named-labelled labels (rest_of r) (rest_of r') (labelled-rest r' ∙ (same ∙ sym (labelled-rest r))) n (rest-own r' places)
-    (rest-keeps r' ∙ (keeps ∙ sym (rest-keeps r)))

@@ -15,7 +15,7 @@ use Rattle.vc_commands.proofs.Firsts.{find-first, find-none}
 use Rattle.vc_steps.proofs.Helds.{any-named, first-named}
 use Rattle.vc_steps.proofs.InRegion.{both-true, clear-free, clear-is, if_ok_at}
 use Rattle.vc_steps.proofs.RegionAt.{RegionAt, helds-put, label-read, named-put, region-first, region-stands, region_at}
-use Rattle.vc_steps.proofs.RegionSteps.{moment_over, region-dicts, steps-region}
+use Rattle.vc_steps.proofs.RegionSteps.{moment_over, region-ran}
 use Rattle.vc_steps.proofs.Sessions.{held-at}
 use Rattle.vc_steps.proofs.Settling.{settles-same}
 use Rattle.vc_steps.proofs.session.Session.run_in_region.Given as given
@@ -83,7 +83,6 @@ returns g c =
     let x = region g (goal.at.returns g c).After-index_mut-2 in
     let h = region_at M x in
     let at = region-stands M x in
-    let first = region-first M x in
     let slots = slots_on M c.args.shelf.now in
     let helds = held_in M c.args.self.now in
     let es = c.args.self.now.dicts.entries in
@@ -95,20 +94,18 @@ returns g c =
     let k = held_of M r c.run.new.self c.run.new.labels in
     let change = c.run.ensures.change r in
     let after = helds-put M x c.run.new.self c.run.new.labels in
-    let free = clear-free command (lies_in r es) (sym c.if-clears_busy.ensures) in
-    let gives = if_ok_at c.run.result _ _ (λ reply is runs. runs r) c.run.ensures.runs.step in
+    let ran =
+    region-ran slots helds es vs i h k at session c.args.line command change r (region-first M x) c.requires.dict c.requires.region (clear-free command (lies_in r es) (sym c.if-clears_busy.ensures)) c.run.result
+    (if_ok_at c.run.result _ _ (λ reply is runs. runs r) c.run.ensures.runs.step) c.run.ensures.runs.err c.run.ensures.runs.unserved c.run.ensures.runs.faults in
     record {
       steps = λ kinds gone dicts.
-          subst (λ hs. StepsBy c.run.result (moment_over slots es vs kinds gone helds) (moment_over slots es vs kinds gone hs) command (λ s need. step_of s c.args.line command need (Some r))) (sym after)
-          (steps-region slots helds es vs i h k at session c.args.line command change r first c.requires.dict c.requires.region free c.run.result gives c.run.ensures.runs.err c.run.ensures.runs.unserved c.run.ensures.runs.faults kinds gone dicts);
+          subst (λ hs. StepsBy c.run.result (moment_over slots es vs kinds gone helds) (moment_over slots es vs kinds gone hs) command (λ s need. step_of s c.args.line command need (Some r))) (sym after) (ran.0 kinds gone dicts);
       regions = record {
         regions = record {
           named = named-put M x c.run.new.self c.run.new.labels;
           held = subst (λ hs. IsSession slots hs) (sym after) (session-change slots helds i h k at session change);
         };
-        dicts = λ kinds dicts.
-            subst (λ hs. AreDicts kinds hs es) (sym after)
-            (region-dicts slots helds es vs i h k at session c.args.line command change r first c.requires.dict c.requires.region free c.run.result gives c.run.ensures.runs.err c.run.ensures.runs.unserved c.run.ensures.runs.faults kinds dicts);
+        dicts = λ kinds dicts. subst (λ hs. AreDicts kinds hs es) (sym after) (ran.1 kinds dicts);
         views = λ are. are;
         spent = refl;
       };
