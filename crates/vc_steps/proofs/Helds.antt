@@ -95,9 +95,6 @@ module _ {I : Type 0} {V : I → Type 0} (meaning : (x : I) × V x → Disciplin
       let p = position-Some (bytes_eq r) (keys_of homes) i [] at in
       slice_get_at (keys_of homes) i p.0 ∙ ap (λ n. Some n) (sym (same_bytes r (get_or (keys_of homes) i []) p.1))
 
-  pub index-within : (homes : Homes) (r : List ℕ) (i : ℕ) → position (bytes_eq r) (keys_of homes) ≡ Some i → i < length (keys_of homes)
-  index-within homes r i at = (position-Some (bytes_eq r) (keys_of homes) i [] at).0
-
   -- what a region at a place stands for
   pub held-entry : (homes : Homes) (labels : List Labels) (i : ℕ) (e : List ℕ × HomeEntry I V) (l : Labels) → slice_get homes i ≡ Some e → slice_get labels i ≡ Some l → slice_get (held_all meaning homes labels) i ≡ Some (held_of meaning e.0 e.1 l)
   held-entry [] labels i e l at own = absurd (none-some e at)

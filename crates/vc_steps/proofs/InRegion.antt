@@ -32,10 +32,6 @@ pub if_ok_at : {T E : Type 0} (r : Result T E) (P Q : T → Type 0) → ((x : T)
 if_ok_at (Ok x) P Q f p = f x refl p
 if_ok_at (Err e) P Q f p = tt
 
-pub on_error : {T E : Type 0} (r : Result T E) (P Q : Type 0) → (P → Q) → OnErr r P → OnErr r Q
-on_error (Ok x) P Q f p = tt
-on_error (Err e) P Q f p = f p
-
 pub both-true : (a b : Bool) → (a && b) ≡ true → (a ≡ true) × (b ≡ true)
 both-true true b e = (refl, e)
 both-true false b e = absurd cc

@@ -18,7 +18,7 @@ pub mod DictStep
 pub mod DictTold
 pub mod DictWhy
 pub mod DictsStay
-pub mod Dispatch
+pub mod Granted
 pub mod Ending
 pub mod Helds
 pub mod InRegion

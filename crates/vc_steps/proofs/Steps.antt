@@ -12,7 +12,7 @@ use Rattle.vc_steps.specs.Step.{GivesStep}
 use Rattle.vc_steps.specs.Told.{tell}
 use Rattle.vc_steps.specs.Steps.{Halts, Steps, StepsBy}
 use Rattle.vc_steps.proofs.CutOff.{cut-same}
-use Rattle.vc_steps.proofs.Dispatch.{granted-lacks, granted-settles}
+use Rattle.vc_steps.proofs.Granted.{granted-lacks, granted-settles}
 use Rattle.vc_commands.proofs.Grants.{IsGranted}
 use Rattle.vc_steps.proofs.Settling.{keeps-settles, settles-equal}
 

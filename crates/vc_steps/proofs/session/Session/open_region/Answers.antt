@@ -19,7 +19,7 @@ use Rattle.vc_commands.proofs.Agreeing.{from_ok}
 use Rattle.vc_steps.proofs.Cells.{at_number_some, set_same}
 use Rattle.vc_steps.proofs.Helds.{any-named, none_of}
 use Rattle.vc_steps.proofs.Newest.{IsNewest, newest-dicts, newest-named, newest-session, newest-settled, newest-step}
-use Rattle.vc_steps.proofs.Dispatch.{open-granted}
+use Rattle.vc_steps.proofs.Granted.{open-granted}
 use Rattle.vc_steps.proofs.SameLists.{keeps-lists, settled-lists, state-lists}
 use Rattle.vc_steps.proofs.Steps.{halts-same, steps-quiet}
 use Rattle.vc_steps.proofs.Opening.{open_step-named, open_step-not_here}

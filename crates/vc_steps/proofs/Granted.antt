@@ -1,32 +1,21 @@
--- Which part of a session runs a command: a dictionary's, a region's, or the shelf's.
+-- Steps whose reply refuses no segment.
 use Rattle.std.proofs.Common.{◌≡◌, ℕ, Bool, true, false, cond, List, [], Option, Some, None, refl, sym, ap, subst}
 use Rattle.std.specs.List.{list_any}
-use Rattle.vc_base.specs.declared.dict_method.DictMethod.{DictMethod}
 use Rattle.vc_model.specs.Discipline.{Terms}
 use Rattle.vc_model.specs.Numbered.{at_number}
-use Rattle.vc_model.specs.Outcome as model
-use Rattle.vc_model.specs.Outcome.{Outcome}
-use Rattle.vc_region.specs.Region.{Region, layout_in}
+use Rattle.vc_region.specs.Region.{Region}
 use Rattle.vc_region.specs.Stat.{opened}
-use Rattle.vc_objects.specs.Insert.{Grown, open_dictionary, want_of}
-use Rattle.vc_objects.specs.declared.fate.Want.{Want}
-use Rattle.vc_objects.specs.declared.fate.Want.TheVariants as want
-use Rattle.vc_commands.specs.DictCommands.{is_for_table, table_refusal}
-use Rattle.vc_script.specs.Needs.{Need}
 use Rattle.vc_script.specs.declared.command.Command.{Command}
-use Rattle.vc_script.specs.declared.refusal.Refusal.{Refusal}
 use Rattle.vc_script.specs.declared.refusal.Refusal.TheVariants as why
 use Rattle.vc_script.specs.declared.reply.Reply.{Reply}
 use Rattle.vc_script.specs.declared.reply.Reply.TheVariants.{Refused}
 use Rattle.vc_seg.specs.declared.method.Method.{Method}
 use Rattle.vc_steps.specs.Account.{Account, Settles}
 use Rattle.vc_commands.specs.Held.{Held}
-use Rattle.vc_steps.specs.Dicts.{dict_opened, open_dict_unless}
 use Rattle.vc_steps.specs.Lacks.{StepLacksFor}
 use Rattle.vc_steps.specs.Refusals.{refusal_at}
 use Rattle.vc_steps.specs.State.{State, Stepped, close_home, close_step, closed, home_named, is_busy, open_step, opened_over, refused, stepped}
 use Rattle.vc_commands.specs.Home.{Home, Label, is_home}
-use Rattle.vc_steps.proofs.DictReplies.{IsOther}
 use Rattle.vc_commands.proofs.Grants.{IsGranted}
 
 -- where no segment is refused none is lacking
@@ -69,23 +58,3 @@ open-granted s after r method n reply e = subst IsGranted (ap (λ (t : Stepped).
 
 pub close-granted : (s after : State) (r : List ℕ) (reply : Reply) → close_step s r ≡ stepped after reply → IsGranted reply
 close-granted s after r reply e = subst IsGranted (ap (λ (t : Stepped). t.reply) e) (granted-close_home s r (home_named r s.homes))
-
-other-table : (w : Want) → IsOther (Refused (table_refusal w))
-other-table want.TooManySegments = tt
-other-table want.NoSegment = tt
-
-other-dict_opened : (s : State) (h : Home) (d : List ℕ) (k : ℕ) (o : Outcome (Grown Label)) → IsOther (dict_opened s h d k o).reply
-other-dict_opened s h d k (model.Refused fault) = other-table (want_of fault)
-other-dict_opened s h d k (model.Done g) = tt
-
-abbrev IsOtherWhy : Option Refusal → Type 0
-IsOtherWhy None = Unit {0}
-IsOtherWhy (Some w) = IsOther (Refused w)
-
-other-unless : (s : State) (h : Home) (d : List ℕ) (method : DictMethod) (k : ℕ) (need : Need) (o : Option Refusal) → IsOtherWhy o → IsOther (open_dict_unless s h d method k need o).reply
-other-unless s h d method k need None other = other-dict_opened s h d k (open_dictionary h.terms (layout_in h.region) None method (is_for_table need))
-other-unless s h d method k need (Some refusal) other = other
-
-other-cond : (t : Bool) (a b : Stepped) → IsOther a.reply → IsOther b.reply → IsOther (cond t a b).reply
-other-cond true a b p q = p
-other-cond false a b p q = q
