@@ -161,49 +161,49 @@ module _ {I : Type 0} {V : I → Type 0} {meaning : (x : I) × V x → Disciplin
     pub alone : lookup (bytes_eq x.e.0) es' ≡ None
 
   module _ (o : DictEnded) where
-    abbrev lent : Held
-    lent = region_at meaning x.region
+    abbrev h_before : Held
+    h_before = region_at meaning x.region
 
-    abbrev now : Held
-    now = held_of meaning x.e.1.home (best_entry place o.after) x.region.l
+    abbrev h_after : Held
+    h_after = held_of meaning x.e.1.home (best_entry place o.after) x.region.l
 
     abbrev mine : List ℕ
     mine = owned (dictionary_in x.e.1.dict before)
 
-    touched : Touches lent now mine []
-    touched = touches meaning x.e.1.home place before o.after x.region.l mine [] o.leaves
+    touch-after : Touches h_before h_after mine []
+    touch-after = touches meaning x.e.1.home place before o.after x.region.l mine [] o.leaves
 
-    changed : IsChange (let k : Held = record lent { cells = cells_in o.after } in k) now
-    changed =
-        let is_held : IsHeld x.here.slots lent = held-at x.here.slots (helds x.here) x.j lent (region-stands meaning x.region) x.here.held in
+    change-after : IsChange (let k : Held = record h_before { cells = cells_in o.after } in k) h_after
+    change-after =
+        let is_held : IsHeld x.here.slots h_before = held-at x.here.slots (helds x.here) x.j h_before (region-stands meaning x.region) x.here.held in
         region-change meaning x.e.1.home place before o.after x.region.l mine [] o.leaves is_held.lent is_held.names
 
     abbrev hs' : List Held
     hs' = held_all meaning (set_value_at x.here.homes x.j (best_entry place o.after)) x.here.labels
 
-    held-is : hs' ≡ set (helds x.here) x.j now
+    held-is : hs' ≡ set (helds x.here) x.j h_after
     held-is = helds-set meaning x.region (best_entry place o.after)
 
-    carry : (P : List Rules → List Held → Links → List Entry → Type 0) → P x.here.kinds (set (helds x.here) x.j now) (linked x.e.1.number None x.here.links) (remove x.here.es x.i) → P o.kinds' hs' o.links' o.es'
+    carry : (P : List Rules → List Held → Links → List Entry → Type 0) → P x.here.kinds (set (helds x.here) x.j h_after) (linked x.e.1.number None x.here.links) (remove x.here.es x.i) → P o.kinds' hs' o.links' o.es'
     carry P p =
         subst (λ ks. P ks hs' o.links' o.es') (sym o.same_kinds)
         (subst (λ gs. P x.here.kinds gs o.links' o.es') (sym held-is)
-        (subst (λ ls. P x.here.kinds (set (helds x.here) x.j now) ls o.es') (sym o.ended)
-        (subst (P x.here.kinds (set (helds x.here) x.j now) (linked x.e.1.number None x.here.links)) (sym o.left) p)))
+        (subst (λ ls. P x.here.kinds (set (helds x.here) x.j h_after) ls o.es') (sym o.ended)
+        (subst (P x.here.kinds (set (helds x.here) x.j h_after) (linked x.e.1.number None x.here.links)) (sym o.left) p)))
 
     pub named-ended : length x.here.labels ≡ length (set_value_at x.here.homes x.j (best_entry place o.after))
     named-ended = named-set meaning x.region (best_entry place o.after)
 
     pub session-ended : IsSession x.here.slots hs'
-    session-ended = carry (λ ks gs ls ds. IsSession x.here.slots gs) (session-change x.here.slots (helds x.here) x.j lent now (region-stands meaning x.region) x.here.held changed)
+    session-ended = carry (λ ks gs ls ds. IsSession x.here.slots gs) (session-change x.here.slots (helds x.here) x.j h_before h_after (region-stands meaning x.region) x.here.held change-after)
 
     pub settled-ended : settled (accounts x.here.slots) hs' ≡ settled (accounts x.here.slots) (helds x.here)
     settled-ended =
         ap (settled (accounts x.here.slots)) held-is
-        ∙ settled-same x.here.slots (helds x.here) x.j lent now (region-stands meaning x.region) x.here.held changed (ap (λ (d : Discipline). d.faults) o.disc)
+        ∙ settled-same x.here.slots (helds x.here) x.j h_before h_after (region-stands meaning x.region) x.here.held change-after (ap (λ (d : Discipline). d.faults) o.disc)
 
     pub dicts-ended : AreDicts o.kinds' hs' o.es'
-    dicts-ended = carry (λ ks gs ls ds. AreDicts ks gs ds) (dicts-shut x now changed touched refl o.region)
+    dicts-ended = carry (λ ks gs ls ds. AreDicts ks gs ds) (dicts-shut x h_after change-after touch-after refl o.region)
 
     number : x.e.1.number < length x.here.links
     number = number-within x.here.links x.here.es x.i x.e o.paths x.here.are.numbered x.there
@@ -218,5 +218,5 @@ module _ {I : Type 0} {V : I → Type 0} {meaning : (x : I) × V x → Disciplin
     pub state-ended : state_of o.kinds' x.here.slots hs' (dicts_in hs' (views_by o.links' o.es') o.es') ≡ shut_state (state_here x.here) (dict_home (helds x.here) (views x.here) x.e)
     state-ended =
         carry (λ ks gs ls ds. state_of ks x.here.slots gs (dicts_in gs (views_by ls ds) ds) ≡ shut_state (state_here x.here) (dict_home (helds x.here) (views x.here) x.e))
-        (ap (state_of x.here.kinds x.here.slots (set (helds x.here) x.j now)) (homes-shut x.here.links x.here.es x.here.are x.i x.e x.there o.unviewed number (dict_over (set (helds x.here) x.j now)))
-        ∙ state-shut x now changed touched refl o.region (none-left (helds x.here) (views x.here) x.here.es x.e.0 x.i (ap (lookup (bytes_eq x.e.0)) (sym o.left) ∙ o.alone)))
+        (ap (state_of x.here.kinds x.here.slots (set (helds x.here) x.j h_after)) (homes-shut x.here.links x.here.es x.here.are x.i x.e x.there o.unviewed number (dict_over (set (helds x.here) x.j h_after)))
+        ∙ state-shut x h_after change-after touch-after refl o.region (none-left (helds x.here) (views x.here) x.here.es x.e.0 x.i (ap (lookup (bytes_eq x.e.0)) (sym o.left) ∙ o.alone)))

@@ -158,21 +158,21 @@ module _ {I : Type 0} {V : I → Type 0} {meaning : (x : I) × V x → Disciplin
     abbrev gs' : List Held
     gs' = hs' o.after mine o.opens.leaves
 
-    same : gs' ≡ after_hs
-    same = held-is o.after mine o.opens.leaves
+    held-one : gs' ≡ after_hs
+    held-one = held-is o.after mine o.opens.leaves
 
-    changed : IsChange (let k : Held = record h { cells = cells_in o.after } in k) one
-    changed = change o.after mine o.opens.leaves
+    change-one : IsChange (let k : Held = record h { cells = cells_in o.after } in k) one
+    change-one = change o.after mine o.opens.leaves
 
-    touched : Touches h one [] mine
-    touched = touch o.after mine o.opens.leaves
+    touch-one : Touches h one [] mine
+    touch-one = touch o.after mine o.opens.leaves
 
-    unseen : vs o.n ≡ None
-    unseen = views-free here.links es o.n here.are o.free
+    no-view : vs o.n ≡ None
+    no-view = views-free here.links es o.n here.are o.free
 
     state-is : (moment_with gs' o.es').state ≡ state_of kinds slots after_hs (dicts_in after_hs vs (es ++ entry_new o.n o.dict ∷ []))
     state-is =
-        ap (λ ks. (moment_with ks o.es').state) same
+        ap (λ ks. (moment_with ks o.es').state) held-one
         ∙ (ap (λ ds. (moment_with after_hs ds).state) o.last
         ∙ ap (λ v. state_of kinds slots after_hs (dicts_in after_hs v (es ++ entry_new o.n o.dict ∷ []))) (views-more here.links es (entry_new o.n o.dict) here.are o.free))
 
@@ -180,16 +180,16 @@ module _ {I : Type 0} {V : I → Type 0} {meaning : (x : I) × V x → Disciplin
     steps-opened = record {
       gives =
           subst (λ q. GivesStep (open_dict_step (state_here here) x.d x.method x.r x.k NoNeed) here.gone (Opened x.d) q here.gone) (sym state-is)
-          (open-done x one o.dict o.n unseen changed touched refl o.opens.numbered o.rules o.by o.opens.whole here.gone allowed o.opens.grown);
-      settles = subst (λ ks. Settles (settled (accounts slots) hs) (settled (accounts slots) ks) []) (sym same) (settles-none slots hs x.j h one at here.held changed o.asked);
+          (open-done x one o.dict o.n no-view change-one touch-one refl o.opens.numbered o.rules o.by o.opens.whole here.gone allowed o.opens.grown);
+      settles = subst (λ ks. Settles (settled (accounts slots) hs) (settled (accounts slots) ks) []) (sym held-one) (settles-none slots hs x.j h one at here.held change-one o.asked);
       lacks = tt;
     }
 
     pub dicts-new : AreDicts kinds gs' o.es'
     dicts-new =
-        subst (λ ks. AreDicts kinds ks o.es') (sym same)
+        subst (λ ks. AreDicts kinds ks o.es') (sym held-one)
         (subst (AreDicts kinds after_hs) (sym o.last)
-        (dicts-opened x one o.dict o.n unseen changed touched refl o.opens.numbered o.rules o.by o.opens.whole))
+        (dicts-opened x one o.dict o.n no-view change-one touch-one refl o.opens.numbered o.rules o.by o.opens.whole))
 
     pub linked-new : AreLinked here.links o.es'
     linked-new = subst (AreLinked here.links) (sym o.last) (linked-more here.links es (entry_new o.n o.dict) here.are o.free o.below)
