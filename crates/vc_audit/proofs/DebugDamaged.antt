@@ -9,7 +9,7 @@ use Rattle.vc_model.specs.Sound.{HaveOwnPlaces}
 use Rattle.vc_model.specs.Walk.{by_address}
 use Rattle.vc_model.proofs.Sorting as sorting
 use Rattle.vc_model.proofs.Walking.{IsRow, filter-all, filter-next, filter-none}
-use Rattle.vc_audit.specs.Debug.{Debug, damage, damage_of, damaged, next_damaged, user_block}
+use Rattle.vc_audit.specs.Debug.{Debug, damage, damage_of, damaged_blocks, next_damaged, user_block}
 use Rattle.vc_audit.proofs.DebugBlocks.{address-user}
 
 on : (k a b : ℕ) → ltb k a ≡ true → ltb a b ≡ true → ltb k b ≡ true
@@ -54,18 +54,18 @@ row [] r = tt
 row (b ∷ bs) r = cons-row b (damage b) (filter_map damage_of bs) (all-behind b bs r.0) (row bs r.1)
 
 -- each damaged block is behind those before it
-pub damaged-row : (d : Debug ℕ) → HaveOwnPlaces d.best.blocks → IsRow behind address_in (damaged d)
+pub damaged-row : (d : Debug ℕ) → HaveOwnPlaces d.best.blocks → IsRow behind address_in (damaged_blocks d)
 damaged-row d places = row (by_address d.best.blocks) (sorting.row-sorted_by address_of d.best.blocks (sorting.distinct-pairs address_of d.best.blocks places.distinct))
 
 -- those behind an address are the next one and those behind it
-pub next-passes : (d : Debug ℕ) (after : ℕ) (x : Block ℕ × ℤ) → HaveOwnPlaces d.best.blocks → next_damaged after d ≡ Some x → filter (behind after) (damaged d) ≡ x ∷ filter (behind (address_in x)) (damaged d)
+pub next-passes : (d : Debug ℕ) (after : ℕ) (x : Block ℕ × ℤ) → HaveOwnPlaces d.best.blocks → next_damaged after d ≡ Some x → filter (behind after) (damaged_blocks d) ≡ x ∷ filter (behind (address_in x)) (damaged_blocks d)
 next-passes d after x places e =
     filter-next behind address_in (λ k a b p q. on k (address_in a) (address_in b) p q) (λ a. self (address_in a)) (λ k a b p q. back k (address_in a) (address_in b) p q)
-    after (damaged d) x (damaged-row d places) e
+    after (damaged_blocks d) x (damaged-row d places) e
 
 -- where there is no next one, there are none
-pub none-passes : (d : Debug ℕ) (after : ℕ) → next_damaged after d ≡ None → filter (behind after) (damaged d) ≡ []
-none-passes d after e = filter-none (behind after) (damaged d) e
+pub none-passes : (d : Debug ℕ) (after : ℕ) → next_damaged after d ≡ None → filter (behind after) (damaged_blocks d) ≡ []
+none-passes d after e = filter-none (behind after) (damaged_blocks d) e
 
 some-zero : (b : Block ℕ) (o : Option ℤ) → IfSome (option_map {U = Block ℕ × ℤ} (λ off. (user_block b, off)) o) (λ f. behind 0 f ≡ true)
 some-zero b None = tt
@@ -76,5 +76,5 @@ all-zero [] = tt
 all-zero (b ∷ bs) = cons-all (λ f. behind 0 f ≡ true) (damage_of b) (filter_map damage_of bs) (some-zero b (damage b)) (all-zero bs)
 
 -- a walk from 0 on passes all
-pub all-pass : (d : Debug ℕ) → filter (behind 0) (damaged d) ≡ damaged d
-all-pass d = filter-all (behind 0) (damaged d) (all-zero (by_address d.best.blocks))
+pub all-pass : (d : Debug ℕ) → filter (behind 0) (damaged_blocks d) ≡ damaged_blocks d
+all-pass d = filter-all (behind 0) (damaged_blocks d) (all-zero (by_address d.best.blocks))

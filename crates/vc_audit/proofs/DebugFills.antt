@@ -10,14 +10,14 @@ use Rattle.std.proofs.lemmas.List.Elements.{All-from_recursion}
 use Rattle.vc_model.specs.Addr.{place_of}
 use Rattle.vc_model.specs.Layout.{Block, Layout, address_of, is_at, without_block}
 use Rattle.vc_model.specs.Sound.{IsSound}
-use Rattle.vc_model.specs.Touch.{HasBlock, HasRange, change_block, find_block, rewritten}
+use Rattle.vc_model.specs.Touch.{HasBlock, HasRange, change_block, find_block, rewritten_block}
 use Rattle.vc_model.proofs.Pairs.{all-recursion}
 use Rattle.vc_model.proofs.Places.{among-all, among-find}
 use Rattle.vc_audit.specs.Debug.{user_block}
 use Rattle.vc_audit.specs.DebugGuard.{HasGuards}
 
 module _ {L : Type 0} (off : ℕ) (src : List ℕ) where
-  addresses-written : (p : ℕ × ℕ) (bs : List (Block L)) → map address_of (change_block (rewritten off src) p bs) ≡ map address_of bs
+  addresses-written : (p : ℕ × ℕ) (bs : List (Block L)) → map address_of (change_block (rewritten_block off src) p bs) ≡ map address_of bs
   addresses-written p [] = refl
   addresses-written p (b ∷ bs) =
       ⊎_elim
@@ -25,10 +25,10 @@ module _ {L : Type 0} (off : ℕ) (src : List ℕ) where
       (λ (e : is_at p b ≡ false). rw e (ap (λ ns. address_of b ∷ ns) (addresses-written p bs)))
       (cases_Bool (is_at p b))
 
-  pub live-written : (p : ℕ × ℕ) (bs : List (Block L)) (a : ℕ) → HasBlock bs a → HasBlock (change_block (rewritten off src) p bs) a
+  pub live-written : (p : ℕ × ℕ) (bs : List (Block L)) (a : ℕ) → HasBlock bs a → HasBlock (change_block (rewritten_block off src) p bs) a
   live-written p bs a live = subst (λ ns. Contains ns a) (sym (addresses-written p bs)) live
 
-  pub found-written : (p : ℕ × ℕ) (bs : List (Block L)) → find_block p (change_block (rewritten off src) p bs) ≡ option_map (rewritten off src) (find_block p bs)
+  pub found-written : (p : ℕ × ℕ) (bs : List (Block L)) → find_block p (change_block (rewritten_block off src) p bs) ≡ option_map (rewritten_block off src) (find_block p bs)
   found-written p [] = refl
   found-written p (b ∷ bs) =
       ⊎_elim
@@ -36,7 +36,7 @@ module _ {L : Type 0} (off : ℕ) (src : List ℕ) where
       (λ (e : is_at p b ≡ false). rw e (rw e (found-written p bs)))
       (cases_Bool (is_at p b))
 
-  all-written : (P : ℕ → Type 0) (p : ℕ × ℕ) (bs : List (Block L)) → AllByRecursion (λ b. P b.size) bs → AllByRecursion (λ b. P b.size) (change_block (rewritten off src) p bs)
+  all-written : (P : ℕ → Type 0) (p : ℕ × ℕ) (bs : List (Block L)) → AllByRecursion (λ b. P b.size) bs → AllByRecursion (λ b. P b.size) (change_block (rewritten_block off src) p bs)
   all-written P p [] all = tt
   all-written P p (b ∷ bs) all =
       ⊎_elim
@@ -44,19 +44,19 @@ module _ {L : Type 0} (off : ℕ) (src : List ℕ) where
       (λ (e : is_at p b ≡ false). rw e (all.0, all-written P p bs all.1))
       (cases_Bool (is_at p b))
 
-  pub guards-written : (p : ℕ × ℕ) (bs : List (Block L)) → HasGuards bs → HasGuards (change_block (rewritten off src) p bs)
+  pub guards-written : (p : ℕ × ℕ) (bs : List (Block L)) → HasGuards bs → HasGuards (change_block (rewritten_block off src) p bs)
   guards-written p bs guards =
       record {
-        some = All-from_recursion (λ (b : Block L). 49 ≤ b.size) (change_block (rewritten off src) p bs) (all-written (λ n. 49 ≤ n) p bs (all-recursion (λ (b : Block L). 49 ≤ b.size) bs guards.some));
-        most = All-from_recursion (λ (b : Block L). b.size ≤ 16777264) (change_block (rewritten off src) p bs) (all-written (λ n. n ≤ 16777264) p bs (all-recursion (λ (b : Block L). b.size ≤ 16777264) bs guards.most));
+        some = All-from_recursion (λ (b : Block L). 49 ≤ b.size) (change_block (rewritten_block off src) p bs) (all-written (λ n. 49 ≤ n) p bs (all-recursion (λ (b : Block L). 49 ≤ b.size) bs guards.some));
+        most = All-from_recursion (λ (b : Block L). b.size ≤ 16777264) (change_block (rewritten_block off src) p bs) (all-written (λ n. n ≤ 16777264) p bs (all-recursion (λ (b : Block L). b.size ≤ 16777264) bs guards.most));
       }
 
 -- a range of the same block
-range-within : {L : Type 0} (o : Option (Block L)) (off src : ℕ) (m n m' n' : ℕ) (bytes : List ℕ) → m' + n' ≤ m + n → IfSome o (λ b. m + n ≤ b.size) → IfSome (option_map (rewritten off bytes) o) (λ b. m' + n' ≤ b.size)
+range-within : {L : Type 0} (o : Option (Block L)) (off src : ℕ) (m n m' n' : ℕ) (bytes : List ℕ) → m' + n' ≤ m + n → IfSome o (λ b. m + n ≤ b.size) → IfSome (option_map (rewritten_block off bytes) o) (λ b. m' + n' ≤ b.size)
 range-within None off src m n m' n' bytes le range = tt
 range-within (Some b) off src m n m' n' bytes le range = omega (arith, le, range)
 
-pub range-written : {L : Type 0} (off : ℕ) (src : List ℕ) (bs : List (Block L)) (a m n m' n' : ℕ) → m' + n' ≤ m + n → HasRange bs a m n → HasRange (change_block (rewritten off src) (place_of a) bs) a m' n'
+pub range-written : {L : Type 0} (off : ℕ) (src : List ℕ) (bs : List (Block L)) (a m n m' n' : ℕ) → m' + n' ≤ m + n → HasRange bs a m n → HasRange (change_block (rewritten_block off src) (place_of a) bs) a m' n'
 range-written {L = L} off src bs a m n m' n' le range =
     subst (λ (o : Option (Block L)). IfSome o (λ b. m' + n' ≤ b.size)) (sym (found-written off src (place_of a) bs)) (range-within (find_block (place_of a) bs) off 0 m n m' n' src le range)
 

@@ -12,11 +12,11 @@ use Rattle.vc_model.specs.Outcome.{Outcome, Done, Refused, Put}
 use Rattle.vc_model.specs.Discipline.{Terms}
 use Rattle.vc_model.specs.Resize.{best_resize, can_stay}
 use Rattle.vc_model.specs.Sound.{IsSound}
-use Rattle.vc_model.specs.Touch.{HasBlock, change_block, find_block, rewritten}
+use Rattle.vc_model.specs.Touch.{HasBlock, change_block, find_block, rewritten_block}
 use Rattle.vc_seg.specs.Answer.{IsPut, IsRefusal}
 use Rattle.vc_seg.specs.declared.fault.RegionFault.{RegionFault}
 use Rattle.vc_seg.specs.declared.fault.RegionFault.TheVariants as code
-use Rattle.vc_audit.specs.Debug.{Debug, debug_resize, guarded_place, outcome_by, resized, stays_debug, user_block, user_place, user_size, with_guards, with_zeros}
+use Rattle.vc_audit.specs.Debug.{Debug, debug_resize, guarded_place, outcome_by, put_with_mark, stays_debug, user_block, user_place, user_size, with_guards, with_zeros}
 use Rattle.vc_audit.specs.DebugMark.{moved_marks}
 use Rattle.vc_audit.specs.DebugGuard.{HasGuards}
 use Rattle.vc_audit.proofs.DebugBlocks.{UserAt, address-place_of, at_user, guarded-at, below-end, found-at, live-down, without-at}
@@ -65,10 +65,10 @@ refused-by f call code.WrongMethod h = ap (outcome_by f) h
 -- both guards, or zeros and the back guard, leave the sizes and the addresses
 module _ (mid new : Layout ℕ) (p : ℕ × ℕ) (size off : ℕ) (src : List ℕ) where
   abbrev once : List (Block ℕ)
-  once = change_block (rewritten off src) p mid.blocks
+  once = change_block (rewritten_block off src) p mid.blocks
 
   abbrev twice : List (Block ℕ)
-  twice = change_block (rewritten (32 + size) (replicate 16 165)) p once
+  twice = change_block (rewritten_block (32 + size) (replicate 16 165)) p once
 
   pub guards-twice : new.blocks ≡ twice → HasGuards mid.blocks → HasGuards new.blocks
   guards-twice e guards = rw e (guards-written (32 + size) (replicate 16 165) p once (guards-written off src p mid.blocks guards))
@@ -76,10 +76,10 @@ module _ (mid new : Layout ℕ) (p : ℕ × ℕ) (size off : ℕ) (src : List �
   pub live-twice : (x : ℕ) → new.blocks ≡ twice → HasBlock mid.blocks x → HasBlock new.blocks x
   live-twice x e live = rw e (live-written (32 + size) (replicate 16 165) p once x (live-written off src p mid.blocks x live))
 
-  pub found-twice : new.blocks ≡ twice → find_block p new.blocks ≡ option_map (rewritten (32 + size) (replicate 16 165)) (option_map (rewritten off src) (find_block p mid.blocks))
-  found-twice e = ap (find_block p) e ∙ (found-written (32 + size) (replicate 16 165) p once ∙ ap (option_map (rewritten (32 + size) (replicate 16 165))) (found-written off src p mid.blocks))
+  pub found-twice : new.blocks ≡ twice → find_block p new.blocks ≡ option_map (rewritten_block (32 + size) (replicate 16 165)) (option_map (rewritten_block off src) (find_block p mid.blocks))
+  found-twice e = ap (find_block p) e ∙ (found-written (32 + size) (replicate 16 165) p once ∙ ap (option_map (rewritten_block (32 + size) (replicate 16 165))) (found-written off src p mid.blocks))
 
-  label-some : (o : Option (Block ℕ)) → option_map (λ b. b.label) (option_map (rewritten (32 + size) (replicate 16 165)) (option_map (rewritten off src) o)) ≡ option_map (λ b. b.label) o
+  label-some : (o : Option (Block ℕ)) → option_map (λ b. b.label) (option_map (rewritten_block (32 + size) (replicate 16 165)) (option_map (rewritten_block off src) o)) ≡ option_map (λ b. b.label) o
   label-some None = refl
   label-some (Some b) = refl
 
@@ -113,11 +113,11 @@ user-zeros size =
     ∙ (ap (take size) is ∙ take-replicate size (size + 48 - 32) 0 (omega arith))))
 
 -- a new block with guards is one of zeros of the user
-pub user-new : (label size : ℕ) (p : ℕ × ℕ) → user_block (rewritten (32 + size) (replicate 16 165) (rewritten 0 (replicate 32 165) (zeros label (size + 48) p))) ≡ zeros label size (user_place p)
+pub user-new : (label size : ℕ) (p : ℕ × ℕ) → user_block (rewritten_block (32 + size) (replicate 16 165) (rewritten_block 0 (replicate 32 165) (zeros label (size + 48) p))) ≡ zeros label size (user_place p)
 user-new label size p =
     let same : size + 48 - 48 ≡ size = omega arith in
     let at : ℕ → List ℕ → Block ℕ = λ n bytes. record { label = label; seg = p.0; off = p.1 + 32; size = n; bytes = bytes } in
-    ap (λ n. at n (user_block (rewritten (32 + size) (replicate 16 165) (rewritten 0 (replicate 32 165) (zeros label (size + 48) p)))).bytes) same ∙ ap (at size) (user-zeros size)
+    ap (λ n. at n (user_block (rewritten_block (32 + size) (replicate 16 165) (rewritten_block 0 (replicate 32 165) (zeros label (size + 48) p)))).bytes) same ∙ ap (at size) (user-zeros size)
 
 -- whether the user's block stays is whether the one with guards does
 pub stays-user : (d : Debug ℕ) (size : ℕ) (o : Option (Block ℕ)) → IfSome o (λ b. can_stay d.best (size + 48) b ≡ false) → IfSome (option_map user_block o) (λ b. stays_debug d size b ≡ false)
@@ -161,8 +161,8 @@ module _ {r mid new : Layout ℕ} {label size x : ℕ} (h : IsGuarded r mid new 
 
     pub there-guarded : find_block (place_of a) (map user_block new.blocks) ≡ Some (zeros label size (place_of a))
     there-guarded =
-        let back = rewritten {L = ℕ} (32 + size) (replicate 16 165) in
-        let front = rewritten {L = ℕ} 0 (replicate 32 165) in
+        let back = rewritten_block {L = ℕ} (32 + size) (replicate 16 165) in
+        let front = rewritten_block {L = ℕ} 0 (replicate 32 165) in
         found-at new a x user-guarded new.blocks
         ∙ (ap (option_map user_block) (found-twice mid new (place_of x) size 0 (replicate 32 165) blocks-guarded ∙ ap (λ o. option_map back (option_map front o)) h.there)
         ∙ (ap Some (user-new label size (place_of x)) ∙ ap (λ p. Some (zeros label size p)) (sym user-guarded.place)))
@@ -227,7 +227,7 @@ module _ {r mid new : Layout ℕ} {size kept x y : ℕ} (h : IsResized r mid new
         let goes : address (user_place (place_of y)) ≡ to = address-next (place_of y) ∙ (ap (λ n. n + 1) (address-place_of y) ∙ sym next) in
         let marked : (F (place_of y) mid).marks ≡ moved = ap (λ n. moved_marks n (address (user_place (place_of y))) marks) (address-place_of a) ∙ (ap (λ n. moved_marks a n marks) goes ∙ sym along) in
         let left : F (place_of y) mid ≡ D new moved = ap (λ l. D l (F (place_of y) mid).marks) (sym h.written) ∙ ap (D new) marked in
-        let R : ℕ × ℕ → ℕ → Debug ℕ → Type 0 = λ q k d. IsPut (outcome_by (resized marks (place_of a) k size) (best_resize terms r q (size + 48) may_move false)) to d in
+        let R : ℕ × ℕ → ℕ → Debug ℕ → Type 0 = λ q k d. IsPut (outcome_by (put_with_mark marks (place_of a) k size) (best_resize terms r q (size + 48) may_move false)) to d in
         let base : R (place_of x) kept (F (place_of y) mid) = put-by F (best_resize terms r (place_of x) (size + 48) may_move false) y to mid next user-resized.place placed in
         subst (λ q. R q (min (user_size (D r marks) (place_of a)) size) (D new moved)) (sym (guarded-at r a x old))
         (subst (λ k. R (place_of x) k (D new moved)) (sym same) (subst (R (place_of x) kept) left base))
@@ -236,5 +236,5 @@ pub refused-resized : (r : Layout ℕ) (marks : List (ℕ × ℕ)) (terms : Term
     IsRefusal (debug_resize terms (record { best = r; marks = marks }) (place_of a) size may_move) why
 refused-resized r marks terms a x size may_move why old h =
     let d : Debug ℕ = record { best = r; marks = marks } in
-    refused-by (resized marks (place_of a) (min (user_size d (place_of a)) size) size) (best_resize terms r (guarded_place (place_of a)) (size + 48) may_move) why
+    refused-by (put_with_mark marks (place_of a) (min (user_size d (place_of a)) size) size) (best_resize terms r (guarded_place (place_of a)) (size + 48) may_move) why
     (subst (λ q. IsRefusal (best_resize terms r q (size + 48) may_move) why) (sym (guarded-at r a x old)) h)

@@ -8,13 +8,13 @@ use Rattle.vc_model.specs.Layout.{Block, Layout, address_of, relabel_block, rela
 use Rattle.vc_model.specs.Numbers.{greatest}
 use Rattle.vc_model.specs.Outcome.{Outcome, Done, Refused, Put, outcome_as}
 use Rattle.vc_model.specs.Resize.{best_resize}
-use Rattle.vc_model.specs.Touch.{find_block, rewritten, with_bytes_at}
+use Rattle.vc_model.specs.Touch.{find_block, rewritten_block, with_bytes_at}
 use Rattle.vc_model.specs.Walk.{by_address}
 use Rattle.vc_model.proofs.Relabel.{best_alloc-relabel, best_resize-relabel, by_address-relabel, can_stay-relabel, change_block-relabel, compact_count-relabel, compacted-relabel, find_block-relabel, relabel-alike, relabel_outcome, without_block-relabel}
 use Rattle.vc_seg.proofs.Stats.{layout_stat-relabel}
 use Rattle.vc_seg.specs.Stat.{layout_stat}
 use Rattle.vc_seg.specs.declared.stat.Stat.{Stat}
-use Rattle.vc_audit.specs.Debug.{Debug, damage, damage_of, damaged, debug_alloc, debug_clear, debug_compact, debug_compact_count, debug_free, debug_resize, debug_write, guarded, guarded_offset, guarded_place, next_damaged, outcome_by, poked, relabel_debug, resized, stays_debug, user_block, user_blocks, user_size, with_back_guard, with_watch, watched_at}
+use Rattle.vc_audit.specs.Debug.{Debug, damage, damage_of, damaged_blocks, debug_alloc, debug_clear, debug_compact, debug_compact_count, debug_free, debug_resize, debug_write, put_with_guards, guarded_offset, guarded_place, next_damaged, outcome_by, with_poke, relabel_debug, put_with_mark, stays_debug, user_block, user_blocks, user_size, with_back_guard, with_watch, watched_at}
 use Rattle.vc_audit.specs.DebugStat.{debug_stat}
 
 module _ {L M : Type 0} (f : L → M) where
@@ -30,24 +30,24 @@ module _ {L M : Type 0} (f : L → M) where
 
   bytes-relabelled : (r : Layout L) (at : ℕ × ℕ) (off : ℕ) (src : List ℕ) → with_bytes_at (relabel_layout f r) at off src ≡ relabel_layout f (with_bytes_at r at off src)
   bytes-relabelled r at off src =
-      ap (λ bs. let q : Layout M = record { segments = r.segments; blocks = bs } in q) (sym (change_block-relabel f (rewritten off src) (rewritten off src) (λ c. refl) at r.blocks))
+      ap (λ bs. let q : Layout M = record { segments = r.segments; blocks = bs } in q) (sym (change_block-relabel f (rewritten_block off src) (rewritten_block off src) (λ c. refl) at r.blocks))
 
   back-relabelled : (r : Layout L) (at : ℕ × ℕ) (size off : ℕ) (src : List ℕ) → with_back_guard (with_bytes_at (relabel_layout f r) at off src) at size ≡ relabel_layout f (with_back_guard (with_bytes_at r at off src) at size)
   back-relabelled r at size off src =
       ap (λ q. with_back_guard q at size) (bytes-relabelled r at off src) ∙ bytes-relabelled (with_bytes_at r at off src) at (32 + size) (replicate 16 165)
 
-  guarded-relabelled : (marks : List (ℕ × ℕ)) (size : ℕ) (o : Outcome (Put (Layout L))) → outcome_by (guarded marks size) (relabel_outcome f o) ≡ outcome_as (relabel_debug f) (outcome_by (guarded marks size) o)
+  guarded-relabelled : (marks : List (ℕ × ℕ)) (size : ℕ) (o : Outcome (Put (Layout L))) → outcome_by (put_with_guards marks size) (relabel_outcome f o) ≡ outcome_as (relabel_debug f) (outcome_by (put_with_guards marks size) o)
   guarded-relabelled marks size (Done p) =
       ap (λ r. Done (record { at = (p.at.0, p.at.1 + 32); region = debug marks r; granted = p.granted })) (back-relabelled p.region p.at size 0 (replicate 32 165))
   guarded-relabelled marks size (Refused why) = refl
 
   pub alloc-relabelled : (terms : Terms) (d : Debug L) (label : L) (size : ℕ) (refused : Bool) → debug_alloc terms (relabel_debug f d) (f label) size refused ≡ outcome_as (relabel_debug f) (debug_alloc terms d label size refused)
   alloc-relabelled terms d label size refused =
-      ap (outcome_by (guarded d.marks size)) (best_alloc-relabel f terms d.best label (size + 48) 32 refused) ∙ guarded-relabelled d.marks size (best_alloc terms d.best label (size + 48) 32 refused)
+      ap (outcome_by (put_with_guards d.marks size)) (best_alloc-relabel f terms d.best label (size + 48) 32 refused) ∙ guarded-relabelled d.marks size (best_alloc terms d.best label (size + 48) 32 refused)
 
-  resized-relabelled : (marks : List (ℕ × ℕ)) (at : ℕ × ℕ) (kept size : ℕ) (o : Outcome (Put (Layout L))) → outcome_by (resized marks at kept size) (relabel_outcome f o) ≡ outcome_as (relabel_debug f) (outcome_by (resized marks at kept size) o)
+  resized-relabelled : (marks : List (ℕ × ℕ)) (at : ℕ × ℕ) (kept size : ℕ) (o : Outcome (Put (Layout L))) → outcome_by (put_with_mark marks at kept size) (relabel_outcome f o) ≡ outcome_as (relabel_debug f) (outcome_by (put_with_mark marks at kept size) o)
   resized-relabelled marks at kept size (Done p) =
-      ap (λ r. Done (record { at = (p.at.0, p.at.1 + 32); region = debug (resized marks at kept size p).region.marks r; granted = p.granted })) (back-relabelled p.region p.at size (32 + kept) (replicate (size - kept) 0))
+      ap (λ r. Done (record { at = (p.at.0, p.at.1 + 32); region = debug (put_with_mark marks at kept size p).region.marks r; granted = p.granted })) (back-relabelled p.region p.at size (32 + kept) (replicate (size - kept) 0))
   resized-relabelled marks at kept size (Refused why) = refl
 
   size-relabelled : (d : Debug L) (at : ℕ × ℕ) → user_size (relabel_debug f d) at ≡ user_size d at
@@ -61,8 +61,8 @@ module _ {L M : Type 0} (f : L → M) where
 
   pub resize-relabelled : (terms : Terms) (d : Debug L) (at : ℕ × ℕ) (size : ℕ) (may_move refused : Bool) → debug_resize terms (relabel_debug f d) at size may_move refused ≡ outcome_as (relabel_debug f) (debug_resize terms d at size may_move refused)
   resize-relabelled terms d at size may_move refused =
-      ap (λ n. outcome_by (resized d.marks at (min n size) size) (best_resize terms (relabel_layout f d.best) (guarded_place at) (size + 48) may_move refused)) (size-relabelled d at)
-      ∙ (ap (outcome_by (resized d.marks at (min (user_size d at) size) size)) (best_resize-relabel f terms d.best (guarded_place at) (size + 48) may_move refused)
+      ap (λ n. outcome_by (put_with_mark d.marks at (min n size) size) (best_resize terms (relabel_layout f d.best) (guarded_place at) (size + 48) may_move refused)) (size-relabelled d at)
+      ∙ (ap (outcome_by (put_with_mark d.marks at (min (user_size d at) size) size)) (best_resize-relabel f terms d.best (guarded_place at) (size + 48) may_move refused)
       ∙ resized-relabelled d.marks at (min (user_size d at) size) size (best_resize terms d.best (guarded_place at) (size + 48) may_move refused))
 
   pub stays-relabelled : (d : Debug L) (size : ℕ) (b : Block L) → stays_debug (relabel_debug f d) size (relabel_block f b) ≡ stays_debug d size b
@@ -74,7 +74,7 @@ module _ {L M : Type 0} (f : L → M) where
   pub write-relabelled : (d : Debug L) (at : ℕ × ℕ) (off : ℕ) (src : List ℕ) → debug_write (relabel_debug f d) at off src ≡ relabel_debug f (debug_write d at off src)
   write-relabelled d at off src = ap (debug d.marks) (bytes-relabelled d.best (guarded_place at) (32 + off) src)
 
-  pub poke-relabelled : (d : Debug L) (at : ℕ × ℕ) (off : ℤ) (byte : ℕ) → poked (relabel_debug f d) at off byte ≡ relabel_debug f (poked d at off byte)
+  pub poke-relabelled : (d : Debug L) (at : ℕ × ℕ) (off : ℤ) (byte : ℕ) → with_poke (relabel_debug f d) at off byte ≡ relabel_debug f (with_poke d at off byte)
   poke-relabelled d at off byte = ap (debug d.marks) (bytes-relabelled d.best (guarded_place at) (guarded_offset off) (byte ∷ []))
 
   pub clear-relabelled : (d : Debug L) → debug_clear (relabel_debug f d) ≡ relabel_debug f (debug_clear d)
@@ -107,11 +107,11 @@ module _ {L M : Type 0} (f : L → M) where
       joins None xs = refl
       joins (Some off) xs = refl
 
-  pub damaged-relabelled : (d : Debug L) → damaged (relabel_debug f d) ≡ map relabel_found (damaged d)
+  pub damaged-relabelled : (d : Debug L) → damaged_blocks (relabel_debug f d) ≡ map relabel_found (damaged_blocks d)
   damaged-relabelled d = ap (filter_map damage_of) (by_address-relabel f d.best.blocks) ∙ found-relabelled (by_address d.best.blocks)
 
   pub next_damaged-relabelled : (after : ℕ) (d : Debug L) → next_damaged after (relabel_debug f d) ≡ option_map relabel_found (next_damaged after d)
-  next_damaged-relabelled after d = ap (find (λ g. nat_lt after (address_of g.0))) (damaged-relabelled d) ∙ finds (damaged d)
+  next_damaged-relabelled after d = ap (find (λ g. nat_lt after (address_of g.0))) (damaged-relabelled d) ∙ finds (damaged_blocks d)
     where
       finds : (xs : List (Block L × ℤ)) → find (λ g. nat_lt after (address_of g.0)) (map relabel_found xs) ≡ option_map relabel_found (find (λ g. nat_lt after (address_of g.0)) xs)
       finds [] = refl

@@ -17,7 +17,7 @@ use Rattle.vc_seg.specs.Answer.{IsPut, IsRefusal}
 use Rattle.vc_seg.specs.declared.fault.RegionFault.{RegionFault}
 use Rattle.vc_audit.specs.Profile.{Profile, profile_after, profile_alloc, site_blocks, site_bytes, with_site}
 use Rattle.vc_audit.specs.ProfileSites.{site_at}
-use Rattle.vc_audit.specs.ProfileSums.{IsCounted, IsHeld, IsRow, Rows, peaks_of, row_for, sited, with_its_site}
+use Rattle.vc_audit.specs.ProfileSums.{IsCounted, IsHeld, IsRow, Rows, peaks_of, row_for, with_sites, with_its_site}
 use Rattle.vc_audit.specs.declared.profile.rows.Row.{Row}
 use Rattle.vc_audit.specs.declared.profile.sites.Sited.{Sited}
 use Rattle.vc_audit.proofs.ProfileBare.{IsKept, bare, bare-layout, kept-layout}
@@ -38,14 +38,14 @@ all-elsewhere a [] fresh = tt
 all-elsewhere a (b ∷ bs) fresh = (λ e. fresh (0, omega arith, e), all-elsewhere a bs (λ h. fresh (suc h.0, omega (arith, h.1), h.2)))
 
 -- the call of the best region is that of the profile without its sites
-pub alloc-bare : (t : List Sited) (r : Layout ℕ) (terms : Terms) (tag : ℕ) (site : List ℕ) (size align : ℕ) (u : Bool) → best_alloc terms r tag size align u ≡ relabel_outcome bare (best_alloc terms (sited t r) (tag, site) size align u)
+pub alloc-bare : (t : List Sited) (r : Layout ℕ) (terms : Terms) (tag : ℕ) (site : List ℕ) (size align : ℕ) (u : Bool) → best_alloc terms r tag size align u ≡ relabel_outcome bare (best_alloc terms (with_sites t r) (tag, site) size align u)
 alloc-bare t r terms tag site size align u =
-    ap (λ l. best_alloc terms l tag size align u) (sym (bare-layout t r)) ∙ best_alloc-relabel bare terms (sited t r) (tag, site) size align u
+    ap (λ l. best_alloc terms l tag size align u) (sym (bare-layout t r)) ∙ best_alloc-relabel bare terms (with_sites t r) (tag, site) size align u
 
 pub alloc-refused : (t : List Sited) (r : Layout ℕ) (es : Rows) (terms : Terms) (tag : ℕ) (site : List ℕ) (size align : ℕ) (e : RegionFault) (name : List ℕ) → site ≡ name → IsRefusal (best_alloc terms r tag size align) e → IsRefusal (profile_alloc terms (profile t r es) tag name size align) e
 alloc-refused t r es terms tag site size align e name named h =
     subst (λ x. IsRefusal (profile_alloc terms (profile t r es) tag x size align) e) named
-    (refusal-with (profile_after (with_site site (peaks_of es))) (best_alloc terms r tag size align) (best_alloc terms (sited t r) (tag, site) size align) (alloc-bare t r terms tag site size align) e h)
+    (refusal-with (profile_after (with_site site (peaks_of es))) (best_alloc terms r tag size align) (best_alloc terms (with_sites t r) (tag, site) size align) (alloc-bare t r terms tag site size align) e h)
 
 -- the sums of the site have room for one more
 pub few-bytes : {r : Layout ℕ} {t : List Sited} {es : Rows} (site : List ℕ) (v : Row) → IsCounted r t es → v ≡ row_for site es → v.bytes ≤ 16777216 * 4294967295
@@ -71,13 +71,13 @@ module _ {r : Layout ℕ} {t t' : List Sited} {es : Rows} {a size : ℕ} {site :
   S = map (with_its_site t) r.blocks
 
   abbrev outcome : Outcome (Put (Layout (ℕ × List ℕ)))
-  outcome = best_alloc terms (sited t r) (tag, site) size align false
+  outcome = best_alloc terms (with_sites t r) (tag, site) size align false
 
   abbrev es' : Rows
   es' = insert_entry bytes_eq es site w
 
-  put : WithSites outcome a r' (HasOneMore (sited t r) (tag, site) size)
-  put = with-sites outcome a r' (HasOneMore (sited t r) (tag, site) size) (subst (λ o. IsPut o a r') (alloc-bare t r terms tag site size align false) placed) (alloc-blocks terms (sited t r) (tag, site) size align false)
+  put : WithSites outcome a r' (HasOneMore (with_sites t r) (tag, site) size)
+  put = with-sites outcome a r' (HasOneMore (with_sites t r) (tag, site) size) (subst (λ o. IsPut o a r') (alloc-bare t r terms tag site size align false) placed) (alloc-blocks terms (with_sites t r) (tag, site) size align false)
 
   abbrev q : Layout (ℕ × List ℕ)
   q = put.put.region
@@ -110,8 +110,8 @@ module _ {r : Layout ℕ} {t t' : List Sited} {es : Rows} {a size : ℕ} {site :
   all-kept : AllByRecursion (IsKept t') q.blocks
   all-kept = subst (AllByRecursion (IsKept t')) (sym put.holds) (all-with (IsKept t') z S z-kept old-kept)
 
-  layout-is : sited t' r' ≡ q
-  layout-is = ap (sited t') put.layout ∙ kept-layout t' q all-kept
+  layout-is : with_sites t' r' ≡ q
+  layout-is = ap (with_sites t') put.layout ∙ kept-layout t' q all-kept
 
   blocks-more : (x : List ℕ) → site_blocks x q.blocks ≡ one x z + site_blocks x S
   blocks-more x = ap (site_blocks x) put.holds ∙ (blocks-total x (with_block z S) ∙ (total-with (one x) z S ∙ ap (λ n. one x z + n) (sym (blocks-total x S))))
@@ -166,7 +166,7 @@ module _ {r : Layout ℕ} {t t' : List Sited} {es : Rows} {a size : ℕ} {site :
   put-is : IsPut (profile_alloc terms (profile t r es) tag site size align false) a (profile t' r' es')
   put-is =
       let made : Layout (ℕ × List ℕ) → List (List ℕ × ℕ) → Profile ℕ = λ l ps. record { layout = l; peaks = ps } in
-      put-profile (with_site site (peaks_of es)) outcome a r' (HasOneMore (sited t r) (tag, site) size) put (profile t' r' es')
+      put-profile (with_site site (peaks_of es)) outcome a r' (HasOneMore (with_sites t r) (tag, site) size) put (profile t' r' es')
       (ap (λ l. made l (peaks_of es')) layout-is ∙ ap (made q) (peaks-put S q.blocks site w w-is same es new.distinct new.counted.counted (peak-with v (row_for site es) _ _ w new.row with)))
 
   pub profile-put : (name : List ℕ) → site ≡ name → (rows : Rows) → rows ≡ es' → IsPut (profile_alloc terms (profile t r es) tag name size align false) a (profile t' r' rows)

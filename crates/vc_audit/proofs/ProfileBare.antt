@@ -5,7 +5,7 @@ use Rattle.std.specs.List.{AllByRecursion}
 use Rattle.vc_model.specs.Layout.{Block, Layout, address_of, is_at, relabel_block, relabel_layout, without_block}
 use Rattle.vc_model.specs.Touch.{find_block}
 use Rattle.vc_audit.specs.ProfileSites.{site_at}
-use Rattle.vc_audit.specs.ProfileSums.{sited, with_its_site}
+use Rattle.vc_audit.specs.ProfileSums.{with_sites, with_its_site}
 use Rattle.vc_audit.specs.declared.profile.sites.Sited.{Sited}
 
 -- the label without the site
@@ -19,7 +19,7 @@ pub bare-blocks : (t : List Sited) (bs : List (Block ℕ)) → map (relabel_bloc
 bare-blocks t [] = refl
 bare-blocks t (b ∷ bs) = ap (λ cs. b ∷ cs) (bare-blocks t bs)
 
-pub bare-layout : (t : List Sited) (r : Layout ℕ) → relabel_layout bare (sited t r) ≡ r
+pub bare-layout : (t : List Sited) (r : Layout ℕ) → relabel_layout bare (with_sites t r) ≡ r
 bare-layout t r = ap (layout r.segments) (bare-blocks t r.blocks)
 
 -- a block whose label tells the site that is kept for it
@@ -34,7 +34,7 @@ kept-blocks t (q ∷ qs) all =
     ap (λ o. with o ∷ map (with_its_site t) (map (relabel_block bare) qs)) all.0
     ∙ ap (λ ds. q ∷ ds) (kept-blocks t qs all.1)
 
-pub kept-layout : (t : List Sited) (q : Layout (ℕ × List ℕ)) → AllByRecursion (IsKept t) q.blocks → sited t (relabel_layout bare q) ≡ q
+pub kept-layout : (t : List Sited) (q : Layout (ℕ × List ℕ)) → AllByRecursion (IsKept t) q.blocks → with_sites t (relabel_layout bare q) ≡ q
 kept-layout t q all = ap (layout q.segments) (kept-blocks t q.blocks all)
 
 -- the kept sites are looked up block by block

@@ -2,11 +2,11 @@
 use Rattle.std.proofs.Common.{◌≡◌, ℕ, zero, suc, ◌+◌, ◌≤◌, List, [], ◌∷◌, Option, Some, length, map, slice_get, option_map, refl, sym, ap, ◌∙◌, arith}
 use Rattle.std.specs.List.{AllByRecursion}
 use Rattle.std.proofs.lemmas.Option.{same_Some, slice_get-map}
-use Rattle.vc_model.specs.Compact.{cleared}
+use Rattle.vc_model.specs.Compact.{cleared_layout}
 use Rattle.vc_model.specs.Layout.{Block, Layout}
 use Rattle.vc_seg.specs.declared.profile_row.ProfileRow.{ProfileRow}
-use Rattle.vc_audit.specs.Profile.{Profile, peaked, profile_clear, row_of, site_blocks}
-use Rattle.vc_audit.specs.ProfileSums.{IsCounted, IsRow, Rows, clear_at, cleared_rows, emptied, peaks_of}
+use Rattle.vc_audit.specs.Profile.{Profile, rows_with_peaks, profile_clear, row_of, site_blocks}
+use Rattle.vc_audit.specs.ProfileSums.{IsCounted, IsRow, Rows, clear_at, cleared_rows, row_without_blocks, peaks_of}
 use Rattle.vc_audit.specs.declared.profile.rows.Row.{Row}
 use Rattle.vc_audit.specs.declared.profile.sites.Sited.{Sited}
 use Rattle.vc_audit.proofs.ProfileBare.{layout}
@@ -29,7 +29,7 @@ clear-length (suc i) (e ∷ es) = ap suc (clear-length i es)
 abbrev pub clear_first : ℕ → Rows → Rows
 clear_first zero es = es
 clear_first (suc n) [] = []
-clear_first (suc n) (e ∷ es) = emptied e ∷ clear_first n es
+clear_first (suc n) (e ∷ es) = row_without_blocks e ∷ clear_first n es
 
 clear-none : (i : ℕ) (es : Rows) → length es ≤ i → clear_at i es ≡ es
 clear-none i [] le = refl
@@ -40,7 +40,7 @@ next : (n : ℕ) (es : Rows) → clear_at n (clear_first n es) ≡ clear_first (
 next zero [] = refl
 next zero (e ∷ es) = refl
 next (suc n) [] = refl
-next (suc n) (e ∷ es) = ap (λ ds. emptied e ∷ ds) (next n es)
+next (suc n) (e ∷ es) = ap (λ ds. row_without_blocks e ∷ ds) (next n es)
 
 pub clear-next : (n : ℕ) (es : Rows) → clear_at n (clear_first n es) ≡ clear_first (n + 1) es
 clear-next n es = let e : suc n ≡ n + 1 = omega arith in next n es ∙ ap (λ k. clear_first k es) e
@@ -49,24 +49,24 @@ pub clear-all : (n : ℕ) (es : Rows) → length es ≤ n → clear_first n es �
 clear-all zero [] le = refl
 clear-all zero (e ∷ es) le = absurd (omega (arith, le))
 clear-all (suc n) [] le = refl
-clear-all (suc n) (e ∷ es) le = ap (λ ds. emptied e ∷ ds) (clear-all n es (omega (arith, le)))
+clear-all (suc n) (e ∷ es) le = ap (λ ds. row_without_blocks e ∷ ds) (clear-all n es (omega (arith, le)))
 
 rows-none : (es : Rows) → AllByRecursion (IsRow []) (cleared_rows es)
 rows-none [] = tt
 rows-none (e ∷ es) = (record { blocks_are = refl; bytes_are = refl; few = omega arith; peak = omega arith }, rows-none es)
 
-pub counted-cleared : (r : Layout ℕ) (es : Rows) → IsCounted (cleared r) [] (cleared_rows es)
+pub counted-cleared : (r : Layout ℕ) (es : Rows) → IsCounted (cleared_layout r) [] (cleared_rows es)
 counted-cleared r es = record { held = tt; counted = rows-none es }
 
 peaks-none : (es : Rows) → peaks_of (cleared_rows es) ≡ peaks_of es
 peaks-none [] = refl
 peaks-none (e ∷ es) = ap (λ ps. (e.0, e.1.peak) ∷ ps) (peaks-none es)
 
-pub profile-cleared : (r : Layout ℕ) (t : List Sited) (es : Rows) → profile [] (cleared r) (cleared_rows es) ≡ profile_clear (profile t r es)
+pub profile-cleared : (r : Layout ℕ) (t : List Sited) (es : Rows) → profile [] (cleared_layout r) (cleared_rows es) ≡ profile_clear (profile t r es)
 profile-cleared r t es =
     let with : List (List ℕ × ℕ) → Profile ℕ = λ ps. record { layout = layout r.segments []; peaks = ps } in
     let none : List (Block (ℕ × List ℕ)) = [] in
-    ap with (sym (peaks-stay [] (cleared_rows es) (rows-none es)) ∙ ap (peaked none) (peaks-none es))
+    ap with (sym (peaks-stay [] (cleared_rows es) (rows-none es)) ∙ ap (rows_with_peaks none) (peaks-none es))
 
 -- the row of an index
 abbrev row : List ℕ × Row → ProfileRow

@@ -10,9 +10,9 @@ use Rattle.vc_model.specs.Best.{without_block_at}
 use Rattle.vc_model.specs.Layout.{Block, Layout, address_of, without_block}
 use Rattle.vc_model.specs.Sound.{HaveOwnPlaces}
 use Rattle.vc_model.specs.Touch.{find_block}
-use Rattle.vc_audit.specs.Profile.{Profile, peaked, profile_free, site_blocks, site_bytes}
+use Rattle.vc_audit.specs.Profile.{Profile, rows_with_peaks, profile_free, site_blocks, site_bytes}
 use Rattle.vc_audit.specs.ProfileSites.{site_at}
-use Rattle.vc_audit.specs.ProfileSums.{IsCounted, IsHeld, IsRow, Rows, peaks_of, row_for, site_of, sited, with_its_site}
+use Rattle.vc_audit.specs.ProfileSums.{IsCounted, IsHeld, IsRow, Rows, peaks_of, row_for, site_of, with_sites, with_its_site}
 use Rattle.vc_audit.specs.declared.profile.rows.Row.{Row}
 use Rattle.vc_audit.specs.declared.profile.sites.Sited.{Sited}
 use Rattle.vc_audit.proofs.ProfileBare.{layout, sited-alike, sited-find, sited-without}
@@ -23,7 +23,7 @@ use Rattle.vc_audit.proofs.ProfileRows.{IsRowWith, own_site, peak-with, peaks-pu
 
 -- a profile by its parts
 abbrev pub profile : List Sited → Layout ℕ → Rows → Profile ℕ
-profile t r es = record { layout = sited t r; peaks = peaks_of es }
+profile t r es = record { layout = with_sites t r; peaks = peaks_of es }
 
 -- every block has a site
 pub has-site : {r : Layout ℕ} {t : List Sited} {es : Rows} → IsCounted r t es → (a size : ℕ) → option_map (λ (x : Block ℕ). x.size) (find_block (place_of a) r.blocks) ≡ Some size → IsSome (site_at a t)
@@ -143,4 +143,4 @@ module _ {r : Layout ℕ} {t : List Sited} {es : Rows} {a size : ℕ} {site : Li
     profile-freed =
         let made : Layout (ℕ × List ℕ) → List (List ℕ × ℕ) → Profile ℕ = λ l ps. record { layout = l; peaks = ps } in
         ap (λ bs. made (layout r.segments bs) (peaks_of es')) left-is
-        ∙ ap (made (layout r.segments rest)) (peaks-put S rest site w w-is same es at.distinct at.counted.counted (peak-with v (row_for site es) _ _ w at.row with) ∙ ap (peaked rest) (site-there site es has-row))
+        ∙ ap (made (layout r.segments rest)) (peaks-put S rest site w w-is same es at.distinct at.counted.counted (peak-with v (row_for site es) _ _ w at.row with) ∙ ap (rows_with_peaks rest) (site-there site es has-row))

@@ -7,9 +7,9 @@ use Rattle.vc_model.specs.Best.{best_alloc, best_need, place_in, put, put_in_new
 use Rattle.vc_model.specs.Discipline.{Terms}
 use Rattle.vc_model.specs.Layout.{Block, Layout, relabel_layout, with_block, with_segment}
 use Rattle.vc_model.specs.Outcome.{Fault, Fixed, Outcome, Done, Put, Refused, outcome_as}
-use Rattle.vc_model.specs.Resize.{best_resize, can_stay, moved, resize_block, resize_found, sized, stays}
+use Rattle.vc_model.specs.Resize.{best_resize, can_stay, outcome_of_move, resize_block, resize_found, sized_block, stays}
 use Rattle.vc_model.specs.Segments.{Asked, Granted, NotLent, TooMany, ask}
-use Rattle.vc_model.specs.Touch.{find_block, rewritten}
+use Rattle.vc_model.specs.Touch.{find_block, rewritten_block}
 use Rattle.vc_model.proofs.Relabel.{relabel_outcome}
 use Rattle.vc_seg.specs.Answer.{IsPut, IsRefusal}
 use Rattle.vc_seg.specs.declared.fault.RegionFault.{RegionFault}
@@ -45,23 +45,23 @@ module _ {L : Type 0} where
   alloc-blocks terms r label size align refused = placed-blocks terms r label size align refused (place_in r size align)
 
   -- what holds of all blocks holds of them after a resize, where it holds of a block of zeros at the place that is answered
-  module _ (P : Block L → Type 0) (writes : (src : List ℕ) (b : Block L) → P b → P (rewritten 0 src b)) (size : ℕ) (sizes : (b : Block L) → P b → P (sized size b)) (terms : Terms) (r : Layout L) (at : ℕ × ℕ) (all : AllByRecursion P r.blocks) where
+  module _ (P : Block L → Type 0) (writes : (src : List ℕ) (b : Block L) → P b → P (rewritten_block 0 src b)) (size : ℕ) (sizes : (b : Block L) → P b → P (sized_block size b)) (terms : Terms) (r : Layout L) (at : ℕ × ℕ) (all : AllByRecursion P r.blocks) where
     abbrev pub Keeps : Put (Layout L) → Type 0
     Keeps p = ((b : Block L) → find_block at r.blocks ≡ Some b → P (zeros b.label size p.at)) → AllByRecursion P p.region.blocks
 
-    moved-all : (b : Block L) → find_block at r.blocks ≡ Some b → (o : Outcome (Put (Layout L))) → OnDone (HasOneMore r b.label size) o → OnDone Keeps (moved size b o)
+    moved-all : (b : Block L) → find_block at r.blocks ≡ Some b → (o : Outcome (Put (Layout L))) → OnDone (HasOneMore r b.label size) o → OnDone Keeps (outcome_of_move size b o)
     moved-all b e (Done p) shape =
         λ fresh.
         let src = take size b.bytes in
         all-without P (b.seg, b.off) _
-        (all-change P (rewritten 0 src) (writes src) p.at p.region.blocks (subst (AllByRecursion P) (sym shape) (all-with P (zeros b.label size p.at) r.blocks (fresh b e) all)))
+        (all-change P (rewritten_block 0 src) (writes src) p.at p.region.blocks (subst (AllByRecursion P) (sym shape) (all-with P (zeros b.label size p.at) r.blocks (fresh b e) all)))
     moved-all b e (Refused why) shape = tt
 
     block-all : (may_move refused : Bool) (b : Block L) → find_block at r.blocks ≡ Some b → OnDone Keeps (resize_block terms r size may_move refused b)
     block-all may_move refused b e =
-        let off = moved size b (best_alloc terms r b.label size 32 refused) in
+        let off = outcome_of_move size b (best_alloc terms r b.label size 32 refused) in
         elim (can_stay r size b) as (λ v. OnDone Keeps (cond v (stays r size b) (cond may_move off (Refused Fixed)))) [
-          | true ↦ λ fresh. all-change P (sized size) sizes (b.seg, b.off) r.blocks all
+          | true ↦ λ fresh. all-change P (sized_block size) sizes (b.seg, b.off) r.blocks all
           | false ↦
               elim may_move as (λ v. OnDone Keeps (cond v off (Refused Fixed)))
               [ true ↦ moved-all b e (best_alloc terms r b.label size 32 refused) (alloc-blocks terms r b.label size 32 refused) | false ↦ tt ]

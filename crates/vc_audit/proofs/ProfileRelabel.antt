@@ -3,17 +3,17 @@ use Rattle.std.proofs.Common.{◌≡◌, ℕ, Bool, true, false, cond, List, [],
 use Rattle.std.specs.Prelude.{sum}
 use Rattle.std.specs.List.{AllByRecursion}
 use Rattle.vc_model.specs.Best.{best_alloc, without_block_at}
-use Rattle.vc_model.specs.Compact.{cleared, compact_count, compacted}
+use Rattle.vc_model.specs.Compact.{cleared_layout, compact_count, compacted_layout}
 use Rattle.vc_model.specs.Discipline.{Terms}
 use Rattle.vc_model.specs.Layout.{Block, Layout, relabel_block, relabel_layout}
 use Rattle.vc_model.specs.Outcome.{Outcome, Done, Refused, Put, outcome_as}
 use Rattle.vc_model.specs.Resize.{best_resize}
-use Rattle.vc_model.specs.Touch.{rewritten, with_bytes_at}
+use Rattle.vc_model.specs.Touch.{rewritten_block, with_bytes_at}
 use Rattle.vc_model.proofs.Relabel.{best_alloc-relabel, best_resize-relabel, change_block-relabel, compacted-relabel, compact_count-relabel, relabel-alike, relabel_outcome, without_block-relabel}
 use Rattle.vc_seg.proofs.Stats.{layout_stat-relabel}
 use Rattle.vc_seg.specs.Stat.{layout_stat}
 use Rattle.vc_seg.specs.declared.profile_row.ProfileRow.{ProfileRow}
-use Rattle.vc_audit.specs.Profile.{Profile, bare_layout, has_site, peaked, profile_after, profile_alloc, profile_clear, profile_compact, profile_free, profile_resize, profile_rows, profile_write, relabel_profile, row_of, site_bytes, site_sizes, with_site}
+use Rattle.vc_audit.specs.Profile.{Profile, bare_layout, has_site, rows_with_peaks, profile_after, profile_alloc, profile_clear, profile_compact, profile_free, profile_resize, profile_rows, profile_write, relabel_profile, row_of, site_bytes, site_sizes, with_site}
 
 module _ {L M : Type 0} (f : L → M) where
   -- the same of labels with sites
@@ -35,10 +35,10 @@ module _ {L M : Type 0} (f : L → M) where
       elim (has_site site b) as (λ v. map (λ (c : Block (M × List ℕ)). c.size) (cond v (relabel_block named b ∷ filter (has_site site) (map (relabel_block named) bs)) (filter (has_site site) (map (relabel_block named) bs))) ≡ map (λ (c : Sited). c.size) (cond v (b ∷ filter (has_site site) bs) (filter (has_site site) bs)))
       [ true ↦ ap (λ ns. b.size ∷ ns) (site_sizes-relabel site bs) | false ↦ site_sizes-relabel site bs ]
 
-  peaked-relabel : (bs : List Sited) (ps : List (List ℕ × ℕ)) → peaked (map (relabel_block named) bs) ps ≡ peaked bs ps
+  peaked-relabel : (bs : List Sited) (ps : List (List ℕ × ℕ)) → rows_with_peaks (map (relabel_block named) bs) ps ≡ rows_with_peaks bs ps
   peaked-relabel bs [] = refl
   peaked-relabel bs (p ∷ ps) =
-      ap (λ ns. (p.0, max p.1 (sum ns)) ∷ peaked (map (relabel_block named) bs) ps) (site_sizes-relabel p.0 bs)
+      ap (λ ns. (p.0, max p.1 (sum ns)) ∷ rows_with_peaks (map (relabel_block named) bs) ps) (site_sizes-relabel p.0 bs)
       ∙ ap (λ qs. (p.0, max p.1 (site_bytes p.0 bs)) ∷ qs) (peaked-relabel bs ps)
 
   pub after-relabel : (ps : List (List ℕ × ℕ)) (l : Layout (L × List ℕ)) → profile_after ps (relabel_layout named l) ≡ relabel_profile f (profile_after ps l)
@@ -65,14 +65,14 @@ module _ {L M : Type 0} (f : L → M) where
 
   pub profile_write-relabel : (p : Profile L) (at : ℕ × ℕ) (off : ℕ) (src : List ℕ) → profile_write (relabel_profile f p) at off src ≡ relabel_profile f (profile_write p at off src)
   profile_write-relabel p at off src =
-      ap (λ bs. profile_after p.peaks (layout p.layout.segments bs)) (sym (change_block-relabel named (rewritten off src) (rewritten off src) (λ c. refl) at p.layout.blocks))
+      ap (λ bs. profile_after p.peaks (layout p.layout.segments bs)) (sym (change_block-relabel named (rewritten_block off src) (rewritten_block off src) (λ c. refl) at p.layout.blocks))
       ∙ after-relabel p.peaks (with_bytes_at p.layout at off src)
 
   pub profile_clear-relabel : (p : Profile L) → profile_clear (relabel_profile f p) ≡ relabel_profile f (profile_clear p)
-  profile_clear-relabel p = after-relabel p.peaks (cleared p.layout)
+  profile_clear-relabel p = after-relabel p.peaks (cleared_layout p.layout)
 
   pub profile_compact-relabel : (p : Profile L) → profile_compact (relabel_profile f p) ≡ relabel_profile f (profile_compact p)
-  profile_compact-relabel p = ap (profile_after p.peaks) (compacted-relabel named p.layout) ∙ after-relabel p.peaks (compacted p.layout)
+  profile_compact-relabel p = ap (profile_after p.peaks) (compacted-relabel named p.layout) ∙ after-relabel p.peaks (compacted_layout p.layout)
 
   -- the rows say nothing of the labels
   rows-are : (bs : List Sited) (ps : List (List ℕ × ℕ)) → map (row_of (map (relabel_block named) bs)) ps ≡ map (row_of bs) ps

@@ -17,9 +17,9 @@ use Rattle.vc_model.specs.Touch.{HasBlock, find_block}
 use Rattle.vc_model.proofs.Relabel.{best_resize-relabel, relabel_outcome}
 use Rattle.vc_seg.specs.Answer.{IsPut, IsRefusal}
 use Rattle.vc_seg.specs.declared.fault.RegionFault.{RegionFault}
-use Rattle.vc_audit.specs.Profile.{Profile, peaked, profile_after, profile_resize, site_blocks, site_bytes}
+use Rattle.vc_audit.specs.Profile.{Profile, rows_with_peaks, profile_after, profile_resize, site_blocks, site_bytes}
 use Rattle.vc_audit.specs.ProfileSites.{site_at}
-use Rattle.vc_audit.specs.ProfileSums.{IsCounted, IsHeld, IsRow, Rows, peaks_of, row_for, site_of, sited, with_its_site}
+use Rattle.vc_audit.specs.ProfileSums.{IsCounted, IsHeld, IsRow, Rows, peaks_of, row_for, site_of, with_sites, with_its_site}
 use Rattle.vc_audit.specs.declared.profile.rows.Row.{Row}
 use Rattle.vc_audit.specs.declared.profile.sites.Sited.{Sited}
 use Rattle.vc_audit.proofs.ProfileAlloc.{some-of}
@@ -44,13 +44,13 @@ has-found p a b (c ∷ cs) e at =
 pub has-block : (bs : List (Block ℕ)) (a : ℕ) → TheBlock bs a → HasBlock bs a
 has-block bs a b = has-found (place_of a) a b.block bs b.found b.address
 
-pub resize-bare : (t : List Sited) (r : Layout ℕ) (terms : Terms) (at : ℕ × ℕ) (size : ℕ) (may_move u : Bool) → best_resize terms r at size may_move u ≡ relabel_outcome bare (best_resize terms (sited t r) at size may_move u)
+pub resize-bare : (t : List Sited) (r : Layout ℕ) (terms : Terms) (at : ℕ × ℕ) (size : ℕ) (may_move u : Bool) → best_resize terms r at size may_move u ≡ relabel_outcome bare (best_resize terms (with_sites t r) at size may_move u)
 resize-bare t r terms at size may_move u =
-    ap (λ l. best_resize terms l at size may_move u) (sym (bare-layout t r)) ∙ best_resize-relabel bare terms (sited t r) at size may_move u
+    ap (λ l. best_resize terms l at size may_move u) (sym (bare-layout t r)) ∙ best_resize-relabel bare terms (with_sites t r) at size may_move u
 
 pub resize-refused : (t : List Sited) (r : Layout ℕ) (es : Rows) (terms : Terms) (at : ℕ × ℕ) (size : ℕ) (may_move : Bool) (e : RegionFault) → IsRefusal (best_resize terms r at size may_move) e → IsRefusal (profile_resize terms (profile t r es) at size may_move) e
 resize-refused t r es terms at size may_move e h =
-    refusal-with (profile_after (peaks_of es)) (best_resize terms r at size may_move) (best_resize terms (sited t r) at size may_move) (resize-bare t r terms at size may_move) e h
+    refusal-with (profile_after (peaks_of es)) (best_resize terms r at size may_move) (best_resize terms (with_sites t r) at size may_move) (resize-bare t r terms at size may_move) e h
 
 -- the block of an address with its site is at another one, of another size, and the others stay
 pub record IsMovedTo (r r' : Layout ℕ) (t t' : List Sited) (a to size : ℕ) (site : List ℕ) : Type 0 where
@@ -73,7 +73,7 @@ module _ {r : Layout ℕ} {t : List Sited} {es : Rows} {a was : ℕ} {site : Lis
   S = map (with_its_site t) r.blocks
 
   abbrev outcome : Outcome (Put (Layout (ℕ × List ℕ)))
-  outcome = best_resize terms (sited t r) p size may_move false
+  outcome = best_resize terms (with_sites t r) p size may_move false
 
   away_a : AllByRecursion (λ c. address_of c ≢ a) (without_block p r.blocks)
   away_a = free.away at
@@ -103,11 +103,11 @@ module _ {r : Layout ℕ} {t : List Sited} {es : Rows} {a was : ℕ} {site : Lis
       (all-both (IsHeld t es) (λ c. site_at (address_of c) t' ≡ site_at (address_of c) t) (λ c. P (with_its_site t c)) (without_block p r.blocks) (λ c h same. ((λ e. same ∙ site-kept c h), h.most))
       (all-without (IsHeld t es) p r.blocks at.counted.held) rest_alike))
 
-  put : WithSites outcome to r' (Keeps P (λ src c h. h) size (λ c h. (h.0, most)) terms (sited t r) p old-kept)
+  put : WithSites outcome to r' (Keeps P (λ src c h. h) size (λ c h. (h.0, most)) terms (with_sites t r) p old-kept)
   put =
-      with-sites outcome to r' (Keeps P (λ src c h. h) size (λ c h. (h.0, most)) terms (sited t r) p old-kept)
+      with-sites outcome to r' (Keeps P (λ src c h. h) size (λ c h. (h.0, most)) terms (with_sites t r) p old-kept)
       (subst (λ o. IsPut o to r') (resize-bare t r terms p size may_move false) placed)
-      (resize-all P (λ src c h. h) size (λ c h. (h.0, most)) terms (sited t r) p old-kept may_move false)
+      (resize-all P (λ src c h. h) size (λ c h. (h.0, most)) terms (with_sites t r) p old-kept may_move false)
 
   abbrev q : Layout (ℕ × List ℕ)
   q = put.put.region
@@ -131,9 +131,9 @@ module _ {r : Layout ℕ} {t : List Sited} {es : Rows} {a was : ℕ} {site : Lis
   gone-q : AllByRecursion (λ (c : Block (ℕ × List ℕ)). address_of c ≡ a → a ≡ to) q.blocks
   gone-q = all-unmap (relabel_block bare) (λ c. address_of c ≡ a → a ≡ to) q.blocks (subst (λ (l : Layout ℕ). AllByRecursion (λ c. address_of c ≡ a → a ≡ to) l.blocks) put.layout gone)
 
-  layout-is : sited t' r' ≡ q
+  layout-is : with_sites t' r' ≡ q
   layout-is =
-      ap (sited t') put.layout
+      ap (with_sites t') put.layout
       ∙ kept-layout t' q (all-both P (λ c. address_of c ≡ a → a ≡ to) (IsKept t') q.blocks (λ c h away. h.0 away) new-kept gone-q)
 
   sizes : AllByRecursion (λ c. c.size ≤ 16777216) r'.blocks
@@ -226,8 +226,8 @@ module _ {r : Layout ℕ} {t : List Sited} {es : Rows} {a was : ℕ} {site : Lis
     put-is : IsPut (profile_resize terms (profile t r es) p size may_move false) to (profile t' r' es')
     put-is =
         let made : Layout (ℕ × List ℕ) → List (List ℕ × ℕ) → Profile ℕ = λ l ps. record { layout = l; peaks = ps } in
-        put-profile (peaks_of es) outcome to r' (Keeps P (λ src c h. h) size (λ c h. (h.0, most)) terms (sited t r) p old-kept) put (profile t' r' es')
-        (ap (made (sited t' r')) (peaks-put S S' site w w-is same es at.distinct at.counted.counted (peak-with v (row_for site es) _ _ w at.row with) ∙ ap (peaked S') (site-there site es (free.has-row at)))
+        put-profile (peaks_of es) outcome to r' (Keeps P (λ src c h. h) size (λ c h. (h.0, most)) terms (with_sites t r) p old-kept) put (profile t' r' es')
+        (ap (made (with_sites t' r')) (peaks-put S S' site w w-is same es at.distinct at.counted.counted (peak-with v (row_for site es) _ _ w at.row with) ∙ ap (rows_with_peaks S') (site-there site es (free.has-row at)))
         ∙ ap (profile_after (peaks_of es)) layout-is)
 
     pub profile-resized : (rows : Rows) → rows ≡ es' → IsPut (profile_resize terms (profile t r es) p size may_move false) to (profile t' r' rows)

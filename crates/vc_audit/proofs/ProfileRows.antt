@@ -9,7 +9,7 @@ use Rattle.std.proofs.lemmas.Map.Keys.{IsDistinct-head, IsDistinct-tail}
 use Rattle.std.proofs.lemmas.Slice.Eq.{bytes_eq-Decides}
 use Rattle.indexmap.specs.IndexMap.{insert_entry}
 use Rattle.vc_model.specs.Layout.{Block}
-use Rattle.vc_audit.specs.Profile.{peaked, site_blocks, site_bytes, with_site}
+use Rattle.vc_audit.specs.Profile.{rows_with_peaks, site_blocks, site_bytes, with_site}
 use Rattle.vc_audit.specs.ProfileSums.{IsRow, Rows, new_row, peaks_of, row_for}
 use Rattle.vc_audit.specs.declared.profile.rows.Row.{Row}
 
@@ -23,10 +23,10 @@ own_site x = (bytes_eq-Decides x x).1 refl
 kept-peak : (bytes now peak : ℕ) → bytes ≡ now → bytes ≤ peak → max peak now ≡ peak
 kept-peak bytes now peak is le = omega (arith, is, le)
 
-pub peaks-stay : (bs : List (Block (ℕ × List ℕ))) (es : Rows) → AllByRecursion (IsRow bs) es → peaked bs (peaks_of es) ≡ peaks_of es
+pub peaks-stay : (bs : List (Block (ℕ × List ℕ))) (es : Rows) → AllByRecursion (IsRow bs) es → rows_with_peaks bs (peaks_of es) ≡ peaks_of es
 peaks-stay bs [] all = refl
 peaks-stay bs (e ∷ es) all =
-    ap (λ n. (e.0, n) ∷ peaked bs (peaks_of es)) (kept-peak e.1.bytes (site_bytes e.0 bs) e.1.peak all.0.bytes_are all.0.peak)
+    ap (λ n. (e.0, n) ∷ rows_with_peaks bs (peaks_of es)) (kept-peak e.1.bytes (site_bytes e.0 bs) e.1.peak all.0.bytes_are all.0.peak)
     ∙ ap (λ ps. (e.0, e.1.peak) ∷ ps) (peaks-stay bs es all.1)
 
 -- sums that are the same
@@ -100,7 +100,7 @@ module _ (bs bs' : List (Block (ℕ × List ℕ))) (site : List ℕ) (w : Row) (
   now : w.bytes ≡ site_bytes site bs'
   now = own.bytes_are
 
-  pub peaks-put : (es : Rows) → IsDistinct bytes_eq (keys_of es) → AllByRecursion (IsRow bs) es → w.peak ≡ max (row_for site es).peak w.bytes → peaks_of (insert_entry bytes_eq es site w) ≡ peaked bs' (with_site site (peaks_of es))
+  pub peaks-put : (es : Rows) → IsDistinct bytes_eq (keys_of es) → AllByRecursion (IsRow bs) es → w.peak ≡ max (row_for site es).peak w.bytes → peaks_of (insert_entry bytes_eq es site w) ≡ rows_with_peaks bs' (with_site site (peaks_of es))
   peaks-put [] distinct all is = ap (λ n. (site, n) ∷ []) (is ∙ ap (λ n. max 0 n) now)
   peaks-put (e ∷ es) distinct all is =
       ⊎_elim
@@ -113,5 +113,5 @@ module _ (bs bs' : List (Block (ℕ × List ℕ))) (site : List ℕ) (w : Row) (
       let row = row-same bs bs' e (same e.0 t) all.0 in
       let deeper : w.peak ≡ max (row_for site es).peak w.bytes = is ∙ ap (λ v. max (unwrap_or (cond v (Some e.1) (lookup (bytes_eq site) es)) new_row).peak w.bytes) t in
       rw t (ap (λ ps. (e.0, e.1.peak) ∷ ps) (peaks-put es (IsDistinct-tail bytes_eq e.0 (keys_of es) distinct) all.1 deeper)
-      ∙ ap (λ n. (e.0, n) ∷ peaked bs' (with_site site (peaks_of es))) (sym (kept-peak e.1.bytes (site_bytes e.0 bs') e.1.peak row.bytes_are row.peak))))
+      ∙ ap (λ n. (e.0, n) ∷ rows_with_peaks bs' (with_site site (peaks_of es))) (sym (kept-peak e.1.bytes (site_bytes e.0 bs') e.1.peak row.bytes_are row.peak))))
       (cases_Bool (bytes_eq site e.0))

@@ -8,7 +8,7 @@ use Rattle.vc_model.specs.Outcome.{Outcome, Done, Refused, Put}
 use Rattle.vc_model.specs.Best.{best_alloc, best_need, without_block_at}
 use Rattle.vc_model.specs.Resize.{best_resize, can_stay}
 use Rattle.vc_model.specs.Touch.{find_block, with_bytes_at}
-use Rattle.vc_model.specs.Compact.{cleared, compact_count, compacted}
+use Rattle.vc_model.specs.Compact.{cleared_layout, compact_count, compacted_layout}
 use Rattle.vc_model.specs.Walk.{by_address}
 use Rattle.vc_best.specs.Ask.{AsksForSegment}
 use Rattle.vc_audit.specs.DebugMark.{line_at, moved_marks, with_mark, without_mark}
@@ -66,13 +66,13 @@ outcome_by f (Done p) = Done (f p)
 outcome_by f (Refused why) = Refused why
 
 -- a block was put: its guards are written
-abbrev pub guarded : {L : Type 0} → List (ℕ × ℕ) → ℕ → Put (Layout L) → Put (Debug L)
-guarded marks size p =
+abbrev pub put_with_guards : {L : Type 0} → List (ℕ × ℕ) → ℕ → Put (Layout L) → Put (Debug L)
+put_with_guards marks size p =
     record { at = user_place p.at; region = record { best = with_guards p.region p.at size; marks = marks }; granted = p.granted }
 
 -- a block is put, at an offset that 32 divides
 abbrev pub debug_alloc : {L : Type 0} → Terms → Debug L → L → ℕ → Bool → Outcome (Put (Debug L))
-debug_alloc terms d label size refused = outcome_by (guarded d.marks size) (best_alloc terms d.best label (guarded_size size) 32 refused)
+debug_alloc terms d label size refused = outcome_by (put_with_guards d.marks size) (best_alloc terms d.best label (guarded_size size) 32 refused)
 
 -- the bytes of the segment that a call asks for, where it needs one
 abbrev pub debug_need : Terms → ℕ → ℕ
@@ -87,8 +87,8 @@ abbrev pub user_size : {L : Type 0} → Debug L → ℕ × ℕ → ℕ
 user_size d at = unwrap_or (option_map (λ b. b.size) (find_block at (user_blocks d))) 0
 
 -- the block at a place got another size, there or elsewhere: its mark goes along
-abbrev pub resized : {L : Type 0} → List (ℕ × ℕ) → ℕ × ℕ → ℕ → ℕ → Put (Layout L) → Put (Debug L)
-resized marks at kept size p =
+abbrev pub put_with_mark : {L : Type 0} → List (ℕ × ℕ) → ℕ × ℕ → ℕ → ℕ → Put (Layout L) → Put (Debug L)
+put_with_mark marks at kept size p =
     record {
       at = user_place p.at;
       region = record { best = with_zeros p.region p.at kept size; marks = moved_marks (address at) (address (user_place p.at)) marks };
@@ -98,7 +98,7 @@ resized marks at kept size p =
 -- the block at a place gets another size
 abbrev pub debug_resize : {L : Type 0} → Terms → Debug L → ℕ × ℕ → ℕ → Bool → Bool → Outcome (Put (Debug L))
 debug_resize terms d at size may_move refused =
-    outcome_by (resized d.marks at (min (user_size d at) size) size) (best_resize terms d.best (guarded_place at) (guarded_size size) may_move refused)
+    outcome_by (put_with_mark d.marks at (min (user_size d at) size) size) (best_resize terms d.best (guarded_place at) (guarded_size size) may_move refused)
 
 -- whether the user's block stays where it is then
 abbrev pub stays_debug : {L : Type 0} → Debug L → ℕ → Block L → Bool
@@ -114,11 +114,11 @@ debug_write d at off bytes = record { best = with_bytes_at d.best (guarded_place
 
 -- all blocks and all marks go
 abbrev pub debug_clear : {L : Type 0} → Debug L → Debug L
-debug_clear d = record { best = cleared d.best; marks = [] }
+debug_clear d = record { best = cleared_layout d.best; marks = [] }
 
 -- the segments without a block go
 abbrev pub debug_compact : {L : Type 0} → Debug L → Debug L
-debug_compact d = record { best = compacted d.best; marks = d.marks }
+debug_compact d = record { best = compacted_layout d.best; marks = d.marks }
 
 -- how many segments go by that
 abbrev pub debug_compact_count : {L : Type 0} → Debug L → ℕ
@@ -130,8 +130,8 @@ guarded_offset (pos off) = 32 + off
 guarded_offset (negsuc off) = 31 - off
 
 -- one byte is another, at an offset from the user's bytes of the block at a place on
-abbrev pub poked : {L : Type 0} → Debug L → ℕ × ℕ → ℤ → ℕ → Debug L
-poked d at off byte = record { best = with_bytes_at d.best (guarded_place at) (guarded_offset off) (byte ∷ []); marks = d.marks }
+abbrev pub with_poke : {L : Type 0} → Debug L → ℕ × ℕ → ℤ → ℕ → Debug L
+with_poke d at off byte = record { best = with_bytes_at d.best (guarded_place at) (guarded_offset off) (byte ∷ []); marks = d.marks }
 
 -- whether a byte of a guard isn't what guards are made of
 abbrev pub is_damaged : ℕ → Bool
@@ -157,12 +157,12 @@ abbrev pub damage_of : {L : Type 0} → Block L → Option (Block L × ℤ)
 damage_of b = option_map (λ off. (user_block b, off)) (damage b)
 
 -- the damaged blocks by address, each as the user's block with that offset
-abbrev pub damaged : {L : Type 0} → Debug L → List (Block L × ℤ)
-damaged d = filter_map damage_of (by_address d.best.blocks)
+abbrev pub damaged_blocks : {L : Type 0} → Debug L → List (Block L × ℤ)
+damaged_blocks d = filter_map damage_of (by_address d.best.blocks)
 
 -- the first of them behind an address
 abbrev pub next_damaged : {L : Type 0} → ℕ → Debug L → Option (Block L × ℤ)
-next_damaged after d = find (λ f. nat_lt after (address_of f.0)) (damaged d)
+next_damaged after d = find (λ f. nat_lt after (address_of f.0)) (damaged_blocks d)
 
 -- the line of the block at a place, where it is watched
 abbrev pub watched_at : {L : Type 0} → Debug L → ℕ × ℕ → Option ℕ

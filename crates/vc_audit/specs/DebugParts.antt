@@ -2,7 +2,7 @@
 use Rattle.std.specs.Prelude.{ℕ, List}
 use Rattle.vc_model.specs.Discipline.{Discipline}
 use Rattle.vc_model.specs.Layout.{Block}
-use Rattle.vc_seg.specs.Boxed.{boxed}
+use Rattle.vc_seg.specs.Boxed.{disc_in_box}
 use Rattle.vc_best.specs.Parts.{layout_of}
 use Rattle.vc_audit.specs.Debug as model
 use Rattle.vc_audit.specs.declared.debug.Debug.{Debug}
@@ -21,4 +21,4 @@ blocks_in d = model.user_blocks (debug_of d)
 
 -- what the discipline that lends its segments means
 abbrev pub disc_in : {I : Type 0} {V : I → Type 0} → ((x : I) × V x → Discipline) → Debug I V → Discipline
-disc_in meaning d = boxed meaning d.best.disc
+disc_in meaning d = disc_in_box meaning d.best.disc

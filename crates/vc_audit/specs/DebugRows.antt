@@ -3,7 +3,7 @@ use Rattle.std.specs.Prelude.{ℕ, ℤ, List, [], Bool, false, map}
 use Rattle.vc_model.specs.Layout.{place_of_block}
 use Rattle.vc_model.specs.Outcome.{Outcome, Done, Put, Refused}
 use Rattle.vc_model.specs.Rows.{over_one_segment, rounds_to}
-use Rattle.vc_audit.specs.Debug.{Debug, damaged, debug_alloc, debug_resize}
+use Rattle.vc_audit.specs.Debug.{Debug, damaged_blocks, debug_alloc, debug_resize}
 
 -- the region that a call leaves
 abbrev pub left_by : Debug ℕ → Outcome (Put (Debug ℕ)) → Debug ℕ
@@ -26,4 +26,4 @@ two_put = with_alloc (with_alloc one_segment 1 100) 2 8
 
 -- where the damaged blocks are, and at which offsets
 abbrev pub damages : Debug ℕ → List ((ℕ × ℕ) × ℤ)
-damages d = map (λ f. (place_of_block f.0, f.1)) (damaged d)
+damages d = map (λ f. (place_of_block f.0, f.1)) (damaged_blocks d)

@@ -7,7 +7,7 @@ use Rattle.vc_model.specs.Outcome.{Outcome, Put, outcome_as}
 use Rattle.vc_model.specs.Best.{best_alloc, without_block_at}
 use Rattle.vc_model.specs.Resize.{best_resize}
 use Rattle.vc_model.specs.Touch.{with_bytes_at}
-use Rattle.vc_model.specs.Compact.{cleared, compacted}
+use Rattle.vc_model.specs.Compact.{cleared_layout, compacted_layout}
 use Rattle.vc_seg.specs.declared.profile_row.ProfileRow.{ProfileRow}
 
 -- blocks whose labels are a label and a site, and the sites in order of their first granted alloc, each with its peak in bytes
@@ -39,12 +39,12 @@ abbrev pub site_bytes : {L : Type 0} → List ℕ → List (Block (L × List ℕ
 site_bytes site blocks = sum (site_sizes site blocks)
 
 -- each peak is the greater of itself and the bytes now
-abbrev pub peaked : {L : Type 0} → List (Block (L × List ℕ)) → List (List ℕ × ℕ) → List (List ℕ × ℕ)
-peaked blocks peaks = map (λ p. (p.0, max p.1 (site_bytes p.0 blocks))) peaks
+abbrev pub rows_with_peaks : {L : Type 0} → List (Block (L × List ℕ)) → List (List ℕ × ℕ) → List (List ℕ × ℕ)
+rows_with_peaks blocks peaks = map (λ p. (p.0, max p.1 (site_bytes p.0 blocks))) peaks
 
 -- the profile after a call that leaves these lists
 abbrev pub profile_after : {L : Type 0} → List (List ℕ × ℕ) → Layout (L × List ℕ) → Profile L
-profile_after peaks layout = record { layout = layout; peaks = peaked layout.blocks peaks }
+profile_after peaks layout = record { layout = layout; peaks = rows_with_peaks layout.blocks peaks }
 
 -- the sites with this one, which is the last if it is new
 abbrev pub with_site : List ℕ → List (List ℕ × ℕ) → List (List ℕ × ℕ)
@@ -71,11 +71,11 @@ profile_write p at off src = profile_after p.peaks (with_bytes_at p.layout at of
 
 -- all blocks go; every row stays
 abbrev pub profile_clear : {L : Type 0} → Profile L → Profile L
-profile_clear p = profile_after p.peaks (cleared p.layout)
+profile_clear p = profile_after p.peaks (cleared_layout p.layout)
 
 -- the segments without a block go
 abbrev pub profile_compact : {L : Type 0} → Profile L → Profile L
-profile_compact p = profile_after p.peaks (compacted p.layout)
+profile_compact p = profile_after p.peaks (compacted_layout p.layout)
 
 -- what is counted for a site, of these blocks
 abbrev pub row_of : {L : Type 0} → List (Block (L × List ℕ)) → List ℕ × ℕ → ProfileRow

@@ -2,15 +2,15 @@
 use Rattle.std.specs.Prelude.{ℕ, List}
 use Rattle.vc_model.specs.Discipline.{Discipline}
 use Rattle.vc_model.specs.Layout.{Block, Layout}
-use Rattle.vc_seg.specs.Boxed.{boxed}
+use Rattle.vc_seg.specs.Boxed.{disc_in_box}
 use Rattle.vc_best.specs.Parts.{layout_of}
 use Rattle.vc_audit.specs.Profile as model
-use Rattle.vc_audit.specs.ProfileSums.{peaks_of, sited}
+use Rattle.vc_audit.specs.ProfileSums.{peaks_of, with_sites}
 use Rattle.vc_audit.specs.declared.profile.Profile.{Profile}
 
 -- what it is: its blocks with their sites, and its sites with their peaks
 abbrev pub profile_of : {I : Type 0} {V : I → Type 0} → Profile I V → model.Profile ℕ
-profile_of p = record { layout = sited p.sites.items.items (layout_of p.best); peaks = peaks_of p.rows.entries }
+profile_of p = record { layout = with_sites p.sites.items.items (layout_of p.best); peaks = peaks_of p.rows.entries }
 
 -- its lists of segments and of blocks
 abbrev pub layout_in : {I : Type 0} {V : I → Type 0} → Profile I V → Layout ℕ
@@ -24,4 +24,4 @@ blocks_in p = (layout_in p).blocks
 
 -- what the discipline means that lends its segments
 abbrev pub disc_in : {I : Type 0} {V : I → Type 0} → ((x : I) × V x → Discipline) → Profile I V → Discipline
-disc_in meaning p = boxed meaning p.best.disc
+disc_in meaning p = disc_in_box meaning p.best.disc

@@ -22,17 +22,17 @@ abbrev pub row_for : List ℕ → Rows → Row
 row_for site rows = unwrap_or (lookup (bytes_eq site) rows) new_row
 
 -- a row without blocks
-abbrev pub emptied : List ℕ × Row → List ℕ × Row
-emptied e = (e.0, record { blocks = 0; bytes = 0; peak = e.1.peak })
+abbrev pub row_without_blocks : List ℕ × Row → List ℕ × Row
+row_without_blocks e = (e.0, record { blocks = 0; bytes = 0; peak = e.1.peak })
 
 -- the rows with the one of that index emptied, and with every one
 abbrev pub clear_at : ℕ → Rows → Rows
 clear_at i [] = []
-clear_at zero (e ∷ es) = emptied e ∷ es
+clear_at zero (e ∷ es) = row_without_blocks e ∷ es
 clear_at (suc i) (e ∷ es) = e ∷ clear_at i es
 
 abbrev pub cleared_rows : Rows → Rows
-cleared_rows rows = map emptied rows
+cleared_rows rows = map row_without_blocks rows
 
 -- the site that is kept for a block, and the block with it
 abbrev pub site_of : List Sited → Block ℕ → List ℕ
@@ -41,8 +41,8 @@ site_of sites b = unwrap_or (site_at (address_of b) sites) []
 abbrev pub with_its_site : List Sited → Block ℕ → Block (ℕ × List ℕ)
 with_its_site sites b = record { label = (b.label, site_of sites b); seg = b.seg; off = b.off; size = b.size; bytes = b.bytes }
 
-abbrev pub sited : List Sited → Layout ℕ → Layout (ℕ × List ℕ)
-sited sites r = record { segments = r.segments; blocks = map (with_its_site sites) r.blocks }
+abbrev pub with_sites : List Sited → Layout ℕ → Layout (ℕ × List ℕ)
+with_sites sites r = record { segments = r.segments; blocks = map (with_its_site sites) r.blocks }
 
 -- the sites of the rows in order, each with its peak
 abbrev pub peaks_of : Rows → List (List ℕ × ℕ)
@@ -64,4 +64,4 @@ pub record IsRow (blocks : List (Block (ℕ × List ℕ))) (e : List ℕ × Row)
 -- the running sums are those of the lists
 pub record IsCounted (r : Layout ℕ) (sites : List Sited) (rows : Rows) : Type 0 where
   pub held : AllByRecursion (IsHeld sites rows) r.blocks
-  pub counted : AllByRecursion (IsRow (sited sites r).blocks) rows
+  pub counted : AllByRecursion (IsRow (with_sites sites r).blocks) rows

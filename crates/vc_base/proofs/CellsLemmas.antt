@@ -9,7 +9,7 @@ use Rattle.std.proofs.Math.Seq.{drop-append_seam, take-append_seam}
 use Rattle.std.proofs.lemmas.Nat.{from_le_bytes-to_le_bytes_8}
 use Rattle.std.proofs.lemmas.Grind.{common_steps}
 use Rattle.vc_model.specs.Bytes.{with_bytes}
-use Rattle.vc_base.specs.Cells.{Blocks, HasBytes, body_of, bytes_at, put, with_word, word, stored, WordsWritten, WordWritten}
+use Rattle.vc_base.specs.Cells.{Blocks, HasBytes, body_of, bytes_at, put, with_word, word, with_number, WordsWritten, WordWritten}
 
 take_less : (m n : ℕ) (xs : List ℕ) → m ≤ n → take m (take n xs) ≡ take m xs
 take_less m n xs h = grind (arith, common_steps)
@@ -102,7 +102,7 @@ WordsWritten-put old at bytes some long body = record {
 }
 
 -- a store writes one word
-pub WordWritten-store : (old new : Blocks) (at k value : ℕ) → k < 4 → value < 2 ^ 64 → HasBytes old at (8 * k + 8) → new ≡ stored at k value old → WordWritten old new at k value
+pub WordWritten-store : (old new : Blocks) (at k value : ℕ) → k < 4 → value < 2 ^ 64 → HasBytes old at (8 * k + 8) → new ≡ with_number at k value old → WordWritten old new at k value
 WordWritten-store old new at k value few fits has e =
     let bytes = bytes_at old at in
     let after = put at (with_word k value bytes) old in

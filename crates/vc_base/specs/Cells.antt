@@ -38,8 +38,8 @@ unfoldable pub with_word : ℕ → ℕ → List ℕ → List ℕ
 with_word k value bytes = with_bytes (8 * k) (to_le_bytes w64 value) bytes
 
 -- the blocks with that number in word k of one
-abbrev pub stored : ℕ → ℕ → ℕ → Blocks → Blocks
-stored at k value blocks = put at (with_word k value (bytes_at blocks at)) blocks
+abbrev pub with_number : ℕ → ℕ → ℕ → Blocks → Blocks
+with_number at k value blocks = put at (with_word k value (bytes_at blocks at)) blocks
 
 -- the bytes behind the four words of a holder
 abbrev pub body_of : List ℕ → List ℕ

@@ -1,5 +1,5 @@
 ghost use Rattle.std.specs.Prelude.{◌≡◌, ℕ, ◌+◌, ◌*◌, ◌<◌, IsSome, length};
-ghost use Rattle.vc_base.specs.Cells.{Blocks, HasBytes, IsAddress, body_of, bytes_at, stored, with_body, word_at};
+ghost use Rattle.vc_base.specs.Cells.{Blocks, HasBytes, IsAddress, body_of, bytes_at, with_number, with_body, word_at};
 
 use crate::Addr;
 
@@ -23,7 +23,7 @@ pub trait Cells {
     fn store(&mut self, at: Addr, k: u32, v: u64)
         requires word { k < 4 }
         requires place { HasBytes (blocks self.old) at.0 (8 * k + 8) }
-        ensures blocks { blocks self.new ≡ stored at.0 k v (blocks self.old) }
+        ensures blocks { blocks self.new ≡ with_number at.0 k v (blocks self.old) }
         ensures rest { RestStays self.old self.new };
 
     /// Slot k of a table, from 0: its word k.
@@ -34,7 +34,7 @@ pub trait Cells {
     /// Writes slot k of a table, from 0.
     fn set_slot(&mut self, at: Addr, k: u32, v: u64)
         requires { HasBytes (blocks self.old) at.0 (8 * k + 8) }
-        ensures blocks { blocks self.new ≡ stored at.0 k v (blocks self.old) }
+        ensures blocks { blocks self.new ≡ with_number at.0 k v (blocks self.old) }
         ensures rest { RestStays self.old self.new };
 
     /// The bytes behind a holder's words.

@@ -1,7 +1,7 @@
 ghost use Rattle.std.specs.Prelude.{◌≡◌, ℕ, ◌+◌, ◌≤◌, ◌↔◌, Some, [], length, take, ◌++◌, IsTrue, IsErr, IsOk, IfOk, OnErr, vec_len, vec_capacity};
 ghost use Rattle.vc_model.specs.Count.{Rose};
 ghost use Rattle.vc_model.specs.Stream.{Writes};
-ghost use Rattle.vc_base.specs.Memory.{MemorySink, after_write, refuses, accepted};
+ghost use Rattle.vc_base.specs.Memory.{MemorySink, after_write, refuses, bytes_accepted};
 
 use crate::{OutOfMemory, Sink, WriteFailed, one_more};
 use std::alloc::Global;
@@ -83,7 +83,7 @@ impl Sink for MemSink {
 
     fn write(&mut self, piece: &[u8]) -> Result<usize, WriteFailed>
         ensures fails { IsErr result ↔ IsTrue (refuses self.old) }
-        ensures count { IfOk result (λ n. n ≡ accepted self.old (length piece.now)) }
+        ensures count { IfOk result (λ n. n ≡ bytes_accepted self.old (length piece.now)) }
         ensures state { self.new ≡ after_write self.old piece.now }
 
         // What each sink ensures.

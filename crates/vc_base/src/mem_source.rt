@@ -1,7 +1,7 @@
 ghost use Rattle.std.specs.Prelude.{◌≡◌, ℕ, ◌≤◌, ◌↔◌, Some, length, take, drop, ◌++◌, IsTrue, IsErr, IfOk, OnErr};
 ghost use Rattle.vc_model.specs.Count.{Rose};
 ghost use Rattle.vc_model.specs.Stream.{Reads};
-ghost use Rattle.vc_base.specs.Memory.{MemorySource, after_read, fails_after, given};
+ghost use Rattle.vc_base.specs.Memory.{MemorySource, after_read, fails_after, bytes_given};
 
 use crate::{ReadFailed, Source, one_more};
 use std::marker::Model;
@@ -66,7 +66,7 @@ impl Source for MemSource {
 
     fn read(&mut self, buf: &mut [u8]) -> Result<usize, ReadFailed>
         ensures fails { IsErr result ↔ IsTrue (fails_after self.old.fails self.old.calls) }
-        ensures count { IfOk result (λ n. n ≡ given self.old (length buf.old)) }
+        ensures count { IfOk result (λ n. n ≡ bytes_given self.old (length buf.old)) }
         ensures state { self.new ≡ after_read self.old (length buf.old) }
         ensures bytes { IfOk result (λ n. buf.new ≡ take n self.old.left ++ drop n buf.old) }
         ensures untouched { OnErr result (buf.new ≡ buf.old) }

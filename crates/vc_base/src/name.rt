@@ -18,7 +18,7 @@ pub struct Name {
 
 impl Model for Name {
     ghost use Rattle.std.specs.Prelude.{ℕ, ◌-◌, List, ◌++◌, length, take, replicate};
-    ghost use Rattle.vc_base.specs.Name.{padded, IsPadded};
+    ghost use Rattle.vc_base.specs.Name.{padded_name, IsPadded};
 
     ghost Value = { List ℕ };
 
@@ -26,7 +26,7 @@ impl Model for Name {
 
     ghost invariant = { λ n. IsPadded n.buf n.len };
 
-    ghost inverse = { λ bytes. record { buf = padded bytes; len = length bytes } };
+    ghost inverse = { λ bytes. record { buf = padded_name bytes; len = length bytes } };
 }
 
 impl Name {

@@ -12,9 +12,9 @@ use Rattle.vc_model.specs.Addr.{place_of}
 use Rattle.vc_model.specs.Bytes.{with_bytes}
 use Rattle.vc_model.specs.Layout.{Block, Layout, is_at}
 use Rattle.vc_model.specs.Sound.{HasWholeBlocks}
-use Rattle.vc_model.specs.Touch.{HasBlock, HasRange, change_block, find_block, rewritten, with_bytes_at}
+use Rattle.vc_model.specs.Touch.{HasBlock, HasRange, change_block, find_block, rewritten_block, with_bytes_at}
 use Rattle.vc_model.proofs.Owned.{at-address, found-has, found-is}
-use Rattle.vc_best.specs.Cells.{cell_bytes, cells_of, zeroed, zeroed_layout, is_unlabelled}
+use Rattle.vc_best.specs.Cells.{cell_bytes, cells_of, block_shown, zeroed_layout, is_unlabelled}
 use Rattle.vc_best.specs.CellLaws.{cell-of}
 
 -- cells that show the same bytes at each address are the same
@@ -38,20 +38,20 @@ cell-bytes bs a b c = ap (λ o. unwrap_or o []) (cell-shows bs a b c)
 -- writing into the block at an address
 module _ (off : ℕ) (src : List ℕ) (a : ℕ) where
   written : List (Block ℕ) → List (Block ℕ)
-  written bs = change_block (rewritten off src) (place_of a) bs
+  written bs = change_block (rewritten_block off src) (place_of a) bs
 
-  find-written-same : (bs : List (Block ℕ)) (b : Block ℕ) → find_block (place_of a) bs ≡ Some b → find_block (place_of a) (change_block (rewritten off src) (place_of a) bs) ≡ Some (rewritten off src b)
+  find-written-same : (bs : List (Block ℕ)) (b : Block ℕ) → find_block (place_of a) bs ≡ Some b → find_block (place_of a) (change_block (rewritten_block off src) (place_of a) bs) ≡ Some (rewritten_block off src b)
   find-written-same [] b e = absurd (none-some b e)
   find-written-same (c ∷ cs) b e =
       ⊎_elim
       (λ (t : is_at (place_of a) c ≡ true).
       let same : c ≡ b = same_Some c b (sym (ap (λ v. cond v (Some c) (find_block (place_of a) cs)) t) ∙ e) in
-      rw t (rw t (ap (λ d. Some (rewritten off src d)) same)))
+      rw t (rw t (ap (λ d. Some (rewritten_block off src d)) same)))
       (λ (t : is_at (place_of a) c ≡ false).
       rw t (rw t (find-written-same cs b (sym (ap (λ v. cond v (Some c) (find_block (place_of a) cs)) t) ∙ e))))
       (cases_Bool (is_at (place_of a) c))
 
-  pub find-written-other : (x : ℕ) → x ≢ a → (bs : List (Block ℕ)) → find_block (place_of x) (change_block (rewritten off src) (place_of a) bs) ≡ find_block (place_of x) bs
+  pub find-written-other : (x : ℕ) → x ≢ a → (bs : List (Block ℕ)) → find_block (place_of x) (change_block (rewritten_block off src) (place_of a) bs) ≡ find_block (place_of x) bs
   find-written-other x ne [] = refl
   find-written-other x ne (c ∷ cs) =
       ⊎_elim
@@ -64,12 +64,12 @@ module _ (off : ℕ) (src : List ℕ) (a : ℕ) where
       (cases_Bool (is_at (place_of a) c))
 
   -- it changes the one cell there
-  pub cells-written : (bs : List (Block ℕ)) (b : Block ℕ) → IsCell bs a b → cells_of (change_block (rewritten off src) (place_of a) bs) ≡ put a (with_bytes off src (bytes_at (cells_of bs) a)) (cells_of bs)
+  pub cells-written : (bs : List (Block ℕ)) (b : Block ℕ) → IsCell bs a b → cells_of (change_block (rewritten_block off src) (place_of a) bs) ≡ put a (with_bytes off src (bytes_at (cells_of bs) a)) (cells_of bs)
   cells-written bs b c =
-      let after = change_block (rewritten off src) (place_of a) bs in
+      let after = change_block (rewritten_block off src) (place_of a) bs in
       let bytes : List ℕ = with_bytes off src (bytes_at (cells_of bs) a) in
       let own : cells_of after a ≡ Some bytes =
-      cell-shows after a (rewritten off src b) (record { found = find-written-same bs b c.found; plain = c.plain })
+      cell-shows after a (rewritten_block off src b) (record { found = find-written-same bs b c.found; plain = c.plain })
       ∙ ap (λ bytes. Some (with_bytes off src bytes)) (sym (cell-bytes bs a b c)) in
       same-cells (cells_of after) (put a bytes (cells_of bs))
       (λ x. elim (eqb_tells x a) as (λ _. cells_of after x ≡ put a bytes (cells_of bs) x) [
@@ -78,7 +78,7 @@ module _ (off : ℕ) (src : List ℕ) (a : ℕ) where
       ])
 
   -- and nothing else
-  rest-written : (bs : List (Block ℕ)) (b : Block ℕ) → IsCell bs a b → map zeroed (change_block (rewritten off src) (place_of a) bs) ≡ map zeroed bs
+  rest-written : (bs : List (Block ℕ)) (b : Block ℕ) → IsCell bs a b → map block_shown (change_block (rewritten_block off src) (place_of a) bs) ≡ map block_shown bs
   rest-written [] b c = refl
   rest-written (d ∷ ds) b c =
       ⊎_elim
@@ -88,7 +88,7 @@ module _ (off : ℕ) (src : List ℕ) (a : ℕ) where
       rw t (rw plain refl))
       (λ (t : is_at (place_of a) d ≡ false).
       let rest : IsCell ds a b = record { found = sym (ap (λ v. cond v (Some d) (find_block (place_of a) ds)) t) ∙ c.found; plain = c.plain } in
-      rw t (ap (λ es. zeroed d ∷ es) (rest-written ds b rest)))
+      rw t (ap (λ es. block_shown d ∷ es) (rest-written ds b rest)))
       (cases_Bool (is_at (place_of a) d))
 
   pub layout-written : (r : Layout ℕ) (b : Block ℕ) → IsCell r.blocks a b → zeroed_layout (with_bytes_at r (place_of a) off src) ≡ zeroed_layout r

@@ -8,18 +8,18 @@ use Rattle.vc_base.specs.Cells.{put}
 use Rattle.vc_base.proofs.CellsLemmas.{put_other, put_same}
 use Rattle.vc_model.specs.Addr.{place_of}
 use Rattle.vc_model.specs.Best.{best_alloc, place_in, without_block_at, zeros}
-use Rattle.vc_model.specs.Compact.{cleared}
+use Rattle.vc_model.specs.Compact.{cleared_layout}
 use Rattle.vc_model.specs.Discipline.{Discipline, Terms}
 use Rattle.vc_model.specs.Layout.{Block, Layout, address_of, is_at, without_block}
 use Rattle.vc_model.specs.Sound.{HaveOwnPlaces}
-use Rattle.vc_model.specs.Touch.{change_block, find_block, rewritten, with_bytes_at}
+use Rattle.vc_model.specs.Touch.{change_block, find_block, rewritten_block, with_bytes_at}
 use Rattle.vc_model.proofs.Owned.{at-address, left-elsewhere, not-there, put-others, put-there}
 use Rattle.vc_best.proofs.Resizes.{place-new}
 use Rattle.vc_seg.specs.Answer.{IsPut}
-use Rattle.vc_seg.specs.Boxed.{boxed}
+use Rattle.vc_seg.specs.Boxed.{disc_in_box}
 use Rattle.vc_best.specs.Parts.{disc_in, segments_in}
 use Rattle.vc_best.specs.declared.best.Best.{Best}
-use Rattle.vc_best.specs.Cells.{StaysButCells, zeroed, cell_bytes, cells_of, is_unlabelled, without_cell}
+use Rattle.vc_best.specs.Cells.{StaysButCells, block_shown, cell_bytes, cells_of, is_unlabelled, without_cell}
 use Rattle.vc_best.proofs.CellBytes.{cell-shows, find-written-other, same-cells}
 use Rattle.vc_best.proofs.RestBlocks.{find_block-zeroed, zeroed-labelled}
 
@@ -118,7 +118,7 @@ pub cells-resized-labelled : (a to : ℕ) (old new : List (Block ℕ)) → HaveO
 cells-resized-labelled a to old new own own' none none' others = sym (cells-kept to new own' none') ∙ (ap cells_of others ∙ cells-kept a old own none)
 
 -- bytes are written into a labelled block
-pub find-written : (off : ℕ) (src : List ℕ) (at : ℕ × ℕ) (bs : List (Block ℕ)) → find_block at (change_block (rewritten off src) at bs) ≡ option_map (rewritten off src) (find_block at bs)
+pub find-written : (off : ℕ) (src : List ℕ) (at : ℕ × ℕ) (bs : List (Block ℕ)) → find_block at (change_block (rewritten_block off src) at bs) ≡ option_map (rewritten_block off src) (find_block at bs)
 find-written off src at [] = refl
 find-written off src at (b ∷ bs) =
     ⊎_elim
@@ -126,7 +126,7 @@ find-written off src at (b ∷ bs) =
     (λ (t : is_at at b ≡ false). rw t (rw t (find-written off src at bs)))
     (cases_Bool (is_at at b))
 
-none-written : (off : ℕ) (src : List ℕ) (o : Option (Block ℕ)) → cell_bytes o ≡ None → cell_bytes (option_map (rewritten off src) o) ≡ None
+none-written : (off : ℕ) (src : List ℕ) (o : Option (Block ℕ)) → cell_bytes o ≡ None → cell_bytes (option_map (rewritten_block off src) o) ≡ None
 none-written off src None none = refl
 none-written off src (Some b) none =
     ⊎_elim
@@ -136,7 +136,7 @@ none-written off src (Some b) none =
 
 pub cells-written-labelled : (r : Layout ℕ) (a off : ℕ) (src : List ℕ) → cells_of r.blocks a ≡ None → cells_of (with_bytes_at r (place_of a) off src).blocks ≡ cells_of r.blocks
 cells-written-labelled r a off src none =
-    let after = change_block (rewritten off src) (place_of a) r.blocks in
+    let after = change_block (rewritten_block off src) (place_of a) r.blocks in
     same-cells (cells_of after) (cells_of r.blocks)
     (λ x. elim (eqb_tells x a) as (λ _. cells_of after x ≡ cells_of r.blocks x) [
       | inl same ↦ subst (λ (n : ℕ). cells_of after n ≡ cells_of r.blocks n) (sym same.1)
@@ -145,26 +145,26 @@ cells-written-labelled r a off src none =
     ])
 
 -- no cell is left where all blocks go
-pub cells-cleared : (r : Layout ℕ) (a : ℕ) → cells_of (cleared r).blocks a ≡ None
+pub cells-cleared : (r : Layout ℕ) (a : ℕ) → cells_of (cleared_layout r).blocks a ≡ None
 cells-cleared r a = refl
 
 -- what stays over writes into cells: the meaning of the discipline, and the segments
 pub stays-disc : {I : Type 0} {V : I → Type 0} (meaning : (x : I) × V x → Discipline) (old new : Best I V) → StaysButCells old new → disc_in meaning new ≡ disc_in meaning old
-stays-disc meaning old new s = ap (boxed meaning) s.disc
+stays-disc meaning old new s = ap (disc_in_box meaning) s.disc
 
 pub stays-segments : {I : Type 0} {V : I → Type 0} (old new : Best I V) → StaysButCells old new → segments_in new ≡ segments_in old
 stays-segments old new s = ap (λ (r : Layout ℕ). r.segments) s.layout
 
 -- a block that is the same but for what it shows as a cell, where one of both is labelled
-labelled-same : (b : Block ℕ) (o : Option (Block ℕ)) → is_unlabelled b ≡ false → option_map zeroed o ≡ Some (zeroed b) → o ≡ Some b
-labelled-same b None h e = absurd (none-some (zeroed b) e)
+labelled-same : (b : Block ℕ) (o : Option (Block ℕ)) → is_unlabelled b ≡ false → option_map block_shown o ≡ Some (block_shown b) → o ≡ Some b
+labelled-same b None h e = absurd (none-some (block_shown b) e)
 labelled-same b (Some c) h e =
-    let same : zeroed c ≡ zeroed b = same_Some (zeroed c) (zeroed b) e in
+    let same : block_shown c ≡ block_shown b = same_Some (block_shown c) (block_shown b) e in
     let label : c.label ≡ b.label = ap (λ (d : Block ℕ). d.label) same in
     let plain : is_unlabelled c ≡ false = ap (λ n. eqb n 0) label ∙ h in
     ap Some (sym (zeroed-labelled c plain) ∙ (same ∙ zeroed-labelled b h))
 
-pub same-labelled : (at : ℕ × ℕ) (old new : List (Block ℕ)) (b : Block ℕ) → map zeroed new ≡ map zeroed old → find_block at old ≡ Some b → b.label ≢ 0 → find_block at new ≡ Some b
+pub same-labelled : (at : ℕ × ℕ) (old new : List (Block ℕ)) (b : Block ℕ) → map block_shown new ≡ map block_shown old → find_block at old ≡ Some b → b.label ≢ 0 → find_block at new ≡ Some b
 same-labelled at old new b same found labelled =
     labelled-same b (find_block at new) (ne_eqb b.label 0 labelled)
-    (sym (find_block-zeroed at new) ∙ (ap (find_block at) same ∙ (find_block-zeroed at old ∙ ap (option_map zeroed) found)))
+    (sym (find_block-zeroed at new) ∙ (ap (find_block at) same ∙ (find_block-zeroed at old ∙ ap (option_map block_shown) found)))

@@ -7,7 +7,7 @@ use Rattle.std.proofs.Math.Logic.{∥∥₁_elim}
 use Rattle.std.proofs.lemmas.Bool.{cases_Bool, eqb-true, eqb-false, ne_eqb}
 use Rattle.std.proofs.lemmas.List.Elements.{All-head, All-tail, All-nil, All-cons, All-map}
 use Rattle.vc_layouts.proofs.Lists.{AllPairs-head, AllPairs-map, AllPairs-tail}
-use Rattle.vc_model.specs.Compact.{cleared}
+use Rattle.vc_model.specs.Compact.{cleared_layout}
 use Rattle.vc_seg.specs.Segment.{AreSegments, Bytes, pair_of}
 use Rattle.vc_extent.specs.Extent.{Extent, extents}
 use Rattle.vc_extent.specs.Change.{IsOneFree, one_free}
@@ -66,7 +66,7 @@ one-merged (e ∷ es) h = rw h.1 refl
 pub free-merged : (t : List (ℕ × List Extent)) → All (λ s. IsOneFree s.1) t → IsMerged t
 free-merged t h = λ k d lt. one-merged (get_or t k d).1 (h k d lt)
 
-pub layout-cleared : (old new : List Bytes) → map pair_of new ≡ map pair_of old → All (λ s. IsOneFree s.1) (tiling new) → layout_by new ≡ cleared (layout_by old)
+pub layout-cleared : (old new : List Bytes) → map pair_of new ≡ map pair_of old → All (λ s. IsOneFree s.1) (tiling new) → layout_by new ≡ cleared_layout (layout_by old)
 layout-cleared old new p h =
     let ss = segments-by new ∙ (p ∙ sym (segments-by old)) in
     let bs = layout-none new h in

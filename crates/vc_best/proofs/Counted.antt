@@ -6,8 +6,8 @@ use Rattle.std.proofs.lemmas.Bool.{cases_Bool}
 use Rattle.vc_model.specs.Addr.{place_of}
 use Rattle.vc_model.specs.Best.{without_block_at, zeros}
 use Rattle.vc_model.specs.Layout.{Block, Layout, is_at}
-use Rattle.vc_model.specs.Resize.{resize_there, sized}
-use Rattle.vc_model.specs.Touch.{HasBlock, change_block, rewritten, with_bytes_at}
+use Rattle.vc_model.specs.Resize.{resize_there, sized_block}
+use Rattle.vc_model.specs.Touch.{HasBlock, change_block, rewritten_block, with_bytes_at}
 use Rattle.vc_seg.specs.Segment.{Bytes}
 use Rattle.vc_layouts.specs.Put.{with_zeros}
 use Rattle.vc_extent.specs.Tiling.{AreExtents}
@@ -31,10 +31,10 @@ changed f at (b ∷ bs) =
     (cases_Bool (is_at at b))
 
 pub written-count : (r s : Layout ℕ) (at : ℕ × ℕ) (off : ℕ) (src : List ℕ) → s ≡ with_bytes_at r at off src → length s.blocks ≡ length r.blocks
-written-count r s at off src e = ap (λ (l : Layout ℕ). length l.blocks) e ∙ changed (rewritten off src) at r.blocks
+written-count r s at off src e = ap (λ (l : Layout ℕ). length l.blocks) e ∙ changed (rewritten_block off src) at r.blocks
 
 pub sized-count : (r s : Layout ℕ) (at : ℕ × ℕ) (size : ℕ) → s ≡ resize_there r at size → length s.blocks ≡ length r.blocks
-sized-count r s at size e = ap (λ (l : Layout ℕ). length l.blocks) e ∙ changed (sized size) at r.blocks
+sized-count r s at size e = ap (λ (l : Layout ℕ). length l.blocks) e ∙ changed (sized_block size) at r.blocks
 
 -- one less where one is freed
 pub freed-count : (segs : List Bytes) (index : List ℕ) → ∥ AreExtents segs index ∥₁ → (a : ℕ) (s : Layout ℕ) → HasBlock (layout_by segs).blocks a → AreMost (layout_by segs).blocks → s ≡ without_block_at (layout_by segs) (place_of a)

@@ -7,7 +7,7 @@ use Rattle.vc_layouts.specs.Tally.{HasRoom, tallied_all}
 use Rattle.vc_layouts.proofs.Tallies.{HasRoom-rest, tallied_all-append}
 use Rattle.vc_extent.specs.Extent.{Extent}
 use Rattle.vc_best.specs.Blocks.{is_busy}
-use Rattle.vc_best.specs.Counts.{HaveRoom, busy_sizes, counted, free_spans}
+use Rattle.vc_best.specs.Counts.{HaveRoom, busy_sizes, counts_with, free_spans}
 use Rattle.vc_best.specs.Free.{is_free}
 use Rattle.vc_best.specs.declared.stat.Counts.{Counts}
 use Rattle.vc_layouts.specs.declared.tally.Tally.{Tally}
@@ -18,13 +18,13 @@ busy-append xs ys = ap (map (λ (e : Extent). e.size)) (filter-append is_busy xs
 free-append : (xs ys : List Extent) → free_spans (xs ++ ys) ≡ free_spans xs ++ free_spans ys
 free-append xs ys = ap (map (λ (e : Extent). e.span)) (filter-append is_free xs ys) ∙ map-append (λ (e : Extent). e.span) (filter is_free xs) (filter is_free ys)
 
-pub counted-append : (c : Counts) (xs ys : List Extent) → counted c (xs ++ ys) ≡ counted (counted c xs) ys
+pub counted-append : (c : Counts) (xs ys : List Extent) → counts_with c (xs ++ ys) ≡ counts_with (counts_with c xs) ys
 counted-append c xs ys =
     let b = ap (tallied_all c.blocks) (busy-append xs ys) ∙ tallied_all-append c.blocks (busy_sizes xs) (busy_sizes ys) in
     let f = ap (tallied_all c.gaps) (free-append xs ys) ∙ tallied_all-append c.gaps (free_spans xs) (free_spans ys) in
     λ i. record { blocks = b i; gaps = f i }
 
-pub room-rest : (c : Counts) (xs ys : List Extent) → HaveRoom c (xs ++ ys) → HaveRoom (counted c xs) ys
+pub room-rest : (c : Counts) (xs ys : List Extent) → HaveRoom c (xs ++ ys) → HaveRoom (counts_with c xs) ys
 room-rest c xs ys h =
     record {
       blocks = HasRoom-rest c.blocks (busy_sizes xs) (busy_sizes ys) (subst (HasRoom c.blocks) (busy-append xs ys) h.blocks);

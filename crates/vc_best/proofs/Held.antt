@@ -9,7 +9,7 @@ use Rattle.vc_model.specs.Addr.{place_of}
 use Rattle.vc_model.specs.Best.{without_block_at}
 use Rattle.vc_model.specs.Layout.{Block, Layout, is_at}
 use Rattle.vc_model.specs.Sound.{HasWholeBlocks, IsSound}
-use Rattle.vc_model.specs.Touch.{HasBlock, HasRange, find_block, rewritten, with_bytes_at}
+use Rattle.vc_model.specs.Touch.{HasBlock, HasRange, find_block, rewritten_block, with_bytes_at}
 use Rattle.vc_seg.specs.Segment.{Bytes, pair_of}
 use Rattle.vc_extent.specs.Extent.{Extent}
 use Rattle.vc_extent.specs.Change.{write}
@@ -58,7 +58,7 @@ most-without r s at e most = subst (λ (l : Layout ℕ). AreMost l.blocks) (sym 
 -- other bytes
 pub most-written : (r s : Layout ℕ) (at : ℕ × ℕ) (off : ℕ) (src : List ℕ) → s ≡ with_bytes_at r at off src → AreMost r.blocks → AreMost s.blocks
 most-written r s at off src e most =
-    subst (λ (l : Layout ℕ). AreMost l.blocks) (sym e) (All-change (λ (b : Block ℕ). b.size ≤ 16777264) (rewritten off src) (λ b h. h) at r.blocks most)
+    subst (λ (l : Layout ℕ). AreMost l.blocks) (sym e) (All-change (λ (b : Block ℕ). b.size ≤ 16777264) (rewritten_block off src) (λ b h. h) at r.blocks most)
 
 module _ (segs : List Bytes) (index : List ℕ) (a : ℕ) (k : ∥ AreExtents segs index ∥₁) (live : HasBlock (layout_by segs).blocks a) where
   -- the block at an address
@@ -75,7 +75,7 @@ module _ (old new : List Bytes) (io jn : List ℕ) (a off : ℕ) (src : List ℕ
   layout-written =
       let e = extent_of (tiling old) a in
       let yes : is_busy e ≡ true = lt-ltb 0 e.size busy.busy in
-      layout-changed old new io jn ko kn a (write off src) busy.named is p (rewritten off src) (λ b. refl) (λ b. refl) busy.busy (rw yes refl)
+      layout-changed old new io jn ko kn a (write off src) busy.named is p (rewritten_block off src) (λ b. refl) (λ b. refl) busy.busy (rw yes refl)
 
 -- what is true of all blocks is true of the one that is found
 pub All-find : (P : Block ℕ → Type 0) (test : Block ℕ → Bool) (bs : List (Block ℕ)) (b : Block ℕ) → All P bs → find test bs ≡ Some b → P b

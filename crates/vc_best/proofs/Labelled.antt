@@ -7,7 +7,7 @@ use Rattle.vc_model.specs.Addr.{place_of}
 use Rattle.vc_model.specs.Best.{without_block_at, zeros}
 use Rattle.vc_model.specs.Layout.{Block, Layout, is_at, without_block}
 use Rattle.vc_model.specs.Touch.{find_block}
-use Rattle.vc_best.specs.Cells.{is_unlabelled, labelled_blocks, zeroed, zeroed_layout}
+use Rattle.vc_best.specs.Cells.{is_unlabelled, labelled_blocks, block_shown, zeroed_layout}
 use Rattle.vc_best.proofs.RestBlocks.{zeroed-labelled}
 
 -- those of some blocks
@@ -30,10 +30,10 @@ without-labelled at (b ∷ bs) is =
     (cases_Bool (is_at at b))
 
 -- zeros for the bytes of the unlabelled ones
-pub labelled-zeroed : (bs : List (Block ℕ)) → labelled_of (map zeroed bs) ≡ labelled_of bs
+pub labelled-zeroed : (bs : List (Block ℕ)) → labelled_of (map block_shown bs) ≡ labelled_of bs
 labelled-zeroed [] = refl
 labelled-zeroed (b ∷ bs) =
-    let rest = labelled_of (map zeroed bs) in
+    let rest = labelled_of (map block_shown bs) in
     ⊎_elim
     (λ (t : is_unlabelled b ≡ true).
     let skipped : nat_lt 0 b.label ≡ false = ap (nat_lt 0) (eqb-true b.label 0 t) in

@@ -8,7 +8,7 @@ use Rattle.vc_model.specs.Addr.{place_of}
 use Rattle.vc_model.specs.Bytes.{with_bytes}
 use Rattle.vc_model.specs.Layout.{Block, Layout, address_of, is_at}
 use Rattle.vc_model.specs.Best.{without_block_at}
-use Rattle.vc_model.specs.Touch.{HasBlock, change_block, find_block, rewritten, with_bytes_at}
+use Rattle.vc_model.specs.Touch.{HasBlock, change_block, find_block, rewritten_block, with_bytes_at}
 use Rattle.vc_seg.specs.Segment.{Bytes, pair_of}
 use Rattle.vc_extent.specs.Extent.{busy_extent}
 use Rattle.vc_extent.specs.Change.{write}
@@ -21,7 +21,7 @@ use Rattle.vc_best.proofs.Known.{cut-of}
 use Rattle.vc_best.proofs.Merges.{merged-one}
 use Rattle.vc_best.proofs.Sets.{merged-prop}
 
-addresses-written : (off : ℕ) (src : List ℕ) (at : ℕ × ℕ) (bs : List (Block ℕ)) → map address_of (change_block (rewritten off src) at bs) ≡ map address_of bs
+addresses-written : (off : ℕ) (src : List ℕ) (at : ℕ × ℕ) (bs : List (Block ℕ)) → map address_of (change_block (rewritten_block off src) at bs) ≡ map address_of bs
 addresses-written off src at [] = refl
 addresses-written off src at (b ∷ bs) =
     ⊎_elim

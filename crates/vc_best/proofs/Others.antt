@@ -5,9 +5,9 @@ use Rattle.std.specs.declared.result.Result.{Result}
 use Rattle.std.proofs.lemmas.Bool.{cases_Bool, and_from, eq-eqb}
 use Rattle.std.proofs.lemmas.List.Elements.{All-head, All-tail}
 use Rattle.vc_model.specs.Layout.{Block, Layout, is_at, lies_before, with_block, without_block}
-use Rattle.vc_model.specs.Touch.{HasBlock, with_bytes_at, change_block, find_block, rewritten}
+use Rattle.vc_model.specs.Touch.{HasBlock, with_bytes_at, change_block, find_block, rewritten_block}
 use Rattle.vc_model.specs.Best.{best_alloc, without_block_at, place_in, zeros}
-use Rattle.vc_model.specs.Resize.{sized}
+use Rattle.vc_model.specs.Resize.{sized_block}
 use Rattle.vc_model.specs.Addr.{place_of}
 use Rattle.vc_model.specs.Discipline.{Terms}
 use Rattle.vc_seg.specs.Answer.{IsPut}
@@ -26,11 +26,11 @@ changed f same at (b ∷ bs) =
     (λ e. rw e (rw e (ap (λ cs. b ∷ cs) (changed f same at bs))))
     (cases_Bool (is_at at b))
 
-pub others-write : (off : ℕ) (src : List ℕ) (at : ℕ × ℕ) (bs : List (Block ℕ)) → without_block at (change_block (rewritten off src) at bs) ≡ without_block at bs
-others-write off src at bs = changed (rewritten off src) (λ p b. refl) at bs
+pub others-write : (off : ℕ) (src : List ℕ) (at : ℕ × ℕ) (bs : List (Block ℕ)) → without_block at (change_block (rewritten_block off src) at bs) ≡ without_block at bs
+others-write off src at bs = changed (rewritten_block off src) (λ p b. refl) at bs
 
-pub others-sized : (size : ℕ) (at : ℕ × ℕ) (bs : List (Block ℕ)) → without_block at (change_block (sized size) at bs) ≡ without_block at bs
-others-sized size at bs = changed (sized size) (λ p b. refl) at bs
+pub others-sized : (size : ℕ) (at : ℕ × ℕ) (bs : List (Block ℕ)) → without_block at (change_block (sized_block size) at bs) ≡ without_block at bs
+others-sized size at bs = changed (sized_block size) (λ p b. refl) at bs
 
 -- one block more
 pub others-with : (at : ℕ × ℕ) (b : Block ℕ) (bs : List (Block ℕ)) → is_at at b ≡ true → All (λ c. is_at at c ≡ false) bs → without_block at (with_block b bs) ≡ bs
@@ -67,7 +67,7 @@ moved-found : (mid new : Layout ℕ) (a to : ℕ × ℕ) (size tag : ℕ) (o : O
 moved-found mid new a to size tag None label own = absurd (cc)
 moved-found mid new a to size tag (Some b) label own =
     ap (λ (r : Layout ℕ). without_block to r.blocks) own
-    ∙ (others-twice to a (change_block (rewritten 0 (take size b.bytes)) to mid.blocks)
+    ∙ (others-twice to a (change_block (rewritten_block 0 (take size b.bytes)) to mid.blocks)
     ∙ ap (without_block a) (others-write 0 (take size b.bytes) to mid.blocks))
 
 -- one block moves over another

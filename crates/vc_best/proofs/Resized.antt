@@ -9,9 +9,9 @@ use Rattle.std.proofs.lemmas.List.{append-nil, length-replicate, take_all}
 use Rattle.vc_model.specs.Addr.{place_of}
 use Rattle.vc_model.specs.Bytes.{with_bytes}
 use Rattle.vc_model.specs.Layout.{Block, Layout, is_at}
-use Rattle.vc_model.specs.Resize.{fitted, resize_there, sized}
+use Rattle.vc_model.specs.Resize.{fitted_bytes, resize_there, sized_block}
 use Rattle.vc_model.specs.Segments.{span}
-use Rattle.vc_model.specs.Touch.{change_block, find_block, rewritten}
+use Rattle.vc_model.specs.Touch.{change_block, find_block, rewritten_block}
 use Rattle.vc_seg.specs.Segment.{Bytes, pair_of}
 use Rattle.vc_extent.specs.Extent.{Extent, busy_extent}
 use Rattle.vc_extent.specs.Change.{extent_in}
@@ -52,7 +52,7 @@ change-as f h at (c ∷ cs) b found e =
     (cases_Bool (is_at at c))
 
 -- zeros behind the bytes that stay
-filled-bytes : (size own : ℕ) (old new : List ℕ) → length old ≡ own → length new ≡ size → own < size → take own new ≡ take own old → with_bytes own (replicate (size - own) 0) new ≡ fitted size old
+filled-bytes : (size own : ℕ) (old new : List ℕ) → length old ≡ own → length new ≡ size → own < size → take own new ≡ take own old → with_bytes own (replicate (size - own) 0) new ≡ fitted_bytes size old
 filled-bytes size own old new lo ln lt kept =
     let long = length-replicate {A = ℕ} (size - own) 0 in
     let none : drop (own + length (replicate {A = ℕ} (size - own) 0)) new ≡ [] = drop_of_length-le new {i = own + length (replicate {A = ℕ} (size - own) 0)} (omega (arith, long, ln, lt)) in
@@ -62,10 +62,10 @@ filled-bytes size own old new lo ln lt kept =
     let zs : List ℕ = replicate (size - own) 0 in
     let one : with_bytes own zs new ≡ old ++ zs =
     ap (λ (bs : List ℕ). (bs ++ zs) ++ drop (own + length zs) new) front ∙ (ap (λ (bs : List ℕ). (old ++ zs) ++ bs) none ∙ append-nil (old ++ zs)) in
-    let two : old ++ zs ≡ fitted size old = rw whole (ap (λ (n : ℕ). old ++ replicate n 0) count) in
+    let two : old ++ zs ≡ fitted_bytes size old = rw whole (ap (λ (n : ℕ). old ++ replicate n 0) count) in
     one ∙ two
 
-cut-bytes : (size own : ℕ) (old new : List ℕ) → length old ≡ own → length new ≡ size → size ≤ own → take size new ≡ take size old → new ≡ fitted size old
+cut-bytes : (size own : ℕ) (old new : List ℕ) → length old ≡ own → length new ≡ size → size ≤ own → take size new ≡ take size old → new ≡ fitted_bytes size old
 cut-bytes size own old new lo ln le kept =
     let none : size - length old ≡ 0 = omega (arith, lo, le) in
     let whole : take size new ≡ new = take_all size new (omega (arith, ln)) in
@@ -121,20 +121,20 @@ module _ (old new : List Bytes) (i j : List ℕ) (a size : ℕ) (body : List ℕ
   there-cut len le kept =
       let e = extent_of (tiling old) a in
       let b = block_of (place_of a).0 e in
-      let same : body ≡ fitted size e.body = cut-bytes size e.size e.body body long len le kept in
+      let same : body ≡ fitted_bytes size e.body = cut-bytes size e.size e.body body long len le kept in
       moved-layout
       ∙ ap (λ (bs : List (Block ℕ)). record { segments = (layout_by old).segments; blocks = bs })
-      (change-as (λ b. record b { size = size; bytes = body }) (sized size) (place_of a) (layout_by old).blocks b found (ap (λ (bs : List ℕ). record b { size = size; bytes = bs }) same))
+      (change-as (λ b. record b { size = size; bytes = body }) (sized_block size) (place_of a) (layout_by old).blocks b found (ap (λ (bs : List ℕ). record b { size = size; bytes = bs }) same))
 
   -- where it has more, which are filled with zeros
-  pub there-filled : (r : Layout ℕ) → r ≡ record { segments = (layout_by new).segments; blocks = change_block (rewritten (extent_of (tiling old) a).size (replicate (size - (extent_of (tiling old) a).size) 0)) (place_of a) (layout_by new).blocks } →
+  pub there-filled : (r : Layout ℕ) → r ≡ record { segments = (layout_by new).segments; blocks = change_block (rewritten_block (extent_of (tiling old) a).size (replicate (size - (extent_of (tiling old) a).size) 0)) (place_of a) (layout_by new).blocks } →
       length body ≡ size → (extent_of (tiling old) a).size < size → take (extent_of (tiling old) a).size body ≡ take (extent_of (tiling old) a).size (extent_of (tiling old) a).body → r ≡ resize_there (layout_by old) (place_of a) size
   there-filled r e1 len lt kept =
       let e = extent_of (tiling old) a in
       let b = block_of (place_of a).0 e in
-      let fill : Block ℕ → Block ℕ = rewritten e.size (replicate (size - e.size) 0) in
-      let same : with_bytes e.size (replicate (size - e.size) 0) body ≡ fitted size e.body = filled-bytes size e.size e.body body long len lt kept in
+      let fill : Block ℕ → Block ℕ = rewritten_block e.size (replicate (size - e.size) 0) in
+      let same : with_bytes e.size (replicate (size - e.size) 0) body ≡ fitted_bytes size e.body = filled-bytes size e.size e.body body long len lt kept in
       e1
       ∙ (ap (λ (s : Layout ℕ). record { segments = s.segments; blocks = change_block fill (place_of a) s.blocks }) moved-layout
       ∙ ap (λ (bs : List (Block ℕ)). record { segments = (layout_by old).segments; blocks = bs })
-      (change-twice (λ b. record b { size = size; bytes = body }) fill (sized size) (λ at b. refl) (place_of a) (layout_by old).blocks b found (ap (λ (bs : List ℕ). record b { size = size; bytes = bs }) same)))
+      (change-twice (λ b. record b { size = size; bytes = body }) fill (sized_block size) (λ at b. refl) (place_of a) (layout_by old).blocks b found (ap (λ (bs : List ℕ). record b { size = size; bytes = bs }) same)))

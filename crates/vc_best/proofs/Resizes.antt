@@ -10,7 +10,7 @@ use Rattle.vc_model.specs.Touch.{HasBlock, find_block, with_bytes_at}
 use Rattle.vc_model.specs.Discipline.{Terms}
 use Rattle.vc_model.specs.Outcome.{Outcome, Done, Refused, Put, Fault, Fixed}
 use Rattle.vc_model.specs.Best.{best_alloc, best_need, without_block_at, place_in, put, put_at, put_in_new, put_or_ask, zeros}
-use Rattle.vc_model.specs.Resize.{best_resize, can_stay, moved, resize_found, resize_there}
+use Rattle.vc_model.specs.Resize.{best_resize, can_stay, outcome_of_move, resize_found, resize_there}
 use Rattle.vc_model.specs.Addr.{address, place_of}
 use Rattle.vc_seg.specs.declared.fault.RegionFault.{RegionFault}
 use Rattle.vc_seg.specs.declared.fault.RegionFault.TheVariants as code
@@ -168,7 +168,7 @@ pub resize-fixed : (terms : Terms) (r : Layout ℕ) (at : ℕ × ℕ) (size : �
     best_resize terms r at size may_move refused ≡ Refused Fixed
 resize-fixed terms r at size may_move refused e may = fixed-found terms r size may_move refused (find_block at r.blocks) e may
 
-moved-put : (size to : ℕ) (b : Block ℕ) (x : Outcome (Put (Layout ℕ))) (mid new : Layout ℕ) → IsPut x to mid → new ≡ without_block_at (with_bytes_at mid (place_of to) 0 (take size b.bytes)) (b.seg, b.off) → IsPut (moved size b x) to new
+moved-put : (size to : ℕ) (b : Block ℕ) (x : Outcome (Put (Layout ℕ))) (mid new : Layout ℕ) → IsPut x to mid → new ≡ without_block_at (with_bytes_at mid (place_of to) 0 (take size b.bytes)) (b.seg, b.off) → IsPut (outcome_of_move size b x) to new
 moved-put size to b (Done p) mid new h e =
     (h.0, h.1, e ∙ (ap (λ (at : ℕ × ℕ). without_block_at (with_bytes_at mid at 0 (take size b.bytes)) (b.seg, b.off)) (sym h.1) ∙ ap (λ (q : Layout ℕ). without_block_at (with_bytes_at q p.at 0 (take size b.bytes)) (b.seg, b.off)) h.2))
 moved-put size to b (Refused why) mid new h e = absurd h
@@ -200,7 +200,7 @@ module _ (terms : Terms) (r : Layout ℕ) (a size tag : ℕ) (may_move : Bool) (
   refused-found refused why (Some b) e l h =
       let can : can_stay r size b ≡ false = cc in
       let label : b.label ≡ tag = cc in
-      rw (can, may) (ap (moved size b) (ap (λ k. best_alloc terms r k size 32 refused) label ∙ h))
+      rw (can, may) (ap (outcome_of_move size b) (ap (λ k. best_alloc terms r k size 32 refused) label ∙ h))
 
   pub resize-refused : (e : RegionFault) → option_map (can_stay r size) (find_block (place_of a) r.blocks) ≡ Some false → option_map (λ b. b.label) (find_block (place_of a) r.blocks) ≡ Some tag →
       IsRefusal (best_alloc terms r tag size 32) e → IsRefusal (best_resize terms r (place_of a) size may_move) e

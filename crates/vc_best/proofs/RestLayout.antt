@@ -4,19 +4,19 @@ use Rattle.std.specs.Prelude.{not, sum}
 use Rattle.std.specs.List.{list_all}
 use Rattle.std.proofs.lemmas.List.{length-map}
 use Rattle.vc_model.specs.Best.{best_alloc, best_need, place_in, put, put_at, put_in_new, put_or_ask, zeros}
-use Rattle.vc_model.specs.Compact.{compact_count, compacted, is_occupied}
+use Rattle.vc_model.specs.Compact.{compact_count, compacted_layout, is_occupied}
 use Rattle.vc_model.specs.Discipline.{Terms}
 use Rattle.vc_model.specs.Gap.{Run, bytes_of, gaps}
 use Rattle.vc_model.specs.Layout.{Block, Layout, footprint, is_at, with_block, with_segment}
 use Rattle.vc_model.specs.Numbers.{gaps_of, greatest, segment_bytes, segment_count}
 use Rattle.vc_model.specs.Outcome.{Done, outcome_as}
 use Rattle.vc_model.specs.Place.{place}
-use Rattle.vc_model.specs.Resize.{can_stay, is_usable, meets, sized, stays}
+use Rattle.vc_model.specs.Resize.{can_stay, is_usable, meets, sized_block, stays}
 use Rattle.vc_model.specs.Segments.{Asked, Granted, TooMany, NotLent, ask}
 use Rattle.vc_model.specs.Touch.{find_block}
 use Rattle.vc_seg.specs.Stat.{layout_stat}
 use Rattle.vc_seg.specs.declared.stat.Stat.{Stat}
-use Rattle.vc_best.specs.Cells.{zeroed, zeroed_layout}
+use Rattle.vc_best.specs.Cells.{block_shown, zeroed_layout}
 use Rattle.vc_best.proofs.RestBlocks.{change_block-labelled, footprints-zeroed, sizes-zeroed, with_block-zeroed, zeroed-zeros}
 
 abbrev pub layout : List (ℕ × ℕ) → List (Block ℕ) → Layout ℕ
@@ -25,7 +25,7 @@ layout segments blocks = record { segments = segments; blocks = blocks }
 put_at-zeroed : (r : Layout ℕ) (label size : ℕ) (granted : Option (ℕ × ℕ)) (at : ℕ × ℕ) → put_at (zeroed_layout r) label size granted at ≡ outcome_as zeroed_layout (put_at r label size granted at)
 put_at-zeroed r label size granted at =
     ap (λ bs. Done (record { at = at; region = layout r.segments bs; granted = granted }))
-    (ap (λ b. with_block b (map zeroed r.blocks)) (sym (zeroed-zeros label size at)) ∙ sym (with_block-zeroed (zeros label size at) r.blocks))
+    (ap (λ b. with_block b (map block_shown r.blocks)) (sym (zeroed-zeros label size at)) ∙ sym (with_block-zeroed (zeros label size at) r.blocks))
 
 place_in-zeroed : (r : Layout ℕ) (size align : ℕ) → place_in (zeroed_layout r) size align ≡ place_in r size align
 place_in-zeroed r size align = ap (λ fs. place r.segments fs size align) (footprints-zeroed r.blocks)
@@ -51,32 +51,32 @@ best_alloc-zeroed terms r label size align refused =
     ∙ put_or_ask-zeroed terms r label size align refused (place_in r size align)
 
 is_clear-zeroed : (size : ℕ) (b : Block ℕ) (cs : List (Block ℕ)) →
-    list_all (λ (c : Block ℕ). is_at (b.seg, b.off) c || not (meets (footprint (sized size b)) (footprint c))) (map zeroed cs)
-    ≡ list_all (λ (c : Block ℕ). is_at (b.seg, b.off) c || not (meets (footprint (sized size b)) (footprint c))) cs
+    list_all (λ (c : Block ℕ). is_at (b.seg, b.off) c || not (meets (footprint (sized_block size b)) (footprint c))) (map block_shown cs)
+    ≡ list_all (λ (c : Block ℕ). is_at (b.seg, b.off) c || not (meets (footprint (sized_block size b)) (footprint c))) cs
 is_clear-zeroed size b [] = refl
-is_clear-zeroed size b (c ∷ cs) = ap (λ v. (is_at (b.seg, b.off) c || not (meets (footprint (sized size b)) (footprint c))) && v) (is_clear-zeroed size b cs)
+is_clear-zeroed size b (c ∷ cs) = ap (λ v. (is_at (b.seg, b.off) c || not (meets (footprint (sized_block size b)) (footprint c))) && v) (is_clear-zeroed size b cs)
 
 pub can_stay-zeroed : (r : Layout ℕ) (size : ℕ) (b : Block ℕ) → can_stay (zeroed_layout r) size b ≡ can_stay r size b
-can_stay-zeroed r size b = ap (λ v. is_usable r.segments (footprint (sized size b)) && v) (is_clear-zeroed size b r.blocks)
+can_stay-zeroed r size b = ap (λ v. is_usable r.segments (footprint (sized_block size b)) && v) (is_clear-zeroed size b r.blocks)
 
 pub stays-zeroed : (r : Layout ℕ) (size : ℕ) (b : Block ℕ) → find_block (b.seg, b.off) r.blocks ≡ Some b → b.label ≢ 0 → stays (zeroed_layout r) size b ≡ outcome_as zeroed_layout (stays r size b)
 stays-zeroed r size b found labelled =
     ap (λ bs. Done (record { at = (b.seg, b.off); region = layout r.segments bs; granted = None }))
-    (sym (change_block-labelled (sized size) (λ c. refl) (b.seg, b.off) r.blocks b found labelled))
+    (sym (change_block-labelled (sized_block size) (λ c. refl) (b.seg, b.off) r.blocks b found labelled))
 
-is_occupied-zeroed : (number : ℕ) (bs : List (Block ℕ)) → is_occupied (map zeroed bs) number ≡ is_occupied bs number
+is_occupied-zeroed : (number : ℕ) (bs : List (Block ℕ)) → is_occupied (map block_shown bs) number ≡ is_occupied bs number
 is_occupied-zeroed number [] = refl
 is_occupied-zeroed number (b ∷ bs) = ap (λ v. eqb b.seg number || v) (is_occupied-zeroed number bs)
 
-occupied-zeroed : (bs : List (Block ℕ)) (ss : List (ℕ × ℕ)) → filter (λ s. is_occupied (map zeroed bs) s.0) ss ≡ filter (λ s. is_occupied bs s.0) ss
+occupied-zeroed : (bs : List (Block ℕ)) (ss : List (ℕ × ℕ)) → filter (λ s. is_occupied (map block_shown bs) s.0) ss ≡ filter (λ s. is_occupied bs s.0) ss
 occupied-zeroed bs [] = refl
 occupied-zeroed bs (s ∷ ss) =
-    let rest = filter (λ (t : ℕ × ℕ). is_occupied (map zeroed bs) t.0) ss in
+    let rest = filter (λ (t : ℕ × ℕ). is_occupied (map block_shown bs) t.0) ss in
     ap (λ v. cond v (s ∷ rest) rest) (is_occupied-zeroed s.0 bs)
     ∙ ap (λ ts. cond (is_occupied bs s.0) (s ∷ ts) ts) (occupied-zeroed bs ss)
 
-pub compacted-zeroed : (r : Layout ℕ) → compacted (zeroed_layout r) ≡ zeroed_layout (compacted r)
-compacted-zeroed r = ap (λ ss. layout ss (map zeroed r.blocks)) (occupied-zeroed r.blocks r.segments)
+pub compacted-zeroed : (r : Layout ℕ) → compacted_layout (zeroed_layout r) ≡ zeroed_layout (compacted_layout r)
+compacted-zeroed r = ap (λ ss. layout ss (map block_shown r.blocks)) (occupied-zeroed r.blocks r.segments)
 
 pub compact_count-zeroed : (r : Layout ℕ) → compact_count (zeroed_layout r) ≡ compact_count r
 compact_count-zeroed r = ap (λ ss. length r.segments - length ss) (occupied-zeroed r.blocks r.segments)
@@ -100,6 +100,6 @@ unfolding numbers
 layout_stat-zeroed r =
     let with = numbers (segment_count r) (segment_bytes r) in
     let sizes : List (Block ℕ) → List ℕ = λ bs. map (λ b. b.size) bs in
-    ap (λ n. with n (sizes (map zeroed r.blocks)) (gaps_of (zeroed_layout r))) (length-map r.blocks zeroed)
+    ap (λ n. with n (sizes (map block_shown r.blocks)) (gaps_of (zeroed_layout r))) (length-map r.blocks block_shown)
     ∙ (ap (λ ns. with (length r.blocks) ns (gaps_of (zeroed_layout r))) (sizes-zeroed r.blocks)
     ∙ ap (λ fs. with (length r.blocks) (sizes r.blocks) (gaps r.segments fs)) (footprints-zeroed r.blocks))

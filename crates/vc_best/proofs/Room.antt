@@ -10,7 +10,7 @@ use Rattle.std.proofs.lemmas.List.Elements.{All-append, All-cons, All-head, All-
 use Rattle.vc_model.specs.Addr.{place_of}
 use Rattle.vc_model.specs.Gap.{Run}
 use Rattle.vc_model.specs.Layout.{Block, footprint, is_at}
-use Rattle.vc_model.specs.Resize.{can_stay, is_usable, meets, sized}
+use Rattle.vc_model.specs.Resize.{can_stay, is_usable, meets, sized_block}
 use Rattle.vc_model.specs.Segments.{span}
 use Rattle.vc_seg.specs.Segment.{Bytes, pair_of}
 use Rattle.vc_layouts.proofs.Lists.{AllPairs-head, AllPairs-tail}
@@ -113,7 +113,7 @@ lies-drop stop at (x ∷ xs) ys first m h = let span = h.0.legal.multiple in lie
 -- the block of an extent with another size, against all blocks
 module _ (n size : ℕ) (e : Extent) where
   abbrev wide : Run
-  wide = footprint (sized size (block_of n e))
+  wide = footprint (sized_block size (block_of n e))
 
   abbrev passes : Block ℕ → Bool
   passes c = is_at (n, e.off) c || not (meets wide (footprint c))

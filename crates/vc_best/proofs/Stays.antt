@@ -5,9 +5,9 @@ use Rattle.std.proofs.lemmas.Bool.{cases_Bool, le-leb, leb-true}
 use Rattle.vc_model.specs.Addr.{place_of}
 use Rattle.vc_model.specs.Best.{without_block_at}
 use Rattle.vc_model.specs.Layout.{Block, Layout}
-use Rattle.vc_model.specs.Resize.{can_stay, resize_there, sized}
+use Rattle.vc_model.specs.Resize.{can_stay, resize_there, sized_block}
 use Rattle.vc_model.specs.Segments.{span}
-use Rattle.vc_model.specs.Touch.{HasBlock, find_block, rewritten, with_bytes_at}
+use Rattle.vc_model.specs.Touch.{HasBlock, find_block, rewritten_block, with_bytes_at}
 use Rattle.vc_seg.specs.Segment.{Bytes}
 use Rattle.vc_extent.specs.Tiling.{AreExtents, extent_of, tiling}
 use Rattle.vc_layouts.proofs.Blocks.{All-change, All-without}
@@ -55,8 +55,8 @@ module _ (segs : List Bytes) (index : List ℕ) (a : ℕ) (k : ∥ AreExtents se
         let P : Block ℕ → Type 0 = λ b. b.size ≤ 16777264 in
         let src = take size (extent_of (tiling segs) a).body in
         subst (λ (r : Layout ℕ). AreMost r.blocks) (sym is)
-        (All-without P (place_of a) (with_bytes_at (layout_by segs) to 0 src).blocks (All-change P (rewritten 0 src) (λ b h. h) to (layout_by segs).blocks most))
+        (All-without P (place_of a) (with_bytes_at (layout_by segs) to 0 src).blocks (All-change P (rewritten_block 0 src) (λ b h. h) to (layout_by segs).blocks most))
 
 pub most-sized : (r s : Layout ℕ) (at : ℕ × ℕ) (size : ℕ) → s ≡ resize_there r at size → size ≤ 16777264 → AreMost r.blocks → AreMost s.blocks
 most-sized r s at size e large most =
-    subst (λ (l : Layout ℕ). AreMost l.blocks) (sym e) (All-change (λ (b : Block ℕ). b.size ≤ 16777264) (sized size) (λ b h. large) at r.blocks most)
+    subst (λ (l : Layout ℕ). AreMost l.blocks) (sym e) (All-change (λ (b : Block ℕ). b.size ≤ 16777264) (sized_block size) (λ b h. large) at r.blocks most)

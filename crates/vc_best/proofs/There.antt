@@ -7,8 +7,8 @@ use Rattle.vc_model.specs.Addr.{address, place_of}
 use Rattle.vc_model.specs.Best.{without_block_at, zeros}
 use Rattle.vc_model.specs.Discipline.{Terms}
 use Rattle.vc_model.specs.Layout.{Block, Layout, is_at, without_block}
-use Rattle.vc_model.specs.Resize.{sized}
-use Rattle.vc_model.specs.Touch.{HasBlock, change_block, find_block, rewritten, with_bytes_at}
+use Rattle.vc_model.specs.Resize.{sized_block}
+use Rattle.vc_model.specs.Touch.{HasBlock, change_block, find_block, rewritten_block, with_bytes_at}
 use Rattle.vc_base.specs.declared.addr.Addr.{Addr}
 use Rattle.vc_seg.specs.declared.fault.RegionFault.{RegionFault}
 use Rattle.vc_best.specs.Standing.{IsPutByAsking, IsPutInGap}
@@ -39,8 +39,8 @@ changed f same label at (b ∷ bs) =
     (λ e. rw e (rw e (changed f same label at bs)))
     (cases_Bool (is_at at b))
 
-pub there-sized : (size : ℕ) (at : ℕ × ℕ) (bs : List (Block ℕ)) → label_of (find_block at (change_block (sized size) at bs)) ≡ label_of (find_block at bs)
-there-sized size at bs = changed (sized size) (λ p b. refl) (λ b. refl) at bs
+pub there-sized : (size : ℕ) (at : ℕ × ℕ) (bs : List (Block ℕ)) → label_of (find_block at (change_block (sized_block size) at bs)) ≡ label_of (find_block at bs)
+there-sized size at bs = changed (sized_block size) (λ p b. refl) (λ b. refl) at bs
 
 -- a block goes that stands elsewhere
 find-without : (p q : ℕ × ℕ) → p ≢ q → (bs : List (Block ℕ)) → find_block q (without_block p bs) ≡ find_block q bs
@@ -61,8 +61,8 @@ own-moved mid new a to size tag differ None label own there = absurd (cc)
 own-moved mid new a to size tag differ (Some b) label own there =
     let src = take size b.bytes in
     ap (λ (r : Layout ℕ). label_of (find_block to r.blocks)) own
-    ∙ (ap label_of (find-without a to differ (change_block (rewritten 0 src) to mid.blocks))
-    ∙ (changed (rewritten 0 src) (λ p c. refl) (λ c. refl) to mid.blocks ∙ there))
+    ∙ (ap label_of (find-without a to differ (change_block (rewritten_block 0 src) to mid.blocks))
+    ∙ (changed (rewritten_block 0 src) (λ p c. refl) (λ c. refl) to mid.blocks ∙ there))
 
 -- a block that moved to where one was put
 pub there-moved : (mid new old : Layout ℕ) (a to size tag : ℕ) → HasBlock old.blocks a → ¬ HasBlock old.blocks to → find_block (place_of a) mid.blocks ≡ find_block (place_of a) old.blocks → label_of (find_block (place_of a) old.blocks) ≡ Some tag →
@@ -73,7 +73,7 @@ there-moved mid new old a to size tag live fresh same label own there =
     own-moved mid new (place_of a) (place_of to) size tag differ (find_block (place_of a) mid.blocks) (ap label_of same ∙ label) own (ap label_of there) ∙ sym label
 
 -- a block that got another size where it is
-pub size-sized : {X : Type 0} (f : Block ℕ → X) (x : X) (size : ℕ) (at : ℕ × ℕ) (bs : List (Block ℕ)) → option_map f (find_block at bs) ≡ Some x → option_map (λ b. b.size) (find_block at (change_block (sized size) at bs)) ≡ Some size
+pub size-sized : {X : Type 0} (f : Block ℕ → X) (x : X) (size : ℕ) (at : ℕ × ℕ) (bs : List (Block ℕ)) → option_map f (find_block at bs) ≡ Some x → option_map (λ b. b.size) (find_block at (change_block (sized_block size) at bs)) ≡ Some size
 size-sized f x size at [] some = absurd (cc)
 size-sized f x size at (b ∷ bs) some =
     ⊎_elim
@@ -82,7 +82,7 @@ size-sized f x size at (b ∷ bs) some =
     (cases_Bool (is_at at b))
 
 -- other bytes leave the sizes
-size-rewritten : (src : List ℕ) (at : ℕ × ℕ) (bs : List (Block ℕ)) → option_map (λ b. b.size) (find_block at (change_block (rewritten 0 src) at bs)) ≡ option_map (λ b. b.size) (find_block at bs)
+size-rewritten : (src : List ℕ) (at : ℕ × ℕ) (bs : List (Block ℕ)) → option_map (λ b. b.size) (find_block at (change_block (rewritten_block 0 src) at bs)) ≡ option_map (λ b. b.size) (find_block at bs)
 size-rewritten src at [] = refl
 size-rewritten src at (b ∷ bs) =
     ⊎_elim
@@ -97,7 +97,7 @@ size-gone mid new a to size tag differ (Some b) label own there =
     let src = take size b.bytes in
     let sizes : Option (Block ℕ) → Option ℕ = λ o. option_map (λ c. c.size) o in
     ap (λ (r : Layout ℕ). sizes (find_block to r.blocks)) own
-    ∙ (ap sizes (find-without a to differ (change_block (rewritten 0 src) to mid.blocks))
+    ∙ (ap sizes (find-without a to differ (change_block (rewritten_block 0 src) to mid.blocks))
     ∙ (size-rewritten src to mid.blocks ∙ ap sizes there))
 
 -- a block that moved to where one was put has the size of that one

@@ -25,12 +25,12 @@ abbrev pub without_cell : ℕ → Blocks → Blocks
 without_cell at blocks = λ a. if a == at then None else blocks a
 
 -- a block that shows zeros where it is unlabelled
-abbrev pub zeroed : Block ℕ → Block ℕ
-zeroed b = record b { bytes = if is_unlabelled b then replicate b.size 0 else b.bytes }
+abbrev pub block_shown : Block ℕ → Block ℕ
+block_shown b = record b { bytes = if is_unlabelled b then replicate b.size 0 else b.bytes }
 
 -- a layout but for the bytes of its unlabelled blocks
 abbrev pub zeroed_layout : Layout ℕ → Layout ℕ
-zeroed_layout r = record { segments = r.segments; blocks = map zeroed r.blocks }
+zeroed_layout r = record { segments = r.segments; blocks = map block_shown r.blocks }
 
 -- its labelled blocks, those of a tag from 1 on
 abbrev pub labelled_blocks : Layout ℕ → List (Block ℕ)

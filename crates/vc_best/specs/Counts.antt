@@ -15,8 +15,8 @@ abbrev pub free_spans : List Extent → List ℕ
 free_spans es = map (λ e. e.span) (filter is_free es)
 
 -- the counts with more extents
-abbrev pub counted : Counts → List Extent → Counts
-counted c es =
+abbrev pub counts_with : Counts → List Extent → Counts
+counts_with c es =
     record {
       blocks = tallied_all c.blocks (busy_sizes es);
       gaps = tallied_all c.gaps (free_spans es);

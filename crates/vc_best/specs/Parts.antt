@@ -2,7 +2,7 @@
 use Rattle.std.specs.Prelude.{ℕ, List}
 use Rattle.vc_model.specs.Discipline.{Discipline}
 use Rattle.vc_model.specs.Layout.{Block, Layout}
-use Rattle.vc_seg.specs.Boxed.{boxed}
+use Rattle.vc_seg.specs.Boxed.{disc_in_box}
 use Rattle.vc_best.specs.Blocks.{layout_by}
 use Rattle.vc_best.specs.declared.best.Best.{Best}
 
@@ -20,4 +20,4 @@ blocks_in b = (layout_of b).blocks
 
 -- what the discipline means that lends its segments
 abbrev pub disc_in : {I : Type 0} {V : I → Type 0} → ((x : I) × V x → Discipline) → Best I V → Discipline
-disc_in meaning b = boxed meaning b.disc
+disc_in meaning b = disc_in_box meaning b.disc

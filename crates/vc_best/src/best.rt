@@ -2,7 +2,7 @@ ghost use Rattle.std.specs.Prelude.{◌≡◌, ℕ, ◌+◌, ◌≤◌, ◌<◌,
 ghost use Rattle.std.specs.List.{HoldsAt, remove};
 ghost use Rattle.vc_model.specs.Addr.{place_of};
 ghost use Rattle.vc_model.specs.Best.{best_alloc, best_need, without_block_at, zeros};
-ghost use Rattle.vc_model.specs.Compact.{cleared, compact_count, compacted};
+ghost use Rattle.vc_model.specs.Compact.{cleared_layout, compact_count, compacted_layout};
 ghost use Rattle.vc_model.specs.Discipline.{HasOut, TookBack};
 ghost use Rattle.vc_model.specs.Layout.{address_of, empty_layout, without_block};
 ghost use Rattle.vc_model.specs.Place.{IsAlign};
@@ -157,7 +157,7 @@ impl Best {
 
     /// Frees all its blocks, and keeps its segments.
     pub fn clear<L>(&mut self, steps: &mut Steps<L>)
-        ensures layout { layout_of self.new ≡ cleared (layout_of self.old) }
+        ensures layout { layout_of self.new ≡ cleared_layout (layout_of self.old) }
         ensures disc { state self.new.disc ≡ state self.old.disc }
     {
         clear(&mut self.extents, &mut self.root, steps);
@@ -167,7 +167,7 @@ impl Best {
     /// Gives back each segment without a block, in ascending order of number, and answers how many those were.
     pub fn compact<L>(&mut self, steps: &mut Steps<L>) -> u32
         requires { HasOut (state self.old.disc) (segments_in self.old) }
-        ensures layout { layout_of self.new ≡ compacted (layout_of self.old) }
+        ensures layout { layout_of self.new ≡ compacted_layout (layout_of self.old) }
         ensures count { result ≡ compact_count (layout_of self.old) }
         ensures disc { TookBack (state self.old.disc) (state self.new.disc)
             (segments_in self.old) (segments_in self.new) }

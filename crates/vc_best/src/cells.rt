@@ -1,5 +1,5 @@
 ghost use Rattle.std.specs.Prelude.{◌≡◌, ℕ, ◌+◌, ◌*◌, ◌<◌, length};
-ghost use Rattle.vc_base.specs.Cells.{HasBytes, body_of, bytes_at, stored, with_body, word_at};
+ghost use Rattle.vc_base.specs.Cells.{HasBytes, body_of, bytes_at, with_number, with_body, word_at};
 ghost use Rattle.vc_best.specs.Cells.{StaysButCells, cells_in};
 ghost use Rattle.vc_best.specs.CellLaws.{cells-addresses, stays-after, stays-same};
 
@@ -19,7 +19,7 @@ fn word_in(best: &Best, at: Addr, k: u32) -> u64
 // Writes word k of the unlabelled block at that address.
 fn set_word(best: &mut Best, at: Addr, k: u32, v: u64)
     requires { HasBytes (cells_in best.old) at.0 (8 * k + 8) }
-    ensures blocks { cells_in best.new ≡ stored at.0 k v (cells_in best.old) }
+    ensures blocks { cells_in best.new ≡ with_number at.0 k v (cells_in best.old) }
     ensures rest { StaysButCells best.old best.new }
 {
     best.write(at, 8 * k, &v.to_le_bytes());
@@ -38,7 +38,7 @@ impl Cells for Best {
     fn store(&mut self, at: Addr, k: u32, v: u64)
         requires word { k < 4 }
         requires place { HasBytes (cells_in self.old) at.0 (8 * k + 8) }
-        ensures blocks { cells_in self.new ≡ stored at.0 k v (cells_in self.old) }
+        ensures blocks { cells_in self.new ≡ with_number at.0 k v (cells_in self.old) }
         ensures rest { StaysButCells self.old self.new }
     {
         set_word(self, at, k, v);
@@ -50,7 +50,7 @@ impl Cells for Best {
 
     fn set_slot(&mut self, at: Addr, k: u32, v: u64)
         requires { HasBytes (cells_in self.old) at.0 (8 * k + 8) }
-        ensures blocks { cells_in self.new ≡ stored at.0 k v (cells_in self.old) }
+        ensures blocks { cells_in self.new ≡ with_number at.0 k v (cells_in self.old) }
         ensures rest { StaysButCells self.old self.new }
     {
         set_word(self, at, k, v);

@@ -1,5 +1,5 @@
 ghost use Rattle.std.specs.Prelude.{◌≡◌, ℕ, ◌+◌, ◌↔◌, [], IsTrue, length, map};
-ghost use Rattle.vc_model.specs.Compact.{cleared, compact_count, compacted};
+ghost use Rattle.vc_model.specs.Compact.{cleared_layout, compact_count, compacted_layout};
 ghost use Rattle.vc_model.specs.Discipline.{HasOut, TookBack};
 ghost use Rattle.vc_seg.specs.Segment.{pair_of};
 ghost use Rattle.vc_extent.specs.Change.{IsOneFree, one_free};
@@ -56,7 +56,7 @@ pub(crate) fn compact(extents: &mut Extents, root: &mut Addr, disc: &mut Box<dyn
     requires kept { AreKept extents.old.segs.items root.old.0 }
     requires out { HasOut (state disc.old) (map pair_of extents.old.segs.items) }
     ensures layout { layout_by extents.new.segs.items
-        ≡ compacted (layout_by extents.old.segs.items) }
+        ≡ compacted_layout (layout_by extents.old.segs.items) }
     ensures kept { AreKept extents.new.segs.items root.new.0 }
     ensures count { result ≡ compact_count (layout_by extents.old.segs.items) }
     ensures disc { TookBack (state disc.old) (state disc.new)
@@ -86,7 +86,7 @@ fn clear_one<L>(extents: &mut Extents, root: &mut Addr, number: u32, steps: &mut
 
 /// Makes each segment one free extent.
 pub(crate) fn clear<L>(extents: &mut Extents, root: &mut Addr, steps: &mut Steps<L>)
-    ensures layout { layout_by extents.new.segs.items ≡ cleared (layout_by extents.old.segs.items) }
+    ensures layout { layout_by extents.new.segs.items ≡ cleared_layout (layout_by extents.old.segs.items) }
     ensures kept { AreKept extents.new.segs.items root.new.0 }
 {
     *root = Addr::NONE;

@@ -4,7 +4,7 @@ ghost use Rattle.vc_seg.specs.Stat.{layout_stat};
 ghost use Rattle.vc_extent.specs.Tiling.{IsNamed, IsThere, extent_of, extents_of, tiling};
 ghost use Rattle.vc_layouts.specs.Tally.{HasRoom, tally_of};
 ghost use Rattle.vc_best.specs.Blocks.{layout_by};
-ghost use Rattle.vc_best.specs.Counts.{HaveRoom, all_extents, counted, no_counts};
+ghost use Rattle.vc_best.specs.Counts.{HaveRoom, all_extents, counts_with, no_counts};
 ghost use Rattle.vc_best.specs.Free.{IsMerged};
 
 use vc_base::{Addr, Steps};
@@ -23,7 +23,7 @@ struct Counts {
 fn count_extent<L>(extents: &Extents, counts: Counts, a: Addr, steps: &mut Steps<L>) -> Counts
     requires named { IsNamed (tiling extents.now.segs.items) a.0 }
     requires room { HaveRoom counts (extent_of (tiling extents.now.segs.items) a.0 ∷ []) }
-    ensures { result ≡ counted counts (extent_of (tiling extents.now.segs.items) a.0 ∷ []) }
+    ensures { result ≡ counts_with counts (extent_of (tiling extents.now.segs.items) a.0 ∷ []) }
 {
     let size = extents.size_at(a);
     if size == 0 {
@@ -43,7 +43,7 @@ fn count_extent<L>(extents: &Extents, counts: Counts, a: Addr, steps: &mut Steps
 fn count_segment<L>(extents: &Extents, counts: Counts, seg: u32, steps: &mut Steps<L>) -> Counts
     requires there { IsThere seg extents.now.segs.items }
     requires room { HaveRoom counts (extents_of seg (tiling extents.now.segs.items)) }
-    ensures { result ≡ counted counts (extents_of seg (tiling extents.now.segs.items)) }
+    ensures { result ≡ counts_with counts (extents_of seg (tiling extents.now.segs.items)) }
 {
     let mut counts = counts;
     let mut next = Some(extents.first(seg));
@@ -57,7 +57,7 @@ fn count_segment<L>(extents: &Extents, counts: Counts, seg: u32, steps: &mut Ste
 /// All extents, counted.
 fn count_all<L>(extents: &Extents, steps: &mut Steps<L>) -> Counts
     requires room { HaveRoom no_counts (all_extents (tiling extents.now.segs.items)) }
-    ensures { result ≡ counted no_counts (all_extents (tiling extents.now.segs.items)) }
+    ensures { result ≡ counts_with no_counts (all_extents (tiling extents.now.segs.items)) }
 {
     let mut counts = Counts {
         blocks: Tally::new(),

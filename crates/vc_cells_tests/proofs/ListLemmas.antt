@@ -11,7 +11,7 @@ use Rattle.vc_dtlist.proofs.KeptLemmas.{KeepsTables-but, within-tail}
 use Rattle.vc_dthash.specs.declared.dt_hash.DtHash.{DtHash}
 use Rattle.vc_dthash.specs.Hashed.{HashFor}
 use Rattle.vc_dtdisc.specs.Finding.{put_before}
-use Rattle.vc_dtord.specs.Ordered.{is_less, placed}
+use Rattle.vc_dtord.specs.Ordered.{is_less, order_with}
 use Rattle.vc_dict.proofs.CurrentLemmas.{within-linked}
 use Rattle.vc_cells_tests.specs.Five.{AreSized}
 use Rattle.vc_cells_tests.proofs.ReadyLemmas.{sized-kept}
@@ -39,8 +39,8 @@ in-inserted test at (x ∷ xs) a h =
       | inr apart ↦ within-tail x (put_before test at xs) a (in-inserted test at xs a (rw apart.0 at h))
     ])
 
-pub in-placed : (rules : Rules) (b : Blocks) (at : ℕ) (xs : List ℕ) (a : ℕ) → (a ≢ at → contains xs a ≡ true) → contains (placed rules b at xs) a ≡ true
-in-placed rules b at xs a h = elim (eqb_tells a at) as (λ _. contains (placed rules b at xs) a ≡ true) [
-  | inl same ↦ subst (λ z. contains (placed rules b at xs) z ≡ true) (sym same.1) (within-linked false DtObag rules b 0 at xs)
+pub in-placed : (rules : Rules) (b : Blocks) (at : ℕ) (xs : List ℕ) (a : ℕ) → (a ≢ at → contains xs a ≡ true) → contains (order_with rules b at xs) a ≡ true
+in-placed rules b at xs a h = elim (eqb_tells a at) as (λ _. contains (order_with rules b at xs) a ≡ true) [
+  | inl same ↦ subst (λ z. contains (order_with rules b at xs) z ≡ true) (sym same.1) (within-linked false DtObag rules b 0 at xs)
   | inr apart ↦ in-inserted (is_less rules b at) at xs a (h apart.1)
 ]

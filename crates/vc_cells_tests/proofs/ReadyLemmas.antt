@@ -16,7 +16,7 @@ use Rattle.vc_dtlist.proofs.KeptLemmas.{within-head, within-tail}
 use Rattle.vc_dthash.specs.Hashed.{IsTable}
 use Rattle.vc_dict.specs.declared.dict.Dict.{Dict}
 use Rattle.vc_dict.specs.declared.dict.Dropped.{Dropped}
-use Rattle.vc_dict.specs.Changes.{current_without, linked, removed}
+use Rattle.vc_dict.specs.Changes.{current_without, order_by_link, order_without}
 use Rattle.vc_dict.specs.Orders.{kept_by, ordered_by}
 use Rattle.vc_dict.specs.Stands.{Adopted, Became, IsDict, IsKept, Stands}
 use Rattle.vc_dict.specs.Turned.{Remethoded, Unchanged}
@@ -68,9 +68,9 @@ ready-found rules d d' b b' n r t = record {
   sized = sized-kept (d.table.0 ∷ []) r.holders b b' t.keeps r.sized;
 }
 
-pub ready-linked : (rules : Rules) (d d' : Dict) (b b' : Blocks) (at : ℕ) (append : Bool) (r : IsReady rules d b at) → at ≤ 3 → Became rules (at ∷ r.holders) d b d' b' (linked append d.method rules b d.current.0 at r.holders) at → IsReady rules d' b' (at + 1)
+pub ready-linked : (rules : Rules) (d d' : Dict) (b b' : Blocks) (at : ℕ) (append : Bool) (r : IsReady rules d b at) → at ≤ 3 → Became rules (at ∷ r.holders) d b d' b' (order_by_link append d.method rules b d.current.0 at r.holders) at → IsReady rules d' b' (at + 1)
 ready-linked rules d d' b b' at append r few t =
-    let ys = linked append d.method rules b d.current.0 at r.holders in
+    let ys = order_by_link append d.method rules b d.current.0 at r.holders in
     record {
       holders = ys;
       stands = t.stands;
@@ -80,13 +80,13 @@ ready-linked rules d d' b b' at append r few t =
       sized = sized-kept (d.table.0 ∷ []) (at ∷ r.holders) b b' t.keeps r.sized;
     }
 
-apart-removed_one : (found : Option ℕ) (xs : List ℕ) (a : ℕ) → contains xs a ≡ false → contains (removed found xs) a ≡ false
+apart-removed_one : (found : Option ℕ) (xs : List ℕ) (a : ℕ) → contains xs a ≡ false → contains (order_without found xs) a ≡ false
 apart-removed_one None xs a h = h
 apart-removed_one (Some at) xs a h = apart-without xs at a h
 
-pub ready-removed : (rules : Rules) (d d' : Dict) (b b' : Blocks) (n : ℕ) (found : Option ℕ) (r : IsReady rules d b n) → Became rules r.holders d b d' b' (removed found r.holders) (current_without found d.current.0 r.holders) → IsReady rules d' b' n
+pub ready-removed : (rules : Rules) (d d' : Dict) (b b' : Blocks) (n : ℕ) (found : Option ℕ) (r : IsReady rules d b n) → Became rules r.holders d b d' b' (order_without found r.holders) (current_without found d.current.0 r.holders) → IsReady rules d' b' n
 ready-removed rules d d' b b' n found r t =
-    let ys = removed found r.holders in
+    let ys = order_without found r.holders in
     record {
       holders = ys;
       stands = t.stands;

@@ -19,7 +19,7 @@ use Rattle.vc_commands.specs.declared.region.labels.Labels.{Labels}
 use Rattle.vc_commands.specs.Held.{Held, IsChange, IsNamed}
 use Rattle.vc_commands.specs.Blocks.{fault_of, refusal_of}
 use Rattle.vc_commands.specs.Naming.{NamesPut, TellsFault}
-use Rattle.vc_commands.specs.Home.{Changed, Home, Label, changed_to, unchanged}
+use Rattle.vc_commands.specs.Home.{Changed, Home, Label, changed_to, refusal_alone}
 use Rattle.vc_commands.specs.RegionRun.{GivesRegion}
 use Rattle.vc_commands.specs.RegionCommands.{is_for_block}
 use Rattle.std.proofs.lemmas.List.{length-append, take_at}
@@ -169,7 +169,7 @@ err-all (Ok told) p = tt
 err-all (Err e) p = p
 
 -- a refusal leaves the region
-pub gives-unchanged : (h : Home) (c : Changed) (w : Refusal) → c ≡ unchanged h w → GivesRegion c (h.region, h.kept) (reply.Refused w)
+pub gives-unchanged : (h : Home) (c : Changed) (w : Refusal) → c ≡ refusal_alone h w → GivesRegion c (h.region, h.kept) (reply.Refused w)
 gives-unchanged h c w e = record { region_after = ap (λ (k : Changed). k.region) e; kept_after = ap (λ (k : Changed). k.kept) e; replied = ap (λ (k : Changed). k.reply) e }
 
 -- a region whose discipline and lists stay

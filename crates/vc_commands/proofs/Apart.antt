@@ -11,7 +11,7 @@ use Rattle.vc_dtdisc.specs.Rules.{Rules}
 use Rattle.vc_paths.specs.Layers.{AreLayers, Layered}
 use Rattle.vc_paths.specs.Links.{ArePaths, Links, path}
 use Rattle.vc_paths.specs.Path.{IsAlike, IsPath, is_at, objects_of, place_of, seen_in, visible_of}
-use Rattle.vc_paths.specs.Visible.{Seen, is_hidden, seen_bytes, stacked}
+use Rattle.vc_paths.specs.Visible.{Seen, is_hidden, seen_bytes, stacked_objects}
 use Rattle.vc_paths.proofs.EndLemmas.{any-filter}
 use Rattle.vc_paths.proofs.PathLemmas.{path-distinct}
 use Rattle.vc_paths.proofs.SortedLemmas.{all_stacked}
@@ -100,12 +100,12 @@ layers-elsewhere all e (f ∷ fs) h =
     (layer-elsewhere e f (all.layer f).objects w.0, layers-elsewhere all e fs w.1)
 
 -- in layers one after another
-stacked-apart : (all : Layered) (d : ℕ) (rules : Rules) (above : List (Seen ℕ)) (es : List ℕ) → AreLayers all → AllByRecursion (IsAlike all d) es → AreDistinct es → AreApart (stacked rules above (map (objects_of all) es))
+stacked-apart : (all : Layered) (d : ℕ) (rules : Rules) (above : List (Seen ℕ)) (es : List ℕ) → AreLayers all → AllByRecursion (IsAlike all d) es → AreDistinct es → AreApart (stacked_objects rules above (map (objects_of all) es))
 stacked-apart all d rules above [] lawful a h = tt
 stacked-apart all d rules above (e ∷ es) lawful a h =
     let layer = objects_of all e in
     let shows : Seen ℕ → Bool = λ o. not (is_hidden rules above o) in
-    append-apart e (filter shows layer) (stacked rules (above ++ layer) (map (objects_of all) es))
+    append-apart e (filter shows layer) (stacked_objects rules (above ++ layer) (map (objects_of all) es))
     (filter-in e shows layer (layer-in e (all.layer e).objects))
     (all_stacked rules (IsElsewhere e) (above ++ layer) (map (objects_of all) es) (layers-elsewhere all e es h.0))
     (filter-apart shows layer (layer-apart e (all.layer e).objects (lawful.distinct e a.0.there)))
@@ -156,5 +156,5 @@ ordered-apart false rules xs h = h
 pub visible-apart : (all : Layered) (links : Links) (d : ℕ) → AreLayers all → ArePaths links → IsPath all links d → AreApart (visible_of all links d)
 visible-apart all links d lawful p on =
     let rules = (all.layer d).rules in
-    ordered-apart (is_ordered (all.layer d).method) rules (stacked rules [] (map (objects_of all) (path links d)))
+    ordered-apart (is_ordered (all.layer d).method) rules (stacked_objects rules [] (map (objects_of all) (path links d)))
     (stacked-apart all d rules [] (path links d) lawful on.alike (path-distinct links d p))

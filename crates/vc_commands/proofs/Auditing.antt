@@ -20,7 +20,7 @@ use Rattle.vc_model.proofs.Sorting as sorting
 use Rattle.vc_region.specs.declared.region.Region as made
 use Rattle.vc_region.specs.declared.region.Region.TheVariants.{Best, Pool, Last, Debug, Profile}
 use Rattle.vc_region.specs.Parts.{blocks_in, region_of}
-use Rattle.vc_region.specs.Region.{OfBest, OfPool, OfLast, OfDebug, OfProfile, Region, blocks_of, damaged_in, is_debug, keeps_freed, next_damaged_in, region_poke, region_watch, relabelled, row_in, rows_in, segments_of, watch_at}
+use Rattle.vc_region.specs.Region.{OfBest, OfPool, OfLast, OfDebug, OfProfile, Region, blocks_of, damaged_in, is_debug, keeps_freed, next_damaged_in, region_poke, region_watch, region_with_labels, row_in, rows_in, segments_of, watch_at}
 use Rattle.vc_region.proofs.Keeps.{poke-keeps, watch-keeps}
 use Rattle.vc_region.proofs.Relabel.{damaged-relabelled, debug-relabelled, marks-relabelled, poke-relabelled, watch-relabelled}
 use Rattle.vc_region.proofs.Writing.{poke-labels, watch-blocks}
@@ -31,7 +31,7 @@ use Rattle.vc_commands.specs.Held.{Held, IsNamed, home_of}
 use Rattle.vc_commands.specs.Audit.{damage_item, is_poke, poke_block, poke_byte, poke_in, watch_block, watch_in}
 use Rattle.vc_commands.specs.Labels.{MovesLabel, kept_of, name_of}
 use Rattle.vc_commands.specs.Home as home
-use Rattle.vc_commands.specs.Home.{Home, changed_to, unchanged}
+use Rattle.vc_commands.specs.Home.{Home, changed_to, refusal_alone}
 use Rattle.vc_commands.specs.RegionRun.{GivesRegion}
 use Rattle.vc_commands.specs.declared.region.labels.Labels.{Labels}
 use Rattle.vc_commands.proofs.FoundBlocks.{HasName, TheBlock, label_of, on_block-there, the_block}
@@ -83,30 +83,30 @@ module _ (h : Held) {x : List ℕ} {addr : Addr} (has : HasName h.region h.label
 
   module _ (off : ℤ) (byte : ℕ) where
     -- a region of another method
-    pub poke-method : is_debug h.region ≡ false → poke_in (home_of h) x off byte ≡ unchanged (home_of h) why.WrongMethod
+    pub poke-method : is_debug h.region ≡ false → poke_in (home_of h) x off byte ≡ refusal_alone (home_of h) why.WrongMethod
     poke-method other =
         on_block-there h x has.tag addr.0 b (poke_block k x off byte)
-        ∙ ap (λ v. cond v (poke_byte k x off byte (relabel_block f b.block)) (unchanged k why.WrongMethod)) (debug-relabelled (name_of h.labels) h.region ∙ other)
+        ∙ ap (λ v. cond v (poke_byte k x off byte (relabel_block f b.block)) (refusal_alone k why.WrongMethod)) (debug-relabelled (name_of h.labels) h.region ∙ other)
 
     poke-there : is_debug h.region ≡ true → poke_in (home_of h) x off byte ≡ poke_byte (home_of h) x off byte (relabel_block (name_of h.labels) b.block)
     poke-there is =
         on_block-there h x has.tag addr.0 b (poke_block k x off byte)
-        ∙ ap (λ v. cond v (poke_byte k x off byte (relabel_block f b.block)) (unchanged k why.WrongMethod)) (debug-relabelled (name_of h.labels) h.region ∙ is)
+        ∙ ap (λ v. cond v (poke_byte k x off byte (relabel_block f b.block)) (refusal_alone k why.WrongMethod)) (debug-relabelled (name_of h.labels) h.region ∙ is)
 
     -- an offset out of the block's bytes and its guards, or a byte above 255
-    pub poke-range : is_debug h.region ≡ true → is_poke b.block.size off byte ≡ false → poke_in (home_of h) x off byte ≡ unchanged (home_of h) why.Range
+    pub poke-range : is_debug h.region ≡ true → is_poke b.block.size off byte ≡ false → poke_in (home_of h) x off byte ≡ refusal_alone (home_of h) why.Range
     poke-range is fails =
-        poke-there is ∙ ap (λ v. cond v (changed_to k (region_poke k.region at off byte) (Poked x (watch_at k.region at))) (unchanged k why.Range)) fails
+        poke-there is ∙ ap (λ v. cond v (changed_to k (region_poke k.region at off byte) (Poked x (watch_at k.region at))) (refusal_alone k why.Range)) fails
 
-    pub gives-poked : (region : Region ℕ) → is_debug h.region ≡ true → is_poke b.block.size off byte ≡ true → region ≡ region_poke h.region p off byte → (watch : Option ℕ) → watch ≡ watch_at h.region p → GivesRegion (poke_in (home_of h) x off byte) (relabelled (name_of h.labels) region, kept_of h.labels) (Poked x watch)
+    pub gives-poked : (region : Region ℕ) → is_debug h.region ≡ true → is_poke b.block.size off byte ≡ true → region ≡ region_poke h.region p off byte → (watch : Option ℕ) → watch ≡ watch_at h.region p → GivesRegion (poke_in (home_of h) x off byte) (region_with_labels (name_of h.labels) region, kept_of h.labels) (Poked x watch)
     gives-poked region is passes put watch watched =
-        let eq : poke_in k x off byte ≡ changed_to k (relabelled f region) (Poked x watch) =
+        let eq : poke_in k x off byte ≡ changed_to k (region_with_labels f region) (Poked x watch) =
         poke-there is
-        ∙ (ap (λ v. cond v (changed_to k (region_poke k.region at off byte) (Poked x (watch_at k.region at))) (unchanged k why.Range)) passes
+        ∙ (ap (λ v. cond v (changed_to k (region_poke k.region at off byte) (Poked x (watch_at k.region at))) (refusal_alone k why.Range)) passes
         ∙ (ap (λ q. changed_to k (region_poke k.region q off byte) (Poked x (watch_at k.region q))) (sym b.place)
         ∙ (ap (λ w. changed_to k (region_poke k.region p off byte) (Poked x w)) (watch-relabelled f h.region p ∙ sym watched)
-        ∙ ap (λ r. changed_to k r (Poked x watch)) (poke-relabelled f h.region p off byte ∙ ap (relabelled f) (sym put))))) in
-        subst (λ c. GivesRegion c (relabelled f region, kept_of h.labels) (Poked x watch)) (sym eq) (record { region_after = refl; kept_after = refl; replied = refl })
+        ∙ ap (λ r. changed_to k r (Poked x watch)) (poke-relabelled f h.region p off byte ∙ ap (region_with_labels f) (sym put))))) in
+        subst (λ c. GivesRegion c (region_with_labels f region, kept_of h.labels) (Poked x watch)) (sym eq) (record { region_after = refl; kept_after = refl; replied = refl })
 
     pub named-poked : (region : Region ℕ) → region ≡ region_poke h.region p off byte → without_block p (blocks_of region) ≡ without_block p (blocks_of h.region) → HaveOwnPlaces (blocks_of region) → IsNamed region h.labels
     named-poked region is others places =
@@ -114,19 +114,19 @@ module _ (h : Held) {x : List ℕ} {addr : Addr} (has : HasName h.region h.label
         (ap (λ r. option_map (λ (c : Block ℕ). c.label) (find_block p (blocks_of r))) is ∙ poke-labels h.region p p off byte) others places
 
   module _ (line : ℕ) where
-    pub watch-method : is_debug h.region ≡ false → watch_in (home_of h) line x ≡ unchanged (home_of h) why.WrongMethod
+    pub watch-method : is_debug h.region ≡ false → watch_in (home_of h) line x ≡ refusal_alone (home_of h) why.WrongMethod
     watch-method other =
         on_block-there h x has.tag addr.0 b (watch_block k line x)
-        ∙ ap (λ v. cond v (changed_to k (region_watch k.region at line) (Watched x)) (unchanged k why.WrongMethod)) (debug-relabelled (name_of h.labels) h.region ∙ other)
+        ∙ ap (λ v. cond v (changed_to k (region_watch k.region at line) (Watched x)) (refusal_alone k why.WrongMethod)) (debug-relabelled (name_of h.labels) h.region ∙ other)
 
-    pub gives-watched : (region : Region ℕ) → is_debug h.region ≡ true → region ≡ region_watch h.region p line → GivesRegion (watch_in (home_of h) line x) (relabelled (name_of h.labels) region, kept_of h.labels) (Watched x)
+    pub gives-watched : (region : Region ℕ) → is_debug h.region ≡ true → region ≡ region_watch h.region p line → GivesRegion (watch_in (home_of h) line x) (region_with_labels (name_of h.labels) region, kept_of h.labels) (Watched x)
     gives-watched region is put =
-        let eq : watch_in k line x ≡ changed_to k (relabelled f region) (Watched x) =
+        let eq : watch_in k line x ≡ changed_to k (region_with_labels f region) (Watched x) =
         on_block-there h x has.tag addr.0 b (watch_block k line x)
-        ∙ (ap (λ v. cond v (changed_to k (region_watch k.region at line) (Watched x)) (unchanged k why.WrongMethod)) (debug-relabelled f h.region ∙ is)
+        ∙ (ap (λ v. cond v (changed_to k (region_watch k.region at line) (Watched x)) (refusal_alone k why.WrongMethod)) (debug-relabelled f h.region ∙ is)
         ∙ (ap (λ q. changed_to k (region_watch k.region q line) (Watched x)) (sym b.place)
-        ∙ ap (λ r. changed_to k r (Watched x)) (marks-relabelled f h.region p line ∙ ap (relabelled f) (sym put)))) in
-        subst (λ c. GivesRegion c (relabelled f region, kept_of h.labels) (Watched x)) (sym eq) (record { region_after = refl; kept_after = refl; replied = refl })
+        ∙ ap (λ r. changed_to k r (Watched x)) (marks-relabelled f h.region p line ∙ ap (region_with_labels f) (sym put)))) in
+        subst (λ c. GivesRegion c (region_with_labels f region, kept_of h.labels) (Watched x)) (sym eq) (record { region_after = refl; kept_after = refl; replied = refl })
 
     pub named-watched : (region : Region ℕ) → region ≡ region_watch h.region p line → HaveOwnPlaces (blocks_of region) → IsNamed region h.labels
     named-watched region is places =
@@ -163,7 +163,7 @@ row-end (r ∷ rs) (suc i) e = row-end rs i e
 abbrev pub found_items : Labels → List (Block ℕ × ℤ) → List (List ℕ × ℤ)
 found_items labels fs = filter_map damage_item (map (relabel_found (name_of labels)) fs)
 
-pub list-damage : (r : Region ℕ) (labels : Labels) → filter_map damage_item (damaged_in (relabelled (name_of labels) r)) ≡ found_items labels (damaged_in r)
+pub list-damage : (r : Region ℕ) (labels : Labels) → filter_map damage_item (damaged_in (region_with_labels (name_of labels) r)) ≡ found_items labels (damaged_in r)
 list-damage r labels = ap (filter_map damage_item) (damaged-relabelled (name_of labels) r)
 
 -- the damaged blocks behind an address

@@ -6,7 +6,7 @@ use Rattle.std.proofs.lemmas.List.{length-append, take-append-le, take_all}
 use Rattle.slab.specs.Slab.{slab_len}
 use Rattle.vc_base.specs.Cells.{Blocks}
 use Rattle.vc_model.specs.Discipline.{Discipline, HasOut, TookBack}
-use Rattle.vc_region.specs.Region.{Region, blocks_of, keeps_freed, region_clear, relabelled, segments_of}
+use Rattle.vc_region.specs.Region.{Region, blocks_of, keeps_freed, region_clear, region_with_labels, segments_of}
 use Rattle.vc_model.specs.Sound.{HaveOwnPlaces}
 use Rattle.vc_region.proofs.Clearing.{cleared-blocks}
 use Rattle.vc_region.proofs.Relabel.{blocks-relabelled, clear-relabelled, keeps-relabelled, relabelled-alike}
@@ -20,7 +20,7 @@ use Rattle.vc_commands.proofs.Keeping.{IsByName, by-name-among, by-name-with, li
 use Rattle.vc_commands.specs.Held.{Held, IsChange, IsLive, IsNamed, home_of, tag_count}
 
 -- a region without blocks is the same under all names
-pub cleared-names : (labels labels' : Labels) (r : Region ℕ) → region_clear (relabelled (name_of labels) r) ≡ relabelled (name_of labels') (region_clear r)
+pub cleared-names : (labels labels' : Labels) (r : Region ℕ) → region_clear (region_with_labels (name_of labels) r) ≡ region_with_labels (name_of labels') (region_clear r)
 cleared-names labels labels' r =
     clear-relabelled (name_of labels) r
     ∙ relabelled-alike (name_of labels) (name_of labels') (region_clear r) (subst (AllByRecursion (λ b. name_of labels b.label ≡ name_of labels' b.label)) (sym (cleared-blocks r)) tt)

@@ -7,7 +7,7 @@ use Rattle.std.proofs.lemmas.Bool.{cases_Bool, eqb-true, false≢true}
 use Rattle.std.proofs.lemmas.Option.{same_Some}
 use Rattle.vc_model.specs.Addr.{place_of}
 use Rattle.vc_model.specs.Layout.{Block, address_of, relabel_block}
-use Rattle.vc_region.specs.Region.{Region, blocks_of, relabelled}
+use Rattle.vc_region.specs.Region.{Region, blocks_of, region_with_labels}
 use Rattle.vc_model.specs.Place.{IsAlign}
 use Rattle.vc_model.specs.Touch.{HasBlock, find_block}
 use Rattle.vc_base.specs.declared.addr.Addr.{Addr}
@@ -19,7 +19,7 @@ use Rattle.vc_model.proofs.Places.{Among, among-all, among-find, found-there, pl
 use Rattle.vc_model.proofs.Relabel.{find-relabel}
 use Rattle.vc_region.proofs.Relabel.{blocks-relabelled}
 use Rattle.vc_commands.specs.Home as home
-use Rattle.vc_commands.specs.Home.{Changed, Home, unchanged}
+use Rattle.vc_commands.specs.Home.{Changed, Home, refusal_alone}
 use Rattle.vc_commands.specs.Blocks.{is_align, is_block, is_name_of, no_block, on_block, with_named}
 use Rattle.vc_commands.specs.Kept.{line_of}
 use Rattle.vc_commands.specs.declared.region.labels.Label.{Label}
@@ -35,13 +35,13 @@ use Rattle.vc_commands.proofs.Lists.{Passes, contains-among, found-any}
 use Rattle.vc_commands.proofs.Names.{has-label-any, name-first, name-here, named_by, same_bytes}
 
 -- no block has the name
-pub on_block-none : (h : Held) (x : List ℕ) (act : Block home.Label → Changed) → IsNamed h.region h.labels → tag_of h.labels x ≡ None → on_block (home_of h) x act ≡ unchanged (home_of h) (no_block (line_of x (kept_of h.labels)))
+pub on_block-none : (h : Held) (x : List ℕ) (act : Block home.Label → Changed) → IsNamed h.region h.labels → tag_of h.labels x ≡ None → on_block (home_of h) x act ≡ refusal_alone (home_of h) (no_block (line_of x (kept_of h.labels)))
 on_block-none h x act names none =
     ap (λ o. with_named (home_of h) x o act) (find-none (is_block x) (blocks_of (home_of h).region) (sym (names.known x) ∙ ap is_some none))
 
 pub gives-none : (h : Held) (x : List ℕ) (act : Home → Block home.Label → Changed) (why : Refusal) → IsNamed h.region h.labels → tag_of h.labels x ≡ None → why ≡ no_block (line_of x (kept_of h.labels)) → GivesRegion (on_block (home_of h) x (act (home_of h))) ((home_of h).region, (home_of h).kept) (Refused why)
 gives-none h x act why names none is =
-    gives-unchanged (home_of h) (on_block (home_of h) x (act (home_of h))) why (on_block-none h x (act (home_of h)) names none ∙ ap (unchanged (home_of h)) (sym is))
+    gives-unchanged (home_of h) (on_block (home_of h) x (act (home_of h))) why (on_block-none h x (act (home_of h)) names none ∙ ap (refusal_alone (home_of h)) (sym is))
 
 name-some : (x : List ℕ) (o : home.Label) → is_name_of x o ≡ true → (y : List ℕ) × (o ≡ Some y) × (bytes_eq y x ≡ true)
 name-some x None e = absurd cc
@@ -57,7 +57,7 @@ pub record TheBlock (r : Region ℕ) (labels : Labels) (x : List ℕ) (tag a : �
   pub place : place_of a ≡ (block.seg, block.off)
   pub found : find_block (place_of a) (blocks_of r) ≡ Some block
   pub there : Contains (map address_of (blocks_of r)) a
-  pub named : find (is_block x) (blocks_of (relabelled (name_of labels) r)) ≡ Some (relabel_block (name_of labels) block)
+  pub named : find (is_block x) (blocks_of (region_with_labels (name_of labels) r)) ≡ Some (relabel_block (name_of labels) block)
 
 -- a name of a region's blocks, by its tag, whose label has an address
 abbrev pub label_of : List ℕ → Addr → Label

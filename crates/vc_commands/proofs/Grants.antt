@@ -16,9 +16,9 @@ use Rattle.vc_script.specs.declared.refusal.Refusal.{Refusal}
 use Rattle.vc_script.specs.declared.refusal.Refusal.TheVariants as why
 use Rattle.vc_script.specs.Needs.{Need}
 use Rattle.vc_commands.specs.Kept.{Kept, line_of, without_name}
-use Rattle.vc_commands.specs.Home.{Changed, Home, Label, unchanged}
+use Rattle.vc_commands.specs.Home.{Changed, Home, Label, refusal_alone}
 use Rattle.vc_commands.specs.Audit.{check_in, is_poke, poke_block, poke_byte, poke_in, profile_in, watch_block, watch_in}
-use Rattle.vc_commands.specs.Blocks.{free_block, free_in, freed, has_label, has_room, is_align, is_block, is_size, kept_freed, no_block, align_refused, put_by, put_in, put_new, site_of, size_refused, read_block, read_in, resize_block, resize_in, size_in, with_named, write_block, write_in}
+use Rattle.vc_commands.specs.Blocks.{free_block, free_in, change_by_free, has_label, has_room, is_align, is_block, is_size, kept_freed, no_block, align_refused, put_by, put_in, put_new, site_of, size_refused, read_block, read_in, resize_block, resize_in, size_in, with_named, write_block, write_in}
 use Rattle.vc_commands.specs.RegionCommands.{in_region, is_for_block}
 use Rattle.vc_commands.specs.Whole.{addr_in, addr_reply, segment_in, segment_reply}
 
@@ -54,17 +54,17 @@ plain-none (Some line) = tt
 pub granted-write : (h : Home) (x : List ℕ) (off : ℕ) (bytes : List ℕ) → IsGranted (write_in h x off bytes).reply
 granted-write h x off bytes =
     holds-block IsGranted h x (find (is_block x) (blocks_of h.region)) (write_block h x off bytes) granted-none
-    (λ b. holds-if IsGranted (nat_le (off + length bytes) b.size) _ (unchanged h why.Range) tt tt)
+    (λ b. holds-if IsGranted (nat_le (off + length bytes) b.size) _ (refusal_alone h why.Range) tt tt)
 
 pub granted-read : (h : Home) (x : List ℕ) (off len : ℕ) → IsGranted (read_in h x off len).reply
 granted-read h x off len =
     holds-block IsGranted h x (find (is_block x) (blocks_of h.region)) (read_block h x off len) granted-none
-    (λ b. holds-if IsGranted ((nat_le 1 len && nat_le len 4096) && nat_le (off + len) b.size) _ (unchanged h why.Range) tt tt)
+    (λ b. holds-if IsGranted ((nat_le 1 len && nat_le len 4096) && nat_le (off + len) b.size) _ (refusal_alone h why.Range) tt tt)
 
 pub granted-size : (h : Home) (x : List ℕ) → IsGranted (size_in h x).reply
 granted-size h x = holds-block IsGranted h x (find (is_block x) (blocks_of h.region)) _ granted-none (λ b. tt)
 
-granted-freed : (h : Home) (x : List ℕ) (kept : Kept) (watch : Option ℕ) (o : Outcome (Region Label)) → (o ≡ Refused model.NoSegment → ⊥) → IsGranted (freed h x kept watch o).reply
+granted-freed : (h : Home) (x : List ℕ) (kept : Kept) (watch : Option ℕ) (o : Outcome (Region Label)) → (o ≡ Refused model.NoSegment → ⊥) → IsGranted (change_by_free h x kept watch o).reply
 granted-freed h x kept watch (Done r) none = tt
 granted-freed h x kept watch (Refused model.TooManySegments) none = tt
 granted-freed h x kept watch (Refused model.NoSegment) none = absurd (none refl)
@@ -93,23 +93,23 @@ pub granted-segment : (h : Home) (at : Place) → IsGranted (segment_in h at).re
 granted-segment h at = granted-segment_reply at.seg (segment_at (at.seg, at.off) (segments_of h.region))
 
 granted-poke_byte : (h : Home) (x : List ℕ) (off : ℤ) (byte : ℕ) (b : Block Label) → IsGranted (poke_byte h x off byte b).reply
-granted-poke_byte h x off byte b = holds-if IsGranted (is_poke b.size off byte) _ (unchanged h why.Range) tt tt
+granted-poke_byte h x off byte b = holds-if IsGranted (is_poke b.size off byte) _ (refusal_alone h why.Range) tt tt
 
 pub granted-poke : (h : Home) (x : List ℕ) (off : ℤ) (byte : ℕ) → IsGranted (poke_in h x off byte).reply
 granted-poke h x off byte =
     holds-block IsGranted h x (find (is_block x) (blocks_of h.region)) (poke_block h x off byte) granted-none
-    (λ b. holds-if IsGranted (is_debug h.region) (poke_byte h x off byte b) (unchanged h why.WrongMethod) (granted-poke_byte h x off byte b) tt)
+    (λ b. holds-if IsGranted (is_debug h.region) (poke_byte h x off byte b) (refusal_alone h why.WrongMethod) (granted-poke_byte h x off byte b) tt)
 
 pub granted-watch : (h : Home) (line : ℕ) (x : List ℕ) → IsGranted (watch_in h line x).reply
 granted-watch h line x =
     holds-block IsGranted h x (find (is_block x) (blocks_of h.region)) (watch_block h line x) granted-none
-    (λ b. holds-if IsGranted (is_debug h.region) _ (unchanged h why.WrongMethod) tt tt)
+    (λ b. holds-if IsGranted (is_debug h.region) _ (refusal_alone h why.WrongMethod) tt tt)
 
 pub granted-check : (h : Home) → IsGranted (check_in h).reply
-granted-check h = holds-if IsGranted (is_debug h.region) _ (unchanged h why.WrongMethod) tt tt
+granted-check h = holds-if IsGranted (is_debug h.region) _ (refusal_alone h why.WrongMethod) tt tt
 
 pub granted-profile : (h : Home) → IsGranted (profile_in h).reply
-granted-profile h = holds-if IsGranted (is_profile h.region) _ (unchanged h why.WrongMethod) tt tt
+granted-profile h = holds-if IsGranted (is_profile h.region) _ (refusal_alone h why.WrongMethod) tt tt
 
 plain-put : (h : Home) (x : List ℕ) (kept : Kept) (watch : Option ℕ) (o : Outcome (Put (Region Label))) → IsPlain (put_in h x kept watch o).reply
 plain-put h x kept watch (Done p) = tt
@@ -131,16 +131,16 @@ plain-aligned false legal = tt
 plain-by : (h : Home) (x : List ℕ) (words : Option Refusal) (o : Outcome (Put (Region Label))) → IfSome words (λ w. IsPlain (reply.Refused w)) → IsPlain (put_by h x words o).reply
 plain-by h x (Some refusal) o plain = plain
 plain-by h x None o plain =
-    holds-if IsPlain (has_room h x) (put_in h x (without_name x h.kept) None o) (unchanged h why.TooManyBlocks) (plain-put h x (without_name x h.kept) None o) tt
+    holds-if IsPlain (has_room h x) (put_in h x (without_name x h.kept) None o) (refusal_alone h why.TooManyBlocks) (plain-put h x (without_name x h.kept) None o) tt
 
 plain-new : (h : Home) (x : List ℕ) (words : Option Refusal) (o : Outcome (Put (Region Label))) → IfSome words (λ w. IsPlain (reply.Refused w)) → IsPlain (put_new h x words o).reply
 plain-new h x words o plain =
-    holds-if IsPlain (has_label x h.region) (unchanged h why.BlockExists) (put_by h x words o) tt (plain-by h x words o plain)
+    holds-if IsPlain (has_label x h.region) (refusal_alone h why.BlockExists) (put_by h x words o) tt (plain-by h x words o plain)
 
 plain-resize : (h : Home) (x : List ℕ) (size : ℕ) (may_move refused : Bool) → IsPlain (resize_in h x size may_move refused).reply
 plain-resize h x size may_move refused =
     holds-block IsPlain h x (find (is_block x) (blocks_of h.region)) (resize_block h x size may_move refused) plain-none
-    (λ b. holds-if IsPlain (is_size size) _ (unchanged h why.Size) (plain-put h x h.kept (watch_at h.region (b.seg, b.off)) (region_resize h.terms h.region (b.seg, b.off) size may_move refused)) tt)
+    (λ b. holds-if IsPlain (is_size size) _ (refusal_alone h why.Size) (plain-put h x h.kept (watch_at h.region (b.seg, b.off)) (region_resize h.terms h.region (b.seg, b.off) size may_move refused)) tt)
 
 plain-refusal : (w : Refusal) → IsGranted (reply.Refused w) → IsPlain (reply.Refused w)
 plain-refusal why.NoSegmentForTable g = absurd g

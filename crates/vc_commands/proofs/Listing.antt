@@ -4,7 +4,7 @@ use Rattle.std.specs.Prelude.{find, ◌-◌}
 use Rattle.std.proofs.lemmas.Option.{same_Some, none-some}
 use Rattle.vc_model.specs.Addr.{place_of}
 use Rattle.vc_model.specs.Layout.{Block, address_of, relabel_block}
-use Rattle.vc_region.specs.Region.{Region, blocks_of, relabelled}
+use Rattle.vc_region.specs.Region.{Region, blocks_of, region_with_labels}
 use Rattle.vc_model.specs.Sound.{HaveOwnNumbers, HaveOwnPlaces}
 use Rattle.vc_model.specs.Touch.{find_block}
 use Rattle.vc_model.specs.Walk.{block_at, by_address, by_number, holds_byte, next_block, next_segment}
@@ -44,7 +44,7 @@ abbrev pub told_at : Block ℕ × ℕ → ℕ × ℕ
 told_at f = (address_of f.0, f.1)
 
 -- no block holds a byte
-pub addr-none : (r : Region ℕ) (labels : Labels) (at : ℕ × ℕ) → option_map told_at (block_at at (blocks_of r)) ≡ None → addr_reply (block_at at (blocks_of (relabelled (name_of labels) r))) ≡ AddrNone
+pub addr-none : (r : Region ℕ) (labels : Labels) (at : ℕ × ℕ) → option_map told_at (block_at at (blocks_of r)) ≡ None → addr_reply (block_at at (blocks_of (region_with_labels (name_of labels) r))) ≡ AddrNone
 addr-none r labels at e =
     ap (λ bs. addr_reply (block_at at bs)) (blocks-relabelled (name_of labels) r)
     ∙ (ap addr_reply (block_at-relabel (name_of labels) at (blocks_of r))
@@ -53,7 +53,7 @@ addr-none r labels at e =
 -- one block does
 pub addr-some :
     (r : Region ℕ) (labels : Labels) (at : ℕ × ℕ) (a off tag : ℕ) (name : Label) → HaveOwnPlaces (blocks_of r) → option_map told_at (block_at at (blocks_of r)) ≡ Some (a, off)
-    → option_map (λ b. b.label) (find_block (place_of a) (blocks_of r)) ≡ Some tag → name ≡ name_of labels tag → addr_reply (block_at at (blocks_of (relabelled (name_of labels) r))) ≡ AddrIn name off
+    → option_map (λ b. b.label) (find_block (place_of a) (blocks_of r)) ≡ Some tag → name ≡ name_of labels tag → addr_reply (block_at at (blocks_of (region_with_labels (name_of labels) r))) ≡ AddrIn name off
 addr-some r labels at a off tag name places told tagged named =
     let f : FromSome told_at (block_at at (blocks_of r)) (a, off) = from_some told_at (block_at at (blocks_of r)) (a, off) told in
     let within : Block ℕ → Block ℕ × ℕ = λ b. (b, at.1 - b.off) in
@@ -124,7 +124,7 @@ module _ {I : Type 0} {V : I → Type 0} (r : Open I V) where
 abbrev pub items_of : Labels → List (Block ℕ) → List (Label × Place × ℕ)
 items_of labels bs = map item_of (map (relabel_block (name_of labels)) bs)
 
-pub list-items : (r : Region ℕ) (labels : Labels) → map item_of (by_address (blocks_of (relabelled (name_of labels) r))) ≡ items_of labels (by_address (blocks_of r))
+pub list-items : (r : Region ℕ) (labels : Labels) → map item_of (by_address (blocks_of (region_with_labels (name_of labels) r))) ≡ items_of labels (by_address (blocks_of r))
 list-items r labels =
     ap (λ bs. map item_of (by_address bs)) (blocks-relabelled (name_of labels) r)
     ∙ ap (map item_of) (by_address-relabel (name_of labels) (blocks_of r))

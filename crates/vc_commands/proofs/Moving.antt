@@ -9,7 +9,7 @@ use Rattle.std.proofs.lemmas.Option.{same_Some, none-some}
 use Rattle.vc_model.specs.Addr.{address, place_of}
 use Rattle.vc_model.specs.Best.{zeros}
 use Rattle.vc_model.specs.Layout.{Block, address_of, without_block}
-use Rattle.vc_region.specs.Region.{Region, blocks_of, keeps_freed, relabelled}
+use Rattle.vc_region.specs.Region.{Region, blocks_of, keeps_freed, region_with_labels}
 use Rattle.vc_model.specs.Sound.{HaveOwnPlaces}
 use Rattle.vc_model.specs.Touch.{find_block}
 use Rattle.vc_region.proofs.Relabel.{relabelled-alike}
@@ -71,7 +71,7 @@ module _ (old new : Labels) (tag : ℕ) (label : Label) (w : WithLabel old new t
   name-new = name-here new tag label w.first w.at
 
   -- one more name changes no block's name
-  pub region-more : (r : Region ℕ) → IsNamed r old → relabelled (name_of new) r ≡ relabelled (name_of old) r
+  pub region-more : (r : Region ℕ) → IsNamed r old → region_with_labels (name_of new) r ≡ region_with_labels (name_of old) r
   region-more r names = relabelled-alike (name_of new) (name_of old) r (names-stay old new (blocks_of r) (stay-new (blocks_of r) names.live))
 
   known-more : (y : List ℕ) → is_some (tag_of new y) ≡ (bytes_eq label.name y || is_some (tag_of old y))
@@ -183,7 +183,7 @@ module _ (old : Labels) (r : Region ℕ) (names : IsNamed r old) (x : List ℕ) 
 
   -- the block goes, and its name
   module _ (new : Labels) (w : WithoutLabel old new tag label) (is_named : label.name ≡ x) where
-    pub region-less : (r' : Region ℕ) → blocks_of r' ≡ without_block (place_of label.at.0) (blocks_of r) → relabelled (name_of new) r' ≡ relabelled (name_of old) r'
+    pub region-less : (r' : Region ℕ) → blocks_of r' ≡ without_block (place_of label.at.0) (blocks_of r) → region_with_labels (name_of new) r' ≡ region_with_labels (name_of old) r'
     region-less r' left = relabelled-alike (name_of new) (name_of old) r' (names-stay old new (blocks_of r') (subst (AllByRecursion (Stays old new)) (sym left) (rest-stays new w.other_tags)))
 
     unnamed : (y : List ℕ) → AreLabels new → tag_of new y ≡ None → (bs : List (Block ℕ)) → AllByRecursion (λ c. 1 ≤ c.label → IsLive new c) bs → list_any (named_by (name_of new) y) bs ≡ false

@@ -9,7 +9,7 @@ use Rattle.vc_base.specs.Methods.{is_list}
 use Rattle.vc_dtdisc.specs.Objects.{Object}
 use Rattle.vc_objects.specs.Insert.{Inserted}
 use Rattle.vc_objects.specs.Leaves.{LacksHolder, LacksTable}
-use Rattle.vc_objects.specs.Remove.{Removed, bytes_of, emptied, remove}
+use Rattle.vc_objects.specs.Remove.{Removed, bytes_of, without_objects, remove}
 use Rattle.vc_objects.specs.Turn.{Turned, turn}
 use Rattle.vc_objects.proofs.Named.{freed_all-named, insert-named, relabel_turned, remove-named, remove_unnamed-named, turn-named}
 use Rattle.vc_script.specs.Needs.{Need}
@@ -20,7 +20,7 @@ use Rattle.vc_script.specs.declared.reply.Reply.{Reply}
 use Rattle.vc_script.specs.declared.reply.Reply.TheVariants.{Emptied, Refused}
 use Rattle.vc_commands.specs.DictCommands.{append_in, delete_in, empty_in, in_dict, insert_in, is_for_object, is_for_table, is_object, object_asked, put_as, put_object, put_unless, remove_in, removed_as, standing, table_asked, turned_as, where_object}
 use Rattle.vc_commands.specs.DictRun.{LacksBy}
-use Rattle.vc_commands.specs.Seat.{DictChanged, Seat, declined}
+use Rattle.vc_commands.specs.Seat.{DictChanged, Seat, seat_with_refusal}
 
 module _ {L M : Type 0} (f : L → M) where
   -- a seat, and what a command gives, with other labels
@@ -31,7 +31,7 @@ module _ {L M : Type 0} (f : L → M) where
   relabel_changed c = record { region = relabel_layout f c.region; dict = c.dict; reply = c.reply; told = c.told; granted = c.granted }
 
   -- by whether a word is an object
-  by_size : (s : Seat L) (c : DictChanged L) (fits : Bool) → cond fits (relabel_changed c) (declined (relabel_seat s) Size) ≡ relabel_changed (cond fits c (declined s Size))
+  by_size : (s : Seat L) (c : DictChanged L) (fits : Bool) → cond fits (relabel_changed c) (seat_with_refusal (relabel_seat s) Size) ≡ relabel_changed (cond fits c (seat_with_refusal s Size))
   by_size s c true = refl
   by_size s c false = refl
 
@@ -50,7 +50,7 @@ module _ {L M : Type 0} (f : L → M) where
   insert_in-named : (s : Seat L) (bytes : List ℕ) (need : Need) → insert_in (relabel_seat s) bytes need ≡ relabel_changed (insert_in s bytes need)
   insert_in-named s bytes need = put_unless-named s bytes need (standing s bytes)
 
-  by_method : (s : Seat L) (bytes : List ℕ) (need : Need) (list : Bool) → cond list (where_object (relabel_seat s) bytes (put_object (relabel_seat s) true (s.rules.made bytes) need)) (declined (relabel_seat s) WrongMethod) ≡ relabel_changed (cond list (where_object s bytes (put_object s true (s.rules.made bytes) need)) (declined s WrongMethod))
+  by_method : (s : Seat L) (bytes : List ℕ) (need : Need) (list : Bool) → cond list (where_object (relabel_seat s) bytes (put_object (relabel_seat s) true (s.rules.made bytes) need)) (seat_with_refusal (relabel_seat s) WrongMethod) ≡ relabel_changed (cond list (where_object s bytes (put_object s true (s.rules.made bytes) need)) (seat_with_refusal s WrongMethod))
   by_method s bytes need true = where_object-named s bytes (put_object s true (s.rules.made bytes) need) _ (put_object-named s true (s.rules.made bytes) need)
   by_method s bytes need false = refl
 
@@ -67,7 +67,7 @@ module _ {L M : Type 0} (f : L → M) where
 
   empty_in-named : (s : Seat L) (name : List ℕ) → empty_in (relabel_seat s) name ≡ relabel_changed (empty_in s name)
   empty_in-named s name =
-      ap (λ (r : Layout M). record { region = r; dict = emptied s.dict; reply = Emptied name (length s.dict.objects); told = bytes_of s.dict.objects; granted = [] }) (freed_all-named f s.region s.dict.objects)
+      ap (λ (r : Layout M). record { region = r; dict = without_objects s.dict; reply = Emptied name (length s.dict.objects); told = bytes_of s.dict.objects; granted = [] }) (freed_all-named f s.region s.dict.objects)
 
   turned_as-named : (s : Seat L) (name : List ℕ) (method : DictMethod) (o : Outcome (Turned L)) → turned_as (relabel_seat s) name method (done_as (relabel_turned f) o) ≡ relabel_changed (turned_as s name method o)
   turned_as-named s name method (model.Refused fault) = refl

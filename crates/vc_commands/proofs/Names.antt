@@ -8,7 +8,7 @@ use Rattle.std.proofs.lemmas.Bool.Decides.{nat_tests}
 use Rattle.std.proofs.lemmas.Option.{none-some}
 use Rattle.std.proofs.lemmas.Slice.Eq.{bytes_eq-Decides}
 use Rattle.vc_model.specs.Layout.{Block, relabel_block}
-use Rattle.vc_region.specs.Region.{Region, blocks_of, relabelled}
+use Rattle.vc_region.specs.Region.{Region, blocks_of, region_with_labels}
 use Rattle.vc_region.proofs.Relabel.{blocks-relabelled, relabelled-alike}
 use Rattle.vc_commands.specs.Home as home
 use Rattle.vc_commands.specs.Blocks.{has_label, is_block, is_name_of, label_count}
@@ -30,7 +30,7 @@ other_bytes x y differ e = false≢true (sym differ ∙ (bytes_eq-Decides x y).1
 abbrev pub named_by : (ℕ → home.Label) → List ℕ → Block ℕ → Bool
 named_by f x b = is_name_of x (f b.label)
 
-pub has-label-any : (f : ℕ → home.Label) (x : List ℕ) (r : Region ℕ) → has_label x (relabelled f r) ≡ list_any (named_by f x) (blocks_of r)
+pub has-label-any : (f : ℕ → home.Label) (x : List ℕ) (r : Region ℕ) → has_label x (region_with_labels f r) ≡ list_any (named_by f x) (blocks_of r)
 has-label-any f x r = ap (list_any (is_block x)) (blocks-relabelled f r) ∙ any-unmap (is_block x) (relabel_block f) (blocks_of r)
 
 -- the name of a tag in use, and of none
@@ -58,10 +58,10 @@ all-tags P [] all = tt
 all-tags P (b ∷ bs) all = (all b.label, all-tags P bs all)
 
 -- the same names of all tags name a region alike
-pub relabelled-names : (old new : Labels) (r : Region ℕ) → ((t : ℕ) → name_of new t ≡ name_of old t) → relabelled (name_of new) r ≡ relabelled (name_of old) r
+pub relabelled-names : (old new : Labels) (r : Region ℕ) → ((t : ℕ) → name_of new t ≡ name_of old t) → region_with_labels (name_of new) r ≡ region_with_labels (name_of old) r
 relabelled-names old new r same = relabelled-alike (name_of new) (name_of old) r (all-tags (λ t. name_of new t ≡ name_of old t) (blocks_of r) same)
 
-pub relabelled-same : (old new : Labels) (r : Region ℕ) → SameLabels old new → relabelled (name_of new) r ≡ relabelled (name_of old) r
+pub relabelled-same : (old new : Labels) (r : Region ℕ) → SameLabels old new → region_with_labels (name_of new) r ≡ region_with_labels (name_of old) r
 relabelled-same old new r same = relabelled-names old new r (λ t. name-alike old new t (same.by_tag t))
 
 live-same : (old new : Labels) (bs : List (Block ℕ)) → SameLabels old new → AllByRecursion (λ b. 1 ≤ b.label → IsLive old b) bs → AllByRecursion (λ b. 1 ≤ b.label → IsLive new b) bs
@@ -101,5 +101,5 @@ count-named labels (b ∷ bs) all =
     zero-or zero = inl refl
     zero-or (suc n) = inr (omega arith)
 
-pub label-count : (r : Region ℕ) (labels : Labels) → IsNamed r labels → label_count (relabelled (name_of labels) r) ≡ tag_count (blocks_of r)
+pub label-count : (r : Region ℕ) (labels : Labels) → IsNamed r labels → label_count (region_with_labels (name_of labels) r) ≡ tag_count (blocks_of r)
 label-count r labels names = ap (count_by (λ (c : Block home.Label). is_some c.label)) (blocks-relabelled (name_of labels) r) ∙ count-named labels (blocks_of r) names.live

@@ -6,7 +6,7 @@ use Rattle.vc_model.specs.Discipline.{Discipline, HasOut}
 use Rattle.vc_model.specs.Outcome.{Outcome, Put, outcome_as}
 use Rattle.vc_region.specs.Cells.{cells_in, rest_in}
 use Rattle.vc_region.specs.Parts.{disc_in, region_of}
-use Rattle.vc_region.specs.Region.{Region, keeps_freed, region_need, relabelled, segments_of}
+use Rattle.vc_region.specs.Region.{Region, keeps_freed, region_need, region_with_labels, segments_of}
 use Rattle.vc_region.specs.declared.region.Region.{Region as Open}
 use Rattle.vc_seg.specs.Answer.{Asks, IsPut}
 use Rattle.vc_seg.specs.declared.fault.RegionFault.{RegionFault}
@@ -62,7 +62,7 @@ pub record IsPlaced {I : Type 0} {V : I → Type 0} {E : Type 0} (meaning : (x :
   pub agree : AreLabels mid
   pub first : 1 ≤ tag
   pub vacant : label_at mid tag ≡ None
-  pub commutes : (r : List ℕ) (f : ℕ → home.Label) → f tag ≡ Some x → relabelled f (rest_in entry.region) ≡ (home_of (held_of meaning r entry labels)).region → (refused : Bool) → called (home_of (held_of meaning r entry labels)) refused ≡ outcome_as (relabelled f) (call refused)
+  pub commutes : (r : List ℕ) (f : ℕ → home.Label) → f tag ≡ Some x → region_with_labels f (rest_in entry.region) ≡ (home_of (held_of meaning r entry labels)).region → (refused : Bool) → called (home_of (held_of meaning r entry labels)) refused ≡ outcome_as (region_with_labels f) (call refused)
   pub stays : (a : ℕ) (r' : Region ℕ) → IsPut (call false) a r' → keeps_freed r' ≡ keeps_freed (rest_in entry.region)
   pub named : NamesPut tag x put mid new result
   pub seen : SeenPut call put (region_of entry.region) (region_of is) tag size

@@ -12,7 +12,7 @@ use Rattle.vc_model.specs.Best.{zeros}
 use Rattle.vc_model.specs.Discipline.{Discipline, HasOut, Unserved}
 use Rattle.vc_model.specs.Layout.{Block, without_block}
 use Rattle.vc_model.specs.Outcome.{Outcome, Done, Put, Refused, outcome_as}
-use Rattle.vc_region.specs.Region.{Region, aligns, blocks_of, keeps_freed, region_align, region_alloc, relabelled, segments_of}
+use Rattle.vc_region.specs.Region.{Region, aligns, blocks_of, keeps_freed, region_align, region_alloc, region_with_labels, segments_of}
 use Rattle.vc_model.specs.Sound.{HaveOwnPlaces}
 use Rattle.vc_model.specs.Touch.{find_block}
 use Rattle.vc_region.proofs.Relabel.{align-relabelled, aligns-relabelled, alloc-relabelled, relabelled-alike}
@@ -24,7 +24,7 @@ use Rattle.vc_script.specs.declared.refusal.Refusal.TheVariants as why
 use Rattle.vc_script.specs.declared.reply.Reply.{Reply}
 use Rattle.vc_script.specs.declared.reply.Reply.TheVariants as reply
 use Rattle.vc_commands.specs.Home as home
-use Rattle.vc_commands.specs.Home.{Changed, Home, unchanged}
+use Rattle.vc_commands.specs.Home.{Changed, Home, refusal_alone}
 use Rattle.vc_commands.specs.Held.{Held, IsChange, IsLive, IsNamed, home_of}
 use Rattle.vc_commands.specs.Blocks.{at_place, has_label, has_room, label_count, label_limit, align_refused, is_align, is_size, put_by, put_in, put_new, size_refused}
 use Rattle.vc_commands.specs.Kept.{Kept, line_of, without_name}
@@ -44,14 +44,14 @@ words_or (Some refusal) few = Some refusal
 words_or None few = cond few None (Some why.TooManyBlocks)
 
 abbrev pub put_unless : Home → List ℕ → Option Refusal → Outcome (Put (Region home.Label)) → Changed
-put_unless h x (Some why) outcome = unchanged h why
+put_unless h x (Some why) outcome = refusal_alone h why
 put_unless h x None outcome = put_in h x (without_name x h.kept) None outcome
 
-unless : (h : Home) (x : List ℕ) (outcome : Outcome (Put (Region home.Label))) (words : Option Refusal) (named few : Bool) → has_room h x ≡ few → cond named (unchanged h why.BlockExists) (put_by h x words outcome) ≡ put_unless h x (cond named (Some why.BlockExists) (words_or words few)) outcome
+unless : (h : Home) (x : List ℕ) (outcome : Outcome (Put (Region home.Label))) (words : Option Refusal) (named few : Bool) → has_room h x ≡ few → cond named (refusal_alone h why.BlockExists) (put_by h x words outcome) ≡ put_unless h x (cond named (Some why.BlockExists) (words_or words few)) outcome
 unless h x outcome words true few is = refl
 unless h x outcome (Some refusal) false few is = refl
-unless h x outcome None false true is = ap (λ b. cond b (put_in h x (without_name x h.kept) None outcome) (unchanged h why.TooManyBlocks)) is
-unless h x outcome None false false is = ap (λ b. cond b (put_in h x (without_name x h.kept) None outcome) (unchanged h why.TooManyBlocks)) is
+unless h x outcome None false true is = ap (λ b. cond b (put_in h x (without_name x h.kept) None outcome) (refusal_alone h why.TooManyBlocks)) is
+unless h x outcome None false false is = ap (λ b. cond b (put_in h x (without_name x h.kept) None outcome) (refusal_alone h why.TooManyBlocks)) is
 
 refused-by : (labels : Labels) (x : List ℕ) (words : Option Refusal) → new_refused_by labels x words ≡ words_or words (is_some (line_of x (kept_of labels)) || nat_lt (length labels.tags.entries) label_limit)
 refused-by labels x None = refl
@@ -69,7 +69,7 @@ put_new-by h x words outcome names =
     ∙ (ap (λ b. put_unless k x (cond b (Some why.BlockExists) (words_or words few)) outcome) (sym (names.known x))
     ∙ ap (λ o. put_unless k x (cond (is_some (tag_of h.labels x)) (Some why.BlockExists) o) outcome) (sym (refused-by h.labels x words)))
 
-pub put_new-refused : (h : Held) (x : List ℕ) (legal : Option Refusal) (outcome : Outcome (Put (Region home.Label))) (refusal : Refusal) → IsNamed h.region h.labels → new_refused h.labels x legal ≡ Some refusal → put_new (home_of h) x legal outcome ≡ unchanged (home_of h) refusal
+pub put_new-refused : (h : Held) (x : List ℕ) (legal : Option Refusal) (outcome : Outcome (Put (Region home.Label))) (refusal : Refusal) → IsNamed h.region h.labels → new_refused h.labels x legal ≡ Some refusal → put_new (home_of h) x legal outcome ≡ refusal_alone (home_of h) refusal
 put_new-refused h x legal outcome refusal names is = put_new-by h x legal outcome names ∙ ap (λ o. put_unless (home_of h) x o outcome) is
 
 pub put_new-none : (h : Held) (x : List ℕ) (legal : Option Refusal) (outcome : Outcome (Put (Region home.Label))) → IsNamed h.region h.labels → new_refused h.labels x legal ≡ None → put_new (home_of h) x legal outcome ≡ put_in (home_of h) x (without_name x (kept_of h.labels)) None outcome
@@ -87,8 +87,8 @@ none-of-some (Some x) e = absurd cc
 pub new-name : (labels : Labels) (x : List ℕ) (legal : Option Refusal) → new_refused labels x legal ≡ None → tag_of labels x ≡ None
 new-name labels x legal is = none-of-some (tag_of labels x) (unless-new (is_some (tag_of labels x)) (new_refused_by labels x legal) is)
 
-pub gives-put : (h : Home) (x : List ℕ) (kept : Kept) (watch : Option ℕ) (f : ℕ → home.Label) (o : Outcome (Put (Region ℕ))) (a : ℕ) (r' : Region ℕ) → IsPut o a r' → GivesRegion (put_in h x kept watch (outcome_as (relabelled f) o)) (relabelled f r', kept) (at_place x (place_of a) watch)
-gives-put h x kept watch f (Done p) a r' is = record { region_after = ap (relabelled f) (sym is.2); kept_after = refl; replied = ap (λ q. at_place x q watch) is.1 }
+pub gives-put : (h : Home) (x : List ℕ) (kept : Kept) (watch : Option ℕ) (f : ℕ → home.Label) (o : Outcome (Put (Region ℕ))) (a : ℕ) (r' : Region ℕ) → IsPut o a r' → GivesRegion (put_in h x kept watch (outcome_as (region_with_labels f) o)) (region_with_labels f r', kept) (at_place x (place_of a) watch)
+gives-put h x kept watch f (Done p) a r' is = record { region_after = ap (region_with_labels f) (sym is.2); kept_after = refl; replied = ap (λ q. at_place x q watch) is.1 }
 gives-put h x kept watch f (Refused why) a r' is = absurd is
 
 pub put-address : (o : Outcome (Put (Region ℕ))) (a : ℕ) (r' : Region ℕ) → IsPut o a r' → a ≡ address (place_of a)
@@ -111,7 +111,7 @@ pub record Putting (h : Held) (x : List ℕ) (legal : Option Refusal) : Type 0 w
   pub vacant : label_at mid tag ≡ None
   pub call : Bool → Outcome (Put (Region ℕ))
   pub called : Bool → Outcome (Put (Region home.Label))
-  pub commutes : (f : ℕ → home.Label) → f tag ≡ Some x → relabelled f h.region ≡ (home_of h).region → (refused : Bool) → called refused ≡ outcome_as (relabelled f) (call refused)
+  pub commutes : (f : ℕ → home.Label) → f tag ≡ Some x → region_with_labels f h.region ≡ (home_of h).region → (refused : Bool) → called refused ≡ outcome_as (region_with_labels f) (call refused)
   pub stays : (a : ℕ) (r' : Region ℕ) → IsPut (call false) a r' → keeps_freed r' ≡ keeps_freed h.region
 
 -- the region and the labels after the call
@@ -128,7 +128,7 @@ module _ (h : Held) (x : List ℕ) (legal : Option Refusal) (p : Putting h x leg
       ap (λ b. cond b (Some x) (name_of p.mid t)) differs
 
   -- no block has the tag, so that any name may be its name
-  with-old : relabelled (name_with p.mid p.tag x) h.region ≡ (home_of h).region
+  with-old : region_with_labels (name_with p.mid p.tag x) h.region ≡ (home_of h).region
   with-old =
       relabelled-alike (name_with p.mid p.tag x) (name_of p.mid) h.region (go (blocks_of h.region) mid-names.live)
       ∙ relabelled-same h.labels p.mid h.region p.same
@@ -143,48 +143,48 @@ module _ (h : Held) (x : List ℕ) (legal : Option Refusal) (p : Putting h x leg
       )
 
   -- a fault leaves the region and its names
-  back : new ≡ p.mid → region ≡ h.region → relabelled (name_of new) region ≡ (home_of h).region
+  back : new ≡ p.mid → region ≡ h.region → region_with_labels (name_of new) region ≡ (home_of h).region
   back labels_same region_same =
-      ap (λ l. relabelled (name_of l) region) labels_same
-      ∙ (ap (relabelled (name_of p.mid)) region_same ∙ relabelled-same h.labels p.mid h.region p.same)
+      ap (λ l. region_with_labels (name_of l) region) labels_same
+      ∙ (ap (region_with_labels (name_of p.mid)) region_same ∙ relabelled-same h.labels p.mid h.region p.same)
 
   taken : kept_of new ≡ without_name x (kept_of p.mid) → kept_of new ≡ without_name x (kept_of h.labels)
   taken e = e ∙ ap (without_name x) p.same.kept
 
-  gives-new : (a : Addr) → WithLabel p.mid new p.tag (record { name = x; at = a }) → kept_of new ≡ without_name x (kept_of p.mid) → IsPut (p.call false) a.0 region → GivesRegion (put_new (home_of h) x legal (p.called false)) (relabelled (name_of new) region, kept_of new) (at_place x (place_of a.0) None)
+  gives-new : (a : Addr) → WithLabel p.mid new p.tag (record { name = x; at = a }) → kept_of new ≡ without_name x (kept_of p.mid) → IsPut (p.call false) a.0 region → GivesRegion (put_new (home_of h) x legal (p.called false)) (region_with_labels (name_of new) region, kept_of new) (at_place x (place_of a.0) None)
   gives-new a w keeps is =
       let k = home_of h in
       let label : Label = record { name = x; at = a } in
       let f = name_of new in
-      let old : relabelled f h.region ≡ k.region = region-more p.mid new p.tag label w p.vacant h.region mid-names ∙ relabelled-same h.labels p.mid h.region p.same in
+      let old : region_with_labels f h.region ≡ k.region = region-more p.mid new p.tag label w p.vacant h.region mid-names ∙ relabelled-same h.labels p.mid h.region p.same in
       let kept = without_name x (kept_of h.labels) in
-      let eq : put_new k x legal (p.called false) ≡ put_in k x kept None (outcome_as (relabelled f) (p.call false)) =
+      let eq : put_new k x legal (p.called false) ≡ put_in k x kept None (outcome_as (region_with_labels f) (p.call false)) =
       put_new-none h x legal (p.called false) p.names p.allowed ∙ ap (put_in k x kept None) (p.commutes f (name-new p.mid new p.tag label w p.vacant) old false) in
-      subst (λ c. GivesRegion c (relabelled f region, kept_of new) (at_place x (place_of a.0) None)) (sym eq)
-      (subst (λ q. GivesRegion (put_in k x kept None (outcome_as (relabelled f) (p.call false))) (relabelled f region, q) (at_place x (place_of a.0) None)) (sym (taken keeps))
+      subst (λ c. GivesRegion c (region_with_labels f region, kept_of new) (at_place x (place_of a.0) None)) (sym eq)
+      (subst (λ q. GivesRegion (put_in k x kept None (outcome_as (region_with_labels f) (p.call false))) (region_with_labels f region, q) (at_place x (place_of a.0) None)) (sym (taken keeps))
       (gives-put k x kept None f (p.call false) a.0 region is))
 
-  gives-refused : (told : Reply) → Told p.call told → new ≡ p.mid → region ≡ h.region → GivesRegion (put_new (home_of h) x legal (p.called (is_for_block (need_shown told)))) (relabelled (name_of new) region, kept_of new) told
+  gives-refused : (told : Reply) → Told p.call told → new ≡ p.mid → region ≡ h.region → GivesRegion (put_new (home_of h) x legal (p.called (is_for_block (need_shown told)))) (region_with_labels (name_of new) region, kept_of new) told
   gives-refused told t labels_same region_same =
       let k = home_of h in
       let u = is_for_block (need_shown told) in
       let f = name_with p.mid p.tag x in
-      let eq : put_new k x legal (p.called u) ≡ put_in k x (without_name x (kept_of h.labels)) None (outcome_as (relabelled f) (Refused t.fault)) =
-      put_new-none h x legal (p.called u) p.names p.allowed ∙ ap (put_in k x (without_name x (kept_of h.labels)) None) (p.commutes f with-new with-old u ∙ ap (outcome_as (relabelled f)) t.refused) in
-      subst (λ c. GivesRegion c (relabelled (name_of new) region, kept_of new) told) (sym eq) (record { region_after = sym (back labels_same region_same); kept_after = sym (ap kept_of labels_same ∙ p.same.kept); replied = t.is })
+      let eq : put_new k x legal (p.called u) ≡ put_in k x (without_name x (kept_of h.labels)) None (outcome_as (region_with_labels f) (Refused t.fault)) =
+      put_new-none h x legal (p.called u) p.names p.allowed ∙ ap (put_in k x (without_name x (kept_of h.labels)) None) (p.commutes f with-new with-old u ∙ ap (outcome_as (region_with_labels f)) t.refused) in
+      subst (λ c. GivesRegion c (region_with_labels (name_of new) region, kept_of new) told) (sym eq) (record { region_after = sym (back labels_same region_same); kept_after = sym (ap kept_of labels_same ∙ p.same.kept); replied = t.is })
 
   -- the reply is that of the definitions
-  pub step-put : {E : Type 0} (put : Result Addr RegionFault) (result : Result Reply E) → NamesPut p.tag x put p.mid new result → Answers p.call put h.region region → IfOk result (λ told. GivesRegion (put_new (home_of h) x legal (p.called (is_for_block (need_shown told)))) (relabelled (name_of new) region, kept_of new) told)
+  pub step-put : {E : Type 0} (put : Result Addr RegionFault) (result : Result Reply E) → NamesPut p.tag x put p.mid new result → Answers p.call put h.region region → IfOk result (λ told. GivesRegion (put_new (home_of h) x legal (p.called (is_for_block (need_shown told)))) (region_with_labels (name_of new) region, kept_of new) told)
   step-put (Ok a) (Ok told) named answers =
       let is : told ≡ at_place x (place_of a.0) None = ap (get_ok told) named.0 in
-      subst (λ t. GivesRegion (put_new (home_of h) x legal (p.called (is_for_block (need_shown t)))) (relabelled (name_of new) region, kept_of new) t) (sym is) (gives-new a named.1 named.3 answers)
+      subst (λ t. GivesRegion (put_new (home_of h) x legal (p.called (is_for_block (need_shown t)))) (region_with_labels (name_of new) region, kept_of new) t) (sym is) (gives-new a named.1 named.3 answers)
   step-put (Err fault) (Ok told) named answers = gives-refused told (fault-told p.call fault told named.0 answers.0) named.1 answers.1
   step-put put (Err e) named answers = tt
 
   -- with no memory the region stays
-  pub err-put : {E : Type 0} (put : Result Addr RegionFault) (result : Result Reply E) → NamesPut p.tag x put p.mid new result → Answers p.call put h.region region → OnErr result ((let p : Region home.Label × Kept = (relabelled (name_of new) region, kept_of new) in p) ≡ ((home_of h).region, (home_of h).kept))
+  pub err-put : {E : Type 0} (put : Result Addr RegionFault) (result : Result Reply E) → NamesPut p.tag x put p.mid new result → Answers p.call put h.region region → OnErr result ((let p : Region home.Label × Kept = (region_with_labels (name_of new) region, kept_of new) in p) ≡ ((home_of h).region, (home_of h).kept))
   err-put (Ok a) (Err e) named answers = absurd (subst IsAn (sym named.0) tt)
-  err-put (Err fault) (Err e) named answers = both-same (relabelled (name_of new) region) (home_of h).region (kept_of new) (home_of h).kept (back named.1 answers.1) (ap kept_of named.1 ∙ p.same.kept)
+  err-put (Err fault) (Err e) named answers = both-same (region_with_labels (name_of new) region) (home_of h).region (kept_of new) (home_of h).kept (back named.1 answers.1) (ap kept_of named.1 ∙ p.same.kept)
   err-put put (Ok told) named answers = tt
 
   module _ (disc : Discipline) (need size : ℕ) where
@@ -209,15 +209,15 @@ module _ (h : Held) (x : List ℕ) (legal : Option Refusal) (p : Putting h x leg
     unserved-put (Err fault) (Err e) named asks is = absurd (subst IsAn (sym is) tt)
 
 -- the calls that put a block are those of the names
-pub alloc-commutes : (h : Held) (x : List ℕ) (tag : ℕ) (site : List ℕ) (size : ℕ) (f : ℕ → home.Label) → f tag ≡ Some x → relabelled f h.region ≡ (home_of h).region → (u : Bool) → region_alloc h.disc.terms (home_of h).region (Some x) site size u ≡ outcome_as (relabelled f) (region_alloc h.disc.terms h.region tag site size u)
+pub alloc-commutes : (h : Held) (x : List ℕ) (tag : ℕ) (site : List ℕ) (size : ℕ) (f : ℕ → home.Label) → f tag ≡ Some x → region_with_labels f h.region ≡ (home_of h).region → (u : Bool) → region_alloc h.disc.terms (home_of h).region (Some x) site size u ≡ outcome_as (region_with_labels f) (region_alloc h.disc.terms h.region tag site size u)
 alloc-commutes h x tag site size f new same u =
     ap (λ r. region_alloc h.disc.terms r (Some x) site size u) (sym same)
-    ∙ (ap (λ l. region_alloc h.disc.terms (relabelled f h.region) l site size u) (sym new) ∙ alloc-relabelled f h.disc.terms h.region tag site size u)
+    ∙ (ap (λ l. region_alloc h.disc.terms (region_with_labels f h.region) l site size u) (sym new) ∙ alloc-relabelled f h.disc.terms h.region tag site size u)
 
-pub align-commutes : (h : Held) (x : List ℕ) (tag : ℕ) (site : List ℕ) (size align : ℕ) (f : ℕ → home.Label) → f tag ≡ Some x → relabelled f h.region ≡ (home_of h).region → (u : Bool) → region_align h.disc.terms (home_of h).region (Some x) site size align u ≡ outcome_as (relabelled f) (region_align h.disc.terms h.region tag site size align u)
+pub align-commutes : (h : Held) (x : List ℕ) (tag : ℕ) (site : List ℕ) (size align : ℕ) (f : ℕ → home.Label) → f tag ≡ Some x → region_with_labels f h.region ≡ (home_of h).region → (u : Bool) → region_align h.disc.terms (home_of h).region (Some x) site size align u ≡ outcome_as (region_with_labels f) (region_align h.disc.terms h.region tag site size align u)
 align-commutes h x tag site size align f new same u =
     ap (λ r. region_align h.disc.terms r (Some x) site size align u) (sym same)
-    ∙ (ap (λ l. region_align h.disc.terms (relabelled f h.region) l site size align u) (sym new) ∙ align-relabelled f h.disc.terms h.region tag site size align u)
+    ∙ (ap (λ l. region_align h.disc.terms (region_with_labels f h.region) l site size align u) (sym new) ∙ align-relabelled f h.disc.terms h.region tag site size align u)
 
 unless-words : (named : Bool) (labels : Labels) (x : List ℕ) (words : Option Refusal) → cond named (Some why.BlockExists) (new_refused_by labels x words) ≡ None → words ≡ None
 unless-words true labels x words e = absurd (none-some why.BlockExists (sym e))

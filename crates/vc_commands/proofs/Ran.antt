@@ -24,7 +24,7 @@ use Rattle.vc_script.specs.declared.reply.Reply.{Reply}
 use Rattle.vc_script.specs.declared.reply.Reply.TheVariants.{Refused}
 use Rattle.vc_commands.specs.DictCommands.{append_in, asks, in_dict}
 use Rattle.vc_commands.specs.DictRun.{AskedFor, GivesDict, IsSpent, IsSpentBy, LacksFor}
-use Rattle.vc_commands.specs.Seat.{Seat, declined}
+use Rattle.vc_commands.specs.Seat.{Seat, seat_with_refusal}
 
 -- a reply that needs nothing lacks nothing
 table-needed : ForTable ≡ NoNeed → ⊥
@@ -102,7 +102,7 @@ pub other-told : (s : Seat ℕ) (command : Command) (need : Need)
     → ((d : List ℕ) → command ≡ Count d → ⊥)
     → ((d : List ℕ) (x : DictMethod) → command ≡ Remethod d x → ⊥)
     → ((d : List ℕ) → command ≡ Empty d → ⊥)
-    → in_dict s command need ≡ declined s NoDictionary
+    → in_dict s command need ≡ seat_with_refusal s NoDictionary
 other-told s (Insert d x) need n0 n1 n2 n3 n4 n5 n6 n7 = absurd (n0 d x refl)
 other-told s (Append d x) need n0 n1 n2 n3 n4 n5 n6 n7 = absurd (n1 d x refl)
 other-told s (Attach d x) need n0 n1 n2 n3 n4 n5 n6 n7 = absurd (n2 d x refl)

@@ -11,7 +11,7 @@ use Rattle.vc_script.specs.declared.reply.Reply.{Reply}
 use Rattle.vc_script.specs.declared.reply.Reply.TheVariants.{Refused}
 use Rattle.vc_script.specs.Needs.{Need, need_shown}
 use Rattle.vc_commands.specs.Held.{home_of}
-use Rattle.vc_commands.specs.Home.{Changed, Home, unchanged}
+use Rattle.vc_commands.specs.Home.{Changed, Home, refusal_alone}
 use Rattle.vc_commands.specs.RegionCommands.{in_region}
 use Rattle.vc_commands.specs.RegionRun.{RunsHome, RunsRegion, held_of, region_with}
 use Rattle.vc_commands.specs.declared.region.home.HomeEntry.{HomeEntry}
@@ -83,7 +83,7 @@ pub other-region : (h : Home) (line : ℕ) (command : Command) (need : Need)
     → ((r : List ℕ) → command ≡ Check r → ⊥)
     → ((r x : List ℕ) → command ≡ Watch r x → ⊥)
     → ((r : List ℕ) → command ≡ ProfileOf r → ⊥)
-    → in_region h line command need ≡ unchanged h why.NoRegion
+    → in_region h line command need ≡ refusal_alone h why.NoRegion
 other-region h line (ClearRegion r) need n0 n1 n2 n3 n4 n5 n6 n7 n8 n9 na nb nc nd ne nf ng nh = absurd (n0 r refl)
 other-region h line (Compact r) need n0 n1 n2 n3 n4 n5 n6 n7 n8 n9 na nb nc nd ne nf ng nh = absurd (n1 r refl)
 other-region h line (Alloc r x size site) need n0 n1 n2 n3 n4 n5 n6 n7 n8 n9 na nb nc nd ne nf ng nh = absurd (n2 r x size site refl)

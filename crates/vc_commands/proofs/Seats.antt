@@ -14,7 +14,7 @@ use Rattle.vc_best.specs.Parts.{disc_in, segments_in}
 use Rattle.vc_best.specs.declared.best.Best.{Best}
 use Rattle.vc_objects.specs.Insert.{insert, slots_wanted, want_of}
 use Rattle.vc_objects.specs.Leaves.{Asked, GivesInserted, GivesRemoved, GivesTurned, LeavesRest, Looks, no_holder, no_table, told_each, told_if}
-use Rattle.vc_objects.specs.Objects.{Dictionary, listed, owned}
+use Rattle.vc_objects.specs.Objects.{Dictionary, option_list, own_blocks}
 use Rattle.vc_objects.specs.Parts.{dictionary_in}
 use Rattle.vc_objects.specs.Remove.{Removed, remove}
 use Rattle.vc_objects.proofs.Leaving.{keeps-trans}
@@ -33,15 +33,15 @@ abbrev seat_by : Rules → Terms → Layout ℕ → Dictionary → Seat ℕ
 seat_by rules terms region dict = record { rules = rules; terms = terms; none = 0; region = region; dict = dict }
 
 module _ {I : Type 0} {V : I → Type 0} (meaning : (x : I) × V x → Discipline) (rules : Rules) (r : Best I V) (d : Dict) (r' : Best I V) (d' : Dict) (l : Looks meaning rules r d r' d') where
-  same-owned : owned (dictionary_in d' r') ≡ owned (dictionary_in d r)
-  same-owned = ap owned l.dict
+  same-owned : own_blocks (dictionary_in d' r') ≡ own_blocks (dictionary_in d r)
+  same-owned = ap own_blocks l.dict
 
   pub leaves-looked : (r'' : Best I V) (d'' : Dict) → LeavesRest meaning rules r' d' r'' d'' → LeavesRest meaning rules r d r'' d''
   leaves-looked r'' d'' s =
       let one = l.leaves.rest in
       let two = s.rest in
-      let mine = owned (dictionary_in d r) in
-      let mine' = owned (dictionary_in d'' r'') in
+      let mine = own_blocks (dictionary_in d r) in
+      let mine' = own_blocks (dictionary_in d'' r'') in
       let before : (a : ℕ) → contains mine a ≡ false → cells_in r' a ≡ cells_in r a =
       λ a h. one.others a h (ap (λ (xs : List ℕ). contains xs a) same-owned ∙ h) in
       record {
@@ -102,7 +102,7 @@ pub turn-refused : (s : Seat ℕ) (name : List ℕ) (method : DictMethod) (o : O
 turn-refused s name method o fault r d gone gone' is e f h = rw is (record { region = sym e; dict = sym f; reply = refl; told = h })
 
 -- what was taken out is told by its reply
-told-listed : (tells : Bool) (o : Option (List ℕ)) (gone : Gone) → told_if tells o gone ≡ told_each (if tells then listed o else []) gone
+told-listed : (tells : Bool) (o : Option (List ℕ)) (gone : Gone) → told_if tells o gone ≡ told_each (if tells then option_list o else []) gone
 told-listed true None gone = refl
 told-listed true (Some bytes) gone = refl
 told-listed false None gone = refl
@@ -121,7 +121,7 @@ take-told tells c o r d answer gone gone' g e f = record {
   region = g.region;
   dict = g.dict;
   reply = ap (gone_reply tells) g.gone ∙ sym f;
-  told = e ∙ (told-listed tells o gone ∙ ap (λ x. told_each (if tells then listed x else []) gone) (sym g.gone));
+  told = e ∙ (told-listed tells o gone ∙ ap (λ x. told_each (if tells then option_list x else []) gone) (sym g.gone));
 }
 
 -- of the object of a command, by the key that was asked for

@@ -10,7 +10,7 @@ use Rattle.vc_model.specs.Layout.{Block, without_block}
 use Rattle.vc_model.specs.Outcome.{Done, Outcome, Put}
 use Rattle.vc_model.specs.Sound.{HaveOwnPlaces}
 use Rattle.vc_model.specs.Touch.{find_block}
-use Rattle.vc_best.specs.Cells.{zeroed}
+use Rattle.vc_best.specs.Cells.{block_shown}
 use Rattle.vc_region.specs.Cells.{region_cells, rest_of}
 use Rattle.vc_region.specs.Region.{Region, blocks_of, region_align, region_alloc, region_free, region_need, region_poke, region_resize, region_write, segments_of}
 use Rattle.vc_region.specs.Stat.{method_of}
@@ -90,10 +90,10 @@ module _ (terms : Terms) (r r' : Region ℕ) (tag : ℕ) (site : List ℕ) (size
         cells = answers-cells (region_align terms r tag site size align) r r' _ _ (λ a. put-cells_kept r r' method a.0 tag size (tagged tag first) places) result answer there others;
       }
 
-found-plain : (o : Option (Block ℕ)) (b : Block ℕ) → b.label ≢ 0 → option_map zeroed o ≡ Some b → o ≡ Some b
+found-plain : (o : Option (Block ℕ)) (b : Block ℕ) → b.label ≢ 0 → option_map block_shown o ≡ Some b → o ≡ Some b
 found-plain None b labelled e = absurd (none-some b e)
 found-plain (Some c) b labelled e =
-    let same : zeroed c ≡ b = same_Some (zeroed c) b e in
+    let same : block_shown c ≡ b = same_Some (block_shown c) b e in
     let label : c.label ≡ b.label = ap (λ (d : Block ℕ). d.label) same in
     ap (λ d. Some d) (sym (zeroed-labelled c (plain c (λ z. labelled (sym label ∙ z)))) ∙ same)
 

@@ -6,11 +6,11 @@ use Rattle.vc_region.specs.Region.{damaged_in, is_debug, is_profile, region_poke
 use Rattle.vc_script.specs.declared.reply.Reply.TheVariants.{Poked, Watched, Damaged, Rows}
 use Rattle.vc_script.specs.declared.refusal.Refusal.TheVariants as why
 use Rattle.vc_commands.specs.Blocks.{on_block}
-use Rattle.vc_commands.specs.Home.{Changed, Home, Label, changed_to, told, unchanged}
+use Rattle.vc_commands.specs.Home.{Changed, Home, Label, changed_to, reply_alone, refusal_alone}
 
 -- what is done where the region's method allows it
 abbrev pub where_allowed : Home → Bool → Changed → Changed
-where_allowed h allowed c = if allowed then c else unchanged h why.WrongMethod
+where_allowed h allowed c = if allowed then c else refusal_alone h why.WrongMethod
 
 -- a byte that is put at an offset in the block's bytes or in its guards
 abbrev pub is_poke : ℕ → ℤ → ℕ → Bool
@@ -20,7 +20,7 @@ abbrev pub poke_byte : Home → List ℕ → ℤ → ℕ → Block Label → Cha
 poke_byte h x off byte b =
     if is_poke b.size off byte
     then changed_to h (region_poke h.region (b.seg, b.off) off byte) (Poked x (watch_at h.region (b.seg, b.off)))
-    else unchanged h why.Range
+    else refusal_alone h why.Range
 
 abbrev pub poke_block : Home → List ℕ → ℤ → ℕ → Block Label → Changed
 poke_block h x off byte b = where_allowed h (is_debug h.region) (poke_byte h x off byte b)
@@ -43,8 +43,8 @@ damage_item f = option_map (λ x. (x, f.1)) f.0.label
 
 -- the damaged blocks by address; each block of a debug region has a name
 abbrev pub check_in : Home → Changed
-check_in h = where_allowed h (is_debug h.region) (told h (Damaged (filter_map damage_item (damaged_in h.region))))
+check_in h = where_allowed h (is_debug h.region) (reply_alone h (Damaged (filter_map damage_item (damaged_in h.region))))
 
 -- the counts of each site
 abbrev pub profile_in : Home → Changed
-profile_in h = where_allowed h (is_profile h.region) (told h (Rows (rows_in h.region)))
+profile_in h = where_allowed h (is_profile h.region) (reply_alone h (Rows (rows_in h.region)))

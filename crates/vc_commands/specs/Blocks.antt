@@ -13,7 +13,7 @@ use Rattle.vc_script.specs.declared.reply.Reply.TheVariants.{At, Freed, Written,
 use Rattle.vc_script.specs.declared.refusal.Refusal.{Refusal}
 use Rattle.vc_script.specs.declared.refusal.Refusal.TheVariants as why
 use Rattle.vc_commands.specs.Kept.{Kept, line_of, with_line, without_name}
-use Rattle.vc_commands.specs.Home.{Changed, Home, Label, changed_to, told, unchanged}
+use Rattle.vc_commands.specs.Home.{Changed, Home, Label, changed_to, reply_alone, refusal_alone}
 
 -- whether a label is that name
 abbrev pub is_name_of : List ℕ → Label → Bool
@@ -37,7 +37,7 @@ no_block (Some line) = why.FreedAt line
 
 -- what is done with the block of that name
 abbrev pub with_named : Home → List ℕ → Option (Block Label) → (Block Label → Changed) → Changed
-with_named h x None act = unchanged h (no_block (line_of x h.kept))
+with_named h x None act = refusal_alone h (no_block (line_of x h.kept))
 with_named h x (Some b) act = act b
 
 abbrev pub on_block : Home → List ℕ → (Block Label → Changed) → Changed
@@ -85,17 +85,17 @@ fault_of code.WrongMethod = Some model.WrongMethod
 -- what a call gives that puts a block or keeps it, where these names are kept then and this is the block's watch
 abbrev pub put_in : Home → List ℕ → Kept → Option ℕ → Outcome (Put (Region Label)) → Changed
 put_in h x kept watch (Done p) = record { region = p.region; kept = kept; reply = at_place x p.at watch; granted = p.granted }
-put_in h x kept watch (Refused fault) = unchanged h (refusal_of fault)
+put_in h x kept watch (Refused fault) = refusal_alone h (refusal_of fault)
 
 -- a new block whose name no block has
 abbrev pub put_by : Home → List ℕ → Option Refusal → Outcome (Put (Region Label)) → Changed
-put_by h x (Some refusal) outcome = unchanged h refusal
+put_by h x (Some refusal) outcome = refusal_alone h refusal
 put_by h x None outcome =
-    if has_room h x then put_in h x (without_name x h.kept) None outcome else unchanged h why.TooManyBlocks
+    if has_room h x then put_in h x (without_name x h.kept) None outcome else refusal_alone h why.TooManyBlocks
 
 -- a new block needs a name that no block has, words that are not refused, and room for the name; the name is kept as freed no more
 abbrev pub put_new : Home → List ℕ → Option Refusal → Outcome (Put (Region Label)) → Changed
-put_new h x words outcome = if has_label x h.region then unchanged h why.BlockExists else put_by h x words outcome
+put_new h x words outcome = if has_label x h.region then refusal_alone h why.BlockExists else put_by h x words outcome
 
 -- the refusal of the size of a new block
 abbrev pub size_refused : ℕ → Option Refusal
@@ -125,13 +125,13 @@ align_in h x size align not_lent =
 abbrev pub kept_freed : Home → List ℕ → ℕ → Kept
 kept_freed h x line = if keeps_freed h.region then with_line x line h.kept else h.kept
 
-abbrev pub freed : Home → List ℕ → Kept → Option ℕ → Outcome (Region Label) → Changed
-freed h x kept watch (Done region) = record { region = region; kept = kept; reply = Freed x watch; granted = None }
-freed h x kept watch (Refused fault) = unchanged h (refusal_of fault)
+abbrev pub change_by_free : Home → List ℕ → Kept → Option ℕ → Outcome (Region Label) → Changed
+change_by_free h x kept watch (Done region) = record { region = region; kept = kept; reply = Freed x watch; granted = None }
+change_by_free h x kept watch (Refused fault) = refusal_alone h (refusal_of fault)
 
 abbrev pub free_block : Home → List ℕ → ℕ → Block Label → Changed
 free_block h x line b =
-    freed h x (kept_freed h x line) (watch_at h.region (b.seg, b.off)) (region_free h.region (b.seg, b.off))
+    change_by_free h x (kept_freed h x line) (watch_at h.region (b.seg, b.off)) (region_free h.region (b.seg, b.off))
 
 -- a block is freed at a line
 abbrev pub free_in : Home → List ℕ → ℕ → Changed
@@ -142,7 +142,7 @@ resize_block h x size may_move not_lent b =
     if is_size size
     then put_in h x h.kept (watch_at h.region (b.seg, b.off))
     (region_resize h.terms h.region (b.seg, b.off) size may_move not_lent)
-    else unchanged h why.Size
+    else refusal_alone h why.Size
 
 -- a block gets another size, where it is or where it moves to
 abbrev pub resize_in : Home → List ℕ → ℕ → Bool → Bool → Changed
@@ -153,7 +153,7 @@ write_block h x off bytes b =
     if nat_le (off + length bytes) b.size
     then changed_to h (region_write h.region (b.seg, b.off) off bytes)
     (Written x (length bytes) (watch_at h.region (b.seg, b.off)))
-    else unchanged h why.Range
+    else refusal_alone h why.Range
 
 -- bytes are written into a block, from an offset on
 abbrev pub write_in : Home → List ℕ → ℕ → List ℕ → Changed
@@ -162,12 +162,12 @@ write_in h x off bytes = on_block h x (write_block h x off bytes)
 abbrev pub read_block : Home → List ℕ → ℕ → ℕ → Block Label → Changed
 read_block h x off len b =
     if (nat_le 1 len && nat_le len 4096) && nat_le (off + len) b.size
-    then told h (Hex x (take len (drop off b.bytes)))
-    else unchanged h why.Range
+    then reply_alone h (Hex x (take len (drop off b.bytes)))
+    else refusal_alone h why.Range
 
 -- 1 to 4,096 bytes of a block, from an offset on
 abbrev pub read_in : Home → List ℕ → ℕ → ℕ → Changed
 read_in h x off len = on_block h x (read_block h x off len)
 
 abbrev pub size_in : Home → List ℕ → Changed
-size_in h x = on_block h x (λ b. told h (Size x b.size))
+size_in h x = on_block h x (λ b. reply_alone h (Size x b.size))

@@ -8,8 +8,8 @@ use Rattle.vc_dtdisc.specs.Objects as objects
 use Rattle.vc_dtdisc.specs.Objects.{Object, first_with}
 use Rattle.vc_dict.specs.Methods.{slots_between}
 use Rattle.vc_objects.specs.Insert.{Inserted, insert, slots_wanted, want_of}
-use Rattle.vc_objects.specs.Objects.{listed}
-use Rattle.vc_objects.specs.Remove.{Removed, bytes_of, emptied, freed_all, remove, remove_unnamed}
+use Rattle.vc_objects.specs.Objects.{option_list}
+use Rattle.vc_objects.specs.Remove.{Removed, bytes_of, without_objects, freed_all, remove, remove_unnamed}
 use Rattle.vc_objects.specs.Turn.{Turned, turn}
 use Rattle.vc_objects.specs.declared.fate.Fate.{Fate}
 use Rattle.vc_objects.specs.declared.fate.Fate.TheVariants.{Stored, NoTable, NoHolder}
@@ -22,7 +22,7 @@ use Rattle.vc_script.specs.declared.refusal.Refusal.{Refusal}
 use Rattle.vc_script.specs.declared.refusal.Refusal.TheVariants as why
 use Rattle.vc_script.specs.declared.reply.Reply.{Reply}
 use Rattle.vc_script.specs.declared.reply.Reply.TheVariants.{New, Old, Gone, Out, Nothing, Number, MethodIs, Emptied, Refused}
-use Rattle.vc_commands.specs.Seat.{DictChanged, Seat, answered, declined}
+use Rattle.vc_commands.specs.Seat.{DictChanged, Seat, seat_with_reply, seat_with_refusal}
 
 abbrev pub is_for_table : Need → Bool
 is_for_table NoNeed = false
@@ -41,7 +41,7 @@ abbrev pub is_object : List ℕ → Bool
 is_object bytes = nat_le 1 (length bytes) && nat_le (length bytes) 1024
 
 abbrev pub where_object : {L : Type 0} → Seat L → List ℕ → DictChanged L → DictChanged L
-where_object s bytes c = if is_object bytes then c else declined s why.Size
+where_object s bytes c = if is_object bytes then c else seat_with_refusal s why.Size
 
 -- the refusal of a script for what a table wants, and for what a holder does
 abbrev pub table_refusal : Want → Refusal
@@ -73,7 +73,7 @@ standing s bytes =
     else None
 
 abbrev pub put_unless : {L : Type 0} → Seat L → List ℕ → Need → Option Object → DictChanged L
-put_unless s bytes need (Some o) = answered s (Old o.bytes)
+put_unless s bytes need (Some o) = seat_with_reply s (Old o.bytes)
 put_unless s bytes need None = put_object s false bytes need
 
 -- an object is put, unless one of a set matches it
@@ -92,7 +92,7 @@ abbrev pub append_in : {L : Type 0} → Seat L → List ℕ → Need → DictCha
 append_in s bytes need =
     if is_list s.dict.method
     then where_object s bytes (put_object s true (s.rules.made bytes) need)
-    else declined s why.WrongMethod
+    else seat_with_refusal s why.WrongMethod
 
 -- what was taken out is told to the script, and to the kind where that is wanted
 abbrev pub gone_reply : Bool → Option (List ℕ) → Reply
@@ -105,7 +105,7 @@ removed_as tells c =
       region = c.region;
       dict = c.dict;
       reply = gone_reply tells c.gone;
-      told = if tells then listed c.gone else [];
+      told = if tells then option_list c.gone else [];
       granted = [];
     }
 
@@ -121,7 +121,7 @@ abbrev pub empty_in : {L : Type 0} → Seat L → List ℕ → DictChanged L
 empty_in s name =
     record {
       region = freed_all s.region s.dict.objects;
-      dict = emptied s.dict;
+      dict = without_objects s.dict;
       reply = Emptied name (length s.dict.objects);
       told = bytes_of s.dict.objects;
       granted = [];
@@ -129,7 +129,7 @@ empty_in s name =
 
 -- another method
 abbrev pub turned_as : {L : Type 0} → Seat L → List ℕ → DictMethod → Outcome (Turned L) → DictChanged L
-turned_as s name method (model.Refused fault) = declined s (table_refusal (want_of fault))
+turned_as s name method (model.Refused fault) = seat_with_refusal s (table_refusal (want_of fault))
 turned_as s name method (model.Done t) =
     record { region = t.region; dict = t.dict; reply = MethodIs name method; told = t.gone; granted = t.granted }
 
@@ -140,11 +140,11 @@ in_dict s (Append d bytes) need = append_in s bytes need
 in_dict s (Attach d bytes) need = attach_in s bytes need
 in_dict s (Delete d object) need = delete_in s object
 in_dict s (Detach d bytes) need = remove_in s false bytes
-in_dict s (Count d) need = answered s (Number (length s.dict.objects))
+in_dict s (Count d) need = seat_with_reply s (Number (length s.dict.objects))
 in_dict s (Remethod d method) need =
     turned_as s d method (turn s.rules s.terms s.region s.none s.dict method (is_for_table need))
 in_dict s (Empty d) need = empty_in s d
-in_dict s command need = declined s why.NoDictionary
+in_dict s command need = seat_with_refusal s why.NoDictionary
 
 -- whether a command may ask for a segment: it puts an object, or turns the dictionary
 abbrev pub asks : Command → Bool

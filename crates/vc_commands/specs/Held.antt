@@ -6,7 +6,7 @@ use Rattle.vc_model.specs.Discipline.{Discipline, HasOut, Kept, Unserved}
 use Rattle.vc_model.specs.Layout.{Block, address_of, place_of_block}
 use Rattle.vc_model.specs.Addr.{place_of}
 use Rattle.vc_region.specs.Cells.{no_cells}
-use Rattle.vc_region.specs.Region.{Region, blocks_of, keeps_freed, region_need, relabelled, segments_of}
+use Rattle.vc_region.specs.Region.{Region, blocks_of, keeps_freed, region_need, region_with_labels, segments_of}
 use Rattle.vc_model.specs.Sound.{HaveOwnPlaces}
 use Rattle.slab.specs.Slab.{slab_len}
 use Rattle.vc_commands.specs.declared.region.labels.Label.{Label}
@@ -33,7 +33,7 @@ home_of h =
       name = h.name;
       place = h.place;
       terms = h.disc.terms;
-      region = relabelled (name_of h.labels) h.region;
+      region = region_with_labels (name_of h.labels) h.region;
       kept = kept_of h.labels;
     }
 
@@ -53,7 +53,7 @@ pub record IsNamed (region : Region ℕ) (labels : Labels) : Type 0 where
   pub agree : AreLabels labels
   pub count : tag_count (blocks_of region) ≡ slab_len labels.by_tag
   pub live : AllByRecursion (λ b. 1 ≤ b.label → IsLive labels b) (blocks_of region)
-  pub known : (x : List ℕ) → is_some (tag_of labels x) ≡ has_label x (relabelled (name_of labels) region)
+  pub known : (x : List ℕ) → is_some (tag_of labels x) ≡ has_label x (region_with_labels (name_of labels) region)
   pub places : HaveOwnPlaces (blocks_of region)
   pub none : keeps_freed region ≡ false → kept_of labels ≡ []
 

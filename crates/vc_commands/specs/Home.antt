@@ -36,9 +36,9 @@ abbrev pub changed_to : Home → Region Label → Reply → Changed
 changed_to h region reply = record { region = region; kept = h.kept; reply = reply; granted = None }
 
 -- a refusal changes nothing
-abbrev pub unchanged : Home → Refusal → Changed
-unchanged h why = changed_to h h.region (Refused why)
+abbrev pub refusal_alone : Home → Refusal → Changed
+refusal_alone h why = changed_to h h.region (Refused why)
 
 -- a command that changes nothing tells something
-abbrev pub told : Home → Reply → Changed
-told h reply = changed_to h h.region reply
+abbrev pub reply_alone : Home → Reply → Changed
+reply_alone h reply = changed_to h h.region reply

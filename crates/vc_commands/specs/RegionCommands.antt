@@ -4,7 +4,7 @@ use Rattle.vc_script.specs.declared.command.Command.{Command}
 use Rattle.vc_script.specs.declared.command.Command.TheVariants.{ClearRegion, Compact, Alloc, Align, Resize, Free, WriteBlock, ReadBlock, SizeOf, AddrOf, SegmentOf, StatOf, Segments, Blocks, Poke, Check, Watch, ProfileOf}
 use Rattle.vc_script.specs.declared.refusal.Refusal.TheVariants as why
 use Rattle.vc_script.specs.Needs.{Need, NoNeed, ForBlock, ForTable, ForObject}
-use Rattle.vc_commands.specs.Home.{Changed, Home, unchanged}
+use Rattle.vc_commands.specs.Home.{Changed, Home, refusal_alone}
 use Rattle.vc_commands.specs.Blocks.{align_in, alloc_in, free_in, read_in, resize_in, size_in, write_in}
 use Rattle.vc_commands.specs.Audit.{check_in, poke_in, profile_in, watch_in}
 use Rattle.vc_commands.specs.Whole.{addr_in, clear_in, compact_in, list_blocks, list_segments, segment_in, stat_in}
@@ -36,7 +36,7 @@ in_region h line (Poke r x off byte) need = poke_in h x off byte
 in_region h line (Check r) need = check_in h
 in_region h line (Watch r x) need = watch_in h line x
 in_region h line (ProfileOf r) need = profile_in h
-in_region h line command need = unchanged h why.NoRegion
+in_region h line command need = refusal_alone h why.NoRegion
 
 -- the size and the alignment of the block that a command puts
 abbrev pub block_asked : Command → ℕ × ℕ

@@ -5,7 +5,7 @@ use Rattle.vc_script.specs.declared.command.Command.{Command}
 use Rattle.vc_script.specs.declared.refusal.Refusal.TheVariants.{NoSegment}
 use Rattle.vc_script.specs.declared.reply.Reply.{Reply}
 use Rattle.vc_script.specs.declared.reply.Reply.TheVariants.{Refused}
-use Rattle.vc_region.specs.Region.{Region, relabelled}
+use Rattle.vc_region.specs.Region.{Region, region_with_labels}
 use Rattle.vc_commands.specs.Kept.{Kept}
 use Rattle.vc_commands.specs.Home.{Changed, Home, Label}
 use Rattle.vc_model.specs.Discipline.{Discipline}
@@ -36,7 +36,7 @@ held_of meaning name h labels =
 
 -- a region with names for its tags, but for the bytes in its cells, and the names that it keeps as freed
 abbrev pub region_with : {I : Type 0} {V : I → Type 0} → HomeEntry I V → Labels → Region Label × Kept
-region_with h labels = (relabelled (name_of labels) (rest_in h.region), kept_of labels)
+region_with h labels = (region_with_labels (name_of labels) (rest_in h.region), kept_of labels)
 
 -- by a definition, a command on a region gives this reply and leaves the region so, whatever its name
 abbrev pub RunsRegion : {I : Type 0} {V : I → Type 0} → ((x : I) × V x → Discipline) → (Home → Changed) → HomeEntry I V → Labels → Region Label × Kept → Reply → Type 0

@@ -25,8 +25,8 @@ pub record DictChanged (L : Type 0) : Type 0 where
   pub granted : List (ℕ × ℕ)
 
 -- a reply that changes nothing
-abbrev pub answered : {L : Type 0} → Seat L → Reply → DictChanged L
-answered s reply = record { region = s.region; dict = s.dict; reply = reply; told = []; granted = [] }
+abbrev pub seat_with_reply : {L : Type 0} → Seat L → Reply → DictChanged L
+seat_with_reply s reply = record { region = s.region; dict = s.dict; reply = reply; told = []; granted = [] }
 
-abbrev pub declined : {L : Type 0} → Seat L → Refusal → DictChanged L
-declined s why = answered s (Refused why)
+abbrev pub seat_with_refusal : {L : Type 0} → Seat L → Refusal → DictChanged L
+seat_with_refusal s why = seat_with_reply s (Refused why)

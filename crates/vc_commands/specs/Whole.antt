@@ -8,7 +8,7 @@ use Rattle.vc_script.specs.declared.place.Place.{Place}
 use Rattle.vc_script.specs.declared.reply.Reply.{Reply}
 use Rattle.vc_script.specs.declared.reply.Reply.TheVariants.{Cleared, Compacted, AddrIn, AddrNone, SegmentIs, SegmentNone, Stats, SegmentList, BlockList}
 use Rattle.vc_commands.specs.Kept.{Kept, with_line}
-use Rattle.vc_commands.specs.Home.{Changed, Home, Label, changed_to, told}
+use Rattle.vc_commands.specs.Home.{Changed, Home, Label, changed_to, reply_alone}
 
 -- a name is kept with a line, where there is one
 abbrev pub with_label : Label → ℕ → Kept → Kept
@@ -39,7 +39,7 @@ addr_reply (Some f) = AddrIn f.0.label f.1
 
 -- the block at a place, and the offset in it
 abbrev pub addr_in : Home → Place → Changed
-addr_in h at = told h (addr_reply (block_at (at.seg, at.off) (blocks_of h.region)))
+addr_in h at = reply_alone h (addr_reply (block_at (at.seg, at.off) (blocks_of h.region)))
 
 abbrev pub segment_reply : ℕ → Option ℕ → Reply
 segment_reply number None = SegmentNone
@@ -47,18 +47,18 @@ segment_reply number (Some size) = SegmentIs number size
 
 -- the segment at a place
 abbrev pub segment_in : Home → Place → Changed
-segment_in h at = told h (segment_reply at.seg (segment_at (at.seg, at.off) (segments_of h.region)))
+segment_in h at = reply_alone h (segment_reply at.seg (segment_at (at.seg, at.off) (segments_of h.region)))
 
 abbrev pub stat_in : Home → Changed
-stat_in h = told h (Stats (stat_of h.region))
+stat_in h = reply_alone h (Stats (stat_of h.region))
 
 -- the segments by number
 abbrev pub list_segments : Home → Changed
-list_segments h = told h (SegmentList (by_number (segments_of h.region)))
+list_segments h = reply_alone h (SegmentList (by_number (segments_of h.region)))
 
 abbrev pub item_of : Block Label → Label × Place × ℕ
 item_of b = (b.label, record { seg = b.seg; off = b.off }, b.size)
 
 -- the blocks by address
 abbrev pub list_blocks : Home → Changed
-list_blocks h = told h (BlockList (map item_of (by_address (blocks_of h.region))))
+list_blocks h = reply_alone h (BlockList (map item_of (by_address (blocks_of h.region))))

@@ -5,7 +5,7 @@ use Rattle.std.proofs.lemmas.Bool.{cases_Bool}
 use Rattle.std.proofs.lemmas.Option.{none-some, same_Some}
 use Rattle.std.proofs.lemmas.Slice.Eq.{bytes_eq-Decides}
 use Rattle.std.proofs.lemmas.List.Sums.{sum-map, sum_by-cons}
-use Rattle.vc_audit.specs.Debug.{Debug, guard_byte, guarded, guarded_offset, guarded_place, guarded_size, outcome_by, resized, user_block, user_size}
+use Rattle.vc_audit.specs.Debug.{Debug, guard_byte, put_with_guards, guarded_offset, guarded_place, guarded_size, outcome_by, put_with_mark, user_block, user_size}
 use Rattle.vc_audit.specs.Profile.{Profile, profile_after, with_site}
 use Rattle.vc_commands.specs.Blocks.{is_name_of}
 use Rattle.vc_commands.specs.Home.{Label}
@@ -16,7 +16,7 @@ use Rattle.vc_model.specs.Layout.{Block, Layout, is_at, without_block}
 use Rattle.vc_model.specs.Outcome.{Outcome, Done, NotLast, Put, Refused, done_as, outcome_as}
 use Rattle.vc_model.specs.Pool.{Pool, pool_alloc, pool_resize}
 use Rattle.vc_model.specs.Resize.{best_resize}
-use Rattle.vc_model.specs.Touch.{change_block, rewritten}
+use Rattle.vc_model.specs.Touch.{change_block, rewritten_block}
 use Rattle.vc_region.specs.Region.{OfBest, OfPool, OfLast, OfDebug, OfProfile, Region, blocks_of, region_align, region_alloc, region_compact, region_free, region_poke, region_resize, region_watch, region_write}
 use Rattle.vc_region.specs.Stat.{stat_of}
 use Rattle.vc_counts.proofs.Others.{AreMine, mine-named, mine-user, others, others-named, others-user, others-without, others-written, user_weigh}
@@ -72,18 +72,18 @@ module _ (mine : Label → Bool) where
   in-pool p (Refused why) e = tt
 
   -- bytes are written at two offsets of a block with guards
-  user-written : (at : ℕ × ℕ) (off off' : ℕ) (src src' : List ℕ) (bs bs' : List (Block Label)) → others mine user_weigh bs ≡ others mine user_weigh bs' → others mine whole (map user_block (change_block (rewritten off' src') at (change_block (rewritten off src) at bs))) ≡ others mine whole (map user_block bs')
+  user-written : (at : ℕ × ℕ) (off off' : ℕ) (src src' : List ℕ) (bs bs' : List (Block Label)) → others mine user_weigh bs ≡ others mine user_weigh bs' → others mine whole (map user_block (change_block (rewritten_block off' src') at (change_block (rewritten_block off src) at bs))) ≡ others mine whole (map user_block bs')
   user-written at off off' src src' bs bs' e =
-      others-user mine (change_block (rewritten off' src') at (change_block (rewritten off src) at bs))
-      ∙ (others-written mine user_weigh at off' src' (change_block (rewritten off src) at bs)
+      others-user mine (change_block (rewritten_block off' src') at (change_block (rewritten_block off src) at bs))
+      ∙ (others-written mine user_weigh at off' src' (change_block (rewritten_block off src) at bs)
       ∙ (others-written mine user_weigh at off src bs ∙ (e ∙ sym (others-user mine bs'))))
 
-  in-guards : (d : Debug Label) (size : ℕ) (o : Outcome (Put (Layout Label))) → StaysBest mine user_weigh d.best.blocks o → StaysIn (OfDebug d) (outcome_as OfDebug (outcome_by (guarded d.marks size) o))
+  in-guards : (d : Debug Label) (size : ℕ) (o : Outcome (Put (Layout Label))) → StaysBest mine user_weigh d.best.blocks o → StaysIn (OfDebug d) (outcome_as OfDebug (outcome_by (put_with_guards d.marks size) o))
   in-guards d size (Done p) e =
       user-written p.at 0 (32 + size) (replicate 32 guard_byte) (replicate 16 guard_byte) p.region.blocks d.best.blocks e
   in-guards d size (Refused why) e = tt
 
-  in-resized : (d : Debug Label) (at : ℕ × ℕ) (kept size : ℕ) (o : Outcome (Put (Layout Label))) → StaysBest mine user_weigh d.best.blocks o → StaysIn (OfDebug d) (outcome_as OfDebug (outcome_by (resized d.marks at kept size) o))
+  in-resized : (d : Debug Label) (at : ℕ × ℕ) (kept size : ℕ) (o : Outcome (Put (Layout Label))) → StaysBest mine user_weigh d.best.blocks o → StaysIn (OfDebug d) (outcome_as OfDebug (outcome_by (put_with_mark d.marks at kept size) o))
   in-resized d at kept size (Done p) e =
       user-written p.at (32 + kept) (32 + size) (replicate (size - kept) 0) (replicate 16 guard_byte) p.region.blocks d.best.blocks e
   in-resized d at kept size (Refused why) e = tt
@@ -160,9 +160,9 @@ module _ (mine : Label → Bool) where
         others-named (λ (l : Label × List ℕ). l.0) mine whole (without_block at p.layout.blocks)
         ∙ (others-without at_site whole at p.layout.blocks (site_mine p all) ∙ sym (others-named (λ (l : Label × List ℕ). l.0) mine whole p.layout.blocks))
 
-    user-bytes : (d : Debug Label) (off : ℕ) (src : List ℕ) → others mine whole (map user_block (change_block (rewritten off src) (guarded_place at) d.best.blocks)) ≡ others mine whole (map user_block d.best.blocks)
+    user-bytes : (d : Debug Label) (off : ℕ) (src : List ℕ) → others mine whole (map user_block (change_block (rewritten_block off src) (guarded_place at) d.best.blocks)) ≡ others mine whole (map user_block d.best.blocks)
     user-bytes d off src =
-        others-user mine (change_block (rewritten off src) (guarded_place at) d.best.blocks)
+        others-user mine (change_block (rewritten_block off src) (guarded_place at) d.best.blocks)
         ∙ (others-written mine user_weigh (guarded_place at) off src d.best.blocks ∙ sym (others-user mine d.best.blocks))
 
     -- bytes of a block
@@ -172,7 +172,7 @@ module _ (mine : Label → Bool) where
     write-left (OfLast l) off src = others-written mine whole at off src l.blocks
     write-left (OfDebug d) off src = user-bytes d (32 + off) src
     write-left (OfProfile p) off src =
-        others-named (λ (l : Label × List ℕ). l.0) mine whole (change_block (rewritten off src) at p.layout.blocks)
+        others-named (λ (l : Label × List ℕ). l.0) mine whole (change_block (rewritten_block off src) at p.layout.blocks)
         ∙ (others-written at_site whole at off src p.layout.blocks ∙ sym (others-named (λ (l : Label × List ℕ). l.0) mine whole p.layout.blocks))
 
     pub poke-left : (r : Region Label) (off : ℤ) (byte : ℕ) → others_in mine (region_poke r at off byte) ≡ others_in mine r

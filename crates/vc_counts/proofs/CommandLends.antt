@@ -3,7 +3,7 @@ use Rattle.std.proofs.Common.{ℕ, ◌+◌, ℤ, Bool, ◌&&◌, List, [], ◌�
 use Rattle.std.specs.Prelude.{find, nat_le}
 use Rattle.vc_model.specs.Layout.{Block}
 use Rattle.vc_model.specs.Outcome.{Outcome, Done, Put, Refused}
-use Rattle.vc_objects.specs.Objects.{listed}
+use Rattle.vc_objects.specs.Objects.{option_list}
 use Rattle.vc_region.specs.Region.{Region, blocks_of, is_debug, is_profile, region_align, region_alloc, region_free, region_resize, region_write, segments_of, watch_at}
 use Rattle.vc_script.specs.declared.command.Command.{Command}
 use Rattle.vc_script.specs.declared.command.Command.TheVariants.{ClearRegion, Compact, Alloc, Align, Resize, Free, WriteBlock, ReadBlock, SizeOf, Poke, Check, Watch, ProfileOf}
@@ -11,8 +11,8 @@ use Rattle.vc_script.specs.declared.refusal.Refusal.{Refusal}
 use Rattle.vc_script.specs.declared.refusal.Refusal.TheVariants as why
 use Rattle.vc_script.specs.Needs.{Need}
 use Rattle.vc_commands.specs.Audit.{is_poke, poke_block, poke_byte, poke_in, watch_block, watch_in}
-use Rattle.vc_commands.specs.Blocks.{align_refused, free_block, free_in, freed, has_label, has_room, is_block, is_size, kept_freed, put_by, put_in, put_new, read_block, read_in, resize_block, resize_in, site_of, size_refused, with_named, write_block, write_in}
-use Rattle.vc_commands.specs.Home.{Changed, Home, Label, unchanged}
+use Rattle.vc_commands.specs.Blocks.{align_refused, free_block, free_in, change_by_free, has_label, has_room, is_block, is_size, kept_freed, put_by, put_in, put_new, read_block, read_in, resize_block, resize_in, site_of, size_refused, with_named, write_block, write_in}
+use Rattle.vc_commands.specs.Home.{Changed, Home, Label, refusal_alone}
 use Rattle.vc_commands.specs.Kept.{Kept, without_name}
 use Rattle.vc_commands.specs.RegionCommands.{in_region, is_for_block}
 use Rattle.vc_counts.proofs.CallLends.{LeavesIn, align-puts, alloc-puts, clear-leaves, compact-lends, free-leaves, poke-leaves, resize-puts, watch-leaves, write-leaves}
@@ -21,7 +21,7 @@ use Rattle.vc_counts.proofs.RegionLends.{PutsIn, either}
 
 -- from a region to what a command leaves of it
 abbrev pub Changes : Home → Changed → Type 0
-Changes h c = Lends (segments_of h.region) (segments_of c.region) (listed c.granted)
+Changes h c = Lends (segments_of h.region) (segments_of c.region) (option_list c.granted)
 
 -- nothing changes, or something is told
 same : (h : Home) → Lends (segments_of h.region) (segments_of h.region) []
@@ -32,27 +32,27 @@ on-named h x None act each = same h
 on-named h x (Some b) act each = each b
 
 put-changes : (h : Home) (x : List ℕ) (kept : Kept) (watch : Option ℕ) (o : Outcome (Put (Region Label))) → PutsIn (segments_of h.region) o → Changes h (put_in h x kept watch o)
-put-changes h x kept watch (Done p) e = lends-more (segments_of h.region) (segments_of p.region) (listed p.granted) e
+put-changes h x kept watch (Done p) e = lends-more (segments_of h.region) (segments_of p.region) (option_list p.granted) e
 put-changes h x kept watch (Refused fault) e = same h
 
 by-changes : (h : Home) (x : List ℕ) (words : Option Refusal) (o : Outcome (Put (Region Label))) → PutsIn (segments_of h.region) o → Changes h (put_by h x words o)
 by-changes h x (Some refusal) o e = same h
 by-changes h x None o e =
-    either (Changes h) (has_room h x) (put_in h x (without_name x h.kept) None o) (unchanged h why.TooManyBlocks)
+    either (Changes h) (has_room h x) (put_in h x (without_name x h.kept) None o) (refusal_alone h why.TooManyBlocks)
     (put-changes h x (without_name x h.kept) None o e) (same h)
 
 new-changes : (h : Home) (x : List ℕ) (words : Option Refusal) (o : Outcome (Put (Region Label))) → PutsIn (segments_of h.region) o → Changes h (put_new h x words o)
 new-changes h x words o e =
-    either (Changes h) (has_label x h.region) (unchanged h why.BlockExists) (put_by h x words o) (same h) (by-changes h x words o e)
+    either (Changes h) (has_label x h.region) (refusal_alone h why.BlockExists) (put_by h x words o) (same h) (by-changes h x words o e)
 
-freed-changes : (h : Home) (x : List ℕ) (kept : Kept) (watch : Option ℕ) (o : Outcome (Region Label)) → LeavesIn (segments_of h.region) o → Changes h (freed h x kept watch o)
+freed-changes : (h : Home) (x : List ℕ) (kept : Kept) (watch : Option ℕ) (o : Outcome (Region Label)) → LeavesIn (segments_of h.region) o → Changes h (change_by_free h x kept watch o)
 freed-changes h x kept watch (Done r) e = lends-same (segments_of h.region) (segments_of r) e
 freed-changes h x kept watch (Refused fault) e = same h
 
 resize-changes : (h : Home) (x : List ℕ) (size : ℕ) (may_move refused : Bool) → Changes h (resize_in h x size may_move refused)
 resize-changes h x size may_move refused =
     on-named h x (find (is_block x) (blocks_of h.region)) (resize_block h x size may_move refused)
-    (λ b. either (Changes h) (is_size size) _ (unchanged h why.Size)
+    (λ b. either (Changes h) (is_size size) _ (refusal_alone h why.Size)
     (put-changes h x h.kept (watch_at h.region (b.seg, b.off)) (region_resize h.terms h.region (b.seg, b.off) size may_move refused) (resize-puts h.terms h.region (b.seg, b.off) size may_move refused))
     (same h))
 
@@ -64,29 +64,29 @@ free-changes h x line =
 write-changes : (h : Home) (x : List ℕ) (off : ℕ) (bytes : List ℕ) → Changes h (write_in h x off bytes)
 write-changes h x off bytes =
     on-named h x (find (is_block x) (blocks_of h.region)) (write_block h x off bytes)
-    (λ b. either (Changes h) (nat_le (off + length bytes) b.size) _ (unchanged h why.Range)
+    (λ b. either (Changes h) (nat_le (off + length bytes) b.size) _ (refusal_alone h why.Range)
     (lends-same (segments_of h.region) (segments_of (region_write h.region (b.seg, b.off) off bytes)) (write-leaves h.region (b.seg, b.off) off bytes))
     (same h))
 
 read-changes : (h : Home) (x : List ℕ) (off len : ℕ) → Changes h (read_in h x off len)
 read-changes h x off len =
     on-named h x (find (is_block x) (blocks_of h.region)) (read_block h x off len)
-    (λ b. either (Changes h) ((nat_le 1 len && nat_le len 4096) && nat_le (off + len) b.size) _ (unchanged h why.Range) (same h) (same h))
+    (λ b. either (Changes h) ((nat_le 1 len && nat_le len 4096) && nat_le (off + len) b.size) _ (refusal_alone h why.Range) (same h) (same h))
 
 poked-changes : (h : Home) (x : List ℕ) (off : ℤ) (byte : ℕ) (b : Block Label) → Changes h (poke_byte h x off byte b)
 poked-changes h x off byte b =
-    either (Changes h) (is_poke b.size off byte) _ (unchanged h why.Range)
+    either (Changes h) (is_poke b.size off byte) _ (refusal_alone h why.Range)
     (lends-same (segments_of h.region) _ (poke-leaves h.region (b.seg, b.off) off byte)) (same h)
 
 poke-changes : (h : Home) (x : List ℕ) (off : ℤ) (byte : ℕ) → Changes h (poke_in h x off byte)
 poke-changes h x off byte =
     on-named h x (find (is_block x) (blocks_of h.region)) (poke_block h x off byte)
-    (λ b. either (Changes h) (is_debug h.region) (poke_byte h x off byte b) (unchanged h why.WrongMethod) (poked-changes h x off byte b) (same h))
+    (λ b. either (Changes h) (is_debug h.region) (poke_byte h x off byte b) (refusal_alone h why.WrongMethod) (poked-changes h x off byte b) (same h))
 
 watch-changes : (h : Home) (line : ℕ) (x : List ℕ) → Changes h (watch_in h line x)
 watch-changes h line x =
     on-named h x (find (is_block x) (blocks_of h.region)) (watch_block h line x)
-    (λ b. either (Changes h) (is_debug h.region) _ (unchanged h why.WrongMethod)
+    (λ b. either (Changes h) (is_debug h.region) _ (refusal_alone h why.WrongMethod)
     (lends-same (segments_of h.region) _ (watch-leaves h.region (b.seg, b.off) line)) (same h))
 
 -- a command in a region changes its segments by what it is granted
@@ -105,7 +105,7 @@ command-changes h line (WriteBlock r x off bytes) need = write-changes h x off b
 command-changes h line (ReadBlock r x off len) need = read-changes h x off len
 command-changes h line (SizeOf r x) need = on-named h x (find (is_block x) (blocks_of h.region)) _ (λ b. same h)
 command-changes h line (Poke r x off byte) need = poke-changes h x off byte
-command-changes h line (Check r) need = either (Changes h) (is_debug h.region) _ (unchanged h why.WrongMethod) (same h) (same h)
+command-changes h line (Check r) need = either (Changes h) (is_debug h.region) _ (refusal_alone h why.WrongMethod) (same h) (same h)
 command-changes h line (Watch r x) need = watch-changes h line x
-command-changes h line (ProfileOf r) need = either (Changes h) (is_profile h.region) _ (unchanged h why.WrongMethod) (same h) (same h)
+command-changes h line (ProfileOf r) need = either (Changes h) (is_profile h.region) _ (refusal_alone h why.WrongMethod) (same h) (same h)
 command-changes h line command need = same h

@@ -11,8 +11,8 @@ use Rattle.vc_script.specs.declared.refusal.Refusal.{Refusal}
 use Rattle.vc_script.specs.declared.refusal.Refusal.TheVariants as why
 use Rattle.vc_script.specs.Needs.{Need}
 use Rattle.vc_commands.specs.Audit.{is_poke, poke_block, poke_byte, poke_in, watch_block, watch_in}
-use Rattle.vc_commands.specs.Blocks.{align_refused, free_block, free_in, freed, has_label, has_room, is_block, is_name_of, is_size, kept_freed, put_by, put_in, put_new, read_block, resize_block, resize_in, site_of, size_refused, with_named, write_block, write_in}
-use Rattle.vc_commands.specs.Home.{Changed, Home, Label, unchanged}
+use Rattle.vc_commands.specs.Blocks.{align_refused, free_block, free_in, change_by_free, has_label, has_room, is_block, is_name_of, is_size, kept_freed, put_by, put_in, put_new, read_block, resize_block, resize_in, site_of, size_refused, with_named, write_block, write_in}
+use Rattle.vc_commands.specs.Home.{Changed, Home, Label, refusal_alone}
 use Rattle.vc_commands.specs.Kept.{Kept, without_name}
 use Rattle.vc_commands.specs.RegionCommands.{in_region, is_for_block}
 use Rattle.vc_commands.specs.Sizes.{size_named}
@@ -39,40 +39,40 @@ module _ (mine : Label → Bool) (h : Home) where
   by-leaves : (x : List ℕ) (words : Option Refusal) (o : Outcome (Put (Region Label))) → StaysIn mine h.region o → Leaves mine h (put_by h x words o)
   by-leaves x (Some refusal) o e = refl
   by-leaves x None o e =
-      either (Leaves mine h) (has_room h x) (put_in h x (without_name x h.kept) None o) (unchanged h why.TooManyBlocks)
+      either (Leaves mine h) (has_room h x) (put_in h x (without_name x h.kept) None o) (refusal_alone h why.TooManyBlocks)
       (put-leaves x (without_name x h.kept) None o e) refl
 
   new-leaves : (x : List ℕ) (words : Option Refusal) (o : Outcome (Put (Region Label))) → StaysIn mine h.region o → Leaves mine h (put_new h x words o)
   new-leaves x words o e =
-      either (Leaves mine h) (has_label x h.region) (unchanged h why.BlockExists) (put_by h x words o) refl (by-leaves x words o e)
+      either (Leaves mine h) (has_label x h.region) (refusal_alone h why.BlockExists) (put_by h x words o) refl (by-leaves x words o e)
 
-  freed-leaves : (x : List ℕ) (kept : Kept) (watch : Option ℕ) (o : Outcome (Region Label)) → LeftIn mine h.region o → Leaves mine h (freed h x kept watch o)
+  freed-leaves : (x : List ℕ) (kept : Kept) (watch : Option ℕ) (o : Outcome (Region Label)) → LeftIn mine h.region o → Leaves mine h (change_by_free h x kept watch o)
   freed-leaves x kept watch (Done r) e = e
   freed-leaves x kept watch (Refused fault) e = refl
 
   write-leaves : (x : List ℕ) (off : ℕ) (bytes : List ℕ) → Leaves mine h (write_in h x off bytes)
   write-leaves x off bytes =
       on-named x (find (is_block x) (blocks_of h.region)) (write_block h x off bytes)
-      (λ b at. either (Leaves mine h) (nat_le (off + length bytes) b.size) _ (unchanged h why.Range) (write-left mine (b.seg, b.off) h.region off bytes) refl)
+      (λ b at. either (Leaves mine h) (nat_le (off + length bytes) b.size) _ (refusal_alone h why.Range) (write-left mine (b.seg, b.off) h.region off bytes) refl)
 
   poke-leaves : (x : List ℕ) (off : ℤ) (byte : ℕ) → Leaves mine h (poke_in h x off byte)
   poke-leaves x off byte =
       on-named x (find (is_block x) (blocks_of h.region)) (poke_block h x off byte)
       (λ b at.
-      either (Leaves mine h) (is_debug h.region) (poke_byte h x off byte b) (unchanged h why.WrongMethod)
-      (either (Leaves mine h) (is_poke b.size off byte) _ (unchanged h why.Range) (poke-left mine (b.seg, b.off) h.region off byte) refl) refl)
+      either (Leaves mine h) (is_debug h.region) (poke_byte h x off byte b) (refusal_alone h why.WrongMethod)
+      (either (Leaves mine h) (is_poke b.size off byte) _ (refusal_alone h why.Range) (poke-left mine (b.seg, b.off) h.region off byte) refl) refl)
 
   watch-leaves : (line : ℕ) (x : List ℕ) → Leaves mine h (watch_in h line x)
   watch-leaves line x =
       on-named x (find (is_block x) (blocks_of h.region)) (watch_block h line x)
-      (λ b at. either (Leaves mine h) (is_debug h.region) _ (unchanged h why.WrongMethod) (watch-left mine (b.seg, b.off) h.region line) refl)
+      (λ b at. either (Leaves mine h) (is_debug h.region) _ (refusal_alone h why.WrongMethod) (watch-left mine (b.seg, b.off) h.region line) refl)
 
 module _ (h : Home) (proper : IsProper h) (x : List ℕ) where
   resize-leaves : (size : ℕ) (may_move refused : Bool) → Leaves (is_name_of x) h (resize_in h x size may_move refused)
   resize-leaves size may_move refused =
       on-named (is_name_of x) h x (find (is_block x) (blocks_of h.region)) (resize_block h x size may_move refused)
       (λ b at.
-      either (Leaves (is_name_of x) h) (is_size size) _ (unchanged h why.Size)
+      either (Leaves (is_name_of x) h) (is_size size) _ (refusal_alone h why.Size)
       (put-leaves (is_name_of x) h x h.kept (watch_at h.region (b.seg, b.off)) (region_resize h.terms h.region (b.seg, b.off) size may_move refused)
       (resize-stays (is_name_of x) (b.seg, b.off) h.terms h.region size may_move refused (found-behind (is_name_of x) (is_block x) h.region b at) (proper.own x b at)))
       refl)
@@ -120,15 +120,15 @@ command-reaches h proper line (WriteBlock r x off bytes) need proper' =
 command-reaches h proper line (ReadBlock r x off len) need proper' =
     no-size h (in_region h line (ReadBlock r x off len) need).region
     (on-named no_label h x (find (is_block x) (blocks_of h.region)) (read_block h x off len)
-    (λ b at. either (Leaves no_label h) ((nat_le 1 len && nat_le len 4096) && nat_le (off + len) b.size) _ (unchanged h why.Range) refl refl))
+    (λ b at. either (Leaves no_label h) ((nat_le 1 len && nat_le len 4096) && nat_le (off + len) b.size) _ (refusal_alone h why.Range) refl refl))
 command-reaches h proper line (SizeOf r x) need proper' =
     no-size h (in_region h line (SizeOf r x) need).region (on-named no_label h x (find (is_block x) (blocks_of h.region)) _ (λ b at. refl))
 command-reaches h proper line (Poke r x off byte) need proper' =
     no-size h (in_region h line (Poke r x off byte) need).region (poke-leaves no_label h x off byte)
 command-reaches h proper line (Check r) need proper' =
-    no-size h (in_region h line (Check r) need).region (either (Leaves no_label h) (is_debug h.region) _ (unchanged h why.WrongMethod) refl refl)
+    no-size h (in_region h line (Check r) need).region (either (Leaves no_label h) (is_debug h.region) _ (refusal_alone h why.WrongMethod) refl refl)
 command-reaches h proper line (Watch r x) need proper' =
     no-size h (in_region h line (Watch r x) need).region (watch-leaves no_label h line x)
 command-reaches h proper line (ProfileOf r) need proper' =
-    no-size h (in_region h line (ProfileOf r) need).region (either (Leaves no_label h) (is_profile h.region) _ (unchanged h why.WrongMethod) refl refl)
+    no-size h (in_region h line (ProfileOf r) need).region (either (Leaves no_label h) (is_profile h.region) _ (refusal_alone h why.WrongMethod) refl refl)
 command-reaches h proper line command need proper' = refl

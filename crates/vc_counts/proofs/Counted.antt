@@ -8,7 +8,7 @@ use Rattle.vc_script.specs.declared.reply.Reply.{Reply}
 use Rattle.vc_steps.specs.State.{State, Stepped}
 use Rattle.vc_steps.specs.Step.{step}
 use Rattle.vc_counts.specs.CanCount.{CanCount, IsInRange}
-use Rattle.vc_counts.specs.Counts.{busy_in, counted}
+use Rattle.vc_counts.specs.Counts.{busy_in, counts_with_step}
 use Rattle.vc_counts.specs.Reach.{freed_by, put_by, reach_of}
 use Rattle.vc_counts.specs.Working.{counts_after, reached_at, region_worked, segments_at, tally_behind}
 use Rattle.vc_counts.specs.declared.counts.Counts.{Counts}
@@ -43,10 +43,10 @@ module _ (c : Counts) (s s' : State) (line : ℕ) (command : Command) (reply : R
   this_step = step s line command (need_shown reply)
 
   -- and a command of a later line can be counted
-  pub can-next : (counts : Counts) → counts ≡ counted c this_step → IsInRange counts → (later : ℕ) → line < later → CanCount counts (busy_in s') later
+  pub can-next : (counts : Counts) → counts ≡ counts_with_step c this_step → IsInRange counts → (later : ℕ) → line < later → CanCount counts (busy_in s') later
   can-next counts same range later behind =
       subst (λ (x : Counts). CanCount x (busy_in s') later) (sym same)
-      (subst (λ (x : State). CanCount (counted c this_step) (busy_in x) later) run.state (can-later c s this_step line later can.before behind (subst IsInRange same range)))
+      (subst (λ (x : State). CanCount (counts_with_step c this_step) (busy_in x) later) run.state (can-later c s this_step line later can.before behind (subst IsInRange same range)))
 
   module _ (name : Option (List ℕ)) (reached : Reach) (held gone holds more : ℕ) (read : WasRead s s' command reply name reached held gone holds more) where
     tallied : TalliesStep s (reach_of command) name this_step
@@ -75,7 +75,7 @@ module _ (c : Counts) (s s' : State) (line : ℕ) (command : Command) (reply : R
     part-counted = omega (arith, before, after, tallied.busy, can.now)
 
     -- the counts by what is read of its region are those by the step
-    pub counts-step : (refused : Bool) (had : ℕ) (has : List (ℕ × ℕ)) (lent : Tally) → refused ≡ is_refusal reply → had ≡ length (segments_at name s.homes) → has ≡ segments_at name s'.homes → lent ≡ tally_behind had has → counts_after c refused (held + gone) (holds + more) lent ≡ counted c this_step
+    pub counts-step : (refused : Bool) (had : ℕ) (has : List (ℕ × ℕ)) (lent : Tally) → refused ≡ is_refusal reply → had ≡ length (segments_at name s.homes) → has ≡ segments_at name s'.homes → lent ≡ tally_behind had has → counts_after c refused (held + gone) (holds + more) lent ≡ counts_with_step c this_step
     counts-step refused had has lent told first segments came =
         let t = this_step in
         let reads : ℕ = before_by (reach_of command) name t.reply s in

@@ -9,7 +9,7 @@ use Rattle.vc_commands.specs.Home.{Home}
 use Rattle.vc_script.specs.Needs.{is_refusal}
 use Rattle.vc_steps.specs.State.{State, Stepped}
 use Rattle.vc_counts.specs.CanCount.{CanCount, IsInRange, commands}
-use Rattle.vc_counts.specs.Counts.{busy_in, counted, no_counts}
+use Rattle.vc_counts.specs.Counts.{busy_in, counts_with_step, no_counts}
 use Rattle.vc_counts.specs.Working.{counts_after, tally_behind}
 use Rattle.vc_counts.specs.declared.counts.Counts.{Counts}
 use Rattle.vc_counts.proofs.Sums.{busy_homes}
@@ -19,7 +19,7 @@ abbrev made : ℕ → ℕ → ℕ → ℕ → ℕ → ℕ → Counts
 made done refused segments bytes busy peak =
     record { done = done; refused = refused; segments = segments; bytes = bytes; busy = busy; peak = max peak busy }
 
-pub counts-after : (c : Counts) (s : State) (t : Stepped) (before after : ℕ) (had has : List (ℕ × ℕ)) → c.busy ≡ busy_in s → Tallies before after (busy_in s) (busy_in t.state) had has t.granted → counts_after c (is_refusal t.reply) before after (tally_behind (length had) has) ≡ counted c t
+pub counts-after : (c : Counts) (s : State) (t : Stepped) (before after : ℕ) (had has : List (ℕ × ℕ)) → c.busy ≡ busy_in s → Tallies before after (busy_in s) (busy_in t.state) had has t.granted → counts_after c (is_refusal t.reply) before after (tally_behind (length had) has) ≡ counts_with_step c t
 counts-after c s t before after had has now tallies =
     let b = is_refusal t.reply in
     let done = c.done + cond b 0 1 in
@@ -38,7 +38,7 @@ one-more true c n below = omega (arith, below)
 one-more false c n below = omega (arith, below)
 
 -- one more command was counted
-pub can-later : (c : Counts) (s : State) (t : Stepped) (line later : ℕ) → commands c < line → line < later → IsInRange (counted c t) → CanCount (counted c t) (busy_in t.state) later
+pub can-later : (c : Counts) (s : State) (t : Stepped) (line later : ℕ) → commands c < line → line < later → IsInRange (counts_with_step c t) → CanCount (counts_with_step c t) (busy_in t.state) later
 can-later c s t line later before behind range =
     record { range = range; now = refl; before = omega (arith, behind, one-more (is_refusal t.reply) c line before) }
 

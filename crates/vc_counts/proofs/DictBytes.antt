@@ -8,7 +8,7 @@ use Rattle.vc_base.specs.Methods.{has_table, is_list}
 use Rattle.vc_base.specs.declared.dict_method.DictMethod.{DictMethod}
 use Rattle.vc_base.specs.declared.dict_method.DictMethod.TheVariants.{DtSet, DtBag, DtOset, DtObag, DtList, DtStack, DtQueue}
 use Rattle.vc_commands.specs.DictCommands.{append_in, delete_in, fate_reply, insert_in, is_for_object, is_for_table, is_object, put_object, put_unless, removed_as, standing}
-use Rattle.vc_commands.specs.Seat.{DictChanged, Seat, declined}
+use Rattle.vc_commands.specs.Seat.{DictChanged, Seat, seat_with_refusal}
 use Rattle.vc_dtdisc.specs.Finding.{first_of}
 use Rattle.vc_dtdisc.specs.Objects as objects
 use Rattle.vc_dtdisc.specs.Objects.{Object, address_of, first_with, has_key}
@@ -20,9 +20,9 @@ use Rattle.vc_model.specs.Layout.{Layout, footprints, with_segment}
 use Rattle.vc_model.specs.Outcome.{Outcome, Done, Put, Refused}
 use Rattle.vc_model.specs.Segments.{Asked, Granted, TooMany, NotLent, ask}
 use Rattle.vc_model.proofs.Places.{Among, among-all, among-find}
-use Rattle.vc_objects.specs.Insert.{Grown, Inserted, alloc_unlabelled, empty_dictionary, grow, grown_to, grown_with, held, held_in, open_dictionary, slots_wanted, without_table}
+use Rattle.vc_objects.specs.Insert.{Grown, Inserted, alloc_unlabelled, empty_dictionary, grow, grown_to, grown_with, insert_of, held_in, open_dictionary, slots_wanted, without_table}
 use Rattle.vc_objects.specs.Objects.{Dictionary, Table, holder_size, slots_of, table_size}
-use Rattle.vc_objects.specs.Remove.{remove, remove_found, unnamed}
+use Rattle.vc_objects.specs.Remove.{remove, remove_found, next_to_go}
 use Rattle.vc_objects.specs.declared.fate.Fate.{Fate}
 use Rattle.vc_objects.specs.declared.fate.Fate.TheVariants.{Stored, NoTable, NoHolder}
 use Rattle.vc_script.specs.Needs.{Need}
@@ -138,7 +138,7 @@ module _ {L : Type 0} where
   abbrev InsertsBytes : Layout L → Dictionary → List ℕ → Inserted L → Type 0
   InsertsBytes r d object c = bytes_in c.region + table_bytes d ≡ bytes_in r + (table_bytes c.dict + holder_put (fate_reply object c.fate))
 
-  inserts-held : (r : Layout L) (d : Dictionary) (rules : Rules) (append : Bool) (object : List ℕ) (g : Grown L) (o : Outcome (Put (Layout L))) → GrowsBytes r d (Done g) → PutsBytes g.region (holder_size object) o → InsertsBytes r d object (held rules append object g o)
+  inserts-held : (r : Layout L) (d : Dictionary) (rules : Rules) (append : Bool) (object : List ℕ) (g : Grown L) (o : Outcome (Put (Layout L))) → GrowsBytes r d (Done g) → PutsBytes g.region (holder_size object) o → InsertsBytes r d object (insert_of rules append object g o)
   inserts-held r d rules append object g (Done p) grown puts = omega (arith, grown, puts)
   inserts-held r d rules append object g (Refused why) grown puts = omega (arith, grown)
 
@@ -168,15 +168,15 @@ module _ {L : Type 0} where
     unless-bytes object need (Some o) = refl
     unless-bytes object need None = put-bytes false object need
 
-    where-bytes : (object : List ℕ) (c : DictChanged L) → ChangesBytes s c → ChangesBytes s (cond (is_object object) c (declined s why.Size))
-    where-bytes object c e = either (ChangesBytes s) (is_object object) c (declined s why.Size) e refl
+    where-bytes : (object : List ℕ) (c : DictChanged L) → ChangesBytes s c → ChangesBytes s (cond (is_object object) c (seat_with_refusal s why.Size))
+    where-bytes object c e = either (ChangesBytes s) (is_object object) c (seat_with_refusal s why.Size) e refl
 
-    pub insert-bytes : (given object : List ℕ) (need : Need) → ChangesBytes s (cond (is_object given) (insert_in s object need) (declined s why.Size))
+    pub insert-bytes : (given object : List ℕ) (need : Need) → ChangesBytes s (cond (is_object given) (insert_in s object need) (seat_with_refusal s why.Size))
     insert-bytes given object need = where-bytes given (insert_in s object need) (unless-bytes object need (standing s object))
 
     pub append-bytes : (object : List ℕ) (need : Need) → ChangesBytes s (append_in s object need)
     append-bytes object need =
-        either (ChangesBytes s) (is_list s.dict.method) _ (declined s why.WrongMethod)
+        either (ChangesBytes s) (is_list s.dict.method) _ (seat_with_refusal s why.WrongMethod)
         (where-bytes object (put_object s true (s.rules.made object) need) (put-bytes true (s.rules.made object) need)) refl
 
     -- an object is taken out
@@ -201,7 +201,7 @@ module _ {L : Type 0} where
     first-among [] x e = absurd (none-some x e)
     first-among (o ∷ os) x e = inl (same_Some o x e)
 
-    unnamed-among : (method : DictMethod) (os : List Object) (x : Object) → unnamed method os ≡ Some x → Among x os
+    unnamed-among : (method : DictMethod) (os : List Object) (x : Object) → next_to_go method os ≡ Some x → Among x os
     unnamed-among DtSet os x e = absurd (none-some x e)
     unnamed-among DtBag os x e = absurd (none-some x e)
     unnamed-among DtOset os x e = absurd (none-some x e)
@@ -210,12 +210,12 @@ module _ {L : Type 0} where
     unnamed-among DtStack os x e = first-among os x e
     unnamed-among DtQueue os x e = first-among os x e
 
-    pub remove-bytes : (tells : Bool) (key : List ℕ) → ChangesBytes s (cond (is_object key) (removed_as tells (remove s.rules s.region s.dict (s.rules.key key))) (declined s why.Size))
+    pub remove-bytes : (tells : Bool) (key : List ℕ) → ChangesBytes s (cond (is_object key) (removed_as tells (remove s.rules s.region s.dict (s.rules.key key))) (seat_with_refusal s why.Size))
     remove-bytes tells key =
         where-bytes key (removed_as tells (remove s.rules s.region s.dict (s.rules.key key)))
         (removed-bytes tells (first_with objects.bytes_of s.rules (s.rules.key key) s.dict.objects)
         (λ x e. among-find (λ o. has_key s.rules (s.rules.key key) (objects.bytes_of o)) s.dict.objects x e))
 
     pub delete-bytes : (o : Option (List ℕ)) → ChangesBytes s (delete_in s o)
-    delete-bytes None = removed-bytes true (unnamed s.dict.method s.dict.objects) (unnamed-among s.dict.method s.dict.objects)
+    delete-bytes None = removed-bytes true (next_to_go s.dict.method s.dict.objects) (unnamed-among s.dict.method s.dict.objects)
     delete-bytes (Some key) = remove-bytes true key

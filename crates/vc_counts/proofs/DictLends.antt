@@ -5,7 +5,7 @@ use Rattle.std.proofs.lemmas.List.{append-nil}
 use Rattle.vc_base.specs.Methods.{has_table, is_list, method_number}
 use Rattle.vc_base.specs.declared.dict_method.DictMethod.{DictMethod}
 use Rattle.vc_commands.specs.DictCommands.{append_in, delete_in, in_dict, insert_in, is_for_object, is_for_table, is_object, put_object, put_unless, removed_as, standing, turned_as}
-use Rattle.vc_commands.specs.Seat.{DictChanged, Seat, declined}
+use Rattle.vc_commands.specs.Seat.{DictChanged, Seat, seat_with_refusal}
 use Rattle.vc_dict.specs.Methods.{slots_between}
 use Rattle.vc_dtdisc.specs.Objects as objects
 use Rattle.vc_dtdisc.specs.Objects.{Object, first_with}
@@ -14,10 +14,10 @@ use Rattle.vc_model.specs.Discipline.{Terms}
 use Rattle.vc_model.specs.Layout.{Layout}
 use Rattle.vc_model.specs.Outcome as model
 use Rattle.vc_model.specs.Outcome.{Outcome, Put}
-use Rattle.vc_objects.specs.Insert.{Grown, Inserted, alloc_unlabelled, empty_dictionary, freed, grow, grown_to, grown_with, held, held_in, open_dictionary, slots_wanted, without_table}
-use Rattle.vc_objects.specs.Objects.{Dictionary, Table, holder_size, listed, table_size}
-use Rattle.vc_objects.specs.Remove.{freed_all, region_without, remove, remove_found, unnamed}
-use Rattle.vc_objects.specs.Turn.{Brought, Turned, bring_of, brought, objects_dropped, table_left, turn, turned_with}
+use Rattle.vc_objects.specs.Insert.{Grown, Inserted, alloc_unlabelled, empty_dictionary, layout_without, grow, grown_to, grown_with, insert_of, held_in, open_dictionary, slots_wanted, without_table}
+use Rattle.vc_objects.specs.Objects.{Dictionary, Table, holder_size, option_list, table_size}
+use Rattle.vc_objects.specs.Remove.{freed_all, region_without, remove, remove_found, next_to_go}
+use Rattle.vc_objects.specs.Turn.{Brought, Turned, bring_of, turn_with, objects_dropped, table_left, turn, turned_with}
 use Rattle.vc_script.specs.Needs.{Need}
 use Rattle.vc_script.specs.declared.command.Command.{Command}
 use Rattle.vc_script.specs.declared.command.Command.TheVariants.{Insert, Append, Attach, Delete, Detach, Remethod, Empty}
@@ -31,7 +31,7 @@ module _ {L : Type 0} where
 
   holders-leave : (r : Layout L) (os : List Object) → (freed_all r os).segments ≡ r.segments
   holders-leave r [] = refl
-  holders-leave r (o ∷ os) = holders-leave (freed r o.at) os
+  holders-leave r (o ∷ os) = holders-leave (layout_without r o.at) os
 
   -- a dictionary that ends gives no segment back
   pub end-leaves : (r : Layout L) (d : Dictionary) → (region_without r d).segments ≡ r.segments
@@ -57,9 +57,9 @@ module _ {L : Type 0} where
   abbrev Inserts : List (ℕ × ℕ) → Inserted L → Type 0
   Inserts segments i = i.region.segments ≡ segments ++ i.granted
 
-  inserts-held : (segments : List (ℕ × ℕ)) (rules : Rules) (append : Bool) (bytes : List ℕ) (g : Grown L) (o : Outcome (Put (Layout L))) → g.region.segments ≡ segments ++ g.granted → Puts g.region.segments o → Inserts segments (held rules append bytes g o)
+  inserts-held : (segments : List (ℕ × ℕ)) (rules : Rules) (append : Bool) (bytes : List ℕ) (g : Grown L) (o : Outcome (Put (Layout L))) → g.region.segments ≡ segments ++ g.granted → Puts g.region.segments o → Inserts segments (insert_of rules append bytes g o)
   inserts-held segments rules append bytes g (model.Done p) grown e =
-      e ∙ (ap (λ ss. ss ++ listed p.granted) grown ∙ append_assoc segments g.granted (listed p.granted))
+      e ∙ (ap (λ ss. ss ++ option_list p.granted) grown ∙ append_assoc segments g.granted (option_list p.granted))
   inserts-held segments rules append bytes g (model.Refused why) grown e = grown
 
   inserts-in : (rules : Rules) (terms : Terms) (r : Layout L) (none : L) (d : Dictionary) (append : Bool) (bytes : List ℕ) (refused : Bool) (o : Outcome (Grown L)) → Grows r.segments o → Inserts r.segments (held_in rules terms r none d append bytes refused o)
@@ -72,7 +72,7 @@ module _ {L : Type 0} where
   Brings segments (model.Done b) = b.region.segments ≡ segments ++ b.granted
   Brings segments (model.Refused why) = Unit {0}
 
-  brings-with : (segments : List (ℕ × ℕ)) (slots : ℕ) (o : Outcome (Put (Layout L))) → Puts segments o → Brings segments (brought slots o)
+  brings-with : (segments : List (ℕ × ℕ)) (slots : ℕ) (o : Outcome (Put (Layout L))) → Puts segments o → Brings segments (turn_with slots o)
   brings-with segments slots (model.Done p) e = e
   brings-with segments slots (model.Refused why) e = tt
 
@@ -112,26 +112,26 @@ module _ {L : Type 0} where
   unless-changes s bytes need (Some o) = same s
   unless-changes s bytes need None = put-changes s false bytes need
 
-  insert-changes : (s : Seat L) (given bytes : List ℕ) (need : Need) → ChangesDict s (cond (is_object given) (insert_in s bytes need) (declined s why.Size))
+  insert-changes : (s : Seat L) (given bytes : List ℕ) (need : Need) → ChangesDict s (cond (is_object given) (insert_in s bytes need) (seat_with_refusal s why.Size))
   insert-changes s given bytes need =
-      either (ChangesDict s) (is_object given) (insert_in s bytes need) (declined s why.Size) (unless-changes s bytes need (standing s bytes)) (same s)
+      either (ChangesDict s) (is_object given) (insert_in s bytes need) (seat_with_refusal s why.Size) (unless-changes s bytes need (standing s bytes)) (same s)
 
   append-changes : (s : Seat L) (bytes : List ℕ) (need : Need) → ChangesDict s (append_in s bytes need)
   append-changes s bytes need =
-      either (ChangesDict s) (is_list s.dict.method) _ (declined s why.WrongMethod)
-      (either (ChangesDict s) (is_object bytes) (put_object s true (s.rules.made bytes) need) (declined s why.Size) (put-changes s true (s.rules.made bytes) need) (same s))
+      either (ChangesDict s) (is_list s.dict.method) _ (seat_with_refusal s why.WrongMethod)
+      (either (ChangesDict s) (is_object bytes) (put_object s true (s.rules.made bytes) need) (seat_with_refusal s why.Size) (put-changes s true (s.rules.made bytes) need) (same s))
       (same s)
 
   removed-changes : (s : Seat L) (tells : Bool) (o : Option Object) → ChangesDict s (removed_as tells (remove_found s.region s.dict o))
   removed-changes s tells None = same s
   removed-changes s tells (Some o) = same s
 
-  remove-changes : (s : Seat L) (tells : Bool) (bytes : List ℕ) → ChangesDict s (cond (is_object bytes) (removed_as tells (remove s.rules s.region s.dict (s.rules.key bytes))) (declined s why.Size))
+  remove-changes : (s : Seat L) (tells : Bool) (bytes : List ℕ) → ChangesDict s (cond (is_object bytes) (removed_as tells (remove s.rules s.region s.dict (s.rules.key bytes))) (seat_with_refusal s why.Size))
   remove-changes s tells bytes =
-      either (ChangesDict s) (is_object bytes) _ (declined s why.Size) (removed-changes s tells (first_with objects.bytes_of s.rules (s.rules.key bytes) s.dict.objects)) (same s)
+      either (ChangesDict s) (is_object bytes) _ (seat_with_refusal s why.Size) (removed-changes s tells (first_with objects.bytes_of s.rules (s.rules.key bytes) s.dict.objects)) (same s)
 
   delete-changes : (s : Seat L) (object : Option (List ℕ)) → ChangesDict s (delete_in s object)
-  delete-changes s None = removed-changes s true (unnamed s.dict.method s.dict.objects)
+  delete-changes s None = removed-changes s true (next_to_go s.dict.method s.dict.objects)
   delete-changes s (Some bytes) = remove-changes s true bytes
 
   turned-changes : (s : Seat L) (name : List ℕ) (method : DictMethod) (o : Outcome (Turned L)) → Turns s.region.segments o → ChangesDict s (turned_as s name method o)

@@ -27,7 +27,7 @@ use Rattle.vc_script.specs.declared.refusal.Refusal.{Refusal}
 use Rattle.vc_script.specs.declared.refusal.Refusal.TheVariants as why
 use Rattle.vc_script.specs.declared.reply.Reply.TheVariants.{Opened}
 use Rattle.vc_steps.specs.Dicts.{dict_changed, dict_command, dict_of, dict_opened, dict_refused, dict_shut, open_dict_in, open_dict_unless, seat_of, shut_in, view_found, view_step, view_unless, with_dict, without_dict}
-use Rattle.vc_steps.specs.State.{State, Stepped, home_named, refused, with_region}
+use Rattle.vc_steps.specs.State.{State, Stepped, home_named, step_with_refusal, with_region}
 use Rattle.vc_views.specs.Views.{DictHome, dict_named, is_dict, is_linked_in, is_viewed_in, view_refusal}
 use Rattle.vc_counts.specs.Reach.{holder_freed, holder_put, reach_of}
 use Rattle.vc_counts.specs.Working.{dict_bytes, dict_in, segments_at, table_bytes, table_in}
@@ -197,10 +197,10 @@ module _ (s : State) where
       command-works (View x viewed) is = view-works viewed
       command-works (Remethod x method) is =
           of-dict x is (dict_command s (Remethod x method) need d h rules)
-          (either (TalliesStep s (Dict name) (Some d.home)) (is_linked_in s.dicts d) (refused s why.Viewed) (dict_changed s d h (gives (Remethod x method)))
+          (either (TalliesStep s (Dict name) (Some d.home)) (is_linked_in s.dicts d) (step_with_refusal s why.Viewed) (dict_changed s d h (gives (Remethod x method)))
           (refuses s (Dict name) (Some d.home) why.Viewed) (dict-works (Remethod x method) (λ i. method-bytes (seat_of d h rules) i x method need)))
       command-works (Empty x) is = of-dict x is (dict_changed s d h (gives (Empty x))) (dict-works (Empty x) (λ i. emptied-bytes (layout_in h.region) d.dict i))
       command-works (Shut x) is =
           of-dict x is (dict_command s (Shut x) need d h rules)
-          (either (TalliesStep s (Dict name) (Some d.home)) (is_viewed_in s.dicts d.name) (refused s why.Viewed) (dict_shut s d) (refuses s (Dict name) (Some d.home) why.Viewed) (shut-works (lone name)))
+          (either (TalliesStep s (Dict name) (Some d.home)) (is_viewed_in s.dicts d.name) (step_with_refusal s why.Viewed) (dict_shut s d) (refuses s (Dict name) (Some d.home) why.Viewed) (shut-works (lone name)))
       command-works command is = absurd (none-some name is)

@@ -6,9 +6,9 @@ use Rattle.std.proofs.lemmas.List.Sums.{sum-map, sum_by-cons}
 use Rattle.vc_base.specs.Holders.{AreDistinct, contains}
 use Rattle.vc_dtdisc.specs.Objects.{Object, address_of}
 use Rattle.vc_model.specs.Layout.{Layout}
-use Rattle.vc_objects.specs.Insert.{freed}
+use Rattle.vc_objects.specs.Insert.{layout_without}
 use Rattle.vc_objects.specs.Objects.{Dictionary, Table, holder_size, table_size}
-use Rattle.vc_objects.specs.Remove.{emptied, freed_all, region_without}
+use Rattle.vc_objects.specs.Remove.{without_objects, freed_all, region_without}
 use Rattle.vc_counts.specs.Working.{dict_bytes, holders_bytes}
 use Rattle.vc_counts.proofs.DictBytes.{AreHeld, HasTable, IsBeside, IsSeated, bytes_in, table-gone}
 use Rattle.vc_counts.proofs.Sized.{bytes-without, sized-left}
@@ -20,7 +20,7 @@ holders-cons o os =
 
 module _ {L : Type 0} where
   -- one of another address goes
-  held-left : (r : Layout L) (a : ℕ) (os : List Object) → contains (map address_of os) a ≡ false → AreHeld r os → AreHeld (freed r a) os
+  held-left : (r : Layout L) (a : ℕ) (os : List Object) → contains (map address_of os) a ≡ false → AreHeld r os → AreHeld (layout_without r a) os
   held-left r a [] none held = tt
   held-left r a (o ∷ os) none held =
       let parts = or_parts (o.at == a) (contains (map address_of os) a) none in
@@ -30,7 +30,7 @@ module _ {L : Type 0} where
   pub holders-gone : (r : Layout L) (os : List Object) → AreHeld r os → AreDistinct (map address_of os) → bytes_in (freed_all r os) + holders_bytes os ≡ bytes_in r
   holders-gone r [] held distinct = omega arith
   holders-gone r (o ∷ os) held distinct =
-      omega (arith, bytes-without o.at (holder_size o.bytes) r.blocks held.0, holders-gone (freed r o.at) os (held-left r o.at os distinct.0 held.1) distinct.1, holders-cons o os)
+      omega (arith, bytes-without o.at (holder_size o.bytes) r.blocks held.0, holders-gone (layout_without r o.at) os (held-left r o.at os distinct.0 held.1) distinct.1, holders-cons o os)
 
   -- a table of another address stays
   pub table-left : (r : Layout L) (os : List Object) (table : Option Table) → HasTable r table → IsBeside table os → HasTable (freed_all r os) table
@@ -38,11 +38,11 @@ module _ {L : Type 0} where
   table-left r [] (Some t) has beside = has
   table-left r (o ∷ os) (Some t) has beside =
       let parts = or_parts (o.at == t.at) (contains (map address_of os) t.at) beside in
-      table-left (freed r o.at) os (Some t) (sized-left t.at (table_size t.slots) o.at (λ e. eqb-false o.at t.at parts.0 (sym e)) r.blocks has) parts.1
+      table-left (layout_without r o.at) os (Some t) (sized-left t.at (table_size t.slots) o.at (λ e. eqb-false o.at t.at parts.0 (sym e)) r.blocks has) parts.1
 
   -- all objects of a dictionary go, and its table too
   module _ (r : Layout L) (d : Dictionary) (seated : IsSeated r d) where
-    pub emptied-bytes : bytes_in (freed_all r d.objects) + dict_bytes d ≡ bytes_in r + dict_bytes (emptied d)
+    pub emptied-bytes : bytes_in (freed_all r d.objects) + dict_bytes d ≡ bytes_in r + dict_bytes (without_objects d)
     emptied-bytes = omega (arith, holders-gone r d.objects seated.objects seated.distinct)
 
     pub ended-bytes : bytes_in (region_without r d) + dict_bytes d ≡ bytes_in r

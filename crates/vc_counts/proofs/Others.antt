@@ -5,8 +5,8 @@ use Rattle.std.proofs.lemmas.Bool.{cases_Bool, and_from, and_parts, eq-eqb, eqb-
 use Rattle.std.proofs.lemmas.Option.{none-some, same_Some}
 use Rattle.vc_audit.specs.Debug.{guarded_place, user_block}
 use Rattle.vc_model.specs.Layout.{Block, is_at, lies_before, relabel_block, with_block, without_block}
-use Rattle.vc_model.specs.Resize.{sized}
-use Rattle.vc_model.specs.Touch.{change_block, find_block, rewritten}
+use Rattle.vc_model.specs.Resize.{sized_block}
+use Rattle.vc_model.specs.Touch.{change_block, find_block, rewritten_block}
 
 -- blocks of some labels, each by what its size counts
 module _ {L : Type 0} (mine : L → Bool) (weigh : ℕ → ℕ) where
@@ -49,14 +49,14 @@ module _ {L : Type 0} (mine : L → Bool) (weigh : ℕ → ℕ) where
     mine-behind z is [] all = (λ here. is, tt)
     mine-behind z is (c ∷ cs) all = (all.0, mine-behind z is cs all.1)
 
-    mine-if : (p : ℕ × ℕ) (off : ℕ) (src : List ℕ) (v : Bool) (c : Block L) (cs changed : List (Block L)) → AreMine at (c ∷ cs) → AreMine at changed → AreMine at (cond v (rewritten off src c ∷ cs) (c ∷ changed))
+    mine-if : (p : ℕ × ℕ) (off : ℕ) (src : List ℕ) (v : Bool) (c : Block L) (cs changed : List (Block L)) → AreMine at (c ∷ cs) → AreMine at changed → AreMine at (cond v (rewritten_block off src c ∷ cs) (c ∷ changed))
     mine-if p off src true c cs changed all rest = all
     mine-if p off src false c cs changed all rest = (all.0, rest)
 
-    pub mine-written : (p : ℕ × ℕ) (off : ℕ) (src : List ℕ) (bs : List (Block L)) → AreMine at bs → AreMine at (change_block (rewritten off src) p bs)
+    pub mine-written : (p : ℕ × ℕ) (off : ℕ) (src : List ℕ) (bs : List (Block L)) → AreMine at bs → AreMine at (change_block (rewritten_block off src) p bs)
     mine-written p off src [] all = tt
     mine-written p off src (c ∷ cs) all =
-        mine-if p off src (is_at p c) c cs (change_block (rewritten off src) p cs) all (mine-written p off src cs all.1)
+        mine-if p off src (is_at p c) c cs (change_block (rewritten_block off src) p cs) all (mine-written p off src cs all.1)
 
     -- what is found there, and the last one where it is there
     pub mine-found : (bs : List (Block L)) (b : Block L) → AreMine at bs → find_block at bs ≡ Some b → (is_at at b ≡ true) × (mine b.label ≡ true)
@@ -81,26 +81,26 @@ module _ {L : Type 0} (mine : L → Bool) (weigh : ℕ → ℕ) where
         (cases_Bool (is_at at c))
 
     -- one of them gets another size
-    pub others-sized : (size : ℕ) (bs : List (Block L)) → AreMine at bs → others (change_block (sized size) at bs) ≡ others bs
+    pub others-sized : (size : ℕ) (bs : List (Block L)) → AreMine at bs → others (change_block (sized_block size) at bs) ≡ others bs
     others-sized size [] all = refl
     others-sized size (c ∷ cs) all =
         ⊎_elim
         (λ here.
-        ap (λ v. others (cond v (sized size c ∷ cs) (c ∷ change_block (sized size) at cs))) here
-        ∙ (none-of (sized size c) (all.0 here) (others cs) ∙ sym (none-of c (all.0 here) (others cs))))
+        ap (λ v. others (cond v (sized_block size c ∷ cs) (c ∷ change_block (sized_block size) at cs))) here
+        ∙ (none-of (sized_block size c) (all.0 here) (others cs) ∙ sym (none-of c (all.0 here) (others cs))))
         (λ away.
-        ap (λ v. others (cond v (sized size c ∷ cs) (c ∷ change_block (sized size) at cs))) away
+        ap (λ v. others (cond v (sized_block size c ∷ cs) (c ∷ change_block (sized_block size) at cs))) away
         ∙ ap (λ n. cond (mine c.label) 0 (weigh c.size) + n) (others-sized size cs all.1))
         (cases_Bool (is_at at c))
 
-  others-if : (off : ℕ) (src : List ℕ) (v : Bool) (c : Block L) (cs changed : List (Block L)) → others changed ≡ others cs → others (cond v (rewritten off src c ∷ cs) (c ∷ changed)) ≡ others (c ∷ cs)
+  others-if : (off : ℕ) (src : List ℕ) (v : Bool) (c : Block L) (cs changed : List (Block L)) → others changed ≡ others cs → others (cond v (rewritten_block off src c ∷ cs) (c ∷ changed)) ≡ others (c ∷ cs)
   others-if off src true c cs changed rest = refl
   others-if off src false c cs changed rest = ap (λ n. cond (mine c.label) 0 (weigh c.size) + n) rest
 
   -- bytes of a block change no size
-  pub others-written : (at : ℕ × ℕ) (off : ℕ) (src : List ℕ) (bs : List (Block L)) → others (change_block (rewritten off src) at bs) ≡ others bs
+  pub others-written : (at : ℕ × ℕ) (off : ℕ) (src : List ℕ) (bs : List (Block L)) → others (change_block (rewritten_block off src) at bs) ≡ others bs
   others-written at off src [] = refl
-  others-written at off src (c ∷ cs) = others-if off src (is_at at c) c cs (change_block (rewritten off src) at cs) (others-written at off src cs)
+  others-written at off src (c ∷ cs) = others-if off src (is_at at c) c cs (change_block (rewritten_block off src) at cs) (others-written at off src cs)
 
 -- a block at a place has it
 pub place-at : {L : Type 0} (at : ℕ × ℕ) (b : Block L) → is_at at b ≡ true → (b.seg, b.off) ≡ at

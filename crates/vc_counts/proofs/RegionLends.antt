@@ -8,12 +8,12 @@ use Rattle.vc_model.specs.Last.{can_end, if_latest, last_alloc, last_need, last_
 use Rattle.vc_model.specs.Layout.{Block, Layout, is_at, with_segment}
 use Rattle.vc_model.specs.Outcome.{Fixed, NotLast, PoolSize, Outcome, Done, Put, Refused, outcome_as}
 use Rattle.vc_model.specs.Pool.{Pool, cell_for, element_with, pool_alloc, pool_need, pool_resize, put_asked, put_carving, put_free, uncarved}
-use Rattle.vc_model.specs.Resize.{best_resize, can_stay, moved, resize_found, stays}
+use Rattle.vc_model.specs.Resize.{best_resize, can_stay, outcome_of_move, resize_found, stays}
 use Rattle.vc_model.specs.Segments.{Asked, Granted, TooMany, NotLent, ask}
 use Rattle.vc_model.specs.Touch.{find_block}
-use Rattle.vc_audit.specs.Debug.{guarded, outcome_by, resized}
+use Rattle.vc_audit.specs.Debug.{put_with_guards, outcome_by, put_with_mark}
 use Rattle.vc_audit.specs.Profile.{profile_after}
-use Rattle.vc_objects.specs.Objects.{listed}
+use Rattle.vc_objects.specs.Objects.{option_list}
 use Rattle.vc_region.specs.Region.{OfBest, OfPool, OfLast, OfDebug, OfProfile, Region, segments_of}
 
 pub either : {A : Type 0} (P : A → Type 0) (t : Bool) (a b : A) → P a → P b → P (cond t a b)
@@ -22,7 +22,7 @@ either P false a b p q = q
 
 -- the segment that was granted for a block stands behind these, in what the region is then
 abbrev pub PutsBy : {R : Type 0} → (R → List (ℕ × ℕ)) → List (ℕ × ℕ) → Outcome (Put R) → Type 0
-PutsBy of segments (Done p) = of p.region ≡ segments ++ listed p.granted
+PutsBy of segments (Done p) = of p.region ≡ segments ++ option_list p.granted
 PutsBy of segments (Refused why) = Unit {0}
 
 abbrev pub Puts : {L : Type 0} → List (ℕ × ℕ) → Outcome (Put (Layout L)) → Type 0
@@ -51,7 +51,7 @@ module _ {L : Type 0} where
   pub puts-best : (terms : Terms) (r : Layout L) (label : L) (size align : ℕ) (refused : Bool) → Puts r.segments (best_alloc terms r label size align refused)
   puts-best terms r label size align refused = puts-placed terms r label size align refused (place_in r size align)
 
-  puts-moved : (segments : List (ℕ × ℕ)) (size : ℕ) (b : Block L) (o : Outcome (Put (Layout L))) → Puts segments o → Puts segments (moved size b o)
+  puts-moved : (segments : List (ℕ × ℕ)) (size : ℕ) (b : Block L) (o : Outcome (Put (Layout L))) → Puts segments o → Puts segments (outcome_of_move size b o)
   puts-moved segments size b (Done p) h = h
   puts-moved segments size b (Refused why) h = tt
 
@@ -59,10 +59,10 @@ module _ {L : Type 0} where
   puts-stay r size b = sym (append-nil r.segments)
 
   -- a block stays, or moves where it may
-  puts-resized : (r : Layout L) (size : ℕ) (b : Block L) (stay move : Bool) (o : Outcome (Put (Layout L))) → Puts r.segments o → Puts r.segments (cond stay (stays r size b) (cond move (moved size b o) (Refused Fixed)))
+  puts-resized : (r : Layout L) (size : ℕ) (b : Block L) (stay move : Bool) (o : Outcome (Put (Layout L))) → Puts r.segments o → Puts r.segments (cond stay (stays r size b) (cond move (outcome_of_move size b o) (Refused Fixed)))
   puts-resized r size b stay move o h =
-      either (Puts r.segments) stay (stays r size b) (cond move (moved size b o) (Refused Fixed)) (puts-stay r size b)
-      (either (Puts r.segments) move (moved size b o) (Refused Fixed) (puts-moved r.segments size b o h) tt)
+      either (Puts r.segments) stay (stays r size b) (cond move (outcome_of_move size b o) (Refused Fixed)) (puts-stay r size b)
+      (either (Puts r.segments) move (outcome_of_move size b o) (Refused Fixed) (puts-moved r.segments size b o h) tt)
 
   puts-found : (terms : Terms) (r : Layout L) (size : ℕ) (may_move refused : Bool) (o : Option (Block L)) → Puts r.segments (resize_found terms r size may_move refused o)
   puts-found terms r size may_move refused None = tt
@@ -126,11 +126,11 @@ module _ {L : Type 0} where
   in-last segments (Done p) h = h
   in-last segments (Refused why) h = tt
 
-  pub in-guards : (segments marks : List (ℕ × ℕ)) (size : ℕ) (o : Outcome (Put (Layout L))) → Puts segments o → PutsIn segments (outcome_as OfDebug (outcome_by (guarded marks size) o))
+  pub in-guards : (segments marks : List (ℕ × ℕ)) (size : ℕ) (o : Outcome (Put (Layout L))) → Puts segments o → PutsIn segments (outcome_as OfDebug (outcome_by (put_with_guards marks size) o))
   in-guards segments marks size (Done p) h = h
   in-guards segments marks size (Refused why) h = tt
 
-  pub in-resized : (segments marks : List (ℕ × ℕ)) (at : ℕ × ℕ) (kept size : ℕ) (o : Outcome (Put (Layout L))) → Puts segments o → PutsIn segments (outcome_as OfDebug (outcome_by (resized marks at kept size) o))
+  pub in-resized : (segments marks : List (ℕ × ℕ)) (at : ℕ × ℕ) (kept size : ℕ) (o : Outcome (Put (Layout L))) → Puts segments o → PutsIn segments (outcome_as OfDebug (outcome_by (put_with_mark marks at kept size) o))
   in-resized segments marks at kept size (Done p) h = h
   in-resized segments marks at kept size (Refused why) h = tt
 

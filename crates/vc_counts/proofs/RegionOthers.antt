@@ -9,9 +9,9 @@ use Rattle.vc_model.specs.Last.{can_end, if_latest, last_alloc, last_need, last_
 use Rattle.vc_model.specs.Layout.{Block, Layout, is_at, with_block, with_segment}
 use Rattle.vc_model.specs.Outcome.{Fixed, NotLast, PoolSize, Outcome, Done, Put, Refused}
 use Rattle.vc_model.specs.Pool.{Pool, cell_for, element_with, pool_alloc, pool_need, pool_resize, put_asked, put_carving, put_free, uncarved}
-use Rattle.vc_model.specs.Resize.{best_resize, can_stay, moved, resize_found, stays}
+use Rattle.vc_model.specs.Resize.{best_resize, can_stay, outcome_of_move, resize_found, stays}
 use Rattle.vc_model.specs.Segments.{Asked, Granted, TooMany, NotLent, ask}
-use Rattle.vc_model.specs.Touch.{change_block, find_block, rewritten}
+use Rattle.vc_model.specs.Touch.{change_block, find_block, rewritten_block}
 use Rattle.vc_counts.proofs.Others.{AreMine, mine-behind, mine-found, mine-with, mine-written, others, others-behind, others-sized, others-with, others-without, others-written, place-at}
 use Rattle.vc_counts.proofs.RegionLends.{either}
 
@@ -109,19 +109,19 @@ module _ {L : Type 0} (mine : L → Bool) (weigh : ℕ → ℕ) where
   stays-kept of bs (Refused why) k = tt
 
   module _ (b : Block L) (size : ℕ) where
-    stays-moved : (bs : List (Block L)) (o : Outcome (Put (Layout L))) → AreMine mine weigh (b.seg, b.off) bs → KeepsBest bs o → StaysBest bs (moved size b o)
+    stays-moved : (bs : List (Block L)) (o : Outcome (Put (Layout L))) → AreMine mine weigh (b.seg, b.off) bs → KeepsBest bs o → StaysBest bs (outcome_of_move size b o)
     stays-moved bs (Done p) all k =
         let src = take size b.bytes in
-        others-without mine weigh (b.seg, b.off) (change_block (rewritten 0 src) p.at p.region.blocks)
+        others-without mine weigh (b.seg, b.off) (change_block (rewritten_block 0 src) p.at p.region.blocks)
         (mine-written mine weigh (b.seg, b.off) p.at 0 src p.region.blocks (k.mine_at (b.seg, b.off) all))
         ∙ (others-written mine weigh p.at 0 src p.region.blocks ∙ k.same)
     stays-moved bs (Refused why) all k = tt
 
-    stays-or : (r : Layout L) (stay move : Bool) (o : Outcome (Put (Layout L))) → AreMine mine weigh (b.seg, b.off) r.blocks → KeepsBest r.blocks o → StaysBest r.blocks (cond stay (stays r size b) (cond move (moved size b o) (Refused Fixed)))
+    stays-or : (r : Layout L) (stay move : Bool) (o : Outcome (Put (Layout L))) → AreMine mine weigh (b.seg, b.off) r.blocks → KeepsBest r.blocks o → StaysBest r.blocks (cond stay (stays r size b) (cond move (outcome_of_move size b o) (Refused Fixed)))
     stays-or r stay move o all k =
-        either (StaysBest r.blocks) stay (stays r size b) (cond move (moved size b o) (Refused Fixed))
+        either (StaysBest r.blocks) stay (stays r size b) (cond move (outcome_of_move size b o) (Refused Fixed))
         (others-sized mine weigh (b.seg, b.off) size r.blocks all)
-        (either (StaysBest r.blocks) move (moved size b o) (Refused Fixed) (stays-moved r.blocks o all k) tt)
+        (either (StaysBest r.blocks) move (outcome_of_move size b o) (Refused Fixed) (stays-moved r.blocks o all k) tt)
 
   module _ (at : ℕ × ℕ) where
     at-own : (b : Block L) (bs : List (Block L)) → is_at at b ≡ true → AreMine mine weigh at bs → AreMine mine weigh (b.seg, b.off) bs

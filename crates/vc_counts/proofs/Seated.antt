@@ -9,7 +9,7 @@ use Rattle.std.proofs.lemmas.List.{length-drop}
 use Rattle.std.proofs.lemmas.Option.{none-some, same_Some}
 use Rattle.vc_base.specs.Cells.{Blocks, HasBytes, bytes_at}
 use Rattle.vc_base.specs.Holders.{AreDistinct, contains}
-use Rattle.vc_best.specs.Cells.{cells_of, zeroed}
+use Rattle.vc_best.specs.Cells.{cells_of, block_shown}
 use Rattle.vc_best.specs.Parts.{layout_of}
 use Rattle.vc_best.proofs.CellBytes.{cell, cell-length}
 use Rattle.vc_best.proofs.RestBlocks.{footprints-zeroed}
@@ -37,7 +37,7 @@ use Rattle.vc_objects.specs.Objects.{Dictionary, holder_size}
 use Rattle.vc_objects.specs.Parts.{IsWhole, dictionary_of, object_of, table_of}
 use Rattle.vc_objects.proofs.Mapped.{addresses-mapped}
 use Rattle.vc_region.specs.Cells.{cells_in, rest_in}
-use Rattle.vc_region.specs.Region.{is_best, layout_in, relabelled}
+use Rattle.vc_region.specs.Region.{is_best, layout_in, region_with_labels}
 use Rattle.vc_region.specs.declared.region.Region.{Region}
 use Rattle.vc_region.specs.declared.region.Region.TheVariants.{Best, Pool, Last, Debug, Profile}
 use Rattle.vc_region.proofs.RestList.{view-found}
@@ -55,14 +55,14 @@ module _ (f : ℕ → Label) where
   size-relabelled (Some b) = refl
 
   -- a cell is a block of as many bytes, also where its bytes are not shown and labels are names
-  cell-sized : {I : Type 0} {V : I → Type 0} (r : Region I V) (a : ℕ) → IsSome (cells_in r a) → HasSized (layout_in (relabelled f (rest_in r))).blocks a (length (bytes_at (cells_in r) a))
+  cell-sized : {I : Type 0} {V : I → Type 0} (r : Region I V) (a : ℕ) → IsSome (cells_in r a) → HasSized (layout_in (region_with_labels f (rest_in r))).blocks a (length (bytes_at (cells_in r) a))
   cell-sized (Best b) a there =
       let l : Layout ℕ = layout_of b in
       let has : HasBytes (cells_of l.blocks) a 0 = record { there = there; enough = omega arith } in
       let own : HasSized l.blocks a (length (bytes_at (cells_of l.blocks) a)) =
       ap size_found (cell l b.whole a 0 has).1.found ∙ ap (λ n. Some n) (sym (cell-length l b.whole a 0 has)) in
-      ap size_found (find_block-relabel f (place_of a) (map zeroed l.blocks))
-      ∙ (size-relabelled (find_block (place_of a) (map zeroed l.blocks))
+      ap size_found (find_block-relabel f (place_of a) (map block_shown l.blocks))
+      ∙ (size-relabelled (find_block (place_of a) (map block_shown l.blocks))
       ∙ (view-found (λ (c : Block ℕ). c.size) (λ c. refl) (place_of a) l.blocks ∙ own))
   cell-sized (Pool pool) a there = absurd (true≢false (sym there))
   cell-sized (Last last) a there = absurd (true≢false (sym there))
@@ -72,10 +72,10 @@ module _ (f : ℕ → Label) where
   abbrev IsLawful : Layout Label → Type 0
   IsLawful r = AreLawful r.segments (footprints r.blocks)
 
-  best-lawful : {I : Type 0} {V : I → Type 0} (r : Region I V) → is_best (rest_in r) ≡ true → ∥ IsLawful (layout_in (relabelled f (rest_in r))) ∥₁
+  best-lawful : {I : Type 0} {V : I → Type 0} (r : Region I V) → is_best (rest_in r) ≡ true → ∥ IsLawful (layout_in (region_with_labels f (rest_in r))) ∥₁
   best-lawful (Best b) best =
       let l : Layout ℕ = layout_of b in
-      let same : footprints (map (relabel_block f) (map zeroed l.blocks)) ≡ footprints l.blocks = footprints-relabel f (map zeroed l.blocks) ∙ footprints-zeroed l.blocks in
+      let same : footprints (map (relabel_block f) (map block_shown l.blocks)) ≡ footprints l.blocks = footprints-relabel f (map block_shown l.blocks) ∙ footprints-zeroed l.blocks in
       ∥∥₁_elim b.sound (hlevel) (λ s. ∣ subst (AreLawful l.segments) (sym same) (AreLawful-from_sound l s) ∣₁)
   best-lawful (Pool pool) best = absurd (true≢false (sym best))
   best-lawful (Last last) best = absurd (true≢false (sym best))

@@ -22,7 +22,7 @@ use Rattle.vc_model.specs.Touch.{find_block}
 use Rattle.vc_objects.specs.Insert.{alloc_unlabelled}
 use Rattle.vc_objects.specs.Objects.{Dictionary, Table, holder_size, slots_of, table_size}
 use Rattle.vc_objects.specs.Remove.{freed_all}
-use Rattle.vc_objects.specs.Turn.{Brought, Turned, bring_of, brought, objects_dropped, table_left, turn, turned_with}
+use Rattle.vc_objects.specs.Turn.{Brought, Turned, bring_of, turn_with, objects_dropped, table_left, turn, turned_with}
 use Rattle.vc_script.specs.Needs.{Need}
 use Rattle.vc_script.specs.declared.command.Command.TheVariants.{Remethod}
 use Rattle.vc_counts.specs.Working.{dict_bytes, holders_bytes}
@@ -168,7 +168,7 @@ module _ {L : Type 0} where
   Brings r wanted (Done b) = BringsBytes r wanted b
   Brings r wanted (Refused why) = Unit {0}
 
-  brings-put : (r : Layout L) (slots : ℕ) (o : Outcome (Put (Layout L))) → PutsBytes r (table_size slots) o → KeepsSized r o → Brings r (Some slots) (brought slots o)
+  brings-put : (r : Layout L) (slots : ℕ) (o : Outcome (Put (Layout L))) → PutsBytes r (table_size slots) o → KeepsSized r o → Brings r (Some slots) (turn_with slots o)
   brings-put r slots (Done p) puts kept = record { bytes = puts; kept = kept; none = λ e. absurd (none-some slots (sym e)) }
   brings-put r slots (Refused why) puts kept = tt
 

@@ -8,7 +8,7 @@ use Rattle.vc_dtdisc.specs.Rules.{Rules}
 use Rattle.vc_model.specs.Discipline.{Terms}
 use Rattle.vc_model.specs.Numbered.{at_number}
 use Rattle.vc_region.specs.Region.{layout_in}
-use Rattle.vc_region.specs.Stat.{opened}
+use Rattle.vc_region.specs.Stat.{opened_region}
 use Rattle.vc_script.specs.Needs.{Need}
 use Rattle.vc_script.specs.declared.command.Command.{Command}
 use Rattle.vc_script.specs.declared.command.Command.TheVariants.{Append, Attach, ClearRegion, CloseRegion, Delete, Detach, Empty, Insert, OpenDict, OpenRegion, Remethod, Shut}
@@ -16,7 +16,7 @@ use Rattle.vc_script.specs.declared.refusal.Refusal.TheVariants as why
 use Rattle.vc_seg.specs.declared.method.Method.{Method}
 use Rattle.vc_seg.specs.declared.method.Method.TheVariants.{VmBest, VmPool, VmLast, VmDebug, VmProfile}
 use Rattle.vc_steps.specs.Dicts.{dict_command, dict_of, dict_step, on_found, on_seat, region_named}
-use Rattle.vc_steps.specs.State.{State, Stepped, changed, close_home, close_step, closed, home_named, is_busy, open_step, opened_over, refused, with_region, without_home}
+use Rattle.vc_steps.specs.State.{State, Stepped, step_with_change, close_home, close_step, step_with_close, home_named, is_busy, open_step, opened_over, step_with_refusal, with_region, without_home}
 use Rattle.vc_steps.specs.Step.{cleared_or, region_of, region_step, shelf_step, step, step_of}
 use Rattle.vc_views.specs.Views.{DictHome, dict_named}
 use Rattle.vc_counts.specs.Reach.{reach_of}
@@ -49,27 +49,27 @@ of-region (Shut d) r e = absurd (none-some r e)
 of-region command r e = tt
 
 module _ (s : State) where
-  open-empty : (m : Method) (r : List ℕ) (n : ℕ) (terms : Terms) → busy_homes (s.homes ++ record { name = r; place = n; terms = terms; region = opened m; kept = [] } ∷ []) ≡ busy_homes s.homes + 0
-  open-empty VmBest r n terms = busy-push s.homes (record { name = r; place = n; terms = terms; region = opened VmBest; kept = [] })
-  open-empty VmPool r n terms = busy-push s.homes (record { name = r; place = n; terms = terms; region = opened VmPool; kept = [] })
-  open-empty VmLast r n terms = busy-push s.homes (record { name = r; place = n; terms = terms; region = opened VmLast; kept = [] })
-  open-empty VmDebug r n terms = busy-push s.homes (record { name = r; place = n; terms = terms; region = opened VmDebug; kept = [] })
-  open-empty VmProfile r n terms = busy-push s.homes (record { name = r; place = n; terms = terms; region = opened VmProfile; kept = [] })
+  open-empty : (m : Method) (r : List ℕ) (n : ℕ) (terms : Terms) → busy_homes (s.homes ++ record { name = r; place = n; terms = terms; region = opened_region m; kept = [] } ∷ []) ≡ busy_homes s.homes + 0
+  open-empty VmBest r n terms = busy-push s.homes (record { name = r; place = n; terms = terms; region = opened_region VmBest; kept = [] })
+  open-empty VmPool r n terms = busy-push s.homes (record { name = r; place = n; terms = terms; region = opened_region VmPool; kept = [] })
+  open-empty VmLast r n terms = busy-push s.homes (record { name = r; place = n; terms = terms; region = opened_region VmLast; kept = [] })
+  open-empty VmDebug r n terms = busy-push s.homes (record { name = r; place = n; terms = terms; region = opened_region VmDebug; kept = [] })
+  open-empty VmProfile r n terms = busy-push s.homes (record { name = r; place = n; terms = terms; region = opened_region VmProfile; kept = [] })
 
-  opened-over : (r : List ℕ) (m : Method) (n : ℕ) (o : Option (Option Terms)) → TalliesStep s Nothing None (opened_over s r n (opened m) o)
+  opened-over : (r : List ℕ) (m : Method) (n : ℕ) (o : Option (Option Terms)) → TalliesStep s Nothing None (opened_over s r n (opened_region m) o)
   opened-over r m n None = refuses s Nothing None why.NoSuchDiscipline
   opened-over r m n (Some None) = refuses s Nothing None why.DisciplineInUse
   opened-over r m n (Some (Some terms)) = record { busy = omega (arith, open-empty m r n terms); lent = refl }
 
   works-open : (r : List ℕ) (m : Method) (n : ℕ) → TalliesStep s Nothing None (open_step s r m n)
   works-open r m n =
-      either (TalliesStep s Nothing None) (list_any (is_home r) s.homes) (refused s why.RegionExists) (opened_over s r n (opened m) (at_number s.shelf n))
+      either (TalliesStep s Nothing None) (list_any (is_home r) s.homes) (step_with_refusal s why.RegionExists) (opened_over s r n (opened_region m) (at_number s.shelf n))
       (refuses s Nothing None why.RegionExists) (opened-over r m n (at_number s.shelf n))
 
   close-found : (r : List ℕ) (o : Option Home) → home_named r s.homes ≡ o → AreAlone s.homes → TalliesStep s All (Some r) (close_home s r o)
   close-found r None found alone = refuses s All (Some r) why.NoRegion
   close-found r (Some h) found alone =
-      either (TalliesStep s All (Some r)) (is_busy s r) (refused s why.Busy) (closed s r h) (refuses s All (Some r) why.Busy)
+      either (TalliesStep s All (Some r)) (is_busy s r) (step_with_refusal s why.Busy) (step_with_close s r h) (refuses s All (Some r) why.Busy)
       (tallies-closed r s.homes h found (alone r))
 
   works-close : (r : List ℕ) → AreAlone s.homes → TalliesStep s All (Some r) (close_step s r)
@@ -81,7 +81,7 @@ module _ (s : State) where
 
   -- a command on a region
   module _ (r : List ℕ) (line : ℕ) (need : Need) where
-    region-changed : (command : Command) → IsOfRegion (reach_of command) → (h : Home) → home_named r s.homes ≡ Some h → AreProper s.homes → AreProper (changed s r (in_region h line command need)).state.homes → TalliesStep s (reach_of command) (Some r) (changed s r (in_region h line command need))
+    region-changed : (command : Command) → IsOfRegion (reach_of command) → (h : Home) → home_named r s.homes ≡ Some h → AreProper s.homes → AreProper (step_with_change s r (in_region h line command need)).state.homes → TalliesStep s (reach_of command) (Some r) (step_with_change s r (in_region h line command need))
     region-changed command of h found proper after =
         let c = in_region h line command need in
         record {
@@ -92,11 +92,11 @@ module _ (s : State) where
           lent = lends-changed r s.homes h found c.region c.kept _ (command-changes h line command need);
         }
 
-    cleared-by : (command : Command) → IsOfRegion (reach_of command) → (h : Home) (v : Bool) → home_named r s.homes ≡ Some h → AreProper s.homes → AreProper (cond v (refused s why.Busy) (changed s r (in_region h line command need))).state.homes → TalliesStep s (reach_of command) (Some r) (cond v (refused s why.Busy) (changed s r (in_region h line command need)))
+    cleared-by : (command : Command) → IsOfRegion (reach_of command) → (h : Home) (v : Bool) → home_named r s.homes ≡ Some h → AreProper s.homes → AreProper (cond v (step_with_refusal s why.Busy) (step_with_change s r (in_region h line command need))).state.homes → TalliesStep s (reach_of command) (Some r) (cond v (step_with_refusal s why.Busy) (step_with_change s r (in_region h line command need)))
     cleared-by command of h true found proper after = refuses s (reach_of command) (Some r) why.Busy
     cleared-by command of h false found proper after = region-changed command of h found proper after
 
-    cleared-works : (command : Command) → IsOfRegion (reach_of command) → (h : Home) → home_named r s.homes ≡ Some h → AreProper s.homes → AreProper (cleared_or s r command (changed s r (in_region h line command need))).state.homes → TalliesStep s (reach_of command) (Some r) (cleared_or s r command (changed s r (in_region h line command need)))
+    cleared-works : (command : Command) → IsOfRegion (reach_of command) → (h : Home) → home_named r s.homes ≡ Some h → AreProper s.homes → AreProper (cleared_or s r command (step_with_change s r (in_region h line command need))).state.homes → TalliesStep s (reach_of command) (Some r) (cleared_or s r command (step_with_change s r (in_region h line command need)))
     cleared-works (ClearRegion y) of h found proper after = cleared-by (ClearRegion y) of h (is_busy s r) found proper after
     cleared-works command of h found proper after = region-changed command of h found proper after
 
@@ -105,7 +105,7 @@ module _ (s : State) where
     region-found command of (Some h) found proper after = cleared-works command of h found proper after
 
   -- a command in a region, or in none
-  works-region : (line : ℕ) (command : Command) (need : Need) (o : Option (List ℕ)) → region_of command ≡ o → shelf_step s command need ≡ refused s why.NoRegion → AreProper s.homes → AreProper (step_of s line command need o).state.homes → TalliesStep s (reach_of command) o (step_of s line command need o)
+  works-region : (line : ℕ) (command : Command) (need : Need) (o : Option (List ℕ)) → region_of command ≡ o → shelf_step s command need ≡ step_with_refusal s why.NoRegion → AreProper s.homes → AreProper (step_of s line command need o).state.homes → TalliesStep s (reach_of command) o (step_of s line command need o)
   works-region line command need None region e proper after = subst (TalliesStep s (reach_of command) None) (sym e) (refuses s (reach_of command) None why.NoRegion)
   works-region line command need (Some r) region e proper after =
       region-found r line need command (of-region command r region) (home_named r s.homes) refl proper after
@@ -129,7 +129,7 @@ module _ (s : State) where
   acts line command need None o = step_of s line command need o
   acts line command need (Some d) o = dict_step s d command need
 
-  asked-works : (line : ℕ) (command : Command) (need : Need) (d o : Option (List ℕ)) → dict_of command ≡ d → region_of command ≡ o → shelf_step s command need ≡ refused s why.NoRegion → HaveOwnNames s.dicts → AreSeated → AreProper s.homes → AreProper (acts line command need d o).state.homes → TalliesStep s (reach_of command) (region_named s d o) (acts line command need d o)
+  asked-works : (line : ℕ) (command : Command) (need : Need) (d o : Option (List ℕ)) → dict_of command ≡ d → region_of command ≡ o → shelf_step s command need ≡ step_with_refusal s why.NoRegion → HaveOwnNames s.dicts → AreSeated → AreProper s.homes → AreProper (acts line command need d o).state.homes → TalliesStep s (reach_of command) (region_named s d o) (acts line command need d o)
   asked-works line command need None o is region e lone seated proper after = works-region line command need o region e proper after
   asked-works line command need (Some d) o is region e lone seated proper after = found-works command need d is lone seated (dict_named d s.dicts) refl
 

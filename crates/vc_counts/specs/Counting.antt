@@ -1,7 +1,7 @@
 -- What a counted step promises.
 use Rattle.std.specs.Prelude.{◌≡◌, ℕ, ◌<◌, Bool, false, Result, IfOk, IsTrue, OnErr, OnOk}
 use Rattle.vc_counts.specs.CanCount.{CanCount}
-use Rattle.vc_counts.specs.Counts.{busy_in, counted}
+use Rattle.vc_counts.specs.Counts.{busy_in, counts_with_step}
 use Rattle.vc_counts.specs.declared.counts.Counts.{Counts}
 use Rattle.vc_script.specs.Needs.{need_shown}
 use Rattle.vc_script.specs.declared.command.Command.{Command}
@@ -14,7 +14,7 @@ use Rattle.vc_steps.specs.Steps.{StepsBy}
 pub record CountsStep {E : Type 0} (answer : Result Reply E) (now next : Moment) (n : ℕ) (command : Command) (before after : Counts) : Type 0 where
   pub steps : StepsBy answer now next command (λ s. step s n command)
   -- a command with a reply is counted, and one that found no memory isn't
-  pub counts : IfOk answer (λ reply. after ≡ counted before (step now.state n command (need_shown reply)))
+  pub counts : IfOk answer (λ reply. after ≡ counts_with_step before (step now.state n command (need_shown reply)))
   pub stays : OnErr answer (after ≡ before)
   -- a command of any later line can be counted then
   pub can : OnOk answer ((later : ℕ) → n < later → CanCount after (busy_in next.state) later)

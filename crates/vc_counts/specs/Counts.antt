@@ -14,8 +14,8 @@ abbrev pub no_counts : Counts
 no_counts = record { done = 0; refused = 0; segments = 0; bytes = 0; busy = 0; peak = 0 }
 
 -- with one more step
-abbrev pub counted : Counts → Stepped → Counts
-counted c t =
+abbrev pub counts_with_step : Counts → Stepped → Counts
+counts_with_step c t =
     record {
       done = c.done + (if is_refusal t.reply then 0 else 1);
       refused = c.refused + (if is_refusal t.reply then 1 else 0);

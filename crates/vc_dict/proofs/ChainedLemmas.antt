@@ -19,9 +19,9 @@ use Rattle.vc_dtlist.proofs.TurnLemmas.{StandsFor-unique}
 use Rattle.vc_dthash.specs.declared.dt_hash.DtHash.{DtHash}
 use Rattle.vc_dthash.specs.Chained.{chain_of, hash_at}
 use Rattle.vc_dthash.specs.Hashed.{CanChain, CanLink, ChainedUp, HasTable, HashFor, HashTurned, IsTable, list_of}
-use Rattle.vc_dthash.specs.Slots.{most_slots, slots_for, wanted}
+use Rattle.vc_dthash.specs.Slots.{most_slots, slots_for, wanted_slots}
 use Rattle.vc_dthash.proofs.HashLemmas.{HasTable-kept, HashFor-same, IsSlots-some}
-use Rattle.vc_dict.specs.Orders.{dropped, has_match, kept}
+use Rattle.vc_dict.specs.Orders.{dropped_holders, has_match, kept_holders}
 use Rattle.vc_dict.specs.Passes.{AreApart, IsWithin, Taken}
 use Rattle.vc_dict.specs.Weeding.{ChainWeeding, IsSettled, Weeding, chain_compares}
 use Rattle.vc_dict.proofs.PassLemmas.{apart_back, differs, rest_some, tail_distinct}
@@ -33,7 +33,7 @@ room_by true true n f = absurd (true≢false (f refl))
 room_by true false n f = refl
 room_by false q n f = refl
 
-room-for : (slots count n : ℕ) → 1 ≤ slots → (slots < most_slots → n ≤ 2 * slots) → count + 1 ≤ n → wanted slots count 1 ≡ None
+room-for : (slots count n : ℕ) → 1 ≤ slots → (slots < most_slots → n ≤ 2 * slots) → count + 1 ≤ n → wanted_slots slots count 1 ≡ None
 room-for slots count n some enough few =
     let room : nat_lt slots most_slots ≡ true → nat_lt (2 * slots) (count + 1) ≡ false =
     λ e. let all = enough (ltb-true slots most_slots e) in le-ltb (2 * slots) (count + 1) (omega (arith, all, few)) in
@@ -115,7 +115,7 @@ module _ (rules : Rules) (hash : DtHash) (start : Blocks) (holders : List ℕ) (
     stands = set-before;
     apart = apart-cons set.table.0 s.done at (λ e. not_it (sym table-is ∙ e)) out-of_done;
     holder = t.holder;
-    room = subst (λ z. wanted z set.count 1 ≡ None) (sym s.slots)
+    room = subst (λ z. wanted_slots z set.count 1 ≡ None) (sym s.slots)
         (room-for hash.slots set.count (length holders) (IsSlots-some hash.slots is.slots_allowed) is.enough (omega (arith, s.done_stands.count, s.weeding.few, more)));
   }
 
@@ -236,7 +236,7 @@ ChainWeeding-start rules hash set lost b b1 holders steps r s te se c g =
       compares = omega arith;
     }
 
-pub ChainWeeding-end : (rules : Rules) (hash : DtHash) (start : Blocks) (holders : List ℕ) (passed : ℕ) (left : DtList) (set : DtHash) (lost : DtList) (b : Blocks) (begun steps : ℕ) → ChainWeeding rules hash start holders passed left set lost b begun steps → length holders ≤ passed → IsSettled true rules hash holders (kept rules start [] holders) (dropped rules start [] holders) start (record { kept = list_of set; dropped = lost; count = set.count }) b
+pub ChainWeeding-end : (rules : Rules) (hash : DtHash) (start : Blocks) (holders : List ℕ) (passed : ℕ) (left : DtList) (set : DtHash) (lost : DtList) (b : Blocks) (begun steps : ℕ) → ChainWeeding rules hash start holders passed left set lost b begun steps → length holders ≤ passed → IsSettled true rules hash holders (kept_holders rules start [] holders) (dropped_holders rules start [] holders) start (record { kept = list_of set; dropped = lost; count = set.count }) b
 ChainWeeding-end rules hash start holders passed left set lost b begun steps s h =
     let all = all-kept rules start holders passed s.done s.gone s.rest s.weeding h in
     let lost-all = all-dropped rules start holders passed s.done s.gone s.rest s.weeding h in
@@ -246,7 +246,7 @@ ChainWeeding-end rules hash start holders passed left set lost b begun steps s h
       hashed = λ _. subst (λ z. HashFor rules (record set { table = hash.table; slots = hash.slots }) b z) all stands;
       listed = λ e. absurd (true≢false e);
       gone_stands = subst (λ z. StandsFor lost b z) lost-all s.gone_stands;
-      apart = subst (λ z. AreApart z (dropped rules start [] holders)) all (subst (λ z. AreApart s.done z) lost-all s.weeding.apart);
+      apart = subst (λ z. AreApart z (dropped_holders rules start [] holders)) all (subst (λ z. AreApart s.done z) lost-all s.weeding.apart);
       count = s.done_stands.count ∙ ap length all;
       keeps = s.keeps;
     }

@@ -16,7 +16,7 @@ use Rattle.vc_dtdisc.specs.Objects.{behind_object}
 use Rattle.vc_dtdisc.proofs.AddressLemmas.{behind_object-next_in}
 use Rattle.vc_dtord.specs.Ordered.{is_less}
 use Rattle.vc_dtord.proofs.SortedLemmas.{any-inserted}
-use Rattle.vc_dict.specs.Changes.{behind_current, current_without, inserted, linked, removed}
+use Rattle.vc_dict.specs.Changes.{behind_current, current_without, order_by_insert, order_by_link, order_without}
 use Rattle.vc_dict.proofs.PassLemmas.{apart-placed}
 
 -- either of two lists
@@ -47,7 +47,7 @@ within-behind : (current : Option ℕ) (at : ℕ) (xs : List ℕ) → contains (
 within-behind None at xs = within-last at xs
 within-behind (Some current) at xs = within-put_behind (λ x. x == current) at xs
 
-within-inserted : (method : DictMethod) (rules : Rules) (b : Blocks) (current at : ℕ) (xs : List ℕ) → contains (inserted method rules b current at xs) at ≡ true
+within-inserted : (method : DictMethod) (rules : Rules) (b : Blocks) (current at : ℕ) (xs : List ℕ) → contains (order_by_insert method rules b current at xs) at ≡ true
 within-inserted DtSet rules b current at xs = within-last at xs
 within-inserted DtBag rules b current at xs = within-last at xs
 within-inserted DtOset rules b current at xs = within-put_before (is_less rules b at) at xs
@@ -56,9 +56,9 @@ within-inserted DtList rules b current at xs = within-before (some_address curre
 within-inserted DtStack rules b current at xs = within-head at xs
 within-inserted DtQueue rules b current at xs = within-last at xs
 
-pub within-linked : (append : Bool) (method : DictMethod) (rules : Rules) (b : Blocks) (current at : ℕ) (xs : List ℕ) → contains (linked append method rules b current at xs) at ≡ true
+pub within-linked : (append : Bool) (method : DictMethod) (rules : Rules) (b : Blocks) (current at : ℕ) (xs : List ℕ) → contains (order_by_link append method rules b current at xs) at ≡ true
 within-linked append method rules b current at xs =
-    either_in append (behind_current current at xs) (inserted method rules b current at xs) at true
+    either_in append (behind_current current at xs) (order_by_insert method rules b current at xs) at true
     (within-behind (some_address current) at xs)
     (within-inserted method rules b current at xs)
 
@@ -79,7 +79,7 @@ apart-behind : (current : Option ℕ) (at : ℕ) (xs : List ℕ) (a : ℕ) → a
 apart-behind None at xs a ne h = apart-last at xs a ne h
 apart-behind (Some current) at xs a ne h = apart-put_behind (λ x. x == current) at xs a ne h
 
-apart-inserted : (method : DictMethod) (rules : Rules) (b : Blocks) (current at : ℕ) (xs : List ℕ) (a : ℕ) → at ≢ a → contains xs a ≡ false → contains (inserted method rules b current at xs) a ≡ false
+apart-inserted : (method : DictMethod) (rules : Rules) (b : Blocks) (current at : ℕ) (xs : List ℕ) (a : ℕ) → at ≢ a → contains xs a ≡ false → contains (order_by_insert method rules b current at xs) a ≡ false
 apart-inserted DtSet rules b current at xs a ne h = apart-last at xs a ne h
 apart-inserted DtBag rules b current at xs a ne h = apart-last at xs a ne h
 apart-inserted DtOset rules b current at xs a ne h = apart-placed rules b at xs a ne h
@@ -88,9 +88,9 @@ apart-inserted DtList rules b current at xs a ne h = apart-before (some_address 
 apart-inserted DtStack rules b current at xs a ne h = apart-cons at xs a ne h
 apart-inserted DtQueue rules b current at xs a ne h = apart-last at xs a ne h
 
-pub apart-linked : (append : Bool) (method : DictMethod) (rules : Rules) (b : Blocks) (current at : ℕ) (xs : List ℕ) (a : ℕ) → at ≢ a → contains xs a ≡ false → contains (linked append method rules b current at xs) a ≡ false
+pub apart-linked : (append : Bool) (method : DictMethod) (rules : Rules) (b : Blocks) (current at : ℕ) (xs : List ℕ) (a : ℕ) → at ≢ a → contains xs a ≡ false → contains (order_by_link append method rules b current at xs) a ≡ false
 apart-linked append method rules b current at xs a ne h =
-    either_in append (behind_current current at xs) (inserted method rules b current at xs) a false
+    either_in append (behind_current current at xs) (order_by_insert method rules b current at xs) a false
     (apart-behind (some_address current) at xs a ne h)
     (apart-inserted method rules b current at xs a ne h)
 
@@ -180,7 +180,7 @@ current-another current at xs h ne = elim (eqb_tells 0 current) as (λ _. contai
   | inr some ↦ within-tail 0 (without at xs) current (within-without at xs current (λ e. ne (sym e)) (rw some.0 at h))
 ]
 
-pub current-removed : (found : Option ℕ) (current : ℕ) (xs : List ℕ) → contains (0 ∷ xs) current ≡ true → contains (0 ∷ removed found xs) (current_without found current xs) ≡ true
+pub current-removed : (found : Option ℕ) (current : ℕ) (xs : List ℕ) → contains (0 ∷ xs) current ≡ true → contains (0 ∷ order_without found xs) (current_without found current xs) ≡ true
 current-removed None current xs h = h
 current-removed (Some at) current xs h =
     ap (contains (0 ∷ without at xs)) (current-is at current xs)

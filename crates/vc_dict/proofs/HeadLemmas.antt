@@ -14,7 +14,7 @@ use Rattle.vc_dtlist.proofs.HolderLemmas.{apart-tail}
 use Rattle.vc_dtlist.proofs.KeptLemmas.{StandsFor-same}
 use Rattle.vc_dthash.specs.Chained.{chain_of, hash_at}
 use Rattle.vc_dthash.specs.Hashed.{CanLink as HashLink, HashFor, IsLinked as InHash}
-use Rattle.vc_dthash.specs.Slots.{wanted}
+use Rattle.vc_dthash.specs.Slots.{wanted_slots}
 use Rattle.vc_dthash.proofs.HashLemmas.{HashFor-holders, HashFor-same}
 use Rattle.vc_dtord.specs.declared.dt_ord.DtOrd.{DtOrd}
 use Rattle.vc_dtord.specs.Ordered.{CanLink as OrdLink, IsLinked as InOrd, OrdFor, in_order}
@@ -129,7 +129,7 @@ CanLink-hash rules d b at append h r = record {
   stands = as_hash rules d b r.holders h r.stands;
   apart = r.apart;
   holder = r.holder;
-  room = sym (ap (λ t. if t then wanted d.slots d.count 1 else None) h) ∙ r.room;
+  room = sym (ap (λ t. if t then wanted_slots d.slots d.count 1 else None) h) ∙ r.room;
 }
 
 pub CanLink-ord : (rules : Rules) (d : Dict) (b : Blocks) (at : ℕ) (append : Bool) → has_table d.method ≡ false → is_ordered d.method ≡ true → CanLink rules d b at append → OrdLink rules (ord_of d) b at

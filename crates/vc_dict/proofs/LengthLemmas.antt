@@ -8,8 +8,8 @@ use Rattle.vc_base.specs.Holders.{some_address}
 use Rattle.vc_dtdisc.specs.Rules.{Rules}
 use Rattle.vc_dtdisc.specs.Finding.{put_before, put_behind}
 use Rattle.vc_dtdisc.specs.Objects as objects
-use Rattle.vc_dtord.specs.Ordered.{is_less, placed}
-use Rattle.vc_dict.specs.Changes.{behind_current, inserted, linked}
+use Rattle.vc_dtord.specs.Ordered.{is_less, order_with}
+use Rattle.vc_dict.specs.Changes.{behind_current, order_by_insert, order_by_link}
 
 by_test : (t : Bool) (at x : ℕ) (xs ys : List ℕ) → length ys ≡ length xs + 1 → length (if t then at ∷ x ∷ xs else x ∷ ys) ≡ length (x ∷ xs) + 1
 by_test true at x xs ys e = omega arith
@@ -19,7 +19,7 @@ pub length-put_before : (test : ℕ → Bool) (at : ℕ) (xs : List ℕ) → len
 length-put_before test at [] = omega arith
 length-put_before test at (x ∷ xs) = by_test (test x) at x xs (put_before test at xs) (length-put_before test at xs)
 
-pub length-placed : (rules : Rules) (b : Blocks) (at : ℕ) (xs : List ℕ) → length (placed rules b at xs) ≡ length xs + 1
+pub length-placed : (rules : Rules) (b : Blocks) (at : ℕ) (xs : List ℕ) → length (order_with rules b at xs) ≡ length xs + 1
 length-placed rules b at xs = length-put_before (is_less rules b at) at xs
 
 by_mark : (t : Bool) (at x : ℕ) (xs ys : List ℕ) → length ys ≡ length xs + 1 → length (if t then x ∷ at ∷ xs else x ∷ ys) ≡ length (x ∷ xs) + 1
@@ -45,7 +45,7 @@ either : (t : Bool) (xs ys : List ℕ) (n : ℕ) → length xs ≡ n → length 
 either true xs ys n e f = e
 either false xs ys n e f = f
 
-length-inserted : (method : DictMethod) (rules : Rules) (b : Blocks) (current at : ℕ) (xs : List ℕ) → length (inserted method rules b current at xs) ≡ length xs + 1
+length-inserted : (method : DictMethod) (rules : Rules) (b : Blocks) (current at : ℕ) (xs : List ℕ) → length (order_by_insert method rules b current at xs) ≡ length xs + 1
 length-inserted DtSet rules b current at xs = length-last at xs
 length-inserted DtBag rules b current at xs = length-last at xs
 length-inserted DtOset rules b current at xs = length-placed rules b at xs
@@ -54,8 +54,8 @@ length-inserted DtList rules b current at xs = length-before (some_address curre
 length-inserted DtStack rules b current at xs = omega arith
 length-inserted DtQueue rules b current at xs = length-last at xs
 
-pub length-linked : (append : Bool) (method : DictMethod) (rules : Rules) (b : Blocks) (current at : ℕ) (xs : List ℕ) → length (linked append method rules b current at xs) ≡ length xs + 1
+pub length-linked : (append : Bool) (method : DictMethod) (rules : Rules) (b : Blocks) (current at : ℕ) (xs : List ℕ) → length (order_by_link append method rules b current at xs) ≡ length xs + 1
 length-linked append method rules b current at xs =
-    either append (behind_current current at xs) (inserted method rules b current at xs) (length xs + 1)
+    either append (behind_current current at xs) (order_by_insert method rules b current at xs) (length xs + 1)
     (length-behind (some_address current) at xs)
     (length-inserted method rules b current at xs)

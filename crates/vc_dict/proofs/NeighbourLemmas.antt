@@ -11,7 +11,7 @@ use Rattle.vc_dtlist.proofs.HolderLemmas.{apart-append, apart-cons, apart-head}
 use Rattle.vc_dtlist.proofs.KeptLemmas.{KeepsBut-none, StandsFor-kept, within-tail}
 use Rattle.vc_dtord.specs.Ordered.{IsSorted}
 use Rattle.vc_dict.specs.declared.weeded.Weeded.{Weeded}
-use Rattle.vc_dict.specs.Orders.{dropped, has_match, kept}
+use Rattle.vc_dict.specs.Orders.{dropped_holders, has_match, kept_holders}
 use Rattle.vc_dict.specs.Passes.{AreApart, Taken}
 use Rattle.vc_dict.specs.Weeding.{Added, AreWeeded, CanAddPart, NeighbourWeeding, Parts, Weeding, last_matches}
 use Rattle.vc_dict.proofs.PassLemmas.{KeepsBut-step, apart_back, differs, rest_some, tail_distinct}
@@ -81,9 +81,9 @@ NeighbourWeeding-start rules list done gone b holders s order d g = record {
   keeps = KeepsBut-none holders b;
 }
 
-pub NeighbourWeeding-end : (rules : Rules) (start : Blocks) (holders : List ℕ) (passed : ℕ) (left : DtList) (w : Weeded) (b : Blocks) → NeighbourWeeding rules start holders passed left w b → length holders ≤ passed → AreWeeded holders (kept rules start [] holders) (dropped rules start [] holders) start w b
+pub NeighbourWeeding-end : (rules : Rules) (start : Blocks) (holders : List ℕ) (passed : ℕ) (left : DtList) (w : Weeded) (b : Blocks) → NeighbourWeeding rules start holders passed left w b → length holders ≤ passed → AreWeeded holders (kept_holders rules start [] holders) (dropped_holders rules start [] holders) start w b
 NeighbourWeeding-end rules start holders passed left w b s h = record {
-  parts = subst (λ z. Parts w b (kept rules start [] holders) z) (all-dropped rules start holders passed s.done s.gone s.rest s.weeding h)
+  parts = subst (λ z. Parts w b (kept_holders rules start [] holders) z) (all-dropped rules start holders passed s.done s.gone s.rest s.weeding h)
       (subst (λ z. Parts w b z s.gone) (all-kept rules start holders passed s.done s.gone s.rest s.weeding h) s.parts);
   keeps = s.keeps;
 }

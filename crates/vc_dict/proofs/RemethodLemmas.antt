@@ -16,7 +16,7 @@ use Rattle.vc_dtlist.proofs.HolderLemmas.{apart-cons, apart-head, apart-tail}
 use Rattle.vc_dtlist.proofs.KeptLemmas.{StandsFor-kept}
 use Rattle.vc_dthash.specs.declared.dt_hash.DtHash.{DtHash}
 use Rattle.vc_dthash.specs.Hashed.{CanChain, HasTable, HashFor, IsTable}
-use Rattle.vc_dthash.specs.Slots.{slots_for, wanted}
+use Rattle.vc_dthash.specs.Slots.{slots_for, wanted_slots}
 use Rattle.vc_dthash.proofs.HashLemmas.{HasTable-kept}
 use Rattle.vc_dtord.specs.Ordered.{OrdFor}
 use Rattle.vc_dtord.proofs.SortedLemmas.{IsSorted-same}
@@ -42,9 +42,9 @@ no_slots h rules s = elim (eqb_tells h.table.0 0) as (λ _. h.slots ≡ 0) [
 ]
 
 -- it wants a first table
-pub first_wanted : (h : DtHash) (old new : DictMethod) (count : ℕ) → h.slots ≡ 0 → has_table old ≡ false → has_table new ≡ true → wanted h.slots h.count count ≡ slots_between old new count
+pub first_wanted : (h : DtHash) (old new : DictMethod) (count : ℕ) → h.slots ≡ 0 → has_table old ≡ false → has_table new ≡ true → wanted_slots h.slots h.count count ≡ slots_between old new count
 first_wanted h old new count e f g =
-    let one : wanted h.slots h.count count ≡ Some (slots_for count) = ap (λ s. wanted s h.count count) e in
+    let one : wanted_slots h.slots h.count count ≡ Some (slots_for count) = ap (λ s. wanted_slots s h.count count) e in
     let two : slots_between old new count ≡ Some (slots_for count) = rw (f, g) refl in
     one ∙ sym two
 

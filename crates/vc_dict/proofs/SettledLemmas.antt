@@ -13,7 +13,7 @@ use Rattle.vc_dtlist.proofs.KeptLemmas.{KeepsBut-none, KeepsTables-but}
 use Rattle.vc_dthash.specs.declared.dt_hash.DtHash.{DtHash}
 use Rattle.vc_dthash.specs.Hashed.{ChainedUp, list_of}
 use Rattle.vc_dict.specs.declared.weeded.Weeded.{Weeded}
-use Rattle.vc_dict.specs.Orders.{dropped, kept}
+use Rattle.vc_dict.specs.Orders.{dropped_holders, kept_holders}
 use Rattle.vc_dict.specs.Weeding.{AreWeeded, IsSettled, Settled}
 
 -- a set without a table is ordered
@@ -28,10 +28,10 @@ ordered_set DtQueue h s = absurd (true≢false (sym s))
 
 -- by both
 pub settled-by : (tabled set : Bool) (rules : Rules) (method : DictMethod) (hash : DtHash) (holders : List ℕ) (b : Blocks) (w : Weeded) (b' : Blocks) → has_table method ≡ tabled → is_set method ≡ set
-    → IsSettled tabled rules hash holders (if set then kept rules b [] holders else holders) (if set then dropped rules b [] holders else []) b w b' → Settled rules method hash holders b w b'
+    → IsSettled tabled rules hash holders (if set then kept_holders rules b [] holders else holders) (if set then dropped_holders rules b [] holders else []) b w b' → Settled rules method hash holders b w b'
 settled-by tabled set rules method hash holders b w b' h k s =
-    subst (λ z. IsSettled z rules hash holders (if is_set method then kept rules b [] holders else holders) (if is_set method then dropped rules b [] holders else []) b w b') (sym h)
-    (subst (λ z. IsSettled tabled rules hash holders (if z then kept rules b [] holders else holders) (if z then dropped rules b [] holders else []) b w b') (sym k) s)
+    subst (λ z. IsSettled z rules hash holders (if is_set method then kept_holders rules b [] holders else holders) (if is_set method then dropped_holders rules b [] holders else []) b w b') (sym h)
+    (subst (λ z. IsSettled tabled rules hash holders (if z then kept_holders rules b [] holders else holders) (if z then dropped_holders rules b [] holders else []) b w b') (sym k) s)
 
 -- a bag's holders are all in its chains
 pub settled-chains : (rules : Rules) (hash : DtHash) (holders : List ℕ) (b b' : Blocks) (none : DtList) → ChainedUp rules hash holders b b' → StandsFor none b' [] → IsSettled true rules hash holders holders [] b (record { kept = list_of hash; dropped = none; count = hash.count }) b'

@@ -13,7 +13,7 @@ use Rattle.vc_dtlist.specs.Linked.{Turned, number_of}
 use Rattle.vc_dtlist.proofs.HolderLemmas.{apart-append, apart-cons, apart-front, apart-head, apart-rest, apart-tail, last-differs}
 use Rattle.vc_dtlist.proofs.KeptLemmas.{StandsFor-kept, within-head, within-tail}
 use Rattle.vc_dict.specs.declared.weeded.Weeded.{Weeded}
-use Rattle.vc_dict.specs.Orders.{dropped, has_match, kept}
+use Rattle.vc_dict.specs.Orders.{dropped_holders, has_match, kept_holders}
 use Rattle.vc_dict.specs.Passes.{AreApart}
 use Rattle.vc_dict.specs.Weeding.{Added, Parts, Weeding, last_matches}
 use Rattle.vc_dict.proofs.PassLemmas.{apart_back, differs}
@@ -107,12 +107,12 @@ last-is rules b [] p at e some = absurd (some e)
 last-is rules b (x ∷ xs) p at e some = ap (has_key rules b (rules.key (object_at b at))) (sym e)
 
 -- one more was kept or dropped
-kept_step : (rules : Rules) (start : Blocks) (done rest : List ℕ) (at : ℕ) (t : Bool) → has_match rules start done at ≡ t → kept rules start (if t then done else done ++ at ∷ []) rest ≡ kept rules start done (at ∷ rest)
+kept_step : (rules : Rules) (start : Blocks) (done rest : List ℕ) (at : ℕ) (t : Bool) → has_match rules start done at ≡ t → kept_holders rules start (if t then done else done ++ at ∷ []) rest ≡ kept_holders rules start done (at ∷ rest)
 kept_step rules start done rest at true e = rw e refl
 kept_step rules start done rest at false e = rw e refl
 
-dropped_step : (rules : Rules) (start : Blocks) (done gone rest : List ℕ) (at : ℕ) (t : Bool) → has_match rules start done at ≡ t → (if t then gone ++ at ∷ [] else gone) ++ dropped rules start (if t then done else done ++ at ∷ []) rest ≡ gone ++ dropped rules start done (at ∷ rest)
-dropped_step rules start done gone rest at true e = rw e (append_assoc gone (at ∷ []) (dropped rules start done rest))
+dropped_step : (rules : Rules) (start : Blocks) (done gone rest : List ℕ) (at : ℕ) (t : Bool) → has_match rules start done at ≡ t → (if t then gone ++ at ∷ [] else gone) ++ dropped_holders rules start (if t then done else done ++ at ∷ []) rest ≡ gone ++ dropped_holders rules start done (at ∷ rest)
+dropped_step rules start done gone rest at true e = rw e (append_assoc gone (at ∷ []) (dropped_holders rules start done rest))
 dropped_step rules start done gone rest at false e = rw e refl
 
 -- either may have got one more
@@ -170,10 +170,10 @@ no_rest : (xs : List ℕ) → length xs ≡ 0 → xs ≡ []
 no_rest [] h = refl
 no_rest (x ∷ xs) h = absurd (omega (arith, h))
 
-pub all-kept : (rules : Rules) (start : Blocks) (holders : List ℕ) (passed : ℕ) (done gone rest : List ℕ) → Weeding rules start holders passed done gone rest → length holders ≤ passed → done ≡ kept rules start [] holders
+pub all-kept : (rules : Rules) (start : Blocks) (holders : List ℕ) (passed : ℕ) (done gone rest : List ℕ) → Weeding rules start holders passed done gone rest → length holders ≤ passed → done ≡ kept_holders rules start [] holders
 all-kept rules start holders passed done gone rest s h =
-    ap (kept rules start done) (sym (no_rest rest (omega (arith, h, s.count)))) ∙ s.whole_kept
+    ap (kept_holders rules start done) (sym (no_rest rest (omega (arith, h, s.count)))) ∙ s.whole_kept
 
-pub all-dropped : (rules : Rules) (start : Blocks) (holders : List ℕ) (passed : ℕ) (done gone rest : List ℕ) → Weeding rules start holders passed done gone rest → length holders ≤ passed → gone ≡ dropped rules start [] holders
+pub all-dropped : (rules : Rules) (start : Blocks) (holders : List ℕ) (passed : ℕ) (done gone rest : List ℕ) → Weeding rules start holders passed done gone rest → length holders ≤ passed → gone ≡ dropped_holders rules start [] holders
 all-dropped rules start holders passed done gone rest s h =
-    sym (append-nil gone) ∙ ap (λ z. gone ++ dropped rules start done z) (sym (no_rest rest (omega (arith, h, s.count)))) ∙ s.whole_dropped
+    sym (append-nil gone) ∙ ap (λ z. gone ++ dropped_holders rules start done z) (sym (no_rest rest (omega (arith, h, s.count)))) ∙ s.whole_dropped

@@ -16,19 +16,19 @@ abbrev pub behind_current : ℕ → ℕ → List ℕ → List ℕ
 behind_current current at holders = objects.behind_current (λ a. a) (some_address current) at holders
 
 -- where `insert` puts a holder
-abbrev pub inserted : DictMethod → Rules → Blocks → ℕ → ℕ → List ℕ → List ℕ
-inserted method rules blocks current at holders =
+abbrev pub order_by_insert : DictMethod → Rules → Blocks → ℕ → ℕ → List ℕ → List ℕ
+order_by_insert method rules blocks current at holders =
     objects.inserted_among (λ a. a) (object_at blocks) method rules (some_address current) at holders
 
 -- where `insert` puts it, or `append`, which is for lists
-abbrev pub linked : Bool → DictMethod → Rules → Blocks → ℕ → ℕ → List ℕ → List ℕ
-linked append method rules blocks current at holders =
+abbrev pub order_by_link : Bool → DictMethod → Rules → Blocks → ℕ → ℕ → List ℕ → List ℕ
+order_by_link append method rules blocks current at holders =
     objects.linked_among (λ a. a) (object_at blocks) append method rules (some_address current) at holders
 
 -- without the one that was found, if any
-abbrev pub removed : Option ℕ → List ℕ → List ℕ
-removed None holders = holders
-removed (Some at) holders = without at holders
+abbrev pub order_without : Option ℕ → List ℕ → List ℕ
+order_without None holders = holders
+order_without (Some at) holders = without at holders
 
 -- the current one then: where it is the one that goes, the one behind it, or none
 abbrev pub current_without : Option ℕ → ℕ → List ℕ → ℕ

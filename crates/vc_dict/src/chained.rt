@@ -4,7 +4,7 @@ ghost use Rattle.vc_base.specs.Cells.{Blocks};
 ghost use Rattle.vc_dtlist.specs.Linked.{StandsFor};
 ghost use Rattle.vc_dthash.specs.declared.dt_hash.DtHash.{DtHash};
 ghost use Rattle.vc_dthash.specs.Hashed.{CanChain, list_of};
-ghost use Rattle.vc_dict.specs.Orders.{dropped, kept};
+ghost use Rattle.vc_dict.specs.Orders.{dropped_holders, kept_holders};
 ghost use Rattle.vc_dict.specs.Weeding.{CanWeedChain, ChainWeeding, IsSettled, chain_compares};
 
 use crate::pass::take_front;
@@ -54,8 +54,8 @@ pub(crate) fn weed_chains<C: Cells, D: DictDisc, L>(
     requires { CanChain hash (C.blocks cells.old) }
     ensures weeded { (holders : List ℕ) → StandsFor (list_of hash) (C.blocks cells.old) holders
         → IsSettled true (D.rules kind.now) hash holders
-        (kept (D.rules kind.now) (C.blocks cells.old) [] holders)
-        (dropped (D.rules kind.now) (C.blocks cells.old) [] holders)
+        (kept_holders (D.rules kind.now) (C.blocks cells.old) [] holders)
+        (dropped_holders (D.rules kind.now) (C.blocks cells.old) [] holders)
         (C.blocks cells.old) result (C.blocks cells.new) }
     ensures compares { (holders : List ℕ) → StandsFor (list_of hash) (C.blocks cells.old) holders
         → steps.new ≤ steps.old

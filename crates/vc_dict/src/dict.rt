@@ -5,10 +5,10 @@ ghost use Rattle.vc_base.specs.Holders.{contains, first_in, last_in, next_in, pr
 ghost use Rattle.vc_dtdisc.specs.Finds.{find_key};
 ghost use Rattle.vc_dtdisc.specs.Rules.{Rules};
 ghost use Rattle.vc_dtlist.specs.Linked.{Finds, StandsFor, number_of};
-ghost use Rattle.vc_dtord.specs.Ordered.{placed};
+ghost use Rattle.vc_dtord.specs.Ordered.{order_with};
 ghost use Rattle.vc_base.specs.Methods.{has_table, is_ordered};
 ghost use Rattle.vc_dict.specs.Methods.{slots_between, wanted_by};
-ghost use Rattle.vc_dict.specs.Changes.{before_current, behind_current, current_without, inserted, linked, removed};
+ghost use Rattle.vc_dict.specs.Changes.{before_current, behind_current, current_without, order_by_insert, order_by_link, order_without};
 ghost use Rattle.vc_dict.specs.Passes.{IsCounted};
 ghost use Rattle.vc_dict.specs.Planting.{HasNoOtherHeads, IsInOrder, Planted};
 ghost use Rattle.vc_dict.specs.Turned.{CanRemethod, Remethoded, Unchanged, behind_dropped};
@@ -208,7 +208,7 @@ impl Dict {
         ensures dict { (holders : List ℕ)
             → Stands (D.rules kind.now) self.old (C.blocks cells.old) holders
             → Became (D.rules kind.now) (at.0 ∷ holders) self.old (C.blocks cells.old) self.new
-            (C.blocks cells.new) (placed (D.rules kind.now) (C.blocks cells.old) at.0 holders)
+            (C.blocks cells.new) (order_with (D.rules kind.now) (C.blocks cells.old) at.0 holders)
             self.old.current.0 }
         ensures steps { (holders : List ℕ)
             → Stands (D.rules kind.now) self.old (C.blocks cells.old) holders
@@ -230,7 +230,7 @@ impl Dict {
             → Stands (D.rules kind.now) self.old (C.blocks cells.old) holders
             → Became (D.rules kind.now) (at.0 ∷ holders) self.old (C.blocks cells.old) self.new
             (C.blocks cells.new)
-            (linked append self.old.method (D.rules kind.now) (C.blocks cells.old)
+            (order_by_link append self.old.method (D.rules kind.now) (C.blocks cells.old)
             self.old.current.0 at.0 holders) self.old.current.0 }
         ensures rest { C.RestStays cells.old cells.new }
     {
@@ -255,7 +255,7 @@ impl Dict {
             → Stands (D.rules kind.now) self.old (C.blocks cells.old) holders
             → Became (D.rules kind.now) (at.0 ∷ holders) self.old (C.blocks cells.old) self.new
             (C.blocks cells.new)
-            (linked append self.old.method (D.rules kind.now) (C.blocks cells.old)
+            (order_by_link append self.old.method (D.rules kind.now) (C.blocks cells.old)
             self.old.current.0 at.0 holders) self.old.current.0 }
         ensures steps { (holders : List ℕ)
             → Stands (D.rules kind.now) self.old (C.blocks cells.old) holders
@@ -288,7 +288,7 @@ impl Dict {
             → Stands (D.rules kind.now) self.old (C.blocks cells.old) holders
             → Became (D.rules kind.now) (at.0 ∷ holders) self.old (C.blocks cells.old) self.new
             (C.blocks cells.new)
-            (linked append self.old.method (D.rules kind.now) (C.blocks cells.old)
+            (order_by_link append self.old.method (D.rules kind.now) (C.blocks cells.old)
             self.old.current.0 at.0 holders)
             at.0 }
         ensures steps { (holders : List ℕ)
@@ -488,7 +488,7 @@ impl Dict {
         ensures dict { (holders : List ℕ)
             → Stands (D.rules kind.now) self.old (C.blocks cells.old) holders
             → Became (D.rules kind.now) holders self.old (C.blocks cells.old) self.new
-            (C.blocks cells.new) (removed (option_map number_of found) holders)
+            (C.blocks cells.new) (order_without (option_map number_of found) holders)
             (current_without (option_map number_of found) self.old.current.0 holders) }
         ensures rest { C.RestStays cells.old cells.new }
     {
@@ -516,7 +516,7 @@ impl Dict {
         ensures dict { (holders : List ℕ)
             → Stands (D.rules kind.now) self.old (C.blocks cells.old) holders
             → Became (D.rules kind.now) holders self.old (C.blocks cells.old) self.new
-            (C.blocks cells.new) (removed (option_map number_of result) holders)
+            (C.blocks cells.new) (order_without (option_map number_of result) holders)
             (current_without (option_map number_of result) self.old.current.0 holders) }
         ensures rest { C.RestStays cells.old cells.new }
     {
@@ -535,7 +535,7 @@ impl Dict {
         ensures dict { (holders : List ℕ)
             → Stands (D.rules kind.now) self.old (C.blocks cells.old) holders
             → Became (D.rules kind.now) holders self.old (C.blocks cells.old) self.new
-            (C.blocks cells.new) (removed (option_map number_of result) holders)
+            (C.blocks cells.new) (order_without (option_map number_of result) holders)
             (current_without (option_map number_of result) self.old.current.0 holders) }
         ensures rest { C.RestStays cells.old cells.new }
     {

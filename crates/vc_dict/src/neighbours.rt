@@ -2,7 +2,7 @@
 ghost use Rattle.std.specs.Prelude.{◌≡◌, ℕ, ◌+◌, ◌<◌, ◌≤◌, List, [], length};
 ghost use Rattle.vc_base.specs.Cells.{Blocks, IsHolder};
 ghost use Rattle.vc_dtlist.specs.Linked.{IsList, StandsFor};
-ghost use Rattle.vc_dict.specs.Orders.{dropped, kept};
+ghost use Rattle.vc_dict.specs.Orders.{dropped_holders, kept_holders};
 ghost use Rattle.vc_dict.specs.Weeding.{AreWeeded, CanWeed, IsSortedList, NeighbourWeeding, last_matches};
 
 use crate::pass::take_front;
@@ -66,8 +66,8 @@ pub(crate) fn weed_neighbours<C: Cells, D: DictDisc, L>(
 ) -> Weeded
     requires { IsSortedList (D.rules kind.now) list (C.blocks cells.old) count }
     ensures weeded { (holders : List ℕ) → StandsFor list (C.blocks cells.old) holders
-        → AreWeeded holders (kept (D.rules kind.now) (C.blocks cells.old) [] holders)
-        (dropped (D.rules kind.now) (C.blocks cells.old) [] holders)
+        → AreWeeded holders (kept_holders (D.rules kind.now) (C.blocks cells.old) [] holders)
+        (dropped_holders (D.rules kind.now) (C.blocks cells.old) [] holders)
         (C.blocks cells.old) result (C.blocks cells.new) }
     ensures steps { steps.new ≤ steps.old + count }
     ensures rest { C.RestStays cells.old cells.new }

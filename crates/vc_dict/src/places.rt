@@ -2,7 +2,7 @@ ghost use Rattle.std.specs.Prelude.{◌≡◌, ◌≢◌, ℕ, List, Bool, false
 ghost use Rattle.vc_base.specs.Cells.{Blocks};
 ghost use Rattle.vc_dtdisc.specs.Rules.{Rules};
 ghost use Rattle.vc_dtlist.specs.Linked.{CanAdd, IsIn, StandsFor, Turned, Turns};
-ghost use Rattle.vc_dict.specs.Changes.{before_current, behind_current, inserted, linked};
+ghost use Rattle.vc_dict.specs.Changes.{before_current, behind_current, order_by_insert, order_by_link};
 ghost use Rattle.vc_base.specs.Methods.{is_ordered};
 
 use vc_base::{Addr, Cells, DictMethod};
@@ -44,7 +44,7 @@ fn put<C: Cells>(list: &mut DtList, cells: &mut C, method: DictMethod, current: 
     requires mark { current.0 ≢ 0 → IsIn list.old (C.blocks cells.old) current.0 }
     requires method { is_ordered method ≡ false }
     ensures list { (rules : Rules) → Turns at.0 list.old (C.blocks cells.old) list.new
-        (C.blocks cells.new) (inserted method rules (C.blocks cells.old) current.0 at.0) }
+        (C.blocks cells.new) (order_by_insert method rules (C.blocks cells.old) current.0 at.0) }
     ensures rest { C.RestStays cells.old cells.new }
 {
     match method {
@@ -67,7 +67,7 @@ pub(crate) fn put_linked<C: Cells>(
     requires mark { current.0 ≢ 0 → IsIn list.old (C.blocks cells.old) current.0 }
     requires method { is_ordered method ≡ false }
     ensures list { (rules : Rules) → Turns at.0 list.old (C.blocks cells.old) list.new
-        (C.blocks cells.new) (linked append method rules (C.blocks cells.old) current.0 at.0) }
+        (C.blocks cells.new) (order_by_link append method rules (C.blocks cells.old) current.0 at.0) }
     ensures rest { C.RestStays cells.old cells.new }
 {
     if append {

@@ -1,6 +1,6 @@
 ghost use Rattle.std.specs.Prelude.{◌≡◌, ℕ, ◌∷◌, [], None, Some, false, true};
 ghost use Rattle.vc_dtdisc.specs.Shapes.{rules_of};
-ghost use Rattle.vc_dict.specs.Changes.{behind_current, before_current, current_without, linked, removed};
+ghost use Rattle.vc_dict.specs.Changes.{behind_current, before_current, current_without, order_by_link, order_without};
 ghost use Rattle.vc_dict.specs.Orders.{dropped_by, kept_by, ordered_by};
 ghost use Rattle.vc_dict.specs.Rows.{three};
 ghost use Rattle.vc_dict.specs.Methods.{slots_between, wanted_by};
@@ -18,8 +18,8 @@ pub fn list_rows()
 
 /// What is left, and which one is current then.
 pub fn remove_rows()
-    ensures left { removed (Some 7) (5 ∷ 7 ∷ 8 ∷ []) ≡ 5 ∷ 8 ∷ [] }
-    ensures nothing { removed None (5 ∷ 7 ∷ []) ≡ 5 ∷ 7 ∷ [] }
+    ensures left { order_without (Some 7) (5 ∷ 7 ∷ 8 ∷ []) ≡ 5 ∷ 8 ∷ [] }
+    ensures nothing { order_without None (5 ∷ 7 ∷ []) ≡ 5 ∷ 7 ∷ [] }
     ensures behind { current_without (Some 7) 7 (5 ∷ 7 ∷ 8 ∷ []) ≡ 8 }
     ensures last { current_without (Some 8) 8 (5 ∷ 7 ∷ 8 ∷ []) ≡ 0 }
     ensures another { current_without (Some 5) 7 (5 ∷ 7 ∷ 8 ∷ []) ≡ 7 }
@@ -37,19 +37,19 @@ pub fn table_rows()
 
 /// Where each method puts the holder of B, by keys without regard to case, among those of b and a.
 pub fn insert_rows()
-    ensures set { linked false DictMethod.DtSet (rules_of Shape.Fold) three 0 3 (1 ∷ 2 ∷ [])
+    ensures set { order_by_link false DictMethod.DtSet (rules_of Shape.Fold) three 0 3 (1 ∷ 2 ∷ [])
         ≡ 1 ∷ 2 ∷ 3 ∷ [] }
-    ensures obag { linked false DictMethod.DtObag (rules_of Shape.Fold) three 0 3 (2 ∷ 1 ∷ [])
+    ensures obag { order_by_link false DictMethod.DtObag (rules_of Shape.Fold) three 0 3 (2 ∷ 1 ∷ [])
         ≡ 2 ∷ 1 ∷ 3 ∷ [] }
-    ensures oset { linked false DictMethod.DtOset (rules_of Shape.Whole) three 0 3 (2 ∷ 1 ∷ [])
+    ensures oset { order_by_link false DictMethod.DtOset (rules_of Shape.Whole) three 0 3 (2 ∷ 1 ∷ [])
         ≡ 3 ∷ 2 ∷ 1 ∷ [] }
-    ensures list { linked false DictMethod.DtList (rules_of Shape.Fold) three 2 3 (1 ∷ 2 ∷ [])
+    ensures list { order_by_link false DictMethod.DtList (rules_of Shape.Fold) three 2 3 (1 ∷ 2 ∷ [])
         ≡ 1 ∷ 3 ∷ 2 ∷ [] }
-    ensures append { linked true DictMethod.DtList (rules_of Shape.Fold) three 1 3 (1 ∷ 2 ∷ [])
+    ensures append { order_by_link true DictMethod.DtList (rules_of Shape.Fold) three 1 3 (1 ∷ 2 ∷ [])
         ≡ 1 ∷ 3 ∷ 2 ∷ [] }
-    ensures stack { linked false DictMethod.DtStack (rules_of Shape.Fold) three 1 3 (1 ∷ 2 ∷ [])
+    ensures stack { order_by_link false DictMethod.DtStack (rules_of Shape.Fold) three 1 3 (1 ∷ 2 ∷ [])
         ≡ 3 ∷ 1 ∷ 2 ∷ [] }
-    ensures queue { linked false DictMethod.DtQueue (rules_of Shape.Fold) three 1 3 (1 ∷ 2 ∷ [])
+    ensures queue { order_by_link false DictMethod.DtQueue (rules_of Shape.Fold) three 1 3 (1 ∷ 2 ∷ [])
         ≡ 1 ∷ 2 ∷ 3 ∷ [] }
 {}
 

@@ -11,14 +11,14 @@ use Rattle.std.proofs.lemmas.List.{length-take}
 use Rattle.std.proofs.lemmas.Grind.{common_steps}
 use Rattle.vc_dtdisc.specs.declared.shape.Shape.{Shape}
 use Rattle.vc_dtdisc.specs.declared.shape.Shape.TheVariants.{Whole, Field, Text, Fold, Reverse, Clip}
-use Rattle.vc_dtdisc.specs.Shapes.{BuiltInKind, is_shape, by_bytes, folded, hash_of, order_of, shape_hash, rules_of, key_of, made_of}
+use Rattle.vc_dtdisc.specs.Shapes.{BuiltInKind, is_shape, by_bytes, lower_case, hash_of, order_of, shape_hash, rules_of, key_of, made_of}
 use Rattle.vc_dtdisc.specs.Rules.{AreLawful, IsObject}
 
 pub order-total : (shape : Shape) → IsTotalOrder (order_of shape)
 order-total Whole = nat_list_cmp_total
 order-total (Field off size) = nat_list_cmp_total
 order-total (Text off) = nat_list_cmp_total
-order-total Fold = on_total (map folded) nat_list_cmp_total
+order-total Fold = on_total (map lower_case) nat_list_cmp_total
 order-total Reverse = back_total nat_list_cmp_total
 order-total (Clip n) = nat_list_cmp_total
 
@@ -30,7 +30,7 @@ pub equal_hashes : (shape : Shape) (a b : List ℕ) → order_of shape a b ≡ E
 equal_hashes Whole a b e = ap hash_of (equal_lists a b e)
 equal_hashes (Field off size) a b e = ap hash_of (equal_lists a b e)
 equal_hashes (Text off) a b e = ap hash_of (equal_lists a b e)
-equal_hashes Fold a b e = ap hash_of (equal_lists (map folded a) (map folded b) e)
+equal_hashes Fold a b e = ap hash_of (equal_lists (map lower_case a) (map lower_case b) e)
 equal_hashes Reverse a b e = ap hash_of (sym (equal_lists b a e))
 equal_hashes (Clip n) a b e = ap hash_of (equal_lists a b e)
 

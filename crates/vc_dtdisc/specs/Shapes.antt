@@ -9,8 +9,8 @@ use Rattle.vc_dtdisc.specs.declared.shape.Shape.TheVariants.{Whole, Field, Text,
 use Rattle.vc_dtdisc.specs.Rules.{Gone, Rules}
 
 -- a letter A to Z as a to z, and any other byte as it is
-abbrev pub folded : ℕ → ℕ
-folded byte = if nat_le 65 byte && nat_le byte 90 then byte + 32 else byte
+abbrev pub lower_case : ℕ → ℕ
+lower_case byte = if nat_le 65 byte && nat_le byte 90 then byte + 32 else byte
 
 -- by bytes: at the first difference, and a front of a key stands before it
 abbrev pub by_bytes : List ℕ → List ℕ → Ordering
@@ -38,7 +38,7 @@ abbrev pub order_of : Shape → List ℕ → List ℕ → Ordering
 order_of Whole a b = by_bytes a b
 order_of (Field off size) a b = by_bytes a b
 order_of (Text off) a b = by_bytes a b
-order_of Fold a b = by_bytes (map folded a) (map folded b)
+order_of Fold a b = by_bytes (map lower_case a) (map lower_case b)
 order_of Reverse a b = by_bytes b a
 order_of (Clip n) a b = by_bytes a b
 
@@ -47,7 +47,7 @@ abbrev pub shape_hash : Shape → List ℕ → ℕ
 shape_hash Whole key = hash_of key
 shape_hash (Field off size) key = hash_of key
 shape_hash (Text off) key = hash_of key
-shape_hash Fold key = hash_of (map folded key)
+shape_hash Fold key = hash_of (map lower_case key)
 shape_hash Reverse key = hash_of key
 shape_hash (Clip n) key = hash_of key
 

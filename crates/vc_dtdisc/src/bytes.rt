@@ -1,5 +1,5 @@
 ghost use Rattle.std.specs.Prelude.{◌≡◌, ℕ, ◌+◌, ◌*◌, ◌%◌, ◌^◌, map, take, drop};
-ghost use Rattle.vc_dtdisc.specs.Shapes.{folded, by_bytes, hash_of, before_zero};
+ghost use Rattle.vc_dtdisc.specs.Shapes.{lower_case, by_bytes, hash_of, before_zero};
 
 use std::cmp::Ordering;
 
@@ -31,7 +31,7 @@ pub(crate) fn text(bytes: &[u8]) -> &[u8]
 
 // A letter A to Z as a to z, and any other byte as it is.
 pub(crate) fn fold_byte(byte: u8) -> u8
-    ensures { result ≡ folded byte }
+    ensures { result ≡ lower_case byte }
 {
     if byte >= 65 && byte <= 90 {
         byte + 32
@@ -42,7 +42,7 @@ pub(crate) fn fold_byte(byte: u8) -> u8
 
 // How two keys stand to each other with A to Z as a to z.
 pub(crate) fn compare_folded(a: &[u8], b: &[u8]) -> Ordering
-    ensures { result ≡ by_bytes (map folded a.now) (map folded b.now) }
+    ensures { result ≡ by_bytes (map lower_case a.now) (map lower_case b.now) }
 {
     let n = a.len().min(b.len());
     for i in 0..n {
@@ -74,7 +74,7 @@ pub(crate) fn hash_bytes(key: &[u8]) -> u64
 
 // The hash of a key with A to Z as a to z.
 pub(crate) fn hash_folded(key: &[u8]) -> u64
-    ensures { result ≡ hash_of (map folded key.now) }
+    ensures { result ≡ hash_of (map lower_case key.now) }
 {
     let mut hash = 0;
     for byte in key {

@@ -20,7 +20,7 @@ use Rattle.vc_dtlist.proofs.WordLemmas.{word-kept, word-other_block}
 use Rattle.vc_dthash.specs.declared.dt_hash.DtHash.{DtHash}
 use Rattle.vc_dthash.specs.Chained.{AreChained, IsHashed, Leads, chain_of, hash_at}
 use Rattle.vc_dthash.specs.Hashed.{ChainedUp, HasTable, HashFor, HashTurned, IsTable, list_of}
-use Rattle.vc_dthash.specs.Slots.{IsSlots, most_slots, slots_for, wanted}
+use Rattle.vc_dthash.specs.Slots.{IsSlots, most_slots, slots_for, wanted_slots}
 use Rattle.vc_dthash.specs.Written.{CanPoint, Cleared, Filled, IsChain, IsPlace, Marked, Pointed}
 use Rattle.vc_dthash.proofs.ChainLemmas.{Leads-fits, Leads-split, Redirects, chains-hash, chains-joined, chains-parted, chains-same, differs, in-behind, in-front}
 use Rattle.vc_dthash.proofs.FilterLemmas.{filter-less, filter-passes, filter-shorter, filter-within}
@@ -92,20 +92,20 @@ by_slots : (t : Bool) (o p : Option ℕ) (n : ℕ) → (if t then Some n else p)
 by_slots true o p n e = cc
 by_slots false o p n e = e
 
-pub room : (slots count : ℕ) → wanted slots count 1 ≡ None → slots < most_slots → count + 1 ≤ 2 * slots
+pub room : (slots count : ℕ) → wanted_slots slots count 1 ≡ None → slots < most_slots → count + 1 ≤ 2 * slots
 room slots count e small =
     let inner = by_slots (slots == 0) None (if nat_lt (2 * slots) (count + 1) && nat_lt slots most_slots then Some (2 * slots) else None) (slots_for 1) e in
     let t = by_room (nat_lt (2 * slots) (count + 1)) (nat_lt slots most_slots) (2 * slots) inner (lt-ltb slots most_slots small) in
     ltb-false (2 * slots) (count + 1) t
 
 -- then there are slots
-slots_by : (slots count : ℕ) (t : Bool) → (slots == 0) ≡ t → wanted slots count 1 ≡ None → t ≡ false
+slots_by : (slots count : ℕ) (t : Bool) → (slots == 0) ≡ t → wanted_slots slots count 1 ≡ None → t ≡ false
 slots_by slots count true e h =
     let some : Some (slots_for 1) ≡ None = sym (ap (λ z. if z then Some (slots_for 1) else if nat_lt (2 * slots) (count + 1) && nat_lt slots most_slots then Some (2 * slots) else None) e) ∙ h in
     cc
 slots_by slots count false e h = refl
 
-pub slots-wanted : (slots count : ℕ) → wanted slots count 1 ≡ None → 1 ≤ slots
+pub slots-wanted : (slots count : ℕ) → wanted_slots slots count 1 ≡ None → 1 ≤ slots
 slots-wanted slots count h = elim (eqb_tells slots 0) as (λ _. 1 ≤ slots) [
   | inl none ↦ absurd (true≢false (slots_by slots count true none.0 h))
   | inr some ↦ omega (arith, some.1)

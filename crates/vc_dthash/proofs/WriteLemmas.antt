@@ -1,7 +1,7 @@
 -- What a written slot and written words keep, together.
 use Rattle.std.proofs.Common.{◌≡◌, ◌≢◌, ℕ, ◌+◌, ◌*◌, ◌<◌, ◌^◌, [], inl, inr, IsSome, is_some, length, unwrap_or, sym, ap, ◌∙◌, subst}
 use Rattle.std.proofs.lemmas.Bool.Decides.{eqb_tells}
-use Rattle.vc_base.specs.Cells.{Blocks, HasBytes, WordWritten, body_of, bytes_at, put, stored, with_word, word, word_at}
+use Rattle.vc_base.specs.Cells.{Blocks, HasBytes, WordWritten, body_of, bytes_at, put, with_number, with_word, word, word_at}
 use Rattle.vc_base.proofs.CellsLemmas.{length-with_word, put_other, put_same, word-with_word_other, word-with_word_same}
 use Rattle.vc_dtlist.proofs.WordLemmas.{word-kept, word-other_block}
 use Rattle.vc_dthash.specs.Written.{Fronted, Pointed, SlotWritten}
@@ -20,7 +20,7 @@ each P at here there a = elim (eqb_tells a at) as (λ _. P a) [
 ]
 
 -- a stored slot
-pub SlotWritten-store : (old new : Blocks) (table k value : ℕ) → value < 2 ^ 64 → HasBytes old table (8 * k + 8) → new ≡ stored table k value old → SlotWritten old new table k value
+pub SlotWritten-store : (old new : Blocks) (table k value : ℕ) → value < 2 ^ 64 → HasBytes old table (8 * k + 8) → new ≡ with_number table k value old → SlotWritten old new table k value
 SlotWritten-store old new table k value fits has e =
     let bytes = bytes_at old table in
     let after = put table (with_word k value bytes) old in

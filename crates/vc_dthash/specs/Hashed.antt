@@ -8,7 +8,7 @@ use Rattle.vc_dtlist.specs.Kept.{KeepsTables}
 use Rattle.vc_dtlist.specs.Linked.{LinksFor, StandsFor}
 use Rattle.vc_dthash.specs.Chained.{AreChained, IsHashed, hash_at}
 use Rattle.vc_dthash.specs.declared.dt_hash.DtHash.{DtHash}
-use Rattle.vc_dthash.specs.Slots.{IsSlots, most_slots, wanted}
+use Rattle.vc_dthash.specs.Slots.{IsSlots, most_slots, wanted_slots}
 
 -- its holders, as a list
 abbrev pub list_of : DtHash → DtList
@@ -48,7 +48,7 @@ pub record CanLink (rules : Rules) (hash : DtHash) (blocks : Blocks) (at : ℕ) 
   pub stands : HashFor rules hash blocks holders
   pub apart : contains (hash.table.0 ∷ holders) at ≡ false
   pub holder : IsHolder blocks at
-  pub room : wanted hash.slots hash.count 1 ≡ None
+  pub room : wanted_slots hash.slots hash.count 1 ≡ None
 
 -- it stands for some holders by some kind's rules, and this is one of them
 pub record IsLinked (hash : DtHash) (blocks : Blocks) (at : ℕ) : Type 0 where

@@ -6,7 +6,7 @@ ghost use Rattle.vc_dtdisc.specs.Rules.{Rules};
 ghost use Rattle.vc_dtlist.specs.Linked.{StandsFor, number_of};
 ghost use Rattle.vc_dthash.specs.Chained.{FindsInSlot};
 ghost use Rattle.vc_dthash.specs.Hashed.{Adopts, CanAdopt, CanChain, CanLink, ChainedUp, HashFor, HashTurns, IsHash, IsKept, IsLinked, Listed, list_of};
-ghost use Rattle.vc_dthash.specs.Slots.{most_slots, slots_for, wanted};
+ghost use Rattle.vc_dthash.specs.Slots.{most_slots, slots_for, wanted_slots};
 
 use crate::chains::{clear, fill, free_all, hash_all, head, is_found, point, seek_before, slot_of};
 use vc_base::{Addr, Cells, Steps};
@@ -81,7 +81,7 @@ impl DtHash {
     /// each are enough for these, at most 17 times; with one twice as many where two for each aren't enough for all. None
     /// where they are enough, or where there are 2,097,152.
     pub fn wants_table(&self, more: u64) -> Option<u32>
-        ensures { result ≡ wanted self.now.slots self.now.count more }
+        ensures { result ≡ wanted_slots self.now.slots self.now.count more }
     {
         if self.slots == 0 {
             Some(slots_for(more))

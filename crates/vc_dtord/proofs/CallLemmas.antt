@@ -12,12 +12,12 @@ use Rattle.vc_dtdisc.specs.Rules.{Rules}
 use Rattle.vc_dtlist.proofs.HolderLemmas.{apart-head}
 use Rattle.vc_dtlist.proofs.PlainLemmas.{All-without}
 use Rattle.vc_splay.specs.Guide as guide
-use Rattle.vc_splay.specs.Guide.{CanFind, Rises, linked}
+use Rattle.vc_splay.specs.Guide.{CanFind, Rises, order_with_name}
 use Rattle.vc_splay.specs.Stands.{HasTree, IsIn, IsTree, IsWithin, TreeAfter}
 use Rattle.vc_splay.specs.Tree.{Tree, names}
 use Rattle.vc_dtord.specs.declared.dt_ord.DtOrd.{DtOrd}
 use Rattle.vc_dtord.specs.Nodes.{StaysButLinks, beside, is_node, node_store, stands_to, stands_to_holder}
-use Rattle.vc_dtord.specs.Ordered.{CanLink, IsLinked, IsOrd, IsOrdered, IsPlain, OrdFor, OrdTurned, is_less, placed}
+use Rattle.vc_dtord.specs.Ordered.{CanLink, IsLinked, IsOrd, IsOrdered, IsPlain, OrdFor, OrdTurned, is_less, order_with}
 use Rattle.vc_dtord.specs.Written.{IsCleared}
 use Rattle.vc_dtord.proofs.SortedLemmas.{IsSorted-placed, IsSorted-rises, IsSorted-same, IsSorted-without, less-same, linked-placed}
 use Rattle.vc_dtord.proofs.TreeLemmas.{OrdFor-node, OrdFor-one, OrdFor-same, tree-beside, tree-beside_root}
@@ -55,22 +55,22 @@ module _ (rules : Rules) (order : IsTotalOrder rules.compare) (ord : DtOrd) (b b
         apart = ap (λ ys. contains ys at) s.list ∙ c.apart;
       }
 
-  list-linked : (xs : List ℕ) → linked (stands_to_holder rules b' at) at xs ≡ placed rules b at xs
+  list-linked : (xs : List ℕ) → order_with_name (stands_to_holder rules b' at) at xs ≡ order_with rules b at xs
   list-linked xs = linked-placed (stands_to_holder rules b' at) (is_less rules b at) at xs (λ x. less-same rules b b' at x (w.written.bodies at) (w.written.bodies x))
 
   pub linked-in : (b'' : Blocks) (mark' : ℕ) (new : DtOrd) → StaysButLinks b' b''
-      → ((t : Tree) → IsTree (beside at (node_store b')) ord.root.0 t → TreeAfter (beside at (node_store b')) (beside mark' (node_store b'')) (at ∷ names t) new.root.0 (linked (stands_to_holder rules b' at) at (names t)))
-      → (xs : List ℕ) → OrdFor rules ord b xs → OrdTurned rules (at ∷ xs) b new b'' (placed rules b at xs)
+      → ((t : Tree) → IsTree (beside at (node_store b')) ord.root.0 t → TreeAfter (beside at (node_store b')) (beside mark' (node_store b'')) (at ∷ names t) new.root.0 (order_with_name (stands_to_holder rules b' at) at (names t)))
+      → (xs : List ℕ) → OrdFor rules ord b xs → OrdTurned rules (at ∷ xs) b new b'' (order_with rules b at xs)
   linked-in b'' mark' new stays f xs s =
       let k = cleared xs s in
       let After : List ℕ → List ℕ → Type 0 = λ touched ys. TreeAfter (beside at (node_store b')) (beside mark' (node_store b'')) touched new.root.0 ys in
-      let there : After (at ∷ xs) (linked (stands_to_holder rules b' at) at xs) =
-      subst (λ ys. After (at ∷ ys) (linked (stands_to_holder rules b' at) at ys)) k.list (f k.tree (tree-cleared xs s)) in
-      let t : After (at ∷ xs) (placed rules b at xs) = subst (λ ys. After (at ∷ xs) ys) (list-linked xs) there in
-      let done : OrdTurned rules (at ∷ xs) b' new b'' (placed rules b at xs) =
-      turned rules b' b'' at mark' stays (at ∷ xs) (placed rules b at xs) new t
+      let there : After (at ∷ xs) (order_with_name (stands_to_holder rules b' at) at xs) =
+      subst (λ ys. After (at ∷ ys) (order_with_name (stands_to_holder rules b' at) at ys)) k.list (f k.tree (tree-cleared xs s)) in
+      let t : After (at ∷ xs) (order_with rules b at xs) = subst (λ ys. After (at ∷ xs) ys) (list-linked xs) there in
+      let done : OrdTurned rules (at ∷ xs) b' new b'' (order_with rules b at xs) =
+      turned rules b' b'' at mark' stays (at ∷ xs) (order_with rules b at xs) new t
       (All-placed (IsPlain b') (is_less rules b at) at xs k.plain w.last)
-      (IsSorted-same rules b b' (placed rules b at xs) (λ a h. w.written.bodies a) (IsSorted-placed rules b at xs order s.sorted)) in
+      (IsSorted-same rules b b' (order_with rules b at xs) (λ a h. w.written.bodies a) (IsSorted-placed rules b at xs order s.sorted)) in
       record {
         stands = done.stands;
         keeps = record {

@@ -13,10 +13,10 @@ use Rattle.vc_base.specs.Holders.{contains, without}
 use Rattle.vc_dtdisc.specs.Finding.{put_before}
 use Rattle.vc_dtdisc.specs.Finds.{object_at}
 use Rattle.vc_dtdisc.specs.Rules.{Rules}
-use Rattle.vc_splay.specs.Guide.{Rises, RisesFrom, linked}
+use Rattle.vc_splay.specs.Guide.{Rises, RisesFrom, order_with_name}
 use Rattle.vc_dtlist.proofs.KeptLemmas.{within-head, within-tail}
 use Rattle.vc_dtord.specs.Nodes.{stands_to}
-use Rattle.vc_dtord.specs.Ordered.{IsSorted, is_less, placed}
+use Rattle.vc_dtord.specs.Ordered.{IsSorted, is_less, order_with}
 use Rattle.vc_dtord.proofs.AnyLemmas.{any-at, any-cons, any-head, any-less, any-tail, any-without}
 
 -- an order of the objects is the same over blocks with the same objects
@@ -57,7 +57,7 @@ pub any-inserted : (p test : ℕ → Bool) (at : ℕ) (xs : List ℕ) → p at �
 any-inserted p test at [] e h = any-cons p at [] e refl
 any-inserted p test at (x ∷ xs) e h = inserted_by p test at x xs (test x) refl e h (any-inserted p test at xs e (any-tail p x xs h))
 
-placed_by : (rules : Rules) (b : Blocks) (at x : ℕ) (xs : List ℕ) (t : Bool) → IsTotalOrder rules.compare → is_less rules b at x ≡ t → IsSorted rules b (x ∷ xs) → IsSorted rules b (placed rules b at xs) → IsSorted rules b (placed rules b at (x ∷ xs))
+placed_by : (rules : Rules) (b : Blocks) (at x : ℕ) (xs : List ℕ) (t : Bool) → IsTotalOrder rules.compare → is_less rules b at x ≡ t → IsSorted rules b (x ∷ xs) → IsSorted rules b (order_with rules b at xs) → IsSorted rules b (order_with rules b at (x ∷ xs))
 placed_by rules b at x xs true order t s rest =
     let back = less-one rules b at x order t in
     let key : ℕ → List ℕ = λ a. rules.key (object_at b a) in
@@ -70,15 +70,15 @@ placed_by rules b at x xs false order t s rest =
     rw t (any-inserted (λ y. is_less rules b y x) (is_less rules b at) at xs t s.0, rest)
 
 -- with one behind the last that isn't greater
-pub IsSorted-placed : (rules : Rules) (b : Blocks) (at : ℕ) (xs : List ℕ) → IsTotalOrder rules.compare → IsSorted rules b xs → IsSorted rules b (placed rules b at xs)
+pub IsSorted-placed : (rules : Rules) (b : Blocks) (at : ℕ) (xs : List ℕ) → IsTotalOrder rules.compare → IsSorted rules b xs → IsSorted rules b (order_with rules b at xs)
 IsSorted-placed rules b at [] order s = (refl, tt)
 IsSorted-placed rules b at (x ∷ xs) order s = placed_by rules b at x xs (is_less rules b at x) order refl s (IsSorted-placed rules b at xs order s.1)
 
 -- one that is put behind the last that isn't behind what is sought is put before the first that is greater
-pub linked-placed : (side : ℕ → Ordering) (test : ℕ → Bool) (at : ℕ) (xs : List ℕ) → ((x : ℕ) → is_gt (side x) ≡ test x) → linked side at xs ≡ put_before test at xs
+pub linked-placed : (side : ℕ → Ordering) (test : ℕ → Bool) (at : ℕ) (xs : List ℕ) → ((x : ℕ) → is_gt (side x) ≡ test x) → order_with_name side at xs ≡ put_before test at xs
 linked-placed side test at [] e = refl
 linked-placed side test at (x ∷ xs) e =
-    ap (λ z. cond z (at ∷ x ∷ xs) (x ∷ linked side at xs)) (e x) ∙ ap (λ ys. cond (test x) (at ∷ x ∷ xs) (x ∷ ys)) (linked-placed side test at xs e)
+    ap (λ z. cond z (at ∷ x ∷ xs) (x ∷ order_with_name side at xs)) (e x) ∙ ap (λ ys. cond (test x) (at ∷ x ∷ xs) (x ∷ ys)) (linked-placed side test at xs e)
 
 -- along sorted holders, where they stand to a key never falls
 module _ (rules : Rules) (order : IsTotalOrder rules.compare) (b : Blocks) (key : List ℕ) where

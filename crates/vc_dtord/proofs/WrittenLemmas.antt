@@ -7,7 +7,7 @@ use Rattle.std.proofs.lemmas.Bool.{cases_lt, lt-ltb, ltb-true, true≢false}
 use Rattle.std.proofs.lemmas.Bool.Decides.{eqb_tells}
 use Rattle.std.proofs.lemmas.Slice.Eq.{bytes_eq-Decides}
 use Rattle.vc_model.specs.Bytes.{with_bytes}
-use Rattle.vc_base.specs.Cells.{Blocks, HasBytes, IsAddress, IsHolder, bytes_at, put, stored, with_word, word, word_at}
+use Rattle.vc_base.specs.Cells.{Blocks, HasBytes, IsAddress, IsHolder, bytes_at, put, with_number, with_word, word, word_at}
 use Rattle.vc_base.proofs.CellsLemmas.{WordWritten-store, drop_behind, put_same, window_before, window_same, word-with_word_other, word-with_word_same}
 use Rattle.vc_dtlist.proofs.WordLemmas.{WordsWritten-trans, word-kept, word-other_block}
 use Rattle.vc_splay.specs.Store.{with_kid, with_parent}
@@ -56,7 +56,7 @@ link-other j k value bytes ne h =
     ∙ ap (λ xs. nat_lt (word j bytes) 4294967296 && bytes_eq xs (to_le_bytes w64 (word j bytes))) (bytes-other j k value bytes ne h)
 
 -- a store of a number below 2^32
-pub NumberWritten-store : (old new : Blocks) (at k value : ℕ) → k < 4 → value < 2 ^ 32 → HasBytes old at (8 * k + 8) → new ≡ stored at k value old → NumberWritten old new at k value
+pub NumberWritten-store : (old new : Blocks) (at k value : ℕ) → k < 4 → value < 2 ^ 32 → HasBytes old at (8 * k + 8) → new ≡ with_number at k value old → NumberWritten old new at k value
 NumberWritten-store old new at k value few fits has e =
     let bytes = bytes_at old at in
     let after = put at (with_word k value bytes) old in

@@ -20,8 +20,8 @@ abbrev pub IsSorted : Rules → Blocks → List ℕ → Type 0
 IsSorted rules blocks holders = objects.IsSorted (object_at blocks) rules holders
 
 -- sorted holders with one more, behind the last that isn't greater
-abbrev pub placed : Rules → Blocks → ℕ → List ℕ → List ℕ
-placed rules blocks at holders = placed_among (object_at blocks) rules at holders
+abbrev pub order_with : Rules → Blocks → ℕ → List ℕ → List ℕ
+order_with rules blocks at holders = placed_among (object_at blocks) rules at holders
 
 -- word 3 of a holder is 0
 abbrev pub IsPlain : Blocks → ℕ → Type 0

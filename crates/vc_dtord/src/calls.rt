@@ -4,7 +4,7 @@ ghost use Rattle.vc_base.specs.Holders.{without};
 ghost use Rattle.vc_dtdisc.specs.Rules.{Rules};
 ghost use Rattle.vc_dtlist.specs.Linked.{Finds};
 ghost use Rattle.vc_dtlist.specs.Sought.{Seeks, stands_so};
-ghost use Rattle.vc_dtord.specs.Ordered.{CanLink, IsLinked, IsOrd, OrdFor, OrdTurned, placed};
+ghost use Rattle.vc_dtord.specs.Ordered.{CanLink, IsLinked, IsOrd, OrdFor, OrdTurned, order_with};
 
 use crate::DtOrd;
 use crate::guides::{ByKey, ByMark};
@@ -29,7 +29,7 @@ pub(crate) fn link_in<'a, C: Cells, D: DictDisc, L>(
         → OrdFor (D.rules kind.now) ord (C.blocks nodes.old.cells.now) xs
         → OrdTurned (D.rules kind.now) (nodes.old.mark.0 ∷ xs)
         (C.blocks nodes.old.cells.now) result (C.blocks nodes.new.cells.now)
-        (placed (D.rules kind.now) (C.blocks nodes.old.cells.now) nodes.old.mark.0 xs)
+        (order_with (D.rules kind.now) (C.blocks nodes.old.cells.now) nodes.old.mark.0 xs)
         × (steps.new ≤ steps.old + length xs) }
     ensures same { nodes.new.cells.ghost_name ≡ nodes.old.cells.ghost_name }
     ensures rest { C.RestStays nodes.old.cells.now nodes.new.cells.now }

@@ -5,7 +5,7 @@ ghost use Rattle.vc_base.specs.Holders.{first_in, last_in, next_in, previous_in,
 ghost use Rattle.vc_dtdisc.specs.Rules.{Rules};
 ghost use Rattle.vc_dtlist.specs.Linked.{Finds, number_of};
 ghost use Rattle.vc_dtlist.specs.Sought.{Seeks, stands_so};
-ghost use Rattle.vc_dtord.specs.Ordered.{CanLink, IsLinked, IsOrd, IsOrdered, OrdFor, OrdTurned, placed};
+ghost use Rattle.vc_dtord.specs.Ordered.{CanLink, IsLinked, IsOrd, IsOrdered, OrdFor, OrdTurned, order_with};
 
 use crate::calls::{at_least_in, find_in, link_in, unlink_in};
 use crate::holders::Holders;
@@ -46,7 +46,7 @@ impl DtOrd {
         ensures list { (holders : List ℕ)
             → OrdFor (D.rules kind.now) self.old (C.blocks cells.old) holders
             → OrdTurned (D.rules kind.now) (at.0 ∷ holders) (C.blocks cells.old) self.new
-            (C.blocks cells.new) (placed (D.rules kind.now) (C.blocks cells.old) at.0 holders) }
+            (C.blocks cells.new) (order_with (D.rules kind.now) (C.blocks cells.old) at.0 holders) }
         ensures steps { (holders : List ℕ)
             → OrdFor (D.rules kind.now) self.old (C.blocks cells.old) holders
             → steps.new ≤ steps.old + length holders }

@@ -87,8 +87,8 @@ pub record IsFound (a : ℕ) (segs : List Bytes) (i at : ℕ) : Type 0 where
   pub extent : HoldsAt (λ s. extent_in (at + 16) (extents s.bytes) ≡ extent_of (tiling segs) a) segs i
 
 -- a segment with a range of another one copied into it
-abbrev pub copied : Bytes → ℕ → ℕ → ℕ → Bytes → Bytes
-copied source from len to s = record { number = s.number; bytes = with_bytes to (take len (drop from source.bytes)) s.bytes }
+abbrev pub with_copy : Bytes → ℕ → ℕ → ℕ → Bytes → Bytes
+with_copy source from len to s = record { number = s.number; bytes = with_bytes to (take len (drop from source.bytes)) s.bytes }
 
 -- one number of an index after a segment was taken out of a place, counted from 1
 abbrev pub closed_up : ℕ → ℕ → ℕ

@@ -3,7 +3,7 @@ ghost use Rattle.std.specs.List.{HoldsAt};
 ghost use Rattle.vc_model.specs.Bytes.{with_bytes};
 ghost use Rattle.vc_seg.specs.Segment.{Bytes, pair_of};
 ghost use Rattle.vc_extent.specs.Change.{write};
-ghost use Rattle.vc_extent.specs.Tiling.{IsBusy, change_extent, copied, extent_of, tiling};
+ghost use Rattle.vc_extent.specs.Tiling.{IsBusy, change_extent, with_copy, extent_of, tiling};
 
 use crate::extents::Extents;
 use vc_base::Addr;
@@ -16,7 +16,7 @@ fn copy_between(segs: &mut [Segment], source: usize, from: u32, target: usize, t
     requires from { HoldsAt (λ s. from + len ≤ length s.bytes) segs.old source }
     requires to { HoldsAt (λ s. to + len ≤ length s.bytes) segs.old target }
     ensures { (d : Bytes) → segs.new ≡ slice_set segs.old target
-        (copied (slice_index_or segs.old source d) from len to (slice_index_or segs.old target d)) }
+        (with_copy (slice_index_or segs.old source d) from len to (slice_index_or segs.old target d)) }
 {
     if source == target {
         segs[target].shift(from, to, len);

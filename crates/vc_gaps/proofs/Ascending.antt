@@ -5,7 +5,7 @@ use Rattle.std.specs.Ordering.{is_ge, is_gt, nat_cmp, ordering_index}
 use Rattle.std.proofs.lemmas.Bool.{cases_Bool, eqb-true, eqb-false, eq-eqb, ne_eqb, lt-ltb, le-ltb, ltb-true, ltb-false, true≢false}
 use Rattle.vc_model.specs.Order.{put_by}
 use Rattle.vc_base.specs.Holders.{AreDistinct, contains, without}
-use Rattle.vc_splay.specs.Guide.{RisesFrom, linked}
+use Rattle.vc_splay.specs.Guide.{RisesFrom, order_with_name}
 use Rattle.vc_gaps.specs.GapTree.{AscendFrom}
 
 -- a name of a list is its first one or one of the others
@@ -95,9 +95,9 @@ module _ (key : ℕ → ℕ) where
       (cases_Bool (eqb j k)))
       (cases_Bool (ltb j k))
 
-  pub linked-put : (a : ℕ) (xs : List ℕ) → linked (λ n. nat_cmp (key n) (key a)) a xs ≡ put_by key a xs
+  pub linked-put : (a : ℕ) (xs : List ℕ) → order_with_name (λ n. nat_cmp (key n) (key a)) a xs ≡ put_by key a xs
   linked-put a [] = refl
-  linked-put a (x ∷ xs) = ap (λ z. cond z (a ∷ x ∷ xs) (x ∷ linked (λ n. nat_cmp (key n) (key a)) a xs)) (after-by (key a) (key x)) ∙ ap (λ ys. cond (nat_lt (key a) (key x)) (a ∷ x ∷ xs) (x ∷ ys)) (linked-put a xs)
+  linked-put a (x ∷ xs) = ap (λ z. cond z (a ∷ x ∷ xs) (x ∷ order_with_name (λ n. nat_cmp (key n) (key a)) a xs)) (after-by (key a) (key x)) ∙ ap (λ ys. cond (nat_lt (key a) (key x)) (a ∷ x ∷ xs) (x ∷ ys)) (linked-put a xs)
 
   or-swap : (p q r : Bool) → p || (q || r) ≡ q || (p || r)
   or-swap true true r = refl

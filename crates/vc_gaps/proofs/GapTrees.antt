@@ -4,7 +4,7 @@ use Rattle.std.proofs.lemmas.Bool.{cases_Bool, eqb-true, eq-eqb, lt-ltb, true≢
 use Rattle.vc_model.specs.Order.{put_by}
 use Rattle.vc_base.specs.Holders.{AreDistinct, contains, without}
 use Rattle.vc_seg.specs.Segment.{Bytes}
-use Rattle.vc_splay.specs.Guide.{CanFind, CanLink, Rises, linked}
+use Rattle.vc_splay.specs.Guide.{CanFind, CanLink, Rises, order_with_name}
 use Rattle.vc_splay.specs.Stands.{IsIn, IsTree, Stands, TreeAfter}
 use Rattle.vc_splay.specs.Store.{SameLinks, Store}
 use Rattle.vc_splay.specs.Tree.{Tree, Leaf, Node, names}
@@ -102,16 +102,16 @@ module _ (old new : List Bytes) (index : List ℕ) (kept : ∥ AreExtents old in
 
   -- a link: with one more name
   gap-linked : (span : ℕ) (xs : List ℕ) (h : HasGapTree (tiling old) root xs) → span ≡ (extent_of (tiling old) a).span → is_free (tiling old) a ≡ true → contains xs a ≡ false
-      → TreeAfter (gap_store (tiling old)) (gap_store (tiling new)) (a ∷ names h.tree) result (linked (gap_side (tiling old) span a) a (names h.tree))
+      → TreeAfter (gap_store (tiling old)) (gap_store (tiling new)) (a ∷ names h.tree) result (order_with_name (gap_side (tiling old) span a) a (names h.tree))
       → GapTreeAfter (tiling old) (tiling new) (a ∷ xs) result (put_by (key_of (tiling old)) a xs)
   gap-linked span xs h own free apart t =
       let key = key_of (tiling old) in
       let s : Store = gap_store (tiling old) in
       let fits : (n : ℕ) → is_free (tiling old) n ≡ true → n < 2 ^ 32 = gap_fits old index kept in
-      let there : TreeAfter s (gap_store (tiling new)) (a ∷ xs) result (linked (gap_side (tiling old) span a) a xs) =
-      subst (λ ys. TreeAfter s (gap_store (tiling new)) (a ∷ ys) result (linked (gap_side (tiling old) span a) a ys)) h.list t in
-      let by : TreeAfter s (gap_store (tiling new)) (a ∷ xs) result (linked (gap_side (tiling old) (extent_of (tiling old) a).span a) a xs) =
-      subst (λ z. TreeAfter s (gap_store (tiling new)) (a ∷ xs) result (linked (gap_side (tiling old) z a) a xs)) own there in
+      let there : TreeAfter s (gap_store (tiling new)) (a ∷ xs) result (order_with_name (gap_side (tiling old) span a) a xs) =
+      subst (λ ys. TreeAfter s (gap_store (tiling new)) (a ∷ ys) result (order_with_name (gap_side (tiling old) span a) a ys)) h.list t in
+      let by : TreeAfter s (gap_store (tiling new)) (a ∷ xs) result (order_with_name (gap_side (tiling old) (extent_of (tiling old) a).span a) a xs) =
+      subst (λ z. TreeAfter s (gap_store (tiling new)) (a ∷ xs) result (order_with_name (gap_side (tiling old) z a) a xs)) own there in
       gap_tree-after (tiling old) (tiling new) rest.extents (a ∷ xs) result (put_by key a xs)
       (subst (TreeAfter s (gap_store (tiling new)) (a ∷ xs) result) (linked-put key a xs) by)
       (ascend-put key 0 a xs h.ascending (omega arith)
@@ -172,7 +172,7 @@ module _ (old new : List Bytes) (index : List ℕ) (kept : ∥ AreExtents old in
   apart-each xs c h = subst (λ ys. contains ys a ≡ false) (one_list (tiling old) root none c.names xs c.tree h) c.apart
 
   pub linked-gap : (span : ℕ) → span ≡ (extent_of (tiling old) a).span → CanLinkGap (tiling old) root a
-      → ((tree : Tree) → IsTree (gap_store (tiling old)) root tree → TreeAfter (gap_store (tiling old)) (gap_store (tiling new)) (a ∷ names tree) result (linked (gap_side (tiling old) span a) a (names tree)))
+      → ((tree : Tree) → IsTree (gap_store (tiling old)) root tree → TreeAfter (gap_store (tiling old)) (gap_store (tiling new)) (a ∷ names tree) result (order_with_name (gap_side (tiling old) span a) a (names tree)))
       → GapLinked (tiling old) (tiling new) root a result
   linked-gap span own c t =
       let free = free-bool (tiling old) a c.free in

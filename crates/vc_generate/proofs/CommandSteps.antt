@@ -5,7 +5,7 @@ use Rattle.rand_pcg.specs.Pcg.{pcg32}
 use Rattle.vc_script.specs.declared.command.Command.{Command}
 use Rattle.vc_script.specs.declared.tool.Tool.{Tool}
 use Rattle.vc_script.specs.declared.tool.Tool.TheVariants.{Dtrun, Vmreplay}
-use Rattle.vc_generate.specs.Generated.{block_command, block_commands, closing, commands_of, generated, is_taken, none_taken, object_command, opening, place_of, taken_after}
+use Rattle.vc_generate.specs.Generated.{block_command, block_commands, closing, commands_of, commands_of_seed, is_taken, none_taken, object_command, opening, place_of, taken_after}
 use Rattle.vc_generate.specs.Next.{is_object_next}
 use Rattle.vc_generate.specs.ToCome.{to_come}
 use Rattle.vc_generate.specs.Words.{source_of, words_of}
@@ -101,8 +101,8 @@ length-block_commands taken (word ∷ words) = ap suc (length-block_commands (ta
 
 -- the commands of the words, and the fixed ones
 pub length-generated : (tool : Tool) (count seed : ℕ) →
-    length (generated tool count seed) ≡ length (opening tool) + count + length (closing tool)
-unfolding generated words_of
+    length (commands_of_seed tool count seed) ≡ length (opening tool) + count + length (closing tool)
+unfolding commands_of_seed words_of
 length-generated Vmreplay count seed =
     let words = length-block_commands none_taken (words_of seed count) ∙ length-words pcg32 count (source_of seed) in
     grind (arith, length-append {A = Command}, words)

@@ -4,7 +4,7 @@ use Rattle.std.specs.Fmt.{digits}
 use Rattle.rand_core.specs.Steps.{first_words}
 use Rattle.vc_script.specs.declared.tool.Tool.TheVariants.{Dtrun, Vmreplay}
 use Rattle.vc_generate.specs.Four.{four_on_blocks, four_on_objects}
-use Rattle.vc_generate.specs.Generated.{block_commands, closing, generated, none_taken, object_command, opening}
+use Rattle.vc_generate.specs.Generated.{block_commands, closing, commands_of_seed, none_taken, object_command, opening}
 use Rattle.vc_generate.specs.Words.{source_of, words_of}
 
 abbrev four : List ℕ
@@ -22,12 +22,12 @@ objects : opening Dtrun ++ map object_command four ++ closing Dtrun ≡ four_on_
 unfolding digits
 objects = refl
 
-pub generated-blocks : generated Vmreplay 4 42 ≡ four_on_blocks
-unfolding generated
+pub generated-blocks : commands_of_seed Vmreplay 4 42 ≡ four_on_blocks
+unfolding commands_of_seed
 generated-blocks =
     ap (λ (words : List ℕ). opening Vmreplay ++ block_commands none_taken words ++ closing Vmreplay) four-words ∙ blocks
 
-pub generated-objects : generated Dtrun 4 42 ≡ four_on_objects
-unfolding generated
+pub generated-objects : commands_of_seed Dtrun 4 42 ≡ four_on_objects
+unfolding commands_of_seed
 generated-objects =
     ap (λ (words : List ℕ). opening Dtrun ++ map object_command words ++ closing Dtrun) four-words ∙ objects

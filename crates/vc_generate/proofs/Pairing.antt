@@ -8,7 +8,7 @@ use Rattle.std.proofs.lemmas.List.{get_or-replicate, length-replicate}
 use Rattle.std.proofs.lemmas.Slice.Eq.{bytes_eq-Decides}
 use Rattle.vc_script.specs.declared.command.Command.TheVariants.{Free, Resize}
 use Rattle.vc_script.specs.declared.tool.Tool.TheVariants.{Vmreplay}
-use Rattle.vc_generate.specs.Generated.{block_command, block_commands, block_of, closing, generated, is_resize, is_taken, is_taken_after, none_taken, place_of, taken_after}
+use Rattle.vc_generate.specs.Generated.{block_command, block_commands, block_of, closing, commands_of_seed, is_resize, is_taken, is_taken_after, none_taken, place_of, taken_after}
 use Rattle.vc_generate.specs.Pairs.{are_paired, fits, stands_after}
 use Rattle.vc_generate.specs.Words.{words_of}
 
@@ -107,6 +107,6 @@ none_stand = record {
 }
 
 -- from the first command to the last
-pub paired_generated : (count seed : ℕ) → are_paired (λ block. false) (generated Vmreplay count seed) ≡ true
-unfolding generated
+pub paired_generated : (count seed : ℕ) → are_paired (λ block. false) (commands_of_seed Vmreplay count seed) ≡ true
+unfolding commands_of_seed
 paired_generated count seed = paired (words_of seed count) (λ block. false) none_taken none_stand

@@ -10,7 +10,7 @@ use Rattle.vc_script.specs.Words.{is_digit, is_letter, is_name_byte}
 use Rattle.vc_script.specs.declared.command.Command.{Command}
 use Rattle.vc_script.specs.declared.tool.Tool.{Tool}
 use Rattle.vc_script.specs.declared.tool.Tool.TheVariants.{Dtrun, Vmreplay}
-use Rattle.vc_generate.specs.Generated.{block_command, block_commands, block_of, closing, generated, is_resize, is_taken, none_taken, object_command, opening, place_of, taken_after}
+use Rattle.vc_generate.specs.Generated.{block_command, block_commands, block_of, closing, commands_of_seed, is_resize, is_taken, none_taken, object_command, opening, place_of, taken_after}
 use Rattle.vc_generate.specs.Words.{words_of}
 
 or_true : (a b : Bool) → a ≡ true → (b || a) ≡ true
@@ -62,8 +62,8 @@ both [] second begun ended = ended
 both (c ∷ cs) second begun ended = (begun.0, both cs second begun.1 ended)
 
 -- each command of a tool
-pub proper_generated : (tool : Tool) (count seed : ℕ) → AllByRecursion IsProperCommand (generated tool count seed)
-unfolding generated
+pub proper_generated : (tool : Tool) (count seed : ℕ) → AllByRecursion IsProperCommand (commands_of_seed tool count seed)
+unfolding commands_of_seed
 proper_generated Vmreplay count seed =
     let words = words_of seed count in
     both (opening Vmreplay ++ block_commands none_taken words) (closing Vmreplay)

@@ -76,5 +76,5 @@ closing Vmreplay = CloseRegion (codes "r") ∷ []
 closing Dtrun = Shut (codes "d") ∷ CloseRegion (codes "r") ∷ []
 
 -- all commands of a tool, with one for each of so many words of a seed
-unfoldable pub generated : Tool → ℕ → ℕ → List Command
-generated tool count seed = opening tool ++ commands_of tool none_taken (words_of seed count) ++ closing tool
+unfoldable pub commands_of_seed : Tool → ℕ → ℕ → List Command
+commands_of_seed tool count seed = opening tool ++ commands_of tool none_taken (words_of seed count) ++ closing tool

@@ -1,5 +1,5 @@
 ghost use Rattle.std.specs.Prelude.{◌≡◌, true, IfOk, OnErr};
-ghost use Rattle.vc_generate.specs.Generated.{generated};
+ghost use Rattle.vc_generate.specs.Generated.{commands_of_seed};
 ghost use Rattle.vc_generate.specs.Next.{IsNext, is_object_next};
 
 use crate::block::take_command;
@@ -39,7 +39,7 @@ impl Generator {
     /// vmreplay opens `r`, allocates, resizes and frees blocks `x0` to `x255` of 1 to 1000 bytes, and closes `r`. dtrun
     /// opens `r` and the ordered set `d`, inserts, deletes and searches objects `k0` to `k999`, and ends both.
     pub fn new(tool: Tool, count: u32, seed: u32) -> Generator
-        ensures { result ≡ generated tool count seed }
+        ensures { result ≡ commands_of_seed tool count seed }
     {
         Generator {
             tool,

@@ -8,7 +8,7 @@ ghost use Rattle.vc_script.specs.declared.command.Command.TheVariants as command
 ghost use Rattle.vc_script.specs.declared.tool.Tool.{Tool};
 ghost use Rattle.vc_script.specs.declared.tool.Tool.TheVariants.{Dtrun, Vmreplay};
 ghost use Rattle.vc_generate.specs.Four.{four_on_blocks, four_on_objects};
-ghost use Rattle.vc_generate.specs.Generated.{generated};
+ghost use Rattle.vc_generate.specs.Generated.{commands_of_seed};
 ghost use Rattle.vc_generate.specs.Pairs.{are_paired};
 ghost use Rattle.vc_generate.specs.Words.{words_of};
 
@@ -20,28 +20,28 @@ pub fn reference_words()
 /// vmreplay has two commands more than words, and dtrun four. The names in each are names of the script language, and
 /// the numbers are its numbers. vmreplay allocates no block that stands, and resizes and frees none that doesn't.
 pub fn generated_commands()
-    ensures vmreplay { (count seed : ℕ) → length (generated Vmreplay count seed) ≡ count + 2 }
-    ensures dtrun { (count seed : ℕ) → length (generated Dtrun count seed) ≡ count + 4 }
+    ensures vmreplay { (count seed : ℕ) → length (commands_of_seed Vmreplay count seed) ≡ count + 2 }
+    ensures dtrun { (count seed : ℕ) → length (commands_of_seed Dtrun count seed) ≡ count + 4 }
     ensures proper { (tool : Tool) (count seed : ℕ)
-        → AllByRecursion IsProperCommand (generated tool count seed) }
+        → AllByRecursion IsProperCommand (commands_of_seed tool count seed) }
     ensures paired { (count seed : ℕ)
-        → are_paired (λ _. false) (generated Vmreplay count seed) ≡ true }
+        → are_paired (λ _. false) (commands_of_seed Vmreplay count seed) ≡ true }
 {}
 
 /// Commands on blocks: a taken place is resized, and stays taken, or is given back, and may be taken again.
 pub fn generated_blocks()
-    ensures one { generated Vmreplay 1 42 ≡ command.OpenRegion (codes "r") VmBest 1
+    ensures one { commands_of_seed Vmreplay 1 42 ≡ command.OpenRegion (codes "r") VmBest 1
         ∷ command.Alloc (codes "r") (codes "x183") 851 None
         ∷ command.CloseRegion (codes "r") ∷ [] }
-    ensures resized { generated Vmreplay 2 89 ≡ command.OpenRegion (codes "r") VmBest 1
+    ensures resized { commands_of_seed Vmreplay 2 89 ≡ command.OpenRegion (codes "r") VmBest 1
         ∷ command.Alloc (codes "r") (codes "x141") 885 None
         ∷ command.Resize (codes "r") (codes "x141") 419 true
         ∷ command.CloseRegion (codes "r") ∷ [] }
-    ensures freed { generated Vmreplay 2 545 ≡ command.OpenRegion (codes "r") VmBest 1
+    ensures freed { commands_of_seed Vmreplay 2 545 ≡ command.OpenRegion (codes "r") VmBest 1
         ∷ command.Alloc (codes "r") (codes "x187") 403 None
         ∷ command.Free (codes "r") (codes "x187")
         ∷ command.CloseRegion (codes "r") ∷ [] }
-    ensures both { generated Vmreplay 6 1124 ≡ command.OpenRegion (codes "r") VmBest 1
+    ensures both { commands_of_seed Vmreplay 6 1124 ≡ command.OpenRegion (codes "r") VmBest 1
         ∷ command.Alloc (codes "r") (codes "x45") 435 None
         ∷ command.Alloc (codes "r") (codes "x132") 537 None
         ∷ command.Alloc (codes "r") (codes "x122") 476 None
@@ -49,14 +49,14 @@ pub fn generated_blocks()
         ∷ command.Alloc (codes "r") (codes "x84") 277 None
         ∷ command.Free (codes "r") (codes "x132")
         ∷ command.CloseRegion (codes "r") ∷ [] }
-    ensures five { generated Vmreplay 5 1 ≡ command.OpenRegion (codes "r") VmBest 1
+    ensures five { commands_of_seed Vmreplay 5 1 ≡ command.OpenRegion (codes "r") VmBest 1
         ∷ command.Alloc (codes "r") (codes "x169") 694 None
         ∷ command.Alloc (codes "r") (codes "x72") 229 None
         ∷ command.Alloc (codes "r") (codes "x239") 321 None
         ∷ command.Alloc (codes "r") (codes "x212") 948 None
         ∷ command.Alloc (codes "r") (codes "x242") 341 None
         ∷ command.CloseRegion (codes "r") ∷ [] }
-    ensures again { generated Vmreplay 4 601 ≡ command.OpenRegion (codes "r") VmBest 1
+    ensures again { commands_of_seed Vmreplay 4 601 ≡ command.OpenRegion (codes "r") VmBest 1
         ∷ command.Alloc (codes "r") (codes "x85") 417 None
         ∷ command.Alloc (codes "r") (codes "x195") 61 None
         ∷ command.Free (codes "r") (codes "x85")
@@ -66,18 +66,18 @@ pub fn generated_blocks()
 
 /// Commands on objects.
 pub fn generated_objects()
-    ensures one { generated Dtrun 1 42 ≡ command.OpenRegion (codes "r") VmBest 1
+    ensures one { commands_of_seed Dtrun 1 42 ≡ command.OpenRegion (codes "r") VmBest 1
         ∷ command.OpenDict (codes "d") DtOset (codes "r") 1
         ∷ command.Search (codes "d") (codes "k850")
         ∷ command.Shut (codes "d")
         ∷ command.CloseRegion (codes "r") ∷ [] }
-    ensures two { generated Dtrun 2 42 ≡ command.OpenRegion (codes "r") VmBest 1
+    ensures two { commands_of_seed Dtrun 2 42 ≡ command.OpenRegion (codes "r") VmBest 1
         ∷ command.OpenDict (codes "d") DtOset (codes "r") 1
         ∷ command.Search (codes "d") (codes "k850")
         ∷ command.Insert (codes "d") (codes "k348")
         ∷ command.Shut (codes "d")
         ∷ command.CloseRegion (codes "r") ∷ [] }
-    ensures five { generated Dtrun 5 1 ≡ command.OpenRegion (codes "r") VmBest 1
+    ensures five { commands_of_seed Dtrun 5 1 ≡ command.OpenRegion (codes "r") VmBest 1
         ∷ command.OpenDict (codes "d") DtOset (codes "r") 1
         ∷ command.Insert (codes "d") (codes "k693")
         ∷ command.Insert (codes "d") (codes "k228")
@@ -90,6 +90,6 @@ pub fn generated_objects()
 
 /// The commands of the first four words of seed 42.
 pub fn generated_fours()
-    ensures blocks { generated Vmreplay 4 42 ≡ four_on_blocks }
-    ensures objects { generated Dtrun 4 42 ≡ four_on_objects }
+    ensures blocks { commands_of_seed Vmreplay 4 42 ≡ four_on_blocks }
+    ensures objects { commands_of_seed Dtrun 4 42 ≡ four_on_objects }
 {}

@@ -6,7 +6,7 @@ use Rattle.vc_model.specs.Addr.{address, place_of}
 use Rattle.vc_model.specs.Bytes.{with_bytes}
 use Rattle.vc_model.specs.Layout.{Block, Layout, address_of, is_at}
 use Rattle.vc_model.specs.Segments.{span}
-use Rattle.vc_model.specs.Touch.{HasBlock, change_block, rewritten, with_bytes_at}
+use Rattle.vc_model.specs.Touch.{HasBlock, change_block, rewritten_block, with_bytes_at}
 use Rattle.vc_seg.specs.Segment.{Bytes, pair_of}
 use Rattle.vc_segments.specs.Memory.{bytes_of_number}
 use Rattle.vc_segments.proofs.Overwrites.{range-around}
@@ -56,10 +56,10 @@ module _ (o s : List Bytes) (a k : ℕ) (src : List ℕ) where
 
   module _ (head : HasHead o t) (own : address_of t ≡ a) (fits : k + length src ≤ t.size) (h : StaysBut (place_of a).0 from to o s) (bytes : bytes_at s a ≡ with_bytes from src (bytes_at o a)) where
     f : Block ℕ → Block ℕ
-    f = rewritten k src
+    f = rewritten_block k src
 
     -- the block itself
-    head-written : (b : Block ℕ) → HasHead o b → b ≡ t → HasHead s (rewritten k src b) × (before_of s (address_of b) ≡ before_of o (address_of b))
+    head-written : (b : Block ℕ) → HasHead o b → b ≡ t → HasHead s (rewritten_block k src b) × (before_of s (address_of b) ≡ before_of o (address_of b))
     head-written b l e =
         let says = head-says o b l in
         let exact = head-exact o b l in
@@ -83,7 +83,7 @@ module _ (o s : List Bytes) (a k : ℕ) (src : List ℕ) where
             first = l.first;
             within = subst (λ j. b.off + span b.size ≤ j) (sym (size-same b.seg o s h.pairs)) l.within;
             zero = front (b.off - 4) (omega (arith, first, off)) ∙ l.zero;
-            is = head-made s (rewritten k src b) exact size label body;
+            is = head-made s (rewritten_block k src b) exact size label body;
           },
           ap (λ (p : ℕ × ℕ). field_at (p.1 - 8) (bytes_of_number p.0 s)) exact ∙ (before ∙ sym says.before),
         )
@@ -107,7 +107,7 @@ module _ (o s : List Bytes) (a k : ℕ) (src : List ℕ) where
         here : (c : Block ℕ) → c ≡ t → is_at (place_of a) c ≡ true
         here c e = at-own (place_of a) c (ap (λ (d : Block ℕ). (d.seg, d.off)) e)
 
-    chain-written : (p q : ℕ) (bs : List (Block ℕ)) → IsChain o p bs q → AllPairs EndsFirst bs → All IsClear bs → IsChain s p (change_block (rewritten k src) (place_of a) bs) q
+    chain-written : (p q : ℕ) (bs : List (Block ℕ)) → IsChain o p bs q → AllPairs EndsFirst bs → All IsClear bs → IsChain s p (change_block (rewritten_block k src) (place_of a) bs) q
     chain-written p q [] c pairs clear = c
     chain-written p q (b ∷ bs) c pairs clear =
         let rest = All-tail IsClear b bs clear in
@@ -125,7 +125,7 @@ module _ (o s : List Bytes) (a k : ℕ) (src : List ℕ) where
 
 -- the blocks then
 pub last-written : (o s : List Bytes) (q a k : ℕ) (src : List ℕ) (bs : List (Block ℕ)) → IsLastOf o q bs → HasBlock bs a → k + length src ≤ (block_of o a).size → StaysBut (place_of a).0 ((place_of a).1 + k) ((place_of a).1 + k + length src) o s → bytes_at s a ≡ with_bytes ((place_of a).1 + k) src (bytes_at o a) →
-    IsLastOf s q (change_block (rewritten k src) (place_of a) bs)
+    IsLastOf s q (change_block (rewritten_block k src) (place_of a) bs)
 last-written o s q a k src bs l among fits h bytes =
     let x = stands-at o q bs a l among in
     let either = pairs-either EndsFirst bs x.place (block_of o a) l.ordered x.within x.is in
@@ -136,7 +136,7 @@ last-written o s q a k src bs l among fits h bytes =
       segments = segments-same o s h.pairs l.segments;
       chain = chain-written o s a k src x.head x.at fits h bytes 0 q bs l.chain l.ordered (λ i d lt. clear-either o s a k src x.head x.at fits h bytes (get_or bs i d) (heads i d lt).first (either i d lt));
       ordered = whole.ordered;
-      rising = AllPairs-change (LiesLower s) (rewritten k src) (λ b c e. e) (λ b c e. e) (place_of a) bs rising;
+      rising = AllPairs-change (LiesLower s) (rewritten_block k src) (λ b c e. e) (λ b c e. e) (place_of a) bs rising;
     }
 
 pub layout-written : (o s : List Bytes) (q a k : ℕ) (src : List ℕ) → (l : IsLast o q) → HasBlock (blocks_from o q) a → k + length src ≤ (block_of o a).size → StaysBut (place_of a).0 ((place_of a).1 + k) ((place_of a).1 + k + length src) o s → bytes_at s a ≡ with_bytes ((place_of a).1 + k) src (bytes_at o a) →
@@ -144,4 +144,4 @@ pub layout-written : (o s : List Bytes) (q a k : ℕ) (src : List ℕ) → (l : 
 layout-written o s q a k src l among fits h bytes =
     let w = last-written o s q a k src (blocks_from o q) l among fits h bytes in
     let f : Layout ℕ → Layout ℕ = λ r. with_bytes_at r (place_of a) k src in
-    (last-from s q (change_block (rewritten k src) (place_of a) (blocks_from o q)) w, layout-is s q (change_block (rewritten k src) (place_of a) (blocks_from o q)) w ∙ (ap (λ ss. row ss (change_block (rewritten k src) (place_of a) (blocks_from o q))) h.pairs ∙ ap f (sym (layout-from o q))))
+    (last-from s q (change_block (rewritten_block k src) (place_of a) (blocks_from o q)) w, layout-is s q (change_block (rewritten_block k src) (place_of a) (blocks_from o q)) w ∙ (ap (λ ss. row ss (change_block (rewritten_block k src) (place_of a) (blocks_from o q))) h.pairs ∙ ap f (sym (layout-from o q))))

@@ -9,7 +9,7 @@ use Rattle.vc_model.specs.Discipline.{Discipline, Terms}
 use Rattle.vc_model.specs.Last.{can_end, last_free, last_need, last_resize, latest, resize_latest}
 use Rattle.vc_model.specs.Layout.{Block, Layout, footprint, without_block}
 use Rattle.vc_model.specs.Outcome.{Done, Outcome, Put, Refused, Fixed, NotLast}
-use Rattle.vc_model.specs.Resize.{is_usable, resize_there, sized, stays}
+use Rattle.vc_model.specs.Resize.{is_usable, resize_there, sized_block, stays}
 use Rattle.vc_model.specs.Touch.{HasBlock, find_block}
 use Rattle.vc_base.specs.declared.addr.Addr.{Addr}
 use Rattle.vc_seg.specs.Answer.{IsPut}
@@ -66,13 +66,13 @@ module _ (o : List Bytes) (q a : ℕ) (h : IsLast o q) (live : HasBlock (layout_
   pub latest-there : IsLatestAt (layout_by o q) (place_of a)
   latest-there = subst (λ b. IsLatestAt (layout_by o q) (place_of b)) (sym e) (latest-found o q h (some-latest o q a live))
 
-  pub end-there : (size : ℕ) (can : Bool) → is_usable (map pair_of o) (footprint (sized size (block_of o a))) ≡ can → can_end (layout_by o q) size latest-there.block ≡ can
+  pub end-there : (size : ℕ) (can : Bool) → is_usable (map pair_of o) (footprint (sized_block size (block_of o a))) ≡ can → can_end (layout_by o q) size latest-there.block ≡ can
   end-there size can u =
       let same : latest-there.block ≡ block_of o a = same_Some latest-there.block (block_of o a) (sym latest-there.is ∙ (latest-is o q h (some-latest o q a live) ∙ ap (λ b. Some (block_of o b)) (sym e))) in
-      ap (can_end (layout_by o q) size) same ∙ (ap (λ (r : Layout ℕ). is_usable r.segments (footprint (sized size (block_of o a)))) (layout-from o q) ∙ u)
+      ap (can_end (layout_by o q) size) same ∙ (ap (λ (r : Layout ℕ). is_usable r.segments (footprint (sized_block size (block_of o a)))) (layout-from o q) ∙ u)
 
   module _ (terms : Terms) (size : ℕ) where
-    pub stays-put : (may : Bool) (new : Layout ℕ) → is_usable (map pair_of o) (footprint (sized size (block_of o a))) ≡ true → new ≡ resize_there (layout_by o q) (place_of a) size → IsPut (last_resize terms (layout_by o q) (place_of a) size may false) a new
+    pub stays-put : (may : Bool) (new : Layout ℕ) → is_usable (map pair_of o) (footprint (sized_block size (block_of o a))) ≡ true → new ≡ resize_there (layout_by o q) (place_of a) size → IsPut (last_resize terms (layout_by o q) (place_of a) size may false) a new
     stays-put may new u is =
         let can = end-there size true u in
         let at : (latest-there.block.seg, latest-there.block.off) ≡ place_of a = at-place (place_of a) latest-there.block latest-there.here in
@@ -81,13 +81,13 @@ module _ (o : List Bytes) (q a : ℕ) (h : IsLast o q) (live : HasBlock (layout_
         subst (λ (x : Outcome (Put (Layout ℕ))). IsPut x a new) (sym (call-latest (layout_by o q) (place_of a) (resize_latest terms (layout_by o q) size may false) latest-there ∙ call))
         (own, at, is ∙ ap (λ p. resize_there (layout_by o q) p size) (sym at))
 
-    pub stays-fixed : (may : Bool) → may ≡ false → is_usable (map pair_of o) (footprint (sized size (block_of o a))) ≡ false → last_resize terms (layout_by o q) (place_of a) size may false ≡ Refused Fixed
+    pub stays-fixed : (may : Bool) → may ≡ false → is_usable (map pair_of o) (footprint (sized_block size (block_of o a))) ≡ false → last_resize terms (layout_by o q) (place_of a) size may false ≡ Refused Fixed
     stays-fixed may stuck u =
         let can = end-there size false u in
         let call : resize_latest terms (layout_by o q) size may false latest-there.block ≡ Refused Fixed = rw can (rw stuck refl) in
         call-latest (layout_by o q) (place_of a) (resize_latest terms (layout_by o q) size may false) latest-there ∙ call
 
-  pub ends-there : (size : ℕ) → is_usable (map pair_of o) (footprint (sized size (block_of o a))) ≡ false → IfSome (find_block (place_of a) (layout_by o q).blocks) (λ b. (latest (layout_by o q) ≡ Some b) × (can_end (layout_by o q) size b ≡ false))
+  pub ends-there : (size : ℕ) → is_usable (map pair_of o) (footprint (sized_block size (block_of o a))) ≡ false → IfSome (find_block (place_of a) (layout_by o q).blocks) (λ b. (latest (layout_by o q) ≡ Some b) × (can_end (layout_by o q) size b ≡ false))
   ends-there size u = there-latest (layout_by o q) (place_of a) latest-there size false (ap (option_map (can_end (layout_by o q) size)) latest-there.is ∙ ap Some (end-there size false u))
 
 -- it is another

@@ -3,7 +3,7 @@ use Rattle.std.proofs.Common.{◌≡◌, ◌≢◌, ℕ, ◌+◌, ◌-◌, ◌<�
 use Rattle.vc_model.specs.Addr.{place_of}
 use Rattle.vc_model.specs.Best.{without_block_at}
 use Rattle.vc_model.specs.Layout.{Block, Layout, address_of, footprint, is_at, without_block}
-use Rattle.vc_model.specs.Resize.{is_usable, resize_there, sized}
+use Rattle.vc_model.specs.Resize.{is_usable, resize_there, sized_block}
 use Rattle.vc_model.specs.Segments.{span}
 use Rattle.vc_model.specs.Touch.{change_block}
 use Rattle.vc_seg.specs.Segment.{Bytes, pair_of}
@@ -42,11 +42,11 @@ module _ (o : List Bytes) (q : ℕ) (h : IsLast o q) (some : q ≢ 0) where
   elsewhere-latest = λ k d lt. ends-elsewhere (place_of q) (get_or (blocks_from o (before_of o q)) k d) (block_of o q) (behind-latest k d lt) here-latest
 
   -- it gets another size where it is
-  module _ (s : List Bytes) (size : ℕ) (enough : 1 ≤ size) (can : is_usable (map pair_of o) (footprint (sized size (block_of o q))) ≡ true) where
+  module _ (s : List Bytes) (size : ℕ) (enough : 1 ≤ size) (can : is_usable (map pair_of o) (footprint (sized_block size (block_of o q))) ≡ true) where
     pub sized-place : IsPlace (row (map pair_of o) (blocks_from o (before_of o q))) size (place_of q)
     sized-place =
         let first = l.head.first in
-        let u = usable-any (footprint (sized size (block_of o q))) (map pair_of o) can in
+        let u = usable-any (footprint (sized_block size (block_of o q))) (map pair_of o) can in
         let end = u.4.2 in
         let heads = chain-heads o 0 (before_of o q) (blocks_from o (before_of o q)) l.kept.chain in
         record {
@@ -59,25 +59,25 @@ module _ (o : List Bytes) (q : ℕ) (h : IsLast o q) (some : q ≢ 0) where
           inside = (u.0, u.1, u.2, u.3, (u.4.0, omega (arith, end, first)));
         }
 
-    module _ (stays : StaysBut (place_of q).0 ((place_of q).1 - 16) ((place_of q).1 + size) o s) (laid : LiesThere s (before_of o q) (sized size (block_of o q))) where
-      made : IsLastOf s q (blocks_from o (before_of o q) ++ sized size (block_of o q) ∷ [])
+    module _ (stays : StaysBut (place_of q).0 ((place_of q).1 - 16) ((place_of q).1 + size) o s) (laid : LiesThere s (before_of o q) (sized_block size (block_of o q))) where
+      made : IsLastOf s q (blocks_from o (before_of o q) ++ sized_block size (block_of o q) ∷ [])
       made =
           let front : List (Block ℕ) = blocks_from o (before_of o q) in
-          let b : Block ℕ = sized size (block_of o q) in
+          let b : Block ℕ = sized_block size (block_of o q) in
           let lower : All (λ c. LiesLower o c b) front = λ k d lt. lower-latest k d lt in
-          subst (λ a. IsLastOf s a (blocks_from o (before_of o q) ++ sized size (block_of o q) ∷ [])) l.at
+          subst (λ a. IsLastOf s a (blocks_from o (before_of o q) ++ sized_block size (block_of o q) ∷ [])) l.at
           (put-last o s (before_of o q) front b l.kept enough sized-place stays laid lower)
 
       pub sized-kept : IsLast s q
-      sized-kept = last-from s q (blocks_from o (before_of o q) ++ sized size (block_of o q) ∷ []) made
+      sized-kept = last-from s q (blocks_from o (before_of o q) ++ sized_block size (block_of o q) ∷ []) made
 
       pub sized-layout : layout_by s q ≡ resize_there (layout_by o q) (place_of q) size
       sized-layout =
           let f : Layout ℕ → Layout ℕ = λ r. resize_there r (place_of q) size in
-          let changed : change_block (sized size) (place_of q) (blocks_from o q) ≡ blocks_from o (before_of o q) ++ sized size (block_of o q) ∷ [] =
-          ap (change_block (sized size) (place_of q)) l.blocks ∙ change-last (place_of q) (block_of o q) here-latest (sized size) (blocks_from o (before_of o q)) elsewhere-latest in
-          layout-is s q (blocks_from o (before_of o q) ++ sized size (block_of o q) ∷ []) made
-          ∙ (ap (λ ss. row ss (blocks_from o (before_of o q) ++ sized size (block_of o q) ∷ [])) stays.pairs
+          let changed : change_block (sized_block size) (place_of q) (blocks_from o q) ≡ blocks_from o (before_of o q) ++ sized_block size (block_of o q) ∷ [] =
+          ap (change_block (sized_block size) (place_of q)) l.blocks ∙ change-last (place_of q) (block_of o q) here-latest (sized_block size) (blocks_from o (before_of o q)) elsewhere-latest in
+          layout-is s q (blocks_from o (before_of o q) ++ sized_block size (block_of o q) ∷ []) made
+          ∙ (ap (λ ss. row ss (blocks_from o (before_of o q) ++ sized_block size (block_of o q) ∷ [])) stays.pairs
           ∙ (ap (row (map pair_of o)) (sym changed) ∙ ap f (sym (layout-from o q))))
 
 -- the block before the latest, by the list of them

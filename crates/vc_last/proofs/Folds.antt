@@ -8,7 +8,7 @@ use Rattle.vc_model.specs.Order.{lesser_by}
 use Rattle.vc_layouts.specs.declared.tally.Tally.{Tally}
 use Rattle.std.proofs.lemmas.List.{append-nil, length-append}
 use Rattle.std.proofs.lemmas.List.Sums.{fold-append, sum_by-append}
-use Rattle.vc_layouts.specs.Tally.{HasRoom, tallied, tallied_all}
+use Rattle.vc_layouts.specs.Tally.{HasRoom, tally_with, tallied_all}
 use Rattle.vc_layouts.proofs.Tallies.{tallied_all-bytes, tallied_all-count}
 
 module _ {S A : Type 0} (f : S → A → S) (swap : (s : S) (x y : A) → f (f s x) y ≡ f (f s y) x) where
@@ -54,14 +54,14 @@ least-last after o xs x =
     (λ (t : ltb after x ≡ false). rw t (ap (fold (lesser_by (λ a. a)) o) (append-nil (filter (λ a. ltb after a) xs))))
     (cases_Bool (ltb after x))
 
-tally-swap : (t : Tally) (x y : ℕ) → tallied (tallied t x) y ≡ tallied (tallied t y) x
+tally-swap : (t : Tally) (x y : ℕ) → tally_with (tally_with t x) y ≡ tally_with (tally_with t y) x
 tally-swap t x y =
     let bytes : t.bytes + x + y ≡ t.bytes + y + x = omega arith in
     let most : max (max t.most x) y ≡ max (max t.most y) x = omega arith in
     λ i. record { count = t.count + 1 + 1; bytes = bytes i; most = most i }
 
-pub tally-last : (t : Tally) (xs : List ℕ) (x : ℕ) → tallied_all t (xs ++ x ∷ []) ≡ tallied_all (tallied t x) xs
-tally-last t xs x = fold-last tallied tally-swap t xs x
+pub tally-last : (t : Tally) (xs : List ℕ) (x : ℕ) → tallied_all t (xs ++ x ∷ []) ≡ tallied_all (tally_with t x) xs
+tally-last t xs x = fold-last tally_with tally-swap t xs x
 
 -- the first that passes, where no other one does
 pub find-last-none : {A : Type 0} (p : A → Bool) (xs : List A) (x : A) → p x ≡ false → find p (xs ++ x ∷ []) ≡ find p xs
@@ -79,7 +79,7 @@ find-last-one {A = A} p (y ∷ ys) x hit h = let P : A → Type 0 = λ z. p z �
 pub tally-swapped : (t : Tally) (xs ys : List ℕ) → tallied_all t (xs ++ ys) ≡ tallied_all (tallied_all t ys) xs
 tally-swapped t xs [] = ap (tallied_all t) (append-nil xs)
 tally-swapped t xs (y ∷ ys) =
-    fold-append tallied t xs (y ∷ ys) ∙ (ap (λ u. fold tallied u ys) (sym (fold-append tallied t xs (y ∷ [])) ∙ tally-last t xs y) ∙ (sym (fold-append tallied (tallied t y) xs ys) ∙ tally-swapped (tallied t y) xs ys))
+    fold-append tally_with t xs (y ∷ ys) ∙ (ap (λ u. fold tally_with u ys) (sym (fold-append tally_with t xs (y ∷ [])) ∙ tally-last t xs y) ∙ (sym (fold-append tally_with (tally_with t y) xs ys) ∙ tally-swapped (tally_with t y) xs ys))
 
 pub room-part : (t : Tally) (xs ys : List ℕ) → HasRoom t (xs ++ ys) → HasRoom t ys
 room-part t xs ys h =

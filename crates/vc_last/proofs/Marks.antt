@@ -4,7 +4,7 @@ use Rattle.std.specs.Prelude.{◌||◌}
 use Rattle.std.proofs.lemmas.Bool.{cases_Bool, cases_eq, eq-eqb, ne_eqb}
 use Rattle.std.proofs.lemmas.List.{get_or-set_same, get_or-set_other}
 use Rattle.std.proofs.lemmas.List.Elements.{All-head, All-nil, All-tail}
-use Rattle.vc_model.specs.Compact.{compacted, is_occupied}
+use Rattle.vc_model.specs.Compact.{compacted_layout, is_occupied}
 use Rattle.vc_model.specs.Discipline.{Discipline, TookBack}
 use Rattle.vc_model.specs.Layout.{Block, empty_layout}
 use Rattle.vc_seg.specs.Segment.{AreSegments, Bytes, IsRegionSegment, pair_of}
@@ -87,9 +87,9 @@ module _ (o s : List Bytes) (q : ℕ) (h : IsLast o q) (marks : List Bool) (mark
   pub compacted-pairs : map pair_of s ≡ filter (λ (p : ℕ × ℕ). is_occupied (blocks_from o q) p.0) (map pair_of o)
   compacted-pairs = ap (map pair_of) stays ∙ sym (filter-map pair_of (λ (p : ℕ × ℕ). is_occupied (blocks_from o q) p.0) o)
 
-  pub compacted-layout : layout_by s q ≡ compacted (layout_by o q)
+  pub compacted-layout : layout_by s q ≡ compacted_layout (layout_by o q)
   compacted-layout =
-      layout-is s q (blocks_from o q) whole ∙ (ap (λ ss. row ss (blocks_from o q)) compacted-pairs ∙ ap compacted (sym (layout-from o q)))
+      layout-is s q (blocks_from o q) whole ∙ (ap (λ ss. row ss (blocks_from o q)) compacted-pairs ∙ ap compacted_layout (sym (layout-from o q)))
 
 -- what a discipline took back, by equal lists of segments
 pub took-by : (d d' : Discipline) (s s' t t' : List (ℕ × ℕ)) → s' ≡ s → t' ≡ t → TookBack d d' s t → TookBack d d' s' t'

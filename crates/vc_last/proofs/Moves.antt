@@ -8,8 +8,8 @@ use Rattle.vc_model.specs.Best.{without_block_at, zeros}
 use Rattle.vc_model.specs.Discipline.{Terms}
 use Rattle.vc_model.specs.Last.{can_end, last_alloc, last_resize, latest, resize_latest}
 use Rattle.vc_model.specs.Layout.{Block, Layout, address_of, footprint, is_at}
-use Rattle.vc_model.specs.Resize.{is_usable, moved, sized}
-use Rattle.vc_model.specs.Touch.{HasBlock, change_block, find_block, rewritten, with_bytes_at}
+use Rattle.vc_model.specs.Resize.{is_usable, outcome_of_move, sized_block}
+use Rattle.vc_model.specs.Touch.{HasBlock, change_block, find_block, rewritten_block, with_bytes_at}
 use Rattle.vc_seg.specs.Answer.{IsRefusal}
 use Rattle.vc_seg.specs.Segment.{Bytes, pair_of}
 use Rattle.vc_seg.specs.declared.fault.RegionFault.{RegionFault}
@@ -52,9 +52,9 @@ module _ (o : List Bytes) (q : ℕ) (h : IsLast o q) (some : q ≢ 0) where
       subst (λ (bs : List (Block ℕ)). HasBlock bs q) (sym blocks-latest)
       (length front, omega (arith, within, length-map all address_of), get_or-map address_of all (length front) b q within ∙ (ap address_of (get_or-last front b b) ∙ (latest-some o q some h).at))
 
-  pub end-latest : (size : ℕ) (can : Bool) → is_usable (map pair_of o) (footprint (sized size (block_of o q))) ≡ can → (l : IsLatestAt (layout_by o q) (place_of q)) → can_end (layout_by o q) size l.block ≡ can
+  pub end-latest : (size : ℕ) (can : Bool) → is_usable (map pair_of o) (footprint (sized_block size (block_of o q))) ≡ can → (l : IsLatestAt (layout_by o q) (place_of q)) → can_end (layout_by o q) size l.block ≡ can
   end-latest size can e l =
-      ap (can_end (layout_by o q) size) (latest-block l) ∙ (ap (λ (r : Layout ℕ). is_usable r.segments (footprint (sized size (block_of o q)))) (layout-from o q) ∙ e)
+      ap (can_end (layout_by o q) size) (latest-block l) ∙ (ap (λ (r : Layout ℕ). is_usable r.segments (footprint (sized_block size (block_of o q)))) (layout-from o q) ∙ e)
 
 pub among-from : (o : List Bytes) (q a : ℕ) → HasBlock (layout_by o q).blocks a → HasBlock (blocks_from o q) a
 among-from o q a live = subst (λ (r : Layout ℕ). HasBlock r.blocks a) (layout-from o q) live
@@ -99,13 +99,13 @@ pub before-copied : (m s : List Bytes) (q to : ℕ) (src : List ℕ) → IsLast 
 before-copied m s q to src k some live before h is =
     let z = latest-some m to some k in
     let l = latest-some m q live (subst (IsLast m) before z.kept) in
-    let f : Block ℕ → Block ℕ = rewritten 0 src in
-    let blocks : blocks_from s to ≡ (blocks_from m (before_of m q) ++ block_of m q ∷ []) ++ rewritten 0 src (block_of m to) ∷ [] =
+    let f : Block ℕ → Block ℕ = rewritten_block 0 src in
+    let blocks : blocks_from s to ≡ (blocks_from m (before_of m q) ++ block_of m q ∷ []) ++ rewritten_block 0 src (block_of m to) ∷ [] =
     ap (λ (r : Layout ℕ). r.blocks) (sym (layout-from s to) ∙ (is ∙ ap (λ (r : Layout ℕ). with_bytes_at r (place_of to) 0 src) (layout-from m to)))
-    ∙ (ap (change_block (rewritten 0 src) (place_of to)) z.blocks
-    ∙ (change-last (place_of to) (block_of m to) (here-latest m to k some) (rewritten 0 src) (blocks_from m (before_of m to)) (elsewhere-latest m to k some)
-    ∙ ap (λ (bs : List (Block ℕ)). bs ++ rewritten 0 src (block_of m to) ∷ []) (ap (blocks_from m) before ∙ l.blocks))) in
-    before-is s to (blocks_from m (before_of m q)) (block_of m q) (rewritten 0 src (block_of m to)) h blocks ∙ l.at
+    ∙ (ap (change_block (rewritten_block 0 src) (place_of to)) z.blocks
+    ∙ (change-last (place_of to) (block_of m to) (here-latest m to k some) (rewritten_block 0 src) (blocks_from m (before_of m to)) (elsewhere-latest m to k some)
+    ∙ ap (λ (bs : List (Block ℕ)). bs ++ rewritten_block 0 src (block_of m to) ∷ []) (ap (blocks_from m) before ∙ l.blocks))) in
+    before-is s to (blocks_from m (before_of m q)) (block_of m q) (rewritten_block 0 src (block_of m to)) h blocks ∙ l.at
 
 -- what moving leaves
 pub moved-own : (m n s : List Bytes) (q to nl size : ℕ) → IsLast m nl → nl ≡ to → HasBlock (layout_by m to).blocks q → layout_by n to ≡ with_bytes_at (layout_by m to) (place_of to) 0 (take size (block_of m q).bytes) → layout_by s to ≡ without_block_at (layout_by n to) (place_of q) →
@@ -119,19 +119,19 @@ moved-own m n s q to nl size k e live copied gone =
 
 -- where no segment is lent for it, the resize is refused likewise
 module _ (terms : Terms) (r : Layout ℕ) (a tag size : ℕ) (l : IsLatestAt r (place_of a)) (can : can_end r size l.block ≡ false) (own : tag ≡ l.block.label) where
-  resized : (refused : Bool) → last_resize terms r (place_of a) size true refused ≡ moved size l.block (last_alloc terms r tag size refused)
+  resized : (refused : Bool) → last_resize terms r (place_of a) size true refused ≡ outcome_of_move size l.block (last_alloc terms r tag size refused)
   resized refused =
-      let call : resize_latest terms r size true refused l.block ≡ moved size l.block (last_alloc terms r l.block.label size refused) = rw can refl in
-      call-latest r (place_of a) (resize_latest terms r size true refused) l ∙ (call ∙ ap (λ k. moved size l.block (last_alloc terms r k size refused)) (sym own))
+      let call : resize_latest terms r size true refused l.block ≡ outcome_of_move size l.block (last_alloc terms r l.block.label size refused) = rw can refl in
+      call-latest r (place_of a) (resize_latest terms r size true refused) l ∙ (call ∙ ap (λ k. outcome_of_move size l.block (last_alloc terms r k size refused)) (sym own))
 
   pub refused-move : (e : RegionFault) → IsRefusal (last_alloc terms r tag size) e → IsRefusal (last_resize terms r (place_of a) size true) e
-  refused-move code.TooManySegments h = resized false ∙ ap (moved size l.block) h
-  refused-move code.NoSegment h = resized true ∙ ap (moved size l.block) h
+  refused-move code.TooManySegments h = resized false ∙ ap (outcome_of_move size l.block) h
+  refused-move code.NoSegment h = resized true ∙ ap (outcome_of_move size l.block) h
   refused-move code.OutOfMemory h = tt
-  refused-move code.Fixed h = resized false ∙ ap (moved size l.block) h
-  refused-move code.PoolSize h = resized false ∙ ap (moved size l.block) h
-  refused-move code.NotLast h = resized false ∙ ap (moved size l.block) h
-  refused-move code.WrongMethod h = resized false ∙ ap (moved size l.block) h
+  refused-move code.Fixed h = resized false ∙ ap (outcome_of_move size l.block) h
+  refused-move code.PoolSize h = resized false ∙ ap (outcome_of_move size l.block) h
+  refused-move code.NotLast h = resized false ∙ ap (outcome_of_move size l.block) h
+  refused-move code.WrongMethod h = resized false ∙ ap (outcome_of_move size l.block) h
 
 -- a region with a block has a latest one, and another block isn't it
 pub some-latest : (o : List Bytes) (q a : ℕ) → HasBlock (layout_by o q).blocks a → q ≢ 0

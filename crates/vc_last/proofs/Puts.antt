@@ -9,7 +9,7 @@ use Rattle.vc_model.specs.Discipline.{Discipline, Lent, Served, Terms, Unserved}
 use Rattle.vc_model.specs.Last.{last_alloc, last_need, last_place, newest, put_in_newest, put_or_lend}
 use Rattle.vc_model.specs.Layout.{Block, Layout, with_segment}
 use Rattle.vc_model.specs.Segments.{Asked, Granted, NotLent, TooMany, ask, span}
-use Rattle.vc_seg.specs.Segment.{AreSegments, Bytes, pair_of, zeroed}
+use Rattle.vc_seg.specs.Segment.{AreSegments, Bytes, pair_of, zero_segment}
 use Rattle.vc_seg.specs.Answer.{Asks, IsPut, IsRefusal}
 use Rattle.vc_seg.specs.declared.fault.RegionFault.{RegionFault}
 use Rattle.vc_seg.specs.declared.fault.RegionFault.TheVariants as code
@@ -77,25 +77,25 @@ module _ (o s : List Bytes) (q size tag seg off : ℕ) (h : IsLast o q) (new : o
       ∙ (ap (λ ss. row ss (blocks_from o q ++ zeros tag size (seg, off) ∷ [])) stays.pairs ∙ ap (λ (r : Layout ℕ). with_latest r tag size (seg, off)) (sym (layout-from o q)))
 
 -- one more segment
-module _ (o : List Bytes) (q n bytes : ℕ) (h : IsLast o q) (legal : AreSegments (o ++ zeroed n bytes ∷ [])) where
-  grown : IsLastOf (o ++ zeroed n bytes ∷ []) q (blocks_from o q)
-  grown = last-append o q (blocks_from o q) (zeroed n bytes) legal h
+module _ (o : List Bytes) (q n bytes : ℕ) (h : IsLast o q) (legal : AreSegments (o ++ zero_segment n bytes ∷ [])) where
+  grown : IsLastOf (o ++ zero_segment n bytes ∷ []) q (blocks_from o q)
+  grown = last-append o q (blocks_from o q) (zero_segment n bytes) legal h
 
-  pub grown-kept : IsLast (o ++ zeroed n bytes ∷ []) q
-  grown-kept = last-from (o ++ zeroed n bytes ∷ []) q (blocks_from o q) grown
+  pub grown-kept : IsLast (o ++ zero_segment n bytes ∷ []) q
+  grown-kept = last-from (o ++ zero_segment n bytes ∷ []) q (blocks_from o q) grown
 
-  pub grown-pairs : map pair_of (o ++ zeroed n bytes ∷ []) ≡ map pair_of o ++ (n, bytes) ∷ []
-  grown-pairs = map_push pair_of o (zeroed n bytes) ∙ ap (λ k. map pair_of o ++ (n, k) ∷ []) (length-replicate {A = ℕ} bytes 0)
+  pub grown-pairs : map pair_of (o ++ zero_segment n bytes ∷ []) ≡ map pair_of o ++ (n, bytes) ∷ []
+  grown-pairs = map_push pair_of o (zero_segment n bytes) ∙ ap (λ k. map pair_of o ++ (n, k) ∷ []) (length-replicate {A = ℕ} bytes 0)
 
-  pub grown-layout : layout_by (o ++ zeroed n bytes ∷ []) q ≡ with_segment (layout_by o q) (n, bytes)
+  pub grown-layout : layout_by (o ++ zero_segment n bytes ∷ []) q ≡ with_segment (layout_by o q) (n, bytes)
   grown-layout =
-      layout-is (o ++ zeroed n bytes ∷ []) q (blocks_from o q) grown
+      layout-is (o ++ zero_segment n bytes ∷ []) q (blocks_from o q) grown
       ∙ (ap (λ ss. row ss (blocks_from o q)) grown-pairs ∙ ap (λ (r : Layout ℕ). with_segment r (n, bytes)) (sym (layout-from o q)))
 
-  pub grown-newest : option_map (λ (s : ℕ × ℕ). s.0) (newest (layout_by (o ++ zeroed n bytes ∷ []) q)) ≡ Some n
+  pub grown-newest : option_map (λ (s : ℕ × ℕ). s.0) (newest (layout_by (o ++ zero_segment n bytes ∷ []) q)) ≡ Some n
   grown-newest = ap (λ (r : Layout ℕ). option_map (λ (s : ℕ × ℕ). s.0) (newest r)) grown-layout ∙ ap (option_map (λ (s : ℕ × ℕ). s.0)) (last_of-push (layout_by o q).segments (n, bytes))
 
-  pub grown-place : (size : ℕ) → All (λ s. s.number ≢ n) o → 32 + span size ≤ bytes → IsPlace (layout_by (o ++ zeroed n bytes ∷ []) q) size (n, 32)
+  pub grown-place : (size : ℕ) → All (λ s. s.number ≢ n) o → 32 + span size ≤ bytes → IsPlace (layout_by (o ++ zero_segment n bytes ∷ []) q) size (n, 32)
   grown-place size fresh room =
       let other : All (λ (s : ℕ × ℕ). s.0 ≢ n) (layout_by o q).segments =
       subst (All (λ (s : ℕ × ℕ). s.0 ≢ n)) (sym (ap (λ (r : Layout ℕ). r.segments) (layout-from o q))) (All-map (λ (s : ℕ × ℕ). s.0 ≢ n) pair_of o fresh) in

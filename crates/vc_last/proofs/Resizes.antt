@@ -10,9 +10,9 @@ use Rattle.vc_model.specs.Gap.{Run}
 use Rattle.vc_model.specs.Last.{can_end, last_alloc, last_resize, latest, resize_latest}
 use Rattle.vc_model.specs.Layout.{Block, Layout, is_at, without_block}
 use Rattle.vc_model.specs.Outcome.{Done, Outcome, Put, Refused}
-use Rattle.vc_model.specs.Resize.{is_usable, moved, sized}
+use Rattle.vc_model.specs.Resize.{is_usable, outcome_of_move, sized_block}
 use Rattle.vc_model.specs.Sound.{IsUsable}
-use Rattle.vc_model.specs.Touch.{HasBlock, change_block, find_block, rewritten, with_bytes_at}
+use Rattle.vc_model.specs.Touch.{HasBlock, change_block, find_block, rewritten_block, with_bytes_at}
 use Rattle.vc_seg.specs.Answer.{IsPut}
 use Rattle.vc_last.proofs.Allocs.{IsNew, new-elsewhere}
 use Rattle.vc_last.proofs.Latest.{AreElsewhere, IsLatestAt, at-own, at-place, call-latest, change-last, find-before, find-last, without-last, without-latest}
@@ -48,14 +48,14 @@ module _ (f : Block ℕ → Block ℕ) (same : (at : ℕ × ℕ) (b : Block ℕ)
       (λ (e : is_at at b ≡ false). rw e (rw e (changed-label label at bs)))
       (cases_Bool (is_at at b))
 
-pub others-written : (off : ℕ) (src : List ℕ) (at : ℕ × ℕ) (bs : List (Block ℕ)) → without_block at (change_block (rewritten off src) at bs) ≡ without_block at bs
-others-written off src at bs = changed-others (rewritten off src) (λ p b. refl) at bs
+pub others-written : (off : ℕ) (src : List ℕ) (at : ℕ × ℕ) (bs : List (Block ℕ)) → without_block at (change_block (rewritten_block off src) at bs) ≡ without_block at bs
+others-written off src at bs = changed-others (rewritten_block off src) (λ p b. refl) at bs
 
-pub others-sized : (size : ℕ) (at : ℕ × ℕ) (bs : List (Block ℕ)) → without_block at (change_block (sized size) at bs) ≡ without_block at bs
-others-sized size at bs = changed-others (sized size) (λ p b. refl) at bs
+pub others-sized : (size : ℕ) (at : ℕ × ℕ) (bs : List (Block ℕ)) → without_block at (change_block (sized_block size) at bs) ≡ without_block at bs
+others-sized size at bs = changed-others (sized_block size) (λ p b. refl) at bs
 
-pub there-sized : (size : ℕ) (at : ℕ × ℕ) (bs : List (Block ℕ)) → option_map (λ b. b.label) (find_block at (change_block (sized size) at bs)) ≡ option_map (λ b. b.label) (find_block at bs)
-there-sized size at bs = changed-label (sized size) (λ p b. refl) (λ b. refl) at bs
+pub there-sized : (size : ℕ) (at : ℕ × ℕ) (bs : List (Block ℕ)) → option_map (λ b. b.label) (find_block at (change_block (sized_block size) at bs)) ≡ option_map (λ b. b.label) (find_block at bs)
+there-sized size at bs = changed-label (sized_block size) (λ p b. refl) (λ b. refl) at bs
 
 module _ (r : Layout ℕ) (at : ℕ × ℕ) (l : IsLatestAt r at) where
   pub found-latest : find_block at r.blocks ≡ Some l.block
@@ -80,13 +80,13 @@ module _ (r mid new : Layout ℕ) (a to tag size : ℕ) (l : IsLatestAt r (place
   z = zeros tag size (place_of to)
 
   abbrev f : Block ℕ → Block ℕ
-  f = rewritten 0 (take size l.block.bytes)
+  f = rewritten_block 0 (take size l.block.bytes)
 
   module _ (own : IfSome (find_block (place_of a) mid.blocks) (λ b. new ≡ without_block_at (with_bytes_at mid (place_of to) 0 (take size b.bytes)) (place_of a))) where
     pub moved-is : new ≡ without_block_at (with_bytes_at mid (place_of to) 0 (take size l.block.bytes)) (place_of a)
     moved-is = subst (λ (o : Option (Block ℕ)). IfSome o (λ b. new ≡ without_block_at (with_bytes_at mid (place_of to) 0 (take size b.bytes)) (place_of a))) found-before own
 
-    moved-blocks : new.blocks ≡ l.front ++ rewritten 0 (take size l.block.bytes) (zeros tag size (place_of to)) ∷ []
+    moved-blocks : new.blocks ≡ l.front ++ rewritten_block 0 (take size l.block.bytes) (zeros tag size (place_of to)) ∷ []
     moved-blocks =
         let written : change_block f (place_of to) mid.blocks ≡ r.blocks ++ f z ∷ [] = ap (change_block f (place_of to)) n.blocks ∙ change-last (place_of to) z (at-own (place_of to) z refl) f r.blocks (new-elsewhere r tag size to mid n fresh) in
         ap (λ (q : Layout ℕ). q.blocks) moved-is
@@ -108,7 +108,7 @@ module _ (r mid new : Layout ℕ) (a to tag size : ℕ) (l : IsLatestAt r (place
         ∙ (ap (option_map (λ (b : Block ℕ). b.label)) (find-last (place_of to) (f z) (at-own (place_of to) z refl) l.front front-elsewhere)
         ∙ sym label)
 
-moved-put : (size to : ℕ) (b : Block ℕ) (x : Outcome (Put (Layout ℕ))) (mid new : Layout ℕ) → IsPut x to mid → new ≡ without_block_at (with_bytes_at mid (place_of to) 0 (take size b.bytes)) (b.seg, b.off) → IsPut (moved size b x) to new
+moved-put : (size to : ℕ) (b : Block ℕ) (x : Outcome (Put (Layout ℕ))) (mid new : Layout ℕ) → IsPut x to mid → new ≡ without_block_at (with_bytes_at mid (place_of to) 0 (take size b.bytes)) (b.seg, b.off) → IsPut (outcome_of_move size b x) to new
 moved-put size to b (Done p) mid new h e =
     (h.0, h.1, e ∙ (ap (λ (at : ℕ × ℕ). without_block_at (with_bytes_at mid at 0 (take size b.bytes)) (b.seg, b.off)) (sym h.1) ∙ ap (λ (q : Layout ℕ). without_block_at (with_bytes_at q p.at 0 (take size b.bytes)) (b.seg, b.off)) h.2))
 moved-put size to b (Refused why) mid new h e = absurd h
@@ -120,5 +120,5 @@ resize-moves terms r mid new a to tag size l can label placed is =
     let same : tag ≡ l.block.label = sym (same_Some l.block.label tag own) in
     let put : IsPut (last_alloc terms r l.block.label size false) to mid = subst (λ (k : ℕ). IsPut (last_alloc terms r k size false) to mid) same placed in
     let to_new = moved-put size to l.block (last_alloc terms r l.block.label size false) mid new put (is ∙ ap (without_block_at (with_bytes_at mid (place_of to) 0 (take size l.block.bytes))) (sym (at-place (place_of a) l.block l.here))) in
-    let call : resize_latest terms r size true false l.block ≡ moved size l.block (last_alloc terms r l.block.label size false) = rw can refl in
+    let call : resize_latest terms r size true false l.block ≡ outcome_of_move size l.block (last_alloc terms r l.block.label size false) = rw can refl in
     subst (λ (o : Outcome (Put (Layout ℕ))). IsPut o to new) (sym (call-latest r (place_of a) (resize_latest terms r size true false) l ∙ call)) to_new

@@ -8,7 +8,7 @@ use Rattle.vc_model.specs.Addr.{place_of}
 use Rattle.vc_model.specs.Best.{without_block_at}
 use Rattle.vc_model.specs.Layout.{Block, Layout, address_of, footprint, is_at, without_block}
 use Rattle.vc_model.specs.Sound.{IsApart, IsSound, IsUsable}
-use Rattle.vc_model.specs.Touch.{change_block, rewritten, with_bytes_at}
+use Rattle.vc_model.specs.Touch.{change_block, rewritten_block, with_bytes_at}
 use Rattle.vc_layouts.proofs.Lists.{AllPairs-head, AllPairs-tail}
 use Rattle.vc_layouts.proofs.Blocks.{apart_by_seg}
 use Rattle.vc_last.specs.Row.{EndsFirst, IsRow}
@@ -76,9 +76,9 @@ AllPairs-change R f left right at (b ∷ bs) h =
 pub IsRow-written : (r : Layout ℕ) (at : ℕ × ℕ) (off : ℕ) (src : List ℕ) → IsRow r → IsRow (with_bytes_at r at off src)
 IsRow-written r at off src h =
     record {
-      ordered = AllPairs-change EndsFirst (rewritten off src) (λ a b e. e) (λ a b e. e) at r.blocks h.ordered;
-      usable = All-change (Fits r.segments) (rewritten off src) (λ b e. e) at r.blocks h.usable;
-      exact = All-change IsExact (rewritten off src) (λ b e. e) at r.blocks h.exact;
+      ordered = AllPairs-change EndsFirst (rewritten_block off src) (λ a b e. e) (λ a b e. e) at r.blocks h.ordered;
+      usable = All-change (Fits r.segments) (rewritten_block off src) (λ b e. e) at r.blocks h.usable;
+      exact = All-change IsExact (rewritten_block off src) (λ b e. e) at r.blocks h.exact;
       numbered = h.numbered;
     }
 

@@ -9,14 +9,14 @@ use Rattle.vc_model.specs.Segments.{Granted, ask}
 use Rattle.vc_model.specs.Touch.{HasBlock, find_block}
 use Rattle.vc_base.specs.declared.addr.Addr.{Addr}
 use Rattle.vc_seg.specs.Answer.{Answers, Asks}
-use Rattle.vc_seg.specs.Segment.{Bytes, pair_of, zeroed}
+use Rattle.vc_seg.specs.Segment.{Bytes, pair_of, zero_segment}
 use Rattle.vc_seg.specs.declared.fault.RegionFault.{RegionFault}
 use Rattle.vc_seg.specs.declared.fault.RegionFault.TheVariants as code
 
 -- a segment of so many bytes was lent under the least number that these don't have, and stands behind them
 pub record IsLent (number bytes : ℕ) (old new : List Bytes) : Type 0 where
   pub granted : ask bytes (map pair_of old) false ≡ Granted number bytes
-  pub pushed : new ≡ old ++ zeroed number bytes ∷ []
+  pub pushed : new ≡ old ++ zero_segment number bytes ∷ []
   pub fresh : All (λ s. s.number ≢ number) old
 
 -- a block of that tag and size is allocated; want of memory comes only where a segment is asked for

@@ -3,7 +3,7 @@
 use Rattle.std.specs.Prelude.{◌≡◌, ◌≢◌, ℕ, ◌+◌, ◌-◌, ◌≤◌, List, length, map, take, drop, Bool}
 use Rattle.vc_model.specs.Addr.{place_of}
 use Rattle.vc_model.specs.Layout.{Block, address_of, footprint}
-use Rattle.vc_model.specs.Resize.{is_usable, sized}
+use Rattle.vc_model.specs.Resize.{is_usable, sized_block}
 use Rattle.vc_model.specs.Segments.{span}
 use Rattle.vc_seg.specs.Segment.{Bytes, pair_of}
 use Rattle.vc_segments.specs.Memory.{bytes_of_number}
@@ -34,7 +34,7 @@ before_of segs a = field_at ((place_of a).1 - 8) (bytes_at segs a)
 
 -- whether the block at an address has room for a size where it is
 abbrev pub has_room : List Bytes → ℕ → ℕ → Bool
-has_room segs a size = is_usable (map pair_of segs) (footprint (sized size (block_of segs a)))
+has_room segs a size = is_usable (map pair_of segs) (footprint (sized_block size (block_of segs a)))
 
 -- a block that lies in these segments behind its head
 pub record HasHead (segs : List Bytes) (b : Block ℕ) : Type 0 where

@@ -2,7 +2,7 @@
 use Rattle.std.specs.Prelude.{ℕ, List}
 use Rattle.vc_model.specs.Discipline.{Discipline}
 use Rattle.vc_model.specs.Layout.{Block, Layout}
-use Rattle.vc_seg.specs.Boxed.{boxed}
+use Rattle.vc_seg.specs.Boxed.{disc_in_box}
 use Rattle.vc_last.specs.Read.{layout_by}
 use Rattle.vc_last.specs.declared.last.Last.{Last}
 
@@ -20,4 +20,4 @@ blocks_in l = (layout_of l).blocks
 
 -- what the discipline means that lends its segments
 abbrev pub disc_in : {I : Type 0} {V : I → Type 0} → ((x : I) × V x → Discipline) → Last I V → Discipline
-disc_in meaning l = boxed meaning l.disc
+disc_in meaning l = disc_in_box meaning l.disc

@@ -1,5 +1,5 @@
 ghost use Rattle.std.specs.Prelude.{◌≡◌, ℕ, ◌<◌, All, false, length, slice_index_or, vec_capacity};
-ghost use Rattle.vc_model.specs.Compact.{compact_count, compacted, is_occupied};
+ghost use Rattle.vc_model.specs.Compact.{compact_count, compacted_layout, is_occupied};
 ghost use Rattle.vc_model.specs.Discipline.{HasOut, TookBack};
 ghost use Rattle.vc_last.specs.Chain.{IsLast, blocks_from};
 ghost use Rattle.vc_last.specs.Read.{layout_by};
@@ -31,7 +31,7 @@ pub(crate) fn compact_in(segs: &mut Vec<Segment>, latest: Addr, disc: &mut Box<d
     ensures kept { IsLast segs.new.items latest.0 }
     ensures room { vec_capacity segs.new ≡ vec_capacity segs.old }
     ensures layout { layout_by segs.new.items latest.0
-        ≡ compacted (layout_by segs.old.items latest.0) }
+        ≡ compacted_layout (layout_by segs.old.items latest.0) }
     ensures count { result ≡ compact_count (layout_by segs.old.items latest.0) }
     ensures disc { TookBack (state disc.old) (state disc.new)
         (layout_by segs.old.items latest.0).segments

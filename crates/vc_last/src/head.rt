@@ -1,7 +1,7 @@
 ghost use Rattle.std.specs.Prelude.{◌≡◌, ℕ, ◌+◌, ◌-◌, ◌<◌, ◌≤◌, length, replicate, take, drop};
 ghost use Rattle.vc_model.specs.Addr.{place_of};
 ghost use Rattle.vc_model.specs.Best.{zeros};
-ghost use Rattle.vc_model.specs.Resize.{fitted, sized};
+ghost use Rattle.vc_model.specs.Resize.{fitted_bytes, sized_block};
 ghost use Rattle.vc_seg.specs.Segment.{AreSegments};
 ghost use Rattle.vc_segments.specs.Memory.{bytes_of_number};
 ghost use Rattle.vc_extent.specs.Field.{field_at};
@@ -89,7 +89,7 @@ fn zero_behind(seg: &mut Segment, off: u32, old: u32, size: u32)
     requires before { off + old ≤ length seg.old.bytes }
     requires within { off + size ≤ length seg.old.bytes }
     ensures bytes { take size (drop off seg.new.bytes)
-        ≡ fitted size (take old (drop off seg.old.bytes)) }
+        ≡ fitted_bytes size (take old (drop off seg.old.bytes)) }
     ensures rest { StaysOutside off (off + size) seg.old seg.new }
 {
     if size > old {
@@ -106,7 +106,7 @@ fn size_in(seg: &mut Segment, off: u32, old: u32, size: u32)
     ensures size { field_at (off - 16) seg.new.bytes ≡ size }
     ensures head { HeadStays off seg.old.bytes seg.new.bytes }
     ensures bytes { take size (drop off seg.new.bytes)
-        ≡ fitted size (take old (drop off seg.old.bytes)) }
+        ≡ fitted_bytes size (take old (drop off seg.old.bytes)) }
     ensures rest { StaysOutside (off - 16) (off + size) seg.old seg.new }
 {
     set_field(seg, off - 16, size);
@@ -131,7 +131,7 @@ pub(crate) fn set_size(segs: &mut [Segment], a: Addr, size: u32)
     requires head { HasHead segs.old (block_of segs.old a.0) }
     requires within { (block_of segs.old a.0).off + size
         ≤ length (bytes_of_number (place_of a.0).0 segs.old) }
-    ensures laid { LiesThere segs.new (before_of segs.old a.0) (sized size (block_of segs.old a.0)) }
+    ensures laid { LiesThere segs.new (before_of segs.old a.0) (sized_block size (block_of segs.old a.0)) }
     ensures rest { StaysBut (place_of a.0).0 ((place_of a.0).1 - 16) ((place_of a.0).1 + size)
         segs.old segs.new }
 {

@@ -2,7 +2,7 @@ ghost use Rattle.std.specs.Prelude.{◌≡◌, ℕ, ◌+◌, ◌<◌, ◌≤◌,
 ghost use Rattle.std.specs.List.{HoldsAt, remove};
 ghost use Rattle.vc_model.specs.Addr.{place_of};
 ghost use Rattle.vc_model.specs.Best.{zeros};
-ghost use Rattle.vc_model.specs.Compact.{cleared, compact_count, compacted};
+ghost use Rattle.vc_model.specs.Compact.{cleared_layout, compact_count, compacted_layout};
 ghost use Rattle.vc_model.specs.Discipline.{HasOut, TookBack};
 ghost use Rattle.vc_model.specs.Last.{can_end, last_alloc, last_free, last_need, last_place, last_resize, latest};
 ghost use Rattle.vc_model.specs.Layout.{address_of, empty_layout, without_block};
@@ -164,7 +164,7 @@ impl Last {
 
     /// Frees all its blocks, and keeps its segments.
     pub fn clear(&mut self)
-        ensures layout { layout_of self.new ≡ cleared (layout_of self.old) }
+        ensures layout { layout_of self.new ≡ cleared_layout (layout_of self.old) }
         ensures disc { state self.new.disc ≡ state self.old.disc }
     {
         self.latest = Addr::NONE;
@@ -174,7 +174,7 @@ impl Last {
     /// segment is then the one of the rest that was lent latest.
     pub fn compact(&mut self) -> u32
         requires { HasOut (state self.old.disc) (segments_in self.old) }
-        ensures layout { layout_of self.new ≡ compacted (layout_of self.old) }
+        ensures layout { layout_of self.new ≡ compacted_layout (layout_of self.old) }
         ensures count { result ≡ compact_count (layout_of self.old) }
         ensures disc { TookBack (state self.old.disc) (state self.new.disc)
             (segments_in self.old) (segments_in self.new) }

@@ -3,7 +3,7 @@ ghost use Rattle.vc_model.specs.Addr.{place_of};
 ghost use Rattle.vc_model.specs.Best.{without_block_at};
 ghost use Rattle.vc_model.specs.Last.{can_end, latest};
 ghost use Rattle.vc_model.specs.Layout.{footprint, without_block};
-ghost use Rattle.vc_model.specs.Resize.{is_usable, resize_there, sized};
+ghost use Rattle.vc_model.specs.Resize.{is_usable, resize_there, sized_block};
 ghost use Rattle.vc_model.specs.Touch.{HasBlock, with_bytes_at};
 ghost use Rattle.vc_seg.specs.Segment.{pair_of};
 ghost use Rattle.vc_last.specs.Call.{IsResize};

@@ -6,22 +6,22 @@ use Rattle.std.proofs.lemmas.List.Elements.{All-head, All-tail}
 use Rattle.std.proofs.lemmas.List.Sums.{fold-append, sum_by-append, sum_by-cons}
 use Rattle.std.specs.Prelude.{max}
 use Rattle.vc_layouts.specs.InOrder.{in_order}
-use Rattle.vc_layouts.specs.Tally.{HasRoom, tallied, tallied_all, tally_of}
+use Rattle.vc_layouts.specs.Tally.{HasRoom, tally_with, tallied_all, tally_of}
 use Rattle.vc_layouts.specs.declared.tally.Tally.{Tally}
 use Rattle.vc_model.specs.Layout.{Block, lies_before, with_block}
 use Rattle.vc_model.specs.Numbers.{greatest}
 
 pub tallied_all-append : (t : Tally) (xs ys : List ℕ) → tallied_all t (xs ++ ys) ≡ tallied_all (tallied_all t xs) ys
-tallied_all-append t xs ys = fold-append tallied t xs ys
+tallied_all-append t xs ys = fold-append tally_with t xs ys
 
 -- what sizes add
 pub tallied_all-count : (t : Tally) (ns : List ℕ) → (tallied_all t ns).count ≡ t.count + length ns
 tallied_all-count t [] = omega arith
-tallied_all-count t (n ∷ ns) = let rest = tallied_all-count (tallied t n) ns in omega (arith, rest)
+tallied_all-count t (n ∷ ns) = let rest = tallied_all-count (tally_with t n) ns in omega (arith, rest)
 
 pub tallied_all-bytes : (t : Tally) (ns : List ℕ) → (tallied_all t ns).bytes ≡ t.bytes + sum ns
 tallied_all-bytes t [] = omega arith
-tallied_all-bytes t (n ∷ ns) = let rest = tallied_all-bytes (tallied t n) ns in let more = sum_by-cons (λ (m : ℕ). m) n ns in omega (arith, rest, more)
+tallied_all-bytes t (n ∷ ns) = let rest = tallied_all-bytes (tally_with t n) ns in let more = sum_by-cons (λ (m : ℕ). m) n ns in omega (arith, rest, more)
 
 pub HasRoom-rest : (t : Tally) (xs ys : List ℕ) → HasRoom t (xs ++ ys) → HasRoom (tallied_all t xs) ys
 HasRoom-rest t xs ys h =
@@ -34,7 +34,7 @@ HasRoom-rest t xs ys h =
 
 tallied_all-most : (t : Tally) (ns : List ℕ) → (tallied_all t ns).most ≡ fold max t.most ns
 tallied_all-most t [] = refl
-tallied_all-most t (n ∷ ns) = tallied_all-most (tallied t n) ns
+tallied_all-most t (n ∷ ns) = tallied_all-most (tally_with t n) ns
 
 pub tally_of-count : (ns : List ℕ) → (tally_of ns).count ≡ length ns
 tally_of-count ns = let all = tallied_all-count (tally_of []) ns in omega (arith, all)
@@ -54,21 +54,21 @@ sizes-most most (n ∷ ns) h =
     omega (arith, here, rest, more)
 
 -- sizes make one tally in whichever order they come
-tallied-twice : (t : Tally) (m n : ℕ) → tallied (tallied t m) n ≡ tallied (tallied t n) m
+tallied-twice : (t : Tally) (m n : ℕ) → tally_with (tally_with t m) n ≡ tally_with (tally_with t n) m
 tallied-twice t m n =
     let bytes : t.bytes + m + n ≡ t.bytes + n + m = omega arith in
     let most : max (max t.most m) n ≡ max (max t.most n) m = omega arith in
     λ j. record { count = t.count + 1 + 1; bytes = bytes j; most = most j }
 
-tallied-with : (t : Tally) (b : Block ℕ) (bs : List (Block ℕ)) → tallied_all t (map (λ c. c.size) (with_block b bs)) ≡ tallied_all (tallied t b.size) (map (λ c. c.size) bs)
+tallied-with : (t : Tally) (b : Block ℕ) (bs : List (Block ℕ)) → tallied_all t (map (λ c. c.size) (with_block b bs)) ≡ tallied_all (tally_with t b.size) (map (λ c. c.size) bs)
 tallied-with t b [] = refl
 tallied-with t b (c ∷ cs) =
     ⊎_elim
     (λ (e : lies_before b c ≡ true). rw e refl)
     (λ (e : lies_before b c ≡ false).
-    rw e (tallied-with (tallied t c.size) b cs ∙ ap (λ u. tallied_all u (map (λ (d : Block ℕ). d.size) cs)) (tallied-twice t c.size b.size)))
+    rw e (tallied-with (tally_with t c.size) b cs ∙ ap (λ u. tallied_all u (map (λ (d : Block ℕ). d.size) cs)) (tallied-twice t c.size b.size)))
     (cases_Bool (lies_before b c))
 
 pub tallied-order : (t : Tally) (bs : List (Block ℕ)) → tallied_all t (map (λ c. c.size) (in_order bs)) ≡ tallied_all t (map (λ c. c.size) bs)
 tallied-order t [] = refl
-tallied-order t (b ∷ bs) = tallied-with t b (in_order bs) ∙ tallied-order (tallied t b.size) bs
+tallied-order t (b ∷ bs) = tallied-with t b (in_order bs) ∙ tallied-order (tally_with t b.size) bs

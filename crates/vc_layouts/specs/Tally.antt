@@ -3,12 +3,12 @@ use Rattle.std.specs.Prelude.{List, fold, length, max, sum, ℕ, ◌+◌, ◌<�
 use Rattle.vc_layouts.specs.declared.tally.Tally.{Tally}
 
 -- one more size
-abbrev pub tallied : Tally → ℕ → Tally
-tallied t size = record { count = t.count + 1; bytes = t.bytes + size; most = max t.most size }
+abbrev pub tally_with : Tally → ℕ → Tally
+tally_with t size = record { count = t.count + 1; bytes = t.bytes + size; most = max t.most size }
 
 -- more sizes
 abbrev pub tallied_all : Tally → List ℕ → Tally
-tallied_all t sizes = fold tallied t sizes
+tallied_all t sizes = fold tally_with t sizes
 
 -- the tally of these sizes
 abbrev pub tally_of : List ℕ → Tally

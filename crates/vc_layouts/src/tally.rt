@@ -1,5 +1,5 @@
 ghost use Rattle.std.specs.Prelude.{◌≡◌, [], ◌∷◌};
-ghost use Rattle.vc_layouts.specs.Tally.{HasRoom, tallied, tally_of};
+ghost use Rattle.vc_layouts.specs.Tally.{HasRoom, tally_with, tally_of};
 
 /// How many sizes there are, their sum and the greatest, in bytes.
 #[derive(Clone, Copy)]
@@ -27,7 +27,7 @@ impl Tally {
     /// With one more size.
     pub fn with(self, size: u32) -> Tally
         requires { HasRoom self (size ∷ []) }
-        ensures { result ≡ tallied self size }
+        ensures { result ≡ tally_with self size }
     {
         let size = size as u64;
         Tally {

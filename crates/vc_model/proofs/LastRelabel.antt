@@ -6,7 +6,7 @@ use Rattle.vc_model.specs.Discipline.{Terms}
 use Rattle.vc_model.specs.Last.{can_end, if_latest, last_alloc, last_free, last_need, last_place, last_resize, latest, newest, next_offset, place_behind, put_in_newest, put_latest, put_or_lend, resize_latest}
 use Rattle.vc_model.specs.Layout.{Block, Layout, is_at, relabel_block, relabel_layout, with_segment}
 use Rattle.vc_model.specs.Outcome.{Outcome, Done, Refused, Fixed, NotLast}
-use Rattle.vc_model.specs.Resize.{moved, stays}
+use Rattle.vc_model.specs.Resize.{outcome_of_move, stays}
 use Rattle.vc_model.specs.Segments.{Asked, Granted, TooMany, NotLent, ask, span}
 use Rattle.vc_model.proofs.Relabel.{moved-relabel, relabel_outcome, stays-relabel, without_block-relabel}
 
@@ -66,12 +66,12 @@ module _ {L M : Type 0} (f : L → M) where
       resize_latest terms (relabel_layout f r) size may_move refused (relabel_block f b) ≡ relabel_outcome f (resize_latest terms r size may_move refused b)
   resize_latest-relabel terms r size may_move refused b =
       let there = stays (relabel_layout f r) size (relabel_block f b) in
-      let off = moved size (relabel_block f b) (last_alloc terms (relabel_layout f r) (f b.label) size refused) in
-      let to = ap (moved size (relabel_block f b)) (last_alloc-relabel terms r b.label size refused) ∙ moved-relabel f size b (last_alloc terms r b.label size refused) in
-      elim (can_end r size b) as (λ v. cond v there (cond may_move off (Refused Fixed)) ≡ relabel_outcome f (cond v (stays r size b) (cond may_move (moved size b (last_alloc terms r b.label size refused)) (Refused Fixed)))) [
+      let off = outcome_of_move size (relabel_block f b) (last_alloc terms (relabel_layout f r) (f b.label) size refused) in
+      let to = ap (outcome_of_move size (relabel_block f b)) (last_alloc-relabel terms r b.label size refused) ∙ moved-relabel f size b (last_alloc terms r b.label size refused) in
+      elim (can_end r size b) as (λ v. cond v there (cond may_move off (Refused Fixed)) ≡ relabel_outcome f (cond v (stays r size b) (cond may_move (outcome_of_move size b (last_alloc terms r b.label size refused)) (Refused Fixed)))) [
         | true ↦ stays-relabel f r size b
         | false ↦
-            elim may_move as (λ w. cond w off (Refused Fixed) ≡ relabel_outcome f (cond w (moved size b (last_alloc terms r b.label size refused)) (Refused Fixed)))
+            elim may_move as (λ w. cond w off (Refused Fixed) ≡ relabel_outcome f (cond w (outcome_of_move size b (last_alloc terms r b.label size refused)) (Refused Fixed)))
             [ true ↦ to | false ↦ refl ]
       ]
 

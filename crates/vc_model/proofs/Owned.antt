@@ -8,9 +8,9 @@ use Rattle.std.proofs.lemmas.List.Elements.{All-head, All-tail, All-nil, All-con
 use Rattle.vc_model.specs.Addr.{address, place_of}
 use Rattle.vc_model.specs.Best.{zeros}
 use Rattle.vc_model.specs.Layout.{Block, address_of, is_at, lies_before, with_block, without_block}
-use Rattle.vc_model.specs.Resize.{sized}
+use Rattle.vc_model.specs.Resize.{sized_block}
 use Rattle.vc_model.specs.Sound.{HaveOwnPlaces}
-use Rattle.vc_model.specs.Touch.{HasBlock, change_block, find_block, rewritten}
+use Rattle.vc_model.specs.Touch.{HasBlock, change_block, find_block, rewritten_block}
 use Rattle.vc_model.proofs.Pairs.{AllPairs-head, AllPairs-tail}
 use Rattle.vc_model.proofs.Places.{Among, among-all, found-there}
 use Rattle.vc_model.proofs.Pairs.{all-recursion}
@@ -157,13 +157,13 @@ module _ {L : Type 0} where
       (λ (t : is_at at b ≡ false). rw t (rw t (ap (λ cs. b ∷ cs) (change-others change same at bs))))
       (cases_Bool (is_at at b))
 
-  pub write-others : (off : ℕ) (src : List ℕ) (at : ℕ × ℕ) (bs : List (Block L)) → without_block at (change_block (rewritten off src) at bs) ≡ without_block at bs
-  write-others off src at bs = change-others (rewritten off src) (λ p b. refl) at bs
+  pub write-others : (off : ℕ) (src : List ℕ) (at : ℕ × ℕ) (bs : List (Block L)) → without_block at (change_block (rewritten_block off src) at bs) ≡ without_block at bs
+  write-others off src at bs = change-others (rewritten_block off src) (λ p b. refl) at bs
 
-  pub sized-others : (size : ℕ) (at : ℕ × ℕ) (bs : List (Block L)) → without_block at (change_block (sized size) at bs) ≡ without_block at bs
-  sized-others size at bs = change-others (sized size) (λ p b. refl) at bs
+  pub sized-others : (size : ℕ) (at : ℕ × ℕ) (bs : List (Block L)) → without_block at (change_block (sized_block size) at bs) ≡ without_block at bs
+  sized-others size at bs = change-others (sized_block size) (λ p b. refl) at bs
 
-  pub sized-there : (size : ℕ) (at : ℕ × ℕ) (bs : List (Block L)) → option_map (λ b. b.label) (find_block at (change_block (sized size) at bs)) ≡ option_map (λ b. b.label) (find_block at bs)
+  pub sized-there : (size : ℕ) (at : ℕ × ℕ) (bs : List (Block L)) → option_map (λ b. b.label) (find_block at (change_block (sized_block size) at bs)) ≡ option_map (λ b. b.label) (find_block at bs)
   sized-there size at [] = refl
   sized-there size at (b ∷ bs) =
       ⊎_elim

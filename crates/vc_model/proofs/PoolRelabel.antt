@@ -2,14 +2,14 @@
 use Rattle.std.proofs.Common.{◌≡◌, ℕ, Bool, true, false, cond, List, [], ◌∷◌, Option, Some, None, filter, map, refl, sym, ap, ◌∙◌}
 use Rattle.std.specs.Prelude.{nat_lt}
 use Rattle.vc_model.specs.Best.{zeros}
-use Rattle.vc_model.specs.Compact.{compacted, is_occupied}
+use Rattle.vc_model.specs.Compact.{compacted_layout, is_occupied}
 use Rattle.vc_model.specs.Discipline.{Terms}
 use Rattle.vc_model.specs.Layout.{Block, Layout, relabel_block, relabel_layout, with_segment}
 use Rattle.vc_model.specs.Outcome.{Outcome, Done, Refused, Put, PoolSize, outcome_as}
 use Rattle.vc_model.specs.Pool.{Pool, cell_for, element_with, pool_alloc, pool_clear, pool_compact, pool_free, pool_need, pool_resize, put_asked, put_carving, put_cell, put_free, put_uncarved, relabel_pool, uncarved}
-use Rattle.vc_model.specs.Resize.{resize_there, sized}
+use Rattle.vc_model.specs.Resize.{resize_there, sized_block}
 use Rattle.vc_model.specs.Segments.{Asked, Granted, TooMany, NotLent, ask}
-use Rattle.vc_model.specs.Touch.{rewritten, with_bytes_at}
+use Rattle.vc_model.specs.Touch.{rewritten_block, with_bytes_at}
 use Rattle.vc_model.proofs.Relabel.{change_block-relabel, compacted-relabel, occupied-relabel, with_block-relabel, without_block-relabel}
 
 module _ {L M : Type 0} (f : L → M) where
@@ -54,7 +54,7 @@ module _ {L M : Type 0} (f : L → M) where
   pool_resize-relabel p at size =
       let done : List (Block M) → Outcome (Put (Pool M)) = λ bs. Done (record { at = at; region = pool p.layout.segments p.element p.freed p.carved bs; granted = None }) in
       let before : Outcome (Put (Pool L)) = Done (record { at = at; region = record p { layout = resize_there p.layout at size }; granted = None }) in
-      ap (λ bs. cond (nat_lt (element_with p size) size) (Refused PoolSize) (done bs)) (sym (change_block-relabel f (sized size) (sized size) (λ c. refl) at p.layout.blocks))
+      ap (λ bs. cond (nat_lt (element_with p size) size) (Refused PoolSize) (done bs)) (sym (change_block-relabel f (sized_block size) (sized_block size) (λ c. refl) at p.layout.blocks))
       ∙ (elim (nat_lt (element_with p size) size) as (λ v. cond v (Refused PoolSize) (relabel_pools before) ≡ relabel_pools (cond v (Refused PoolSize) before))
       [ true ↦ refl | false ↦ refl ])
 
@@ -68,7 +68,7 @@ module _ {L M : Type 0} (f : L → M) where
   pool_compact-relabel p =
       let other : Layout M → List (ℕ × ℕ) → List (ℕ × ℕ) → Pool M = λ r freed carved. record { layout = r; element = p.element; freed = freed; carved = carved } in
       let before : List (ℕ × ℕ) → List (ℕ × ℕ) = filter (λ c. is_occupied (map (relabel_block f) p.layout.blocks) c.0) in
-      let after = relabel_layout f (compacted p.layout) in
+      let after = relabel_layout f (compacted_layout p.layout) in
       let freed = occupied-relabel f p.layout.blocks p.freed in
       let carved = occupied-relabel f p.layout.blocks p.carved in
       ap (λ r. other r (before p.freed) (before p.carved)) (compacted-relabel f p.layout)
@@ -79,7 +79,7 @@ module _ {L M : Type 0} (f : L → M) where
   pub with_bytes_at-relabel : (r : Layout L) (at : ℕ × ℕ) (off : ℕ) (src : List ℕ) → with_bytes_at (relabel_layout f r) at off src ≡ relabel_layout f (with_bytes_at r at off src)
   with_bytes_at-relabel r at off src =
       let other : List (Block M) → Layout M = λ bs. record { segments = r.segments; blocks = bs } in
-      ap other (sym (change_block-relabel f (rewritten off src) (rewritten off src) (λ c. refl) at r.blocks))
+      ap other (sym (change_block-relabel f (rewritten_block off src) (rewritten_block off src) (λ c. refl) at r.blocks))
 
   pub pool_write-relabel : (p : Pool L) (at : ℕ × ℕ) (off : ℕ) (src : List ℕ) →
       (let q : Pool M = record { layout = with_bytes_at (relabel_layout f p.layout) at off src; element = p.element; freed = p.freed; carved = p.carved } in q)

@@ -3,7 +3,7 @@ use Rattle.std.proofs.Common.{◌≡◌, ℕ, ◌-◌, Bool, true, false, ◌&&�
 use Rattle.std.specs.Prelude.{not, find, nat_lt}
 use Rattle.std.specs.List.{AllByRecursion, list_all}
 use Rattle.vc_model.specs.Best.{best_alloc, best_need, put, put_at, put_in_new, put_or_ask, place_in, zeros}
-use Rattle.vc_model.specs.Compact.{compact_count, compacted, is_occupied}
+use Rattle.vc_model.specs.Compact.{compact_count, compacted_layout, is_occupied}
 use Rattle.vc_model.specs.Discipline.{Terms}
 use Rattle.vc_model.specs.Layout.{Block, Layout, address_of, footprint, footprints, is_at, lies_before, relabel_block, relabel_layout, with_block, with_segment, without_block}
 use Rattle.vc_model.specs.Order.{put_by}
@@ -11,9 +11,9 @@ use Rattle.vc_model.specs.Outcome.{Outcome, Done, Refused, Put, Fixed, outcome_a
 use Rattle.vc_model.specs.Gap.{gaps}
 use Rattle.vc_model.specs.Numbers.{block_sizes, gaps_of}
 use Rattle.vc_model.specs.Place.{place}
-use Rattle.vc_model.specs.Resize.{best_resize, can_stay, is_usable, meets, moved, resize_block, resize_found, sized, stays}
+use Rattle.vc_model.specs.Resize.{best_resize, can_stay, is_usable, meets, outcome_of_move, resize_block, resize_found, sized_block, stays}
 use Rattle.vc_model.specs.Segments.{Asked, Granted, TooMany, NotLent, ask}
-use Rattle.vc_model.specs.Touch.{change_block, find_block, rewritten}
+use Rattle.vc_model.specs.Touch.{change_block, find_block, rewritten_block}
 use Rattle.vc_model.specs.Walk.{block_at, by_address, holds_byte}
 
 module _ {L M : Type 0} (f : L → M) where
@@ -86,36 +86,36 @@ module _ {L M : Type 0} (f : L → M) where
       ∙ put_or_ask-relabel terms r label size align refused (place_in r size align)
 
   is_clear-relabel : (size : ℕ) (b : Block L) (cs : List (Block L)) →
-      list_all (λ (c : Block M). is_at (b.seg, b.off) c || not (meets (footprint (sized size b)) (footprint c))) (map (relabel_block f) cs)
-      ≡ list_all (λ (c : Block L). is_at (b.seg, b.off) c || not (meets (footprint (sized size b)) (footprint c))) cs
+      list_all (λ (c : Block M). is_at (b.seg, b.off) c || not (meets (footprint (sized_block size b)) (footprint c))) (map (relabel_block f) cs)
+      ≡ list_all (λ (c : Block L). is_at (b.seg, b.off) c || not (meets (footprint (sized_block size b)) (footprint c))) cs
   is_clear-relabel size b [] = refl
-  is_clear-relabel size b (c ∷ cs) = ap (λ v. (is_at (b.seg, b.off) c || not (meets (footprint (sized size b)) (footprint c))) && v) (is_clear-relabel size b cs)
+  is_clear-relabel size b (c ∷ cs) = ap (λ v. (is_at (b.seg, b.off) c || not (meets (footprint (sized_block size b)) (footprint c))) && v) (is_clear-relabel size b cs)
 
   pub can_stay-relabel : (r : Layout L) (size : ℕ) (b : Block L) → can_stay (relabel_layout f r) size (relabel_block f b) ≡ can_stay r size b
-  can_stay-relabel r size b = ap (λ v. is_usable r.segments (footprint (sized size b)) && v) (is_clear-relabel size b r.blocks)
+  can_stay-relabel r size b = ap (λ v. is_usable r.segments (footprint (sized_block size b)) && v) (is_clear-relabel size b r.blocks)
 
   pub stays-relabel : (r : Layout L) (size : ℕ) (b : Block L) → stays (relabel_layout f r) size (relabel_block f b) ≡ relabel_outcome (stays r size b)
   stays-relabel r size b =
-      ap (λ bs. Done (record { at = (b.seg, b.off); region = layout r.segments bs; granted = None })) (sym (change_block-relabel (sized size) (sized size) (λ c. refl) (b.seg, b.off) r.blocks))
+      ap (λ bs. Done (record { at = (b.seg, b.off); region = layout r.segments bs; granted = None })) (sym (change_block-relabel (sized_block size) (sized_block size) (λ c. refl) (b.seg, b.off) r.blocks))
 
-  pub moved-relabel : (size : ℕ) (b : Block L) (to : Outcome (Put (Layout L))) → moved size (relabel_block f b) (relabel_outcome to) ≡ relabel_outcome (moved size b to)
+  pub moved-relabel : (size : ℕ) (b : Block L) (to : Outcome (Put (Layout L))) → outcome_of_move size (relabel_block f b) (relabel_outcome to) ≡ relabel_outcome (outcome_of_move size b to)
   moved-relabel size b (Done p) =
       let src = take size b.bytes in
       ap (λ bs. Done (record { at = p.at; region = layout p.region.segments bs; granted = p.granted }))
-      (ap (without_block (b.seg, b.off)) (sym (change_block-relabel (rewritten 0 src) (rewritten 0 src) (λ c. refl) p.at p.region.blocks))
-      ∙ sym (without_block-relabel (b.seg, b.off) (change_block (rewritten 0 src) p.at p.region.blocks)))
+      (ap (without_block (b.seg, b.off)) (sym (change_block-relabel (rewritten_block 0 src) (rewritten_block 0 src) (λ c. refl) p.at p.region.blocks))
+      ∙ sym (without_block-relabel (b.seg, b.off) (change_block (rewritten_block 0 src) p.at p.region.blocks)))
   moved-relabel size b (Refused why) = refl
 
   resize_block-relabel : (terms : Terms) (r : Layout L) (size : ℕ) (may_move refused : Bool) (b : Block L) → resize_block terms (relabel_layout f r) size may_move refused (relabel_block f b) ≡ relabel_outcome (resize_block terms r size may_move refused b)
   resize_block-relabel terms r size may_move refused b =
       let there = stays (relabel_layout f r) size (relabel_block f b) in
-      let off = moved size (relabel_block f b) (best_alloc terms (relabel_layout f r) (f b.label) size 32 refused) in
-      let to = ap (moved size (relabel_block f b)) (best_alloc-relabel terms r b.label size 32 refused) ∙ moved-relabel size b (best_alloc terms r b.label size 32 refused) in
+      let off = outcome_of_move size (relabel_block f b) (best_alloc terms (relabel_layout f r) (f b.label) size 32 refused) in
+      let to = ap (outcome_of_move size (relabel_block f b)) (best_alloc-relabel terms r b.label size 32 refused) ∙ moved-relabel size b (best_alloc terms r b.label size 32 refused) in
       ap (λ v. cond v there (cond may_move off (Refused Fixed))) (can_stay-relabel r size b)
-      ∙ (elim (can_stay r size b) as (λ v. cond v there (cond may_move off (Refused Fixed)) ≡ relabel_outcome (cond v (stays r size b) (cond may_move (moved size b (best_alloc terms r b.label size 32 refused)) (Refused Fixed)))) [
+      ∙ (elim (can_stay r size b) as (λ v. cond v there (cond may_move off (Refused Fixed)) ≡ relabel_outcome (cond v (stays r size b) (cond may_move (outcome_of_move size b (best_alloc terms r b.label size 32 refused)) (Refused Fixed)))) [
         | true ↦ stays-relabel r size b
         | false ↦
-            elim may_move as (λ w. cond w off (Refused Fixed) ≡ relabel_outcome (cond w (moved size b (best_alloc terms r b.label size 32 refused)) (Refused Fixed)))
+            elim may_move as (λ w. cond w off (Refused Fixed) ≡ relabel_outcome (cond w (outcome_of_move size b (best_alloc terms r b.label size 32 refused)) (Refused Fixed)))
             [ true ↦ to | false ↦ refl ]
       ])
 
@@ -139,7 +139,7 @@ module _ {L M : Type 0} (f : L → M) where
       ap (λ v. cond v (s ∷ rest) rest) (is_occupied-relabel s.0 bs)
       ∙ ap (λ ts. cond (is_occupied bs s.0) (s ∷ ts) ts) (occupied-relabel bs ss)
 
-  pub compacted-relabel : (r : Layout L) → compacted (relabel_layout f r) ≡ relabel_layout f (compacted r)
+  pub compacted-relabel : (r : Layout L) → compacted_layout (relabel_layout f r) ≡ relabel_layout f (compacted_layout r)
   compacted-relabel r = ap (λ ss. layout ss (map (relabel_block f) r.blocks)) (occupied-relabel r.blocks r.segments)
 
   pub compact_count-relabel : (r : Layout L) → compact_count (relabel_layout f r) ≡ compact_count r

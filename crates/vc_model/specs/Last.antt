@@ -6,7 +6,7 @@ use Rattle.vc_model.specs.Segments.{Asked, Granted, TooMany, NotLent, ask, round
 use Rattle.vc_model.specs.Layout.{Block, Layout, footprint, is_at, with_segment}
 use Rattle.vc_model.specs.Outcome.{Outcome, Done, Refused, Put, Fixed, NotLast, TooManySegments, NoSegment}
 use Rattle.vc_model.specs.Best.{zeros, without_block_at}
-use Rattle.vc_model.specs.Resize.{is_usable, moved, sized, stays}
+use Rattle.vc_model.specs.Resize.{is_usable, outcome_of_move, sized_block, stays}
 
 -- the last item of a list
 abbrev pub last_of : {A : Type 0} → List A → Option A
@@ -61,12 +61,12 @@ last_alloc terms r label size refused = put_or_lend terms r label size refused (
 
 -- whether the latest block can have a size where it is
 abbrev pub can_end : {L : Type 0} → Layout L → ℕ → Block L → Bool
-can_end r size b = is_usable r.segments (footprint (sized size b))
+can_end r size b = is_usable r.segments (footprint (sized_block size b))
 
 abbrev pub resize_latest : {L : Type 0} → Terms → Layout L → ℕ → Bool → Bool → Block L → Outcome (Put (Layout L))
 resize_latest terms r size may_move refused b =
     if can_end r size b then stays r size b
-    else (if may_move then moved size b (last_alloc terms r b.label size refused) else Refused Fixed)
+    else (if may_move then outcome_of_move size b (last_alloc terms r b.label size refused) else Refused Fixed)
 
 -- a call on the block at a place, which is refused unless that is the latest
 abbrev pub if_latest : {A L : Type 0} → ℕ × ℕ → (Block L → Outcome A) → Option (Block L) → Outcome A

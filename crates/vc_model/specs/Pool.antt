@@ -10,7 +10,7 @@ use Rattle.vc_model.specs.Sound.{HaveOwnNumbers, HaveOwnPlaces, IsApart}
 use Rattle.vc_model.specs.Outcome.{Outcome, Done, Refused, Put, TooManySegments, NoSegment, PoolSize}
 use Rattle.vc_model.specs.Best.{zeros, without_block_at}
 use Rattle.vc_model.specs.Resize.{resize_there}
-use Rattle.vc_model.specs.Compact.{cleared, compacted, is_occupied}
+use Rattle.vc_model.specs.Compact.{cleared_layout, compacted_layout, is_occupied}
 use Rattle.vc_model.specs.Numbers.{block_count}
 
 -- segments and blocks, by address; the element size, once one is set; the places of the freed cells, as segment and offset, the one freed last first; how many cells of a segment were carved, by its number, where any were
@@ -111,13 +111,13 @@ pool_free p at = record p { layout = without_block_at p.layout at; freed = at �
 
 -- all blocks go, and every cell is uncarved; the element size stays
 abbrev pub pool_clear : {L : Type 0} → Pool L → Pool L
-pool_clear p = record { layout = cleared p.layout; element = p.element; freed = []; carved = [] }
+pool_clear p = record { layout = cleared_layout p.layout; element = p.element; freed = []; carved = [] }
 
 -- the segments without a block go, and so do their freed cells and their counts; the order of the others stays
 abbrev pub pool_compact : {L : Type 0} → Pool L → Pool L
 pool_compact p =
     let stays : ℕ × ℕ → Bool = λ c. is_occupied p.layout.blocks c.0 in
-    record { layout = compacted p.layout; element = p.element; freed = filter stays p.freed; carved = filter stays p.carved }
+    record { layout = compacted_layout p.layout; element = p.element; freed = filter stays p.freed; carved = filter stays p.carved }
 
 -- the bytes of a cell; 0 while there is no element size
 abbrev pub cell_of : {L : Type 0} → Pool L → ℕ

@@ -4,7 +4,7 @@ use Rattle.vc_model.specs.Discipline.{Terms}
 use Rattle.vc_model.specs.Outcome.{Outcome, Done, Put, Refused}
 use Rattle.vc_model.specs.Layout.{Block, Layout, with_block}
 use Rattle.vc_model.specs.Best.{zeros, without_block_at}
-use Rattle.vc_model.specs.Compact.{compacted}
+use Rattle.vc_model.specs.Compact.{compacted_layout}
 
 -- terms of that round
 abbrev pub rounds_to : ℕ → Terms
@@ -60,4 +60,4 @@ nine_blocks =
 
 -- these without the last
 abbrev pub eight_blocks : Layout ℕ
-eight_blocks = without_block_at (compacted nine_blocks) (3, 1024)
+eight_blocks = without_block_at (compacted_layout nine_blocks) (3, 1024)

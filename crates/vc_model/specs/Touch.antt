@@ -10,8 +10,8 @@ abbrev pub find_block : {L : Type 0} → ℕ × ℕ → List (Block L) → Optio
 find_block at blocks = find (is_at at) blocks
 
 -- a block with other bytes from an offset in it on
-abbrev pub rewritten : {L : Type 0} → ℕ → List ℕ → Block L → Block L
-rewritten off src b = record b { bytes = with_bytes off src b.bytes }
+abbrev pub rewritten_block : {L : Type 0} → ℕ → List ℕ → Block L → Block L
+rewritten_block off src b = record b { bytes = with_bytes off src b.bytes }
 
 -- the blocks with the one at a place changed
 abbrev pub change_block : {L : Type 0} → (Block L → Block L) → ℕ × ℕ → List (Block L) → List (Block L)
@@ -20,7 +20,7 @@ change_block change at (b ∷ bs) = if is_at at b then change b ∷ bs else b �
 
 -- the layout with other bytes in the block at a place
 abbrev pub with_bytes_at : {L : Type 0} → Layout L → ℕ × ℕ → ℕ → List ℕ → Layout L
-with_bytes_at r at off src = record { segments = r.segments; blocks = change_block (rewritten off src) at r.blocks }
+with_bytes_at r at off src = record { segments = r.segments; blocks = change_block (rewritten_block off src) at r.blocks }
 
 -- a block stands at this address
 abbrev pub HasBlock : {L : Type 0} → List (Block L) → ℕ → Type 0

@@ -1,7 +1,7 @@
 ghost use Rattle.std.specs.Prelude.{◌≡◌, [], ◌∷◌, Some, None, false, true, map, option_map};
 ghost use Rattle.vc_model.specs.Outcome.{Done, Fixed, NoSegment, NotLast, Refused};
 ghost use Rattle.vc_model.specs.Best.{without_block_at, zeros};
-ghost use Rattle.vc_model.specs.Compact.{compact_count, compacted};
+ghost use Rattle.vc_model.specs.Compact.{compact_count, compacted_layout};
 ghost use Rattle.vc_model.specs.Last.{last_alloc, last_free, last_need, last_resize, latest, newest};
 ghost use Rattle.vc_model.specs.Numbers.{gap_sizes};
 ghost use Rattle.vc_model.specs.Rows.{asked_place, rounds_to};
@@ -59,7 +59,7 @@ pub fn last_compacting()
     ensures before { place_put (last_alloc (rounds_to 4096) last_emptied 3 10 false)
         ≡ Some (1, 32) }
     ensures count { compact_count last_emptied ≡ 1 }
-    ensures newest { newest (compacted last_emptied) ≡ Some (2, 4096) }
-    ensures after { place_put (last_alloc (rounds_to 4096) (compacted last_emptied) 3 10 false)
+    ensures newest { newest (compacted_layout last_emptied) ≡ Some (2, 4096) }
+    ensures after { place_put (last_alloc (rounds_to 4096) (compacted_layout last_emptied) 3 10 false)
         ≡ Some (2, 192) }
 {}

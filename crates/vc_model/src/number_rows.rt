@@ -1,7 +1,7 @@
 ghost use Rattle.std.specs.Prelude.{◌≡◌, [], ◌∷◌};
 ghost use Rattle.vc_model.specs.Numbers.{block_bytes, block_count, block_sizes, gap_bytes, gap_count, gap_sizes, greatest, greatest_block, greatest_gap, segment_bytes, segment_count};
 ghost use Rattle.vc_model.specs.Best.{zeros};
-ghost use Rattle.vc_model.specs.Compact.{cleared};
+ghost use Rattle.vc_model.specs.Compact.{cleared_layout};
 ghost use Rattle.vc_model.specs.Rows.{nine_blocks, over_one_segment};
 
 /// A block of 1 byte behind the place of a freed one of 100.
@@ -30,7 +30,7 @@ pub fn numbers_of_nine_blocks()
 
 /// With no block, and with no block and no segment.
 pub fn numbers_of_nothing()
-    ensures blocks { block_sizes (cleared nine_blocks) ≡ [] }
-    ensures gaps { gap_sizes (cleared nine_blocks) ≡ 4064 ∷ 4064 ∷ 4064 ∷ 8160 ∷ [] }
+    ensures blocks { block_sizes (cleared_layout nine_blocks) ≡ [] }
+    ensures gaps { gap_sizes (cleared_layout nine_blocks) ≡ 4064 ∷ 4064 ∷ 4064 ∷ 8160 ∷ [] }
     ensures greatest { greatest [] ≡ 0 }
 {}

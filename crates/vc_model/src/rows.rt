@@ -4,7 +4,7 @@ ghost use Rattle.vc_model.specs.Place.{place};
 ghost use Rattle.vc_model.specs.Layout.{footprints};
 ghost use Rattle.vc_model.specs.Best.{best_alloc, place_in};
 ghost use Rattle.vc_model.specs.Outcome.{Done, Fixed, NoSegment, Refused};
-ghost use Rattle.vc_model.specs.Resize.{best_resize, fitted};
+ghost use Rattle.vc_model.specs.Resize.{best_resize, fitted_bytes};
 ghost use Rattle.vc_model.specs.Rows.{asked_place, first_moved, first_resized, one_put, rounds_to, second_freed, three_freed, two_freed};
 
 /// Two gaps of 128 bytes tie, and the one at the lower offset is taken; then the other.
@@ -81,6 +81,6 @@ pub fn asking()
 
 /// A block that shrinks and grows again has zeros behind the bytes that were kept.
 pub fn kept_bytes()
-    ensures shorter { fitted 2 (7 ∷ 8 ∷ 9 ∷ []) ≡ 7 ∷ 8 ∷ [] }
-    ensures longer { fitted 4 (7 ∷ 8 ∷ []) ≡ 7 ∷ 8 ∷ 0 ∷ 0 ∷ [] }
+    ensures shorter { fitted_bytes 2 (7 ∷ 8 ∷ 9 ∷ []) ≡ 7 ∷ 8 ∷ [] }
+    ensures longer { fitted_bytes 4 (7 ∷ 8 ∷ []) ≡ 7 ∷ 8 ∷ 0 ∷ 0 ∷ [] }
 {}

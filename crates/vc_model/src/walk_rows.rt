@@ -1,18 +1,18 @@
 ghost use Rattle.std.specs.Prelude.{◌≡◌, ℕ, [], ◌∷◌, Some, None, map, option_map};
 ghost use Rattle.vc_model.specs.Addr.{address};
 ghost use Rattle.vc_model.specs.Best.{zeros};
-ghost use Rattle.vc_model.specs.Compact.{compact_count, compacted};
+ghost use Rattle.vc_model.specs.Compact.{compact_count, compacted_layout};
 ghost use Rattle.vc_model.specs.Walk.{block_at, by_address, next_block, next_segment, segment_at};
 ghost use Rattle.vc_model.specs.Rows.{eight_blocks, nine_blocks};
 
 /// The segment without a block goes; and once the one block of another is freed, that one too.
 pub fn compacting()
-    ensures first { (compacted nine_blocks).segments ≡ (1, 4096) ∷ (2, 4096) ∷ (3, 4096) ∷ [] }
+    ensures first { (compacted_layout nine_blocks).segments ≡ (1, 4096) ∷ (2, 4096) ∷ (3, 4096) ∷ [] }
     ensures first_count { compact_count nine_blocks ≡ 1 }
-    ensures second { (compacted eight_blocks).segments ≡ (1, 4096) ∷ (2, 4096) ∷ [] }
+    ensures second { (compacted_layout eight_blocks).segments ≡ (1, 4096) ∷ (2, 4096) ∷ [] }
     ensures second_count { compact_count eight_blocks ≡ 1 }
-    ensures third_count { compact_count (compacted eight_blocks) ≡ 0 }
-    ensures blocks { (compacted eight_blocks).blocks ≡ eight_blocks.blocks }
+    ensures third_count { compact_count (compacted_layout eight_blocks) ≡ 0 }
+    ensures blocks { (compacted_layout eight_blocks).blocks ≡ eight_blocks.blocks }
 {}
 
 /// A block holds its first byte and its last, and no byte before or behind them.

@@ -18,7 +18,7 @@ use Rattle.vc_dict.specs.Listed.{holders_of}
 use Rattle.vc_dict.specs.Stands.{Adopted, CanAdopt, Stands}
 use Rattle.vc_dict.specs.declared.dict.Dict.{Dict}
 use Rattle.vc_dict.proofs.OwnLemmas.{Stands-own, Stands-table, holder-there, holders-told, table-apart}
-use Rattle.vc_objects.specs.Objects.{Dictionary, Table, owned}
+use Rattle.vc_objects.specs.Objects.{Dictionary, Table, own_blocks}
 use Rattle.vc_objects.specs.Unlabelled.{MakesCell}
 use Rattle.vc_objects.specs.Parts.{CanGrow, IsWhole, dictionary_of, object_of, table_of}
 use Rattle.vc_objects.proofs.Mapped.{objects-kept}
@@ -139,7 +139,7 @@ module _ (rules : Rules) (d0 : Dict) (B0 B1 : Blocks) (t slots : ℕ) (can : Can
           (all-objects IsObject B3 hs (λ a w. subst IsObject (sym (object a w)) (each-object IsObject B0 hs can.objects a w)));
     }
 
-    pub others-grown : B3 0 ≡ None → B0 0 ≡ None → (a : ℕ) → contains (owned (dictionary_of d0 B0)) a ≡ false → contains (owned (dictionary_of d1 B3)) a ≡ false → B3 a ≡ B0 a
+    pub others-grown : B3 0 ≡ None → B0 0 ≡ None → (a : ℕ) → contains (own_blocks (dictionary_of d0 B0)) a ≡ false → contains (own_blocks (dictionary_of d1 B3)) a ≡ false → B3 a ≡ B0 a
     others-grown none none' a old new = elim (eqb_tells a 0) as (λ _. B3 a ≡ B0 a) [
       | inl same ↦ subst (λ n. B3 n ≡ B0 n) (sym same.1) (none ∙ sym none')
       | inr some ↦
@@ -150,7 +150,7 @@ module _ (rules : Rules) (d0 : Dict) (B0 B1 : Blocks) (t slots : ℕ) (can : Can
           ∙ kept-placed a (λ e. block (sym e)))
     ]
 
-    pub fresh-grown : (a : ℕ) → contains (owned (dictionary_of d1 B3)) a ≡ true → contains (owned (dictionary_of d0 B0)) a ≡ false → B0 a ≡ None
+    pub fresh-grown : (a : ℕ) → contains (own_blocks (dictionary_of d1 B3)) a ≡ true → contains (own_blocks (dictionary_of d0 B0)) a ≡ false → B0 a ≡ None
     fresh-grown a new old = elim (eqb_tells t a) as (λ _. B0 a ≡ None) [
       | inl same ↦ subst (λ n. B0 n ≡ None) same.1 cell.fresh
       | inr apart ↦

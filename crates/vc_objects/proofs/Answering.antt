@@ -22,9 +22,9 @@ use Rattle.vc_best.proofs.RestAlloc.{refusal-kept}
 use Rattle.vc_objects.specs.declared.fate.Fate.TheVariants.{Stored, NoTable, NoHolder}
 use Rattle.vc_objects.specs.declared.fate.Want.{Want}
 use Rattle.vc_objects.specs.declared.fate.Want.TheVariants.{TooManySegments, NoSegment}
-use Rattle.vc_objects.specs.Insert.{Grown, alloc_unlabelled, grow, grown_to, grown_with, held, held_in, insert, slots_wanted, want_of, with_object, without_table}
+use Rattle.vc_objects.specs.Insert.{Grown, alloc_unlabelled, grow, grown_to, grown_with, insert_of, held_in, insert, slots_wanted, want_of, with_object, without_table}
 use Rattle.vc_objects.specs.Leaves.{Asked, GivesInserted, HasGrown, HasHeld, LacksHolder, LacksTable, LeavesRest, RefusedBy, lacks_segment, want_by}
-use Rattle.vc_objects.specs.Objects.{Dictionary, Table, holder_size, listed, owned}
+use Rattle.vc_objects.specs.Objects.{Dictionary, Table, holder_size, option_list, own_blocks}
 use Rattle.vc_objects.specs.Parts.{dictionary_in}
 use Rattle.vc_objects.proofs.Leaving.{leaves-trans}
 
@@ -86,7 +86,7 @@ refusal-found {A} call fault want is e = by fault is e
     by code.WrongMethod is e = subst (Found call) (same_Some TooManySegments want e) (model.WrongMethod, is, refl)
 
 module _ (rules : Rules) (terms : Terms) (r : Layout ℕ) (d : Dictionary) (append : Bool) (bytes : List ℕ) where
-  stored-in : (g : Grown ℕ) (o : Outcome (Put (Layout ℕ))) (R : Layout ℕ) (D : Dictionary) → HasHeld rules append bytes g.dict o R D → GivesInserted (held rules append bytes g o) R D Stored
+  stored-in : (g : Grown ℕ) (o : Outcome (Put (Layout ℕ))) (R : Layout ℕ) (D : Dictionary) → HasHeld rules append bytes g.dict o R D → GivesInserted (insert_of rules append bytes g o) R D Stored
   stored-in g (Done p) R D h = record { region = sym h.0; dict = sym h.1; fate = refl }
   stored-in g (Refused why) R D h = absurd h
 
@@ -100,8 +100,8 @@ module _ (rules : Rules) (terms : Terms) (r : Layout ℕ) (d : Dictionary) (appe
       (subst (λ q. HasHeld rules append bytes E (alloc_unlabelled terms q 0 (holder_size bytes) false) R D) grown.0 h))
   inserted-stored (Refused why) terms' Q E R D same grown k = absurd grown
 
-  no-holder-in : (g : Grown ℕ) (o : Outcome (Put (Layout ℕ))) (why : Fault) (want : Want) → o ≡ Refused why → want_of why ≡ want → GivesInserted (held rules append bytes g o) g.region g.dict (NoHolder want)
-  no-holder-in g o why want e w = subst (λ p. GivesInserted (held rules append bytes g p) g.region g.dict (NoHolder want)) (sym e) (record { region = refl; dict = refl; fate = ap NoHolder w })
+  no-holder-in : (g : Grown ℕ) (o : Outcome (Put (Layout ℕ))) (why : Fault) (want : Want) → o ≡ Refused why → want_of why ≡ want → GivesInserted (insert_of rules append bytes g o) g.region g.dict (NoHolder want)
+  no-holder-in g o why want e w = subst (λ p. GivesInserted (insert_of rules append bytes g p) g.region g.dict (NoHolder want)) (sym e) (record { region = refl; dict = refl; fate = ap NoHolder w })
 
   -- its holder isn't put
   pub inserted-no_holder : (o : Outcome (Grown ℕ)) (terms' : Terms) (Q : Layout ℕ) (E : Dictionary) (R : Layout ℕ) (D : Dictionary) (fault : RegionFault) (want : Want) → terms' ≡ terms → HasGrown o Q E
@@ -173,7 +173,7 @@ asked-no_holder wanted bytes old mid new fault want e same terms faults h = by f
     by code.WrongMethod e h = subst (λ w. Asked {E = OutOfMemory} (Ok (NoHolder w)) wanted bytes old new) (same_Some TooManySegments want e) (h ∙ faults)
 
 abbrev tables : Dictionary → List ℕ
-tables g = map (λ (x : Table). x.at) (listed g.table)
+tables g = map (λ (x : Table). x.at) (option_list g.table)
 
 abbrev holders : Dictionary → List ℕ
 holders g = map (λ (o : Object). o.at) g.objects
@@ -185,11 +185,11 @@ module _ {I : Type 0} {V : I → Type 0} (meaning : (x : I) × V x → Disciplin
   rest-trans first second objects table = record {
     whole = second.whole;
     kind = second.kind ∙ first.kind;
-    rest = leaves-trans meaning r s t (owned (dictionary_in d r)) (owned (dictionary_in e s)) (owned (dictionary_in f t)) first.rest second.rest between;
+    rest = leaves-trans meaning r s t (own_blocks (dictionary_in d r)) (own_blocks (dictionary_in e s)) (own_blocks (dictionary_in f t)) first.rest second.rest between;
   }
     where
-      between : (a : ℕ) → contains (owned (dictionary_in d r)) a ≡ false → contains (owned (dictionary_in f t)) a ≡ false → contains (owned (dictionary_in e s)) a ≡ false
+      between : (a : ℕ) → contains (own_blocks (dictionary_in d r)) a ≡ false → contains (own_blocks (dictionary_in f t)) a ≡ false → contains (own_blocks (dictionary_in e s)) a ≡ false
       between a old new =
           apart-append (tables (dictionary_in e s)) (holders (dictionary_in e s)) a
-          (subst (λ (x : Option Table). contains (map (λ (y : Table). y.at) (listed x)) a ≡ false) table (apart-front (tables (dictionary_in f t)) (holders (dictionary_in f t)) a new))
+          (subst (λ (x : Option Table). contains (map (λ (y : Table). y.at) (option_list x)) a ≡ false) table (apart-front (tables (dictionary_in f t)) (holders (dictionary_in f t)) a new))
           (ap (λ os. contains (map (λ (o : Object). o.at) os) a) objects ∙ apart-rest (tables (dictionary_in d r)) (holders (dictionary_in d r)) a old)

@@ -19,7 +19,7 @@ use Rattle.vc_objects.specs.Objects.{Dictionary, Table}
 use Rattle.vc_objects.specs.Parts.{table_of}
 use Rattle.vc_objects.specs.Remove.{bytes_of, freed_all}
 use Rattle.vc_base.specs.Methods.{method_number}
-use Rattle.vc_objects.specs.Turn.{Brought, Turned, bring, bring_of, brought, objects_dropped, table_left, turn, turned_to, turned_with}
+use Rattle.vc_objects.specs.Turn.{Brought, Turned, bring, bring_of, turn_with, objects_dropped, table_left, turn, turned_to, turned_with}
 use Rattle.vc_objects.specs.Promises.{Brings}
 use Rattle.vc_objects.specs.Unlabelled.{MakesCell}
 use Rattle.vc_objects.specs.Turning.{BringsCell, HasBrought}
@@ -27,7 +27,7 @@ use Rattle.vc_objects.proofs.Leaving.{keeps-same}
 use Rattle.vc_best.proofs.RestAlloc.{refusal-kept}
 
 -- a block that was put is the table
-pub put-brought : (slots : ℕ) (o : Outcome (Put (Layout ℕ))) (a : ℕ) (r : Layout ℕ) → a ≢ 0 → IsPut o a r → HasBrought (brought slots o) r a slots
+pub put-brought : (slots : ℕ) (o : Outcome (Put (Layout ℕ))) (a : ℕ) (r : Layout ℕ) → a ≢ 0 → IsPut o a r → HasBrought (turn_with slots o) r a slots
 put-brought slots (Done p) a r some h = (
   sym h.2,
   ap (λ z. let t : Table = record { at = z; slots = slots } in Some t) (sym h.0) ∙ sym (ap (λ z. if z then None else Some (record { at = a; slots = slots })) (ne_eqb a 0 some)),
@@ -44,8 +44,8 @@ cell-brought slots a before after some cell = record {
 }
 
 -- where no block was put, none is brought
-pub brought-refused : (call : Bool → Outcome (Put (Layout ℕ))) (slots : ℕ) (why : RegionFault) → IsRefusal call why → IsRefusal (λ refused. brought slots (call refused)) why
-brought-refused call slots why is = refusal-kept call (λ refused. brought slots (call refused)) (λ refused fault e. ap (brought slots) e) why is
+pub brought-refused : (call : Bool → Outcome (Put (Layout ℕ))) (slots : ℕ) (why : RegionFault) → IsRefusal call why → IsRefusal (λ refused. turn_with slots (call refused)) why
+brought-refused call slots why is = refusal-kept call (λ refused. turn_with slots (call refused)) (λ refused fault e. ap (turn_with slots) e) why is
 
 -- none is wanted
 pub brings-none : {I : Type 0} {V : I → Type 0} (meaning : (x : I) × V x → Discipline) (best : Best I V) (wanted : Option ℕ) → wanted ≡ None

@@ -10,7 +10,7 @@ use Rattle.vc_dtlist.proofs.KeptLemmas.{HasBytes-same, within-head, within-tail}
 use Rattle.vc_dict.proofs.PassLemmas.{differs}
 use Rattle.vc_dict.specs.Turned.{AreDropped, behind_dropped}
 use Rattle.vc_best.specs.Cells.{without_cell}
-use Rattle.vc_objects.specs.Insert.{freed}
+use Rattle.vc_objects.specs.Insert.{layout_without}
 use Rattle.vc_objects.specs.Leaves.{told_each}
 use Rattle.vc_objects.specs.Parts.{object_of}
 use Rattle.vc_objects.specs.Remove.{bytes_of, freed_all}
@@ -66,13 +66,13 @@ next_by : (left holders : List ℕ) (before : Blocks) (old : Layout ℕ) (gone :
     → ((a : ℕ) → contains holders a ≡ false → contains left a ≡ false)
     → ((a : ℕ) → contains left a ≡ true → c a ≡ before a) → ((a : ℕ) → contains holders a ≡ false → c a ≡ before a)
     → passed < length holders
-    → Dropping holders before old gone (passed + 1) (behind_dropped c at) (without_cell at c) (freed r at) (gone_after told (object_at c at))
+    → Dropping holders before old gone (passed + 1) (behind_dropped c at) (without_cell at c) (layout_without r at) (gone_after told (object_at c at))
 next_by [] holders before old gone passed at c r told count d distinct frees tells within same others more = absurd (omega arith)
 next_by (x ∷ xs) holders before old gone passed at c r told count d distinct frees tells within same others more =
     let here : c x ≡ before x = same x (within-head x xs) in
     let kept : (a : ℕ) → contains xs a ≡ true → without_cell x c a ≡ c a = λ a h. left-cell c x a (differs xs a x h distinct.0) in
     let object : object_at c x ≡ object_at before x = ap (λ o. body_of (unwrap_or o [])) here in
-    subst (λ z. Dropping holders before old gone (passed + 1) (behind_dropped c z) (without_cell z c) (freed r z) (gone_after told (object_at c z))) (sym d.0)
+    subst (λ z. Dropping holders before old gone (passed + 1) (behind_dropped c z) (without_cell z c) (layout_without r z) (gone_after told (object_at c z))) (sym d.0)
     (record {
       left = xs;
       count = omega (arith, count);
@@ -87,14 +87,14 @@ next_by (x ∷ xs) holders before old gone passed at c r told count d distinct f
 
 pub dropping-next : (holders : List ℕ) (before : Blocks) (old : Layout ℕ) (gone : Gone) (passed at : ℕ) (c : Blocks) (r : Layout ℕ) (told : Gone) (at' : ℕ) (c' : Blocks) (r' : Layout ℕ) (told' : Gone)
     → Dropping holders before old gone passed at c r told → passed < length holders
-    → at' ≡ behind_dropped c at → c' ≡ without_cell at c → r' ≡ freed r at → told' ≡ gone_after told (object_at c at)
+    → at' ≡ behind_dropped c at → c' ≡ without_cell at c → r' ≡ layout_without r at → told' ≡ gone_after told (object_at c at)
     → Dropping holders before old gone (passed + 1) at' c' r' told'
 dropping-next holders before old gone passed at c r told at' c' r' told' s more e f g h =
     let next = next_by s.left holders before old gone passed at c r told s.count s.dropped s.distinct s.frees s.tells s.within s.same s.others more in
     subst (λ z. Dropping holders before old gone (passed + 1) z c' r' told') (sym e)
     (subst (λ z. Dropping holders before old gone (passed + 1) (behind_dropped c at) z r' told') (sym f)
     (subst (λ z. Dropping holders before old gone (passed + 1) (behind_dropped c at) (without_cell at c) z told') (sym g)
-    (subst (λ z. Dropping holders before old gone (passed + 1) (behind_dropped c at) (without_cell at c) (freed r at) z) (sym h) next)))
+    (subst (λ z. Dropping holders before old gone (passed + 1) (behind_dropped c at) (without_cell at c) (layout_without r at) z) (sym h) next)))
 
 -- none is left
 none_left : (xs : List ℕ) (before : Blocks) (r r' : Layout ℕ) (told gone' : Gone) → length xs ≡ 0 → freed_all r (map (object_of before) xs) ≡ r' → told_each (bytes_of (map (object_of before) xs)) told ≡ gone' → (r ≡ r') × (told ≡ gone')

@@ -18,12 +18,12 @@ use Rattle.vc_best.specs.Cells.{cells_in, rest_in}
 use Rattle.vc_best.specs.Parts.{disc_in, segments_in}
 use Rattle.vc_best.specs.declared.best.Best.{Best}
 use Rattle.vc_objects.specs.Unlabelled.{FreesCell}
-use Rattle.vc_objects.specs.Insert.{freed}
+use Rattle.vc_objects.specs.Insert.{layout_without}
 use Rattle.vc_objects.specs.Leaves.{Leaves, LeavesRest, told_each}
-use Rattle.vc_objects.specs.Objects.{Dictionary, Table, listed, owned}
+use Rattle.vc_objects.specs.Objects.{Dictionary, Table, option_list, own_blocks}
 use Rattle.vc_objects.specs.Parts.{IsWhole, dictionary_in, dictionary_of, object_of, table_of}
 use Rattle.vc_objects.specs.Promises.{Empties}
-use Rattle.vc_objects.specs.Remove.{all_out, bytes_of, emptied, first_out, freed_all, remove_first}
+use Rattle.vc_objects.specs.Remove.{all_out, bytes_of, without_objects, first_out, freed_all, remove_first}
 use Rattle.vc_objects.proofs.Leaving.{keeps-same, leaves-self, leaves-trans}
 use Rattle.vc_objects.proofs.Owning.{owned-within}
 use Rattle.vc_objects.proofs.Taken.{differs, fewer-owned}
@@ -39,9 +39,9 @@ objects-first o os = ap (λ t. if t then os else o ∷ without_object address_of
 
 first-freed : (r : Layout ℕ) (d : Dictionary) (os : List Object) → freed_all (remove_first r (with_objects d os)).region (remove_first r (with_objects d os)).dict.objects ≡ freed_all r os
 first-freed r d [] = refl
-first-freed r d (o ∷ os) = ap (λ z. freed_all (freed r o.at) z) (objects-first o os)
+first-freed r d (o ∷ os) = ap (λ z. freed_all (layout_without r o.at) z) (objects-first o os)
 
-first-told : (r : Layout ℕ) (d : Dictionary) (os : List Object) (gone : Gone) → told_each (bytes_of (remove_first r (with_objects d os)).dict.objects) (told_each (listed (remove_first r (with_objects d os)).gone) gone) ≡ told_each (bytes_of os) gone
+first-told : (r : Layout ℕ) (d : Dictionary) (os : List Object) (gone : Gone) → told_each (bytes_of (remove_first r (with_objects d os)).dict.objects) (told_each (option_list (remove_first r (with_objects d os)).gone) gone) ≡ told_each (bytes_of os) gone
 first-told r d [] gone = refl
 first-told r d (o ∷ os) gone = ap (λ z. told_each (bytes_of z) (gone_after gone o.bytes)) (objects-first o os)
 
@@ -49,7 +49,7 @@ first-count : (r : Layout ℕ) (d : Dictionary) (os : List Object) → 0 < lengt
 first-count r d [] some = absurd (omega arith)
 first-count r d (o ∷ os) some = let e : length (without_object address_of o.at (o ∷ os)) ≡ length os = ap (λ (z : List Object). length z) (objects-first o os) in omega (arith, e)
 
-first-emptied : (r : Layout ℕ) (d : Dictionary) (os : List Object) → emptied (remove_first r (with_objects d os)).dict ≡ emptied d
+first-emptied : (r : Layout ℕ) (d : Dictionary) (os : List Object) → without_objects (remove_first r (with_objects d os)).dict ≡ without_objects d
 first-emptied r d [] = refl
 first-emptied r d (o ∷ os) = refl
 
@@ -68,27 +68,27 @@ none_current c h = elim (eqb_tells 0 c) as (λ _. c ≡ 0) [
   | inr apart ↦ absurd (true≢false (sym h ∙ apart-cons 0 [] c apart.1 refl))
 ]
 
-pub emptied-none : (rules : Rules) (d : Dict) (b : Blocks) → IsWhole rules d b → (dictionary_of d b).objects ≡ [] → dictionary_of d b ≡ emptied (dictionary_of d b)
+pub emptied-none : (rules : Rules) (d : Dict) (b : Blocks) → IsWhole rules d b → (dictionary_of d b).objects ≡ [] → dictionary_of d b ≡ without_objects (dictionary_of d b)
 emptied-none rules d b whole none =
     let with : List Object → ℕ → Dictionary = λ os c. record { method = d.method; objects = os; current = some_address c; table = table_of d.table.0 d.slots } in
     let lone : contains (0 ∷ []) d.current.0 ≡ true = subst (λ z. contains (0 ∷ z) d.current.0 ≡ true) (no_holders b (holders_of d b) none) whole.current in
     ap (λ os. with os d.current.0) none ∙ ap (λ c. with [] c) (none_current d.current.0 lone)
 
 -- it owns no more then
-pub emptied-fewer : (d : Dictionary) (a : ℕ) → contains (owned d) a ≡ false → contains (owned (emptied d)) a ≡ false
+pub emptied-fewer : (d : Dictionary) (a : ℕ) → contains (own_blocks d) a ≡ false → contains (own_blocks (without_objects d)) a ≡ false
 emptied-fewer d a h =
-    let front = map (λ (t : Table). t.at) (listed d.table) in
+    let front = map (λ (t : Table). t.at) (option_list d.table) in
     apart-append front [] a (apart-front front (map (λ (o : Object). o.at) d.objects) a h) refl
 
 module _ {I : Type 0} {V : I → Type 0} (meaning : (x : I) × V x → Discipline) where
   -- the table goes, too
-  pub leaves-table : (r s : Best I V) (d : Dict) → d.table.0 ≢ 0 → FreesCell meaning r d.table.0 s → Leaves meaning r s (owned (dictionary_in d r)) []
+  pub leaves-table : (r s : Best I V) (d : Dict) → d.table.0 ≢ 0 → FreesCell meaning r d.table.0 s → Leaves meaning r s (own_blocks (dictionary_in d r)) []
   leaves-table r s d ne free = record {
     disc = keeps-same (disc_in meaning r) (disc_in meaning s) (segments_in r) (segments_in s) free.around.disc free.around.segments;
     labelled = free.around.labelled;
     others = λ a apart _.
-        let own : contains (owned (dictionary_in d r)) d.table.0 ≡ true = owned-within d (cells_in r) d.table.0 ne ∙ within-head d.table.0 (holders_of d (cells_in r)) in
-        ap (λ (f : Blocks). f a) free.cells ∙ left-cell (cells_in r) d.table.0 a (differs (owned (dictionary_in d r)) d.table.0 a own apart);
+        let own : contains (own_blocks (dictionary_in d r)) d.table.0 ≡ true = owned-within d (cells_in r) d.table.0 ne ∙ within-head d.table.0 (holders_of d (cells_in r)) in
+        ap (λ (f : Blocks). f a) free.cells ∙ left-cell (cells_in r) d.table.0 a (differs (own_blocks (dictionary_in d r)) d.table.0 a own apart);
     fresh = λ a within _. absurd (true≢false (sym within));
   }
 
@@ -104,10 +104,10 @@ module _ {I : Type 0} {V : I → Type 0} (meaning : (x : I) × V x → Disciplin
 pub record Emptying {I : Type 0} {V : I → Type 0} (meaning : (x : I) × V x → Discipline) (rules : Rules) (before : Best I V) (old : Dict) (gone : Gone) (passed : ℕ) (after : Best I V) (new : Dict) (told : Gone) : Type 0 where
   pub count : passed + length (dictionary_in new after).objects ≡ length (dictionary_in old before).objects
   pub region : freed_all (rest_in after) (dictionary_in new after).objects ≡ freed_all (rest_in before) (dictionary_in old before).objects
-  pub dict : emptied (dictionary_in new after) ≡ emptied (dictionary_in old before)
+  pub dict : without_objects (dictionary_in new after) ≡ without_objects (dictionary_in old before)
   pub leaves : LeavesRest meaning rules before old after new
   pub disc : disc_in meaning after ≡ disc_in meaning before
-  pub fewer : (a : ℕ) → contains (owned (dictionary_in old before)) a ≡ false → contains (owned (dictionary_in new after)) a ≡ false
+  pub fewer : (a : ℕ) → contains (own_blocks (dictionary_in old before)) a ≡ false → contains (own_blocks (dictionary_in new after)) a ≡ false
   pub tells : told_each (bytes_of (dictionary_in new after).objects) told ≡ told_each (bytes_of (dictionary_in old before).objects) gone
 
 module _ {I : Type 0} {V : I → Type 0} (meaning : (x : I) × V x → Discipline) (rules : Rules) (before : Best I V) (old : Dict) (gone : Gone) where
@@ -133,25 +133,25 @@ module _ {I : Type 0} {V : I → Type 0} (meaning : (x : I) × V x → Disciplin
         let leaves : LeavesRest meaning rules mid dict after new = subst (λ z. LeavesRest meaning z mid dict after new) same step.leaves in
         let shorter : length next.dict.objects + 1 ≡ length d.objects = first-count r d d.objects (let c = e.count in omega (arith, c)) in
         let as_long : length (dictionary_in new after).objects ≡ length next.dict.objects = ap (λ (z : Dictionary). length z.objects) step.dict in
-        let fewer : (a : ℕ) → contains (owned d) a ≡ false → contains (owned (dictionary_in new after)) a ≡ false =
-        λ a h. ap (λ (z : Dictionary). contains (owned z) a) step.dict ∙ fewer-owned r d (first_of d.objects) a h in
+        let fewer : (a : ℕ) → contains (own_blocks d) a ≡ false → contains (own_blocks (dictionary_in new after)) a ≡ false =
+        λ a h. ap (λ (z : Dictionary). contains (own_blocks z) a) step.dict ∙ fewer-owned r d (first_of d.objects) a h in
         let c = e.count in
         record {
           count = omega (arith, c, shorter, as_long);
           region =
               ap (λ z. freed_all z (dictionary_in new after).objects) step.region ∙ ap (λ (z : Dictionary). freed_all next.region z.objects) step.dict
               ∙ first-freed r d d.objects ∙ e.region;
-          dict = ap (λ (z : Dictionary). emptied z) step.dict ∙ first-emptied r d d.objects ∙ e.dict;
+          dict = ap (λ (z : Dictionary). without_objects z) step.dict ∙ first-emptied r d d.objects ∙ e.dict;
           leaves = record {
             whole = leaves.whole;
             kind = leaves.kind ∙ e.leaves.kind;
-            rest = leaves-trans meaning before mid after (owned (dictionary_in old before)) (owned d) (owned (dictionary_in new after)) e.leaves.rest leaves.rest (λ a apart _. e.fewer a apart);
+            rest = leaves-trans meaning before mid after (own_blocks (dictionary_in old before)) (own_blocks d) (own_blocks (dictionary_in new after)) e.leaves.rest leaves.rest (λ a apart _. e.fewer a apart);
           };
           disc = step.disc ∙ e.disc;
           fewer = λ a h. fewer a (e.fewer a h);
           tells =
               ap (λ z. told_each (bytes_of (dictionary_in new after).objects) z) step.gone
-              ∙ ap (λ (z : Dictionary). told_each (bytes_of z.objects) (told_each (listed next.gone) told)) step.dict
+              ∙ ap (λ (z : Dictionary). told_each (bytes_of z.objects) (told_each (option_list next.gone) told)) step.dict
               ∙ first-told r d d.objects told ∙ e.tells;
         }
 

@@ -19,7 +19,7 @@ use Rattle.vc_seg.specs.Answer.{IsRefusal}
 use Rattle.vc_seg.specs.declared.fault.RegionFault.{RegionFault}
 use Rattle.vc_objects.specs.Insert.{empty_dictionary, grown_to, open_dictionary}
 use Rattle.vc_objects.specs.Leaves.{HasGrown}
-use Rattle.vc_objects.specs.Objects.{Dictionary, owned}
+use Rattle.vc_objects.specs.Objects.{Dictionary, own_blocks}
 use Rattle.vc_objects.specs.Parts.{CanGrow, IsWhole, dictionary_of, object_of, table_of}
 use Rattle.vc_objects.proofs.Adopting.{same-dictionary}
 
@@ -51,8 +51,8 @@ module _ (rules : Rules) (d : Dict) (b : Blocks) (method : DictMethod) (is : IsN
       same-dictionary d.method method (map (object_of b) (holders_of d b)) [] (some_address d.current.0) None (table_of d.table.0 d.slots) None is.same
       (ap (map (object_of b)) none) (ap some_address is.current) (ap (λ n. table_of n d.slots) is.table)
 
-  pub owned-none : owned (dictionary_of d b) ≡ []
-  owned-none = ap owned dictionary-empty
+  pub owned-none : own_blocks (dictionary_of d b) ≡ []
+  owned-none = ap own_blocks dictionary-empty
 
   pub wants-first : wanted_by d.method d.slots d.count 1 ≡ (if has_table method then Some 16 else None)
   wants-first =

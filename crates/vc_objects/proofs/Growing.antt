@@ -8,7 +8,7 @@ use Rattle.std.proofs.lemmas.List.{length-map}
 use Rattle.std.proofs.lemmas.Option.{none-some, same_Some}
 use Rattle.vc_base.specs.Cells.{Blocks}
 use Rattle.vc_dtdisc.specs.Rules.{Rules}
-use Rattle.vc_dthash.specs.Slots.{IsSlots, most_slots, slots_for, wanted}
+use Rattle.vc_dthash.specs.Slots.{IsSlots, most_slots, slots_for, wanted_slots}
 use Rattle.vc_dict.specs.Listed.{holders_of}
 use Rattle.vc_base.specs.Methods.{has_table}
 use Rattle.vc_dict.specs.Methods.{wanted_by}
@@ -45,14 +45,14 @@ by_table true o n e = (refl, e)
 by_table false o n e = absurd (none-some n e)
 
 -- a table that has too few slots gets twice as many
-doubles : (slots count n : ℕ) → slots ≢ 0 → wanted slots count 1 ≡ Some n → (n ≡ 2 * slots) × (slots < most_slots)
+doubles : (slots count n : ℕ) → slots ≢ 0 → wanted_slots slots count 1 ≡ Some n → (n ≡ 2 * slots) × (slots < most_slots)
 doubles slots count n ne e =
     let more = if nat_lt (2 * slots) (count + 1) && nat_lt slots most_slots then Some (2 * slots) else None in
     let h = by_grow (nat_lt (2 * slots) (count + 1)) (nat_lt slots most_slots) (2 * slots) n (sym (ap (λ t. if t then Some (slots_for 1) else more) (ne_eqb slots 0 ne)) ∙ e) in
     (h.0, ltb-true slots most_slots h.1)
 
 -- and these are enough
-enough-slots : (n count : ℕ) → n ≢ 0 → count + 1 ≤ 2 * n → wanted n count 1 ≡ None
+enough-slots : (n count : ℕ) → n ≢ 0 → count + 1 ≤ 2 * n → wanted_slots n count 1 ≡ None
 enough-slots n count ne h =
     let more = if nat_lt (2 * n) (count + 1) && nat_lt n most_slots then Some (2 * n) else None in
     ap (λ t. if t then Some (slots_for 1) else more) (ne_eqb n 0 ne)
@@ -78,14 +78,14 @@ doubled-slots slots is small =
 module _ (rules : Rules) (d : Dict) (b : Blocks) (n : ℕ) (whole : IsWhole rules d b) (wants : wanted_by d.method d.slots d.count 1 ≡ Some n) where
   grows : (n ≡ 2 * d.slots) × (d.slots < most_slots)
   grows =
-      let by = by_table (has_table d.method) (wanted d.slots d.count 1) n wants in
+      let by = by_table (has_table d.method) (wanted_slots d.slots d.count 1) n wants in
       let t = (Stands-table _ _ _ _ whole.stands).some (whole.table by.0) in
       let some = slots-least d.slots t.slots_allowed in
       doubles d.slots d.count n (λ e. let z = e in omega (arith, some, z)) by.1
 
   pub can-grow : CanGrow rules d b n
   can-grow =
-      let by = by_table (has_table d.method) (wanted d.slots d.count 1) n wants in
+      let by = by_table (has_table d.method) (wanted_slots d.slots d.count 1) n wants in
       let t = (Stands-table _ _ _ _ whole.stands).some (whole.table by.0) in
       let fits = t.enough grows.1 in
       record {
@@ -97,9 +97,9 @@ module _ (rules : Rules) (d : Dict) (b : Blocks) (n : ℕ) (whole : IsWhole rule
         enough = λ few. let twice = grows.0 in omega (arith, fits, twice);
       }
 
-  pub no-more : wanted n d.count 1 ≡ None
+  pub no-more : wanted_slots n d.count 1 ≡ None
   no-more =
-      let by = by_table (has_table d.method) (wanted d.slots d.count 1) n wants in
+      let by = by_table (has_table d.method) (wanted_slots d.slots d.count 1) n wants in
       let t = (Stands-table _ _ _ _ whole.stands).some (whole.table by.0) in
       let some = slots-least d.slots t.slots_allowed in
       let fits = t.enough grows.1 in
@@ -109,6 +109,6 @@ module _ (rules : Rules) (d : Dict) (b : Blocks) (n : ℕ) (whole : IsWhole rule
 
   pub no-more-told : wanted_by d.method n (length (dictionary_of d b).objects) 1 ≡ None
   no-more-told =
-      let by = by_table (has_table d.method) (wanted d.slots d.count 1) n wants in
+      let by = by_table (has_table d.method) (wanted_slots d.slots d.count 1) n wants in
       ap (λ count. wanted_by d.method n count 1) (length-map (holders_of d b) (object_of b) ∙ sym whole.stands.count)
-      ∙ (ap (λ t. if t then wanted n d.count 1 else None) by.0 ∙ no-more)
+      ∙ (ap (λ t. if t then wanted_slots n d.count 1 else None) by.0 ∙ no-more)

@@ -24,7 +24,7 @@ use Rattle.vc_dict.specs.declared.dict.Dict.{Dict}
 use Rattle.vc_dict.proofs.CurrentLemmas.{apart-linked, within-linked}
 use Rattle.vc_dict.proofs.OwnLemmas.{Stands-own, Stands-table, holder-there, holders-told, table-apart}
 use Rattle.vc_objects.specs.Insert.{slots_wanted, with_object}
-use Rattle.vc_objects.specs.Objects.{owned}
+use Rattle.vc_objects.specs.Objects.{own_blocks}
 use Rattle.vc_objects.specs.Unlabelled.{MakesCell}
 use Rattle.vc_objects.specs.Parts.{IsWhole, dictionary_of, object_of, table_of}
 use Rattle.vc_objects.proofs.Adopting.{same-dictionary}
@@ -132,9 +132,9 @@ module _ (rules : Rules) (d0 : Dict) (B0 B1 B2 : Blocks) (at : ℕ) (bytes : Lis
     list = list;
   }
 
-  module _ (append : Bool) (d1 : Dict) (B3 : Blocks) (became : Became rules (at ∷ hs) d0 B2 d1 B3 (changes.linked append d0.method rules B2 d0.current.0 at hs) at) where
+  module _ (append : Bool) (d1 : Dict) (B3 : Blocks) (became : Became rules (at ∷ hs) d0 B2 d1 B3 (changes.order_by_link append d0.method rules B2 d0.current.0 at hs) at) where
     abbrev ys : List ℕ
-    ys = changes.linked append d0.method rules B2 d0.current.0 at hs
+    ys = changes.order_by_link append d0.method rules B2 d0.current.0 at hs
 
     told : holders_of d1 B3 ≡ ys
     told = holders-told rules d1 B3 ys became.stands
@@ -191,7 +191,7 @@ module _ (rules : Rules) (d0 : Dict) (B0 B1 B2 : Blocks) (at : ℕ) (bytes : Lis
           ])));
     }
 
-    pub others-held : B3 0 ≡ None → B0 0 ≡ None → (a : ℕ) → contains (owned (dictionary_of d0 B0)) a ≡ false → contains (owned (dictionary_of d1 B3)) a ≡ false → B3 a ≡ B0 a
+    pub others-held : B3 0 ≡ None → B0 0 ≡ None → (a : ℕ) → contains (own_blocks (dictionary_of d0 B0)) a ≡ false → contains (own_blocks (dictionary_of d1 B3)) a ≡ false → B3 a ≡ B0 a
     others-held none none' a old new = elim (eqb_tells a 0) as (λ _. B3 a ≡ B0 a) [
       | inl same ↦ subst (λ n. B3 n ≡ B0 n) (sym same.1) (none ∙ sym none')
       | inr some ↦
@@ -202,14 +202,14 @@ module _ (rules : Rules) (d0 : Dict) (B0 B1 B2 : Blocks) (at : ℕ) (bytes : Lis
           became.keeps.others a (apart-cons d0.table.0 [] a table refl) (apart-cons at hs a ne holders) ∙ kept a (λ e. ne (sym e))
     ]
 
-    pub fresh-held : (a : ℕ) → contains (owned (dictionary_of d1 B3)) a ≡ true → contains (owned (dictionary_of d0 B0)) a ≡ false → B0 a ≡ None
+    pub fresh-held : (a : ℕ) → contains (own_blocks (dictionary_of d1 B3)) a ≡ true → contains (own_blocks (dictionary_of d0 B0)) a ≡ false → B0 a ≡ None
     fresh-held a new old = elim (eqb_tells at a) as (λ _. B0 a ≡ None) [
       | inl same ↦ subst (λ n. B0 n ≡ None) same.1 cell.fresh
       | inr apart ↦
           absurd (true≢false (sym new ∙ apart-owned d1 B3 a (no-longer a old) (ap (λ xs. contains xs a) told ∙ apart-linked append d0.method rules B2 d0.current.0 at hs a apart.1 (apart-holders d0 B0 a old))))
     ]
       where
-        no-longer : (a : ℕ) → contains (owned (dictionary_of d0 B0)) a ≡ false → d1.table.0 ≢ 0 → d1.table.0 ≢ a
+        no-longer : (a : ℕ) → contains (own_blocks (dictionary_of d0 B0)) a ≡ false → d1.table.0 ≢ 0 → d1.table.0 ≢ a
         no-longer a old some e =
             let same : d1.table.0 ≡ d0.table.0 = ap (λ (t : Addr). t.0) became.table in
             apart-table d0 B0 a (λ z. some (e ∙ z)) old (sym same ∙ e)

@@ -16,7 +16,7 @@ use Rattle.vc_best.specs.Parts.{disc_in, segments_in}
 use Rattle.vc_best.specs.declared.best.Best.{Best}
 use Rattle.vc_best.proofs.CellCalls.{stays-disc, stays-segments}
 use Rattle.vc_objects.specs.Leaves.{KeepsDisc, Leaves, LeavesRest}
-use Rattle.vc_objects.specs.Objects.{owned}
+use Rattle.vc_objects.specs.Objects.{own_blocks}
 use Rattle.vc_objects.specs.Parts.{IsWhole, dictionary_in}
 
 -- no cell stands at 0
@@ -69,7 +69,7 @@ module _ {I : Type 0} {V : I → Type 0} (meaning : (x : I) × V x → Disciplin
   leaves-self rules r d whole = record {
     whole = whole;
     kind = refl;
-    rest = leaves-still r r (owned (dictionary_in d r)) (owned (dictionary_in d r)) (keeps-same (disc_in meaning r) (disc_in meaning r) (segments_in r) (segments_in r) refl refl) refl refl refl;
+    rest = leaves-still r r (own_blocks (dictionary_in d r)) (own_blocks (dictionary_in d r)) (keeps-same (disc_in meaning r) (disc_in meaning r) (segments_in r) (segments_in r) refl refl) refl refl refl;
   }
 
   -- one call after another, where the second lets go of nothing that the first took

@@ -16,12 +16,12 @@ use Rattle.vc_dict.specs.Stands.{Became, Stands}
 use Rattle.vc_dict.specs.declared.dict.Dict.{Dict}
 use Rattle.vc_dict.proofs.OwnLemmas.{holders-told, table-apart}
 use Rattle.vc_best.specs.Cells.{StaysButCells, cells_in, labelled_blocks}
-use Rattle.vc_seg.specs.Boxed.{boxed}
+use Rattle.vc_seg.specs.Boxed.{disc_in_box}
 use Rattle.vc_best.specs.Parts.{disc_in, segments_in}
 use Rattle.vc_best.specs.declared.best.Best.{Best}
 use Rattle.vc_best.proofs.CellCalls.{stays-segments}
 use Rattle.vc_objects.specs.Leaves.{Looks}
-use Rattle.vc_objects.specs.Objects.{Dictionary, owned}
+use Rattle.vc_objects.specs.Objects.{Dictionary, own_blocks}
 use Rattle.vc_objects.specs.Parts.{IsWhole, dictionary_in, dictionary_of, object_of, table_of}
 use Rattle.vc_objects.proofs.Leaving.{keeps-same, none-at}
 use Rattle.vc_objects.proofs.Mapped.{addresses-mapped, objects-kept}
@@ -77,7 +77,7 @@ module _ {I : Type 0} {V : I → Type 0} (meaning : (x : I) × V x → Disciplin
       (λ h e. whole.table (sym (ap has_table t.method) ∙ h) (sym (ap (λ z. z.0) t.table) ∙ e))
       (subst (λ z. AllByRecursion (λ o. IsObject o.bytes) z) (sym same-objects) whole.objects)
 
-  others-stay : (a : ℕ) → contains (owned (dictionary_in old before)) a ≡ false → cells_in after a ≡ cells_in before a
+  others-stay : (a : ℕ) → contains (own_blocks (dictionary_in old before)) a ≡ false → cells_in after a ≡ cells_in before a
   others-stay a apart = elim (eqb_tells a 0) as (λ _. cells_in after a ≡ cells_in before a) [
     | inl zero ↦ ap (cells_in after) zero.1 ∙ none-at after ∙ sym (none-at before) ∙ ap (cells_in before) (sym zero.1)
     | inr some ↦
@@ -89,7 +89,7 @@ module _ {I : Type 0} {V : I → Type 0} (meaning : (x : I) × V x → Disciplin
   -- a call that changes no holder only looks
   pub Looks-became : Looks meaning rules before old after new
   Looks-became =
-      let disc : disc_in meaning after ≡ disc_in meaning before = ap (boxed meaning) stays.disc in
+      let disc : disc_in meaning after ≡ disc_in meaning before = ap (disc_in_box meaning) stays.disc in
       record {
         region = stays.layout;
         dict = same-dictionary;
@@ -101,7 +101,7 @@ module _ {I : Type 0} {V : I → Type 0} (meaning : (x : I) × V x → Disciplin
             disc = keeps-same (disc_in meaning before) (disc_in meaning after) (segments_in before) (segments_in after) disc (stays-segments before after stays);
             labelled = ap labelled_blocks stays.layout;
             others = λ a apart _. others-stay a apart;
-            fresh = λ a within apart. absurd (true≢false (sym within ∙ ap (λ d. contains (owned d) a) same-dictionary ∙ apart));
+            fresh = λ a within apart. absurd (true≢false (sym within ∙ ap (λ d. contains (own_blocks d) a) same-dictionary ∙ apart));
           };
         };
       }

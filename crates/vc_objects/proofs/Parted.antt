@@ -9,9 +9,9 @@ use Rattle.vc_base.specs.Holders.{AreDistinct, contains}
 use Rattle.vc_dtdisc.specs.Rules.{Rules}
 use Rattle.vc_dtlist.proofs.HolderLemmas.{apart-append, apart-cons, apart-front, apart-head, apart-removed, apart-rest, apart-tail, distinct-remove}
 use Rattle.vc_dtlist.proofs.KeptLemmas.{within-head, within-tail}
-use Rattle.vc_dtord.specs.Ordered.{is_less, placed}
+use Rattle.vc_dtord.specs.Ordered.{is_less, order_with}
 use Rattle.vc_base.specs.Methods.{is_ordered, is_set}
-use Rattle.vc_dict.specs.Orders.{dropped, dropped_by, has_match, kept, kept_by, ordered_by, placed_each}
+use Rattle.vc_dict.specs.Orders.{dropped_holders, dropped_by, has_match, kept_holders, kept_by, ordered_by, placed_each}
 use Rattle.vc_dict.proofs.PassLemmas.{apart-placed, differs}
 use Rattle.vc_dict.proofs.TurnedLemmas.{length-ordered, within_kept_by, within_ordered}
 
@@ -25,43 +25,43 @@ either_distinct true xs ys h k = h
 either_distinct false xs ys h k = k
 
 -- in the order of a method no two are one
-distinct_placed : (rules : Rules) (b : Blocks) (at : ℕ) (xs : List ℕ) → AreDistinct xs → contains xs at ≡ false → AreDistinct (placed rules b at xs)
+distinct_placed : (rules : Rules) (b : Blocks) (at : ℕ) (xs : List ℕ) → AreDistinct xs → contains xs at ≡ false → AreDistinct (order_with rules b at xs)
 distinct_placed rules b at [] d h = (refl, tt)
 distinct_placed rules b at (x ∷ xs) d h =
-    either_distinct (is_less rules b at x) (at ∷ x ∷ xs) (x ∷ placed rules b at xs) (h, d)
+    either_distinct (is_less rules b at x) (at ∷ x ∷ xs) (x ∷ order_with rules b at xs) (h, d)
     (apart-placed rules b at xs x (λ e. apart-head x xs at h (sym e)) d.0, distinct_placed rules b at xs d.1 (apart-tail x xs at h))
 
 distinct_each : (rules : Rules) (b : Blocks) (done xs : List ℕ) → AreDistinct done → AreDistinct xs → ((a : ℕ) → contains xs a ≡ true → contains done a ≡ false) → AreDistinct (placed_each rules b done xs)
 distinct_each rules b done [] d e apart = d
 distinct_each rules b done (x ∷ xs) d e apart =
-    distinct_each rules b (placed rules b x done) xs (distinct_placed rules b x done d (apart x (within-head x xs))) e.1
+    distinct_each rules b (order_with rules b x done) xs (distinct_placed rules b x done d (apart x (within-head x xs))) e.1
     (λ a h. apart-placed rules b x done a (differs xs a x h e.0) (apart a (within-tail x xs a h)))
 
 distinct_ordered : (method : DictMethod) (rules : Rules) (b : Blocks) (xs : List ℕ) → AreDistinct xs → AreDistinct (ordered_by method rules b xs)
 distinct_ordered method rules b xs d = either_distinct (is_ordered method) (placed_each rules b [] xs) xs (distinct_each rules b [] xs tt d (λ a h. refl)) d
 
 -- the dropped ones
-apart_dropped : (rules : Rules) (b : Blocks) (done xs : List ℕ) (a : ℕ) → contains xs a ≡ false → contains (dropped rules b done xs) a ≡ false
+apart_dropped : (rules : Rules) (b : Blocks) (done xs : List ℕ) (a : ℕ) → contains xs a ≡ false → contains (dropped_holders rules b done xs) a ≡ false
 apart_dropped rules b done [] a h = refl
 apart_dropped rules b done (x ∷ xs) a h =
-    either_apart (has_match rules b done x) (x ∷ dropped rules b done xs) (dropped rules b (done ++ x ∷ []) xs) a
-    (apart-cons x (dropped rules b done xs) a (apart-head x xs a h) (apart_dropped rules b done xs a (apart-tail x xs a h)))
+    either_apart (has_match rules b done x) (x ∷ dropped_holders rules b done xs) (dropped_holders rules b (done ++ x ∷ []) xs) a
+    (apart-cons x (dropped_holders rules b done xs) a (apart-head x xs a h) (apart_dropped rules b done xs a (apart-tail x xs a h)))
     (apart_dropped rules b (done ++ x ∷ []) xs a (apart-tail x xs a h))
 
-distinct_dropped : (rules : Rules) (b : Blocks) (done xs : List ℕ) → AreDistinct xs → AreDistinct (dropped rules b done xs)
+distinct_dropped : (rules : Rules) (b : Blocks) (done xs : List ℕ) → AreDistinct xs → AreDistinct (dropped_holders rules b done xs)
 distinct_dropped rules b done [] d = tt
 distinct_dropped rules b done (x ∷ xs) d =
-    either_distinct (has_match rules b done x) (x ∷ dropped rules b done xs) (dropped rules b (done ++ x ∷ []) xs)
+    either_distinct (has_match rules b done x) (x ∷ dropped_holders rules b done xs) (dropped_holders rules b (done ++ x ∷ []) xs)
     (apart_dropped rules b done xs x d.0, distinct_dropped rules b done xs d.1) (distinct_dropped rules b (done ++ x ∷ []) xs d.1)
 
 -- the kept ones
-apart_kept : (rules : Rules) (b : Blocks) (done xs : List ℕ) (a : ℕ) → contains (done ++ xs) a ≡ false → contains (kept rules b done xs) a ≡ false
+apart_kept : (rules : Rules) (b : Blocks) (done xs : List ℕ) (a : ℕ) → contains (done ++ xs) a ≡ false → contains (kept_holders rules b done xs) a ≡ false
 apart_kept rules b done [] a h = apart-front done [] a h
 apart_kept rules b done (x ∷ xs) a h =
     let front = apart-front done (x ∷ xs) a h in
     let rest = apart-rest done (x ∷ xs) a h in
     let one : contains (x ∷ []) a ≡ false = apart-cons x [] a (apart-head x xs a rest) refl in
-    either_apart (has_match rules b done x) (kept rules b done xs) (kept rules b (done ++ x ∷ []) xs) a
+    either_apart (has_match rules b done x) (kept_holders rules b done xs) (kept_holders rules b (done ++ x ∷ []) xs) a
     (apart_kept rules b done xs a (apart-append done xs a front (apart-tail x xs a rest)))
     (apart_kept rules b (done ++ x ∷ []) xs a (apart-append (done ++ x ∷ []) xs a (apart-append done (x ∷ []) a front one) (apart-tail x xs a rest)))
 
@@ -75,10 +75,10 @@ both_by ks gs ks' gs' x a true here f g h = elim (eqb_tells x a) as (λ _. conta
 ]
 both_by ks gs ks' gs' x a false here f g h = g h
 
-none_both : (rules : Rules) (b : Blocks) (done xs : List ℕ) (a : ℕ) → AreDistinct (done ++ xs) → contains (dropped rules b done xs) a ≡ true → contains (kept rules b done xs) a ≡ false
+none_both : (rules : Rules) (b : Blocks) (done xs : List ℕ) (a : ℕ) → AreDistinct (done ++ xs) → contains (dropped_holders rules b done xs) a ≡ true → contains (kept_holders rules b done xs) a ≡ false
 none_both rules b done [] a d h = absurd (true≢false (sym h))
 none_both rules b done (x ∷ xs) a d h =
-    both_by (kept rules b done xs) (dropped rules b done xs) (kept rules b (done ++ x ∷ []) xs) (dropped rules b (done ++ x ∷ []) xs) x a (has_match rules b done x)
+    both_by (kept_holders rules b done xs) (dropped_holders rules b done xs) (kept_holders rules b (done ++ x ∷ []) xs) (dropped_holders rules b (done ++ x ∷ []) xs) x a (has_match rules b done x)
     (apart_kept rules b done xs x (apart-removed done xs x d))
     (none_both rules b done xs a (distinct-remove done xs x d))
     (none_both rules b (done ++ x ∷ []) xs a (subst AreDistinct (sym (append_assoc done (x ∷ []) xs)) d))
@@ -89,13 +89,13 @@ length_by : (t : Bool) (n x : ℕ) (ks gs ks' gs' : List ℕ) → length ks + le
 length_by true n x ks gs ks' gs' e f = omega (arith, e)
 length_by false n x ks gs ks' gs' e f = f
 
-length_parted : (rules : Rules) (b : Blocks) (done xs : List ℕ) → length (kept rules b done xs) + length (dropped rules b done xs) ≡ length done + length xs
+length_parted : (rules : Rules) (b : Blocks) (done xs : List ℕ) → length (kept_holders rules b done xs) + length (dropped_holders rules b done xs) ≡ length done + length xs
 length_parted rules b done [] = refl
 length_parted rules b done (x ∷ xs) =
     let one = length_parted rules b done xs in
     let two = length_parted rules b (done ++ x ∷ []) xs in
     let long : length (done ++ x ∷ []) ≡ length done + 1 = length-append done (x ∷ []) in
-    length_by (has_match rules b done x) (length done + length (x ∷ xs)) x (kept rules b done xs) (dropped rules b done xs) (kept rules b (done ++ x ∷ []) xs) (dropped rules b (done ++ x ∷ []) xs)
+    length_by (has_match rules b done x) (length done + length (x ∷ xs)) x (kept_holders rules b done xs) (dropped_holders rules b done xs) (kept_holders rules b (done ++ x ∷ []) xs) (dropped_holders rules b (done ++ x ∷ []) xs)
     (omega (arith, one)) (omega (arith, two, long))
 
 -- by the truth of a test on the method
@@ -128,7 +128,7 @@ module _ (method : DictMethod) (rules : Rules) (b : Blocks) (xs : List ℕ) wher
 
   pub apart-drops : (a : ℕ) → contains xs a ≡ false → contains drops a ≡ false
   apart-drops a h =
-      either_apart (is_set method) (dropped rules b [] (ordered_by method rules b xs)) [] a
+      either_apart (is_set method) (dropped_holders rules b [] (ordered_by method rules b xs)) [] a
       (apart_dropped rules b [] (ordered_by method rules b xs) a (within_ordered method rules b xs a h)) refl
 
   pub within-keeps : (a : ℕ) → contains keeps a ≡ true → contains xs a ≡ true
@@ -139,16 +139,16 @@ module _ (method : DictMethod) (rules : Rules) (b : Blocks) (xs : List ℕ) wher
 
   pub distinct-drops : AreDistinct xs → AreDistinct drops
   distinct-drops d =
-      either_distinct (is_set method) (dropped rules b [] (ordered_by method rules b xs)) []
+      either_distinct (is_set method) (dropped_holders rules b [] (ordered_by method rules b xs)) []
       (distinct_dropped rules b [] (ordered_by method rules b xs) (distinct_ordered method rules b xs d)) tt
 
   pub keeps-apart : AreDistinct xs → (a : ℕ) → contains keeps a ≡ true → contains drops a ≡ false
   keeps-apart d a h =
       let os = ordered_by method rules b xs in
       out_by (contains keeps) (contains drops) a (contains drops a) refl
-      (set_apart (is_set method) (kept rules b [] os) (dropped rules b [] os) os a (none_both rules b [] os a (distinct_ordered method rules b xs d))) h
+      (set_apart (is_set method) (kept_holders rules b [] os) (dropped_holders rules b [] os) os a (none_both rules b [] os a (distinct_ordered method rules b xs d))) h
 
   pub length-parted : length keeps + length drops ≡ length xs
   length-parted =
       let os = ordered_by method rules b xs in
-      set_length (is_set method) (kept rules b [] os) (dropped rules b [] os) os (let e = length_parted rules b [] os in omega (arith, e)) ∙ length-ordered method rules b xs
+      set_length (is_set method) (kept_holders rules b [] os) (dropped_holders rules b [] os) os (let e = length_parted rules b [] os in omega (arith, e)) ∙ length-ordered method rules b xs

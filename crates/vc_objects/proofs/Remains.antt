@@ -20,7 +20,7 @@ use Rattle.vc_best.specs.Cells.{cells_in, labelled_blocks, rest_in}
 use Rattle.vc_best.specs.Parts.{disc_in, segments_in}
 use Rattle.vc_best.specs.declared.best.Best.{Best}
 use Rattle.vc_objects.specs.Leaves.{KeepsDisc, LeavesRest}
-use Rattle.vc_objects.specs.Objects.{owned}
+use Rattle.vc_objects.specs.Objects.{own_blocks}
 use Rattle.vc_objects.specs.Parts.{IsWhole, dictionary_in, dictionary_of, object_of}
 use Rattle.vc_objects.specs.Turning.{BringsCell}
 use Rattle.vc_objects.proofs.Bringing.{other-brought, told-brought}
@@ -48,7 +48,7 @@ module _ {I : Type 0} {V : I → Type 0} (meaning : (x : I) × V x → Disciplin
   leaves-refused r r' whole disc rest cells = record {
     whole = subst (λ b. IsWhole rules d b) (sym cells) whole;
     kind = refl;
-    rest = leaves-still meaning r r' (owned (dictionary_in d r)) (owned (dictionary_in d r')) disc rest cells (ap (λ b. owned (dictionary_of d b)) cells);
+    rest = leaves-still meaning r r' (own_blocks (dictionary_in d r)) (own_blocks (dictionary_in d r')) disc rest cells (ap (λ b. own_blocks (dictionary_of d b)) cells);
   }
 
   -- it was turned
@@ -66,7 +66,7 @@ module _ {I : Type 0} {V : I → Type 0} (meaning : (x : I) × V x → Disciplin
     not-new a some ne e =
         ne (then_by (has_table method) (has_table d.method) d.table.0 t d'.table.0 (slots_for d.count) s table brought.wants (λ z. some (e ∙ z)) ∙ sym e)
 
-    others-stay : (a : ℕ) → contains (owned (dictionary_in d r)) a ≡ false → contains (owned (dictionary_in d' r2)) a ≡ false → cells_in r2 a ≡ cells_in r a
+    others-stay : (a : ℕ) → contains (own_blocks (dictionary_in d r)) a ≡ false → contains (own_blocks (dictionary_in d' r2)) a ≡ false → cells_in r2 a ≡ cells_in r a
     others-stay a mine mine' = elim (eqb_tells a 0) as (λ _. cells_in r2 a ≡ cells_in r a) [
       | inl same ↦ subst (λ n. cells_in r2 n ≡ cells_in r n) (sym same.1) (none-at r2 ∙ sym (none-at r))
       | inr some ↦
@@ -83,7 +83,7 @@ module _ {I : Type 0} {V : I → Type 0} (meaning : (x : I) × V x → Disciplin
       | inr new ↦ subst (λ z. old z ≡ None) (sym new ∙ e) (brought.fresh (λ z. some (sym e ∙ (new ∙ z))))
     ]
 
-    fresh-then : (a : ℕ) → contains (owned (dictionary_in d' r2)) a ≡ true → contains (owned (dictionary_in d r)) a ≡ false → cells_in r a ≡ None
+    fresh-then : (a : ℕ) → contains (own_blocks (dictionary_in d' r2)) a ≡ true → contains (own_blocks (dictionary_in d r)) a ≡ false → cells_in r a ≡ None
     fresh-then a mine' mine = elim (eqb_tells a 0) as (λ _. cells_in r a ≡ None) [
       | inl same ↦ subst (λ n. cells_in r n ≡ None) (sym same.1) (none-at r)
       | inr some ↦

@@ -21,14 +21,14 @@ use Rattle.vc_dict.specs.declared.dict.Dict.{Dict}
 use Rattle.vc_dict.proofs.CurrentLemmas.{current-removed}
 use Rattle.vc_dict.proofs.OwnLemmas.{Stands-own, holder-there, holders-distinct, none-at_0, table-apart}
 use Rattle.vc_best.specs.Cells.{StaysButCells, cells_in, labelled_blocks, rest_in}
-use Rattle.vc_seg.specs.Boxed.{boxed}
+use Rattle.vc_seg.specs.Boxed.{disc_in_box}
 use Rattle.vc_best.specs.Parts.{disc_in, segments_in}
 use Rattle.vc_best.specs.declared.best.Best.{Best}
 use Rattle.vc_best.proofs.CellCalls.{stays-disc, stays-segments}
 use Rattle.vc_objects.specs.Unlabelled.{FreesCell}
-use Rattle.vc_objects.specs.Insert.{freed}
+use Rattle.vc_objects.specs.Insert.{layout_without}
 use Rattle.vc_objects.specs.Leaves.{GivesRemoved, LeavesRest, Looks, told_if}
-use Rattle.vc_objects.specs.Objects.{Dictionary, Table, listed, owned}
+use Rattle.vc_objects.specs.Objects.{Dictionary, Table, option_list, own_blocks}
 use Rattle.vc_objects.specs.Parts.{IsWhole, dictionary_in, object_of, table_of}
 use Rattle.vc_objects.specs.Promises.{TakesOut}
 use Rattle.vc_objects.specs.Remove.{remove_found}
@@ -78,10 +78,10 @@ apart-objects at (x ∷ xs) a h =
     (apart-cons x.at (map (λ (o : Object). o.at) (without_object address_of at xs)) a (apart-head x.at (map (λ (o : Object). o.at) xs) a h) (apart-objects at xs a behind))
 
 -- a dictionary that an object is taken out of owns no more than before
-pub fewer-owned : (r : Layout ℕ) (d : Dictionary) (o : Option Object) (a : ℕ) → contains (owned d) a ≡ false → contains (owned (remove_found r d o).dict) a ≡ false
+pub fewer-owned : (r : Layout ℕ) (d : Dictionary) (o : Option Object) (a : ℕ) → contains (own_blocks d) a ≡ false → contains (own_blocks (remove_found r d o).dict) a ≡ false
 fewer-owned r d None a h = h
 fewer-owned r d (Some o) a h =
-    let front = map (λ (t : Table). t.at) (listed d.table) in
+    let front = map (λ (t : Table). t.at) (option_list d.table) in
     apart-append front (map (λ (o : Object). o.at) (without_object address_of o.at d.objects)) a (apart-front front (map (λ (o : Object). o.at) d.objects) a h)
     (apart-objects o.at d.objects a (apart-rest front (map (λ (o : Object). o.at) d.objects) a h))
 
@@ -158,7 +158,7 @@ module _ {I : Type 0} {V : I → Type 0} (rules : Rules) (before mid : Best I V)
         (λ h e. taken.whole.table (sym (ap has_table taken.became.method) ∙ h) (sym (ap (λ z. z.0) taken.became.table) ∙ e))
         (subst (λ z. AllByRecursion (λ o. IsObject o.bytes) z) (sym objects-after) (all-without (λ o. IsObject o.bytes) at (dictionary_in old before).objects taken.whole.objects))
 
-    others-after : (a : ℕ) → contains (owned (dictionary_in old before)) a ≡ false → cells_in after a ≡ cells_in before a
+    others-after : (a : ℕ) → contains (own_blocks (dictionary_in old before)) a ≡ false → cells_in after a ≡ cells_in before a
     others-after a apart_own = elim (eqb_tells a 0) as (λ _. cells_in after a ≡ cells_in before a) [
       | inl zero ↦ ap (cells_in after) zero.1 ∙ none-at after ∙ sym (none-at before) ∙ ap (cells_in before) (sym zero.1)
       | inr some ↦
@@ -173,16 +173,16 @@ module _ {I : Type 0} {V : I → Type 0} (rules : Rules) (before mid : Best I V)
       whole = whole-after;
       kind = taken.became.kind;
       rest = record {
-        disc = keeps-same (disc_in meaning before) (disc_in meaning after) (segments_in before) (segments_in after) (free.around.disc ∙ ap (boxed meaning) stays.disc) (free.around.segments ∙ stays-segments before mid stays);
+        disc = keeps-same (disc_in meaning before) (disc_in meaning after) (segments_in before) (segments_in after) (free.around.disc ∙ ap (disc_in_box meaning) stays.disc) (free.around.segments ∙ stays-segments before mid stays);
         labelled = free.around.labelled ∙ ap labelled_blocks stays.layout;
         others = λ a old_apart _. others-after a old_apart;
         fresh = λ a new_within old_apart.
-            absurd (true≢false (sym new_within ∙ ap (λ d. contains (owned d) a) dict-after ∙ fewer-owned (rest_in before) (dictionary_in old before) (Some (object_of (cells_in before) at)) a old_apart));
+            absurd (true≢false (sym new_within ∙ ap (λ d. contains (own_blocks d) a) dict-after ∙ fewer-owned (rest_in before) (dictionary_in old before) (Some (object_of (cells_in before) at)) a old_apart));
       };
     }
 
-    pub region-taken : rest_in after ≡ freed (rest_in before) at
-    region-taken = free.rest ∙ ap (λ r. freed r at) stays.layout
+    pub region-taken : rest_in after ≡ layout_without (rest_in before) at
+    region-taken = free.rest ∙ ap (λ r. layout_without r at) stays.layout
 
     gives-taken : GivesRemoved (remove_found (rest_in before) (dictionary_in old before) (Some (object_of (cells_in before) at))) (rest_in after) (dictionary_in new after) (Some (object_at (cells_in mid) at))
     gives-taken = record { region = sym region-taken; dict = sym dict-after; gone = ap (λ z. Some z) (sym object-stays) }

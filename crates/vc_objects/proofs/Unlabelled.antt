@@ -22,7 +22,7 @@ use Rattle.vc_best.proofs.CellBytes.{the-cell}
 use Rattle.vc_best.proofs.CellCalls.{cells-more}
 use Rattle.vc_best.proofs.Labelled.{labelled-put}
 use Rattle.vc_best.proofs.RestBlocks.{without_block-zeroed}
-use Rattle.vc_objects.specs.Insert.{freed}
+use Rattle.vc_objects.specs.Insert.{layout_without}
 use Rattle.vc_objects.specs.Unlabelled.{MakesCell}
 
 -- where no block stands there is no cell
@@ -75,7 +75,7 @@ left-cell c x a ne = elim (eqb_tells a x) as (λ _. without_cell x c a ≡ c a) 
 ]
 
 -- a block goes, of a layout that shows zeros for the bytes of its cells
-pub freed-zeroed : (r : Layout ℕ) (a : ℕ) → zeroed_layout (without_block_at r (place_of a)) ≡ freed (zeroed_layout r) a
+pub freed-zeroed : (r : Layout ℕ) (a : ℕ) → zeroed_layout (without_block_at r (place_of a)) ≡ layout_without (zeroed_layout r) a
 freed-zeroed r a =
     let with : List (Block ℕ) → Layout ℕ = λ bs. record { segments = r.segments; blocks = bs } in
     ap with (without_block-zeroed (place_of a) r.blocks)

@@ -15,20 +15,20 @@ use Rattle.vc_objects.specs.declared.fate.Fate.{Fate}
 use Rattle.vc_objects.specs.declared.fate.Fate.TheVariants.{Stored, NoTable, NoHolder}
 use Rattle.vc_objects.specs.declared.fate.Want.{Want}
 use Rattle.vc_objects.specs.declared.fate.Want.TheVariants.{TooManySegments, NoSegment}
-use Rattle.vc_objects.specs.Objects.{Dictionary, Table, holder_size, listed, slots_of, table_size}
+use Rattle.vc_objects.specs.Objects.{Dictionary, Table, holder_size, option_list, slots_of, table_size}
 
 -- an unlabelled block of zeros is allocated; whether a segment is refused is a free choice
 abbrev pub alloc_unlabelled : {L : Type 0} → Terms → Layout L → L → ℕ → Bool → Outcome (Put (Layout L))
 alloc_unlabelled terms r none size refused = best_alloc terms r none size 32 refused
 
 -- the block at an address goes
-abbrev pub freed : {L : Type 0} → Layout L → ℕ → Layout L
-freed r at = without_block_at r (place_of at)
+abbrev pub layout_without : {L : Type 0} → Layout L → ℕ → Layout L
+layout_without r at = without_block_at r (place_of at)
 
 -- a table goes, where there is one
 abbrev pub without_table : {L : Type 0} → Layout L → Option Table → Layout L
 without_table r None = r
-without_table r (Some t) = freed r t.at
+without_table r (Some t) = layout_without r t.at
 
 -- what a block wants that a best region doesn't put
 abbrev pub want_of : Fault → Want
@@ -48,7 +48,7 @@ grown_with d slots (Done p) =
     Done (record {
       region = without_table p.region d.table;
       dict = record d { table = Some (record { at = address p.at; slots = slots }) };
-      granted = listed p.granted;
+      granted = option_list p.granted;
     })
 
 abbrev pub grown_to : {L : Type 0} → Terms → Layout L → L → Dictionary → Bool → Option ℕ → Outcome (Grown L)
@@ -90,14 +90,14 @@ pub record Inserted (L : Type 0) : Type 0 where
   pub fate : Fate
 
 -- the holder's block was put, or not: a larger table stays
-abbrev pub held : {L : Type 0} → Rules → Bool → List ℕ → Grown L → Outcome (Put (Layout L)) → Inserted L
-held rules append bytes g (Refused why) =
+abbrev pub insert_of : {L : Type 0} → Rules → Bool → List ℕ → Grown L → Outcome (Put (Layout L)) → Inserted L
+insert_of rules append bytes g (Refused why) =
     record { region = g.region; dict = g.dict; granted = g.granted; fate = NoHolder (want_of why) }
-held rules append bytes g (Done p) =
+insert_of rules append bytes g (Done p) =
     record {
       region = p.region;
       dict = with_object rules append bytes g.dict (address p.at);
-      granted = g.granted ++ listed p.granted;
+      granted = g.granted ++ option_list p.granted;
       fate = Stored;
     }
 
@@ -105,7 +105,7 @@ abbrev pub held_in : {L : Type 0} → Rules → Terms → Layout L → L → Dic
 held_in rules terms r none d append bytes no_holder (Refused why) =
     record { region = r; dict = d; granted = []; fate = NoTable (want_of why) }
 held_in rules terms r none d append bytes no_holder (Done g) =
-    held rules append bytes g (alloc_unlabelled terms g.region none (holder_size bytes) no_holder)
+    insert_of rules append bytes g (alloc_unlabelled terms g.region none (holder_size bytes) no_holder)
 
 -- an object is put where `insert` does, or `append`: the table grows first where it must, then comes the holder; whether a segment is refused for either is a free choice
 abbrev pub insert : {L : Type 0} → Rules → Terms → Layout L → L → Dictionary → Bool → List ℕ → Bool → Bool → Inserted L

@@ -18,7 +18,7 @@ use Rattle.vc_objects.specs.declared.fate.Fate.TheVariants.{Stored, NoTable, NoH
 use Rattle.vc_objects.specs.declared.fate.Want.{Want}
 use Rattle.vc_objects.specs.declared.fate.Want.TheVariants.{TooManySegments, NoSegment}
 use Rattle.vc_objects.specs.Insert.{Grown, Inserted, with_object}
-use Rattle.vc_objects.specs.Objects.{Dictionary, holder_size, owned, table_size}
+use Rattle.vc_objects.specs.Objects.{Dictionary, holder_size, own_blocks, table_size}
 use Rattle.vc_objects.specs.Parts.{IsWhole, dictionary_in}
 use Rattle.vc_objects.specs.Remove.{Removed}
 use Rattle.vc_objects.specs.Turn.{Turned}
@@ -39,7 +39,7 @@ pub record Leaves {I : Type 0} {V : I → Type 0} (meaning : (x : I) × V x → 
 pub record LeavesRest {I : Type 0} {V : I → Type 0} (meaning : (x : I) × V x → Discipline) (rules : Rules) (before : Best I V) (old : Dict) (after : Best I V) (new : Dict) : Type 0 where
   pub whole : IsWhole rules new (cells_in after)
   pub kind : new.kind ≡ old.kind
-  pub rest : Leaves meaning before after (owned (dictionary_in old before)) (owned (dictionary_in new after))
+  pub rest : Leaves meaning before after (own_blocks (dictionary_in old before)) (own_blocks (dictionary_in new after))
 
 -- a call that only looks leaves the region and the dictionary, too
 pub record Looks {I : Type 0} {V : I → Type 0} (meaning : (x : I) × V x → Discipline) (rules : Rules) (before : Best I V) (old : Dict) (after : Best I V) (new : Dict) : Type 0 where

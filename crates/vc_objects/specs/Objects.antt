@@ -28,10 +28,10 @@ slots_of None = 0
 slots_of (Some t) = t.slots
 
 -- an item, where there is one
-abbrev pub listed : {A : Type 0} → Option A → List A
-listed None = []
-listed (Some x) = x ∷ []
+abbrev pub option_list : {A : Type 0} → Option A → List A
+option_list None = []
+option_list (Some x) = x ∷ []
 
 -- the addresses of its blocks: of its table and of its holders
-abbrev pub owned : Dictionary → List ℕ
-owned d = map (λ t. t.at) (listed d.table) ++ map address_of d.objects
+abbrev pub own_blocks : Dictionary → List ℕ
+own_blocks d = map (λ t. t.at) (option_list d.table) ++ map address_of d.objects

@@ -20,7 +20,7 @@ use Rattle.vc_objects.specs.Insert.{open_dictionary, slots_wanted}
 use Rattle.vc_objects.specs.Leaves.{Asked, AskedHolder, AskedTable, GivesInserted, GivesRemoved}
 use Rattle.vc_objects.specs.Leaves.{GivesTurned, HasGrown, HasHeld, IsHalted, KeepsDisc, Leaves}
 use Rattle.vc_objects.specs.Leaves.{LeavesRest, no_holder, no_table, told_each, told_if}
-use Rattle.vc_objects.specs.Objects.{holder_size, owned}
+use Rattle.vc_objects.specs.Objects.{holder_size, own_blocks}
 use Rattle.vc_objects.specs.Parts.{IsWhole, dictionary_in}
 use Rattle.vc_objects.specs.Remove.{Emptied, Removed}
 use Rattle.vc_objects.specs.Turn.{Brought, Turned, bring_of, turn}
@@ -89,7 +89,7 @@ module _ {I : Type 0} {V : I → Type 0} (meaning : (x : I) × V x → Disciplin
     pub grown : HasGrown (opening_in meaning before method false)
         (rest_in after) (dictionary_in dict after)
     pub whole : IsWhole rules dict (cells_in after)
-    pub leaves : Leaves meaning before after [] (owned (dictionary_in dict after))
+    pub leaves : Leaves meaning before after [] (own_blocks (dictionary_in dict after))
     pub numbered : dict.kind ≡ kind
 
   -- a table of the slots that are wanted came as a definition says, or nothing changed where it was

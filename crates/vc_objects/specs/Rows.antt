@@ -118,5 +118,5 @@ abbrev pub after_growth : Inserted ℕ
 after_growth = put_in (table_in 4096) full_bag (98 ∷ []) false false
 
 -- one of 320 bytes where there is room for the larger table alone, and no segment for the holder
-abbrev pub halted : Inserted ℕ
-halted = put_in (table_in 672) full_bag (replicate 320 98) false true
+abbrev pub halted_insert : Inserted ℕ
+halted_insert = put_in (table_in 672) full_bag (replicate 320 98) false true

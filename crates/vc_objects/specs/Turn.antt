@@ -11,7 +11,7 @@ use Rattle.vc_dtdisc.specs.Objects as objects
 use Rattle.vc_dtdisc.specs.Objects.{Object, dropped_by, kept_by, ordered_by}
 use Rattle.vc_dtdisc.specs.Rules.{Rules}
 use Rattle.vc_objects.specs.Insert.{alloc_unlabelled, without_table}
-use Rattle.vc_objects.specs.Objects.{Dictionary, Table, listed, table_size}
+use Rattle.vc_objects.specs.Objects.{Dictionary, Table, option_list, table_size}
 use Rattle.vc_objects.specs.Remove.{bytes_of, freed_all}
 
 -- a region and a dictionary in it, turned; the bytes of the objects that were dropped; and the segments that were granted
@@ -27,14 +27,14 @@ pub record Brought (L : Type 0) : Type 0 where
   pub table : Option Table
   pub granted : List (ℕ × ℕ)
 
-abbrev pub brought : {L : Type 0} → ℕ → Outcome (Put (Layout L)) → Outcome (Brought L)
-brought slots (Refused why) = Refused why
-brought slots (Done p) =
-    Done (record { region = p.region; table = Some (record { at = address p.at; slots = slots }); granted = listed p.granted })
+abbrev pub turn_with : {L : Type 0} → ℕ → Outcome (Put (Layout L)) → Outcome (Brought L)
+turn_with slots (Refused why) = Refused why
+turn_with slots (Done p) =
+    Done (record { region = p.region; table = Some (record { at = address p.at; slots = slots }); granted = option_list p.granted })
 
 abbrev pub bring_of : {L : Type 0} → Terms → Layout L → L → Bool → Option ℕ → Outcome (Brought L)
 bring_of terms r none refused None = Done (record { region = r; table = None; granted = [] })
-bring_of terms r none refused (Some slots) = brought slots (alloc_unlabelled terms r none (table_size slots) refused)
+bring_of terms r none refused (Some slots) = turn_with slots (alloc_unlabelled terms r none (table_size slots) refused)
 
 -- the table comes before all else, with slots for the count before any object is dropped
 abbrev pub bring : {L : Type 0} → Terms → Layout L → L → Dictionary → DictMethod → Bool → Outcome (Brought L)

@@ -9,7 +9,7 @@ use Rattle.vc_seg.specs.declared.fault.RegionFault.{RegionFault}
 use Rattle.vc_best.specs.Cells.{cells_in, labelled_blocks, rest_in, without_cell}
 use Rattle.vc_best.specs.Parts.{disc_in, segments_in}
 use Rattle.vc_best.specs.declared.best.Best.{Best}
-use Rattle.vc_objects.specs.Insert.{alloc_unlabelled, freed}
+use Rattle.vc_objects.specs.Insert.{alloc_unlabelled, layout_without}
 
 -- at an address that had none stands a cell of so many zeros, and all others stay
 pub record MakesCell (before : Blocks) (size at : ℕ) (after : Blocks) : Type 0 where
@@ -38,6 +38,6 @@ pub record StaysAround {I : Type 0} {V : I → Type 0} (meaning : (x : I) × V x
 -- the cell at an address goes, and all else stays
 pub record FreesCell {I : Type 0} {V : I → Type 0} (meaning : (x : I) × V x → Discipline)
     (before : Best I V) (at : ℕ) (after : Best I V) : Type 0 where
-  pub rest : rest_in after ≡ freed (rest_in before) at
+  pub rest : rest_in after ≡ layout_without (rest_in before) at
   pub cells : cells_in after ≡ without_cell at (cells_in before)
   pub around : StaysAround meaning before after

@@ -3,7 +3,7 @@ ghost use Rattle.std.specs.Prelude.{◌≡◌, [], length};
 ghost use Rattle.vc_best.specs.Cells.{cells_in, rest_in};
 ghost use Rattle.vc_best.specs.Parts.{disc_in};
 ghost use Rattle.vc_objects.specs.Leaves.{Leaves, told_each};
-ghost use Rattle.vc_objects.specs.Objects.{owned};
+ghost use Rattle.vc_objects.specs.Objects.{own_blocks};
 ghost use Rattle.vc_objects.specs.Parts.{IsWhole, dictionary_in};
 ghost use Rattle.vc_objects.specs.Promises.{Empties};
 ghost use Rattle.vc_objects.specs.Remove.{all_out, bytes_of, first_out, region_without};
@@ -58,7 +58,7 @@ pub fn shut<D: DictDisc>(best: &mut Best, dict: Dict, kind: &mut D)
     ensures region { rest_in best.new
         ≡ region_without (rest_in best.old) (dictionary_in dict best.old) }
     ensures leaves { Leaves state best.old best.new
-        (owned (dictionary_in dict best.old)) [] }
+        (own_blocks (dictionary_in dict best.old)) [] }
     ensures disc { disc_in state best.new ≡ disc_in state best.old }
     ensures rules { D.rules kind.new ≡ D.rules kind.old }
     ensures gone { D.gone kind.new ≡ told_each

@@ -8,7 +8,7 @@ ghost use Rattle.vc_objects.specs.Insert.{open_dictionary, slots_wanted};
 ghost use Rattle.vc_objects.specs.Remove.{freed_all, region_without, remove, remove_unnamed};
 ghost use Rattle.vc_objects.specs.Rows.{after_growth, at_place, b_a_b, bag, bag_of, bag_turned};
 ghost use Rattle.vc_objects.specs.Rows.{by_fold, by_page, first_table, full_bag, full_region};
-ghost use Rattle.vc_objects.specs.Rows.{halted, held_region, lower_a, lower_b, lower_c, of_many};
+ghost use Rattle.vc_objects.specs.Rows.{halted_insert, held_region, lower_a, lower_b, lower_c, of_many};
 ghost use Rattle.vc_objects.specs.Rows.{of_three, offsets_in, one_segment, put_in, segment_of};
 ghost use Rattle.vc_objects.specs.Rows.{table_in, three_holders, upper_b, with_upper};
 ghost use Rattle.vc_objects.specs.Turn.{turn};
@@ -139,10 +139,10 @@ pub fn grown_rows()
 
 /// Where the segment has room for the larger table alone, a refused holder leaves that.
 pub fn halted_rows()
-    ensures fate { halted.fate ≡ Fate.NoHolder Want.NoSegment }
-    ensures table { halted.dict.table ≡ Some (record { at = 1048588; slots = 32 }) }
-    ensures objects { halted.dict.objects ≡ replicate 32 lower_b }
-    ensures blocks { offsets_in halted.region ≡ 384 ∷ [] }
+    ensures fate { halted_insert.fate ≡ Fate.NoHolder Want.NoSegment }
+    ensures table { halted_insert.dict.table ≡ Some (record { at = 1048588; slots = 32 }) }
+    ensures objects { halted_insert.dict.objects ≡ replicate 32 lower_b }
+    ensures blocks { offsets_in halted_insert.region ≡ 384 ∷ [] }
 {}
 
 /// With no room for the larger table nothing changes, and by 1,023 segments no more is asked for.

@@ -4,7 +4,7 @@ ghost use Rattle.vc_best.specs.Cells.{cells_in, rest_in};
 ghost use Rattle.vc_objects.specs.Unlabelled.{StaysAround};
 ghost use Rattle.vc_objects.specs.Insert.{without_table};
 ghost use Rattle.vc_objects.specs.Leaves.{Leaves};
-ghost use Rattle.vc_objects.specs.Objects.{owned};
+ghost use Rattle.vc_objects.specs.Objects.{own_blocks};
 ghost use Rattle.vc_objects.specs.Parts.{CanGrow, IsWhole, dictionary_in, table_of};
 ghost use Rattle.vc_objects.specs.Promises.{Grows, table_in};
 
@@ -43,7 +43,7 @@ pub(crate) fn put_table<D: DictDisc>(
     ensures whole { OnOk result (IsWhole (D.rules kind.now) dict.new (cells_in best.new)) }
     ensures kind { dict.new.kind ≡ dict.old.kind }
     ensures leaves { Leaves state best.old best.new
-        (owned (dictionary_in dict.old best.old)) (owned (dictionary_in dict.new best.new)) }
+        (own_blocks (dictionary_in dict.old best.old)) (own_blocks (dictionary_in dict.new best.new)) }
 
     // With no block for it nothing changed.
     ensures err { OnErr result ((cells_in best.new ≡ cells_in best.old) × (dict.new ≡ dict.old)) }

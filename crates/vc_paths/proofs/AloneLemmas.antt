@@ -13,7 +13,7 @@ use Rattle.vc_dtdisc.specs.Rules.{Rules}
 use Rattle.vc_paths.specs.Layers.{AreLayers, Layered, bytes_there, place_before, place_behind, place_in, stands_at}
 use Rattle.vc_paths.specs.Links.{Links, below, onward, path, path_of}
 use Rattle.vc_paths.specs.Path.{Answers, IsPath, IsVisible, is_at, numbers_of, objects_of, place_of, seen_in, visible_of}
-use Rattle.vc_paths.specs.Visible.{Seen, is_hidden, seen_bytes, stacked}
+use Rattle.vc_paths.specs.Visible.{Seen, is_hidden, seen_bytes, stacked_objects}
 use Rattle.vc_paths.proofs.NeighbourLemmas.{any_map, at_elsewhere, before_map, behind_map, none_hidden}
 use Rattle.vc_paths.proofs.OrderLemmas.{any_none}
 use Rattle.vc_paths.proofs.OrderedLemmas.{layer_sorted, visible_ordered}
@@ -50,8 +50,8 @@ visible_alone all links d laws path' none =
     let rules = (all.layer d).rules in
     let objects = objects_of all d in
     let like = path-first all links d path' in
-    let whole : stacked rules [] (map (objects_of all) (path links d)) ≡ objects =
-    ap (λ z. stacked rules [] (map (objects_of all) z)) (path_alone links d none)
+    let whole : stacked_objects rules [] (map (objects_of all) (path links d)) ≡ objects =
+    ap (λ z. stacked_objects rules [] (map (objects_of all) z)) (path_alone links d none)
     ∙ append-nil (filter (λ o. not (is_hidden rules [] o)) objects)
     ∙ none_hidden rules objects in
     elim (cases_Bool (is_ordered (all.layer d).method)) as (λ _. visible_of all links d ≡ objects) [

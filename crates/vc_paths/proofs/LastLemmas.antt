@@ -8,7 +8,7 @@ use Rattle.vc_dtdisc.specs.Objects.{is_greater, is_match, placed_among, placed_e
 use Rattle.vc_dtdisc.specs.Rules.{Rules}
 use Rattle.vc_dtdisc.specs.Finding.{last_from, last_of}
 use Rattle.vc_paths.specs.Ordered.{greater, is_behind}
-use Rattle.vc_paths.specs.Visible.{Seen, is_hidden, seen_bytes, stacked}
+use Rattle.vc_paths.specs.Visible.{Seen, is_hidden, seen_bytes, stacked_objects}
 use Rattle.vc_paths.proofs.OrderLemmas.{AreOrdered, all_append, all_kept, all_weaker, any_more, any_none, up}
 use Rattle.vc_paths.proofs.SortedLemmas.{AreSorted, IsUpto, filter_sorted, filter_stacked, itself, layers_filter, placed_sorted}
 
@@ -193,16 +193,16 @@ top_layer rules laws best above (x ∷ xs) h s =
     ]
 
 -- the greatest of the layers is the greatest of their lasts
-greatest_stacked : (rules : Rules) → AreOrdered rules → (best : Option (Seen ℕ)) (above : List (Seen ℕ)) (layers : List (List (Seen ℕ))) → IsTop rules best above → AllByRecursion (AreSorted rules) layers → greatest rules best (stacked rules above layers) ≡ greatest_of rules best layers
+greatest_stacked : (rules : Rules) → AreOrdered rules → (best : Option (Seen ℕ)) (above : List (Seen ℕ)) (layers : List (List (Seen ℕ))) → IsTop rules best above → AllByRecursion (AreSorted rules) layers → greatest rules best (stacked_objects rules above layers) ≡ greatest_of rules best layers
 greatest_stacked rules laws best above [] h s = refl
 greatest_stacked rules laws best above (layer ∷ lower) h s =
-    greatest_append rules best (filter (λ o. not (is_hidden rules above o)) layer) (stacked rules (above ++ layer) lower)
-    ∙ ap (λ z. greatest rules z (stacked rules (above ++ layer) lower)) (greatest_layer rules laws best above layer h s.0)
+    greatest_append rules best (filter (λ o. not (is_hidden rules above o)) layer) (stacked_objects rules (above ++ layer) lower)
+    ∙ ap (λ z. greatest rules z (stacked_objects rules (above ++ layer) lower)) (greatest_layer rules laws best above layer h s.0)
     ∙ greatest_stacked rules laws (greater rules best (last_of layer)) (above ++ layer) lower (top_layer rules laws best above layer h s.0) s.1
 
 -- the last in order of keys that passes a test which matching objects share is the greatest of those of the layers
-pub last_passing : (rules : Rules) → AreOrdered rules → (p : Seen ℕ → Bool) (layers : List (List (Seen ℕ))) → ((o u : Seen ℕ) → is_match rules o.bytes u.bytes ≡ true → p o ≡ true → p u ≡ true) → AllByRecursion (AreSorted rules) layers → last_of (filter p (placed_each seen_bytes rules [] (stacked rules [] layers))) ≡ greatest_of rules None (map (filter p) layers)
+pub last_passing : (rules : Rules) → AreOrdered rules → (p : Seen ℕ → Bool) (layers : List (List (Seen ℕ))) → ((o u : Seen ℕ) → is_match rules o.bytes u.bytes ≡ true → p o ≡ true → p u ≡ true) → AllByRecursion (AreSorted rules) layers → last_of (filter p (placed_each seen_bytes rules [] (stacked_objects rules [] layers))) ≡ greatest_of rules None (map (filter p) layers)
 last_passing rules laws p layers shared s =
-    ap last_of (filter_sorted rules laws p [] (stacked rules [] layers) tt ∙ ap (placed_each seen_bytes rules []) (filter_stacked rules p [] layers shared))
-    ∙ last_onto rules laws [] (stacked rules [] (map (filter p) layers)) tt
+    ap last_of (filter_sorted rules laws p [] (stacked_objects rules [] layers) tt ∙ ap (placed_each seen_bytes rules []) (filter_stacked rules p [] layers shared))
+    ∙ last_onto rules laws [] (stacked_objects rules [] (map (filter p) layers)) tt
     ∙ greatest_stacked rules laws None [] (map (filter p) layers) (tt, tt) (layers_filter rules p layers s)

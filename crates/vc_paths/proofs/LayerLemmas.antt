@@ -10,7 +10,7 @@ use Rattle.vc_dtdisc.specs.Objects.{Object}
 use Rattle.vc_base.specs.Address.{number_of}
 use Rattle.vc_dtdisc.specs.Finding.{before_first, behind_last, first_of, last_from, last_of}
 use Rattle.vc_paths.specs.Layers.{AreLayers, Layered, bytes_there, place_before, place_behind, place_in, stands_at}
-use Rattle.vc_paths.specs.Ordered.{IsStanding, Stands, named, object_at, object_there}
+use Rattle.vc_paths.specs.Ordered.{IsStanding, Stands, place_in_dict, object_at, object_there}
 use Rattle.vc_paths.specs.Path.{objects_of, seen_in}
 use Rattle.vc_paths.specs.Shown.{objects_from, objects_up_to}
 use Rattle.vc_paths.specs.Visible.{Seen}
@@ -24,8 +24,8 @@ object_one all e at s =
 
 -- a place beside one that stands in the layer, or at an end
 pub record Shows (all : Layered) (e : ℕ) (next : Option Addr) (o : Option Object) : Type 0 where
-  pub stands : IsStanding all e (named e next)
-  pub object : object_at all (named e next) ≡ option_map (seen_in e) o
+  pub stands : IsStanding all e (place_in_dict e next)
+  pub object : object_at all (place_in_dict e next) ≡ option_map (seen_in e) o
 
 -- the place of an object that is the one at its address
 shows : (all : Layered) (e : ℕ) (next : Option Addr) (o : Option Object) → all.Has e → option_map number_of next ≡ place_in o → ((x : Object) → o ≡ Some x → bytes_there x.at (all.layer e).objects ≡ Some x.bytes) → Shows all e next o
@@ -59,7 +59,7 @@ until_shown all e next front rest h d whole n =
 
 -- on the way from the first, what is left has the same first one that passes
 pub record Onward (all : Layered) (e : ℕ) (p : Seen ℕ → Bool) (next : Option Addr) : Type 0 where
-  pub stands : IsStanding all e (named e next)
+  pub stands : IsStanding all e (place_in_dict e next)
   pub same : first_of (filter p (map (seen_in e) (objects_from (option_map number_of next) (all.layer e).objects))) ≡ first_of (filter p (objects_of all e))
 
 pub onward_start : (all : Layered) (e : ℕ) (p : Seen ℕ → Bool) (next : Option Addr) → AreLayers all → all.Has e → option_map number_of next ≡ place_in (first_of (all.layer e).objects) → Onward all e p next
@@ -106,7 +106,7 @@ onward_next {all} {e} {p} {at} {here} {next} laws h w fails n =
 
 -- on the way back from the last, what is left has the same last one that passes
 pub record Backward (all : Layered) (e : ℕ) (p : Seen ℕ → Bool) (next : Option Addr) : Type 0 where
-  pub stands : IsStanding all e (named e next)
+  pub stands : IsStanding all e (place_in_dict e next)
   pub same : last_of (filter p (map (seen_in e) (objects_up_to (option_map number_of next) (all.layer e).objects))) ≡ last_of (filter p (objects_of all e))
 
 pub backward_start : (all : Layered) (e : ℕ) (p : Seen ℕ → Bool) (next : Option Addr) → AreLayers all → all.Has e → option_map number_of next ≡ place_in (last_of (all.layer e).objects) → Backward all e p next

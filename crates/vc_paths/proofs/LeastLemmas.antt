@@ -7,7 +7,7 @@ use Rattle.vc_dtdisc.specs.Objects.{is_greater, is_match, placed_among, placed_e
 use Rattle.vc_dtdisc.specs.Rules.{Rules}
 use Rattle.vc_dtdisc.specs.Finding.{first_of}
 use Rattle.vc_paths.specs.Ordered.{is_before, lesser}
-use Rattle.vc_paths.specs.Visible.{Seen, is_hidden, seen_bytes, stacked}
+use Rattle.vc_paths.specs.Visible.{Seen, is_hidden, seen_bytes, stacked_objects}
 use Rattle.vc_paths.proofs.OrderLemmas.{AreOrdered, all_append, all_filter, all_weaker, any_none}
 use Rattle.vc_paths.proofs.SortedLemmas.{AreSorted, IsUpto, filter_sorted, filter_stacked, itself, layers_filter}
 
@@ -89,16 +89,16 @@ before_layer rules laws best above (x ∷ xs) h s = elim (cases_Bool (is_before 
 ]
 
 -- the least of the layers is the least of their firsts
-least_stacked : (rules : Rules) → AreOrdered rules → (best : Option (Seen ℕ)) (above : List (Seen ℕ)) (layers : List (List (Seen ℕ))) → NoneBefore rules best above → AllByRecursion (AreSorted rules) layers → least rules best (stacked rules above layers) ≡ least_of rules best layers
+least_stacked : (rules : Rules) → AreOrdered rules → (best : Option (Seen ℕ)) (above : List (Seen ℕ)) (layers : List (List (Seen ℕ))) → NoneBefore rules best above → AllByRecursion (AreSorted rules) layers → least rules best (stacked_objects rules above layers) ≡ least_of rules best layers
 least_stacked rules laws best above [] h s = refl
 least_stacked rules laws best above (layer ∷ lower) h s =
-    least_append rules best (filter (λ o. not (is_hidden rules above o)) layer) (stacked rules (above ++ layer) lower)
-    ∙ ap (λ z. least rules z (stacked rules (above ++ layer) lower)) (least_layer rules laws best above layer h s.0)
+    least_append rules best (filter (λ o. not (is_hidden rules above o)) layer) (stacked_objects rules (above ++ layer) lower)
+    ∙ ap (λ z. least rules z (stacked_objects rules (above ++ layer) lower)) (least_layer rules laws best above layer h s.0)
     ∙ least_stacked rules laws (lesser rules best (first_of layer)) (above ++ layer) lower (before_layer rules laws best above layer h s.0) s.1
 
 -- the first in order of keys that passes a test which matching objects share is the least of those of the layers
-pub first_passing : (rules : Rules) → AreOrdered rules → (p : Seen ℕ → Bool) (layers : List (List (Seen ℕ))) → ((o u : Seen ℕ) → is_match rules o.bytes u.bytes ≡ true → p o ≡ true → p u ≡ true) → AllByRecursion (AreSorted rules) layers → first_of (filter p (placed_each seen_bytes rules [] (stacked rules [] layers))) ≡ least_of rules None (map (filter p) layers)
+pub first_passing : (rules : Rules) → AreOrdered rules → (p : Seen ℕ → Bool) (layers : List (List (Seen ℕ))) → ((o u : Seen ℕ) → is_match rules o.bytes u.bytes ≡ true → p o ≡ true → p u ≡ true) → AllByRecursion (AreSorted rules) layers → first_of (filter p (placed_each seen_bytes rules [] (stacked_objects rules [] layers))) ≡ least_of rules None (map (filter p) layers)
 first_passing rules laws p layers shared s =
-    ap first_of (filter_sorted rules laws p [] (stacked rules [] layers) tt ∙ ap (placed_each seen_bytes rules []) (filter_stacked rules p [] layers shared))
-    ∙ first_onto rules [] (stacked rules [] (map (filter p) layers))
+    ap first_of (filter_sorted rules laws p [] (stacked_objects rules [] layers) tt ∙ ap (placed_each seen_bytes rules []) (filter_stacked rules p [] layers shared))
+    ∙ first_onto rules [] (stacked_objects rules [] (map (filter p) layers))
     ∙ least_stacked rules laws None [] (map (filter p) layers) tt (layers_filter rules p layers s)

@@ -6,7 +6,7 @@ use Rattle.std.proofs.lemmas.Bool.{or_parts, or_right}
 use Rattle.std.proofs.lemmas.Bool.Decides.{eqb_tells, leb_tells}
 use Rattle.std.proofs.lemmas.Option.{none-some, slice_get_past}
 use Rattle.std.proofs.lemmas.List.{length-replicate}
-use Rattle.vc_paths.specs.Links.{ArePaths, Links, are_too_long, below, is_too_long, link_at, linked, no_links, numbers, numbers_from, onward, path_limit, path_of}
+use Rattle.vc_paths.specs.Links.{ArePaths, Links, are_too_long, below, is_too_long, link_at, links_with, no_links, numbers, numbers_from, onward, path_limit, path_of}
 use Rattle.vc_paths.proofs.PathLemmas.{not_less}
 
 get-set_same : (xs : Links) (i : ℕ) (y : Option ℕ) → i < length xs → slice_get (slice_set xs i y) i ≡ Some y
@@ -22,10 +22,10 @@ get-set_other (x ∷ xs) (suc i) zero y ne = refl
 get-set_other (x ∷ xs) (suc i) (suc j) y ne = get-set_other xs i j y (λ e. ne (ap suc e))
 
 -- what a dictionary views, with its own link another or with another one's
-pub below-linked : (links : Links) (d : ℕ) (o : Option ℕ) → d < length links → below (linked d o links) d ≡ o
+pub below-linked : (links : Links) (d : ℕ) (o : Option ℕ) → d < length links → below (links_with d o links) d ≡ o
 below-linked links d o h = ap link_at (get-set_same links d o h)
 
-pub below-other : (links : Links) (d x : ℕ) (o : Option ℕ) → x ≢ d → below (linked d o links) x ≡ below links x
+pub below-other : (links : Links) (d x : ℕ) (o : Option ℕ) → x ≢ d → below (links_with d o links) x ≡ below links x
 below-other links d x o ne = ap link_at (get-set_other links d x o ne)
 
 -- past the numbers nothing is viewed
@@ -71,26 +71,26 @@ onward-less : (f g : ℕ → List ℕ) (o : Option ℕ) → ((e : ℕ) → lengt
 onward-less f g None each = omega arith
 onward-less f g (Some e) each = each e
 
-ended-shorter : (links : Links) (d n x : ℕ) → d < length links → length (path_of n (linked d None links) x) ≤ length (path_of n links x)
+ended-shorter : (links : Links) (d n x : ℕ) → d < length links → length (path_of n (links_with d None links) x) ≤ length (path_of n links x)
 ended-shorter links d zero x h = omega arith
-ended-shorter links d (suc n) x h = elim (eqb_tells x d) as (λ _. length (path_of (suc n) (linked d None links) x) ≤ length (path_of (suc n) links x)) [
-  | inl same ↦ rw (ap (below (linked d None links)) same.1 ∙ below-linked links d None h) (omega arith)
+ended-shorter links d (suc n) x h = elim (eqb_tells x d) as (λ _. length (path_of (suc n) (links_with d None links) x) ≤ length (path_of (suc n) links x)) [
+  | inl same ↦ rw (ap (below (links_with d None links)) same.1 ∙ below-linked links d None h) (omega arith)
   | inr apart ↦
-      let rest = onward-less (path_of n (linked d None links)) (path_of n links) (below links x) (λ e. ended-shorter links d n e h) in
+      let rest = onward-less (path_of n (links_with d None links)) (path_of n links) (below links x) (λ e. ended-shorter links d n e h) in
       rw (below-other links d x None apart.1) (omega (arith, rest))
 ]
 
-within-ended : (links : Links) (d x e : ℕ) → ArePaths links → d < numbers → below (linked d None links) x ≡ Some e → e < numbers
+within-ended : (links : Links) (d x e : ℕ) → ArePaths links → d < numbers → below (links_with d None links) x ≡ Some e → e < numbers
 within-ended links d x e p h b = elim (eqb_tells x d) as (λ _. e < numbers) [
-  | inl same ↦ absurd (none-some e (sym (ap (below (linked d None links)) same.1 ∙ below-linked links d None (subst (λ z. d < z) (sym p.all) h)) ∙ b))
+  | inl same ↦ absurd (none-some e (sym (ap (below (links_with d None links)) same.1 ∙ below-linked links d None (subst (λ z. d < z) (sym p.all) h)) ∙ b))
   | inr apart ↦ p.within x e (sym (below-other links d x None apart.1) ∙ b)
 ]
 
-pub ArePaths-ended : (links : Links) (d : ℕ) → ArePaths links → d < numbers → ArePaths (linked d None links)
+pub ArePaths-ended : (links : Links) (d : ℕ) → ArePaths links → d < numbers → ArePaths (links_with d None links)
 ArePaths-ended links d p h = record {
   all = length-set links d None ∙ p.all;
   within = λ x e b. within-ended links d x e p h b;
-  short = λ x. short (linked d None links) x
+  short = λ x. short (links_with d None links) x
       (le_trans (ended-shorter links d (suc path_limit) x (subst (λ z. d < z) (sym p.all) h)) (long links x (p.short x)));
 }
 
@@ -119,10 +119,10 @@ some-any test first (suc more) x h l m = elim (eqb_tells first x) as (λ _. list
 ]
 
 -- with another link where no path is too long
-pub within-viewed : (links : Links) (d e x y : ℕ) → ArePaths links → d < numbers → e < numbers → below (linked d (Some e) links) x ≡ Some y → y < numbers
+pub within-viewed : (links : Links) (d e x y : ℕ) → ArePaths links → d < numbers → e < numbers → below (links_with d (Some e) links) x ≡ Some y → y < numbers
 within-viewed links d e x y p h k b = elim (eqb_tells x d) as (λ _. y < numbers) [
   | inl same ↦
-      let both : Some e ≡ Some y = sym (ap (below (linked d (Some e) links)) same.1 ∙ below-linked links d (Some e) (subst (λ z. d < z) (sym p.all) h)) ∙ b in
+      let both : Some e ≡ Some y = sym (ap (below (links_with d (Some e) links)) same.1 ∙ below-linked links d (Some e) (subst (λ z. d < z) (sym p.all) h)) ∙ b in
       let one : e ≡ y = cc in
       subst (λ z. z < numbers) one k
   | inr apart ↦ p.within x y (sym (below-other links d x (Some e) apart.1) ∙ b)
@@ -132,11 +132,11 @@ short-viewed : (links : Links) (x : ℕ) → length links ≡ numbers → are_to
 short-viewed links x all h (inl past) = none-short links x (below-past links x (subst (λ z. z ≤ x) (sym all) past))
 short-viewed links x all h (inr within) = any-none (is_too_long links) 0 numbers x h (omega arith) within
 
-pub ArePaths-viewed : (links : Links) (d e : ℕ) → ArePaths links → d < numbers → e < numbers → are_too_long (linked d (Some e) links) ≡ false → ArePaths (linked d (Some e) links)
+pub ArePaths-viewed : (links : Links) (d e : ℕ) → ArePaths links → d < numbers → e < numbers → are_too_long (links_with d (Some e) links) ≡ false → ArePaths (links_with d (Some e) links)
 ArePaths-viewed links d e p h k t =
-    let all : length (linked d (Some e) links) ≡ numbers = length-set links d (Some e) ∙ p.all in
+    let all : length (links_with d (Some e) links) ≡ numbers = length-set links d (Some e) ∙ p.all in
     record {
       all = all;
       within = λ x y b. within-viewed links d e x y p h k b;
-      short = λ x. short-viewed (linked d (Some e) links) x all t (within-or-past x);
+      short = λ x. short-viewed (links_with d (Some e) links) x all t (within-or-past x);
     }

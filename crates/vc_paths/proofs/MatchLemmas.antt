@@ -19,7 +19,7 @@ use Rattle.vc_paths.specs.Links.{Links, path}
 use Rattle.vc_paths.specs.Path.{IsPath, is_at, objects_of, place_of, seen_in, visible_of}
 use Rattle.vc_paths.specs.Seek.{has_key_in}
 use Rattle.vc_paths.specs.Shown.{IsPlaceIn, objects_from}
-use Rattle.vc_paths.specs.Visible.{Seen, seen_bytes, stacked}
+use Rattle.vc_paths.specs.Visible.{Seen, seen_bytes, stacked_objects}
 use Rattle.vc_paths.proofs.EndLemmas.{last-append, last-map, last-or, filter-map, filter-same}
 use Rattle.vc_paths.proofs.OrderLemmas.{all_filter, all_weaker, filter_kept, ordered, tied_keys}
 use Rattle.vc_paths.proofs.PlaceLemmas.{Standing, behind-here, from-first, from-here, place-first, standing, there}
@@ -141,7 +141,7 @@ key-visible : (all : Layered) (links : Links) (d : ℕ) (key : List ℕ) → Are
 key-visible all links d key lawful =
     let rules = (all.layer d).rules in
     let layers = map (objects_of all) (path links d) in
-    key-ordered (is_ordered (all.layer d).method) rules key (stacked rules [] layers) lawful ∙ stacked-key rules key layers lawful
+    key-ordered (is_ordered (all.layer d).method) rules key (stacked_objects rules [] layers) lawful ∙ stacked-key rules key layers lawful
 
 pub key-layer : (all : Layered) (links : Links) (d : ℕ) (key : List ℕ) (x : Seen ℕ) → AreLawful (all.layer d).rules → find (has_key_in all d key) (visible_of all links d) ≡ Some x → filter (has_key_in all d key) (visible_of all links d) ≡ filter (has_key_in all d key) (objects_of all x.dict)
 key-layer all links d key x lawful h =

@@ -15,9 +15,9 @@ use Rattle.vc_base.specs.Address.{number_of}
 use Rattle.vc_dtdisc.specs.Finding.{before_first, before_first_from, behind_last, first_of, last_of}
 use Rattle.vc_paths.specs.Layers.{AreLayers, Layered, bytes_there, place_before, place_behind, stands_at}
 use Rattle.vc_paths.specs.Links.{Links, path}
-use Rattle.vc_paths.specs.Ordered.{Stands, if_level, is_before, is_behind, is_level, named, object_at, object_there}
+use Rattle.vc_paths.specs.Ordered.{Stands, if_level, is_before, is_behind, is_level, place_in_dict, object_at, object_there}
 use Rattle.vc_paths.specs.Path.{Answers, IsAlike, IsPath, IsVisible, is_at, numbers_of, objects_of, place_of, seen_in, visible_of}
-use Rattle.vc_paths.specs.Visible.{Seen, is_hidden, seen_bytes, stacked}
+use Rattle.vc_paths.specs.Visible.{Seen, is_hidden, seen_bytes, stacked_objects}
 use Rattle.vc_paths.proofs.BesideLemmas.{AreLevel, any_level, before_apart, before_beside, behind_apart, behind_beside, fails}
 use Rattle.vc_paths.proofs.EndLemmas.{any-map, before-map, behind-map}
 use Rattle.vc_paths.proofs.LayerLemmas.{next_shown, previous_shown}
@@ -42,10 +42,10 @@ level_shared rules laws x o u m h = laws.tied u.bytes x.bytes
     (laws.upto x.bytes o.bytes u.bytes (laws.right o.bytes x.bytes h) (laws.right u.bytes o.bytes m))
 
 -- below one that matches no other one that does is seen
-level_hidden : (rules : Rules) → AreOrdered rules → (x : Seen ℕ) (above : List (Seen ℕ)) (layers : List (List (Seen ℕ))) → list_any (is_level rules x) above ≡ true → AllByRecursion (λ y. is_level rules x y ≡ false) (stacked rules above layers)
+level_hidden : (rules : Rules) → AreOrdered rules → (x : Seen ℕ) (above : List (Seen ℕ)) (layers : List (List (Seen ℕ))) → list_any (is_level rules x) above ≡ true → AllByRecursion (λ y. is_level rules x y ≡ false) (stacked_objects rules above layers)
 level_hidden rules laws x above [] h = tt
 level_hidden rules laws x above (layer ∷ lower) h =
-    all_append (λ y. is_level rules x y ≡ false) (filter (λ o. not (is_hidden rules above o)) layer) (stacked rules (above ++ layer) lower)
+    all_append (λ y. is_level rules x y ≡ false) (filter (λ o. not (is_hidden rules above o)) layer) (stacked_objects rules (above ++ layer) lower)
     (all_weaker (λ y. not (is_hidden rules above y) ≡ true) (λ y. is_level rules x y ≡ false) (λ y n.
     fails (is_level rules x y) (is_hidden rules above y) (λ m. any_more (is_level rules x) (λ u. is_match rules y.bytes u.bytes) (λ u w. level_both rules laws x y u m w) above h) (not-true (is_hidden rules above y) n))
     (filter (λ o. not (is_hidden rules above o)) layer) (filter_kept (λ o. not (is_hidden rules above o)) layer))
@@ -77,14 +77,14 @@ pub record Seeks (rules : Rules) (all : Layered) (e a : ℕ) (x : Seen ℕ) : Ty
   pub present : list_any (is_level rules x) (objects_of all e) ≡ true
 
 -- the objects that match the one at a visible place are those of its dictionary
-level_stacked : (rules : Rules) (all : Layered) (e a : ℕ) (x : Seen ℕ) (above : List (Seen ℕ)) (es : List ℕ) → Seeks rules all e a x → AllByRecursion (AreLevel rules x (is_at (e, a))) (map (objects_of all) es) → AllByRecursion (λ u. is_level rules x u ≡ false) above → list_any (is_at (e, a)) (stacked rules above (map (objects_of all) es)) ≡ true → filter (is_level rules x) (stacked rules above (map (objects_of all) es)) ≡ filter (is_level rules x) (objects_of all e)
+level_stacked : (rules : Rules) (all : Layered) (e a : ℕ) (x : Seen ℕ) (above : List (Seen ℕ)) (es : List ℕ) → Seeks rules all e a x → AllByRecursion (AreLevel rules x (is_at (e, a))) (map (objects_of all) es) → AllByRecursion (λ u. is_level rules x u ≡ false) above → list_any (is_at (e, a)) (stacked_objects rules above (map (objects_of all) es)) ≡ true → filter (is_level rules x) (stacked_objects rules above (map (objects_of all) es)) ≡ filter (is_level rules x) (objects_of all e)
 level_stacked rules all e a x above [] s l h any = absurd (true≢false (sym any))
 level_stacked rules all e a x above (f ∷ es) s l h any =
     let layer = objects_of all f in
     let seen = filter (λ o. not (is_hidden rules above o)) layer in
-    let lower = stacked rules (above ++ layer) (map (objects_of all) es) in
+    let lower = stacked_objects rules (above ++ layer) (map (objects_of all) es) in
     let parts = filter-append (is_level rules x) seen lower in
-    elim (cases_Bool (f == e)) as (λ _. filter (is_level rules x) (stacked rules above (map (objects_of all) (f ∷ es))) ≡ filter (is_level rules x) (objects_of all e)) [
+    elim (cases_Bool (f == e)) as (λ _. filter (is_level rules x) (stacked_objects rules above (map (objects_of all) (f ∷ es))) ≡ filter (is_level rules x) (objects_of all e)) [
       | inl t ↦
           let same = eqb-true f e t in
           let present : list_any (is_level rules x) layer ≡ true = subst (λ z. list_any (is_level rules x) (objects_of all z) ≡ true) (sym same) s.present in
@@ -98,7 +98,7 @@ level_stacked rules all e a x above (f ∷ es) s l h any =
       | inr t ↦
           let none : list_any (is_at (e, a)) seen ≡ false = any_none (is_at (e, a)) seen (all_filter (λ y. is_at (e, a) y ≡ false) (λ o. not (is_hidden rules above o)) layer (at_elsewhere e f a (all.layer f).objects t)) in
           let more : list_any (is_at (e, a)) lower ≡ true = sym (ap (λ z. z || list_any (is_at (e, a)) lower) none) ∙ sym (list_any-append (is_at (e, a)) seen lower) ∙ any in
-          elim (cases_Bool (list_any (is_level rules x) layer)) as (λ _. filter (is_level rules x) (stacked rules above (map (objects_of all) (f ∷ es))) ≡ filter (is_level rules x) (objects_of all e)) [
+          elim (cases_Bool (list_any (is_level rules x) layer)) as (λ _. filter (is_level rules x) (stacked_objects rules above (map (objects_of all) (f ∷ es))) ≡ filter (is_level rules x) (objects_of all e)) [
             | inl w ↦
                 let both = list_any-append (is_level rules x) above layer ∙ or_right (list_any (is_level rules x) above) (list_any (is_level rules x) layer) w in
                 let hidden = level_hidden rules s.laws x (above ++ layer) (map (objects_of all) es) both in
@@ -182,10 +182,10 @@ pub record Visited (rules : Rules) (all : Layered) (p : ℕ × Addr) (x : Seen �
   pub layer_any : list_any (is_at (numbers_of p)) (objects_of all p.0) ≡ true
 
 -- by what is known of the layers
-visited_in : (rules : Rules) → AreOrdered rules → (all : Layered) (d : ℕ) (p : ℕ × Addr) (x : Seen ℕ) (es : List ℕ) → bytes_there p.1.0 (all.layer p.0).objects ≡ Some x.bytes → AllByRecursion (AllByRecursion (IsThere all d)) (map (objects_of all) es) → AllByRecursion (IsThere all d) (objects_of all p.0) → AreSorted rules (objects_of all p.0) → list_any (is_at (numbers_of p)) (placed_each seen_bytes rules [] (stacked rules [] (map (objects_of all) es))) ≡ true → Visited rules all p x (placed_each seen_bytes rules [] (stacked rules [] (map (objects_of all) es)))
+visited_in : (rules : Rules) → AreOrdered rules → (all : Layered) (d : ℕ) (p : ℕ × Addr) (x : Seen ℕ) (es : List ℕ) → bytes_there p.1.0 (all.layer p.0).objects ≡ Some x.bytes → AllByRecursion (AllByRecursion (IsThere all d)) (map (objects_of all) es) → AllByRecursion (IsThere all d) (objects_of all p.0) → AreSorted rules (objects_of all p.0) → list_any (is_at (numbers_of p)) (placed_each seen_bytes rules [] (stacked_objects rules [] (map (objects_of all) es))) ≡ true → Visited rules all p x (placed_each seen_bytes rules [] (stacked_objects rules [] (map (objects_of all) es)))
 visited_in rules laws all d p x es here layers layer layer_sorted any =
     let test = is_at (numbers_of p) in
-    let heap = stacked rules [] (map (objects_of all) es) in
+    let heap = stacked_objects rules [] (map (objects_of all) es) in
     let level_of : (ys : List (Seen ℕ)) → AllByRecursion (IsThere all d) ys → AreLevel rules x test ys =
     λ ys h. all_weaker (IsThere all d) (λ y. test y ≡ true → is_level rules x y ≡ true) (λ y inner. in_level rules laws all d p x here y inner) ys h in
     let in_heap = all_stacked rules (IsThere all d) [] (map (objects_of all) es) layers in
@@ -301,26 +301,26 @@ visited_at all links d p laws path' method visible' =
 
 -- the object behind a visible one, by what was found beside it
 pub next_found : {all : Layered} {links : Links} {d : ℕ} (p : ℕ × Addr) (next : Option Addr) {near : Option (Seen ℕ)} → AreLayers all → IsPath all links d → is_ordered (all.layer d).method ≡ true → IsVisible all links d (numbers_of p)
-    → option_map number_of next ≡ place_behind p.1.0 (all.layer p.0).objects → near ≡ if_level (all.layer p.0).rules (object_there all p) (object_at all (named p.0 next))
+    → option_map number_of next ≡ place_behind p.1.0 (all.layer p.0).objects → near ≡ if_level (all.layer p.0).rules (object_there all p) (object_at all (place_in_dict p.0 next))
     → behind_last (is_at (numbers_of p)) (visible_of all links d) ≡ option_or near (first_of (filter (is_behind (all.layer d).rules (object_there all p)) (visible_of all links d)))
 next_found {all} {links} {d} p next {near} laws path' method visible' n e =
     let rules = (all.layer d).rules in
     let v = visited_at all links d p laws path' method visible' in
     let beside = (next_shown next laws v.stands n).object ∙ sym (behind_map p.0 p.1.0 (all.layer p.0).objects) in
     next_among rules all p v.one (visible_of all links d) v.visited
-    ∙ ap (λ z. option_or z (first_of (filter (is_behind rules (Some v.one)) (visible_of all links d)))) (sym (e ∙ v.beside (object_at all (named p.0 next)) ∙ ap (if_level rules (Some v.one)) beside))
+    ∙ ap (λ z. option_or z (first_of (filter (is_behind rules (Some v.one)) (visible_of all links d)))) (sym (e ∙ v.beside (object_at all (place_in_dict p.0 next)) ∙ ap (if_level rules (Some v.one)) beside))
     ∙ ap (λ z. option_or near (first_of (filter (is_behind rules z) (visible_of all links d)))) (sym v.is)
 
 -- and before it
 pub previous_found : {all : Layered} {links : Links} {d : ℕ} (p : ℕ × Addr) (next : Option Addr) {near : Option (Seen ℕ)} → AreLayers all → IsPath all links d → is_ordered (all.layer d).method ≡ true → IsVisible all links d (numbers_of p)
-    → option_map number_of next ≡ place_before p.1.0 (all.layer p.0).objects → near ≡ if_level (all.layer p.0).rules (object_there all p) (object_at all (named p.0 next))
+    → option_map number_of next ≡ place_before p.1.0 (all.layer p.0).objects → near ≡ if_level (all.layer p.0).rules (object_there all p) (object_at all (place_in_dict p.0 next))
     → before_first (is_at (numbers_of p)) (visible_of all links d) ≡ option_or near (last_of (filter (is_before (all.layer d).rules (object_there all p)) (visible_of all links d)))
 previous_found {all} {links} {d} p next {near} laws path' method visible' n e =
     let rules = (all.layer d).rules in
     let v = visited_at all links d p laws path' method visible' in
     let beside = (previous_shown next laws v.stands n).object ∙ sym (before_map p.0 p.1.0 None (all.layer p.0).objects) in
     previous_among rules all p v.one (visible_of all links d) v.visited
-    ∙ ap (λ z. option_or z (last_of (filter (is_before rules (Some v.one)) (visible_of all links d)))) (sym (e ∙ v.beside (object_at all (named p.0 next)) ∙ ap (if_level rules (Some v.one)) beside))
+    ∙ ap (λ z. option_or z (last_of (filter (is_before rules (Some v.one)) (visible_of all links d)))) (sym (e ∙ v.beside (object_at all (place_in_dict p.0 next)) ∙ ap (if_level rules (Some v.one)) beside))
     ∙ ap (λ z. option_or near (last_of (filter (is_before rules z) (visible_of all links d)))) (sym v.is)
 
 -- a place that stands is the answer where it comes first

@@ -14,7 +14,7 @@ use Rattle.vc_paths.specs.Links.{ArePaths, Links, below, path}
 use Rattle.vc_paths.specs.Ordered.{IsStanding, greater, is_before, is_behind, lesser, object_at}
 use Rattle.vc_paths.specs.Path.{Answers, IsAlike, IsPath, objects_of, place_of, seen_in, visible_of}
 use Rattle.vc_paths.specs.Shown.{IsOnPath, down}
-use Rattle.vc_paths.specs.Visible.{Seen, seen_bytes, stacked}
+use Rattle.vc_paths.specs.Visible.{Seen, seen_bytes, stacked_objects}
 use Rattle.vc_paths.proofs.DownLemmas.{down-on, on-head, on-next, on-start}
 use Rattle.vc_paths.proofs.LastLemmas.{greatest_of, last_passing}
 use Rattle.vc_paths.proofs.LeastLemmas.{first_passing, least_of}
@@ -42,7 +42,7 @@ pub layers_sorted : (all : Layered) (d : ℕ) (es : List ℕ) → AreLayers all 
 layers_sorted all d [] laws h method alike = tt
 layers_sorted all d (e ∷ es) laws h method alike = (layer_sorted all d e laws h method alike.0, layers_sorted all d es laws h method alike.1)
 
-pub visible_ordered : (all : Layered) (links : Links) (d : ℕ) → is_ordered (all.layer d).method ≡ true → visible_of all links d ≡ placed_each seen_bytes (all.layer d).rules [] (stacked (all.layer d).rules [] (map (objects_of all) (path links d)))
+pub visible_ordered : (all : Layered) (links : Links) (d : ℕ) → is_ordered (all.layer d).method ≡ true → visible_of all links d ≡ placed_each seen_bytes (all.layer d).rules [] (stacked_objects (all.layer d).rules [] (map (objects_of all) (path links d)))
 visible_ordered all links d method = rw method refl
 
 -- matching objects are both greater than another one, or both less

@@ -11,7 +11,7 @@ use Rattle.vc_paths.specs.Links.{ArePaths, Links, below, path}
 use Rattle.vc_paths.specs.Path.{IsAlike, IsPath, objects_of, place_of, seen_in, visible_of}
 use Rattle.vc_paths.specs.Seek.{has_key_in}
 use Rattle.vc_paths.specs.Shown.{IsOnPath, down}
-use Rattle.vc_paths.specs.Visible.{Seen, seen_bytes, stacked}
+use Rattle.vc_paths.specs.Visible.{Seen, seen_bytes, stacked_objects}
 use Rattle.vc_paths.proofs.DownLemmas.{down-none, down-on, on-head, on-next, on-start}
 use Rattle.vc_paths.proofs.SortedLemmas.{found_sorted}
 use Rattle.vc_paths.proofs.StackedLemmas.{first_having, stacked-found, with_key}
@@ -54,7 +54,7 @@ pub found-visible : (all : Layered) (links : Links) (d : ℕ) (key : List ℕ) �
 found-visible all links d key lawful =
     let rules = (all.layer d).rules in
     let layers = map (objects_of all) (path links d) in
-    found-ordered (is_ordered (all.layer d).method) rules key (stacked rules [] layers) lawful
+    found-ordered (is_ordered (all.layer d).method) rules key (stacked_objects rules [] layers) lawful
     ∙ stacked-found rules key layers lawful
     ∙ found-having all (has_key_in all d key) (path links d)
 

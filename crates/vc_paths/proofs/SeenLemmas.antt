@@ -10,7 +10,7 @@ use Rattle.vc_dtdisc.specs.Objects.{Object}
 use Rattle.vc_paths.specs.Layers.{AreLayers, Layered, bytes_there, place_before, place_behind, place_in, Same, Layer}
 use Rattle.vc_paths.specs.Links.{Links}
 use Rattle.vc_paths.specs.Path.{IsAlike}
-use Rattle.vc_paths.specs.Shown.{IsPlaceIn, is_covered, objects_from, objects_up_to, places, shown}
+use Rattle.vc_paths.specs.Shown.{IsPlaceIn, is_covered, objects_from, objects_up_to, places, unhidden_objects}
 use Rattle.vc_paths.proofs.EndLemmas.{first-map, last-append, last-map}
 use Rattle.vc_paths.proofs.PlaceLemmas.{Standing, before-here, behind-here, from-first, from-here, place-first, place-last, standing, there, up_to-here, up_to-last}
 use Rattle.vc_paths.proofs.StayLemmas.{covered-kept, same-over}
@@ -79,7 +79,7 @@ module _ {all now : Layered} {links : Links} {d e a : ℕ} {at : Option ℕ} {hi
   around = w.around
 
   abbrev shows : List Object → List Object
-  shows = shown all links d e
+  shows = unhidden_objects all links d e
 
   from-at : objects_from at objects ≡ around.one ∷ around.behind
   from-at = ap (λ z. objects_from z objects) w.is ∙ from-here objects a around
@@ -147,11 +147,11 @@ module _ {all now : Layered} {links : Links} {d e a : ℕ} {at : Option ℕ} {hi
         ap last_of (shown-up_to ∙ ap (λ z. shows around.before ++ z) past ∙ append-nil (shows around.before) ∙ ap shows (sym (up_to-previous w.apart around on-before)))
 
 -- without a place there is none
-pub first-none : (all : Layered) (links : Links) (d e : ℕ) {at : Option ℕ} → at ≡ None → None ≡ place_in (first_of (shown all links d e (objects_from at (all.layer e).objects)))
-first-none all links d e is = ap (λ z. place_in (first_of (shown all links d e (objects_from z (all.layer e).objects)))) (sym is)
+pub first-none : (all : Layered) (links : Links) (d e : ℕ) {at : Option ℕ} → at ≡ None → None ≡ place_in (first_of (unhidden_objects all links d e (objects_from at (all.layer e).objects)))
+first-none all links d e is = ap (λ z. place_in (first_of (unhidden_objects all links d e (objects_from z (all.layer e).objects)))) (sym is)
 
-pub last-none : (all : Layered) (links : Links) (d e : ℕ) {at : Option ℕ} → at ≡ None → None ≡ place_in (last_of (shown all links d e (objects_up_to at (all.layer e).objects)))
-last-none all links d e is = ap (λ z. place_in (last_of (shown all links d e (objects_up_to z (all.layer e).objects)))) (sym is)
+pub last-none : (all : Layered) (links : Links) (d e : ℕ) {at : Option ℕ} → at ≡ None → None ≡ place_in (last_of (unhidden_objects all links d e (objects_up_to at (all.layer e).objects)))
+last-none all links d e is = ap (λ z. place_in (last_of (unhidden_objects all links d e (objects_up_to z (all.layer e).objects)))) (sym is)
 
 -- the ends of a dictionary
 pub place-start : (objects : List Object) (start : Option ℕ) → start ≡ place_in (first_of objects) → IsPlaceIn objects start

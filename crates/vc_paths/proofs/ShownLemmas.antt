@@ -12,7 +12,7 @@ use Rattle.vc_paths.specs.Layers.{Layered}
 use Rattle.vc_paths.specs.Links.{ArePaths, Links, path}
 use Rattle.vc_paths.specs.Path.{objects_of, place_of, seen_in, visible_of}
 use Rattle.vc_paths.specs.Shown.{above, down, has_match, is_covered, places, shown_in}
-use Rattle.vc_paths.specs.Visible.{Seen, is_hidden, stacked}
+use Rattle.vc_paths.specs.Visible.{Seen, is_hidden, stacked_objects}
 use Rattle.vc_paths.proofs.DownLemmas.{above-on, above-stop}
 use Rattle.vc_paths.proofs.EndLemmas.{any-flat_map, any-map, filter-map}
 use Rattle.vc_paths.proofs.PathLemmas.{path-distinct}
@@ -35,7 +35,7 @@ left_of rules layer upper e = filter (λ o. not (is_hidden rules upper o)) (laye
 
 -- of layers with numbers of their own, each is seen behind those before its number
 stacked-each : (rules : Rules) (layer : ℕ → List (Seen ℕ)) (upper : List (Seen ℕ)) (xs : List ℕ) → AreDistinct xs
-    → stacked rules upper (map layer xs) ≡ flat_map (λ e. left_of rules layer (upper ++ flat_map layer (above (Some e) xs)) e) xs
+    → stacked_objects rules upper (map layer xs) ≡ flat_map (λ e. left_of rules layer (upper ++ flat_map layer (above (Some e) xs)) e) xs
 stacked-each rules layer upper [] d = refl
 stacked-each rules layer upper (x ∷ xs) d =
     let seen = λ (e : ℕ). left_of rules layer (upper ++ flat_map layer (above (Some e) (x ∷ xs))) e in
@@ -46,7 +46,7 @@ stacked-each rules layer upper (x ∷ xs) d =
     let ne : e ≢ x = λ same. true≢false (sym w ∙ ap (contains xs) same ∙ d.0) in
     ap (λ z. left_of rules layer z e)
     (append_assoc upper (layer x) (flat_map layer (above (Some e) xs)) ∙ ap (λ z. upper ++ flat_map layer z) (sym (above-on (Some e) x xs (ne_eqb e x ne)))) in
-    ap (λ z. z ++ stacked rules (upper ++ layer x) (map layer xs)) (ap (λ z. left_of rules layer z x) here)
+    ap (λ z. z ++ stacked_objects rules (upper ++ layer x) (map layer xs)) (ap (λ z. left_of rules layer z x) here)
     ∙ ap (λ z. seen x ++ z)
     (stacked-each rules layer (upper ++ layer x) xs d.1 ∙ flat-agree (λ e. left_of rules layer ((upper ++ layer x) ++ flat_map layer (above (Some e) xs)) e) seen xs on)
 
@@ -69,7 +69,7 @@ left-places all d e upper =
     ∙ ap (places e) (filter_agree (λ o. keeps (seen_in e o)) (λ o. not (list_any (has_match all d o.bytes) upper)) (λ o. ap not (hidden-match all d e upper o)) (all.layer e).objects)
 
 stacked-places : (all : Layered) (d : ℕ) (xs : List ℕ) → AreDistinct xs
-    → map place_of (stacked (all.layer d).rules [] (map (objects_of all) xs)) ≡ flat_map (λ e. places e (filter (λ o. not (list_any (has_match all d o.bytes) (above (Some e) xs))) (all.layer e).objects)) xs
+    → map place_of (stacked_objects (all.layer d).rules [] (map (objects_of all) xs)) ≡ flat_map (λ e. places e (filter (λ o. not (list_any (has_match all d o.bytes) (above (Some e) xs))) (all.layer e).objects)) xs
 stacked-places all d xs apart =
     let seen = λ (e : ℕ). left_of (all.layer d).rules (objects_of all) (flat_map (objects_of all) (above (Some e) xs)) e in
     ap (map place_of) (stacked-each (all.layer d).rules (objects_of all) [] xs apart)

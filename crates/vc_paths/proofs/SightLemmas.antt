@@ -12,7 +12,7 @@ use Rattle.vc_dtdisc.specs.Finding.{before_first_from, behind_last, last_from, l
 use Rattle.vc_paths.specs.Layers.{AreLayers, Layered, bytes_there}
 use Rattle.vc_paths.specs.Links.{Links, path}
 use Rattle.vc_paths.specs.Path.{IsAlike, IsPath, is_at, objects_of, place_of, seen_in, visible_of}
-use Rattle.vc_paths.specs.Visible.{Seen, seen_bytes, stacked}
+use Rattle.vc_paths.specs.Visible.{Seen, seen_bytes, stacked_objects}
 use Rattle.vc_paths.proofs.PlaceLemmas.{there-at}
 use Rattle.vc_paths.proofs.SortedLemmas.{all_sorted, all_stacked}
 
@@ -46,7 +46,7 @@ pub visible-there : (all : Layered) (links : Links) (d : ℕ) → AreLayers all 
 visible-there all links d lawful p =
     let rules = (all.layer d).rules in
     let layers = map (objects_of all) (path links d) in
-    ordered-there all d (is_ordered (all.layer d).method) rules (stacked rules [] layers)
+    ordered-there all d (is_ordered (all.layer d).method) rules (stacked_objects rules [] layers)
     (all_stacked rules (IsThere all d) [] layers (layers-there all d (path links d) lawful p.alike))
 
 -- two objects at one place are one

@@ -8,7 +8,7 @@ use Rattle.vc_dtdisc.specs.Objects.{has_key, is_greater, is_match, placed_among,
 use Rattle.vc_dtdisc.specs.Rules.{Rules}
 use Rattle.std.specs.Cmp.{IsTotalOrder}
 use Rattle.vc_dtdisc.specs.Finding.{first_of}
-use Rattle.vc_paths.specs.Visible.{Seen, is_hidden, seen_bytes, stacked}
+use Rattle.vc_paths.specs.Visible.{Seen, is_hidden, seen_bytes, stacked_objects}
 use Rattle.vc_paths.proofs.OrderLemmas.{AreOrdered, all_append, all_filter, all_weaker, filter_kept, ordered, tied_keys, up}
 
 -- one isn't greater than the other
@@ -39,10 +39,10 @@ pub all_sorted : (rules : Rules) (P : Seen ℕ → Type 0) (sorted xs : List (Se
 all_sorted rules P sorted [] h g = h
 all_sorted rules P sorted (x ∷ xs) h g = all_sorted rules P (placed_among seen_bytes rules x sorted) xs (all_placed rules P x sorted g.0 h) g.1
 
-pub all_stacked : (rules : Rules) (P : Seen ℕ → Type 0) (above : List (Seen ℕ)) (layers : List (List (Seen ℕ))) → AllByRecursion (AllByRecursion P) layers → AllByRecursion P (stacked rules above layers)
+pub all_stacked : (rules : Rules) (P : Seen ℕ → Type 0) (above : List (Seen ℕ)) (layers : List (List (Seen ℕ))) → AllByRecursion (AllByRecursion P) layers → AllByRecursion P (stacked_objects rules above layers)
 all_stacked rules P above [] h = tt
 all_stacked rules P above (layer ∷ lower) h =
-    all_append P (filter (λ o. not (is_hidden rules above o)) layer) (stacked rules (above ++ layer) lower)
+    all_append P (filter (λ o. not (is_hidden rules above o)) layer) (stacked_objects rules (above ++ layer) lower)
     (all_filter P (λ o. not (is_hidden rules above o)) layer h.0) (all_stacked rules P (above ++ layer) lower h.1)
 
 -- they stay sorted
@@ -158,13 +158,13 @@ layer_filter rules p above (x ∷ xs) h =
     ]
 
 -- what a test that matching objects share keeps of the layers
-pub filter_stacked : (rules : Rules) (p : Seen ℕ → Bool) (above : List (Seen ℕ)) (layers : List (List (Seen ℕ))) → ((o u : Seen ℕ) → is_match rules o.bytes u.bytes ≡ true → p o ≡ true → p u ≡ true) → filter p (stacked rules above layers) ≡ stacked rules (filter p above) (map (filter p) layers)
+pub filter_stacked : (rules : Rules) (p : Seen ℕ → Bool) (above : List (Seen ℕ)) (layers : List (List (Seen ℕ))) → ((o u : Seen ℕ) → is_match rules o.bytes u.bytes ≡ true → p o ≡ true → p u ≡ true) → filter p (stacked_objects rules above layers) ≡ stacked_objects rules (filter p above) (map (filter p) layers)
 filter_stacked rules p above [] h = refl
 filter_stacked rules p above (layer ∷ lower) h =
     let rest = filter_stacked rules p (above ++ layer) lower h in
-    filter-append p (filter (λ o. not (is_hidden rules above o)) layer) (stacked rules (above ++ layer) lower)
-    ∙ ap (λ z. z ++ filter p (stacked rules (above ++ layer) lower)) (layer_filter rules p above layer h)
-    ∙ ap (λ z. filter (λ o. not (is_hidden rules (filter p above) o)) (filter p layer) ++ z) (rest ∙ ap (λ z. stacked rules z (map (filter p) lower)) (filter-append p above layer))
+    filter-append p (filter (λ o. not (is_hidden rules above o)) layer) (stacked_objects rules (above ++ layer) lower)
+    ∙ ap (λ z. z ++ filter p (stacked_objects rules (above ++ layer) lower)) (layer_filter rules p above layer h)
+    ∙ ap (λ z. filter (λ o. not (is_hidden rules (filter p above) o)) (filter p layer) ++ z) (rest ∙ ap (λ z. stacked_objects rules z (map (filter p) lower)) (filter-append p above layer))
 
 -- no object is greater than itself
 pub itself : (rules : Rules) → AreOrdered rules → (x : Seen ℕ) → is_greater rules x.bytes x.bytes ≡ false

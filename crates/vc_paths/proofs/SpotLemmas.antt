@@ -15,7 +15,7 @@ use Rattle.vc_dtdisc.specs.Objects.{Object}
 use Rattle.vc_paths.specs.Layers.{AreLayers, Layered, bytes_there, place_before, place_behind, place_in, stands_at}
 use Rattle.vc_paths.specs.Links.{ArePaths, Links, below}
 use Rattle.vc_paths.specs.Path.{IsAlike, IsPath, IsVisible, is_at, place_of, visible_of, is_place}
-use Rattle.vc_paths.specs.Shown.{IsOnPath, above, down, is_covered, objects_from, objects_up_to, places, shown, shown_in}
+use Rattle.vc_paths.specs.Shown.{IsOnPath, above, down, is_covered, objects_from, objects_up_to, places, unhidden_objects, shown_in}
 use Rattle.vc_paths.proofs.DownLemmas.{above-on, above-stop, on-head, on-next, on-start, parted-at}
 use Rattle.vc_paths.proofs.EndLemmas.{any-filter, any-flat_map, any-map, before-at, before-map, behind-at, behind-map, first-append, last-append, last-or, parted}
 use Rattle.vc_paths.proofs.PathLemmas.{path-distinct}
@@ -83,21 +83,21 @@ lost-any t k front x back h f b =
 -- an object that is seen is one of those that its layer shows
 record Found (all : Layered) (links : Links) (d e a u : ℕ) : Type 0 where
   same : u ≡ e
-  some : list_any (stands_at a) (shown all links d u (all.layer u).objects) ≡ true
+  some : list_any (stands_at a) (unhidden_objects all links d u (all.layer u).objects) ≡ true
 
 found-in : (all : Layered) (links : Links) (d e a u : ℕ) → list_any (is_place (e, a)) (shown_in all links d u) ≡ true → Found all links d e a u
 found-in all links d e a u h = elim (cases_Bool (eqb u e)) as (λ _. Found all links d e a u) [
-  | inl k ↦ record { same = eqb-true u e k; some = sym (any-here e a u (shown all links d u (all.layer u).objects) k) ∙ h }
-  | inr k ↦ absurd (true≢false (sym h ∙ any-apart e a u (shown all links d u (all.layer u).objects) k))
+  | inl k ↦ record { same = eqb-true u e k; some = sym (any-here e a u (unhidden_objects all links d u (all.layer u).objects) k) ∙ h }
+  | inr k ↦ absurd (true≢false (sym h ∙ any-apart e a u (unhidden_objects all links d u (all.layer u).objects) k))
 ]
 
 distinct-down : (links : Links) (d : ℕ) → ArePaths links → AreDistinct (down links (Some d))
 unfolding down
 distinct-down links d p = path-distinct links d p
 
-seen-around : (all : Layered) (links : Links) (d e a : ℕ) (s : Standing (all.layer e).objects a) → list_any (stands_at a) (shown all links d e (all.layer e).objects) ≡ true → is_covered all links d e s.one.bytes ≡ false
+seen-around : (all : Layered) (links : Links) (d e a : ℕ) (s : Standing (all.layer e).objects a) → list_any (stands_at a) (unhidden_objects all links d e (all.layer e).objects) ≡ true → is_covered all links d e s.one.bytes ≡ false
 seen-around all links d e a s h = elim (cases_Bool (is_covered all links d e s.one.bytes)) as (λ _. is_covered all links d e s.one.bytes ≡ false) [
-  | inl k ↦ absurd (true≢false (sym h ∙ ap (λ z. list_any (stands_at a) (shown all links d e z)) s.whole
+  | inl k ↦ absurd (true≢false (sym h ∙ ap (λ z. list_any (stands_at a) (unhidden_objects all links d e z)) s.whole
       ∙ lost-any (stands_at a) (λ o. not (is_covered all links d e o.bytes)) s.before s.one s.behind (ap not k) s.first s.last))
   | inr k ↦ k
 ]
@@ -108,8 +108,8 @@ spot-by all links d e a upper u lower laws p on visible whole found =
     let here : down links (Some d) ≡ upper ++ e ∷ lower = whole ∙ ap (λ z. upper ++ z ∷ lower) found.same in
     let parts = parted-at all links d upper (Some d) e lower p on here in
     let once = apart-once upper e lower (subst AreDistinct here (distinct-down links d p)) in
-    let some : list_any (stands_at a) (shown all links d e (all.layer e).objects) ≡ true
-    = subst (λ z. list_any (stands_at a) (shown all links d z (all.layer z).objects) ≡ true) found.same found.some in
+    let some : list_any (stands_at a) (unhidden_objects all links d e (all.layer e).objects) ≡ true
+    = subst (λ z. list_any (stands_at a) (unhidden_objects all links d z (all.layer z).objects) ≡ true) found.same found.some in
     let alike = on-head p refl parts.on in
     let apart = laws.distinct e alike.there in
     let s = standing-any (all.layer e).objects a apart (kept-any (stands_at a) (λ o. not (is_covered all links d e o.bytes)) (all.layer e).objects some) in
@@ -127,8 +127,8 @@ spot-by all links d e a upper u lower laws p on visible whole found =
       apart = apart;
       around = s;
       seen = seen-around all links d e a s some;
-      first = apart-none e a (λ x. shown all links d x (all.layer x).objects) upper once.0;
-      last = apart-none e a (λ x. shown all links d x (all.layer x).objects) lower once.1;
+      first = apart-none e a (λ x. unhidden_objects all links d x (all.layer x).objects) upper once.0;
+      last = apart-none e a (λ x. unhidden_objects all links d x (all.layer x).objects) lower once.1;
     }
 
 pub spot : {all : Layered} {links : Links} {d e a : ℕ} → AreLayers all → ArePaths links → IsPath all links d → is_ordered (all.layer d).method ≡ false → IsVisible all links d (e, a) → Spot all links d e a
@@ -145,27 +145,27 @@ spot {all} {links} {d} {e} {a} laws p is method h =
 
 module _ {all : Layered} {links : Links} {d e a : ℕ} (s : Spot all links d e a) where
   -- its layer around it
-  layer-parts : shown_in all links d e ≡ places e (shown all links d e s.around.before) ++ (e, a) ∷ places e (shown all links d e s.around.behind)
+  layer-parts : shown_in all links d e ≡ places e (unhidden_objects all links d e s.around.before) ++ (e, a) ∷ places e (unhidden_objects all links d e s.around.behind)
   layer-parts =
-      let kept : shown all links d e (s.around.one ∷ s.around.behind) ≡ s.around.one ∷ shown all links d e s.around.behind = rw s.seen refl in
-      ap (λ z. places e (shown all links d e z)) s.around.whole
-      ∙ ap (places e) (filter-append (λ o. not (is_covered all links d e o.bytes)) s.around.before (s.around.one ∷ s.around.behind) ∙ ap (λ z. shown all links d e s.around.before ++ z) kept)
-      ∙ map-append (λ o. (e, o.at)) (shown all links d e s.around.before) (s.around.one ∷ shown all links d e s.around.behind)
-      ∙ ap (λ z. places e (shown all links d e s.around.before) ++ (e, z) ∷ places e (shown all links d e s.around.behind)) s.around.here
+      let kept : unhidden_objects all links d e (s.around.one ∷ s.around.behind) ≡ s.around.one ∷ unhidden_objects all links d e s.around.behind = rw s.seen refl in
+      ap (λ z. places e (unhidden_objects all links d e z)) s.around.whole
+      ∙ ap (places e) (filter-append (λ o. not (is_covered all links d e o.bytes)) s.around.before (s.around.one ∷ s.around.behind) ∙ ap (λ z. unhidden_objects all links d e s.around.before ++ z) kept)
+      ∙ map-append (λ o. (e, o.at)) (unhidden_objects all links d e s.around.before) (s.around.one ∷ unhidden_objects all links d e s.around.behind)
+      ∙ ap (λ z. places e (unhidden_objects all links d e s.around.before) ++ (e, z) ∷ places e (unhidden_objects all links d e s.around.behind)) s.around.here
 
   front : List (ℕ × ℕ)
-  front = flat_map (shown_in all links d) s.upper ++ places e (shown all links d e s.around.before)
+  front = flat_map (shown_in all links d) s.upper ++ places e (unhidden_objects all links d e s.around.before)
 
   back : List (ℕ × ℕ)
-  back = places e (shown all links d e s.around.behind) ++ flat_map (shown_in all links d) s.lower
+  back = places e (unhidden_objects all links d e s.around.behind) ++ flat_map (shown_in all links d) s.lower
 
   -- all that is seen, at the place
   all-parts : flat_map (shown_in all links d) (down links (Some d)) ≡ front ++ (e, a) ∷ back
   unfolding front back
   all-parts =
       let f = flat_map (shown_in all links d) in
-      let before = places e (shown all links d e s.around.before) in
-      let behind = places e (shown all links d e s.around.behind) in
+      let before = places e (unhidden_objects all links d e s.around.before) in
+      let behind = places e (unhidden_objects all links d e s.around.behind) in
       ap f s.whole
       ∙ flat_map-append (shown_in all links d) s.upper (e ∷ s.lower)
       ∙ ap (λ z. f s.upper ++ (z ++ f s.lower)) layer-parts
@@ -178,7 +178,7 @@ module _ {all : Layered} {links : Links} {d e a : ℕ} (s : Spot all links d e a
   front-none : list_any (is_place (e, a)) front ≡ false
   unfolding front
   front-none =
-      let xs = shown all links d e s.around.before in
+      let xs = unhidden_objects all links d e s.around.before in
       list_any-append (is_place (e, a)) (flat_map (shown_in all links d) s.upper) (places e xs)
       ∙ or_from (list_any (is_place (e, a)) (flat_map (shown_in all links d) s.upper)) (list_any (is_place (e, a)) (places e xs)) s.first
       (any-here e a e xs (eq-eqb e e refl) ∙ any-filter (stands_at a) (λ o. not (is_covered all links d e o.bytes)) s.around.before s.around.first)
@@ -186,28 +186,28 @@ module _ {all : Layered} {links : Links} {d e a : ℕ} (s : Spot all links d e a
   back-none : list_any (is_place (e, a)) back ≡ false
   unfolding back
   back-none =
-      let xs = shown all links d e s.around.behind in
+      let xs = unhidden_objects all links d e s.around.behind in
       list_any-append (is_place (e, a)) (places e xs) (flat_map (shown_in all links d) s.lower)
       ∙ or_from (list_any (is_place (e, a)) (places e xs)) (list_any (is_place (e, a)) (flat_map (shown_in all links d) s.lower))
       (any-here e a e xs (eq-eqb e e refl) ∙ any-filter (stands_at a) (λ o. not (is_covered all links d e o.bytes)) s.around.behind s.around.last) s.last
 
   -- the first behind it in its layer, or else the first that is seen below
   spot-next : behind_last (is_place (e, a)) (flat_map (shown_in all links d) (down links (Some d)))
-      ≡ option_or (first_of (places e (shown all links d e s.around.behind))) (first_of (flat_map (shown_in all links d) (down links (below links e))))
+      ≡ option_or (first_of (places e (unhidden_objects all links d e s.around.behind))) (first_of (flat_map (shown_in all links d) (down links (below links e))))
   unfolding back
   spot-next =
       ap (behind_last (is_place (e, a))) all-parts
       ∙ behind-at (is_place (e, a)) front (e, a) back it-is back-none
-      ∙ first-append (places e (shown all links d e s.around.behind)) (flat_map (shown_in all links d) s.lower)
-      ∙ ap (λ z. option_or (first_of (places e (shown all links d e s.around.behind))) (first_of (flat_map (shown_in all links d) z))) s.rest
+      ∙ first-append (places e (unhidden_objects all links d e s.around.behind)) (flat_map (shown_in all links d) s.lower)
+      ∙ ap (λ z. option_or (first_of (places e (unhidden_objects all links d e s.around.behind))) (first_of (flat_map (shown_in all links d) z))) s.rest
 
   -- the last before it in its layer, or else the last that is seen above
   spot-previous : before_first (is_place (e, a)) (flat_map (shown_in all links d) (down links (Some d)))
-      ≡ option_or (last_of (places e (shown all links d e s.around.before))) (last_of (flat_map (shown_in all links d) (above (Some e) (down links (Some d)))))
+      ≡ option_or (last_of (places e (unhidden_objects all links d e s.around.before))) (last_of (flat_map (shown_in all links d) (above (Some e) (down links (Some d)))))
   unfolding front
   spot-previous =
       let f = flat_map (shown_in all links d) in
-      let before = places e (shown all links d e s.around.before) in
+      let before = places e (unhidden_objects all links d e s.around.before) in
       ap (before_first (is_place (e, a))) all-parts
       ∙ before-at (is_place (e, a)) None front (e, a) back it-is front-none
       ∙ last-append None (f s.upper) before
@@ -222,22 +222,22 @@ module _ {all : Layered} {links : Links} {d e a : ℕ} (s : Spot all links d e a
   spot-below step = on-next s.paths refl step s.on
 
   -- so what a walk finds from the next one on in the layer, or else below, is the answer
-  pub walked-next : {start r : Option ℕ} → start ≡ place_behind a (all.layer e).objects → r ≡ place_in (first_of (shown all links d e (objects_from start (all.layer e).objects)))
+  pub walked-next : {start r : Option ℕ} → start ≡ place_behind a (all.layer e).objects → r ≡ place_in (first_of (unhidden_objects all links d e (objects_from start (all.layer e).objects)))
       → option_map place_of (behind_last (is_at (e, a)) (visible_of all links d)) ≡ option_or (option_map {U = ℕ × ℕ} (λ x. (e, x)) r) (first_of (flat_map (shown_in all links d) (down links (below links e))))
   walked-next at found =
       let rest = first_of (flat_map (shown_in all links d) (down links (below links e))) in
       sym (behind-map place_of (is_place (e, a)) (visible_of all links d))
       ∙ ap (behind_last (is_place (e, a))) s.visible
       ∙ spot-next
-      ∙ ap (λ z. option_or z rest) (sym (ap (option_map {U = ℕ × ℕ} (λ x. (e, x))) (found ∙ ap (λ z. place_in (first_of (shown all links d e z))) (from-next s.apart s.around at))
-      ∙ first-place e (shown all links d e s.around.behind)))
+      ∙ ap (λ z. option_or z rest) (sym (ap (option_map {U = ℕ × ℕ} (λ x. (e, x))) (found ∙ ap (λ z. place_in (first_of (unhidden_objects all links d e z))) (from-next s.apart s.around at))
+      ∙ first-place e (unhidden_objects all links d e s.around.behind)))
 
-  pub walked-previous : {end r : Option ℕ} → end ≡ place_before a (all.layer e).objects → r ≡ place_in (last_of (shown all links d e (objects_up_to end (all.layer e).objects)))
+  pub walked-previous : {end r : Option ℕ} → end ≡ place_before a (all.layer e).objects → r ≡ place_in (last_of (unhidden_objects all links d e (objects_up_to end (all.layer e).objects)))
       → option_map place_of (before_first (is_at (e, a)) (visible_of all links d)) ≡ option_or (option_map {U = ℕ × ℕ} (λ x. (e, x)) r) (last_of (flat_map (shown_in all links d) (above (Some e) (down links (Some d)))))
   walked-previous at found =
       let rest = last_of (flat_map (shown_in all links d) (above (Some e) (down links (Some d)))) in
       sym (before-map place_of None (is_place (e, a)) (visible_of all links d))
       ∙ ap (before_first (is_place (e, a))) s.visible
       ∙ spot-previous
-      ∙ ap (λ z. option_or z rest) (sym (ap (option_map {U = ℕ × ℕ} (λ x. (e, x))) (found ∙ ap (λ z. place_in (last_of (shown all links d e z))) (up_to-previous s.apart s.around at))
-      ∙ last-place e (shown all links d e s.around.before)))
+      ∙ ap (λ z. option_or z rest) (sym (ap (option_map {U = ℕ × ℕ} (λ x. (e, x))) (found ∙ ap (λ z. place_in (last_of (unhidden_objects all links d e z))) (up_to-previous s.apart s.around at))
+      ∙ last-place e (unhidden_objects all links d e s.around.before)))

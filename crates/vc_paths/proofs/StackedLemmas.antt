@@ -11,7 +11,7 @@ use Rattle.std.proofs.lemmas.List.Folds.{list_any-append}
 use Rattle.vc_dtdisc.specs.Objects.{has_key, is_match}
 use Rattle.vc_dtdisc.specs.Rules.{AreLawful, Rules}
 use Rattle.vc_dtdisc.specs.Finding.{first_of}
-use Rattle.vc_paths.specs.Visible.{Seen, is_hidden, stacked}
+use Rattle.vc_paths.specs.Visible.{Seen, is_hidden, stacked_objects}
 
 -- the first layer in which some object passes a test
 abbrev pub first_having : {A : Type 0} → (A → Bool) → List (List A) → List A
@@ -70,23 +70,23 @@ hidden-key rules key above o lawful h =
     (λ u. ap is_eq (alike_right lawful.order (rules.key o.bytes) key (rules.key u.bytes) ((Equal-is (rules.compare (rules.key o.bytes) key)).0 h)))
 
 -- behind layers of which one has the key, none that has it is left
-pub stacked-hidden : {N : Type 0} (rules : Rules) (key : List ℕ) (above : List (Seen N)) (layers : List (List (Seen N))) → AreLawful rules → list_any (with_key rules key) above ≡ true → filter (with_key rules key) (stacked rules above layers) ≡ []
+pub stacked-hidden : {N : Type 0} (rules : Rules) (key : List ℕ) (above : List (Seen N)) (layers : List (List (Seen N))) → AreLawful rules → list_any (with_key rules key) above ≡ true → filter (with_key rules key) (stacked_objects rules above layers) ≡ []
 stacked-hidden rules key above [] lawful h = refl
 stacked-hidden rules key above (xs ∷ lower) lawful h =
     let t = with_key rules key in
-    filter-append t (filter (λ o. not (is_hidden rules above o)) xs) (stacked rules (above ++ xs) lower)
-    ∙ ap (λ z. z ++ filter t (stacked rules (above ++ xs) lower)) (filter-apart t (λ o. not (is_hidden rules above o)) xs (λ o k. not_from_true (is_hidden rules above o) (hidden-key rules key above o lawful k ∙ h)))
+    filter-append t (filter (λ o. not (is_hidden rules above o)) xs) (stacked_objects rules (above ++ xs) lower)
+    ∙ ap (λ z. z ++ filter t (stacked_objects rules (above ++ xs) lower)) (filter-apart t (λ o. not (is_hidden rules above o)) xs (λ o k. not_from_true (is_hidden rules above o) (hidden-key rules key above o lawful k ∙ h)))
     ∙ stacked-hidden rules key (above ++ xs) lower lawful (list_any-append t above xs ∙ or_left (list_any t above) (list_any t xs) h)
 
 -- behind layers of which none has it, those that have it are those of the first layer that has some
-pub stacked-having : {N : Type 0} (rules : Rules) (key : List ℕ) (above : List (Seen N)) (layers : List (List (Seen N))) → AreLawful rules → list_any (with_key rules key) above ≡ false → filter (with_key rules key) (stacked rules above layers) ≡ filter (with_key rules key) (first_having (with_key rules key) layers)
+pub stacked-having : {N : Type 0} (rules : Rules) (key : List ℕ) (above : List (Seen N)) (layers : List (List (Seen N))) → AreLawful rules → list_any (with_key rules key) above ≡ false → filter (with_key rules key) (stacked_objects rules above layers) ≡ filter (with_key rules key) (first_having (with_key rules key) layers)
 stacked-having rules key above [] lawful h = refl
 stacked-having rules key above (xs ∷ lower) lawful h =
     let t = with_key rules key in
     let front : filter t (filter (λ o. not (is_hidden rules above o)) xs) ≡ filter t xs
     = filter-kept t (λ o. not (is_hidden rules above o)) xs (λ o k. not_from_false (is_hidden rules above o) (hidden-key rules key above o lawful k ∙ h)) in
-    let rest = filter t (stacked rules (above ++ xs) lower) in
-    filter-append t (filter (λ o. not (is_hidden rules above o)) xs) (stacked rules (above ++ xs) lower)
+    let rest = filter t (stacked_objects rules (above ++ xs) lower) in
+    filter-append t (filter (λ o. not (is_hidden rules above o)) xs) (stacked_objects rules (above ++ xs) lower)
     ∙ ap (λ z. z ++ rest) front
     ∙ elim (cases_Bool (list_any t xs)) as (λ _. filter t xs ++ rest ≡ filter t (first_having t (xs ∷ lower))) [
       | inl k ↦ rw (k, stacked-hidden rules key (above ++ xs) lower lawful (list_any-append t above xs ∙ or_right (list_any t above) (list_any t xs) k)) (append-nil (filter t xs))
@@ -94,11 +94,11 @@ stacked-having rules key above (xs ∷ lower) lawful h =
     ]
 
 -- all that is seen with a key stands in the first layer that has it, and none of them is hidden there
-pub stacked-key : {N : Type 0} (rules : Rules) (key : List ℕ) (layers : List (List (Seen N))) → AreLawful rules → filter (with_key rules key) (stacked rules [] layers) ≡ filter (with_key rules key) (first_having (with_key rules key) layers)
+pub stacked-key : {N : Type 0} (rules : Rules) (key : List ℕ) (layers : List (List (Seen N))) → AreLawful rules → filter (with_key rules key) (stacked_objects rules [] layers) ≡ filter (with_key rules key) (first_having (with_key rules key) layers)
 stacked-key rules key layers lawful = stacked-having rules key [] layers lawful refl
 
 -- so what is found there is what that layer finds
-pub stacked-found : {N : Type 0} (rules : Rules) (key : List ℕ) (layers : List (List (Seen N))) → AreLawful rules → find (with_key rules key) (stacked rules [] layers) ≡ find (with_key rules key) (first_having (with_key rules key) layers)
+pub stacked-found : {N : Type 0} (rules : Rules) (key : List ℕ) (layers : List (List (Seen N))) → AreLawful rules → find (with_key rules key) (stacked_objects rules [] layers) ≡ find (with_key rules key) (first_having (with_key rules key) layers)
 stacked-found rules key layers lawful =
     let t = with_key rules key in
-    find-filter t (stacked rules [] layers) ∙ ap first_of (stacked-key rules key layers lawful) ∙ sym (find-filter t (first_having t layers))
+    find-filter t (stacked_objects rules [] layers) ∙ ap first_of (stacked-key rules key layers lawful) ∙ sym (find-filter t (first_having t layers))

@@ -63,8 +63,8 @@ abbrev pub is_viewed : Links → ℕ → Bool
 is_viewed links d = list_any (is_link_to d) links
 
 -- with another link of a dictionary
-abbrev pub linked : ℕ → Option ℕ → Links → Links
-linked d link links = slice_set links d link
+abbrev pub links_with : ℕ → Option ℕ → Links → Links
+links_with d link links = slice_set links d link
 
 -- links of view paths: a number each, to numbers, and no path is too long
 pub record ArePaths (links : Links) : Type 0 where

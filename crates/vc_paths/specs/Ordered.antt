@@ -19,9 +19,9 @@ object_at all None = None
 object_at all (Some p) = object_there all p
 
 -- a place in a dictionary, where there is one
-abbrev pub named : ℕ → Option Addr → Option (ℕ × Addr)
-named d None = None
-named d (Some at) = Some (d, at)
+abbrev pub place_in_dict : ℕ → Option Addr → Option (ℕ × Addr)
+place_in_dict d None = None
+place_in_dict d (Some at) = Some (d, at)
 
 -- an object stands at a place, in a dictionary of one kind with another
 pub record Stands (all : Layered) (d : ℕ) (p : ℕ × Addr) : Type 0 where

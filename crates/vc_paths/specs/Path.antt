@@ -6,7 +6,7 @@ use Rattle.vc_base.specs.declared.addr.Addr.{Addr}
 use Rattle.vc_dtdisc.specs.Objects.{Object}
 use Rattle.vc_paths.specs.Layers.{Layered}
 use Rattle.vc_paths.specs.Links.{Links, numbers, path}
-use Rattle.vc_paths.specs.Visible.{Seen, visible}
+use Rattle.vc_paths.specs.Visible.{Seen, visible_objects}
 
 -- a dictionary of one method and one kind with another
 pub record IsAlike (all : Layered) (d e : ℕ) : Type 0 where
@@ -28,7 +28,7 @@ objects_of all d = map (seen_in d) (all.layer d).objects
 
 -- what is seen through a dictionary
 abbrev pub visible_of : Layered → Links → ℕ → List (Seen ℕ)
-visible_of all links d = visible (all.layer d).method (all.layer d).rules (map (objects_of all) (path links d))
+visible_of all links d = visible_objects (all.layer d).method (all.layer d).rules (map (objects_of all) (path links d))
 
 -- where an object stands: the number of its dictionary and the address of its holder
 abbrev pub place_of : Seen ℕ → ℕ × ℕ

@@ -8,14 +8,14 @@ use Rattle.vc_dtdisc.specs.Rules.{Rules}
 use Rattle.vc_dtdisc.specs.Shapes.{rules_of}
 use Rattle.vc_dtdisc.specs.declared.shape.Shape.TheVariants.{Field, Whole}
 use Rattle.vc_paths.specs.Layers.{Layer, Layered}
-use Rattle.vc_paths.specs.Links.{Links, linked, no_links}
+use Rattle.vc_paths.specs.Links.{Links, links_with, no_links}
 use Rattle.vc_paths.specs.Path.{place_of}
-use Rattle.vc_paths.specs.Visible.{Seen, visible}
+use Rattle.vc_paths.specs.Visible.{Seen, visible_objects}
 
 -- dictionaries 0, 1 and so on, of which each but the last one views the next: so many links
 abbrev pub chain : ℕ → Links
 chain zero = no_links
-chain (suc n) = linked n (Some (suc n)) (chain n)
+chain (suc n) = links_with n (Some (suc n)) (chain n)
 
 -- whole keys by their bytes
 abbrev pub by_whole : Rules
@@ -30,8 +30,8 @@ abbrev pub empty : DictMethod → ℕ → Layer
 empty method kind = record { method = method; kind = kind; rules = by_whole; objects = [] }
 
 -- each number is a bag of kind 1
-abbrev pub alike : Layered
-alike = record { Has = λ d. Unit {0}; layer = λ d. empty DtBag 1 }
+abbrev pub bags_of_kind : Layered
+bags_of_kind = record { Has = λ d. Unit {0}; layer = λ d. empty DtBag 1 }
 
 -- each is, but 0 is an ordered set
 abbrev pub other_method : Layered
@@ -52,12 +52,12 @@ layers_from d [] = []
 layers_from d (layer ∷ lower) = objects_at d 1 layer ∷ layers_from (suc d) lower
 
 -- what is seen through dictionary 0
-abbrev pub seen : DictMethod → Rules → List (List (List ℕ)) → List (Seen ℕ)
-seen method rules layers = visible method rules (layers_from 0 layers)
+abbrev pub objects_through : DictMethod → Rules → List (List (List ℕ)) → List (Seen ℕ)
+objects_through method rules layers = visible_objects method rules (layers_from 0 layers)
 
 -- where it stands: the numbers of dictionaries, and places
 abbrev pub seen_at : DictMethod → Rules → List (List (List ℕ)) → List (ℕ × ℕ)
-seen_at method rules layers = map place_of (seen method rules layers)
+seen_at method rules layers = map place_of (objects_through method rules layers)
 
 -- where one stands
 abbrev pub place : Option (Seen ℕ) → Option (ℕ × ℕ)
@@ -93,7 +93,7 @@ key2 = 107 ∷ 101 ∷ 121 ∷ 50 ∷ []
 
 -- fruit over an ordered set of three, and whether one of them has a key
 abbrev pub fruit : List (Seen ℕ)
-fruit = seen DtOset by_whole ((pear ∷ []) ∷ (apple ∷ pear ∷ zebra ∷ []) ∷ [])
+fruit = objects_through DtOset by_whole ((pear ∷ []) ∷ (apple ∷ pear ∷ zebra ∷ []) ∷ [])
 
 abbrev pub is_named : List ℕ → Seen ℕ → Bool
 is_named key o = has_key by_whole key o.bytes

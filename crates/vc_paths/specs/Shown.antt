@@ -24,8 +24,8 @@ unfoldable pub is_covered : Layered → Links → ℕ → ℕ → List ℕ → B
 is_covered all links d e bytes = list_any (has_match all d bytes) (above (Some e) (down links (Some d)))
 
 -- those of some objects of e that they don't hide
-abbrev pub shown : Layered → Links → ℕ → ℕ → List Object → List Object
-shown all links d e objects = filter (λ o. not (is_covered all links d e o.bytes)) objects
+abbrev pub unhidden_objects : Layered → Links → ℕ → ℕ → List Object → List Object
+unhidden_objects all links d e objects = filter (λ o. not (is_covered all links d e o.bytes)) objects
 
 -- where objects of a dictionary stand
 abbrev pub places : ℕ → List Object → List (ℕ × ℕ)
@@ -33,7 +33,7 @@ places e objects = map (λ o. (e, o.at)) objects
 
 -- where the objects of e stand that are seen through d
 abbrev pub shown_in : Layered → Links → ℕ → ℕ → List (ℕ × ℕ)
-shown_in all links d e = places e (shown all links d e (all.layer e).objects)
+shown_in all links d e = places e (unhidden_objects all links d e (all.layer e).objects)
 
 -- the objects from the one at an address on
 abbrev pub from_at : ℕ → List Object → List Object

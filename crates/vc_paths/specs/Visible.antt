@@ -25,12 +25,12 @@ abbrev pub is_hidden : {N : Type 0} → Rules → List (Seen N) → Seen N → B
 is_hidden rules above o = list_any (λ u. is_match rules o.bytes u.bytes) above
 
 -- the layers one after another, each without the objects that are hidden by those above it
-abbrev pub stacked : {N : Type 0} → Rules → List (Seen N) → List (List (Seen N)) → List (Seen N)
-stacked rules above [] = []
-stacked rules above (layer ∷ lower) =
-    filter (λ o. not (is_hidden rules above o)) layer ++ stacked rules (above ++ layer) lower
+abbrev pub stacked_objects : {N : Type 0} → Rules → List (Seen N) → List (List (Seen N)) → List (Seen N)
+stacked_objects rules above [] = []
+stacked_objects rules above (layer ∷ lower) =
+    filter (λ o. not (is_hidden rules above o)) layer ++ stacked_objects rules (above ++ layer) lower
 
 -- what is seen through a path, whose layers stand from the uppermost on; objects that match keep their order
-abbrev pub visible : {N : Type 0} → DictMethod → Rules → List (List (Seen N)) → List (Seen N)
-visible method rules layers =
-    if is_ordered method then placed_each seen_bytes rules [] (stacked rules [] layers) else stacked rules [] layers
+abbrev pub visible_objects : {N : Type 0} → DictMethod → Rules → List (List (Seen N)) → List (Seen N)
+visible_objects method rules layers =
+    if is_ordered method then placed_each seen_bytes rules [] (stacked_objects rules [] layers) else stacked_objects rules [] layers

@@ -4,7 +4,7 @@ ghost use Rattle.std.specs.Option.{option_map};
 ghost use Rattle.vc_base.specs.Address.{number_of};
 ghost use Rattle.vc_base.specs.Methods.{is_ordered};
 ghost use Rattle.vc_dtdisc.specs.Finding.{before_first, behind_last, first_of, last_of};
-ghost use Rattle.vc_paths.specs.Ordered.{IsStanding, Stands, greater, if_level, is_before, is_behind, lesser, named, object_at, object_there, start_before, start_behind};
+ghost use Rattle.vc_paths.specs.Ordered.{IsStanding, Stands, greater, if_level, is_before, is_behind, lesser, place_in_dict, object_at, object_there, start_before, start_behind};
 ghost use Rattle.vc_paths.specs.Path.{Answers, IsPath, IsVisible, is_at, numbers_of, objects_of, visible_of};
 ghost use Rattle.vc_paths.specs.Visible.{Seen};
 
@@ -256,11 +256,11 @@ fn matching<Y: Layers, L>(
     steps: &mut Steps<L>,
 ) -> Option<(u32, Addr)>
     requires place { Stands (Y.layered layers.now) from.0 from }
-    requires beside { IsStanding (Y.layered layers.now) from.0 (named from.0 beside) }
+    requires beside { IsStanding (Y.layered layers.now) from.0 (place_in_dict from.0 beside) }
     ensures object { object_at (Y.layered layers.now) result
         ≡ if_level ((Y.layered layers.now).layer from.0).rules
         (object_there (Y.layered layers.now) from)
-        (object_at (Y.layered layers.now) (named from.0 beside)) }
+        (object_at (Y.layered layers.now) (place_in_dict from.0 beside)) }
     ensures stands { IsStanding (Y.layered layers.now) from.0 result }
 {
     match beside {

@@ -1,7 +1,7 @@
 ghost use Rattle.std.specs.Prelude.{◌≡◌, ◌<◌, Some, None, IfErr, IfOk, length};
 ghost use Rattle.std.specs.Result.{result_err};
 ghost use Rattle.vc_base.specs.Holders.{contains};
-ghost use Rattle.vc_paths.specs.Links.{ArePaths, are_too_long, below, is_link_to, is_too_long, is_viewed, linked, no_links, numbers, path};
+ghost use Rattle.vc_paths.specs.Links.{ArePaths, are_too_long, below, is_link_to, is_too_long, is_viewed, links_with, no_links, numbers, path};
 ghost use Rattle.vc_paths.specs.Path.{IsPath};
 ghost use Rattle.vc_paths.specs.View.{are_alike, view_fault};
 
@@ -123,7 +123,7 @@ impl Paths {
     fn below_with(&self, d: u32, e: u32, from: u32) -> Option<u32>
         requires first { d < numbers }
         requires other { from < numbers }
-        ensures { result ≡ below (linked d (Some e) self.now) from }
+        ensures { result ≡ below (links_with d (Some e) self.now) from }
     {
         self.show_invariant();
         let old = self.below(from);
@@ -135,7 +135,7 @@ impl Paths {
         requires first { d < numbers }
         requires second { e < numbers }
         requires other { from < numbers }
-        ensures { result ≡ is_too_long (linked d (Some e) self.now) from }
+        ensures { result ≡ is_too_long (links_with d (Some e) self.now) from }
     {
         self.show_invariant();
         let mut at = from;
@@ -152,7 +152,7 @@ impl Paths {
     fn are_too_long_with(&self, d: u32, e: u32) -> bool
         requires first { d < numbers }
         requires second { e < numbers }
-        ensures { result ≡ are_too_long (linked d (Some e) self.now) }
+        ensures { result ≡ are_too_long (links_with d (Some e) self.now) }
     {
         for from in 0..NUMBERS {
             if self.is_too_long_with(d, e, from) {
@@ -169,7 +169,7 @@ impl Paths {
         requires first { IsPath (Y.layered layers.now) self.old d }
         requires second { IsPath (Y.layered layers.now) self.old e }
         ensures fault { result_err result ≡ view_fault (Y.layered layers.now) self.old d e }
-        ensures ok { IfOk result (λ _. self.new ≡ linked d (Some e) self.old) }
+        ensures ok { IfOk result (λ _. self.new ≡ links_with d (Some e) self.old) }
         ensures err { IfErr result (λ _. self.new ≡ self.old) }
     {
         if !are_alike(layers, d, e) {
@@ -188,7 +188,7 @@ impl Paths {
     /// Lets `d`, the number of a dictionary from 0 to 255, view no other one. It can't be refused.
     pub fn end(&mut self, d: u32)
         requires { d < numbers }
-        ensures { self.new ≡ linked d None self.old }
+        ensures { self.new ≡ links_with d None self.old }
     {
         self.links[d as usize] = None;
     }

@@ -6,7 +6,7 @@ ghost use Rattle.vc_base.specs.Address.{number_of};
 ghost use Rattle.vc_dtdisc.specs.Finding.{before_first, behind_last, first_of, last_of};
 ghost use Rattle.vc_paths.specs.Layers.{Same, bytes_there, place_in};
 ghost use Rattle.vc_paths.specs.Path.{Answers, IsAlike, IsPath, IsVisible, is_at, numbers_of, visible_of};
-ghost use Rattle.vc_paths.specs.Shown.{IsOnPath, IsPlaceIn, above, down, has_match, is_covered, objects_from, objects_up_to, shown, shown_in};
+ghost use Rattle.vc_paths.specs.Shown.{IsOnPath, IsPlaceIn, above, down, has_match, is_covered, objects_from, objects_up_to, unhidden_objects, shown_in};
 
 use crate::paths::is_link_to;
 use crate::{Layers, Paths};
@@ -71,7 +71,7 @@ fn seen_from<Y: Layers, L>(
     requires path { IsOnPath (Y.layered layers.old) paths.now d (Some d) }
     requires other { IsAlike (Y.layered layers.old) d e }
     requires place { IsPlaceIn ((Y.layered layers.old).layer e).objects (option_map number_of at) }
-    ensures found { option_map number_of result ≡ place_in (first_of (shown (Y.layered layers.old)
+    ensures found { option_map number_of result ≡ place_in (first_of (unhidden_objects (Y.layered layers.old)
         paths.now d e (objects_from (option_map number_of at)
         ((Y.layered layers.old).layer e).objects))) }
     ensures layers { Same (Y.layered layers.old) (Y.layered layers.new) }
@@ -99,7 +99,7 @@ fn seen_back<Y: Layers, L>(
     requires path { IsOnPath (Y.layered layers.old) paths.now d (Some d) }
     requires other { IsAlike (Y.layered layers.old) d e }
     requires place { IsPlaceIn ((Y.layered layers.old).layer e).objects (option_map number_of at) }
-    ensures found { option_map number_of result ≡ place_in (last_of (shown (Y.layered layers.old)
+    ensures found { option_map number_of result ≡ place_in (last_of (unhidden_objects (Y.layered layers.old)
         paths.now d e (objects_up_to (option_map number_of at)
         ((Y.layered layers.old).layer e).objects))) }
     ensures layers { Same (Y.layered layers.old) (Y.layered layers.new) }

@@ -1,9 +1,9 @@
 // Worked rows of paths, of views and of what is seen.
 ghost use Rattle.std.specs.Prelude.{◌≡◌, ◌∷◌, [], None, Some, false, length, true};
 ghost use Rattle.vc_dtdisc.specs.Finding.{before_first, behind_last, first_of, last_of};
-ghost use Rattle.vc_paths.specs.Links.{are_too_long, is_too_long, is_viewed, linked};
+ghost use Rattle.vc_paths.specs.Links.{are_too_long, is_too_long, is_viewed, links_with};
 ghost use Rattle.vc_paths.specs.Links.{no_links, path};
-ghost use Rattle.vc_paths.specs.Rows.{alike, apple, by_whole, by_four, chain, fruit, is_named};
+ghost use Rattle.vc_paths.specs.Rows.{bags_of_kind, apple, by_whole, by_four, chain, fruit, is_named};
 ghost use Rattle.vc_paths.specs.Rows.{key1_low, key1_up, key2, other_kind, other_method, pear};
 ghost use Rattle.vc_paths.specs.Rows.{place, quince, seen_at, x, y, zebra};
 ghost use Rattle.vc_paths.specs.View.{view_fault};
@@ -16,7 +16,7 @@ pub fn path_rows()
     ensures alone { path no_links 7 ≡ 7 ∷ [] }
     ensures first { path (chain 2) 0 ≡ 0 ∷ 1 ∷ 2 ∷ [] }
     ensures middle { path (chain 2) 1 ≡ 1 ∷ 2 ∷ [] }
-    ensures ended { path (linked 1 None (chain 2)) 0 ≡ 0 ∷ 1 ∷ [] }
+    ensures ended { path (links_with 1 None (chain 2)) 0 ≡ 0 ∷ 1 ∷ [] }
     ensures viewed { is_viewed (chain 2) 2 ≡ true }
     ensures not_viewed { is_viewed (chain 2) 0 ≡ false }
 {}
@@ -27,21 +27,21 @@ pub fn length_rows()
     ensures not_too_long { are_too_long (chain 15) ≡ false }
     ensures seventeen { is_too_long (chain 16) 0 ≡ true }
     ensures from_the_second { is_too_long (chain 16) 1 ≡ false }
-    ensures circle { is_too_long (linked 2 (Some 0) (chain 2)) 1 ≡ true }
-    ensures itself { is_too_long (linked 3 (Some 3) no_links) 3 ≡ true }
+    ensures circle { is_too_long (links_with 2 (Some 0) (chain 2)) 1 ≡ true }
+    ensures itself { is_too_long (links_with 3 (Some 3) no_links) 3 ≡ true }
 {}
 
 /// Why a dictionary can't view another one, in this order: other methods or kinds, a circle, a path of 17.
 pub fn view_rows()
     ensures method { view_fault other_method (chain 1) 1 0 ≡ Some ViewFault.Differs }
     ensures kind { view_fault other_kind (chain 1) 1 0 ≡ Some ViewFault.Differs }
-    ensures itself { view_fault alike no_links 3 3 ≡ Some ViewFault.Cycle }
-    ensures circle { view_fault alike (chain 15) 15 0 ≡ Some ViewFault.Cycle }
-    ensures below { view_fault alike (chain 15) 15 16 ≡ Some ViewFault.TooDeep }
-    ensures above { view_fault alike (chain 15) 16 0 ≡ Some ViewFault.TooDeep }
-    ensures sixteen { view_fault alike (chain 14) 14 15 ≡ None }
-    ensures old_link { view_fault alike (chain 15) 0 20 ≡ None }
-    ensures again { view_fault alike (chain 2) 0 2 ≡ None }
+    ensures itself { view_fault bags_of_kind no_links 3 3 ≡ Some ViewFault.Cycle }
+    ensures circle { view_fault bags_of_kind (chain 15) 15 0 ≡ Some ViewFault.Cycle }
+    ensures below { view_fault bags_of_kind (chain 15) 15 16 ≡ Some ViewFault.TooDeep }
+    ensures above { view_fault bags_of_kind (chain 15) 16 0 ≡ Some ViewFault.TooDeep }
+    ensures sixteen { view_fault bags_of_kind (chain 14) 14 15 ≡ None }
+    ensures old_link { view_fault bags_of_kind (chain 15) 0 20 ≡ None }
+    ensures again { view_fault bags_of_kind (chain 2) 0 2 ≡ None }
 {}
 
 /// Of unordered layers an object hides all that match it in those below, and none of its own.

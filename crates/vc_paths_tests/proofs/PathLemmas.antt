@@ -13,7 +13,7 @@ use Rattle.vc_base.specs.Methods.{method_number}
 use Rattle.vc_dtdisc.specs.Finding.{behind_last, first_of}
 use Rattle.vc_paths.specs.declared.fault.ViewFault.{ViewFault}
 use Rattle.vc_paths.specs.declared.fault.ViewFault.TheVariants.{Differs}
-use Rattle.vc_paths.specs.Links.{ArePaths, Links, below, linked, no_links, numbers, onward, path, path_limit, path_of}
+use Rattle.vc_paths.specs.Links.{ArePaths, Links, below, links_with, no_links, numbers, onward, path, path_limit, path_of}
 use Rattle.vc_paths.specs.Path.{Answers, IsAlike, IsPath, is_at, is_place, numbers_of, place_of}
 use Rattle.vc_paths.specs.View.{are_alike, view_fault}
 use Rattle.vc_paths.specs.Visible.{Seen}
@@ -73,11 +73,11 @@ module _ (method : DictMethod) (links : Links) (d e : ℕ) (joined : AreJoined m
         kind = sym ((Decides-eqb (kind_in d) (kind_in e)).0 parts.1);
       }
 
-  linked-joined : ArePaths links → d < numbers → IsAlike (layers_in method) d e → AreJoined method (linked d (Some e) links)
+  linked-joined : ArePaths links → d < numbers → IsAlike (layers_in method) d e → AreJoined method (links_with d (Some e) links)
   linked-joined paths within alike = record {
     alike = λ x y b. elim (eqb_tells x d) as (λ _. IsAlike (layers_in method) x y) [
       | inl own ↦
-          let at : below (linked d (Some e) links) d ≡ Some y = ap (below (linked d (Some e) links)) (sym own.1) ∙ b in
+          let at : below (links_with d (Some e) links) d ≡ Some y = ap (below (links_with d (Some e) links)) (sym own.1) ∙ b in
           let is : e ≡ y = same_Some e y (sym (below-linked links d (Some e) (subst (λ n. d < n) (sym paths.all) within)) ∙ at) in
           subst (λ z. IsAlike (layers_in method) z y) (sym own.1) (subst (IsAlike (layers_in method) d) is alike)
       | inr other ↦ joined.alike x y (sym (below-other links d x (Some e) other.1) ∙ b)
@@ -85,7 +85,7 @@ module _ (method : DictMethod) (links : Links) (d e : ℕ) (joined : AreJoined m
   }
 
   -- after a view, whether it was refused or not
-  pub viewed-joined : {T : Type 0} (result : Result T ViewFault) (new : Links) → ArePaths links → d < numbers → e < numbers → result_err result ≡ view_fault (layers_in method) links d e → IfOk result (λ _. new ≡ linked d (Some e) links) → IfErr result (λ _. new ≡ links) → AreJoined method new
+  pub viewed-joined : {T : Type 0} (result : Result T ViewFault) (new : Links) → ArePaths links → d < numbers → e < numbers → result_err result ≡ view_fault (layers_in method) links d e → IfOk result (λ _. new ≡ links_with d (Some e) links) → IfErr result (λ _. new ≡ links) → AreJoined method new
   viewed-joined (Ok done) new paths within within' fault ok err =
       subst (AreJoined method) (sym ok) (linked-joined paths within (alike-both within' (sym fault)))
   viewed-joined (Err why) new paths within within' fault ok err = subst (AreJoined method) (sym err) joined

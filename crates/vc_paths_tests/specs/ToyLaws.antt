@@ -52,15 +52,15 @@ sorted-in d =
     (sorted-by (d == 2) _ _ (refl, (refl, (refl, (refl, tt)))) tt))
 
 -- that of the dictionary 4 isn't
-tested : DictMethod → Bool → Bool
-tested method t = is_ordered (cond t DtStack method)
+test_value : DictMethod → Bool → Bool
+test_value method t = is_ordered (cond t DtStack method)
 
 ordered-in : (method : DictMethod) (d : ℕ) → is_ordered (method_in method d) ≡ true
     → is_ordered method ≡ true
-unfolding tested
+unfolding test_value
 ordered-in method d h = elim (cases_Bool (d == 4)) as (λ _. is_ordered method ≡ true) [
-  | inl stack ↦ absurd (true≢false (sym h ∙ ap (tested method) stack))
-  | inr other ↦ sym (ap (tested method) other) ∙ h
+  | inl stack ↦ absurd (true≢false (sym h ∙ ap (test_value method) stack))
+  | inr other ↦ sym (ap (test_value method) other) ∙ h
 ]
 
 fold-lawful : AreLawful (rules_of Fold)

@@ -3,7 +3,7 @@ use Rattle.std.proofs.Common.{◌≡◌, ℕ, List, [], length, map, filter, ref
 use Rattle.std.proofs.lemmas.List.{length-map}
 use Rattle.std.proofs.lemmas.List.Elements.{All-nil}
 use Rattle.vc_model.specs.Addr.{place_of}
-use Rattle.vc_model.specs.Compact.{compacted, is_occupied}
+use Rattle.vc_model.specs.Compact.{compacted_layout, is_occupied}
 use Rattle.vc_model.specs.Layout.{Layout}
 use Rattle.vc_model.specs.Pool.{cell_for, empty_pool, pool_clear, pool_compact, pool_free}
 use Rattle.vc_seg.specs.Segment.{IsRegionSegment}
@@ -62,7 +62,7 @@ module _ (segs segs' : List PoolSegment) (element : ℕ) where
   unfolding pool_by
   cleared-pool last h = λ j. record { layout = h.layout j; element = element_of element; freed = h.freed j; carved = h.carved j }
 
-  pub compacted-pool : (freed last : ℕ) → layout_by (cell_for element) (cells_in segs') ≡ compacted (layout_by (cell_for element) (cells_in segs))
+  pub compacted-pool : (freed last : ℕ) → layout_by (cell_for element) (cells_in segs') ≡ compacted_layout (layout_by (cell_for element) (cells_in segs))
       → freed_by (cells_in segs') freed ≡ filter (λ (p : ℕ × ℕ). is_occupied (layout_by (cell_for element) (cells_in segs)).blocks p.0) (freed_by (cells_in segs) last)
       → carved_by (cells_in segs') ≡ filter (λ (c : ℕ × ℕ). is_occupied (layout_by (cell_for element) (cells_in segs)).blocks c.0) (carved_by (cells_in segs))
       → pool_by segs' element freed ≡ pool_compact (pool_by segs element last)

@@ -3,7 +3,7 @@ use Rattle.std.specs.Prelude.{ℕ, List}
 use Rattle.vc_model.specs.Discipline.{Discipline}
 use Rattle.vc_model.specs.Layout.{Block}
 use Rattle.vc_model.specs.Pool as model
-use Rattle.vc_seg.specs.Boxed.{boxed}
+use Rattle.vc_seg.specs.Boxed.{disc_in_box}
 use Rattle.vc_pool.specs.Read.{pool_by}
 use Rattle.vc_pool.specs.declared.pool.Pool.{Pool}
 
@@ -21,4 +21,4 @@ blocks_in p = (pool_of p).layout.blocks
 
 -- what the discipline means that lends its segments
 abbrev pub disc_in : {I : Type 0} {V : I → Type 0} → ((x : I) × V x → Discipline) → Pool I V → Discipline
-disc_in meaning p = boxed meaning p.disc
+disc_in meaning p = disc_in_box meaning p.disc

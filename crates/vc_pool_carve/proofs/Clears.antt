@@ -3,7 +3,7 @@ use Rattle.std.proofs.Common.{◌≡◌, ℕ, ◌≤◌, List, [], ◌∷◌, �
 use Rattle.std.specs.List.{flat_map}
 use Rattle.std.proofs.lemmas.List.{length-map, length-replicate}
 use Rattle.std.proofs.lemmas.List.Elements.{All-map, All-nil, All-replicate}
-use Rattle.vc_model.specs.Compact.{cleared}
+use Rattle.vc_model.specs.Compact.{cleared_layout}
 use Rattle.vc_model.specs.Layout.{Block}
 use Rattle.vc_model.specs.Pool.{cell_for}
 use Rattle.vc_seg.specs.Segment.{AreSegments}
@@ -65,7 +65,7 @@ module _ (element : ℕ) (segs : List Cells) (k : AreCellular element segs) wher
         once = λ at. omega arith;
       }
 
-  layout-cleared : layout_by (cell_for element) none ≡ cleared (layout_by (cell_for element) segs)
+  layout-cleared : layout_by (cell_for element) none ≡ cleared_layout (layout_by (cell_for element) segs)
   unfolding layout_by
   layout-cleared = λ j. record { segments = map-cleared pair_of (λ s. refl) segs j; blocks = in_order (blocks-cleared (cell_for element) segs j) }
 

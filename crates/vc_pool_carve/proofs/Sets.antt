@@ -5,7 +5,7 @@ use Rattle.std.proofs.lemmas.List.{length-replicate, nil_from_length}
 use Rattle.std.proofs.lemmas.List.Elements.{All-nil}
 use Rattle.vc_model.specs.Discipline.{IsSegmentSize}
 use Rattle.vc_model.specs.Pool.{cell_for}
-use Rattle.vc_seg.specs.Segment.{Bytes, IsRegionSegment, pair_of, zeroed}
+use Rattle.vc_seg.specs.Segment.{Bytes, IsRegionSegment, pair_of, zero_segment}
 use Rattle.vc_pool_cells.specs.Blocks.{layout_by}
 use Rattle.vc_pool_cells.specs.Cells.{Cells}
 use Rattle.vc_pool_cells.specs.Freed.{cells_at, freed_by, index_at}
@@ -57,7 +57,7 @@ module _ (element before : ℕ) (segs : List Cells) (most : element ≤ 16777216
       (λ (z : before ≡ 0 → ⊥). ap (λ n. layout_by (cell_for n) segs) (set (omega (arith, z))))
       (cases_eq before 0)
 
-module _ (s : Bytes) (n bytes : ℕ) (is : s ≡ zeroed n bytes) where
+module _ (s : Bytes) (n bytes : ℕ) (is : s ≡ zero_segment n bytes) where
   pub zeroed-length : length s.bytes ≡ bytes
   zeroed-length = ap (λ (b : Bytes). length b.bytes) is ∙ length-replicate bytes 0
 

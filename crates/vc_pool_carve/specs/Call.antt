@@ -1,7 +1,7 @@
 -- What the calls that carve a cell, or uncarve all, leave of a pool's segments, by those before and after and by the address of the cell freed last, 0 for none.
 use Rattle.std.specs.Prelude.{◌≡◌, ℕ, ◌≤◌, List, []}
 use Rattle.vc_model.specs.Addr.{place_of}
-use Rattle.vc_model.specs.Compact.{cleared}
+use Rattle.vc_model.specs.Compact.{cleared_layout}
 use Rattle.vc_model.specs.Layout.{with_segment}
 use Rattle.vc_model.specs.Pool.{carve, cell_for}
 use Rattle.vc_layouts.specs.Put.{with_zeros}
@@ -31,6 +31,6 @@ pub record IsCarvedNew (element tag size : ℕ) (old new : List Cells) (segment 
 -- no block is left, and no cell is carved
 pub record IsCleared (element : ℕ) (old new : List Cells) : Type 0 where
   pub kept : IsPool element new 0
-  pub layout : layout_by (cell_for element) new ≡ cleared (layout_by (cell_for element) old)
+  pub layout : layout_by (cell_for element) new ≡ cleared_layout (layout_by (cell_for element) old)
   pub freed : freed_by new 0 ≡ []
   pub carved : carved_by new ≡ []

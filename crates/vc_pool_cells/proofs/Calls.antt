@@ -6,13 +6,13 @@ use Rattle.vc_model.specs.Addr.{place_of}
 use Rattle.vc_model.specs.Best.{zeros, without_block_at}
 use Rattle.vc_model.specs.Layout.{Block, Layout, is_at}
 use Rattle.vc_model.specs.Pool.{cell_for, cell_offset}
-use Rattle.vc_model.specs.Resize.{resize_there, sized}
-use Rattle.vc_model.specs.Touch.{HasBlock, change_block, find_block, rewritten, with_bytes_at}
+use Rattle.vc_model.specs.Resize.{resize_there, sized_block}
+use Rattle.vc_model.specs.Touch.{HasBlock, change_block, find_block, rewritten_block, with_bytes_at}
 use Rattle.vc_layouts.specs.Put.{with_zeros}
 use Rattle.vc_layouts.proofs.InOrder.{own-place}
 use Rattle.vc_pool_cells.specs.Blocks.{block_in, carved_by, layout_by}
 use Rattle.vc_pool_cells.specs.Call.{Becomes, IsPutBack, IsReused}
-use Rattle.vc_pool_cells.specs.Cells.{Cells, HasCell, laid, link_in, pair_at, released, resized, written}
+use Rattle.vc_pool_cells.specs.Cells.{Cells, HasCell, with_zeros_in, link_in, pair_at, with_free_cell, with_cell_size, with_cell_bytes}
 use Rattle.vc_pool_cells.specs.Freed.{IsFreeCell, cells_at, freed_by, index_at, link_at, word_at}
 use Rattle.vc_pool_cells.specs.Kept.{AreCellular, IsCellular, IsPool, IsPoolOf}
 use Rattle.vc_pool_cells.specs.Place.{IsCellAt, IsListed, IsLive}
@@ -55,7 +55,7 @@ cell-place : (cell index : ℕ) (at : ℕ × ℕ) → at.1 ≡ cell_offset cell 
 cell-place cell index at e = let pair : ℕ → ℕ → ℕ × ℕ = λ x y. (x, y) in ap (pair at.0) (sym e)
 
 module _ (element tag size a i index : ℕ) (segs : List Cells) (s : Cells) (one : 1 ≤ a) (some : 1 ≤ size) (fits : size ≤ element) (there : IsCellAt (cell_for element) segs (place_of a) i index)
-    (e : s ≡ laid (cell_for element) index size tag (get_or segs i s)) where
+    (e : s ≡ with_zeros_in (cell_for element) index size tag (get_or segs i s)) where
   reuse-first : (p : ℕ × ℕ) (qs : List (ℕ × ℕ)) → IsPoolOf element segs a (p ∷ qs) → IsReused element tag size segs (set segs i s) a (link_at segs a)
   reuse-first p qs h =
       let cell : ℕ = cell_for element in
@@ -177,25 +177,25 @@ module _ (element a i index : ℕ) (segs : List Cells) (s : Cells) (k : AreCellu
           carved = carved-stays i segs s there.alone.within ch.number count;
         }
 
-    pub resize-of : (size : ℕ) → 1 ≤ size → size ≤ element → s ≡ resized cell index size o → Becomes element segs (set segs i s) freed (resize_there (layout_by cell segs) (place_of a) size)
+    pub resize-of : (size : ℕ) → 1 ≤ size → size ≤ element → s ≡ with_cell_size cell index size o → Becomes element segs (set segs i s) freed (resize_there (layout_by cell segs) (place_of a) size)
     resize-of size some fits e =
         let t = live-target in
         let fitted = t.fits index (0, 0) t.cell.listed in
         let wide : size ≤ cell = omega (arith, fits, fits-cell element) in
         let ch : ChangesCell cell index (size, (pair_at index o).1) o s = subst (ChangesCell cell index (size, (pair_at index o).1) o) (sym e) (resized-changes cell index o t.cell size fitted wide) in
-        becomes (size, (pair_at index o).1) (sized size) ch some fits (ap (λ (x : Cells). x.carved) e) refl refl
+        becomes (size, (pair_at index o).1) (sized_block size) ch some fits (ap (λ (x : Cells). x.carved) e) refl refl
         (ap (λ (x : Cells). block_in n x.bytes (cell_offset cell index) (size, (pair_at index o).1)) e ∙ block-resized n cell index o t.cell size some wide fitted)
 
-    pub write-of : (off : ℕ) (src : List ℕ) → off + length src ≤ (pair_at index o).0 → s ≡ written cell index off src o → Becomes element segs (set segs i s) freed (with_bytes_at (layout_by cell segs) (place_of a) off src)
+    pub write-of : (off : ℕ) (src : List ℕ) → off + length src ≤ (pair_at index o).0 → s ≡ with_cell_bytes cell index off src o → Becomes element segs (set segs i s) freed (with_bytes_at (layout_by cell segs) (place_of a) off src)
     write-of off src range e =
         let t = live-target in
         let fitted = t.fits index (0, 0) t.cell.listed in
         let least = t.cellular.fits index (0, 0) t.cell.listed in
         let ch : ChangesCell cell index (pair_at index o) o s = subst (ChangesCell cell index (pair_at index o) o) (sym e) (written-changes cell index o t.cell off src (omega (arith, range, fitted))) in
-        becomes (pair_at index o) (rewritten off src) ch live-size least (ap (λ (x : Cells). x.carved) e) refl refl
+        becomes (pair_at index o) (rewritten_block off src) ch live-size least (ap (λ (x : Cells). x.carved) e) refl refl
         (ap (λ (x : Cells). block_in n x.bytes (cell_offset cell index) (pair_at index o)) e ∙ block-written n cell index o t.cell off src live-size fitted range)
 
-    pub put-back-of : freed < 2 ^ 64 → s ≡ released cell index freed o → IsPutBack element a segs (set segs i s) freed
+    pub put-back-of : freed < 2 ^ 64 → s ≡ with_free_cell cell index freed o → IsPutBack element a segs (set segs i s) freed
     put-back-of small e =
         let t = live-target in
         let al = there.alone in

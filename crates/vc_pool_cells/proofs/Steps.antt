@@ -8,7 +8,7 @@ use Rattle.vc_model.specs.Resize.{resize_there}
 use Rattle.vc_model.specs.Touch.{HasBlock, HasRange, find_block, with_bytes_at}
 use Rattle.vc_pool_cells.specs.Blocks.{layout_by}
 use Rattle.vc_pool_cells.specs.Call.{Becomes, IsPutBack, IsReused}
-use Rattle.vc_pool_cells.specs.Cells.{Cells, cells_of, laid, link_in, pair_at, released, resized, written}
+use Rattle.vc_pool_cells.specs.Cells.{Cells, cells_of, with_zeros_in, link_in, pair_at, with_free_cell, with_cell_size, with_cell_bytes}
 use Rattle.vc_pool_cells.specs.Freed.{link_at}
 use Rattle.vc_pool_cells.specs.Kept.{AreCellular, IsPool}
 use Rattle.vc_pool_cells.specs.Place.{IsCellAt, cells_in}
@@ -35,24 +35,24 @@ module _ (element a i index cell : ℕ) (segs : List PoolSegment) (d : PoolSegme
     made : (f : ℕ → Cells → Cells) → cells_of x ≡ f cell (cells_of d) → cells_of x ≡ f (cell_for element) (get_or (cells_in segs) i (cells_of x))
     made f e = e ∙ (ap (λ k. f k (cells_of d)) same ∙ ap (f (cell_for element)) (sym (row (cells_of x))))
 
-    pub reused-there : (tag size b : ℕ) → 1 ≤ a → 1 ≤ size → size ≤ element → cells_of x ≡ laid cell index size tag (cells_of d) → b ≡ link_in cell index (cells_of d) → IsPool element (cells_in segs) a →
+    pub reused-there : (tag size b : ℕ) → 1 ≤ a → 1 ≤ size → size ≤ element → cells_of x ≡ with_zeros_in cell index size tag (cells_of d) → b ≡ link_in cell index (cells_of d) → IsPool element (cells_in segs) a →
         IsReused element tag size (cells_in segs) (cells_in (set segs i x)) a b
     reused-there tag size b one some fits e link h =
-        let r = reuse-of element tag size a i index (cells_in segs) (cells_of x) one some fits there (made (λ k. laid k index size tag) e) h in
+        let r = reuse-of element tag size a i index (cells_in segs) (cells_of x) one some fits there (made (λ k. with_zeros_in k index size tag) e) h in
         subst (λ (ss : List Cells). IsReused element tag size (cells_in segs) ss a b) (sym (cells-put segs i x))
         (subst (λ k. IsReused element tag size (cells_in segs) (set (cells_in segs) i (cells_of x)) a k) (sym (link ∙ link-there)) r)
 
     module _ (k : AreCellular element (cells_in segs)) (some : 1 ≤ element) (live : HasBlock (layout_by (cell_for element) (cells_in segs)).blocks a) where
-      pub put-back-there : (last : ℕ) → last < 2 ^ 64 → cells_of x ≡ released cell index last (cells_of d) → IsPool element (cells_in segs) last → IsPutBack element a (cells_in segs) (cells_in (set segs i x)) last
+      pub put-back-there : (last : ℕ) → last < 2 ^ 64 → cells_of x ≡ with_free_cell cell index last (cells_of d) → IsPool element (cells_in segs) last → IsPutBack element a (cells_in segs) (cells_in (set segs i x)) last
       put-back-there last small e h =
           subst (λ (ss : List Cells). IsPutBack element a (cells_in segs) ss last) (sym (cells-put segs i x))
-          (put-back-of element a i index (cells_in segs) (cells_of x) k some live there last h small (made (λ n. released n index last) e))
+          (put-back-of element a i index (cells_in segs) (cells_of x) k some live there last h small (made (λ n. with_free_cell n index last) e))
 
-      pub resized-there : (last size : ℕ) → 1 ≤ size → size ≤ element → cells_of x ≡ resized cell index size (cells_of d) → IsPool element (cells_in segs) last →
+      pub resized-there : (last size : ℕ) → 1 ≤ size → size ≤ element → cells_of x ≡ with_cell_size cell index size (cells_of d) → IsPool element (cells_in segs) last →
           Becomes element (cells_in segs) (cells_in (set segs i x)) last (resize_there (layout_by (cell_for element) (cells_in segs)) (place_of a) size)
       resized-there last size one fits e h =
           subst (λ (ss : List Cells). Becomes element (cells_in segs) ss last (resize_there (layout_by (cell_for element) (cells_in segs)) (place_of a) size)) (sym (cells-put segs i x))
-          (resize-of element a i index (cells_in segs) (cells_of x) k some live there last h size one fits (made (λ n. resized n index size) e))
+          (resize-of element a i index (cells_in segs) (cells_of x) k some live there last h size one fits (made (λ n. with_cell_size n index size) e))
 
   module _ (k : AreCellular element (cells_in segs)) (some : 1 ≤ element) (live : HasBlock (layout_by (cell_for element) (cells_in segs)).blocks a) where
     -- the block there has the size and the tag of its cell's pair
@@ -88,9 +88,9 @@ module _ (element a i index cell : ℕ) (segs : List PoolSegment) (d : PoolSegme
         ap (option_map (λ (b : Block ℕ). take len (drop off b.bytes))) found-there
         ∙ ap Some (sym (e ∙ (ap (λ n. take len (drop (cell_offset n index + off) (cells_of d).bytes)) same ∙ read-there (cell_offset (cell_for element) index) off len (pair_at index (cells_of d)).0 (cells_of d).bytes range)))
 
-    pub written-there : (x : PoolSegment) (last off : ℕ) (src : List ℕ) → HasRange (layout_by (cell_for element) (cells_in segs)).blocks a off (length src) → cells_of x ≡ written cell index off src (cells_of d) → IsPool element (cells_in segs) last →
+    pub written-there : (x : PoolSegment) (last off : ℕ) (src : List ℕ) → HasRange (layout_by (cell_for element) (cells_in segs)).blocks a off (length src) → cells_of x ≡ with_cell_bytes cell index off src (cells_of d) → IsPool element (cells_in segs) last →
         Becomes element (cells_in segs) (cells_in (set segs i x)) last (with_bytes_at (layout_by (cell_for element) (cells_in segs)) (place_of a) off src)
     written-there x last off src range e h =
         let fits : off + length src ≤ (pair_at index (get_or (cells_in segs) i (cells_of x))).0 = subst (λ (o : Cells). off + length src ≤ (pair_at index o).0) (sym (row (cells_of x))) (range-there off (length src) range) in
         subst (λ (ss : List Cells). Becomes element (cells_in segs) ss last (with_bytes_at (layout_by (cell_for element) (cells_in segs)) (place_of a) off src)) (sym (cells-put segs i x))
-        (write-of element a i index (cells_in segs) (cells_of x) k some live there last h off src fits (made x (λ n. written n index off src) e))
+        (write-of element a i index (cells_in segs) (cells_of x) k some live there last h off src fits (made x (λ n. with_cell_bytes n index off src) e))

@@ -8,11 +8,11 @@ use Rattle.vc_model.specs.Best.{zeros}
 use Rattle.vc_model.specs.Bytes.{with_bytes}
 use Rattle.vc_model.specs.Layout.{Block}
 use Rattle.vc_model.specs.Pool.{cell_offset}
-use Rattle.vc_model.specs.Resize.{fitted, sized}
-use Rattle.vc_model.specs.Touch.{rewritten}
+use Rattle.vc_model.specs.Resize.{fitted_bytes, sized_block}
+use Rattle.vc_model.specs.Touch.{rewritten_block}
 use Rattle.vc_extent.proofs.Frames.{drop-back, take-front, written-above, written-below, written-length, written-part}
 use Rattle.vc_pool_cells.specs.Blocks.{block_in}
-use Rattle.vc_pool_cells.specs.Cells.{Cells, HasCell, laid, pair_at, released, resized, written}
+use Rattle.vc_pool_cells.specs.Cells.{Cells, HasCell, with_zeros_in, pair_at, with_free_cell, with_cell_size, with_cell_bytes}
 use Rattle.vc_pool_cells.specs.Freed.{word_at}
 use Rattle.vc_pool_cells.proofs.Blocks.{ChangesCell}
 
@@ -33,25 +33,25 @@ changes cell index at c src o s first last within number bytes pairs =
     }
 
 module _ (cell index : ℕ) (o : Cells) (h : HasCell cell index o) where
-  pub laid-changes : (size tag : ℕ) → ChangesCell cell index (size, tag) o (laid cell index size tag o)
+  pub laid-changes : (size tag : ℕ) → ChangesCell cell index (size, tag) o (with_zeros_in cell index size tag o)
   laid-changes size tag =
       let long = length-replicate {A = ℕ} cell 0 in
-      changes cell index (cell_offset cell index) (size, tag) (replicate cell 0) o (laid cell index size tag o) (omega arith) (omega (arith, long, next-cell cell index)) h.inside refl refl refl
+      changes cell index (cell_offset cell index) (size, tag) (replicate cell 0) o (with_zeros_in cell index size tag o) (omega arith) (omega (arith, long, next-cell cell index)) h.inside refl refl refl
 
-  pub released-changes : (link : ℕ) → 8 ≤ cell → ChangesCell cell index (0, 0) o (released cell index link o)
+  pub released-changes : (link : ℕ) → 8 ≤ cell → ChangesCell cell index (0, 0) o (with_free_cell cell index link o)
   released-changes link least =
       let long : length (to_le_bytes w64 link) ≡ 8 = refl in
-      changes cell index (cell_offset cell index) (0, 0) (to_le_bytes w64 link) o (released cell index link o) (omega arith) (omega (arith, long, least, next-cell cell index)) h.inside refl refl refl
+      changes cell index (cell_offset cell index) (0, 0) (to_le_bytes w64 link) o (with_free_cell cell index link o) (omega arith) (omega (arith, long, least, next-cell cell index)) h.inside refl refl refl
 
-  pub resized-changes : (size : ℕ) → (pair_at index o).0 ≤ cell → size ≤ cell → ChangesCell cell index (size, (pair_at index o).1) o (resized cell index size o)
-  resized-changes size fitted fits =
+  pub resized-changes : (size : ℕ) → (pair_at index o).0 ≤ cell → size ≤ cell → ChangesCell cell index (size, (pair_at index o).1) o (with_cell_size cell index size o)
+  resized-changes size fitted_bytes fits =
       let long = length-replicate {A = ℕ} (size - (pair_at index o).0) 0 in
-      changes cell index (cell_offset cell index + (pair_at index o).0) (size, (pair_at index o).1) (replicate (size - (pair_at index o).0) 0) o (resized cell index size o)
-      (omega arith) (omega (arith, long, fitted, fits, next-cell cell index)) h.inside refl refl refl
+      changes cell index (cell_offset cell index + (pair_at index o).0) (size, (pair_at index o).1) (replicate (size - (pair_at index o).0) 0) o (with_cell_size cell index size o)
+      (omega arith) (omega (arith, long, fitted_bytes, fits, next-cell cell index)) h.inside refl refl refl
 
-  pub written-changes : (off : ℕ) (src : List ℕ) → off + length src ≤ cell → ChangesCell cell index (pair_at index o) o (written cell index off src o)
+  pub written-changes : (off : ℕ) (src : List ℕ) → off + length src ≤ cell → ChangesCell cell index (pair_at index o) o (with_cell_bytes cell index off src o)
   written-changes off src range =
-      changes cell index (cell_offset cell index + off) (pair_at index o) src o (written cell index off src o) (omega arith) (omega (arith, range, next-cell cell index)) h.inside refl refl (sym (set-get_or o.pairs index (0, 0)))
+      changes cell index (cell_offset cell index + off) (pair_at index o) src o (with_cell_bytes cell index off src o) (omega arith) (omega (arith, range, next-cell cell index)) h.inside refl refl (sym (set-get_or o.pairs index (0, 0)))
 
 -- the block in a cell, by its pair
 pub one-block : (n off : ℕ) (bytes : List ℕ) (c : ℕ × ℕ) → 1 ≤ c.0 → block_in n bytes off c ≡ record { label = c.1; seg = n; off = off; size = c.0; bytes = take c.0 (drop off bytes) } ∷ []
@@ -71,7 +71,7 @@ zeros-laid off cell size b within fits =
     subst (λ k. take k (drop off (with_bytes off (replicate cell 0) b)) ≡ replicate cell 0) long (written-part off (replicate cell 0) b (omega (arith, long, within))) in
     sym (take-take size cell (drop off (with_bytes off (replicate cell 0) b)) fits) ∙ (ap (take size) all ∙ take-replicate size cell 0 fits)
 
-zeros-behind : (off old size : ℕ) (b : List ℕ) → off + old ≤ length b → off + size ≤ length b → take size (drop off (with_bytes (off + old) (replicate (size - old) 0) b)) ≡ fitted size (take old (drop off b))
+zeros-behind : (off old size : ℕ) (b : List ℕ) → off + old ≤ length b → off + size ≤ length b → take size (drop off (with_bytes (off + old) (replicate (size - old) 0) b)) ≡ fitted_bytes size (take old (drop off b))
 zeros-behind off old size b within fits = same_lists _ _ (grind (arith, places)) (λ k d lt. grind (arith, places))
 
 written-there : (off at size : ℕ) (src b : List ℕ) → off + size ≤ length b → at + length src ≤ size → take size (drop off (with_bytes (off + at) src b)) ≡ with_bytes at src (take size (drop off b))
@@ -86,33 +86,33 @@ read-there off at len size b fits =
 
 module _ (n cell index : ℕ) (o : Cells) (h : HasCell cell index o) where
   -- a block of zeros
-  pub block-laid : (size tag : ℕ) → 1 ≤ size → size ≤ cell → block_in n (laid cell index size tag o).bytes (cell_offset cell index) (size, tag) ≡ zeros tag size (n, cell_offset cell index) ∷ []
+  pub block-laid : (size tag : ℕ) → 1 ≤ size → size ≤ cell → block_in n (with_zeros_in cell index size tag o).bytes (cell_offset cell index) (size, tag) ≡ zeros tag size (n, cell_offset cell index) ∷ []
   block-laid size tag some fits =
       let inside = h.inside in
-      block-of-bytes n (cell_offset cell index) (laid cell index size tag o).bytes (replicate size 0) (size, tag) some
+      block-of-bytes n (cell_offset cell index) (with_zeros_in cell index size tag o).bytes (replicate size 0) (size, tag) some
       (zeros-laid (cell_offset cell index) cell size o.bytes (omega (arith, inside, next-cell cell index)) fits)
 
   abbrev own : Block ℕ
   own = record { label = (pair_at index o).1; seg = n; off = cell_offset cell index; size = (pair_at index o).0; bytes = take (pair_at index o).0 (drop (cell_offset cell index) o.bytes) }
 
   -- one of another size
-  pub block-resized : (size : ℕ) → 1 ≤ size → size ≤ cell → (pair_at index o).0 ≤ cell → block_in n (resized cell index size o).bytes (cell_offset cell index) (size, (pair_at index o).1) ≡ sized size own ∷ []
-  block-resized size some fits fitted =
+  pub block-resized : (size : ℕ) → 1 ≤ size → size ≤ cell → (pair_at index o).0 ≤ cell → block_in n (with_cell_size cell index size o).bytes (cell_offset cell index) (size, (pair_at index o).1) ≡ sized_block size own ∷ []
+  block-resized size some fits fitted_bytes =
       let inside = h.inside in
       let next = next-cell cell index in
-      block-of-bytes n (cell_offset cell index) (resized cell index size o).bytes _ (size, (pair_at index o).1) some
-      (zeros-behind (cell_offset cell index) (pair_at index o).0 size o.bytes (omega (arith, inside, next, fitted)) (omega (arith, inside, next, fits)))
+      block-of-bytes n (cell_offset cell index) (with_cell_size cell index size o).bytes _ (size, (pair_at index o).1) some
+      (zeros-behind (cell_offset cell index) (pair_at index o).0 size o.bytes (omega (arith, inside, next, fitted_bytes)) (omega (arith, inside, next, fits)))
 
   -- one with other bytes
-  pub block-written : (off : ℕ) (src : List ℕ) → 1 ≤ (pair_at index o).0 → (pair_at index o).0 ≤ cell → off + length src ≤ (pair_at index o).0 → block_in n (written cell index off src o).bytes (cell_offset cell index) (pair_at index o) ≡ rewritten off src own ∷ []
-  block-written off src some fitted range =
+  pub block-written : (off : ℕ) (src : List ℕ) → 1 ≤ (pair_at index o).0 → (pair_at index o).0 ≤ cell → off + length src ≤ (pair_at index o).0 → block_in n (with_cell_bytes cell index off src o).bytes (cell_offset cell index) (pair_at index o) ≡ rewritten_block off src own ∷ []
+  block-written off src some fitted_bytes range =
       let inside = h.inside in
       let next = next-cell cell index in
-      block-of-bytes n (cell_offset cell index) (written cell index off src o).bytes _ (pair_at index o) some
-      (written-there (cell_offset cell index) off (pair_at index o).0 src o.bytes (omega (arith, inside, next, fitted)) range)
+      block-of-bytes n (cell_offset cell index) (with_cell_bytes cell index off src o).bytes _ (pair_at index o) some
+      (written-there (cell_offset cell index) off (pair_at index o).0 src o.bytes (omega (arith, inside, next, fitted_bytes)) range)
 
   -- the link that is written into a cell is the one that stands there
-  pub word-released : (link : ℕ) → link < 2 ^ 64 → 8 ≤ cell → word_at (cell_offset cell index) (released cell index link o).bytes ≡ link
+  pub word-released : (link : ℕ) → link < 2 ^ 64 → 8 ≤ cell → word_at (cell_offset cell index) (with_free_cell cell index link o).bytes ≡ link
   word-released link small least =
       let inside = h.inside in
       let long : length (to_le_bytes w64 link) ≡ 8 = refl in

@@ -37,8 +37,8 @@ abbrev pub link_in : ℕ → ℕ → Cells → ℕ
 link_in cell index s = from_le_bytes w64 (take 8 (drop (cell_offset cell index) s.bytes))
 
 -- a block of zeros is put into a cell, which is zero then as a whole
-abbrev pub laid : ℕ → ℕ → ℕ → ℕ → Cells → Cells
-laid cell index size tag s =
+abbrev pub with_zeros_in : ℕ → ℕ → ℕ → ℕ → Cells → Cells
+with_zeros_in cell index size tag s =
     record s {
       bytes = with_bytes (cell_offset cell index) (replicate cell 0) s.bytes;
       pairs = set s.pairs index (size, tag);
@@ -47,27 +47,27 @@ laid cell index size tag s =
 -- a block is put into the lowest cell that wasn't carved
 abbrev pub carved_with : ℕ → ℕ → ℕ → Cells → Cells
 carved_with cell size tag s =
-    record (laid cell s.carved size tag s) { carved = s.carved + 1 }
+    record (with_zeros_in cell s.carved size tag s) { carved = s.carved + 1 }
 
 -- the block in a cell goes, and a link stands in the cell's first 8 bytes
-abbrev pub released : ℕ → ℕ → ℕ → Cells → Cells
-released cell index link s =
+abbrev pub with_free_cell : ℕ → ℕ → ℕ → Cells → Cells
+with_free_cell cell index link s =
     record s {
       bytes = with_bytes (cell_offset cell index) (to_le_bytes w64 link) s.bytes;
       pairs = set s.pairs index (0, 0);
     }
 
 -- the block in a cell has another size, and what is added is zero
-abbrev pub resized : ℕ → ℕ → ℕ → Cells → Cells
-resized cell index size s =
+abbrev pub with_cell_size : ℕ → ℕ → ℕ → Cells → Cells
+with_cell_size cell index size s =
     record s {
       bytes = with_bytes (cell_offset cell index + (pair_at index s).0) (replicate (size - (pair_at index s).0) 0) s.bytes;
       pairs = set s.pairs index (size, (pair_at index s).1);
     }
 
 -- the block in a cell has other bytes, from an offset in it on
-abbrev pub written : ℕ → ℕ → ℕ → List ℕ → Cells → Cells
-written cell index off src s = record s { bytes = with_bytes (cell_offset cell index + off) src s.bytes }
+abbrev pub with_cell_bytes : ℕ → ℕ → ℕ → List ℕ → Cells → Cells
+with_cell_bytes cell index off src s = record s { bytes = with_bytes (cell_offset cell index + off) src s.bytes }
 
 -- no cell is carved
 abbrev pub uncarved_all : Cells → Cells

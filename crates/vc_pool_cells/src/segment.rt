@@ -17,12 +17,12 @@ pub struct PoolSegment {
 }
 
 impl PoolSegment {
-    ghost use Rattle.vc_pool_cells.specs.Cells.{HasCell, IsCell, carved_with, cells_of, laid, link_in, pair_at, released, resized, uncarved_all, written};
+    ghost use Rattle.vc_pool_cells.specs.Cells.{HasCell, IsCell, carved_with, cells_of, with_zeros_in, link_in, pair_at, with_free_cell, with_cell_size, uncarved_all, with_cell_bytes};
 
     /// Puts a block of zeros into a cell that has none. The cell is zero then as a whole.
     pub fn lay(&mut self, cell: u32, index: u32, size: u32, tag: u32)
         requires cell { HasCell cell index (cells_of self.old) }
-        ensures { cells_of self.new ≡ laid cell index size tag (cells_of self.old) }
+        ensures { cells_of self.new ≡ with_zeros_in cell index size tag (cells_of self.old) }
     {
         self.seg.fill(offset_of(cell, index), cell, 0);
         self.cells[index as usize] = (size, tag);
@@ -43,7 +43,7 @@ impl PoolSegment {
     pub fn release(&mut self, cell: u32, index: u32, link: Addr)
         requires cell { HasCell cell index (cells_of self.old) }
         requires legal { IsCell cell }
-        ensures { cells_of self.new ≡ released cell index link.0 (cells_of self.old) }
+        ensures { cells_of self.new ≡ with_free_cell cell index link.0 (cells_of self.old) }
     {
         self.seg.store(offset_of(cell, index), u64::from(link.0));
         self.cells[index as usize] = (0, 0);
@@ -72,7 +72,7 @@ impl PoolSegment {
         requires cell { HasCell cell index (cells_of self.old) }
         requires fitted { (pair_at index (cells_of self.old)).0 ≤ cell }
         requires fits { size ≤ cell }
-        ensures { cells_of self.new ≡ resized cell index size (cells_of self.old) }
+        ensures { cells_of self.new ≡ with_cell_size cell index size (cells_of self.old) }
     {
         let (old, tag) = self.pair(index);
         self.seg
@@ -93,7 +93,7 @@ impl PoolSegment {
     pub fn write(&mut self, cell: u32, index: u32, off: u32, src: &[u8])
         requires cell { HasCell cell index (cells_of self.old) }
         requires range { off + length src.now ≤ cell }
-        ensures { cells_of self.new ≡ written cell index off src.now (cells_of self.old) }
+        ensures { cells_of self.new ≡ with_cell_bytes cell index off src.now (cells_of self.old) }
     {
         self.seg.put(offset_of(cell, index) + off, src);
     }

@@ -6,7 +6,7 @@ use Rattle.std.proofs.lemmas.Bool.{cases_Bool, cases_eq, and_from, eq-eqb, ne_eq
 use Rattle.std.proofs.lemmas.List.Elements.{All-filter, All-head, All-tail, filter_agree, filter_passes}
 use Rattle.std.proofs.lemmas.List.Folds.{list_any_at}
 use Rattle.std.proofs.lemmas.List.Sums.{length-filter, count_by-le-length}
-use Rattle.vc_model.specs.Compact.{compacted, is_occupied}
+use Rattle.vc_model.specs.Compact.{compacted_layout, is_occupied}
 use Rattle.vc_model.specs.Discipline.{Discipline, TookBack}
 use Rattle.vc_model.specs.Layout.{Layout}
 use Rattle.vc_model.specs.Pool.{cell_for}
@@ -120,7 +120,7 @@ module _ (stays : ℕ → Bool) where
     unfolding layout_by
     made = λ j. record { segments = sym (filter-map pair_of place_stays segs) j; blocks = ap in_order (blocks-filter cell segs gone) j }
 
-    pub layout-filter : layout_by cell (filter test segs) ≡ compacted (layout_by cell segs)
+    pub layout-filter : layout_by cell (filter test segs) ≡ compacted_layout (layout_by cell segs)
     layout-filter =
         made
         ∙ ap (λ (ss : List (ℕ × ℕ)). record { segments = ss; blocks = (layout_by cell segs).blocks })
@@ -175,8 +175,8 @@ module _ (element first freed : ℕ) (old mid new : List PoolSegment) (stays : �
   pub compacted-kept : IsPool element (cells_in new) freed
   compacted-kept = subst (λ (ss : List Cells). IsPool element ss freed) (sym cells) (pool-of element (filter (λ (c : Cells). stays c.number) (cells_in mid)) freed (freed_by (cells_in mid) freed) pool)
 
-  pub compacted-layout : layout_by wide (cells_in new) ≡ compacted (layout_by wide (cells_in old))
-  compacted-layout = ap (layout_by wide) cells ∙ (layout-filter stays wide (cells_in mid) busy-mid ∙ ap compacted keeps.layout)
+  pub compacted-layout : layout_by wide (cells_in new) ≡ compacted_layout (layout_by wide (cells_in old))
+  compacted-layout = ap (layout_by wide) cells ∙ (layout-filter stays wide (cells_in mid) busy-mid ∙ ap compacted_layout keeps.layout)
 
   pub compacted-freed : freed_by (cells_in new) freed ≡ filter (λ (p : ℕ × ℕ). is_occupied (layout_by wide (cells_in old)).blocks p.0) (freed_by (cells_in old) first)
   compacted-freed =

@@ -9,7 +9,7 @@ use Rattle.vc_model.specs.Discipline.{same_pair}
 use Rattle.vc_model.specs.Pool.{cell_for, cell_offset}
 use Rattle.vc_layouts.specs.InOrder.{in_order}
 use Rattle.vc_pool_cells.specs.Blocks.{blocks_of, layout_by, pair_of}
-use Rattle.vc_pool_cells.specs.Cells.{Cells, HasCell, pair_at, released}
+use Rattle.vc_pool_cells.specs.Cells.{Cells, HasCell, pair_at, with_free_cell}
 use Rattle.vc_pool_cells.specs.Freed.{IsFreeCell, cells_at, index_at, link_at, word_at}
 use Rattle.vc_pool_cells.specs.Kept.{AreCellular, IsCellular, IsFront}
 use Rattle.vc_pool_cells.specs.Place.{IsCellAt, IsListed}
@@ -29,7 +29,7 @@ free-listed element segs p k f =
     record { index = index_at (cell_for element) p.1; offset = f.offset; listed = omega (arith, below, all-few (cell_for element) element p.0 segs k.cellular) }
 
 module _ (element a i index next : ℕ) (segs : List Cells) (s : Cells) (k : AreCellular element segs) (nonzero : 1 ≤ element) (f : IsFreeCell (cell_for element) segs (place_of a)) (there : IsCellAt (cell_for element) segs (place_of a) i index)
-    (e : s ≡ released (cell_for element) index next (get_or segs i s)) where
+    (e : s ≡ with_free_cell (cell_for element) index next (get_or segs i s)) where
   abbrev cell : ℕ
   cell = cell_for element
 

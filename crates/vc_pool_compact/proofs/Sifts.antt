@@ -4,7 +4,7 @@ use Rattle.std.proofs.lemmas.List.{get_or_default}
 use Rattle.std.proofs.lemmas.List.Elements.{All-head}
 use Rattle.vc_model.specs.Addr.{place_of}
 use Rattle.vc_model.specs.Pool.{cell_for}
-use Rattle.vc_pool_cells.specs.Cells.{Cells, released}
+use Rattle.vc_pool_cells.specs.Cells.{Cells, with_free_cell}
 use Rattle.vc_pool_cells.specs.Freed.{IsChain, IsFreeCell, cells_at, freed_by, link_at, no_cells, times}
 use Rattle.vc_pool_cells.specs.Kept.{AreCellular, IsPool, IsPoolOf}
 use Rattle.vc_pool_cells.specs.Place.{IsListed}
@@ -115,10 +115,10 @@ module _ (element : ℕ) (segs : List Cells) (freed last at : ℕ) where
 
   module _ (new : List Cells) (next : ℕ) (l : IsLinked (cell_for element) segs new last next) (small : next < 2 ^ 64) (one : 1 ≤ last) (is : next ≡ link_at segs at) where
     abbrev s : Cells
-    s = released (cell_for element) l.index next (get_or segs l.i no_cells)
+    s = with_free_cell (cell_for element) l.index next (get_or segs l.i no_cells)
 
-    made : s ≡ released (cell_for element) l.index next (get_or segs l.i s)
-    made = ap (released (cell_for element) l.index next) (get_or_default segs l.i no_cells s l.there.alone.within)
+    made : s ≡ with_free_cell (cell_for element) l.index next (get_or segs l.i s)
+    made = ap (with_free_cell (cell_for element) l.index next) (get_or_default segs l.i no_cells s l.there.alone.within)
 
     abbrev new' : List Cells
     new' = set segs l.i s

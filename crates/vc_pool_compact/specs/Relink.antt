@@ -2,7 +2,7 @@
 use Rattle.std.specs.Prelude.{◌≡◌, ℕ, ◌≤◌, List, [], ◌∷◌, ◌++◌, Bool, filter, set, get_or}
 use Rattle.vc_model.specs.Addr.{place_of}
 use Rattle.vc_pool_cells.specs.Blocks.{carved_by, layout_by}
-use Rattle.vc_pool_cells.specs.Cells.{Cells, released}
+use Rattle.vc_pool_cells.specs.Cells.{Cells, with_free_cell}
 use Rattle.vc_pool_cells.specs.Freed.{IsChain, link_at}
 use Rattle.vc_pool_cells.specs.Kept.{IsPoolOf}
 use Rattle.vc_pool_cells.specs.Place.{IsCellAt}
@@ -33,7 +33,7 @@ pub record IsLinked (cell : ℕ) (old new : List Cells) (a link : ℕ) : Type 0 
   pub i : ℕ
   pub index : ℕ
   pub there : IsCellAt cell old (place_of a) i index
-  pub segs : (d : Cells) → new ≡ set old i (released cell index link (get_or old i d))
+  pub segs : (d : Cells) → new ≡ set old i (with_free_cell cell index link (get_or old i d))
 
 -- the segments with their blocks stay, and their counts of carved cells
 pub record KeepsAll (cell : ℕ) (old new : List Cells) : Type 0 where

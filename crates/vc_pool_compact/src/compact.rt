@@ -1,5 +1,5 @@
 ghost use Rattle.std.specs.Prelude.{◌≡◌, ℕ, ◌<◌, [], All, false, filter, length, map};
-ghost use Rattle.vc_model.specs.Compact.{compact_count, compacted, is_occupied};
+ghost use Rattle.vc_model.specs.Compact.{compact_count, compacted_layout, is_occupied};
 ghost use Rattle.vc_model.specs.Discipline.{HasOut, TookBack};
 ghost use Rattle.vc_model.specs.Pool.{cell_for};
 ghost use Rattle.vc_pool_cells.specs.Blocks.{carved_by, layout_by, pair_of};
@@ -28,7 +28,7 @@ pub fn compact_in(
         (layout_by (cell_for element) (cells_in segs.old.items)).segments }
     ensures kept { IsPool element (cells_in segs.new.items) freed.new.0 }
     ensures layout { layout_by (cell_for element) (cells_in segs.new.items)
-        ≡ compacted (layout_by (cell_for element) (cells_in segs.old.items)) }
+        ≡ compacted_layout (layout_by (cell_for element) (cells_in segs.old.items)) }
     ensures freed { freed_by (cells_in segs.new.items) freed.new.0
         ≡ filter (λ p. is_occupied
         (layout_by (cell_for element) (cells_in segs.old.items)).blocks p.0)

@@ -6,7 +6,7 @@ use Rattle.vc_model.specs.Last.{last_alloc, last_free}
 use Rattle.vc_model.specs.Layout.{Block, Layout}
 use Rattle.vc_model.specs.Outcome.{Outcome, Done, Refused, Put, done_as, outcome_as}
 use Rattle.vc_model.specs.Pool.{pool_alloc}
-use Rattle.vc_model.specs.Touch.{find_block, rewritten}
+use Rattle.vc_model.specs.Touch.{find_block, rewritten_block}
 use Rattle.vc_audit.specs.Debug.{debug_alloc}
 use Rattle.vc_audit.specs.Profile.{profile_alloc}
 use Rattle.vc_best.specs.Cells.{zeroed_layout}
@@ -52,7 +52,7 @@ rest-free (OfProfile p) at = refl
 
 -- writing into a labelled block
 pub rest-write : (r : Region ℕ) (at : ℕ × ℕ) (off : ℕ) (src : List ℕ) (b : Block ℕ) → find_block at (blocks_of r) ≡ Some b → b.label ≢ 0 → region_write (rest_of r) at off src ≡ rest_of (region_write r at off src)
-rest-write (OfBest l) at off src b found labelled = ap (λ bs. OfBest (layout l.segments bs)) (sym (change_block-labelled (rewritten off src) (λ c. refl) at l.blocks b found labelled))
+rest-write (OfBest l) at off src b found labelled = ap (λ bs. OfBest (layout l.segments bs)) (sym (change_block-labelled (rewritten_block off src) (λ c. refl) at l.blocks b found labelled))
 rest-write (OfPool p) at off src b found labelled = refl
 rest-write (OfLast l) at off src b found labelled = refl
 rest-write (OfDebug d) at off src b found labelled = refl

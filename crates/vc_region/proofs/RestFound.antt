@@ -8,7 +8,7 @@ use Rattle.vc_model.specs.Touch.{HasBlock, HasRange, find_block}
 use Rattle.vc_model.specs.Walk.{block_at, by_address, next_block}
 use Rattle.vc_seg.specs.declared.method.Method.{Method}
 use Rattle.vc_seg.specs.declared.method.Method.TheVariants.{VmBest, VmPool, VmLast, VmDebug, VmProfile}
-use Rattle.vc_best.specs.Cells.{zeroed}
+use Rattle.vc_best.specs.Cells.{block_shown}
 use Rattle.vc_region.specs.Cells.{rest_of}
 use Rattle.vc_region.specs.Region.{OfBest, OfPool, OfLast, OfDebug, OfProfile, Region, blocks_of}
 use Rattle.vc_region.specs.Stat.{method_of}
@@ -25,7 +25,7 @@ has_cells VmProfile = false
 
 -- the blocks by whether the unlabelled ones are
 abbrev pub blocks_by : Bool → List (Block ℕ) → List (Block ℕ)
-blocks_by v bs = cond v (map zeroed bs) bs
+blocks_by v bs = cond v (map block_shown bs) bs
 
 pub rest-blocks : (r : Region ℕ) → blocks_of (rest_of r) ≡ blocks_by (has_cells (method_of r)) (blocks_of r)
 rest-blocks (OfBest l) = refl
@@ -35,7 +35,7 @@ rest-blocks (OfDebug d) = refl
 rest-blocks (OfProfile p) = refl
 
 -- what holds of blocks that show zeros and of blocks as they are holds of those of the rest
-pub by-blocks : (P : List (Block ℕ) → List (Block ℕ) → Type 0) (r : Region ℕ) → ((bs : List (Block ℕ)) → P (map zeroed bs) bs) → ((bs : List (Block ℕ)) → P bs bs) → P (blocks_of (rest_of r)) (blocks_of r)
+pub by-blocks : (P : List (Block ℕ) → List (Block ℕ) → Type 0) (r : Region ℕ) → ((bs : List (Block ℕ)) → P (map block_shown bs) bs) → ((bs : List (Block ℕ)) → P bs bs) → P (blocks_of (rest_of r)) (blocks_of r)
 by-blocks P (OfBest l) zeroes same = zeroes l.blocks
 by-blocks P (OfPool p) zeroes same = same (blocks_of (OfPool p))
 by-blocks P (OfLast l) zeroes same = same (blocks_of (OfLast l))
@@ -66,7 +66,7 @@ module _ (r : Region ℕ) where
       by-blocks (λ bs cs. find_block at cs ≡ Some (zeros label size to) → find_block at bs ≡ Some (zeros label size to)) r (λ bs found. zeros-found at to label size bs found) (λ bs found. found)
 
   -- what isn't the bytes of a block: its label, its size, its place
-  module _ {A : Type 0} (view : Block ℕ → A) (same : (b : Block ℕ) → view (zeroed b) ≡ view b) where
+  module _ {A : Type 0} (view : Block ℕ → A) (same : (b : Block ℕ) → view (block_shown b) ≡ view b) where
     pub rest-view : (at : ℕ × ℕ) → option_map view (find_block at (blocks_of (rest_of r))) ≡ option_map view (find_block at (blocks_of r))
     rest-view at = by-blocks (λ bs cs. option_map view (find_block at bs) ≡ option_map view (find_block at cs)) r (λ bs. view-found view same at bs) (λ bs. refl)
 

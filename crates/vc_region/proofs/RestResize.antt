@@ -8,9 +8,9 @@ use Rattle.vc_model.specs.Last.{last_resize}
 use Rattle.vc_model.specs.Layout.{Block, Layout, is_at, lies_before, with_block, with_segment, without_block}
 use Rattle.vc_model.specs.Outcome.{Outcome, Done, Refused, Fixed, Put, outcome_as, put_as}
 use Rattle.vc_model.specs.Pool.{pool_resize}
-use Rattle.vc_model.specs.Resize.{best_resize, can_stay, moved, resize_block, resize_found, stays}
+use Rattle.vc_model.specs.Resize.{best_resize, can_stay, outcome_of_move, resize_block, resize_found, stays}
 use Rattle.vc_model.specs.Segments.{Asked, Granted, TooMany, NotLent, ask}
-use Rattle.vc_model.specs.Touch.{change_block, find_block, rewritten}
+use Rattle.vc_model.specs.Touch.{change_block, find_block, rewritten_block}
 use Rattle.vc_model.proofs.Owned.{found-is}
 use Rattle.vc_audit.specs.Debug.{debug_resize}
 use Rattle.vc_audit.specs.Profile.{profile_resize}
@@ -95,7 +95,7 @@ find-gone x at ne (c ∷ cs) =
 
 -- a block moves that is found in its new place with its label: what stands there before its bytes come has that label
 module _ (size : ℕ) (b : Block ℕ) (bs : List (Block ℕ)) (found : find_block (b.seg, b.off) bs ≡ Some b) where
-  there-before : (p : Put (Layout ℕ)) → p.region.blocks ≡ with_block (zeros b.label size p.at) bs → label_at p.at (without_block (b.seg, b.off) (change_block (rewritten 0 (take size b.bytes)) p.at p.region.blocks)) ≡ Some b.label → (c : Block ℕ) → find_block p.at p.region.blocks ≡ Some c → c.label ≡ b.label
+  there-before : (p : Put (Layout ℕ)) → p.region.blocks ≡ with_block (zeros b.label size p.at) bs → label_at p.at (without_block (b.seg, b.off) (change_block (rewritten_block 0 (take size b.bytes)) p.at p.region.blocks)) ≡ Some b.label → (c : Block ℕ) → find_block p.at p.region.blocks ≡ Some c → c.label ≡ b.label
   there-before p adds there c e =
       let src = take size b.bytes in
       let label : Option (Block ℕ) → Option ℕ = option_map (λ d. d.label) in
@@ -107,14 +107,14 @@ module _ (size : ℕ) (b : Block ℕ) (bs : List (Block ℕ)) (found : find_bloc
       (find-with p.at (zeros b.label size p.at) bs c (sym (ap (find_block p.at) adds) ∙ e)))
       (λ (t : is_at p.at b ≡ false).
       let ne : p.at ≢ (b.seg, b.off) = λ s. true≢false (sym (subst (λ q. is_at q b ≡ true) (sym s) (here b)) ∙ t) in
-      let after = change_block (rewritten 0 src) p.at p.region.blocks in
+      let after = change_block (rewritten_block 0 src) p.at p.region.blocks in
       same_Some c.label b.label
-      (sym (ap label (find-gone p.at (b.seg, b.off) ne after) ∙ ap label (find-written 0 src p.at p.region.blocks ∙ ap (option_map (rewritten 0 src)) e)) ∙ there))
+      (sym (ap label (find-gone p.at (b.seg, b.off) ne after) ∙ ap label (find-written 0 src p.at p.region.blocks ∙ ap (option_map (rewritten_block 0 src)) e)) ∙ there))
       (cases_Bool (is_at p.at b))
 
-  moved-zeroed : b.label ≢ 0 → (to : Outcome (Put (Layout ℕ))) → Adds bs b.label size to → ((p : Put (Layout ℕ)) → moved size b to ≡ Done p → label_at p.at p.region.blocks ≡ Some b.label) → moved size b (outcome_as zeroed_layout to) ≡ outcome_as zeroed_layout (moved size b to)
+  moved-zeroed : b.label ≢ 0 → (to : Outcome (Put (Layout ℕ))) → Adds bs b.label size to → ((p : Put (Layout ℕ)) → outcome_of_move size b to ≡ Done p → label_at p.at p.region.blocks ≡ Some b.label) → outcome_of_move size b (outcome_as zeroed_layout to) ≡ outcome_as zeroed_layout (outcome_of_move size b to)
   moved-zeroed labelled (Done p) adds there =
-      let change = rewritten 0 (take size b.bytes) in
+      let change = rewritten_block 0 (take size b.bytes) in
       let after = change_block change p.at p.region.blocks in
       let put : Put (Layout ℕ) = record { at = p.at; region = layout p.region.segments (without_block (b.seg, b.off) after); granted = p.granted } in
       let same = change_block-zeroed change change p.at p.region.blocks
@@ -134,12 +134,12 @@ module _ (terms : Terms) (r : Layout ℕ) (size : ℕ) (may_move refused : Bool)
   resize_block-zeroed : find_block (b.seg, b.off) r.blocks ≡ Some b → ((p : Put (Layout ℕ)) → resize_block terms r size may_move refused b ≡ Done p → label_at p.at p.region.blocks ≡ Some b.label) → resize_block terms (zeroed_layout r) size may_move refused b ≡ outcome_as zeroed_layout (resize_block terms r size may_move refused b)
   resize_block-zeroed found there =
       let stay = stays (zeroed_layout r) size b in
-      let off = moved size b (best_alloc terms (zeroed_layout r) b.label size 32 refused) in
+      let off = outcome_of_move size b (best_alloc terms (zeroed_layout r) b.label size 32 refused) in
       let to = best_alloc terms r b.label size 32 refused in
       ap (λ v. cond v stay (cond may_move off (Refused Fixed))) (can_stay-zeroed r size b)
-      ∙ by-choice (can_stay r size b) may_move stay (stays r size b) off (moved size b to) (λ p. label_at p.at p.region.blocks ≡ Some b.label)
+      ∙ by-choice (can_stay r size b) may_move stay (stays r size b) off (outcome_of_move size b to) (λ p. label_at p.at p.region.blocks ≡ Some b.label)
       (stays-zeroed r size b found labelled)
-      (λ h. ap (moved size b) (best_alloc-zeroed terms r b.label size 32 refused) ∙ moved-zeroed size b r.blocks found labelled to (adds-place terms r b.label size 32 refused (place_in r size 32)) h)
+      (λ h. ap (outcome_of_move size b) (best_alloc-zeroed terms r b.label size 32 refused) ∙ moved-zeroed size b r.blocks found labelled to (adds-place terms r b.label size 32 refused (place_in r size 32)) h)
       there
 
   best_resize-zeroed : (at : ℕ × ℕ) → find_block at r.blocks ≡ Some b → ((p : Put (Layout ℕ)) → best_resize terms r at size may_move refused ≡ Done p → label_at p.at p.region.blocks ≡ Some b.label) → best_resize terms (zeroed_layout r) at size may_move refused ≡ outcome_as zeroed_layout (best_resize terms r at size may_move refused)

@@ -28,8 +28,8 @@ rest_of (model.OfDebug debug) = model.OfDebug debug
 rest_of (model.OfProfile profile) = model.OfProfile profile
 
 -- its labelled blocks, those of a tag from 1 on
-abbrev pub labelled : model.Region ℕ → List (Block ℕ)
-labelled r = filter (λ b. nat_lt 0 b.label) (model.blocks_of r)
+abbrev pub tagged_blocks : model.Region ℕ → List (Block ℕ)
+tagged_blocks r = filter (λ b. nat_lt 0 b.label) (model.blocks_of r)
 
 -- its cells
 abbrev pub cells_in : {I : Type 0} {V : I → Type 0} → Region I V → Blocks

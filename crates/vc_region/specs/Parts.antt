@@ -4,7 +4,7 @@ use Rattle.std.specs.declared.dyn_box.DynBox.{DynBox}
 use Rattle.std.specs.declared.alloc.Global.{Global}
 use Rattle.vc_model.specs.Discipline.{Discipline}
 use Rattle.vc_model.specs.Layout.{Block}
-use Rattle.vc_seg.specs.Boxed.{boxed}
+use Rattle.vc_seg.specs.Boxed.{disc_in_box}
 use Rattle.vc_best.specs.Parts.{layout_of}
 use Rattle.vc_last.specs.Parts.{layout_of as last_of}
 use Rattle.vc_pool.specs.Parts.{pool_of}
@@ -32,7 +32,7 @@ disc_of (Profile p) = p.best.disc
 
 -- what the discipline of a region means
 abbrev pub disc_in : {I : Type 0} {V : I → Type 0} → ((x : I) × V x → Discipline) → Region I V → Discipline
-disc_in meaning r = boxed meaning (disc_of r)
+disc_in meaning r = disc_in_box meaning (disc_of r)
 
 -- its segments, as number and size in order of lending
 abbrev pub segments_in : {I : Type 0} {V : I → Type 0} → Region I V → List (ℕ × ℕ)

@@ -6,13 +6,13 @@ use Rattle.vc_model.specs.Outcome.{Outcome, Done, Refused, Put, WrongMethod, don
 use Rattle.vc_model.specs.Best.{best_alloc, best_need, without_block_at}
 use Rattle.vc_model.specs.Resize.{best_resize, can_stay}
 use Rattle.vc_model.specs.Touch.{with_bytes_at}
-use Rattle.vc_model.specs.Compact.{cleared, compact_count, compacted}
+use Rattle.vc_model.specs.Compact.{cleared_layout, compact_count, compacted_layout}
 use Rattle.vc_model.specs.Pool.{Pool, pool_alloc, pool_clear, pool_compact, pool_free, pool_need, pool_resize, relabel_pool}
 use Rattle.vc_model.specs.Last.{can_end, last_alloc, last_free, last_need, last_place, last_resize, latest}
 use Rattle.vc_seg.specs.declared.profile_row.ProfileRow.{ProfileRow}
 use Rattle.vc_best.specs.Ask.{AsksForSegment}
 use Rattle.vc_pool.specs.Ask.{LacksCell}
-use Rattle.vc_audit.specs.Debug.{Debug, DebugAsks, damaged, debug_alloc, debug_clear, debug_compact, debug_compact_count, debug_free, debug_need, debug_resize, debug_write, next_damaged, poked, relabel_debug, stays_debug, user_layout, watched_at, with_watch}
+use Rattle.vc_audit.specs.Debug.{Debug, DebugAsks, damaged_blocks, debug_alloc, debug_clear, debug_compact, debug_compact_count, debug_free, debug_need, debug_resize, debug_write, next_damaged, with_poke, relabel_debug, stays_debug, user_layout, watched_at, with_watch}
 use Rattle.vc_audit.specs.Profile.{Profile, bare_layout, profile_alloc, profile_clear, profile_compact, profile_free, profile_resize, profile_rows, profile_write, relabel_profile, row_at}
 
 -- what a region of each method is
@@ -126,17 +126,17 @@ region_write (OfProfile profile) at off bytes = OfProfile (profile_write profile
 
 -- all blocks go
 abbrev pub region_clear : {L : Type 0} → Region L → Region L
-region_clear (OfBest layout) = OfBest (cleared layout)
+region_clear (OfBest layout) = OfBest (cleared_layout layout)
 region_clear (OfPool pool) = OfPool (pool_clear pool)
-region_clear (OfLast layout) = OfLast (cleared layout)
+region_clear (OfLast layout) = OfLast (cleared_layout layout)
 region_clear (OfDebug debug) = OfDebug (debug_clear debug)
 region_clear (OfProfile profile) = OfProfile (profile_clear profile)
 
 -- the segments without a block go
 abbrev pub region_compact : {L : Type 0} → Region L → Region L
-region_compact (OfBest layout) = OfBest (compacted layout)
+region_compact (OfBest layout) = OfBest (compacted_layout layout)
 region_compact (OfPool pool) = OfPool (pool_compact pool)
-region_compact (OfLast layout) = OfLast (compacted layout)
+region_compact (OfLast layout) = OfLast (compacted_layout layout)
 region_compact (OfDebug debug) = OfDebug (debug_compact debug)
 region_compact (OfProfile profile) = OfProfile (profile_compact profile)
 
@@ -189,7 +189,7 @@ abbrev pub region_poke : {L : Type 0} → Region L → ℕ × ℕ → ℤ → �
 region_poke (OfBest layout) at off byte = OfBest layout
 region_poke (OfPool pool) at off byte = OfPool pool
 region_poke (OfLast layout) at off byte = OfLast layout
-region_poke (OfDebug debug) at off byte = OfDebug (poked debug at off byte)
+region_poke (OfDebug debug) at off byte = OfDebug (with_poke debug at off byte)
 region_poke (OfProfile profile) at off byte = OfProfile profile
 
 -- the blocks whose guards are damaged, by address, each with the least offset of a damaged byte; and the first behind an address
@@ -197,7 +197,7 @@ abbrev pub damaged_in : {L : Type 0} → Region L → List (Block L × ℤ)
 damaged_in (OfBest layout) = []
 damaged_in (OfPool pool) = []
 damaged_in (OfLast layout) = []
-damaged_in (OfDebug debug) = damaged debug
+damaged_in (OfDebug debug) = damaged_blocks debug
 damaged_in (OfProfile profile) = []
 
 abbrev pub next_damaged_in : {L : Type 0} → ℕ → Region L → Option (Block L × ℤ)
@@ -231,9 +231,9 @@ row_in (OfDebug debug) i = None
 row_in (OfProfile profile) i = row_at profile i
 
 -- the same with other labels
-abbrev pub relabelled : {L M : Type 0} → (L → M) → Region L → Region M
-relabelled name (OfBest layout) = OfBest (relabel_layout name layout)
-relabelled name (OfPool pool) = OfPool (relabel_pool name pool)
-relabelled name (OfLast layout) = OfLast (relabel_layout name layout)
-relabelled name (OfDebug debug) = OfDebug (relabel_debug name debug)
-relabelled name (OfProfile profile) = OfProfile (relabel_profile name profile)
+abbrev pub region_with_labels : {L M : Type 0} → (L → M) → Region L → Region M
+region_with_labels name (OfBest layout) = OfBest (relabel_layout name layout)
+region_with_labels name (OfPool pool) = OfPool (relabel_pool name pool)
+region_with_labels name (OfLast layout) = OfLast (relabel_layout name layout)
+region_with_labels name (OfDebug debug) = OfDebug (relabel_debug name debug)
+region_with_labels name (OfProfile profile) = OfProfile (relabel_profile name profile)

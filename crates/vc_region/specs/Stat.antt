@@ -27,9 +27,9 @@ method_of (OfDebug debug) = VmDebug
 method_of (OfProfile profile) = VmProfile
 
 -- a region of a method with no segment and no block
-abbrev pub opened : {L : Type 0} → Method → Region L
-opened VmBest = OfBest empty_layout
-opened VmPool = OfPool empty_pool
-opened VmLast = OfLast empty_layout
-opened VmDebug = OfDebug empty_debug
-opened VmProfile = OfProfile empty_profile
+abbrev pub opened_region : {L : Type 0} → Method → Region L
+opened_region VmBest = OfBest empty_layout
+opened_region VmPool = OfPool empty_pool
+opened_region VmLast = OfLast empty_layout
+opened_region VmDebug = OfDebug empty_debug
+opened_region VmProfile = OfProfile empty_profile

@@ -1,5 +1,5 @@
 ghost use Rattle.std.specs.Prelude.{◌≡◌, ℕ, ◌+◌, ◌*◌, ◌<◌, length};
-ghost use Rattle.vc_base.specs.Cells.{HasBytes, bytes_at, stored, with_body};
+ghost use Rattle.vc_base.specs.Cells.{HasBytes, bytes_at, with_number, with_body};
 ghost use Rattle.vc_region.specs.Cells.{StaysButCells, cells_in};
 ghost use Rattle.vc_region.specs.CellLaws.{cells-addresses, stays-after, stays-same};
 
@@ -22,7 +22,7 @@ impl Cells for Region {
     fn store(&mut self, at: Addr, k: u32, v: u64)
         requires word { k < 4 }
         requires place { HasBytes (cells_in self.old) at.0 (8 * k + 8) }
-        ensures blocks { cells_in self.new ≡ stored at.0 k v (cells_in self.old) }
+        ensures blocks { cells_in self.new ≡ with_number at.0 k v (cells_in self.old) }
         ensures rest { StaysButCells self.old self.new }
     {
         match self {
@@ -40,7 +40,7 @@ impl Cells for Region {
 
     fn set_slot(&mut self, at: Addr, k: u32, v: u64)
         requires { HasBytes (cells_in self.old) at.0 (8 * k + 8) }
-        ensures blocks { cells_in self.new ≡ stored at.0 k v (cells_in self.old) }
+        ensures blocks { cells_in self.new ≡ with_number at.0 k v (cells_in self.old) }
         ensures rest { StaysButCells self.old self.new }
     {
         match self {

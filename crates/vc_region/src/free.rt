@@ -1,7 +1,7 @@
 ghost use Rattle.std.specs.Prelude.{◌≡◌, ℕ, ◌+◌, ◌<◌, ◌≤◌, IsErrOf, OnOk, length};
 ghost use Rattle.std.specs.List.{HoldsAt, remove};
 ghost use Rattle.vc_model.specs.Addr.{place_of};
-ghost use Rattle.vc_model.specs.Compact.{cleared};
+ghost use Rattle.vc_model.specs.Compact.{cleared_layout};
 ghost use Rattle.vc_model.specs.Discipline.{HasOut, TookBack};
 ghost use Rattle.vc_model.specs.Layout.{address_of};
 ghost use Rattle.vc_model.specs.Pool.{pool_clear};
@@ -15,7 +15,7 @@ ghost use Rattle.vc_seg.specs.Answer.{Frees};
 ghost use Rattle.vc_best.specs.Parts.{layout_of};
 ghost use Rattle.vc_last.specs.Parts.{layout_of as last_of};
 ghost use Rattle.vc_pool.specs.Parts.{pool_of};
-ghost use Rattle.vc_seg.specs.Boxed.{boxed};
+ghost use Rattle.vc_seg.specs.Boxed.{disc_in_box};
 ghost use Rattle.vc_region.specs.Parts.{blocks_in, disc_in, region_of, segments_in};
 
 use crate::region::{Region, Uncounted};
@@ -30,8 +30,8 @@ use vc_seg::{BoxedDisc, RegionFault, SegDisc};
 // this one always holds.
 fn clear_best(best: &mut Best)
     requires { 0 ≤ 0 }
-    ensures layout { layout_of best.new ≡ cleared (layout_of best.old) }
-    ensures disc { boxed state best.new.disc ≡ boxed state best.old.disc }
+    ensures layout { layout_of best.new ≡ cleared_layout (layout_of best.old) }
+    ensures disc { disc_in_box state best.new.disc ≡ disc_in_box state best.old.disc }
 {
     let mut steps = Steps::<Uncounted>::new(best.alloc);
     best.clear(&mut steps);
@@ -41,7 +41,7 @@ fn clear_best(best: &mut Best)
 fn clear_pool(pool: &mut Pool)
     requires { 0 ≤ 0 }
     ensures pool { pool_of pool.new ≡ pool_clear (pool_of pool.old) }
-    ensures disc { boxed state pool.new.disc ≡ boxed state pool.old.disc }
+    ensures disc { disc_in_box state pool.new.disc ≡ disc_in_box state pool.old.disc }
 {
     pool.clear();
 }
@@ -49,8 +49,8 @@ fn clear_pool(pool: &mut Pool)
 // The same of a last region.
 fn clear_last(last: &mut Last)
     requires { 0 ≤ 0 }
-    ensures layout { last_of last.new ≡ cleared (last_of last.old) }
-    ensures disc { boxed state last.new.disc ≡ boxed state last.old.disc }
+    ensures layout { last_of last.new ≡ cleared_layout (last_of last.old) }
+    ensures disc { disc_in_box state last.new.disc ≡ disc_in_box state last.old.disc }
 {
     last.clear();
 }
@@ -59,7 +59,7 @@ fn clear_last(last: &mut Last)
 fn clear_debug(debug: &mut Debug)
     requires { 0 ≤ 0 }
     ensures debug { debug_of debug.new ≡ debug_clear (debug_of debug.old) }
-    ensures disc { boxed state debug.new.best.disc ≡ boxed state debug.old.best.disc }
+    ensures disc { disc_in_box state debug.new.best.disc ≡ disc_in_box state debug.old.best.disc }
 {
     debug.clear();
 }
@@ -68,7 +68,7 @@ fn clear_debug(debug: &mut Debug)
 fn clear_profile(profile: &mut Profile)
     requires { 0 ≤ 0 }
     ensures profile { profile_of profile.new ≡ profile_clear (profile_of profile.old) }
-    ensures disc { boxed state profile.new.best.disc ≡ boxed state profile.old.best.disc }
+    ensures disc { disc_in_box state profile.new.best.disc ≡ disc_in_box state profile.old.best.disc }
 {
     profile.clear();
 }

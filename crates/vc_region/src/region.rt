@@ -1,6 +1,6 @@
 ghost use Rattle.std.specs.Prelude.{◌≡◌, ◌≤◌, [], IfOk, IfErr, length};
 ghost use Rattle.vc_model.specs.Discipline.{HasOut, TookBack};
-ghost use Rattle.vc_region.specs.Stat.{method_of, opened};
+ghost use Rattle.vc_region.specs.Stat.{method_of, opened_region};
 ghost use Rattle.vc_region.specs.Parts.{disc_of, region_of, segments_in};
 
 use std::alloc::Global;
@@ -38,7 +38,7 @@ fn open_by(
     disc: Box<dyn SegDisc>,
 ) -> Result<Region, (OutOfMemory, Box<dyn SegDisc>)>
     requires { 0 ≤ 0 }
-    ensures ok { IfOk result (λ r. (region_of r ≡ opened method)
+    ensures ok { IfOk result (λ r. (region_of r ≡ opened_region method)
         × (state (disc_of r) ≡ state disc)) }
     ensures err { IfErr result (λ e. state e.1 ≡ state disc) }
 {
@@ -74,7 +74,7 @@ impl Region {
         method: Method,
         disc: Box<dyn SegDisc>,
     ) -> Result<Region, (OutOfMemory, Box<dyn SegDisc>)>
-        ensures ok { IfOk result (λ r. (region_of r ≡ opened method)
+        ensures ok { IfOk result (λ r. (region_of r ≡ opened_region method)
             × (state (disc_of r) ≡ state disc)) }
         ensures err { IfErr result (λ e. state e.1 ≡ state disc) }
     {

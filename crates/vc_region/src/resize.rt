@@ -6,7 +6,7 @@ ghost use Rattle.vc_region.specs.Region.{MustMove, RegionAsks, region_need, regi
 ghost use Rattle.vc_model.specs.Touch.{HasBlock, find_block};
 ghost use Rattle.vc_seg.specs.Answer.{Answers, Asks};
 ghost use Rattle.vc_pool.specs.Parts.{pool_of};
-ghost use Rattle.vc_seg.specs.Boxed.{boxed};
+ghost use Rattle.vc_seg.specs.Boxed.{disc_in_box};
 ghost use Rattle.vc_region.specs.Parts.{blocks_in, disc_in, region_of, segments_in};
 
 use crate::region::{Region, Uncounted};
@@ -21,7 +21,7 @@ fn resize_in_pool(pool: &mut Pool, a: Addr, size: u32) -> Result<Addr, RegionFau
     requires most { size ≤ 16777216 }
     ensures answer { Answers (λ _. pool_resize (pool_of pool.old) (place_of a.0) size) result
         (pool_of pool.old) (pool_of pool.new) }
-    ensures disc { boxed state pool.new.disc ≡ boxed state pool.old.disc }
+    ensures disc { disc_in_box state pool.new.disc ≡ disc_in_box state pool.old.disc }
     ensures memory { ¬ IsErrOf result RegionFault.OutOfMemory }
     ensures address { IfOk result (λ to. to ≡ a) }
     ensures there { IfOk result (λ _. option_map (λ b. b.label)

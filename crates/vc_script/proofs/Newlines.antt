@@ -23,7 +23,7 @@ use Rattle.vc_script.specs.declared.reply.Reply.TheVariants.{Opened, Closed, Cle
 use Rattle.vc_script.specs.Words.{is_digit, is_letter, is_name, is_name_byte}
 use Rattle.vc_script.specs.Proper.{IsName, IsSite}
 use Rattle.vc_script.specs.ProperReply.{IsProperReply, is_row_site}
-use Rattle.vc_script.specs.Shown.{is_plain, shown, shown_byte}
+use Rattle.vc_script.specs.Shown.{is_plain, shown_bytes, shown_byte}
 use Rattle.vc_script.specs.Print.{printed, watch_text, label_text, viewed_text, method_word, refusal_text, segment_text, block_text, damage_text, row_text, object_text, stat_text}
 
 -- a byte that isn't a newline
@@ -157,7 +157,7 @@ line-shown_byte b =
       | inr other ↦ rw other (line-escape b)
     ]
 
-line-shown : (bytes : List ℕ) → OneLine (shown bytes)
+line-shown : (bytes : List ℕ) → OneLine (shown_bytes bytes)
 line-shown bytes = line-flat_map shown_byte (λ b. Unit {0}) (λ b any. line-shown_byte b) bytes (all-of bytes)
 
 -- a text, a word and a number
@@ -192,7 +192,7 @@ line-row r proper =
     (labelled (codes " " ++ r.site) (codes "=") r.blocks (both (codes " ") r.site refl (line-site r.site proper)) refl) refl) refl
 
 line-object : (object : List ℕ) → OneLine (object_text object)
-line-object object = both (codes " ") (shown object) refl (line-shown object)
+line-object object = both (codes " ") (shown_bytes object) refl (line-shown object)
 
 -- a list behind a word and the number of its items
 listed : {X : Type 0} (word : List ℕ) (f : X → List ℕ) (P : X → Type 0) (xs : List X) → OneLine word → ((x : X) → P x → OneLine (f x)) → AllByRecursion P xs → OneLine (word ++ decimal (length xs) ++ flat_map f xs)
@@ -247,11 +247,11 @@ line-printed (Poked block line) proper = watched (block ++ codes " poked") line 
 line-printed (Damaged items) proper = listed (codes "check ") damage_text (λ d. IsName d.0) items refl line-damage proper
 line-printed (Watched block) proper = named block (codes " watched") proper refl
 line-printed (Rows items) proper = listed (codes "profile ") row_text (λ r. IsTrue (is_row_site r.site)) items refl line-row proper
-line-printed (New object) proper = both (codes "new ") (shown object) refl (line-shown object)
-line-printed (Old object) proper = both (codes "old ") (shown object) refl (line-shown object)
-line-printed (Gone object) proper = both (codes "gone ") (shown object) refl (line-shown object)
-line-printed (Out object) proper = both (codes "out ") (shown object) refl (line-shown object)
-line-printed (Found object) proper = both (codes "found ") (shown object) refl (line-shown object)
+line-printed (New object) proper = both (codes "new ") (shown_bytes object) refl (line-shown object)
+line-printed (Old object) proper = both (codes "old ") (shown_bytes object) refl (line-shown object)
+line-printed (Gone object) proper = both (codes "gone ") (shown_bytes object) refl (line-shown object)
+line-printed (Out object) proper = both (codes "out ") (shown_bytes object) refl (line-shown object)
+line-printed (Found object) proper = both (codes "found ") (shown_bytes object) refl (line-shown object)
 line-printed Nothing proper = refl
 line-printed (Objects items) proper =
     both (decimal (length items)) (flat_map object_text items) (line-decimal (length items)) (line-flat_map object_text (λ o. Unit {0}) (λ o any. line-object o) items (all-of items))

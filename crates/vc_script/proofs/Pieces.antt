@@ -9,9 +9,9 @@ use Rattle.vc_script.specs.declared.line_fault.LineFault.TheVariants.{LineTooLon
 use Rattle.vc_script.specs.declared.cutter.Cut.{Cut}
 use Rattle.vc_script.specs.declared.cutter.Cut.TheVariants.{Whole, More, Bad}
 use Rattle.vc_script.specs.Lines.{without_cr, lines_after, lines}
-use Rattle.vc_script.specs.Judged.{line_limit, last_number, judge, judged_from, judged_then, judged}
+use Rattle.vc_script.specs.Judged.{line_limit, last_number, judge, judged_from, judged_then, judged_lines}
 use Rattle.vc_script.specs.Cutting.{Cutting, IsCutting, new_cutting}
-use Rattle.vc_script.specs.Cutter.{Fed, fed, one_more, with_byte, with_line, closed, end_cut, after_end}
+use Rattle.vc_script.specs.Cutter.{Fed, result_of_feed, one_more, with_byte, with_line, closed_cutting, end_cut, after_end}
 use Rattle.vc_script.specs.Pieces.{Found, found_then, found_in}
 
 -- what is judged of the bytes that are left
@@ -66,13 +66,13 @@ tells-byte (Bad fault) after used s b bs behind same tells = same ∙ tells
 
 module _ (s : Cutting) (b : ℕ) (bs behind : List ℕ) (is : IsCutting s) where
   abbrev long_or : Bool → Fed
-  long_or t = cond t (record { after = closed s; cut = Bad LineTooLong; used = 1 }) (one_more (fed (with_byte s b) bs))
+  long_or t = cond t (record { after = closed_cutting s; cut = Bad LineTooLong; used = 1 }) (one_more (result_of_feed (with_byte s b) bs))
 
   abbrev line_or : Bool → Fed → Fed
   line_or t f = cond t (record { after = with_line s; cut = Whole; used = 1 }) f
 
   abbrev late_or : Bool → Fed → Fed
-  late_or t f = cond t (record { after = closed s; cut = Bad TooManyLines; used = 1 }) f
+  late_or t f = cond t (record { after = closed_cutting s; cut = Bad TooManyLines; used = 1 }) f
 
   abbrev rest_or : Bool → Found
   rest_or t = judged_from (s.count + 1) (cond t (s.kept ∷ lines (bs ++ behind)) (lines_after (s.kept ++ b ∷ []) (bs ++ behind)))
@@ -94,7 +94,7 @@ module _ (s : Cutting) (b : ℕ) (bs behind : List ℕ) (is : IsCutting s) where
   is-byte number room = record { short = omega (arith, length_push s.kept b, is.short, room); few = is.few; no_more = λ e. absurd (number e) }
 
 -- feed tells what is judged of all bytes
-pub fed-tells : (s : Cutting) (xs behind : List ℕ) → IsCutting s → FedTells (fed s xs) s xs behind
+pub fed-tells : (s : Cutting) (xs behind : List ℕ) → IsCutting s → FedTells (result_of_feed s xs) s xs behind
 fed-tells s [] behind is = (refl, is)
 fed-tells s (b ∷ bs) behind is =
     elim (eqb_tells s.count last_number) [
@@ -103,7 +103,7 @@ fed-tells s (b ∷ bs) behind is =
         | inl newline ↦ rw (number.0, newline) (tells-line s b bs behind is number.1 newline)
         | inr other ↦ elim (eqb_tells (length s.kept) line_limit) [
           | inl full ↦ rw (number.0, other, full.0) (tells-long s b bs behind is number.1 other full.1)
-          | inr room ↦ rw (number.0, other, room.0) (tells-byte (fed (with_byte s b) bs).cut (fed (with_byte s b) bs).after (fed (with_byte s b) bs).used s b bs behind (ap (rest_or s b bs behind is) other) (fed-tells (with_byte s b) bs behind (is-byte s b bs behind is number.1 room.1)))
+          | inr room ↦ rw (number.0, other, room.0) (tells-byte (result_of_feed (with_byte s b) bs).cut (result_of_feed (with_byte s b) bs).after (result_of_feed (with_byte s b) bs).used s b bs behind (ap (rest_or s b bs behind is) other) (fed-tells (with_byte s b) bs behind (is-byte s b bs behind is number.1 room.1)))
         ]
       ]
     ]
@@ -131,10 +131,10 @@ found_in-rest : (calls : ℕ) (s : Cutting) (ps : List (List ℕ)) → IsCutting
 found_in-rest zero s ps is few = absurd (omega arith)
 found_in-rest (suc calls) s [] is few = end-tells s is
 found_in-rest (suc calls) s (p ∷ ps) is few =
-    let f = fed s p in
+    let f = result_of_feed s p in
     calls-tell calls f.cut f.after f.used s p ps (fed-tells s p (concat ps) is) (omega arith) (found_in-rest calls)
 
 -- from the first piece on
-pub found_in-judged : (pieces : List (List ℕ)) (calls : ℕ) → length (concat pieces) + length pieces < calls → found_in calls new_cutting pieces ≡ judged (concat pieces)
+pub found_in-judged : (pieces : List (List ℕ)) (calls : ℕ) → length (concat pieces) + length pieces < calls → found_in calls new_cutting pieces ≡ judged_lines (concat pieces)
 found_in-judged pieces calls few =
     found_in-rest calls new_cutting pieces (record { short = omega arith; few = omega arith; no_more = λ e. refl }) few

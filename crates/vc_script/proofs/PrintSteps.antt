@@ -8,7 +8,7 @@ use Rattle.std.proofs.lemmas.Bool.Decides.{nat_tests}
 use Rattle.percent_encoding.specs.AsciiSet.{contains, should_percent_encode}
 use Rattle.percent_encoding.specs.Percent.{encode_byte, percent_encode, percent_encode_byte}
 use Rattle.vc_script.specs.declared.print_parts.TheConstants.{ESCAPED}
-use Rattle.vc_script.specs.Shown.{is_plain, shown, shown_byte}
+use Rattle.vc_script.specs.Shown.{is_plain, shown_bytes, shown_byte}
 
 -- the ASCII bytes that are escaped are those that aren't plain
 escaped-ascii : agree_below (contains ESCAPED) (λ b. not (is_plain b)) 128 ≡ true
@@ -37,7 +37,7 @@ cond-not false x y = refl
 encode_byte-shown : (b : ℕ) → encode_byte ESCAPED b ≡ shown_byte b
 encode_byte-shown b = ap (λ t. cond t (percent_encode_byte b) (b ∷ [])) (should-plain b) ∙ cond-not (is_plain b) (percent_encode_byte b) (b ∷ [])
 
-pub percent_encode-shown : (bytes : List ℕ) → percent_encode ESCAPED bytes ≡ shown bytes
+pub percent_encode-shown : (bytes : List ℕ) → percent_encode ESCAPED bytes ≡ shown_bytes bytes
 unfolding percent_encode
 percent_encode-shown [] = refl
 percent_encode-shown (b ∷ bs) = ap (λ e. e ++ percent_encode ESCAPED bs) (encode_byte-shown b) ∙ ap (λ rest. shown_byte b ++ rest) (percent_encode-shown bs)

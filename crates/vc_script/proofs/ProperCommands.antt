@@ -13,7 +13,7 @@ use Rattle.vc_script.specs.declared.tool.Tool.TheVariants.{Vmreplay, Dtrun}
 use Rattle.vc_base.specs.declared.fault.OutOfMemory.{OutOfMemory}
 use Rattle.vc_script.specs.Words.{words}
 use Rattle.vc_script.specs.Forms.{Form, Name, Site, Number, SignedNumber, Address, Bytes, RegionMethod, DictionaryMethod, Mode, NameOrDash, Value, value_of}
-use Rattle.vc_script.specs.Table.{Row, Values, command_of, dictionary_rows, made, own_rows, read_words, table, takes, values_of}
+use Rattle.vc_script.specs.Table.{Row, Values, command_of, dictionary_rows, command_made, own_rows, read_words, table, takes, values_of}
 use Rattle.vc_script.specs.Answer.{answer, answer_of, answer_to, command_in, is_comment}
 use Rattle.vc_script.specs.Proper.{IsAddress, IsFaultOfWords, IsName, IsNumber, IsProperAnswer, IsProperCommand, IsSite}
 use Rattle.vc_script.proofs.ProperWords.{Gives, Gives-address_of, Gives-bytes_of, Gives-dict_method_of, Gives-if, Gives-method_of, Gives-mode_of, Gives-name_of, Gives-name_or_dash_of, Gives-number_of, Gives-signed_of, Gives-site_of, Gives-then}
@@ -68,7 +68,7 @@ Gives-read_words forms last others =
 
 -- proper words make a proper command
 abbrev IsProperRow : Row → Type 0
-IsProperRow r = (values : Values r.forms r.last) → AreProper r.forms r.last values → IsProperCommand (made r.forms r.last r.make values)
+IsProperRow r = (values : Values r.forms r.last) → AreProper r.forms r.last values → IsProperCommand (command_made r.forms r.last r.make values)
 
 IsSite-last : (site : Option (List ℕ)) → IsProperLast Site site → IsSite site
 IsSite-last None proper = tt
@@ -200,7 +200,7 @@ proper_rows tool = (
 
 Gives-command_of : (r : Row) (others : List (List ℕ)) → IsProperRow r → Gives IsProperCommand (command_of r others)
 Gives-command_of r others makes =
-    Gives-then (AreProper r.forms r.last) IsProperCommand (read_words r.forms r.last others) (λ values. Ok (made r.forms r.last r.make values)) (Gives-read_words r.forms r.last others) makes
+    Gives-then (AreProper r.forms r.last) IsProperCommand (read_words r.forms r.last others) (λ values. Ok (command_made r.forms r.last r.make values)) (Gives-read_words r.forms r.last others) makes
 
 Gives-command_in : (rows : List Row) (first : List ℕ) (others : List (List ℕ)) → AllByRecursion IsProperRow rows → Gives IsProperCommand (command_in rows first others)
 Gives-command_in [] first others each = tt

@@ -18,8 +18,8 @@ abbrev pub with_line : Cutting → Cutting
 with_line s = record { kept = []; count = s.count + 1; line = without_cr s.kept; is_open = s.is_open }
 
 -- no call of feed or end may follow
-abbrev pub closed : Cutting → Cutting
-closed s = record { kept = s.kept; count = s.count; line = s.line; is_open = false }
+abbrev pub closed_cutting : Cutting → Cutting
+closed_cutting s = record { kept = s.kept; count = s.count; line = s.line; is_open = false }
 
 abbrev pub with_byte : Cutting → ℕ → Cutting
 with_byte s b = record { kept = s.kept ++ b ∷ []; count = s.count; line = s.line; is_open = s.is_open }
@@ -29,13 +29,13 @@ abbrev pub one_more : Fed → Fed
 one_more f = record { after = f.after; cut = f.cut; used = f.used + 1 }
 
 -- what feed does: it takes the bytes up to and with the first newline, or the byte that shows a fault
-abbrev pub fed : Cutting → List ℕ → Fed
-fed s [] = record { after = s; cut = More; used = 0 }
-fed s (b ∷ bs) =
-    if s.count == last_number then record { after = closed s; cut = Bad TooManyLines; used = 1 }
+abbrev pub result_of_feed : Cutting → List ℕ → Fed
+result_of_feed s [] = record { after = s; cut = More; used = 0 }
+result_of_feed s (b ∷ bs) =
+    if s.count == last_number then record { after = closed_cutting s; cut = Bad TooManyLines; used = 1 }
     else (if b == 10 then record { after = with_line s; cut = Whole; used = 1 }
-    else (if length s.kept == line_limit then record { after = closed s; cut = Bad LineTooLong; used = 1 }
-    else one_more (fed (with_byte s b) bs)))
+    else (if length s.kept == line_limit then record { after = closed_cutting s; cut = Bad LineTooLong; used = 1 }
+    else one_more (result_of_feed (with_byte s b) bs)))
 
 -- the answer of end: bytes that are kept are a last line
 abbrev pub end_cut : List ℕ → Cut
@@ -43,5 +43,5 @@ end_cut [] = More
 end_cut (b ∷ bs) = Whole
 
 abbrev pub after_end : Cutting → List ℕ → Cutting
-after_end s [] = closed s
-after_end s (b ∷ bs) = closed (with_line s)
+after_end s [] = closed_cutting s
+after_end s (b ∷ bs) = closed_cutting (with_line s)

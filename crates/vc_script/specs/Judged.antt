@@ -29,5 +29,5 @@ judged_from number [] = []
 judged_from number (line ∷ rest) = judged_then number (judge number line) (judged_from (number + 1) rest)
 
 -- the lines of an input by their numbers, up to the first that can't be taken
-abbrev pub judged : List ℕ → List (ℕ × Result (List ℕ) LineFault)
-judged input = judged_from 1 (lines input)
+abbrev pub judged_lines : List ℕ → List (ℕ × Result (List ℕ) LineFault)
+judged_lines input = judged_from 1 (lines input)

@@ -4,7 +4,7 @@ use Rattle.vc_script.specs.declared.line_fault.LineFault.{LineFault}
 use Rattle.vc_script.specs.declared.cutter.Cut.{Cut}
 use Rattle.vc_script.specs.declared.cutter.Cut.TheVariants.{Whole, More, Bad}
 use Rattle.vc_script.specs.Cutting.{Cutting}
-use Rattle.vc_script.specs.Cutter.{fed, end_cut, after_end}
+use Rattle.vc_script.specs.Cutter.{result_of_feed, end_cut, after_end}
 
 -- lines and a fault, each with the line's number
 abbrev pub Found : Type 0
@@ -22,5 +22,5 @@ abbrev pub found_in : ℕ → Cutting → List (List ℕ) → Found
 found_in zero s pieces = []
 found_in (suc calls) s [] = found_then (end_cut s.kept) (after_end s s.kept) [] []
 found_in (suc calls) s (p ∷ ps) =
-    let f = fed s p in
+    let f = result_of_feed s p in
     found_then f.cut f.after (found_in calls f.after (drop f.used p ∷ ps)) (found_in calls f.after ps)

@@ -12,7 +12,7 @@ use Rattle.vc_script.specs.declared.refusal.Refusal.{Refusal}
 use Rattle.vc_script.specs.declared.refusal.Refusal.TheVariants as why
 use Rattle.vc_script.specs.declared.reply.Reply.{Reply}
 use Rattle.vc_script.specs.declared.reply.Reply.TheVariants.{Opened, Closed, Cleared, Compacted, At, Freed, Written, Hex, Size, AddrIn, AddrNone, SegmentIs, SegmentNone, Stats, SegmentList, BlockList, Poked, Damaged, Watched, Rows, New, Old, Gone, Out, Found, Nothing, Objects, Number, Views, MethodIs, Emptied, ShutDown, Refused}
-use Rattle.vc_script.specs.Shown.{shown}
+use Rattle.vc_script.specs.Shown.{shown_bytes}
 
 abbrev pub refusal_text : Refusal → List ℕ
 refusal_text why.NoRegion = codes "no region"
@@ -85,7 +85,7 @@ row_text r =
     codes " " ++ r.site ++ codes "=" ++ decimal r.blocks ++ codes "," ++ decimal r.bytes ++ codes "," ++ decimal r.peak
 
 abbrev pub object_text : List ℕ → List ℕ
-object_text object = codes " " ++ shown object
+object_text object = codes " " ++ shown_bytes object
 
 abbrev pub stat_text : Stat → List ℕ
 stat_text s =
@@ -116,11 +116,11 @@ printed (Poked block line) = block ++ codes " poked" ++ watch_text line
 printed (Damaged items) = codes "check " ++ decimal (length items) ++ flat_map damage_text items
 printed (Watched block) = block ++ codes " watched"
 printed (Rows items) = codes "profile " ++ decimal (length items) ++ flat_map row_text items
-printed (New object) = codes "new " ++ shown object
-printed (Old object) = codes "old " ++ shown object
-printed (Gone object) = codes "gone " ++ shown object
-printed (Out object) = codes "out " ++ shown object
-printed (Found object) = codes "found " ++ shown object
+printed (New object) = codes "new " ++ shown_bytes object
+printed (Old object) = codes "old " ++ shown_bytes object
+printed (Gone object) = codes "gone " ++ shown_bytes object
+printed (Out object) = codes "out " ++ shown_bytes object
+printed (Found object) = codes "found " ++ shown_bytes object
 printed Nothing = codes "none"
 printed (Objects items) = decimal (length items) ++ flat_map object_text items
 printed (Number count) = decimal count

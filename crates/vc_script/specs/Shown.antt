@@ -12,5 +12,5 @@ is_plain b = is_letter b || (is_digit b || ((b == 45) || ((b == 46) || ((b == 95
 abbrev pub shown_byte : ℕ → List ℕ
 shown_byte b = if is_plain b then b ∷ [] else percent_encode_byte b
 
-abbrev pub shown : List ℕ → List ℕ
-shown bytes = flat_map shown_byte bytes
+abbrev pub shown_bytes : List ℕ → List ℕ
+shown_bytes bytes = flat_map shown_byte bytes

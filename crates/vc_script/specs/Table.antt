@@ -117,11 +117,11 @@ abbrev pub read_words : (forms : List Form) (last : Option Form) → List (List 
 read_words forms last others =
     if takes forms last (length others) then values_of forms last others else Err WordCount
 
-abbrev pub made : (forms : List Form) (last : Option Form) → Makes forms last → Values forms last → Command
-made [] None make values = make
-made [] (Some form) make value = make value
-made (form ∷ forms) last make values = made forms last (make values.0) values.1
+abbrev pub command_made : (forms : List Form) (last : Option Form) → Makes forms last → Values forms last → Command
+command_made [] None make values = make
+command_made [] (Some form) make value = make value
+command_made (form ∷ forms) last make values = command_made forms last (make values.0) values.1
 
 -- the command of a row, with these words behind the first
 abbrev pub command_of : Row → List (List ℕ) → Result Command LineFault
-command_of r others = read_words r.forms r.last others >>= λ values. Ok (made r.forms r.last r.make values)
+command_of r others = read_words r.forms r.last others >>= λ values. Ok (command_made r.forms r.last r.make values)

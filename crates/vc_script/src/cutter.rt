@@ -2,7 +2,7 @@ ghost use Rattle.std.specs.Prelude.{◌≡◌, ◌≢◌, ℕ, ◌+◌, ◌<◌,
 ghost use Rattle.vc_script.specs.Judged.{last_number};
 ghost use Rattle.vc_script.specs.Lines.{without_cr};
 ghost use Rattle.vc_script.specs.Cutting.{new_cutting};
-ghost use Rattle.vc_script.specs.Cutter.{after_end, end_cut, fed};
+ghost use Rattle.vc_script.specs.Cutter.{after_end, end_cut, result_of_feed};
 
 use crate::LineFault;
 use std::alloc::Global;
@@ -80,7 +80,7 @@ impl LineCutter {
     /// no call of `feed` or `end` may follow.
     pub fn feed(&mut self, piece: &[u8]) -> (Cut, usize)
         requires { IsTrue self.old.is_open }
-        ensures fed { fed self.old piece.now
+        ensures fed { result_of_feed self.old piece.now
             ≡ record { after = self.new; cut = result.0; used = result.1 } }
         ensures within { result.1 ≤ length piece.now }
         ensures progress { 0 < length piece.now → 0 < result.1 }

@@ -2,8 +2,8 @@
 ghost use Rattle.std.specs.Prelude.{◌≡◌, ℕ, ◌+◌, ◌<◌, List, ◌++◌, [], ◌∷◌, true, codes, length, replicate};
 ghost use Rattle.std.specs.List.{concat};
 ghost use Rattle.vc_script.specs.Cutting.{new_cutting};
-ghost use Rattle.vc_script.specs.Cutter.{fed};
-ghost use Rattle.vc_script.specs.Judged.{judge, judged, judged_from};
+ghost use Rattle.vc_script.specs.Cutter.{result_of_feed};
+ghost use Rattle.vc_script.specs.Judged.{judge, judged_lines, judged_from};
 ghost use Rattle.vc_script.specs.Lines.{lines, without_cr};
 ghost use Rattle.vc_script.specs.Pieces.{found_in};
 ghost use Rattle.vc_script.specs.declared.cutter.Cut.TheVariants as cut;
@@ -15,7 +15,7 @@ pub fn pieces_joined()
     ensures { (pieces : List (List ℕ)) → (calls : ℕ)
         → length (concat pieces) + length pieces < calls
         → found_in calls new_cutting pieces
-        ≡ judged (concat pieces) }
+        ≡ judged_lines (concat pieces) }
 {}
 
 /// An input is cut at newlines: two newlines have an empty line between them, and the last line needs none.
@@ -37,9 +37,9 @@ pub fn carriage_returns()
 
 /// Lines are numbered from 1, and the last one needs no newline.
 pub fn numbered_lines()
-    ensures crs { judged (codes "a\r\n\nb\r")
+    ensures crs { judged_lines (codes "a\r\n\nb\r")
         ≡ (1, Ok (codes "a")) ∷ (2, Ok []) ∷ (3, Ok (codes "b")) ∷ [] }
-    ensures empty { judged [] ≡ [] }
+    ensures empty { judged_lines [] ≡ [] }
 {}
 
 /// A line of 4,096 bytes is one, also where they end in a CR; one byte more is too many, also where it is a CR, in a
@@ -59,18 +59,18 @@ pub fn limits()
 
 /// One call of `feed`: what it keeps, answers and takes.
 pub fn fed_pieces()
-    ensures more { fed new_cutting (codes "ab") ≡ record {
+    ensures more { result_of_feed new_cutting (codes "ab") ≡ record {
       after = record { kept = codes "ab"; count = 0; line = []; is_open = true };
       cut = cut.More;
       used = 2;
     } }
-    ensures whole { fed (record { kept = codes "a"; count = 6; line = []; is_open = true })
+    ensures whole { result_of_feed (record { kept = codes "a"; count = 6; line = []; is_open = true })
         (codes "b\r\ncd")
         ≡ record {
           after = record { kept = []; count = 7; line = codes "ab"; is_open = true };
           cut = cut.Whole;
           used = 3;
         } }
-    ensures nothing { fed new_cutting []
+    ensures nothing { result_of_feed new_cutting []
         ≡ record { after = new_cutting; cut = cut.More; used = 0 } }
 {}

@@ -3,7 +3,7 @@ ghost use Rattle.std.specs.Prelude.{◌≡◌, ◌++◌, codes, decimal, length,
 ghost use Rattle.std.specs.List.{flat_map};
 ghost use Rattle.hex.specs.Hex.{encode_lower};
 ghost use Rattle.vc_script.specs.Print.{block_text, damage_text, label_text, object_text, row_text, segment_text, stat_text, watch_text};
-ghost use Rattle.vc_script.specs.Shown.{shown};
+ghost use Rattle.vc_script.specs.Shown.{shown_bytes};
 
 use crate::print_lists::{put_blocks, put_damage, put_objects, put_rows, put_segments};
 use crate::print_parts::{put, put_hex, put_labelled, put_number, put_object, put_watch};
@@ -187,7 +187,7 @@ pub(crate) fn rows(alloc: Global, items: &RowItems) -> Result<Vec<u8>, AllocErro
 }
 
 pub(crate) fn object(alloc: Global, text: &[u8], bytes: &Bytes) -> Result<Vec<u8>, AllocError>
-    ensures { IfOk result (λ v. v.items ≡ text.now ++ shown bytes.now) }
+    ensures { IfOk result (λ v. v.items ≡ text.now ++ shown_bytes bytes.now) }
 {
     let mut line = Vec::from_slice(alloc, text)?;
     put_object(alloc, &mut line, bytes.as_slice())?;

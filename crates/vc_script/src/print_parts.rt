@@ -3,7 +3,7 @@ ghost use Rattle.std.specs.Prelude.{◌≡◌, ◌++◌, decimal, OnOk};
 ghost use Rattle.std.specs.Fmt.{signed_decimal};
 ghost use Rattle.hex.specs.Hex.{encode_lower};
 ghost use Rattle.vc_script.specs.Print.{watch_text};
-ghost use Rattle.vc_script.specs.Shown.{shown};
+ghost use Rattle.vc_script.specs.Shown.{shown_bytes};
 
 use itoa::Buffer;
 use percent_encoding::{AsciiSet, NON_ALPHANUMERIC, ascii_set, percent_encode};
@@ -64,7 +64,7 @@ pub(crate) fn put_hex(alloc: Global, line: &mut Vec<u8>, bytes: &[u8]) -> Result
 
 #[tactic(auto, using(crate::proofs::PrintSteps::shown_steps))]
 pub(crate) fn put_object(alloc: Global, line: &mut Vec<u8>, object: &[u8]) -> Result<(), AllocError>
-    ensures { OnOk result (line.new.items ≡ line.old.items ++ shown object.now) }
+    ensures { OnOk result (line.new.items ≡ line.old.items ++ shown_bytes object.now) }
 {
     let mut text = String::new(alloc);
     percent_encode(object, ESCAPED).append_to(&mut text)?;

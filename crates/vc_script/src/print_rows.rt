@@ -6,7 +6,7 @@ ghost use Rattle.vc_script.specs.Lines.{ended_lines, lines};
 ghost use Rattle.vc_script.specs.Needs.{ForBlock, ForObject, ForTable, IsAscending, NoNeed, ShowsNeeds, begins_refused, is_refusal, need_at, need_of, need_shown, needs_of};
 ghost use Rattle.vc_script.specs.Print.{line_of, method_word, printed, text};
 ghost use Rattle.vc_script.specs.ProperReply.{IsProperReply};
-ghost use Rattle.vc_script.specs.Shown.{shown};
+ghost use Rattle.vc_script.specs.Shown.{shown_bytes};
 ghost use Rattle.vc_script.specs.declared.refusal.Refusal.TheVariants as why;
 ghost use Rattle.vc_script.specs.declared.reply.Reply.{Reply};
 ghost use Rattle.vc_script.specs.declared.reply.Reply.TheVariants as reply;
@@ -198,8 +198,8 @@ pub fn method_words()
 /// Letters, digits, `-`, `.`, `_` and `~` stand for themselves in an object; every other byte is escaped.
 #[tactic(auto, unfolding(crate::proofs::OnLiterals::printing_on_literals))]
 pub fn shown_objects()
-    ensures plain { shown (codes "AZaz09-._~") ≡ codes "AZaz09-._~" }
-    ensures zero { shown (97 ∷ 0 ∷ 120 ∷ []) ≡ codes "a%00x" }
-    ensures blank { shown (codes " %/") ≡ codes "%20%25%2F" }
-    ensures high { shown (10 ∷ 127 ∷ 171 ∷ 255 ∷ []) ≡ codes "%0A%7F%AB%FF" }
+    ensures plain { shown_bytes (codes "AZaz09-._~") ≡ codes "AZaz09-._~" }
+    ensures zero { shown_bytes (97 ∷ 0 ∷ 120 ∷ []) ≡ codes "a%00x" }
+    ensures blank { shown_bytes (codes " %/") ≡ codes "%20%25%2F" }
+    ensures high { shown_bytes (10 ∷ 127 ∷ 171 ∷ 255 ∷ []) ≡ codes "%0A%7F%AB%FF" }
 {}

@@ -4,5 +4,5 @@ use Rattle.std.specs.declared.alloc.Global.{Global}
 use Rattle.vc_model.specs.Discipline.{Discipline}
 
 -- what the discipline in a box means, by what each discipline means
-abbrev pub boxed : {I : Type 0} {V : I → Type 0} → ((x : I) × V x → Discipline) → DynBox I Global V → Discipline
-boxed meaning b = meaning (b.vtable, b.value)
+abbrev pub disc_in_box : {I : Type 0} {V : I → Type 0} → ((x : I) × V x → Discipline) → DynBox I Global V → Discipline
+disc_in_box meaning b = meaning (b.vtable, b.value)

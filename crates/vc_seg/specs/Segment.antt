@@ -7,8 +7,8 @@ pub record Bytes : Type 0 where
   pub bytes : List ℕ
 
 -- a segment of zeros
-abbrev pub zeroed : ℕ → ℕ → Bytes
-zeroed number size = record { number = number; bytes = replicate size 0 }
+abbrev pub zero_segment : ℕ → ℕ → Bytes
+zero_segment number size = record { number = number; bytes = replicate size 0 }
 
 -- its number and its size in bytes
 abbrev pub pair_of : Bytes → ℕ × ℕ

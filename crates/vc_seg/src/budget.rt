@@ -3,7 +3,7 @@ ghost use Rattle.vc_model.specs.Count.{next_count};
 ghost use Rattle.vc_model.specs.Discipline.{IsRound, IsSegmentSize, Lent, Unserved};
 ghost use Rattle.vc_seg.specs.Budget.{discipline_of, room_of};
 ghost use Rattle.vc_seg.specs.Lend.{Returned};
-ghost use Rattle.vc_seg.specs.Segment.{zeroed, pair_of};
+ghost use Rattle.vc_seg.specs.Segment.{zero_segment, pair_of};
 
 use crate::out_list::OutList;
 use crate::{LendFault, SegDisc, Segment};
@@ -89,7 +89,7 @@ impl SegDisc for BudgetDisc {
             ≡ next_count self.old.faults }
 
         // The trait's clauses.
-        ensures segment { IfOk result (λ segment. segment ≡ zeroed number size) }
+        ensures segment { IfOk result (λ segment. segment ≡ zero_segment number size) }
         ensures lent { OnOk result (Lent
             (discipline_of self.old) (discipline_of self.new) number size) }
         ensures refused { IsErrOf result LendFault.Refused

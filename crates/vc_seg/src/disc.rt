@@ -1,7 +1,7 @@
 ghost use Rattle.std.specs.Prelude.{◌≡◌, ◌%◌, Contains, IfOk, OnOk, IsErrOf};
 ghost use Rattle.vc_model.specs.Discipline.{Discipline, IsRound, IsSegmentSize, Lent, Unserved};
 ghost use Rattle.vc_seg.specs.Lend.{Returned};
-ghost use Rattle.vc_seg.specs.Segment.{zeroed, pair_of};
+ghost use Rattle.vc_seg.specs.Segment.{zero_segment, pair_of};
 
 use crate::{LendFault, Segment};
 use std::alloc::Global;
@@ -29,7 +29,7 @@ pub trait SegDisc: Drop {
         requires size { IsSegmentSize size }
         requires multiple { size % (state self.old).terms.round ≡ 0 }
 
-        ensures segment { IfOk result (λ segment. segment ≡ zeroed number size) }
+        ensures segment { IfOk result (λ segment. segment ≡ zero_segment number size) }
         ensures lent { OnOk result (Lent (state self.old) (state self.new) number size) }
 
         // Refused comes only where the faults rose, and where the room is told, only where the size is above it.

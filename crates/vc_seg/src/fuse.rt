@@ -2,7 +2,7 @@ ghost use Rattle.std.specs.Prelude.{◌≡◌, ℕ, ◌%◌, ◌<◌, ◌≤◌,
 ghost use Rattle.vc_model.specs.Count.{Rose, next_count};
 ghost use Rattle.vc_model.specs.Discipline.{Discipline, IsRound, IsSegmentSize, Lent, Unserved};
 ghost use Rattle.vc_seg.specs.Lend.{Returned};
-ghost use Rattle.vc_seg.specs.Segment.{zeroed, pair_of};
+ghost use Rattle.vc_seg.specs.Segment.{zero_segment, pair_of};
 
 use crate::out_list::OutList;
 use crate::{LendFault, SegDisc, Segment};
@@ -94,7 +94,7 @@ impl SegDisc for FuseDisc {
             ≡ next_count self.old.discipline.faults }
 
         // The trait's clauses.
-        ensures segment { IfOk result (λ segment. segment ≡ zeroed number size) }
+        ensures segment { IfOk result (λ segment. segment ≡ zero_segment number size) }
         ensures lent { OnOk result (Lent self.old.discipline self.new.discipline number size) }
         ensures refused { IsErrOf result LendFault.Refused
             → Unserved self.old.discipline self.new.discipline size }

@@ -2,7 +2,7 @@ ghost use Rattle.std.specs.Prelude.{◌≡◌, ℕ, ◌%◌, ◌<◌, ◌≤◌,
 ghost use Rattle.vc_model.specs.Count.{Rose};
 ghost use Rattle.vc_model.specs.Discipline.{Discipline, IsRound, IsSegmentSize, Lent, Unserved};
 ghost use Rattle.vc_seg.specs.Lend.{Returned};
-ghost use Rattle.vc_seg.specs.Segment.{zeroed, pair_of};
+ghost use Rattle.vc_seg.specs.Segment.{zero_segment, pair_of};
 
 use crate::out_list::OutList;
 use crate::{LendFault, SegDisc, Segment};
@@ -79,7 +79,7 @@ impl SegDisc for HeapDisc {
         requires multiple { size % self.old.terms.round ≡ 0 }
 
         ensures never_refused { ¬ IsErrOf result LendFault.Refused }
-        ensures segment { IfOk result (λ segment. segment ≡ zeroed number size) }
+        ensures segment { IfOk result (λ segment. segment ≡ zero_segment number size) }
         ensures lent { OnOk result (Lent self.old self.new number size) }
         ensures refused { IsErrOf result LendFault.Refused → Unserved self.old self.new size }
         ensures no_memory { IsErrOf result LendFault.OutOfMemory → self.new ≡ self.old }

@@ -1,6 +1,6 @@
 ghost use Rattle.std.specs.Prelude.{◌≡◌, ◌%◌, IfOk, OnOk, IsErrOf};
 ghost use Rattle.vc_model.specs.Discipline.{IsRound, IsSegmentSize, Lent, Unserved};
-ghost use Rattle.vc_seg.specs.Segment.{zeroed};
+ghost use Rattle.vc_seg.specs.Segment.{zero_segment};
 
 use crate::{LendFault, SegDisc, Segment};
 use std::alloc::Global;
@@ -24,7 +24,7 @@ pub fn obtain(
     requires size { IsSegmentSize size }
     requires multiple { size % (state disc.old).terms.round ≡ 0 }
 
-    ensures segment { IfOk result (λ segment. segment ≡ zeroed number size) }
+    ensures segment { IfOk result (λ segment. segment ≡ zero_segment number size) }
     ensures lent { OnOk result (Lent (state disc.old) (state disc.new) number size) }
 
     // Refused comes only where the faults rose, and where the room is told, only where the size is above it.

@@ -1,7 +1,7 @@
 ghost use Rattle.std.specs.Prelude.{◌≡◌, ℕ, ◌+◌, ◌<◌, List, [], ◌∷◌, ◌++◌, length, remove, slice_index_or, Contains, IfOk, OnOk, OnErr};
 ghost use Rattle.vc_model.specs.Discipline.{IsSegmentSize, without_last};
 ghost use Rattle.vc_seg.specs.Budget.{bytes_of};
-ghost use Rattle.vc_seg.specs.Segment.{zeroed, pair_of};
+ghost use Rattle.vc_seg.specs.Segment.{zero_segment, pair_of};
 
 use crate::Segment;
 use std::alloc::Global;
@@ -33,7 +33,7 @@ impl OutList {
     /// A segment of zeros from the heap, which is out from then on.
     pub fn lend(&mut self, alloc: Global, number: u32, size: u32) -> Result<Segment, OutOfMemory>
         requires { IsSegmentSize size }
-        ensures segment { IfOk result (λ segment. segment ≡ zeroed number size) }
+        ensures segment { IfOk result (λ segment. segment ≡ zero_segment number size) }
         ensures ok { OnOk result (self.new ≡ self.old ++ (number, size) ∷ []) }
         ensures bytes { OnOk result (bytes_of self.new ≡ bytes_of self.old + size) }
         ensures err { OnErr result (self.new ≡ self.old) }

@@ -1,6 +1,6 @@
 ghost use Rattle.std.specs.Prelude.{◌≡◌, ℕ, ◌%◌, ◌≤◌, length, IfOk};
 ghost use Rattle.vc_model.specs.Discipline.{IsSegmentSize};
-ghost use Rattle.vc_seg.specs.Segment.{zeroed};
+ghost use Rattle.vc_seg.specs.Segment.{zero_segment};
 
 use crate::block::{Block, take};
 use std::alloc::Global;
@@ -44,7 +44,7 @@ impl Segment {
     /// A segment of zeros under that number. The size is a multiple of 32 from 64 to 33,554,432 bytes.
     pub fn take(alloc: Global, number: u32, size: u32) -> Result<Segment, OutOfMemory>
         requires { IsSegmentSize size }
-        ensures { IfOk result (λ segment. segment ≡ zeroed number size) }
+        ensures { IfOk result (λ segment. segment ≡ zero_segment number size) }
     {
         match take(&alloc, size as usize) {
             Some((at, block)) => Ok(Segment {

@@ -6,7 +6,7 @@ use Rattle.std.proofs.lemmas.List.Elements.{All-push}
 use Rattle.std.proofs.lemmas.List.Quantifiers.{all_pairs_push}
 use Rattle.vc_model.specs.Discipline.{IsSegmentSize}
 use Rattle.vc_model.specs.Segments.{lowest_unused, numbers}
-use Rattle.vc_seg.specs.Segment.{AreSegments, Bytes, IsRegionSegment, pair_of, zeroed}
+use Rattle.vc_seg.specs.Segment.{AreSegments, Bytes, IsRegionSegment, pair_of, zero_segment}
 use Rattle.vc_seg.proofs.Backs.{Apart}
 use Rattle.vc_segments.proofs.Unused.{is_among, lowest_unused-unused}
 
@@ -18,7 +18,7 @@ apart_from_among n (s ∷ ss) h (suc k) d lt = apart_from_among n ss ((or_parts 
 pub unused-lowest : (n : ℕ) (segs : List Bytes) → n ≡ lowest_unused (numbers (map pair_of segs)) → is_among n (numbers (map pair_of segs)) ≡ false
 unused-lowest n segs e = subst (λ m. is_among m (numbers (map pair_of segs)) ≡ false) (sym e) (lowest_unused-unused (numbers (map pair_of segs)))
 
-pub IsRegionSegment-zeroed : (n bytes : ℕ) → 1 ≤ n → n ≤ 1023 → IsSegmentSize bytes → IsRegionSegment (zeroed n bytes)
+pub IsRegionSegment-zeroed : (n bytes : ℕ) → 1 ≤ n → n ≤ 1023 → IsSegmentSize bytes → IsRegionSegment (zero_segment n bytes)
 IsRegionSegment-zeroed n bytes first last size = record { first = first; last = last; size = subst IsSegmentSize (sym (length-replicate {A = ℕ} bytes 0)) size }
 
 pub AreSegments-push : (segs : List Bytes) (b : Bytes) → AreSegments segs → length segs < 1023 → IsRegionSegment b → is_among b.number (numbers (map pair_of segs)) ≡ false → AreSegments (segs ++ b ∷ [])

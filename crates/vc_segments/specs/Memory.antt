@@ -15,5 +15,5 @@ write_segment number off src (s ∷ ss) =
     if s.number == number then record { number = s.number; bytes = with_bytes off src s.bytes } ∷ ss else s ∷ write_segment number off src ss
 
 -- a segment with a copy of a range of one, from an offset on
-abbrev pub copied : Bytes → ℕ → ℕ → ℕ → Bytes → Bytes
-copied source from len to s = record { number = s.number; bytes = with_bytes to (take len (drop from source.bytes)) s.bytes }
+abbrev pub with_copy_of : Bytes → ℕ → ℕ → ℕ → Bytes → Bytes
+with_copy_of source from len to s = record { number = s.number; bytes = with_bytes to (take len (drop from source.bytes)) s.bytes }

@@ -1,7 +1,7 @@
 ghost use Rattle.std.specs.Prelude.{◌≡◌, ℕ, ◌+◌, ◌<◌, ◌≤◌, length, take, drop, slice_set, slice_index_or};
 ghost use Rattle.std.specs.List.{HoldsAt};
 ghost use Rattle.vc_seg.specs.Segment.{Bytes};
-ghost use Rattle.vc_segments.specs.Memory.{bytes_of_number, copied, write_segment};
+ghost use Rattle.vc_segments.specs.Memory.{bytes_of_number, with_copy_of, write_segment};
 
 use vc_seg::{Segment, find_number};
 
@@ -12,7 +12,7 @@ fn copy_between(segs: &mut [Segment], source: usize, from: u32, target: usize, t
     requires from { HoldsAt (λ s. from + len ≤ length s.bytes) segs.old source }
     requires to { HoldsAt (λ s. to + len ≤ length s.bytes) segs.old target }
     ensures { (d : Bytes) → segs.new ≡ slice_set segs.old target
-        (copied (slice_index_or segs.old source d) from len to (slice_index_or segs.old target d)) }
+        (with_copy_of (slice_index_or segs.old source d) from len to (slice_index_or segs.old target d)) }
 {
     if source == target {
         segs[target].shift(from, to, len);

@@ -1,7 +1,7 @@
 ghost use Rattle.std.specs.Prelude.{◌≡◌, ℕ, ◌%◌, ◌≤◌, ◌⊎◌, ◌≢◌, [], ◌∷◌, ◌++◌, All, IfOk, IfErr, IsErrOf, OnErr, OnOk, false, map, vec_len, vec_capacity, ◌<◌};
 ghost use Rattle.vc_model.specs.Discipline.{IsSegmentSize, Lent, Unserved};
 ghost use Rattle.vc_model.specs.Segments.{Granted, ask};
-ghost use Rattle.vc_seg.specs.Segment.{AreSegments, pair_of, zeroed};
+ghost use Rattle.vc_seg.specs.Segment.{AreSegments, pair_of, zero_segment};
 ghost use Rattle.vc_segments.specs.Lend.{IsAsked, IsNoGrant};
 
 use crate::number::lowest_unused;
@@ -19,7 +19,7 @@ pub fn lend_segment(
     requires bytes { IsSegmentSize bytes }
     requires multiple { bytes % (state disc.old).terms.round ≡ 0 }
 
-    ensures segment { IfOk result (λ segment. segment ≡ zeroed number bytes) }
+    ensures segment { IfOk result (λ segment. segment ≡ zero_segment number bytes) }
     ensures lent { OnOk result (Lent (state disc.old) (state disc.new) number bytes) }
 
     ensures only { IfErr result (λ e. (e ≡ RegionFault.NoSegment) ⊎ (e ≡ RegionFault.OutOfMemory)) }
@@ -57,7 +57,7 @@ pub fn lend_next(
 
     ensures granted { IfOk result (λ n. ask bytes (map pair_of segs.old.items) false
         ≡ Granted n bytes) }
-    ensures pushed { IfOk result (λ n. segs.new.items ≡ segs.old.items ++ zeroed n bytes ∷ []) }
+    ensures pushed { IfOk result (λ n. segs.new.items ≡ segs.old.items ++ zero_segment n bytes ∷ []) }
     ensures number { IfOk result (λ n. (1 ≤ n) × (n ≤ 1023)) }
     ensures fresh { IfOk result (λ n. All (λ s. s.number ≢ n) segs.old.items) }
     ensures segments { AreSegments segs.new.items }

@@ -22,14 +22,14 @@ use Rattle.vc_script.specs.declared.command.Command.{Command}
 use Rattle.vc_script.specs.declared.line_fault.LineFault.{LineFault}
 use Rattle.vc_script.specs.declared.reply.Reply.TheVariants.{Number, ShutDown, Stats}
 use Rattle.vc_script.specs.declared.tool.Tool.{Tool}
-use Rattle.vc_script.specs.Judged.{judged}
+use Rattle.vc_script.specs.Judged.{judged_lines}
 use Rattle.vc_script.specs.Lines.{ended_lines}
 use Rattle.vc_script.specs.Print.{line_of, printed}
 use Rattle.vc_script.specs.Proper.{IsName}
 use Rattle.vc_script.proofs.Newlines.{OneLine, line-printed, stays}
 use Rattle.vc_seg.specs.declared.stat.Stat.{Stat}
 use Rattle.vc_steps.specs.Homes.{held_all}
-use Rattle.vc_steps.specs.Moment.{Moment, ended, over_sink}
+use Rattle.vc_steps.specs.Moment.{Moment, moment_at_end, over_sink}
 use Rattle.vc_session.specs.Engine.{RunsLines, RunsScript}
 use Rattle.vc_session.specs.ProperState.{IsProperHome}
 use Rattle.vc_session.specs.Progress.{Progress}
@@ -96,7 +96,7 @@ summary-same false lines c d same = refl
 summary-same true lines c d same = ap (summary lines) (same refl)
 
 -- a run at its last command, with what is written behind its replies
-pub text-ends : {start now : Moment} {counts : Counts} {text : List ℕ} {count : ℕ} {done : List (ℕ × Command)} (w : Words) (lines : ℕ) (after : Option (List ℕ)) (tail : List ℕ) → Progress (is_quiet w) start now counts text count done → count < 2 ^ 64 → tail ≡ lines_text (tail_lines w lines counts now.state.homes) → Told start.written after (text ++ tail) → IsRun (is_quiet w) (text_of w lines) start (ended (over_sink now after)) done
+pub text-ends : {start now : Moment} {counts : Counts} {text : List ℕ} {count : ℕ} {done : List (ℕ × Command)} (w : Words) (lines : ℕ) (after : Option (List ℕ)) (tail : List ℕ) → Progress (is_quiet w) start now counts text count done → count < 2 ^ 64 → tail ≡ lines_text (tail_lines w lines counts now.state.homes) → Told start.written after (text ++ tail) → IsRun (is_quiet w) (text_of w lines) start (moment_at_end (over_sink now after)) done
 text-ends {now = now} {counts = counts} w lines after tail p few is told =
     progress-end p (text_of w lines) tail after few
     (λ quiet n below. subst (λ t. NoLine n (ended_lines t)) (sym is) (tail-none w lines counts now.state.homes p.proper_state n below))
@@ -110,18 +110,18 @@ good-same None lines total same = same refl
 good-same (Some bad) lines total same = refl
 
 -- the lines of an input were run, and what stands behind their replies is written
-script-ends : (tool : Tool) (w : Words) (start now : Moment) (counts : Counts) (lines : ℕ) (bad : Option (ℕ × LineFault)) (told left : Option (List ℕ)) (after : Option (List ℕ)) (tail : List ℕ) → tail ≡ lines_text (tail_lines w (good_lines bad lines) counts now.state.homes) → Told now.written after tail → IfSome told (λ input. AtEnd tool (is_quiet w) start now counts lines input bad left) → IfSome told (λ input. IsReplay tool w start (ended (over_sink now after)) input bad left)
+script-ends : (tool : Tool) (w : Words) (start now : Moment) (counts : Counts) (lines : ℕ) (bad : Option (ℕ × LineFault)) (told left : Option (List ℕ)) (after : Option (List ℕ)) (tail : List ℕ) → tail ≡ lines_text (tail_lines w (good_lines bad lines) counts now.state.homes) → Told now.written after tail → IfSome told (λ input. AtEnd tool (is_quiet w) start now counts lines input bad left) → IfSome told (λ input. IsReplay tool w start (moment_at_end (over_sink now after)) input bad left)
 script-ends tool w start now counts lines bad None left after tail is written e = tt
 script-ends tool w start now counts lines bad (Some input) left after tail is written e =
     record {
       first = e.first;
       stops = e.stops;
-      run = subst (λ n. IsRun (is_quiet w) (text_of w n) start (ended (over_sink now after)) (script tool input)) (good-same bad lines (length (judged input)) e.whole)
+      run = subst (λ n. IsRun (is_quiet w) (text_of w n) start (moment_at_end (over_sink now after)) (script tool input)) (good-same bad lines (length (judged_lines input)) e.whole)
           (text-ends w (good_lines bad lines) after tail e.progress (omega (arith, e.few)) is (told-more start.written now.written after e.text tail e.told written));
     }
 
 -- what a run of a source's lines promises once what stands behind the replies is written
-pub script-told : (tool : Tool) (w : Words) (quiet : Bool) (start last : Moment) (counts : Counts) (count number lines : ℕ) (bad : Option (ℕ × LineFault)) (old mid new : Flows) (none tail : List ℕ) → quiet ≡ is_quiet w → number ≡ count → lines ≡ good_lines bad number → none ≡ [] → tail ≡ none ++ lines_text (tail_lines w lines counts last.state.homes) → RunsLines tool quiet (Ok bad) start last counts count old mid → Told mid.written new.written tail → new.left ≡ mid.left → mid.reads ≤ new.reads → mid.writes ≤ new.writes → RunsScript tool w (Ok bad) start (ended last) old new
+pub script-told : (tool : Tool) (w : Words) (quiet : Bool) (start last : Moment) (counts : Counts) (count number lines : ℕ) (bad : Option (ℕ × LineFault)) (old mid new : Flows) (none tail : List ℕ) → quiet ≡ is_quiet w → number ≡ count → lines ≡ good_lines bad number → none ≡ [] → tail ≡ none ++ lines_text (tail_lines w lines counts last.state.homes) → RunsLines tool quiet (Ok bad) start last counts count old mid → Told mid.written new.written tail → new.left ≡ mid.left → mid.reads ≤ new.reads → mid.writes ≤ new.writes → RunsScript tool w (Ok bad) start (moment_at_end last) old new
 script-told tool w quiet start last counts count number lines bad old mid new none tail by_words counted good empty is runs written left reads writes =
     let behind : tail ≡ lines_text (tail_lines w (good_lines bad count) counts last.state.homes) =
     is

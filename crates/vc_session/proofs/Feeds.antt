@@ -8,7 +8,7 @@ use Rattle.vc_script.specs.declared.cutter.Cut.TheVariants.{Whole, More, Bad}
 use Rattle.vc_script.specs.Lines.{ended_after}
 use Rattle.vc_script.specs.Judged.{line_limit, last_number, judged_from, judged_then}
 use Rattle.vc_script.specs.Cutting.{Cutting, IsCutting}
-use Rattle.vc_script.specs.Cutter.{fed, with_byte, with_line}
+use Rattle.vc_script.specs.Cutter.{result_of_feed, with_byte, with_line}
 use Rattle.vc_script.proofs.Pieces.{judge-ok}
 use Rattle.vc_session.specs.SoFar.{Found, ended_rest, fuel}
 
@@ -46,7 +46,7 @@ module _ (s : Cutting) (b : ℕ) (bs behind : List ℕ) (is : IsCutting s) (numb
   less-byte : length s.kept ≢ line_limit → fuel (with_byte s b) + 1 ≤ fuel s
   less-byte room = omega (arith, length_push s.kept b, is.short, room)
 
-pub fed-feeds : (s : Cutting) (xs behind : List ℕ) → IsCutting s → Feeds (fed s xs).cut (fed s xs).after (fed s xs).used s xs behind
+pub fed-feeds : (s : Cutting) (xs behind : List ℕ) → IsCutting s → Feeds (result_of_feed s xs).cut (result_of_feed s xs).after (result_of_feed s xs).used s xs behind
 fed-feeds s [] behind is = (refl, (omega arith, (refl, (refl, refl))))
 fed-feeds s (b ∷ bs) behind is =
     elim (eqb_tells s.count last_number) [
@@ -55,7 +55,7 @@ fed-feeds s (b ∷ bs) behind is =
         | inl newline ↦ rw (number.0, newline) (feeds-line s b bs behind is number.1 newline)
         | inr other ↦ elim (eqb_tells (length s.kept) line_limit) [
           | inl full ↦ rw (number.0, other, full.0) tt
-          | inr room ↦ rw (number.0, other, room.0) (feeds-byte (fed (with_byte s b) bs).cut (fed (with_byte s b) bs).after (fed (with_byte s b) bs).used s b bs behind (less-byte s b bs behind is number.1 room.1) (ap (ended_or s b bs behind is number.1) other) (fed-feeds (with_byte s b) bs behind (is-byte s b bs behind is number.1 room.1)))
+          | inr room ↦ rw (number.0, other, room.0) (feeds-byte (result_of_feed (with_byte s b) bs).cut (result_of_feed (with_byte s b) bs).after (result_of_feed (with_byte s b) bs).used s b bs behind (less-byte s b bs behind is number.1 room.1) (ap (ended_or s b bs behind is number.1) other) (fed-feeds (with_byte s b) bs behind (is-byte s b bs behind is number.1 room.1)))
         ]
       ]
     ]

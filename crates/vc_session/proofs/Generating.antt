@@ -7,7 +7,7 @@ use Rattle.std.specs.List.{AllByRecursion}
 use Rattle.std.proofs.lemmas.List.{append_assoc, append-nil, length-append}
 use Rattle.std.proofs.lemmas.Option.{same_Some}
 use Rattle.vc_counts.specs.declared.counts.Counts.{Counts}
-use Rattle.vc_generate.specs.Generated.{generated}
+use Rattle.vc_generate.specs.Generated.{commands_of_seed}
 use Rattle.vc_generate.specs.Next.{IsNext}
 use Rattle.vc_generate.proofs.CommandSteps.{length-generated}
 use Rattle.vc_script.specs.Proper.{IsProperCommand}
@@ -25,7 +25,7 @@ use Rattle.vc_session.specs.Replay.{IsGenerated, IsRun, Told, on_lines}
 use Rattle.vc_session.specs.Run.{nothing_ran}
 use Rattle.vc_session.specs.declared.engine.Stop.{Stop}
 use Rattle.vc_session.specs.Text.{counts_of, is_quiet, lines_text, tail_lines, text_of}
-use Rattle.vc_steps.specs.Moment.{Moment, ended, over_sink}
+use Rattle.vc_steps.specs.Moment.{Moment, moment_at_end, over_sink}
 use Rattle.vc_words.specs.declared.words.Words.{Words}
 use Rattle.vc_session.proofs.Progress.{progress-over, progress-start, progress-step, told-more, told-none}
 use Rattle.vc_session.proofs.Behind.{text-ends}
@@ -123,11 +123,11 @@ module _ {start now : Moment} {told told' : Option (List ℕ)} {before : Counts}
       }
 
 -- how many there are
-generated-most : (tool : Tool) (n seed : ℕ) → n ≤ 1000000 → length (generated tool n seed) ≤ 1000004
+generated-most : (tool : Tool) (n seed : ℕ) → n ≤ 1000000 → length (commands_of_seed tool n seed) ≤ 1000004
 generated-most Vmreplay n seed most = omega (arith, length-generated Vmreplay n seed)
 generated-most Dtrun n seed most = omega (arith, length-generated Dtrun n seed)
 
-pub generated-few : (tool : Tool) (n seed : ℕ) → n ≤ 1000000 → length (generated tool n seed) < 2 ^ 31
+pub generated-few : (tool : Tool) (n seed : ℕ) → n ≤ 1000000 → length (commands_of_seed tool n seed) < 2 ^ 31
 generated-few tool n seed most = omega (arith, generated-most tool n seed most)
 
 or-true : (b : Bool) → (b || true) ≡ true
@@ -139,23 +139,23 @@ quiet-generated : (w : Words) (n : ℕ) → w.generate ≡ Some n → is_quiet w
 quiet-generated w n is = ap (λ g. w.quiet || is_some g) is ∙ or-true w.quiet
 
 -- they were run, and what stands behind the replies is written
-pub generating-ends : {start now : Moment} {told told' : Option (List ℕ)} {counts : Counts} {lines : ℕ} (tool : Tool) (w : Words) (n : ℕ) (after : Option (List ℕ)) (tail : List ℕ) → w.generate ≡ Some n → n ≤ 1000000 → RanAll start now told told' counts (generated tool n w.seed) lines → tail ≡ lines_text (tail_lines w lines counts now.state.homes) → Told told' after tail → IsGenerated tool w n (over_sink start told) (over_sink (ended now) after)
+pub generating-ends : {start now : Moment} {told told' : Option (List ℕ)} {counts : Counts} {lines : ℕ} (tool : Tool) (w : Words) (n : ℕ) (after : Option (List ℕ)) (tail : List ℕ) → w.generate ≡ Some n → n ≤ 1000000 → RanAll start now told told' counts (commands_of_seed tool n w.seed) lines → tail ≡ lines_text (tail_lines w lines counts now.state.homes) → Told told' after tail → IsGenerated tool w n (over_sink start told) (over_sink (moment_at_end now) after)
 generating-ends {start} {now} {told} {told'} {counts} {lines} tool w n after tail is most r ends wrote =
-    let commands = generated tool n w.seed in
+    let commands = commands_of_seed tool n w.seed in
     let quiet : is_quiet w ≡ true = quiet-generated w n is in
     let few : lines < 2 ^ 64 = omega (arith, r.count, generated-most tool n w.seed most) in
     let progress : Progress (is_quiet w) (over_sink start told) (over_sink now told') counts r.text lines (on_lines 1 commands) =
     subst (λ q. Progress q (over_sink start told) (over_sink now told') counts r.text lines (on_lines 1 commands)) (sym quiet) r.progress in
-    let run : IsRun (is_quiet w) (text_of w lines) (over_sink start told) (over_sink (ended now) after) (on_lines 1 commands) =
+    let run : IsRun (is_quiet w) (text_of w lines) (over_sink start told) (over_sink (moment_at_end now) after) (on_lines 1 commands) =
     text-ends w lines after tail progress few ends (told-more told told' after r.text tail r.tells wrote) in
     record {
       run =
-          subst (λ q. IsRun q (text_of w (length commands)) (over_sink start told) (over_sink (ended now) after) (on_lines 1 commands)) quiet
-          (subst (λ k. IsRun (is_quiet w) (text_of w k) (over_sink start told) (over_sink (ended now) after) (on_lines 1 commands)) r.count run);
+          subst (λ q. IsRun q (text_of w (length commands)) (over_sink start told) (over_sink (moment_at_end now) after) (on_lines 1 commands)) quiet
+          (subst (λ k. IsRun (is_quiet w) (text_of w k) (over_sink start told) (over_sink (moment_at_end now) after) (on_lines 1 commands)) r.count run);
     }
 
 -- the same of the answers of what was called
-pub generating-told : {U : Type 0} (made : U) (tool : Tool) (w : Words) (n : ℕ) (start last : Moment) (counts : Counts) (lines : ℕ) (commands : List Command) (told told' told'' : Option (List ℕ)) (failures failures' failures'' : ℕ) (none tail : List ℕ) → w.generate ≡ Some n → n ≤ 1000000 → commands ≡ generated tool n w.seed → none ≡ [] → tail ≡ none ++ lines_text (tail_lines w lines counts last.state.homes) → RunsCommands (Ok lines) commands start last counts told told' failures failures' → Told told' told'' tail → failures' ≤ failures'' → RunsGenerated tool w n (let answer : Result U Stop = Ok made in answer) start (ended last) told told'' failures failures''
+pub generating-told : {U : Type 0} (made : U) (tool : Tool) (w : Words) (n : ℕ) (start last : Moment) (counts : Counts) (lines : ℕ) (commands : List Command) (told told' told'' : Option (List ℕ)) (failures failures' failures'' : ℕ) (none tail : List ℕ) → w.generate ≡ Some n → n ≤ 1000000 → commands ≡ commands_of_seed tool n w.seed → none ≡ [] → tail ≡ none ++ lines_text (tail_lines w lines counts last.state.homes) → RunsCommands (Ok lines) commands start last counts told told' failures failures' → Told told' told'' tail → failures' ≤ failures'' → RunsGenerated tool w n (let answer : Result U Stop = Ok made in answer) start (moment_at_end last) told told'' failures failures''
 generating-told made tool w n start last counts lines commands told told' told'' failures failures' failures'' none tail is most all empty behind runs wrote never =
     record {
       run =

@@ -5,7 +5,7 @@ use Rattle.std.specs.List.{AllByRecursion}
 use Rattle.std.proofs.lemmas.List.{append_assoc, append-nil, length-append, map-append}
 use Rattle.std.proofs.lemmas.Grind.{flat_map-append}
 use Rattle.std.proofs.lemmas.List.Sums.{sum_by-append, sum_by_push}
-use Rattle.vc_counts.specs.Counts.{busy_in, counted}
+use Rattle.vc_counts.specs.Counts.{busy_in, counts_with_step}
 use Rattle.vc_counts.specs.declared.counts.Counts.{Counts}
 use Rattle.vc_script.specs.declared.command.Command.{Command}
 use Rattle.vc_script.specs.declared.reply.Reply.{Reply}
@@ -15,7 +15,7 @@ use Rattle.vc_script.specs.Lines.{ended_lines}
 use Rattle.vc_script.specs.Needs.{IsAscending, Need, ShowsNeeds, is_refusal, need_at, need_shown}
 use Rattle.vc_script.proofs.Texts.{ascending-push}
 use Rattle.vc_steps.specs.Account.{Settles}
-use Rattle.vc_steps.specs.Moment.{Moment, ended, over_sink}
+use Rattle.vc_steps.specs.Moment.{Moment, moment_at_end, over_sink}
 use Rattle.vc_steps.specs.Refusals.{refusal_at}
 use Rattle.vc_steps.specs.State.{State, Stepped}
 use Rattle.vc_steps.specs.Step.{step}
@@ -118,7 +118,7 @@ cond-not false = refl
 same_counts : (done done' refused refused' segments segments' bytes bytes' busy peak : ℕ) → done ≡ done' → refused ≡ refused' → segments ≡ segments' → bytes ≡ bytes' → (let c : Counts = record { done = done; refused = refused; segments = segments; bytes = bytes; busy = busy; peak = peak } in c) ≡ record { done = done'; refused = refused'; segments = segments'; bytes = bytes'; busy = busy; peak = peak }
 same_counts done done' refused refused' segments segments' bytes bytes' busy peak e0 e1 e2 e3 = cc
 
-pub counts-push : (r : Ran) (c : ℕ × Command) (t : Stepped) → counts_of (one_more r c t) ≡ counted (counts_of r) t
+pub counts-push : (r : Ran) (c : ℕ × Command) (t : Stepped) → counts_of (one_more r c t) ≡ counts_with_step (counts_of r) t
 counts-push r c t =
     same_counts _ _ _ _ _ _ _ _ (busy_in t.state) (max r.peak (busy_in t.state))
     (sum_by_push (λ (x : ℕ × Reply). cond (not (is_refusal x.1)) 1 0) r.replies (c.0, t.reply) ∙ ap (λ n. count_by (λ (x : ℕ × Reply). not (is_refusal x.1)) r.replies + n) (cond-not (is_refusal t.reply)))
@@ -228,7 +228,7 @@ module _ {quiet : Bool} {start now : Moment} {before : Counts} {text : List ℕ}
           ∙ sym (body-push quiet p.ran.replies (n, i.reply));
       counted = λ is_quiet.
           i.counted is_quiet
-          ∙ (ap (λ b. counted b t) (p.counted is_quiet)
+          ∙ (ap (λ b. counts_with_step b t) (p.counted is_quiet)
           ∙ (sym (counts-push p.ran (n, c) t)
           ∙ ap counts_of pushed-stepped));
     }
@@ -247,7 +247,7 @@ module _ {quiet : Bool} {start now : Moment} {counts : Counts} {text : List ℕ}
       (subst (λ ns. ShowsNeeds (needs_by quiet ns (body_of quiet p.ran ++ tail)) p.ran.replies) (sym p.lines)
       (shows-needs quiet p.ran.replies tail (few_lines few) (subst IsAscending p.lines p.rising) p.proper none))
 
-  pub progress-end : (said : Ran → List ℕ) (tail : List ℕ) (after : Option (List ℕ)) → count < 2 ^ 64 → (quiet ≡ true → (n : ℕ) → n < 2 ^ 64 → NoLine n (ended_lines tail)) → said p.ran ≡ body_of quiet p.ran ++ tail → Told start.written after (text ++ tail) → IsRun quiet said start (ended (over_sink now after)) done
+  pub progress-end : (said : Ran → List ℕ) (tail : List ℕ) (after : Option (List ℕ)) → count < 2 ^ 64 → (quiet ≡ true → (n : ℕ) → n < 2 ^ 64 → NoLine n (ended_lines tail)) → said p.ran ≡ body_of quiet p.ran ++ tail → Told start.written after (text ++ tail) → IsRun quiet said start (moment_at_end (over_sink now after)) done
   progress-end said tail after few none says told =
       let ran : run_by quiet start done (text ++ tail) ≡ p.ran = p.run (needs_by quiet (lines_of done) (text ++ tail)) (shows tail few none) in
       record {

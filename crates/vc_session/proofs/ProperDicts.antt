@@ -12,13 +12,13 @@ use Rattle.vc_region.specs.Region.{OfBest, Region, layout_in}
 use Rattle.vc_region.proofs.Relabel.{layout-relabelled}
 use Rattle.vc_objects.specs.Insert.{Grown, insert, open_dictionary}
 use Rattle.vc_objects.specs.Objects.{Dictionary}
-use Rattle.vc_objects.specs.Remove.{region_without, remove_found, unnamed}
+use Rattle.vc_objects.specs.Remove.{region_without, remove_found, next_to_go}
 use Rattle.vc_objects.specs.Turn.{Turned, turn}
 use Rattle.vc_objects.specs.declared.fate.Fate.{Fate}
 use Rattle.vc_objects.specs.declared.fate.Fate.TheVariants.{Stored, NoTable, NoHolder}
 use Rattle.vc_objects.proofs.Named.{open_dictionary-named, region_without-named, relabel_grown}
 use Rattle.vc_commands.specs.DictCommands.{append_in, delete_in, fate_reply, gone_reply, in_dict, insert_in, is_for_object, is_for_table, is_object, put_object, put_unless, remove_in, removed_as, standing, turned_as, where_object}
-use Rattle.vc_commands.specs.Seat.{DictChanged, Seat, declined}
+use Rattle.vc_commands.specs.Seat.{DictChanged, Seat, seat_with_refusal}
 use Rattle.vc_commands.proofs.Named.{in_dict-named}
 use Rattle.vc_script.specs.Needs.{Need}
 use Rattle.vc_script.specs.Proper.{IsName, IsProperCommand}
@@ -49,7 +49,7 @@ gone-proper false (Some bytes) = tt
 
 module _ (s : Seat Label) where
   good-object : (bytes : List ℕ) (c : DictChanged Label) → IsGood c → IsGood (where_object s bytes c)
-  good-object bytes c good = good-cond (is_object bytes) c (declined s why.Size) good tt
+  good-object bytes c good = good-cond (is_object bytes) c (seat_with_refusal s why.Size) good tt
 
   good-put : (append : Bool) (bytes : List ℕ) (need : Need) → IsGood (put_object s append bytes need)
   good-put append bytes need = fate-proper bytes (insert s.rules s.terms s.region s.none s.dict append bytes (is_for_table need) (is_for_object need)).fate
@@ -64,7 +64,7 @@ module _ (s : Seat Label) where
   good-append : (bytes : List ℕ) (need : Need) → IsGood (append_in s bytes need)
   good-append bytes need =
       let put = put_object s true (s.rules.made bytes) need in
-      good-cond (is_list s.dict.method) (where_object s bytes put) (declined s why.WrongMethod) (good-object bytes put (good-put true (s.rules.made bytes) need)) tt
+      good-cond (is_list s.dict.method) (where_object s bytes put) (seat_with_refusal s why.WrongMethod) (good-object bytes put (good-put true (s.rules.made bytes) need)) tt
 
   good-removed : (tells : Bool) (found : Option Object) → IsGood (removed_as tells (remove_found s.region s.dict found))
   good-removed tells found = gone-proper tells (remove_found s.region s.dict found).gone
@@ -75,7 +75,7 @@ module _ (s : Seat Label) where
       good-object bytes (removed_as tells (remove_found s.region s.dict found)) (good-removed tells found)
 
   good-delete : (object : Option (List ℕ)) → IsGood (delete_in s object)
-  good-delete None = good-removed true (unnamed s.dict.method s.dict.objects)
+  good-delete None = good-removed true (next_to_go s.dict.method s.dict.objects)
   good-delete (Some bytes) = good-remove true bytes
 
   good-turned : (name : List ℕ) (method : DictMethod) (o : Outcome (Turned Label)) → IsName name → IsGood (turned_as s name method o)

@@ -4,7 +4,7 @@ use Rattle.std.specs.Prelude.{ℤ, IsTrue, codes, ◌||◌}
 use Rattle.std.specs.List.{AllByRecursion}
 use Rattle.std.specs.Str.{bytes_eq}
 use Rattle.vc_model.specs.Best.{best_alloc, without_block_at}
-use Rattle.vc_model.specs.Compact.{cleared, compacted}
+use Rattle.vc_model.specs.Compact.{cleared_layout, compacted_layout}
 use Rattle.vc_model.specs.Discipline.{Terms}
 use Rattle.vc_model.specs.Last.{last_alloc, last_free, last_resize}
 use Rattle.vc_model.specs.Layout.{Block, Layout}
@@ -13,7 +13,7 @@ use Rattle.vc_model.specs.Pool.{pool_alloc, pool_resize}
 use Rattle.vc_model.specs.Resize.{best_resize}
 use Rattle.vc_model.specs.Touch.{with_bytes_at}
 use Rattle.vc_audit.specs.Debug.{debug_alloc, debug_resize}
-use Rattle.vc_audit.specs.Profile.{Profile, peaked, profile_after, row_of, with_site}
+use Rattle.vc_audit.specs.Profile.{Profile, rows_with_peaks, profile_after, row_of, with_site}
 use Rattle.vc_region.specs.Region.{OfBest, OfPool, OfLast, OfDebug, OfProfile, Region, region_align, region_alloc, region_clear, region_compact, region_free, region_poke, region_resize, region_watch, region_write}
 use Rattle.vc_script.specs.Proper.{IsSite}
 use Rattle.vc_script.specs.ProperReply.{is_row_site}
@@ -43,7 +43,7 @@ sites-rows : (bs : Blocks) (ps : Peaks) → AllByRecursion (λ row. IsTrue (is_r
 sites-rows bs [] all = tt
 sites-rows bs (p ∷ ps) all = (all.0, sites-rows bs ps all.1)
 
-peaked-sites : (bs : Blocks) (ps : Peaks) → AreSites ps → AreSites (peaked bs ps)
+peaked-sites : (bs : Blocks) (ps : Peaks) → AreSites ps → AreSites (rows_with_peaks bs ps)
 peaked-sites bs [] all = tt
 peaked-sites bs (p ∷ ps) all = (all.0, peaked-sites bs ps all.1)
 
@@ -57,7 +57,7 @@ with-sites site (p ∷ ps) is all =
     peaks-cond (bytes_eq site p.0) (p ∷ ps) (p ∷ with_site site ps) (all.0, all.1) (all.0, with-sites site ps is all.1)
 
 after-sites : (ps : Peaks) (layout : Layout (Label × List ℕ)) → AreSites ps → HasProperSites (OfProfile (profile_after ps layout))
-after-sites ps layout all = rows-sites layout.blocks (peaked layout.blocks ps) (peaked-sites layout.blocks ps all)
+after-sites ps layout all = rows-sites layout.blocks (rows_with_peaks layout.blocks ps) (peaked-sites layout.blocks ps all)
 
 peaks-of : (p : Profile Label) → HasProperSites (OfProfile p) → AreSites p.peaks
 peaks-of p all = sites-rows p.layout.blocks p.peaks all
@@ -127,14 +127,14 @@ clear-sites (OfBest q) all = tt
 clear-sites (OfPool q) all = tt
 clear-sites (OfLast q) all = tt
 clear-sites (OfDebug q) all = tt
-clear-sites (OfProfile p) all = after-sites p.peaks (cleared p.layout) (peaks-of p all)
+clear-sites (OfProfile p) all = after-sites p.peaks (cleared_layout p.layout) (peaks-of p all)
 
 pub compact-sites : (r : Region Label) → HasProperSites r → HasProperSites (region_compact r)
 compact-sites (OfBest q) all = tt
 compact-sites (OfPool q) all = tt
 compact-sites (OfLast q) all = tt
 compact-sites (OfDebug q) all = tt
-compact-sites (OfProfile p) all = after-sites p.peaks (compacted p.layout) (peaks-of p all)
+compact-sites (OfProfile p) all = after-sites p.peaks (compacted_layout p.layout) (peaks-of p all)
 
 pub poke-sites : (r : Region Label) (at : ℕ × ℕ) (off : ℤ) (byte : ℕ) → HasProperSites r → HasProperSites (region_poke r at off byte)
 poke-sites (OfBest q) at off byte all = tt

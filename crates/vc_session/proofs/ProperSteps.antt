@@ -9,14 +9,14 @@ use Rattle.std.specs.List.{AllByRecursion, cons_option, filter_map, list_any}
 use Rattle.vc_model.specs.Discipline.{Terms}
 use Rattle.vc_model.specs.Layout.{Block, relabel_block}
 use Rattle.vc_model.specs.Outcome.{Outcome, Done, Refused, Put, outcome_as}
-use Rattle.vc_region.specs.Region.{Region, blocks_of, region_align, region_alloc, region_clear, region_compact, region_free, region_resize, region_write, aligns, damaged_in, is_debug, is_profile, keeps_freed, region_poke, region_watch, relabelled, rows_in, watch_at, OfBest, layout_in}
+use Rattle.vc_region.specs.Region.{Region, blocks_of, region_align, region_alloc, region_clear, region_compact, region_free, region_resize, region_write, aligns, damaged_in, is_debug, is_profile, keeps_freed, region_poke, region_watch, region_with_labels, rows_in, watch_at, OfBest, layout_in}
 use Rattle.vc_model.specs.Numbered.{at_number}
 use Rattle.vc_model.specs.Walk.{block_at, by_address, segment_at}
 use Rattle.vc_region.specs.Region.{segments_of}
 use Rattle.vc_model.proofs.Relabel.{block_at-relabel, by_address-relabel}
 use Rattle.vc_region.proofs.Relabel.{align-relabelled, alloc-relabelled, blocks-relabelled, clear-relabelled, compact-relabelled, damaged-relabelled, free-relabelled, marks-relabelled, poke-relabelled, relabel_freed, resize-relabelled, write-relabelled}
 use Rattle.vc_audit.proofs.DebugRelabel.{relabel_found}
-use Rattle.vc_region.specs.Stat.{opened}
+use Rattle.vc_region.specs.Stat.{opened_region}
 use Rattle.vc_seg.specs.declared.method.Method.{Method}
 use Rattle.vc_seg.specs.declared.method.Method.TheVariants.{VmBest, VmPool, VmLast, VmDebug, VmProfile}
 use Rattle.vc_script.specs.declared.command.Command.{Command}
@@ -29,12 +29,12 @@ use Rattle.vc_script.specs.Needs.{Need}
 use Rattle.vc_script.specs.Proper.{IsName, IsProperCommand, IsSite}
 use Rattle.vc_script.specs.ProperReply.{IsProperReply, is_row_site}
 use Rattle.vc_script.specs.Words.{is_name}
-use Rattle.vc_commands.specs.Home.{Changed, Home, Label, changed_to, is_home, told, unchanged}
-use Rattle.vc_steps.specs.State.{State, Stepped, changed, close_home, closed, is_busy, unless_busy, home_named, opened_over, refused, with_region, without_home}
+use Rattle.vc_commands.specs.Home.{Changed, Home, Label, changed_to, is_home, reply_alone, refusal_alone}
+use Rattle.vc_steps.specs.State.{State, Stepped, step_with_change, close_home, step_with_close, is_busy, unless_busy, home_named, opened_over, step_with_refusal, with_region, without_home}
 use Rattle.vc_views.specs.Views.{DictHome, dict_named, is_dict, is_linked_in, is_viewed_in, seen_through}
 use Rattle.vc_commands.specs.Looking.{is_look}
 use Rattle.vc_steps.proofs.ViewReplies.{look-any, some-map, view-any}
-use Rattle.vc_commands.specs.Blocks.{freed, free_block, has_label, has_room, is_align, is_block, is_size, kept_freed, no_block, align_refused, put_by, site_of, size_refused, put_in, put_new, read_block, resize_block, with_named, write_block}
+use Rattle.vc_commands.specs.Blocks.{change_by_free, free_block, has_label, has_room, is_align, is_block, is_size, kept_freed, no_block, align_refused, put_by, site_of, size_refused, put_in, put_new, read_block, resize_block, with_named, write_block}
 use Rattle.vc_commands.specs.Whole.{addr_reply, item_of, kept_cleared, segment_reply, with_label, with_labels}
 use Rattle.vc_commands.specs.Kept.{Kept, by_name, line_of, with_line, without_name}
 use Rattle.vc_steps.specs.Step.{cleared_or, region_of, region_step, shelf_step, step, step_of, step_on}
@@ -73,7 +73,7 @@ abbrev region_in : Region Label → Outcome (Put (Region Label)) → Region Labe
 region_in r (Done p) = p.region
 region_in r (Refused why) = r
 
-proper-outcome : (o : Outcome (Put (Region Label))) → o ≡ outcome_as (relabelled name_or_none) o → HasSitesAfter o → IsProperOutcome o
+proper-outcome : (o : Outcome (Put (Region Label))) → o ≡ outcome_as (region_with_labels name_or_none) o → HasSitesAfter o → IsProperOutcome o
 proper-outcome (Done p) same sites = (sym (ap (region_in p.region) same), sites)
 proper-outcome (Refused why) same sites = tt
 
@@ -160,11 +160,11 @@ proper-put_by : (h : Home) (x : List ℕ) (words : Option Refusal) (o : Outcome 
 proper-put_by h x (Some refusal) o name all proper there = (proper, all.0, all.1, all.2)
 proper-put_by h x None o name all proper there =
     let left = without_name x h.kept in
-    change-cond (has_room h x) (put_in h x left None o) (unchanged h why.TooManyBlocks) (proper-put h x left None o name all (proper-without x h.kept all.1) there) (tt, all.0, all.1, all.2)
+    change-cond (has_room h x) (put_in h x left None o) (refusal_alone h why.TooManyBlocks) (proper-put h x left None o name all (proper-without x h.kept all.1) there) (tt, all.0, all.1, all.2)
 
 proper-put_new : (h : Home) (x : List ℕ) (words : Option Refusal) (o : Outcome (Put (Region Label))) → IsName x → IsProperHome h → IfSome words (λ w. IsProperReply (reply.Refused w)) → IsProperOutcome o → IsProperChange (put_new h x words o)
 proper-put_new h x words o name all proper there =
-    change-cond (has_label x h.region) (unchanged h why.BlockExists) (put_by h x words o) (tt, all.0, all.1, all.2) (proper-put_by h x words o name all proper there)
+    change-cond (has_label x h.region) (refusal_alone h why.BlockExists) (put_by h x words o) (tt, all.0, all.1, all.2) (proper-put_by h x words o name all proper there)
 
 proper-sized : (legal : Bool) → IfSome (let o : Option Refusal = cond legal None (Some why.Size) in o) (λ w. IsProperReply (reply.Refused w))
 proper-sized true = tt
@@ -174,7 +174,7 @@ proper-aligned : (aligned legal : Bool) → IfSome (let o : Option Refusal = con
 proper-aligned true legal = proper-sized legal
 proper-aligned false legal = tt
 
-proper-free_block : (h : Home) (x : List ℕ) (kept : Kept) (watch : Option ℕ) (o : Outcome (Region Label)) → IsName x → IsProperHome h → AreProperNames kept → IsProperFreed o → IsProperChange (freed h x kept watch o)
+proper-free_block : (h : Home) (x : List ℕ) (kept : Kept) (watch : Option ℕ) (o : Outcome (Region Label)) → IsName x → IsProperHome h → AreProperNames kept → IsProperFreed o → IsProperChange (change_by_free h x kept watch o)
 proper-free_block h x kept watch (Done r) name all names there = (name, there.0, names, there.1)
 proper-free_block h x kept watch (Refused fault) name all names there = (tt, all.0, all.1, all.2)
 
@@ -193,17 +193,17 @@ proper-resize_block : (h : Home) (x : List ℕ) (size : ℕ) (may_move not_lent 
 proper-resize_block h x size may_move not_lent b name all =
     let o = region_resize h.terms h.region (b.seg, b.off) size may_move not_lent in
     let watch = watch_at h.region (b.seg, b.off) in
-    change-cond (is_size size) (put_in h x h.kept watch o) (unchanged h why.Size)
+    change-cond (is_size size) (put_in h x h.kept watch o) (refusal_alone h why.Size)
     (proper-put h x h.kept watch o name all all.1 (proper-resize h.terms h.region (b.seg, b.off) size may_move not_lent all.0 all.2)) (tt, all.0, all.1, all.2)
 
 proper-write_block : (h : Home) (x : List ℕ) (off : ℕ) (bytes : List ℕ) (b : Block Label) → IsName x → IsProperHome h → IsProperChange (write_block h x off bytes b)
 proper-write_block h x off bytes b name all =
-    change-cond (nat_le (off + length bytes) b.size) (changed_to h (region_write h.region (b.seg, b.off) off bytes) (Written x (length bytes) (watch_at h.region (b.seg, b.off)))) (unchanged h why.Range)
+    change-cond (nat_le (off + length bytes) b.size) (changed_to h (region_write h.region (b.seg, b.off) off bytes) (Written x (length bytes) (watch_at h.region (b.seg, b.off)))) (refusal_alone h why.Range)
     (name, sym (write-relabelled name_or_none h.region (b.seg, b.off) off bytes) ∙ ap (λ q. region_write q (b.seg, b.off) off bytes) all.0, all.1, write-sites h.region (b.seg, b.off) off bytes all.2) (tt, all.0, all.1, all.2)
 
 proper-read_block : (h : Home) (x : List ℕ) (off len : ℕ) (b : Block Label) → IsName x → IsProperHome h → IsProperChange (read_block h x off len b)
 proper-read_block h x off len b name all =
-    change-cond ((nat_le 1 len && nat_le len 4096) && nat_le (off + len) b.size) (told h (Hex x (take len (drop off b.bytes)))) (unchanged h why.Range) (name, all.0, all.1, all.2) (tt, all.0, all.1, all.2)
+    change-cond ((nat_le 1 len && nat_le len 4096) && nat_le (off + len) b.size) (reply_alone h (Hex x (take len (drop off b.bytes)))) (refusal_alone h why.Range) (name, all.0, all.1, all.2) (tt, all.0, all.1, all.2)
 
 -- the blocks of a proper region are labelled by names
 relabelled-blocks : (r : Region Label) → IsProperRegion r → blocks_of r ≡ map (relabel_block name_or_none) (blocks_of r)
@@ -230,17 +230,17 @@ proper-cleared h line all =
 proper-poke_byte : (h : Home) (x : List ℕ) (off : ℤ) (byte : ℕ) (b : Block Label) → IsName x → IsProperHome h → IsProperChange (poke_byte h x off byte b)
 proper-poke_byte h x off byte b name all =
     let at : ℕ × ℕ = (b.seg, b.off) in
-    change-cond (is_poke b.size off byte) (changed_to h (region_poke h.region at off byte) (Poked x (watch_at h.region at))) (unchanged h why.Range)
+    change-cond (is_poke b.size off byte) (changed_to h (region_poke h.region at off byte) (Poked x (watch_at h.region at))) (refusal_alone h why.Range)
     (name, sym (poke-relabelled name_or_none h.region at off byte) ∙ ap (λ q. region_poke q at off byte) all.0, all.1, poke-sites h.region at off byte all.2) (tt, all.0, all.1, all.2)
 
 proper-poke_block : (h : Home) (x : List ℕ) (off : ℤ) (byte : ℕ) (b : Block Label) → IsName x → IsProperHome h → IsProperChange (poke_block h x off byte b)
 proper-poke_block h x off byte b name all =
-    change-cond (is_debug h.region) (poke_byte h x off byte b) (unchanged h why.WrongMethod) (proper-poke_byte h x off byte b name all) (tt, all.0, all.1, all.2)
+    change-cond (is_debug h.region) (poke_byte h x off byte b) (refusal_alone h why.WrongMethod) (proper-poke_byte h x off byte b name all) (tt, all.0, all.1, all.2)
 
 proper-watch_block : (h : Home) (line : ℕ) (x : List ℕ) (b : Block Label) → IsName x → IsProperHome h → IsProperChange (watch_block h line x b)
 proper-watch_block h line x b name all =
     let at : ℕ × ℕ = (b.seg, b.off) in
-    change-cond (is_debug h.region) (changed_to h (region_watch h.region at line) (Watched x)) (unchanged h why.WrongMethod)
+    change-cond (is_debug h.region) (changed_to h (region_watch h.region at line) (Watched x)) (refusal_alone h why.WrongMethod)
     (name, sym (marks-relabelled name_or_none h.region at line) ∙ ap (λ q. region_watch q at line) all.0, all.1, watch-sites h.region at line all.2) (tt, all.0, all.1, all.2)
 
 cons-named : (l : Label) (off : ℤ) (xs : List (List ℕ × ℤ)) → IsSite l → AllByRecursion (λ d. IsName d.0) xs → AllByRecursion (λ d. IsName d.0) (cons_option (option_map {U = List ℕ × ℤ} (λ x. (x, off)) l) xs)
@@ -257,12 +257,12 @@ proper-damaged r proper =
 
 proper-check : (h : Home) → IsProperHome h → IsProperChange (check_in h)
 proper-check h all =
-    change-cond (is_debug h.region) (told h (Damaged (filter_map damage_item (damaged_in h.region)))) (unchanged h why.WrongMethod)
+    change-cond (is_debug h.region) (reply_alone h (Damaged (filter_map damage_item (damaged_in h.region)))) (refusal_alone h why.WrongMethod)
     (proper-damaged h.region all.0, all.0, all.1, all.2) (tt, all.0, all.1, all.2)
 
 proper-profile : (h : Home) → IsProperHome h → IsProperChange (profile_in h)
 proper-profile h all =
-    change-cond (is_profile h.region) (told h (Rows (rows_in h.region))) (unchanged h why.WrongMethod)
+    change-cond (is_profile h.region) (reply_alone h (Rows (rows_in h.region))) (refusal_alone h why.WrongMethod)
     (all.2, all.0, all.1, all.2) (tt, all.0, all.1, all.2)
 
 proper-in_region : (h : Home) (line : ℕ) (c : Command) (need : Need) → IsProperCommand c → IsProperHome h → IsProperChange (in_region h line c need)
@@ -283,7 +283,7 @@ proper-in_region h line (WriteBlock r x off bytes) need proper all =
 proper-in_region h line (ReadBlock r x off len) need proper all =
     proper-with_named h x (find (is_block x) (blocks_of h.region)) (read_block h x off len) all (λ b. proper-read_block h x off len b proper.1 all)
 proper-in_region h line (SizeOf r x) need proper all =
-    proper-with_named h x (find (is_block x) (blocks_of h.region)) (λ b. told h (Size x b.size)) all (λ b. (proper.1, all.0, all.1, all.2))
+    proper-with_named h x (find (is_block x) (blocks_of h.region)) (λ b. reply_alone h (Size x b.size)) all (λ b. (proper.1, all.0, all.1, all.2))
 proper-in_region h line (AddrOf r at) need proper all = (
   subst (λ o. IsProperReply (addr_reply o))
       (sym (ap (λ bs. block_at (at.seg, at.off) bs) (relabelled-blocks h.region all.0) ∙ block_at-relabel name_or_none (at.seg, at.off) (blocks_of h.region)))
@@ -348,11 +348,11 @@ step-cond true a b p q = p
 step-cond false a b p q = q
 
 proper-unless_busy : (s : State) (r : List ℕ) (t : Stepped) → IsProperState s → IsProperStep t → IsProperStep (unless_busy s r t)
-proper-unless_busy s r t all there = step-cond (is_busy s r) (refused s why.Busy) t (tt, all) there
+proper-unless_busy s r t all there = step-cond (is_busy s r) (step_with_refusal s why.Busy) t (tt, all) there
 
 proper-closed : (s : State) (r : List ℕ) (o : Option Home) → IsName r → IsProperState s → IsProperStep (close_home s r o)
 proper-closed s r None name all = (tt, all)
-proper-closed s r (Some h) name all = proper-unless_busy s r (closed s r h) all (name, proper-without_home r s.homes all)
+proper-closed s r (Some h) name all = proper-unless_busy s r (step_with_close s r h) all (name, proper-without_home r s.homes all)
 
 proper-opened_over : (s : State) (r : List ℕ) (n : ℕ) (region : Region Label) (place : Option (Option Terms)) → IsName r → IsProperRegion region → HasProperSites region → IsProperState s → IsProperStep (opened_over s r n region place)
 proper-opened_over s r n region None name here sites all = (tt, all)
@@ -361,7 +361,7 @@ proper-opened_over s r n region (Some (Some terms)) name here sites all =
     (name, proper-home_push s.homes (record { name = r; place = n; terms = terms; region = region; kept = [] }) all (here, tt, sites, name))
 
 -- a region that is opened has no labels
-proper-new : (method : Method) → IsProperRegion (opened method)
+proper-new : (method : Method) → IsProperRegion (opened_region method)
 proper-new VmBest = refl
 proper-new VmPool = refl
 proper-new VmLast = refl
@@ -369,7 +369,7 @@ proper-new VmDebug = refl
 proper-new VmProfile = refl
 
 -- and no rows
-sites-new : (method : Method) → HasProperSites (opened method)
+sites-new : (method : Method) → HasProperSites (opened_region method)
 sites-new VmBest = tt
 sites-new VmPool = tt
 sites-new VmLast = tt
@@ -401,8 +401,8 @@ proper-dict_in s d method k need (Some h) name all here =
 
 proper-on_shelf : (s : State) (c : Command) (need : Need) → IsProperCommand c → IsProperState s → IsProperStep (shelf_step s c need)
 proper-on_shelf s (OpenRegion r method n) need proper all =
-    let over = opened_over s r n (opened method) (at_number s.shelf n) in
-    step-cond (list_any (is_home r) s.homes) (refused s why.RegionExists) over (tt, all) (proper-opened_over s r n (opened method) (at_number s.shelf n) proper.0 (proper-new method) (sites-new method) all)
+    let over = opened_over s r n (opened_region method) (at_number s.shelf n) in
+    step-cond (list_any (is_home r) s.homes) (step_with_refusal s why.RegionExists) over (tt, all) (proper-opened_over s r n (opened_region method) (at_number s.shelf n) proper.0 (proper-new method) (sites-new method) all)
 proper-on_shelf s (CloseRegion r) need proper all = proper-closed s r (home_named r s.homes) proper all
 proper-on_shelf s (OpenDict d method r k) need proper all = proper-dict_in s d method k need (home_named r s.homes) proper.0 all (proper-home_named r s.homes all)
 proper-on_shelf s command need proper all = (tt, all)
@@ -415,7 +415,7 @@ proper-at : (s : State) (r : List ℕ) (line : ℕ) (c : Command) (need : Need) 
 proper-at s r line c need None proper all here = (tt, all)
 proper-at s r line c need (Some h) proper all here =
     let done = proper-in_region h line c need proper here in
-    proper-cleared_or s r c (changed s r (in_region h line c need)) all
+    proper-cleared_or s r c (step_with_change s r (in_region h line c need)) all
     (done.0, proper-with_region r (in_region h line c need).region (in_region h line c need).kept s.homes done.1 done.2 done.3 all)
 
 proper-of : (s : State) (line : ℕ) (c : Command) (need : Need) (o : Option (List ℕ)) → IsProperCommand c → IsProperState s → IsProperStep (step_of s line c need o)
@@ -450,7 +450,7 @@ site-name (Some name) proper = proper
 
 proper-dict_command : (s : State) (c : Command) (need : Need) (d : DictHome) (h : Home) (rules : Rules) → IsProperCommand c → IsName d.name → IsProperState s → IsProperHome h → IsProperStep (dict_command s c need d h rules)
 proper-dict_command s (Shut name) need d h rules proper known all here =
-    step-cond (is_viewed_in s.dicts d.name) (refused s why.Viewed) (dict_shut s d) (tt, all)
+    step-cond (is_viewed_in s.dicts d.name) (step_with_refusal s why.Viewed) (dict_shut s d) (tt, all)
     (known, proper-shut s d (home_named d.home s.homes) all (proper-home_named d.home s.homes all))
 proper-dict_command s (View name viewed) need d h rules proper known all here =
     view-any IsProperStep s d (tt, all) (tt, all) (tt, all) (tt, all) viewed ((known, tt), all)
@@ -458,7 +458,7 @@ proper-dict_command s (View name viewed) need d h rules proper known all here =
     (λ x named. some-map (λ e. IsName e.name) (λ e. IsProperStep (view_set s d (Some e.name))) (λ e name. ((known, name), all)) (dict_named x s.dicts) (proper-dict_named x s.dicts named))
     viewed (site-name viewed proper.1))
 proper-dict_command s (Remethod name method) need d h rules proper known all here =
-    step-cond (is_linked_in s.dicts d) (refused s why.Viewed) (dict_changed s d h (in_dict (seat_of d h rules) (Remethod name method) need)) (tt, all)
+    step-cond (is_linked_in s.dicts d) (step_with_refusal s why.Viewed) (dict_changed s d h (in_dict (seat_of d h rules) (Remethod name method) need)) (tt, all)
     (proper-dict_changed s d h rules (Remethod name method) need proper all here)
 proper-dict_command s command need d h rules proper known all here =
     step-cond (is_look command) (look_step s rules command d) (dict_changed s d h (in_dict (seat_of d h rules) command need))

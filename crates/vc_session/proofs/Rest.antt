@@ -9,7 +9,7 @@ use Rattle.vc_script.specs.declared.command.Command.{Command}
 use Rattle.vc_script.specs.declared.line_fault.LineFault.{LineFault}
 use Rattle.vc_script.specs.declared.tool.Tool.{Tool}
 use Rattle.vc_commands.specs.Held.{Held, home_of}
-use Rattle.vc_steps.specs.Account.{Settles, accounts, settled, state_of}
+use Rattle.vc_steps.specs.Account.{Settles, accounts, settled_accounts, state_of}
 use Rattle.vc_paths.specs.Links.{no_links}
 use Rattle.vc_views.specs.Numbers.{views_by}
 use Rattle.vc_steps.proofs.Starting.{new-stands, none-held}
@@ -110,7 +110,7 @@ module _ {I : Type 0} {V : I → Type 0} {D : Type 0} (meaning : (x : I) × V x 
     state = state_of (rules_in rules kinds) (slots_on meaning shelf) hs (dicts_in hs (views_by session.paths session.dicts.entries) es);
     regions = hs;
     written = None;
-    accounts = settled (accounts (slots_on meaning shelf)) hs;
+    accounts = settled_accounts (accounts (slots_on meaning shelf)) hs;
     gone = gone_in gone kinds;
   }
 

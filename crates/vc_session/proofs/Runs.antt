@@ -8,7 +8,7 @@ use Rattle.vc_script.specs.Needs.{Need, need_at}
 use Rattle.vc_steps.specs.State.{State, Stepped}
 use Rattle.vc_steps.specs.Step.{step}
 use Rattle.vc_steps.specs.Refusals.{refusal_at}
-use Rattle.vc_session.specs.Run.{Ran, ran, run}
+use Rattle.vc_session.specs.Run.{Ran, run_with_step, run}
 
 abbrev pub one_more : Ran → ℕ × Command → Stepped → Ran
 one_more r c t =
@@ -35,7 +35,7 @@ max_zero : (a : ℕ) → max a 0 ≡ max 0 a
 max_zero a = omega arith
 
 -- a run's first step, before and after one more at its end
-ran-one_more : (s : State) (d : ℕ × Command) (t : Stepped) (r : Ran) (c : ℕ × Command) (u : Stepped) → ran s d t (one_more r c u) ≡ one_more (ran s d t r) c u
+ran-one_more : (s : State) (d : ℕ × Command) (t : Stepped) (r : Ran) (c : ℕ × Command) (u : Stepped) → run_with_step s d t (one_more r c u) ≡ one_more (run_with_step s d t r) c u
 ran-one_more s d t r c u =
     same_ran ((d.0, t.reply) ∷ (r.replies ++ (c.0, u.reply) ∷ [])) u.state _ _ _ _ _ _ _ _
     (sym (append_assoc (refusal_at s d.1 t.reply) r.refusals (refusal_at r.state c.1 u.reply)))
@@ -49,5 +49,5 @@ run-push s [] needs c =
     same_ran ((c.0, t.reply) ∷ []) t.state _ _ _ _ _ _ _ _ (append-nil (refusal_at s c.1 t.reply)) (append-nil t.told) (append-nil t.granted) (max_zero (busy_in t.state))
 run-push s (d ∷ ds) needs c =
     let t = step s d.0 d.1 (need_at needs d.0) in
-    ap (ran s d t) (run-push t.state ds needs c)
+    ap (run_with_step s d t) (run-push t.state ds needs c)
     ∙ ran-one_more s d t (run t.state ds needs) c (step_after (run t.state ds needs) c needs)

@@ -12,14 +12,14 @@ use Rattle.vc_script.specs.declared.cutter.Cut.{Cut}
 use Rattle.vc_script.specs.declared.cutter.Cut.TheVariants.{Whole, More, Bad}
 use Rattle.vc_script.specs.declared.tool.Tool.{Tool}
 use Rattle.vc_script.specs.Answer.{answer}
-use Rattle.vc_script.specs.Cutter.{fed, end_cut, after_end}
+use Rattle.vc_script.specs.Cutter.{result_of_feed, end_cut, after_end}
 use Rattle.vc_script.specs.Cutting.{Cutting, IsCutting, new_cutting}
-use Rattle.vc_script.specs.Judged.{judged, judged_from, judged_then, last_number, line_limit}
+use Rattle.vc_script.specs.Judged.{judged_lines, judged_from, judged_then, last_number, line_limit}
 use Rattle.vc_script.specs.Lines.{ended_lines, piece}
 use Rattle.vc_script.specs.Pieces.{found_then}
 use Rattle.vc_script.proofs.Pieces.{Tells, end-tells, fed-tells, judge-ok}
 use Rattle.vc_session.specs.Engine.{IsIdle, LineRan}
-use Rattle.vc_steps.specs.Moment.{Moment, ended, over_sink}
+use Rattle.vc_steps.specs.Moment.{Moment, moment_at_end, over_sink}
 use Rattle.vc_session.specs.Progress.{Progress}
 use Rattle.vc_session.specs.ProperState.{IsProperState}
 use Rattle.vc_session.specs.Replay.{IsCutShort, IsRun, ShowsNoFault, Stops, StopsAtFault, Told}
@@ -58,8 +58,8 @@ module _ {tool : Tool} {quiet : Bool} {start now : Moment} {counts : Counts} {te
   read_lines : wholly_read (r.before ++ r.last) ≡ whole ++ []
   read_lines = ap wholly_read (sym (append-nil (r.before ++ r.last))) ∙ r.ended []
 
-  read_judged : judged (r.before ++ r.last) ≡ whole ++ judged_rest s []
-  read_judged = ap judged (sym (append-nil (r.before ++ r.last))) ∙ r.lines []
+  read_judged : judged_lines (r.before ++ r.last) ≡ whole ++ judged_rest s []
+  read_judged = ap judged_lines (sym (append-nil (r.before ++ r.last))) ∙ r.lines []
 
   -- what was read so far shows no fault
   shows-none : ShowsNoFault tool (r.before ++ r.last)
@@ -82,7 +82,7 @@ module _ {tool : Tool} {quiet : Bool} {start now : Moment} {counts : Counts} {te
         no_fault = shows-none;
         unread = t.rest;
         lines = λ more.
-            ap judged (append_assoc (r.before ++ r.last) (take n r.behind) more)
+            ap judged_lines (append_assoc (r.before ++ r.last) (take n r.behind) more)
             ∙ (r.lines (take n r.behind ++ more)
             ∙ ap (λ xs. whole ++ judged_rest s (xs ++ more)) (sym t.same));
         ended = λ more.
@@ -91,7 +91,7 @@ module _ {tool : Tool} {quiet : Bool} {start now : Moment} {counts : Counts} {te
             ∙ ap (λ xs. whole ++ ended_rest s (xs ++ more)) (sym t.same));
       }
 
-  reading-cut_short : (left' after : Option (List ℕ)) → left' ≡ left → count ≤ last_number → Told start.written after text → IsCutShort tool quiet start (ended (over_sink now after)) input left'
+  reading-cut_short : (left' after : Option (List ℕ)) → left' ≡ left → count ≤ last_number → Told start.written after text → IsCutShort tool quiet start (moment_at_end (over_sink now after)) input left'
   reading-cut_short left' after same few told = record {
     bytes = r.before ++ r.last;
     rest = r.behind;
@@ -99,7 +99,7 @@ module _ {tool : Tool} {quiet : Bool} {start now : Moment} {counts : Counts} {te
     unread = same ∙ r.unread;
     no_fault = shows-none;
     run =
-        subst (IsRun quiet (body_of quiet) start (ended (over_sink now after))) (sym (ap (commands tool) read_lines ∙ (running.script [] ∙ append-nil running.done)))
+        subst (IsRun quiet (body_of quiet) start (moment_at_end (over_sink now after))) (sym (ap (commands tool) read_lines ∙ (running.script [] ∙ append-nil running.done)))
         (progress-end running.progress (body_of quiet) [] after (omega (arith, few)) (λ is_quiet n below xs. refl) (sym (append-nil (body_of quiet running.progress.ran))) (subst (Told start.written after) (sym (append-nil text)) told));
   }
 
@@ -147,17 +147,17 @@ reading-more s after used xs whole tells feeds r = let none = used-up xs used (f
 }
 
 -- what a call of feed does, whatever is behind what it is given
-fed-tells-all : (s : Cutting) (rest : List ℕ) (next : Cutting) (cut : Cut) (used : ℕ) → IsCutting s → fed s rest ≡ record { after = next; cut = cut; used = used } → (behind : List ℕ) → Tells cut next used s rest behind
+fed-tells-all : (s : Cutting) (rest : List ℕ) (next : Cutting) (cut : Cut) (used : ℕ) → IsCutting s → result_of_feed s rest ≡ record { after = next; cut = cut; used = used } → (behind : List ℕ) → Tells cut next used s rest behind
 fed-tells-all s rest next cut used is e behind = subst (λ f. Tells f.cut f.after f.used s rest behind) e (fed-tells s rest behind is)
 
-fed-feeds-all : (s : Cutting) (rest : List ℕ) (next : Cutting) (cut : Cut) (used : ℕ) → IsCutting s → fed s rest ≡ record { after = next; cut = cut; used = used } → (behind : List ℕ) → Feeds cut next used s rest behind
+fed-feeds-all : (s : Cutting) (rest : List ℕ) (next : Cutting) (cut : Cut) (used : ℕ) → IsCutting s → result_of_feed s rest ≡ record { after = next; cut = cut; used = used } → (behind : List ℕ) → Feeds cut next used s rest behind
 fed-feeds-all s rest next cut used is e behind = subst (λ f. Feeds f.cut f.after f.used s rest behind) e (fed-feeds s rest behind is)
 
 pub so_far-start : (tool : Tool) (quiet : Bool) (start : Moment) (counts : Counts) (told : Option (List ℕ)) → IsProperState start.state → (IsTrue quiet → counts ≡ counts_of (nothing_ran start.state)) → SoFar tool quiet start start counts [] told told new_cutting []
 so_far-start tool quiet start counts told all none = record { whole = []; running = running-start tool quiet start counts all none; reading = reading-start tool told }
 
 -- the end of a run whose lines are found
-at-end-of : {tool : Tool} {quiet : Bool} {start now : Moment} {counts : Counts} {text : List ℕ} {count : ℕ} {whole : Found} (input : List ℕ) (left after : Option (List ℕ)) (lines : ℕ) (found : Found) (bad : Option (ℕ × LineFault)) → count ≤ last_number → Running tool quiet start now counts text count whole → judged input ≡ whole ++ found → commands tool found ≡ [] → fault_in tool found ≡ bad → (bad ≡ None → lines ≡ length (judged input)) → Stops tool input bad left → Told start.written after text → AtEnd tool quiet start (over_sink now after) counts lines input bad left
+at-end-of : {tool : Tool} {quiet : Bool} {start now : Moment} {counts : Counts} {text : List ℕ} {count : ℕ} {whole : Found} (input : List ℕ) (left after : Option (List ℕ)) (lines : ℕ) (found : Found) (bad : Option (ℕ × LineFault)) → count ≤ last_number → Running tool quiet start now counts text count whole → judged_lines input ≡ whole ++ found → commands tool found ≡ [] → fault_in tool found ≡ bad → (bad ≡ None → lines ≡ length (judged_lines input)) → Stops tool input bad left → Told start.written after text → AtEnd tool quiet start (over_sink now after) counts lines input bad left
 at-end-of {tool} {quiet} {start} {now} {counts} {text} {count} {whole} input left after lines found bad few r all none first size stops told =
     let done : script tool input ≡ r.done = ap (commands tool) all ∙ (r.script found ∙ (ap (λ cs. r.done ++ cs) none ∙ append-nil r.done)) in
     record {
@@ -178,8 +178,8 @@ some-bad bad lines found none = absurd (none-some bad (sym none))
 stops-at : {tool : Tool} {input : List ℕ} {left : Option (List ℕ)} {s : Cutting} {rest : List ℕ} {whole : Found} → Reading tool input left s rest whole → StopsAtFault tool input left
 stops-at r = record { before = r.before; last = r.last; rest = r.behind; split = r.split; short = r.size; no_fault = r.no_fault; unread = r.unread }
 
-judged-input : {tool : Tool} {input : List ℕ} {left : Option (List ℕ)} {s : Cutting} {rest : List ℕ} {whole : Found} (r : Reading tool input left s rest whole) → judged input ≡ whole ++ judged_rest s (rest ++ r.behind)
-judged-input r = ap judged r.split ∙ r.lines r.behind
+judged-input : {tool : Tool} {input : List ℕ} {left : Option (List ℕ)} {s : Cutting} {rest : List ℕ} {whole : Found} (r : Reading tool input left s rest whole) → judged_lines input ≡ whole ++ judged_rest s (rest ++ r.behind)
+judged-input r = ap judged_lines r.split ∙ r.lines r.behind
 
 module _ {tool : Tool} {quiet : Bool} {start now : Moment} {counts : Counts} {text : List ℕ} {told left : Option (List ℕ)} {s : Cutting} where
   -- the same, over another sink
@@ -199,12 +199,12 @@ module _ {tool : Tool} {quiet : Bool} {start now : Moment} {counts : Counts} {te
   }
 
   -- a read failed where no byte was left over
-  pub so_far-cut_short : (left' after : Option (List ℕ)) → SoFar tool quiet start now counts text told left s [] → IsCutting s → left' ≡ left → Told start.written after text → IfSome told (λ input. IsCutShort tool quiet start (ended (over_sink now after)) input left')
+  pub so_far-cut_short : (left' after : Option (List ℕ)) → SoFar tool quiet start now counts text told left s [] → IsCutting s → left' ≡ left → Told start.written after text → IfSome told (λ input. IsCutShort tool quiet start (moment_at_end (over_sink now after)) input left')
   so_far-cut_short left' after r is same written = if_some told _ _ (λ input reading. reading-cut_short r.running is reading left' after same is.few written) r.reading
 
 module _ {tool : Tool} {quiet : Bool} {start now : Moment} {counts : Counts} {text : List ℕ} {told left : Option (List ℕ)} {s : Cutting} {rest : List ℕ} (next : Cutting) (used : ℕ) (is : IsCutting s) where
   -- a piece is used up
-  pub so_far-more : SoFar tool quiet start now counts text told left s rest → fed s rest ≡ record { after = next; cut = More; used = used } → SoFar tool quiet start now counts text told left next (drop used rest)
+  pub so_far-more : SoFar tool quiet start now counts text told left s rest → result_of_feed s rest ≡ record { after = next; cut = More; used = used } → SoFar tool quiet start now counts text told left next (drop used rest)
   so_far-more r e = record {
     whole = r.whole;
     running = subst (λ n. Running tool quiet start now counts text n r.whole) (sym (fed-feeds-all s rest next More used is e []).1.1.1.1) r.running;
@@ -212,13 +212,13 @@ module _ {tool : Tool} {quiet : Bool} {start now : Moment} {counts : Counts} {te
   }
 
   -- a line can't be taken
-  pub so_far-bad_cut : (fault : LineFault) (lines : ℕ) (after : Option (List ℕ)) → SoFar tool quiet start now counts text told left s rest → fed s rest ≡ record { after = next; cut = Bad fault; used = used } → Told start.written after text → IfSome told (λ input. AtEnd tool quiet start (over_sink now after) counts lines input (Some (next.count + 1, fault)) left)
+  pub so_far-bad_cut : (fault : LineFault) (lines : ℕ) (after : Option (List ℕ)) → SoFar tool quiet start now counts text told left s rest → result_of_feed s rest ≡ record { after = next; cut = Bad fault; used = used } → Told start.written after text → IfSome told (λ input. AtEnd tool quiet start (over_sink now after) counts lines input (Some (next.count + 1, fault)) left)
   so_far-bad_cut fault lines after r e written = if_some told _ _ (λ input reading.
       let bad : ℕ × LineFault = (next.count + 1, fault) in
-      at-end-of input left after lines ((next.count + 1, Err fault) ∷ []) (Some bad) is.few r.running (judged-input reading ∙ ap (λ ls. r.whole ++ ls) (fed-tells-all s rest next (Bad fault) used is e reading.behind)) refl refl (some-bad bad lines (judged input)) (stops-at reading) written) r.reading
+      at-end-of input left after lines ((next.count + 1, Err fault) ∷ []) (Some bad) is.few r.running (judged-input reading ∙ ap (λ ls. r.whole ++ ls) (fed-tells-all s rest next (Bad fault) used is e reading.behind)) refl refl (some-bad bad lines (judged_lines input)) (stops-at reading) written) r.reading
 
 -- a line was run
-pub so_far-line : {tool : Tool} {quiet : Bool} {start now : Moment} {before counts : Counts} (next_moment : Moment) {told left : Option (List ℕ)} {s : Cutting} {rest : List ℕ} (front old new : List ℕ) (next : Cutting) (used : ℕ) → now.written ≡ Some old → next_moment.written ≡ Some new → IsCutting s → SoFar tool quiet start now before (front ++ old) told left s rest → fed s rest ≡ record { after = next; cut = Whole; used = used } → LineRan quiet now next_moment before counts next.count (answer tool next.line) None → SoFar tool quiet start next_moment counts (front ++ new) told left next (drop used rest)
+pub so_far-line : {tool : Tool} {quiet : Bool} {start now : Moment} {before counts : Counts} (next_moment : Moment) {told left : Option (List ℕ)} {s : Cutting} {rest : List ℕ} (front old new : List ℕ) (next : Cutting) (used : ℕ) → now.written ≡ Some old → next_moment.written ≡ Some new → IsCutting s → SoFar tool quiet start now before (front ++ old) told left s rest → result_of_feed s rest ≡ record { after = next; cut = Whole; used = used } → LineRan quiet now next_moment before counts next.count (answer tool next.line) None → SoFar tool quiet start next_moment counts (front ++ new) told left next (drop used rest)
 so_far-line next_moment {told} {left} {s} {rest} front old new next used held holds is r e ran = record {
   whole = r.whole ++ (next.count, Ok next.line) ∷ [];
   running = running-line front old new next.count next.line held holds (fed-feeds-all s rest next Whole used is e []).1.1.1 r.running ran;
@@ -231,22 +231,22 @@ idle-told front old new was after held holds idle written =
     subst (λ xs. Told was after (front ++ xs)) (same_Some new old (sym holds ∙ (idle.told ∙ held))) written
 
 -- a line is bad
-pub so_far-bad_line : {tool : Tool} {quiet : Bool} {start now : Moment} {before : Counts} (next_moment : Moment) (counts : Counts) {told left : Option (List ℕ)} {s : Cutting} {rest : List ℕ} (front old new : List ℕ) (next : Cutting) (used : ℕ) (fault : LineFault) (lines : ℕ) (after : Option (List ℕ)) → now.written ≡ Some old → next_moment.written ≡ Some new → IsCutting s → SoFar tool quiet start now before (front ++ old) told left s rest → fed s rest ≡ record { after = next; cut = Whole; used = used } → LineRan quiet now next_moment before counts next.count (answer tool next.line) (Some fault) → Told start.written after (front ++ new) → IfSome told (λ input. AtEnd tool quiet start (over_sink next_moment after) counts lines input (Some (next.count, fault)) left)
+pub so_far-bad_line : {tool : Tool} {quiet : Bool} {start now : Moment} {before : Counts} (next_moment : Moment) (counts : Counts) {told left : Option (List ℕ)} {s : Cutting} {rest : List ℕ} (front old new : List ℕ) (next : Cutting) (used : ℕ) (fault : LineFault) (lines : ℕ) (after : Option (List ℕ)) → now.written ≡ Some old → next_moment.written ≡ Some new → IsCutting s → SoFar tool quiet start now before (front ++ old) told left s rest → result_of_feed s rest ≡ record { after = next; cut = Whole; used = used } → LineRan quiet now next_moment before counts next.count (answer tool next.line) (Some fault) → Told start.written after (front ++ new) → IfSome told (λ input. AtEnd tool quiet start (over_sink next_moment after) counts lines input (Some (next.count, fault)) left)
 so_far-bad_line {tool} {quiet} {start} next_moment counts {told} {left} {s} {rest} front old new next used fault lines after held holds is r e ran written = if_some told _ _ (λ input reading.
     let line = bad-line quiet tool next.count next.line fault ran in
     let behind = judged_rest next (drop used rest ++ reading.behind) in
     let bad : ℕ × LineFault = (next.count, fault) in
-    at-end-of input left after lines ((next.count, Ok next.line) ∷ behind) (Some bad) is.few (running-same r.running line.idle) (judged-input reading ∙ ap (λ ls. r.whole ++ ls) (fed-tells-all s rest next Whole used is e reading.behind).0) (line.none behind) (line.first behind) (some-bad bad lines (judged input)) (stops-at reading) (idle-told front old new start.written after held holds line.idle written)) r.reading
+    at-end-of input left after lines ((next.count, Ok next.line) ∷ behind) (Some bad) is.few (running-same r.running line.idle) (judged-input reading ∙ ap (λ ls. r.whole ++ ls) (fed-tells-all s rest next Whole used is e reading.behind).0) (line.none behind) (line.first behind) (some-bad bad lines (judged_lines input)) (stops-at reading) (idle-told front old new start.written after held holds line.idle written)) r.reading
 
 -- nothing is behind the bytes of a source that is at its end
-none-behind : {tool : Tool} {input : List ℕ} {left : Option (List ℕ)} {s : Cutting} {whole : Found} (r : Reading tool input left s [] whole) → left ≡ Some [] → judged input ≡ whole ++ judged_rest s []
+none-behind : {tool : Tool} {input : List ℕ} {left : Option (List ℕ)} {s : Cutting} {whole : Found} (r : Reading tool input left s [] whole) → left ≡ Some [] → judged_lines input ≡ whole ++ judged_rest s []
 none-behind {s = s} {whole = whole} r at_end = judged-input r ∙ ap (λ xs. whole ++ judged_rest s xs) (same_Some r.behind [] (sym r.unread ∙ at_end))
 
 module _ {tool : Tool} {quiet : Bool} {start now : Moment} {before : Counts} {told left : Option (List ℕ)} {s : Cutting} (is : IsCutting s) where
   -- the end, with no line begun
   pub so_far-end_none : {text : List ℕ} (lines : ℕ) (after : Option (List ℕ)) → lines ≡ s.count → SoFar tool quiet start now before text told left s [] → IfSome told (λ input. left ≡ Some []) → judged_rest s [] ≡ [] → Told start.written after text → IfSome told (λ input. AtEnd tool quiet start (over_sink now after) before lines input None left)
   so_far-end_none lines after same r at_end last written = if_both told _ _ _ (λ input reading end.
-      let all : judged input ≡ r.whole ++ [] = none-behind reading end ∙ ap (λ ls. r.whole ++ ls) last in
+      let all : judged_lines input ≡ r.whole ++ [] = none-behind reading end ∙ ap (λ ls. r.whole ++ ls) last in
       at-end-of input left after lines [] None is.few r.running all refl refl (λ none. same ∙ (sym r.running.size ∙ sym (ap length (all ∙ append-nil r.whole)))) end written) r.reading at_end
 
   module _ (next : Moment) (counts : Counts) (n : ℕ) (line : List ℕ) (last : judged_rest s [] ≡ (n, Ok line) ∷ []) (follows : n ≡ s.count + 1) where
@@ -255,7 +255,7 @@ module _ {tool : Tool} {quiet : Bool} {start now : Moment} {before : Counts} {to
     so_far-end_good front old new after few held holds r at_end ran written = if_both told _ _ _ (λ input reading end.
         let running = running-line front old new n line held holds follows r.running ran in
         let whole : Found = r.whole ++ (n, Ok line) ∷ [] in
-        let all : judged input ≡ whole = none-behind reading end ∙ ap (λ ls. r.whole ++ ls) last in
+        let all : judged_lines input ≡ whole = none-behind reading end ∙ ap (λ ls. r.whole ++ ls) last in
         at-end-of input left after n [] None few running (all ∙ sym (append-nil whole)) refl refl (λ none. sym running.size ∙ sym (ap length all)) end written) r.reading at_end
 
     -- or bad
@@ -263,7 +263,7 @@ module _ {tool : Tool} {quiet : Bool} {start now : Moment} {before : Counts} {to
     so_far-end_bad front old new fault lines after held holds r at_end ran written = if_both told _ _ _ (λ input reading end.
         let at = bad-line quiet tool n line fault ran in
         let bad : ℕ × LineFault = (n, fault) in
-        at-end-of input left after lines ((n, Ok line) ∷ []) (Some bad) is.few (running-same r.running at.idle) (none-behind reading end ∙ ap (λ ls. r.whole ++ ls) last) (at.none []) (at.first []) (some-bad bad lines (judged input)) (stops-at reading) (idle-told front old new start.written after held holds at.idle written)) r.reading at_end
+        at-end-of input left after lines ((n, Ok line) ∷ []) (Some bad) is.few (running-same r.running at.idle) (none-behind reading end ∙ ap (λ ls. r.whole ++ ls) last) (at.none []) (at.first []) (some-bad bad lines (judged_lines input)) (stops-at reading) (idle-told front old new start.written after held holds at.idle written)) r.reading at_end
 
 -- a read that gave nothing found nothing left
 pub at-end : {tool : Tool} {quiet : Bool} {start now : Moment} {counts : Counts} {text : List ℕ} {told left : Option (List ℕ)} {s : Cutting} (left' : Option (List ℕ)) (buf : List ℕ) → SoFar tool quiet start now counts text told left s [] → length buf ≡ 4096 → Reads left left' buf 0 → IfSome told (λ input. left' ≡ Some [])
@@ -277,28 +277,28 @@ pub record Kept (s next : Cutting) (rest : List ℕ) (used : ℕ) : Type 0 where
   pub fed : next.is_open ≡ s.is_open
   pub cutting : IsCutting next
 
-pub whole-kept : (s : Cutting) (rest : List ℕ) (next : Cutting) (used : ℕ) → IsCutting s → fed s rest ≡ record { after = next; cut = Whole; used = used } → Kept s next rest used
+pub whole-kept : (s : Cutting) (rest : List ℕ) (next : Cutting) (used : ℕ) → IsCutting s → result_of_feed s rest ≡ record { after = next; cut = Whole; used = used } → Kept s next rest used
 whole-kept s rest next used is e =
     let tells = fed-tells-all s rest next Whole used is e [] in
     let feeds = fed-feeds-all s rest next Whole used is e [] in
     record { less = feeds.1.0; fed = feeds.1.1.0; cutting = tells.1.0 }
 
-pub more-kept : (s : Cutting) (rest : List ℕ) (next : Cutting) (used : ℕ) → IsCutting s → fed s rest ≡ record { after = next; cut = More; used = used } → Kept s next rest used
+pub more-kept : (s : Cutting) (rest : List ℕ) (next : Cutting) (used : ℕ) → IsCutting s → result_of_feed s rest ≡ record { after = next; cut = More; used = used } → Kept s next rest used
 more-kept s rest next used is e =
     let tells = fed-tells-all s rest next More used is e [] in
     let feeds = fed-feeds-all s rest next More used is e [] in
     record { less = feeds.1.0; fed = feeds.1.1.0; cutting = tells.1 }
 
 -- how many lines were whole
-pub whole-count : (s : Cutting) (rest : List ℕ) (next : Cutting) (used : ℕ) → IsCutting s → fed s rest ≡ record { after = next; cut = Whole; used = used } → next.count ≡ s.count + 1
+pub whole-count : (s : Cutting) (rest : List ℕ) (next : Cutting) (used : ℕ) → IsCutting s → result_of_feed s rest ≡ record { after = next; cut = Whole; used = used } → next.count ≡ s.count + 1
 whole-count s rest next used is e = (fed-feeds-all s rest next Whole used is e []).1.1.1
 
-pub more-count : (s : Cutting) (rest : List ℕ) (next : Cutting) (used : ℕ) → IsCutting s → fed s rest ≡ record { after = next; cut = More; used = used } → next.count ≡ s.count
+pub more-count : (s : Cutting) (rest : List ℕ) (next : Cutting) (used : ℕ) → IsCutting s → result_of_feed s rest ≡ record { after = next; cut = More; used = used } → next.count ≡ s.count
 more-count s rest next used is e = (fed-feeds-all s rest next More used is e []).1.1.1.1
 
 -- the answer of a call of feed, as it was told
-pub fed-is : (s : Cutting) (rest : List ℕ) (next : Cutting) (cut known : Cut) (used : ℕ) → fed s rest ≡ record { after = next; cut = cut; used = used } → cut ≡ known → fed s rest ≡ record { after = next; cut = known; used = used }
-fed-is s rest next cut known used e is = subst (λ k. fed s rest ≡ record { after = next; cut = k; used = used }) is e
+pub fed-is : (s : Cutting) (rest : List ℕ) (next : Cutting) (cut known : Cut) (used : ℕ) → result_of_feed s rest ≡ record { after = next; cut = cut; used = used } → cut ≡ known → result_of_feed s rest ≡ record { after = next; cut = known; used = used }
+fed-is s rest next cut known used e is = subst (λ k. result_of_feed s rest ≡ record { after = next; cut = k; used = used }) is e
 
 unwrap : {A E : Type 0} → A → Result (Option A) E → A
 unwrap d (Ok (Some x)) = x

@@ -1,6 +1,6 @@
 -- What running one line does, and what running a script promises.
 use Rattle.std.specs.Prelude.{◌≡◌, ◌≢◌, ℕ, ◌≤◌, List, [], Option, Some, None, Bool, Result, IfErr, IfOk, IfSome, IsTrue, OnOk}
-use Rattle.vc_counts.specs.Counts.{counted}
+use Rattle.vc_counts.specs.Counts.{counts_with_step}
 use Rattle.vc_counts.specs.declared.counts.Counts.{Counts}
 use Rattle.vc_model.specs.Count.{Rose}
 use Rattle.vc_script.specs.Needs.{need_shown}
@@ -19,7 +19,7 @@ use Rattle.vc_session.specs.Text.{is_quiet}
 use Rattle.vc_session.specs.declared.engine.Stop.{Stop}
 use Rattle.vc_session.specs.declared.engine.Stop.TheVariants.{Read, Write}
 use Rattle.vc_steps.specs.Account.{Settles}
-use Rattle.vc_steps.specs.Moment.{Moment, ended, over_sink}
+use Rattle.vc_steps.specs.Moment.{Moment, moment_at_end, over_sink}
 use Rattle.vc_steps.specs.Step.{step}
 use Rattle.vc_steps.specs.Steps.{Steps, StepsBy}
 use Rattle.vc_words.specs.declared.words.Words.{Words}
@@ -37,12 +37,12 @@ pub record IsStep (quiet : Bool) (now next : Moment) (before counts : Counts) (n
   pub reply : Reply
   pub steps : Steps now next command (step now.state n command (need_shown reply)) reply
   pub told : Told now.written next.written (line_by quiet (n, reply))
-  pub counted : IsTrue quiet → counts ≡ counted before (step now.state n command (need_shown reply))
+  pub counted : IsTrue quiet → counts ≡ counts_with_step before (step now.state n command (need_shown reply))
 
 -- what running the command of a line promises by its answer: it is a step, and quietly it was counted
 pub record RunsCommand {E : Type 0} (quiet : Bool) (answer : Result Reply E) (now next : Moment) (before counts : Counts) (n : ℕ) (command : Command) : Type 0 where
   pub steps : StepsBy answer now next command (λ s. step s n command)
-  pub counts_on : CountsOn quiet answer counts next n (λ reply. IsTrue quiet → counts ≡ counted before (step now.state n command (need_shown reply)))
+  pub counts_on : CountsOn quiet answer counts next n (λ reply. IsTrue quiet → counts ≡ counts_with_step before (step now.state n command (need_shown reply)))
 
 -- a line was run by its answer
 abbrev pub LineRan : Bool → Moment → Moment → Counts → Counts → ℕ → LineAnswer → Option LineFault → Type 0
@@ -53,7 +53,7 @@ LineRan quiet now next before counts n (Is command) fault = (fault ≡ None) × 
 -- what running the lines of a source promises by its answer, from a moment and what its streams mean then to another, before anything is written behind the replies
 pub record RunsLines (tool : Tool) (quiet : Bool) (answer : Result (Option (ℕ × LineFault)) Stop) (start last : Moment) (counts : Counts) (lines : ℕ) (old new : Flows) : Type 0 where
   pub at_end : IfOk answer (λ bad. IfSome old.left (λ input. AtEnd tool quiet (over_sink start old.written) (over_sink last new.written) counts lines input bad new.left))
-  pub cut_short : IfErr answer (λ stop. stop ≡ Read → IfSome old.left (λ input. IsCutShort tool quiet (over_sink start old.written) (ended (over_sink last new.written)) input new.left))
+  pub cut_short : IfErr answer (λ stop. stop ≡ Read → IfSome old.left (λ input. IsCutShort tool quiet (over_sink start old.written) (moment_at_end (over_sink last new.written)) input new.left))
   pub read : IfErr answer (λ stop. stop ≡ Read → Rose old.reads new.reads)
   pub write : IfErr answer (λ stop. stop ≡ Write → Rose old.writes new.writes)
   pub reads : old.reads ≤ new.reads

@@ -17,8 +17,8 @@ pub record Lent (H K S O E : Type 0) : Type 0 where
   pub out : O
   pub err : E
 
-abbrev pub lent : {H K S O E : Type 0} → H → K → S → O → E → Lent H K S O E
-lent shelf kinds source out err =
+abbrev pub lent_state : {H K S O E : Type 0} → H → K → S → O → E → Lent H K S O E
+lent_state shelf kinds source out err =
     record { shelf = shelf; kinds = kinds; source = source; out = out; err = err }
 
 -- by how a tool ends whose words ask for that, or are refused, from what it was lent to what it gives back; read by these, a shelf and kinds are a moment, and the streams mean that

@@ -1,7 +1,7 @@
 -- States whose regions are called by names, whose blocks are labelled by names or not at all, whose kept names are names, and whose sites are names or a hyphen.
 use Rattle.std.specs.Prelude.{◌≡◌, List, Some, None, IsTrue, if◌then◌else◌}
 use Rattle.std.specs.List.{AllByRecursion}
-use Rattle.vc_region.specs.Region.{Region, relabelled, rows_in}
+use Rattle.vc_region.specs.Region.{Region, region_with_labels, rows_in}
 use Rattle.vc_script.specs.Words.{is_name}
 use Rattle.vc_script.specs.Proper.{IsName}
 use Rattle.vc_script.specs.ProperReply.{is_row_site}
@@ -22,7 +22,7 @@ name_or_none (Some x) = if is_name x then Some x else None
 
 -- the labels of a region are names: it stays the same where others are taken away
 abbrev pub IsProperRegion : Region Label → Type 0
-IsProperRegion r = relabelled name_or_none r ≡ r
+IsProperRegion r = region_with_labels name_or_none r ≡ r
 
 -- what is kept as freed are names
 abbrev pub AreProperNames : Kept → Type 0

@@ -10,8 +10,8 @@ use Rattle.vc_script.specs.declared.tool.Tool.TheVariants.{Vmreplay, Dtrun}
 use Rattle.vc_steps.specs.Account.{Settles}
 use Rattle.vc_steps.specs.Moment.{Moment}
 use Rattle.vc_steps.specs.Told.{ended_told, tell}
-use Rattle.vc_script.specs.Judged.{judged}
-use Rattle.vc_generate.specs.Generated.{generated}
+use Rattle.vc_script.specs.Judged.{judged_lines}
+use Rattle.vc_generate.specs.Generated.{commands_of_seed}
 use Rattle.vc_session.specs.QuietText.{needs_by}
 use Rattle.vc_session.specs.Run.{Ran, commands, fault_in, first_bad, lines_of, run, script, wholly_read}
 use Rattle.vc_session.specs.Text.{body_of, good_lines, is_quiet, text_of}
@@ -73,7 +73,7 @@ pub record IsRun (quiet : Bool) (said : Ran → List ℕ) (before after : Moment
 -- bytes that show no fault: their whole lines are good, and no line is too long or past the last number, the one that has begun among them
 pub record ShowsNoFault (tool : Tool) (bytes : List ℕ) : Type 0 where
   pub good : fault_in tool (wholly_read bytes) ≡ None
-  pub short : AllByRecursion (λ line. IsOk line.1) (judged bytes)
+  pub short : AllByRecursion (λ line. IsOk line.1) (judged_lines bytes)
 
 -- the reading stopped at a bad line: what was taken before its last 4,096 bytes or fewer shows no fault
 pub record StopsAtFault (tool : Tool) (input : List ℕ) (left : Option (List ℕ)) : Type 0 where
@@ -94,7 +94,7 @@ Stops tool input (Some bad) left = StopsAtFault tool input left
 pub record IsReplay (tool : Tool) (w : Words) (before after : Moment) (input : List ℕ) (bad : Option (ℕ × LineFault)) (left : Option (List ℕ)) : Type 0 where
   pub first : bad ≡ first_bad tool input
   pub stops : Stops tool input bad left
-  pub run : IsRun (is_quiet w) (text_of w (good_lines bad (length (judged input)))) before after (script tool input)
+  pub run : IsRun (is_quiet w) (text_of w (good_lines bad (length (judged_lines input)))) before after (script tool input)
 
 -- a run that a failed read ended: the lines that were wholly read were run, and no byte that was read shows a fault
 pub record IsCutShort (tool : Tool) (quiet : Bool) (before after : Moment) (input : List ℕ) (left : Option (List ℕ)) : Type 0 where
@@ -112,11 +112,11 @@ on_lines n (c ∷ cs) = (n, c) ∷ on_lines (n + 1) cs
 
 -- the commands that so many words of the seed give, the first on line 1
 abbrev pub generated_script : Tool → Words → ℕ → List (ℕ × Command)
-generated_script tool w n = on_lines 1 (generated tool n w.seed)
+generated_script tool w n = on_lines 1 (commands_of_seed tool n w.seed)
 
 -- a quiet run of these; no source is read, and none is spoken of
 pub record IsGenerated (tool : Tool) (w : Words) (n : ℕ) (before after : Moment) : Type 0 where
-  pub run : IsRun true (text_of w (length (generated tool n w.seed))) before after (generated_script tool w n)
+  pub run : IsRun true (text_of w (length (commands_of_seed tool n w.seed))) before after (generated_script tool w n)
 
 -- from one moment to another, and from what a source tells to what it has left: so many generated commands were run, of which no line is bad, or else the source's script, up to this bad line
 abbrev pub ReplaysBy : Option ℕ → Tool → Words → Moment → Moment → Option (List ℕ) → Option (List ℕ) → Option (ℕ × LineFault) → Type 0

@@ -97,8 +97,8 @@ gap_behind =
     ∷ [])
 
 -- a parse: two buffers, two words and two nodes
-abbrev pub parsed : State
-parsed =
+abbrev pub parsed_state : State
+parsed_state =
     one_region (codes "heap") ((1, 4096) ∷ [])
     (block_with (codes "conf") 1 32 512 []
     ∷ block_with (codes "line") 1 576 80 (codes "GET /index")
@@ -110,8 +110,8 @@ parsed =
     ∷ [])
 
 -- and then the line has moved, the words are gone, and the gap has two others
-abbrev pub moved : State
-moved =
+abbrev pub moved_state : State
+moved_state =
     one_region (codes "heap") ((1, 4096) ∷ [])
     (block_with (codes "conf") 1 32 512 []
     ∷ block_with (codes "tok") 1 576 100 []

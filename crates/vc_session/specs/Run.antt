@@ -8,7 +8,7 @@ use Rattle.vc_script.specs.declared.line_fault.LineFault.{LineFault}
 use Rattle.vc_script.specs.declared.reply.Reply.{Reply}
 use Rattle.vc_script.specs.declared.tool.Tool.{Tool}
 use Rattle.vc_script.specs.Lines.{ended_lines}
-use Rattle.vc_script.specs.Judged.{judged, judged_from}
+use Rattle.vc_script.specs.Judged.{judged_lines, judged_from}
 use Rattle.vc_script.specs.Answer.{answer}
 use Rattle.vc_script.specs.Needs.{Need, need_at}
 use Rattle.vc_steps.specs.State.{State, Stepped}
@@ -31,7 +31,7 @@ commands tool [] = []
 commands tool (line ∷ rest) = command_of tool line.0 line.1 (commands tool rest)
 
 abbrev pub script : Tool → List ℕ → List (ℕ × Command)
-script tool input = commands tool (judged input)
+script tool input = commands tool (judged_lines input)
 
 abbrev pub fault_then : ℕ → LineAnswer → Option (ℕ × LineFault) → Option (ℕ × LineFault)
 fault_then n Blank behind = behind
@@ -48,7 +48,7 @@ fault_in tool [] = None
 fault_in tool (line ∷ rest) = fault_of tool line.0 line.1 (fault_in tool rest)
 
 abbrev pub first_bad : Tool → List ℕ → Option (ℕ × LineFault)
-first_bad tool input = fault_in tool (judged input)
+first_bad tool input = fault_in tool (judged_lines input)
 
 -- the lines that were wholly read of an input of which these bytes were read
 abbrev pub wholly_read : List ℕ → List (ℕ × Result (List ℕ) LineFault)
@@ -68,8 +68,8 @@ abbrev pub nothing_ran : State → Ran
 nothing_ran s = record { replies = []; state = s; refusals = []; told = []; granted = []; peak = 0 }
 
 -- a step, and then the run of the rest
-abbrev pub ran : State → ℕ × Command → Stepped → Ran → Ran
-ran s c t rest =
+abbrev pub run_with_step : State → ℕ × Command → Stepped → Ran → Ran
+run_with_step s c t rest =
     record {
       replies = (c.0, t.reply) ∷ rest.replies;
       state = rest.state;
@@ -82,7 +82,7 @@ ran s c t rest =
 -- the steps in order, each with its line and with the need of that line
 abbrev pub run : State → List (ℕ × Command) → List (ℕ × Need) → Ran
 run s [] needs = nothing_ran s
-run s (c ∷ cs) needs = let t = step s c.0 c.1 (need_at needs c.0) in ran s c t (run t.state cs needs)
+run s (c ∷ cs) needs = let t = step s c.0 c.1 (need_at needs c.0) in run_with_step s c t (run t.state cs needs)
 
 -- the lines of commands
 abbrev pub lines_of : List (ℕ × Command) → List ℕ

@@ -7,7 +7,7 @@ use Rattle.vc_script.specs.declared.command.Command.{Command}
 use Rattle.vc_script.specs.declared.line_fault.LineFault.{LineFault}
 use Rattle.vc_script.specs.declared.tool.Tool.{Tool}
 use Rattle.vc_script.specs.Cutting.{Cutting, IsCutting}
-use Rattle.vc_script.specs.Judged.{judged, judged_from, last_number, line_limit}
+use Rattle.vc_script.specs.Judged.{judged_lines, judged_from, last_number, line_limit}
 use Rattle.vc_script.specs.Lines.{ended_after, lines_after}
 use Rattle.vc_steps.specs.Moment.{Moment, over_sink}
 use Rattle.vc_steps.specs.State.{State}
@@ -45,7 +45,7 @@ pub record Reading (tool : Tool) (input : List ℕ) (left : Option (List ℕ)) (
   pub size : length last ≤ 4096
   pub no_fault : ShowsNoFault tool before
   pub unread : left ≡ Some behind
-  pub lines : (more : List ℕ) → judged ((before ++ last) ++ more) ≡ whole ++ judged_rest s (rest ++ more)
+  pub lines : (more : List ℕ) → judged_lines ((before ++ last) ++ more) ≡ whole ++ judged_rest s (rest ++ more)
   pub ended : (more : List ℕ) → wholly_read ((before ++ last) ++ more) ≡ whole ++ ended_rest s (rest ++ more)
 
 -- what was run so far of a source that told its bytes at the start, or didn't
@@ -63,7 +63,7 @@ pub record AtEnd (tool : Tool) (quiet : Bool) (start now : Moment) (counts : Cou
   pub told : Told start.written now.written text
   pub first : bad ≡ first_bad tool input
   pub stops : Stops tool input bad left
-  pub whole : bad ≡ None → lines ≡ length (judged input)
+  pub whole : bad ≡ None → lines ≡ length (judged_lines input)
 
 -- each run so far goes on: what was left of a piece was run up to what is left now, and its replies were gathered
 pub record GoesOn (tool : Tool) (quiet : Bool) (first now : Moment) (before counts : Counts) (gathered : List ℕ) (s next : Cutting) (rest rest' : List ℕ) : Type 0 where

@@ -3,7 +3,7 @@ ghost use Rattle.std.specs.Prelude.{◌≡◌, ℕ, ◌<◌, ◌≤◌, ◌^◌,
 ghost use Rattle.std.specs.List.{AllByRecursion};
 ghost use Rattle.vc_counts.specs.CanCount.{CanCount};
 ghost use Rattle.vc_counts.specs.Counts.{busy_in};
-ghost use Rattle.vc_generate.specs.Generated.{generated};
+ghost use Rattle.vc_generate.specs.Generated.{commands_of_seed};
 ghost use Rattle.vc_model.specs.Count.{Rose};
 ghost use Rattle.vc_script.specs.Proper.{IsProperCommand};
 ghost use Rattle.vc_session.specs.Engine.{IsStep, RunsGenerated};
@@ -12,7 +12,7 @@ ghost use Rattle.vc_session.specs.Progress.{CanBegin, CountsOn};
 ghost use Rattle.vc_session.specs.ProperState.{IsProperOver};
 ghost use Rattle.vc_session.specs.Replay.{Told};
 ghost use Rattle.vc_steps.specs.Homes.{IsSessionOver, state_over};
-ghost use Rattle.vc_steps.specs.Moment.{Keeps, ended, over_sink, rest_of};
+ghost use Rattle.vc_steps.specs.Moment.{Keeps, moment_at_end, over_sink, rest_of};
 ghost use Rattle.vc_steps.specs.Steps.{RunsOver};
 ghost use Rattle.vc_steps.specs.Told.{KeepRules, rules_in};
 
@@ -40,7 +40,7 @@ use vc_words::Words;
 pub fn generate(alloc: Global, tool: Tool, n: u32, seed: u32) -> Result<Vec<Command>, OutOfMemory>
     requires least { 1 ≤ n }
     requires most { n ≤ 1000000 }
-    ensures { IfOk result (λ commands. commands.items ≡ generated tool n seed) }
+    ensures { IfOk result (λ commands. commands.items ≡ commands_of_seed tool n seed) }
 {
     let mut generator = Generator::new(tool, n, seed);
     let mut commands = Vec::new(alloc);
@@ -145,7 +145,7 @@ fn run_all<D: DictDisc, O: Sink>(
     requires most { n ≤ 1000000 }
     ensures { RunsOver state D.rules D.gone shelf.old session.old kinds.old.items
         shelf.new session.new kinds.new.items
-        (λ start last. RunsGenerated tool words.now n result start (ended last)
+        (λ start last. RunsGenerated tool words.now n result start (moment_at_end last)
         (O.written out.old) (O.written out.new) (O.failures out.old) (O.failures out.new)) }
 {
     let mut generator = Generator::new(tool, n, words.seed);

@@ -3,7 +3,7 @@ ghost use Rattle.std.specs.Prelude.{◌≡◌, ◌++◌, ℕ, [], ◌∷◌, Som
 ghost use Rattle.vc_script.specs.Needs.{ForBlock};
 ghost use Rattle.vc_session.specs.Run.{first_bad, run, script};
 ghost use Rattle.vc_commands.specs.Kept.{with_line, without_name};
-ghost use Rattle.vc_session.specs.Rows.{at_first, block_with, gap_behind, moved, parsed, plain_text, with_kept};
+ghost use Rattle.vc_session.specs.Rows.{at_first, block_with, gap_behind, moved_state, parsed_state, plain_text, with_kept};
 ghost use Rattle.vc_commands.specs.Whole.{with_labels};
 ghost use Rattle.vc_script.specs.declared.tool.Tool.TheVariants.{Vmreplay};
 ghost use Rattle.vc_script.specs.declared.line_fault.LineFault.TheVariants.{UnknownCommand, LineTooLong};
@@ -150,23 +150,23 @@ pub fn parse_state()
         (codes "# one parse and one report\nopen heap best 1\nalloc heap conf 512\n"
         ++ codes "alloc heap line 80\nwrite heap line 0 GET%20/index\n"
         ++ codes "alloc heap word1 3\nalloc heap word2 6\nalloc heap node1 48\n"
-        ++ codes "alloc heap node2 48\nalloc heap buf 1000\n")) []).state ≡ parsed }
+        ++ codes "alloc heap node2 48\nalloc heap buf 1000\n")) []).state ≡ parsed_state }
 {}
 
 /// Its line moves, and the gap that two words leave is taken.
 pub fn line_moved()
-    ensures replies { plain_text (run parsed (script Vmreplay
+    ensures replies { plain_text (run parsed_state (script Vmreplay
         (codes "read heap line 0 3\nresize heap line 200 move\nfree heap word1\n"
         ++ codes "free heap word2\nalloc heap tok 100\nalloc heap c 16\n")) [])
         ≡ codes "line 474554\nline 1:1888\nword1 freed\nword2 freed\ntok 1:576\nc 1:704\n" }
-    ensures state { (run parsed (script Vmreplay
+    ensures state { (run parsed_state (script Vmreplay
         (codes "read heap line 0 3\nresize heap line 200 move\nfree heap word1\n"
-        ++ codes "free heap word2\nalloc heap tok 100\nalloc heap c 16\n")) []).state ≡ moved }
+        ++ codes "free heap word2\nalloc heap tok 100\nalloc heap c 16\n")) []).state ≡ moved_state }
 {}
 
 /// A block moves to a segment of its own, and the gaps that are left are taken by size.
 pub fn buffer_moved()
-    ensures { plain_text (run moved (script Vmreplay
+    ensures { plain_text (run moved_state (script Vmreplay
         (codes "resize heap buf 3000 move\nalloc heap out 900\nalloc heap row1 64\n"
         ++ codes "alloc heap row2 64\n")) [])
         ≡ codes "buf 2:32\nout 1:864\nrow1 1:1792\nrow2 2:3072\n" }

@@ -5,7 +5,7 @@ ghost use Rattle.vc_session.specs.Engine.{RunsScript};
 ghost use Rattle.vc_session.specs.ProperState.{IsProperOver};
 ghost use Rattle.vc_session.specs.Streams.{flows};
 ghost use Rattle.vc_session.specs.Text.{good_lines};
-ghost use Rattle.vc_steps.specs.Moment.{Keeps, ended, rest_of};
+ghost use Rattle.vc_steps.specs.Moment.{Keeps, moment_at_end, rest_of};
 ghost use Rattle.vc_steps.specs.Steps.{RunsOver};
 ghost use Rattle.vc_steps.specs.Told.{KeepRules};
 
@@ -49,7 +49,7 @@ fn run_script<D: DictDisc, S: Source, O: Sink>(
     requires new { cutter.old ≡ new_cutting }
     ensures { RunsOver state D.rules D.gone shelf.old session.old kinds.old.items
         shelf.new session.new kinds.new.items
-        (λ start last. RunsScript tool words.now result start (ended last)
+        (λ start last. RunsScript tool words.now result start (moment_at_end last)
         (flows S.left S.failures O.written O.failures source.old out.old)
         (flows S.left S.failures O.written O.failures source.new out.new)) }
 {

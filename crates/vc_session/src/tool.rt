@@ -2,7 +2,7 @@
 ghost use Rattle.std.specs.Prelude.{◌≡◌, [], Some, IsSome, map, string_bytes};
 ghost use Rattle.vc_script.specs.declared.tool.Tool.TheVariants.{Dtrun, Vmreplay};
 ghost use Rattle.vc_session.specs.Engine.{RunsAsked};
-ghost use Rattle.vc_session.specs.Promises.{Promises, lent};
+ghost use Rattle.vc_session.specs.Promises.{Promises, lent_state};
 ghost use Rattle.vc_session.specs.Streams.{flows, streams};
 ghost use Rattle.vc_steps.specs.Moment.{Keeps, rest_by, rest_of};
 ghost use Rattle.vc_steps.specs.Told.{KeepRules};
@@ -63,8 +63,8 @@ fn run_words<D: DictDisc, S: Source, O: Sink, E: Sink>(
     err: &mut E,
 ) -> Status
     ensures { Promises tool (Some asked.now.words) result
-        (lent shelf.old kinds.old source.old out.old err.old)
-        (lent shelf.new kinds.new source.new out.new err.new)
+        (lent_state shelf.old kinds.old source.old out.old err.old)
+        (lent_state shelf.new kinds.new source.new out.new err.new)
         (λ shelf kinds. rest_of state D.rules D.gone shelf kinds.items)
         (streams S.left S.failures O.written O.failures E.written E.failures) }
 {
@@ -101,8 +101,8 @@ fn run_tool<D: DictDisc, S: Source, O: Sink, E: Sink>(
     err: &mut E,
 ) -> Status
     ensures { Promises tool (words_of (map string_bytes words.now)) result
-        (lent shelf.old kinds.old source.old out.old err.old)
-        (lent shelf.new kinds.new source.new out.new err.new)
+        (lent_state shelf.old kinds.old source.old out.old err.old)
+        (lent_state shelf.new kinds.new source.new out.new err.new)
         (λ shelf kinds. rest_of state D.rules D.gone shelf kinds.items)
         (streams S.left S.failures O.written O.failures E.written E.failures) }
 {
@@ -138,8 +138,8 @@ pub fn replay<S: Source, O: Sink, E: Sink>(
     err: &mut E,
 ) -> Status
     ensures { Promises Vmreplay (words_of (map string_bytes words.now)) result
-        (lent shelf.old (tt {0}) source.old out.old err.old)
-        (lent shelf.new (tt {0}) source.new out.new err.new)
+        (lent_state shelf.old (tt {0}) source.old out.old err.old)
+        (lent_state shelf.new (tt {0}) source.new out.new err.new)
         (λ shelf _. rest_by state [] [] shelf)
         (streams S.left S.failures O.written O.failures E.written E.failures) }
 {
@@ -168,8 +168,8 @@ pub fn dtrun<D: DictDisc, S: Source, O: Sink, E: Sink>(
     err: &mut E,
 ) -> Status
     ensures { Promises Dtrun (words_of (map string_bytes words.now)) result
-        (lent shelf.old kinds.old source.old out.old err.old)
-        (lent shelf.new kinds.new source.new out.new err.new)
+        (lent_state shelf.old kinds.old source.old out.old err.old)
+        (lent_state shelf.new kinds.new source.new out.new err.new)
         (λ shelf kinds. rest_of state D.rules D.gone shelf kinds.items)
         (streams S.left S.failures O.written O.failures E.written E.failures) }
 {

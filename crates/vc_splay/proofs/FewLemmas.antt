@@ -8,7 +8,7 @@ use Rattle.std.proofs.lemmas.Map.Steps.{length-le_from_distinct_below}
 use Rattle.vc_splay.specs.Tree.{Tree, names}
 use Rattle.vc_splay.specs.Store.{Store}
 use Rattle.vc_splay.specs.Walks.{run}
-use Rattle.vc_splay.specs.Moves.{Context, Top, Under, IsRising, IsRound, depth, joined, name_at, count, one, plug, tally, tally_round}
+use Rattle.vc_splay.specs.Moves.{Context, Top, Under, IsRising, IsRound, depth, joined_tree, name_at, count, one, plug, tally, tally_round}
 use Rattle.vc_splay.proofs.StandsLemmas.{some_held}
 use Rattle.vc_splay.proofs.StepLemmas.{IsInHand-held, Stands-held}
 use Rattle.vc_splay.proofs.TallyLemmas.{one-other, one-same, tally-plug}
@@ -44,13 +44,13 @@ IsRound-held s (Under d m sibling c) below n r h = elim (eqb_tells n m) as (λ _
   ]
 ]
 
-length-joined : (d : Bool) (t : Tree) (n : ℕ) (u : Tree) → length (names (joined d t n u)) ≡ length (names t) + length (names u) + 1
+length-joined : (d : Bool) (t : Tree) (n : ℕ) (u : Tree) → length (names (joined_tree d t n u)) ≡ length (names t) + length (names u) + 1
 length-joined true t n u = length-append (names t) (n ∷ names u) ∙ omega arith
 length-joined false t n u = length-append (names u) (n ∷ names t) ∙ omega arith
 
 pub deep : (c : Context) (t : Tree) → depth c + length (names t) ≤ length (names (plug c t))
 deep Top t = omega arith
-deep (Under d n sibling c) t = let h = deep c (joined d t n sibling) in let e = length-joined d t n sibling in omega arith
+deep (Under d n sibling c) t = let h = deep c (joined_tree d t n sibling) in let e = length-joined d t n sibling in omega arith
 
 rising_once : (s : Store) (at below above left right : ℕ) (c : Context) (t : Tree) → IsRising s at below above left right c t → (n : ℕ) → count n (names (plug c t)) ≤ 1
 unfolding tally

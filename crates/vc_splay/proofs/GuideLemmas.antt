@@ -6,7 +6,7 @@ use Rattle.std.specs.declared.cmp.Ordering.{Ordering}
 use Rattle.std.specs.declared.cmp.Ordering.TheVariants.{Less, Equal, Greater}
 use Rattle.std.proofs.lemmas.Bool.{true≢false}
 use Rattle.std.proofs.lemmas.List.Folds.{find-append}
-use Rattle.vc_splay.specs.Guide.{RisesFrom, first_at, least_at, linked}
+use Rattle.vc_splay.specs.Guide.{RisesFrom, first_at, least_at, order_with_name}
 
 -- the answer for a name isn't below those before it
 rises-at : (low : ℕ) (side : ℕ → Ordering) (xs : List ℕ) (n : ℕ) (ys : List ℕ) → RisesFrom low side (xs ++ n ∷ ys) → low ≤ ordering_index (side n)
@@ -89,13 +89,13 @@ cond_before : (t : Bool) (at x : ℕ) (xs with_at both ys : List ℕ) → both �
 cond_before true at x xs with_at both ys e = refl
 cond_before false at x xs with_at both ys e = ap (λ z. x ∷ z) e
 
-pub linked-before : (side : ℕ → Ordering) (at : ℕ) (xs : List ℕ) (n : ℕ) (ys : List ℕ) → is_gt (side n) ≡ true → linked side at (xs ++ n ∷ ys) ≡ linked side at xs ++ n ∷ ys
-linked-before side at [] n ys e = ap (λ z. cond z (at ∷ n ∷ ys) (n ∷ linked side at ys)) e
-linked-before side at (x ∷ xs) n ys e = cond_before (is_gt (side x)) at x xs (linked side at xs) (linked side at (xs ++ n ∷ ys)) (n ∷ ys) (linked-before side at xs n ys e)
+pub linked-before : (side : ℕ → Ordering) (at : ℕ) (xs : List ℕ) (n : ℕ) (ys : List ℕ) → is_gt (side n) ≡ true → order_with_name side at (xs ++ n ∷ ys) ≡ order_with_name side at xs ++ n ∷ ys
+linked-before side at [] n ys e = ap (λ z. cond z (at ∷ n ∷ ys) (n ∷ order_with_name side at ys)) e
+linked-before side at (x ∷ xs) n ys e = cond_before (is_gt (side x)) at x xs (order_with_name side at xs) (order_with_name side at (xs ++ n ∷ ys)) (n ∷ ys) (linked-before side at xs n ys e)
 
-pub linked-behind : (low : ℕ) (side : ℕ → Ordering) (at : ℕ) (xs : List ℕ) (n : ℕ) (ys : List ℕ) → RisesFrom low side (xs ++ n ∷ ys) → is_gt (side n) ≡ false → linked side at (xs ++ n ∷ ys) ≡ xs ++ n ∷ linked side at ys
-linked-behind low side at [] n ys h e = ap (λ z. cond z (at ∷ n ∷ ys) (n ∷ linked side at ys)) e
+pub linked-behind : (low : ℕ) (side : ℕ → Ordering) (at : ℕ) (xs : List ℕ) (n : ℕ) (ys : List ℕ) → RisesFrom low side (xs ++ n ∷ ys) → is_gt (side n) ≡ false → order_with_name side at (xs ++ n ∷ ys) ≡ xs ++ n ∷ order_with_name side at ys
+linked-behind low side at [] n ys h e = ap (λ z. cond z (at ∷ n ∷ ys) (n ∷ order_with_name side at ys)) e
 linked-behind low side at (x ∷ xs) n ys h e =
     let k = rises-at (ordering_index (side x)) side xs n ys h.1 in
     let j = not_greater_low (side n) e in
-    ap (λ z. cond z (at ∷ x ∷ (xs ++ n ∷ ys)) (x ∷ linked side at (xs ++ n ∷ ys))) (low_not_greater (side x) (omega arith)) ∙ ap (λ z. x ∷ z) (linked-behind (ordering_index (side x)) side at xs n ys h.1 e)
+    ap (λ z. cond z (at ∷ x ∷ (xs ++ n ∷ ys)) (x ∷ order_with_name side at (xs ++ n ∷ ys))) (low_not_greater (side x) (omega arith)) ∙ ap (λ z. x ∷ z) (linked-behind (ordering_index (side x)) side at xs n ys h.1 e)

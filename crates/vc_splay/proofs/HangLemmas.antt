@@ -3,7 +3,7 @@ use Rattle.std.proofs.Common.{◌≡◌, ◌≢◌, ℕ, ◌+◌, ◌≤◌, Boo
 use Rattle.vc_splay.specs.Tree.{Tree, Leaf, Node, name_of}
 use Rattle.vc_splay.specs.Store.{Store, SameLinks, with_kid}
 use Rattle.vc_splay.specs.Writes.{CanHang, with_child, with_parent_of}
-use Rattle.vc_splay.specs.Moves.{Context, HasKid, IsCut, IsRound, joined, one, tally, tally_round}
+use Rattle.vc_splay.specs.Moves.{Context, HasKid, IsCut, IsRound, joined_tree, one, tally, tally_round}
 use Rattle.vc_splay.proofs.StoreLemmas.{kid-here, kid-opposite, kid-other, parent_of-here, parent_of-other}
 use Rattle.vc_splay.proofs.StandsLemmas.{IsRound-kept, HasKid-kept, Stands-kept, Stands-moved, Stands-joined, name_of-joined}
 use Rattle.vc_splay.proofs.TallyLemmas.{one-same, tally-root}
@@ -47,7 +47,7 @@ IsCut-held s top (Node l n r) k some = ap s.has k.top_is ∙ k.stands.0.held
 pub IsCut-kid : (s : Store) (d : Bool) (n : ℕ) (t : Tree) → HasKid s d n t → IsCut s (s.kid d n) t
 IsCut-kid s d n t k = record { up = n; stands = k.stands; top_is = k.kid }
 
-pub IsCut-joined : (s : Store) (d : Bool) (t : Tree) (n : ℕ) (u : Tree) → HasKid s d n t → HasKid s (not d) n u → IsCut s n (joined d t n u)
+pub IsCut-joined : (s : Store) (d : Bool) (t : Tree) (n : ℕ) (u : Tree) → HasKid s d n t → HasKid s (not d) n u → IsCut s n (joined_tree d t n u)
 IsCut-joined s d t n u k j = record {
   up = s.parent n;
   stands = Stands-joined s (s.parent n) d t n u refl k j;

@@ -9,7 +9,7 @@ use Rattle.vc_splay.specs.Tree.{Tree, Leaf, Node, names, name_of}
 use Rattle.vc_splay.specs.Store.{Store, SameLinks, with_kid}
 use Rattle.vc_splay.specs.Stands.{IsTree, Stands, TreeAfter}
 use Rattle.vc_splay.specs.Writes.{with_kid_of}
-use Rattle.vc_splay.specs.Guide.{CanFind, CanLink, RisesFrom, asked, linked}
+use Rattle.vc_splay.specs.Guide.{CanFind, CanLink, RisesFrom, reads_of_walk, order_with_name}
 use Rattle.vc_splay.specs.Moves.{Context, Top, Under, IsCut, IsInHand, IsRising, name_at, one, plug, side_in, tally, tally_round}
 use Rattle.vc_splay.specs.Searches.{Gap}
 use Rattle.vc_splay.specs.Unique.{IsTree-one}
@@ -35,9 +35,9 @@ pub record Seeking (s : Store) (side : ℕ → Ordering) (tree : Tree) (above : 
   pub above_is : above ≡ name_at context
   pub side_is : left ≡ side_in context
   pub rises : RisesFrom low side (names part)
-  pub list : (x : ℕ) → linked side x (names tree) ≡ before context ++ (linked side x (names part) ++ behind context)
+  pub list : (x : ℕ) → order_with_name side x (names tree) ≡ before context ++ (order_with_name side x (names part) ++ behind context)
   pub long : length (names part) ≤ length (names tree)
-  pub steps : now + asked (λ n. is_gt (side n)) part ≡ start + asked (λ n. is_gt (side n)) tree
+  pub steps : now + reads_of_walk (λ n. is_gt (side n)) part ≡ start + reads_of_walk (λ n. is_gt (side n)) tree
 
 empty_behind : (xs : List ℕ) → xs ≡ xs ++ []
 empty_behind [] = refl
@@ -55,7 +55,7 @@ seek_start s side root t start none h k = record {
   above_is = refl;
   side_is = refl;
   rises = rises_each s side root t none h k;
-  list = λ x. empty_behind (linked side x (names t));
+  list = λ x. empty_behind (order_with_name side x (names t));
   long = omega arith;
   steps = refl;
 }
@@ -66,13 +66,13 @@ pub record SeekNext (s : Store) (side : ℕ → Ordering) (tree : Tree) (at star
   pub less : length (names tree) ≤ 2 ^ 32 → run (2 ^ 32) (λ n. s.kid (is_gt (side n)) n) (s.kid (is_gt (side at)) at) < run (2 ^ 32) (λ n. s.kid (is_gt (side n)) n) at
 
 seek_turn : (s : Store) (side : ℕ → Ordering) (tree : Tree) (start now low : ℕ) (c : Context) (l : Tree) (n : ℕ) (r : Tree) (left : Bool) → left ≡ is_gt (side n) → plug c (Node l n r) ≡ tree → Stands s (name_at c) (Node l n r)
-    → RisesFrom low side (names (Node l n r)) → ((x : ℕ) → linked side x (names tree) ≡ before c ++ (linked side x (names (Node l n r)) ++ behind c))
-    → length (names (Node l n r)) ≤ length (names tree) → now + asked (λ m. is_gt (side m)) (Node l n r) ≡ start + asked (λ m. is_gt (side m)) tree
+    → RisesFrom low side (names (Node l n r)) → ((x : ℕ) → order_with_name side x (names tree) ≡ before c ++ (order_with_name side x (names (Node l n r)) ++ behind c))
+    → length (names (Node l n r)) ≤ length (names tree) → now + reads_of_walk (λ m. is_gt (side m)) (Node l n r) ≡ start + reads_of_walk (λ m. is_gt (side m)) tree
     → Seeking s side tree n left (s.kid left n) start (now + 1)
 unfolding before behind
 seek_turn s side tree start now low c l n r true e whole h rises list long steps =
     let a = length-append (names l) (n ∷ names r) in
-    let count : asked (λ m. is_gt (side m)) (Node l n r) ≡ asked (λ m. is_gt (side m)) l + 1 = ap (λ z. cond z (asked (λ m. is_gt (side m)) l) (asked (λ m. is_gt (side m)) r) + 1) (sym e) in
+    let count : reads_of_walk (λ m. is_gt (side m)) (Node l n r) ≡ reads_of_walk (λ m. is_gt (side m)) l + 1 = ap (λ z. cond z (reads_of_walk (λ m. is_gt (side m)) l) (reads_of_walk (λ m. is_gt (side m)) r) + 1) (sym e) in
     record {
       context = Under true n r c;
       part = l;
@@ -83,13 +83,13 @@ seek_turn s side tree start now low c l n r true e whole h rises list long steps
       above_is = refl;
       side_is = refl;
       rises = rises-front low side (names l) (n ∷ names r) rises;
-      list = λ x. list x ∙ ap (λ z. before c ++ (z ++ behind c)) (linked-before side x (names l) n (names r) (sym e)) ∙ ap (λ z. before c ++ z) (append_assoc (linked side x (names l)) (n ∷ names r) (behind c));
+      list = λ x. list x ∙ ap (λ z. before c ++ (z ++ behind c)) (linked-before side x (names l) n (names r) (sym e)) ∙ ap (λ z. before c ++ z) (append_assoc (order_with_name side x (names l)) (n ∷ names r) (behind c));
       long = omega arith;
       steps = omega arith;
     }
 seek_turn s side tree start now low c l n r false e whole h rises list long steps =
     let a = length-append (names l) (n ∷ names r) in
-    let count : asked (λ m. is_gt (side m)) (Node l n r) ≡ asked (λ m. is_gt (side m)) r + 1 = ap (λ z. cond z (asked (λ m. is_gt (side m)) l) (asked (λ m. is_gt (side m)) r) + 1) (sym e) in
+    let count : reads_of_walk (λ m. is_gt (side m)) (Node l n r) ≡ reads_of_walk (λ m. is_gt (side m)) r + 1 = ap (λ z. cond z (reads_of_walk (λ m. is_gt (side m)) l) (reads_of_walk (λ m. is_gt (side m)) r) + 1) (sym e) in
     record {
       context = Under false n l c;
       part = r;
@@ -101,8 +101,8 @@ seek_turn s side tree start now low c l n r false e whole h rises list long step
       side_is = refl;
       rises = rises-behind low side (names l) n (names r) rises;
       list = λ x. list x ∙ ap (λ z. before c ++ (z ++ behind c)) (linked-behind low side x (names l) n (names r) rises (sym e))
-          ∙ ap (λ z. before c ++ z) (append_assoc (names l) (n ∷ linked side x (names r)) (behind c) ∙ sym (append_assoc (names l) (n ∷ []) (linked side x (names r) ++ behind c)))
-          ∙ sym (append_assoc (before c) (names l ++ n ∷ []) (linked side x (names r) ++ behind c));
+          ∙ ap (λ z. before c ++ z) (append_assoc (names l) (n ∷ order_with_name side x (names r)) (behind c) ∙ sym (append_assoc (names l) (n ∷ []) (order_with_name side x (names r) ++ behind c)))
+          ∙ sym (append_assoc (before c) (names l ++ n ∷ []) (order_with_name side x (names r) ++ behind c));
       long = omega arith;
       steps = omega arith;
     }
@@ -112,13 +112,13 @@ seek_at s side tree above left at start now w Leaf e none some = absurd (some (w
 seek_at s side tree above left at start now w (Node l n r) e none some =
     let here : at ≡ n = w.at_is ∙ ap name_of e in
     let stands : Stands s (name_at w.context) (Node l n r) = subst (λ z. Stands s (name_at w.context) z) e w.stands in
-    let steps : now + asked (λ m. is_gt (side m)) (Node l n r) ≡ start + asked (λ m. is_gt (side m)) tree = subst (λ z. now + asked (λ m. is_gt (side m)) z ≡ start + asked (λ m. is_gt (side m)) tree) e w.steps in
+    let steps : now + reads_of_walk (λ m. is_gt (side m)) (Node l n r) ≡ start + reads_of_walk (λ m. is_gt (side m)) tree = subst (λ z. now + reads_of_walk (λ m. is_gt (side m)) z ≡ start + reads_of_walk (λ m. is_gt (side m)) tree) e w.steps in
     let long : length (names (Node l n r)) ≤ length (names tree) = subst (λ z. length (names z) ≤ length (names tree)) e w.long in
     let on : Seeking s side tree n (is_gt (side n)) (s.kid (is_gt (side n)) n) start (now + 1) =
     seek_turn s side tree start now w.low w.context l n r (is_gt (side n)) refl
     (ap (plug w.context) (sym e) ∙ w.whole) stands
     (subst (λ z. RisesFrom w.low side (names z)) e w.rises)
-    (subst (λ z. (x : ℕ) → linked side x (names tree) ≡ before w.context ++ (linked side x (names z) ++ behind w.context)) e w.list)
+    (subst (λ z. (x : ℕ) → order_with_name side x (names tree) ≡ before w.context ++ (order_with_name side x (names z) ++ behind w.context)) e w.list)
     long steps in
     record {
       held = ap s.has here ∙ stands.0.held;
@@ -138,13 +138,13 @@ seek_next s side tree above left at start now none w some = seek_at s side tree 
 pub seek_end : (s : Store) (side : ℕ → Ordering) (tree : Tree) (above : ℕ) (left : Bool) (at start now : ℕ) → s.has 0 ≡ false → Seeking s side tree above left at start now → at ≡ 0 → Gap side tree above left start now
 seek_end s side tree above left at start now none w e =
     let leaf = search_leaf s (name_at w.context) w.part none w.stands (sym e ∙ w.at_is) in
-    let steps : now + 0 ≡ start + asked (λ n. is_gt (side n)) tree = subst (λ z. now + asked (λ n. is_gt (side n)) z ≡ start + asked (λ n. is_gt (side n)) tree) leaf w.steps in
+    let steps : now + 0 ≡ start + reads_of_walk (λ n. is_gt (side n)) tree = subst (λ z. now + reads_of_walk (λ n. is_gt (side n)) z ≡ start + reads_of_walk (λ n. is_gt (side n)) tree) leaf w.steps in
     record {
       context = w.context;
       whole = ap (plug w.context) (sym leaf) ∙ w.whole;
       above_is = w.above_is;
       side_is = w.side_is;
-      list = λ x. names-plug w.context (Node Leaf x Leaf) ∙ sym (w.list x ∙ ap (λ z. before w.context ++ (linked side x (names z) ++ behind w.context)) leaf);
+      list = λ x. names-plug w.context (Node Leaf x Leaf) ∙ sym (w.list x ∙ ap (λ z. before w.context ++ (order_with_name side x (names z) ++ behind w.context)) leaf);
       steps = omega arith;
     }
 
@@ -259,7 +259,7 @@ above_held s side root t above left start now k w some = above_by s above w.cont
 
 -- then it rises
 pub link_end : (s mid new : Store) (side : ℕ → Ordering) (at : ℕ) (t : Tree) (above : ℕ) (left : Bool) (start now : ℕ) (w : Gap side t above left start now) → Hung s mid at above w.context
-    → TreeAfter mid new (names (plug w.context (Node Leaf at Leaf))) at (names (plug w.context (Node Leaf at Leaf))) → TreeAfter s new (at ∷ names t) at (linked side at (names t))
+    → TreeAfter mid new (names (plug w.context (Node Leaf at Leaf))) at (names (plug w.context (Node Leaf at Leaf))) → TreeAfter s new (at ∷ names t) at (order_with_name side at (names t))
 link_end s mid new side at t above left start now w h a =
     let r = round_of t w.context w.whole in
     let leaf = plug w.context (Node Leaf at Leaf) in

@@ -8,7 +8,7 @@ use Rattle.vc_base.specs.Holders.{contains, some_address}
 use Rattle.vc_splay.specs.Tree.{Tree, Leaf, Node, names, name_of}
 use Rattle.vc_splay.specs.Store.{Store}
 use Rattle.vc_splay.specs.Stands.{IsTree, Stands, TreeAfter}
-use Rattle.vc_splay.specs.Guide.{CanFind, Rises, RisesFrom, asked, first_at, least_at}
+use Rattle.vc_splay.specs.Guide.{CanFind, Rises, RisesFrom, reads_of_walk, first_at, least_at}
 use Rattle.vc_splay.specs.Moves.{one, tally}
 use Rattle.vc_splay.specs.Searches.{CanReach, Search, is_found}
 use Rattle.vc_splay.specs.Unique.{IsTree-one}
@@ -18,7 +18,7 @@ use Rattle.vc_splay.proofs.HangLemmas.{SameLinks-same}
 use Rattle.vc_splay.proofs.StandsLemmas.{some_held}
 use Rattle.vc_splay.proofs.TallyLemmas.{one-same, tally-node, tally-root, within-count}
 
-pub asked_few : (left : ℕ → Bool) (t : Tree) → asked left t ≤ length (names t)
+pub asked_few : (left : ℕ → Bool) (t : Tree) → reads_of_walk left t ≤ length (names t)
 asked_few left Leaf = omega arith
 asked_few left (Node l n r) =
     let a = asked_few left l in
@@ -26,22 +26,22 @@ asked_few left (Node l n r) =
     let e = length-append (names l) (n ∷ names r) in
     by (left n) (omega arith) (omega arith)
   where
-    by : (t : Bool) → asked left l + 1 ≤ length (names l ++ n ∷ names r) → asked left r + 1 ≤ length (names l ++ n ∷ names r) → cond t (asked left l) (asked left r) + 1 ≤ length (names l ++ n ∷ names r)
+    by : (t : Bool) → reads_of_walk left l + 1 ≤ length (names l ++ n ∷ names r) → reads_of_walk left r + 1 ≤ length (names l ++ n ∷ names r) → cond t (reads_of_walk left l) (reads_of_walk left r) + 1 ≤ length (names l ++ n ∷ names r)
     by true a b = a
     by false a b = b
 
-pub asked_some : (left : ℕ → Bool) (t : Tree) → name_of t ≢ 0 → 1 ≤ asked left t
+pub asked_some : (left : ℕ → Bool) (t : Tree) → name_of t ≢ 0 → 1 ≤ reads_of_walk left t
 asked_some left Leaf some = absurd (some refl)
 asked_some left (Node l n r) some = omega arith
 
 -- a walk by the links reads so many nodes
-pub run-asked : (fuel : ℕ) (s : Store) (left : ℕ → Bool) (up : ℕ) (t : Tree) → s.has 0 ≡ false → Stands s up t → asked left t ≤ fuel → run fuel (λ n. s.kid (left n) n) (name_of t) ≡ asked left t
+pub run-asked : (fuel : ℕ) (s : Store) (left : ℕ → Bool) (up : ℕ) (t : Tree) → s.has 0 ≡ false → Stands s up t → reads_of_walk left t ≤ fuel → run fuel (λ n. s.kid (left n) n) (name_of t) ≡ reads_of_walk left t
 unfolding run
 run-asked zero s left up Leaf none h k = refl
 run-asked (suc fuel) s left up Leaf none h k = refl
 run-asked zero s left up (Node l n r) none h k = absurd (omega arith)
 run-asked (suc fuel) s left up (Node l n r) none h k = rw (ne_eqb n 0 (some_held s n none h.0.held)) (
-    turn (left n) (run fuel (λ m. s.kid (left m) m)) (asked left l) (asked left r) (s.kid (left n) n) (name_of l) (name_of r) fuel
+    turn (left n) (run fuel (λ m. s.kid (left m) m)) (reads_of_walk left l) (reads_of_walk left r) (s.kid (left n) n) (name_of l) (name_of r) fuel
     (λ e. ap (λ z. s.kid z n) e ∙ h.0.left_kid)
     (λ e. ap (λ z. s.kid z n) e ∙ h.0.right_kid)
     (λ m. run-asked fuel s left n l none h.1 m)
@@ -65,7 +65,7 @@ pub record Searching (s : Store) (side : ℕ → Ordering) (tree : Tree) (deepes
   pub least_in : least ≢ 0 → 1 ≤ tally least tree
   pub below : (n : ℕ) → tally n part ≤ tally n tree
   pub long : length (names part) ≤ length (names tree)
-  pub steps : now + asked (λ n. is_ge (side n)) part ≡ before + asked (λ n. is_ge (side n)) tree
+  pub steps : now + reads_of_walk (λ n. is_ge (side n)) part ≡ before + reads_of_walk (λ n. is_ge (side n)) tree
 
 or_none : (o : Option ℕ) → option_or o None ≡ o
 or_none None = refl
@@ -102,14 +102,14 @@ pub record SearchNext (s : Store) (side : ℕ → Ordering) (tree : Tree) (least
 
 search_turn : (s : Store) (side : ℕ → Ordering) (tree : Tree) (least before now up low : ℕ) (l : Tree) (n : ℕ) (r : Tree) (left : Bool) → left ≡ is_ge (side n) → s.has 0 ≡ false → Stands s up (Node l n r)
     → RisesFrom low side (names (Node l n r)) → least_at side (names tree) ≡ option_or (least_at side (names (Node l n r))) (some_address least) → (least ≢ 0 → 1 ≤ tally least tree)
-    → ((m : ℕ) → tally m (Node l n r) ≤ tally m tree) → length (names (Node l n r)) ≤ length (names tree) → now + asked (λ m. is_ge (side m)) (Node l n r) ≡ before + asked (λ m. is_ge (side m)) tree
+    → ((m : ℕ) → tally m (Node l n r) ≤ tally m tree) → length (names (Node l n r)) ≤ length (names tree) → now + reads_of_walk (λ m. is_ge (side m)) (Node l n r) ≡ before + reads_of_walk (λ m. is_ge (side m)) tree
     → Searching s side tree n (cond left n least) (s.kid left n) before (now + 1)
 search_turn s side tree least before now up low l n r true e none h rises first least_in below long steps =
     let w : (m : ℕ) → tally m (Node l n r) ≡ tally m l + (one m n + tally m r) = λ m. tally-node m n l r in
     let here : 1 ≤ tally n tree = let k = below n in let j = w n in let i = one-same n n refl in omega arith in
     let a = length-append (names l) (n ∷ names r) in
     let name : some_address n ≡ Some n = rw (ne_eqb n 0 (some_held s n none h.0.held)) refl in
-    let count : asked (λ m. is_ge (side m)) (Node l n r) ≡ asked (λ m. is_ge (side m)) l + 1 = ap (λ z. cond z (asked (λ m. is_ge (side m)) l) (asked (λ m. is_ge (side m)) r) + 1) (sym e) in
+    let count : reads_of_walk (λ m. is_ge (side m)) (Node l n r) ≡ reads_of_walk (λ m. is_ge (side m)) l + 1 = ap (λ z. cond z (reads_of_walk (λ m. is_ge (side m)) l) (reads_of_walk (λ m. is_ge (side m)) r) + 1) (sym e) in
     record {
       up = n;
       part = l;
@@ -128,7 +128,7 @@ search_turn s side tree least before now up low l n r false e none h rises first
     let w : (m : ℕ) → tally m (Node l n r) ≡ tally m l + (one m n + tally m r) = λ m. tally-node m n l r in
     let here : 1 ≤ tally n tree = let k = below n in let j = w n in let i = one-same n n refl in omega arith in
     let a = length-append (names l) (n ∷ names r) in
-    let count : asked (λ m. is_ge (side m)) (Node l n r) ≡ asked (λ m. is_ge (side m)) r + 1 = ap (λ z. cond z (asked (λ m. is_ge (side m)) l) (asked (λ m. is_ge (side m)) r) + 1) (sym e) in
+    let count : reads_of_walk (λ m. is_ge (side m)) (Node l n r) ≡ reads_of_walk (λ m. is_ge (side m)) r + 1 = ap (λ z. cond z (reads_of_walk (λ m. is_ge (side m)) l) (reads_of_walk (λ m. is_ge (side m)) r) + 1) (sym e) in
     record {
       up = n;
       part = r;
@@ -149,7 +149,7 @@ search_at s side tree deepest least at before now w Leaf e none some = absurd (s
 search_at s side tree deepest least at before now w (Node l n r) e none some =
     let here : at ≡ n = w.at_is ∙ ap name_of e in
     let stands : Stands s w.up (Node l n r) = subst (λ z. Stands s w.up z) e w.stands in
-    let steps : now + asked (λ m. is_ge (side m)) (Node l n r) ≡ before + asked (λ m. is_ge (side m)) tree = subst (λ z. now + asked (λ m. is_ge (side m)) z ≡ before + asked (λ m. is_ge (side m)) tree) e w.steps in
+    let steps : now + reads_of_walk (λ m. is_ge (side m)) (Node l n r) ≡ before + reads_of_walk (λ m. is_ge (side m)) tree = subst (λ z. now + reads_of_walk (λ m. is_ge (side m)) z ≡ before + reads_of_walk (λ m. is_ge (side m)) tree) e w.steps in
     let long : length (names (Node l n r)) ≤ length (names tree) = subst (λ z. length (names z) ≤ length (names tree)) e w.long in
     let on : Searching s side tree n (cond (is_ge (side n)) n least) (s.kid (is_ge (side n)) n) before (now + 1) =
     search_turn s side tree least before now w.up w.low l n r (is_ge (side n)) refl none stands
@@ -184,7 +184,7 @@ within_tally n t h = within-count n (names t) h
 pub search_end : (s : Store) (side : ℕ → Ordering) (tree : Tree) (deepest least at before now : ℕ) → s.has 0 ≡ false → Searching s side tree deepest least at before now → at ≡ 0 → Search side tree deepest least before now
 search_end s side tree deepest least at before now none w e =
     let leaf = search_leaf s w.up w.part none w.stands (sym e ∙ w.at_is) in
-    let steps : now + 0 ≡ before + asked (λ n. is_ge (side n)) tree = subst (λ z. now + asked (λ n. is_ge (side n)) z ≡ before + asked (λ n. is_ge (side n)) tree) leaf w.steps in
+    let steps : now + 0 ≡ before + reads_of_walk (λ n. is_ge (side n)) tree = subst (λ z. now + reads_of_walk (λ n. is_ge (side n)) z ≡ before + reads_of_walk (λ n. is_ge (side n)) tree) leaf w.steps in
     record {
       first = sym (w.first ∙ ap (λ z. option_or (least_at side (names z)) (some_address least)) leaf);
       found_in = λ some. within_tally least tree (w.least_in some);

@@ -5,7 +5,7 @@ use Rattle.vc_splay.specs.Tree.{Tree, Node, names, name_of}
 use Rattle.vc_splay.specs.Store.{Store, SameLinks, with_parent}
 use Rattle.vc_splay.specs.Stands.{IsIn, IsTree, Stands, TreeAfter}
 use Rattle.vc_splay.specs.Walks.{run}
-use Rattle.vc_splay.specs.Writes.{CanSettle, settled, with_child}
+use Rattle.vc_splay.specs.Writes.{CanSettle, store_with_root, with_child}
 use Rattle.vc_splay.specs.Moves.{Context, Top, Under, HasKid, IsInHand, IsRising, IsTaken, Step, Topped, one, plug, tally}
 use Rattle.vc_splay.specs.Unique.{IsTree-one}
 use Rattle.vc_splay.proofs.FewLemmas.{rising_run}
@@ -152,8 +152,8 @@ record Settled (old new : Store) (at : ℕ) (t : Tree) : Type 0 where
   top : at ≡ name_of t
   others : (n : ℕ) → tally n t ≡ 0 → SameLinks old new n
 
-settle : (s : Store) (at left right : ℕ) (t : Tree) → s.has 0 ≡ false → IsInHand s at left right t → ((n : ℕ) → tally n t ≤ 1) → Settled s (settled at left right s) at t
-unfolding settled
+settle : (s : Store) (at left right : ℕ) (t : Tree) → s.has 0 ≡ false → IsInHand s at left right t → ((n : ℕ) → tally n t ≤ 1) → Settled s (store_with_root at left right s) at t
+unfolding store_with_root
 settle s at left right t none l once =
     let w : (n : ℕ) → tally n l.left_tree + (one n at + tally n l.right_tree) ≤ 1 = λ n. let k = once n in let e = ap (tally n) l.whole ∙ tally-node n at l.left_tree l.right_tree in omega arith in
     let h : Hanging s at left l.left_tree = record { none = none; held = l.held; cut = l.left_cut; apart = λ n. let k = w n in omega arith } in
@@ -187,18 +187,18 @@ distinct_once t once = count-distinct (names t) once
 apart_from : (n : ℕ) (t : Tree) (xs : List ℕ) → names t ≡ xs → contains xs n ≡ false → tally n t ≡ 0
 apart_from n t xs e i = tally-apart n t (ap (λ z. contains z n) e ∙ i)
 
-pub settled_tree : (old now : Store) (at left right : ℕ) (xs : List ℕ) → now.has 0 ≡ false → Topped old now at xs left right → TreeAfter old (settled at left right now) xs at xs
+pub settled_tree : (old now : Store) (at left right : ℕ) (xs : List ℕ) → now.has 0 ≡ false → Topped old now at xs left right → TreeAfter old (store_with_root at left right now) xs at xs
 settled_tree old now at left right xs none k =
     let q = settle now at left right k.tree none k.hand k.once in
     record {
       tree = k.tree;
       is_tree = record { top = q.top; stands = q.stands; distinct = distinct_once k.tree k.once };
       list = k.list;
-      others = λ n i. SameLinks-on old now (settled at left right now) n (k.others n i) (q.others n (apart_from n k.tree xs k.list i));
+      others = λ n i. SameLinks-on old now (store_with_root at left right now) n (k.others n i) (q.others n (apart_from n k.tree xs k.list i));
     }
 
-pub has-settled : (at left right : ℕ) (s : Store) → (settled at left right s).has ≡ s.has
-unfolding settled with_parent
+pub has-settled : (at left right : ℕ) (s : Store) → (store_with_root at left right s).has ≡ s.has
+unfolding store_with_root with_parent
 has-settled at left right s = has-child false at right (with_child true at left s) ∙ has-child true at left s
 
 -- a name of a root's one tree is in each tree that it stands for

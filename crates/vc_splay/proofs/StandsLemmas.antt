@@ -4,7 +4,7 @@ use Rattle.std.proofs.lemmas.Bool.{true≢false}
 use Rattle.vc_splay.specs.Tree.{Tree, Leaf, Node, name_of}
 use Rattle.vc_splay.specs.Store.{Store, SameLinks}
 use Rattle.vc_splay.specs.Stands.{IsNode, Stands}
-use Rattle.vc_splay.specs.Moves.{Context, Top, Under, HasKid, IsRound, joined, one, tally, tally_round}
+use Rattle.vc_splay.specs.Moves.{Context, Top, Under, HasKid, IsRound, joined_tree, one, tally, tally_round}
 use Rattle.vc_splay.proofs.TallyLemmas.{one-same, tally-node}
 
 -- a name of a tree isn't one of another, where none stands twice in the two
@@ -72,10 +72,10 @@ Stands-moved old new up to (Node l m r) none has parent kid same once s =
     )
 
 -- a node with a subtree on each side
-pub Stands-joined : (s : Store) (up : ℕ) (d : Bool) (t : Tree) (n : ℕ) (u : Tree) → s.parent n ≡ up → HasKid s d n t → HasKid s (not d) n u → Stands s up (joined d t n u)
+pub Stands-joined : (s : Store) (up : ℕ) (d : Bool) (t : Tree) (n : ℕ) (u : Tree) → s.parent n ≡ up → HasKid s d n t → HasKid s (not d) n u → Stands s up (joined_tree d t n u)
 Stands-joined s up true t n u e k j = (record { held = k.held; parent = e; left_kid = k.kid; right_kid = j.kid }, k.stands, j.stands)
 Stands-joined s up false t n u e k j = (record { held = k.held; parent = e; left_kid = j.kid; right_kid = k.kid }, j.stands, k.stands)
 
-pub name_of-joined : (d : Bool) (t : Tree) (n : ℕ) (u : Tree) → name_of (joined d t n u) ≡ n
+pub name_of-joined : (d : Bool) (t : Tree) (n : ℕ) (u : Tree) → name_of (joined_tree d t n u) ≡ n
 name_of-joined true t n u = refl
 name_of-joined false t n u = refl

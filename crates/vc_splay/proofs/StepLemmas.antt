@@ -6,7 +6,7 @@ use Rattle.vc_splay.specs.Tree.{Tree, Leaf, Node, names, name_of}
 use Rattle.vc_splay.specs.Store.{Store}
 use Rattle.vc_splay.specs.Stands.{Stands}
 use Rattle.vc_splay.specs.Writes.{AreTurned, CanHang, CanTurn, with_child, zig_zag, zig_zig}
-use Rattle.vc_splay.specs.Moves.{Context, Top, Under, HasKid, IsCut, IsFrame, IsInHand, IsRising, IsRound, Step, joined, name_at, one, plug, tally, tally_round}
+use Rattle.vc_splay.specs.Moves.{Context, Top, Under, HasKid, IsCut, IsFrame, IsInHand, IsRising, IsRound, Step, joined_tree, name_at, one, plug, tally, tally_round}
 use Rattle.vc_splay.proofs.TallyLemmas.{one-same, one-other, tally-joined, tally-leaf, tally-node, tally-root}
 use Rattle.vc_splay.proofs.RotationLemmas.{plug-names, plug-tally, rotate, rotate_across, rotate_twice}
 use Rattle.vc_splay.proofs.HangLemmas.{Hanging, IsCut-held, IsCut-joined, IsCut-kid, IsCut-named, SameLinks-on, can_hang, hang-cut, hang-far, hang-kid, hang-near, hang-round, hang-same, has-child}
@@ -15,7 +15,7 @@ use Rattle.vc_splay.proofs.HangLemmas.{Hanging, IsCut-held, IsCut-joined, IsCut-
 pub record Sides (s : Store) (side : Bool) (n near inner : ℕ) (t : Tree) : Type 0 where
   pub near_tree : Tree
   pub inner_tree : Tree
-  pub whole : t ≡ joined side near_tree n inner_tree
+  pub whole : t ≡ joined_tree side near_tree n inner_tree
   pub near_cut : IsCut s near near_tree
   pub inner_cut : IsCut s inner inner_tree
 
@@ -35,7 +35,7 @@ sides_of s false n left right near inner t e h = record {
   inner_cut = IsCut-named s left inner h.left_tree e.second_is h.left_cut;
 }
 
-pub IsInHand-joined : (s : Store) (side : Bool) (n near far left right : ℕ) (t u : Tree) → AreTurned side near far left right → s.has n ≡ true → IsCut s near t → IsCut s far u → IsInHand s n left right (joined side t n u)
+pub IsInHand-joined : (s : Store) (side : Bool) (n near far left right : ℕ) (t u : Tree) → AreTurned side near far left right → s.has n ≡ true → IsCut s near t → IsCut s far u → IsInHand s n left right (joined_tree side t n u)
 IsInHand-joined s true n near far left right t u e held k j = record {
   left_tree = t;
   right_tree = u;
@@ -100,8 +100,8 @@ zig-step s d x below p left right near inner left2 right2 sibling t none before 
       apart = λ n. let k = r.once n in let j = w n in omega arith;
     } in
     let new = with_child d p inner s in
-    let tree = joined d v.near_tree x (joined d v.inner_tree p sibling) in
-    let list : names tree ≡ names (joined d t p sibling) = sym (rotate d v.near_tree x v.inner_tree p sibling) ∙ ap (λ z. names (joined d z p sibling)) (sym v.whole) in
+    let tree = joined_tree d v.near_tree x (joined_tree d v.inner_tree p sibling) in
+    let list : names tree ≡ names (joined_tree d t p sibling) = sym (rotate d v.near_tree x v.inner_tree p sibling) ∙ ap (λ z. names (joined_tree d z p sibling)) (sym v.whole) in
     let same : (n : ℕ) → tally n tree + 0 ≡ tally n t + (one n p + tally n sibling + 0) = λ n. plug-tally n (Under d p sibling Top) t Top tree list in
     record {
       can = can_hang s p inner v.inner_tree h;
@@ -109,7 +109,7 @@ zig-step s d x below p left right near inner left2 right2 sibling t none before 
         context = Top;
         tree = tree;
         rising = record {
-          hand = IsInHand-joined new d x near p left2 right2 v.near_tree (joined d v.inner_tree p sibling) after
+          hand = IsInHand-joined new d x near p left2 right2 v.near_tree (joined_tree d v.inner_tree p sibling) after
               (ap (λ f. f x) (has-child d p inner s) ∙ r.hand.held)
               (hang-cut s d p inner v.inner_tree near v.near_tree h (λ n i. let k = r.once n in let j = w n in omega arith) v.near_cut)
               (IsCut-joined new d v.inner_tree p sibling (hang-near s d p inner v.inner_tree h)
@@ -131,7 +131,7 @@ pub record Double (s new : Store) (x above top first second : ℕ) (c : Context)
   pub step : Step s new x c t top next left right
 
 -- that no name stands twice in the parts, where a node is on its way up below two
-parts_once : (s : Store) (d : Bool) (x below p left right : ℕ) (sibling : Tree) (e : Bool) (g : ℕ) (uncle : Tree) (c : Context) (t near inner : Tree) → t ≡ joined d near x inner
+parts_once : (s : Store) (d : Bool) (x below p left right : ℕ) (sibling : Tree) (e : Bool) (g : ℕ) (uncle : Tree) (c : Context) (t near inner : Tree) → t ≡ joined_tree d near x inner
     → IsRising s x below p left right (Under d p sibling (Under e g uncle c)) t
     → (n : ℕ) → tally n near + (one n x + tally n inner) + (one n p + tally n sibling + (one n g + tally n uncle + tally_round n c)) ≤ 1
 parts_once s d x below p left right sibling e g uncle c t near inner whole r n =
@@ -145,7 +145,7 @@ zig_zig-step s d x below p left right near inner left2 right2 sibling g uncle c 
     let v = sides_of s d x left right near inner t before r.hand in
     let w = parts_once s d x below p left right sibling d g uncle c t v.near_tree v.inner_tree v.whole r in
     let middle = s.kid (not d) p in
-    let low = joined d sibling g uncle in
+    let low = joined_tree d sibling g uncle in
     let u : (n : ℕ) → tally n low ≡ tally n sibling + (one n g + tally n uncle) = λ n. tally-joined n g d sibling uncle in
     let h : Hanging s g middle sibling = record {
       none = none;
@@ -173,9 +173,9 @@ zig_zig-step s d x below p left right near inner left2 right2 sibling g uncle c 
     let near2 : IsCut s2 near v.near_tree = hang-cut s1 (not d) p g low near v.near_tree h1 (λ n i. let k = w n in let j = u n in omega arith) near1 in
     let round1 : IsRound s1 c g = hang-round s d g middle sibling c g h (λ n i. let k = w n in omega arith) r.round.1.1 in
     let round2 : IsRound s2 c g = hang-round s1 (not d) p g low c g h1 (λ n i. let k = w n in let j = u n in omega arith) round1 in
-    let tree = joined d v.near_tree x (joined d v.inner_tree p low) in
-    let list : names (plug c tree) ≡ names (plug c (joined d (joined d t p sibling) g uncle)) =
-    plug-names c tree (joined d (joined d t p sibling) g uncle) (sym (rotate_twice d v.near_tree x v.inner_tree p sibling g uncle) ∙ ap (λ z. names (joined d (joined d z p sibling) g uncle)) (sym v.whole)) in
+    let tree = joined_tree d v.near_tree x (joined_tree d v.inner_tree p low) in
+    let list : names (plug c tree) ≡ names (plug c (joined_tree d (joined_tree d t p sibling) g uncle)) =
+    plug-names c tree (joined_tree d (joined_tree d t p sibling) g uncle) (sym (rotate_twice d v.near_tree x v.inner_tree p sibling g uncle) ∙ ap (λ z. names (joined_tree d (joined_tree d z p sibling) g uncle)) (sym v.whole)) in
     let same : (n : ℕ) → tally n tree + tally_round n c ≡ tally n t + (one n p + tally n sibling + (one n g + tally n uncle + tally_round n c)) = λ n. plug-tally n (Under d p sibling (Under d g uncle c)) t c tree list in
     record {
       can = record {
@@ -188,7 +188,7 @@ zig_zig-step s d x below p left right near inner left2 right2 sibling g uncle c 
         context = c;
         tree = tree;
         rising = record {
-          hand = IsInHand-joined new d x near p left2 right2 v.near_tree (joined d v.inner_tree p low) after
+          hand = IsInHand-joined new d x near p left2 right2 v.near_tree (joined_tree d v.inner_tree p low) after
               (ap (λ f. f x) (has-child d p inner s2 ∙ has-child (not d) p g s1 ∙ has-child d g middle s) ∙ r.hand.held)
               (hang-cut s2 d p inner v.inner_tree near v.near_tree h2 (λ n i. let k = w n in omega arith) near2)
               (IsCut-joined new d v.inner_tree p low (hang-near s2 d p inner v.inner_tree h2)
@@ -214,7 +214,7 @@ unfolding zig_zag
 zig_zag-step s d x below p left right near inner left2 right2 sibling g uncle c t none before after r =
     let v = sides_of s d x left right near inner t before r.hand in
     let w = parts_once s d x below p left right sibling (not d) g uncle c t v.near_tree v.inner_tree v.whole r in
-    let low = joined d v.inner_tree p sibling in
+    let low = joined_tree d v.inner_tree p sibling in
     let u : (n : ℕ) → tally n low ≡ tally n v.inner_tree + (one n p + tally n sibling) = λ n. tally-joined n p d v.inner_tree sibling in
     let h : Hanging s p inner v.inner_tree = record {
       none = none;
@@ -234,9 +234,9 @@ zig_zag-step s d x below p left right near inner left2 right2 sibling g uncle c 
     let low1 : IsCut s1 p low = IsCut-joined s1 d v.inner_tree p sibling (hang-near s d p inner v.inner_tree h) (hang-far s d p inner v.inner_tree sibling h (λ n i. let k = w n in omega arith) r.round.0.other_kid) in
     let uncle1 : HasKid s1 (not (not d)) g uncle = hang-kid s d p inner v.inner_tree (not (not d)) g uncle h g_p (λ n i. let k = w n in omega arith) r.round.1.0.other_kid in
     let round1 : IsRound s1 c g = hang-round s d p inner v.inner_tree c g h (λ n i. let k = w n in omega arith) r.round.1.1 in
-    let tree = joined d (joined (not d) v.near_tree g uncle) x low in
-    let list : names (plug c tree) ≡ names (plug c (joined (not d) (joined d t p sibling) g uncle)) =
-    plug-names c tree (joined (not d) (joined d t p sibling) g uncle) (sym (rotate_across d v.near_tree x v.inner_tree p sibling g uncle) ∙ ap (λ z. names (joined (not d) (joined d z p sibling) g uncle)) (sym v.whole)) in
+    let tree = joined_tree d (joined_tree (not d) v.near_tree g uncle) x low in
+    let list : names (plug c tree) ≡ names (plug c (joined_tree (not d) (joined_tree d t p sibling) g uncle)) =
+    plug-names c tree (joined_tree (not d) (joined_tree d t p sibling) g uncle) (sym (rotate_across d v.near_tree x v.inner_tree p sibling g uncle) ∙ ap (λ z. names (joined_tree (not d) (joined_tree d z p sibling) g uncle)) (sym v.whole)) in
     let same : (n : ℕ) → tally n tree + tally_round n c ≡ tally n t + (one n p + tally n sibling + (one n g + tally n uncle + tally_round n c)) = λ n. plug-tally n (Under d p sibling (Under (not d) g uncle c)) t c tree list in
     record {
       can = record {
@@ -249,7 +249,7 @@ zig_zag-step s d x below p left right near inner left2 right2 sibling g uncle c 
         context = c;
         tree = tree;
         rising = record {
-          hand = IsInHand-joined new d x g p left2 right2 (joined (not d) v.near_tree g uncle) low after
+          hand = IsInHand-joined new d x g p left2 right2 (joined_tree (not d) v.near_tree g uncle) low after
               (ap (λ f. f x) (has-child (not d) g near s1 ∙ has-child d p inner s) ∙ r.hand.held)
               (IsCut-joined new (not d) v.near_tree g uncle (hang-near s1 (not d) g near v.near_tree h1) (hang-far s1 (not d) g near v.near_tree uncle h1 (λ n i. let k = w n in omega arith) uncle1))
               (hang-cut s1 (not d) g near v.near_tree p low h1 (λ n i. let k = w n in let j = u n in omega arith) low1);

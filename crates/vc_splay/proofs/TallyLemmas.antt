@@ -4,7 +4,7 @@ use Rattle.std.proofs.lemmas.Bool.{eq-eqb, ne_eqb, true≢false}
 use Rattle.std.proofs.lemmas.Bool.Decides.{eqb_tells}
 use Rattle.vc_base.specs.Holders.{AreDistinct, contains}
 use Rattle.vc_splay.specs.Tree.{Tree, Leaf, Node, names, name_of}
-use Rattle.vc_splay.specs.Moves.{Context, Top, Under, count, joined, one, plug, tally, tally_round}
+use Rattle.vc_splay.specs.Moves.{Context, Top, Under, count, joined_tree, one, plug, tally, tally_round}
 
 pub one-same : (n m : ℕ) → n ≡ m → one n m ≡ 1
 unfolding one
@@ -26,7 +26,7 @@ pub tally-node : (n m : ℕ) (l r : Tree) → tally n (Node l m r) ≡ tally n l
 unfolding tally
 tally-node n m l r = count-append n (names l) (m ∷ names r)
 
-pub tally-joined : (n m : ℕ) (d : Bool) (t u : Tree) → tally n (joined d t m u) ≡ tally n t + (one n m + tally n u)
+pub tally-joined : (n m : ℕ) (d : Bool) (t u : Tree) → tally n (joined_tree d t m u) ≡ tally n t + (one n m + tally n u)
 tally-joined n m true t u = tally-node n m t u
 tally-joined n m false t u = let h = tally-node n m u t in omega arith
 
@@ -36,7 +36,7 @@ tally-root (Node l m r) some = let h = tally-node m m l r in let e = one-same m 
 
 pub tally-plug : (n : ℕ) (c : Context) (t : Tree) → tally n (plug c t) ≡ tally n t + tally_round n c
 tally-plug n Top t = omega arith
-tally-plug n (Under d m sibling c) t = let h = tally-plug n c (joined d t m sibling) in let e = tally-joined n m d t sibling in omega arith
+tally-plug n (Under d m sibling c) t = let h = tally-plug n c (joined_tree d t m sibling) in let e = tally-joined n m d t sibling in omega arith
 
 -- names in the same order stand as often
 pub tally-list : (n : ℕ) (t u : Tree) → names t ≡ names u → tally n t ≡ tally n u

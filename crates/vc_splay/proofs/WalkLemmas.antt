@@ -5,7 +5,7 @@ use Rattle.vc_base.specs.Holders.{AreDistinct}
 use Rattle.vc_splay.specs.Tree.{Tree, Leaf, Node, names, name_of}
 use Rattle.vc_splay.specs.Store.{Store}
 use Rattle.vc_splay.specs.Stands.{Stands}
-use Rattle.vc_splay.specs.Moves.{Context, Top, Under, depth, joined, name_at, plug, tally}
+use Rattle.vc_splay.specs.Moves.{Context, Top, Under, depth, joined_tree, name_at, plug, tally}
 use Rattle.vc_splay.specs.Walks.{IsPart, IsTop, beyond, run, tip}
 use Rattle.vc_splay.proofs.FewLemmas.{deep, few, run-depth}
 use Rattle.vc_splay.proofs.PlugLemmas.{IsRound-open}
@@ -143,8 +143,8 @@ pub record AscentNext (s : Store) (side : Bool) (from : Context) (below above : 
 apart_name : (s : Store) (c : Context) (d : Bool) (t : Tree) (n : ℕ) (sibling : Tree) (below : ℕ) → IsPart s (Under d n sibling c) t → below ≢ 0 → below ≡ name_of t → name_of sibling ≢ below
 unfolding tally
 apart_name s c d t n sibling below p some e same =
-    let a = distinct-count below (names (plug c (joined d t n sibling))) p.distinct in
-    let b = tally-plug below c (joined d t n sibling) in
+    let a = distinct-count below (names (plug c (joined_tree d t n sibling))) p.distinct in
+    let b = tally-plug below c (joined_tree d t n sibling) in
     let k = tally-joined below n d t sibling in
     let i : 1 ≤ tally below t = subst (λ z. 1 ≤ tally z t) (sym e) (tally-root t (λ z. some (e ∙ z))) in
     let j : 1 ≤ tally below sibling = subst (λ z. 1 ≤ tally z sibling) same (tally-root sibling (λ z. some (sym same ∙ z))) in
@@ -158,7 +158,7 @@ ascent_less s c d t n sibling above none fits p e =
     let b = ap (run (2 ^ 32) s.parent) (ap s.parent e ∙ q.0.0.parent) ∙ run-depth (2 ^ 32) s c n none q.0.1 (omega arith) in
     omega arith
 
-name_joined : (d : Bool) (t : Tree) (n : ℕ) (u : Tree) → n ≡ name_of (joined d t n u)
+name_joined : (d : Bool) (t : Tree) (n : ℕ) (u : Tree) → n ≡ name_of (joined_tree d t n u)
 name_joined true t n u = refl
 name_joined false t n u = refl
 
@@ -170,7 +170,7 @@ ascent_same s side from below above c n sibling t none fits p some e f end =
       there = λ ne. absurd (ne (ap (s.kid side) f ∙ q.0.0.kid ∙ sym e));
       on = λ h. record {
         context = c;
-        tree = joined side t n sibling;
+        tree = joined_tree side t n sibling;
         part = record { stands = p.stands; distinct = p.distinct };
         some = λ z. some_held s n none q.0.0.other_kid.held (sym f ∙ z);
         below_is = f ∙ name_joined side t n sibling;

@@ -27,14 +27,14 @@ first_at side xs = find (λ n. is_eq (side n)) xs
 
 -- with a name right before the first one behind what is sought: where the answers never fall, right behind the last
 -- one that isn't
-abbrev pub linked : (ℕ → Ordering) → ℕ → List ℕ → List ℕ
-linked side at [] = at ∷ []
-linked side at (x ∷ xs) = if is_gt (side x) then at ∷ x ∷ xs else x ∷ linked side at xs
+abbrev pub order_with_name : (ℕ → Ordering) → ℕ → List ℕ → List ℕ
+order_with_name side at [] = at ∷ []
+order_with_name side at (x ∷ xs) = if is_gt (side x) then at ∷ x ∷ xs else x ∷ order_with_name side at xs
 
 -- how many nodes a walk down reads that goes left from a node where this holds, and right from every other one
-abbrev pub asked : (ℕ → Bool) → Tree → ℕ
-asked left Leaf = 0
-asked left (Node l n r) = (if left n then asked left l else asked left r) + 1
+abbrev pub reads_of_walk : (ℕ → Bool) → Tree → ℕ
+reads_of_walk left Leaf = 0
+reads_of_walk left (Node l n r) = (if left n then reads_of_walk left l else reads_of_walk left r) + 1
 
 -- it stands for some tree, along which the answers never fall
 pub record CanFind (s : Store) (side : ℕ → Ordering) (root : ℕ) : Type 0 where

@@ -6,9 +6,9 @@ use Rattle.vc_splay.specs.Stands.{Stands}
 use Rattle.vc_splay.specs.Tree.{Tree, Node, names, name_of}
 
 -- a node's tree with one subtree on this side and the other one on the other side
-abbrev pub joined : Bool → Tree → ℕ → Tree → Tree
-joined true t n u = Node t n u
-joined false t n u = Node u n t
+abbrev pub joined_tree : Bool → Tree → ℕ → Tree → Tree
+joined_tree true t n u = Node t n u
+joined_tree false t n u = Node u n t
 
 -- what is round a part of a tree: nothing, or a node with that part on this side and a sibling on the other one, and
 -- what is round this node
@@ -19,7 +19,7 @@ pub data Context : Type 0 where
 -- the whole tree with that part in it
 abbrev pub plug : Context → Tree → Tree
 plug Top t = t
-plug (Under side n sibling c) t = plug c (joined side t n sibling)
+plug (Under side n sibling c) t = plug c (joined_tree side t n sibling)
 
 -- the node right above that part, 0 at the top
 abbrev pub name_at : Context → ℕ

@@ -6,7 +6,7 @@ use Rattle.vc_base.specs.Holders.{AreDistinct, contains, some_address}
 use Rattle.vc_splay.specs.Store.{Store}
 use Rattle.vc_splay.specs.Stands.{IsTree, Stands}
 use Rattle.vc_splay.specs.Tree.{Tree, Leaf, Node, names, name_of}
-use Rattle.vc_splay.specs.Guide.{asked, least_at, linked}
+use Rattle.vc_splay.specs.Guide.{reads_of_walk, least_at, order_with_name}
 use Rattle.vc_splay.specs.Moves.{Context, name_at, plug, side_in}
 
 -- the deepest node that was read and the first that isn't before what is sought, or 0, by a step for each node read
@@ -14,7 +14,7 @@ pub record Search (side : ℕ → Ordering) (tree : Tree) (deepest found before 
   pub first : some_address found ≡ least_at side (names tree)
   pub found_in : found ≢ 0 → contains (names tree) found ≡ true
   pub deepest_in : contains (names tree) deepest ≡ true
-  pub steps : now ≡ before + asked (λ n. is_ge (side n)) tree
+  pub steps : now ≡ before + reads_of_walk (λ n. is_ge (side n)) tree
 
 -- whether there is such a first one, and it is what is sought
 abbrev pub is_found : (ℕ → Ordering) → ℕ → Bool
@@ -34,8 +34,8 @@ pub record Gap (side : ℕ → Ordering) (tree : Tree) (above : ℕ) (left : Boo
   pub whole : plug context Leaf ≡ tree
   pub above_is : above ≡ name_at context
   pub side_is : left ≡ side_in context
-  pub list : (at : ℕ) → names (plug context (Node Leaf at Leaf)) ≡ linked side at (names tree)
-  pub steps : now ≡ start + asked (λ n. is_gt (side n)) tree
+  pub list : (at : ℕ) → names (plug context (Node Leaf at Leaf)) ≡ order_with_name side at (names tree)
+  pub steps : now ≡ start + reads_of_walk (λ n. is_gt (side n)) tree
 
 -- two trees, the second one below some node, that have no name in common
 pub record IsPair (s : Store) (left right : ℕ) (front back : Tree) : Type 0 where

@@ -34,8 +34,8 @@ unfoldable pub zig_zag : Bool → ℕ → ℕ → ℕ → ℕ → Store → Stor
 zig_zag side near inner above top s = with_child (not side) top near (with_child side above inner s)
 
 -- a root with these two subtrees
-unfoldable pub settled : ℕ → ℕ → ℕ → Store → Store
-settled at left right s = with_parent at 0 (with_child false at right (with_child true at left s))
+unfoldable pub store_with_root : ℕ → ℕ → ℕ → Store → Store
+store_with_root at left right s = with_parent at 0 (with_child false at right (with_child true at left s))
 
 -- a node is there, and so is its new child, where there is one
 pub record CanHang (s : Store) (n child : ℕ) : Type 0 where

@@ -1,5 +1,5 @@
 ghost use Rattle.std.specs.Prelude.{◌≡◌, ◌≢◌, ◌+◌, ◌≤◌, ◌∷◌, length};
-ghost use Rattle.vc_splay.specs.Guide.{CanFind, CanLink, linked};
+ghost use Rattle.vc_splay.specs.Guide.{CanFind, CanLink, order_with_name};
 ghost use Rattle.vc_splay.specs.Searches.{Gap};
 ghost use Rattle.vc_splay.specs.Stands.{IsTree, TreeAfter};
 ghost use Rattle.vc_splay.specs.Tree.{Tree, names};
@@ -23,7 +23,7 @@ pub fn link_after_equals<N: Nodes, G: Guide<N>, L>(
     requires { CanLink (N.store nodes.old) (G.side_of guide.now nodes.old) root at }
     ensures tree { (tree : Tree) → IsTree (N.store nodes.old) root tree
         → TreeAfter (N.store nodes.old) (N.store nodes.new) (at ∷ names tree) result
-        (linked (G.side_of guide.now nodes.old) at (names tree)) }
+        (order_with_name (G.side_of guide.now nodes.old) at (names tree)) }
     ensures root { result ≡ at }
     ensures least_steps { root ≢ 0 → steps.old + 1 ≤ steps.new }
     ensures most_steps { (tree : Tree) → IsTree (N.store nodes.old) root tree

@@ -2,7 +2,7 @@ ghost use Rattle.std.specs.Prelude.{◌≡◌, not, true};
 ghost use Rattle.vc_splay.specs.Moves.{CanRise, CanStep, Context, IsRising, IsTaken, Step, Topped, plug};
 ghost use Rattle.vc_splay.specs.Stands.{TreeAfter};
 ghost use Rattle.vc_splay.specs.Tree.{Tree, names};
-ghost use Rattle.vc_splay.specs.Writes.{AreTurned, CanSettle, CanTurn, settled, zig_zag, zig_zig};
+ghost use Rattle.vc_splay.specs.Writes.{AreTurned, CanSettle, CanTurn, store_with_root, zig_zag, zig_zig};
 
 use crate::Nodes;
 use crate::sides::{hang, kid, side_of, turned};
@@ -142,7 +142,7 @@ fn zig_zag<N: Nodes>(nodes: &mut N, side: bool, near: u32, inner: u32, above: u3
 #[inline(always)]
 fn settle<N: Nodes>(nodes: &mut N, at: u32, left: u32, right: u32)
     requires { CanSettle (N.store nodes.old) at left right }
-    ensures store { N.store nodes.new ≡ settled at left right (N.store nodes.old) }
+    ensures store { N.store nodes.new ≡ store_with_root at left right (N.store nodes.old) }
     ensures rest { N.stays nodes.old nodes.new }
 {
     hang(nodes, true, at, left);

@@ -2,7 +2,7 @@
 use Rattle.std.proofs.Common.{◌≡◌, ℕ, true, false, cond, List, [], ◌∷◌, slice_index, slice_set, refl, sym, ap, ◌∙◌, subst, get_or-set_other}
 use Rattle.vc_base.specs.Holders.{contains, without}
 use Rattle.vc_splay.specs.Store.{Store, with_kid, with_parent}
-use Rattle.vc_splay.specs.Guide.{CanFind, CanLink, Rises, linked}
+use Rattle.vc_splay.specs.Guide.{CanFind, CanLink, Rises, order_with_name}
 use Rattle.vc_splay.specs.Stands.{HasTree, IsIn, IsWithin, TreeAfter}
 use Rattle.vc_splay.specs.Tree.{Leaf, names}
 use Rattle.vc_splay.proofs.StoreLemmas.{with_kid-is, with_parent-is}
@@ -58,11 +58,11 @@ pub holds_none : (rows : Rows) → rows.key ≡ keys → Holds rows 0 []
 holds_none rows k = record { tree = Leaf; is_tree = record { top = refl; stands = tt; distinct = tt }; list = refl; keys_are = k }
 
 -- after a link, after a find or a splay, and after an unlink
-pub holds_put : (old new : Rows) (root at key result : ℕ) (xs : List ℕ) (h : Holds old root xs) → TreeAfter (of old) (of new) (at ∷ names h.tree) result (linked (key_side old.key key) at (names h.tree)) → new.key ≡ old.key → Holds new result (linked (key_side keys key) at xs)
+pub holds_put : (old new : Rows) (root at key result : ℕ) (xs : List ℕ) (h : Holds old root xs) → TreeAfter (of old) (of new) (at ∷ names h.tree) result (order_with_name (key_side old.key key) at (names h.tree)) → new.key ≡ old.key → Holds new result (order_with_name (key_side keys key) at xs)
 holds_put old new root at key result xs h a same = record {
   tree = a.tree;
   is_tree = a.is_tree;
-  list = a.list ∙ ap (λ z. linked (key_side z key) at (names h.tree)) h.keys_are ∙ ap (linked (key_side keys key) at) h.list;
+  list = a.list ∙ ap (λ z. order_with_name (key_side z key) at (names h.tree)) h.keys_are ∙ ap (order_with_name (key_side keys key) at) h.list;
   keys_are = same ∙ h.keys_are;
 }
 

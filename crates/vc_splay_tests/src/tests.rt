@@ -1,5 +1,5 @@
 ghost use Rattle.std.specs.Prelude.{◌≡◌, ℕ, List, [], ◌∷◌};
-ghost use Rattle.vc_splay.specs.Guide.{linked};
+ghost use Rattle.vc_splay.specs.Guide.{order_with_name};
 ghost use Rattle.vc_splay_tests.specs.Toy.{CanPut, CanSeek, Holds, key_side, keys};
 
 use crate::{ByKey, Lent, Rows};
@@ -16,7 +16,7 @@ struct Asks;
 fn put<'a>(nodes: &mut Lent<'a>, root: u32, at: u32, key: u32, steps: &mut Steps<Asks>) -> u32
     requires { CanPut nodes.old.rows.now root at key }
     ensures tree { (xs : List ℕ) → Holds nodes.old.rows.now root xs
-        → Holds nodes.new.rows.now result (linked (key_side keys key) at xs) }
+        → Holds nodes.new.rows.now result (order_with_name (key_side keys key) at xs) }
     ensures same { nodes.new.rows.ghost_name ≡ nodes.old.rows.ghost_name }
 {
     link_after_equals(nodes, root, at, &ByKey { key }, steps)

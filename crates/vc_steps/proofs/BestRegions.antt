@@ -6,7 +6,7 @@ use Rattle.vc_best.specs.declared.best.Best as best
 use Rattle.vc_region.specs.Cells.{rest_in}
 use Rattle.vc_region.specs.declared.region.Region as code
 use Rattle.vc_region.specs.declared.region.Region.TheVariants.{Best, Pool, Last, Debug, Profile}
-use Rattle.vc_region.specs.Region.{OfBest, OfDebug, OfLast, OfPool, OfProfile, Region, is_best, layout_in, relabelled}
+use Rattle.vc_region.specs.Region.{OfBest, OfDebug, OfLast, OfPool, OfProfile, Region, is_best, layout_in, region_with_labels}
 
 pub best-is : {L : Type 0} (r : Region L) → is_best r ≡ true → r ≡ OfBest (layout_in r)
 best-is (OfBest layout) best = refl
@@ -16,8 +16,8 @@ best-is (OfDebug debug) best = absurd (true≢false (sym best))
 best-is (OfProfile profile) best = absurd (true≢false (sym best))
 
 -- a layout of other labels is that of a best region
-pub best-named : {L M : Type 0} (f : L → M) (r : Region L) (l : Layout L) → is_best r ≡ true → l ≡ layout_in r → OfBest (relabel_layout f l) ≡ relabelled f r
-best-named f r l best same = ap (λ (q : Layout _). OfBest (relabel_layout f q)) same ∙ ap (relabelled f) (sym (best-is r best))
+pub best-named : {L M : Type 0} (f : L → M) (r : Region L) (l : Layout L) → is_best r ≡ true → l ≡ layout_in r → OfBest (relabel_layout f l) ≡ region_with_labels f r
+best-named f r l best same = ap (λ (q : Layout _). OfBest (relabel_layout f q)) same ∙ ap (region_with_labels f) (sym (best-is r best))
 
 -- a region that is a best one is no other
 pub no-other : {I : Type 0} {V : I → Type 0} (r : code.Region I V) → is_best (rest_in r) ≡ true → ((b : best.Best I V) → r ≡ Best b → ⊥) → ⊥

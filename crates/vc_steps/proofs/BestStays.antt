@@ -10,16 +10,16 @@ use Rattle.vc_model.specs.Pool.{pool_alloc, pool_resize}
 use Rattle.vc_model.specs.Resize.{best_resize}
 use Rattle.vc_audit.specs.Debug.{debug_alloc, debug_resize}
 use Rattle.vc_audit.specs.Profile.{profile_alloc, profile_resize}
-use Rattle.vc_region.specs.Region.{OfBest, OfPool, OfLast, OfDebug, OfProfile, Region, blocks_of, is_debug, is_profile, region_align, region_alloc, region_clear, region_compact, region_free, region_poke, region_resize, region_watch, region_write, relabelled, watch_at, is_best}
+use Rattle.vc_region.specs.Region.{OfBest, OfPool, OfLast, OfDebug, OfProfile, Region, blocks_of, is_debug, is_profile, region_align, region_alloc, region_clear, region_compact, region_free, region_poke, region_resize, region_watch, region_write, region_with_labels, watch_at, is_best}
 use Rattle.vc_script.specs.Needs.{Need}
 use Rattle.vc_script.specs.declared.command.Command.{Command}
 use Rattle.vc_script.specs.declared.command.Command.TheVariants.{ClearRegion, Compact, Alloc, Align, Resize, Free, WriteBlock, ReadBlock, SizeOf, AddrOf, SegmentOf, StatOf, Segments, Blocks, Poke, Check, Watch, ProfileOf}
 use Rattle.vc_script.specs.declared.refusal.Refusal.{Refusal}
 use Rattle.vc_script.specs.declared.refusal.Refusal.TheVariants as why
 use Rattle.vc_commands.specs.Audit.{is_poke, poke_block, poke_byte, watch_block}
-use Rattle.vc_commands.specs.Blocks.{align_refused, free_block, freed, has_label, has_room, is_block, is_size, kept_freed, put_by, put_in, put_new, read_block, resize_block, site_of, size_refused, with_named, write_block}
+use Rattle.vc_commands.specs.Blocks.{align_refused, free_block, change_by_free, has_label, has_room, is_block, is_size, kept_freed, put_by, put_in, put_new, read_block, resize_block, site_of, size_refused, with_named, write_block}
 use Rattle.vc_commands.specs.Kept.{Kept, without_name}
-use Rattle.vc_commands.specs.Home.{Changed, Home, Label, unchanged}
+use Rattle.vc_commands.specs.Home.{Changed, Home, Label, refusal_alone}
 use Rattle.vc_commands.specs.RegionCommands.{in_region, is_for_block}
 
 abbrev pub IsAs : Bool → Changed → Type 0
@@ -50,11 +50,11 @@ module _ (best : Bool) where
   as-by : (h : Home) (x : List ℕ) (words : Option Refusal) (o : Outcome (Put (Region Label))) → is_best h.region ≡ best → PutAs o → IsAs best (put_by h x words o)
   as-by h x (Some refusal) o same put = same
   as-by h x None o same put =
-      as-if (has_room h x) (put_in h x (without_name x h.kept) None o) (unchanged h why.TooManyBlocks) (as-put h x (without_name x h.kept) None o same put) same
+      as-if (has_room h x) (put_in h x (without_name x h.kept) None o) (refusal_alone h why.TooManyBlocks) (as-put h x (without_name x h.kept) None o same put) same
 
   as-new : (h : Home) (x : List ℕ) (words : Option Refusal) (o : Outcome (Put (Region Label))) → is_best h.region ≡ best → PutAs o → IsAs best (put_new h x words o)
   as-new h x words o same put =
-      as-if (has_label x h.region) (unchanged h why.BlockExists) (put_by h x words o) same (as-by h x words o same put)
+      as-if (has_label x h.region) (refusal_alone h why.BlockExists) (put_by h x words o) same (as-by h x words o same put)
 
 alloc-best : (terms : Terms) (r : Region Label) (label : Label) (site : List ℕ) (size : ℕ) (refused : Bool) → PutAs (is_best r) (region_alloc terms r label site size refused)
 alloc-best terms (OfBest l) label site size refused = as-made true OfBest (λ q. refl) (best_alloc terms l label size 32 refused)
@@ -92,7 +92,7 @@ free-best (OfLast l) at = last-freed (last_free l at)
 free-best (OfDebug d) at = refl
 free-best (OfProfile p) at = refl
 
-as-freed : (h : Home) (x : List ℕ) (kept : Kept) (watch : Option ℕ) (o : Outcome (Region Label)) → FreedAs (is_best h.region) o → IsAs (is_best h.region) (freed h x kept watch o)
+as-freed : (h : Home) (x : List ℕ) (kept : Kept) (watch : Option ℕ) (o : Outcome (Region Label)) → FreedAs (is_best h.region) o → IsAs (is_best h.region) (change_by_free h x kept watch o)
 as-freed h x kept watch (Done r) same = same
 as-freed h x kept watch (Refused fault) same = refl
 
@@ -132,7 +132,7 @@ watch-best (OfDebug d) at line = refl
 watch-best (OfProfile p) at line = refl
 
 -- other labels make no difference
-pub relabelled-best : {L M : Type 0} (f : L → M) (r : Region L) → is_best (relabelled f r) ≡ is_best r
+pub relabelled-best : {L M : Type 0} (f : L → M) (r : Region L) → is_best (region_with_labels f r) ≡ is_best r
 relabelled-best f (OfBest l) = refl
 relabelled-best f (OfPool p) = refl
 relabelled-best f (OfLast l) = refl
@@ -147,7 +147,7 @@ module _ (h : Home) where
   in-block x act each = as-block same h x (find (is_block x) (blocks_of h.region)) act refl each
 
   poke_byte-best : (x : List ℕ) (off : ℤ) (byte : ℕ) (b : Block Label) → IsAs same (poke_byte h x off byte b)
-  poke_byte-best x off byte b = as-if same (is_poke b.size off byte) _ (unchanged h why.Range) (poke-best h.region (b.seg, b.off) off byte) refl
+  poke_byte-best x off byte b = as-if same (is_poke b.size off byte) _ (refusal_alone h why.Range) (poke-best h.region (b.seg, b.off) off byte) refl
 
   -- a command in a region
   pub region-best : (line : ℕ) (command : Command) (need : Need) → is_best (in_region h line command need).region ≡ is_best h.region
@@ -160,7 +160,7 @@ module _ (h : Home) where
   region-best line (Resize r x size may_move) need =
       in-block x (resize_block h x size may_move (is_for_block need))
       (λ b.
-      as-if same (is_size size) _ (unchanged h why.Size)
+      as-if same (is_size size) _ (refusal_alone h why.Size)
       (as-put same h x h.kept (watch_at h.region (b.seg, b.off)) (region_resize h.terms h.region (b.seg, b.off) size may_move (is_for_block need)) refl (resize-best h.terms h.region (b.seg, b.off) size may_move (is_for_block need)))
       refl)
   region-best line (Free r x) need =
@@ -168,10 +168,10 @@ module _ (h : Home) where
       (λ b. as-freed h x (kept_freed h x line) (watch_at h.region (b.seg, b.off)) (region_free h.region (b.seg, b.off)) (free-best h.region (b.seg, b.off)))
   region-best line (WriteBlock r x off bytes) need =
       in-block x (write_block h x off bytes)
-      (λ b. as-if same (nat_le (off + length bytes) b.size) _ (unchanged h why.Range) (write-best h.region (b.seg, b.off) off bytes) refl)
+      (λ b. as-if same (nat_le (off + length bytes) b.size) _ (refusal_alone h why.Range) (write-best h.region (b.seg, b.off) off bytes) refl)
   region-best line (ReadBlock r x off len) need =
       in-block x (read_block h x off len)
-      (λ b. as-if same ((nat_le 1 len && nat_le len 4096) && nat_le (off + len) b.size) _ (unchanged h why.Range) refl refl)
+      (λ b. as-if same ((nat_le 1 len && nat_le len 4096) && nat_le (off + len) b.size) _ (refusal_alone h why.Range) refl refl)
   region-best line (SizeOf r x) need = in-block x _ (λ b. refl)
   region-best line (AddrOf r at) need = refl
   region-best line (SegmentOf r at) need = refl
@@ -180,10 +180,10 @@ module _ (h : Home) where
   region-best line (Blocks r) need = refl
   region-best line (Poke r x off byte) need =
       in-block x (poke_block h x off byte)
-      (λ b. as-if same (is_debug h.region) (poke_byte h x off byte b) (unchanged h why.WrongMethod) (poke_byte-best x off byte b) refl)
-  region-best line (Check r) need = as-if same (is_debug h.region) _ (unchanged h why.WrongMethod) refl refl
+      (λ b. as-if same (is_debug h.region) (poke_byte h x off byte b) (refusal_alone h why.WrongMethod) (poke_byte-best x off byte b) refl)
+  region-best line (Check r) need = as-if same (is_debug h.region) _ (refusal_alone h why.WrongMethod) refl refl
   region-best line (Watch r x) need =
       in-block x (watch_block h line x)
-      (λ b. as-if same (is_debug h.region) _ (unchanged h why.WrongMethod) (watch-best h.region (b.seg, b.off) line) refl)
-  region-best line (ProfileOf r) need = as-if same (is_profile h.region) _ (unchanged h why.WrongMethod) refl refl
+      (λ b. as-if same (is_debug h.region) _ (refusal_alone h why.WrongMethod) (watch-best h.region (b.seg, b.off) line) refl)
+  region-best line (ProfileOf r) need = as-if same (is_profile h.region) _ (refusal_alone h why.WrongMethod) refl refl
   region-best line command need = refl

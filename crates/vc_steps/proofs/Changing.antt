@@ -16,7 +16,7 @@ use Rattle.vc_script.specs.declared.reply.Reply.TheVariants.{Refused}
 use Rattle.vc_script.specs.declared.refusal.Refusal.TheVariants.{Busy, NoRegion, NoSegment, NoSegmentForTable, NoSegmentForObject}
 use Rattle.vc_script.specs.Needs.{Need, NoNeed, need_shown}
 use Rattle.vc_dtdisc.specs.Rules.{Gone, Rules}
-use Rattle.vc_steps.specs.State.{State, Stepped, changed, home_named, is_busy, refused, stepped, with_region}
+use Rattle.vc_steps.specs.State.{State, Stepped, step_with_change, home_named, is_busy, step_with_refusal, step_with_reply, with_region}
 use Rattle.vc_views.specs.Views.{DictHome}
 use Rattle.vc_commands.specs.Home.{Label, Home, is_home}
 use Rattle.vc_region.specs.Region.{Region}
@@ -28,7 +28,7 @@ use Rattle.vc_commands.specs.RegionCommands.{in_region}
 use Rattle.vc_steps.specs.Refusals.{refusal_at, place_named, home_place}
 use Rattle.vc_steps.specs.Told.{tell}
 use Rattle.vc_commands.proofs.Firsts.{IsFirst, first-unmap}
-use Rattle.vc_steps.specs.Account.{Account, CountsFaults, Lacks, held_named, IsHeld, IsSession, Settles, account, accounts, account_after, settled, state_of, without_faults}
+use Rattle.vc_steps.specs.Account.{Account, CountsFaults, Lacks, held_named, IsHeld, IsSession, Settles, account, accounts, account_after, settled_accounts, state_of, without_faults}
 use Rattle.vc_commands.specs.Held.{Held, LacksSegment, IsChange, home_of}
 use Rattle.vc_views.proofs.LinkLists.{map-set_same}
 use Rattle.vc_steps.proofs.Cells.{at_number-from_one, at_number_some, set_same}
@@ -53,7 +53,7 @@ no_refusal : (p : ℕ) → OnlyAt p 0 []
 no_refusal p = record { here = refl; elsewhere = λ q other. refl }
 
 -- a step that gives a reply and a state, and tells no kind
-pub gives-same : (t : Stepped) (gone : List Gone) (reply : Reply) (after : State) → t ≡ stepped after reply → GivesStep t gone reply after gone
+pub gives-same : (t : Stepped) (gone : List Gone) (reply : Reply) (after : State) → t ≡ step_with_reply after reply → GivesStep t gone reply after gone
 gives-same t gone reply after eq =
     record {
       replied = ap (λ (t : Stepped). t.reply) eq;
@@ -82,18 +82,18 @@ pub step-none : (s : State) (gone : List Gone) (line : ℕ) (command : Command) 
 step-none s gone line command r none =
     gives-same (step_of s line command NoNeed (Some r)) gone (Refused NoRegion) s (ap (region_step s r line command NoNeed) none)
 
-cleared-busy : (s : State) (r x : List ℕ) (command : Command) (t : Stepped) → command ≡ ClearRegion x → is_busy s r ≡ true → cleared_or s r command t ≡ refused s Busy
-cleared-busy s r x command t is busy = ap (λ c. cleared_or s r c t) is ∙ ap (λ b. cond b (refused s Busy) t) busy
+cleared-busy : (s : State) (r x : List ℕ) (command : Command) (t : Stepped) → command ≡ ClearRegion x → is_busy s r ≡ true → cleared_or s r command t ≡ step_with_refusal s Busy
+cleared-busy s r x command t is busy = ap (λ c. cleared_or s r c t) is ∙ ap (λ b. cond b (step_with_refusal s Busy) t) busy
 
 cleared-free : (s : State) (r : List ℕ) (command : Command) (t : Stepped) → ((x : List ℕ) → command ≡ ClearRegion x → is_busy s r ≡ false) → cleared_or s r command t ≡ t
-cleared-free s r (ClearRegion x) t free = ap (λ b. cond b (refused s Busy) t) (free x refl)
+cleared-free s r (ClearRegion x) t free = ap (λ b. cond b (step_with_refusal s Busy) t) (free x refl)
 cleared-free s r command t free = refl
 
 -- nor is a region cleared in which a dictionary lies
 pub step-busy : (s : State) (gone : List Gone) (line : ℕ) (command : Command) (r x : List ℕ) (h : Home) → home_named r s.homes ≡ Some h → command ≡ ClearRegion x → is_busy s r ≡ true → GivesStep (step_of s line command NoNeed (Some r)) gone (Refused Busy) s gone
 step-busy s gone line command r x h found is busy =
     gives-same (step_of s line command NoNeed (Some r)) gone (Refused Busy) s
-    (ap (region_step s r line command NoNeed) found ∙ cleared-busy s r x command (changed s r (in_region h line command NoNeed)) is busy)
+    (ap (region_step s r line command NoNeed) found ∙ cleared-busy s r x command (step_with_change s r (in_region h line command NoNeed)) is busy)
 
 -- whatever the cells were before the change
 module _ (slots : Slots) (hs : List Held) (i : ℕ) (h g : Held) (at : slice_get hs i ≡ Some h) (session : IsSession slots hs) {cells : Blocks} (change : IsChange (record h { cells = cells }) g) where
@@ -105,39 +105,39 @@ module _ (slots : Slots) (hs : List Held) (i : ℕ) (h g : Held) (at : slice_get
       session-set slots hs i h g at change.place
       (record { place = ap (at_number slots) change.place ∙ held.place; lent = change.lent; names = change.names }) session
 
-  pub settles-change : (n : ℕ) (refusals : List ℕ) → CountsFaults n h.disc.faults g.disc.faults → OnlyAt h.place n refusals → Settles (settled (accounts slots) hs) (settled (accounts slots) (set hs i g)) refusals
+  pub settles-change : (n : ℕ) (refusals : List ℕ) → CountsFaults n h.disc.faults g.disc.faults → OnlyAt h.place n refusals → Settles (settled_accounts (accounts slots) hs) (settled_accounts (accounts slots) (set hs i g)) refusals
   settles-change n refusals rose only =
       let found = at_number_some slots h.place None held.place in
       let there : slice_get (accounts slots) (h.place - 1) ≡ Some None = slice_get-map (option_map account) slots (h.place - 1) ∙ ap (option_map (option_map account)) found.1 in
-      let has : at_number (settled (accounts slots) hs) h.place ≡ Some (Some (account_after h)) =
-      at_number-from_one (settled (accounts slots) hs) h.place found.0 ∙ settled-at (accounts slots) hs i h None at there (apart-session slots hs session) in
+      let has : at_number (settled_accounts (accounts slots) hs) h.place ≡ Some (Some (account_after h)) =
+      at_number-from_one (settled_accounts (accounts slots) hs) h.place found.0 ∙ settled-at (accounts slots) hs i h None at there (apart-session slots hs session) in
       let same : without_faults (account_after g) ≡ without_faults (account_after h) =
       ap (λ o. let p : List (ℕ × ℕ) × Terms = (o, g.disc.terms) in p) change.out ∙ ap (λ r. let p : List (ℕ × ℕ) × Terms = ((account_after h).out, r) in p) change.kept.terms in
-      let after : settled (accounts slots) (set hs i g) ≡ set (settled (accounts slots) hs) (h.place - 1) (Some (account_after g)) =
+      let after : settled_accounts (accounts slots) (set hs i g) ≡ set (settled_accounts (accounts slots) hs) (h.place - 1) (Some (account_after g)) =
       settled-change (accounts slots) hs i h g at change.place (apart-session slots hs session)
-      ∙ ap (λ p. set (settled (accounts slots) hs) (p - 1) (Some (account_after g))) change.place in
-      subst (λ s. Settles (settled (accounts slots) hs) s refusals) (sym after)
-      (settles-set (settled (accounts slots) hs) h.place n (account_after h) (account_after g) refusals has same rose only)
+      ∙ ap (λ p. set (settled_accounts (accounts slots) hs) (p - 1) (Some (account_after g))) change.place in
+      subst (λ s. Settles (settled_accounts (accounts slots) hs) s refusals) (sym after)
+      (settles-set (settled_accounts (accounts slots) hs) h.place n (account_after h) (account_after g) refusals has same rose only)
 
   -- where no fault was counted
-  pub settles-none : g.disc.faults ≡ h.disc.faults → Settles (settled (accounts slots) hs) (settled (accounts slots) (set hs i g)) []
+  pub settles-none : g.disc.faults ≡ h.disc.faults → Settles (settled_accounts (accounts slots) hs) (settled_accounts (accounts slots) (set hs i g)) []
   settles-none same = settles-change 0 [] (counts-equal h.disc.faults g.disc.faults same) (no_refusal h.place)
 
   -- and where one was for a refusal
-  pub settles-one : Rose h.disc.faults g.disc.faults → Settles (settled (accounts slots) hs) (settled (accounts slots) (set hs i g)) (h.place ∷ [])
+  pub settles-one : Rose h.disc.faults g.disc.faults → Settles (settled_accounts (accounts slots) hs) (settled_accounts (accounts slots) (set hs i g)) (h.place ∷ [])
   settles-one rose = settles-change 1 (h.place ∷ []) (counts-one h.disc.faults g.disc.faults change.kept.faults rose) (one_refusal h.place)
 
-  pub settles-reply : (kinds : List Rules) (ds : List DictHome) (r : List ℕ) (command : Command) (reply : Reply) → region_asked (state_of kinds slots hs ds) command ≡ Some r → home_named r (state_of kinds slots hs ds).homes ≡ Some (home_of h) → (reply ≡ Refused NoSegment → Rose h.disc.faults g.disc.faults) → (reply ≢ Refused NoSegment → g.disc.faults ≡ h.disc.faults) → IsPlain reply → Settles (settled (accounts slots) hs) (settled (accounts slots) (set hs i g)) (refusal_at (state_of kinds slots hs ds) command reply)
+  pub settles-reply : (kinds : List Rules) (ds : List DictHome) (r : List ℕ) (command : Command) (reply : Reply) → region_asked (state_of kinds slots hs ds) command ≡ Some r → home_named r (state_of kinds slots hs ds).homes ≡ Some (home_of h) → (reply ≡ Refused NoSegment → Rose h.disc.faults g.disc.faults) → (reply ≢ Refused NoSegment → g.disc.faults ≡ h.disc.faults) → IsPlain reply → Settles (settled_accounts (accounts slots) hs) (settled_accounts (accounts slots) (set hs i g)) (refusal_at (state_of kinds slots hs ds) command reply)
   settles-reply kinds ds r command (Refused NoSegment) works found rose none plain =
-      subst (λ o. Settles (settled (accounts slots) hs) (settled (accounts slots) (set hs i g)) (place_named (state_of kinds slots hs ds) o)) (sym works)
-      (subst (λ o. Settles (settled (accounts slots) hs) (settled (accounts slots) (set hs i g)) (home_place o)) (sym found)
+      subst (λ o. Settles (settled_accounts (accounts slots) hs) (settled_accounts (accounts slots) (set hs i g)) (place_named (state_of kinds slots hs ds) o)) (sym works)
+      (subst (λ o. Settles (settled_accounts (accounts slots) hs) (settled_accounts (accounts slots) (set hs i g)) (home_place o)) (sym found)
       (settles-one (rose refl)))
   settles-reply kinds ds r command (Refused NoSegmentForTable) works found rose none plain = absurd plain
   settles-reply kinds ds r command (Refused NoSegmentForObject) works found rose none plain = absurd plain
   settles-reply kinds ds r command reply works found rose none plain = settles-none (none (λ e. cc))
 
   -- where its discipline has no more faults, the settled shelf is the same
-  pub settled-same : g.disc.faults ≡ h.disc.faults → settled (accounts slots) (set hs i g) ≡ settled (accounts slots) hs
+  pub settled-same : g.disc.faults ≡ h.disc.faults → settled_accounts (accounts slots) (set hs i g) ≡ settled_accounts (accounts slots) hs
   settled-same faults =
       let apart = apart-session slots hs session in
       let found = at_number_some slots h.place None held.place in
@@ -147,9 +147,9 @@ module _ (slots : Slots) (hs : List Held) (i : ℕ) (h g : Held) (at : slice_get
       ∙ (ap (λ r. let a : Account = record { out = (account_after h).out; terms = r; faults = g.disc.faults } in a) change.kept.terms
       ∙ ap (λ f. let a : Account = record { out = (account_after h).out; terms = h.disc.terms; faults = f } in a) faults) in
       settled-change (accounts slots) hs i h g at change.place apart
-      ∙ (ap (λ p. set (settled (accounts slots) hs) (p - 1) (Some (account_after g))) change.place
-      ∙ (ap (λ a. set (settled (accounts slots) hs) (h.place - 1) (Some a)) same
-      ∙ set_same (settled (accounts slots) hs) (h.place - 1) (Some (account_after h)) (settled-at (accounts slots) hs i h None at there apart)))
+      ∙ (ap (λ p. set (settled_accounts (accounts slots) hs) (p - 1) (Some (account_after g))) change.place
+      ∙ (ap (λ a. set (settled_accounts (accounts slots) hs) (h.place - 1) (Some a)) same
+      ∙ set_same (settled_accounts (accounts slots) hs) (h.place - 1) (Some (account_after h)) (settled-at (accounts slots) hs i h None at there apart)))
 
   same_home : (let k : Home = record (home_of h) { region = (home_of g).region; kept = (home_of g).kept } in k) ≡ home_of g
   same_home =
@@ -173,8 +173,8 @@ module _ (slots : Slots) (hs : List Held) (i : ℕ) (h g : Held) (at : slice_get
   step-change kinds ds gone r line command reply first free gives =
       let s = state_of kinds slots hs ds in
       let need = need_shown reply in
-      let is : step_of s line command need (Some r) ≡ changed s r (in_region (home_of h) line command need) =
-      ap (region_step s r line command need) (found-change r first) ∙ cleared-free s r command (changed s r (in_region (home_of h) line command need)) free in
+      let is : step_of s line command need (Some r) ≡ step_with_change s r (in_region (home_of h) line command need) =
+      ap (region_step s r line command need) (found-change r first) ∙ cleared-free s r command (step_with_change s r (in_region (home_of h) line command need)) free in
       record {
         replied = ap (λ (t : Stepped). t.reply) is ∙ gives.replied;
         state_after =

@@ -12,10 +12,10 @@ use Rattle.vc_script.specs.declared.reply.Reply.TheVariants.{Closed}
 use Rattle.vc_region.proofs.Relabel.{segments-relabelled}
 use Rattle.vc_dtdisc.specs.Rules.{Rules}
 use Rattle.vc_commands.specs.Labels.{name_of}
-use Rattle.vc_steps.specs.State.{State, stepped, close_home, close_step, closed, home_named, is_busy, refused, without_home}
+use Rattle.vc_steps.specs.State.{State, step_with_reply, close_home, close_step, step_with_close, home_named, is_busy, step_with_refusal, without_home}
 use Rattle.vc_views.specs.Views.{DictHome}
 use Rattle.vc_commands.specs.Home.{Home, is_home}
-use Rattle.vc_steps.specs.Account.{Account, IsSession, account, accounts, account_after, account_back, settled, state_of}
+use Rattle.vc_steps.specs.Account.{Account, IsSession, account, accounts, account_after, account_back, settled_accounts, state_of}
 use Rattle.vc_commands.specs.Held.{Held, home_of}
 use Rattle.vc_views.proofs.LinkLists.{all-remove}
 use Rattle.vc_steps.proofs.Cells.{at_number-from_one, at_number-zero, at_number_some, map-remove, slice_get-set_other}
@@ -76,14 +76,14 @@ away-remove (g ∷ hs) zero h at apart = subst (λ (x : Held). AllByRecursion (�
 away-remove (g ∷ hs) (suc i) h at apart = ((λ e. away-at g.place hs i h at apart.1 (sym e)), away-remove hs i h at apart.2)
 
 -- a region that is closed early settles as it would at the end
-settled-remove : (shelf : List (Option Account)) (hs : List Held) (i : ℕ) (h : Held) → slice_get hs i ≡ Some h → IsApart hs → settled (set shelf (h.place - 1) (Some (account_after h))) (remove hs i) ≡ settled shelf hs
+settled-remove : (shelf : List (Option Account)) (hs : List Held) (i : ℕ) (h : Held) → slice_get hs i ≡ Some h → IsApart hs → settled_accounts (set shelf (h.place - 1) (Some (account_after h))) (remove hs i) ≡ settled_accounts shelf hs
 settled-remove shelf [] i h at apart = absurd (none-some h at)
-settled-remove shelf (g ∷ hs) zero h at apart = ap (λ (x : Held). settled (set shelf (x.place - 1) (Some (account_after x))) hs) (sym (same_Some g h at))
+settled-remove shelf (g ∷ hs) zero h at apart = ap (λ (x : Held). settled_accounts (set shelf (x.place - 1) (Some (account_after x))) hs) (sym (same_Some g h at))
 settled-remove shelf (g ∷ hs) (suc i) h at apart =
     let other : h.place ≢ g.place = away-at g.place hs i h at apart.1 in
     let low : 1 ≤ h.place = low-at hs i h at apart.2 in
     let first : 1 ≤ g.place = apart.0 in
-    ap (λ s. settled s (remove hs i)) (set_comm shelf (h.place - 1) (g.place - 1) (Some (account_after h)) (Some (account_after g)) (λ e. other (omega (arith, e, low, first))))
+    ap (λ s. settled_accounts s (remove hs i)) (set_comm shelf (h.place - 1) (g.place - 1) (Some (account_after h)) (Some (account_after g)) (λ e. other (omega (arith, e, low, first))))
     ∙ settled-remove (set shelf (g.place - 1) (Some (account_after g))) hs i h at apart.2
 
 terms_of : (slots : Slots) → map (option_map (λ (a : Account). a.terms)) (accounts slots) ≡ map (option_map (λ (d : Discipline). d.terms)) slots
@@ -99,16 +99,16 @@ without_home-at r (g ∷ hs) (suc i) h at passes none =
     ap (λ b. cond b hs (g ∷ without_home r hs)) parts.0 ∙ ap (λ ks. g ∷ ks) (without_home-at r hs i h at passes parts.1)
 
 -- a region in which a dictionary lies is not closed
-pub close-busy : (s : State) (r : List ℕ) (i : ℕ) → IsFirst (is_home r) s.homes i → is_busy s r ≡ true → close_step s r ≡ refused s Busy
+pub close-busy : (s : State) (r : List ℕ) (i : ℕ) → IsFirst (is_home r) s.homes i → is_busy s r ≡ true → close_step s r ≡ step_with_refusal s Busy
 close-busy s r i first busy =
-    ap (close_home s r) (find-first (is_home r) s.homes i first) ∙ ap (λ b. cond b (refused s Busy) (closed s r first.item)) busy
+    ap (close_home s r) (find-first (is_home r) s.homes i first) ∙ ap (λ b. cond b (step_with_refusal s Busy) (step_with_close s r first.item)) busy
 
 module _ (slots slots' : Slots) (hs : List Held) (i : ℕ) (h : Held) (at : slice_get hs i ≡ Some h) (session : IsSession slots hs) (here : accounts slots' ≡ set (accounts slots) (h.place - 1) (Some (account_after h))) where
   pub session-close : ((p : ℕ) → p ≢ h.place → at_number slots' p ≡ at_number slots p) → IsSession slots' (remove hs i)
   session-close same = session-closed slots slots' h.place (remove hs i) same (away-remove hs i h at (apart-session slots hs session)) (session-remove slots hs i session)
 
-  pub settled-close : settled (accounts slots') (remove hs i) ≡ settled (accounts slots) hs
-  settled-close = ap (λ a. settled a (remove hs i)) here ∙ settled-remove (accounts slots) hs i h at (apart-session slots hs session)
+  pub settled-close : settled_accounts (accounts slots') (remove hs i) ≡ settled_accounts (accounts slots) hs
+  settled-close = ap (λ a. settled_accounts a (remove hs i)) here ∙ settled-remove (accounts slots) hs i h at (apart-session slots hs session)
 
   shelf-close : map (option_map (λ (d : Discipline). d.terms)) slots' ≡ set (map (option_map (λ (d : Discipline). d.terms)) slots) (h.place - 1) (Some h.disc.terms)
   shelf-close =
@@ -117,15 +117,15 @@ module _ (slots slots' : Slots) (hs : List Held) (i : ℕ) (h : Held) (at : slic
       ∙ (map-set (option_map (λ (a : Account). a.terms)) (accounts slots) (h.place - 1) (Some (account_after h))
       ∙ ap (λ rs. set rs (h.place - 1) (Some h.disc.terms)) (terms_of slots)))
 
-  pub step-close : (kinds : List Rules) (ds : List DictHome) (r : List ℕ) (count : ℕ) → IsFirst (is_home r) (map home_of hs) i → is_busy (state_of kinds slots hs ds) r ≡ false → count ≡ length (segments_of h.region) → close_step (state_of kinds slots hs ds) r ≡ stepped (state_of kinds slots' (remove hs i) ds) (Closed r count)
+  pub step-close : (kinds : List Rules) (ds : List DictHome) (r : List ℕ) (count : ℕ) → IsFirst (is_home r) (map home_of hs) i → is_busy (state_of kinds slots hs ds) r ≡ false → count ≡ length (segments_of h.region) → close_step (state_of kinds slots hs ds) r ≡ step_with_reply (state_of kinds slots' (remove hs i) ds) (Closed r count)
   step-close kinds ds r count first free counted =
       let item : first.item ≡ home_of h = same_Some first.item (home_of h) (sym first.at ∙ (slice_get-map home_of hs i ∙ ap (option_map home_of) at)) in
       let found : home_named r (map home_of hs) ≡ Some (home_of h) = find-first (is_home r) (map home_of hs) i first ∙ ap (λ k. Some k) item in
       let left : without_home r (map home_of hs) ≡ map home_of (remove hs i) =
       without_home-at r (map home_of hs) i first.item first.at first.passes first.before ∙ sym (map-remove home_of hs i) in
       ap (close_home (state_of kinds slots hs ds) r) found
-      ∙ (ap (λ b. cond b (refused (state_of kinds slots hs ds) Busy) (closed (state_of kinds slots hs ds) r (home_of h))) free
-      ∙ (ap (λ ss. stepped (record (state_of kinds slots hs ds) { shelf = set (state_of kinds slots hs ds).shelf (h.place - 1) (Some h.disc.terms); homes = without_home r (map home_of hs) }) (Closed r (length ss))) (segments-relabelled (name_of h.labels) h.region)
-      ∙ (ap (λ rs. stepped (record (state_of kinds slots hs ds) { shelf = rs; homes = without_home r (map home_of hs) }) (Closed r (length (segments_of h.region)))) (sym shelf-close)
-      ∙ (ap (λ ks. stepped (record (state_of kinds slots' hs ds) { homes = ks }) (Closed r (length (segments_of h.region)))) left
-      ∙ ap (λ n. stepped (state_of kinds slots' (remove hs i) ds) (Closed r n)) (sym counted)))))
+      ∙ (ap (λ b. cond b (step_with_refusal (state_of kinds slots hs ds) Busy) (step_with_close (state_of kinds slots hs ds) r (home_of h))) free
+      ∙ (ap (λ ss. step_with_reply (record (state_of kinds slots hs ds) { shelf = set (state_of kinds slots hs ds).shelf (h.place - 1) (Some h.disc.terms); homes = without_home r (map home_of hs) }) (Closed r (length ss))) (segments-relabelled (name_of h.labels) h.region)
+      ∙ (ap (λ rs. step_with_reply (record (state_of kinds slots hs ds) { shelf = rs; homes = without_home r (map home_of hs) }) (Closed r (length (segments_of h.region)))) (sym shelf-close)
+      ∙ (ap (λ ks. step_with_reply (record (state_of kinds slots' hs ds) { homes = ks }) (Closed r (length (segments_of h.region)))) left
+      ∙ ap (λ n. step_with_reply (state_of kinds slots' (remove hs i) ds) (Closed r n)) (sym counted)))))

@@ -7,7 +7,7 @@ use Rattle.std.proofs.lemmas.Bool.{cases_Bool, false_from_ne_true, false≢true}
 use Rattle.std.proofs.lemmas.Option.{none-some, same_Some}
 use Rattle.vc_base.specs.Holders.{contains}
 use Rattle.vc_dtdisc.specs.Rules.{Rules}
-use Rattle.vc_objects.specs.Objects.{Dictionary, owned}
+use Rattle.vc_objects.specs.Objects.{Dictionary, own_blocks}
 use Rattle.vc_objects.specs.Parts.{IsWhole, dictionary_of}
 use Rattle.vc_region.specs.Region.{is_best}
 use Rattle.vc_commands.specs.Held.{Held}
@@ -30,7 +30,7 @@ pub record Touches (h g : Held) (mine mine' : List ℕ) : Type 0 where
 -- a dictionary has none of these blocks, where it lies in the region of that name
 abbrev pub IsClear : List Held → List ℕ → List ℕ → Entry → Type 0
 IsClear held r mine f =
-    bytes_eq r f.1.home ≡ true → (a : ℕ) → contains mine a ≡ true → contains (owned (dict_over held f)) a ≡ false
+    bytes_eq r f.1.home ≡ true → (a : ℕ) → contains mine a ≡ true → contains (own_blocks (dict_over held f)) a ≡ false
 
 -- where the cell is none no block is there
 not-there : (o : Option (List ℕ)) → is_some o ≡ true → o ≡ None → ⊥
@@ -70,17 +70,17 @@ module _ (kinds : List Rules) (hs : List Held) (j : ℕ) (h g : Held) (mine mine
       own-was = ap (λ o. dictionary_of f.1.dict (cells_held o)) was
 
       module _ (clear : IsClear hs h.name mine f) where
-        apart-mine : (a : ℕ) → contains (owned (dictionary_of f.1.dict h.cells)) a ≡ true → contains mine a ≡ false
+        apart-mine : (a : ℕ) → contains (own_blocks (dictionary_of f.1.dict h.cells)) a ≡ true → contains mine a ≡ false
         apart-mine a own =
             false_from_ne_true (contains mine a)
-            (λ m. false≢true (sym (subst (λ (x : Dictionary). contains (owned x) a ≡ false) own-was (clear here a m)) ∙ own))
+            (λ m. false≢true (sym (subst (λ (x : Dictionary). contains (own_blocks x) a ≡ false) own-was (clear here a m)) ∙ own))
 
-        apart-new : (a : ℕ) → contains (owned (dictionary_of f.1.dict h.cells)) a ≡ true → contains mine' a ≡ false
+        apart-new : (a : ℕ) → contains (own_blocks (dictionary_of f.1.dict h.cells)) a ≡ true → contains mine' a ≡ false
         apart-new a own =
             false_from_ne_true (contains mine' a)
             (λ m. not-there (h.cells a) (owned-there d.rules f.1.dict h.cells whole-was a own) (t.fresh a m (apart-mine a own)))
 
-        cells-kept : (a : ℕ) → contains (owned (dictionary_of f.1.dict h.cells)) a ≡ true → g.cells a ≡ h.cells a
+        cells-kept : (a : ℕ) → contains (own_blocks (dictionary_of f.1.dict h.cells)) a ≡ true → g.cells a ≡ h.cells a
         cells-kept a own = t.others a (apart-mine a own) (apart-new a own)
 
         home-here : dict_over gs f ≡ dict_over hs f
@@ -122,13 +122,13 @@ module _ (kinds : List Rules) (hs : List Held) (j : ℕ) (h g : Held) (mine mine
 
     pub clear-after : IsClear hs h.name mine f → IsClear hs h.name mine' f
     clear-after clear = λ here a m.
-        false_from_ne_true (contains (owned (dict_over hs f)) a)
-        (λ own. false≢true (sym (apart-new here clear a (subst (λ (x : Dictionary). contains (owned x) a ≡ true) (own-was here) own)) ∙ m))
+        false_from_ne_true (contains (own_blocks (dict_over hs f)) a)
+        (λ own. false≢true (sym (apart-new here clear a (subst (λ (x : Dictionary). contains (own_blocks x) a ≡ true) (own-was here) own)) ∙ m))
 
   apart-one : (f x : Entry) → IsDictOf kinds hs f → IsClear hs h.name mine f → IsDictOf kinds hs x → IsClear hs h.name mine x → AreApart hs f x → AreApart gs f x
   apart-one f x df cf dx cx apart = λ here a own.
-      subst (λ (k : Dictionary). contains (owned k) a ≡ false) (sym (home-kept x dx cx))
-      (apart here a (subst (λ (k : Dictionary). contains (owned k) a ≡ true) (home-kept f df cf) own))
+      subst (λ (k : Dictionary). contains (own_blocks k) a ≡ false) (sym (home-kept x dx cx))
+      (apart here a (subst (λ (k : Dictionary). contains (own_blocks k) a ≡ true) (home-kept f df cf) own))
 
   apart-all : (f : Entry) → IsDictOf kinds hs f → IsClear hs h.name mine f → (es : List Entry) → AreDicts kinds hs es → AllByRecursion (IsClear hs h.name mine) es → AllByRecursion (AreApart hs f) es → AllByRecursion (AreApart gs f) es
   apart-all f df cf [] ds cs ps = tt
@@ -145,15 +145,15 @@ module _ (kinds : List Rules) (hs : List Held) (j : ℕ) (h g : Held) (mine mine
       ap (λ k. home_of_entry vs e k ∷ dicts_in gs vs es) (home-kept e ds.0 cs.0) ∙ ap (λ ks. dict_home hs vs e ∷ ks) (homes-kept vs es ds.2 cs.1)
 
   -- the dictionary that has the new blocks
-  module _ (n : Entry) (dn : IsDictOf kinds gs n) (lies : bytes_eq h.name n.1.home ≡ true) (own : owned (dict_over gs n) ≡ mine') where
+  module _ (n : Entry) (dn : IsDictOf kinds gs n) (lies : bytes_eq h.name n.1.home ≡ true) (own : own_blocks (dict_over gs n) ≡ mine') where
     new-before : (f : Entry) → IsDictOf kinds hs f → IsClear hs h.name mine f → AreApart gs n f
     new-before f df cf = λ here a m.
-        subst (λ (k : Dictionary). contains (owned k) a ≡ false) (sym (home-kept f df cf))
+        subst (λ (k : Dictionary). contains (own_blocks k) a ≡ false) (sym (home-kept f df cf))
         (clear-after f df cf (ap (λ r. bytes_eq r f.1.home) (same_bytes h.name n.1.home lies) ∙ here) a (subst (λ xs. contains xs a ≡ true) own m))
 
     new-behind : (f : Entry) → IsDictOf kinds hs f → IsClear hs h.name mine f → AreApart gs f n
     new-behind f df cf = λ here a m.
-        false_from_ne_true (contains (owned (dict_over gs n)) a)
+        false_from_ne_true (contains (own_blocks (dict_over gs n)) a)
         (λ m'. false≢true (sym (new-before f df cf (swapped n.1.home f.1.home ∙ here) a m') ∙ m))
 
     new-apart : (es : List Entry) → AreDicts kinds hs es → AllByRecursion (IsClear hs h.name mine) es → AllByRecursion (AreApart gs n) es
@@ -216,22 +216,22 @@ module _ (kinds : List Rules) (hs : List Held) where
   dicts-remove (e ∷ es) (suc i) ds = (ds.0, all-remove (AreApart hs e) es i ds.1, dicts-remove es i ds.2)
 
   module _ (r : List ℕ) (e : Entry) (lies : bytes_eq r e.1.home ≡ true) where
-    clear-behind : (f : Entry) → AreApart hs e f → IsClear hs r (owned (dict_over hs e)) f
+    clear-behind : (f : Entry) → AreApart hs e f → IsClear hs r (own_blocks (dict_over hs e)) f
     clear-behind f apart = λ here a m. apart (ap (λ n. bytes_eq n f.1.home) (sym (same_bytes r e.1.home lies)) ∙ here) a m
 
-    clear-before : (f : Entry) → AreApart hs f e → IsClear hs r (owned (dict_over hs e)) f
+    clear-before : (f : Entry) → AreApart hs f e → IsClear hs r (own_blocks (dict_over hs e)) f
     clear-before f apart = λ here a m.
-        false_from_ne_true (contains (owned (dict_over hs f)) a)
+        false_from_ne_true (contains (own_blocks (dict_over hs f)) a)
         (λ own.
         false≢true
         (sym (apart (swapped f.1.home e.1.home ∙ (ap (λ n. bytes_eq n f.1.home) (sym (same_bytes r e.1.home lies)) ∙ here)) a own) ∙ m))
 
-    clear-all : (es : List Entry) → AllByRecursion (AreApart hs e) es → AllByRecursion (IsClear hs r (owned (dict_over hs e))) es
+    clear-all : (es : List Entry) → AllByRecursion (AreApart hs e) es → AllByRecursion (IsClear hs r (own_blocks (dict_over hs e))) es
     clear-all [] ps = tt
     clear-all (x ∷ es) ps = (clear-behind x ps.0, clear-all es ps.1)
 
     -- all others have none of its blocks
-    pub clear-others : (es : List Entry) (i : ℕ) → slice_get es i ≡ Some e → AreDicts kinds hs es → AllByRecursion (IsClear hs r (owned (dict_over hs e))) (remove es i)
+    pub clear-others : (es : List Entry) (i : ℕ) → slice_get es i ≡ Some e → AreDicts kinds hs es → AllByRecursion (IsClear hs r (own_blocks (dict_over hs e))) (remove es i)
     clear-others [] i there ds = absurd (none-some e there)
     clear-others (x ∷ es) zero there ds =
         clear-all es (subst (λ z. AllByRecursion (AreApart hs z) es) (same_Some x e there) ds.1)

@@ -16,7 +16,7 @@ use Rattle.vc_steps.specs.Account.{held_named, state_of}
 use Rattle.vc_steps.specs.DictHomes.{AreDicts, IsDictOf, dict_home, dicts_in}
 use Rattle.vc_steps.specs.Dicts.{dict_command, dict_shut, dict_step, on_found, on_seat, shut_state, told_of}
 use Rattle.vc_views.specs.Views.{is_dict, is_viewed_in}
-use Rattle.vc_steps.specs.State.{State, Stepped, home_named, refused}
+use Rattle.vc_steps.specs.State.{State, Stepped, home_named, step_with_refusal}
 use Rattle.vc_steps.specs.Step.{GivesStep}
 use Rattle.vc_steps.specs.Told.{tell}
 use Rattle.vc_steps.proofs.DictChange.{dict-at}
@@ -58,7 +58,7 @@ module _ (kinds : List Rules) (slots : Slots) (hs : List Held) (es : List Entry)
       let same : dict_step s e.0 command NoNeed ≡ dict_shut s (dict_home hs vs e) =
       step-dict command NoNeed
       ∙ (ap (λ c. dict_command s c NoNeed (dict_home hs vs e) (home_of is.home) is.rules) shuts
-      ∙ ap (λ t. cond t (refused s why.Viewed) (dict_shut s (dict_home hs vs e))) unviewed) in
+      ∙ ap (λ t. cond t (step_with_refusal s why.Viewed) (dict_shut s (dict_home hs vs e))) unviewed) in
       record {
         replied = ap (λ (t : Stepped). t.reply) same;
         state_after = ap (λ (t : Stepped). t.state) same ∙ sym state_is;

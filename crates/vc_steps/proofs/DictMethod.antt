@@ -7,10 +7,10 @@ use Rattle.vc_model.specs.Outcome as model
 use Rattle.vc_model.specs.Outcome.{Outcome, Put}
 use Rattle.vc_dtdisc.specs.Objects.{Object, bytes_of, first_with}
 use Rattle.vc_dtdisc.specs.Rules.{Gone}
-use Rattle.vc_objects.specs.Insert.{Grown, alloc_unlabelled, grow, grown_to, grown_with, held, held_in, slots_wanted}
+use Rattle.vc_objects.specs.Insert.{Grown, alloc_unlabelled, grow, grown_to, grown_with, insert_of, held_in, slots_wanted}
 use Rattle.vc_objects.specs.Leaves.{HasGrown}
 use Rattle.vc_objects.specs.Objects.{Dictionary, table_size, holder_size}
-use Rattle.vc_objects.specs.Remove.{remove_found, unnamed}
+use Rattle.vc_objects.specs.Remove.{remove_found, next_to_go}
 use Rattle.vc_script.specs.Needs.{Need, need_shown}
 use Rattle.vc_script.specs.declared.command.Command.{Command}
 use Rattle.vc_script.specs.declared.command.Command.TheVariants.{Insert, Append, Attach, Delete, Detach, Remethod, Empty}
@@ -18,7 +18,7 @@ use Rattle.vc_script.specs.declared.refusal.Refusal.TheVariants as why
 use Rattle.vc_script.specs.declared.reply.Reply.{Reply}
 use Rattle.vc_commands.specs.DictCommands.{in_dict, insert_in, is_for_object, is_for_table, is_object, put_object, put_unless, removed_as, standing, where_object}
 use Rattle.vc_commands.specs.DictRun.{GivesDict, IsSpent, IsSpentBy}
-use Rattle.vc_commands.specs.Seat.{DictChanged, Seat, declined}
+use Rattle.vc_commands.specs.Seat.{DictChanged, Seat, seat_with_refusal}
 use Rattle.vc_steps.specs.Dicts.{is_turn}
 
 module _ {L : Type 0} where
@@ -36,7 +36,7 @@ module _ {L : Type 0} where
     to-keeps d refused None = refl
     to-keeps d refused (Some slots) = with-keeps d slots (alloc_unlabelled s.terms s.region s.none (table_size slots) refused)
 
-    held-keeps : (append : Bool) (bytes : List ℕ) (g : Grown L) (o : Outcome (Put (Layout L))) → (held s.rules append bytes g o).dict.method ≡ g.dict.method
+    held-keeps : (append : Bool) (bytes : List ℕ) (g : Grown L) (o : Outcome (Put (Layout L))) → (insert_of s.rules append bytes g o).dict.method ≡ g.dict.method
     held-keeps append bytes g (model.Refused fault) = refl
     held-keeps append bytes g (model.Done p) = refl
 
@@ -55,7 +55,7 @@ module _ {L : Type 0} where
     keeps-if false a b p q = q
 
     keeps-sized : (bytes : List ℕ) (c : DictChanged L) → Keeps c → Keeps (where_object s bytes c)
-    keeps-sized bytes c p = keeps-if (is_object bytes) c (declined s why.Size) p refl
+    keeps-sized bytes c p = keeps-if (is_object bytes) c (seat_with_refusal s why.Size) p refl
 
     keeps-put : (append : Bool) (bytes : List ℕ) (need : Need) → Keeps (put_object s append bytes need)
     keeps-put append bytes need =
@@ -80,10 +80,10 @@ module _ {L : Type 0} where
     pub method-kept : (command : Command) (need : Need) → is_turn command ≡ false → Keeps (in_dict s command need)
     method-kept (Insert d bytes) need still = keeps-insert bytes (s.rules.made bytes) need
     method-kept (Append d bytes) need still =
-        keeps-if (is_list s.dict.method) (where_object s bytes (put_object s true (s.rules.made bytes) need)) (declined s why.WrongMethod)
+        keeps-if (is_list s.dict.method) (where_object s bytes (put_object s true (s.rules.made bytes) need)) (seat_with_refusal s why.WrongMethod)
         (keeps-sized bytes (put_object s true (s.rules.made bytes) need) (keeps-put true (s.rules.made bytes) need)) refl
     method-kept (Attach d bytes) need still = keeps-insert bytes bytes need
-    method-kept (Delete d None) need still = keeps-removed true (unnamed s.dict.method s.dict.objects)
+    method-kept (Delete d None) need still = keeps-removed true (next_to_go s.dict.method s.dict.objects)
     method-kept (Delete d (Some bytes)) need still = keeps-remove true bytes
     method-kept (Detach d bytes) need still = keeps-remove false bytes
     method-kept (Remethod d method) need still = absurd (false≢true (sym still))

@@ -13,14 +13,14 @@ use Rattle.vc_model.specs.Outcome as model
 use Rattle.vc_model.specs.Outcome.{Fault, Outcome, done_as}
 use Rattle.vc_dtdisc.specs.Rules.{Gone, Rules}
 use Rattle.vc_model.specs.Layout.{Layout, relabel_layout}
-use Rattle.vc_region.specs.Region.{OfBest, Region, layout_in, relabelled}
+use Rattle.vc_region.specs.Region.{OfBest, Region, layout_in, region_with_labels}
 use Rattle.vc_region.proofs.Relabel.{layout-relabelled}
 use Rattle.vc_seg.specs.Answer.{IsRefusal}
 use Rattle.vc_seg.specs.declared.fault.RegionFault.{RegionFault}
 use Rattle.vc_seg.specs.declared.fault.RegionFault.TheVariants as code
 use Rattle.vc_objects.specs.Insert.{Grown, open_dictionary, want_of}
 use Rattle.vc_objects.specs.Leaves.{HasGrown, LacksTable, RefusedBy}
-use Rattle.vc_objects.specs.Objects.{Dictionary, owned}
+use Rattle.vc_objects.specs.Objects.{Dictionary, own_blocks}
 use Rattle.vc_objects.specs.Parts.{IsWhole, dictionary_of}
 use Rattle.vc_objects.proofs.Named.{open_dictionary-named, relabel_grown}
 use Rattle.vc_commands.specs.DictCommands.{is_for_table, table_refusal}
@@ -32,7 +32,7 @@ use Rattle.vc_script.specs.declared.refusal.Refusal.TheVariants as why
 use Rattle.vc_script.specs.declared.reply.Reply.{Reply}
 use Rattle.vc_script.specs.declared.reply.Reply.TheVariants as reply
 use Rattle.vc_commands.specs.Held.{Held, IsChange, home_of}
-use Rattle.vc_steps.specs.Account.{Settles, accounts, held_named, settled, state_of}
+use Rattle.vc_steps.specs.Account.{Settles, accounts, held_named, settled_accounts, state_of}
 use Rattle.vc_steps.specs.DictHomes.{AreDicts, IsDictOf, cells_held, dict_home, dicts_in, dict_over}
 use Rattle.vc_steps.specs.Dicts.{dict_opened, dict_refused, open_dict_in, open_dict_step, open_dict_unless}
 use Rattle.vc_commands.specs.Kept.{Kept}
@@ -169,7 +169,7 @@ module _ {I : Type 0} {V : I → Type 0} {meaning : (x : I) × V x → Disciplin
     gs = set hs j g
 
     abbrev Settled : List ℕ → Type 0
-    Settled refusals = Settles (settled (accounts slots) hs) (settled (accounts slots) gs) refusals
+    Settled refusals = Settles (settled_accounts (accounts slots) hs) (settled_accounts (accounts slots) gs) refusals
 
     -- a refusal of its discipline counts
     pub settles-failed : (fault : RegionFault) (told : Reply) → table_reply fault ≡ Some told → RefusedBy fault (LacksTable (Some 16) h.disc g.disc) h.disc g.disc → Settled (refusal_at s (OpenDict d method r k) told)
@@ -200,8 +200,8 @@ module _ {I : Type 0} {V : I → Type 0} {meaning : (x : I) × V x → Disciplin
     state-failed touch region labels =
         ap (state_of kinds slots gs) (homes-kept kinds hs j h g [] [] named-first at touch vs es x.here.dicts (clear-none hs r es))
         ∙ state-same slots hs j h g at x.here.held change kinds (dicts_in hs vs es)
-        (ap (λ q. let p : Region Label × Kept = (relabelled (name_of g.labels) q, kept_of g.labels) in p) region
-        ∙ ap (λ l. let p : Region Label × Kept = (relabelled (name_of l) h.region, kept_of l) in p) labels)
+        (ap (λ q. let p : Region Label × Kept = (region_with_labels (name_of g.labels) q, kept_of g.labels) in p) region
+        ∙ ap (λ l. let p : Region Label × Kept = (region_with_labels (name_of l) h.region, kept_of l) in p) labels)
 
   -- no block is put for its table, by the answer to the fault
   module _ (g : Held) {cells : Blocks} (change : IsChange (record h { cells = cells }) g) (gone : List Gone) where
@@ -225,7 +225,7 @@ module _ {I : Type 0} {V : I → Type 0} {meaning : (x : I) × V x → Disciplin
         }
 
   -- its table is put
-  module _ (g : Held) (new : Dict) (n : ℕ) (free : vs n ≡ None) {cells : Blocks} (change : IsChange (record h { cells = cells }) g) (touch : Touches h g [] (owned (dictionary_of new g.cells))) (labels : g.labels ≡ h.labels) (kind : new.kind ≡ k) (rules : Rules) (by : at_number kinds k ≡ Some rules) (whole : IsWhole rules new g.cells) where
+  module _ (g : Held) (new : Dict) (n : ℕ) (free : vs n ≡ None) {cells : Blocks} (change : IsChange (record h { cells = cells }) g) (touch : Touches h g [] (own_blocks (dictionary_of new g.cells))) (labels : g.labels ≡ h.labels) (kind : new.kind ≡ k) (rules : Rules) (by : at_number kinds k ≡ Some rules) (whole : IsWhole rules new g.cells) where
     abbrev after_hs : List Held
     after_hs = set hs j g
 
@@ -233,7 +233,7 @@ module _ {I : Type 0} {V : I → Type 0} {meaning : (x : I) × V x → Disciplin
     entry_opened = (d, record { home = r; number = n; dict = new })
 
     abbrev mine : List ℕ
-    mine = owned (dictionary_of new g.cells)
+    mine = own_blocks (dictionary_of new g.cells)
 
     opened-held : held_named after_hs (Some r) ≡ Some g
     opened-held = now-named kinds hs j h g [] mine named-first at touch
@@ -248,8 +248,8 @@ module _ {I : Type 0} {V : I → Type 0} {meaning : (x : I) × V x → Disciplin
       whole = whole;
     }
 
-    opened-own : owned (dict_over after_hs entry_opened) ≡ mine
-    opened-own = ap (λ o. owned (dictionary_of new (cells_held o))) opened-held
+    opened-own : own_blocks (dict_over after_hs entry_opened) ≡ mine
+    opened-own = ap (λ o. own_blocks (dictionary_of new (cells_held o))) opened-held
 
     pub dicts-opened : AreDicts kinds after_hs (es ++ entry_opened ∷ [])
     dicts-opened =
@@ -273,7 +273,7 @@ module _ {I : Type 0} {V : I → Type 0} {meaning : (x : I) × V x → Disciplin
     region-opened : (region : Layout ℕ) → layout_in g.region ≡ region → with_region r (OfBest (relabel_layout (name_of h.labels) region)) (home_of h).kept s.homes ≡ map home_of after_hs
     region-opened region same =
         ap (λ (q : Region Label). with_region r q (home_of h).kept s.homes) (best-named (name_of h.labels) g.region region touch.best (sym same))
-        ∙ (ap (λ l. with_region r (relabelled (name_of l) g.region) (kept_of l) s.homes) (sym labels)
+        ∙ (ap (λ l. with_region r (region_with_labels (name_of l) g.region) (kept_of l) s.homes) (sym labels)
         ∙ homes-change slots hs j h g at x.here.held change r (region-first meaning x.region))
 
     gives-opened : (gone : List Gone) (o : Outcome (Grown ℕ)) (t : Stepped) → HasGrown o (layout_in g.region) (dictionary_of new g.cells) → t ≡ dict_opened s (home_of h) d k (done_as (relabel_grown (name_of h.labels)) o) → GivesStep t gone (reply.Opened d) opened_state gone

@@ -2,7 +2,7 @@
 use Rattle.std.proofs.Common.{◌≡◌, ℕ, Bool, true, false, cond, List, Option, Some, None, length, sym, ap, ◌∙◌, refl}
 use Rattle.std.specs.Prelude.{nat_le, not}
 use Rattle.std.specs.List.{list_any}
-use Rattle.vc_region.specs.Region.{OfBest, OfDebug, OfLast, OfPool, OfProfile, Region, relabelled, is_best}
+use Rattle.vc_region.specs.Region.{OfBest, OfDebug, OfLast, OfPool, OfProfile, Region, region_with_labels, is_best}
 use Rattle.vc_script.specs.declared.refusal.Refusal.{Refusal}
 use Rattle.vc_script.specs.declared.refusal.Refusal.TheVariants as why
 use Rattle.vc_steps.specs.Dicts.{dict_limit, dict_refused, is_kind}
@@ -10,7 +10,7 @@ use Rattle.vc_views.specs.Views.{is_dict}
 use Rattle.vc_commands.specs.Home.{Home}
 use Rattle.vc_steps.specs.State.{State}
 
-pub best-relabelled : {L M : Type 0} (f : L → M) (r : Region L) → is_best (relabelled f r) ≡ is_best r
+pub best-relabelled : {L M : Type 0} (f : L → M) (r : Region L) → is_best (region_with_labels f r) ≡ is_best r
 best-relabelled f (OfBest layout) = refl
 best-relabelled f (OfPool pool) = refl
 best-relabelled f (OfLast layout) = refl

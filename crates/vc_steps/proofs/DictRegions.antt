@@ -6,7 +6,7 @@ use Rattle.vc_base.specs.Holders.{contains}
 use Rattle.vc_model.specs.Discipline.{Discipline}
 use Rattle.vc_dtdisc.specs.Rules.{Rules}
 use Rattle.vc_dtdisc.proofs.FindingLemmas.{find-map}
-use Rattle.vc_objects.specs.Objects.{Dictionary, owned}
+use Rattle.vc_objects.specs.Objects.{Dictionary, own_blocks}
 use Rattle.vc_objects.specs.Parts.{IsWhole, dictionary_of}
 use Rattle.vc_region.specs.Region.{is_best}
 use Rattle.vc_commands.specs.Held.{Held}
@@ -75,8 +75,8 @@ module _ (hs : List Held) where
     apart-to e [] all = tt
     apart-to e (f ∷ fs) all = (
       (λ near a mine.
-          ap (λ (d : Dictionary). contains (owned d) a) (over-seen f)
-          ∙ all.0 near a (ap (λ (d : Dictionary). contains (owned d) a) (sym (over-seen e)) ∙ mine)),
+          ap (λ (d : Dictionary). contains (own_blocks d) a) (over-seen f)
+          ∙ all.0 near a (ap (λ (d : Dictionary). contains (own_blocks d) a) (sym (over-seen e)) ∙ mine)),
       apart-to e fs all.1,
     )
 
@@ -84,8 +84,8 @@ module _ (hs : List Held) where
     apart-from e [] all = tt
     apart-from e (f ∷ fs) all = (
       (λ near a mine.
-          ap (λ (d : Dictionary). contains (owned d) a) (sym (over-seen f))
-          ∙ all.0 near a (ap (λ (d : Dictionary). contains (owned d) a) (over-seen e) ∙ mine)),
+          ap (λ (d : Dictionary). contains (own_blocks d) a) (sym (over-seen f))
+          ∙ all.0 near a (ap (λ (d : Dictionary). contains (own_blocks d) a) (over-seen e) ∙ mine)),
       apart-from e fs all.1,
     )
 

@@ -19,7 +19,7 @@ use Rattle.vc_script.specs.declared.refusal.Refusal.TheVariants as why
 use Rattle.vc_script.specs.declared.reply.Reply.{Reply}
 use Rattle.vc_script.specs.declared.reply.Reply.TheVariants as reply
 use Rattle.vc_commands.specs.DictCommands.{delete_in, fate_reply, gone_reply, in_dict, insert_in, is_for_object, is_for_table, is_object, object_refusal, put_object, put_unless, removed_as, standing, table_refusal, turned_as, where_object}
-use Rattle.vc_commands.specs.Seat.{DictChanged, Seat, declined}
+use Rattle.vc_commands.specs.Seat.{DictChanged, Seat, seat_with_refusal}
 
 abbrev pub IsOther : Reply → Type 0
 IsOther (reply.Refused why.NoSegment) = ⊥
@@ -49,7 +49,7 @@ module _ {L : Type 0} (s : Seat L) where
   other-if false a b p q = q
 
   other-sized : (bytes : List ℕ) (c : DictChanged L) → IsOther c.reply → IsOther (where_object s bytes c).reply
-  other-sized bytes c p = other-if (is_object bytes) c (declined s why.Size) p tt
+  other-sized bytes c p = other-if (is_object bytes) c (seat_with_refusal s why.Size) p tt
 
   other-put : (append : Bool) (bytes : List ℕ) (need : Need) → IsOther (put_object s append bytes need).reply
   other-put append bytes need = other-fate bytes (insert s.rules s.terms s.region s.none s.dict append bytes (is_for_table need) (is_for_object need)).fate
@@ -76,7 +76,7 @@ module _ {L : Type 0} (s : Seat L) where
   pub other-dict : (command : Command) (need : Need) → IsOther (in_dict s command need).reply
   other-dict (Insert d bytes) need = other-insert bytes (s.rules.made bytes) need
   other-dict (Append d bytes) need =
-      other-if (is_list s.dict.method) (where_object s bytes (put_object s true (s.rules.made bytes) need)) (declined s why.WrongMethod)
+      other-if (is_list s.dict.method) (where_object s bytes (put_object s true (s.rules.made bytes) need)) (seat_with_refusal s why.WrongMethod)
       (other-sized bytes (put_object s true (s.rules.made bytes) need) (other-put true (s.rules.made bytes) need)) tt
   other-dict (Attach d bytes) need = other-insert bytes bytes need
   other-dict (Delete d object) need = other-delete object

@@ -14,7 +14,7 @@ use Rattle.vc_best.specs.Cells.{cells_in, rest_in}
 use Rattle.vc_best.specs.Parts.{disc_in}
 use Rattle.vc_best.specs.declared.best.Best.{Best}
 use Rattle.vc_objects.specs.Leaves.{LeavesRest}
-use Rattle.vc_objects.specs.Objects.{owned}
+use Rattle.vc_objects.specs.Objects.{own_blocks}
 use Rattle.vc_objects.specs.Parts.{IsWhole, dictionary_in}
 use Rattle.vc_commands.specs.DictCommands.{in_dict}
 use Rattle.vc_commands.specs.DictRun.{AskedBy, GivesDict, IsSpentBy, LacksBy, seat_in}
@@ -26,7 +26,7 @@ use Rattle.vc_script.specs.declared.refusal.Refusal.TheVariants as why
 use Rattle.vc_script.specs.declared.reply.Reply.{Reply}
 use Rattle.vc_commands.specs.declared.dict.entry.DictEntry.{DictEntry}
 use Rattle.vc_commands.specs.Held.{Held, IsChange, home_of}
-use Rattle.vc_steps.specs.Account.{IsHeld, IsSession, Settles, accounts, settled, state_of}
+use Rattle.vc_steps.specs.Account.{IsHeld, IsSession, Settles, accounts, settled_accounts, state_of}
 use Rattle.vc_steps.specs.DictHomes.{AreDicts, IsDictOf, dict_home, dicts_in}
 use Rattle.vc_steps.specs.Dicts.{dict_changed, dict_command, dict_of, dict_step, is_turn, runs_alone, seat_of}
 use Rattle.vc_views.specs.Views.{is_linked_in, DictHome}
@@ -34,7 +34,7 @@ use Rattle.vc_steps.specs.Homes.{held_all}
 use Rattle.vc_commands.specs.RegionRun.{held_of}
 use Rattle.vc_steps.specs.Lacks.{IsCutOff, StepLacksFor}
 use Rattle.vc_steps.specs.Refusals.{refusal_at}
-use Rattle.vc_steps.specs.State.{State, refused}
+use Rattle.vc_steps.specs.State.{State, step_with_refusal}
 use Rattle.vc_commands.specs.Home.{Home}
 use Rattle.vc_steps.specs.Moment.{Moment}
 use Rattle.vc_steps.specs.Step.{GivesStep}
@@ -75,7 +75,7 @@ alone-command s (Next x bytes) need d h rules is = absurd (false≢true is.alone
 alone-command s (Prev x bytes) need d h rules is = absurd (false≢true is.alone)
 alone-command s (Walk x) need d h rules is = absurd (false≢true is.alone)
 alone-command s (Remethod x method) need d h rules is =
-    ap (λ t. cond t (refused s why.Viewed) (dict_changed s d h (in_dict (seat_of d h rules) (Remethod x method) need))) (is.free refl)
+    ap (λ t. cond t (step_with_refusal s why.Viewed) (dict_changed s d h (in_dict (seat_of d h rules) (Remethod x method) need))) (is.free refl)
 alone-command s command need d h rules is = refl
 
 module _ {I : Type 0} {V : I → Type 0} {meaning : (x : I) × V x → Discipline} (place : ℕ) (before : Best I V) (x : DictIn meaning (best_entry place before)) (index : position (bytes_eq x.e.0) (keys_of x.here.es) ≡ Some x.i) where
@@ -158,10 +158,10 @@ module _ {I : Type 0} {V : I → Type 0} {meaning : (x : I) × V x → Disciplin
     g = held_of meaning entry.home (best_entry place after) x.region.l
 
     abbrev mine : List ℕ
-    mine = owned (dictionary_in entry.dict before)
+    mine = own_blocks (dictionary_in entry.dict before)
 
     abbrev mine' : List ℕ
-    mine' = owned (dictionary_in new after)
+    mine' = own_blocks (dictionary_in new after)
 
     change : IsChange (let k : Held = record h { cells = cells_in after } in k) g
     change =
@@ -207,9 +207,9 @@ module _ {I : Type 0} {V : I → Type 0} {meaning : (x : I) × V x → Disciplin
         (dicts-after x index g new change touch refl ran.leaves.kind whole-new)
 
     -- with no fault counted
-    quiet-ran : (disc_in meaning after).faults ≡ (disc_in meaning before).faults → Settles (settled (accounts slots) hs) (settled (accounts slots) hs') []
+    quiet-ran : (disc_in meaning after).faults ≡ (disc_in meaning before).faults → Settles (settled_accounts (accounts slots) hs) (settled_accounts (accounts slots) hs') []
     quiet-ran same =
-        carry (λ ks xs ys. Settles (settled (accounts slots) hs) (settled (accounts slots) xs) [])
+        carry (λ ks xs ys. Settles (settled_accounts (accounts slots) hs) (settled_accounts (accounts slots) xs) [])
         (settles-none slots hs x.j h g at here.held change same)
 
     abbrev tags : Seat ℕ
@@ -234,9 +234,9 @@ module _ {I : Type 0} {V : I → Type 0} {meaning : (x : I) × V x → Disciplin
     lacks-by : (command : Command) (reply : Reply) → LacksBy tags command reply (disc_in meaning before) (disc_in meaning after) → LacksBy (seat_by is.rules) command reply (disc_in meaning before) (disc_in meaning after)
     lacks-by command reply lacks = subst (λ r. LacksBy (seat_by r) command reply (disc_in meaning before) (disc_in meaning after)) rules-is lacks
 
-    settles-ran : (command : Command) (reply : Reply) → dict_of command ≡ Some name → IsOther reply → LacksBy tags command reply (disc_in meaning before) (disc_in meaning after) → Settles (settled (accounts slots) hs) (settled (accounts slots) hs') (refusal_at s command reply)
+    settles-ran : (command : Command) (reply : Reply) → dict_of command ≡ Some name → IsOther reply → LacksBy tags command reply (disc_in meaning before) (disc_in meaning after) → Settles (settled_accounts (accounts slots) hs) (settled_accounts (accounts slots) hs') (refusal_at s command reply)
     settles-ran command reply works other lacks =
-        carry (λ ks xs ys. Settles (settled (accounts slots) hs) (settled (accounts slots) xs) (refusal_at s command reply))
+        carry (λ ks xs ys. Settles (settled_accounts (accounts slots) hs) (settled_accounts (accounts slots) xs) (refusal_at s command reply))
         (settles-after x index g new change touch refl ran.leaves.kind whole-new command reply works other (lacks-by command reply lacks))
 
     lacks-ran : (command : Command) (reply : Reply) → dict_of command ≡ Some name → IsOther reply → LacksBy tags command reply (disc_in meaning before) (disc_in meaning after) → StepLacksFor s hs hs' command reply
@@ -255,10 +255,10 @@ module _ {I : Type 0} {V : I → Type 0} {meaning : (x : I) × V x → Disciplin
     other-ran command reply old told gives = subst IsOther gives.reply (other-dict tags command (need_shown reply))
 
     abbrev moment_after : Vs → List Gone → Moment
-    moment_after seen gone = record { state = state_of kinds' slots hs' (dicts_in hs' seen es'); regions = hs'; written = None; accounts = settled (accounts slots) hs'; gone = gone }
+    moment_after seen gone = record { state = state_of kinds' slots hs' (dicts_in hs' seen es'); regions = hs'; written = None; accounts = settled_accounts (accounts slots) hs'; gone = gone }
 
     abbrev moment_before : Moment
-    moment_before = record { state = s; regions = hs; written = None; accounts = settled (accounts slots) hs; gone = here.gone }
+    moment_before = record { state = s; regions = hs; written = None; accounts = settled_accounts (accounts slots) hs; gone = here.gone }
 
     views-ran : views_by here.links es' ≡ vs
     views-ran = ap (views_by here.links) es-is ∙ views-changed here.links es i e x.there new

@@ -10,14 +10,14 @@ use Rattle.std.proofs.lemmas.Slice.Eq.{bytes_eq-Decides}
 use Rattle.vc_base.specs.Cells.{Blocks}
 use Rattle.vc_dtdisc.specs.Rules.{Rules}
 use Rattle.vc_model.specs.Layout.{Layout}
-use Rattle.vc_region.specs.Region.{OfBest, layout_in, relabelled}
+use Rattle.vc_region.specs.Region.{OfBest, layout_in, region_with_labels}
 use Rattle.vc_region.proofs.Relabel.{layout-relabelled}
-use Rattle.vc_objects.specs.Objects.{Dictionary, owned}
+use Rattle.vc_objects.specs.Objects.{Dictionary, own_blocks}
 use Rattle.vc_objects.specs.Parts.{dictionary_of, dictionary_in}
 use Rattle.vc_objects.specs.Remove.{region_without}
 use Rattle.vc_objects.proofs.Named.{region_without-named}
 use Rattle.vc_commands.specs.Held.{Held, IsChange, home_of}
-use Rattle.vc_steps.specs.Account.{IsSession, state_of, IsHeld, accounts, settled}
+use Rattle.vc_steps.specs.Account.{IsSession, state_of, IsHeld, accounts, settled_accounts}
 use Rattle.vc_steps.specs.DictHomes.{AreDicts, dict_home, dicts_in, dict_over}
 use Rattle.vc_steps.specs.Dicts.{shut_in, shut_state, without_dict}
 use Rattle.vc_views.specs.Views.{is_dict, DictHome}
@@ -39,7 +39,7 @@ use Rattle.vc_best.specs.declared.best.Best.{Best}
 use Rattle.indexmap.specs.IndexMap.{set_value_at}
 use Rattle.vc_model.specs.Discipline.{Discipline}
 use Rattle.vc_objects.specs.Leaves.{Leaves}
-use Rattle.vc_paths.specs.Links.{ArePaths, Links, below, is_viewed, linked}
+use Rattle.vc_paths.specs.Links.{ArePaths, Links, below, is_viewed, links_with}
 use Rattle.vc_commands.specs.RegionRun.{held_of}
 use Rattle.vc_commands.specs.declared.region.home.HomeEntry.{HomeEntry}
 use Rattle.vc_views.specs.Numbers.{AreLinked, views_by}
@@ -101,20 +101,20 @@ module _ {I : Type 0} {V : I → Type 0} {meaning : (x : I) × V x → Disciplin
   was = dictionary_of e.1.dict h.cells
 
   -- its blocks go
-  module _ (g : Held) {cells : Blocks} (change : IsChange (record h { cells = cells }) g) (touch : Touches h g (owned was) []) (labels : g.labels ≡ h.labels) (region : layout_in g.region ≡ region_without (layout_in h.region) was) where
+  module _ (g : Held) {cells : Blocks} (change : IsChange (record h { cells = cells }) g) (touch : Touches h g (own_blocks was) []) (labels : g.labels ≡ h.labels) (region : layout_in g.region ≡ region_without (layout_in h.region) was) where
     abbrev gs : List Held
     gs = set hs x.j g
 
-    clear : AllByRecursion (IsClear hs e.1.home (owned was)) (remove es x.i)
+    clear : AllByRecursion (IsClear hs e.1.home (own_blocks was)) (remove es x.i)
     clear =
-        subst (λ (y : Dictionary). AllByRecursion (IsClear hs e.1.home (owned y)) (remove es x.i)) (dict-is x)
+        subst (λ (y : Dictionary). AllByRecursion (IsClear hs e.1.home (own_blocks y)) (remove es x.i)) (dict-is x)
         (clear-others kinds hs e.1.home e ((bytes_eq-Decides e.1.home e.1.home).1 refl) es x.i x.there x.here.dicts)
 
     pub dicts-shut : AreDicts kinds gs (remove es x.i)
-    dicts-shut = dicts-kept kinds hs x.j h g (owned was) [] (held-first x) (region-stands meaning x.region) touch (remove es x.i) (dicts-remove kinds hs es x.i x.here.dicts) clear
+    dicts-shut = dicts-kept kinds hs x.j h g (own_blocks was) [] (held-first x) (region-stands meaning x.region) touch (remove es x.i) (dicts-remove kinds hs es x.i x.here.dicts) clear
 
     dicts-same : dicts_in gs vs (remove es x.i) ≡ dicts_in hs vs (remove es x.i)
-    dicts-same = homes-kept kinds hs x.j h g (owned was) [] (held-first x) (region-stands meaning x.region) touch vs (remove es x.i) (dicts-remove kinds hs es x.i x.here.dicts) clear
+    dicts-same = homes-kept kinds hs x.j h g (own_blocks was) [] (held-first x) (region-stands meaning x.region) touch vs (remove es x.i) (dicts-remove kinds hs es x.i x.here.dicts) clear
 
     abbrev made : List Home → List DictHome → State
     made homes ds = record { shelf = (state_of kinds slots hs []).shelf; homes = homes; kinds = kinds; dicts = ds }
@@ -125,7 +125,7 @@ module _ {I : Type 0} {V : I → Type 0} {meaning : (x : I) × V x → Disciplin
         ∙ (ap (λ (q : Layout Label). OfBest (region_without q was)) (layout-relabelled (name_of h.labels) h.region)
         ∙ (ap (λ (q : Layout Label). OfBest q) (region_without-named (name_of h.labels) (layout_in h.region) was)
         ∙ (best-named (name_of h.labels) g.region (region_without (layout_in h.region) was) touch.best (sym region)
-        ∙ ap (λ l. relabelled (name_of l) g.region) (sym labels))))
+        ∙ ap (λ l. region_with_labels (name_of l) g.region) (sym labels))))
 
     region-shut : with_region e.1.home (OfBest (region_without (layout_in (home_of h).region) d.dict)) (home_of h).kept (map home_of hs) ≡ map home_of gs
     region-shut =
@@ -149,13 +149,13 @@ module _ {I : Type 0} {V : I → Type 0} {meaning : (x : I) × V x → Disciplin
     pub unviewed : is_viewed x.here.links x.e.1.number ≡ false
     pub paths : ArePaths x.here.links
     pub after : Best I V
-    pub leaves : Leaves meaning before after (owned (dictionary_in x.e.1.dict before)) []
+    pub leaves : Leaves meaning before after (own_blocks (dictionary_in x.e.1.dict before)) []
     pub region : rest_in after ≡ region_without (rest_in before) (dictionary_in x.e.1.dict before)
     pub disc : disc_in meaning after ≡ disc_in meaning before
     pub kinds' : List Rules
     pub same_kinds : kinds' ≡ x.here.kinds
     pub links' : Links
-    pub ended : links' ≡ linked x.e.1.number None x.here.links
+    pub ended : links' ≡ links_with x.e.1.number None x.here.links
     pub es' : List Entry
     pub left : es' ≡ remove x.here.es x.i
     pub alone : lookup (bytes_eq x.e.0) es' ≡ None
@@ -168,7 +168,7 @@ module _ {I : Type 0} {V : I → Type 0} {meaning : (x : I) × V x → Disciplin
     h_after = held_of meaning x.e.1.home (best_entry place o.after) x.region.l
 
     abbrev mine : List ℕ
-    mine = owned (dictionary_in x.e.1.dict before)
+    mine = own_blocks (dictionary_in x.e.1.dict before)
 
     touch-after : Touches h_before h_after mine []
     touch-after = touches meaning x.e.1.home place before o.after x.region.l mine [] o.leaves
@@ -184,12 +184,12 @@ module _ {I : Type 0} {V : I → Type 0} {meaning : (x : I) × V x → Disciplin
     held-is : hs' ≡ set (helds x.here) x.j h_after
     held-is = helds-set meaning x.region (best_entry place o.after)
 
-    carry : (P : List Rules → List Held → Links → List Entry → Type 0) → P x.here.kinds (set (helds x.here) x.j h_after) (linked x.e.1.number None x.here.links) (remove x.here.es x.i) → P o.kinds' hs' o.links' o.es'
+    carry : (P : List Rules → List Held → Links → List Entry → Type 0) → P x.here.kinds (set (helds x.here) x.j h_after) (links_with x.e.1.number None x.here.links) (remove x.here.es x.i) → P o.kinds' hs' o.links' o.es'
     carry P p =
         subst (λ ks. P ks hs' o.links' o.es') (sym o.same_kinds)
         (subst (λ gs. P x.here.kinds gs o.links' o.es') (sym held-is)
         (subst (λ ls. P x.here.kinds (set (helds x.here) x.j h_after) ls o.es') (sym o.ended)
-        (subst (P x.here.kinds (set (helds x.here) x.j h_after) (linked x.e.1.number None x.here.links)) (sym o.left) p)))
+        (subst (P x.here.kinds (set (helds x.here) x.j h_after) (links_with x.e.1.number None x.here.links)) (sym o.left) p)))
 
     pub named-ended : length x.here.labels ≡ length (set_value_at x.here.homes x.j (best_entry place o.after))
     named-ended = named-set meaning x.region (best_entry place o.after)
@@ -197,9 +197,9 @@ module _ {I : Type 0} {V : I → Type 0} {meaning : (x : I) × V x → Disciplin
     pub session-ended : IsSession x.here.slots hs'
     session-ended = carry (λ ks gs ls ds. IsSession x.here.slots gs) (session-change x.here.slots (helds x.here) x.j h_before h_after (region-stands meaning x.region) x.here.held change-after)
 
-    pub settled-ended : settled (accounts x.here.slots) hs' ≡ settled (accounts x.here.slots) (helds x.here)
+    pub settled-ended : settled_accounts (accounts x.here.slots) hs' ≡ settled_accounts (accounts x.here.slots) (helds x.here)
     settled-ended =
-        ap (settled (accounts x.here.slots)) held-is
+        ap (settled_accounts (accounts x.here.slots)) held-is
         ∙ settled-same x.here.slots (helds x.here) x.j h_before h_after (region-stands meaning x.region) x.here.held change-after (ap (λ (d : Discipline). d.faults) o.disc)
 
     pub dicts-ended : AreDicts o.kinds' hs' o.es'

@@ -14,11 +14,11 @@ use Rattle.vc_model.specs.Outcome.{Outcome, done_as}
 use Rattle.vc_dict.specs.declared.dict.Dict.{Dict}
 use Rattle.vc_dtdisc.specs.Rules.{Gone, Rules}
 use Rattle.vc_model.specs.Layout.{Layout, relabel_layout}
-use Rattle.vc_region.specs.Region.{OfBest, Region, layout_in, relabelled}
+use Rattle.vc_region.specs.Region.{OfBest, Region, layout_in, region_with_labels}
 use Rattle.vc_region.proofs.Relabel.{layout-relabelled}
 use Rattle.vc_objects.specs.Insert.{Grown, grow}
 use Rattle.vc_objects.specs.Leaves.{HasGrown, LacksHolder, LacksTable}
-use Rattle.vc_objects.specs.Objects.{Dictionary, owned}
+use Rattle.vc_objects.specs.Objects.{Dictionary, own_blocks}
 use Rattle.vc_objects.specs.Parts.{IsWhole, dictionary_of}
 use Rattle.vc_objects.proofs.Named.{grow-named, relabel_grown}
 use Rattle.vc_commands.specs.DictCommands.{in_dict, object_asked, table_asked}
@@ -32,7 +32,7 @@ use Rattle.vc_script.specs.declared.refusal.Refusal.TheVariants.{NoSegment, NoSe
 use Rattle.vc_script.specs.declared.reply.Reply.{Reply}
 use Rattle.vc_script.specs.declared.reply.Reply.TheVariants.{Refused}
 use Rattle.vc_commands.specs.Held.{Held, IsChange, home_of}
-use Rattle.vc_steps.specs.Account.{Settles, accounts, held_named, settled, state_of}
+use Rattle.vc_steps.specs.Account.{Settles, accounts, held_named, settled_accounts, state_of}
 use Rattle.vc_steps.specs.DictHomes.{AreDicts, IsDictOf, cells_held, dict_home, dicts_in, dict_over}
 use Rattle.vc_steps.specs.Dicts.{dict_changed, dict_command, dict_of, dict_step, on_found, on_seat, region_named, seat_of, with_dict}
 use Rattle.vc_views.specs.Views.{dict_named, is_dict, DictHome}
@@ -150,7 +150,7 @@ module _ {I : Type 0} {V : I → Type 0} {meaning : (x : I) × V x → Disciplin
   asked-home command works = ap (λ o. region_named s o (opened_in command)) works ∙ ap (option_map (λ (k : DictHome). k.home)) found-dict
 
   -- the region and the dictionary change
-  module _ (g : Held) (new : Dict) {cells : Blocks} (change : IsChange (record h { cells = cells }) g) (touch : Touches h g (owned was) (owned (dictionary_of new g.cells))) (labels : g.labels ≡ h.labels) (kind : new.kind ≡ e.1.dict.kind) (whole : IsWhole is.rules new g.cells) where
+  module _ (g : Held) (new : Dict) {cells : Blocks} (change : IsChange (record h { cells = cells }) g) (touch : Touches h g (own_blocks was) (own_blocks (dictionary_of new g.cells))) (labels : g.labels ≡ h.labels) (kind : new.kind ≡ e.1.dict.kind) (whole : IsWhole is.rules new g.cells) where
     abbrev gs : List Held
     gs = set hs x.j g
 
@@ -161,7 +161,7 @@ module _ {I : Type 0} {V : I → Type 0} {meaning : (x : I) × V x → Disciplin
     now = dictionary_of new g.cells
 
     now-held : held_named gs (Some e.1.home) ≡ Some g
-    now-held = now-named kinds hs x.j h g (owned was) (owned now) (held-first x) at touch
+    now-held = now-named kinds hs x.j h g (own_blocks was) (own_blocks now) (held-first x) at touch
 
     is-new : IsDictOf kinds gs entry_new
     is-new = record {
@@ -176,19 +176,19 @@ module _ {I : Type 0} {V : I → Type 0} {meaning : (x : I) × V x → Disciplin
     here : bytes_eq e.1.home e.1.home ≡ true
     here = (bytes_eq-Decides e.1.home e.1.home).1 refl
 
-    own-new : owned (dict_over gs entry_new) ≡ owned now
-    own-new = ap (λ o. owned (dictionary_of new (cells_held o))) now-held
+    own-new : own_blocks (dict_over gs entry_new) ≡ own_blocks now
+    own-new = ap (λ o. own_blocks (dictionary_of new (cells_held o))) now-held
 
-    others-clear : AllByRecursion (IsClear hs e.1.home (owned was)) (remove es x.i)
+    others-clear : AllByRecursion (IsClear hs e.1.home (own_blocks was)) (remove es x.i)
     others-clear =
-        subst (λ (y : Dictionary). AllByRecursion (IsClear hs e.1.home (owned y)) (remove es x.i)) (dict-is x)
+        subst (λ (y : Dictionary). AllByRecursion (IsClear hs e.1.home (own_blocks y)) (remove es x.i)) (dict-is x)
         (clear-others kinds hs e.1.home e here es x.i x.there x.here.dicts)
 
     pub dicts-after : AreDicts kinds gs (set es x.i entry_new)
-    dicts-after = dicts-set kinds hs x.j h g (owned was) (owned now) (held-first x) at touch entry_new is-new here own-new es x.i e x.there x.here.dicts others-clear
+    dicts-after = dicts-set kinds hs x.j h g (own_blocks was) (own_blocks now) (held-first x) at touch entry_new is-new here own-new es x.i e x.there x.here.dicts others-clear
 
     homes-after : dicts_in gs vs (set es x.i entry_new) ≡ set (dicts_in hs vs es) x.i (dict_home gs vs entry_new)
-    homes-after = homes-set kinds hs x.j h g (owned was) (owned now) (held-first x) at touch entry_new is-new here own-new vs es x.i e x.there x.here.dicts others-clear
+    homes-after = homes-set kinds hs x.j h g (own_blocks was) (own_blocks now) (held-first x) at touch entry_new is-new here own-new vs es x.i e x.there x.here.dicts others-clear
 
     abbrev pub after : State
     after = state_of kinds slots gs (dicts_in gs vs (set es x.i entry_new))
@@ -213,7 +213,7 @@ module _ {I : Type 0} {V : I → Type 0} {meaning : (x : I) × V x → Disciplin
         ap (λ x. made x (with_dict e.0 dict s.dicts)) homes ∙ ap (made (map home_of gs)) ds
 
     relabel-after : (region : Layout ℕ) → region ≡ layout_in g.region → OfBest (relabel_layout (name_of h.labels) region) ≡ (home_of g).region
-    relabel-after region same = best-named (name_of h.labels) g.region region touch.best same ∙ ap (λ l. relabelled (name_of l) g.region) (sym labels)
+    relabel-after region same = best-named (name_of h.labels) g.region region touch.best same ∙ ap (λ l. region_with_labels (name_of l) g.region) (sym labels)
 
     pub step-after : (command : Command) (reply : Reply) (gone gone' : List Gone) (old told : Gone) → dict_command s command (need_shown reply) d (home_of h) is.rules ≡ dict_changed s d (home_of h) (in_dict (seat_of d (home_of h) is.rules) command (need_shown reply)) → GivesDict (in_dict tags command (need_shown reply)) (layout_in g.region) now reply old told → at_number gone e.1.dict.kind ≡ Some old → gone' ≡ set gone (e.1.dict.kind - 1) told → GivesStep (dict_step s e.0 command (need_shown reply)) gone reply after gone'
     step-after command reply gone gone' old told plain gives at_gone is_gone =
@@ -231,7 +231,7 @@ module _ {I : Type 0} {V : I → Type 0} {meaning : (x : I) × V x → Disciplin
         }
 
     abbrev Settled : List ℕ → Type 0
-    Settled refusals = Settles (settled (accounts slots) hs) (settled (accounts slots) gs) refusals
+    Settled refusals = Settles (settled_accounts (accounts slots) hs) (settled_accounts (accounts slots) gs) refusals
 
     settled-here : (command : Command) → dict_of command ≡ Some e.0 → Rose h.disc.faults g.disc.faults → Settled (place_named s (region_asked s command))
     settled-here command works rose =
@@ -298,7 +298,7 @@ module _ {I : Type 0} {V : I → Type 0} {meaning : (x : I) × V x → Disciplin
     -- with no memory
     same-after : (layout_in g.region ≡ tags.region) × (now ≡ tags.dict) → after ≡ s
     same-after same =
-        sym (state-after (home_of h).region d.dict (ap (relabelled (name_of h.labels)) (best-is h.region (best-there x)) ∙ relabel-after tags.region (sym same.0)) ((dict-is x) ∙ sym same.1))
+        sym (state-after (home_of h).region d.dict (ap (region_with_labels (name_of h.labels)) (best-is h.region (best-there x)) ∙ relabel-after tags.region (sym same.0)) ((dict-is x) ∙ sym same.1))
         ∙ same-state
 
     halted-after : (command : Command) → dict_of command ≡ Some e.0 → IsSpent tags (layout_in g.region) now → (after ≡ s) ⊎ GrewBy s (dict_at s (dict_of command)) after

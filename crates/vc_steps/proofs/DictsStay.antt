@@ -7,7 +7,7 @@ use Rattle.std.proofs.lemmas.Bool.{cases_Bool}
 use Rattle.std.proofs.lemmas.Option.{same_Some}
 use Rattle.vc_base.specs.Holders.{contains}
 use Rattle.vc_dtdisc.specs.Rules.{Rules}
-use Rattle.vc_objects.specs.Objects.{Dictionary, owned}
+use Rattle.vc_objects.specs.Objects.{Dictionary, own_blocks}
 use Rattle.vc_objects.specs.Parts.{IsWhole, dictionary_of}
 use Rattle.vc_region.specs.Region.{is_best}
 use Rattle.vc_commands.specs.declared.dict.entry.DictEntry.{DictEntry}
@@ -41,8 +41,8 @@ SameHome before after e = dict_over after e ≡ dict_over before e
 
 pub apart-stays : (before after : List Held) (e f : Entry) → SameHome before after e → SameHome before after f → AreApart before e f → AreApart after e f
 apart-stays before after e f same same' apart = λ near a mine.
-    ap (λ (d : Dictionary). contains (owned d) a) same'
-    ∙ apart near a (sym (ap (λ (d : Dictionary). contains (owned d) a) same) ∙ mine)
+    ap (λ (d : Dictionary). contains (own_blocks d) a) same'
+    ∙ apart near a (sym (ap (λ (d : Dictionary). contains (own_blocks d) a) same) ∙ mine)
 
 module _ (kinds : List Rules) (before after : List Held) where
   pub homes-stay : (es : List Entry) → AllByRecursion (Stays kinds before after) es → AreDicts kinds before es → AllByRecursion (SameHome before after) es

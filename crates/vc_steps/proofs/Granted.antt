@@ -4,7 +4,7 @@ use Rattle.std.specs.List.{list_any}
 use Rattle.vc_model.specs.Discipline.{Terms}
 use Rattle.vc_model.specs.Numbered.{at_number}
 use Rattle.vc_region.specs.Region.{Region}
-use Rattle.vc_region.specs.Stat.{opened}
+use Rattle.vc_region.specs.Stat.{opened_region}
 use Rattle.vc_script.specs.declared.command.Command.{Command}
 use Rattle.vc_script.specs.declared.refusal.Refusal.TheVariants as why
 use Rattle.vc_script.specs.declared.reply.Reply.{Reply}
@@ -14,7 +14,7 @@ use Rattle.vc_steps.specs.Account.{Account, Settles}
 use Rattle.vc_commands.specs.Held.{Held}
 use Rattle.vc_steps.specs.Lacks.{StepLacksFor}
 use Rattle.vc_steps.specs.Refusals.{refusal_at}
-use Rattle.vc_steps.specs.State.{State, Stepped, close_home, close_step, closed, home_named, is_busy, open_step, opened_over, refused, stepped}
+use Rattle.vc_steps.specs.State.{State, Stepped, close_home, close_step, step_with_close, home_named, is_busy, open_step, opened_over, step_with_refusal, step_with_reply}
 use Rattle.vc_commands.specs.Home.{Home, Label, is_home}
 use Rattle.vc_commands.proofs.Grants.{IsGranted}
 
@@ -45,16 +45,16 @@ holds-cond P false a b p q = q
 
 granted-open : (s : State) (r : List ℕ) (method : Method) (n : ℕ) → IsGranted (open_step s r method n).reply
 granted-open s r method n =
-    let over = opened_over s r n (opened method) (at_number s.shelf n) in
-    holds-cond IsGranted (list_any (is_home r) s.homes) (refused s why.RegionExists) over tt (granted-opened s r n (opened method) (at_number s.shelf n))
+    let over = opened_over s r n (opened_region method) (at_number s.shelf n) in
+    holds-cond IsGranted (list_any (is_home r) s.homes) (step_with_refusal s why.RegionExists) over tt (granted-opened s r n (opened_region method) (at_number s.shelf n))
 
 granted-close_home : (s : State) (r : List ℕ) (o : Option Home) → IsGranted (close_home s r o).reply
 granted-close_home s r None = tt
-granted-close_home s r (Some h) = holds-cond IsGranted (is_busy s r) (refused s why.Busy) (closed s r h) tt tt
+granted-close_home s r (Some h) = holds-cond IsGranted (is_busy s r) (step_with_refusal s why.Busy) (step_with_close s r h) tt tt
 
 -- the reply where a region is opened or closed
-pub open-granted : (s after : State) (r : List ℕ) (method : Method) (n : ℕ) (reply : Reply) → open_step s r method n ≡ stepped after reply → IsGranted reply
+pub open-granted : (s after : State) (r : List ℕ) (method : Method) (n : ℕ) (reply : Reply) → open_step s r method n ≡ step_with_reply after reply → IsGranted reply
 open-granted s after r method n reply e = subst IsGranted (ap (λ (t : Stepped). t.reply) e) (granted-open s r method n)
 
-pub close-granted : (s after : State) (r : List ℕ) (reply : Reply) → close_step s r ≡ stepped after reply → IsGranted reply
+pub close-granted : (s after : State) (r : List ℕ) (reply : Reply) → close_step s r ≡ step_with_reply after reply → IsGranted reply
 close-granted s after r reply e = subst IsGranted (ap (λ (t : Stepped). t.reply) e) (granted-close_home s r (home_named r s.homes))

@@ -18,11 +18,11 @@ use Rattle.vc_commands.specs.declared.region.home.HomeEntry.{HomeEntry}
 use Rattle.vc_commands.specs.Looking.{is_look, look_found, look_reply, own_place}
 use Rattle.vc_commands.proofs.Firsts.{IsFirst}
 use Rattle.vc_commands.proofs.Grants.{IsGranted}
-use Rattle.vc_steps.specs.Account.{IsSession, accounts, settled}
+use Rattle.vc_steps.specs.Account.{IsSession, accounts, settled_accounts}
 use Rattle.vc_steps.specs.DictHomes.{AreDicts, dicts_in}
 use Rattle.vc_steps.specs.Dicts.{dict_step}
 use Rattle.vc_steps.specs.Homes.{held_all}
-use Rattle.vc_steps.specs.State.{stepped}
+use Rattle.vc_steps.specs.State.{step_with_reply}
 use Rattle.vc_steps.specs.Steps.{StepsBy}
 use Rattle.vc_steps.proofs.DictRegions.{dicts-from, regions-held, seen}
 use Rattle.vc_steps.proofs.DictsStay.{Entry}
@@ -81,7 +81,7 @@ module _ {I : Type 0} {V : I → Type 0} {E : Type 0} {meaning : (x : I) × V x 
   pub session-looked : IsSession slots gs
   session-looked = session-rest slots hs gs rest here.held
 
-  pub settled-looked : settled (accounts slots) gs ≡ settled (accounts slots) hs
+  pub settled-looked : settled_accounts (accounts slots) gs ≡ settled_accounts (accounts slots) hs
   settled-looked = settled-rest (accounts slots) hs gs rest
 
   pub dicts-looked : AreDicts kinds gs es'
@@ -152,7 +152,7 @@ module _ {I : Type 0} {V : I → Type 0} {E : Type 0} {meaning : (x : I) × V x 
         (step-looked kinds slots hs gs rest links es es' here.are names here.dicts i e at first (place_through all links n command) (looked-seen is)
         all (layers-here meaning kinds here.homes here.labels es here.named here.dicts) rules alike refl command look
         (ap (λ r. own_place (λ m. m == n) (look_found r command (visible_of all links n))) (sym alike)) (need_shown reply)
-        ∙ (ap (λ r. stepped moment_after.state (look_reply r command (visible_of all links n))) alike ∙ ap (stepped moment_after.state) (sym says)))
+        ∙ (ap (λ r. step_with_reply moment_after.state (look_reply r command (visible_of all links n))) alike ∙ ap (step_with_reply moment_after.state) (sym says)))
         refl settled-looked (subst IsGranted (sym says) shown)
     steps-by (Err x) says is err = halts-same moment_before moment_after command (state-unlooked kinds slots hs gs rest links es es' here.are (same-seen err)) refl settled-looked
 

@@ -22,7 +22,7 @@ use Rattle.vc_commands.proofs.Firsts.{IsFirst}
 use Rattle.vc_steps.specs.Account.{state_of}
 use Rattle.vc_steps.specs.DictHomes.{AreDicts, dict_home, dict_over, dicts_in}
 use Rattle.vc_steps.specs.Dicts.{dict_command, dict_step, look_step, with_dict}
-use Rattle.vc_steps.specs.State.{State, Stepped, stepped}
+use Rattle.vc_steps.specs.State.{State, Stepped, step_with_reply}
 use Rattle.vc_steps.proofs.DictChange.{dict-at}
 use Rattle.vc_steps.proofs.DictEnd.{step-dict}
 use Rattle.vc_steps.proofs.DictNamed.{dict-set}
@@ -108,9 +108,9 @@ module _ (kinds : List Rules) (slots : Slots) (hs gs : List Held) (rest : AllRes
     module _ (all : Layered) (layers : AreLayersIn (dict_over hs) all es) (rules : Rules) (alike : rules ≡ (all.layer (number_in e)).rules) (kind : rules ≡ (dict-at kinds hs es i e at dicts).rules)
         (command : Command) (look : is_look command ≡ true) (found : place ≡ own_place (λ n. n == number_in e) (look_found rules command (visible_of all links (number_in e)))) where
       abbrev looked_as : Option ℕ → Reply → Stepped
-      looked_as p reply = stepped (made s.homes (with_dict e.0 (record d.dict { current = current_or d.dict.current p }) s.dicts)) reply
+      looked_as p reply = step_with_reply (made s.homes (with_dict e.0 (record d.dict { current = current_or d.dict.current p }) s.dicts)) reply
 
-      pub step-looked : (need : Need) → dict_step s e.0 command need ≡ stepped after (look_reply rules command (visible_of all links (number_in e)))
+      pub step-looked : (need : Need) → dict_step s e.0 command need ≡ step_with_reply after (look_reply rules command (visible_of all links (number_in e)))
       step-looked need =
           step-dict kinds slots hs es vs i e at first dicts command need
           ∙ (look-command s command need d (home_of (dict-at kinds hs es i e at dicts).home) (dict-at kinds hs es i e at dicts).rules look
@@ -118,4 +118,4 @@ module _ (kinds : List Rules) (slots : Slots) (hs gs : List Held) (rest : AllRes
           ∙ (ap₂ looked_as
           (place-named (dict_over hs) all links es names are layers i e at rules alike command ∙ sym found)
           (look-named (dict_over hs) all links es names are layers i e at rules alike command)
-          ∙ ap (λ st. stepped st (look_reply rules command (visible_of all links (number_in e)))) (sym state-looked))))
+          ∙ ap (λ st. step_with_reply st (look_reply rules command (visible_of all links (number_in e)))) (sym state-looked))))

@@ -8,17 +8,17 @@ use Rattle.vc_model.specs.Discipline.{Discipline}
 use Rattle.vc_model.specs.Numbered.{at_number}
 use Rattle.vc_region.specs.Cells.{cells_in, rest_in, rest_of}
 use Rattle.vc_region.specs.Parts.{disc_in, region_of}
-use Rattle.vc_region.specs.Stat.{opened}
+use Rattle.vc_region.specs.Stat.{opened_region}
 use Rattle.vc_seg.specs.declared.method.Method.{Method}
 use Rattle.vc_script.specs.declared.reply.Reply.TheVariants.{Opened}
 use Rattle.vc_commands.specs.declared.region.home.HomeEntry.{HomeEntry}
 use Rattle.vc_commands.specs.declared.region.labels.Labels.{Labels}
 use Rattle.vc_commands.specs.Held.{Held}
-use Rattle.vc_steps.specs.Account.{IsSession, accounts, settled, state_of}
+use Rattle.vc_steps.specs.Account.{IsSession, accounts, settled_accounts, state_of}
 use Rattle.vc_steps.specs.DictHomes.{AreDicts, dicts_in}
 use Rattle.vc_steps.specs.Homes.{held_all}
 use Rattle.vc_commands.specs.RegionRun.{held_of}
-use Rattle.vc_steps.specs.State.{open_step, stepped}
+use Rattle.vc_steps.specs.State.{open_step, step_with_reply}
 use Rattle.vc_steps.proofs.DictsStay.{Entry, Vs, all-stay, dicts-stay, dicts_in-stay, stays-push}
 use Rattle.vc_steps.proofs.Helds.{any-named, held-new}
 use Rattle.vc_steps.proofs.Opening.{AreNone, open_step-ok, opened-rest, session-open, settled-open}
@@ -31,7 +31,7 @@ pub record IsNewest {I : Type 0} {V : I → Type 0} (meaning : (x : I) × V x �
   pub absent : is_some (lookup (bytes_eq name) entries) ≡ false
   pub last : entries' ≡ entries ++ (name, home) ∷ []
   pub more : labels' ≡ labels ++ new ∷ []
-  pub newly : region_of home.region ≡ opened method
+  pub newly : region_of home.region ≡ opened_region method
   pub taken : at_number slots home.place ≡ Some (Some (disc_in meaning home.region))
   pub emptied : slots' ≡ set slots (home.place - 1) None
   pub none : AreNone new
@@ -51,7 +51,7 @@ module _ {I : Type 0} {V : I → Type 0} {meaning : (x : I) × V x → Disciplin
       ap (λ es. held_all meaning es labels') is.last
       ∙ (ap (λ ls. held_all meaning (entries ++ (name, home) ∷ []) ls) is.more ∙ held-new meaning entries labels name home new is.named)
 
-  rest : rest_in home.region ≡ opened method
+  rest : rest_in home.region ≡ opened_region method
   rest = ap rest_of is.newly ∙ opened-rest method
 
   pub newest-named : length labels' ≡ length entries'
@@ -65,10 +65,10 @@ module _ {I : Type 0} {V : I → Type 0} {meaning : (x : I) × V x → Disciplin
       (subst (λ hs. IsSession (set slots (home.place - 1) None) hs) (sym all)
       (session-open slots before name home.place (disc_in meaning home.region) method (rest_in home.region) rest (cells_in home.region) new is.none is.taken is.session))
 
-  pub newest-settled : settled (accounts slots') after ≡ settled (accounts slots) before
+  pub newest-settled : settled_accounts (accounts slots') after ≡ settled_accounts (accounts slots) before
   newest-settled =
-      ap (λ s. settled (accounts s) after) is.emptied
-      ∙ (ap (λ hs. settled (accounts (set slots (home.place - 1) None)) hs) all
+      ap (λ s. settled_accounts (accounts s) after) is.emptied
+      ∙ (ap (λ hs. settled_accounts (accounts (set slots (home.place - 1) None)) hs) all
       ∙ settled-open slots before name home.place (disc_in meaning home.region) method (rest_in home.region) rest (cells_in home.region) new is.none is.taken is.session)
 
   pub newest-dicts : (kinds : List Rules) (es : List Entry) → AreDicts kinds before es → AreDicts kinds after es
@@ -76,10 +76,10 @@ module _ {I : Type 0} {V : I → Type 0} {meaning : (x : I) × V x → Disciplin
       subst (λ hs. AreDicts kinds hs es) (sym all)
       (dicts-stay kinds before (before ++ one ∷ []) es (all-stay kinds before (before ++ one ∷ []) es (λ e. stays-push kinds before one e)) dicts)
 
-  pub newest-step : (kinds : List Rules) (vs : Vs) (es : List Entry) → AreDicts kinds before es → open_step (state_of kinds slots before (dicts_in before vs es)) name method home.place ≡ stepped (state_of kinds slots' after (dicts_in after vs es)) (Opened name)
+  pub newest-step : (kinds : List Rules) (vs : Vs) (es : List Entry) → AreDicts kinds before es → open_step (state_of kinds slots before (dicts_in before vs es)) name method home.place ≡ step_with_reply (state_of kinds slots' after (dicts_in after vs es)) (Opened name)
   newest-step kinds vs es dicts =
       let stays = dicts_in-stay kinds before (before ++ one ∷ []) vs es (all-stay kinds before (before ++ one ∷ []) es (λ e. stays-push kinds before one e)) dicts in
       open_step-ok slots before name home.place (disc_in meaning home.region) method (rest_in home.region) rest (cells_in home.region) new is.none is.taken is.session kinds (dicts_in before vs es) (any-named meaning entries labels name is.named ∙ is.absent)
-      ∙ (ap (λ ds. stepped (state_of kinds (set slots (home.place - 1) None) (before ++ one ∷ []) ds) (Opened name)) (sym stays)
-      ∙ (ap (λ hs. stepped (state_of kinds (set slots (home.place - 1) None) hs (dicts_in hs vs es)) (Opened name)) (sym all)
-      ∙ ap (λ s. stepped (state_of kinds s after (dicts_in after vs es)) (Opened name)) (sym is.emptied)))
+      ∙ (ap (λ ds. step_with_reply (state_of kinds (set slots (home.place - 1) None) (before ++ one ∷ []) ds) (Opened name)) (sym stays)
+      ∙ (ap (λ hs. step_with_reply (state_of kinds (set slots (home.place - 1) None) hs (dicts_in hs vs es)) (Opened name)) (sym all)
+      ∙ ap (λ s. step_with_reply (state_of kinds s after (dicts_in after vs es)) (Opened name)) (sym is.emptied)))

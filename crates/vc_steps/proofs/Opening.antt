@@ -10,22 +10,22 @@ use Rattle.vc_model.specs.Discipline.{Discipline}
 use Rattle.vc_model.specs.Layout.{Block}
 use Rattle.vc_dtdisc.specs.Rules.{Rules}
 use Rattle.vc_region.specs.Cells.{rest_of}
-use Rattle.vc_region.specs.Region.{Region, blocks_of, relabelled, segments_of}
+use Rattle.vc_region.specs.Region.{Region, blocks_of, region_with_labels, segments_of}
 use Rattle.vc_model.specs.Sound.{HaveOwnPlaces}
-use Rattle.vc_region.specs.Stat.{opened}
+use Rattle.vc_region.specs.Stat.{opened_region}
 use Rattle.vc_seg.specs.declared.method.Method.{Method}
 use Rattle.vc_seg.specs.declared.method.Method.TheVariants.{VmBest, VmPool, VmLast, VmDebug, VmProfile}
 use Rattle.vc_seg.specs.Shelf.{place_at, standing}
 use Rattle.vc_seg.specs.declared.shelf.ShelfPlace.TheVariants.{Here}
 use Rattle.vc_script.specs.declared.reply.Reply.TheVariants.{Opened}
 use Rattle.vc_script.specs.declared.refusal.Refusal.TheVariants.{RegionExists}
-use Rattle.vc_steps.specs.State.{State, open_step, opened_over, refused, stepped}
+use Rattle.vc_steps.specs.State.{State, open_step, opened_over, step_with_refusal, step_with_reply}
 use Rattle.vc_views.specs.Views.{DictHome}
 use Rattle.vc_commands.specs.Home.{Home, Label, is_home}
 use Rattle.slab.specs.Slab.{slab_len}
 use Rattle.vc_commands.specs.declared.region.labels.Labels.{Labels}
 use Rattle.vc_commands.specs.Labels.{AreLabels, kept_of, name_of, tag_of}
-use Rattle.vc_steps.specs.Account.{Account, IsSession, account, accounts, account_after, settled, state_of}
+use Rattle.vc_steps.specs.Account.{Account, IsSession, account, accounts, account_after, settled_accounts, state_of}
 use Rattle.vc_commands.specs.Held.{Held, IsLive, IsNamed, home_of, tag_count}
 use Rattle.vc_steps.specs.State.{not_here as why_not}
 use Rattle.vc_steps.proofs.Cells.{at_number-from_one, at_number_some, slice_get-set_same, at_number-map, set_same}
@@ -35,21 +35,21 @@ use Rattle.vc_steps.proofs.Settle.{settled-push, settled-set, settled-keeps, off
 use Rattle.vc_steps.proofs.Sessions.{Slots, apart-session, away-session, session-push}
 
 -- a new region has no labels, no segments and no blocks
-pub opened-relabelled : (f : ℕ → Label) (m : Method) → relabelled f (opened m) ≡ opened m
+pub opened-relabelled : (f : ℕ → Label) (m : Method) → region_with_labels f (opened_region m) ≡ opened_region m
 opened-relabelled f VmBest = refl
 opened-relabelled f VmPool = refl
 opened-relabelled f VmLast = refl
 opened-relabelled f VmDebug = refl
 opened-relabelled f VmProfile = refl
 
-pub opened-segments : (m : Method) → segments_of {L = ℕ} (opened m) ≡ []
+pub opened-segments : (m : Method) → segments_of {L = ℕ} (opened_region m) ≡ []
 opened-segments VmBest = refl
 opened-segments VmPool = refl
 opened-segments VmLast = refl
 opened-segments VmDebug = refl
 opened-segments VmProfile = refl
 
-pub opened-blocks : (m : Method) → blocks_of {L = ℕ} (opened m) ≡ []
+pub opened-blocks : (m : Method) → blocks_of {L = ℕ} (opened_region m) ≡ []
 opened-blocks VmBest = refl
 opened-blocks VmPool = refl
 opened-blocks VmLast = refl
@@ -57,7 +57,7 @@ opened-blocks VmDebug = refl
 opened-blocks VmProfile = refl
 
 -- nor has it cells
-pub opened-rest : (m : Method) → rest_of (opened m) ≡ opened m
+pub opened-rest : (m : Method) → rest_of (opened_region m) ≡ opened_region m
 opened-rest VmBest = refl
 opened-rest VmPool = refl
 opened-rest VmLast = refl
@@ -96,23 +96,23 @@ none-named r labels none e =
 abbrev pub fresh : List ℕ → ℕ → Discipline → Region ℕ → Blocks → Labels → Held
 fresh name n d region cells labels = record { name = name; place = n; disc = d; region = region; cells = cells; labels = labels }
 
-module _ (slots : Slots) (hs : List Held) (name : List ℕ) (n : ℕ) (d : Discipline) (m : Method) (region : Region ℕ) (is : region ≡ opened m) (cells : Blocks) (labels : Labels) (none : AreNone labels) (at : at_number slots n ≡ Some (Some d)) (session : IsSession slots hs) where
+module _ (slots : Slots) (hs : List Held) (name : List ℕ) (n : ℕ) (d : Discipline) (m : Method) (region : Region ℕ) (is : region ≡ opened_region m) (cells : Blocks) (labels : Labels) (none : AreNone labels) (at : at_number slots n ≡ Some (Some d)) (session : IsSession slots hs) where
   segments : segments_of region ≡ []
   segments = ap (λ r. segments_of r) is ∙ opened-segments m
 
   there : slice_get slots (n - 1) ≡ Some (Some d)
   there = (at_number_some slots n (Some d) at).1
 
-  pub open_step-ok : (kinds : List Rules) (ds : List DictHome) → list_any (is_home name) (map home_of hs) ≡ false → open_step (state_of kinds slots hs ds) name m n ≡ stepped (state_of kinds (set slots (n - 1) None) (hs ++ fresh name n d region cells labels ∷ []) ds) (Opened name)
+  pub open_step-ok : (kinds : List Rules) (ds : List DictHome) → list_any (is_home name) (map home_of hs) ≡ false → open_step (state_of kinds slots hs ds) name m n ≡ step_with_reply (state_of kinds (set slots (n - 1) None) (hs ++ fresh name n d region cells labels ∷ []) ds) (Opened name)
   open_step-ok kinds ds new =
-      let r : Region Label = relabelled (name_of labels) region in
-      let same : r ≡ opened m = ap (relabelled (name_of labels)) is ∙ opened-relabelled (name_of labels) m in
-      ap (λ q. cond (list_any (is_home name) (map home_of hs)) (refused (state_of kinds slots hs ds) RegionExists) (opened_over (state_of kinds slots hs ds) name n q (at_number (state_of kinds slots hs ds).shelf n))) (sym same)
-      ∙ (ap (λ b. cond b (refused (state_of kinds slots hs ds) RegionExists) (opened_over (state_of kinds slots hs ds) name n r (at_number (state_of kinds slots hs ds).shelf n))) new
+      let r : Region Label = region_with_labels (name_of labels) region in
+      let same : r ≡ opened_region m = ap (region_with_labels (name_of labels)) is ∙ opened-relabelled (name_of labels) m in
+      ap (λ q. cond (list_any (is_home name) (map home_of hs)) (step_with_refusal (state_of kinds slots hs ds) RegionExists) (opened_over (state_of kinds slots hs ds) name n q (at_number (state_of kinds slots hs ds).shelf n))) (sym same)
+      ∙ (ap (λ b. cond b (step_with_refusal (state_of kinds slots hs ds) RegionExists) (opened_over (state_of kinds slots hs ds) name n r (at_number (state_of kinds slots hs ds).shelf n))) new
       ∙ (ap (opened_over (state_of kinds slots hs ds) name n r) (at_number-map (option_map (λ e. e.terms)) slots n ∙ ap (option_map (option_map (λ e. e.terms))) at)
-      ∙ (ap (λ kept. stepped (record (state_of kinds slots hs ds) { shelf = set (state_of kinds slots hs ds).shelf (n - 1) None; homes = map home_of hs ++ (let b : Home = record { name = name; place = n; terms = d.terms; region = r; kept = kept } in b) ∷ [] }) (Opened name)) (sym none.kept)
-      ∙ (ap (λ shelf. stepped (record (state_of kinds slots hs ds) { shelf = shelf; homes = map home_of hs ++ home_of (fresh name n d region cells labels) ∷ [] }) (Opened name)) (sym (map-set (option_map (λ (e : Discipline). e.terms)) slots (n - 1) None))
-      ∙ ap (λ homes. stepped (record (state_of kinds slots hs ds) { shelf = map (option_map (λ e. e.terms)) (set slots (n - 1) None); homes = homes }) (Opened name)) (sym (map-append home_of hs (fresh name n d region cells labels ∷ [])))))))
+      ∙ (ap (λ kept. step_with_reply (record (state_of kinds slots hs ds) { shelf = set (state_of kinds slots hs ds).shelf (n - 1) None; homes = map home_of hs ++ (let b : Home = record { name = name; place = n; terms = d.terms; region = r; kept = kept } in b) ∷ [] }) (Opened name)) (sym none.kept)
+      ∙ (ap (λ shelf. step_with_reply (record (state_of kinds slots hs ds) { shelf = shelf; homes = map home_of hs ++ home_of (fresh name n d region cells labels) ∷ [] }) (Opened name)) (sym (map-set (option_map (λ (e : Discipline). e.terms)) slots (n - 1) None))
+      ∙ ap (λ homes. step_with_reply (record (state_of kinds slots hs ds) { shelf = map (option_map (λ e. e.terms)) (set slots (n - 1) None); homes = homes }) (Opened name)) (sym (map-append home_of hs (fresh name n d region cells labels ∷ [])))))))
 
   pub session-open : IsSession (set slots (n - 1) None) (hs ++ fresh name n d region cells labels ∷ [])
   session-open =
@@ -124,33 +124,33 @@ module _ (slots : Slots) (hs : List Held) (name : List ℕ) (n : ℕ) (d : Disci
         names = none-named region labels none (ap (λ r. blocks_of r) is ∙ opened-blocks m);
       })
 
-  pub settled-open : settled (accounts (set slots (n - 1) None)) (hs ++ fresh name n d region cells labels ∷ []) ≡ settled (accounts slots) hs
+  pub settled-open : settled_accounts (accounts (set slots (n - 1) None)) (hs ++ fresh name n d region cells labels ∷ []) ≡ settled_accounts (accounts slots) hs
   settled-open =
       let low = (at_number_some slots n (Some d) at).0 in
       let off : Off (n - 1) hs = off-apart n hs low (away-session slots n d hs at session) (apart-session slots hs session) in
       let all : take (length d.out - length (segments_of region)) d.out ≡ d.out =
       front-out d.out (segments_of region) d.out (sym (append-nil d.out) ∙ ap (λ s. d.out ++ s) (sym segments)) in
       let account_is : account_after (fresh name n d region cells labels) ≡ account d = ap (λ out. let a : Account = record { out = out; terms = d.terms; faults = d.faults } in a) all in
-      let kept : slice_get (settled (accounts slots) hs) (n - 1) ≡ Some (Some (account_after (fresh name n d region cells labels))) =
+      let kept : slice_get (settled_accounts (accounts slots) hs) (n - 1) ≡ Some (Some (account_after (fresh name n d region cells labels))) =
       settled-keeps (accounts slots) (n - 1) hs off ∙ (slice_get-map (option_map account) slots (n - 1) ∙ (ap (option_map (option_map account)) there ∙ ap (λ a. Some (Some a)) (sym account_is))) in
       settled-push (accounts (set slots (n - 1) None)) hs (fresh name n d region cells labels)
-      ∙ (ap (λ shelf. set (settled shelf hs) (n - 1) (Some (account_after (fresh name n d region cells labels)))) (map-set (option_map account) slots (n - 1) None)
+      ∙ (ap (λ shelf. set (settled_accounts shelf hs) (n - 1) (Some (account_after (fresh name n d region cells labels)))) (map-set (option_map account) slots (n - 1) None)
       ∙ (ap (λ shelf. set shelf (n - 1) (Some (account_after (fresh name n d region cells labels)))) (settled-set (accounts slots) (n - 1) None hs off)
-      ∙ (set-set (settled (accounts slots) hs) (n - 1) None (Some (account_after (fresh name n d region cells labels)))
-      ∙ set_same (settled (accounts slots) hs) (n - 1) (Some (account_after (fresh name n d region cells labels))) kept)))
+      ∙ (set-set (settled_accounts (accounts slots) hs) (n - 1) None (Some (account_after (fresh name n d region cells labels)))
+      ∙ set_same (settled_accounts (accounts slots) hs) (n - 1) (Some (account_after (fresh name n d region cells labels))) kept)))
 
-pub open_step-named : (s : State) (name : List ℕ) (m : Method) (n : ℕ) → list_any (is_home name) s.homes ≡ true → open_step s name m n ≡ refused s RegionExists
+pub open_step-named : (s : State) (name : List ℕ) (m : Method) (n : ℕ) → list_any (is_home name) s.homes ≡ true → open_step s name m n ≡ step_with_refusal s RegionExists
 open_step-named s name m n named =
-    ap (λ b. cond b (refused s RegionExists) (opened_over s name n (opened m) (at_number s.shelf n))) named
+    ap (λ b. cond b (step_with_refusal s RegionExists) (opened_over s name n (opened_region m) (at_number s.shelf n))) named
 
-opened_over-not_here : (s : State) (name : List ℕ) (n : ℕ) (r : Region Label) (o : Option (Option Discipline)) → (standing o ≡ Here → ⊥) → opened_over s name n r (option_map (option_map (λ d. d.terms)) o) ≡ refused s (why_not (standing o))
+opened_over-not_here : (s : State) (name : List ℕ) (n : ℕ) (r : Region Label) (o : Option (Option Discipline)) → (standing o ≡ Here → ⊥) → opened_over s name n r (option_map (option_map (λ d. d.terms)) o) ≡ step_with_refusal s (why_not (standing o))
 opened_over-not_here s name n r None not_here = refl
 opened_over-not_here s name n r (Some None) not_here = refl
 opened_over-not_here s name n r (Some (Some d)) not_here = absurd (not_here refl)
 
 -- no discipline is here at the number
-pub open_step-not_here : (kinds : List Rules) (slots : Slots) (hs : List Held) (ds : List DictHome) (name : List ℕ) (m : Method) (n : ℕ) → list_any (is_home name) (map home_of hs) ≡ false → (place_at slots n ≡ Here → ⊥) → open_step (state_of kinds slots hs ds) name m n ≡ refused (state_of kinds slots hs ds) (why_not (place_at slots n))
+pub open_step-not_here : (kinds : List Rules) (slots : Slots) (hs : List Held) (ds : List DictHome) (name : List ℕ) (m : Method) (n : ℕ) → list_any (is_home name) (map home_of hs) ≡ false → (place_at slots n ≡ Here → ⊥) → open_step (state_of kinds slots hs ds) name m n ≡ step_with_refusal (state_of kinds slots hs ds) (why_not (place_at slots n))
 open_step-not_here kinds slots hs ds name m n new not_here =
-    let r : Region Label = opened m in
-    ap (λ b. cond b (refused (state_of kinds slots hs ds) RegionExists) (opened_over (state_of kinds slots hs ds) name n r (at_number (state_of kinds slots hs ds).shelf n))) new
+    let r : Region Label = opened_region m in
+    ap (λ b. cond b (step_with_refusal (state_of kinds slots hs ds) RegionExists) (opened_over (state_of kinds slots hs ds) name n r (at_number (state_of kinds slots hs ds).shelf n))) new
     ∙ (ap (opened_over (state_of kinds slots hs ds) name n r) (at_number-map (option_map (λ e. e.terms)) slots n) ∙ opened_over-not_here (state_of kinds slots hs ds) name n r (at_number slots n) not_here)

@@ -14,7 +14,7 @@ use Rattle.vc_region.specs.Region.{OfBest}
 use Rattle.vc_seg.specs.Answer.{IsRefusal}
 use Rattle.vc_seg.specs.declared.fault.RegionFault.{RegionFault}
 use Rattle.vc_objects.specs.Leaves.{LacksTable, Leaves, RefusedBy}
-use Rattle.vc_objects.specs.Objects.{owned}
+use Rattle.vc_objects.specs.Objects.{own_blocks}
 use Rattle.vc_objects.specs.Parts.{dictionary_in}
 use Rattle.vc_objects.specs.Promises.{Opens, StaysAll, opening_in}
 use Rattle.vc_script.specs.Needs.{NoNeed}
@@ -28,7 +28,7 @@ use Rattle.vc_views.specs.Dicts.{entry_numbered}
 use Rattle.vc_paths.specs.Links.{numbers}
 use Rattle.vc_views.specs.Numbers.{AreLinked, views_by}
 use Rattle.vc_views.proofs.LinkChanges.{linked-more, views-free, views-more}
-use Rattle.vc_steps.specs.Account.{IsHeld, IsSession, Settles, accounts, settled, state_of}
+use Rattle.vc_steps.specs.Account.{IsHeld, IsSession, Settles, accounts, settled_accounts, state_of}
 use Rattle.vc_steps.specs.DictHomes.{AreDicts, dicts_in}
 use Rattle.vc_steps.specs.Dicts.{dict_refused, open_dict_step}
 use Rattle.vc_steps.specs.Homes.{held_all}
@@ -147,7 +147,7 @@ module _ {I : Type 0} {V : I → Type 0} {meaning : (x : I) × V x → Disciplin
 
   module _ (o : DictOpened) where
     abbrev mine : List ℕ
-    mine = owned (dictionary_in o.dict o.after)
+    mine = own_blocks (dictionary_in o.dict o.after)
 
     abbrev one : Held
     one = g o.after mine o.opens.leaves
@@ -181,7 +181,7 @@ module _ {I : Type 0} {V : I → Type 0} {meaning : (x : I) × V x → Disciplin
       gives =
           subst (λ q. GivesStep (open_dict_step (state_here here) x.d x.method x.r x.k NoNeed) here.gone (Opened x.d) q here.gone) (sym state-is)
           (open-done x one o.dict o.n no-view change-one touch-one refl o.opens.numbered o.rules o.by o.opens.whole here.gone allowed o.opens.grown);
-      settles = subst (λ ks. Settles (settled (accounts slots) hs) (settled (accounts slots) ks) []) (sym held-one) (settles-none slots hs x.j h one at here.held change-one o.asked);
+      settles = subst (λ ks. Settles (settled_accounts (accounts slots) hs) (settled_accounts (accounts slots) ks) []) (sym held-one) (settles-none slots hs x.j h one at here.held change-one o.asked);
       lacks = tt;
     }
 

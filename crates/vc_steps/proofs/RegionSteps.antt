@@ -11,7 +11,7 @@ use Rattle.vc_script.specs.declared.reply.Reply.{Reply}
 use Rattle.vc_script.specs.declared.reply.Reply.TheVariants.{Refused}
 use Rattle.vc_region.specs.Region.{Region}
 use Rattle.vc_commands.specs.Held.{Held, IsChange, LacksSegment, home_of, left_by}
-use Rattle.vc_steps.specs.Account.{IsSession, Lacks, StepLacks, accounts, held_named, settled, state_of}
+use Rattle.vc_steps.specs.Account.{IsSession, Lacks, StepLacks, accounts, held_named, settled_accounts, state_of}
 use Rattle.vc_steps.specs.DictHomes.{AreDicts, dicts_in, lies_in}
 use Rattle.vc_steps.specs.Dicts.{dict_of}
 use Rattle.vc_commands.specs.Kept.{Kept}
@@ -37,7 +37,7 @@ moment_over slots es vs kinds gone hs =
       state = state_of kinds slots hs (dicts_in hs vs es);
       regions = hs;
       written = None;
-      accounts = settled (accounts slots) hs;
+      accounts = settled_accounts (accounts slots) hs;
       gone = gone;
     }
 

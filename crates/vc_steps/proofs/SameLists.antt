@@ -6,7 +6,7 @@ use Rattle.vc_seg.specs.declared.shelf.Shelf.{Shelf}
 use Rattle.vc_commands.specs.declared.region.home.HomeEntry.{HomeEntry}
 use Rattle.vc_commands.specs.declared.region.labels.Labels.{Labels}
 use Rattle.vc_views.specs.Numbers.{AreLinked}
-use Rattle.vc_steps.specs.Account.{IsSession, accounts, settled, state_of}
+use Rattle.vc_steps.specs.Account.{IsSession, accounts, settled_accounts, state_of}
 use Rattle.vc_steps.specs.DictHomes.{AreDicts, dicts_in}
 use Rattle.vc_steps.specs.Homes.{HoldsRegions, KeepsRegions, held_all, held_in, slots_on}
 use Rattle.vc_steps.specs.declared.session.Session.{Session}
@@ -23,8 +23,8 @@ module _ {I : Type 0} {V : I → Type 0} (meaning : (x : I) × V x → Disciplin
       ap (λ s. state_of kinds s (held_all meaning homes' labels') (dicts_in (held_all meaning homes' labels') vs es)) same_slots
       ∙ ap (λ hs. state_of kinds slots hs (dicts_in hs vs es)) held-lists
 
-  pub settled-lists : settled (accounts slots') (held_all meaning homes' labels') ≡ settled (accounts slots) (held_all meaning homes labels)
-  settled-lists = ap (λ s. settled (accounts s) (held_all meaning homes' labels')) same_slots ∙ ap (settled (accounts slots)) held-lists
+  pub settled-lists : settled_accounts (accounts slots') (held_all meaning homes' labels') ≡ settled_accounts (accounts slots) (held_all meaning homes labels)
+  settled-lists = ap (λ s. settled_accounts (accounts s) (held_all meaning homes' labels')) same_slots ∙ ap (settled_accounts (accounts slots)) held-lists
 
 -- it keeps its regions
 pub keeps-lists : {I : Type 0} {V : I → Type 0} {D : Type 0} {meaning : (x : I) × V x → Discipline} {shelf' : Shelf I V} {session session' : Session D I V} (shelf : Shelf I V) → HoldsRegions meaning shelf session → slots_on meaning shelf' ≡ slots_on meaning shelf

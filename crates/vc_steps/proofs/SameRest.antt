@@ -6,12 +6,12 @@ use Rattle.std.proofs.lemmas.Option.{none-some, same_Some}
 use Rattle.std.proofs.lemmas.Simd.{map-map}
 use Rattle.vc_base.specs.declared.dict_method.DictMethod.{DictMethod}
 use Rattle.vc_model.specs.Discipline.{Discipline}
-use Rattle.vc_seg.specs.Boxed.{boxed}
+use Rattle.vc_seg.specs.Boxed.{disc_in_box}
 use Rattle.vc_region.specs.Cells.{cells_in}
 use Rattle.vc_commands.specs.Held.{Held, home_of}
 use Rattle.vc_commands.specs.declared.region.home.HomeEntry.{HomeEntry}
 use Rattle.vc_commands.specs.declared.region.labels.Labels.{Labels}
-use Rattle.vc_steps.specs.Account.{Account, IsHeld, IsSession, account_after, settled}
+use Rattle.vc_steps.specs.Account.{Account, IsHeld, IsSession, account_after, settled_accounts}
 use Rattle.vc_steps.specs.DictHomes.{dicts_in}
 use Rattle.vc_steps.specs.Homes.{held_all, held_entry}
 use Rattle.vc_steps.proofs.DictRegions.{over-seen, seen}
@@ -40,7 +40,7 @@ tail-same x y xs ys e = cc
 module _ {I : Type 0} {V : I → Type 0} (meaning : (x : I) × V x → Discipline) where
   rest-one : (e f : List ℕ × HomeEntry I V) (l : Labels) → home_rest f ≡ home_rest e → SameRest (held_entry meaning (e, l)) (held_entry meaning (f, l))
   rest-one e f l same =
-      ap (λ (r : HomeRest I V). let h : Held = record { name = r.name; place = r.place; disc = boxed meaning r.disc; region = r.region; cells = cells_in f.1.region; labels = l } in h) same
+      ap (λ (r : HomeRest I V). let h : Held = record { name = r.name; place = r.place; disc = disc_in_box meaning r.disc; region = r.region; cells = cells_in f.1.region; labels = l } in h) same
 
   -- those of entries of which a look leaves all else
   pub rest-all : (homes homes' : List (List ℕ × HomeEntry I V)) (labels : List Labels) → map home_rest homes' ≡ map home_rest homes → AllRest (held_all meaning homes labels) (held_all meaning homes' labels)
@@ -54,12 +54,12 @@ module _ {I : Type 0} {V : I → Type 0} (meaning : (x : I) × V x → Disciplin
   )
 
 -- they settle the same
-pub settled-rest : (shelf : List (Option Account)) (hs gs : List Held) → AllRest hs gs → settled shelf gs ≡ settled shelf hs
+pub settled-rest : (shelf : List (Option Account)) (hs gs : List Held) → AllRest hs gs → settled_accounts shelf gs ≡ settled_accounts shelf hs
 settled-rest shelf [] [] all = refl
 settled-rest shelf [] (g ∷ gs) all = absurd all
 settled-rest shelf (h ∷ hs) [] all = absurd all
 settled-rest shelf (h ∷ hs) (g ∷ gs) all =
-    ap (λ (k : Held). settled (set shelf (k.place - 1) (Some (account_after k))) gs) all.0
+    ap (λ (k : Held). settled_accounts (set shelf (k.place - 1) (Some (account_after k))) gs) all.0
     ∙ settled-rest (set shelf (h.place - 1) (Some (account_after h))) hs gs all.1
 
 -- and stand over a shelf as those do

@@ -7,7 +7,7 @@ use Rattle.std.specs.Str.{bytes_eq}
 use Rattle.vc_model.specs.Discipline.{Discipline}
 use Rattle.vc_dtdisc.specs.Rules.{Rules}
 use Rattle.vc_paths.specs.Layers.{Layered}
-use Rattle.vc_paths.specs.Links.{ArePaths, Links, linked, numbers}
+use Rattle.vc_paths.specs.Links.{ArePaths, Links, links_with, numbers}
 use Rattle.vc_paths.specs.Path.{IsPath}
 use Rattle.vc_paths.specs.View.{view_fault}
 use Rattle.vc_paths.specs.declared.fault.ViewFault.{ViewFault}
@@ -28,7 +28,7 @@ use Rattle.vc_views.proofs.LinkChanges.{linked-ended}
 use Rattle.vc_views.proofs.LinkLemmas.{number-within}
 use Rattle.vc_views.proofs.LinkRefusals.{linked-viewed}
 use Rattle.vc_views.proofs.NumbersToNames.{all-at}
-use Rattle.vc_steps.specs.Account.{IsSession, KeepsAccounts, accounts, settled}
+use Rattle.vc_steps.specs.Account.{IsSession, KeepsAccounts, accounts, settled_accounts}
 use Rattle.vc_steps.specs.DictHomes.{AreDicts, dict_over, dicts_in}
 use Rattle.vc_steps.specs.Dicts.{dict_step}
 use Rattle.vc_steps.specs.Homes.{held_all}
@@ -120,16 +120,16 @@ module _ {I : Type 0} {V : I → Type 0} (meaning : (x : I) × V x → Disciplin
     pub held : IsSession slots (held_all meaning homes' labels)
     pub dicts : AreDicts kinds (held_all meaning homes' labels) es'
     pub views : AreLinked links' es'
-    pub accounts : KeepsAccounts (settled (accounts slots) hs) (settled (accounts slots) (held_all meaning homes' labels))
+    pub accounts : KeepsAccounts (settled_accounts (accounts slots) hs) (settled_accounts (accounts slots) (held_all meaning homes' labels))
 
   -- it ends
-  pub steps-ended : (links' : Links) → links' ≡ linked v.number None links → ViewsTo homes es links' None (Views name None)
+  pub steps-ended : (links' : Links) → links' ≡ links_with v.number None links → ViewsTo homes es links' None (Views name None)
   steps-ended links' same =
       subst (λ ls. ViewsTo homes es ls None (Views name None)) (sym same)
-      (steps-quiet before (moment_by_links homes es (linked v.number None links)) (View name None) (dict_step s name (View name None) (need_shown (Views name None))) (Views name None)
+      (steps-quiet before (moment_by_links homes es (links_with v.number None links)) (View name None) (dict_step s name (View name None) (need_shown (Views name None))) (Views name None)
       (view-ended kinds slots hs links es seen.names here.are seen.paths here.dicts own.i e at first (need_shown (Views name None))) refl refl tt)
 
-  pub links-ended : AreLinked (linked v.number None links) es
+  pub links-ended : AreLinked (links_with v.number None links) es
   links-ended = linked-ended links es v.number (number-within links es own.i e seen.paths here.are.numbered at) here.are
 
   -- there is none of the name
@@ -155,7 +155,7 @@ module _ {I : Type 0} {V : I → Type 0} (meaning : (x : I) × V x → Disciplin
     path-other = path-here meaning kinds homes labels es here.named here.dicts links here.are other.i f there
 
     abbrev set_links : Links
-    set_links = linked v.number (Some u.number) links
+    set_links = links_with v.number (Some u.number) links
 
     -- the regions and the dictionaries stay
     module _ (homes' : List (List ℕ × HomeEntry I V)) (es' : List Entry) (links' : Links) (same_homes : homes' ≡ homes) (same_dicts : es' ≡ es) where
@@ -192,10 +192,10 @@ module _ {I : Type 0} {V : I → Type 0} (meaning : (x : I) × V x → Disciplin
 
       -- the session stands over them
       pub stands-viewed : AreLinked links' es' → HeldHere homes' es' links'
-      stands-viewed linked = record {
+      stands-viewed links_with = record {
         named = here.named ∙ ap length (sym same_homes);
         held = subst (λ hm. IsSession slots (held_all meaning hm labels)) (sym same_homes) here.held;
         dicts = subst (λ hm. AreDicts kinds (held_all meaning hm labels) es') (sym same_homes) (subst (AreDicts kinds hs) (sym same_dicts) here.dicts);
-        views = linked;
-        accounts = keeps-equal _ _ (ap (λ hm. settled (accounts slots) (held_all meaning hm labels)) same_homes);
+        views = links_with;
+        accounts = keeps-equal _ _ (ap (λ hm. settled_accounts (accounts slots) (held_all meaning hm labels)) same_homes);
       }

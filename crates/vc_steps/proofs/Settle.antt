@@ -5,18 +5,18 @@ use Rattle.std.specs.List.{AllByRecursion}
 use Rattle.std.proofs.lemmas.List.{set_comm, set-set}
 use Rattle.std.proofs.lemmas.Option.{same_Some, none-some}
 use Rattle.vc_steps.proofs.Cells.{slice_get-set_same, slice_get-set_other}
-use Rattle.vc_steps.specs.Account.{Account, account_after, settled}
+use Rattle.vc_steps.specs.Account.{Account, account_after, settled_accounts}
 use Rattle.vc_commands.specs.Held.{Held}
 
 -- a place that is not an open region's keeps what is put there
-pub settled-set : (shelf : List (Option Account)) (k : ℕ) (a : Option Account) (hs : List Held) → AllByRecursion (λ g. g.place - 1 ≢ k) hs → settled (set shelf k a) hs ≡ set (settled shelf hs) k a
+pub settled-set : (shelf : List (Option Account)) (k : ℕ) (a : Option Account) (hs : List Held) → AllByRecursion (λ g. g.place - 1 ≢ k) hs → settled_accounts (set shelf k a) hs ≡ set (settled_accounts shelf hs) k a
 settled-set shelf k a [] away = refl
 settled-set shelf k a (h ∷ hs) away =
-    ap (λ s. settled s hs) (set_comm shelf k (h.place - 1) a (Some (account_after h)) (λ e. away.0 (sym e)))
+    ap (λ s. settled_accounts s hs) (set_comm shelf k (h.place - 1) a (Some (account_after h)) (λ e. away.0 (sym e)))
     ∙ settled-set (set shelf (h.place - 1) (Some (account_after h))) k a hs away.1
 
 -- one more region is settled last
-pub settled-push : (shelf : List (Option Account)) (hs : List Held) (h : Held) → settled shelf (hs ++ h ∷ []) ≡ set (settled shelf hs) (h.place - 1) (Some (account_after h))
+pub settled-push : (shelf : List (Option Account)) (hs : List Held) (h : Held) → settled_accounts shelf (hs ++ h ∷ []) ≡ set (settled_accounts shelf hs) (h.place - 1) (Some (account_after h))
 settled-push shelf [] h = refl
 settled-push shelf (g ∷ hs) h = settled-push (set shelf (g.place - 1) (Some (account_after g))) hs h
 
@@ -33,7 +33,7 @@ pub off-apart : (p : ℕ) (hs : List Held) → 1 ≤ p → AllByRecursion (λ g.
 off-apart p [] low away apart = tt
 off-apart p (g ∷ hs) low away apart = ((λ e. away.0 (omega (arith, e, low, apart.0))), off-apart p hs low away.1 apart.2)
 
-pub settled-keeps : (shelf : List (Option Account)) (k : ℕ) (hs : List Held) → Off k hs → slice_get (settled shelf hs) k ≡ slice_get shelf k
+pub settled-keeps : (shelf : List (Option Account)) (k : ℕ) (hs : List Held) → Off k hs → slice_get (settled_accounts shelf hs) k ≡ slice_get shelf k
 settled-keeps shelf k [] off = refl
 settled-keeps shelf k (h ∷ hs) off =
     settled-keeps (set shelf (h.place - 1) (Some (account_after h))) k hs off.1
@@ -50,24 +50,24 @@ low-at (f ∷ hs) zero h at apart = subst (λ (x : Held). 1 ≤ x.place) (same_S
 low-at (f ∷ hs) (suc i) h at apart = low-at hs i h at apart.2
 
 -- a region that changes at its place changes the settled shelf there and nowhere else
-pub settled-change : (shelf : List (Option Account)) (hs : List Held) (i : ℕ) (h g : Held) → slice_get hs i ≡ Some h → g.place ≡ h.place → IsApart hs → settled shelf (set hs i g) ≡ set (settled shelf hs) (g.place - 1) (Some (account_after g))
+pub settled-change : (shelf : List (Option Account)) (hs : List Held) (i : ℕ) (h g : Held) → slice_get hs i ≡ Some h → g.place ≡ h.place → IsApart hs → settled_accounts shelf (set hs i g) ≡ set (settled_accounts shelf hs) (g.place - 1) (Some (account_after g))
 settled-change shelf [] i h g at same apart = absurd (none-some h at)
 settled-change shelf (f ∷ hs) zero h g at same apart =
     let here : f.place ≡ g.place = ap (λ (x : Held). x.place) (same_Some f h at) ∙ sym same in
     let off : Off (f.place - 1) hs = off-apart f.place hs apart.0 apart.1 apart.2 in
     sym
-    (ap (λ k. set (settled (set shelf (f.place - 1) (Some (account_after f))) hs) (k - 1) (Some (account_after g))) (sym here)
+    (ap (λ k. set (settled_accounts (set shelf (f.place - 1) (Some (account_after f))) hs) (k - 1) (Some (account_after g))) (sym here)
     ∙ (sym (settled-set (set shelf (f.place - 1) (Some (account_after f))) (f.place - 1) (Some (account_after g)) hs off)
-    ∙ (ap (λ s. settled s hs) (set-set shelf (f.place - 1) (Some (account_after f)) (Some (account_after g)))
-    ∙ ap (λ k. settled (set shelf (k - 1) (Some (account_after g))) hs) here)))
+    ∙ (ap (λ s. settled_accounts s hs) (set-set shelf (f.place - 1) (Some (account_after f)) (Some (account_after g)))
+    ∙ ap (λ k. settled_accounts (set shelf (k - 1) (Some (account_after g))) hs) here)))
 settled-change shelf (f ∷ hs) (suc i) h g at same apart = settled-change (set shelf (f.place - 1) (Some (account_after f))) hs i h g at same apart.2
 
 -- where a region stands, the settled shelf has its account
-pub settled-at : (shelf : List (Option Account)) (hs : List Held) (i : ℕ) (h : Held) (o : Option Account) → slice_get hs i ≡ Some h → slice_get shelf (h.place - 1) ≡ Some o → IsApart hs → slice_get (settled shelf hs) (h.place - 1) ≡ Some (Some (account_after h))
+pub settled-at : (shelf : List (Option Account)) (hs : List Held) (i : ℕ) (h : Held) (o : Option Account) → slice_get hs i ≡ Some h → slice_get shelf (h.place - 1) ≡ Some o → IsApart hs → slice_get (settled_accounts shelf hs) (h.place - 1) ≡ Some (Some (account_after h))
 settled-at shelf [] i h o at there apart = absurd (none-some h at)
 settled-at shelf (f ∷ hs) zero h o at there apart =
     let same : f ≡ h = same_Some f h at in
-    subst (λ (x : Held). slice_get (settled (set shelf (f.place - 1) (Some (account_after f))) hs) (x.place - 1) ≡ Some (Some (account_after x))) same
+    subst (λ (x : Held). slice_get (settled_accounts (set shelf (f.place - 1) (Some (account_after f))) hs) (x.place - 1) ≡ Some (Some (account_after x))) same
     (settled-keeps (set shelf (f.place - 1) (Some (account_after f))) (f.place - 1) hs (off-apart f.place hs apart.0 apart.1 apart.2)
     ∙ slice_get-set_same shelf (f.place - 1) o (Some (account_after f)) (subst (λ (x : Held). slice_get shelf (x.place - 1) ≡ Some o) (sym same) there))
 settled-at shelf (f ∷ hs) (suc i) h o at there apart =

@@ -7,7 +7,7 @@ use Rattle.vc_script.specs.declared.command.Command.{Command}
 use Rattle.vc_script.specs.declared.reply.Reply.{Reply}
 use Rattle.vc_steps.specs.Account.{KeepsAccounts}
 use Rattle.vc_steps.specs.Moment.{Moment}
-use Rattle.vc_steps.specs.State.{State, Stepped, stepped}
+use Rattle.vc_steps.specs.State.{State, Stepped, step_with_reply}
 use Rattle.vc_steps.specs.Step.{GivesStep}
 use Rattle.vc_steps.specs.Told.{tell}
 use Rattle.vc_steps.specs.Steps.{Halts, Steps, StepsBy}
@@ -30,11 +30,11 @@ steps-as (Ok reply) now next command given given' same steps = record {
 }
 steps-as (Err e) now next command given given' same halts = halts
 
-told-none : (t : Stepped) (after : State) (reply : Reply) (gone : List Gone) → t ≡ stepped after reply → gone ≡ tell t.told gone
+told-none : (t : Stepped) (after : State) (reply : Reply) (gone : List Gone) → t ≡ step_with_reply after reply → gone ≡ tell t.told gone
 told-none t after reply gone is = sym (ap (λ (u : Stepped). tell u.told gone) is)
 
 -- a step that tells no kind, and whose reply refuses no segment
-pub steps-quiet : (now next : Moment) (command : Command) (t : Stepped) (reply : Reply) → t ≡ stepped next.state reply → next.gone ≡ now.gone → next.accounts ≡ now.accounts → IsGranted reply → Steps now next command t reply
+pub steps-quiet : (now next : Moment) (command : Command) (t : Stepped) (reply : Reply) → t ≡ step_with_reply next.state reply → next.gone ≡ now.gone → next.accounts ≡ now.accounts → IsGranted reply → Steps now next command t reply
 steps-quiet now next command t reply is gone accounts granted =
     record {
       gives = record {

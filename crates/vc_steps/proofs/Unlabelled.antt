@@ -7,8 +7,8 @@ use Rattle.std.proofs.lemmas.Bool.Decides.{nat_tests}
 use Rattle.std.proofs.lemmas.List.Sums.{length-filter}
 use Rattle.vc_model.specs.Layout.{Block}
 use Rattle.vc_model.specs.Sound.{HaveOwnPlaces}
-use Rattle.vc_region.specs.Cells.{labelled}
-use Rattle.vc_region.specs.Region.{Region, blocks_of, keeps_freed, relabelled}
+use Rattle.vc_region.specs.Cells.{tagged_blocks}
+use Rattle.vc_region.specs.Region.{Region, blocks_of, keeps_freed, region_with_labels}
 use Rattle.vc_commands.specs.Held.{IsLive, IsNamed, tag_count}
 use Rattle.vc_commands.specs.Blocks.{has_label, is_name_of}
 use Rattle.vc_commands.specs.Labels.{name_of}
@@ -60,15 +60,15 @@ no-name labels x b e = ap (is_name_of x) (name-none labels b.label (no-tag b e))
 no-live : (labels : Labels) (b : Block ℕ) → has_tag b ≡ false → 1 ≤ b.label → IsLive labels b
 no-live labels b e first = absurd (omega (arith, no-tag b e))
 
-tags-labelled : (r : Region ℕ) → tag_count (blocks_of r) ≡ length (labelled r)
+tags-labelled : (r : Region ℕ) → tag_count (blocks_of r) ≡ length (tagged_blocks r)
 tags-labelled r = sym (length-filter has_tag (blocks_of r))
 
 -- whether a block has a name, and which is the first, by the labelled blocks
-pub has-labelled : (labels : Labels) (x : List ℕ) (r : Region ℕ) → has_label x (relabelled (name_of labels) r) ≡ list_any (named_by (name_of labels) x) (labelled r)
+pub has-labelled : (labels : Labels) (x : List ℕ) (r : Region ℕ) → has_label x (region_with_labels (name_of labels) r) ≡ list_any (named_by (name_of labels) x) (tagged_blocks r)
 has-labelled labels x r = has-label-any (name_of labels) x r ∙ sym (any-kept has_tag (named_by (name_of labels) x) (no-name labels x) (blocks_of r))
 
 -- a region with the same labelled blocks, whatever its other blocks
-module _ (labels : Labels) (r r' : Region ℕ) (same : labelled r' ≡ labelled r) where
+module _ (labels : Labels) (r r' : Region ℕ) (same : tagged_blocks r' ≡ tagged_blocks r) where
   pub named-labelled : IsNamed r labels → HaveOwnPlaces (blocks_of r') → keeps_freed r' ≡ keeps_freed r → IsNamed r' labels
   named-labelled n places keeps =
       let live : Block ℕ → Type 0 = λ b. 1 ≤ b.label → IsLive labels b in

@@ -11,7 +11,7 @@ use Rattle.vc_script.specs.declared.reply.Reply.{Reply}
 use Rattle.vc_script.specs.declared.reply.Reply.TheVariants as reply
 use Rattle.vc_commands.specs.Looking.{found_by, found_reply, is_askable, look_answer, look_reply}
 use Rattle.vc_steps.specs.Dicts.{view_found, view_set, view_step, view_unless}
-use Rattle.vc_steps.specs.State.{State, Stepped, refused}
+use Rattle.vc_steps.specs.State.{State, Stepped, step_with_refusal}
 use Rattle.vc_views.specs.Views.{DictHome, are_like, dict_named, is_dict, is_too_deep, path_in, with_view}
 
 pub some-map : {A : Type 0} (P Q : A → Type 0) → ((x : A) → P x → Q x) → (o : Option A) → IfSome o P → IfSome o Q
@@ -22,7 +22,7 @@ pub some-all : {A : Type 0} (P : A → Type 0) → ((x : A) → P x) → (o : Op
 some-all P f None = tt
 some-all P f (Some x) = f x
 
-module _ (P : Stepped → Type 0) (s : State) (d : DictHome) (missing : P (refused s why.NoDictionary)) (differs : P (refused s why.ViewDiffers)) (cycle : P (refused s why.ViewCycle)) (deep : P (refused s why.ViewTooDeep)) where
+module _ (P : Stepped → Type 0) (s : State) (d : DictHome) (missing : P (step_with_refusal s why.NoDictionary)) (differs : P (step_with_refusal s why.ViewDiffers)) (cycle : P (step_with_refusal s why.ViewCycle)) (deep : P (step_with_refusal s why.ViewTooDeep)) where
   view-by : (like path long : Bool) (e : DictHome) → P (view_set s d (Some e.name))
       → P (view_unless s d e (cond like (Some why.ViewDiffers) (cond path (Some why.ViewCycle) (cond long (Some why.ViewTooDeep) None))))
   view-by true path long e set = differs

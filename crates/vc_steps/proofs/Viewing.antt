@@ -6,7 +6,7 @@ use Rattle.std.specs.Map.{keys_of}
 use Rattle.std.specs.Str.{bytes_eq}
 use Rattle.vc_dtdisc.specs.Rules.{Rules}
 use Rattle.vc_paths.specs.Layers.{Layered}
-use Rattle.vc_paths.specs.Links.{ArePaths, Links, linked}
+use Rattle.vc_paths.specs.Links.{ArePaths, Links, links_with}
 use Rattle.vc_paths.specs.View.{view_fault}
 use Rattle.vc_paths.specs.declared.fault.ViewFault.{ViewFault}
 use Rattle.vc_paths.specs.declared.fault.ViewFault.TheVariants.{Cycle, Differs, TooDeep}
@@ -20,7 +20,7 @@ use Rattle.vc_commands.proofs.Grants.{IsGranted}
 use Rattle.vc_steps.specs.Account.{state_of}
 use Rattle.vc_steps.specs.DictHomes.{AreDicts, dict_home, dict_over, dicts_in}
 use Rattle.vc_steps.specs.Dicts.{dict_step, view_found, view_unless}
-use Rattle.vc_steps.specs.State.{State, refused, stepped}
+use Rattle.vc_steps.specs.State.{State, step_with_refusal, step_with_reply}
 use Rattle.vc_views.specs.Dicts.{number_in}
 use Rattle.vc_views.specs.Numbers.{AreLinked, views_by}
 use Rattle.vc_views.specs.Views.{DictHome, dict_named, is_dict, refusal_of}
@@ -56,13 +56,13 @@ module _ (kinds : List Rules) (slots : Slots) (hs : List Held) (links : Links) (
   made ds = record { shelf = s.shelf; homes = s.homes; kinds = s.kinds; dicts = ds }
 
   -- with none it ends
-  pub view-ended : (need : Need) → dict_step s e.0 (View e.0 None) need ≡ stepped (state_with (linked (number_in e) None links)) (Views e.0 None)
+  pub view-ended : (need : Need) → dict_step s e.0 (View e.0 None) need ≡ step_with_reply (state_with (links_with (number_in e) None links)) (Views e.0 None)
   view-ended need =
       step-dict kinds slots hs es (views_by links es) i e at first dicts (View e.0 None) need
-      ∙ ap (λ ds. stepped (made ds) (Views e.0 None)) (view-none (dict_over hs) links es names are.numbered.distinct i e at within)
+      ∙ ap (λ ds. step_with_reply (made ds) (Views e.0 None)) (view-none (dict_over hs) links es names are.numbered.distinct i e at within)
 
   -- there is no other one of the name
-  pub view-missing : (name : List ℕ) (need : Need) → dict_named name s.dicts ≡ None → dict_step s e.0 (View e.0 (Some name)) need ≡ refused s why.NoDictionary
+  pub view-missing : (name : List ℕ) (need : Need) → dict_named name s.dicts ≡ None → dict_step s e.0 (View e.0 (Some name)) need ≡ step_with_refusal s why.NoDictionary
   view-missing name need none =
       step-dict kinds slots hs es (views_by links es) i e at first dicts (View e.0 (Some name)) need
       ∙ ap (view_found s d) none
@@ -77,12 +77,12 @@ module _ (kinds : List Rules) (slots : Slots) (hs : List Held) (links : Links) (
         (refusal-named (dict_over hs) all links es names are layers paths i e at j f there ∙ ap (option_map refusal_of) fault))
 
     -- it can't be
-    pub view-refused : (need : Need) (fault : ViewFault) → view_fault all links (number_in e) (number_in f) ≡ Some fault → dict_step s e.0 (View e.0 (Some f.0)) need ≡ refused s (refusal_of fault)
+    pub view-refused : (need : Need) (fault : ViewFault) → view_fault all links (number_in e) (number_in f) ≡ Some fault → dict_step s e.0 (View e.0 (Some f.0)) need ≡ step_with_refusal s (refusal_of fault)
     view-refused need fault is = view-other need (Some fault) is
 
     -- it is set
     pub view-done : (need : Need) → view_fault all links (number_in e) (number_in f) ≡ None
-        → dict_step s e.0 (View e.0 (Some f.0)) need ≡ stepped (state_with (linked (number_in e) (Some (number_in f)) links)) (Views e.0 (Some f.0))
+        → dict_step s e.0 (View e.0 (Some f.0)) need ≡ step_with_reply (state_with (links_with (number_in e) (Some (number_in f)) links)) (Views e.0 (Some f.0))
     view-done need is =
         view-other need None is
-        ∙ ap (λ ds. stepped (made ds) (Views e.0 (Some f.0))) (view-some (dict_over hs) links es names are.numbered.distinct i e at within j f there)
+        ∙ ap (λ ds. step_with_reply (made ds) (Views e.0 (Some f.0))) (view-some (dict_over hs) links es names are.numbered.distinct i e at within j f there)

@@ -41,9 +41,9 @@ abbrev pub account_after : Held → Account
 account_after h = account_back h.disc (segments_of h.region)
 
 -- the accounts on the shelf when every open region is closed, in order
-abbrev pub settled : List (Option Account) → List Held → List (Option Account)
-settled shelf [] = shelf
-settled shelf (h ∷ hs) = settled (slice_set shelf (h.place - 1) (Some (account_after h))) hs
+abbrev pub settled_accounts : List (Option Account) → List Held → List (Option Account)
+settled_accounts shelf [] = shelf
+settled_accounts shelf (h ∷ hs) = settled_accounts (slice_set shelf (h.place - 1) (Some (account_after h))) hs
 
 -- a region's discipline is taken from its place, and the region's segments are the last that it lent
 pub record IsHeld (shelf : List (Option Discipline)) (h : Held) : Type 0 where

@@ -7,7 +7,7 @@ use Rattle.vc_base.specs.Cells.{Blocks}
 use Rattle.vc_base.specs.Holders.{contains}
 use Rattle.vc_model.specs.Numbered.{at_number}
 use Rattle.vc_dtdisc.specs.Rules.{Rules}
-use Rattle.vc_objects.specs.Objects.{Dictionary, owned}
+use Rattle.vc_objects.specs.Objects.{Dictionary, own_blocks}
 use Rattle.vc_objects.specs.Parts.{IsWhole, dictionary_of}
 use Rattle.vc_region.specs.Region.{is_best}
 use Rattle.vc_views.specs.Numbers.{home_by}
@@ -50,7 +50,7 @@ pub record IsDictOf (kinds : List Rules) (held : List Held) (e : List ℕ × Dic
 abbrev pub AreApart : List Held → List ℕ × DictEntry → List ℕ × DictEntry → Type 0
 AreApart held e f =
     bytes_eq e.1.home f.1.home ≡ true
-    → (a : ℕ) → contains (owned (dict_over held e)) a ≡ true → contains (owned (dict_over held f)) a ≡ false
+    → (a : ℕ) → contains (own_blocks (dict_over held e)) a ≡ true → contains (own_blocks (dict_over held f)) a ≡ false
 
 -- each dictionary is whole in its region, and no two have a block in common
 abbrev pub AreDicts : List Rules → List Held → List (List ℕ × DictEntry) → Type 0

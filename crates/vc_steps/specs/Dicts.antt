@@ -21,7 +21,7 @@ use Rattle.vc_script.specs.declared.reply.Reply.TheVariants.{Opened, ShutDown, V
 use Rattle.vc_region.specs.Region.{OfBest, is_best, layout_in}
 use Rattle.vc_commands.specs.Looking.{current_or, is_look, look_found, look_reply, own_place}
 use Rattle.vc_paths.specs.Visible.{Seen}
-use Rattle.vc_steps.specs.State.{State, Stepped, home_named, refused, stepped, with_region}
+use Rattle.vc_steps.specs.State.{State, Stepped, home_named, step_with_refusal, step_with_reply, with_region}
 use Rattle.vc_views.specs.Views.{DictHome, dict_named, is_dict, is_linked_in, is_viewed_in, seen_through, view_refusal, with_view}
 use Rattle.vc_commands.specs.Home.{Home, Label}
 
@@ -96,22 +96,22 @@ dict_shut s d =
 
 -- no dictionary that another one views is shut, and none that is viewed or views one gets another method
 abbrev pub unless_viewed : State → DictHome → Stepped → Stepped
-unless_viewed s d t = if is_viewed_in s.dicts d.name then refused s why.Viewed else t
+unless_viewed s d t = if is_viewed_in s.dicts d.name then step_with_refusal s why.Viewed else t
 
 abbrev pub unless_linked : State → DictHome → Stepped → Stepped
-unless_linked s d t = if is_linked_in s.dicts d then refused s why.Viewed else t
+unless_linked s d t = if is_linked_in s.dicts d then step_with_refusal s why.Viewed else t
 
 -- a dictionary views another one from here on, in place of what it viewed, or none
 abbrev pub view_set : State → DictHome → Option (List ℕ) → Stepped
 view_set s d viewed =
-    stepped (record s { dicts = with_view d.name viewed s.dicts }) (Views d.name viewed)
+    step_with_reply (record s { dicts = with_view d.name viewed s.dicts }) (Views d.name viewed)
 
 abbrev pub view_unless : State → DictHome → DictHome → Option Refusal → Stepped
-view_unless s d e (Some refusal) = refused s refusal
+view_unless s d e (Some refusal) = step_with_refusal s refusal
 view_unless s d e None = view_set s d (Some e.name)
 
 abbrev pub view_found : State → DictHome → Option DictHome → Stepped
-view_found s d None = refused s why.NoDictionary
+view_found s d None = step_with_refusal s why.NoDictionary
 view_found s d (Some e) = view_unless s d e (view_refusal s.dicts d e)
 
 abbrev pub view_step : State → DictHome → Option (List ℕ) → Stepped
@@ -125,7 +125,7 @@ look_current rules command d seen =
 
 abbrev pub looked_at : State → Rules → Command → DictHome → List (Seen (List ℕ)) → Stepped
 looked_at s rules command d seen =
-    stepped
+    step_with_reply
     (record s { dicts = with_dict d.name (record d.dict { current = look_current rules command d seen }) s.dicts })
     (look_reply rules command seen)
 
@@ -154,12 +154,12 @@ dict_command s command need d h rules =
 
 -- what is done with a dictionary, in its region and by its kind's rules
 abbrev pub on_seat : State → DictHome → (DictHome → Home → Rules → Stepped) → Option Home → Option Rules → Stepped
-on_seat s d act None rules = refused s why.NoDictionary
-on_seat s d act (Some h) None = refused s why.NoDictionary
+on_seat s d act None rules = step_with_refusal s why.NoDictionary
+on_seat s d act (Some h) None = step_with_refusal s why.NoDictionary
 on_seat s d act (Some h) (Some rules) = act d h rules
 
 abbrev pub on_found : State → (DictHome → Home → Rules → Stepped) → Option DictHome → Stepped
-on_found s act None = refused s why.NoDictionary
+on_found s act None = step_with_refusal s why.NoDictionary
 on_found s act (Some d) = on_seat s d act (home_named d.home s.homes) (at_number s.kinds d.kind)
 
 -- a command on the dictionary of that name
@@ -184,7 +184,7 @@ dict_refused s h d k =
     else None
 
 abbrev pub dict_opened : State → Home → List ℕ → ℕ → Outcome (Grown Label) → Stepped
-dict_opened s h d k (model.Refused fault) = refused s (table_refusal (want_of fault))
+dict_opened s h d k (model.Refused fault) = step_with_refusal s (table_refusal (want_of fault))
 dict_opened s h d k (model.Done g) =
     record {
       state = record s {
@@ -197,12 +197,12 @@ dict_opened s h d k (model.Done g) =
     }
 
 abbrev pub open_dict_unless : State → Home → List ℕ → DictMethod → ℕ → Need → Option Refusal → Stepped
-open_dict_unless s h d method k need (Some refusal) = refused s refusal
+open_dict_unless s h d method k need (Some refusal) = step_with_refusal s refusal
 open_dict_unless s h d method k need None =
     dict_opened s h d k (open_dictionary h.terms (layout_in h.region) None method (is_for_table need))
 
 abbrev pub open_dict_in : State → List ℕ → DictMethod → ℕ → Need → Option Home → Stepped
-open_dict_in s d method k need None = refused s why.NoRegion
+open_dict_in s d method k need None = step_with_refusal s why.NoRegion
 open_dict_in s d method k need (Some h) = open_dict_unless s h d method k need (dict_refused s h d k)
 
 -- a dictionary of a method is opened in a region, by the kind of that number

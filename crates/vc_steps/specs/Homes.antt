@@ -5,9 +5,9 @@ use Rattle.vc_model.specs.Discipline.{Discipline}
 use Rattle.vc_dtdisc.specs.Rules.{Rules}
 use Rattle.vc_seg.specs.Shelf.{slots_of}
 use Rattle.vc_seg.specs.declared.shelf.Shelf.{Shelf}
-use Rattle.vc_seg.specs.Boxed.{boxed}
+use Rattle.vc_seg.specs.Boxed.{disc_in_box}
 use Rattle.vc_steps.specs.State.{State}
-use Rattle.vc_steps.specs.Account.{Account, IsSession, accounts, settled, state_of}
+use Rattle.vc_steps.specs.Account.{Account, IsSession, accounts, settled_accounts, state_of}
 use Rattle.vc_commands.specs.Held.{Held}
 use Rattle.vc_steps.specs.DictHomes.{AreDicts, dicts_in}
 use Rattle.vc_views.specs.Numbers.{AreLinked, views_by}
@@ -29,7 +29,7 @@ held_in meaning session = held_all meaning session.homes.entries session.labels.
 
 -- the disciplines of a shelf, and their accounts
 abbrev pub slots_on : {I : Type 0} {V : I → Type 0} → ((x : I) × V x → Discipline) → Shelf I V → List (Option Discipline)
-slots_on meaning shelf = slots_of (boxed meaning) shelf.slots.items
+slots_on meaning shelf = slots_of (disc_in_box meaning) shelf.slots.items
 
 abbrev pub accounts_on : {I : Type 0} {V : I → Type 0} → ((x : I) × V x → Discipline) → Shelf I V → List (Option Account)
 accounts_on meaning shelf = accounts (slots_on meaning shelf)
@@ -70,4 +70,4 @@ pub record KeepsRegions {I : Type 0} {V : I → Type 0} {D : Type 0} (meaning : 
 
 -- the accounts on the shelf when every open region is closed
 abbrev pub settled_over : {I : Type 0} {V : I → Type 0} {D : Type 0} → ((x : I) × V x → Discipline) → Shelf I V → Session D I V → List (Option Account)
-settled_over meaning shelf session = settled (accounts_on meaning shelf) (held_in meaning session)
+settled_over meaning shelf session = settled_accounts (accounts_on meaning shelf) (held_in meaning session)

@@ -53,8 +53,8 @@ abbrev pub over_sink : Moment → Option (List ℕ) → Moment
 over_sink m written = record m { written = written }
 
 -- the same once the kinds are told of what the session has at its end
-abbrev pub ended : Moment → Moment
-ended m = record m { gone = tell (ended_told m.state) m.gone }
+abbrev pub moment_at_end : Moment → Moment
+moment_at_end m = record m { gone = tell (ended_told m.state) m.gone }
 
 -- each place has its discipline, with the segments out and the terms that it had, and no fault less
 abbrev pub Keeps : Moment → Moment → Type 0

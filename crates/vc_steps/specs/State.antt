@@ -5,9 +5,9 @@ use Rattle.std.specs.Str.{bytes_eq}
 use Rattle.vc_model.specs.Discipline.{Terms}
 use Rattle.vc_model.specs.Numbered.{at_number}
 use Rattle.vc_dtdisc.specs.Rules.{Rules}
-use Rattle.vc_objects.specs.Objects.{listed}
+use Rattle.vc_objects.specs.Objects.{option_list}
 use Rattle.vc_region.specs.Region.{Region, segments_of}
-use Rattle.vc_region.specs.Stat.{opened}
+use Rattle.vc_region.specs.Stat.{opened_region}
 use Rattle.vc_seg.specs.declared.method.Method.{Method}
 use Rattle.vc_script.specs.declared.reply.Reply.{Reply}
 use Rattle.vc_script.specs.declared.reply.Reply.TheVariants.{Opened, Closed, Refused}
@@ -35,12 +35,12 @@ pub record Stepped : Type 0 where
   pub granted : List (ℕ × ℕ)
 
 -- a step that tells no kind and is granted no segment
-abbrev pub stepped : State → Reply → Stepped
-stepped s reply = record { state = s; reply = reply; told = []; granted = [] }
+abbrev pub step_with_reply : State → Reply → Stepped
+step_with_reply s reply = record { state = s; reply = reply; told = []; granted = [] }
 
 -- a refusal changes nothing
-abbrev pub refused : State → Refusal → Stepped
-refused s why = stepped s (Refused why)
+abbrev pub step_with_refusal : State → Refusal → Stepped
+step_with_refusal s why = step_with_reply s (Refused why)
 
 abbrev pub home_named : List ℕ → List Home → Option Home
 home_named r homes = find (is_home r) homes
@@ -48,7 +48,7 @@ home_named r homes = find (is_home r) homes
 -- a region is opened with a discipline of those terms
 abbrev pub opened_with : State → List ℕ → ℕ → Region Label → Terms → Stepped
 opened_with s r n region terms =
-    stepped
+    step_with_reply
     (record s {
       shelf = slice_set s.shelf (n - 1) None;
       homes = s.homes ++ record { name = r; place = n; terms = terms; region = region; kept = [] } ∷ [];
@@ -56,15 +56,15 @@ opened_with s r n region terms =
     (Opened r)
 
 abbrev pub opened_over : State → List ℕ → ℕ → Region Label → Option (Option Terms) → Stepped
-opened_over s r n region None = refused s why.NoSuchDiscipline
-opened_over s r n region (Some None) = refused s why.DisciplineInUse
+opened_over s r n region None = step_with_refusal s why.NoSuchDiscipline
+opened_over s r n region (Some None) = step_with_refusal s why.DisciplineInUse
 opened_over s r n region (Some (Some terms)) = opened_with s r n region terms
 
 -- a region of that method is opened, unless one has the name or no discipline is at the place
 abbrev pub open_step : State → List ℕ → Method → ℕ → Stepped
 open_step s r method n =
-    if list_any (is_home r) s.homes then refused s why.RegionExists
-    else opened_over s r n (opened method) (at_number s.shelf n)
+    if list_any (is_home r) s.homes then step_with_refusal s why.RegionExists
+    else opened_over s r n (opened_region method) (at_number s.shelf n)
 
 -- the regions without the one of that name
 abbrev pub without_home : List ℕ → List Home → List Home
@@ -77,18 +77,18 @@ is_busy s r = list_any (λ d. bytes_eq d.home r) s.dicts
 
 -- what is done with a region in which no dictionary lies
 abbrev pub unless_busy : State → List ℕ → Stepped → Stepped
-unless_busy s r t = if is_busy s r then refused s why.Busy else t
+unless_busy s r t = if is_busy s r then step_with_refusal s why.Busy else t
 
 -- a region gives its segments back, and its discipline is at its place again
-abbrev pub closed : State → List ℕ → Home → Stepped
-closed s r h =
-    stepped
+abbrev pub step_with_close : State → List ℕ → Home → Stepped
+step_with_close s r h =
+    step_with_reply
     (record s { shelf = slice_set s.shelf (h.place - 1) (Some h.terms); homes = without_home r s.homes })
     (Closed r (length (segments_of h.region)))
 
 abbrev pub close_home : State → List ℕ → Option Home → Stepped
-close_home s r None = refused s why.NoRegion
-close_home s r (Some h) = unless_busy s r (closed s r h)
+close_home s r None = step_with_refusal s why.NoRegion
+close_home s r (Some h) = unless_busy s r (step_with_close s r h)
 
 abbrev pub close_step : State → List ℕ → Stepped
 close_step s r = close_home s r (home_named r s.homes)
@@ -100,13 +100,13 @@ with_region r region kept (h ∷ hs) =
     if is_home r h then (record h { region = region; kept = kept }) ∷ hs else h ∷ with_region r region kept hs
 
 -- the state with the change of the region of that name
-abbrev pub changed : State → List ℕ → Changed → Stepped
-changed s r c =
+abbrev pub step_with_change : State → List ℕ → Changed → Stepped
+step_with_change s r c =
     record {
       state = record s { homes = with_region r c.region c.kept s.homes };
       reply = c.reply;
       told = [];
-      granted = listed c.granted;
+      granted = option_list c.granted;
     }
 
 -- why no discipline is taken from a place of the shelf

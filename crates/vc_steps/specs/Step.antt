@@ -7,7 +7,7 @@ use Rattle.vc_script.specs.Needs.{Need}
 use Rattle.vc_script.specs.declared.reply.Reply.{Reply}
 use Rattle.vc_dtdisc.specs.Rules.{Gone}
 use Rattle.vc_commands.specs.Home.{Home}
-use Rattle.vc_steps.specs.State.{State, Stepped, changed, close_step, home_named, open_step, refused, unless_busy}
+use Rattle.vc_steps.specs.State.{State, Stepped, step_with_change, close_step, home_named, open_step, step_with_refusal, unless_busy}
 use Rattle.vc_steps.specs.Dicts.{dict_of, dict_step, open_dict_step, region_named}
 use Rattle.vc_steps.specs.Told.{tell}
 use Rattle.vc_commands.specs.RegionCommands.{in_region}
@@ -45,15 +45,15 @@ cleared_or s r (ClearRegion x) t = unless_busy s r t
 cleared_or s r command t = t
 
 abbrev pub region_step : State → List ℕ → ℕ → Command → Need → Option Home → Stepped
-region_step s r line command need None = refused s why.NoRegion
-region_step s r line command need (Some h) = cleared_or s r command (changed s r (in_region h line command need))
+region_step s r line command need None = step_with_refusal s why.NoRegion
+region_step s r line command need (Some h) = cleared_or s r command (step_with_change s r (in_region h line command need))
 
 -- a command that opens or closes a region, or opens a dictionary
 abbrev pub shelf_step : State → Command → Need → Stepped
 shelf_step s (OpenRegion r method n) need = open_step s r method n
 shelf_step s (CloseRegion r) need = close_step s r
 shelf_step s (OpenDict d method r kind) need = open_dict_step s d method r kind need
-shelf_step s command need = refused s why.NoRegion
+shelf_step s command need = step_with_refusal s why.NoRegion
 
 abbrev pub step_of : State → ℕ → Command → Need → Option (List ℕ) → Stepped
 step_of s line command need None = shelf_step s command need

@@ -11,7 +11,7 @@ ghost use Rattle.vc_steps.specs.Account.{account_back};
 ghost use Rattle.vc_steps.specs.Homes.{HoldsDicts, HoldsRegions, KeepsRegions, accounts_on, held_in, settled_over, slots_on, state_over};
 ghost use Rattle.vc_steps.specs.DictHomes.{lies_in};
 ghost use Rattle.vc_steps.specs.Closes.{ClosesAt};
-ghost use Rattle.vc_steps.specs.State.{close_step, stepped};
+ghost use Rattle.vc_steps.specs.State.{close_step, step_with_reply};
 
 use crate::session::Session;
 use vc_base::Name;
@@ -64,7 +64,7 @@ impl<D> Session<D> {
         ensures step { (kinds : List Rules)
             → HoldsDicts state kinds self.old
             → close_step (state_over state kinds shelf.old self.old) name.now
-            ≡ stepped (state_over state kinds shelf.new self.new) result }
+            ≡ step_with_reply (state_over state kinds shelf.new self.new) result }
         ensures regions { KeepsRegions state self.old shelf.new self.new }
         ensures settled { settled_over state shelf.new self.new
             ≡ settled_over state shelf.old self.old }

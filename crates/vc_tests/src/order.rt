@@ -3,7 +3,7 @@ ghost use Rattle.std.specs.Prelude.{◌≡◌, ◌%◌, Contains, IfOk, OnOk, Is
 ghost use Rattle.vc_model.specs.Discipline.{IsRound, IsSegmentSize, Lent, Unserved};
 ghost use Rattle.vc_seg.specs.Budget.{discipline_of};
 ghost use Rattle.vc_seg.specs.Lend.{Returned};
-ghost use Rattle.vc_seg.specs.Segment.{pair_of, zeroed};
+ghost use Rattle.vc_seg.specs.Segment.{pair_of, zero_segment};
 
 use crate::given::{ample, fine, put, run};
 use std::alloc::{AllocError, Global};

@@ -11,7 +11,7 @@ use Rattle.vc_dict.specs.Listed.{holders_of}
 use Rattle.vc_dict.specs.Stands.{Stands}
 use Rattle.vc_dict.specs.declared.dict.Dict.{Dict}
 use Rattle.vc_dict.proofs.OwnLemmas.{Stands-own, Stands-table, holder-address, holder-there, holders-told}
-use Rattle.vc_objects.specs.Objects.{Dictionary, owned}
+use Rattle.vc_objects.specs.Objects.{Dictionary, own_blocks}
 use Rattle.vc_objects.specs.Parts.{IsWhole, dictionary_of, object_of}
 use Rattle.vc_objects.proofs.Mapped.{objects-kept}
 use Rattle.vc_objects.proofs.Owning.{owned-within, owned-zero}
@@ -28,7 +28,7 @@ module _ (rules : Rules) (d : Dict) (b : Blocks) (whole : IsWhole rules d b) whe
   xs = holders_of d b
 
   -- none of its blocks stands at 0
-  zero-not : contains (owned (dictionary_of d b)) 0 ≡ true → ⊥
+  zero-not : contains (own_blocks (dictionary_of d b)) 0 ≡ true → ⊥
   zero-not h =
       let address : IsAddress 0 = holder-address rules d b xs 0 whole.stands (sym (owned-zero d b) ∙ h) in
       absurd (omega (arith, address.some))
@@ -40,13 +40,13 @@ module _ (rules : Rules) (d : Dict) (b : Blocks) (whole : IsWhole rules d b) whe
   ]
 
   -- a block stands at each of its addresses
-  pub owned-there : (a : ℕ) → contains (owned (dictionary_of d b)) a ≡ true → IsSome (b a)
+  pub owned-there : (a : ℕ) → contains (own_blocks (dictionary_of d b)) a ≡ true → IsSome (b a)
   owned-there a h = elim (eqb_tells a 0) as (λ _. IsSome (b a)) [
-    | inl zero ↦ absurd (zero-not (subst (λ z. contains (owned (dictionary_of d b)) z ≡ true) zero.1 h))
+    | inl zero ↦ absurd (zero-not (subst (λ z. contains (own_blocks (dictionary_of d b)) z ≡ true) zero.1 h))
     | inr some ↦ own-there a some.1 (sym (owned-within d b a some.1) ∙ h)
   ]
 
-  module _ (new : Blocks) (same : (a : ℕ) → contains (owned (dictionary_of d b)) a ≡ true → new a ≡ b a) where
+  module _ (new : Blocks) (same : (a : ℕ) → contains (own_blocks (dictionary_of d b)) a ≡ true → new a ≡ b a) where
     own-same : (a : ℕ) → a ≢ 0 → contains (d.table.0 ∷ xs) a ≡ true → new a ≡ b a
     own-same a ne h = same a (owned-within d b a ne ∙ h)
 

@@ -12,7 +12,7 @@ use Rattle.vc_base.specs.Holders.{AreDistinct, contains}
 use Rattle.vc_dict.specs.declared.dict.Dict.{Dict}
 use Rattle.vc_dtdisc.proofs.FindingLemmas.{find-map}
 use Rattle.vc_objects.specs.Objects.{Dictionary}
-use Rattle.vc_paths.specs.Links.{Links, below, is_viewed, linked, numbers}
+use Rattle.vc_paths.specs.Links.{Links, below, is_viewed, links_with, numbers}
 use Rattle.vc_paths.proofs.LinkLemmas.{below-linked, below-other}
 use Rattle.vc_commands.proofs.Firsts.{any-unmap, or-false}
 use Rattle.vc_views.specs.Dicts.{AreNumbered, entry_numbered, number_in}
@@ -143,11 +143,11 @@ module _ (links : Links) (es : List Entry) (i : ℕ) (e : Entry) (at : slice_get
   views-changed = views-kept links es changed (map-set_same view_part es i e (e.0, record e.1 { dict = new }) at refl)
 
 -- a link of one number ends
-pub linked-ended : (links : Links) (es : List Entry) (d : ℕ) → d < length links → AreLinked links es → AreLinked (linked d None links) es
+pub linked-ended : (links : Links) (es : List Entry) (d : ℕ) → d < length links → AreLinked links es → AreLinked (links_with d None links) es
 linked-ended links es d within are = record {
   numbered = are.numbered;
   linked = λ n m b. elim (eqb_tells n d) as (λ _. IsLinked es n m) [
-    | inl same ↦ absurd (none-some m (sym (ap (below (linked d None links)) same.1 ∙ below-linked links d None within) ∙ b))
+    | inl same ↦ absurd (none-some m (sym (ap (below (links_with d None links)) same.1 ∙ below-linked links d None within) ∙ b))
     | inr apart ↦ are.linked n m (sym (below-other links d n None apart.1) ∙ b)
   ];
 }
@@ -163,21 +163,21 @@ unviewed-all links none n =
     (cases_Bool (is_viewed links n))
 
 -- where links end one number after another, those that ended stay none
-pub ended-more : (links : Links) (k : ℕ) → k < length links → ((n : ℕ) → n < k → below links n ≡ None) → (n : ℕ) → n < suc k → below (linked k None links) n ≡ None
-ended-more links k within none n before = elim (eqb_tells n k) as (λ _. below (linked k None links) n ≡ None) [
-  | inl same ↦ ap (below (linked k None links)) same.1 ∙ below-linked links k None within
+pub ended-more : (links : Links) (k : ℕ) → k < length links → ((n : ℕ) → n < k → below links n ≡ None) → (n : ℕ) → n < suc k → below (links_with k None links) n ≡ None
+ended-more links k within none n before = elim (eqb_tells n k) as (λ _. below (links_with k None links) n ≡ None) [
+  | inl same ↦ ap (below (links_with k None links)) same.1 ∙ below-linked links k None within
   | inr apart ↦
       let ne = apart.1 in
       below-other links k n None ne ∙ none n (omega (arith, ne, before))
 ]
 
 -- it is set to another one of the same method and kind
-pub linked-set : (links : Links) (es : List Entry) (d e : ℕ) → d < length links → IsLinked es d e → AreLinked links es → AreLinked (linked d (Some e) links) es
+pub linked-set : (links : Links) (es : List Entry) (d e : ℕ) → d < length links → IsLinked es d e → AreLinked links es → AreLinked (links_with d (Some e) links) es
 linked-set links es d e within is are = record {
   numbered = are.numbered;
   linked = λ n m b. elim (eqb_tells n d) as (λ _. IsLinked es n m) [
     | inl same ↦
-        let both : Some e ≡ Some m = sym (ap (below (linked d (Some e) links)) same.1 ∙ below-linked links d (Some e) within) ∙ b in
+        let both : Some e ≡ Some m = sym (ap (below (links_with d (Some e) links)) same.1 ∙ below-linked links d (Some e) within) ∙ b in
         subst (λ z. IsLinked es z m) (sym same.1) (subst (IsLinked es d) (same_Some e m both) is)
     | inr apart ↦ are.linked n m (sym (below-other links d n (Some e) apart.1) ∙ b)
   ];
@@ -272,7 +272,7 @@ module _ (links : Links) (es : List Entry) (are : AreLinked links es) (i : ℕ) 
 -- a dictionary that isn't viewed ends: what it views ends, and then it goes
 module _ (links : Links) (es : List Entry) (are : AreLinked links es) (i : ℕ) (e : Entry) (at : slice_get es i ≡ Some e) (unviewed : is_viewed links (number_in e) ≡ false) (within : number_in e < length links) where
   abbrev pub without : Links
-  without = linked (number_in e) None links
+  without = links_with (number_in e) None links
 
   -- with no link no more are viewed
   still-viewed : (n : ℕ) → is_viewed without n ≡ true → is_viewed links n ≡ true
@@ -318,8 +318,8 @@ linked-none links es none numbered = record {
 }
 
 -- one that has none has none when another one's ends
-pub ended-still : (links : Links) (d n : ℕ) → d < length links → below links n ≡ None → below (linked d None links) n ≡ None
-ended-still links d n within none = elim (eqb_tells n d) as (λ _. below (linked d None links) n ≡ None) [
-  | inl same ↦ ap (below (linked d None links)) same.1 ∙ below-linked links d None within
+pub ended-still : (links : Links) (d n : ℕ) → d < length links → below links n ≡ None → below (links_with d None links) n ≡ None
+ended-still links d n within none = elim (eqb_tells n d) as (λ _. below (links_with d None links) n ≡ None) [
+  | inl same ↦ ap (below (links_with d None links)) same.1 ∙ below-linked links d None within
   | inr apart ↦ below-other links d n None apart.1 ∙ none
 ]

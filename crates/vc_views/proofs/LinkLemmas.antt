@@ -12,7 +12,7 @@ use Rattle.std.proofs.lemmas.Option.{none-some, same_Some}
 use Rattle.std.proofs.lemmas.Slice.Eq.{bytes_eq-Decides}
 use Rattle.vc_base.specs.Holders.{AreDistinct, contains}
 use Rattle.vc_objects.specs.Objects.{Dictionary}
-use Rattle.vc_paths.specs.Links.{ArePaths, Links, below, is_link_to, is_viewed, link_at, linked, numbers}
+use Rattle.vc_paths.specs.Links.{ArePaths, Links, below, is_link_to, is_viewed, link_at, links_with, numbers}
 use Rattle.vc_paths.proofs.LinkLemmas.{below-linked, below-other}
 use Rattle.vc_commands.proofs.Firsts.{any-unmap, or-false}
 use Rattle.vc_views.specs.Dicts.{AreNumbered, entry_numbered, number_in}
@@ -137,18 +137,18 @@ module _ (over : Entry → Dictionary) (views views' : ℕ → Option (List ℕ)
 
 module _ (over : Entry → Dictionary) (links : Links) (entries : List Entry) (names : IsDistinct bytes_eq (keys_of entries)) (distinct : AreDistinct (map number_in entries)) (i : ℕ) (d : Entry) (at : slice_get entries i ≡ Some d) (within : number_in d < length links) where
   -- with another link of a number its dictionary views the one of that link, by name
-  pub view-linked : (link : Option ℕ) → with_view d.0 (option_and_then (name_numbered entries) link) (homes over links entries) ≡ homes over (linked (number_in d) link links) entries
+  pub view-linked : (link : Option ℕ) → with_view d.0 (option_and_then (name_numbered entries) link) (homes over links entries) ≡ homes over (links_with (number_in d) link links) entries
   view-linked link =
-      with-view over (views_by links entries) (views_by (linked (number_in d) link links) entries) d (option_and_then (name_numbered entries) link)
+      with-view over (views_by links entries) (views_by (links_with (number_in d) link links) entries) d (option_and_then (name_numbered entries) link)
       (ap (option_and_then (name_numbered entries)) (below-linked links (number_in d) link within))
       (λ n apart. ap (option_and_then (name_numbered entries)) (below-other links (number_in d) n link apart))
       entries i names distinct at
 
   -- so it does with the number of a dictionary, and views none with no link
-  pub view-some : (j : ℕ) (e : Entry) → slice_get entries j ≡ Some e → with_view d.0 (Some e.0) (homes over links entries) ≡ homes over (linked (number_in d) (Some (number_in e)) links) entries
+  pub view-some : (j : ℕ) (e : Entry) → slice_get entries j ≡ Some e → with_view d.0 (Some e.0) (homes over links entries) ≡ homes over (links_with (number_in d) (Some (number_in e)) links) entries
   view-some j e there =
       ap (λ o. with_view d.0 (option_map (λ (f : Entry). f.0) o) (homes over links entries)) (sym (by-number entries j e distinct there))
       ∙ view-linked (Some (number_in e))
 
-  pub view-none : with_view d.0 None (homes over links entries) ≡ homes over (linked (number_in d) None links) entries
+  pub view-none : with_view d.0 None (homes over links entries) ≡ homes over (links_with (number_in d) None links) entries
   view-none = view-linked None

@@ -16,7 +16,7 @@ use Rattle.vc_objects.specs.Objects.{Dictionary}
 use Rattle.vc_paths.specs.declared.fault.ViewFault.{ViewFault}
 use Rattle.vc_paths.specs.declared.fault.ViewFault.TheVariants.{Cycle, Differs, TooDeep}
 use Rattle.vc_paths.specs.Layers.{Layered}
-use Rattle.vc_paths.specs.Links.{ArePaths, Links, are_too_long, below, is_too_long, linked, numbers, onward, path, path_limit, path_of}
+use Rattle.vc_paths.specs.Links.{ArePaths, Links, are_too_long, below, is_too_long, links_with, numbers, onward, path, path_limit, path_of}
 use Rattle.vc_paths.specs.View.{are_alike, view_fault}
 use Rattle.vc_paths.proofs.LinkLemmas.{none-any, some-any}
 use Rattle.vc_script.specs.declared.refusal.Refusal.TheVariants.{ViewCycle, ViewDiffers, ViewTooDeep}
@@ -160,10 +160,10 @@ module _ (over : Entry → Dictionary) (all : Layered) (links : Links) (entries 
   within = number-within links entries i d paths are.numbered at
 
   deep-linked : are_alike all (number_in d) (number_in e) ≡ true
-      → is_too_deep (with_view d.0 (Some e.0) (homes over links entries)) ≡ are_too_long (linked (number_in d) (Some (number_in e)) links)
+      → is_too_deep (with_view d.0 (Some e.0) (homes over links entries)) ≡ are_too_long (links_with (number_in d) (Some (number_in e)) links)
   deep-linked alike =
       ap is_too_deep (view-some over links entries names are.numbered.distinct i d at within j e there)
-      ∙ deep-named over (linked (number_in d) (Some (number_in e)) links) entries names
+      ∙ deep-named over (links_with (number_in d) (Some (number_in e)) links) entries names
       (linked-set links entries (number_in d) (number_in e) within (linked-alike alike) are)
 
   -- the refusal of a view by names is that of its fault by numbers
@@ -174,15 +174,15 @@ module _ (over : Entry → Dictionary) (all : Layered) (links : Links) (entries 
       else if is_too_deep (with_view d.0 (Some e.0) (homes over links entries)) then Some ViewTooDeep
       else None) like-named cycle-named
       ∙ refusal-told (are_alike all (number_in d) (number_in e)) (contains (path links (number_in e)) (number_in d))
-      (is_too_deep (with_view d.0 (Some e.0) (homes over links entries))) (are_too_long (linked (number_in d) (Some (number_in e)) links)) deep-linked
+      (is_too_deep (with_view d.0 (Some e.0) (homes over links entries))) (are_too_long (links_with (number_in d) (Some (number_in e)) links)) deep-linked
 
   -- where there is no fault, links stay between dictionaries with the view set
   alike-none : (alike : Bool) (rest : Option ViewFault) → (if not alike then Some Differs else rest) ≡ None → alike ≡ true
   alike-none true rest none = refl
   alike-none false rest none = absurd (none-some Differs (sym none))
 
-  pub linked-viewed : view_fault all links (number_in d) (number_in e) ≡ None → AreLinked (linked (number_in d) (Some (number_in e)) links) entries
+  pub linked-viewed : view_fault all links (number_in d) (number_in e) ≡ None → AreLinked (links_with (number_in d) (Some (number_in e)) links) entries
   linked-viewed none =
       linked-set links entries (number_in d) (number_in e) within
       (linked-alike (alike-none (are_alike all (number_in d) (number_in e))
-      (if contains (path links (number_in e)) (number_in d) then Some Cycle else if are_too_long (linked (number_in d) (Some (number_in e)) links) then Some TooDeep else None) none)) are
+      (if contains (path links (number_in e)) (number_in d) then Some Cycle else if are_too_long (links_with (number_in d) (Some (number_in e)) links) then Some TooDeep else None) none)) are

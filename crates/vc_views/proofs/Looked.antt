@@ -21,7 +21,7 @@ use Rattle.vc_best.specs.declared.best.Best as best
 use Rattle.vc_region.specs.Region.{OfBest}
 use Rattle.vc_region.specs.declared.region.Region.TheVariants.{Best}
 use Rattle.vc_objects.specs.Leaves.{Looks}
-use Rattle.vc_objects.specs.Objects.{Dictionary, owned}
+use Rattle.vc_objects.specs.Objects.{Dictionary, own_blocks}
 use Rattle.vc_objects.specs.Parts.{IsWhole, dictionary_of}
 use Rattle.vc_objects.proofs.Looking.{Looks-became}
 use Rattle.vc_commands.specs.declared.dict.entry.DictEntry.{DictEntry}
@@ -106,7 +106,7 @@ module _ {I : Type 0} {V : I → Type 0} (es : List (List ℕ × HomeEntry I V))
           was = was-named;
           now = now-named;
           best = refl;
-          others = λ a apart. looks.leaves.rest.others a apart (ap (λ d. contains (owned d) a) looks.dict ∙ apart);
+          others = λ a apart. looks.leaves.rest.others a apart (ap (λ d. contains (own_blocks d) a) looks.dict ∙ apart);
           elsewhere = other-named;
         };
         whole = looks.leaves.whole;
@@ -130,13 +130,13 @@ module _ (kinds : List Rules) (old new : List DictRegion) (es : List Entry) (i :
   looked_entry = (n, record { home = v.home; number = v.number; dict = dict })
 
   abbrev own : List ℕ
-  own = owned (dictionary_of v.dict looks.before.cells)
+  own = own_blocks (dictionary_of v.dict looks.before.cells)
 
   over-was : dictionary_over old (n, v) ≡ dictionary_of v.dict looks.before.cells
   over-was = ap (λ o. dictionary_of v.dict (cells_held o)) looks.was
 
   clear : AllByRecursion (IsClear old v.home own) (remove es i)
-  clear = subst (λ d. AllByRecursion (IsClear old v.home (owned d)) (remove es i)) over-was (clear-others kinds old (n, v) es i there are)
+  clear = subst (λ d. AllByRecursion (IsClear old v.home (own_blocks d)) (remove es i)) over-was (clear-others kinds old (n, v) es i there are)
 
   abbrev seen_with : ℕ → Dictionary → DictSeen
   seen_with k d = record { name = n; home = v.home; number = v.number; kind = k; dict = d }

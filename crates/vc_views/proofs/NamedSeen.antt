@@ -14,7 +14,7 @@ use Rattle.vc_objects.specs.Objects.{Dictionary}
 use Rattle.vc_paths.specs.Layers.{Layered}
 use Rattle.vc_paths.specs.Links.{Links, path}
 use Rattle.vc_paths.specs.Path.{objects_of, seen_in, visible_of}
-use Rattle.vc_paths.specs.Visible.{rename, visible}
+use Rattle.vc_paths.specs.Visible.{rename, visible_objects}
 use Rattle.vc_paths.proofs.Renamed.{visible-renamed}
 use Rattle.vc_script.specs.declared.command.Command.{Command}
 use Rattle.vc_commands.specs.Looking.{look_found, look_reply, own_place}
@@ -53,10 +53,10 @@ module _ (over : Entry → Dictionary) (all : Layered) (links : Links) (entries 
     seen-named i e at rules are =
         let found = by-number entries i e linked.numbered.distinct at in
         let is = layers (number_in e) e found in
-        ap₂ (λ m os. visible m rules os) (is.over_method ∙ sym is.method)
+        ap₂ (λ m os. visible_objects m rules os) (is.over_method ∙ sym is.method)
         (path-each over links entries names linked layer_seen (λ n. map (rename (name_or entries other)) (objects_of all n)) layer-named i e at
         ∙ sym (map-map (map (rename (name_or entries other))) (objects_of all) (path links (number_in e))))
-        ∙ ap (λ r. visible (all.layer (number_in e)).method r (map (map (rename (name_or entries other))) (map (objects_of all) (path links (number_in e))))) are
+        ∙ ap (λ r. visible_objects (all.layer (number_in e)).method r (map (map (rename (name_or entries other))) (map (objects_of all) (path links (number_in e))))) are
         ∙ visible-renamed (name_or entries other) (all.layer (number_in e)).rules (all.layer (number_in e)).method (map (objects_of all) (path links (number_in e)))
 
   -- only the name of the dictionary's own number is its name

@@ -7,7 +7,7 @@ use Rattle.std.proofs.lemmas.Bool.{cases_Bool, false_from_ne_true, false≢true}
 use Rattle.std.proofs.lemmas.Option.{none-some, same_Some}
 use Rattle.vc_base.specs.Holders.{contains}
 use Rattle.vc_dtdisc.specs.Rules.{Rules}
-use Rattle.vc_objects.specs.Objects.{Dictionary, owned}
+use Rattle.vc_objects.specs.Objects.{Dictionary, own_blocks}
 use Rattle.vc_objects.specs.Parts.{IsWhole, dictionary_of}
 use Rattle.vc_commands.proofs.Keeping.{swapped}
 use Rattle.vc_commands.proofs.Names.{same_bytes}
@@ -18,7 +18,7 @@ use Rattle.vc_views.proofs.Kept.{dictionary-kept, whole-kept}
 
 -- two dictionaries of one region have no block in common, by what is seen of them
 abbrev pub AreApart : DictSeen → DictSeen → Type 0
-AreApart s u = bytes_eq s.home u.home ≡ true → (a : ℕ) → contains (owned s.dict) a ≡ true → contains (owned u.dict) a ≡ false
+AreApart s u = bytes_eq s.home u.home ≡ true → (a : ℕ) → contains (own_blocks s.dict) a ≡ true → contains (own_blocks u.dict) a ≡ false
 
 abbrev pub AllApart : List DictSeen → Type 0
 AllApart [] = Unit {0}
@@ -53,15 +53,15 @@ all-at P (y ∷ ys) (suc i) x at all = all-at P ys i x at all.1
 
 -- a dictionary has none of these blocks, where it lies in the region of that name
 abbrev pub IsClear : List DictRegion → List ℕ → List ℕ → Entry → Type 0
-IsClear regions r mine f = bytes_eq r f.1.home ≡ true → (a : ℕ) → contains mine a ≡ true → contains (owned (dictionary_over regions f)) a ≡ false
+IsClear regions r mine f = bytes_eq r f.1.home ≡ true → (a : ℕ) → contains mine a ≡ true → contains (own_blocks (dictionary_over regions f)) a ≡ false
 
 module _ (kinds : List Rules) (regions : List DictRegion) (e : Entry) where
   abbrev mine : List ℕ
-  mine = owned (dictionary_over regions e)
+  mine = own_blocks (dictionary_over regions e)
 
   clear-before : (f : Entry) → AreApartOver regions f e → IsClear regions e.1.home mine f
   clear-before f apart = λ here a m.
-      false_from_ne_true (contains (owned (dictionary_over regions f)) a)
+      false_from_ne_true (contains (own_blocks (dictionary_over regions f)) a)
       (λ own. false≢true (sym (apart (swapped f.1.home e.1.home ∙ here) a own) ∙ m))
 
   -- all others have none of the blocks of one
@@ -86,11 +86,11 @@ module _ (kinds : List Rules) (r mine : List ℕ) (old new : List DictRegion) (t
       whole-was : IsWhole d.rules f.1.dict t.before.cells
       whole-was = subst (λ (h : DictRegion). IsWhole d.rules f.1.dict h.cells) (same_Some d.home t.before (sym d.found ∙ home-was)) d.whole
 
-      cells-same : (a : ℕ) → contains (owned (dictionary_of f.1.dict t.before.cells)) a ≡ true → t.after.cells a ≡ t.before.cells a
+      cells-same : (a : ℕ) → contains (own_blocks (dictionary_of f.1.dict t.before.cells)) a ≡ true → t.after.cells a ≡ t.before.cells a
       cells-same a own =
           t.others a
           (false_from_ne_true (contains mine a)
-          (λ m. false≢true (sym (subst (λ (x : Dictionary). contains (owned x) a ≡ false) over-was (clear (swapped r f.1.home ∙ here) a m)) ∙ own)))
+          (λ m. false≢true (sym (subst (λ (x : Dictionary). contains (own_blocks x) a ≡ false) over-was (clear (swapped r f.1.home ∙ here) a m)) ∙ own)))
 
       here-same : dictionary_over new f ≡ dictionary_over old f
       here-same =

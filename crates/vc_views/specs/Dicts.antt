@@ -13,7 +13,7 @@ use Rattle.vc_dtdisc.specs.Shapes.{rules_of}
 use Rattle.vc_dtdisc.specs.declared.shape.Shape.TheVariants.{Whole}
 use Rattle.vc_paths.specs.Layers.{Layer, Layered}
 use Rattle.vc_paths.specs.Links.{numbers}
-use Rattle.vc_objects.specs.Objects.{Dictionary, owned}
+use Rattle.vc_objects.specs.Objects.{Dictionary, own_blocks}
 use Rattle.vc_objects.specs.Parts.{IsWhole, dictionary_of}
 use Rattle.vc_region.specs.Cells.{cells_in, rest_in}
 use Rattle.vc_region.specs.Parts.{disc_of}
@@ -60,7 +60,7 @@ pub record IsDictOver (kinds : List Rules) (regions : List DictRegion) (e : List
 abbrev pub AreApartOver : List DictRegion → List ℕ × DictEntry → List ℕ × DictEntry → Type 0
 AreApartOver regions e f =
     bytes_eq e.1.home f.1.home ≡ true
-    → (a : ℕ) → contains (owned (dictionary_over regions e)) a ≡ true → contains (owned (dictionary_over regions f)) a ≡ false
+    → (a : ℕ) → contains (own_blocks (dictionary_over regions e)) a ≡ true → contains (own_blocks (dictionary_over regions f)) a ≡ false
 
 -- each dictionary is whole in its region, and no two have a block in common
 abbrev pub AreDictsOver : List Rules → List DictRegion → List (List ℕ × DictEntry) → Type 0

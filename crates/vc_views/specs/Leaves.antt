@@ -4,7 +4,7 @@ use Rattle.std.specs.Str.{bytes_eq}
 use Rattle.vc_base.specs.Holders.{contains}
 use Rattle.vc_dict.specs.declared.dict.Dict.{Dict}
 use Rattle.vc_dtdisc.specs.Rules.{Rules}
-use Rattle.vc_objects.specs.Objects.{owned}
+use Rattle.vc_objects.specs.Objects.{own_blocks}
 use Rattle.vc_objects.specs.Parts.{IsWhole, dictionary_of}
 use Rattle.vc_commands.specs.declared.dict.entry.DictEntry.{DictEntry}
 use Rattle.vc_commands.specs.declared.region.home.HomeEntry.{HomeEntry}
@@ -30,7 +30,7 @@ pub record IsTouched (name mine : List ℕ) (old new : List DictRegion) : Type 0
 pub record LooksAt (rules : Rules) (name : List ℕ) (regions : List DictRegion) (old : Dict) (regions' : List DictRegion) (new : Dict) : Type 0 where
   pub before : DictRegion
   pub was : region_named regions name ≡ Some before
-  pub touched : IsTouched name (owned (dictionary_of old before.cells)) regions regions'
+  pub touched : IsTouched name (own_blocks (dictionary_of old before.cells)) regions regions'
   pub whole : IsWhole rules new touched.after.cells
   pub same : dictionary_of new touched.after.cells ≡ dictionary_of old before.cells
   pub kind : new.kind ≡ old.kind

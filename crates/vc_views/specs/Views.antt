@@ -10,7 +10,7 @@ use Rattle.vc_objects.specs.Objects.{Dictionary}
 use Rattle.vc_paths.specs.declared.fault.ViewFault.{ViewFault}
 use Rattle.vc_paths.specs.declared.fault.ViewFault.TheVariants.{Cycle, Differs, TooDeep}
 use Rattle.vc_paths.specs.Links.{path_limit}
-use Rattle.vc_paths.specs.Visible.{Seen, visible}
+use Rattle.vc_paths.specs.Visible.{Seen, visible_objects}
 use Rattle.vc_script.specs.declared.refusal.Refusal.{Refusal}
 use Rattle.vc_script.specs.declared.refusal.Refusal.TheVariants.{ViewDiffers, ViewCycle, ViewTooDeep}
 
@@ -56,7 +56,7 @@ layer_seen d = map (seen_under d.name) d.dict.objects
 
 -- what is seen through a dictionary, by its kind's rules
 abbrev pub seen_through : Rules → List DictHome → DictHome → List (Seen (List ℕ))
-seen_through rules dicts d = visible d.dict.method rules (map layer_seen (path_in dicts d))
+seen_through rules dicts d = visible_objects d.dict.method rules (map layer_seen (path_in dicts d))
 
 -- whether a dictionary views the one of that name, and whether some dictionary does
 abbrev pub is_name_of : List ℕ → Option (List ℕ) → Bool

@@ -2,7 +2,7 @@
 ghost use Rattle.std.specs.Prelude.{◌≡◌, Some, IfErr, IfOk, map};
 ghost use Rattle.std.specs.Result.{result_err};
 ghost use Rattle.vc_dtdisc.specs.Rules.{Rules};
-ghost use Rattle.vc_paths.specs.Links.{linked};
+ghost use Rattle.vc_paths.specs.Links.{links_with};
 ghost use Rattle.vc_paths.specs.Path.{IsPath};
 ghost use Rattle.vc_paths.specs.View.{view_fault};
 ghost use Rattle.vc_views.specs.Promises.{layered_over};
@@ -30,7 +30,7 @@ pub fn view_at<D: DictDisc>(
         homes.old.entries dicts.old.entries) paths.old e }
     ensures fault { result_err result ≡ view_fault (layered_over (map D.rules kinds.now.items)
         homes.old.entries dicts.old.entries) paths.old d e }
-    ensures ok { IfOk result (λ _. paths.new ≡ linked d (Some e) paths.old) }
+    ensures ok { IfOk result (λ _. paths.new ≡ links_with d (Some e) paths.old) }
     ensures err { IfErr result (λ _. paths.new ≡ paths.old) }
     ensures homes { homes.new ≡ homes.old }
     ensures dicts { dicts.new ≡ dicts.old }

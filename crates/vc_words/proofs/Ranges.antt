@@ -1,13 +1,13 @@
 -- The range of a count that is asked for.
 use Rattle.std.proofs.Common.{◌≡◌, ◌&&◌, ◌≤◌, ℕ, Bool, true, false, cond, refl, codes, List, Option, None, Some, option_map, option_and_then, nat_le, leb-true, IfSome}
 use Rattle.clap.specs.Words.{Row, Text, first_of, matches_of, takes}
-use Rattle.vc_words.specs.Words.{asked, command, count_of, counted, has_flag, read_if_given, spelled, words_of}
+use Rattle.vc_words.specs.Words.{asked, command, count_of, command_count, has_flag, read_if_given, spelled, words_of}
 use Rattle.vc_words.proofs.Matched.{asked_by}
 
 abbrev IsCount : ℕ → Type 0
 IsCount n = (1 ≤ n) × (n ≤ 1000000)
 
-counted_in_range : (n : ℕ) → IfSome (counted n) IsCount
+counted_in_range : (n : ℕ) → IfSome (command_count n) IsCount
 counted_in_range n = go (nat_le 1 n) (nat_le n 1000000) refl refl
   where
     go : (some few : Bool) → nat_le 1 n ≡ some → nat_le n 1000000 ≡ few → IfSome (cond (some && few) (Some n) None) IsCount
@@ -15,7 +15,7 @@ counted_in_range n = go (nat_le 1 n) (nat_le n 1000000) refl refl
     go true false a b = tt
     go false few a b = tt
 
-count_in_range : (number : Option ℕ) → IfSome (option_and_then counted number) IsCount
+count_in_range : (number : Option ℕ) → IfSome (option_and_then command_count number) IsCount
 count_in_range None = tt
 count_in_range (Some n) = counted_in_range n
 

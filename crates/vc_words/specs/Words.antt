@@ -18,8 +18,8 @@ abbrev pub option : Text → Rule
 option name = record (new_rule name) { long = Some name; action = Some Set }
 
 -- a command with no option, not even for help, of which no word is the program's name
-abbrev pub bare : App
-bare =
+abbrev pub bare_command : App
+bare_command =
     on_top (λ s. record s { no_binary_name = true; disable_help_flag = true })
     (new_app (codes "words"))
 
@@ -30,19 +30,19 @@ options =
 
 -- the command of both tools
 abbrev pub command : App
-command = fold with_rule bare options
+command = fold with_rule bare_command options
 
 -- the number that a text spells, by the rule of scripts
 abbrev pub spelled : Text → Option ℕ
 spelled text = result_ok (number_of text)
 
 -- a count of commands is a number from 1 to 1,000,000
-abbrev pub counted : ℕ → Option ℕ
-counted n = if is_between 1 1000000 n then Some n else None
+abbrev pub command_count : ℕ → Option ℕ
+command_count n = if is_between 1 1000000 n then Some n else None
 
 -- the count that a text spells
 abbrev pub count_of : Text → Option ℕ
-count_of text = option_and_then counted (spelled text)
+count_of text = option_and_then command_count (spelled text)
 
 -- what is read of a text, which may be missing; none where it can't be read
 abbrev pub read_if_given : (Text → Option ℕ) → Option Text → Option (Option ℕ)

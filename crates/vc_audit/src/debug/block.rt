@@ -2,7 +2,7 @@ ghost use Rattle.std.specs.Prelude.{◌≡◌, ◌+◌, Some, IfSome, length, ta
 ghost use Rattle.vc_model.specs.Addr.{place_of};
 ghost use Rattle.vc_model.specs.Layout.{without_block};
 ghost use Rattle.vc_model.specs.Touch.{HasBlock, HasRange, find_block};
-ghost use Rattle.vc_audit.specs.Debug.{debug_write, guarded_offset, poked};
+ghost use Rattle.vc_audit.specs.Debug.{debug_write, guarded_offset, with_poke};
 ghost use Rattle.vc_audit.specs.DebugParts.{blocks_in, debug_of, disc_in};
 
 use crate::debug::Debug;
@@ -71,7 +71,7 @@ impl Debug {
         requires last { IfSome (find_block (place_of a.0) (blocks_in self.old))
             (λ b. off <ℤ pos (b.size + 16)) }
         ensures debug { debug_of self.new
-            ≡ poked (debug_of self.old) (place_of a.0) off byte }
+            ≡ with_poke (debug_of self.old) (place_of a.0) off byte }
         ensures disc { disc_in state self.new ≡ disc_in state self.old }
         ensures others { without_block (place_of a.0) (blocks_in self.new)
             ≡ without_block (place_of a.0) (blocks_in self.old) }

@@ -1,13 +1,13 @@
 ghost use Rattle.std.specs.Prelude.{◌≡◌, ℕ, ◌+◌, ◌<◌, ◌≤◌, length};
 ghost use Rattle.std.specs.List.{HoldsAt, remove};
 ghost use Rattle.vc_model.specs.Addr.{place_of};
-ghost use Rattle.vc_model.specs.Compact.{cleared};
+ghost use Rattle.vc_model.specs.Compact.{cleared_layout};
 ghost use Rattle.vc_model.specs.Discipline.{HasOut, TookBack};
 ghost use Rattle.vc_model.specs.Layout.{address_of};
 ghost use Rattle.vc_model.specs.Touch.{HasBlock};
 ghost use Rattle.vc_best.specs.Parts.{layout_of};
 ghost use Rattle.vc_audit.specs.Debug.{debug_clear, debug_compact, debug_compact_count, debug_free};
-ghost use Rattle.vc_seg.specs.Boxed.{boxed};
+ghost use Rattle.vc_seg.specs.Boxed.{disc_in_box};
 ghost use Rattle.vc_audit.specs.DebugParts.{blocks_in, debug_of, disc_in, segments_in};
 
 use crate::debug::guard::guarded_addr;
@@ -21,8 +21,8 @@ use vc_seg::{BoxedDisc, SegDisc};
 // this one always holds.
 fn clear_best(best: &mut Best)
     requires { 0 ≤ 0 }
-    ensures layout { layout_of best.new ≡ cleared (layout_of best.old) }
-    ensures disc { boxed state best.new.disc ≡ boxed state best.old.disc }
+    ensures layout { layout_of best.new ≡ cleared_layout (layout_of best.old) }
+    ensures disc { disc_in_box state best.new.disc ≡ disc_in_box state best.old.disc }
 {
     let mut steps = Steps::<Uncounted>::new(best.alloc);
     best.clear(&mut steps);

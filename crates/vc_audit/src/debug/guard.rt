@@ -3,7 +3,7 @@ ghost use Rattle.vc_model.specs.Addr.{place_of};
 ghost use Rattle.vc_model.specs.Layout.{without_block};
 ghost use Rattle.vc_model.specs.Touch.{HasBlock, HasRange};
 ghost use Rattle.vc_best.specs.Parts.{blocks_in, layout_of};
-ghost use Rattle.vc_seg.specs.Boxed.{boxed};
+ghost use Rattle.vc_seg.specs.Boxed.{disc_in_box};
 ghost use Rattle.vc_audit.specs.Debug.{with_back_guard, with_guards, with_zeros};
 
 use vc_base::Addr;
@@ -45,7 +45,7 @@ fn write_back_guard(best: &mut Best, at: Addr, size: u32)
         ≡ with_back_guard (layout_of best.old) (place_of at.0) size }
     ensures others { without_block (place_of at.0) (blocks_in best.new)
         ≡ without_block (place_of at.0) (blocks_in best.old) }
-    ensures disc { boxed state best.new.disc ≡ boxed state best.old.disc }
+    ensures disc { disc_in_box state best.new.disc ≡ disc_in_box state best.old.disc }
 {
     best.fill(at, 32 + size, 16, GUARD);
 }
@@ -58,7 +58,7 @@ pub(super) fn write_guards(best: &mut Best, at: Addr, size: u32)
     ensures layout { layout_of best.new ≡ with_guards (layout_of best.old) (place_of at.0) size }
     ensures others { without_block (place_of at.0) (blocks_in best.new)
         ≡ without_block (place_of at.0) (blocks_in best.old) }
-    ensures disc { boxed state best.new.disc ≡ boxed state best.old.disc }
+    ensures disc { disc_in_box state best.new.disc ≡ disc_in_box state best.old.disc }
 {
     best.fill(at, 0, 32, GUARD);
     write_back_guard(best, at, size);
@@ -74,7 +74,7 @@ pub(super) fn write_zeros(best: &mut Best, at: Addr, kept: u32, size: u32)
         ≡ with_zeros (layout_of best.old) (place_of at.0) kept size }
     ensures others { without_block (place_of at.0) (blocks_in best.new)
         ≡ without_block (place_of at.0) (blocks_in best.old) }
-    ensures disc { boxed state best.new.disc ≡ boxed state best.old.disc }
+    ensures disc { disc_in_box state best.new.disc ≡ disc_in_box state best.old.disc }
 {
     best.fill(at, 32 + kept, size - kept, 0);
     write_back_guard(best, at, size);

@@ -5,7 +5,7 @@ ghost use Rattle.vc_model.specs.Outcome.{Fixed, Refused};
 ghost use Rattle.vc_model.specs.Rows.{rounds_to};
 ghost use Rattle.vc_model.specs.Touch.{find_block};
 ghost use Rattle.vc_model.specs.Walk.{block_at};
-ghost use Rattle.vc_audit.specs.Debug.{debug_clear, debug_free, debug_resize, debug_write, poked, user_blocks, watched_at, with_watch};
+ghost use Rattle.vc_audit.specs.Debug.{debug_clear, debug_free, debug_resize, debug_write, with_poke, user_blocks, watched_at, with_watch};
 ghost use Rattle.vc_audit.specs.DebugRows.{damages, two_put, with_resize};
 
 /// Blocks of 100 and of 8 bytes stand 32 bytes behind their guards, and no user's block holds a byte of a guard.
@@ -21,13 +21,13 @@ pub fn debug_places()
 /// New guards are whole. Bytes that are poked into them are found by block, at the least offset, and 165 repairs one.
 pub fn debug_damage()
     ensures whole { damages two_put ≡ [] }
-    ensures back { damages (poked two_put (1, 64) (pos 100) 7) ≡ ((1, 64), pos 100) ∷ [] }
-    ensures front { damages (poked (poked two_put (1, 64) (pos 100) 7) (1, 64) (negsuc 0) 0)
+    ensures back { damages (with_poke two_put (1, 64) (pos 100) 7) ≡ ((1, 64), pos 100) ∷ [] }
+    ensures front { damages (with_poke (with_poke two_put (1, 64) (pos 100) 7) (1, 64) (negsuc 0) 0)
         ≡ ((1, 64), negsuc 0) ∷ [] }
-    ensures both { damages (poked (poked two_put (1, 256) (pos 8) 0) (1, 64) (negsuc 31) 1)
+    ensures both { damages (with_poke (with_poke two_put (1, 256) (pos 8) 0) (1, 64) (negsuc 31) 1)
         ≡ ((1, 64), negsuc 31) ∷ ((1, 256), pos 8) ∷ [] }
-    ensures inside { damages (poked two_put (1, 256) (pos 7) 1) ≡ [] }
-    ensures repaired { damages (poked (poked two_put (1, 256) (pos 8) 0) (1, 256) (pos 8) 165)
+    ensures inside { damages (with_poke two_put (1, 256) (pos 7) 1) ≡ [] }
+    ensures repaired { damages (with_poke (with_poke two_put (1, 256) (pos 8) 0) (1, 256) (pos 8) 165)
         ≡ [] }
 {}
 
@@ -35,9 +35,9 @@ pub fn debug_damage()
 /// moves. The bytes behind those that are kept are zero; a refused resize changes nothing.
 pub fn debug_resizing()
     ensures same { damages (with_resize
-        (poked (poked two_put (1, 256) (pos 8) 0) (1, 256) (negsuc 4) 0) (1, 256) 8 false)
+        (with_poke (with_poke two_put (1, 256) (pos 8) 0) (1, 256) (negsuc 4) 0) (1, 256) 8 false)
         ≡ ((1, 256), negsuc 4) ∷ [] }
-    ensures moved { damages (with_resize (poked two_put (1, 64) (negsuc 31) 1) (1, 64) 140 true)
+    ensures moved { damages (with_resize (with_poke two_put (1, 64) (negsuc 31) 1) (1, 64) 140 true)
         ≡ ((1, 352), negsuc 31) ∷ [] }
     ensures bytes { option_map (λ b. b.bytes) (find_block (1, 256) (user_blocks (with_resize
         (with_resize (debug_write two_put (1, 256) 5 (7 ∷ 8 ∷ 9 ∷ [])) (1, 256) 7 false)

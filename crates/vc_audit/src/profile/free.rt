@@ -1,13 +1,13 @@
 ghost use Rattle.std.specs.Prelude.{◌≡◌, ℕ, ◌+◌, ◌<◌, ◌≤◌, length};
 ghost use Rattle.std.specs.List.{HoldsAt, remove};
 ghost use Rattle.vc_model.specs.Addr.{place_of};
-ghost use Rattle.vc_model.specs.Compact.{cleared, compact_count};
+ghost use Rattle.vc_model.specs.Compact.{cleared_layout, compact_count};
 ghost use Rattle.vc_model.specs.Discipline.{HasOut, TookBack};
 ghost use Rattle.vc_model.specs.Layout.{address_of};
 ghost use Rattle.vc_model.specs.Touch.{HasBlock};
 ghost use Rattle.vc_best.specs.Parts.{layout_of};
 ghost use Rattle.vc_audit.specs.Profile.{profile_clear, profile_compact, profile_free};
-ghost use Rattle.vc_seg.specs.Boxed.{boxed};
+ghost use Rattle.vc_seg.specs.Boxed.{disc_in_box};
 ghost use Rattle.vc_audit.specs.ProfileParts.{blocks_in, disc_in, layout_in, profile_of, segments_in};
 
 use crate::profile::rows::{clear_rows, put_row, row_for};
@@ -20,8 +20,8 @@ use vc_seg::{BoxedDisc, SegDisc};
 // this one always holds.
 fn clear_best(best: &mut Best)
     requires { 0 ≤ 0 }
-    ensures layout { layout_of best.new ≡ cleared (layout_of best.old) }
-    ensures disc { boxed state best.new.disc ≡ boxed state best.old.disc }
+    ensures layout { layout_of best.new ≡ cleared_layout (layout_of best.old) }
+    ensures disc { disc_in_box state best.new.disc ≡ disc_in_box state best.old.disc }
 {
     let mut steps = Steps::<Uncounted>::new(best.alloc);
     best.clear(&mut steps);

@@ -4,11 +4,11 @@ ghost use Rattle.std.specs.List.{cons_option, filter_map};
 ghost use Rattle.vc_model.specs.Discipline.{HasOut};
 ghost use Rattle.vc_region.specs.Cells.{rest_in};
 ghost use Rattle.vc_region.specs.Parts.{disc_in};
-ghost use Rattle.vc_region.specs.Region.{damaged_in, is_debug, is_profile, relabelled, rows_in, segments_of};
+ghost use Rattle.vc_region.specs.Region.{damaged_in, is_debug, is_profile, region_with_labels, rows_in, segments_of};
 ghost use Rattle.vc_commands.specs.Held.{IsNamed, home_of};
 ghost use Rattle.vc_commands.specs.Audit.{check_in, damage_item, is_poke, poke_in, profile_in, watch_in};
 ghost use Rattle.vc_commands.specs.Labels.{name_of};
-ghost use Rattle.vc_commands.specs.Home.{told};
+ghost use Rattle.vc_commands.specs.Home.{reply_alone};
 
 use crate::region::blocks::no_block;
 use crate::region::home::HomeEntry;
@@ -50,7 +50,7 @@ fn damage_items(
 ) -> Result<Vec<(Name, i64)>, OutOfMemory>
     requires method { is_debug (rest_in region.now) ≡ true }
     ensures { IfOk result (λ v. v.items ≡ filter_map damage_item
-        (damaged_in (relabelled (name_of labels.now) (rest_in region.now)))) }
+        (damaged_in (region_with_labels (name_of labels.now) (rest_in region.now)))) }
 {
     let mut items = Vec::new(alloc);
     let mut after = Addr::NONE;
@@ -141,7 +141,7 @@ impl HomeEntry {
         requires names { IsNamed (rest_in self.now.region) labels.now }
         ensures { IfOk result (λ reply. (r : List ℕ)
             → check_in (home_of (held_of state r self.now labels.now))
-            ≡ told (home_of (held_of state r self.now labels.now)) reply) }
+            ≡ reply_alone (home_of (held_of state r self.now labels.now)) reply) }
     {
         if !is_debug(&self.region) {
             return Ok(Reply::Refused(Refusal::WrongMethod));
@@ -153,7 +153,7 @@ impl HomeEntry {
     pub(crate) fn profile(&self, alloc: Global) -> Result<Reply, OutOfMemory>
         ensures { IfOk result (λ reply. (labels : Labels) (r : List ℕ)
             → profile_in (home_of (held_of state r self.now labels))
-            ≡ told (home_of (held_of state r self.now labels)) reply) }
+            ≡ reply_alone (home_of (held_of state r self.now labels)) reply) }
     {
         if !is_profile(&self.region) {
             return Ok(Reply::Refused(Refusal::WrongMethod));

@@ -2,7 +2,7 @@
 ghost use Rattle.std.specs.Prelude.{◌≡◌, ℕ, List, IfOk};
 ghost use Rattle.vc_region.specs.Cells.{rest_in};
 ghost use Rattle.vc_commands.specs.Held.{IsNamed, home_of};
-ghost use Rattle.vc_commands.specs.Home.{told};
+ghost use Rattle.vc_commands.specs.Home.{reply_alone};
 ghost use Rattle.vc_commands.specs.Whole.{addr_in, list_blocks, list_segments, segment_in, stat_in};
 
 use crate::region::home::{HomeEntry, place_of};
@@ -20,7 +20,7 @@ impl HomeEntry {
     pub(crate) fn addr(&self, labels: &Labels, at: Place) -> Reply
         requires names { IsNamed (rest_in self.now.region) labels.now }
         ensures { (r : List ℕ) → addr_in (home_of (held_of state r self.now labels.now)) at
-            ≡ told (home_of (held_of state r self.now labels.now)) result }
+            ≡ reply_alone (home_of (held_of state r self.now labels.now)) result }
     {
         match self.region.block_at(at.seg, at.off) {
             None => Reply::AddrNone,
@@ -32,7 +32,7 @@ impl HomeEntry {
     pub(crate) fn segment(&self, at: Place) -> Reply
         ensures { (labels : Labels) (r : List ℕ)
             → segment_in (home_of (held_of state r self.now labels)) at
-            ≡ told (home_of (held_of state r self.now labels)) result }
+            ≡ reply_alone (home_of (held_of state r self.now labels)) result }
     {
         match self.region.segment_at(at.seg, at.off) {
             None => Reply::SegmentNone,
@@ -44,7 +44,7 @@ impl HomeEntry {
     pub(crate) fn stat(&self) -> Reply
         ensures { (labels : Labels) (r : List ℕ)
             → stat_in (home_of (held_of state r self.now labels))
-            ≡ told (home_of (held_of state r self.now labels)) result }
+            ≡ reply_alone (home_of (held_of state r self.now labels)) result }
     {
         Reply::Stats(self.region.stat())
     }
@@ -53,7 +53,7 @@ impl HomeEntry {
     pub(crate) fn segments(&self, alloc: Global) -> Result<Reply, OutOfMemory>
         ensures { IfOk result (λ reply. (labels : Labels) (r : List ℕ)
             → list_segments (home_of (held_of state r self.now labels))
-            ≡ told (home_of (held_of state r self.now labels)) reply) }
+            ≡ reply_alone (home_of (held_of state r self.now labels)) reply) }
     {
         let mut items = Vec::new(alloc);
         let mut after = 0;
@@ -69,7 +69,7 @@ impl HomeEntry {
         requires names { IsNamed (rest_in self.now.region) labels.now }
         ensures { IfOk result (λ reply. (r : List ℕ)
             → list_blocks (home_of (held_of state r self.now labels.now))
-            ≡ told (home_of (held_of state r self.now labels.now)) reply) }
+            ≡ reply_alone (home_of (held_of state r self.now labels.now)) reply) }
     {
         let mut items = Vec::new(alloc);
         let mut after = Addr::NONE;

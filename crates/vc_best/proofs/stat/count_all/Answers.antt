@@ -2,7 +2,7 @@ use Rattle.std.proofs.Common.{◌≡◌, ◌<◌, ℕ, suc, List, ◌++◌, drop
 use Rattle.vc_seg.specs.Segment.{Bytes}
 use Rattle.vc_extent.specs.Extent.{Extent, extents}
 use Rattle.vc_extent.specs.Tiling.{IsThere, extents_of, tiling}
-use Rattle.vc_best.specs.Counts.{HaveRoom, all_extents, counted}
+use Rattle.vc_best.specs.Counts.{HaveRoom, all_extents, counts_with}
 use Rattle.vc_best.proofs.Along.{pair-at, there-at, tiling-next}
 use Rattle.vc_best.proofs.Counts.{counted-append, room-front, room-rest}
 use Rattle.vc_best.proofs.stat.count_all.Given.{Over}
@@ -48,12 +48,12 @@ pub loop-segment-preserved : goal.loop-segment-preserved
 loop-segment-preserved g c =
     let n = (goal.at.loop-segment-preserved g c).After-number in
     let es = extents (here g n).bytes in
-    let now : c.count_segment-counts.result ≡ counted c.loop-segment.counts es = c.count_segment-counts.ensures ∙ ap (counted c.loop-segment.counts) (own g n) in
+    let now : c.count_segment-counts.result ≡ counts_with c.loop-segment.counts es = c.count_segment-counts.ensures ∙ ap (counts_with c.loop-segment.counts) (own g n) in
     rw add-one
     record {
       room = subst (λ k. HaveRoom k (rest g n)) (sym now) (room-rest c.loop-segment.counts es (rest g n) (room g n));
       rest =
-          ap (λ k. counted k (rest g n)) now
+          ap (λ k. counts_with k (rest g n)) now
           ∙ (sym (counted-append c.loop-segment.counts es (rest g n))
-          ∙ (ap (counted c.loop-segment.counts) (sym (left g n)) ∙ c.loop-segment.invariant.rest));
+          ∙ (ap (counts_with c.loop-segment.counts) (sym (left g n)) ∙ c.loop-segment.invariant.rest));
     }

@@ -2,7 +2,7 @@ use Rattle.std.proofs.Common.{◌≡◌, [], ◌∷◌, ◌++◌, length, ap, sy
 use Rattle.vc_base.specs.declared.addr.Addr.{Addr}
 use Rattle.std.specs.Prelude.{Option}
 use Rattle.vc_extent.specs.Tiling.{extent_of, tiling}
-use Rattle.vc_best.specs.Counts.{HaveRoom, counted}
+use Rattle.vc_best.specs.Counts.{HaveRoom, counts_with}
 use Rattle.vc_best.proofs.Counts.{counted-append, room-front, room-rest}
 use Rattle.vc_best.proofs.Layouts.{behind_of}
 use Rattle.vc_best.proofs.Walks.{IsOn, left, left-named, left-next, on-next, start-left, start-named, start-seg}
@@ -13,7 +13,7 @@ loop-next-init g c =
     record {
       on = (start-seg c.args.extents.now.segs.items c.args.extents.now.index.items c.args.seg c.first.result.0 c.args.extents.now.kept c.requires.there c.first.ensures, start-named c.args.extents.now.segs.items c.args.extents.now.index.items c.args.seg c.first.result.0 c.args.extents.now.kept c.requires.there c.first.ensures);
       room = subst (HaveRoom c.args.counts) (sym (start-left c.args.extents.now.segs.items c.args.extents.now.index.items c.args.seg c.first.result.0 c.args.extents.now.kept c.requires.there c.first.ensures)) c.requires.room;
-      rest = ap (counted c.args.counts) (start-left c.args.extents.now.segs.items c.args.extents.now.index.items c.args.seg c.first.result.0 c.args.extents.now.kept c.requires.there c.first.ensures);
+      rest = ap (counts_with c.args.counts) (start-left c.args.extents.now.segs.items c.args.extents.now.index.items c.args.seg c.first.result.0 c.args.extents.now.kept c.requires.there c.first.ensures);
     }
 
 pub count_extent-counts-requires-clause-room : goal.count_extent-counts-requires-clause-room
@@ -39,7 +39,7 @@ loop-next-preserved g c =
       on = on-next c.args.extents.now.segs.items c.args.extents.now.index.items c.args.seg c.in-Some.a c.after-next.result c.args.extents.now.kept on.0 on.1 c.after-next.ensures.value c.after-next.ensures.named;
       room = subst (λ k. HaveRoom k later) (sym c.count_extent-counts.ensures) (room-rest c.loop-next.counts (e ∷ []) later (subst (HaveRoom c.loop-next.counts) whole c.loop-next.invariant.room));
       rest =
-          ap (λ k. counted k later) c.count_extent-counts.ensures
+          ap (λ k. counts_with k later) c.count_extent-counts.ensures
           ∙ (sym (counted-append c.loop-next.counts (e ∷ []) later)
-          ∙ (ap (counted c.loop-next.counts) (sym whole) ∙ c.loop-next.invariant.rest));
+          ∙ (ap (counts_with c.loop-next.counts) (sym whole) ∙ c.loop-next.invariant.rest));
     }

@@ -1,6 +1,6 @@
 use Rattle.std.proofs.Common.{◌≡◌, length}
 use Rattle.vc_extent.specs.Tiling.{extents_of, tiling}
-use Rattle.vc_best.specs.Counts.{HaveRoom, counted}
+use Rattle.vc_best.specs.Counts.{HaveRoom, counts_with}
 use Rattle.vc_best.proofs.Walks.{IsOn, left}
 use Rattle.vc_best.proofs.stat.count_segment.Given as goal
 
@@ -13,5 +13,5 @@ invariant-loop-next g l =
     record {
       on : IsOn (tiling l.extents.segs.items) l.seg l.next;
       room : HaveRoom l.counts (left (tiling l.extents.segs.items) l.seg l.next);
-      rest : counted l.counts (left (tiling l.extents.segs.items) l.seg l.next) ≡ counted l.initial.counts (extents_of l.seg (tiling l.extents.segs.items));
+      rest : counts_with l.counts (left (tiling l.extents.segs.items) l.seg l.next) ≡ counts_with l.initial.counts (extents_of l.seg (tiling l.extents.segs.items));
     }

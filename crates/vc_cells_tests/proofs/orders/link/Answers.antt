@@ -1,5 +1,5 @@
 use Rattle.std.proofs.Common.{◌∷◌, arith}
-use Rattle.vc_dtord.specs.Ordered.{placed}
+use Rattle.vc_dtord.specs.Ordered.{order_with}
 use Rattle.vc_dict.proofs.PassLemmas.{apart-placed}
 use Rattle.vc_cells_tests.proofs.ListLemmas.{in-placed, sized-but}
 use Rattle.vc_cells_tests.proofs.orders.link.Goals as goal
@@ -12,7 +12,7 @@ returns g c =
     let r = c.requires in
     let t = c.link.ensures.list r.holders r.stands in
     record {
-      holders = placed rules b at r.holders;
+      holders = order_with rules b at r.holders;
       stands = t.stands;
       within = λ a l m. in-placed rules b at r.holders a (λ ne. r.within a l (omega arith));
       fresh = λ a h. apart-placed rules b at r.holders a (omega arith) (r.fresh a (omega arith));

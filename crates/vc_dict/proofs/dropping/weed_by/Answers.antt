@@ -1,7 +1,7 @@
 use Rattle.std.proofs.Common.{[], true, false, length, sym, ap, ◌∙◌}
 use Rattle.vc_dtlist.proofs.TurnLemmas.{StandsFor-unique}
 use Rattle.vc_dthash.specs.Hashed.{list_of}
-use Rattle.vc_dict.specs.Orders.{dropped, kept}
+use Rattle.vc_dict.specs.Orders.{dropped_holders, kept_holders}
 use Rattle.vc_dict.proofs.SettledLemmas.{ordered_set, settled-by, settled-list, settled-whole}
 use Rattle.vc_dict.proofs.dropping.weed_by.Goals as goal
 
@@ -38,7 +38,7 @@ returns-then-is_set-2-clause-weeded g c = λ holders s.
     let b' = g.C.Cells.blocks c.weed_neighbours.new.cells in
     settled-by false true rules c.args.method c.args.hash holders b c.weed_neighbours.result b'
     (sym c.has_table.ensures ∙ c.if-has_table.false) (sym c.is_set-else-has_table.ensures ∙ c.if-is_set-2.true)
-    (settled-list rules c.args.hash holders (kept rules b [] holders) (dropped rules b [] holders) b c.weed_neighbours.result b' (c.weed_neighbours.ensures.weeded holders s))
+    (settled-list rules c.args.hash holders (kept_holders rules b [] holders) (dropped_holders rules b [] holders) b c.weed_neighbours.result b' (c.weed_neighbours.ensures.weeded holders s))
 
 pub returns-else-is_set-2-clause-weeded : goal.returns-else-is_set-2-clause-weeded
 returns-else-is_set-2-clause-weeded g c = λ holders s.

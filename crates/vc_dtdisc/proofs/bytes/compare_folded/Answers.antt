@@ -1,5 +1,5 @@
 use Rattle.std.proofs.Common.{◌≡◌, sym, ◌∙◌, arith, min, length}
-use Rattle.vc_dtdisc.specs.Shapes.{folded}
+use Rattle.vc_dtdisc.specs.Shapes.{lower_case}
 use Rattle.vc_dtdisc.proofs.Folded.{ends_compare}
 use Rattle.vc_dtdisc.proofs.bytes.compare_folded.Goals as goal
 
@@ -8,4 +8,4 @@ returns c =
     let a = c.args.a.now in
     let b = c.args.b.now in
     let at : c.loop-i.i ≡ min (length a) (length b) = omega arith in
-    c.cmp.ensures ∙ sym (c.loop-i.invariant ∙ (rw at (ends_compare folded a b)))
+    c.cmp.ensures ∙ sym (c.loop-i.invariant ∙ (rw at (ends_compare lower_case a b)))

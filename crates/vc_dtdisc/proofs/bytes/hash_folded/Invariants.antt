@@ -1,6 +1,6 @@
 use Rattle.std.proofs.Common.{◌≡◌, take, map}
-use Rattle.vc_dtdisc.specs.Shapes.{folded, hash_of}
+use Rattle.vc_dtdisc.specs.Shapes.{lower_case, hash_of}
 use Rattle.vc_dtdisc.proofs.bytes.hash_folded.Given as goal
 
 abbrev pub invariant-loop-byte : goal.invariant-loop-byte
-invariant-loop-byte l = l.hash ≡ hash_of (map folded (take l.byte-index l.key))
+invariant-loop-byte l = l.hash ≡ hash_of (map lower_case (take l.byte-index l.key))

@@ -1,7 +1,7 @@
 use Rattle.std.proofs.Common.{◌≡◌, ℕ, List, ◌++◌, length, map, get_or, false, ap, sym, ◌∙◌, arith}
 use Rattle.std.proofs.lemmas.List.{length-map}
 use Rattle.std.proofs.lemmas.List.Sums.{length-filter, count_by-le-length}
-use Rattle.vc_model.specs.Compact.{compacted, is_occupied}
+use Rattle.vc_model.specs.Compact.{compacted_layout, is_occupied}
 use Rattle.vc_model.specs.Layout.{Layout}
 use Rattle.vc_seg.specs.Segment.{Bytes, pair_of}
 use Rattle.vc_last.specs.Chain.{blocks_from}
@@ -26,7 +26,7 @@ returns-clause-layout g c = compacted-layout c.args.segs.now.items c.give_back.n
 
 pub returns-clause-count : goal.returns-clause-count
 returns-clause-count g c =
-    let new : (compacted (layout_by c.args.segs.now.items c.args.latest.0)).segments ≡ map pair_of c.give_back.new.segs.items = ap (λ (r : Layout ℕ). r.segments) (sym (compacted-layout c.args.segs.now.items c.give_back.new.segs.items c.args.latest.0 c.requires.kept c.mark.new.marks (λ n lt. c.mark.ensures n lt ∙ ap (λ (xs : List Bytes). is_occupied (blocks_from xs c.args.latest.0) n) c.deref.ensures.value) c.give_back.ensures.segments) ∙ layout-from c.give_back.new.segs.items c.args.latest.0) in
+    let new : (compacted_layout (layout_by c.args.segs.now.items c.args.latest.0)).segments ≡ map pair_of c.give_back.new.segs.items = ap (λ (r : Layout ℕ). r.segments) (sym (compacted-layout c.args.segs.now.items c.give_back.new.segs.items c.args.latest.0 c.requires.kept c.mark.new.marks (λ n lt. c.mark.ensures n lt ∙ ap (λ (xs : List Bytes). is_occupied (blocks_from xs c.args.latest.0) n) c.deref.ensures.value) c.give_back.ensures.segments) ∙ layout-from c.give_back.new.segs.items c.args.latest.0) in
     omega (arith, c.len.ensures, c.len-before.ensures, c.args.segs.now.ok, c.give_back.new.segs.ok, ap length new, length-map c.give_back.new.segs.items pair_of, ap length (ap (λ (r : Layout ℕ). r.segments) (layout-from c.args.segs.now.items c.args.latest.0)), length-map c.args.segs.now.items pair_of)
 
 pub returns-clause-disc : goal.returns-clause-disc

@@ -1,7 +1,7 @@
 use Rattle.std.proofs.Common.{◌≡◌, ℕ, ◌+◌, ◌-◌, List, get_or, length, take, drop, ap, sym, ◌∙◌, subst, arith}
 use Rattle.vc_segments.specs.Memory.{bytes_of_number}
 use Rattle.vc_model.specs.Addr.{place_of}
-use Rattle.vc_model.specs.Resize.{fitted}
+use Rattle.vc_model.specs.Resize.{fitted_bytes}
 use Rattle.vc_extent.specs.Field.{field_at}
 use Rattle.vc_extent.specs.Frame.{StaysOutside}
 use Rattle.vc_last.specs.Head.{block_of, bytes_at}
@@ -46,8 +46,8 @@ returns-clause-laid c =
       before = ap (field_at (off at - 8)) e ∙ (ap (λ k. field_at (k - 8) c.size_in.new.seg.bytes) (sym o) ∙ (c.size_in.ensures.head.before ∙ (ap (λ k. field_at (k - 8) b) o ∙ ap (field_at (off at - 8)) (sym was))));
       zero = ap (field_at (off at - 4)) e ∙ (ap (λ k. field_at (k - 4) c.size_in.new.seg.bytes) (sym o) ∙ (c.size_in.ensures.head.zero ∙ (ap (λ k. field_at (k - 4) b) o ∙ (ap (field_at (off at - 4)) (sym was) ∙ c.requires.head.zero))));
       bytes = ap (λ (xs : List ℕ). take c.args.size (drop (off at) xs)) e ∙ (ap (λ k. take c.args.size (drop k c.size_in.new.seg.bytes)) (sym o) ∙ (c.size_in.ensures.bytes
-          ∙ (ap (λ k. fitted c.args.size (take k (drop c.off.result b))) c.size_at-old.ensures.value ∙ (ap (λ k. fitted c.args.size (take (block_of c.args.segs.now c.args.a.0).size (drop k b))) o
-          ∙ ap (λ (xs : List ℕ). fitted c.args.size (take (block_of c.args.segs.now c.args.a.0).size (drop (off at) xs))) (sym was)))));
+          ∙ (ap (λ k. fitted_bytes c.args.size (take k (drop c.off.result b))) c.size_at-old.ensures.value ∙ (ap (λ k. fitted_bytes c.args.size (take (block_of c.args.segs.now c.args.a.0).size (drop k b))) o
+          ∙ ap (λ (xs : List ℕ). fitted_bytes c.args.size (take (block_of c.args.segs.now c.args.a.0).size (drop (off at) xs))) (sym was)))));
     }
 
 pub returns-clause-rest : goal.returns-clause-rest

@@ -1,5 +1,5 @@
 use Rattle.std.proofs.Common.{◌≡◌, ◌≤◌, ℕ, ◌+◌, ◌-◌, ap, ◌∙◌, arith}
-use Rattle.vc_model.specs.Resize.{fitted}
+use Rattle.vc_model.specs.Resize.{fitted_bytes}
 use Rattle.vc_seg.specs.Segment.{Bytes}
 use Rattle.vc_extent.specs.Field.{field_at}
 use Rattle.vc_extent.specs.Frame.{StaysOutside}
@@ -32,7 +32,7 @@ pub returns-clause-bytes : goal.returns-clause-bytes
 returns-clause-bytes c =
     let first = c.requires.first in
     c.zero_behind.ensures.bytes
-    ∙ ap (fitted c.args.size) (part-back c.args.seg.now.bytes c.set_field.new.seg.bytes (c.args.off - 16 + 4) c.set_field.ensures.rest.above c.args.off c.args.old (omega (arith, first)))
+    ∙ ap (fitted_bytes c.args.size) (part-back c.args.seg.now.bytes c.set_field.new.seg.bytes (c.args.off - 16 + 4) c.set_field.ensures.rest.above c.args.off c.args.old (omega (arith, first)))
 
 pub returns-clause-rest : goal.returns-clause-rest
 returns-clause-rest c =

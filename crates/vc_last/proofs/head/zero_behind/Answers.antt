@@ -1,15 +1,15 @@
 use Rattle.std.proofs.Common.{◌≡◌, ℕ, ◌+◌, ◌-◌, ◌<◌, ◌≤◌, List, length, replicate, take, drop, ap, subst, ◌∙◌, refl, arith}
 use Rattle.std.proofs.lemmas.List.{length-replicate, same_lists, places}
 use Rattle.vc_model.specs.Bytes.{with_bytes}
-use Rattle.vc_model.specs.Resize.{fitted}
+use Rattle.vc_model.specs.Resize.{fitted_bytes}
 use Rattle.vc_extent.specs.Frame.{StaysOutside}
 use Rattle.vc_extent.proofs.Frames.{stays-written, wider}
 use Rattle.vc_last.proofs.head.zero_behind.Goals as goal
 
-zeros-behind : (off old size : ℕ) (b : List ℕ) → old < size → off + size ≤ length b → take size (drop off (with_bytes (off + old) (replicate (size - old) 0) b)) ≡ fitted size (take old (drop off b))
+zeros-behind : (off old size : ℕ) (b : List ℕ) → old < size → off + size ≤ length b → take size (drop off (with_bytes (off + old) (replicate (size - old) 0) b)) ≡ fitted_bytes size (take old (drop off b))
 zeros-behind off old size b lt within = same_lists _ _ (grind (arith, places)) (λ k d le. grind (arith, places))
 
-cut : (off old size : ℕ) (b : List ℕ) → size ≤ old → off + old ≤ length b → take size (drop off b) ≡ fitted size (take old (drop off b))
+cut : (off old size : ℕ) (b : List ℕ) → size ≤ old → off + old ≤ length b → take size (drop off b) ≡ fitted_bytes size (take old (drop off b))
 cut off old size b le within = same_lists _ _ (grind (arith, places)) (λ k d lt. grind (arith, places))
 
 pub returns-then-size-old-clause-bytes : goal.returns-then-size-old-clause-bytes

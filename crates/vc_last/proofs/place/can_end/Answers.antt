@@ -4,7 +4,7 @@ use Rattle.std.proofs.lemmas.Bool.{cases_eq, eq-eqb, ne_eqb, le-leb, lt-leb}
 use Rattle.std.proofs.lemmas.List.Elements.{All-head, All-tail}
 use Rattle.vc_model.specs.Gap.{Run}
 use Rattle.vc_model.specs.Layout.{Block, footprint}
-use Rattle.vc_model.specs.Resize.{is_usable, sized}
+use Rattle.vc_model.specs.Resize.{is_usable, sized_block}
 use Rattle.vc_seg.specs.Segment.{Bytes, pair_of}
 use Rattle.vc_seg.proofs.Backs.{Apart, Apart-tail}
 use Rattle.vc_segments.specs.Memory.{bytes_of_number}
@@ -37,7 +37,7 @@ usable-is f (s ∷ ss) distinct first =
 pub returns : goal.returns
 returns c =
     let b : Block ℕ = block_of c.args.segs.now c.args.a.0 in
-    let f : Run = footprint (sized c.args.size b) in
+    let f : Run = footprint (sized_block c.args.size b) in
     let first = c.requires.head.first in
     let p = c.place_of_number-place.ensures in
     let own : bytes_of_number c.seg.result c.args.segs.now ≡ c.index-segs-place.result.bytes =

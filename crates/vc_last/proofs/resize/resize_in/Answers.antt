@@ -1,7 +1,7 @@
 use Rattle.std.proofs.Common.{◌≡◌, ℕ, List, map, ap, sym, ◌∙◌, subst}
 use Rattle.vc_model.specs.Addr.{place_of}
 use Rattle.vc_model.specs.Layout.{Layout, footprint}
-use Rattle.vc_model.specs.Resize.{is_usable, resize_there, sized}
+use Rattle.vc_model.specs.Resize.{is_usable, resize_there, sized_block}
 use Rattle.vc_seg.specs.Segment.{Bytes, pair_of}
 use Rattle.vc_last.specs.Head.{block_of}
 use Rattle.vc_last.specs.Read.{layout_by}
@@ -21,8 +21,8 @@ pub can_end-requires-clause-head : goal.can_end-requires-clause-head
 can_end-requires-clause-head g c = rw c.deref.ensures.value (found-by c.args.segs.now.items c.args.at.now.0 c.args.a.0 c.requires.kept c.requires.block).head
 
 -- whether it has room where it is
-ends : (g : Over) (c : After-can_end g) → is_usable (map pair_of c.args.segs.now.items) (footprint (sized c.args.size (block_of c.args.segs.now.items c.args.a.0))) ≡ c.can_end.result
-ends g c = sym (c.can_end.ensures ∙ ap (λ (xs : List Bytes). is_usable (map pair_of xs) (footprint (sized c.args.size (block_of xs c.args.a.0)))) c.deref.ensures.value)
+ends : (g : Over) (c : After-can_end g) → is_usable (map pair_of c.args.segs.now.items) (footprint (sized_block c.args.size (block_of c.args.segs.now.items c.args.a.0))) ≡ c.can_end.result
+ends g c = sym (c.can_end.ensures ∙ ap (λ (xs : List Bytes). is_usable (map pair_of xs) (footprint (sized_block c.args.size (block_of xs c.args.a.0)))) c.deref.ensures.value)
 
 pub resize_there-requires-clause-block : goal.resize_there-requires-clause-block
 resize_there-requires-clause-block g c = λ z. some-latest c.args.segs.now.items c.args.at.now.0 c.args.a.0 c.requires.block (sym c.if-a-at.false ∙ z)

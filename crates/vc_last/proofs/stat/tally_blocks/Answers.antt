@@ -1,6 +1,6 @@
 use Rattle.std.proofs.Common.{◌≡◌, ◌<◌, ◌++◌, [], ◌∷◌, ℕ, List, length, map, ap, sym, subst, ◌∙◌}
 use Rattle.vc_model.specs.Layout.{Block}
-use Rattle.vc_layouts.specs.Tally.{HasRoom, tallied, tallied_all}
+use Rattle.vc_layouts.specs.Tally.{HasRoom, tally_with, tallied_all}
 use Rattle.vc_last.specs.Chain.{IsLast, blocks_from}
 use Rattle.vc_last.specs.Head.{before_of, block_of}
 use Rattle.vc_last.proofs.Backs.{sizes-last, sizes_back}
@@ -29,7 +29,7 @@ pub loop-at-preserved : goal.loop-at-preserved
 loop-at-preserved c =
     let all : sizes_back c.args.segs.now c.loop-at.at.0 ≡ sizes_back c.args.segs.now c.before_at-at.result.0 ++ (block_of c.args.segs.now c.loop-at.at.0).size ∷ [] =
     sizes-last c.args.segs.now c.loop-at.at.0 c.loop-at.invariant.kept c.loop-at-test.true ∙ ap (λ a. sizes_back c.args.segs.now a ++ (block_of c.args.segs.now c.loop-at.at.0).size ∷ []) (sym c.before_at-at.ensures) in
-    let more = c.with-tally.ensures ∙ ap (tallied c.loop-at.tally) c.size_at.ensures.value in
+    let more = c.with-tally.ensures ∙ ap (tally_with c.loop-at.tally) c.size_at.ensures.value in
     record {
       kept = subst (IsLast c.args.segs.now) (sym c.before_at-at.ensures) (latest-some c.args.segs.now c.loop-at.at.0 c.loop-at-test.true c.loop-at.invariant.kept).kept;
       room = step-room c.loop-at.tally c.with-tally.result (sizes_back c.args.segs.now c.loop-at.at.0) (sizes_back c.args.segs.now c.before_at-at.result.0) ((block_of c.args.segs.now c.loop-at.at.0).size ∷ []) all more c.loop-at.invariant.room;

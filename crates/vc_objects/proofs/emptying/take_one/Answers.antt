@@ -8,7 +8,7 @@ use Rattle.vc_model.specs.Discipline.{Discipline}
 use Rattle.vc_best.specs.Cells.{cells_in, rest_in}
 use Rattle.vc_best.proofs.CellCalls.{stays-disc}
 use Rattle.vc_objects.specs.Leaves.{Looks, told_each}
-use Rattle.vc_objects.specs.Objects.{listed}
+use Rattle.vc_objects.specs.Objects.{option_list}
 use Rattle.vc_objects.specs.Parts.{dictionary_in, object_of}
 use Rattle.vc_objects.specs.Remove.{Removed, remove_found}
 use Rattle.vc_objects.proofs.Looking.{Looks-became}
@@ -84,7 +84,7 @@ returns-in-Some g c =
         disc = frees.around.disc ∙ stays-disc (meaning g) old mid rest;
         gone =
             c.freed.ensures.gone ∙ ap (gone_after gone) (c.body.ensures ∙ object-stays rules old mid dict dict' at is)
-            ∙ ap (λ (o : Option Object). told_each (listed (removed o).gone) gone) found;
+            ∙ ap (λ (o : Option Object). told_each (option_list (removed o).gone) gone) found;
       };
       rules = c.freed.ensures.rules;
     }
@@ -102,7 +102,7 @@ returns-in-None g c =
         dict = looks.dict ∙ ap (λ (o : Option Object). (removed o).dict) found;
         leaves = looks.leaves;
         disc = stays-disc (meaning g) old c.take_first.new.cells c.in-None.ensures.rest;
-        gone = ap (λ (o : Option Object). told_each (listed (removed o).gone) (g.D.DictDisc.gone c.args.kind.now)) found;
+        gone = ap (λ (o : Option Object). told_each (option_list (removed o).gone) (g.D.DictDisc.gone c.args.kind.now)) found;
       };
       rules = refl;
     }

@@ -9,7 +9,7 @@ use Rattle.vc_best.specs.CellLaws.{stays-after}
 use Rattle.vc_best.specs.Cells.{cells_in, rest_in}
 use Rattle.vc_best.specs.Parts.{disc_in, segments_in}
 use Rattle.vc_best.proofs.CellCalls.{stays-disc}
-use Rattle.vc_objects.specs.Objects.{Dictionary, holder_size, owned}
+use Rattle.vc_objects.specs.Objects.{Dictionary, holder_size, own_blocks}
 use Rattle.vc_objects.specs.Parts.{dictionary_in, dictionary_of, table_of}
 use Rattle.vc_objects.proofs.Answering.{asked-block, held-put}
 use Rattle.vc_objects.proofs.Holding.{body-length, body-place, can-link, dictionary-held, fresh-held, others-held, stands-put, whole-held}
@@ -71,7 +71,7 @@ returns-in-Ok g c =
         whole = whole-held rules dict b0 b1 b2 at object whole puts.made is written c.args.append dict' b3 became;
         kind = became.kind;
         rest =
-            leaves-put (meaning g) old mid new new (owned (dictionary_in dict old)) (owned (dictionary_in dict' new)) _
+            leaves-put (meaning g) old mid new new (own_blocks (dictionary_in dict old)) (own_blocks (dictionary_in dict' new)) _
             puts.asks puts.labelled stays refl refl refl
             (others-held rules dict b0 b1 b2 at object whole puts.made is written c.args.append dict' b3 became (none-at new) (none-at old))
             (fresh-held rules dict b0 b1 b2 at object whole puts.made is written c.args.append dict' b3 became);

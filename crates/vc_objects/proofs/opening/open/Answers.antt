@@ -5,7 +5,7 @@ use Rattle.vc_best.specs.Cells.{cells_in, rest_in}
 use Rattle.vc_best.specs.Parts.{disc_in}
 use Rattle.vc_dict.specs.declared.dict.Dict.{Dict}
 use Rattle.vc_objects.specs.Leaves.{AskedTable}
-use Rattle.vc_objects.specs.Objects.{owned}
+use Rattle.vc_objects.specs.Objects.{own_blocks}
 use Rattle.vc_objects.specs.Parts.{dictionary_in}
 use Rattle.vc_objects.proofs.Emptiness.{IsNew, first-slots, grows-first, opened-plain, opened-refused, opened-table, owned-none, whole-empty}
 use Rattle.vc_objects.proofs.Leaving.{keeps-same, leaves-from, leaves-still}
@@ -41,7 +41,7 @@ returns-in-None g c =
       ok = record {
         grown = opened-plain rules dict (cells_in best) c.args.method is _ (rest_in best) (sym c.in-None.ensures);
         whole = whole-empty rules dict (cells_in best) c.args.method is (sym c.in-None.ensures);
-        leaves = leaves-still _ best best [] (owned (dictionary_in dict best)) (keeps-same _ _ _ _ refl refl) refl refl (owned-none rules dict (cells_in best) c.args.method is);
+        leaves = leaves-still _ best best [] (own_blocks (dictionary_in dict best)) (keeps-same _ _ _ _ refl refl) refl refl (owned-none rules dict (cells_in best) c.args.method is);
         numbered = c.new-dict.ensures.kind;
       };
       err = tt;
@@ -61,7 +61,7 @@ returns-in-Ok g c =
         grown = opened-table rules dict (cells_in best) c.args.method is _ (rest_in best) (rest_in after) (dictionary_in dict' after) c.in-Some.slots (sym c.in-Some.ensures) c.in-Ok.ensures.grows.ok;
         whole = c.in-Ok.ensures.whole;
         leaves =
-            leaves-from _ best after (owned (dictionary_in dict best)) [] (owned (dictionary_in dict' after))
+            leaves-from _ best after (own_blocks (dictionary_in dict best)) [] (own_blocks (dictionary_in dict' after))
             (owned-none rules dict (cells_in best) c.args.method is) c.put_table.ensures.leaves;
         numbered = c.put_table.ensures.kind ∙ c.new-dict.ensures.kind;
       };

@@ -9,7 +9,7 @@ use Rattle.vc_best.specs.Cells.{cells_in, rest_in}
 use Rattle.vc_best.specs.Parts.{disc_in, segments_in}
 use Rattle.vc_best.proofs.CellCalls.{stays-disc}
 use Rattle.vc_objects.specs.Insert.{alloc_unlabelled, without_table}
-use Rattle.vc_objects.specs.Objects.{owned, table_size}
+use Rattle.vc_objects.specs.Objects.{own_blocks, table_size}
 use Rattle.vc_objects.specs.Parts.{dictionary_in, dictionary_of, table_of}
 use Rattle.vc_objects.proofs.Adopting.{can-adopt, dictionary-grown, fresh-grown, old-there, others-grown, stands-placed, whole-grown}
 use Rattle.vc_objects.proofs.Answering.{asked-block, grown-put, grown-refused}
@@ -75,7 +75,7 @@ returns-in-Ok g c =
       whole = whole-grown rules dict (cells_in old) (cells_in mid) at slots c.requires.grows puts.made dict' (cells_in adopts) (cells_in new) adopted after;
       kind = adopted.kind;
       leaves =
-          leaves-put (meaning g) old mid adopts new (owned (dictionary_in dict old)) (owned (dictionary_in dict' new)) _
+          leaves-put (meaning g) old mid adopts new (own_blocks (dictionary_in dict old)) (own_blocks (dictionary_in dict' new)) _
           puts.asks puts.labelled c.adopt_table-old.ensures.rest around.disc around.segments around.labelled
           (others-grown rules dict (cells_in old) (cells_in mid) at slots c.requires.grows puts.made dict' (cells_in adopts) (cells_in new) adopted after (none-at new) (none-at old))
           (fresh-grown rules dict (cells_in old) (cells_in mid) at slots c.requires.grows puts.made dict' (cells_in adopts) (cells_in new) adopted after);
@@ -101,8 +101,8 @@ returns-in-Err g c =
       whole = tt;
       kind = refl;
       leaves =
-          leaves-still (meaning g) old new (owned (dictionary_in dict old)) (owned (dictionary_in dict new))
+          leaves-still (meaning g) old new (own_blocks (dictionary_in dict old)) (own_blocks (dictionary_in dict new))
           (asked-keeps _ _ (segments_in old) (segments_in new) _ c.in-Err.fault (ap (λ (r : Layout ℕ). r.segments) puts.answer.1) puts.asks)
-          puts.answer.1 puts.same (ap (λ (b : Blocks). owned (dictionary_of dict b)) puts.same);
+          puts.answer.1 puts.same (ap (λ (b : Blocks). own_blocks (dictionary_of dict b)) puts.same);
       err = (puts.same, refl);
     }

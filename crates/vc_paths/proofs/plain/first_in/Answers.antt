@@ -3,7 +3,7 @@ use Rattle.std.specs.Option.{option_map}
 use Rattle.vc_base.specs.Address.{number_of}
 use Rattle.vc_dtdisc.specs.Finding.{first_of}
 use Rattle.vc_paths.specs.Layers.{place_in}
-use Rattle.vc_paths.specs.Shown.{shown}
+use Rattle.vc_paths.specs.Shown.{unhidden_objects}
 use Rattle.vc_paths.proofs.SeenLemmas.{first-place, from-start, place-start}
 use Rattle.vc_paths.proofs.plain.first_in.Goals as goal
 
@@ -15,7 +15,7 @@ pub returns-clause-found : goal.returns-clause-found
 returns-clause-found g c =
     let all = g.Y.Layers.layered c.args.layers.now in
     let e = c.args.e in
-    let shows = shown all c.args.paths.now c.args.d e in
+    let shows = unhidden_objects all c.args.paths.now c.args.d e in
     let objects = (all.layer e).objects in
     let apart = (g.met.Y.Layers.lawful c.args.layers.now).distinct e c.requires.other.there in
     c.placed.ensures

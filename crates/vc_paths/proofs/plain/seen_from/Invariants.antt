@@ -2,7 +2,7 @@ use Rattle.std.proofs.Common.{◌≡◌, length}
 use Rattle.std.specs.Option.{option_map}
 use Rattle.vc_base.specs.Address.{number_of}
 use Rattle.vc_dtdisc.specs.Finding.{first_of}
-use Rattle.vc_paths.specs.Shown.{IsPlaceIn, objects_from, shown}
+use Rattle.vc_paths.specs.Shown.{IsPlaceIn, objects_from, unhidden_objects}
 use Rattle.vc_paths.specs.Layers.{Same}
 use Rattle.vc_paths.proofs.plain.seen_from.Given as goal
 
@@ -13,8 +13,8 @@ invariant-loop-here g l =
       stays : g.Y.Layers.Stays l.fn.layers l.layers;
       place : IsPlaceIn ((g.Y.Layers.layered l.fn.layers).layer l.e).objects (option_map number_of l.here);
       answer :
-          first_of (shown (g.Y.Layers.layered l.fn.layers) l.paths l.d l.e (objects_from (option_map number_of l.fn.at) ((g.Y.Layers.layered l.fn.layers).layer l.e).objects))
-          ≡ first_of (shown (g.Y.Layers.layered l.fn.layers) l.paths l.d l.e (objects_from (option_map number_of l.here) ((g.Y.Layers.layered l.fn.layers).layer l.e).objects));
+          first_of (unhidden_objects (g.Y.Layers.layered l.fn.layers) l.paths l.d l.e (objects_from (option_map number_of l.fn.at) ((g.Y.Layers.layered l.fn.layers).layer l.e).objects))
+          ≡ first_of (unhidden_objects (g.Y.Layers.layered l.fn.layers) l.paths l.d l.e (objects_from (option_map number_of l.here) ((g.Y.Layers.layered l.fn.layers).layer l.e).objects));
     }
 
 abbrev pub decreases-loop-here : goal.decreases-loop-here

@@ -1,6 +1,6 @@
 use Rattle.std.proofs.Common.{ap, ◌∙◌, get_or}
 use Rattle.std.proofs.lemmas.List.{get_or_default}
-use Rattle.vc_pool_cells.specs.Cells.{cells_of, laid}
+use Rattle.vc_pool_cells.specs.Cells.{cells_of, with_zeros_in}
 use Rattle.vc_pool_cells.specs.Place.{cells_in}
 use Rattle.vc_pool_cells.specs.declared.segment.PoolSegment.{PoolSegment}
 use Rattle.vc_pool_cells.proofs.Calls.{freed-listed}
@@ -19,5 +19,5 @@ pub returns-clause-reused : goal.returns-clause-reused
 returns-clause-reused c =
     reused-there c.args.element c.args.freed.now.0 c.find_cell-place.result.0 c.find_cell-place.result.1 c.rounded_up-cell.result c.args.segs.now (get_or c.args.segs.now c.find_cell-place.result.0 c.index-segs-place.result) c.rounded_up-cell.ensures c.find_cell-place.ensures.within c.find_cell-place.ensures.found (get_or_default c.args.segs.now c.find_cell-place.result.0 c.index-segs-place.result (get_or c.args.segs.now c.find_cell-place.result.0 c.index-segs-place.result) c.find_cell-place.ensures.within)
     c.lay.new.self c.args.tag c.args.size c.link.result.0 c.requires.freed c.requires.some c.requires.fits
-    (c.lay.ensures ∙ ap (λ (s : PoolSegment). laid c.rounded_up-cell.result c.find_cell-place.result.1 c.args.size c.args.tag (cells_of s)) (get_or_default c.args.segs.now c.find_cell-place.result.0 c.index-segs-place-2.result c.index-segs-place.result c.find_cell-place.ensures.within))
+    (c.lay.ensures ∙ ap (λ (s : PoolSegment). with_zeros_in c.rounded_up-cell.result c.find_cell-place.result.1 c.args.size c.args.tag (cells_of s)) (get_or_default c.args.segs.now c.find_cell-place.result.0 c.index-segs-place-2.result c.index-segs-place.result c.find_cell-place.ensures.within))
     c.link.ensures c.requires.kept

@@ -1,7 +1,7 @@
 use Rattle.std.proofs.Common.{◌≡◌, ℕ, List, ◌++◌, false, All, ◌≤◌, filter, length, map, get_or, take, drop, ap, sym, subst, ◌∙◌, arith}
 use Rattle.std.proofs.lemmas.List.{length-map, with_items_is}
 use Rattle.std.proofs.lemmas.List.Sums.{length-filter, count_by-le-length}
-use Rattle.vc_model.specs.Compact.{compacted}
+use Rattle.vc_model.specs.Compact.{compacted_layout}
 use Rattle.vc_model.specs.Layout.{Layout}
 use Rattle.vc_model.specs.Pool.{cell_for}
 use Rattle.vc_pool_cells.specs.Blocks.{layout_by, pair_of}
@@ -89,7 +89,7 @@ returns-clause-count g c =
     let at = goal.at.returns-clause-count g c in
     let cell : ℕ = cell_for c.args.element in
     let layout = compacted-layout c.args.element c.args.freed.now.0 c.relink.new.freed.0 c.args.segs.now.items c.relink.new.segs c.give_back.new.segs.items (λ n. get_or c.mark.new.marks n false) (marked g at.After-relink) c.relink.ensures.kept (left g at.After-relink) (keeps g at.After-relink) (is g at.After-give_back) in
-    let new : (compacted (layout_by cell (cells_in c.args.segs.now.items))).segments ≡ map pair_of (cells_in c.give_back.new.segs.items) = ap (λ (l : Layout ℕ). l.segments) (sym layout) ∙ segments-of cell (cells_in c.give_back.new.segs.items) in
+    let new : (compacted_layout (layout_by cell (cells_in c.args.segs.now.items))).segments ≡ map pair_of (cells_in c.give_back.new.segs.items) = ap (λ (l : Layout ℕ). l.segments) (sym layout) ∙ segments-of cell (cells_in c.give_back.new.segs.items) in
     let old = segments-of cell (cells_in c.args.segs.now.items) in
     let long = ap length (items g at.After-relink) in
     omega (arith, c.len.ensures, c.len-before.ensures, c.args.segs.now.ok, c.give_back.new.segs.ok, c.relink.auto.segs, c.deref_mut.ensures.len, long, ap length new, ap length old, length-map (cells_in c.give_back.new.segs.items) pair_of, length-map c.give_back.new.segs.items cells_of, length-map (cells_in c.args.segs.now.items) pair_of, length-map c.args.segs.now.items cells_of)

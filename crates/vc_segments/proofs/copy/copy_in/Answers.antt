@@ -2,7 +2,7 @@ use Rattle.std.proofs.Common.{◌≡◌, [], length, get_or, take, drop, refl, a
 use Rattle.vc_model.specs.Bytes.{with_bytes}
 use Rattle.vc_seg.specs.Segment.{Bytes}
 use Rattle.vc_segments.specs.Memory.{bytes_of_number}
-use Rattle.vc_segments.specs.Memory.{copied}
+use Rattle.vc_segments.specs.Memory.{with_copy_of}
 use Rattle.vc_segments.proofs.Numbered.{bytes_of_number-none, bytes_of_number-first, write_segment-first}
 use Rattle.vc_segments.proofs.copy.copy_in.Goals as goal
 
@@ -22,7 +22,7 @@ pub returns-in-Some-find_number : goal.returns-in-Some-find_number
 returns-in-Some-find_number c =
     let d : Bytes = record { number = 0; bytes = [] } in
     let own = bytes_of_number-first c.args.number c.args.segs.now c.in-Some.source d c.in-Some.ensures.found.0 c.in-Some.ensures.first (c.in-Some.ensures.found.1 d) in
-    let new : Bytes = copied (get_or c.args.segs.now c.in-Some.source d) c.args.from c.args.len c.args.to (get_or c.args.segs.now c.in-Some-find_number.place d) in
+    let new : Bytes = with_copy_of (get_or c.args.segs.now c.in-Some.source d) c.args.from c.args.len c.args.to (get_or c.args.segs.now c.in-Some-find_number.place d) in
     let same : new.bytes ≡ with_bytes c.args.to (take c.args.len (drop c.args.from (bytes_of_number c.args.number c.args.segs.now))) (get_or c.args.segs.now c.in-Some-find_number.place d).bytes =
     ap (λ bytes. with_bytes c.args.to (take c.args.len (drop c.args.from bytes)) (get_or c.args.segs.now c.in-Some-find_number.place d).bytes) (sym own) in
     c.copy_between.ensures d

@@ -1,7 +1,7 @@
 use Rattle.std.proofs.Common.{◌≡◌, refl, ◌∙◌, subst, sym}
 use Rattle.vc_model.specs.Discipline.{Discipline}
 use Rattle.vc_steps.specs.Account.{KeepsAccounts}
-use Rattle.vc_steps.specs.Moment.{Moment, ended, moment, rest_of}
+use Rattle.vc_steps.specs.Moment.{Moment, moment_at_end, moment, rest_of}
 use Rattle.vc_session.proofs.Generating.{asked-most, generated-rests, if_some}
 use Rattle.vc_session.proofs.Rest.{new-moment, new-session}
 use Rattle.vc_session.proofs.generated.run_generated.Given as given
@@ -30,7 +30,7 @@ returns g c =
     record {
       runs =
           if_some _ c.args.asked.now.words.generate c.in-Some.n c.in-Some.is
-          (generated-rests c.args.tool c.args.asked.now.words c.in-Some.n start before (ended last) after _ _ _ _ c.run_all-ended.result same
+          (generated-rests c.args.tool c.args.asked.now.words c.in-Some.n start before (moment_at_end last) after _ _ _ _ c.run_all-ended.result same
           (λ written. record { written = refl; accounts = c.end.ensures.shelf; gone = c.end.ensures.gone }) c.run_all-ended.ensures.runs);
       keeps =
           subst (λ a. KeepsAccounts before.accounts a) (sym c.end.ensures.shelf)

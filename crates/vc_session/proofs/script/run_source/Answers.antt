@@ -1,7 +1,7 @@
 use Rattle.std.proofs.Common.{◌≡◌, refl, ◌∙◌, subst, sym}
 use Rattle.vc_model.specs.Discipline.{Discipline}
 use Rattle.vc_steps.specs.Account.{KeepsAccounts}
-use Rattle.vc_steps.specs.Moment.{Moment, ended, moment, rest_of}
+use Rattle.vc_steps.specs.Moment.{Moment, moment_at_end, moment, rest_of}
 use Rattle.vc_session.proofs.Rest.{new-moment, new-session, runs-rest}
 use Rattle.vc_session.proofs.script.run_source.Given as given
 use Rattle.vc_session.proofs.script.run_source.Goals as goal
@@ -25,7 +25,7 @@ returns g c =
     let same : start ≡ before = new-moment M rules gone c.args.shelf.now c.in_ok-session.session c.args.kinds.now.items c.in_ok-session.ensures.none in
     record {
       runs =
-          runs-rest c.args.tool c.args.words.now start before (ended last) after _ _ c.run_script-ended.result same
+          runs-rest c.args.tool c.args.words.now start before (moment_at_end last) after _ _ c.run_script-ended.result same
           (λ written. record { written = refl; accounts = c.end.ensures.shelf; gone = c.end.ensures.gone }) c.run_script-ended.ensures.runs;
       keeps =
           subst (λ a. KeepsAccounts before.accounts a) (sym c.end.ensures.shelf)

@@ -1,6 +1,6 @@
 use Rattle.std.proofs.Common.{refl}
 use Rattle.vc_splay.specs.Store.{with_kid}
-use Rattle.vc_splay.specs.Writes.{settled, with_child, with_parent_of}
+use Rattle.vc_splay.specs.Writes.{store_with_root, with_child, with_parent_of}
 use Rattle.vc_splay.proofs.rising.settle.Goals as goal
 
 pub hang-requires : goal.hang-requires
@@ -15,5 +15,5 @@ unfolding with_child with_kid with_parent_of
 set_up-requires g c = rw (c.hang-2.ensures.store, c.hang.ensures.store) c.requires.held
 
 pub returns-clause-store : goal.returns-clause-store
-unfolding settled
+unfolding store_with_root
 returns-clause-store g c = rw (c.set_up.ensures.store, c.hang-2.ensures.store, c.hang.ensures.store) refl

@@ -1,11 +1,11 @@
 use Rattle.std.proofs.Common.{◌≡◌, ◌<◌, ◌≤◌, ◌∙◌, ⊎_elim, ◌+◌, ℕ, None, length, ap, suc, arith}
 use Rattle.std.proofs.lemmas.Bool.{cases_lt}
 use Rattle.std.proofs.lemmas.Option.{slice_get_past}
-use Rattle.vc_paths.specs.Links.{Links, below, link_at, linked}
+use Rattle.vc_paths.specs.Links.{Links, below, link_at, links_with}
 use Rattle.vc_views.proofs.LinkChanges.{ended-more}
 use Rattle.vc_views.proofs.numbers.end_views.Goals as goal
 
-more : (old new : Links) (k : ℕ) → k < length old → new ≡ linked k None old → ((n : ℕ) → n < k → below old n ≡ None) → (n : ℕ) → n < k + 1 → below new n ≡ None
+more : (old new : Links) (k : ℕ) → k < length old → new ≡ links_with k None old → ((n : ℕ) → n < k → below old n ≡ None) → (n : ℕ) → n < k + 1 → below new n ≡ None
 more old new k within is none n before =
     let lt : n < suc k = omega (arith, before) in
     ap (λ l. below l n) is ∙ ended-more old k within none n lt

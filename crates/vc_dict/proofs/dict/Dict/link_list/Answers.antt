@@ -1,6 +1,6 @@
 use Rattle.std.proofs.Common.{subst, ◌≡◌, arith, sym, ◌+◌, ◌∷◌, length}
 use Rattle.vc_dtlist.specs.Linked.{CanAdd, IsIn, StandsFor}
-use Rattle.vc_dict.specs.Changes.{linked}
+use Rattle.vc_dict.specs.Changes.{order_by_link}
 use Rattle.vc_dict.proofs.DictLemmas.{Became-list, few}
 use Rattle.vc_dict.proofs.HeadLemmas.{CanLink-list, as_list, current-in}
 use Rattle.vc_dict.proofs.LengthLemmas.{length-linked}
@@ -31,7 +31,7 @@ returns-clause-dict g c = λ holders s.
     let at = c.args.at.0 in
     let list : StandsFor c.list-list.result b holders = rw c.list-list.ensures (as_list rules d b holders c.requires.plain c.requires.method s) in
     let t = c.put_linked.ensures.list rules holders list in
-    let ys = linked c.args.append d.method rules b d.current.0 at holders in
+    let ys = order_by_link c.args.append d.method rules b d.current.0 at holders in
     let long : length ys ≡ length holders + 1 = length-linked c.args.append d.method rules b d.current.0 at holders in
     Became-list rules d c.put_linked.new.list (d.count + 1) b (g.C.Cells.blocks c.put_linked.new.cells)
     (at ∷ holders) holders ys c.requires.plain c.requires.method s t.stands (omega (arith, long, s.count)) t.keeps

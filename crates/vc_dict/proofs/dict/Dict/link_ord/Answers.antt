@@ -1,5 +1,5 @@
 use Rattle.std.proofs.Common.{sym, subst, ◌≡◌, arith, ◌+◌, ◌∷◌, length}
-use Rattle.vc_dtord.specs.Ordered.{CanLink as OrdLink, OrdFor, placed}
+use Rattle.vc_dtord.specs.Ordered.{CanLink as OrdLink, OrdFor, order_with}
 use Rattle.vc_dict.proofs.DictLemmas.{Became-ord, few}
 use Rattle.vc_dict.proofs.HeadLemmas.{CanLink-ord, as_ord, ordered_plain}
 use Rattle.vc_dict.proofs.LengthLemmas.{length-placed}
@@ -25,7 +25,7 @@ returns-clause-dict g c = λ holders s.
     let at = c.args.at.0 in
     let ord : OrdFor rules c.ord-ord.result b holders = rw c.ord-ord.ensures (as_ord rules c.args.self.now b holders (ordered_plain c.args.self.now.method c.requires.method) c.requires.method s) in
     let t = c.link.ensures.list holders ord in
-    let ys = placed rules b at holders in
+    let ys = order_with rules b at holders in
     let long : length ys ≡ length holders + 1 = length-placed rules b at holders in
     Became-ord rules c.args.self.now c.link.new.self (c.args.self.now.count + 1) b (g.C.Cells.blocks c.link.new.cells)
     (at ∷ holders) holders ys c.requires.method s t.stands (omega (arith, long, s.count)) t.keeps

@@ -2,7 +2,7 @@ use Rattle.std.proofs.Common.{◌≡◌, Some, sym, ap, subst}
 use Rattle.std.specs.Option.{option_map}
 use Rattle.vc_base.specs.Holders.{without}
 use Rattle.vc_dtlist.specs.Linked.{number_of}
-use Rattle.vc_dict.specs.Changes.{current_without, removed}
+use Rattle.vc_dict.specs.Changes.{current_without, order_without}
 use Rattle.vc_dict.specs.Stands.{Became, IsMember, Stands}
 use Rattle.vc_dict.proofs.DictLemmas.{Became-current, Stands-current}
 use Rattle.vc_dict.proofs.dict.Dict.remove.Goals as goal
@@ -31,5 +31,5 @@ returns-in-Some-clause-dict g c = λ holders s.
     let left : Stands rules c.leave.new.self b holders = subst (λ z. Stands rules z b holders) (sym c.leave.ensures.same) (Stands-current rules d c.leave.new.self.current b holders s) in
     let t = Became-current rules holders d c.leave.new.self.current b b' d' (without at holders)
     (subst (λ z. Became rules holders z b d' b' (without at holders) c.leave.new.self.current.0) c.leave.ensures.same (c.unlink_heads.ensures.dict holders left)) in
-    subst (λ z. Became rules holders d b d' b' (removed z holders) (current_without z d.current.0 holders)) (sym e)
+    subst (λ z. Became rules holders d b d' b' (order_without z holders) (current_without z d.current.0 holders)) (sym e)
     (subst (λ n. Became rules holders d b d' b' (without at holders) n) (c.leave.ensures.current rules holders s) t)

@@ -4,7 +4,7 @@ use Rattle.vc_last.specs.Chain.{IsLast}
 use Rattle.vc_last.proofs.Kept.{layout-from}
 use Rattle.vc_last.proofs.Types.{have, have-sound}
 use Rattle.vc_last.proofs.last.Last.clear.Goals as goal
-use Rattle.vc_model.specs.Compact.{cleared}
+use Rattle.vc_model.specs.Compact.{cleared_layout}
 use Rattle.vc_last.proofs.Chains.{last-cleared, last-from}
 use Rattle.vc_last.proofs.Kept.{layout-is}
 
@@ -14,4 +14,4 @@ invariant_of-self g c =
     record { kept = kept; reserved = c.args.self.now.reserved; sound = have-sound c.args.self.now.segs.items 0 kept }
 
 pub returns-clause-layout : goal.returns-clause-layout
-returns-clause-layout g c = layout-is c.args.self.now.segs.items 0 [] (last-cleared c.args.self.now.segs.items (have c.args.self.now.segs.items c.args.self.now.latest.0 c.args.self.now.kept).segments) ∙ ap cleared (sym (layout-from c.args.self.now.segs.items c.args.self.now.latest.0))
+returns-clause-layout g c = layout-is c.args.self.now.segs.items 0 [] (last-cleared c.args.self.now.segs.items (have c.args.self.now.segs.items c.args.self.now.latest.0 c.args.self.now.kept).segments) ∙ ap cleared_layout (sym (layout-from c.args.self.now.segs.items c.args.self.now.latest.0))

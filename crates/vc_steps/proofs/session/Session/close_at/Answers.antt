@@ -4,7 +4,7 @@ use Rattle.vc_model.specs.Discipline.{Discipline}
 use Rattle.vc_region.specs.Region.{segments_of}
 use Rattle.vc_seg.specs.Shelf.{standing}
 use Rattle.vc_commands.specs.Held.{Held}
-use Rattle.vc_steps.specs.Account.{IsSession, account_after, accounts, settled}
+use Rattle.vc_steps.specs.Account.{IsSession, account_after, accounts, settled_accounts}
 use Rattle.vc_steps.specs.DictHomes.{AreDicts, lies_in}
 use Rattle.vc_steps.specs.Homes.{accounts_on, held_all, held_in, slots_on}
 use Rattle.vc_commands.specs.RegionRun.{held_of}
@@ -75,5 +75,5 @@ returns g c =
         views = λ are. are;
         spent = refl;
       };
-      settled = ap (λ hs. settled (accounts slots') hs) rest ∙ settled-close slots slots' helds c.args.i h at c.requires.session.held c.close_region.ensures.here;
+      settled = ap (λ hs. settled_accounts (accounts slots') hs) rest ∙ settled-close slots slots' helds c.args.i h at c.requires.session.held c.close_region.ensures.here;
     }

@@ -9,7 +9,7 @@ use Rattle.vc_steps.specs.Account.{account_after, accounts, state_of}
 use Rattle.vc_steps.specs.DictHomes.{dicts_in, lies_in}
 use Rattle.vc_steps.specs.Homes.{accounts_on, held_in, slots_on, state_over}
 use Rattle.vc_views.specs.Numbers.{views_by}
-use Rattle.vc_steps.specs.State.{close_home, stepped}
+use Rattle.vc_steps.specs.State.{close_home, step_with_reply}
 use Rattle.vc_commands.specs.Home.{is_home}
 use Rattle.vc_steps.proofs.Closing.{close-busy, step-close}
 use Rattle.vc_steps.proofs.DictsStay.{all-other, busy-lies, dicts_in-stay, stays-remove}
@@ -74,7 +74,7 @@ returns-else-is_busy-clause-step g c = λ kinds dicts.
     let stays = dicts_in-stay kinds helds (remove helds i) vs es (all-other kinds helds (remove helds i) r (λ e other. stays-remove kinds helds i h at e other) es free) dicts in
     let helds' = held_in M session' in
     step-close slots slots' helds i h at c.requires.held here kinds (dicts_in helds vs es) r count (region-first M x) (busy-lies helds vs es r ∙ free) counted
-    ∙ (ap (λ ds. stepped (state_of kinds slots' (remove helds i) ds) (Closed r count)) (sym stays)
-    ∙ (ap (λ hs. stepped (state_of kinds slots' hs (dicts_in hs vs es)) (Closed r count)) (sym closes.others)
-    ∙ (ap (λ ds. stepped (state_of kinds slots' helds' (dicts_in helds' (views_by session.paths ds) ds)) (Closed r count)) (sym closes.entries)
-    ∙ ap (λ p. stepped (state_of kinds slots' helds' (dicts_in helds' (views_by p session'.dicts.entries) session'.dicts.entries)) (Closed r count)) (sym closes.paths))))
+    ∙ (ap (λ ds. step_with_reply (state_of kinds slots' (remove helds i) ds) (Closed r count)) (sym stays)
+    ∙ (ap (λ hs. step_with_reply (state_of kinds slots' hs (dicts_in hs vs es)) (Closed r count)) (sym closes.others)
+    ∙ (ap (λ ds. step_with_reply (state_of kinds slots' helds' (dicts_in helds' (views_by session.paths ds) ds)) (Closed r count)) (sym closes.entries)
+    ∙ ap (λ p. step_with_reply (state_of kinds slots' helds' (dicts_in helds' (views_by p session'.dicts.entries) session'.dicts.entries)) (Closed r count)) (sym closes.paths))))

@@ -14,7 +14,7 @@ use Rattle.vc_commands.specs.declared.region.home.HomeEntry.{HomeEntry}
 use Rattle.vc_commands.specs.Held.{Held, home_of}
 use Rattle.vc_views.specs.Dicts.{entry_numbered}
 use Rattle.vc_views.specs.Numbers.{AreLinked, views_by}
-use Rattle.vc_steps.specs.Account.{accounts, settled, state_of}
+use Rattle.vc_steps.specs.Account.{accounts, settled_accounts, state_of}
 use Rattle.vc_steps.specs.DictHomes.{AreDicts, dict_home, dicts_in}
 use Rattle.vc_steps.specs.Dicts.{dict_limit, dict_refused}
 use Rattle.vc_steps.specs.Homes.{held_in, slots_on, state_over}
@@ -102,7 +102,7 @@ returns-in-Some-dict_refused-clause-steps g c =
     let early = refused-early s (home_of (region_at (meaning g) x.region)) x.d x.k refusal is in
     record {
       gives = open-refused x x.here.gone (need_shown (Refused refusal)) refusal is;
-      settles = settles-early s (settled (accounts x.here.slots) hs) x.d x.r x.method x.k refusal early;
+      settles = settles-early s (settled_accounts (accounts x.here.slots) hs) x.d x.r x.method x.k refusal early;
       lacks = lacks-early s hs hs x.d x.r x.method x.k refusal early;
     }
 

@@ -8,13 +8,13 @@ use Rattle.vc_model.specs.Discipline.{Discipline}
 use Rattle.vc_seg.specs.Shelf.{place_at, slots_of}
 use Rattle.vc_script.specs.declared.reply.Reply.TheVariants.{Opened, Refused}
 use Rattle.vc_script.specs.declared.refusal.Refusal.TheVariants.{RegionExists}
-use Rattle.vc_seg.specs.Boxed.{boxed}
+use Rattle.vc_seg.specs.Boxed.{disc_in_box}
 use Rattle.vc_commands.specs.declared.region.home.HomeEntry.{HomeEntry}
 use Rattle.vc_steps.specs.DictHomes.{dicts_in}
 use Rattle.vc_steps.specs.Homes.{held_in, slots_on, state_over}
 use Rattle.vc_views.specs.Numbers.{views_by}
 use Rattle.vc_steps.specs.State.{not_here}
-use Rattle.vc_steps.specs.State.{stepped}
+use Rattle.vc_steps.specs.State.{step_with_reply}
 use Rattle.vc_commands.proofs.Agreeing.{from_ok}
 use Rattle.vc_steps.proofs.Cells.{at_number_some, set_same}
 use Rattle.vc_steps.proofs.Helds.{any-named, none_of}
@@ -46,12 +46,12 @@ returns-in_default-clause-steps g c = λ kinds gone dicts.
     let helds = held_in M session in
     let es = session.dicts.entries in
     let vs = views_by session.paths es in
-    let same : slots_on M c.take.new.self ≡ slots = ap (slots_of (boxed M)) c.in_default.ensures.none in
+    let same : slots_on M c.take.new.self ≡ slots = ap (slots_of (disc_in_box M)) c.in_default.ensures.none in
     let why : c.not_here.result ≡ not_here (place_at slots c.args.n) = c.not_here.ensures ∙ ap not_here (c.place.ensures ∙ ap (λ s. place_at s c.args.n) same) in
     let is =
     open_step-not_here kinds slots helds (dicts_in helds vs es) c.args.name c.args.method c.args.n (any-named M session.homes.entries session.labels.items c.args.name c.requires.named ∙ sym c.if-contains_key.ensures) (λ e. false≢true (c.in_default.ensures.here.1 e))
-    ∙ (ap (λ w. stepped (state_over M kinds c.args.shelf.now session) (Refused w)) (sym why)
-    ∙ ap (λ s. stepped s (Refused c.not_here.result)) (sym (state-lists M same c.reserve.ensures.entries c.reserve-2.ensures.items kinds vs es))) in
+    ∙ (ap (λ w. step_with_reply (state_over M kinds c.args.shelf.now session) (Refused w)) (sym why)
+    ∙ ap (λ s. step_with_reply s (Refused c.not_here.result)) (sym (state-lists M same c.reserve.ensures.entries c.reserve-2.ensures.items kinds vs es))) in
     steps-quiet _ _ _ _ (Refused c.not_here.result) is refl (settled-lists M same c.reserve.ensures.entries c.reserve-2.ensures.items)
     (open-granted _ _ c.args.name c.args.method c.args.n (Refused c.not_here.result) is)
 
@@ -63,7 +63,7 @@ returns-in_err-reserve-2-clause-regions g c = keeps-lists c.args.shelf.now c.req
 
 pub returns-in_default-clause-regions : goal.returns-in_default-clause-regions
 returns-in_default-clause-regions g c =
-    let same : slots_on (meaning g) c.take.new.self ≡ slots_on (meaning g) c.args.shelf.now = ap (slots_of (boxed (meaning g))) c.in_default.ensures.none in
+    let same : slots_on (meaning g) c.take.new.self ≡ slots_on (meaning g) c.args.shelf.now = ap (slots_of (disc_in_box (meaning g))) c.in_default.ensures.none in
     keeps-lists c.args.shelf.now c.requires same c.reserve.ensures.entries c.reserve-2.ensures.items refl refl refl
 
 pub returns-in-Ok : goal.returns-in-Ok
@@ -103,8 +103,8 @@ returns-in-Err g c =
     let M = meaning g in
     let slots = slots_on M c.args.shelf.now in
     let k = c.args.n - 1 in
-    let d = boxed M c.in-Some.disc in
-    let e = boxed M c.in-Err.disc in
+    let d = disc_in_box M c.in-Some.disc in
+    let e = disc_in_box M c.in-Err.disc in
     let same : slots_on M c.give_back.new.self ≡ slots =
     c.give_back.ensures.filled
     ∙ (ap (λ s. set s k (Some e)) c.in-Some.ensures.emptied

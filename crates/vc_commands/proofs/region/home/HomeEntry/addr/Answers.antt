@@ -1,7 +1,7 @@
 use Rattle.std.proofs.Common.{refl, sym, ap, ◌∙◌}
 use Rattle.vc_region.specs.Cells.{rest_in}
 use Rattle.vc_region.specs.Parts.{region_of}
-use Rattle.vc_commands.specs.Home.{told}
+use Rattle.vc_commands.specs.Home.{reply_alone}
 use Rattle.vc_commands.proofs.Listing.{addr-none, addr-some, places_in}
 use Rattle.vc_model.specs.Addr.{place_of}
 use Rattle.vc_model.specs.Layout.{address_of}
@@ -17,11 +17,11 @@ meaning g p = (g.dyn-1.0.entry p.0).1.state p.1
 
 pub returns-in-None : goal.returns-in-None
 returns-in-None g c = λ r.
-    ap (told (home_of (held_of (meaning g) r c.args.self.now c.args.labels.now))) (addr-none (rest_in c.args.self.now.region) c.args.labels.now (c.args.at.seg, c.args.at.off) (rest-block_at (region_of c.args.self.now.region) address_of (λ b. refl) (c.args.at.seg, c.args.at.off) ∙ sym c.in-None.ensures.value))
+    ap (reply_alone (home_of (held_of (meaning g) r c.args.self.now c.args.labels.now))) (addr-none (rest_in c.args.self.now.region) c.args.labels.now (c.args.at.seg, c.args.at.off) (rest-block_at (region_of c.args.self.now.region) address_of (λ b. refl) (c.args.at.seg, c.args.at.off) ∙ sym c.in-None.ensures.value))
 
 pub returns-in-Some : goal.returns-in-Some
 returns-in-Some g c = λ r.
-    ap (told (home_of (held_of (meaning g) r c.args.self.now c.args.labels.now)))
+    ap (reply_alone (home_of (held_of (meaning g) r c.args.self.now c.args.labels.now)))
     (addr-some (rest_in c.args.self.now.region) c.args.labels.now (c.args.at.seg, c.args.at.off) c.in-Some.block.0 c.in-Some.off c.tag.result c.name.result
     (places_in c.args.self.now.region) (rest-block_at (region_of c.args.self.now.region) address_of (λ b. refl) (c.args.at.seg, c.args.at.off) ∙ sym c.in-Some.ensures.value)
     (rest-label (region_of c.args.self.now.region) (place_of c.in-Some.block.0) ∙ c.tag.ensures) c.name.ensures)

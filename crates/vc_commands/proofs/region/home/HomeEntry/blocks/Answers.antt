@@ -5,7 +5,7 @@ use Rattle.vc_region.specs.Cells.{rest_in, rest_of}
 use Rattle.vc_region.specs.Parts.{region_of}
 use Rattle.vc_region.specs.Region.{blocks_of}
 use Rattle.vc_script.specs.declared.reply.Reply.TheVariants.{BlockList}
-use Rattle.vc_commands.specs.Home.{told}
+use Rattle.vc_commands.specs.Home.{reply_alone}
 use Rattle.vc_commands.proofs.Listing.{blocks-all, blocks_above, fewer-above, items_of, list-items, next-told, next_in, none-above, places_in}
 use Rattle.vc_model.specs.Discipline.{Discipline}
 use Rattle.vc_commands.specs.Held.{home_of}
@@ -47,4 +47,4 @@ returns g c = λ r.
     ∙ (ap (λ is. c.loop-block.items.items ++ items_of h.labels is) (sym (none-above (blocks_of h.region) c.loop-block.after.0 places (next_in c.args.self.now.region c.loop-block.after.0 _ c.in_default.ensures.value)))
     ∙ (c.loop-block.invariant.items
     ∙ ap (items_of h.labels) (blocks-all (blocks_of h.region) places)))) in
-    ap (λ is. told (home_of h) (BlockList is)) (list-items h.region h.labels ∙ sym all)
+    ap (λ is. reply_alone (home_of h) (BlockList is)) (list-items h.region h.labels ∙ sym all)

@@ -10,7 +10,7 @@ use Rattle.vc_commands.specs.Held.{home_of}
 use Rattle.vc_commands.specs.Audit.{damage_item}
 use Rattle.vc_commands.specs.RegionRun.{held_of}
 use Rattle.vc_commands.specs.Labels.{name_of}
-use Rattle.vc_commands.specs.Home.{told, unchanged}
+use Rattle.vc_commands.specs.Home.{reply_alone, refusal_alone}
 use Rattle.vc_commands.proofs.region.home.HomeEntry.check.Given as given
 use Rattle.vc_commands.proofs.region.home.HomeEntry.check.Goals as goal
 
@@ -20,12 +20,12 @@ meaning g p = (g.dyn-1.0.entry p.0).1.state p.1
 pub returns-then-not-is_debug : goal.returns-then-not-is_debug
 returns-then-not-is_debug g c = λ r.
     let k = home_of (held_of (meaning g) r c.args.self.now c.args.labels.now) in
-    ap (λ v. cond v (told k (Damaged (filter_map damage_item (damaged_in k.region)))) (unchanged k why.WrongMethod))
+    ap (λ v. cond v (reply_alone k (Damaged (filter_map damage_item (damaged_in k.region)))) (refusal_alone k why.WrongMethod))
     (debug-relabelled (name_of c.args.labels.now) (rest_in c.args.self.now.region) ∙ (sym c.is_debug.ensures ∙ c.if-not-is_debug.true))
 
 pub returns : goal.returns
 returns g c = λ r.
     let k = home_of (held_of (meaning g) r c.args.self.now c.args.labels.now) in
-    ap (λ v. cond v (told k (Damaged (filter_map damage_item (damaged_in k.region)))) (unchanged k why.WrongMethod))
+    ap (λ v. cond v (reply_alone k (Damaged (filter_map damage_item (damaged_in k.region)))) (refusal_alone k why.WrongMethod))
     (debug-relabelled (name_of c.args.labels.now) (rest_in c.args.self.now.region) ∙ (sym c.is_debug.ensures ∙ c.if-not-is_debug.false))
-    ∙ ap (λ is. told k (Damaged is)) (sym (c.from_vec.ensures ∙ c.in_ok-damage_items.ensures))
+    ∙ ap (λ is. reply_alone k (Damaged is)) (sym (c.from_vec.ensures ∙ c.in_ok-damage_items.ensures))

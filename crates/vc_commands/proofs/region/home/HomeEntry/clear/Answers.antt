@@ -1,7 +1,7 @@
 use Rattle.std.proofs.Common.{◌≡◌, refl, sym, ap, ◌∙◌}
 use Rattle.vc_region.proofs.Clearing.{cleared-blocks, cleared-segments}
 use Rattle.vc_region.proofs.Keeps.{clear-keeps}
-use Rattle.vc_region.specs.Region.{blocks_of, keeps_freed, region_clear, relabelled, segments_of}
+use Rattle.vc_region.specs.Region.{blocks_of, keeps_freed, region_clear, region_with_labels, segments_of}
 use Rattle.vc_region.proofs.Sound.{own_places}
 use Rattle.vc_region.specs.Cells.{cells_in, region_cells, rest_in, rest_of}
 use Rattle.vc_region.specs.Parts.{disc_in, region_of}
@@ -26,7 +26,7 @@ returns-clause-step g c = λ r.
     record {
       region_after =
           cleared-names c.args.labels.now c.clear.new.self (rest_in c.args.self.now.region)
-          ∙ ap (relabelled (name_of c.clear.new.self)) (sym (ap rest_of c.clear-2.ensures.region ∙ sym (rest-clear (region_of c.args.self.now.region))));
+          ∙ ap (region_with_labels (name_of c.clear.new.self)) (sym (ap rest_of c.clear-2.ensures.region ∙ sym (rest-clear (region_of c.args.self.now.region))));
       kept_after = kept-cleared h c.args.line c.clear.new.self c.keeps_freed.result c.keeps_freed.ensures c.requires.names c.clear.ensures.kept;
       replied = refl;
     }

@@ -1,7 +1,7 @@
 use Rattle.std.proofs.Common.{◌≡◌, sym, ap, ◌∙◌}
 use Rattle.vc_region.proofs.Clearing.{compacted-blocks}
 use Rattle.vc_region.proofs.Relabel.{compact-relabelled, compact_count-relabelled}
-use Rattle.vc_region.specs.Region.{blocks_of, keeps_freed, region_compact, region_compact_count, relabelled}
+use Rattle.vc_region.specs.Region.{blocks_of, keeps_freed, region_compact, region_compact_count, region_with_labels}
 use Rattle.vc_region.proofs.Keeps.{compact-keeps}
 use Rattle.vc_model.specs.Discipline.{Discipline}
 use Rattle.vc_commands.specs.Held.{home_of}
@@ -27,8 +27,8 @@ returns-clause-step g c = λ labels r.
     let was = region_of c.args.self.now.region in
     let old = rest_of was in
     let k = home_of (held_of (meaning g) r c.args.self.now labels) in
-    ap (λ q. changed_to k q (Compacted c.args.name (region_compact_count (relabelled f old)))) (compact-relabelled f old ∙ ap (relabelled f) (sym (ap rest_of c.compact.ensures.region ∙ sym (rest-compact was))))
-    ∙ ap (λ n. changed_to k (relabelled f (rest_in c.compact.new.self)) (Compacted c.args.name n)) (compact_count-relabelled f old ∙ (rest-compact_count was ∙ sym c.compact.ensures.count))
+    ap (λ q. changed_to k q (Compacted c.args.name (region_compact_count (region_with_labels f old)))) (compact-relabelled f old ∙ ap (region_with_labels f) (sym (ap rest_of c.compact.ensures.region ∙ sym (rest-compact was))))
+    ∙ ap (λ n. changed_to k (region_with_labels f (rest_in c.compact.new.self)) (Compacted c.args.name n)) (compact_count-relabelled f old ∙ (rest-compact_count was ∙ sym c.compact.ensures.count))
 
 pub returns-clause-change : goal.returns-clause-change
 returns-clause-change g c = λ labels names r.

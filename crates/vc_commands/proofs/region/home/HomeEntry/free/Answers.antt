@@ -2,7 +2,7 @@ use Rattle.std.proofs.Common.{◌≡◌, None, List, ℕ, refl, ap, ◌∙◌, s
 use Rattle.vc_model.specs.Addr.{place_of}
 use Rattle.vc_model.specs.Discipline.{Discipline}
 use Rattle.vc_model.specs.Layout.{address_of}
-use Rattle.vc_region.specs.Region.{blocks_of, relabelled, segments_of}
+use Rattle.vc_region.specs.Region.{blocks_of, region_with_labels, segments_of}
 use Rattle.vc_commands.specs.Labels.{kept_of, name_of}
 use Rattle.vc_region.specs.Cells.{cells_in, region_cells, rest_in}
 use Rattle.vc_region.specs.Parts.{disc_in, region_of}
@@ -84,7 +84,7 @@ returns-in-Err g c =
     record {
       runs = runs-granted _ _ _ _ _ _ _ None (λ h need. granted-free h c.args.name.now c.args.line)
           (if_ok-all c.refused.result _ (λ r. step-kept (held_of (meaning g) r c.args.self.now c.args.labels.now) has c.args.line c.in-Err.fault c.refused.result c.refused.ensures kept.0 (rest_in c.free.new.self) kept.1))
-          (err-all c.refused.result (ap (λ q. (relabelled (name_of c.args.labels.now) q, kept_of c.args.labels.now)) kept.1)) (ap (λ (d : Discipline). d.faults) c.free.ensures.disc);
+          (err-all c.refused.result (ap (λ q. (region_with_labels (name_of c.args.labels.now) q, kept_of c.args.labels.now)) kept.1)) (ap (λ (d : Discipline). d.faults) c.free.ensures.disc);
       change = λ r.
           changed-alike (held_of (meaning g) r c.args.self.now c.args.labels.now) (disc_in (meaning g) c.free.new.self) (rest_in c.free.new.self) (cells_in c.free.new.self) c.args.labels.now (ap region_cells c.in-Err.ensures.answer.1) c.requires.lent c.free.ensures.disc
           (ap segments_of kept.1) (subst (λ q. IsNamed q c.args.labels.now) (sym kept.1) c.requires.names);

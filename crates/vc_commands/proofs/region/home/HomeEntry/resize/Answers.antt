@@ -1,6 +1,6 @@
 use Rattle.std.proofs.Common.{false, Ok, Err, IfSome, refl, sym, subst, ap}
 use Rattle.vc_model.specs.Discipline.{Discipline}
-use Rattle.vc_region.specs.Region.{relabelled}
+use Rattle.vc_region.specs.Region.{region_with_labels}
 use Rattle.vc_region.specs.Cells.{rest_in}
 use Rattle.vc_script.specs.declared.refusal.Refusal.TheVariants as why
 use Rattle.vc_commands.specs.Held.{IsNamed, home_of}
@@ -71,7 +71,7 @@ returns-in-Ok g c =
       runs = record {
         step = λ r.
             let h = held_of (meaning g) r c.args.self.now c.args.labels.now in
-            gives-place (resize_in (home_of h) c.args.name.now c.args.size c.args.may_move false) (relabelled (name_of labels) new, kept_of labels) c.args.name.now c.in-Ok.to.0 c.place_of.result c.watch_line-watch.result c.place_of.ensures.seg c.place_of.ensures.off
+            gives-place (resize_in (home_of h) c.args.name.now c.args.size c.args.may_move false) (region_with_labels (name_of labels) new, kept_of labels) c.args.name.now c.in-Ok.to.0 c.place_of.result c.watch_line-watch.result c.place_of.ensures.seg c.place_of.ensures.off
             (gives-resized h has c.args.size c.args.may_move (sym c.if-not-is_size.ensures) labels to moved refl c.move_to.ensures.kept new rest.answer c.watch_line-watch.result c.watch_line-watch.ensures);
         err = tt;
         unserved = λ e. absurd (subst NotNoSegment (ap (get_ok (At c.args.name.now c.place_of.result c.watch_line-watch.result)) e) tt);
@@ -92,7 +92,7 @@ returns-in-Err g c =
       runs = record {
         step = if_ok-all c.refused.result _ (λ r.
             step-fault (held_of (meaning g) r c.args.self.now c.args.labels.now) has c.args.size c.args.may_move (sym c.if-not-is_size.ensures) c.in-Err.fault c.refused.result c.refused.ensures rest.answer.0 (rest_in c.resize.new.self) rest.answer.1);
-        err = err-all c.refused.result (ap (λ q. (relabelled (name_of c.args.labels.now) q, kept_of c.args.labels.now)) rest.answer.1);
+        err = err-all c.refused.result (ap (λ q. (region_with_labels (name_of c.args.labels.now) q, kept_of c.args.labels.now)) rest.answer.1);
         unserved = λ e. asks-unserved c.in-Err.fault _ _ _ _ _ (told-no_segment c.in-Err.fault c.refused.result c.refused.ensures e) asked;
         faults = λ other. told-served c.in-Err.fault c.refused.result _ _ _ _ _ c.refused.ensures c.in-Err.ensures.disc other;
       };

@@ -5,7 +5,7 @@ use Rattle.vc_region.specs.Cells.{rest_in}
 use Rattle.vc_region.specs.Parts.{region_of}
 use Rattle.vc_script.specs.declared.reply.Reply.TheVariants.{Size}
 use Rattle.vc_commands.specs.RegionRun.{held_of}
-use Rattle.vc_commands.specs.Home.{told}
+use Rattle.vc_commands.specs.Home.{reply_alone}
 use Rattle.vc_commands.proofs.FoundBlocks.{HasName, has-name, name-there, gives-none}
 use Rattle.vc_region.proofs.RestFound.{rest-size}
 use Rattle.vc_commands.proofs.Touching.{gives-size, size-told}
@@ -25,7 +25,7 @@ size-requires g c = name-there c.args.self.now.region (named g (goal.at.size-req
 
 pub returns-in-None : goal.returns-in-None
 returns-in-None g c = λ r.
-    gives-none (held_of (meaning g) r c.args.self.now c.args.labels.now) c.args.name.now (λ k. λ b. told k (Size c.args.name.now b.size)) c.no_block.result c.requires.names c.in-None.ensures.none c.no_block.ensures.value
+    gives-none (held_of (meaning g) r c.args.self.now c.args.labels.now) c.args.name.now (λ k. λ b. reply_alone k (Size c.args.name.now b.size)) c.no_block.result c.requires.names c.in-None.ensures.none c.no_block.ensures.value
 
 pub returns-in-Some : goal.returns-in-Some
 returns-in-Some g c = λ r.
