@@ -12,6 +12,7 @@ pub mod Back
 pub mod Lend
 pub mod Budget
 pub mod Answer
+pub mod OneBlock
 pub mod Stat
 pub mod Fuse
 pub mod Shelf
