@@ -3,11 +3,11 @@ use Rattle.std.proofs.Common.{◌≡◌, ℕ, ◌+◌, Bool, true, false, cond, 
 use Rattle.std.specs.List.{last_or}
 use Rattle.vc_model.specs.Best.{without_block_at, zeros}
 use Rattle.vc_model.specs.Discipline.{Terms}
-use Rattle.vc_model.specs.Last.{can_end, if_latest, last_alloc, last_free, last_need, last_place, last_resize, latest, newest, next_offset, place_behind, put_in_newest, put_latest, put_or_lend, resize_latest}
-use Rattle.vc_model.specs.Layout.{Block, Layout, is_at, relabel_block, relabel_layout, with_segment}
+use Rattle.vc_model.specs.Last.{can_end, if_latest, last_alloc, last_free, last_need, last_place, last_resize, latest, newest, next_offset, place_behind, put_behind, put_in_newest, put_latest, put_or_lend, resize_latest}
+use Rattle.vc_model.specs.Layout.{Block, Layout, is_at, relabel_block, relabel_layout, with_grant}
 use Rattle.vc_model.specs.Outcome.{Outcome, Done, Refused, Fixed, NotLast}
 use Rattle.vc_model.specs.Resize.{outcome_of_move, stays}
-use Rattle.vc_model.specs.Segments.{Asked, Granted, TooMany, NotLent, ask, span}
+use Rattle.vc_model.specs.Segments.{Asked, Grant, Granted, TooMany, NotLent, ask, span}
 use Rattle.vc_model.proofs.Relabel.{moved-relabel, relabel_outcome, stays-relabel, without_block-relabel}
 
 module _ {L M : Type 0} (f : L → M) where
@@ -36,7 +36,7 @@ module _ {L M : Type 0} (f : L → M) where
   place_behind-relabel bs size None = refl
   place_behind-relabel bs size (Some s) = rw (next_offset-relabel s.0 bs) refl
 
-  put_latest-relabel : (r : Layout L) (label : L) (size : ℕ) (granted : Option (ℕ × ℕ)) (at : ℕ × ℕ) → put_latest (relabel_layout f r) (f label) size granted at ≡ relabel_outcome f (put_latest r label size granted at)
+  put_latest-relabel : (r : Layout L) (label : L) (size : ℕ) (granted : Option Grant) (at : ℕ × ℕ) → put_latest (relabel_layout f r) (f label) size granted at ≡ relabel_outcome f (put_latest r label size granted at)
   put_latest-relabel r label size granted at =
       ap (λ bs. Done (record { at = at; region = layout r.segments bs; granted = granted })) (behind r.blocks)
     where
@@ -44,18 +44,27 @@ module _ {L M : Type 0} (f : L → M) where
       behind [] = refl
       behind (b ∷ bs) = ap (λ cs. relabel_block f b ∷ cs) (behind bs)
 
+  put_behind-relabel : (r : Layout L) (label : L) (size : ℕ) (granted : Option Grant) (at : Option (ℕ × ℕ)) → put_behind (relabel_layout f r) (f label) size granted at ≡ relabel_outcome f (put_behind r label size granted at)
+  put_behind-relabel r label size granted None = refl
+  put_behind-relabel r label size granted (Some at) = put_latest-relabel r label size granted at
+
+  last_place-relabel : (r : Layout L) (size : ℕ) → last_place (relabel_layout f r) size ≡ last_place r size
+  last_place-relabel r size = place_behind-relabel r.blocks size (newest r)
+
   put_in_newest-relabel : (r : Layout L) (label : L) (size : ℕ) (asked : Asked) → put_in_newest (relabel_layout f r) (f label) size asked ≡ relabel_outcome f (put_in_newest r label size asked)
-  put_in_newest-relabel r label size (Granted number bytes) = put_latest-relabel (with_segment r (number, bytes)) label size (Some (number, bytes)) (number, 32)
+  put_in_newest-relabel r label size (Granted g) =
+      ap (put_behind (with_grant (relabel_layout f r) g) (f label) size (Some g)) (last_place-relabel (with_grant r g) size)
+      ∙ put_behind-relabel (with_grant r g) label size (Some g) (last_place (with_grant r g) size)
   put_in_newest-relabel r label size TooMany = refl
   put_in_newest-relabel r label size NotLent = refl
 
   put_or_lend-relabel : (terms : Terms) (r : Layout L) (label : L) (size : ℕ) (refused : Bool) (at : Option (ℕ × ℕ)) → put_or_lend terms (relabel_layout f r) (f label) size refused at ≡ relabel_outcome f (put_or_lend terms r label size refused at)
   put_or_lend-relabel terms r label size refused (Some at) = put_latest-relabel r label size None at
-  put_or_lend-relabel terms r label size refused None = put_in_newest-relabel r label size (ask (last_need terms size) r.segments refused)
+  put_or_lend-relabel terms r label size refused None = put_in_newest-relabel r label size (ask terms (last_need terms size) r.segments refused)
 
   pub last_alloc-relabel : (terms : Terms) (r : Layout L) (label : L) (size : ℕ) (refused : Bool) → last_alloc terms (relabel_layout f r) (f label) size refused ≡ relabel_outcome f (last_alloc terms r label size refused)
   last_alloc-relabel terms r label size refused =
-      ap (put_or_lend terms (relabel_layout f r) (f label) size refused) (place_behind-relabel r.blocks size (newest r))
+      ap (put_or_lend terms (relabel_layout f r) (f label) size refused) (last_place-relabel r size)
       ∙ put_or_lend-relabel terms r label size refused (last_place r size)
 
   -- whether the latest block can end where it would with a size says nothing of its label

@@ -6,3 +6,4 @@ pub mod Relabel
 pub mod PoolRelabel
 pub mod LastRelabel
 pub mod Owned
+pub mod Keeping

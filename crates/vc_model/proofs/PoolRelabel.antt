@@ -4,11 +4,11 @@ use Rattle.std.specs.Prelude.{nat_lt}
 use Rattle.vc_model.specs.Best.{zeros}
 use Rattle.vc_model.specs.Compact.{compacted_layout, is_occupied}
 use Rattle.vc_model.specs.Discipline.{Terms}
-use Rattle.vc_model.specs.Layout.{Block, Layout, relabel_block, relabel_layout, with_segment}
+use Rattle.vc_model.specs.Layout.{Block, Layout, relabel_block, relabel_layout, with_grant}
 use Rattle.vc_model.specs.Outcome.{Outcome, Done, Refused, Put, PoolSize, outcome_as}
-use Rattle.vc_model.specs.Pool.{Pool, cell_for, element_with, pool_alloc, pool_clear, pool_compact, pool_free, pool_need, pool_resize, put_asked, put_carving, put_cell, put_free, put_uncarved, relabel_pool, uncarved}
+use Rattle.vc_model.specs.Pool.{Pool, carved_in, cell_for, cell_offset, element_with, pool_alloc, pool_clear, pool_compact, pool_free, pool_need, pool_resize, put_asked, put_carving, put_cell, put_free, put_uncarved, relabel_pool, uncarved}
 use Rattle.vc_model.specs.Resize.{resize_there, sized_block}
-use Rattle.vc_model.specs.Segments.{Asked, Granted, TooMany, NotLent, ask}
+use Rattle.vc_model.specs.Segments.{Asked, Grant, Granted, TooMany, NotLent, ask}
 use Rattle.vc_model.specs.Touch.{rewritten_block, with_bytes_at}
 use Rattle.vc_model.proofs.Relabel.{change_block-relabel, compacted-relabel, occupied-relabel, with_block-relabel, without_block-relabel}
 
@@ -20,24 +20,25 @@ module _ {L M : Type 0} (f : L → M) where
   abbrev pub relabel_pools : Outcome (Put (Pool L)) → Outcome (Put (Pool M))
   relabel_pools o = outcome_as (relabel_pool f) o
 
-  put_cell-relabel : (p : Pool L) (label : L) (size : ℕ) (granted : Option (ℕ × ℕ)) (at : ℕ × ℕ) (r : Layout L) (freed carved : List (ℕ × ℕ)) →
+  put_cell-relabel : (p : Pool L) (label : L) (size : ℕ) (granted : Option Grant) (at : ℕ × ℕ) (r : Layout L) (freed carved : List (ℕ × ℕ)) →
       put_cell (relabel_pool f p) (f label) size granted at (relabel_layout f r) freed carved ≡ relabel_pools (put_cell p label size granted at r freed carved)
   put_cell-relabel p label size granted at r freed carved =
       ap (λ bs. Done (record { at = at; region = pool r.segments (Some (element_with p size)) freed carved bs; granted = granted })) (sym (with_block-relabel f (zeros label size at) r.blocks))
 
-  put_uncarved-relabel : (p : Pool L) (label : L) (size : ℕ) (granted : Option (ℕ × ℕ)) (at : ℕ × ℕ) (r : Layout L) →
+  put_uncarved-relabel : (p : Pool L) (label : L) (size : ℕ) (granted : Option Grant) (at : ℕ × ℕ) (r : Layout L) →
       put_uncarved (relabel_pool f p) (f label) size granted at (relabel_layout f r) ≡ relabel_pools (put_uncarved p label size granted at r)
   put_uncarved-relabel p label size granted at r = put_cell-relabel p label size granted at r p.freed _
 
   put_asked-relabel : (p : Pool L) (label : L) (size : ℕ) (asked : Asked) → put_asked (relabel_pool f p) (f label) size asked ≡ relabel_pools (put_asked p label size asked)
-  put_asked-relabel p label size (Granted number bytes) = put_uncarved-relabel p label size (Some (number, bytes)) (number, 32) (with_segment p.layout (number, bytes))
+  put_asked-relabel p label size (Granted g) =
+      put_uncarved-relabel p label size (Some g) (g.number, cell_offset (cell_for (element_with p size)) (carved_in g.number p.carved)) (with_grant p.layout g)
   put_asked-relabel p label size TooMany = refl
   put_asked-relabel p label size NotLent = refl
 
   put_carving-relabel : (terms : Terms) (p : Pool L) (label : L) (size : ℕ) (refused : Bool) (at : Option (ℕ × ℕ)) →
       put_carving terms (relabel_pool f p) (f label) size refused at ≡ relabel_pools (put_carving terms p label size refused at)
   put_carving-relabel terms p label size refused (Some at) = put_uncarved-relabel p label size None at p.layout
-  put_carving-relabel terms p label size refused None = put_asked-relabel p label size (ask (pool_need terms p size) p.layout.segments refused)
+  put_carving-relabel terms p label size refused None = put_asked-relabel p label size (ask terms (pool_need terms p size) p.layout.segments refused)
 
   put_free-relabel : (terms : Terms) (p : Pool L) (label : L) (size : ℕ) (refused : Bool) (freed : List (ℕ × ℕ)) →
       put_free terms (relabel_pool f p) (f label) size refused freed ≡ relabel_pools (put_free terms p label size refused freed)

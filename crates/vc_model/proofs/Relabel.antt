@@ -5,14 +5,14 @@ use Rattle.std.specs.List.{AllByRecursion, list_all}
 use Rattle.vc_model.specs.Best.{best_alloc, best_need, put, put_at, put_in_new, put_or_ask, place_in, zeros}
 use Rattle.vc_model.specs.Compact.{compact_count, compacted_layout, is_occupied}
 use Rattle.vc_model.specs.Discipline.{Terms}
-use Rattle.vc_model.specs.Layout.{Block, Layout, address_of, footprint, footprints, is_at, lies_before, relabel_block, relabel_layout, with_block, with_segment, without_block}
+use Rattle.vc_model.specs.Layout.{Block, Layout, address_of, footprint, footprints, is_at, lies_before, relabel_block, relabel_layout, with_block, with_grant, without_block}
 use Rattle.vc_model.specs.Order.{put_by}
 use Rattle.vc_model.specs.Outcome.{Outcome, Done, Refused, Put, Fixed, outcome_as}
 use Rattle.vc_model.specs.Gap.{gaps}
 use Rattle.vc_model.specs.Numbers.{block_sizes, gaps_of}
 use Rattle.vc_model.specs.Place.{place}
 use Rattle.vc_model.specs.Resize.{best_resize, can_stay, is_usable, meets, outcome_of_move, resize_block, resize_found, sized_block, stays}
-use Rattle.vc_model.specs.Segments.{Asked, Granted, TooMany, NotLent, ask}
+use Rattle.vc_model.specs.Segments.{Asked, Grant, Granted, TooMany, NotLent, ask}
 use Rattle.vc_model.specs.Touch.{change_block, find_block, rewritten_block}
 use Rattle.vc_model.specs.Walk.{block_at, by_address, holds_byte}
 
@@ -58,27 +58,27 @@ module _ {L M : Type 0} (f : L → M) where
       elim (is_at at b) as (λ v. map (relabel_block f) (cond v (change b ∷ bs) (b ∷ change_block change at bs)) ≡ cond v (change' (relabel_block f b) ∷ map (relabel_block f) bs) (relabel_block f b ∷ change_block change' at (map (relabel_block f) bs)))
       [ true ↦ ap (λ c. c ∷ map (relabel_block f) bs) (same b) | false ↦ ap (λ cs. relabel_block f b ∷ cs) (change_block-relabel change change' same at bs) ]
 
-  put_at-relabel : (r : Layout L) (label : L) (size : ℕ) (granted : Option (ℕ × ℕ)) (at : ℕ × ℕ) → put_at (relabel_layout f r) (f label) size granted at ≡ relabel_outcome (put_at r label size granted at)
+  put_at-relabel : (r : Layout L) (label : L) (size : ℕ) (granted : Option Grant) (at : ℕ × ℕ) → put_at (relabel_layout f r) (f label) size granted at ≡ relabel_outcome (put_at r label size granted at)
   put_at-relabel r label size granted at =
       ap (λ bs. Done (record { at = at; region = layout r.segments bs; granted = granted })) (sym (with_block-relabel (zeros label size at) r.blocks))
 
   place_in-relabel : (r : Layout L) (size align : ℕ) → place_in (relabel_layout f r) size align ≡ place_in r size align
   place_in-relabel r size align = ap (λ fs. place r.segments fs size align) (footprints-relabel r.blocks)
 
-  put-relabel : (r : Layout L) (label : L) (size : ℕ) (granted : Option (ℕ × ℕ)) (at : Option (ℕ × ℕ)) → put (relabel_layout f r) (f label) size granted at ≡ relabel_outcome (put r label size granted at)
+  put-relabel : (r : Layout L) (label : L) (size : ℕ) (granted : Option Grant) (at : Option (ℕ × ℕ)) → put (relabel_layout f r) (f label) size granted at ≡ relabel_outcome (put r label size granted at)
   put-relabel r label size granted None = refl
   put-relabel r label size granted (Some at) = put_at-relabel r label size granted at
 
   put_in_new-relabel : (r : Layout L) (label : L) (size align : ℕ) (asked : Asked) → put_in_new (relabel_layout f r) (f label) size align asked ≡ relabel_outcome (put_in_new r label size align asked)
-  put_in_new-relabel r label size align (Granted number bytes) =
-      ap (put (with_segment (relabel_layout f r) (number, bytes)) (f label) size (Some (number, bytes))) (place_in-relabel (with_segment r (number, bytes)) size align)
-      ∙ put-relabel (with_segment r (number, bytes)) label size (Some (number, bytes)) (place_in (with_segment r (number, bytes)) size align)
+  put_in_new-relabel r label size align (Granted g) =
+      ap (put (with_grant (relabel_layout f r) g) (f label) size (Some g)) (place_in-relabel (with_grant r g) size align)
+      ∙ put-relabel (with_grant r g) label size (Some g) (place_in (with_grant r g) size align)
   put_in_new-relabel r label size align TooMany = refl
   put_in_new-relabel r label size align NotLent = refl
 
   put_or_ask-relabel : (terms : Terms) (r : Layout L) (label : L) (size align : ℕ) (refused : Bool) (at : Option (ℕ × ℕ)) → put_or_ask terms (relabel_layout f r) (f label) size align refused at ≡ relabel_outcome (put_or_ask terms r label size align refused at)
   put_or_ask-relabel terms r label size align refused (Some at) = put_at-relabel r label size None at
-  put_or_ask-relabel terms r label size align refused None = put_in_new-relabel r label size align (ask (best_need terms size align) r.segments refused)
+  put_or_ask-relabel terms r label size align refused None = put_in_new-relabel r label size align (ask terms (best_need terms size align) r.segments refused)
 
   pub best_alloc-relabel : (terms : Terms) (r : Layout L) (label : L) (size align : ℕ) (refused : Bool) → best_alloc terms (relabel_layout f r) (f label) size align refused ≡ relabel_outcome (best_alloc terms r label size align refused)
   best_alloc-relabel terms r label size align refused =

@@ -33,9 +33,9 @@ pub record Kept (old new : Discipline) : Type 0 where
 
 -- a segment was lent: its pair is the last that is out, and the room held it where it is told
 pub record Lent (old new : Discipline) (number size : ℕ) : Type 0 where
+  pub kept : Kept old new
   pub out : new.out ≡ old.out ++ (number, size) ∷ []
   pub faults : new.faults ≡ old.faults
-  pub terms : new.terms ≡ old.terms
   pub room : IfSome old.room (λ room. size ≤ room)
 
 -- a segment of that size was refused: the faults rose, and the room was below the size where it is told; all else stays
@@ -48,7 +48,7 @@ pub record Unserved (old new : Discipline) (size : ℕ) : Type 0 where
 
 -- a call of a region refused nothing. Where it left other segments than before, these stand in their place among those that are out, and the room held the size that was asked for; else the discipline is the same
 pub record Served (old new : Discipline) (segments segments' : List (ℕ × ℕ)) (size : ℕ) : Type 0 where
-  pub terms : new.terms ≡ old.terms
+  pub kept : Kept old new
   pub faults : new.faults ≡ old.faults
   pub out : (rest : List (ℕ × ℕ)) → old.out ≡ rest ++ segments → new.out ≡ rest ++ segments'
   pub room : segments' ≢ segments → IfSome old.room (λ room. size ≤ room)
@@ -56,7 +56,7 @@ pub record Served (old new : Discipline) (segments segments' : List (ℕ × ℕ)
 
 -- the discipline took back those of a region's segments that are gone, and keeps all else that is out
 pub record TookBack (old new : Discipline) (segments segments' : List (ℕ × ℕ)) : Type 0 where
-  pub terms : new.terms ≡ old.terms
+  pub kept : Kept old new
   pub faults : new.faults ≡ old.faults
   pub out : (rest : List (ℕ × ℕ)) → old.out ≡ rest ++ segments → new.out ≡ rest ++ segments'
 

@@ -2,8 +2,8 @@
 use Rattle.std.specs.Prelude.{ℕ, ◌+◌, List, [], ◌∷◌, ◌++◌, Option, Some, None, Bool, filter, fold, map, max, nat_le, ◌==◌, if◌then◌else◌}
 use Rattle.std.specs.List.{last_or}
 use Rattle.vc_model.specs.Discipline.{Terms}
-use Rattle.vc_model.specs.Segments.{Asked, Granted, TooMany, NotLent, ask, round_up, span}
-use Rattle.vc_model.specs.Layout.{Block, Layout, footprint, is_at, with_segment}
+use Rattle.vc_model.specs.Segments.{Asked, Grant, Granted, TooMany, NotLent, ask, round_up, span}
+use Rattle.vc_model.specs.Layout.{Block, Layout, footprint, is_at, with_grant}
 use Rattle.vc_model.specs.Outcome.{Outcome, Done, Refused, Put, Fixed, NotLast, TooManySegments, NoSegment}
 use Rattle.vc_model.specs.Best.{zeros, without_block_at}
 use Rattle.vc_model.specs.Resize.{is_usable, outcome_of_move, sized_block, stays}
@@ -38,22 +38,27 @@ abbrev pub last_place : {L : Type 0} → Layout L → ℕ → Option (ℕ × ℕ
 last_place r size = place_behind r.blocks size (newest r)
 
 -- the block is put there, as the latest
-abbrev pub put_latest : {L : Type 0} → Layout L → L → ℕ → Option (ℕ × ℕ) → ℕ × ℕ → Outcome (Put (Layout L))
+abbrev pub put_latest : {L : Type 0} → Layout L → L → ℕ → Option Grant → ℕ × ℕ → Outcome (Put (Layout L))
 put_latest r label size granted at =
     Done (record { at = at; region = record { segments = r.segments; blocks = r.blocks ++ zeros label size at ∷ [] }; granted = granted })
 
+abbrev pub put_behind : {L : Type 0} → Layout L → L → ℕ → Option Grant → Option (ℕ × ℕ) → Outcome (Put (Layout L))
+put_behind r label size granted None = Refused NoSegment
+put_behind r label size granted (Some at) = put_latest r label size granted at
+
+-- with what is granted the same rule holds
 abbrev pub put_in_newest : {L : Type 0} → Layout L → L → ℕ → Asked → Outcome (Put (Layout L))
-put_in_newest r label size (Granted number bytes) = put_latest (with_segment r (number, bytes)) label size (Some (number, bytes)) (number, 32)
+put_in_newest r label size (Granted g) = put_behind (with_grant r g) label size (Some g) (last_place (with_grant r g) size)
 put_in_newest r label size TooMany = Refused TooManySegments
 put_in_newest r label size NotLent = Refused NoSegment
 
--- the bytes of the segment that is asked for where a block doesn't fit in the newest one
+-- the bytes that are asked for where a block doesn't fit in the newest one
 abbrev pub last_need : Terms → ℕ → ℕ
 last_need terms size = round_up (span size + 32) terms.round
 
 abbrev pub put_or_lend : {L : Type 0} → Terms → Layout L → L → ℕ → Bool → Option (ℕ × ℕ) → Outcome (Put (Layout L))
 put_or_lend terms r label size refused (Some at) = put_latest r label size None at
-put_or_lend terms r label size refused None = put_in_newest r label size (ask (last_need terms size) r.segments refused)
+put_or_lend terms r label size refused None = put_in_newest r label size (ask terms (last_need terms size) r.segments refused)
 
 -- a block goes behind the last one of the newest segment; where it doesn't fit, a segment is asked for first, and is then the newest
 abbrev pub last_alloc : {L : Type 0} → Terms → Layout L → L → ℕ → Bool → Outcome (Put (Layout L))

@@ -1,7 +1,7 @@
 -- The lists of a region. The label of a block is a tag in the libraries, and a name or none in a session.
-use Rattle.std.specs.Prelude.{ℕ, ◌+◌, ◌-◌, List, [], ◌∷◌, ◌++◌, Bool, map, nat_lt, ◌==◌, ◌&&◌, ◌||◌, if◌then◌else◌}
+use Rattle.std.specs.Prelude.{ℕ, ◌+◌, ◌-◌, List, [], ◌∷◌, Bool, map, nat_lt, ◌==◌, ◌&&◌, ◌||◌, if◌then◌else◌}
 use Rattle.vc_model.specs.Addr.{address}
-use Rattle.vc_model.specs.Segments.{span}
+use Rattle.vc_model.specs.Segments.{Grant, segments_with, span}
 use Rattle.vc_model.specs.Gap.{Run}
 
 -- a block, which begins at its offset in a segment; sizes and offsets are in bytes
@@ -21,9 +21,9 @@ pub record Layout (L : Type 0) : Type 0 where
 abbrev pub empty_layout : {L : Type 0} → Layout L
 empty_layout = record { segments = []; blocks = [] }
 
--- the layout with one more segment
-abbrev pub with_segment : {L : Type 0} → Layout L → ℕ × ℕ → Layout L
-with_segment r s = record { segments = r.segments ++ s ∷ []; blocks = r.blocks }
+-- the layout with what is granted
+abbrev pub with_grant : {L : Type 0} → Layout L → Grant → Layout L
+with_grant r g = record { segments = segments_with g r.segments; blocks = r.blocks }
 
 -- where a block begins
 abbrev pub place_of_block : {L : Type 0} → Block L → ℕ × ℕ

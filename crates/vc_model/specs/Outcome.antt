@@ -1,5 +1,6 @@
 -- What a call of a region gives.
 use Rattle.std.specs.Prelude.{ℕ, Option}
+use Rattle.vc_model.specs.Segments.{Grant}
 
 -- why a region refuses a call
 pub data Fault : Type 0 where
@@ -15,11 +16,11 @@ pub data Outcome (A : Type 0) : Type 0 where
   Done : (answer : A) → Outcome A
   Refused : (why : Fault) → Outcome A
 
--- a block was put, or stays: its place as segment and offset, the region after the call, and the segment that was granted for it, as number and bytes
+-- a block was put, or stays: its place as segment and offset, the region after the call, and what was granted for it
 pub record Put (R : Type 0) : Type 0 where
   pub at : ℕ × ℕ
   pub region : R
-  pub granted : Option (ℕ × ℕ)
+  pub granted : Option Grant
 
 -- the same of another form of the region
 abbrev pub put_as : {R S : Type 0} → (R → S) → Put R → Put S

@@ -3,9 +3,9 @@ use Rattle.std.specs.Prelude.{◌≡◌, ℕ, ◌+◌, ◌-◌, ◌*◌, ◌/◌
 use Rattle.std.specs.List.{find}
 use Rattle.std.specs.Option.{option_map_or}
 use Rattle.vc_model.specs.Discipline.{Terms}
-use Rattle.vc_model.specs.Segments.{Asked, Granted, TooMany, NotLent, ask, round_up}
+use Rattle.vc_model.specs.Segments.{Asked, Grant, Granted, TooMany, NotLent, ask, round_up}
 use Rattle.vc_model.specs.Gap.{Run}
-use Rattle.vc_model.specs.Layout.{Block, Layout, empty_layout, relabel_layout, with_block, with_segment}
+use Rattle.vc_model.specs.Layout.{Block, Layout, empty_layout, relabel_layout, with_block, with_grant}
 use Rattle.vc_model.specs.Sound.{HaveOwnNumbers, HaveOwnPlaces, IsApart}
 use Rattle.vc_model.specs.Outcome.{Outcome, Done, Refused, Put, TooManySegments, NoSegment, PoolSize}
 use Rattle.vc_model.specs.Best.{zeros, without_block_at}
@@ -58,12 +58,12 @@ has_uncarved cell carved s = nat_le (cell_offset cell (carved_in s.0 carved + 1)
 abbrev pub uncarved : ℕ → List (ℕ × ℕ) → List (ℕ × ℕ) → Option (ℕ × ℕ)
 uncarved cell carved segments = option_map {U = ℕ × ℕ} (λ s. (s.0, cell_offset cell (carved_in s.0 carved))) (find (has_uncarved cell carved) segments)
 
--- the bytes of the segment that is asked for where no cell is free
+-- the bytes that are asked for where no cell is free
 abbrev pub pool_need : {L : Type 0} → Terms → Pool L → ℕ → ℕ
 pool_need terms p size = round_up (32 + cell_for (element_with p size)) terms.round
 
 -- a block is put into a cell of these segments, which leaves these freed cells and these counts
-abbrev pub put_cell : {L : Type 0} → Pool L → L → ℕ → Option (ℕ × ℕ) → ℕ × ℕ → Layout L → List (ℕ × ℕ) → List (ℕ × ℕ) → Outcome (Put (Pool L))
+abbrev pub put_cell : {L : Type 0} → Pool L → L → ℕ → Option Grant → ℕ × ℕ → Layout L → List (ℕ × ℕ) → List (ℕ × ℕ) → Outcome (Put (Pool L))
 put_cell p label size granted at layout freed carved =
     Done (record {
       at = at;
@@ -77,24 +77,25 @@ put_cell p label size granted at layout freed carved =
     })
 
 -- into an uncarved cell
-abbrev pub put_uncarved : {L : Type 0} → Pool L → L → ℕ → Option (ℕ × ℕ) → ℕ × ℕ → Layout L → Outcome (Put (Pool L))
+abbrev pub put_uncarved : {L : Type 0} → Pool L → L → ℕ → Option Grant → ℕ × ℕ → Layout L → Outcome (Put (Pool L))
 put_uncarved p label size granted at layout = put_cell p label size granted at layout p.freed (carve at.0 p.carved)
 
 abbrev pub put_asked : {L : Type 0} → Pool L → L → ℕ → Asked → Outcome (Put (Pool L))
-put_asked p label size (Granted number bytes) = put_uncarved p label size (Some (number, bytes)) (number, 32) (with_segment p.layout (number, bytes))
+put_asked p label size (Granted g) =
+    put_uncarved p label size (Some g) (g.number, cell_offset (cell_for (element_with p size)) (carved_in g.number p.carved)) (with_grant p.layout g)
 put_asked p label size TooMany = Refused TooManySegments
 put_asked p label size NotLent = Refused NoSegment
 
 abbrev pub put_carving : {L : Type 0} → Terms → Pool L → L → ℕ → Bool → Option (ℕ × ℕ) → Outcome (Put (Pool L))
 put_carving terms p label size refused (Some at) = put_uncarved p label size None at p.layout
-put_carving terms p label size refused None = put_asked p label size (ask (pool_need terms p size) p.layout.segments refused)
+put_carving terms p label size refused None = put_asked p label size (ask terms (pool_need terms p size) p.layout.segments refused)
 
 abbrev pub put_free : {L : Type 0} → Terms → Pool L → L → ℕ → Bool → List (ℕ × ℕ) → Outcome (Put (Pool L))
 put_free terms p label size refused (at ∷ freed) = put_cell p label size None at p.layout freed p.carved
 put_free terms p label size refused [] =
     put_carving terms p label size refused (uncarved (cell_for (element_with p size)) p.carved p.layout.segments)
 
--- a block goes into the cell that was freed last; with none, into the lowest uncarved cell; with none, a segment is asked for first. No block is greater than the element size
+-- a block goes into the cell that was freed last; with none, into the lowest uncarved cell; with none, more bytes are asked for first. No block is greater than the element size
 abbrev pub pool_alloc : {L : Type 0} → Terms → Pool L → L → ℕ → Bool → Outcome (Put (Pool L))
 pool_alloc terms p label size refused =
     if nat_lt (element_with p size) size then Refused PoolSize else put_free terms p label size refused p.freed

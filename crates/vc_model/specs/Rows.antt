@@ -2,6 +2,7 @@
 use Rattle.std.specs.Prelude.{ℕ, List, [], ◌∷◌, Option, Some, None}
 use Rattle.vc_model.specs.Discipline.{Terms}
 use Rattle.vc_model.specs.Outcome.{Outcome, Done, Put, Refused}
+use Rattle.vc_model.specs.Segments.{Grant}
 use Rattle.vc_model.specs.Layout.{Block, Layout, with_block}
 use Rattle.vc_model.specs.Best.{zeros, without_block_at}
 use Rattle.vc_model.specs.Compact.{compacted_layout}
@@ -11,7 +12,7 @@ abbrev pub rounds_to : ℕ → Terms
 rounds_to round = record { round = round }
 
 -- where a block was put, and what was granted for it
-abbrev pub asked_place : Outcome (Put (Layout ℕ)) → Option ((ℕ × ℕ) × Option (ℕ × ℕ))
+abbrev pub asked_place : Outcome (Put (Layout ℕ)) → Option ((ℕ × ℕ) × Option Grant)
 asked_place (Done p) = Some (p.at, p.granted)
 asked_place (Refused why) = None
 

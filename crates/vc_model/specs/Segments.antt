@@ -1,6 +1,7 @@
 -- The segments of a region, as number and size in bytes, in order of lending.
-use Rattle.std.specs.Prelude.{ℕ, ◌+◌, ◌-◌, ◌*◌, ◌/◌, zero, suc, List, Bool, length, map, nat_lt, ◌==◌, if◌then◌else◌}
+use Rattle.std.specs.Prelude.{ℕ, ◌+◌, ◌-◌, ◌*◌, ◌/◌, zero, suc, List, [], ◌∷◌, ◌++◌, Bool, true, length, map, nat_lt, ◌==◌, if◌then◌else◌}
 use Rattle.std.specs.List.{list_any}
+use Rattle.vc_model.specs.Discipline.{Terms}
 
 -- n, rounded up to a multiple of the unit
 abbrev pub round_up : ℕ → ℕ → ℕ
@@ -26,15 +27,39 @@ unused_from n (suc more) used = if list_any (λ m. m == n) used then unused_from
 abbrev pub lowest_unused : List ℕ → ℕ
 lowest_unused used = unused_from 1 (length used) used
 
--- what asking for a segment gives
+-- what is granted: a new segment under a number, or so many bytes more for the one lent latest, which has it
+pub record Grant : Type 0 where
+  pub number : ℕ
+  pub bytes : ℕ
+  pub fresh : Bool
+
+-- the segments with so many bytes more in the last one
+abbrev pub with_more : ℕ → List (ℕ × ℕ) → List (ℕ × ℕ)
+with_more more [] = []
+with_more more (s ∷ []) = (s.0, s.1 + more) ∷ []
+with_more more (s ∷ t ∷ ss) = s ∷ with_more more (t ∷ ss)
+
+-- the segments with what is granted
+abbrev pub segments_with : Grant → List (ℕ × ℕ) → List (ℕ × ℕ)
+segments_with g segments = if g.fresh then segments ++ (g.number, g.bytes) ∷ [] else with_more g.bytes segments
+
+-- a new segment of that number and size
+abbrev pub new_segment : ℕ → ℕ → Grant
+new_segment number bytes = record { number = number; bytes = bytes; fresh = true }
+
+-- what asking for bytes gives
 pub data Asked : Type 0 where
-  Granted : (number size : ℕ) → Asked
+  Granted : (grant : Grant) → Asked
   TooMany : Asked
   NotLent : Asked
 
--- asking for so many bytes, a multiple of the round; whether the discipline refuses is the one free choice
-abbrev pub ask : ℕ → List (ℕ × ℕ) → Bool → Asked
-ask bytes segments refused =
+-- asking for a new segment
+abbrev pub ask_new : ℕ → List (ℕ × ℕ) → Bool → Asked
+ask_new bytes segments refused =
     if nat_lt (length segments) segment_limit
-    then (if refused then NotLent else Granted (lowest_unused (numbers segments)) bytes)
+    then (if refused then NotLent else Granted (new_segment (lowest_unused (numbers segments)) bytes))
     else TooMany
+
+-- asking a discipline of these terms for so many bytes, a multiple of the round; whether it refuses is the one free choice
+abbrev pub ask : Terms → ℕ → List (ℕ × ℕ) → Bool → Asked
+ask terms bytes segments refused = ask_new bytes segments refused

@@ -5,6 +5,7 @@ ghost use Rattle.vc_model.specs.Layout.{footprints};
 ghost use Rattle.vc_model.specs.Best.{best_alloc, place_in};
 ghost use Rattle.vc_model.specs.Outcome.{Done, Fixed, NoSegment, Refused};
 ghost use Rattle.vc_model.specs.Resize.{best_resize, fitted_bytes};
+ghost use Rattle.vc_model.specs.Segments.{new_segment};
 ghost use Rattle.vc_model.specs.Rows.{asked_place, first_moved, first_resized, one_put, rounds_to, second_freed, three_freed, two_freed};
 
 /// Two gaps of 128 bytes tie, and the one at the lower offset is taken; then the other.
@@ -75,7 +76,7 @@ pub fn resizing()
 /// least number that isn't used; or it is refused.
 pub fn asking()
     ensures granted { asked_place (best_alloc (rounds_to 8192) second_freed 7 4000 32 false)
-        ≡ Some ((2, 32), Some (2, 8192)) }
+        ≡ Some ((2, 32), Some (new_segment 2 8192)) }
     ensures not_lent { best_alloc (rounds_to 8192) second_freed 7 4000 32 true ≡ Refused NoSegment }
 {}
 
