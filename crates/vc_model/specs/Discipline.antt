@@ -31,6 +31,11 @@ pub record Kept (old new : Discipline) : Type 0 where
   pub terms : new.terms ≡ old.terms
   pub faults : old.faults ≤ new.faults
 
+-- nothing was refused
+pub record NoneRefused (old new : Discipline) : Type 0 where
+  pub kept : Kept old new
+  pub faults : new.faults ≡ old.faults
+
 -- a segment was lent: its pair is the last that is out, and the room held it where it is told
 pub record Lent (old new : Discipline) (number size : ℕ) : Type 0 where
   pub kept : Kept old new
