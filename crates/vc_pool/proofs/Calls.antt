@@ -24,9 +24,9 @@ use Rattle.vc_pool_cells.specs.Place.{cells_in}
 use Rattle.vc_pool_cells.specs.declared.segment.PoolSegment.{PoolSegment}
 use Rattle.vc_pool_cells.proofs.Calls.{freed-listed}
 use Rattle.vc_pool_cells.proofs.Chains.{freed-is}
-use Rattle.vc_pool_carve.specs.Call.{IsCarvedAt}
-use Rattle.vc_pool_carve.proofs.Sets.{layout-set_from, pool-set_from}
-use Rattle.vc_pool_walks.specs.Sizes.{element_of}
+use Rattle.vc_pool_cells.specs.Carve.{IsCarvedAt}
+use Rattle.vc_pool_cells.proofs.Sets.{layout-set_from, pool-set_from}
+use Rattle.vc_pool.specs.Sizes.{element_of}
 use Rattle.vc_pool.specs.Call.{IsGranted}
 use Rattle.vc_pool.specs.Read.{pool_by}
 use Rattle.vc_pool.proofs.Allocs.{alloc-carved, alloc-granted, alloc-greater, alloc-not_lent, alloc-reused, alloc-too_many}

@@ -8,7 +8,7 @@ use Rattle.vc_pool_cells.specs.Freed.{freed_by}
 use Rattle.vc_pool_cells.specs.Kept.{AreCellular}
 use Rattle.vc_pool_cells.specs.Place.{cells_in}
 use Rattle.vc_pool_cells.specs.declared.segment.PoolSegment.{PoolSegment}
-use Rattle.vc_pool_walks.specs.Sizes.{element_of}
+use Rattle.vc_pool.specs.Sizes.{element_of}
 use Rattle.vc_pool.specs.Read.{pool_by}
 use Rattle.vc_pool.proofs.Soundness.{block-some, sound-by}
 

@@ -17,8 +17,8 @@ use Rattle.vc_pool_cells.specs.Kept.{IsCellular, IsPool, IsPoolOf}
 use Rattle.vc_pool_cells.specs.Place.{cells_in}
 use Rattle.vc_pool_cells.specs.declared.segment.PoolSegment.{PoolSegment}
 use Rattle.vc_pool_cells.proofs.Pools.{pool-of}
-use Rattle.vc_pool_carve.specs.Call.{IsCleared}
-use Rattle.vc_pool_walks.specs.Sizes.{element_of}
+use Rattle.vc_pool_cells.specs.Carve.{IsCleared}
+use Rattle.vc_pool.specs.Sizes.{element_of}
 use Rattle.vc_pool.specs.Read.{pool_by}
 
 -- no segment, no element size and no cell

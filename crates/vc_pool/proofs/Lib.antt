@@ -10,3 +10,16 @@ pub mod Numbers
 pub mod Answers
 pub mod Sound
 pub mod Relabel
+pub mod Sizes
+pub mod Finds
+pub mod Lives
+pub mod Holds
+pub mod Least
+pub mod Nexts
+pub mod Bytes
+pub mod Runs
+pub mod Relinks
+pub mod Sifts
+pub mod Busy
+pub mod Backs
+pub mod Kept

@@ -6,7 +6,7 @@ use Rattle.vc_model.specs.Pool.{cell_count, cell_for, cell_of, free_cells, great
 use Rattle.vc_pool_cells.specs.Blocks.{layout_by, pair_of}
 use Rattle.vc_pool_cells.specs.Place.{cells_in}
 use Rattle.vc_pool_cells.specs.declared.segment.PoolSegment.{PoolSegment}
-use Rattle.vc_pool_walks.specs.Sizes.{element_of}
+use Rattle.vc_pool.specs.Sizes.{element_of}
 use Rattle.vc_pool.specs.Read.{pool_by}
 
 module _ (segs : List PoolSegment) (element freed : ℕ) where

@@ -17,7 +17,7 @@ use Rattle.vc_pool_cells.specs.Kept.{AreCellular}
 use Rattle.vc_pool_cells.specs.Place.{IsLive}
 use Rattle.vc_pool_cells.proofs.Segments.{numbers-apart}
 use Rattle.vc_pool_cells.proofs.Stands.{all-legal, all-live, cell-there, fits-cell, number-legal, place-there}
-use Rattle.vc_pool_walks.specs.Sizes.{element_of}
+use Rattle.vc_pool.specs.Sizes.{element_of}
 use Rattle.vc_pool.proofs.Pairs.{Beside, beside-turn, pairs-all, pairs-order, sizes-all}
 
 -- the segment of a number is among them, with its size

@@ -3,7 +3,7 @@ use Rattle.std.specs.Prelude.{◌≡◌, ℕ, List, false, map}
 use Rattle.vc_model.specs.Addr.{place_of}
 use Rattle.vc_model.specs.Discipline.{Discipline, Lent}
 use Rattle.vc_model.specs.Segments.{Granted, ask}
-use Rattle.vc_pool_carve.specs.Call.{IsCarvedNew, IsSetFrom}
+use Rattle.vc_pool_cells.specs.Carve.{IsCarvedNew, IsSetFrom}
 use Rattle.vc_pool_cells.specs.Blocks.{pair_of}
 use Rattle.vc_pool_cells.specs.Cells.{Cells}
 use Rattle.vc_pool_cells.specs.Kept.{IsPool}

@@ -5,7 +5,7 @@ use Rattle.vc_pool_cells.specs.Blocks.{carved_by, layout_by}
 use Rattle.vc_pool_cells.specs.Freed.{freed_by}
 use Rattle.vc_pool_cells.specs.Place.{cells_in}
 use Rattle.vc_pool_cells.specs.declared.segment.PoolSegment.{PoolSegment}
-use Rattle.vc_pool_walks.specs.Sizes.{element_of}
+use Rattle.vc_pool.specs.Sizes.{element_of}
 
 -- segments with their cells, the element size, 0 where none is set, and the address of the cell freed last, 0 where none is free
 unfoldable pub pool_by : List PoolSegment → ℕ → ℕ → Pool ℕ

@@ -4,8 +4,8 @@ ghost use Rattle.vc_pool.specs.Stat.{pool_stat};
 ghost use Rattle.vc_pool_cells.specs.Kept.{AreCellular};
 ghost use Rattle.vc_pool_cells.specs.Place.{cells_in};
 
+use crate::walks::{count_cells, tally_blocks, tally_segments};
 use vc_pool_cells::PoolSegment;
-use vc_pool_walks::{count_cells, tally_blocks, tally_segments};
 use vc_seg::{Stat, rounded_up};
 
 /// The numbers of blocks, cells and segments, and their sizes in bytes.

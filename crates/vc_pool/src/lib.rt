@@ -2,10 +2,13 @@
 #![tactic(auto, unfolding(crate::specs::Read::pool_by))]
 
 mod block;
+mod compact;
 mod count;
 mod number;
 mod pool;
 mod put;
 mod segments;
+mod walks;
 
 pub use pool::Pool;
+pub use vc_pool_cells::PoolSegment;

@@ -15,14 +15,13 @@ ghost use Rattle.vc_pool_cells.specs.Kept.{IsPool};
 ghost use Rattle.vc_pool_cells.specs.Place.{cells_in};
 ghost use Rattle.vc_seg.specs.Answer.{Answers, Asks, IsRefusal};
 
+use crate::compact::{close_in, compact_in};
 use crate::count::stat_of;
 use crate::put::alloc_in;
+use crate::walks::{block_in, next_in, next_segment_in, segment_in};
 use std::alloc::Global;
 use vc_base::{Addr, OutOfMemory};
-use vc_pool_carve::clear_all;
-use vc_pool_cells::{PoolSegment, put_back, resize_at};
-use vc_pool_compact::{close_in, compact_in};
-use vc_pool_walks::{block_in, next_in, next_segment_in, segment_in};
+use vc_pool_cells::{PoolSegment, clear_all, put_back, resize_at};
 use vc_seg::{RegionFault, SegDisc, Stat};
 
 /// A region of cells of one size over the segments of a discipline, after Vmalloc's `Vmpool`. The first block that is

@@ -13,8 +13,7 @@ ghost use Rattle.vc_segments.specs.Lend.{IsAsked, IsNoGrant};
 use crate::number::lowest_unused;
 use std::alloc::Global;
 use vc_base::Addr;
-use vc_pool_carve::{carve_lowest, carve_new};
-use vc_pool_cells::{PoolSegment, reuse};
+use vc_pool_cells::{PoolSegment, carve_lowest, carve_new, reuse};
 use vc_seg::{RegionFault, SegDisc, round_of, rounded_up};
 use vc_segments::lend_segment;
 

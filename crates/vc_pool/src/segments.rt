@@ -4,8 +4,8 @@ ghost use Rattle.vc_layouts.specs.Tally.{tally_of};
 ghost use Rattle.vc_pool.specs.Parts.{segments_in};
 
 use crate::pool::Pool;
+use crate::walks::tally_behind;
 use vc_layouts::Tally;
-use vc_pool_walks::tally_behind;
 
 impl Pool {
     /// How many segments it has, at most 1,023.

@@ -10,3 +10,11 @@ pub mod Calls
 pub mod Lists
 pub mod Types
 pub mod Steps
+pub mod Opens
+pub mod Counts
+pub mod Finds
+pub mod Carves
+pub mod Grows
+pub mod Sets
+pub mod Pushes
+pub mod Clears

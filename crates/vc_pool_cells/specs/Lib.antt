@@ -1,6 +1,7 @@
 pub use Rattle.vc_model.specs.Addr
 pub use Rattle.vc_model.specs.Best
 pub use Rattle.vc_model.specs.Bytes
+pub use Rattle.vc_model.specs.Compact
 pub use Rattle.vc_model.specs.Layout
 pub use Rattle.vc_model.specs.Pool
 pub use Rattle.vc_model.specs.Resize
@@ -12,4 +13,6 @@ pub mod Freed
 pub mod Kept
 pub mod Place
 pub mod Call
+pub mod Open
+pub mod Carve
 pub mod Rows

@@ -1,16 +1,23 @@
-//! The segments of a pool with their cells, and the freed cells, linked in their own bytes. Nothing here knows a
-//! discipline.
+//! The segments of a pool with their cells, how cells are carved, and the freed cells, linked in their own bytes. Nothing
+//! here knows a discipline.
 #![tactic(auto)]
 
+mod carve;
 mod cell;
 mod chain;
+mod clear;
+mod grow;
+mod open;
 mod place;
 mod rows;
 mod segment;
 mod touch;
 
+pub use carve::carve_lowest;
 pub use cell::{index_of, offset_of};
 pub use chain::{put_back, reuse};
+pub use clear::clear_all;
+pub use grow::carve_new;
 pub use place::{find_cell, find_number};
 pub use segment::PoolSegment;
 pub use touch::{pair_at, read_at, resize_at, write_at};

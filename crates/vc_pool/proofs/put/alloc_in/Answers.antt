@@ -6,7 +6,7 @@ use Rattle.vc_pool_cells.specs.Call.{IsReused}
 use Rattle.vc_pool_cells.specs.Kept.{IsPool}
 use Rattle.vc_pool_cells.specs.Place.{cells_in}
 use Rattle.vc_pool_cells.specs.declared.segment.PoolSegment.{PoolSegment}
-use Rattle.vc_pool_carve.specs.Call.{IsCarvedAt}
+use Rattle.vc_pool_cells.specs.Carve.{IsCarvedAt}
 use Rattle.vc_pool.specs.Read.{pool_by}
 use Rattle.vc_pool.proofs.Calls.{asked-refusal, carved-disc, empty-freed, freed-some, full-is, granted-disc, pool-with, put-carved, put-granted, put-reused}
 use Rattle.vc_pool.proofs.Grants.{granted-from, no-grant-from}

@@ -7,8 +7,8 @@ use Rattle.vc_pool_cells.specs.Blocks.{pair_of}
 use Rattle.vc_pool_cells.specs.Kept.{IsPool}
 use Rattle.vc_pool_cells.specs.Place.{cells_in}
 use Rattle.vc_pool_cells.specs.declared.segment.PoolSegment.{PoolSegment}
-use Rattle.vc_pool_carve.specs.Call.{IsCarvedNew, IsSetFrom}
-use Rattle.vc_pool_carve.proofs.Sets.{zeroed-pair}
+use Rattle.vc_pool_cells.specs.Carve.{IsCarvedNew, IsSetFrom}
+use Rattle.vc_pool_cells.proofs.Sets.{zeroed-pair}
 use Rattle.vc_pool.specs.Call.{IsGranted}
 use Rattle.vc_pool.proofs.Grants.{asked-granted, granted-as}
 use Rattle.vc_pool.proofs.Unused.{lowest-other}

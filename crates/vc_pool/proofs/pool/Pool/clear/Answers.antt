@@ -4,7 +4,7 @@ use Rattle.vc_pool_cells.specs.Kept.{AreCellular, IsPool}
 use Rattle.vc_pool_cells.specs.Place.{cells_in}
 use Rattle.vc_pool_cells.specs.declared.segment.PoolSegment.{PoolSegment}
 use Rattle.vc_pool_cells.proofs.Types.{have}
-use Rattle.vc_pool_carve.specs.Call.{IsCleared}
+use Rattle.vc_pool_cells.specs.Carve.{IsCleared}
 use Rattle.vc_pool.specs.Read.{pool_by}
 use Rattle.vc_pool.proofs.Have.{sound-of}
 use Rattle.vc_pool.proofs.Keeps.{cleared-pool}

@@ -1,7 +1,7 @@
 use Rattle.std.proofs.Common.{◌++◌, length, refl, ap, sym, ◌∙◌}
 use Rattle.vc_pool_cells.specs.Place.{cells_in}
 use Rattle.vc_pool_cells.proofs.Types.{have}
-use Rattle.vc_pool_compact.proofs.Kept.{took-by}
+use Rattle.vc_pool.proofs.Kept.{took-by}
 use Rattle.vc_pool.proofs.Keeps.{pairs-of}
 use Rattle.vc_pool.proofs.pool.Pool.close.Goals as goal
 

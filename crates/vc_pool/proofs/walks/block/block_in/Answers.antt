@@ -1,0 +1,94 @@
+use Rattle.std.proofs.Common.{◌≡◌, ℕ, ◌-◌, ◌/◌, ◌%◌, ◌<◌, ◌≤◌, length, refl, ap, sym, ◌∙◌, subst, arith}
+use Rattle.std.specs.Prelude.{vec_len}
+use Rattle.std.proofs.lemmas.List.{get_or_default}
+use Rattle.vc_model.specs.Addr.{address}
+use Rattle.vc_model.specs.Pool.{cell_offset}
+use Rattle.vc_pool_cells.specs.Cells.{Cells, cells_of, pair_at}
+use Rattle.vc_pool_cells.specs.Place.{cells_in}
+use Rattle.vc_pool_cells.specs.declared.segment.PoolSegment.{PoolSegment}
+use Rattle.vc_pool_cells.proofs.Lists.{cells-none}
+use Rattle.vc_pool.proofs.Bytes.{none-listed, none-within, some-within}
+use Rattle.vc_pool.proofs.Holds.{byte-none}
+use Rattle.vc_pool.proofs.Lives.{found-first, found-last, found-live, found-multiple, found-small}
+use Rattle.vc_pool.proofs.walks.block.block_in.Goals as goal
+use Rattle.vc_pool.proofs.walks.block.block_in.Goals.{After-new, After-pair}
+
+pub returns-in_err-place-clause-value : goal.returns-in_err-place-clause-value
+returns-in_err-place-clause-value c =
+    rw (
+      c.from_residual.ensures,
+      byte-none c.args.element c.args.seg c.args.off (cells_in c.args.segs.now) c.requires.kept
+          (λ k b. let listed = b.listed in let none = ap (λ (s : Cells). length s.pairs) (cells-none c.args.seg c.args.segs.now c.in_err-place.ensures.none) in omega (arith, listed, none)),
+    )
+    refl
+
+pub returns-then-off-lt32-clause-value : goal.returns-then-off-lt32-clause-value
+returns-then-off-lt32-clause-value c =
+    rw (byte-none c.args.element c.args.seg c.args.off (cells_in c.args.segs.now) c.requires.kept (λ k b. let low = b.low in let small = c.if-off-lt32.true in omega (arith, low, small))) refl
+
+pub returns-then-index-len-clause-value : goal.returns-then-index-len-clause-value
+returns-then-index-len-clause-value c =
+    let past = c.if-index-len.true in
+    let len : c.len.result ≡ vec_len c.index-segs-place.result.cells = c.len.ensures ∙ ap (λ (s : PoolSegment). vec_len s.cells) (sym c.index-segs-place.is) in
+    rw (none-listed c.args.element c.in_ok-place.place c.args.seg c.args.off c.args.segs.now c.index-segs-place.result c.requires.kept c.in_ok-place.ensures.found.0 c.in_ok-place.ensures.found.1 c.index-segs-place.is
+    c.rounded_up-cell.result c.rounded_up-cell.ensures (omega (arith, past, len)))
+    refl
+
+pub returns-then-inner-pair-clause-value : goal.returns-then-inner-pair-clause-value
+returns-then-inner-pair-clause-value c =
+    rw (none-within c.args.element c.in_ok-place.place c.args.seg c.args.off c.args.segs.now c.index-segs-place-2.result c.requires.kept c.in_ok-place.ensures.found.0 c.in_ok-place.ensures.found.1 c.index-segs-place-2.is
+    c.rounded_up-cell.result c.rounded_up-cell.ensures (subst (λ (p : ℕ × ℕ). p.0 ≤ (c.args.off - 32) % c.rounded_up-cell.result) c.pair.ensures c.if-inner-pair.true))
+    refl
+
+-- the cell that the segment lists is the one whose pair is read
+listed : (c : After-pair) → (c.args.off - 32) / c.rounded_up-cell.result < length c.index-segs-place-2.result.cells.items
+listed c =
+    let within = c.if-index-len.false in
+    let len : c.len.result ≡ vec_len c.index-segs-place.result.cells = c.len.ensures ∙ ap (λ (s : PoolSegment). vec_len s.cells) (sym c.index-segs-place.is) in
+    subst (λ (s : PoolSegment). (c.args.off - 32) / c.rounded_up-cell.result < length s.cells.items)
+    (c.index-segs-place.is ∙ (get_or_default c.args.segs.now c.in_ok-place.place c.index-segs-place.result c.index-segs-place-2.result c.in_ok-place.ensures.found.0 ∙ sym c.index-segs-place-2.is))
+    (omega (arith, within, len))
+
+small : (c : After-pair) → cell_offset c.rounded_up-cell.result ((c.args.off - 32) / c.rounded_up-cell.result) < 33554432
+small c =
+    subst (λ x. cell_offset x ((c.args.off - 32) / c.rounded_up-cell.result) < 33554432) (sym c.rounded_up-cell.ensures)
+    (found-small c.args.element c.in_ok-place.place c.args.seg c.args.segs.now c.index-segs-place-2.result c.requires.kept c.in_ok-place.ensures.found.0 c.in_ok-place.ensures.found.1 c.index-segs-place-2.is
+    ((c.args.off - 32) / c.rounded_up-cell.result) (listed c))
+
+pub offset_of-requires : goal.offset_of-requires
+offset_of-requires c = let low = small (goal.at.offset_of-requires c).After-pair in omega (arith, low)
+
+pub new-requires-clause-first : goal.new-requires-clause-first
+new-requires-clause-first c =
+    found-first c.args.element c.in_ok-place.place c.args.seg c.args.segs.now c.index-segs-place-2.result c.requires.kept c.in_ok-place.ensures.found.0 c.in_ok-place.ensures.found.1 c.index-segs-place-2.is
+
+pub new-requires-clause-last : goal.new-requires-clause-last
+new-requires-clause-last c =
+    found-last c.args.element c.in_ok-place.place c.args.seg c.args.segs.now c.index-segs-place-2.result c.requires.kept c.in_ok-place.ensures.found.0 c.in_ok-place.ensures.found.1 c.index-segs-place-2.is
+
+pub new-requires-clause-below : goal.new-requires-clause-below
+new-requires-clause-below c = subst (λ x. x < 33554432) (sym c.offset_of.ensures) (small (goal.at.new-requires-clause-below c).After-pair)
+
+pub new-requires-clause-multiple : goal.new-requires-clause-multiple
+new-requires-clause-multiple c =
+    ap (λ x. x % 32) (c.offset_of.ensures ∙ ap (λ x. cell_offset x ((c.args.off - 32) / c.rounded_up-cell.result)) c.rounded_up-cell.ensures)
+    ∙ found-multiple c.args.element c.in_ok-place.place c.args.seg c.args.segs.now c.index-segs-place-2.result c.requires.kept c.in_ok-place.ensures.found.0 c.in_ok-place.ensures.found.1 c.index-segs-place-2.is
+    ((c.args.off - 32) / c.rounded_up-cell.result)
+
+-- the block's size
+inner : (c : After-new) → (c.args.off - 32) % c.rounded_up-cell.result < (pair_at ((c.args.off - 32) / c.rounded_up-cell.result) (cells_of c.index-segs-place-2.result)).0
+inner c = subst (λ (p : ℕ × ℕ). (c.args.off - 32) % c.rounded_up-cell.result < p.0) c.pair.ensures c.if-inner-pair.false
+
+pub returns-clause-value : goal.returns-clause-value
+returns-clause-value c =
+    let first = c.if-off-lt32.false in
+    sym (some-within c.args.element c.in_ok-place.place c.args.seg c.args.off c.args.segs.now c.index-segs-place-2.result c.requires.kept c.in_ok-place.ensures.found.0 c.in_ok-place.ensures.found.1 c.index-segs-place-2.is
+    c.rounded_up-cell.result c.rounded_up-cell.ensures first (listed (goal.at.returns-clause-value c).After-pair) (inner (goal.at.returns-clause-value c).After-new)
+    c.new.result.0 (c.new.ensures.value ∙ ap (λ (x : ℕ). address (c.args.seg, x)) c.offset_of.ensures))
+
+pub returns-clause-live : goal.returns-clause-live
+returns-clause-live c =
+    let within = inner (goal.at.returns-clause-live c).After-new in
+    found-live c.args.element c.in_ok-place.place c.args.seg c.args.segs.now c.index-segs-place-2.result c.requires.kept c.in_ok-place.ensures.found.0 c.in_ok-place.ensures.found.1 c.index-segs-place-2.is
+    ((c.args.off - 32) / c.rounded_up-cell.result) c.new.result.0 (listed (goal.at.returns-clause-live c).After-pair) (omega (arith, within))
+    (c.new.ensures.value ∙ ap (λ (x : ℕ). address (c.args.seg, x)) (c.offset_of.ensures ∙ ap (λ x. cell_offset x ((c.args.off - 32) / c.rounded_up-cell.result)) c.rounded_up-cell.ensures))

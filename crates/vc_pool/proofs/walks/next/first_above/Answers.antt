@@ -1,0 +1,49 @@
+use Rattle.std.proofs.Common.{◌≡◌, ◌<◌, ◌≤◌, sym, ◌∙◌, subst, ⊎_elim, arith}
+use Rattle.std.proofs.lemmas.Bool.{cases_lt}
+use Rattle.vc_pool_cells.specs.Place.{cells_in}
+use Rattle.vc_pool.specs.First.{IsBare}
+use Rattle.vc_pool.proofs.Nexts.{bare-above, bare-before, next-above, next-last}
+use Rattle.vc_pool.proofs.walks.next.first_above.Goals as goal
+
+pub returns-in-Some-first_in-clause-found : goal.returns-in-Some-first_in-clause-found
+returns-in-Some-first_in-clause-found c =
+    let start = c.loop-next.invariant.up in
+    let is = sym c.next_segment_in.ensures ∙ c.in-Some.is in
+    let above = next-above c.loop-next.after (cells_in c.args.segs.now) c.in-Some.next c.in-Some.field-0-1 is in
+    record {
+      number = c.in-Some.next;
+      above = omega (arith, start, above);
+      between = bare-before c.loop-next.after (cells_in c.args.segs.now) c.args.number c.in-Some.next c.in-Some.field-0-1 c.loop-next.invariant.bare is;
+      first = c.in-Some-first_in.ensures.found;
+    }
+
+pub loop-next-smaller : goal.loop-next-smaller
+loop-next-smaller c =
+    let is = sym c.next_segment_in.ensures ∙ c.in-Some.is in
+    let above = next-above c.loop-next.after (cells_in c.args.segs.now) c.in-Some.next c.in-Some.field-0-1 is in
+    let last = next-last c.loop-next.after (cells_in c.args.segs.now) c.requires.kept.segments c.in-Some.next c.in-Some.field-0-1 is in
+    omega (arith, above, last)
+
+pub loop-next-preserved : goal.loop-next-preserved
+loop-next-preserved c =
+    let start = c.loop-next.invariant.up in
+    let is = sym c.next_segment_in.ensures ∙ c.in-Some.is in
+    let above = next-above c.loop-next.after (cells_in c.args.segs.now) c.in-Some.next c.in-Some.field-0-1 is in
+    record {
+      up = omega (arith, start, above);
+      bare = λ m over le.
+          ⊎_elim
+          (λ (below : m < c.in-Some.next). bare-before c.loop-next.after (cells_in c.args.segs.now) c.args.number c.in-Some.next c.in-Some.field-0-1 c.loop-next.invariant.bare is m over below)
+          (λ (high : c.in-Some.next ≤ m).
+          let same : c.in-Some.next ≡ m = omega (arith, high, le) in
+          subst (λ n. IsBare n (cells_in c.args.segs.now)) same c.in_default-first_in.ensures.none)
+          (cases_lt m c.in-Some.next);
+    }
+
+pub returns-clause-none : goal.returns-clause-none
+returns-clause-none c =
+    λ m over.
+    ⊎_elim
+    (λ (past : c.loop-next.after < m). bare-above c.loop-next.after (cells_in c.args.segs.now) (sym c.next_segment_in.ensures ∙ c.in_default.is) m past)
+    (λ (so : m ≤ c.loop-next.after). c.loop-next.invariant.bare m over so)
+    (cases_lt c.loop-next.after m)

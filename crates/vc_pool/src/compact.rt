@@ -1,0 +1,70 @@
+mod back;
+mod mark;
+mod relink;
+
+ghost use Rattle.std.specs.Prelude.{◌≡◌, ℕ, ◌<◌, [], All, false, filter, length, map};
+ghost use Rattle.vc_model.specs.Compact.{compact_count, compacted_layout, is_occupied};
+ghost use Rattle.vc_model.specs.Discipline.{HasOut, TookBack};
+ghost use Rattle.vc_model.specs.Pool.{cell_for};
+ghost use Rattle.vc_pool_cells.specs.Blocks.{carved_by, layout_by, pair_of};
+ghost use Rattle.vc_pool_cells.specs.Freed.{freed_by};
+ghost use Rattle.vc_pool_cells.specs.Kept.{IsPool, segment_of};
+ghost use Rattle.vc_pool_cells.specs.Place.{cells_in};
+ghost use Rattle.vc_seg.specs.Segment.{AreSegments};
+
+use back::give_back;
+use mark::mark;
+use relink::relink;
+use vc_base::Addr;
+use vc_pool_cells::PoolSegment;
+use vc_seg::SegDisc;
+
+/// Gives back each segment without a block, in ascending order of number, and counts them. Their freed cells leave the
+/// chain, and the order of the others stays.
+pub(crate) fn compact_in(
+    segs: &mut Vec<PoolSegment>,
+    freed: &mut Addr,
+    element: u32,
+    disc: &mut Box<dyn SegDisc>,
+) -> u32
+    requires kept { IsPool element (cells_in segs.old.items) freed.old.0 }
+    requires out { HasOut (state disc.old)
+        (layout_by (cell_for element) (cells_in segs.old.items)).segments }
+    ensures kept { IsPool element (cells_in segs.new.items) freed.new.0 }
+    ensures layout { layout_by (cell_for element) (cells_in segs.new.items)
+        ≡ compacted_layout (layout_by (cell_for element) (cells_in segs.old.items)) }
+    ensures freed { freed_by (cells_in segs.new.items) freed.new.0
+        ≡ filter (λ p. is_occupied
+        (layout_by (cell_for element) (cells_in segs.old.items)).blocks p.0)
+        (freed_by (cells_in segs.old.items) freed.old.0) }
+    ensures carved { carved_by (cells_in segs.new.items)
+        ≡ filter (λ c. is_occupied
+        (layout_by (cell_for element) (cells_in segs.old.items)).blocks c.0)
+        (carved_by (cells_in segs.old.items)) }
+    ensures count { result ≡ compact_count
+        (layout_by (cell_for element) (cells_in segs.old.items)) }
+    ensures disc { TookBack (state disc.old) (state disc.new)
+        (layout_by (cell_for element) (cells_in segs.old.items)).segments
+        (layout_by (cell_for element) (cells_in segs.new.items)).segments }
+{
+    let mut marks = [false; 1024];
+    mark(segs, &mut marks);
+    relink(segs, freed, element, &marks);
+    let before = segs.len();
+    give_back(segs, &marks, disc);
+    (before - segs.len()) as u32
+}
+
+/// Gives all segments back, in ascending order of number, and counts them.
+pub(crate) fn close_in(segs: &mut Vec<PoolSegment>, disc: &mut Box<dyn SegDisc>) -> u32
+    requires segments { AreSegments (map segment_of (cells_in segs.old.items)) }
+    requires out { HasOut (state disc.old) (map pair_of (cells_in segs.old.items)) }
+    ensures none { segs.new.items ≡ [] }
+    ensures count { result ≡ length (map pair_of (cells_in segs.old.items)) }
+    ensures disc { TookBack (state disc.old) (state disc.new)
+        (map pair_of (cells_in segs.old.items)) [] }
+{
+    let before = segs.len();
+    give_back(segs, &[false; 1024], disc);
+    before as u32
+}

@@ -1,0 +1,42 @@
+ghost use Rattle.std.specs.Prelude.{◌≡◌, ℕ, IfSome, option_map};
+ghost use Rattle.vc_model.specs.Layout.{address_of};
+ghost use Rattle.vc_model.specs.Pool.{cell_for};
+ghost use Rattle.vc_model.specs.Touch.{HasBlock};
+ghost use Rattle.vc_model.specs.Walk.{block_at};
+ghost use Rattle.vc_pool_cells.specs.Blocks.{layout_by};
+ghost use Rattle.vc_pool_cells.specs.Kept.{AreCellular};
+ghost use Rattle.vc_pool_cells.specs.Place.{cells_in};
+
+use vc_base::Addr;
+use vc_pool_cells::{PoolSegment, find_number, offset_of};
+use vc_seg::rounded_up;
+
+/// The block whose bytes hold the byte at an offset of a segment, and the offset in it. None where no block does.
+pub(crate) fn block_in(
+    segs: &[PoolSegment],
+    element: u32,
+    seg: u32,
+    off: u32,
+) -> Option<(Addr, u32)>
+    requires kept { AreCellular element (cells_in segs.now) }
+    ensures value { option_map {U = ℕ × ℕ} (λ f. (f.0.0, f.1)) result
+        ≡ option_map {U = ℕ × ℕ} (λ f. (address_of f.0, f.1))
+        (block_at (seg, off) (layout_by (cell_for element) (cells_in segs.now)).blocks) }
+    ensures live { IfSome result
+        (λ f. HasBlock (layout_by (cell_for element) (cells_in segs.now)).blocks f.0.0) }
+{
+    let place = find_number(segs, seg)?;
+    if off < 32 {
+        return None;
+    }
+    let cell = rounded_up(element, 32);
+    let index = (off - 32) / cell;
+    let inner = (off - 32) % cell;
+    if index as usize >= segs[place].cells.len() {
+        return None;
+    }
+    if inner >= segs[place].pair(index).0 {
+        return None;
+    }
+    Some((Addr::new(seg, offset_of(cell, index)), inner))
+}

@@ -1,0 +1,52 @@
+ghost use Rattle.std.specs.Prelude.{◌≡◌, ℕ, ◌+◌, ◌-◌, ◌/◌, ◌<◌, ◌≤◌, All, None, length, map, replicate, vec_capacity, vec_len};
+ghost use Rattle.vc_model.specs.Addr.{place_of};
+ghost use Rattle.vc_model.specs.Pool.{cell_for, uncarved};
+ghost use Rattle.vc_seg.specs.Segment.{IsRegionSegment};
+ghost use Rattle.vc_pool_cells.specs.Blocks.{carved_by, pair_of};
+ghost use Rattle.vc_pool_cells.specs.Kept.{AreCellular, IsPool};
+ghost use Rattle.vc_pool_cells.specs.Place.{IsOther, cells_in};
+ghost use Rattle.vc_pool_cells.specs.Carve.{IsCarvedNew, IsSetFrom};
+
+use crate::PoolSegment;
+use crate::carve::carve_at;
+use vc_base::Addr;
+use vc_seg::Segment;
+
+/// Puts a segment behind the others, whose cells are all carved, with a table that has a pair (0, 0) for each of its cells,
+/// and a block of zeros into its first cell. Answers the block's address. The size is from 1 byte to the element size, which
+/// is at most 16,777,216 bytes, and which that block may set where there was no segment.
+pub fn carve_new(
+    segs: &mut Vec<PoolSegment>,
+    segment: Segment,
+    table: Vec<(u32, u32)>,
+    element: u32,
+    size: u32,
+    tag: u32,
+) -> Addr
+    requires kept { AreCellular element (cells_in segs.old.items) }
+    requires full { uncarved (cell_for element) (carved_by (cells_in segs.old.items))
+        (map pair_of (cells_in segs.old.items)) ≡ None }
+    requires few { length segs.old.items < 1023 }
+    requires room { vec_len segs.old < vec_capacity segs.old }
+    requires segment { IsRegionSegment segment }
+    requires unused { All (IsOther segment.number) (cells_in segs.old.items) }
+    requires cell { 32 + cell_for element ≤ length segment.bytes }
+    requires table { table.items ≡ replicate ((length segment.bytes - 32) / cell_for element) (0, 0) }
+    requires some { 1 ≤ size }
+    requires fits { size ≤ element }
+    ensures place { place_of result.0 ≡ (segment.number, 32) }
+    ensures carved { (before last : ℕ) → IsSetFrom element before
+        → IsPool before (cells_in segs.old.items) last
+        → IsCarvedNew element tag size (cells_in segs.old.items) (cells_in segs.new.items)
+        (segment.number, length segment.bytes) last }
+    ensures room { vec_capacity segs.new ≡ vec_capacity segs.old }
+{
+    let place = segs.len();
+    let grown = PoolSegment {
+        seg: segment,
+        carved: 0,
+        cells: table,
+    };
+    segs.push_reserved(grown);
+    carve_at(segs, place, element, size, tag)
+}

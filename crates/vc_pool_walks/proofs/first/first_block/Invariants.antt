@@ -1,7 +1,0 @@
-use Rattle.vc_pool_cells.specs.Cells.{cells_of}
-use Rattle.vc_pool_walks.specs.First.{AreEmpty}
-use Rattle.vc_pool_walks.proofs.first.first_block.Given as goal
-
--- no block is in the cells so far
-abbrev pub invariant-loop-index : goal.invariant-loop-index
-invariant-loop-index l = AreEmpty l.from l.index (cells_of l.segment)
