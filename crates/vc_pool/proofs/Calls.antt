@@ -2,6 +2,7 @@
 use Rattle.std.proofs.Common.{◌≡◌, ◌≢◌, ℕ, ◌+◌, ◌<◌, ◌≤◌, List, [], ◌∷◌, ◌++◌, Bool, Option, Some, None, true, false, length, map, refl, ap, sym, ◌∙◌, subst, ⊎_elim, arith}
 use Rattle.std.specs.Prelude.{Err}
 use Rattle.std.proofs.lemmas.Bool.{cases_eq, eq-eqb, ne_eqb}
+use Rattle.std.proofs.lemmas.List.{length-map}
 use Rattle.vc_model.specs.Addr.{address, place_of}
 use Rattle.vc_model.specs.Discipline.{Discipline, Served, Terms}
 use Rattle.vc_model.specs.Layout.{Layout, with_segment}
@@ -17,7 +18,7 @@ use Rattle.vc_seg.specs.declared.fault.RegionFault.TheVariants as code
 use Rattle.vc_segments.specs.Lend.{IsAsked, IsNoGrant}
 use Rattle.vc_pool_cells.specs.Blocks.{carved_by, layout_by, pair_of}
 use Rattle.vc_pool_cells.specs.Call.{IsReused}
-use Rattle.vc_pool_cells.specs.Cells.{Cells}
+use Rattle.vc_pool_cells.specs.Cells.{Cells, cells_of}
 use Rattle.vc_pool_cells.specs.Freed.{cells_at, freed_by}
 use Rattle.vc_pool_cells.specs.Kept.{AreCellular, IsPool}
 use Rattle.vc_pool_cells.specs.Place.{cells_in}
@@ -27,6 +28,7 @@ use Rattle.vc_pool_cells.proofs.Chains.{freed-is}
 use Rattle.vc_pool_cells.specs.Carve.{IsCarvedAt}
 use Rattle.vc_pool_cells.proofs.Sets.{layout-set_from, pool-set_from}
 use Rattle.vc_pool.specs.Sizes.{element_of}
+use Rattle.vc_pool.specs.Ask.{LacksCell}
 use Rattle.vc_pool.specs.Call.{IsGranted}
 use Rattle.vc_pool.specs.Read.{pool_by}
 use Rattle.vc_pool.proofs.Allocs.{alloc-carved, alloc-granted, alloc-greater, alloc-not_lent, alloc-reused, alloc-too_many}
@@ -68,6 +70,18 @@ pub full-is : (segs : List PoolSegment) (element freed set size : ℕ) → (1 �
 full-is segs element freed set size same new h =
     ap (λ e. uncarved (cell_for e) (pool_by segs element freed).carved (pool_by segs element freed).layout.segments) (with-is segs element freed size set same new)
     ∙ (sym (uncarved-spelled segs element freed set) ∙ h)
+
+-- a segment is asked for where the block fits a cell, none is free and one more may be lent
+pub lacks-cell : (segs : List PoolSegment) (element freed set size : ℕ) → (1 ≤ element → element ≡ set) → (element ≡ 0 → set ≡ size) → size ≤ set → freed ≡ 0 →
+    uncarved (cell_for set) (carved_by (cells_in segs)) (map pair_of (cells_in segs)) ≡ None → length segs < 1023 → LacksCell (pool_by segs element freed) size
+lacks-cell segs element freed set size same new fits none full few =
+    let is = with-is segs element freed size set same new in
+    record {
+      fits = omega (arith, is, fits);
+      freed = empty-freed segs element freed none;
+      uncarved = full-is segs element freed set size same new full;
+      few = subst (λ (ps : List (ℕ × ℕ)). length ps < 1023) (sym (pairs-of segs element freed)) (rw (length-map (cells_in segs) pair_of, length-map segs cells_of) few);
+    }
 
 -- with a freed cell the element size is set
 no-zero : (m : ℕ) → m ≢ 0 → 1 ≤ m

@@ -65,8 +65,8 @@ impl Pool {
     }
 
     /// A block of zeros: 1 to 16,777,216 bytes, in the cell freed last, else in the lowest uncarved cell of the first
-    /// segment that has one. Where there is none, a segment is asked for, and `OutOfMemory` comes only then. `PoolSize` comes
-    /// only where the size is above the element size.
+    /// segment that has one. Where there is none, a segment is asked for: `OutOfMemory` comes only then, and never with 1,023
+    /// segments. `PoolSize` comes only where the size is above the element size.
     pub fn alloc(&mut self, size: u32, tag: u32) -> Result<Addr, RegionFault>
         requires some { 1 ≤ size }
         requires most { size ≤ 16777216 }

@@ -1,6 +1,6 @@
-ghost use Rattle.std.specs.Prelude.{◌≡◌, ◌+◌, ◌-◌, ◌/◌, ◌<◌, ◌≤◌, Err, None, IfErr, IfOk, IsErrOf, OnErr, OnOk, map, replicate, vec_capacity, vec_len};
+ghost use Rattle.std.specs.Prelude.{◌≡◌, ◌+◌, ◌-◌, ◌/◌, ◌<◌, ◌≤◌, Err, None, IfErr, IfOk, IsErrOf, OnErr, OnOk, length, map, replicate, vec_capacity, vec_len};
 ghost use Rattle.vc_model.specs.Pool.{cell_for, pool_alloc, pool_need, uncarved};
-ghost use Rattle.vc_model.specs.Segments.{round_up};
+ghost use Rattle.vc_model.specs.Segments.{round_up, segment_limit};
 ghost use Rattle.vc_pool.specs.Ask.{LacksCell};
 ghost use Rattle.vc_pool.specs.Call.{IsGranted};
 ghost use Rattle.vc_pool.specs.Read.{pool_by};
@@ -45,8 +45,8 @@ fn table_of(alloc: Global, cells: u32) -> Result<Vec<(u32, u32)>, RegionFault>
 }
 
 /// A block of zeros in the first cell of a segment that is asked for, under the least number that no segment has.
-/// `TooManySegments` comes exactly where there are 1,023, `NoSegment` where the discipline refuses. The memory for the
-/// list and for the table of the cells comes first, so that nothing is asked for in vain.
+/// `TooManySegments` comes exactly where there are 1,023, before memory is wanted, and `NoSegment` where the discipline
+/// refuses. The memory for the list and for the table of the cells comes first, so that nothing is asked for in vain.
 fn put_in_new(
     segs: &mut Vec<PoolSegment>,
     disc: &mut Box<dyn SegDisc>,
@@ -66,6 +66,7 @@ fn put_in_new(
     ensures fault { IfErr result (IsNoGrant
         (round_up (32 + cell_for element) (state disc.old).terms.round)
         (map pair_of (cells_in segs.old.items))) }
+    ensures few { IsErrOf result RegionFault.OutOfMemory → length segs.old.items < segment_limit }
     ensures same { OnErr result (segs.new.items ≡ segs.old.items) }
     ensures disc { IfErr result (λ why. IsAsked (Err why) (state disc.old) (state disc.new)
         (round_up (32 + cell_for element) (state disc.old).terms.round)) }

@@ -1,4 +1,4 @@
-use Rattle.std.proofs.Common.{◌≡◌, ℕ, ◌++◌, ◌≤◌, List, Option, map, take, drop, length, ap, sym, subst, ◌∙◌, arith}
+use Rattle.std.proofs.Common.{◌≡◌, ℕ, ◌++◌, ◌<◌, ◌≤◌, List, Option, map, take, drop, length, ap, sym, subst, ◌∙◌, arith}
 use Rattle.std.proofs.lemmas.List.{with_items_is}
 use Rattle.vc_model.specs.Pool.{cell_for, uncarved}
 use Rattle.vc_pool_cells.specs.Blocks.{carved_by, pair_of}
@@ -8,7 +8,7 @@ use Rattle.vc_pool_cells.specs.Place.{cells_in}
 use Rattle.vc_pool_cells.specs.declared.segment.PoolSegment.{PoolSegment}
 use Rattle.vc_pool_cells.specs.Carve.{IsCarvedAt}
 use Rattle.vc_pool.specs.Read.{pool_by}
-use Rattle.vc_pool.proofs.Calls.{asked-refusal, carved-disc, empty-freed, freed-some, full-is, granted-disc, pool-with, put-carved, put-granted, put-reused}
+use Rattle.vc_pool.proofs.Calls.{asked-refusal, carved-disc, freed-some, full-is, granted-disc, lacks-cell, pool-with, put-carved, put-granted, put-reused}
 use Rattle.vc_pool.proofs.Grants.{granted-from, no-grant-from}
 use Rattle.vc_pool.proofs.put.alloc_in.Goals as goal
 use Rattle.vc_pool.proofs.put.alloc_in.Goals.{After-carve_lowest, After-element_with-set, After-reuse}
@@ -123,7 +123,6 @@ returns-in-Err-clause-answer g c =
 pub returns-in-Err-clause-no_memory : goal.returns-in-Err-clause-no_memory
 returns-in-Err-clause-no_memory g c =
     let at = goal.at.returns-in-Err-clause-no_memory g c in
-    λ e. record {
-      freed = empty-freed c.args.segs.now.items c.args.element.now c.args.freed.now.0 c.if-freed-ne0.false;
-      uncarved = full-is c.args.segs.now.items c.args.element.now c.args.freed.now.0 c.element_with-set.result c.args.size c.element_with-set.ensures.set c.element_with-set.ensures.unset (place g at.After-carve_lowest _ c.in-None.ensures.place);
-    }
+    λ e. lacks-cell c.args.segs.now.items c.args.element.now c.args.freed.now.0 c.element_with-set.result c.args.size c.element_with-set.ensures.set c.element_with-set.ensures.unset
+    c.if-size-set.false c.if-freed-ne0.false (place g at.After-carve_lowest _ c.in-None.ensures.place)
+    (subst (λ (ss : List PoolSegment). length ss < 1023) (unchanged g at.After-carve_lowest c.in-None.ensures.same) (c.in-Err.ensures.few e))
