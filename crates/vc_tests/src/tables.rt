@@ -4,7 +4,7 @@ use crate::same::same_bytes;
 use std::alloc::{AllocError, Global};
 use std::process::Abort;
 use std::test::Fail;
-use vc_cells_tests::OneHash;
+use vc_dict_tests::OneHash;
 use vc_dtdisc::{BuiltIn, DictDisc, Shape};
 use vc_seg::{FuseDisc, Shelf};
 

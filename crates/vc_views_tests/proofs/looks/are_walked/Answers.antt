@@ -1,6 +1,6 @@
 use Rattle.vc_paths.specs.Path.{is_at, numbers_of, visible_of}
 use Rattle.vc_paths.proofs.StayLemmas.{same-over, seen-kept}
-use Rattle.vc_paths_tests.proofs.PathLemmas.{behind-seen, first-seen}
+use Rattle.vc_dict_tests.proofs.PathLemmas.{behind-seen, first-seen}
 use Rattle.vc_views_tests.proofs.FourLemmas.{four-there, paths-kept}
 use Rattle.vc_views_tests.proofs.looks.are_walked.Goals as goal
 

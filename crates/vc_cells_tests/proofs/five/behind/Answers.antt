@@ -1,5 +1,0 @@
-use Rattle.std.proofs.lemmas.List.{take_rest}
-use Rattle.vc_cells_tests.proofs.five.behind.Goals as goal
-
-pub returns : goal.returns
-returns c = take_rest c.args.bytes.now 32

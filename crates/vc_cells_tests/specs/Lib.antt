@@ -1,4 +1,0 @@
-pub mod Five
-pub mod Ready
-pub mod Sorted
-pub mod OneHash

@@ -1,0 +1,4 @@
+pub mod ReadyLemmas
+pub mod ListLemmas
+pub mod ToyLemmas
+pub mod PathLemmas

@@ -1,0 +1,20 @@
+//! Tests of the structures that stand on cells, over a memory of five blocks.
+
+mod five;
+mod one_hash;
+
+pub use five::FiveCells;
+pub use one_hash::OneHash;
+
+#[cfg(test)]
+mod dicts;
+#[cfg(test)]
+mod drive;
+#[cfg(test)]
+mod given;
+#[cfg(test)]
+mod hashes;
+#[cfg(test)]
+mod lists;
+#[cfg(test)]
+mod orders;

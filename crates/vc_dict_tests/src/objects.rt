@@ -1,0 +1,3 @@
+//! Tests of dictionaries in best regions.
+
+mod large;

@@ -1,6 +1,0 @@
-use Rattle.vc_best.specs.Cells.{cells_in}
-use Rattle.vc_objects.specs.Parts.{IsWhole}
-use Rattle.vc_objects_tests.proofs.large.put_all.Given as goal
-
-abbrev pub invariant-loop-number : goal.invariant-loop-number
-invariant-loop-number g l = IsWhole (g.D.DictDisc.rules l.kind) l.dict (cells_in l.best)

@@ -1,5 +1,0 @@
-//! Tests of dictionaries in best regions.
-#![tactic(auto)]
-
-#[cfg(test)]
-mod large;

@@ -1,2 +1,0 @@
-pub mod ToyLemmas
-pub mod PathLemmas

@@ -1,3 +1,0 @@
-pub mod Toy
-pub mod ToyLaws
-pub mod ToyPaths

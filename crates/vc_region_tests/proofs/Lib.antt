@@ -1,0 +1,3 @@
+pub mod ToyLemmas
+pub mod Stages
+pub mod Known

@@ -1,0 +1,10 @@
+use Rattle.std.proofs.Common.{ap, sym, ◌∙◌}
+use Rattle.vc_region_tests.specs.declared.splay.rows.Rows.{Rows}
+use Rattle.vc_region_tests.proofs.ToyLemmas.{of, right-set}
+use Rattle.vc_region_tests.proofs.splay.lent.LentNodes.set_right.Goals as goal
+
+pub returns-clause-store : goal.returns-clause-store
+returns-clause-store c =
+    let old = c.args.self.now.rows.now in
+    let here = sym (ap (λ (z : Rows). Rattle.std.proofs.Common.slice_index z.right c.args.n) c.put_right.ensures.rows) ∙ c.put_right.ensures.here in
+    ap of c.put_right.ensures.rows ∙ right-set old.left old.right old.up c.args.n c.args.v here

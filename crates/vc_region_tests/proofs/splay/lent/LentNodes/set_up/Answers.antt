@@ -1,0 +1,10 @@
+use Rattle.std.proofs.Common.{ap, sym, ◌∙◌}
+use Rattle.vc_region_tests.specs.declared.splay.rows.Rows.{Rows}
+use Rattle.vc_region_tests.proofs.ToyLemmas.{of, up-set}
+use Rattle.vc_region_tests.proofs.splay.lent.LentNodes.set_up.Goals as goal
+
+pub returns-clause-store : goal.returns-clause-store
+returns-clause-store c =
+    let old = c.args.self.now.rows.now in
+    let here = sym (ap (λ (z : Rows). Rattle.std.proofs.Common.slice_index z.up c.args.n) c.put_up.ensures.rows) ∙ c.put_up.ensures.here in
+    ap of c.put_up.ensures.rows ∙ up-set old.left old.right old.up c.args.n c.args.v here

@@ -1,0 +1,3 @@
+pub mod Toy
+pub mod Busy
+pub mod Two

@@ -1,0 +1,6 @@
+//! Tests of best regions.
+
+mod calls;
+mod filled;
+mod large;
+mod places;

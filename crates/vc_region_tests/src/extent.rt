@@ -1,0 +1,6 @@
+//! Tests of extents over one segment of 256 bytes.
+
+mod borders;
+mod calls;
+mod heads;
+mod two;

@@ -1,0 +1,3 @@
+//! Tests of the tree of gaps, over two segments.
+
+mod tests;

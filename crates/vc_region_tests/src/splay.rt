@@ -1,0 +1,12 @@
+//! Tests of splay trees, over a store of four nodes that is lent.
+
+mod by_key;
+mod lent;
+mod rows;
+
+pub use by_key::ByKey;
+pub use lent::Lent;
+pub use rows::Rows;
+
+#[cfg(test)]
+mod tests;
