@@ -1,5 +1,5 @@
 // Putting objects into a dictionary.
-ghost use Rattle.std.specs.Prelude.{◌≡◌, None, OnOk};
+ghost use Rattle.std.specs.Prelude.{◌≡◌, ◌+◌, ◌≤◌, None, OnOk, length};
 ghost use Rattle.vc_best.specs.Cells.{cells_in};
 ghost use Rattle.vc_best.specs.Parts.{disc_in};
 ghost use Rattle.vc_objects.specs.Insert.{slots_wanted};
@@ -62,6 +62,8 @@ fn hold<D: DictDisc, L>(
     ensures leaves { LeavesRest state (D.rules kind.now) best.old dict.old best.new dict.new }
     ensures table { (dictionary_in dict.new best.new).table
         ≡ (dictionary_in dict.old best.old).table }
+    ensures compares { steps.new
+        ≤ steps.old + length (dictionary_in dict.old best.old).objects }
 {
     match alloc_cell(best, 32 + object.len() as u32) {
         Ok(at) => {
@@ -75,7 +77,8 @@ fn hold<D: DictDisc, L>(
 
 /// Puts an object of 1 to 1,024 bytes into a dictionary of a best region where `insert` does, or `append`, which is for
 /// lists, and makes it current. In a set or ordered set no object matches. The table of a set or bag grows first where it
-/// must; then comes the holder. What either wants is told, and nothing else is changed then.
+/// must; then comes the holder. What either wants is told, and nothing else is changed then. It
+/// compares at most as many times as there are objects.
 pub fn insert<D: DictDisc, L>(
     best: &mut Best,
     dict: &mut Dict,
@@ -87,6 +90,8 @@ pub fn insert<D: DictDisc, L>(
     requires can { CanPut (D.rules kind.now) best.old dict.old object.now append }
     ensures inserts { Inserts state result (D.rules kind.now) append object.now
         best.old dict.old best.new dict.new }
+    ensures compares { steps.new
+        ≤ steps.old + length (dictionary_in dict.old best.old).objects }
 {
     match grow(best, dict, kind) {
         Ok(()) => match hold(best, dict, kind, object, append, steps) {

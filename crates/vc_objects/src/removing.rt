@@ -1,5 +1,5 @@
 // Taking objects out of a dictionary.
-ghost use Rattle.std.specs.Prelude.{◌≡◌, ◌≤◌, [], Some, true, length};
+ghost use Rattle.std.specs.Prelude.{◌≡◌, ◌+◌, ◌≤◌, [], Some, true, length};
 ghost use Rattle.std.specs.Vec.{vec_capacity};
 ghost use Rattle.vc_base.specs.Cells.{IsHolder};
 ghost use Rattle.vc_dtdisc.specs.Finds.{object_at};
@@ -49,7 +49,7 @@ fn release<D: DictDisc>(best: &mut Best, kind: &mut D, at: Addr, tells: bool, ou
 
 /// Takes out the first object that has a key, and answers whether there is one. Its bytes come into `out`, which is empty
 /// and has room for 1,024; the kind is told of it where that is wanted; and its holder goes. Where it was current, the one
-/// behind it is, or none.
+/// behind it is, or none. It compares at most as many times as there are objects.
 pub fn remove<D: DictDisc, L>(
     best: &mut Best,
     dict: &mut Dict,
@@ -67,6 +67,8 @@ pub fn remove<D: DictDisc, L>(
         (remove (D.rules kind.old) (rest_in best.old) (dictionary_in dict.old best.old) key.now)
         (D.rules kind.old) tells result out.new.items
         best.old dict.old (D.gone kind.old) best.new dict.new (D.gone kind.new) }
+    ensures compares { steps.new
+        ≤ steps.old + length (dictionary_in dict.old best.old).objects }
     ensures rules { D.rules kind.new ≡ D.rules kind.old }
 {
     match dict.unlink(best, kind, key, steps) {

@@ -1,4 +1,5 @@
-use Rattle.std.proofs.Common.{ℕ, ap, refl, ◌∙◌}
+use Rattle.std.proofs.Common.{ℕ, ap, arith, refl, subst, sym, ◌+◌, ◌∙◌, ◌≤◌}
+use Rattle.std.proofs.lemmas.List.{length-map}
 use Rattle.vc_base.specs.Cells.{Blocks, with_body}
 use Rattle.vc_model.specs.Layout.{Layout}
 use Rattle.vc_base.specs.declared.addr.Addr.{Addr}
@@ -10,7 +11,7 @@ use Rattle.vc_best.specs.Cells.{cells_in, rest_in}
 use Rattle.vc_best.specs.Parts.{disc_in, segments_in}
 use Rattle.vc_best.proofs.CellCalls.{stays-disc}
 use Rattle.vc_objects.specs.Objects.{Dictionary, holder_size, own_blocks}
-use Rattle.vc_objects.specs.Parts.{dictionary_in, dictionary_of, table_of}
+use Rattle.vc_objects.specs.Parts.{dictionary_in, dictionary_of, object_of, table_of}
 use Rattle.vc_objects.proofs.Answering.{asked-block, held-put}
 use Rattle.vc_objects.proofs.Holding.{body-length, body-place, can-link, dictionary-held, fresh-held, others-held, stands-put, whole-held}
 use Rattle.vc_objects.proofs.Leaving.{asked-keeps, leaves-put, none-at}
@@ -77,6 +78,9 @@ returns-in-Ok g c =
             (fresh-held rules dict b0 b1 b2 at object whole puts.made is written c.args.append dict' b3 became);
       };
       table = ap (λ (t : Addr). table_of t.0 dict'.slots) became.table ∙ ap (table_of dict.table.0) became.slots;
+      compares =
+          let linked = c.link.ensures.steps (holders_of dict b0) (stands-put rules dict b0 b1 b2 at object whole puts.made is written) in
+          subst (λ (n : ℕ). c.link.new.steps ≤ c.args.steps.now + n) (sym (length-map (holders_of dict b0) (object_of b0))) linked;
     }
 
 pub returns-in-Err : goal.returns-in-Err
@@ -100,4 +104,5 @@ returns-in-Err g c =
           (asked-keeps _ _ (segments_in old) (segments_in new) _ c.in-Err.fault (ap (λ (r : Layout ℕ). r.segments) puts.answer.1) puts.asks)
           puts.answer.1 puts.same;
       table = ap (λ (d : Dictionary). d.table) same;
+      compares = omega arith;
     }

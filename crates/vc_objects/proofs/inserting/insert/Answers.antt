@@ -1,6 +1,6 @@
-use Rattle.std.proofs.Common.{◌≡◌, None, false, inl, inr, sym, ap, ◌∙◌}
+use Rattle.std.proofs.Common.{◌≡◌, ◌+◌, ◌≤◌, ℕ, List, None, arith, false, inl, inr, length, subst, sym, ap, ◌∙◌}
 use Rattle.vc_base.specs.Methods.{is_list, is_set}
-use Rattle.vc_dtdisc.specs.Objects.{bytes_of, first_with}
+use Rattle.vc_dtdisc.specs.Objects.{Object, bytes_of, first_with}
 use Rattle.vc_model.specs.Discipline.{Discipline}
 use Rattle.vc_best.specs.Cells.{rest_in}
 use Rattle.vc_best.specs.Parts.{disc_in}
@@ -23,6 +23,10 @@ kept g c = (grown-kept _ (rest_in c.args.best.now) (dictionary_in c.args.dict.no
 
 method-kept : (g : Over) (c : In-Ok g) → c.grow.new.dict.method ≡ c.args.dict.now.method
 method-kept g c = (grown-kept _ (rest_in c.args.best.now) (dictionary_in c.args.dict.now c.args.best.now) (slots_wanted (dictionary_in c.args.dict.now c.args.best.now)) (rest_in c.grow.new.best) (dictionary_in c.grow.new.dict c.grow.new.best) c.in-Ok.ensures.grows.ok).0
+
+-- what is compared for as many objects
+more : (g : Over) (c : In-Ok g) (steps : ℕ) → steps ≤ c.args.steps.now + length (dictionary_in c.grow.new.dict c.grow.new.best).objects → steps ≤ c.args.steps.now + length (dictionary_in c.args.dict.now c.args.best.now).objects
+more g c steps h = subst (λ (os : List Object). steps ≤ c.args.steps.now + length os) (kept g c) h
 
 pub hold-requires-clause-can : goal.hold-requires-clause-can
 hold-requires-clause-can g c =
@@ -50,6 +54,7 @@ returns-in-Ok-hold g c =
         leaves = rest-trans _ _ c.args.best.now c.grow.new.best c.hold.new.best c.args.dict.now c.grow.new.dict c.hold.new.dict c.grow.ensures.leaves c.hold.ensures.leaves (kept g (goal.at.returns-in-Ok-hold g c).In-Ok) c.hold.ensures.table;
         asked = holds.asked ∙ grows.asked;
       };
+      compares = more g (goal.at.returns-in-Ok-hold g c).In-Ok c.hold.new.steps c.hold.ensures.compares;
     }
 
 pub returns-in-Some : goal.returns-in-Some
@@ -71,6 +76,7 @@ returns-in-Some g c =
             asked-no_holder (slots_wanted old) c.args.object.now (disc_in (meaning g) c.args.best.now) (disc_in (meaning g) c.grow.new.best) (disc_in (meaning g) c.hold.new.best)
             c.in-Err-hold.fault c.in-Some.want (sym c.in-Some.ensures) c.grow.ensures.same terms grows.asked holds.asked;
       };
+      compares = more g (goal.at.returns-in-Some g c).In-Ok c.hold.new.steps c.hold.ensures.compares;
     }
 
 pub returns-in-None : goal.returns-in-None
@@ -88,6 +94,7 @@ returns-in-None g c =
         leaves = rest-trans _ _ c.args.best.now c.grow.new.best c.hold.new.best c.args.dict.now c.grow.new.dict c.hold.new.dict c.grow.ensures.leaves c.hold.ensures.leaves (kept g (goal.at.returns-in-None g c).In-Ok) c.hold.ensures.table;
         asked = asked-spent (LacksHolder None c.args.object.now mid new) mid new c.in-Err-hold.fault (sym c.in-None.ensures) holds.asked ∙ grows.asked;
       };
+      compares = more g (goal.at.returns-in-None g c).In-Ok c.hold.new.steps c.hold.ensures.compares;
     }
 
 pub returns-in-Some-want_of : goal.returns-in-Some-want_of
@@ -105,6 +112,7 @@ returns-in-Some-want_of g c =
             asked-no_table (slots_wanted old) c.args.object.now (disc_in (meaning g) c.args.best.now) (disc_in (meaning g) c.grow.new.best)
             c.in-Err.fault c.in-Some-want_of.want (sym c.in-Some-want_of.ensures) grows.asked;
       };
+      compares = omega arith;
     }
 
 pub returns-in-None-want_of : goal.returns-in-None-want_of
@@ -119,4 +127,5 @@ returns-in-None-want_of g c =
         leaves = c.grow.ensures.leaves;
         asked = asked-spent (LacksTable (slots_wanted (dictionary_in c.args.dict.now c.args.best.now)) old new) old new c.in-Err.fault (sym c.in-None-want_of.ensures) grows.asked;
       };
+      compares = omega arith;
     }
