@@ -13,9 +13,9 @@ use Rattle.vc_commands.specs.declared.region.labels.Label.{Label}
 use Rattle.vc_commands.specs.declared.region.labels.Labels.{Labels}
 use Rattle.vc_commands.specs.declared.region.labels.Known.{Known}
 use Rattle.vc_commands.specs.declared.region.labels.Known.TheVariants.{Live, Freed}
-use Rattle.vc_commands.specs.Kept.{line_of, with_line, without_name}
+use Rattle.vc_commands.specs.FreedNames.{line_of, with_line, without_name}
 use Rattle.vc_commands.specs.Labels.{kept_among, kept_of, known_of, label_at, line_in, line_left, tag_in, tag_of, AreLabels, FreesNames, MovesLabel, SameLabels, WithoutLabel}
-use Rattle.vc_commands.proofs.Keeping.{by-name-among, kept-alike, kept-other, length-with, length-without, line-among, without-absent}
+use Rattle.vc_commands.proofs.FreedNames.{by-name-among, kept-alike, kept-other, length-with, length-without, line-among, without-absent}
 
 -- what holds on success, at a result that is one
 pub from_ok : {T E P : Type 0} (r : Result T E) → IsOk r → OnOk r P → P

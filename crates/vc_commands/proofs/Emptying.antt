@@ -11,12 +11,12 @@ use Rattle.vc_model.specs.Sound.{HaveOwnPlaces}
 use Rattle.vc_region.proofs.Clearing.{cleared-blocks}
 use Rattle.vc_region.proofs.Relabel.{blocks-relabelled, clear-relabelled, keeps-relabelled, relabelled-alike}
 use Rattle.vc_commands.specs.declared.region.labels.Labels.{Labels}
-use Rattle.vc_commands.specs.Kept.{Kept, line_of}
+use Rattle.vc_commands.specs.FreedNames.{FreedNames, line_of}
 use Rattle.vc_commands.specs.Home.{Label}
 use Rattle.vc_commands.specs.Whole.{kept_cleared, with_label, with_labels}
 use Rattle.vc_commands.specs.Labels.{AreLabels, kept_of, line_left, name_of, tag_of}
 use Rattle.vc_commands.specs.Blocks.{is_block, is_name_of}
-use Rattle.vc_commands.proofs.Keeping.{IsByName, by-name-among, by-name-with, line-with, same-kept, swapped}
+use Rattle.vc_commands.proofs.FreedNames.{IsByName, by-name-among, by-name-with, line-with, same-kept, swapped}
 use Rattle.vc_commands.specs.Held.{Held, IsChange, IsLive, IsNamed, home_of, tag_count}
 
 -- a region without blocks is the same under all names
@@ -90,7 +90,7 @@ named-blocks r r' labels same keeps n =
       none = λ e. n.none (sym keeps ∙ e);
     }
 
-line-label : (x : List ℕ) (l : Label) (line : ℕ) (k : Kept) → line_of x (with_label l line k) ≡ cond (is_name_of x l) (Some line) (line_of x k)
+line-label : (x : List ℕ) (l : Label) (line : ℕ) (k : FreedNames) → line_of x (with_label l line k) ≡ cond (is_name_of x l) (Some line) (line_of x k)
 line-label x None line k = refl
 line-label x (Some y) line k = line-with x y line k ∙ ap (λ b. cond b (Some line) (line_of x k)) (swapped x y)
 
@@ -99,18 +99,18 @@ either true b line o = refl
 either false b line o = refl
 
 -- the line of each name once the names of these blocks are kept with one
-line-labels : (x : List ℕ) (bs : List (Block Label)) (line : ℕ) (k : Kept) → line_of x (with_labels bs line k) ≡ cond (list_any (is_block x) bs) (Some line) (line_of x k)
+line-labels : (x : List ℕ) (bs : List (Block Label)) (line : ℕ) (k : FreedNames) → line_of x (with_labels bs line k) ≡ cond (list_any (is_block x) bs) (Some line) (line_of x k)
 line-labels x [] line k = refl
 line-labels x (b ∷ bs) line k =
     line-label x b.label line (with_labels bs line k)
     ∙ (ap (λ o. cond (is_name_of x b.label) (Some line) o) (line-labels x bs line k)
     ∙ either (is_name_of x b.label) (list_any (is_block x) bs) line (line_of x k))
 
-by-name-label : (l : Label) (line : ℕ) (k : Kept) → IsByName k → IsByName (with_label l line k)
+by-name-label : (l : Label) (line : ℕ) (k : FreedNames) → IsByName k → IsByName (with_label l line k)
 by-name-label None line k s = s
 by-name-label (Some x) line k s = by-name-with x line k s
 
-by-name-labels : (bs : List (Block Label)) (line : ℕ) (k : Kept) → IsByName k → IsByName (with_labels bs line k)
+by-name-labels : (bs : List (Block Label)) (line : ℕ) (k : FreedNames) → IsByName k → IsByName (with_labels bs line k)
 by-name-labels [] line k s = s
 by-name-labels (b ∷ bs) line k s = by-name-label b.label line (with_labels bs line k) (by-name-labels bs line k s)
 

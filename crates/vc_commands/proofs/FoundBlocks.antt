@@ -21,7 +21,7 @@ use Rattle.vc_region.proofs.Relabel.{blocks-relabelled}
 use Rattle.vc_commands.specs.Home as home
 use Rattle.vc_commands.specs.Home.{Changed, Home, refusal_alone}
 use Rattle.vc_commands.specs.Blocks.{is_align, is_block, is_name_of, no_block, on_block, with_named}
-use Rattle.vc_commands.specs.Kept.{line_of}
+use Rattle.vc_commands.specs.FreedNames.{line_of}
 use Rattle.vc_commands.specs.declared.region.labels.Label.{Label}
 use Rattle.vc_commands.specs.declared.region.labels.Labels.{Labels}
 use Rattle.vc_commands.specs.Labels.{kept_of, label_at, name_of, tag_of}

@@ -13,7 +13,7 @@ use Rattle.vc_script.specs.declared.reply.Reply.{Reply}
 use Rattle.vc_script.specs.declared.reply.Reply.TheVariants.{Freed}
 use Rattle.vc_commands.specs.Home as home
 use Rattle.vc_commands.specs.Home.{Home, refusal_alone}
-use Rattle.vc_commands.specs.Kept.{with_line}
+use Rattle.vc_commands.specs.FreedNames.{with_line}
 use Rattle.vc_commands.specs.Held.{Held, home_of}
 use Rattle.vc_commands.specs.Blocks.{free_block, free_in, change_by_free, kept_freed}
 use Rattle.vc_commands.specs.Labels.{SameLabels, WithoutLabel, kept_of, label_at, name_of, tag_of}

@@ -15,7 +15,7 @@ use Rattle.vc_script.specs.declared.reply.Reply.TheVariants as reply
 use Rattle.vc_script.specs.declared.refusal.Refusal.{Refusal}
 use Rattle.vc_script.specs.declared.refusal.Refusal.TheVariants as why
 use Rattle.vc_script.specs.Needs.{Need}
-use Rattle.vc_commands.specs.Kept.{Kept, line_of, without_name}
+use Rattle.vc_commands.specs.FreedNames.{FreedNames, line_of, without_name}
 use Rattle.vc_commands.specs.Home.{Changed, Home, Label, refusal_alone}
 use Rattle.vc_commands.specs.Audit.{check_in, is_poke, poke_block, poke_byte, poke_in, profile_in, watch_block, watch_in}
 use Rattle.vc_commands.specs.Blocks.{free_block, free_in, change_by_free, has_label, has_room, is_align, is_block, is_size, kept_freed, no_block, align_refused, put_by, put_in, put_new, site_of, size_refused, read_block, read_in, resize_block, resize_in, size_in, with_named, write_block, write_in}
@@ -64,7 +64,7 @@ granted-read h x off len =
 pub granted-size : (h : Home) (x : List ℕ) → IsGranted (size_in h x).reply
 granted-size h x = holds-block IsGranted h x (find (is_block x) (blocks_of h.region)) _ granted-none (λ b. tt)
 
-granted-freed : (h : Home) (x : List ℕ) (kept : Kept) (watch : Option ℕ) (o : Outcome (Region Label)) → (o ≡ Refused model.NoSegment → ⊥) → IsGranted (change_by_free h x kept watch o).reply
+granted-freed : (h : Home) (x : List ℕ) (kept : FreedNames) (watch : Option ℕ) (o : Outcome (Region Label)) → (o ≡ Refused model.NoSegment → ⊥) → IsGranted (change_by_free h x kept watch o).reply
 granted-freed h x kept watch (Done r) none = tt
 granted-freed h x kept watch (Refused model.TooManySegments) none = tt
 granted-freed h x kept watch (Refused model.NoSegment) none = absurd (none refl)
@@ -111,7 +111,7 @@ granted-check h = holds-if IsGranted (is_debug h.region) _ (refusal_alone h why.
 pub granted-profile : (h : Home) → IsGranted (profile_in h).reply
 granted-profile h = holds-if IsGranted (is_profile h.region) _ (refusal_alone h why.WrongMethod) tt tt
 
-plain-put : (h : Home) (x : List ℕ) (kept : Kept) (watch : Option ℕ) (o : Outcome (Put (Region Label))) → IsPlain (put_in h x kept watch o).reply
+plain-put : (h : Home) (x : List ℕ) (kept : FreedNames) (watch : Option ℕ) (o : Outcome (Put (Region Label))) → IsPlain (put_in h x kept watch o).reply
 plain-put h x kept watch (Done p) = tt
 plain-put h x kept watch (Refused model.TooManySegments) = tt
 plain-put h x kept watch (Refused model.NoSegment) = tt

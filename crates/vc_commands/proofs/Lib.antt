@@ -13,7 +13,7 @@ pub mod FoundBlocks
 pub mod FoundObjects
 pub mod Gone
 pub mod Grants
-pub mod Keeping
+pub mod FreedNames
 pub mod Listing
 pub mod Lists
 pub mod Moving

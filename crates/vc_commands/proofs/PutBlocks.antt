@@ -27,7 +27,7 @@ use Rattle.vc_commands.specs.Home as home
 use Rattle.vc_commands.specs.Home.{Changed, Home, refusal_alone}
 use Rattle.vc_commands.specs.Held.{Held, IsChange, IsLive, IsNamed, home_of}
 use Rattle.vc_commands.specs.Blocks.{at_place, has_label, has_room, label_count, label_limit, align_refused, is_align, is_size, put_by, put_in, put_new, size_refused}
-use Rattle.vc_commands.specs.Kept.{Kept, line_of, without_name}
+use Rattle.vc_commands.specs.FreedNames.{FreedNames, line_of, without_name}
 use Rattle.vc_commands.specs.Labels.{AreLabels, SameLabels, WithLabel, kept_of, label_at, name_of, tag_of}
 use Rattle.vc_commands.specs.Naming.{NamesPut, new_refused, new_refused_by}
 use Rattle.vc_commands.specs.RegionRun.{GivesRegion}
@@ -87,7 +87,7 @@ none-of-some (Some x) e = absurd cc
 pub new-name : (labels : Labels) (x : List ℕ) (legal : Option Refusal) → new_refused labels x legal ≡ None → tag_of labels x ≡ None
 new-name labels x legal is = none-of-some (tag_of labels x) (unless-new (is_some (tag_of labels x)) (new_refused_by labels x legal) is)
 
-pub gives-put : (h : Home) (x : List ℕ) (kept : Kept) (watch : Option ℕ) (f : ℕ → home.Label) (o : Outcome (Put (Region ℕ))) (a : ℕ) (r' : Region ℕ) → IsPut o a r' → GivesRegion (put_in h x kept watch (outcome_as (region_with_labels f) o)) (region_with_labels f r', kept) (at_place x (place_of a) watch)
+pub gives-put : (h : Home) (x : List ℕ) (kept : FreedNames) (watch : Option ℕ) (f : ℕ → home.Label) (o : Outcome (Put (Region ℕ))) (a : ℕ) (r' : Region ℕ) → IsPut o a r' → GivesRegion (put_in h x kept watch (outcome_as (region_with_labels f) o)) (region_with_labels f r', kept) (at_place x (place_of a) watch)
 gives-put h x kept watch f (Done p) a r' is = record { region_after = ap (region_with_labels f) (sym is.2); kept_after = refl; replied = ap (λ q. at_place x q watch) is.1 }
 gives-put h x kept watch f (Refused why) a r' is = absurd is
 
@@ -182,7 +182,7 @@ module _ (h : Held) (x : List ℕ) (legal : Option Refusal) (p : Putting h x leg
   step-put put (Err e) named answers = tt
 
   -- with no memory the region stays
-  pub err-put : {E : Type 0} (put : Result Addr RegionFault) (result : Result Reply E) → NamesPut p.tag x put p.mid new result → Answers p.call put h.region region → OnErr result ((let p : Region home.Label × Kept = (region_with_labels (name_of new) region, kept_of new) in p) ≡ ((home_of h).region, (home_of h).kept))
+  pub err-put : {E : Type 0} (put : Result Addr RegionFault) (result : Result Reply E) → NamesPut p.tag x put p.mid new result → Answers p.call put h.region region → OnErr result ((let p : Region home.Label × FreedNames = (region_with_labels (name_of new) region, kept_of new) in p) ≡ ((home_of h).region, (home_of h).kept))
   err-put (Ok a) (Err e) named answers = absurd (subst IsAn (sym named.0) tt)
   err-put (Err fault) (Err e) named answers = both-same (region_with_labels (name_of new) region) (home_of h).region (kept_of new) (home_of h).kept (back named.1 answers.1) (ap kept_of named.1 ∙ p.same.kept)
   err-put put (Ok told) named answers = tt

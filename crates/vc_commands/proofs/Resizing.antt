@@ -24,7 +24,7 @@ use Rattle.vc_commands.specs.Home.{Changed, Home, refusal_alone}
 use Rattle.vc_commands.specs.Held.{Held, IsNamed, home_of}
 use Rattle.vc_commands.specs.Blocks.{at_place, is_size, put_in, resize_block, resize_in}
 use Rattle.vc_commands.specs.Labels.{AreLabels, MovesLabel, kept_of, name_of}
-use Rattle.vc_commands.specs.Kept.{Kept}
+use Rattle.vc_commands.specs.FreedNames.{FreedNames}
 use Rattle.vc_commands.specs.RegionRun.{GivesRegion}
 use Rattle.vc_commands.specs.RegionCommands.{is_for_block}
 use Rattle.vc_commands.specs.declared.region.labels.Label.{Label}
@@ -107,7 +107,7 @@ module _ (h : Held) {x : List ℕ} {addr : Addr} (has : HasName h.region h.label
           (λ e. same_kept ∙ has.names.none (sym (resize-keeps h.disc.terms h.region (place_of addr.0) size may_move false to.at.0 region is) ∙ e))
 
 -- a place by its parts
-pub gives-place : (c : Changed) (r : Region home.Label × Kept) (x : List ℕ) (a : ℕ) (place : Place) (watch : Option ℕ) → place.seg ≡ (place_of a).0 → place.off ≡ (place_of a).1 → GivesRegion c r (at_place x (place_of a) watch) → GivesRegion c r (At x place watch)
+pub gives-place : (c : Changed) (r : Region home.Label × FreedNames) (x : List ℕ) (a : ℕ) (place : Place) (watch : Option ℕ) → place.seg ≡ (place_of a).0 → place.off ≡ (place_of a).1 → GivesRegion c r (at_place x (place_of a) watch) → GivesRegion c r (At x place watch)
 gives-place c r x a place watch seg off gives =
     subst (λ o. GivesRegion c r (At x (record { seg = place.seg; off = o }) watch)) (sym off)
     (subst (λ s. GivesRegion c r (At x (record { seg = s; off = (place_of a).1 }) watch)) (sym seg) gives)

@@ -12,7 +12,7 @@ use Rattle.vc_script.specs.declared.reply.Reply.{Reply}
 use Rattle.vc_script.specs.declared.reply.Reply.TheVariants.{At, Freed, Written, Hex, Size}
 use Rattle.vc_script.specs.declared.refusal.Refusal.{Refusal}
 use Rattle.vc_script.specs.declared.refusal.Refusal.TheVariants as why
-use Rattle.vc_commands.specs.Kept.{Kept, line_of, with_line, without_name}
+use Rattle.vc_commands.specs.FreedNames.{FreedNames, line_of, with_line, without_name}
 use Rattle.vc_commands.specs.Home.{Changed, Home, Label, changed_to, reply_alone, refusal_alone}
 
 -- whether a label is that name
@@ -83,7 +83,7 @@ fault_of code.NotLast = Some model.NotLast
 fault_of code.WrongMethod = Some model.WrongMethod
 
 -- what a call gives that puts a block or keeps it, where these names are kept then and this is the block's watch
-abbrev pub put_in : Home → List ℕ → Kept → Option ℕ → Outcome (Put (Region Label)) → Changed
+abbrev pub put_in : Home → List ℕ → FreedNames → Option ℕ → Outcome (Put (Region Label)) → Changed
 put_in h x kept watch (Done p) = record { region = p.region; kept = kept; reply = at_place x p.at watch; granted = p.granted }
 put_in h x kept watch (Refused fault) = refusal_alone h (refusal_of fault)
 
@@ -122,10 +122,10 @@ align_in h x size align not_lent =
     put_new h x (align_refused h.region size align) (region_align h.terms h.region (Some x) (45 ∷ []) size align not_lent)
 
 -- the names that are kept once a block of that name is freed at a line
-abbrev pub kept_freed : Home → List ℕ → ℕ → Kept
+abbrev pub kept_freed : Home → List ℕ → ℕ → FreedNames
 kept_freed h x line = if keeps_freed h.region then with_line x line h.kept else h.kept
 
-abbrev pub change_by_free : Home → List ℕ → Kept → Option ℕ → Outcome (Region Label) → Changed
+abbrev pub change_by_free : Home → List ℕ → FreedNames → Option ℕ → Outcome (Region Label) → Changed
 change_by_free h x kept watch (Done region) = record { region = region; kept = kept; reply = Freed x watch; granted = None }
 change_by_free h x kept watch (Refused fault) = refusal_alone h (refusal_of fault)
 

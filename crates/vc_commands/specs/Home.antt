@@ -6,7 +6,7 @@ use Rattle.vc_region.specs.Region.{Region}
 use Rattle.vc_script.specs.declared.reply.Reply.{Reply}
 use Rattle.vc_script.specs.declared.reply.Reply.TheVariants.{Refused}
 use Rattle.vc_script.specs.declared.refusal.Refusal.{Refusal}
-use Rattle.vc_commands.specs.Kept.{Kept}
+use Rattle.vc_commands.specs.FreedNames.{FreedNames}
 
 -- the label of a block in a session: its name, or none
 abbrev pub Label : Type 0
@@ -18,7 +18,7 @@ pub record Home : Type 0 where
   pub place : ℕ
   pub terms : Terms
   pub region : Region Label
-  pub kept : Kept
+  pub kept : FreedNames
 
 -- whether a region has that name
 abbrev pub is_home : List ℕ → Home → Bool
@@ -27,7 +27,7 @@ is_home r h = bytes_eq h.name r
 -- what a command on one region gives: the region and the names that it keeps after it, the reply, and the segment that was granted
 pub record Changed : Type 0 where
   pub region : Region Label
-  pub kept : Kept
+  pub kept : FreedNames
   pub reply : Reply
   pub granted : Option (ℕ × ℕ)
 

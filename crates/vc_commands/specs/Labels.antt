@@ -7,7 +7,7 @@ use Rattle.vc_commands.specs.declared.region.labels.Label.{Label}
 use Rattle.vc_commands.specs.declared.region.labels.Labels.{Labels}
 use Rattle.vc_commands.specs.declared.region.labels.Known.{Known}
 use Rattle.vc_commands.specs.declared.region.labels.Known.TheVariants.{Live, Freed}
-use Rattle.vc_commands.specs.Kept.{Kept, line_of, with_line, without_name}
+use Rattle.vc_commands.specs.FreedNames.{FreedNames, line_of, with_line, without_name}
 
 -- the block of a tag, from 1 on
 abbrev pub label_at : Labels → ℕ → Option Label
@@ -37,15 +37,15 @@ abbrev pub known_of : Labels → List ℕ → Option Known
 known_of labels name = names.get bytes_eq labels.tags name
 
 -- the names that are kept as freed, by name
-abbrev pub kept_with : List ℕ → Known → Kept → Kept
+abbrev pub kept_with : List ℕ → Known → FreedNames → FreedNames
 kept_with x (Live tag) kept = without_name x kept
 kept_with x (Freed line) kept = with_line x line kept
 
-abbrev pub kept_among : List (List ℕ × Known) → Kept
+abbrev pub kept_among : List (List ℕ × Known) → FreedNames
 kept_among [] = []
 kept_among (e ∷ es) = kept_with e.0 e.1 (kept_among es)
 
-abbrev pub kept_of : Labels → Kept
+abbrev pub kept_of : Labels → FreedNames
 kept_of labels = kept_among labels.tags.entries
 
 -- each live name has the tag of the one block of that name, and every other name is kept as freed

@@ -14,7 +14,7 @@ pub mod DictRows
 pub mod DictRun
 pub mod Held
 pub mod Home
-pub mod Kept
+pub mod FreedNames
 pub mod Labels
 pub mod Looking
 pub mod LookRows

@@ -9,7 +9,7 @@ use Rattle.vc_script.specs.declared.reply.Reply.{Reply}
 use Rattle.vc_script.specs.declared.reply.Reply.TheVariants as reply
 use Rattle.vc_commands.specs.declared.region.labels.Labels.{Labels}
 use Rattle.vc_commands.specs.Blocks.{at_place, fault_of, label_limit, refusal_of}
-use Rattle.vc_commands.specs.Kept.{line_of, without_name}
+use Rattle.vc_commands.specs.FreedNames.{line_of, without_name}
 use Rattle.vc_commands.specs.Labels.{AreLabels, WithLabel, kept_of, tag_of}
 
 -- why a new block is refused before a place is looked for, by the refusal of its words

@@ -6,7 +6,7 @@ use Rattle.vc_script.specs.declared.refusal.Refusal.TheVariants.{NoSegment}
 use Rattle.vc_script.specs.declared.reply.Reply.{Reply}
 use Rattle.vc_script.specs.declared.reply.Reply.TheVariants.{Refused}
 use Rattle.vc_region.specs.Region.{Region, region_with_labels}
-use Rattle.vc_commands.specs.Kept.{Kept}
+use Rattle.vc_commands.specs.FreedNames.{FreedNames}
 use Rattle.vc_commands.specs.Home.{Changed, Home, Label}
 use Rattle.vc_model.specs.Discipline.{Discipline}
 use Rattle.vc_region.specs.Cells.{cells_in, rest_in}
@@ -17,7 +17,7 @@ use Rattle.vc_commands.specs.declared.region.home.HomeEntry.{HomeEntry}
 use Rattle.vc_commands.specs.declared.region.labels.Labels.{Labels}
 
 -- what a command on one region gives is this reply, and after it the region and the names that it keeps are these
-pub record GivesRegion (c : Changed) (after : Region Label × Kept) (reply : Reply) : Type 0 where
+pub record GivesRegion (c : Changed) (after : Region Label × FreedNames) (reply : Reply) : Type 0 where
   pub region_after : c.region ≡ after.0
   pub kept_after : c.kept ≡ after.1
   pub replied : c.reply ≡ reply
@@ -35,11 +35,11 @@ held_of meaning name h labels =
     }
 
 -- a region with names for its tags, but for the bytes in its cells, and the names that it keeps as freed
-abbrev pub region_with : {I : Type 0} {V : I → Type 0} → HomeEntry I V → Labels → Region Label × Kept
+abbrev pub region_with : {I : Type 0} {V : I → Type 0} → HomeEntry I V → Labels → Region Label × FreedNames
 region_with h labels = (region_with_labels (name_of labels) (rest_in h.region), kept_of labels)
 
 -- by a definition, a command on a region gives this reply and leaves the region so, whatever its name
-abbrev pub RunsRegion : {I : Type 0} {V : I → Type 0} → ((x : I) × V x → Discipline) → (Home → Changed) → HomeEntry I V → Labels → Region Label × Kept → Reply → Type 0
+abbrev pub RunsRegion : {I : Type 0} {V : I → Type 0} → ((x : I) × V x → Discipline) → (Home → Changed) → HomeEntry I V → Labels → Region Label × FreedNames → Reply → Type 0
 RunsRegion meaning command h labels after reply = (name : List ℕ) → GivesRegion (command (home_of (held_of meaning name h labels))) after reply
 
 -- a region and its names changed, whatever its name

@@ -7,21 +7,21 @@ use Rattle.vc_region.specs.Stat.{stat_of}
 use Rattle.vc_script.specs.declared.place.Place.{Place}
 use Rattle.vc_script.specs.declared.reply.Reply.{Reply}
 use Rattle.vc_script.specs.declared.reply.Reply.TheVariants.{Cleared, Compacted, AddrIn, AddrNone, SegmentIs, SegmentNone, Stats, SegmentList, BlockList}
-use Rattle.vc_commands.specs.Kept.{Kept, with_line}
+use Rattle.vc_commands.specs.FreedNames.{FreedNames, with_line}
 use Rattle.vc_commands.specs.Home.{Changed, Home, Label, changed_to, reply_alone}
 
 -- a name is kept with a line, where there is one
-abbrev pub with_label : Label → ℕ → Kept → Kept
+abbrev pub with_label : Label → ℕ → FreedNames → FreedNames
 with_label None line kept = kept
 with_label (Some x) line kept = with_line x line kept
 
 -- the names of these blocks are kept with a line
-abbrev pub with_labels : List (Block Label) → ℕ → Kept → Kept
+abbrev pub with_labels : List (Block Label) → ℕ → FreedNames → FreedNames
 with_labels [] line kept = kept
 with_labels (b ∷ bs) line kept = with_label b.label line (with_labels bs line kept)
 
 -- the names that are kept once all blocks are freed at a line
-abbrev pub kept_cleared : Home → ℕ → Kept
+abbrev pub kept_cleared : Home → ℕ → FreedNames
 kept_cleared h line = if keeps_freed h.region then with_labels (blocks_of h.region) line h.kept else h.kept
 
 -- all blocks are freed at a line

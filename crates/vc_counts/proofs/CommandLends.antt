@@ -13,7 +13,7 @@ use Rattle.vc_script.specs.Needs.{Need}
 use Rattle.vc_commands.specs.Audit.{is_poke, poke_block, poke_byte, poke_in, watch_block, watch_in}
 use Rattle.vc_commands.specs.Blocks.{align_refused, free_block, free_in, change_by_free, has_label, has_room, is_block, is_size, kept_freed, put_by, put_in, put_new, read_block, read_in, resize_block, resize_in, site_of, size_refused, with_named, write_block, write_in}
 use Rattle.vc_commands.specs.Home.{Changed, Home, Label, refusal_alone}
-use Rattle.vc_commands.specs.Kept.{Kept, without_name}
+use Rattle.vc_commands.specs.FreedNames.{FreedNames, without_name}
 use Rattle.vc_commands.specs.RegionCommands.{in_region, is_for_block}
 use Rattle.vc_counts.proofs.CallLends.{LeavesIn, align-puts, alloc-puts, clear-leaves, compact-lends, free-leaves, poke-leaves, resize-puts, watch-leaves, write-leaves}
 use Rattle.vc_counts.proofs.Lending.{Lends, lends-more, lends-same}
@@ -31,7 +31,7 @@ on-named : (h : Home) (x : List ℕ) (o : Option (Block Label)) (act : Block Lab
 on-named h x None act each = same h
 on-named h x (Some b) act each = each b
 
-put-changes : (h : Home) (x : List ℕ) (kept : Kept) (watch : Option ℕ) (o : Outcome (Put (Region Label))) → PutsIn (segments_of h.region) o → Changes h (put_in h x kept watch o)
+put-changes : (h : Home) (x : List ℕ) (kept : FreedNames) (watch : Option ℕ) (o : Outcome (Put (Region Label))) → PutsIn (segments_of h.region) o → Changes h (put_in h x kept watch o)
 put-changes h x kept watch (Done p) e = lends-more (segments_of h.region) (segments_of p.region) (option_list p.granted) e
 put-changes h x kept watch (Refused fault) e = same h
 
@@ -45,7 +45,7 @@ new-changes : (h : Home) (x : List ℕ) (words : Option Refusal) (o : Outcome (P
 new-changes h x words o e =
     either (Changes h) (has_label x h.region) (refusal_alone h why.BlockExists) (put_by h x words o) (same h) (by-changes h x words o e)
 
-freed-changes : (h : Home) (x : List ℕ) (kept : Kept) (watch : Option ℕ) (o : Outcome (Region Label)) → LeavesIn (segments_of h.region) o → Changes h (change_by_free h x kept watch o)
+freed-changes : (h : Home) (x : List ℕ) (kept : FreedNames) (watch : Option ℕ) (o : Outcome (Region Label)) → LeavesIn (segments_of h.region) o → Changes h (change_by_free h x kept watch o)
 freed-changes h x kept watch (Done r) e = lends-same (segments_of h.region) (segments_of r) e
 freed-changes h x kept watch (Refused fault) e = same h
 

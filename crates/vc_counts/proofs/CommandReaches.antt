@@ -13,7 +13,7 @@ use Rattle.vc_script.specs.Needs.{Need}
 use Rattle.vc_commands.specs.Audit.{is_poke, poke_block, poke_byte, poke_in, watch_block, watch_in}
 use Rattle.vc_commands.specs.Blocks.{align_refused, free_block, free_in, change_by_free, has_label, has_room, is_block, is_name_of, is_size, kept_freed, put_by, put_in, put_new, read_block, resize_block, resize_in, site_of, size_refused, with_named, write_block, write_in}
 use Rattle.vc_commands.specs.Home.{Changed, Home, Label, refusal_alone}
-use Rattle.vc_commands.specs.Kept.{Kept, without_name}
+use Rattle.vc_commands.specs.FreedNames.{FreedNames, without_name}
 use Rattle.vc_commands.specs.RegionCommands.{in_region, is_for_block}
 use Rattle.vc_commands.specs.Sizes.{size_named}
 use Rattle.vc_counts.specs.Reach.{reach_of}
@@ -32,7 +32,7 @@ module _ (mine : Label → Bool) (h : Home) where
   on-named x None act each = refl
   on-named x (Some b) act each = each b refl
 
-  put-leaves : (x : List ℕ) (kept : Kept) (watch : Option ℕ) (o : Outcome (Put (Region Label))) → StaysIn mine h.region o → Leaves mine h (put_in h x kept watch o)
+  put-leaves : (x : List ℕ) (kept : FreedNames) (watch : Option ℕ) (o : Outcome (Put (Region Label))) → StaysIn mine h.region o → Leaves mine h (put_in h x kept watch o)
   put-leaves x kept watch (Done p) e = e
   put-leaves x kept watch (Refused fault) e = refl
 
@@ -46,7 +46,7 @@ module _ (mine : Label → Bool) (h : Home) where
   new-leaves x words o e =
       either (Leaves mine h) (has_label x h.region) (refusal_alone h why.BlockExists) (put_by h x words o) refl (by-leaves x words o e)
 
-  freed-leaves : (x : List ℕ) (kept : Kept) (watch : Option ℕ) (o : Outcome (Region Label)) → LeftIn mine h.region o → Leaves mine h (change_by_free h x kept watch o)
+  freed-leaves : (x : List ℕ) (kept : FreedNames) (watch : Option ℕ) (o : Outcome (Region Label)) → LeftIn mine h.region o → Leaves mine h (change_by_free h x kept watch o)
   freed-leaves x kept watch (Done r) e = e
   freed-leaves x kept watch (Refused fault) e = refl
 
@@ -85,7 +85,7 @@ module _ (h : Home) (proper : IsProper h) (x : List ℕ) where
       (free-left (is_name_of x) (b.seg, b.off) h.region (found-behind (is_name_of x) (is_block x) h.region b at) (proper.own x b at)))
 
   -- all blocks change by as many bytes as the block of that name
-  by-name : (region : Region Label) (kept : Kept) → IsProper (put_region region kept h) → others_in (is_name_of x) region ≡ others_in (is_name_of x) h.region → (stat_of region).sbusy + size_named x h.region ≡ (stat_of h.region).sbusy + size_named x region
+  by-name : (region : Region Label) (kept : FreedNames) → IsProper (put_region region kept h) → others_in (is_name_of x) region ≡ others_in (is_name_of x) h.region → (stat_of region).sbusy + size_named x h.region ≡ (stat_of h.region).sbusy + size_named x region
   by-name region kept proper' same = omega (arith, busy-sizes region, busy-sizes h.region, proper.split x, proper'.split x, same)
 
 -- or by none

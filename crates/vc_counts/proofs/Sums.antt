@@ -4,7 +4,7 @@ use Rattle.std.specs.Prelude.{sum}
 use Rattle.std.proofs.lemmas.Option.{same_Some, none-some}
 use Rattle.std.proofs.lemmas.List.Sums.{sum-map, sum_by-cons, sum_by_push}
 use Rattle.vc_commands.specs.Home.{Home, Label, is_home}
-use Rattle.vc_commands.specs.Kept.{Kept}
+use Rattle.vc_commands.specs.FreedNames.{FreedNames}
 use Rattle.vc_region.specs.Region.{Region}
 use Rattle.vc_region.specs.Stat.{stat_of}
 use Rattle.vc_steps.specs.State.{home_named, with_region, without_home}
@@ -22,10 +22,10 @@ busy-cons h hs = sum-map busy_home (h ∷ hs) ∙ (sum_by-cons busy_home h hs �
 pub busy-push : (hs : List Home) (h : Home) → busy_homes (hs ++ h ∷ []) ≡ busy_homes hs + busy_home h
 busy-push hs h = sum-map busy_home (hs ++ h ∷ []) ∙ (sum_by_push busy_home hs h ∙ ap (λ n. n + busy_home h) (sym (sum-map busy_home hs)))
 
-abbrev pub put_region : Region Label → Kept → Home → Home
+abbrev pub put_region : Region Label → FreedNames → Home → Home
 put_region region kept h = record h { region = region; kept = kept }
 
-module _ (r : List ℕ) (region : Region Label) (kept : Kept) where
+module _ (r : List ℕ) (region : Region Label) (kept : FreedNames) where
   abbrev changed_by : Bool → Home → List Home → List Home → List Home
   changed_by b g hs changed = cond b (put_region region kept g ∷ hs) (g ∷ changed)
 

@@ -1,7 +1,7 @@
 -- What is read of the region of a step's command, before it and after it, against the bytes of all regions.
 use Rattle.std.proofs.Common.{◌≡◌, ℕ, ◌+◌, List, [], Option, Some, None, refl, sym, ap, subst, arith}
 use Rattle.vc_commands.specs.Home.{Home, Label}
-use Rattle.vc_commands.specs.Kept.{Kept}
+use Rattle.vc_commands.specs.FreedNames.{FreedNames}
 use Rattle.vc_commands.specs.Sizes.{size_named}
 use Rattle.vc_region.specs.Region.{Region, segments_of}
 use Rattle.vc_region.specs.Stat.{stat_of}
@@ -62,7 +62,7 @@ reached_in (Dict d) h = 0
 reached_in All h = busy_home h
 
 -- a region gets other blocks by a command
-abbrev pub Reaches : Reach → Home → Region Label → Kept → Type 0
+abbrev pub Reaches : Reach → Home → Region Label → FreedNames → Type 0
 Reaches reach h region kept =
     (stat_of region).sbusy + reached_in reach h ≡ (stat_of h.region).sbusy + reached_in reach (put_region region kept h)
 
@@ -76,7 +76,7 @@ IsOfRegion All = Unit {0}
 
 module _ (r : List ℕ) (hs : List Home) (h : Home) (found : home_named r hs ≡ Some h) where
   -- the region of that name changes, by the segments that it is granted
-  module _ (region : Region Label) (kept : Kept) where
+  module _ (region : Region Label) (kept : FreedNames) where
     abbrev changed : List Home
     changed = with_region r region kept hs
 

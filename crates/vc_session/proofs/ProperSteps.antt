@@ -36,7 +36,7 @@ use Rattle.vc_commands.specs.Looking.{is_look}
 use Rattle.vc_steps.proofs.ViewReplies.{look-any, some-map, view-any}
 use Rattle.vc_commands.specs.Blocks.{change_by_free, free_block, has_label, has_room, is_align, is_block, is_size, kept_freed, no_block, align_refused, put_by, site_of, size_refused, put_in, put_new, read_block, resize_block, with_named, write_block}
 use Rattle.vc_commands.specs.Whole.{addr_reply, item_of, kept_cleared, segment_reply, with_label, with_labels}
-use Rattle.vc_commands.specs.Kept.{Kept, by_name, line_of, with_line, without_name}
+use Rattle.vc_commands.specs.FreedNames.{FreedNames, by_name, line_of, with_line, without_name}
 use Rattle.vc_steps.specs.Step.{cleared_or, region_of, region_step, shelf_step, step, step_of, step_on}
 use Rattle.vc_commands.specs.RegionCommands.{in_region, is_for_block}
 use Rattle.vc_steps.specs.Dicts.{dict_changed, dict_command, dict_of, dict_opened, dict_refused, dict_shut, look_step, on_found, on_seat, open_dict_in, open_dict_unless, seat_of, shut_in, view_set}
@@ -115,31 +115,31 @@ proper-free r at proper sites =
     proper-freed (region_free r at) (sym (ap (λ q. region_free q at) proper) ∙ free-relabelled name_or_none r at) (free-sites r at sites)
 
 -- what is kept besides names is names
-order-names : (o : Ordering) (a b c : Kept) → AreProperNames a → AreProperNames b → AreProperNames c → AreProperNames (by_order o a b c)
+order-names : (o : Ordering) (a b c : FreedNames) → AreProperNames a → AreProperNames b → AreProperNames c → AreProperNames (by_order o a b c)
 order-names Less a b c p q r = p
 order-names Equal a b c p q r = q
 order-names Greater a b c p q r = r
 
-proper-with : (x : List ℕ) (line : ℕ) (k : Kept) → IsName x → AreProperNames k → AreProperNames (with_line x line k)
+proper-with : (x : List ℕ) (line : ℕ) (k : FreedNames) → IsName x → AreProperNames k → AreProperNames (with_line x line k)
 proper-with x line [] name all = (name, tt)
 proper-with x line (e ∷ es) name all =
     order-names (by_name x e.0) ((x, line) ∷ e ∷ es) ((e.0, line) ∷ es) (e ∷ with_line x line es) (name, all) (all.0, all.1) (all.0, proper-with x line es name all.1)
 
-names-cond : (t : Bool) (a b : Kept) → AreProperNames a → AreProperNames b → AreProperNames (cond t a b)
+names-cond : (t : Bool) (a b : FreedNames) → AreProperNames a → AreProperNames b → AreProperNames (cond t a b)
 names-cond true a b p q = p
 names-cond false a b p q = q
 
-proper-without : (x : List ℕ) (k : Kept) → AreProperNames k → AreProperNames (without_name x k)
+proper-without : (x : List ℕ) (k : FreedNames) → AreProperNames k → AreProperNames (without_name x k)
 proper-without x [] all = tt
 proper-without x (e ∷ es) all =
     let rest = proper-without x es all.1 in
     names-cond (not (eq_by_cmp by_name x e.0)) (e ∷ without_name x es) (without_name x es) (all.0, rest) rest
 
-proper-with_label : (l : Label) (line : ℕ) (k : Kept) → IsSite l → AreProperNames k → AreProperNames (with_label l line k)
+proper-with_label : (l : Label) (line : ℕ) (k : FreedNames) → IsSite l → AreProperNames k → AreProperNames (with_label l line k)
 proper-with_label None line k name all = all
 proper-with_label (Some x) line k name all = proper-with x line k name all
 
-proper-with_labels : (bs : List (Block Label)) (line : ℕ) (k : Kept) → AreProperNames k → AreProperNames (with_labels (map (relabel_block name_or_none) bs) line k)
+proper-with_labels : (bs : List (Block Label)) (line : ℕ) (k : FreedNames) → AreProperNames k → AreProperNames (with_labels (map (relabel_block name_or_none) bs) line k)
 proper-with_labels [] line k all = all
 proper-with_labels (b ∷ bs) line k all =
     proper-with_label (name_or_none b.label) line (with_labels (map (relabel_block name_or_none) bs) line k) (site-of b.label) (proper-with_labels bs line k all)
@@ -152,7 +152,7 @@ change-cond : (t : Bool) (a b : Changed) → IsProperChange a → IsProperChange
 change-cond true a b p q = p
 change-cond false a b p q = q
 
-proper-put : (h : Home) (x : List ℕ) (kept : Kept) (watch : Option ℕ) (o : Outcome (Put (Region Label))) → IsName x → IsProperHome h → AreProperNames kept → IsProperOutcome o → IsProperChange (put_in h x kept watch o)
+proper-put : (h : Home) (x : List ℕ) (kept : FreedNames) (watch : Option ℕ) (o : Outcome (Put (Region Label))) → IsName x → IsProperHome h → AreProperNames kept → IsProperOutcome o → IsProperChange (put_in h x kept watch o)
 proper-put h x kept watch (Done p) name all names there = (name, there.0, names, there.1)
 proper-put h x kept watch (Refused fault) name all names there = (tt, all.0, all.1, all.2)
 
@@ -174,7 +174,7 @@ proper-aligned : (aligned legal : Bool) → IfSome (let o : Option Refusal = con
 proper-aligned true legal = proper-sized legal
 proper-aligned false legal = tt
 
-proper-free_block : (h : Home) (x : List ℕ) (kept : Kept) (watch : Option ℕ) (o : Outcome (Region Label)) → IsName x → IsProperHome h → AreProperNames kept → IsProperFreed o → IsProperChange (change_by_free h x kept watch o)
+proper-free_block : (h : Home) (x : List ℕ) (kept : FreedNames) (watch : Option ℕ) (o : Outcome (Region Label)) → IsName x → IsProperHome h → AreProperNames kept → IsProperFreed o → IsProperChange (change_by_free h x kept watch o)
 proper-free_block h x kept watch (Done r) name all names there = (name, there.0, names, there.1)
 proper-free_block h x kept watch (Refused fault) name all names there = (tt, all.0, all.1, all.2)
 
@@ -326,7 +326,7 @@ homes-cond : (t : Bool) (a b : List Home) → AreProperHomes a → AreProperHome
 homes-cond true a b p q = p
 homes-cond false a b p q = q
 
-proper-with_region : (r : List ℕ) (region : Region Label) (kept : Kept) (homes : List Home) → IsProperRegion region → AreProperNames kept → HasProperSites region → AreProperHomes homes → AreProperHomes (with_region r region kept homes)
+proper-with_region : (r : List ℕ) (region : Region Label) (kept : FreedNames) (homes : List Home) → IsProperRegion region → AreProperNames kept → HasProperSites region → AreProperHomes homes → AreProperHomes (with_region r region kept homes)
 proper-with_region r region kept [] here names sites all = tt
 proper-with_region r region kept (h ∷ hs) here names sites all =
     homes-cond (is_home r h) ((record h { region = region; kept = kept }) ∷ hs) (h ∷ with_region r region kept hs) ((here, names, sites, all.0.3), all.1) (all.0, proper-with_region r region kept hs here names sites all.1)

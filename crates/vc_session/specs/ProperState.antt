@@ -5,7 +5,7 @@ use Rattle.vc_region.specs.Region.{Region, region_with_labels, rows_in}
 use Rattle.vc_script.specs.Words.{is_name}
 use Rattle.vc_script.specs.Proper.{IsName}
 use Rattle.vc_script.specs.ProperReply.{is_row_site}
-use Rattle.vc_commands.specs.Kept.{Kept}
+use Rattle.vc_commands.specs.FreedNames.{FreedNames}
 use Rattle.vc_model.specs.Discipline.{Discipline}
 use Rattle.vc_dtdisc.specs.Rules.{Rules}
 use Rattle.vc_seg.specs.declared.shelf.Shelf.{Shelf}
@@ -25,7 +25,7 @@ abbrev pub IsProperRegion : Region Label → Type 0
 IsProperRegion r = region_with_labels name_or_none r ≡ r
 
 -- what is kept as freed are names
-abbrev pub AreProperNames : Kept → Type 0
+abbrev pub AreProperNames : FreedNames → Type 0
 AreProperNames kept = AllByRecursion (λ k. IsName k.0) kept
 
 -- the sites of a region's rows are names, or the hyphen of the blocks without one

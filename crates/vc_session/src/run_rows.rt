@@ -2,7 +2,7 @@
 ghost use Rattle.std.specs.Prelude.{◌≡◌, ◌++◌, ℕ, [], ◌∷◌, Some, None, codes, List};
 ghost use Rattle.vc_script.specs.Needs.{ForBlock};
 ghost use Rattle.vc_session.specs.Run.{first_bad, run, script};
-ghost use Rattle.vc_commands.specs.Kept.{with_line, without_name};
+ghost use Rattle.vc_commands.specs.FreedNames.{with_line, without_name};
 ghost use Rattle.vc_session.specs.Rows.{at_first, block_with, gap_behind, moved_state, parsed_state, plain_text, with_kept};
 ghost use Rattle.vc_commands.specs.Whole.{with_labels};
 ghost use Rattle.vc_script.specs.declared.tool.Tool.TheVariants.{Vmreplay};
@@ -180,7 +180,7 @@ pub fn kept_name()
         ++ codes "refused: no block\nb 1:64\nb 1\n" }
 {}
 
-/// Kept names stand by name. A second free takes the new line, and all names of a region are kept with one line.
+/// FreedNames names stand by name. A second free takes the new line, and all names of a region are kept with one line.
 pub fn names_kept()
     ensures put { with_line (codes "a") 7 ((codes "b", 3) ∷ [])
         ≡ (codes "a", 7) ∷ (codes "b", 3) ∷ [] }

@@ -18,7 +18,7 @@ use Rattle.vc_script.specs.declared.refusal.Refusal.{Refusal}
 use Rattle.vc_script.specs.declared.refusal.Refusal.TheVariants as why
 use Rattle.vc_commands.specs.Audit.{is_poke, poke_block, poke_byte, watch_block}
 use Rattle.vc_commands.specs.Blocks.{align_refused, free_block, change_by_free, has_label, has_room, is_block, is_size, kept_freed, put_by, put_in, put_new, read_block, resize_block, site_of, size_refused, with_named, write_block}
-use Rattle.vc_commands.specs.Kept.{Kept, without_name}
+use Rattle.vc_commands.specs.FreedNames.{FreedNames, without_name}
 use Rattle.vc_commands.specs.Home.{Changed, Home, Label, refusal_alone}
 use Rattle.vc_commands.specs.RegionCommands.{in_region, is_for_block}
 
@@ -43,7 +43,7 @@ module _ (best : Bool) where
   as-made make all (Done p) = all p.region
   as-made make all (Refused fault) = tt
 
-  as-put : (h : Home) (x : List ℕ) (kept : Kept) (watch : Option ℕ) (o : Outcome (Put (Region Label))) → is_best h.region ≡ best → PutAs o → IsAs best (put_in h x kept watch o)
+  as-put : (h : Home) (x : List ℕ) (kept : FreedNames) (watch : Option ℕ) (o : Outcome (Put (Region Label))) → is_best h.region ≡ best → PutAs o → IsAs best (put_in h x kept watch o)
   as-put h x kept watch (Done p) same put = put
   as-put h x kept watch (Refused fault) same put = same
 
@@ -92,7 +92,7 @@ free-best (OfLast l) at = last-freed (last_free l at)
 free-best (OfDebug d) at = refl
 free-best (OfProfile p) at = refl
 
-as-freed : (h : Home) (x : List ℕ) (kept : Kept) (watch : Option ℕ) (o : Outcome (Region Label)) → FreedAs (is_best h.region) o → IsAs (is_best h.region) (change_by_free h x kept watch o)
+as-freed : (h : Home) (x : List ℕ) (kept : FreedNames) (watch : Option ℕ) (o : Outcome (Region Label)) → FreedAs (is_best h.region) o → IsAs (is_best h.region) (change_by_free h x kept watch o)
 as-freed h x kept watch (Done r) same = same
 as-freed h x kept watch (Refused fault) same = refl
 

@@ -20,7 +20,7 @@ use Rattle.vc_steps.specs.State.{State, Stepped, step_with_change, home_named, i
 use Rattle.vc_views.specs.Views.{DictHome}
 use Rattle.vc_commands.specs.Home.{Label, Home, is_home}
 use Rattle.vc_region.specs.Region.{Region}
-use Rattle.vc_commands.specs.Kept.{Kept}
+use Rattle.vc_commands.specs.FreedNames.{FreedNames}
 use Rattle.vc_steps.specs.Dicts.{dict_of, region_named}
 use Rattle.vc_commands.specs.RegionRun.{GivesRegion}
 use Rattle.vc_steps.specs.Step.{GivesStep, cleared_or, opened_in, region_asked, region_of, region_step, shelf_step, step, step_of, step_on}
@@ -195,7 +195,7 @@ module _ (slots : Slots) (hs : List Held) (i : ℕ) (h g : Held) (at : slice_get
       (subst (λ o. Lacks (Some h) o asked) (sym (find-set (λ k. bytes_eq k.name r) hs i h g at here.before passes)) lacks)
 
   -- with the lists as before the state is the same
-  pub state-same : (kinds : List Rules) (ds : List DictHome) → (let p : Region Label × Kept = ((home_of g).region, (home_of g).kept) in p) ≡ ((home_of h).region, (home_of h).kept) → state_of kinds slots (set hs i g) ds ≡ state_of kinds slots hs ds
+  pub state-same : (kinds : List Rules) (ds : List DictHome) → (let p : Region Label × FreedNames = ((home_of g).region, (home_of g).kept) in p) ≡ ((home_of h).region, (home_of h).kept) → state_of kinds slots (set hs i g) ds ≡ state_of kinds slots hs ds
   state-same kinds ds same =
-      let home : home_of g ≡ home_of h = sym same_home ∙ ap (λ (q : Region Label × Kept). let k : Home = record (home_of h) { region = q.0; kept = q.1 } in k) same in
+      let home : home_of g ≡ home_of h = sym same_home ∙ ap (λ (q : Region Label × FreedNames). let k : Home = record (home_of h) { region = q.0; kept = q.1 } in k) same in
       ap (λ homes. let s : State = record (state_of kinds slots hs ds) { homes = homes } in s) (map-set_same home_of hs i h g at home)

@@ -17,7 +17,7 @@ use Rattle.vc_views.proofs.LinkLists.{all-remove, found-set}
 use Rattle.vc_steps.proofs.DictsStay.{Entry, Vs, home_of_entry}
 use Rattle.vc_views.proofs.Kept.{dictionary-kept, owned-there, whole-kept}
 use Rattle.vc_commands.proofs.Firsts.{IsFirst, find-first, find-set}
-use Rattle.vc_commands.proofs.Keeping.{swapped}
+use Rattle.vc_commands.proofs.FreedNames.{swapped}
 use Rattle.vc_commands.proofs.Names.{same_bytes}
 
 -- a region keeps its name and its cells, but for the blocks at these addresses before and at those after, and what is new was no cell

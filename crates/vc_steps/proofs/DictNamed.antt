@@ -15,7 +15,7 @@ use Rattle.vc_steps.specs.Dicts.{with_dict}
 use Rattle.vc_views.specs.Views.{dict_named, is_dict, DictHome}
 use Rattle.vc_steps.proofs.DictsStay.{Entry, Vs}
 use Rattle.vc_commands.proofs.Firsts.{IsFirst, find-first, find-none, first-unmap, or-false}
-use Rattle.vc_commands.proofs.Keeping.{swapped}
+use Rattle.vc_commands.proofs.FreedNames.{swapped}
 use Rattle.vc_commands.proofs.Names.{same_bytes}
 
 dict-set_at : (d : List ℕ) (dict : Dictionary) (ks : List DictHome) (i : ℕ) (k : DictHome) → slice_get ks i ≡ Some k → is_dict d k ≡ true → list_any (is_dict d) (take i ks) ≡ false → with_dict d dict ks ≡ set ks i (record k { dict = dict })

@@ -35,7 +35,7 @@ use Rattle.vc_commands.specs.Held.{Held, IsChange, home_of}
 use Rattle.vc_steps.specs.Account.{Settles, accounts, held_named, settled_accounts, state_of}
 use Rattle.vc_steps.specs.DictHomes.{AreDicts, IsDictOf, cells_held, dict_home, dicts_in, dict_over}
 use Rattle.vc_steps.specs.Dicts.{dict_opened, dict_refused, open_dict_in, open_dict_step, open_dict_unless}
-use Rattle.vc_commands.specs.Kept.{Kept}
+use Rattle.vc_commands.specs.FreedNames.{FreedNames}
 use Rattle.vc_commands.specs.Labels.{kept_of, name_of}
 use Rattle.vc_steps.specs.Lacks.{InHeld, StepLacksFor}
 use Rattle.vc_steps.specs.Table.{TellsTable, table_reply}
@@ -200,8 +200,8 @@ module _ {I : Type 0} {V : I → Type 0} {meaning : (x : I) × V x → Disciplin
     state-failed touch region labels =
         ap (state_of kinds slots gs) (homes-kept kinds hs j h g [] [] named-first at touch vs es x.here.dicts (clear-none hs r es))
         ∙ state-same slots hs j h g at x.here.held change kinds (dicts_in hs vs es)
-        (ap (λ q. let p : Region Label × Kept = (region_with_labels (name_of g.labels) q, kept_of g.labels) in p) region
-        ∙ ap (λ l. let p : Region Label × Kept = (region_with_labels (name_of l) h.region, kept_of l) in p) labels)
+        (ap (λ q. let p : Region Label × FreedNames = (region_with_labels (name_of g.labels) q, kept_of g.labels) in p) region
+        ∙ ap (λ l. let p : Region Label × FreedNames = (region_with_labels (name_of l) h.region, kept_of l) in p) labels)
 
   -- no block is put for its table, by the answer to the fault
   module _ (g : Held) {cells : Blocks} (change : IsChange (record h { cells = cells }) g) (gone : List Gone) where

@@ -31,7 +31,7 @@ use Rattle.vc_steps.proofs.DictChange.{IsClear, Touches, clear-others, dicts-kep
 use Rattle.vc_steps.proofs.DictNamed.{home-at}
 use Rattle.vc_steps.proofs.DictsStay.{Entry, Vs}
 use Rattle.vc_commands.proofs.Firsts.{or-false}
-use Rattle.vc_commands.proofs.Keeping.{swapped}
+use Rattle.vc_commands.proofs.FreedNames.{swapped}
 use Rattle.vc_steps.proofs.Sessions.{Slots, held-at}
 use Rattle.vc_best.specs.Cells.{cells_in, rest_in}
 use Rattle.vc_best.specs.Parts.{disc_in}

@@ -18,7 +18,7 @@ use Rattle.vc_views.specs.Views.{DictHome}
 use Rattle.vc_views.proofs.LinkLists.{found-push, found-remove, found-set}
 use Rattle.vc_commands.specs.Home.{is_home}
 use Rattle.vc_commands.proofs.Firsts.{IsFirst, any-unmap, find-first, find-set, first-unmap, or-false}
-use Rattle.vc_commands.proofs.Keeping.{swapped}
+use Rattle.vc_commands.proofs.FreedNames.{swapped}
 use Rattle.vc_commands.proofs.Names.{same_bytes}
 
 abbrev pub Entry : Type 0

@@ -4,12 +4,12 @@ use Rattle.std.specs.Prelude.{slice_get}
 use Rattle.std.specs.List.{list_any}
 use Rattle.std.proofs.lemmas.Option.{same_Some, none-some}
 use Rattle.vc_region.specs.Region.{Region}
-use Rattle.vc_commands.specs.Kept.{Kept}
+use Rattle.vc_commands.specs.FreedNames.{FreedNames}
 use Rattle.vc_commands.specs.Home.{Home, Label, is_home}
 use Rattle.vc_steps.specs.State.{with_region}
 use Rattle.vc_commands.proofs.Firsts.{IsFirst, or-false}
 
-with_region-at : (r : List ℕ) (region : Region Label) (kept : Kept) (hs : List Home) (i : ℕ) (h : Home) → slice_get hs i ≡ Some h → is_home r h ≡ true → list_any (is_home r) (take i hs) ≡ false → with_region r region kept hs ≡ set hs i (record h { region = region; kept = kept })
+with_region-at : (r : List ℕ) (region : Region Label) (kept : FreedNames) (hs : List Home) (i : ℕ) (h : Home) → slice_get hs i ≡ Some h → is_home r h ≡ true → list_any (is_home r) (take i hs) ≡ false → with_region r region kept hs ≡ set hs i (record h { region = region; kept = kept })
 with_region-at r region kept [] i h at passes none = absurd (none-some h at)
 with_region-at r region kept (g ∷ hs) zero h at passes none =
     let same : g ≡ h = same_Some g h at in
@@ -22,5 +22,5 @@ with_region-at r region kept (g ∷ hs) (suc i) h at passes none =
     ∙ ap (λ ks. g ∷ ks) (with_region-at r region kept hs i h at passes parts.1)
 
 -- the region of a name is the first of that name
-pub with_region-first : (r : List ℕ) (region : Region Label) (kept : Kept) (hs : List Home) (i : ℕ) (f : IsFirst (is_home r) hs i) → with_region r region kept hs ≡ set hs i (record f.item { region = region; kept = kept })
+pub with_region-first : (r : List ℕ) (region : Region Label) (kept : FreedNames) (hs : List Home) (i : ℕ) (f : IsFirst (is_home r) hs i) → with_region r region kept hs ≡ set hs i (record f.item { region = region; kept = kept })
 with_region-first r region kept hs i f = with_region-at r region kept hs i f.item f.at f.passes f.before

@@ -13,7 +13,7 @@ use Rattle.vc_script.specs.declared.reply.Reply.{Reply}
 use Rattle.vc_script.specs.declared.reply.Reply.TheVariants.{Opened, Closed, Refused}
 use Rattle.vc_script.specs.declared.refusal.Refusal.{Refusal}
 use Rattle.vc_script.specs.declared.refusal.Refusal.TheVariants as why
-use Rattle.vc_commands.specs.Kept.{Kept}
+use Rattle.vc_commands.specs.FreedNames.{FreedNames}
 use Rattle.vc_seg.specs.declared.shelf.ShelfPlace.{ShelfPlace}
 use Rattle.vc_seg.specs.declared.shelf.ShelfPlace.TheVariants.{Missing, Taken, Here}
 use Rattle.vc_script.specs.declared.refusal.Refusal.TheVariants.{NoSuchDiscipline, DisciplineInUse}
@@ -94,7 +94,7 @@ abbrev pub close_step : State → List ℕ → Stepped
 close_step s r = close_home s r (home_named r s.homes)
 
 -- the regions, with another one of that name, and the names that it keeps
-abbrev pub with_region : List ℕ → Region Label → Kept → List Home → List Home
+abbrev pub with_region : List ℕ → Region Label → FreedNames → List Home → List Home
 with_region r region kept [] = []
 with_region r region kept (h ∷ hs) =
     if is_home r h then (record h { region = region; kept = kept }) ∷ hs else h ∷ with_region r region kept hs

@@ -27,7 +27,7 @@ use Rattle.vc_objects.proofs.Looking.{Looks-became}
 use Rattle.vc_commands.specs.declared.dict.entry.DictEntry.{DictEntry}
 use Rattle.vc_commands.specs.declared.region.home.HomeEntry.{HomeEntry}
 use Rattle.vc_commands.proofs.Firsts.{IsFirst, find-first, find-set}
-use Rattle.vc_commands.proofs.Keeping.{swapped}
+use Rattle.vc_commands.proofs.FreedNames.{swapped}
 use Rattle.vc_commands.proofs.Names.{same_bytes}
 use Rattle.vc_views.specs.Dicts.{AreDictsOver, DictRegion, DictSeen, HomeRest, IsDictOver, cells_held, dict_seen, dictionary_over, home_rest, region_named, region_seen}
 use Rattle.vc_views.specs.LayerLaws.{Entry}

@@ -9,7 +9,7 @@ use Rattle.vc_base.specs.Holders.{contains}
 use Rattle.vc_dtdisc.specs.Rules.{Rules}
 use Rattle.vc_objects.specs.Objects.{Dictionary, own_blocks}
 use Rattle.vc_objects.specs.Parts.{IsWhole, dictionary_of}
-use Rattle.vc_commands.proofs.Keeping.{swapped}
+use Rattle.vc_commands.proofs.FreedNames.{swapped}
 use Rattle.vc_commands.proofs.Names.{same_bytes}
 use Rattle.vc_views.specs.Dicts.{AreApartOver, AreDictsOver, DictRegion, DictSeen, IsDictOver, cells_held, dict_seen, dictionary_over, number_in, region_named}
 use Rattle.vc_views.specs.LayerLaws.{Entry}

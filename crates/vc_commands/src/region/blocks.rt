@@ -8,7 +8,7 @@ ghost use Rattle.vc_region.specs.Parts.{disc_in};
 ghost use Rattle.vc_region.specs.Region.{segments_of};
 ghost use Rattle.vc_commands.specs.Held.{IsNamed};
 ghost use Rattle.vc_commands.specs.Blocks.{align_in, align_refused, alloc_in, fault_of, free_in, is_align, is_size, no_block, refusal_of, resize_in, site_of, size_refused};
-ghost use Rattle.vc_commands.specs.Kept.{line_of};
+ghost use Rattle.vc_commands.specs.FreedNames.{line_of};
 ghost use Rattle.vc_commands.specs.Labels.{AreLabels, kept_of, tag_of};
 ghost use Rattle.vc_commands.specs.Naming.{NamesPut, TellsFault, new_refused};
 ghost use Rattle.vc_commands.specs.RegionCommands.{is_for_block};

@@ -2,7 +2,7 @@
 ghost use Rattle.std.specs.Prelude.{◌≡◌, ℕ, List, [], ◌+◌, ◌^◌, ◌<◌, ◌≤◌, ◌≢◌, Some, None, is_some, length, IsOk, IfOk, IfSome, IfNone, IsSome, OnSome, if◌then◌else◌};
 ghost use Rattle.std.specs.HashMap.{spare};
 ghost use Rattle.slab.specs.Slab.{slab_len, HasRoomFor};
-ghost use Rattle.vc_commands.specs.Kept.{line_of, with_line, without_name};
+ghost use Rattle.vc_commands.specs.FreedNames.{line_of, with_line, without_name};
 ghost use Rattle.vc_commands.specs.Labels.{kept_of, label_at, line_left, name_of, tag_of, AreLabels, FreesNames, SameLabels, MovesLabel, WithLabel, WithoutLabel};
 
 use slab::Slab;

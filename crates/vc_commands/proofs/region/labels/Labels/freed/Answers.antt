@@ -1,6 +1,6 @@
 use Rattle.std.proofs.Common.{Some, sym, ap, ◌∙◌}
 use Rattle.vc_commands.specs.Labels.{line_in}
-use Rattle.vc_commands.proofs.Keeping.{line-among}
+use Rattle.vc_commands.proofs.FreedNames.{line-among}
 use Rattle.vc_commands.proofs.region.labels.Labels.freed.Goals as goal
 
 pub returns-in-Some-Live : goal.returns-in-Some-Live

@@ -1,11 +1,11 @@
 use Rattle.std.proofs.Common.{◌≡◌, ◌+◌, cond, length, Some, ap, ◌∙◌, sym, refl}
 use Rattle.std.specs.Prelude.{is_some}
-use Rattle.vc_commands.specs.Kept.{with_line}
+use Rattle.vc_commands.specs.FreedNames.{with_line}
 use Rattle.vc_commands.specs.Labels.{kept_of, known_of, tag_of}
 use Rattle.vc_commands.specs.declared.region.labels.Known.TheVariants.{Freed}
 use Rattle.vc_commands.specs.declared.region.labels.Labels.{Labels}
 use Rattle.vc_commands.proofs.Agreeing.{agree-left, all-kept, both_ok, from_ok, there-ok, without-label}
-use Rattle.vc_commands.proofs.Keeping.{kept-freed}
+use Rattle.vc_commands.proofs.FreedNames.{kept-freed}
 use Rattle.vc_commands.proofs.region.labels.Labels.keep.Goals as goal
 
 pub returns-in-Some-clause-agree : goal.returns-in-Some-clause-agree

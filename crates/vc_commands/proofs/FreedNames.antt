@@ -8,39 +8,39 @@ use Rattle.std.specs.Cmp.Lexicographic.{nat_list_cmp_total, texts_ties}
 use Rattle.std.specs.FinMap.Entries.{find-put, find-where_key, is_sorted, is_sorted-put, is_sorted-where_key, length-put, length_without, same_entries}
 use Rattle.std.proofs.lemmas.Bool.{cases_Bool}
 use Rattle.std.proofs.lemmas.Map.Lookups.{exact_bytes}
-use Rattle.vc_commands.specs.Kept.{Kept, by_name, line_of, with_line, without_name}
+use Rattle.vc_commands.specs.FreedNames.{FreedNames, by_name, line_of, with_line, without_name}
 use Rattle.vc_commands.specs.Labels.{kept_among, kept_with, line_in}
 use Rattle.vc_commands.specs.declared.region.labels.Known.{Known}
 use Rattle.vc_commands.specs.declared.region.labels.Known.TheVariants.{Live, Freed}
 use Rattle.vc_commands.proofs.Names.{same_bytes}
 
-abbrev pub IsByName : Kept → Type 0
+abbrev pub IsByName : FreedNames → Type 0
 IsByName kept = T (is_sorted by_name kept)
 
 -- kept names are those of the same lines
-pub same-kept : (k l : Kept) → IsByName k → IsByName l → ((x : List ℕ) → line_of x k ≡ line_of x l) → k ≡ l
+pub same-kept : (k l : FreedNames) → IsByName k → IsByName l → ((x : List ℕ) → line_of x k ≡ line_of x l) → k ≡ l
 same-kept k l a b same = same_entries by_name nat_list_cmp_total exact_bytes k l a b same
 
-pub line-with : (q x : List ℕ) (line : ℕ) (k : Kept) → line_of q (with_line x line k) ≡ cond (bytes_eq q x) (Some line) (line_of q k)
+pub line-with : (q x : List ℕ) (line : ℕ) (k : FreedNames) → line_of q (with_line x line k) ≡ cond (bytes_eq q x) (Some line) (line_of q k)
 line-with q x line k = find-put by_name nat_list_cmp_total q x line k ∙ ap (λ b. cond b (Some line) (line_of q k)) (sym (texts_ties q x))
 
 not-cond : (b : Bool) (o : Option ℕ) → cond (not b) o None ≡ cond b None o
 not-cond true o = refl
 not-cond false o = refl
 
-pub line-without : (q x : List ℕ) (k : Kept) → line_of q (without_name x k) ≡ cond (bytes_eq x q) None (line_of q k)
+pub line-without : (q x : List ℕ) (k : FreedNames) → line_of q (without_name x k) ≡ cond (bytes_eq x q) None (line_of q k)
 line-without q x k =
     find-where_key by_name (λ y. not (eq_by_cmp by_name x y)) q (λ y e. ap (λ z. not (eq_by_cmp by_name x z)) (sym (exact_bytes q y e))) k
     ∙ (not-cond (eq_by_cmp by_name x q) (line_of q k)
     ∙ ap (λ b. cond b None (line_of q k)) (sym (texts_ties x q)))
 
-pub by-name-with : (x : List ℕ) (line : ℕ) (k : Kept) → IsByName k → IsByName (with_line x line k)
+pub by-name-with : (x : List ℕ) (line : ℕ) (k : FreedNames) → IsByName k → IsByName (with_line x line k)
 by-name-with x line k s = is_sorted-put by_name nat_list_cmp_total x line k s
 
-pub by-name-without : (x : List ℕ) (k : Kept) → IsByName k → IsByName (without_name x k)
+pub by-name-without : (x : List ℕ) (k : FreedNames) → IsByName k → IsByName (without_name x k)
 by-name-without x k s = is_sorted-where_key by_name (λ y. not (eq_by_cmp by_name x y)) k s
 
-by-name-by : (x : List ℕ) (known : Known) (k : Kept) → IsByName k → IsByName (kept_with x known k)
+by-name-by : (x : List ℕ) (known : Known) (k : FreedNames) → IsByName k → IsByName (kept_with x known k)
 by-name-by x (Live tag) k s = by-name-without x k s
 by-name-by x (Freed line) k s = by-name-with x line k s
 
@@ -60,7 +60,7 @@ pick : (b : Bool) (known : Known) (o : Option Known) → cond b (line_in (Some k
 pick true known o = refl
 pick false known o = refl
 
-line-by : (q x : List ℕ) (known : Known) (k : Kept) → line_of q (kept_with x known k) ≡ cond (bytes_eq q x) (line_in (Some known)) (line_of q k)
+line-by : (q x : List ℕ) (known : Known) (k : FreedNames) → line_of q (kept_with x known k) ≡ cond (bytes_eq q x) (line_in (Some known)) (line_of q k)
 line-by q x (Live tag) k = line-without q x k ∙ ap (λ b. cond b None (line_of q k)) (swapped x q)
 line-by q x (Freed line) k = line-with q x line k
 
@@ -105,7 +105,7 @@ module _ (es fs : List (List ℕ × Known)) (x : List ℕ) where
       updated w same q
       ∙ (ap (λ o. cond (bytes_eq x q) o (line_of q (kept_among es))) none ∙ sym (line-without q x (kept_among es))))
 
-absent-cond : (q x : List ℕ) (k : Kept) → line_of x k ≡ None → cond (bytes_eq x q) None (line_of q k) ≡ line_of q k
+absent-cond : (q x : List ℕ) (k : FreedNames) → line_of x k ≡ None → cond (bytes_eq x q) None (line_of q k) ≡ line_of q k
 absent-cond q x k none =
     ⊎_elim
     (λ e. ap (λ b. cond b None (line_of q k)) e ∙ sym (ap (λ y. line_of y k) (sym (same_bytes x q e)) ∙ none))
@@ -113,14 +113,14 @@ absent-cond q x k none =
     (cases_Bool (bytes_eq x q))
 
 -- a name that isn't kept
-pub without-absent : (x : List ℕ) (k : Kept) → IsByName k → line_of x k ≡ None → without_name x k ≡ k
+pub without-absent : (x : List ℕ) (k : FreedNames) → IsByName k → line_of x k ≡ None → without_name x k ≡ k
 without-absent x k s none =
     same-kept (without_name x k) k (by-name-without x k s) s (λ q. line-without q x k ∙ absent-cond q x k none)
 
-pub length-with : (x : List ℕ) (line : ℕ) (k : Kept) → IsByName k → line_of x k ≡ None → length (with_line x line k) ≡ length k + 1
+pub length-with : (x : List ℕ) (line : ℕ) (k : FreedNames) → IsByName k → line_of x k ≡ None → length (with_line x line k) ≡ length k + 1
 length-with x line k s none =
     length-put by_name nat_list_cmp_total x line k s
     ∙ ap (λ o. cond (is_some o) (length k) (length k + 1)) none
 
-pub length-without : (x : List ℕ) (k : Kept) → IsByName k → cond (is_some (line_of x k)) 1 0 + length (without_name x k) ≡ length k
+pub length-without : (x : List ℕ) (k : FreedNames) → IsByName k → cond (is_some (line_of x k)) 1 0 + length (without_name x k) ≡ length k
 length-without x k s = length_without by_name nat_list_cmp_total x k s
