@@ -498,9 +498,9 @@ impl Dict {
         }
     }
 
-    /// Takes out the first holder whose object has that key, and answers it, by at most as many compares as there are
-    /// holders; none where no object has it, and nothing changes. Where it was current, the one behind it is, or none. It
-    /// keeps its bytes behind the words. After Cdt's dtdelete and dtdetach.
+    /// Takes out the first holder whose object has that key, and answers it, by at most as many compares as `find`; none
+    /// where no object has it, and nothing changes. Where it was current, the one behind it is, or none. It keeps its bytes
+    /// behind the words. After Cdt's dtdelete and dtdetach.
     pub fn unlink<C: Cells, D: DictDisc, L>(
         &mut self,
         cells: &mut C,
@@ -513,6 +513,10 @@ impl Dict {
             → Stands (D.rules kind.now) self.old (C.blocks cells.old) holders
             → Finds (D.rules kind.now) (C.blocks cells.old) key.now holders result
             steps.old steps.new }
+        ensures compares { (holders : List ℕ)
+            → Stands (D.rules kind.now) self.old (C.blocks cells.old) holders
+            → steps.new ≤ steps.old
+            + compares_by (D.rules kind.now) self.old (C.blocks cells.old) key.now holders }
         ensures dict { (holders : List ℕ)
             → Stands (D.rules kind.now) self.old (C.blocks cells.old) holders
             → Became (D.rules kind.now) holders self.old (C.blocks cells.old) self.new
