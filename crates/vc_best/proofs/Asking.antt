@@ -13,7 +13,7 @@ use Rattle.vc_base.specs.declared.addr.Addr.{Addr}
 use Rattle.vc_seg.specs.declared.fault.RegionFault.{RegionFault}
 use Rattle.vc_seg.specs.declared.fault.RegionFault.TheVariants as code
 use Rattle.vc_seg.specs.Answer.{Answers, Asks, IsPut}
-use Rattle.vc_segments.specs.Lend.{IsNoGrant}
+use Rattle.vc_seg.specs.Lend.{IsNoGrant}
 use Rattle.vc_layouts.specs.Put.{IsPutInNew}
 use Rattle.vc_best.specs.Standing.{IsPutByAsking, IsPutInGap}
 use Rattle.vc_best.proofs.HaveHeads.{HaveHeads}

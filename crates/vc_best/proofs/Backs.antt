@@ -11,7 +11,7 @@ use Rattle.std.proofs.lemmas.List.Elements.{All-map, filter_agree}
 use Rattle.vc_seg.specs.Segment.{AreSegments, Bytes, pair_of}
 use Rattle.vc_seg.specs.Back.{has_other_number}
 use Rattle.vc_seg.proofs.Filters.{filter-filter, filter-all, filter-agree_on}
-use Rattle.vc_seg.proofs.Backs.{remove-other, without_last-segment}
+use Rattle.vc_seg.proofs.Backs.{remove-own, without_last-own}
 use Rattle.vc_model.specs.Discipline.{without_last}
 use Rattle.vc_extent.specs.Tiling.{size_of}
 use Rattle.vc_best.specs.Kept.{stays_but, stays_from}
@@ -73,7 +73,7 @@ module _ (segs new : List Bytes) (n : ℕ) (s : Bytes) (h : AreSegments segs) (a
   at = sym among.2
 
   gone : remove segs among.0 ≡ new
-  gone = remove-other n segs among.0 s h.distinct among.1 (ap (λ (b : Bytes). b.number) among.2 ∙ number) ∙ sym is
+  gone = remove-own pair_of n segs among.0 s h.distinct among.1 (ap (λ (b : Bytes). b.number) among.2 ∙ number) ∙ sym is
 
   pub one-gone : 1 + length (map pair_of new) ≡ length (map pair_of segs)
   one-gone =
@@ -84,7 +84,7 @@ module _ (segs new : List Bytes) (n : ℕ) (s : Bytes) (h : AreSegments segs) (a
       omega arith
 
   pub out-gone : (rest : List (ℕ × ℕ)) → without_last (pair_of s) (rest ++ map pair_of segs) ≡ rest ++ map pair_of new
-  out-gone rest = without_last-segment segs among.0 s among.1 at h.distinct rest ∙ ap (λ (ss : List Bytes). rest ++ map pair_of ss) gone
+  out-gone rest = without_last-own pair_of segs among.0 s among.1 at h.distinct rest ∙ ap (λ (ss : List Bytes). rest ++ map pair_of ss) gone
 
 -- a test that shows no value
 pub none-of : {A : Type 0} (o : Option A) (r : Bool) → is_some o ≡ not r → r ≡ true → o ≡ None

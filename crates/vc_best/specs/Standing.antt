@@ -13,7 +13,7 @@ use Rattle.vc_seg.specs.Answer.{Answers}
 use Rattle.vc_seg.specs.Segment.{Bytes, pair_of}
 use Rattle.vc_seg.specs.declared.fault.RegionFault.{RegionFault}
 use Rattle.vc_seg.specs.declared.fault.RegionFault.TheVariants as code
-use Rattle.vc_segments.specs.Lend.{IsNoGrant}
+use Rattle.vc_seg.specs.Lend.{IsNoGrant}
 use Rattle.vc_layouts.specs.Put.{IsPutInNew, with_zeros}
 use Rattle.vc_extent.specs.Extent.{free_extent, no_links}
 use Rattle.vc_extent.specs.Tiling.{IsBusy, IsFree, IsThere, change_extent, extent_of, tiling}

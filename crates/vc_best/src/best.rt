@@ -26,8 +26,7 @@ use std::alloc::Global;
 use vc_base::{Addr, OutOfMemory, Steps};
 use vc_extent::Extents;
 use vc_gaps::fit;
-use vc_seg::{RegionFault, SegDisc, Stat, span_of};
-use vc_segments::{next_segment, segment_at};
+use vc_seg::{RegionFault, SegDisc, Stat, next_segment, segment_at, span_of};
 
 /// Marks the steps of calls that nobody counts.
 struct Uncounted;

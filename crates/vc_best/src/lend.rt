@@ -3,7 +3,7 @@ ghost use Rattle.vc_model.specs.Best.{best_need, place_in};
 ghost use Rattle.vc_model.specs.Discipline.{IsSegmentSize};
 ghost use Rattle.vc_seg.specs.Answer.{Asks};
 ghost use Rattle.vc_seg.specs.Segment.{pair_of};
-ghost use Rattle.vc_segments.specs.Lend.{IsAsked, IsNoGrant};
+ghost use Rattle.vc_seg.specs.Lend.{IsAsked, IsNoGrant};
 ghost use Rattle.vc_best.specs.Blocks.{layout_by};
 ghost use Rattle.vc_best.specs.Standing.{AreAllowed, AreKept, AreWhole, HasRoomAt, IsLentFree, IsPutByAsking, IsPutInLent};
 
@@ -11,8 +11,7 @@ use crate::tree::put_block;
 use std::alloc::Global;
 use vc_base::{Addr, Steps};
 use vc_extent::Extents;
-use vc_seg::{RegionFault, SegDisc, round_of, rounded_up, span_of};
-use vc_segments::lend_segment;
+use vc_seg::{RegionFault, SegDisc, lend_segment, round_of, rounded_up, span_of};
 
 /// Asks for a segment of that many bytes under the least number that no segment has, and puts it behind the others as one
 /// free extent. It answers the number.

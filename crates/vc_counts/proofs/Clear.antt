@@ -19,7 +19,7 @@ use Rattle.vc_model.specs.Place.{best_gap, holds, lowest_offset}
 use Rattle.vc_model.specs.Segments.{Asked, Granted, TooMany, NotLent, ask, lowest_unused, numbers, segment_limit, span, unused_from}
 use Rattle.vc_model.specs.Sound.{HaveOwnNumbers, IsUsable}
 use Rattle.vc_seg.proofs.Rounding.{round_up-least}
-use Rattle.vc_segments.proofs.Unused.{is_among, lowest_unused-unused}
+use Rattle.vc_seg.proofs.Unused.{is_among, lowest_unused-unused}
 use Rattle.vc_counts.proofs.RegionLends.{either}
 use Rattle.vc_counts.proofs.Sized.{HasSized, IsClear, sized-more}
 

@@ -6,10 +6,10 @@ use Rattle.vc_model.specs.Bytes.{with_bytes}
 use Rattle.vc_seg.specs.Segment.{Bytes}
 use Rattle.vc_extent.specs.Extent.{Extent, busy_extent, extent_at, extents, free_extent, links_at, no_links}
 use Rattle.vc_extent.specs.Change.{Changes, behind, extent_in, link_in, set_link, with_link, write}
-use Rattle.vc_extent.specs.Field.{field_at}
-use Rattle.vc_extent.specs.Frame.{StaysOutside}
+use Rattle.vc_seg.specs.Field.{field_at}
+use Rattle.vc_seg.specs.Frame.{StaysOutside}
 use Rattle.vc_extent.specs.Tiles.{IsTiled, Tiles}
-use Rattle.vc_extent.proofs.Frames.{field-back, field-front, only-below, stays-written}
+use Rattle.vc_seg.proofs.Frames.{field-back, field-front, only-below, stays-written}
 use Rattle.vc_extent.proofs.Tiled.{busy-is, free-is, legal-free, tiles-back}
 use Rattle.vc_extent.proofs.Changed.{IsWithin, changed, here, within}
 

@@ -3,11 +3,11 @@ use Rattle.std.proofs.Common.{◌≡◌, ℕ, ◌+◌, ◌-◌, ◌%◌, ◌<◌
 use Rattle.std.proofs.lemmas.Bool.{cases_Bool, eqb-true, eq-eqb}
 use Rattle.vc_model.specs.Discipline.{IsSegmentSize}
 use Rattle.vc_seg.specs.Segment.{Bytes}
-use Rattle.vc_extent.specs.Field.{field_at}
+use Rattle.vc_seg.specs.Field.{field_at}
 use Rattle.vc_extent.specs.Extent.{Extent, extent_at, extents}
 use Rattle.vc_extent.specs.Tiles.{IsLegal, IsTiled, Tiles}
 use Rattle.vc_extent.specs.Change.{Changes, behind, change_at, extent_in, first_of}
-use Rattle.vc_extent.specs.Frame.{StaysBelow}
+use Rattle.vc_seg.specs.Frame.{StaysBelow}
 use Rattle.vc_extent.proofs.Tiled.{IsPart, part, extents-are, head-front, named-above, off-at, span-at, size-at, tag-at, body-at, inside, tiles-le}
 
 pub tiles-changed : (o n : List ℕ) (stop p from at : ℕ) (change : Extent → List Extent → List Extent) (es : List Extent) → take at n ≡ take at o → Tiles o stop p from es → 0 < (extent_in (at + 16) es).span →

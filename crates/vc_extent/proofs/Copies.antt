@@ -1,45 +1,15 @@
 -- A copy of a range of one segment in another.
-use Rattle.std.proofs.Common.{◌≡◌, ℕ, ◌-◌, ◌<◌, List, ◌++◌, length, get_or, set, take, drop, ap, sym, ◌∙◌, arith, ◌+◌, ◌≤◌, refl, subst}
-use Rattle.std.proofs.lemmas.List.{get_or_append_left, get_or-append_right, get_or_default, set-append_left, set-append_right}
+use Rattle.std.proofs.Common.{◌≡◌, ℕ, ◌<◌, List, length, get_or, take, drop, ap, sym, ◌∙◌, arith, ◌+◌, ◌≤◌, refl, subst}
 use Rattle.vc_model.specs.Bytes.{with_bytes}
+use Rattle.vc_seg.specs.Memory.{with_copy_of}
 use Rattle.vc_seg.specs.Segment.{Bytes}
 use Rattle.std.proofs.lemmas.List.{take-take}
 use Rattle.vc_extent.specs.Extent.{Extent, extents}
 use Rattle.vc_extent.specs.Change.{Changes, extent_in, write}
-use Rattle.vc_extent.specs.Tiling.{IsFound, with_copy, extent_of, tiling}
+use Rattle.vc_extent.specs.Tiling.{IsFound, extent_of, tiling}
 use Rattle.vc_extent.proofs.Bodies.{body-changed}
 use Rattle.vc_extent.proofs.Changed.{within}
 use Rattle.vc_extent.proofs.Marked.{part-length}
-
--- what the copy leaves of the segment that it goes to
-copied-is : (source s new : Bytes) (from len to : ℕ) → new.number ≡ s.number → new.bytes ≡ with_bytes to (take len (drop from source.bytes)) s.bytes → new ≡ with_copy source from len to s
-copied-is source s new from len to number bytes =
-    let segment : ℕ → List ℕ → Bytes = λ k bs. record { number = k; bytes = bs } in
-    ap (λ k. segment k new.bytes) number ∙ ap (segment s.number) bytes
-
-module _ (segs front back : List Bytes) (source from target to len : ℕ) (e f d new : Bytes) (whole : segs ≡ front ++ back) where
-  pub copied-back : length front ≡ target → source < target → 0 < length back → new.number ≡ (get_or back 0 f).number → new.bytes ≡ with_bytes to (take len (drop from (get_or front source e).bytes)) (get_or back 0 f).bytes →
-      front ++ set back 0 new ≡ set segs target (with_copy (get_or segs source d) from len to (get_or segs target d))
-  copied-back long before some number bytes =
-      let none : target - target ≡ 0 = omega arith in
-      let s : get_or segs source d ≡ get_or front source e = ap (λ xs. get_or xs source d) whole ∙ (get_or_append_left front back d source (omega arith) ∙ get_or_default front source d e (omega arith)) in
-      let t : get_or segs target d ≡ get_or back 0 f =
-      ap (λ xs. get_or xs target d) whole ∙ (get_or-append_right front back target target d long (omega arith) ∙ (ap (λ k. get_or back k d) none ∙ get_or_default back 0 d f some)) in
-      let it : new ≡ with_copy (get_or segs source d) from len to (get_or segs target d) =
-      copied-is (get_or front source e) (get_or back 0 f) new from len to number bytes ∙ (ap (λ x. with_copy x from len to (get_or back 0 f)) (sym s) ∙ ap (with_copy (get_or segs source d) from len to) (sym t)) in
-      ap (λ k. front ++ set back k new) (sym none)
-      ∙ (sym (set-append_right front back target target new long (omega arith)) ∙ (ap (λ xs. set xs target new) (sym whole) ∙ ap (set segs target) it))
-
-  pub copied-front : length front ≡ source → target < source → 0 < length back → new.number ≡ (get_or front target f).number → new.bytes ≡ with_bytes to (take len (drop from (get_or back 0 e).bytes)) (get_or front target f).bytes →
-      set front target new ++ back ≡ set segs target (with_copy (get_or segs source d) from len to (get_or segs target d))
-  copied-front long before some number bytes =
-      let none : source - source ≡ 0 = omega arith in
-      let s : get_or segs source d ≡ get_or back 0 e =
-      ap (λ xs. get_or xs source d) whole ∙ (get_or-append_right front back source source d long (omega arith) ∙ (ap (λ k. get_or back k d) none ∙ get_or_default back 0 d e some)) in
-      let t : get_or segs target d ≡ get_or front target f = ap (λ xs. get_or xs target d) whole ∙ (get_or_append_left front back d target (omega arith) ∙ get_or_default front target d f (omega arith)) in
-      let it : new ≡ with_copy (get_or segs source d) from len to (get_or segs target d) =
-      copied-is (get_or back 0 e) (get_or front target f) new from len to number bytes ∙ (ap (λ x. with_copy x from len to (get_or front target f)) (sym s) ∙ ap (with_copy (get_or segs source d) from len to) (sym t)) in
-      sym (set-append_left front back target new (omega arith)) ∙ (ap (λ xs. set xs target new) (sym whole) ∙ ap (set segs target) it)
 
 -- the front of one busy extent copied into another
 module _ (segs : List Bytes) (from to i j at place len : ℕ) (f : IsFound from segs i at) (g : IsFound to segs j place) (busy : 0 < (extent_of (tiling segs) to).size) (inside : len ≤ (extent_of (tiling segs) from).size) (fits : len ≤ (extent_of (tiling segs) to).size) where
@@ -57,7 +27,7 @@ module _ (segs : List Bytes) (from to i j at place len : ℕ) (f : IsFound from 
       let body = w.fits in
       omega (arith, ap (λ (x : Extent). x.size) (g.extent d))
 
-  pub copy-changes : (d : Bytes) → Changes (place + 16) (write 0 (take len (extent_of (tiling segs) from).body)) (get_or segs j d) (with_copy (get_or segs i d) (at + 16) len (place + 16) (get_or segs j d))
+  pub copy-changes : (d : Bytes) → Changes (place + 16) (write 0 (take len (extent_of (tiling segs) from).body)) (get_or segs j d) (with_copy_of (get_or segs i d) (at + 16) len (place + 16) (get_or segs j d))
   copy-changes d =
       let w = within (get_or segs i d).bytes at (f.tiled d) (f.named d) in
       let e : Extent = extent_in (at + 16) (extents (get_or segs i d).bytes) in
@@ -69,6 +39,6 @@ module _ (segs : List Bytes) (from to i j at place len : ℕ) (f : IsFound from 
       let there : extent_in (place + 16) (extents (get_or segs j d).bytes) ≡ extent_of (tiling segs) to = g.extent d in
       let none : place + 16 ≡ place + 16 + 0 = omega arith in
       let size = ap (λ (x : Extent). x.size) there in
-      body-changed (get_or segs j d) (with_copy (get_or segs i d) (at + 16) len (place + 16) (get_or segs j d)) place 0 (take len (extent_of (tiling segs) from).body) (g.tiled d) (g.named d) (omega arith) (omega arith)
+      body-changed (get_or segs j d) (with_copy_of (get_or segs i d) (at + 16) len (place + 16) (get_or segs j d)) place 0 (take len (extent_of (tiling segs) from).body) (g.tiled d) (g.named d) (omega arith) (omega arith)
       (ap (λ k. with_bytes k (take len (drop (at + 16) (get_or segs i d).bytes)) (get_or segs j d).bytes) none ∙ ap (λ (xs : List ℕ). with_bytes (place + 16 + 0) xs (get_or segs j d).bytes) src)
       refl

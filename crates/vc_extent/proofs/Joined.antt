@@ -3,7 +3,7 @@ use Rattle.std.proofs.Common.{◌≡◌, ℕ, List, [], ◌+◌, ◌-◌, ◌∷
 use Rattle.vc_seg.specs.Segment.{Bytes}
 use Rattle.vc_extent.specs.Extent.{Extent, free_extent, no_links}
 use Rattle.vc_extent.specs.Change.{first_of, join}
-use Rattle.vc_extent.specs.Field.{field_at}
+use Rattle.vc_seg.specs.Field.{field_at}
 use Rattle.vc_extent.specs.Tiles.{Tiles}
 
 pub join-tiles : (o a n : Bytes) (at first second : ℕ) (e : Extent) (es : List Extent) → e.off ≡ at + 16 → e.span ≡ first → IsSome (first_of es) → IfSome (first_of es) (λ (g : Extent). second ≡ g.span) → Tiles o.bytes (length o.bytes - 16) e.span (at + e.span) es →

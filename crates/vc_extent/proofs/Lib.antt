@@ -1,4 +1,3 @@
-pub mod Frames
 pub mod Tiled
 pub mod Changed
 pub mod Joined

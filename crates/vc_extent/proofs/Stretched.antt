@@ -6,11 +6,11 @@ use Rattle.vc_model.specs.Segments.{span}
 use Rattle.vc_seg.specs.Segment.{Bytes}
 use Rattle.vc_extent.specs.Extent.{Extent, busy_extent, extents, free_extent, no_links}
 use Rattle.vc_extent.specs.Change.{Changes, behind, extent_in, first_of, stretch}
-use Rattle.vc_extent.specs.Field.{field_at}
-use Rattle.vc_extent.specs.Frame.{StaysBelow}
+use Rattle.vc_seg.specs.Field.{field_at}
+use Rattle.vc_seg.specs.Frame.{StaysBelow}
 use Rattle.vc_extent.specs.Stretch.{IsStretched}
 use Rattle.vc_extent.specs.Tiles.{IsTiled, Tiles}
-use Rattle.vc_extent.proofs.Frames.{lower, part-front, then-below}
+use Rattle.vc_seg.proofs.Frames.{lower, part-front, then-below}
 use Rattle.vc_extent.proofs.Changed.{IsWithin, changed, renamed, within}
 use Rattle.vc_extent.proofs.Marked.{part-length}
 

@@ -2,11 +2,11 @@
 use Rattle.std.proofs.Common.{◌≡◌, ℕ, zero, suc, ◌+◌, ◌-◌, ◌%◌, ◌<◌, ◌≤◌, List, [], ◌∷◌, Bool, true, false, cond, eqb, length, take, drop, refl, ap, sym, subst, ◌∙◌, ⊎_elim, arith}
 use Rattle.std.proofs.lemmas.Bool.{cases_Bool, lt-ltb, le-ltb, eqb-true, eqb-false, ne_eqb}
 use Rattle.vc_model.specs.Segments.{span}
-use Rattle.vc_extent.specs.Field.{field_at}
+use Rattle.vc_seg.specs.Field.{field_at}
 use Rattle.vc_extent.specs.Extent.{Extent, Links, extent_at, extents, walk, no_links, links_at, free_extent, busy_extent}
 use Rattle.vc_extent.specs.Tiles.{IsHead, IsLegal, Tiles}
 use Rattle.vc_extent.specs.Change.{behind, extent_in}
-use Rattle.vc_extent.proofs.Frames.{part-front, field-front, part-back, field-back}
+use Rattle.vc_seg.proofs.Frames.{part-front, field-front, part-back, field-back}
 
 -- the same numbers, links and bytes are the same extent
 pub same-extent : (o n : List ℕ) (at : ℕ) → field_at at n ≡ field_at at o → field_at (at + 4) n ≡ field_at (at + 4) o → field_at (at + 8) n ≡ field_at (at + 8) o → links_at (at + 16) n ≡ links_at (at + 16) o →

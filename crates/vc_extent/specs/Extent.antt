@@ -1,6 +1,6 @@
 -- An extent as it lies in the bytes of its segment: a head of 16 bytes, and behind it three links where it is free, or the bytes of a block where it is busy.
 use Rattle.std.specs.Prelude.{ℕ, ◌+◌, ◌-◌, zero, suc, List, [], ◌∷◌, length, take, drop, nat_lt, ◌==◌, if◌then◌else◌}
-use Rattle.vc_extent.specs.Field.{field_at}
+use Rattle.vc_seg.specs.Field.{field_at}
 
 -- the three links of a free extent
 pub record Links : Type 0 where

@@ -1,7 +1,5 @@
-pub mod Field
 pub mod Extent
 pub mod Tiles
-pub mod Frame
 pub mod Change
 pub mod Stretch
 pub mod Tiling

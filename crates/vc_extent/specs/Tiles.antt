@@ -2,7 +2,7 @@
 use Rattle.std.specs.Prelude.{◌≡◌, ℕ, ◌+◌, ◌-◌, ◌%◌, ◌<◌, ◌≤◌, List, [], ◌∷◌, length}
 use Rattle.vc_model.specs.Discipline.{IsSegmentSize}
 use Rattle.vc_model.specs.Segments.{span}
-use Rattle.vc_extent.specs.Field.{field_at}
+use Rattle.vc_seg.specs.Field.{field_at}
 use Rattle.vc_extent.specs.Extent.{Extent, extent_at, extents}
 
 -- the numbers that an extent can have: a span in multiples of 32 bytes, which is that of its size where it is busy

@@ -1,8 +1,7 @@
 -- Numbered segments of extents, as definitions over their bytes.
-use Rattle.std.specs.Prelude.{◌≡◌, ◌≢◌, ℕ, ◌+◌, ◌-◌, ◌%◌, ◌<◌, List, [], ◌∷◌, All, Option, None, Some, IsSome, length, map, take, drop, slice_index, nat_lt, ◌==◌, if◌then◌else◌}
+use Rattle.std.specs.Prelude.{◌≡◌, ◌≢◌, ℕ, ◌+◌, ◌-◌, ◌%◌, ◌<◌, List, [], ◌∷◌, All, Option, None, Some, IsSome, length, map, take, slice_index, nat_lt, ◌==◌, if◌then◌else◌}
 use Rattle.std.specs.List.{HoldsAt}
 use Rattle.vc_model.specs.Addr.{place_of}
-use Rattle.vc_model.specs.Bytes.{with_bytes}
 use Rattle.vc_seg.specs.Segment.{AreSegments, Bytes, pair_of}
 use Rattle.vc_extent.specs.Extent.{Extent, extents}
 use Rattle.vc_extent.specs.Change.{behind, change_at, extent_in, first_of, last_before}
@@ -85,10 +84,6 @@ pub record IsFound (a : ℕ) (segs : List Bytes) (i at : ℕ) : Type 0 where
   pub tiled : HoldsAt (λ s. IsTiled s.bytes) segs i
   pub named : HoldsAt (λ s. 0 < (extent_in (at + 16) (extents s.bytes)).span) segs i
   pub extent : HoldsAt (λ s. extent_in (at + 16) (extents s.bytes) ≡ extent_of (tiling segs) a) segs i
-
--- a segment with a range of another one copied into it
-abbrev pub with_copy : Bytes → ℕ → ℕ → ℕ → Bytes → Bytes
-with_copy source from len to s = record { number = s.number; bytes = with_bytes to (take len (drop from source.bytes)) s.bytes }
 
 -- one number of an index after a segment was taken out of a place, counted from 1
 abbrev pub closed_up : ℕ → ℕ → ℕ

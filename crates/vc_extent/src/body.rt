@@ -3,7 +3,6 @@ ghost use Rattle.vc_extent.specs.Extent.{extents};
 ghost use Rattle.vc_extent.specs.Change.{Changes, extent_in, link_in, set_link, write};
 ghost use Rattle.vc_extent.specs.Tiles.{IsTiled};
 
-use crate::field::{field, set_field};
 use crate::read::size_in;
 use vc_seg::Segment;
 
@@ -51,7 +50,7 @@ pub(crate) fn link_at(seg: &Segment, at: u32, k: u32) -> u32
     requires k { k < 3 }
     ensures { result ≡ link_in k (extent_in (at + 16) (extents seg.now.bytes)).links }
 {
-    field(seg, at + 16 + 4 * k)
+    seg.field(at + 16 + 4 * k)
 }
 
 /// Sets link k of the free extent from a place on, from 0 to 2.
@@ -63,5 +62,5 @@ pub(crate) fn set_link_at(seg: &mut Segment, at: u32, k: u32, v: u32)
     requires k { k < 3 }
     ensures { Changes (at + 16) (set_link k v) seg.old seg.new }
 {
-    set_field(seg, at + 16 + 4 * k, v);
+    seg.set_field(at + 16 + 4 * k, v);
 }

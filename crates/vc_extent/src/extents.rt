@@ -14,7 +14,7 @@ use crate::next::{next_in, previous_in};
 use crate::read::{size_in, span_in, tag_in};
 use std::alloc::Global;
 use vc_base::{Addr, OutOfMemory, Steps};
-use vc_seg::Segment;
+use vc_seg::{Segment, lowest_unused};
 
 /// Lessens each number of an index that is above a place by one.
 fn close_up(index: &mut Vec<u32>, place: u32)
@@ -77,12 +77,10 @@ impl Extents {
         ensures last { IfSome result (λ n. n ≤ 1023) }
         ensures none { IsNone result ↔ (length self.now.segs.items ≡ 1023) }
     {
-        for n in 1..1024 {
-            if self.index[n as usize] == 0 {
-                return Some(n);
-            }
+        if self.segs.len() >= 1023 {
+            return None;
         }
-        None
+        Some(lowest_unused(&self.segs))
     }
 
     /// The place of the segment of that number, which is there.

@@ -1,12 +1,11 @@
 ghost use Rattle.std.specs.Prelude.{◌≡◌, ℕ, ◌+◌, ◌-◌, ◌<◌, ◌≤◌, ◌%◌, List, [], ◌∷◌, length, take, drop};
 ghost use Rattle.vc_model.specs.Discipline.{IsSegmentSize};
 ghost use Rattle.vc_model.specs.Segments.{span};
-ghost use Rattle.vc_extent.specs.Field.{field_at};
+ghost use Rattle.vc_seg.specs.Field.{field_at};
 ghost use Rattle.vc_extent.specs.Extent.{Extent, busy_extent, extents, free_extent, no_links};
-ghost use Rattle.vc_extent.specs.Frame.{StaysBelow, StaysOutside};
+ghost use Rattle.vc_seg.specs.Frame.{StaysBelow, StaysOutside};
 ghost use Rattle.vc_extent.specs.Tiles.{IsTiled, Tiles};
 
-use crate::field::set_field;
 use vc_seg::Segment;
 
 /// Tells the extent from a place on, where there is one, that the one before it has that span.
@@ -19,7 +18,7 @@ pub(crate) fn set_boundary(seg: &mut Segment, at: u32, before: u32)
     ensures rest { StaysBelow (at + 12) seg.old seg.new }
 {
     if at + 16 < seg.size() {
-        set_field(seg, at + 12, before);
+        seg.set_field(at + 12, before);
     }
 }
 
@@ -32,9 +31,9 @@ fn set_head(seg: &mut Segment, at: u32, span: u32, size: u32, tag: u32)
     ensures tag { field_at (at + 8) seg.new.bytes ≡ tag }
     ensures rest { StaysOutside at (at + 12) seg.old seg.new }
 {
-    set_field(seg, at, span);
-    set_field(seg, at + 4, size);
-    set_field(seg, at + 8, tag);
+    seg.set_field(at, span);
+    seg.set_field(at + 4, size);
+    seg.set_field(at + 8, tag);
 }
 
 /// Makes a busy extent of a span from a place on, before what tiles the segment from its end on.
@@ -65,9 +64,9 @@ pub(crate) fn lay_free(seg: &mut Segment, at: u32, bytes: u32)
     ensures rest { StaysBelow at seg.old seg.new }
 {
     set_head(seg, at, bytes, 0, 0);
-    set_field(seg, at + 16, 0);
-    set_field(seg, at + 20, 0);
-    set_field(seg, at + 24, 0);
+    seg.set_field(at + 16, 0);
+    seg.set_field(at + 20, 0);
+    seg.set_field(at + 24, 0);
 }
 
 /// Makes a free extent of what is left of a whole behind its first bytes, before what tiles the segment from the end of
@@ -100,6 +99,6 @@ pub(crate) fn format(seg: &mut Segment)
         ≡ free_extent 32 (length seg.old.bytes - 32) no_links ∷ [] }
 {
     let size = seg.size();
-    set_field(seg, 28, 0);
+    seg.set_field(28, 0);
     lay_free(seg, 16, size - 32);
 }

@@ -9,7 +9,6 @@ mod change;
 mod copied;
 mod edit;
 mod extents;
-mod field;
 mod lay;
 mod next;
 mod read;

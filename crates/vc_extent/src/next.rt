@@ -3,7 +3,6 @@ ghost use Rattle.vc_extent.specs.Extent.{extents};
 ghost use Rattle.vc_extent.specs.Change.{behind, extent_in, first_of, last_before};
 ghost use Rattle.vc_extent.specs.Tiles.{IsTiled};
 
-use crate::field::field;
 use crate::read::span_in;
 use vc_seg::Segment;
 
@@ -37,7 +36,7 @@ pub(crate) fn previous_in(seg: &Segment, at: u32) -> Option<u32>
     ensures multiple { IfSome result (λ off. off % 32 ≡ 0) }
     ensures named { IfSome result (λ off. 0 < (extent_in off (extents seg.now.bytes)).span) }
 {
-    let before = field(seg, at + 12);
+    let before = seg.field(at + 12);
     if before == 0 {
         None
     } else {

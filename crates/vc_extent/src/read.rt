@@ -3,7 +3,6 @@ ghost use Rattle.vc_extent.specs.Extent.{extents};
 ghost use Rattle.vc_extent.specs.Change.{behind, extent_in, first_of};
 ghost use Rattle.vc_extent.specs.Tiles.{IsTiled};
 
-use crate::field::field;
 use vc_seg::Segment;
 
 /// The span of the extent from a place on.
@@ -18,7 +17,7 @@ pub(crate) fn span_in(seg: &Segment, at: u32) -> u32
     ensures least { 32 ≤ result }
     ensures multiple { result % 32 ≡ 0 }
 {
-    field(seg, at)
+    seg.field(at)
 }
 
 /// The span of the extent behind the one from a place on, whose span is given.
@@ -33,7 +32,7 @@ pub(crate) fn span_behind(seg: &Segment, at: u32, bytes: u32) -> u32
     ensures least { 32 ≤ result }
     ensures multiple { result % 32 ≡ 0 }
 {
-    field(seg, at + bytes)
+    seg.field(at + bytes)
 }
 
 /// The size of the extent from a place on, 0 where it is free.
@@ -45,7 +44,7 @@ pub(crate) fn size_in(seg: &Segment, at: u32) -> u32
     ensures within { at + 16 + result ≤ length seg.now.bytes }
     ensures most { length seg.now.bytes ≤ 33554432 }
 {
-    field(seg, at + 4)
+    seg.field(at + 4)
 }
 
 /// The tag of the extent from a place on, 0 where it is free.
@@ -55,5 +54,5 @@ pub(crate) fn tag_in(seg: &Segment, at: u32) -> u32
     requires named { 0 < (extent_in (at + 16) (extents seg.now.bytes)).span }
     ensures { result ≡ (extent_in (at + 16) (extents seg.now.bytes)).tag }
 {
-    field(seg, at + 8)
+    seg.field(at + 8)
 }

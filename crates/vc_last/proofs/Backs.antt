@@ -6,7 +6,7 @@ use Rattle.std.proofs.lemmas.List.Elements.{All-map}
 use Rattle.vc_model.specs.Gap.{Run, bytes_of, gaps_between, run_of}
 use Rattle.vc_model.specs.Layout.{Block, footprint, footprints}
 use Rattle.vc_seg.specs.Segment.{AreSegments, Bytes, pair_of}
-use Rattle.vc_segments.proofs.Bytes.{bytes_of_number-most}
+use Rattle.vc_seg.proofs.BytesByNumber.{bytes_of_number-most}
 use Rattle.vc_layouts.specs.Tally.{HasRoom, tally_of}
 use Rattle.vc_layouts.proofs.Tallies.{sizes-most}
 use Rattle.vc_last.specs.Chain.{IsLast, blocks_from, most_blocks}

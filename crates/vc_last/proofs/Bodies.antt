@@ -8,10 +8,10 @@ use Rattle.vc_model.specs.Layout.{Block, Layout, address_of, is_at}
 use Rattle.vc_model.specs.Segments.{span}
 use Rattle.vc_model.specs.Touch.{HasBlock, change_block, rewritten_block, with_bytes_at}
 use Rattle.vc_seg.specs.Segment.{Bytes, pair_of}
-use Rattle.vc_segments.specs.Memory.{bytes_of_number}
-use Rattle.vc_segments.proofs.Overwrites.{range-around}
-use Rattle.vc_extent.specs.Field.{field_at}
-use Rattle.vc_extent.proofs.Frames.{field-front}
+use Rattle.vc_seg.specs.Memory.{bytes_of_number}
+use Rattle.vc_seg.proofs.Overwrites.{range-around}
+use Rattle.vc_seg.specs.Field.{field_at}
+use Rattle.vc_seg.proofs.Frames.{field-front}
 use Rattle.vc_layouts.proofs.Lists.{AllPairs-head, AllPairs-tail}
 use Rattle.vc_last.specs.Row.{EndsFirst, IsRow}
 use Rattle.vc_last.specs.Head.{HasHead, StaysBut, before_of, block_of, bytes_at}

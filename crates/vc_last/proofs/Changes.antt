@@ -7,9 +7,9 @@ use Rattle.vc_model.specs.Resize.{is_usable, resize_there, sized_block}
 use Rattle.vc_model.specs.Segments.{span}
 use Rattle.vc_model.specs.Touch.{change_block}
 use Rattle.vc_seg.specs.Segment.{Bytes, pair_of}
-use Rattle.vc_segments.specs.Memory.{bytes_of_number}
-use Rattle.vc_extent.specs.Field.{field_at}
-use Rattle.vc_extent.proofs.Frames.{field-back, field-front, part-back}
+use Rattle.vc_seg.specs.Memory.{bytes_of_number}
+use Rattle.vc_seg.specs.Field.{field_at}
+use Rattle.vc_seg.proofs.Frames.{field-back, field-front, part-back}
 use Rattle.vc_last.specs.Row.{EndsFirst}
 use Rattle.vc_last.specs.Head.{HasHead, LiesThere, StaysBut, before_of, block_of}
 use Rattle.vc_last.specs.Chain.{IsLast, IsLastOf, LiesLower, blocks_from, rank}

@@ -12,9 +12,9 @@ use Rattle.vc_model.specs.Sound.{IsSound}
 use Rattle.vc_model.specs.Touch.{HasBlock, find_block}
 use Rattle.vc_seg.specs.Segment.{Bytes, pair_of}
 use Rattle.vc_seg.proofs.Backs.{Apart}
-use Rattle.vc_segments.specs.Memory.{bytes_of_number}
-use Rattle.vc_segments.proofs.Bytes.{bytes_of_number-at, bytes_of_number-most}
-use Rattle.vc_extent.specs.Field.{field_at}
+use Rattle.vc_seg.specs.Memory.{bytes_of_number}
+use Rattle.vc_seg.proofs.BytesByNumber.{bytes_of_number-at, bytes_of_number-most}
+use Rattle.vc_seg.specs.Field.{field_at}
 use Rattle.vc_extent.specs.Tiling.{index_from}
 use Rattle.vc_layouts.proofs.Segments.{HaveOwnNumbers-segments}
 use Rattle.vc_last.specs.Row.{IsRow}

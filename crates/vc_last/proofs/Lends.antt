@@ -8,9 +8,9 @@ use Rattle.vc_model.specs.Layout.{Block, address_of}
 use Rattle.vc_model.specs.Segments.{span}
 use Rattle.vc_seg.specs.Segment.{AreSegments, Bytes}
 use Rattle.vc_seg.proofs.Backs.{AreSegments-filter}
-use Rattle.vc_segments.specs.Memory.{bytes_of_number}
-use Rattle.vc_segments.proofs.Bytes.{bytes_of_number-append}
-use Rattle.vc_extent.specs.Field.{field_at}
+use Rattle.vc_seg.specs.Memory.{bytes_of_number}
+use Rattle.vc_seg.proofs.BytesByNumber.{bytes_of_number-append}
+use Rattle.vc_seg.specs.Field.{field_at}
 use Rattle.vc_extent.specs.Tiling.{index_from}
 use Rattle.vc_last.specs.Head.{HasHead}
 use Rattle.vc_last.specs.Chain.{IsChain, IsLastOf, rank}

@@ -5,9 +5,9 @@ use Rattle.std.proofs.lemmas.Bool.{eq-eqb, ne_eqb}
 use Rattle.std.proofs.lemmas.List.{get_or_default}
 use Rattle.std.proofs.lemmas.List.Elements.{All-head, All-tail}
 use Rattle.vc_seg.specs.Segment.{Bytes, pair_of}
-use Rattle.vc_segments.specs.Memory.{bytes_of_number}
-use Rattle.vc_segments.proofs.Numbered.{bytes_of_number-first}
-use Rattle.vc_extent.specs.Frame.{StaysOutside}
+use Rattle.vc_seg.specs.Memory.{bytes_of_number}
+use Rattle.vc_seg.proofs.FirstByNumber.{bytes_of_number-first}
+use Rattle.vc_seg.specs.Frame.{StaysOutside}
 use Rattle.vc_extent.proofs.Sets.{pairs-set}
 use Rattle.vc_last.specs.Head.{StaysBut}
 

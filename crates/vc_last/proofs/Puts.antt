@@ -13,9 +13,9 @@ use Rattle.vc_seg.specs.Segment.{AreSegments, Bytes, pair_of, zero_segment}
 use Rattle.vc_seg.specs.Answer.{Asks, IsPut, IsRefusal}
 use Rattle.vc_seg.specs.declared.fault.RegionFault.{RegionFault}
 use Rattle.vc_seg.specs.declared.fault.RegionFault.TheVariants as code
-use Rattle.vc_segments.specs.Lend.{IsAsked, IsNoGrant}
-use Rattle.vc_segments.specs.Memory.{bytes_of_number}
-use Rattle.vc_segments.proofs.Bytes.{bytes_of_number-most}
+use Rattle.vc_seg.specs.Lend.{IsAsked, IsNoGrant}
+use Rattle.vc_seg.specs.Memory.{bytes_of_number}
+use Rattle.vc_seg.proofs.BytesByNumber.{bytes_of_number-most}
 use Rattle.vc_layouts.proofs.Segments.{Served-lent, Served-same}
 use Rattle.vc_last.specs.Head.{LiesThere, StaysBut}
 use Rattle.vc_last.specs.Chain.{IsLast, IsLastOf, blocks_from}

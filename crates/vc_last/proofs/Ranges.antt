@@ -5,8 +5,8 @@ use Rattle.vc_model.specs.Addr.{place_of}
 use Rattle.vc_model.specs.Layout.{Block}
 use Rattle.vc_model.specs.Touch.{HasBlock, HasRange, find_block}
 use Rattle.vc_seg.specs.Segment.{Bytes}
-use Rattle.vc_segments.proofs.Bytes.{bytes_of_number-most}
-use Rattle.vc_segments.proofs.Overwrites.{range-part}
+use Rattle.vc_seg.proofs.BytesByNumber.{bytes_of_number-most}
+use Rattle.vc_seg.proofs.Overwrites.{range-part}
 use Rattle.vc_last.specs.Chain.{IsLast}
 use Rattle.vc_last.specs.Head.{block_of, bytes_at}
 use Rattle.vc_last.specs.Read.{layout_by}

@@ -6,8 +6,8 @@ use Rattle.vc_model.specs.Layout.{Block, address_of, footprint}
 use Rattle.vc_model.specs.Resize.{is_usable, sized_block}
 use Rattle.vc_model.specs.Segments.{span}
 use Rattle.vc_seg.specs.Segment.{Bytes, pair_of}
-use Rattle.vc_segments.specs.Memory.{bytes_of_number}
-use Rattle.vc_extent.specs.Field.{field_at}
+use Rattle.vc_seg.specs.Memory.{bytes_of_number}
+use Rattle.vc_seg.specs.Field.{field_at}
 
 -- the bytes of the segment of an address
 abbrev pub bytes_at : List Bytes → ℕ → List ℕ

@@ -3,9 +3,9 @@ ghost use Rattle.vc_model.specs.Addr.{place_of};
 ghost use Rattle.vc_model.specs.Best.{zeros};
 ghost use Rattle.vc_model.specs.Resize.{fitted_bytes, sized_block};
 ghost use Rattle.vc_seg.specs.Segment.{AreSegments};
-ghost use Rattle.vc_segments.specs.Memory.{bytes_of_number};
-ghost use Rattle.vc_extent.specs.Field.{field_at};
-ghost use Rattle.vc_extent.specs.Frame.{StaysOutside};
+ghost use Rattle.vc_seg.specs.Memory.{bytes_of_number};
+ghost use Rattle.vc_seg.specs.Field.{field_at};
+ghost use Rattle.vc_seg.specs.Frame.{StaysOutside};
 ghost use Rattle.vc_last.specs.Head.{HasHead, LiesThere, StaysBut, before_of, block_of, HeadStays};
 
 use crate::range::{bytes_in, place_of_number};
@@ -54,16 +54,6 @@ pub(crate) fn before_at(segs: &[Segment], a: Addr) -> Addr
     Addr(field(segs, a.seg(), a.off() - 8))
 }
 
-/// Writes a number into the four bytes from a place on, the lowest first.
-#[inline(always)]
-fn set_field(seg: &mut Segment, at: u32, v: u32)
-    requires { at + 4 ≤ length seg.old.bytes }
-    ensures value { field_at at seg.new.bytes ≡ v }
-    ensures rest { StaysOutside at (at + 4) seg.old seg.new }
-{
-    seg.put(at, &v.to_le_bytes());
-}
-
 /// Writes a block of zeros at an offset of a segment, with its head.
 fn lay_in(seg: &mut Segment, off: u32, size: u32, tag: u32, before: u32)
     requires first { 16 ≤ off }
@@ -76,10 +66,10 @@ fn lay_in(seg: &mut Segment, off: u32, size: u32, tag: u32, before: u32)
     ensures rest { StaysOutside (off - 16) (off + size) seg.old seg.new }
 {
     let at = off - 16;
-    set_field(seg, at, size);
-    set_field(seg, at + 4, tag);
-    set_field(seg, at + 8, before);
-    set_field(seg, at + 12, 0);
+    seg.set_field(at, size);
+    seg.set_field(at + 4, tag);
+    seg.set_field(at + 8, before);
+    seg.set_field(at + 12, 0);
     seg.fill(off, size, 0);
 }
 
@@ -109,7 +99,7 @@ fn size_in(seg: &mut Segment, off: u32, old: u32, size: u32)
         ≡ fitted_bytes size (take old (drop off seg.old.bytes)) }
     ensures rest { StaysOutside (off - 16) (off + size) seg.old seg.new }
 {
-    set_field(seg, off - 16, size);
+    seg.set_field(off - 16, size);
     zero_behind(seg, off, old, size);
 }
 
@@ -149,5 +139,5 @@ pub(crate) fn set_before(segs: &mut [Segment], a: Addr, before: Addr)
         segs.old segs.new }
 {
     let place = place_of_number(segs, a.seg());
-    set_field(&mut segs[place], a.off() - 8, before.0);
+    segs[place].set_field(a.off() - 8, before.0);
 }

@@ -2,7 +2,7 @@ ghost use Rattle.std.specs.Prelude.{◌≡◌, ◌%◌, ◌≤◌, IfErr, IfOk, 
 ghost use Rattle.vc_model.specs.Discipline.{IsSegmentSize};
 ghost use Rattle.vc_seg.specs.Segment.{AreSegments, pair_of};
 ghost use Rattle.vc_last.specs.Call.{IsLent};
-ghost use Rattle.vc_segments.specs.Lend.{IsAsked, IsNoGrant};
+ghost use Rattle.vc_seg.specs.Lend.{IsAsked, IsNoGrant};
 
 use std::alloc::Global;
 use vc_seg::{RegionFault, SegDisc, Segment};

@@ -2,7 +2,7 @@ ghost use Rattle.std.specs.Prelude.{◌≡◌, ◌≢◌, ℕ, ◌+◌, ◌<◌,
 ghost use Rattle.std.specs.List.{HoldsAt};
 ghost use Rattle.vc_model.specs.Bytes.{with_bytes};
 ghost use Rattle.vc_seg.specs.Segment.{AreSegments};
-ghost use Rattle.vc_segments.specs.Memory.{bytes_of_number};
+ghost use Rattle.vc_seg.specs.Memory.{bytes_of_number};
 ghost use Rattle.vc_last.specs.Head.{StaysBut};
 
 use vc_seg::{Segment, find_number};

@@ -8,13 +8,14 @@ use Rattle.std.specs.Prelude.{Err}
 use Rattle.vc_layouts.proofs.Lists.{AllPairs-map}
 use Rattle.vc_model.specs.Bytes.{with_bytes}
 use Rattle.vc_model.specs.Discipline.{Discipline, Lent, Served, TookBack}
+use Rattle.vc_model.proofs.Keeping.{Kept-same}
 use Rattle.vc_model.specs.Sound.{HaveOwnNumbers}
 use Rattle.vc_seg.specs.Answer.{Asks}
 use Rattle.vc_seg.specs.Segment.{AreSegments, Bytes, pair_of}
 use Rattle.vc_seg.specs.declared.fault.RegionFault.{RegionFault}
-use Rattle.vc_segments.proofs.Overwrites.{length-with_bytes}
-use Rattle.vc_segments.specs.Lend.{IsAsked}
-use Rattle.vc_segments.specs.Memory.{bytes_of_number, write_segment}
+use Rattle.vc_seg.proofs.Overwrites.{length-with_bytes}
+use Rattle.vc_seg.specs.Lend.{IsAsked}
+use Rattle.vc_seg.specs.Memory.{bytes_of_number, write_segment}
 use Rattle.vc_seg.specs.declared.fault.RegionFault.TheVariants as code
 
 pub TookBack-all : (a b : Discipline) (held : List (ℕ × ℕ)) (ss : List Bytes) → TookBack a b held (map pair_of ss) → ss ≡ [] → TookBack a b held []
@@ -44,13 +45,13 @@ only-one (s ∷ ss) n P h any = λ k d lt own.
 
 -- a discipline that was asked for nothing
 pub Served-same : (d : Discipline) (segments : List (ℕ × ℕ)) (bytes : ℕ) → Served d d segments segments bytes
-Served-same d segments bytes = record { terms = refl; faults = refl; out = λ rest e. e; room = λ other. absurd (other refl); same = λ e. refl }
+Served-same d segments bytes = record { kept = Kept-same d; faults = refl; out = λ rest e. e; room = λ other. absurd (other refl); same = λ e. refl }
 
 -- a discipline that lent a segment
 pub Served-lent : (old new : Discipline) (segments segments' : List (ℕ × ℕ)) (n bytes : ℕ) → segments' ≡ segments ++ (n, bytes) ∷ [] → Lent old new n bytes → Served old new segments segments' bytes
 Served-lent old new segments segments' n bytes e lent =
     record {
-      terms = lent.terms;
+      kept = lent.kept;
       faults = lent.faults;
       out = λ rest o. lent.out ∙ (ap (λ (xs : List (ℕ × ℕ)). xs ++ (n, bytes) ∷ []) o ∙ (append_assoc rest segments ((n, bytes) ∷ []) ∙ ap (λ (xs : List (ℕ × ℕ)). rest ++ xs) (sym e)));
       room = λ other. lent.room;

@@ -1,8 +1,8 @@
 -- Tallies of the blocks and segments of a layout.
 use Rattle.std.proofs.Common.{All, List, [], ap, arith, false, fold, length, map, refl, sum, true, ℕ, ⊎_elim, ◌*◌, ◌++◌, ◌+◌, ◌∙◌, ◌∷◌, ◌≡◌, ◌≤◌}
 use Rattle.std.proofs.lemmas.Bool.{cases_Bool}
-use Rattle.std.proofs.lemmas.List.{length-append}
-use Rattle.std.proofs.lemmas.List.Elements.{All-head, All-tail}
+use Rattle.std.proofs.lemmas.List.{length-append, length-map}
+use Rattle.std.proofs.lemmas.List.Elements.{All-head, All-map, All-tail}
 use Rattle.std.proofs.lemmas.List.Sums.{fold-append, sum_by-append, sum_by-cons}
 use Rattle.std.specs.Prelude.{max}
 use Rattle.vc_layouts.specs.InOrder.{in_order}
@@ -10,6 +10,7 @@ use Rattle.vc_layouts.specs.Tally.{HasRoom, tally_with, tallied_all, tally_of}
 use Rattle.vc_layouts.specs.declared.tally.Tally.{Tally}
 use Rattle.vc_model.specs.Layout.{Block, lies_before, with_block}
 use Rattle.vc_model.specs.Numbers.{greatest}
+use Rattle.vc_seg.specs.Numbered.{AreNumbered}
 
 pub tallied_all-append : (t : Tally) (xs ys : List ℕ) → tallied_all t (xs ++ ys) ≡ tallied_all (tallied_all t xs) ys
 tallied_all-append t xs ys = fold-append tally_with t xs ys
@@ -52,6 +53,14 @@ sizes-most most (n ∷ ns) h =
     let rest = sizes-most most ns (All-tail (λ (m : ℕ). m ≤ most) n ns h) in
     let more = sum_by-cons (λ (m : ℕ). m) n ns in
     omega (arith, here, rest, more)
+
+-- a tally has room for the segments of a region
+pub HasRoom-segments : (pairs : List (ℕ × ℕ)) → AreNumbered pairs → HasRoom (tally_of []) (map (λ s. s.1) pairs)
+HasRoom-segments pairs h =
+    let few = h.few in
+    let most = sizes-most 33554432 (map (λ (s : ℕ × ℕ). s.1) pairs) (All-map (λ n. n ≤ 33554432) (λ (s : ℕ × ℕ). s.1) pairs (λ k d lt. (h.legal k d lt).size.most)) in
+    let len = length-map pairs (λ (s : ℕ × ℕ). s.1) in
+    record { count = omega (arith, few, len); bytes = omega (arith, few, len, most) }
 
 -- sizes make one tally in whichever order they come
 tallied-twice : (t : Tally) (m n : ℕ) → tally_with (tally_with t m) n ≡ tally_with (tally_with t n) m

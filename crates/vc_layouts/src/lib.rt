@@ -3,4 +3,4 @@
 
 mod tally;
 
-pub use tally::Tally;
+pub use tally::{Tally, tally_segments};

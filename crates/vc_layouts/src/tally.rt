@@ -1,5 +1,7 @@
-ghost use Rattle.std.specs.Prelude.{◌≡◌, [], ◌∷◌};
+ghost use Rattle.std.specs.Prelude.{◌≡◌, [], ◌∷◌, map};
 ghost use Rattle.vc_layouts.specs.Tally.{HasRoom, tally_with, tally_of};
+
+use vc_seg::Numbered;
 
 /// How many sizes there are, their sum and the greatest, in bytes.
 #[derive(Clone, Copy)]
@@ -36,4 +38,16 @@ impl Tally {
             most: if self.most < size { size } else { self.most },
         }
     }
+}
+
+/// How many segments there are, the sum of their sizes and the greatest, in bytes.
+pub fn tally_segments<T: Numbered>(segs: &[T]) -> Tally
+    requires { HasRoom (tally_of []) (map (λ s. s.1) (map T.pair segs.now)) }
+    ensures { result ≡ tally_of (map (λ s. s.1) (map T.pair segs.now)) }
+{
+    let mut tally = Tally::new();
+    for segment in segs {
+        tally = tally.with(segment.size());
+    }
+    tally
 }

@@ -15,7 +15,7 @@ use Rattle.vc_layouts.specs.Put.{with_zeros}
 use Rattle.vc_seg.specs.Answer.{Answers, Asks, IsPut, IsRefusal}
 use Rattle.vc_seg.specs.declared.fault.RegionFault.{RegionFault}
 use Rattle.vc_seg.specs.declared.fault.RegionFault.TheVariants as code
-use Rattle.vc_segments.specs.Lend.{IsAsked, IsNoGrant}
+use Rattle.vc_seg.specs.Lend.{IsAsked, IsNoGrant}
 use Rattle.vc_pool_cells.specs.Blocks.{carved_by, layout_by, pair_of}
 use Rattle.vc_pool_cells.specs.Call.{IsReused}
 use Rattle.vc_pool_cells.specs.Cells.{Cells, cells_of}

@@ -5,7 +5,7 @@ use Rattle.std.proofs.lemmas.List.{length-map}
 use Rattle.vc_model.specs.Discipline.{Discipline}
 use Rattle.vc_model.specs.Segments.{Granted, NotLent, TooMany, ask, lowest_unused, numbers}
 use Rattle.vc_seg.specs.declared.fault.RegionFault.{RegionFault}
-use Rattle.vc_segments.specs.Lend.{IsNoGrant}
+use Rattle.vc_seg.specs.Lend.{IsNoGrant}
 use Rattle.vc_pool_cells.specs.Blocks.{pair_of}
 use Rattle.vc_pool_cells.specs.Cells.{Cells, cells_of}
 use Rattle.vc_pool_cells.specs.Place.{cells_in}

@@ -3,7 +3,7 @@ use Rattle.std.proofs.Common.{◌≡◌, ℕ, List, [], ◌∷◌, false, All, m
 use Rattle.std.proofs.lemmas.Bool.{or_parts, eqb-false}
 use Rattle.std.proofs.lemmas.List.Elements.{All-cons, All-nil}
 use Rattle.vc_model.specs.Segments.{lowest_unused, numbers}
-use Rattle.vc_segments.proofs.Unused.{is_among, lowest_unused-unused, unused_from-used}
+use Rattle.vc_seg.proofs.Unused.{is_among, lowest_unused-unused, unused_from-used}
 use Rattle.vc_pool_cells.specs.Blocks.{pair_of}
 use Rattle.vc_pool_cells.specs.Cells.{Cells}
 use Rattle.vc_pool_cells.specs.Place.{IsOther}

@@ -8,14 +8,13 @@ ghost use Rattle.vc_pool_cells.specs.Blocks.{carved_by, pair_of};
 ghost use Rattle.vc_pool_cells.specs.Kept.{AreCellular, IsPool};
 ghost use Rattle.vc_pool_cells.specs.Place.{cells_in};
 ghost use Rattle.vc_seg.specs.Answer.{Answers, Asks};
-ghost use Rattle.vc_segments.specs.Lend.{IsAsked, IsNoGrant};
+ghost use Rattle.vc_seg.specs.Lend.{IsAsked, IsNoGrant};
 
 use crate::number::lowest_unused;
 use std::alloc::Global;
 use vc_base::Addr;
 use vc_pool_cells::{PoolSegment, carve_lowest, carve_new, reuse};
-use vc_seg::{RegionFault, SegDisc, round_of, rounded_up};
-use vc_segments::lend_segment;
+use vc_seg::{RegionFault, SegDisc, lend_segment, round_of, rounded_up};
 
 /// The element size when a block of this size is put: the first block sets it. 0 stands for none.
 fn element_with(element: u32, size: u32) -> u32

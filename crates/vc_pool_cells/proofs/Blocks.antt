@@ -7,7 +7,7 @@ use Rattle.std.proofs.lemmas.List.Elements.{All-append, All-head, All-tail, All-
 use Rattle.vc_model.specs.Layout.{Block, is_at}
 use Rattle.vc_model.specs.Pool.{cell_offset}
 use Rattle.vc_layouts.proofs.InOrder.{NoneAt}
-use Rattle.vc_extent.proofs.Frames.{part-back, part-front}
+use Rattle.vc_seg.proofs.Frames.{part-back, part-front}
 use Rattle.vc_pool_cells.specs.Blocks.{block_in, blocks_from, blocks_of}
 use Rattle.vc_pool_cells.specs.Cells.{Cells, pair_at}
 use Rattle.vc_pool_cells.specs.Place.{IsOther}

@@ -6,7 +6,7 @@ use Rattle.std.proofs.lemmas.List.{get_or-set_other}
 use Rattle.std.proofs.lemmas.List.Elements.{All-head, All-tail}
 use Rattle.std.proofs.Math.Nat.{mul-le-mul_right}
 use Rattle.vc_model.specs.Pool.{cell_offset}
-use Rattle.vc_extent.proofs.Frames.{part-back, part-front}
+use Rattle.vc_seg.proofs.Frames.{part-back, part-front}
 use Rattle.vc_pool_cells.specs.Cells.{Cells, pair_at}
 use Rattle.vc_pool_cells.specs.Freed.{IsChain, IsFreeCell, cell_total, cells_at, freed_by, freed_from, index_at, link_at, word_at}
 use Rattle.vc_pool_cells.proofs.Blocks.{ChangesCell}

@@ -10,7 +10,7 @@ use Rattle.vc_model.specs.Layout.{Block}
 use Rattle.vc_model.specs.Pool.{cell_offset}
 use Rattle.vc_model.specs.Resize.{fitted_bytes, sized_block}
 use Rattle.vc_model.specs.Touch.{rewritten_block}
-use Rattle.vc_extent.proofs.Frames.{drop-back, take-front, written-above, written-below, written-length, written-part}
+use Rattle.vc_seg.proofs.Frames.{drop-back, take-front, written-above, written-below, written-length, written-part}
 use Rattle.vc_pool_cells.specs.Blocks.{block_in}
 use Rattle.vc_pool_cells.specs.Cells.{Cells, HasCell, with_zeros_in, pair_at, with_free_cell, with_cell_size, with_cell_bytes}
 use Rattle.vc_pool_cells.specs.Freed.{word_at}

@@ -1,25 +1,20 @@
 -- A segment that is taken back.
-use Rattle.std.proofs.Common.{◌≡◌, ℕ, zero, suc, ◌+◌, ◌<◌, ◌≤◌, ◌≢◌, List, [], ◌∷◌, ◌++◌, Bool, true, false, not, All, AllPairs, Contains, length, get_or, map, filter, refl, ap, sym, subst, ◌∙◌, ⊎_elim, eqb, leb, arith}
+use Rattle.std.proofs.Common.{◌≡◌, ℕ, zero, suc, ◌+◌, ◌<◌, ◌≤◌, ◌≢◌, List, [], ◌∷◌, ◌++◌, Bool, true, false, not, All, AllPairs, Contains, length, get_or, map, filter, replicate, refl, ap, sym, subst, ◌∙◌, ⊎_elim, eqb, leb, arith}
 use Rattle.std.specs.Prelude.{◌==◌, ◌&&◌}
 use Rattle.std.specs.List.{list_any, remove}
 use Rattle.std.proofs.lemmas.Bool.{cases_Bool, eq-eqb, ne_eqb, eqb-true, le-leb, lt-leb, and_from, and_left, or_from, or_left, or_right}
 use Rattle.std.proofs.lemmas.Bool.Decides.{nat_tests}
 use Rattle.std.proofs.lemmas.List.{length-map, get_or-map}
-use Rattle.std.proofs.lemmas.List.Elements.{All-head, All-tail, All-filter, Contains-append_right, filter_agree}
+use Rattle.std.proofs.lemmas.List.Elements.{All-head, All-tail, All-filter, All-map, Contains-append_right, filter_agree}
 use Rattle.std.proofs.lemmas.List.Kept.{AllPairs-filter}
 use Rattle.std.proofs.lemmas.List.Sums.{length-filter, count_by-le-length}
 use Rattle.std.proofs.lemmas.List.Folds.{list_any-append}
 use Rattle.vc_model.specs.Discipline.{Discipline, HasOut, TookBack, same_pair, without_last}
+use Rattle.vc_model.proofs.Keeping.{Kept-same, Kept-trans}
 use Rattle.vc_seg.specs.Segment.{AreSegments, Bytes, IsRegionSegment, pair_of}
-use Rattle.vc_seg.specs.Back.{has_other_number, is_kept, stays_from}
+use Rattle.vc_seg.specs.Back.{is_kept, is_marked, stays_from}
+use Rattle.vc_seg.specs.Numbered.{AreNumbered, IsRegionPair}
 use Rattle.vc_seg.proofs.Filters.{filter-filter, filter-all, filter-agree_on}
-
--- segments of different numbers
-abbrev pub Apart : Bytes → Bytes → Type 0
-Apart a b = a.number ≢ b.number
-
-pub Apart-tail : (s : Bytes) (ss : List Bytes) → AllPairs Apart (s ∷ ss) → AllPairs Apart ss
-Apart-tail s ss h = λ i j d lt within. h (suc i) (suc j) d (omega arith) (omega arith)
 
 same_pair-self : (p : ℕ × ℕ) → same_pair p p ≡ true
 same_pair-self p = and_from (eqb p.0 p.0) (eqb p.1 p.1) (eq-eqb p.0 p.0 refl) (eq-eqb p.1 p.1 refl)
@@ -31,104 +26,151 @@ without_last-append p (x ∷ xs) ys h =
     let later : list_any (same_pair p) (xs ++ ys) ≡ true = list_any-append (same_pair p) xs ys ∙ or_right (list_any (same_pair p) xs) (list_any (same_pair p) ys) h in
     rw later (ap (λ (zs : List (ℕ × ℕ)). x ∷ zs) (without_last-append p xs ys h))
 
-Apart-head : (s : Bytes) (ss : List Bytes) → AllPairs Apart (s ∷ ss) → All (Apart s) ss
-Apart-head s ss h = λ k d lt. h 0 (suc k) d (omega arith) (omega arith)
+module _ {A : Type 0} (pair : A → ℕ × ℕ) where
+  -- segments of different numbers
+  abbrev pub Differ : A → A → Type 0
+  Differ a b = (pair a).0 ≢ (pair b).0
 
--- the pair of a segment is no other's
-alone : (s : Bytes) (ss : List Bytes) → All (Apart s) ss → list_any (same_pair (pair_of s)) (map pair_of ss) ≡ false
-alone s [] h = refl
-alone s (t ∷ ts) h =
-    let other : same_pair (pair_of s) (pair_of t) ≡ false = and_left (eqb s.number t.number) _ (ne_eqb s.number t.number (All-head (Apart s) t ts h)) in
-    or_from (same_pair (pair_of s) (pair_of t)) (list_any (same_pair (pair_of s)) (map pair_of ts)) other (alone s ts (All-tail (Apart s) t ts h))
+  pub Differ-pairs : (ss : List A) → AllPairs (λ s t. s.0 ≢ t.0) (map pair ss) → AllPairs Differ ss
+  Differ-pairs ss h =
+      λ i j d lt within e.
+      h i j (pair d) lt (omega (arith, within, length-map ss pair))
+      (ap (λ (p : ℕ × ℕ). p.0) (get_or-map pair ss i d (pair d) (omega (arith, lt, within))) ∙ (e ∙ sym (ap (λ (p : ℕ × ℕ). p.0) (get_or-map pair ss j d (pair d) within))))
 
-found : (ss : List Bytes) (i : ℕ) (d : Bytes) → i < length ss → list_any (same_pair (pair_of (get_or ss i d))) (map pair_of ss) ≡ true
-found [] i d lt = absurd (omega arith)
-found (s ∷ ss) zero d lt = or_left (same_pair (pair_of s) (pair_of s)) (list_any (same_pair (pair_of s)) (map pair_of ss)) (same_pair-self (pair_of s))
-found (s ∷ ss) (suc i) d lt =
-    or_right (same_pair (pair_of (get_or ss i d)) (pair_of s)) (list_any (same_pair (pair_of (get_or ss i d))) (map pair_of ss)) (found ss i d (omega arith))
+  pub pairs-Differ : (ss : List A) → AllPairs Differ ss → AllPairs (λ s t. s.0 ≢ t.0) (map pair ss)
+  pairs-Differ [] h = λ i j d lt within. absurd (omega (arith, within))
+  pairs-Differ (s ∷ ss) h =
+      λ i j d lt within e.
+      let all = s ∷ ss in
+      let low : j < length all = omega (arith, within, length-map ss pair) in
+      h i j s lt low
+      (sym (ap (λ (p : ℕ × ℕ). p.0) (get_or-map pair all i s d (omega (arith, lt, low)))) ∙ (e ∙ ap (λ (p : ℕ × ℕ). p.0) (get_or-map pair all j s d low)))
 
-without_last-at : (ss : List Bytes) (i : ℕ) (d : Bytes) → AllPairs Apart ss → i < length ss → without_last (pair_of (get_or ss i d)) (map pair_of ss) ≡ map pair_of (remove ss i)
-without_last-at [] i d h lt = absurd (omega arith)
-without_last-at (s ∷ ss) zero d h lt = rw (alone s ss (Apart-head s ss h), same_pair-self (pair_of s)) refl
-without_last-at (s ∷ ss) (suc i) d h lt =
-    rw (found ss i d (omega arith)) (ap (λ (zs : List (ℕ × ℕ)). pair_of s ∷ zs) (without_last-at ss i d (Apart-tail s ss h) (omega arith)))
+  pub Differ-tail : (s : A) (ss : List A) → AllPairs Differ (s ∷ ss) → AllPairs Differ ss
+  Differ-tail s ss h = λ i j d lt within. h (suc i) (suc j) d (omega arith) (omega arith)
 
-module _ (ss : List Bytes) (i : ℕ) (s : Bytes) (lt : i < length ss) (at : s ≡ get_or ss i s) where
-  pub Contains-pair : Contains (map pair_of ss) (pair_of s)
-  Contains-pair = (i, omega (arith, length-map ss pair_of), get_or-map pair_of ss i s (pair_of s) lt ∙ ap pair_of (sym at))
+  pub Differ-head : (s : A) (ss : List A) → AllPairs Differ (s ∷ ss) → All (Differ s) ss
+  Differ-head s ss h = λ k d lt. h 0 (suc k) d (omega arith) (omega arith)
 
-  -- what is out without the segment
-  pub without_last-segment : AllPairs Apart ss → (rest : List (ℕ × ℕ)) → without_last (pair_of s) (rest ++ map pair_of ss) ≡ rest ++ map pair_of (remove ss i)
-  without_last-segment h rest =
-      let among : list_any (same_pair (pair_of s)) (map pair_of ss) ≡ true = subst (λ (t : Bytes). list_any (same_pair (pair_of t)) (map pair_of ss) ≡ true) (sym at) (found ss i s lt) in
-      let last : without_last (pair_of s) (map pair_of ss) ≡ map pair_of (remove ss i) = subst (λ (t : Bytes). without_last (pair_of t) (map pair_of ss) ≡ map pair_of (remove ss i)) (sym at) (without_last-at ss i s h lt) in
-      without_last-append (pair_of s) rest (map pair_of ss) among ∙ ap (λ (zs : List (ℕ × ℕ)). rest ++ zs) last
+  -- the pair of a segment is no other's
+  alone : (s : A) (ss : List A) → All (Differ s) ss → list_any (same_pair (pair s)) (map pair ss) ≡ false
+  alone s [] h = refl
+  alone s (t ∷ ts) h =
+      let other : same_pair (pair s) (pair t) ≡ false = and_left (eqb (pair s).0 (pair t).0) _ (ne_eqb (pair s).0 (pair t).0 (All-head (Differ s) t ts h)) in
+      or_from (same_pair (pair s) (pair t)) (list_any (same_pair (pair s)) (map pair ts)) other (alone s ts (All-tail (Differ s) t ts h))
 
--- the segment of a number taken out, where there is one
-pub remove-other : (n : ℕ) (ss : List Bytes) (i : ℕ) (d : Bytes) → AllPairs Apart ss → i < length ss → (get_or ss i d).number ≡ n → remove ss i ≡ filter (has_other_number n) ss
-remove-other n [] i d h lt at = absurd (omega arith)
-remove-other n (s ∷ ss) zero d h lt at =
-    rw (eq-eqb s.number n at)
-    (sym (filter-all (has_other_number n) ss (λ k e within. let other : s.number ≢ (get_or ss k e).number = Apart-head s ss h k e within in ap not (ne_eqb (get_or ss k e).number n (λ q. other (at ∙ sym q))))))
-remove-other n (s ∷ ss) (suc i) d h lt at =
-    let apart : s.number ≢ (get_or ss i d).number = Apart-head s ss h i d (omega arith) in
-    rw (ne_eqb s.number n (λ q. apart (q ∙ sym at))) (ap (λ bs. s ∷ bs) (remove-other n ss i d (Apart-tail s ss h) (omega arith) at))
+  found : (ss : List A) (i : ℕ) (d : A) → i < length ss → list_any (same_pair (pair (get_or ss i d))) (map pair ss) ≡ true
+  found [] i d lt = absurd (omega arith)
+  found (s ∷ ss) zero d lt = or_left (same_pair (pair s) (pair s)) (list_any (same_pair (pair s)) (map pair ss)) (same_pair-self (pair s))
+  found (s ∷ ss) (suc i) d lt =
+      or_right (same_pair (pair (get_or ss i d)) (pair s)) (list_any (same_pair (pair (get_or ss i d))) (map pair ss)) (found ss i d (omega arith))
 
-pub none-other : (n : ℕ) (ss : List Bytes) → All (λ b. b.number ≢ n) ss → filter (has_other_number n) ss ≡ ss
-none-other n ss h = filter-all (has_other_number n) ss (λ k d lt. ap not (ne_eqb (get_or ss k d).number n (h k d lt)))
+  without_last-at : (ss : List A) (i : ℕ) (d : A) → AllPairs Differ ss → i < length ss → without_last (pair (get_or ss i d)) (map pair ss) ≡ map pair (remove ss i)
+  without_last-at [] i d h lt = absurd (omega arith)
+  without_last-at (s ∷ ss) zero d h lt = rw (alone s ss (Differ-head s ss h), same_pair-self (pair s)) refl
+  without_last-at (s ∷ ss) (suc i) d h lt =
+      rw (found ss i d (omega arith)) (ap (λ (zs : List (ℕ × ℕ)). pair s ∷ zs) (without_last-at ss i d (Differ-tail s ss h) (omega arith)))
 
-pub is_kept-occupied : (keeps : ℕ → Bool) (n : ℕ) (ss : List Bytes) → keeps n ≡ true → filter (is_kept keeps n) ss ≡ ss
-is_kept-occupied keeps n ss here =
-    filter-all (is_kept keeps n) ss
-    (λ k d lt.
-    let m = (get_or ss k d).number in
-    ⊎_elim
-    (λ e. or_left (keeps m) (not (m == n)) (ap keeps (eqb-true m n e) ∙ here))
-    (λ e. or_right (keeps m) (not (m == n)) (ap not e))
-    (cases_Bool (eqb m n)))
+  module _ (ss : List A) (i : ℕ) (s : A) (lt : i < length ss) (at : s ≡ get_or ss i s) where
+    pub Contains-own : Contains (map pair ss) (pair s)
+    Contains-own = (i, omega (arith, length-map ss pair), get_or-map pair ss i s (pair s) lt ∙ ap pair (sym at))
 
-pub is_kept-empty : (keeps : ℕ → Bool) (n : ℕ) (ss : List Bytes) → keeps n ≡ false → filter (has_other_number n) ss ≡ filter (is_kept keeps n) ss
-is_kept-empty keeps n ss none =
-    filter_agree (has_other_number n) (is_kept keeps n)
-    (λ b.
-    ⊎_elim
-    (λ e. rw (e, ap keeps (eqb-true b.number n e) ∙ none) refl)
-    (λ e. rw e (sym (or_right (keeps b.number) true refl)))
-    (cases_Bool (eqb b.number n)))
-    ss
+    -- what is out without the segment
+    pub without_last-own : AllPairs Differ ss → (rest : List (ℕ × ℕ)) → without_last (pair s) (rest ++ map pair ss) ≡ rest ++ map pair (remove ss i)
+    without_last-own h rest =
+        let among : list_any (same_pair (pair s)) (map pair ss) ≡ true = subst (λ (t : A). list_any (same_pair (pair t)) (map pair ss) ≡ true) (sym at) (found ss i s lt) in
+        let last : without_last (pair s) (map pair ss) ≡ map pair (remove ss i) = subst (λ (t : A). without_last (pair t) (map pair ss) ≡ map pair (remove ss i)) (sym at) (without_last-at ss i s h lt) in
+        without_last-append (pair s) rest (map pair ss) among ∙ ap (λ (zs : List (ℕ × ℕ)). rest ++ zs) last
 
-pub stays_from-first : (keeps : ℕ → Bool) (ss : List Bytes) → All (λ b. 1 ≤ b.number) ss → filter (stays_from keeps 1) ss ≡ ss
-stays_from-first keeps ss h =
-    filter-all (stays_from keeps 1) ss (λ k d lt. or_left (leb 1 (get_or ss k d).number) (keeps (get_or ss k d).number) (le-leb 1 (get_or ss k d).number (h k d lt)))
+  -- the segment of a number taken out, where there is one
+  pub remove-own : (n : ℕ) (ss : List A) (i : ℕ) (d : A) → AllPairs Differ ss → i < length ss → (pair (get_or ss i d)).0 ≡ n → remove ss i ≡ filter (λ s. not ((pair s).0 == n)) ss
+  remove-own n [] i d h lt at = absurd (omega arith)
+  remove-own n (s ∷ ss) zero d h lt at =
+      rw (eq-eqb (pair s).0 n at)
+      (sym (filter-all (λ t. not ((pair t).0 == n)) ss (λ k e within. let other : (pair s).0 ≢ (pair (get_or ss k e)).0 = Differ-head s ss h k e within in ap not (ne_eqb (pair (get_or ss k e)).0 n (λ q. other (at ∙ sym q))))))
+  remove-own n (s ∷ ss) (suc i) d h lt at =
+      let apart : (pair s).0 ≢ (pair (get_or ss i d)).0 = Differ-head s ss h i d (omega arith) in
+      rw (ne_eqb (pair s).0 n (λ q. apart (q ∙ sym at))) (ap (λ bs. s ∷ bs) (remove-own n ss i d (Differ-tail s ss h) (omega arith) at))
 
-pub stays_from-more : (keeps : ℕ → Bool) (n : ℕ) (ss : List Bytes) → filter (is_kept keeps n) (filter (stays_from keeps n) ss) ≡ filter (stays_from keeps (n + 1)) ss
-stays_from-more keeps n ss =
-    filter-filter (stays_from keeps n) (is_kept keeps n) ss
-    ∙ filter_agree (λ b. stays_from keeps n b && is_kept keeps n b) (stays_from keeps (n + 1)) (λ b. grind (arith, nat_tests)) ss
+  pub none-own : (n : ℕ) (ss : List A) → All (λ s. (pair s).0 ≢ n) ss → filter (λ s. not ((pair s).0 == n)) ss ≡ ss
+  none-own n ss h = filter-all (λ s. not ((pair s).0 == n)) ss (λ k d lt. ap not (ne_eqb (pair (get_or ss k d)).0 n (h k d lt)))
 
-pub stays_from-last : (keeps : ℕ → Bool) (n : ℕ) (ss : List Bytes) → All (λ b. b.number ≤ 1023) ss → 1024 ≤ n → filter (stays_from keeps n) ss ≡ filter (λ b. keeps b.number) ss
-stays_from-last keeps n ss h le =
-    filter-agree_on (stays_from keeps n) (λ b. keeps b.number) ss
-    (λ k d lt. let last = h k d lt in rw (lt-leb n (get_or ss k d).number (omega (arith, last))) refl)
+  pub is_kept-marked : (keeps : ℕ → Bool) (n : ℕ) (ss : List A) → keeps n ≡ true → filter (λ s. is_kept keeps n (pair s).0) ss ≡ ss
+  is_kept-marked keeps n ss here =
+      filter-all (λ s. is_kept keeps n (pair s).0) ss
+      (λ k d lt.
+      let m = (pair (get_or ss k d)).0 in
+      ⊎_elim
+      (λ e. or_left (keeps m) (not (m == n)) (ap keeps (eqb-true m n e) ∙ here))
+      (λ e. or_right (keeps m) (not (m == n)) (ap not e))
+      (cases_Bool (eqb m n)))
+
+  pub is_kept-unmarked : (keeps : ℕ → Bool) (n : ℕ) (ss : List A) → keeps n ≡ false → filter (λ s. not ((pair s).0 == n)) ss ≡ filter (λ s. is_kept keeps n (pair s).0) ss
+  is_kept-unmarked keeps n ss none =
+      filter_agree (λ s. not ((pair s).0 == n)) (λ s. is_kept keeps n (pair s).0)
+      (λ b.
+      ⊎_elim
+      (λ e. rw (e, ap keeps (eqb-true (pair b).0 n e) ∙ none) refl)
+      (λ e. rw e (sym (or_right (keeps (pair b).0) true refl)))
+      (cases_Bool (eqb (pair b).0 n)))
+      ss
+
+  pub stays_from-first : (keeps : ℕ → Bool) (ss : List A) → All (λ s. 1 ≤ (pair s).0) ss → filter (λ s. stays_from keeps 1 (pair s).0) ss ≡ ss
+  stays_from-first keeps ss h =
+      filter-all (λ s. stays_from keeps 1 (pair s).0) ss (λ k d lt. or_left (leb 1 (pair (get_or ss k d)).0) (keeps (pair (get_or ss k d)).0) (le-leb 1 (pair (get_or ss k d)).0 (h k d lt)))
+
+  pub stays_from-more : (keeps : ℕ → Bool) (n : ℕ) (ss : List A) → filter (λ s. is_kept keeps n (pair s).0) (filter (λ s. stays_from keeps n (pair s).0) ss) ≡ filter (λ s. stays_from keeps (n + 1) (pair s).0) ss
+  stays_from-more keeps n ss =
+      filter-filter (λ s. stays_from keeps n (pair s).0) (λ s. is_kept keeps n (pair s).0) ss
+      ∙ filter_agree (λ s. stays_from keeps n (pair s).0 && is_kept keeps n (pair s).0) (λ s. stays_from keeps (n + 1) (pair s).0) (λ b. grind (arith, nat_tests)) ss
+
+  pub stays_from-last : (keeps : ℕ → Bool) (n : ℕ) (ss : List A) → All (λ s. (pair s).0 ≤ 1023) ss → 1024 ≤ n → filter (λ s. stays_from keeps n (pair s).0) ss ≡ filter (λ s. keeps (pair s).0) ss
+  stays_from-last keeps n ss h le =
+      filter-agree_on (λ s. stays_from keeps n (pair s).0) (λ s. keeps (pair s).0) ss
+      (λ k d lt. let last = h k d lt in rw (lt-leb n (pair (get_or ss k d)).0 (omega (arith, last))) refl)
+
+  -- where none is marked none stays
+  pub none-marked : (k : ℕ) (ss : List A) → filter (λ s. is_marked (replicate k false) (pair s).0) ss ≡ []
+  none-marked k [] = refl
+  none-marked k (s ∷ ss) = rw (get-none k (pair s).0) (none-marked k ss)
+    where
+      get-none : (k n : ℕ) → get_or (replicate k false) n false ≡ false
+      get-none zero n = refl
+      get-none (suc k) zero = refl
+      get-none (suc k) (suc n) = get-none k n
+
+  -- what is true of the numbers of segments is true of those of some of them
+  pub ones-filter : (P : ℕ → Type 0) (p : A → Bool) (ss : List A) → All (λ s. P s.0) (map pair ss) → All (λ s. P s.0) (map pair (filter p ss))
+  ones-filter P p ss h =
+      All-map (λ (s : ℕ × ℕ). P s.0) pair (filter p ss)
+      (All-filter p (λ s. P (pair s).0) ss
+      (λ k d lt. subst (λ (s : ℕ × ℕ). P s.0) (get_or-map pair ss k d (pair d) lt) (h k (pair d) (omega (arith, lt, length-map ss pair)))))
+
+  pub first-own : (ss : List A) → AreNumbered (map pair ss) → All (λ s. 1 ≤ (pair s).0) ss
+  first-own ss h = λ k d lt. subst (λ (s : ℕ × ℕ). 1 ≤ s.0) (get_or-map pair ss k d (pair d) lt) (h.legal k (pair d) (omega (arith, lt, length-map ss pair))).first
+
+  pub last-own : (ss : List A) → AreNumbered (map pair ss) → All (λ s. (pair s).0 ≤ 1023) ss
+  last-own ss h = λ k d lt. subst (λ (s : ℕ × ℕ). s.0 ≤ 1023) (get_or-map pair ss k d (pair d) lt) (h.legal k (pair d) (omega (arith, lt, length-map ss pair))).last
 
 pub Contains-ends : (out ys : List (ℕ × ℕ)) (p : ℕ × ℕ) → (rest : List (ℕ × ℕ)) × (out ≡ rest ++ ys) → Contains ys p → Contains out p
 Contains-ends out ys p h among = subst (λ (o : List (ℕ × ℕ)). Contains o p) (sym h.1) (Contains-append_right h.0 ys p among)
 
 pub TookBack-none : (d : Discipline) (held : List (ℕ × ℕ)) → TookBack d d held held
-TookBack-none d held = record { terms = refl; faults = refl; out = λ rest e. e }
+TookBack-none d held = record { kept = Kept-same d; faults = refl; out = λ rest e. e }
 
 pub TookBack-more : (a b c : Discipline) (held some left : List (ℕ × ℕ)) → TookBack a b held some → TookBack b c some left → TookBack a c held left
-TookBack-more a b c held some left h k = record { terms = k.terms ∙ h.terms; faults = k.faults ∙ h.faults; out = λ rest e. k.out rest (h.out rest e) }
+TookBack-more a b c held some left h k = record { kept = Kept-trans a b c h.kept k.kept; faults = k.faults ∙ h.faults; out = λ rest e. k.out rest (h.out rest e) }
 
 -- what is left is still the end of what is out
 pub HasOut-left : (a b : Discipline) (held left : List (ℕ × ℕ)) → TookBack a b held left → HasOut a held → HasOut b left
 HasOut-left a b held left h e = (e.0, h.out e.0 e.1)
 
-pub IsRegionSegment-first : (ss : List Bytes) → All IsRegionSegment ss → All (λ b. 1 ≤ b.number) ss
-IsRegionSegment-first ss h = λ k d lt. (h k d lt).first
+-- segments with their bytes of different numbers
+abbrev pub Apart : Bytes → Bytes → Type 0
+Apart a b = a.number ≢ b.number
 
-pub IsRegionSegment-last : (ss : List Bytes) → All IsRegionSegment ss → All (λ b. b.number ≤ 1023) ss
-IsRegionSegment-last ss h = λ k d lt. (h k d lt).last
+pub Apart-tail : (s : Bytes) (ss : List Bytes) → AllPairs Apart (s ∷ ss) → AllPairs Apart ss
+Apart-tail s ss h = Differ-tail pair_of s ss h
 
 -- some of a region's segments are as legal
 pub AreSegments-filter : (p : Bytes → Bool) (ss : List Bytes) → AreSegments ss → AreSegments (filter p ss)
@@ -137,4 +179,13 @@ AreSegments-filter p ss h =
       few = let few = h.few in omega (arith, length-filter p ss, count_by-le-length p ss, few);
       legal = All-filter p IsRegionSegment ss h.legal;
       distinct = AllPairs-filter Apart p ss h.distinct;
+    }
+
+-- a region's segments as number and size
+pub AreNumbered-segments : (ss : List Bytes) → AreSegments ss → AreNumbered (map pair_of ss)
+AreNumbered-segments ss h =
+    record {
+      few = let few = h.few in omega (arith, length-map ss pair_of, few);
+      legal = All-map IsRegionPair pair_of ss h.legal;
+      distinct = pairs-Differ pair_of ss h.distinct;
     }

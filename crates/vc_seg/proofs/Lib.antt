@@ -7,3 +7,10 @@ pub mod Rounding
 pub mod Values
 pub mod Walks
 pub mod Lodging
+pub mod Unused
+pub mod Grants
+pub mod Overwrites
+pub mod Copies
+pub mod BytesByNumber
+pub mod FirstByNumber
+pub mod Frames

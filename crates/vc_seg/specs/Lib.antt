@@ -3,7 +3,14 @@ pub use Rattle.vc_model.specs.Count
 pub use Rattle.vc_model.specs.Discipline
 pub use Rattle.vc_model.specs.Outcome
 pub use Rattle.vc_model.specs.Segments
+pub use Rattle.vc_model.specs.Walk
+pub use Rattle.vc_model.specs.Bytes
+pub mod Numbered
 pub mod Segment
+pub mod Field
+pub mod Frame
+pub mod Memory
+pub mod Returned
 pub mod Owned
 pub mod Lends
 pub mod Kept

@@ -1,6 +1,6 @@
 -- A segment as a number and a list of bytes, and those of a region in order of lending.
 use Rattle.std.specs.Prelude.{◌≢◌, ℕ, ◌≤◌, List, All, AllPairs, length, replicate}
-use Rattle.vc_model.specs.Discipline.{IsSegmentSize}
+use Rattle.vc_seg.specs.Numbered.{IsRegionPair}
 
 pub record Bytes : Type 0 where
   pub number : ℕ
@@ -15,10 +15,8 @@ abbrev pub pair_of : Bytes → ℕ × ℕ
 pair_of s = (s.number, length s.bytes)
 
 -- the numbers and sizes that a region's segment can have
-pub record IsRegionSegment (s : Bytes) : Type 0 where
-  pub first : 1 ≤ s.number
-  pub last : s.number ≤ 1023
-  pub size : IsSegmentSize (length s.bytes)
+abbrev pub IsRegionSegment : Bytes → Type 0
+IsRegionSegment s = IsRegionPair (pair_of s)
 
 -- at most 1,023 segments, each of another number
 pub record AreSegments (segs : List Bytes) : Type 0 where

@@ -1,93 +1,84 @@
-ghost use Rattle.std.specs.Prelude.{◌≡◌, ◌≢◌, ℕ, ◌<◌, length, All, AllPairs, Bool, IfSome, IfNone, false, filter, map, take, true};
-ghost use Rattle.std.specs.List.{HoldsAt};
+ghost use Rattle.std.specs.Prelude.{◌≡◌, ◌≢◌, ℕ, ◌<◌, [], All, AllPairs, Contains, filter, length, map, true, vec_capacity};
 ghost use Rattle.vc_model.specs.Discipline.{HasOut, TookBack};
-ghost use Rattle.vc_seg.specs.Segment.{AreSegments, pair_of};
-ghost use Rattle.vc_seg.specs.Back.{has_other_number, is_kept, stays_from};
+ghost use Rattle.vc_seg.specs.Back.{is_kept, is_marked, stays_from};
+ghost use Rattle.vc_seg.specs.Numbered.{AreNumbered};
+ghost use Rattle.vc_seg.specs.Returned.{Returned};
+ghost use Rattle.vc_seg.specs.Segment.{pair_of};
 
-use crate::{SegDisc, Segment};
+use crate::number::find_number;
+use crate::{Numbered, SegDisc, Segment};
 
-/// Which of a region's segments stay when the others are given back.
-pub trait Keeps {
-    /// The test on a segment's number.
-    ghost keeps: { Self → ℕ → Bool };
-
-    /// Whether the segment of that number stays.
-    fn keeps(&self, number: u32) -> bool
-        ensures { result ≡ keeps self.now number };
-}
-
-/// No segment stays.
-#[derive(Drop)]
-pub struct KeepsNone;
-
-impl Keeps for KeepsNone {
-    ghost keeps = { λ _ _. false };
-
-    fn keeps(&self, number: u32) -> bool {
-        let _ = number;
-        false
-    }
-}
-
-/// Where the segment of that number is among these.
-pub fn find_number(segs: &[Segment], number: u32) -> Option<usize>
-    ensures found { IfSome result (λ i. (i < length segs.now)
-        × HoldsAt (λ b. b.number ≡ number) segs.now i) }
-    ensures first { IfSome result (λ i. All (λ b. b.number ≢ number) (take i segs.now)) }
-    ensures none { IfNone result (All (λ b. b.number ≢ number) segs.now) }
+/// The discipline takes back a segment of a region, which was taken out from among these. Each of a lower number that is
+/// left is marked, so segments go back in ascending order of number. A region gives a segment back by this call alone.
+pub fn give_back_one<T: Numbered>(
+    segment: Segment,
+    left: &[T],
+    marks: &[bool],
+    disc: &mut Box<dyn SegDisc>,
+)
+    requires ascending { All (λ s. stays_from (is_marked marks.now) segment.number s.0 ≡ true)
+        (map T.pair left.now) }
+    requires out { Contains (state disc.old).out (pair_of segment) }
+    ensures { Returned (state disc.old) (state disc.new) (pair_of segment) }
 {
-    for (i, segment) in segs.iter().enumerate() {
-        if segment.number() == number {
-            return Some(i);
-        }
-    }
-    None
+    let _ = left;
+    let _ = marks;
+    disc.take_back(segment);
 }
 
-/// The discipline takes back the segment of that number, where there is one.
-fn give_back_one(segs: &mut Vec<Segment>, disc: &mut Box<dyn SegDisc>, number: u32)
-    requires distinct { AllPairs (λ a b. a.number ≢ b.number) segs.old.items }
-    requires out { HasOut (state disc.old) (map pair_of segs.old.items) }
-    ensures segments { segs.new.items ≡ filter (has_other_number number) segs.old.items }
-    ensures out { TookBack (state disc.old) (state disc.new)
-        (map pair_of segs.old.items) (map pair_of segs.new.items) }
-{
-    if let Some(place) = find_number(segs, number) {
-        let segment = segs.remove(place);
-        disc.take_back(segment);
-    }
-}
-
-/// The discipline takes back the segment of that number, where there is one and it doesn't stay. Those of lower numbers
-/// went before it, so that they go in ascending order.
-fn give_back_unless<K: Keeps>(
-    segs: &mut Vec<Segment>,
-    keep: &K,
+// The discipline takes back the segment of that number, where there is one and the number isn't marked.
+fn give_back_unless<T: Numbered>(
+    segs: &mut Vec<T>,
+    marks: &[bool],
     disc: &mut Box<dyn SegDisc>,
     number: u32,
 )
-    requires distinct { AllPairs (λ a b. a.number ≢ b.number) segs.old.items }
-    requires ascending { All (λ b. stays_from (K.keeps keep.now) number b ≡ true) segs.old.items }
-    requires out { HasOut (state disc.old) (map pair_of segs.old.items) }
-    ensures segments { segs.new.items ≡ filter (is_kept (K.keeps keep.now) number) segs.old.items }
+    requires number { number < length marks.now }
+    requires distinct { AllPairs (λ a b. (T.pair a).0 ≢ (T.pair b).0) segs.old.items }
+    requires ascending { All (λ s. stays_from (is_marked marks.now) number s.0 ≡ true)
+        (map T.pair segs.old.items) }
+    requires out { HasOut (state disc.old) (map T.pair segs.old.items) }
+    ensures segments { segs.new.items
+        ≡ filter (λ s. is_kept (is_marked marks.now) number (T.pair s).0) segs.old.items }
     ensures out { TookBack (state disc.old) (state disc.new)
-        (map pair_of segs.old.items) (map pair_of segs.new.items) }
+        (map T.pair segs.old.items) (map T.pair segs.new.items) }
+    ensures room { vec_capacity segs.new ≡ vec_capacity segs.old }
 {
-    if !keep.keeps(number) {
-        give_back_one(segs, disc, number);
+    if marks[number as usize] {
+        return;
+    }
+    if let Some(place) = find_number(segs, number) {
+        let segment = segs.remove(place).into_segment();
+        give_back_one(segment, segs, marks, disc);
     }
 }
 
-/// The discipline takes back each segment that doesn't stay, in ascending order of number.
-pub fn give_back<K: Keeps>(segs: &mut Vec<Segment>, keep: &K, disc: &mut Box<dyn SegDisc>)
-    requires segments { AreSegments segs.old.items }
-    requires out { HasOut (state disc.old) (map pair_of segs.old.items) }
-    ensures segments { segs.new.items ≡ filter (λ b. K.keeps keep.now b.number) segs.old.items }
-    ensures legal { AreSegments segs.new.items }
+/// The discipline takes back each segment whose number isn't marked, in ascending order of number. There are marks for the
+/// numbers from 0 to 1,023. The room in the list stays.
+pub fn give_back<T: Numbered>(segs: &mut Vec<T>, marks: &[bool], disc: &mut Box<dyn SegDisc>)
+    requires segments { AreNumbered (map T.pair segs.old.items) }
+    requires marks { length marks.now ≡ 1024 }
+    requires out { HasOut (state disc.old) (map T.pair segs.old.items) }
+    ensures segments { segs.new.items
+        ≡ filter (λ s. is_marked marks.now (T.pair s).0) segs.old.items }
     ensures out { TookBack (state disc.old) (state disc.new)
-        (map pair_of segs.old.items) (map pair_of segs.new.items) }
+        (map T.pair segs.old.items) (map T.pair segs.new.items) }
+    ensures room { vec_capacity segs.new ≡ vec_capacity segs.old }
 {
     for number in 1..1024 {
-        give_back_unless(segs, keep, disc, number);
+        give_back_unless(segs, marks, disc, number);
     }
+}
+
+/// The discipline takes all segments back, in ascending order of number, and they are counted.
+pub fn give_back_all<T: Numbered>(segs: &mut Vec<T>, disc: &mut Box<dyn SegDisc>) -> u32
+    requires segments { AreNumbered (map T.pair segs.old.items) }
+    requires out { HasOut (state disc.old) (map T.pair segs.old.items) }
+    ensures none { segs.new.items ≡ [] }
+    ensures count { result ≡ length (map T.pair segs.old.items) }
+    ensures out { TookBack (state disc.old) (state disc.new) (map T.pair segs.old.items) [] }
+{
+    let count = segs.len() as u32;
+    give_back(segs, &[false; 1024], disc);
+    count
 }

@@ -2,7 +2,7 @@ ghost use Rattle.std.specs.Prelude.{◌≡◌, ◌+◌, ◌%◌, ◌<◌, ◌↔
 ghost use Rattle.vc_model.specs.Count.{next_count};
 ghost use Rattle.vc_model.specs.Discipline.{IsRound, IsSegmentSize, Lent, Unserved};
 ghost use Rattle.vc_seg.specs.Budget.{discipline_of, room_of};
-ghost use Rattle.vc_seg.specs.Lend.{Returned};
+ghost use Rattle.vc_seg.specs.Returned.{Returned};
 ghost use Rattle.vc_seg.specs.Segment.{zero_segment, pair_of};
 
 use crate::out_list::OutList;

@@ -1,6 +1,6 @@
 ghost use Rattle.std.specs.Prelude.{◌≡◌, ◌%◌, Contains, IfOk, OnOk, IsErrOf};
 ghost use Rattle.vc_model.specs.Discipline.{Discipline, IsRound, IsSegmentSize, Lent, Unserved};
-ghost use Rattle.vc_seg.specs.Lend.{Returned};
+ghost use Rattle.vc_seg.specs.Returned.{Returned};
 ghost use Rattle.vc_seg.specs.Segment.{zero_segment, pair_of};
 
 use crate::{LendFault, Segment};

@@ -1,7 +1,7 @@
 ghost use Rattle.std.specs.Prelude.{◌≡◌, ℕ, ◌%◌, ◌<◌, ◌≤◌, ◌↔◌, List, [], ◌∷◌, ◌++◌, None, length, Contains, IfSome, IfOk, OnOk, OnErr, IsErrOf};
 ghost use Rattle.vc_model.specs.Count.{Rose, next_count};
 ghost use Rattle.vc_model.specs.Discipline.{Discipline, IsRound, IsSegmentSize, Lent, Unserved};
-ghost use Rattle.vc_seg.specs.Lend.{Returned};
+ghost use Rattle.vc_seg.specs.Returned.{Returned};
 ghost use Rattle.vc_seg.specs.Segment.{zero_segment, pair_of};
 
 use crate::out_list::OutList;

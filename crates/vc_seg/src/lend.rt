@@ -1,8 +1,8 @@
-ghost use Rattle.std.specs.Prelude.{◌≡◌, ◌%◌, IfOk, OnOk, IsErrOf};
+ghost use Rattle.std.specs.Prelude.{◌≡◌, ◌%◌, ◌⊎◌, IfErr, IfOk, OnOk, IsErrOf};
 ghost use Rattle.vc_model.specs.Discipline.{IsRound, IsSegmentSize, Lent, Unserved};
 ghost use Rattle.vc_seg.specs.Segment.{zero_segment};
 
-use crate::{LendFault, SegDisc, Segment};
+use crate::{LendFault, RegionFault, SegDisc, Segment};
 use std::alloc::Global;
 
 /// The bytes to a multiple of which a discipline's segment sizes are rounded up, a multiple of 32 from 32 to 65,536.
@@ -13,25 +13,29 @@ pub fn round_of(disc: &Box<dyn SegDisc>) -> u32
     disc.round()
 }
 
-/// A segment of zeros that a discipline lends under that number, as `SegDisc::lend`: the size in bytes is a multiple of
-/// its round, from 64 to 33,554,432. A region asks for a segment by this call alone.
-pub fn obtain(
+/// A segment of zeros that a discipline lends to a region under that number, as `SegDisc::lend`: the size in bytes is a
+/// multiple of its round, from 64 to 33,554,432. `NoSegment` comes where the discipline refuses, and `OutOfMemory` for want
+/// of memory. A region asks for a segment by this call alone.
+pub fn lend_segment(
     disc: &mut Box<dyn SegDisc>,
     alloc: Global,
     number: u32,
-    size: u32,
-) -> Result<Segment, LendFault>
-    requires size { IsSegmentSize size }
-    requires multiple { size % (state disc.old).terms.round ≡ 0 }
+    bytes: u32,
+) -> Result<Segment, RegionFault>
+    requires bytes { IsSegmentSize bytes }
+    requires multiple { bytes % (state disc.old).terms.round ≡ 0 }
 
-    ensures segment { IfOk result (λ segment. segment ≡ zero_segment number size) }
-    ensures lent { OnOk result (Lent (state disc.old) (state disc.new) number size) }
+    ensures segment { IfOk result (λ segment. segment ≡ zero_segment number bytes) }
+    ensures lent { OnOk result (Lent (state disc.old) (state disc.new) number bytes) }
 
-    // Refused comes only where the faults rose, and where the room is told, only where the size is above it.
-    ensures refused { IsErrOf result LendFault.Refused
-        → Unserved (state disc.old) (state disc.new) size }
-    ensures no_memory { IsErrOf result LendFault.OutOfMemory
-        → state disc.new ≡ state disc.old }
+    ensures only { IfErr result (λ e. (e ≡ RegionFault.NoSegment) ⊎ (e ≡ RegionFault.OutOfMemory)) }
+    ensures refused { IsErrOf result RegionFault.NoSegment
+        → Unserved (state disc.old) (state disc.new) bytes }
+    ensures no_memory { IsErrOf result RegionFault.OutOfMemory → state disc.new ≡ state disc.old }
 {
-    disc.lend(alloc, number, size)
+    match disc.lend(alloc, number, bytes) {
+        Ok(segment) => Ok(segment),
+        Err(LendFault::Refused) => Err(RegionFault::NoSegment),
+        Err(LendFault::OutOfMemory) => Err(RegionFault::OutOfMemory),
+    }
 }

@@ -7,7 +7,7 @@ use Rattle.vc_model.specs.Addr.{address}
 use Rattle.vc_model.specs.Discipline.{HasOut, without_last}
 use Rattle.vc_model.specs.Layout.{Layout}
 use Rattle.vc_seg.specs.Segment.{pair_of}
-use Rattle.vc_seg.proofs.Backs.{Contains-ends, Contains-pair}
+use Rattle.vc_seg.proofs.Backs.{Contains-ends, Contains-own}
 use Rattle.vc_extent.specs.Extent.{Extent}
 use Rattle.vc_extent.specs.Change.{IsOneFree}
 use Rattle.vc_extent.specs.Tiling.{IsNamed, IsThere, extent_of, extents_of, size_of, tiling}
@@ -84,7 +84,7 @@ take_back-requires g c =
     let mid = c.unlink_gap.new.extents.segs.items in
     Contains-ends _ (map pair_of mid) (pair_of c.remove-segment.result)
     (subst (λ (ss : List (ℕ × ℕ)). HasOut ((goal.SegDisc-dyn g (c.args.disc.now.vtable, c.args.disc.now.value)).state c.args.disc.now.value) ss) (sym c.unlink_gap.ensures.rest.pairs) c.requires.out)
-    (Contains-pair mid among.0 c.remove-segment.result among.1 (sym among.2))
+    (Contains-own pair_of mid among.0 c.remove-segment.result among.1 (sym among.2))
 
 pub returns-clause-given : goal.returns-clause-given
 returns-clause-given g c =

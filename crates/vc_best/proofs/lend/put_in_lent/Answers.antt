@@ -10,7 +10,7 @@ use Rattle.vc_gaps.specs.GapTree.{HasGaps}
 use Rattle.vc_gaps.proofs.Added.{gaps-added}
 use Rattle.vc_seg.specs.declared.fault.RegionFault.{RegionFault}
 use Rattle.vc_seg.specs.declared.fault.RegionFault.TheVariants as code
-use Rattle.vc_segments.specs.Lend.{IsNoGrant}
+use Rattle.vc_seg.specs.Lend.{IsNoGrant}
 use Rattle.vc_best.specs.Blocks.{layout_by}
 use Rattle.vc_best.specs.Standing.{AreKept}
 use Rattle.vc_best.proofs.Apart.{span-least}

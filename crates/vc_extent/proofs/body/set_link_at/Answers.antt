@@ -26,4 +26,4 @@ set_field-requires c =
     omega (arith, c.requires.k)
 
 pub returns : goal.returns
-returns c = link-changed c.args.seg.now c.set_field.new.seg c.args.at c.args.k c.args.v c.requires.tiled c.requires.named c.requires.free c.requires.k c.set_field.ensures.value c.set_field.ensures.rest
+returns c = link-changed c.args.seg.now c.set_field.new.self c.args.at c.args.k c.args.v c.requires.tiled c.requires.named c.requires.free c.requires.k c.set_field.ensures.value c.set_field.ensures.rest

@@ -2,7 +2,7 @@ use Rattle.std.proofs.Common.{◌≡◌, ℕ, List, ◌+◌, ◌-◌, ◌∷◌,
 use Rattle.vc_seg.specs.Segment.{Bytes}
 use Rattle.vc_extent.specs.Extent.{Extent, extents, busy_extent}
 use Rattle.vc_extent.specs.Change.{Changes, behind, extent_in, mark_busy}
-use Rattle.vc_extent.specs.Field.{field_at}
+use Rattle.vc_seg.specs.Field.{field_at}
 use Rattle.vc_extent.specs.Tiles.{Tiles}
 use Rattle.vc_extent.proofs.Changed.{changed, here, within, renamed}
 use Rattle.vc_extent.proofs.Marked.{part-length}

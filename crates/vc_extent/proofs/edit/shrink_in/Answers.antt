@@ -4,9 +4,9 @@ use Rattle.vc_model.specs.Segments.{span}
 use Rattle.vc_seg.specs.Segment.{Bytes}
 use Rattle.vc_extent.specs.Extent.{Extent, busy_extent, extents, free_extent, no_links}
 use Rattle.vc_extent.specs.Change.{behind, extent_in, shrink}
-use Rattle.vc_extent.specs.Field.{field_at}
+use Rattle.vc_seg.specs.Field.{field_at}
 use Rattle.vc_extent.specs.Tiles.{Tiles}
-use Rattle.vc_extent.proofs.Frames.{field-front, lower, part-front, then-below}
+use Rattle.vc_seg.proofs.Frames.{field-front, lower, part-front, then-below}
 use Rattle.vc_extent.proofs.Changed.{changed, here, within}
 use Rattle.vc_extent.proofs.Marked.{cut-tiles}
 use Rattle.vc_extent.proofs.edit.shrink_in.Goals as goal

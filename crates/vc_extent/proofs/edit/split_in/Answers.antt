@@ -2,9 +2,9 @@ use Rattle.std.proofs.Common.{◌≡◌, ℕ, List, ◌+◌, ◌-◌, ◌∷◌,
 use Rattle.vc_seg.specs.Segment.{Bytes}
 use Rattle.vc_extent.specs.Extent.{Extent, extents, free_extent, no_links}
 use Rattle.vc_extent.specs.Change.{behind, extent_in, split}
-use Rattle.vc_extent.specs.Field.{field_at}
+use Rattle.vc_seg.specs.Field.{field_at}
 use Rattle.vc_extent.specs.Tiles.{Tiles}
-use Rattle.vc_extent.proofs.Frames.{field-front, lower, then-below}
+use Rattle.vc_seg.proofs.Frames.{field-front, lower, then-below}
 use Rattle.vc_extent.proofs.Changed.{changed, here, within}
 use Rattle.vc_extent.proofs.edit.split_in.Goals as goal
 

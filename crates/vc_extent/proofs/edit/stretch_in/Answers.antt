@@ -3,10 +3,10 @@ use Rattle.vc_model.specs.Segments.{span}
 use Rattle.vc_seg.specs.Segment.{Bytes}
 use Rattle.vc_extent.specs.Extent.{Extent, busy_extent, extents, free_extent, no_links}
 use Rattle.vc_extent.specs.Change.{behind, extent_in}
-use Rattle.vc_extent.specs.Field.{field_at}
+use Rattle.vc_seg.specs.Field.{field_at}
 use Rattle.vc_extent.specs.Stretch.{IsStretched}
 use Rattle.vc_extent.specs.Tiles.{Tiles}
-use Rattle.vc_extent.proofs.Frames.{field-front, lower}
+use Rattle.vc_seg.proofs.Frames.{field-front, lower}
 use Rattle.vc_extent.proofs.Changed.{here, within}
 use Rattle.vc_extent.proofs.Stretched.{fits-behind, rest-tiles, stretched, used-tiles}
 use Rattle.vc_extent.proofs.edit.stretch_in.Goals as goal

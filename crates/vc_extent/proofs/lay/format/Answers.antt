@@ -10,7 +10,7 @@ use Rattle.vc_extent.proofs.lay.format.Goals.{After-lay_free}
 tiles : (c : After-lay_free) → Tiles c.lay_free.new.seg.bytes (length c.lay_free.new.seg.bytes - 16) 0 16 (free_extent 32 (length c.args.seg.now.bytes - 32) no_links ∷ [])
 tiles c =
     let o : Bytes = c.args.seg.now in
-    let a : Bytes = c.set_field.new.seg in
+    let a : Bytes = c.set_field.new.self in
     let n : Bytes = c.lay_free.new.seg in
     let size : IsSegmentSize (length o.bytes) = subst IsSegmentSize c.size-size.ensures.value c.size-size.ensures.legal in
     let least = size.least in

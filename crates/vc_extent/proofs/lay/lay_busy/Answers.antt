@@ -1,7 +1,7 @@
 use Rattle.std.proofs.Common.{◌+◌, ◌-◌, length, take, drop, sym, subst, arith}
 use Rattle.vc_seg.specs.Segment.{Bytes}
 use Rattle.vc_extent.specs.Tiles.{Tiles}
-use Rattle.vc_extent.proofs.Frames.{only-below, part-back, field-back}
+use Rattle.vc_seg.proofs.Frames.{only-below, part-back, field-back}
 use Rattle.vc_extent.proofs.Tiled.{busy-is, legal-busy, tiles-back}
 use Rattle.vc_extent.proofs.lay.lay_busy.Goals as goal
 

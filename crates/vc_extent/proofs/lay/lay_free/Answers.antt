@@ -1,23 +1,23 @@
 use Rattle.std.proofs.Common.{◌≡◌, ℕ, ◌≤◌, ◌+◌, ◌-◌, length, sym, subst, ◌∙◌, arith}
 use Rattle.vc_seg.specs.Segment.{Bytes}
 use Rattle.vc_extent.specs.Extent.{no_links}
-use Rattle.vc_extent.specs.Field.{field_at}
-use Rattle.vc_extent.specs.Frame.{StaysOutside}
+use Rattle.vc_seg.specs.Field.{field_at}
+use Rattle.vc_seg.specs.Frame.{StaysOutside}
 use Rattle.vc_extent.specs.Tiles.{Tiles}
-use Rattle.vc_extent.proofs.Frames.{only-below, field-front, field-back, then, wider}
+use Rattle.vc_seg.proofs.Frames.{only-below, field-front, field-back, then, wider}
 use Rattle.vc_extent.proofs.Tiled.{free-is, zero-links, legal-free, tiles-back}
 use Rattle.vc_extent.proofs.lay.lay_free.Goals as goal
 use Rattle.vc_extent.proofs.lay.lay_free.Goals.{After-set_field-3}
 
 -- the bytes of head and links are written, and no others
-whole : (c : After-set_field-3) → StaysOutside c.args.at (c.args.at + 28) c.args.seg.now c.set_field-3.new.seg
+whole : (c : After-set_field-3) → StaysOutside c.args.at (c.args.at + 28) c.args.seg.now c.set_field-3.new.self
 whole c =
     let at = c.args.at in
     let o : Bytes = c.args.seg.now in
     let h : Bytes = c.set_head.new.seg in
-    let a : Bytes = c.set_field.new.seg in
-    let b : Bytes = c.set_field-2.new.seg in
-    let n : Bytes = c.set_field-3.new.seg in
+    let a : Bytes = c.set_field.new.self in
+    let b : Bytes = c.set_field-2.new.self in
+    let n : Bytes = c.set_field-3.new.self in
     let zeroth : StaysOutside at (at + 28) o h = wider at (at + 12) at (at + 28) o h c.set_head.ensures.rest (omega arith) (omega arith) in
     let first : StaysOutside at (at + 28) h a = wider (at + 16) (at + 16 + 4) at (at + 28) h a c.set_field.ensures.rest (omega arith) (omega arith) in
     let second : StaysOutside at (at + 28) a b = wider (at + 20) (at + 20 + 4) at (at + 28) a b c.set_field-2.ensures.rest (omega arith) (omega arith) in
@@ -25,11 +25,11 @@ whole c =
     then at (at + 28) o h n zeroth (then at (at + 28) h a n first (then at (at + 28) a b n second third))
 
 -- what lies before the links stays when they are written
-front : (c : After-set_field-3) → (i : ℕ) → i + 4 ≤ c.args.at + 16 → field_at i c.set_field-3.new.seg.bytes ≡ field_at i c.set_head.new.seg.bytes
+front : (c : After-set_field-3) → (i : ℕ) → i + 4 ≤ c.args.at + 16 → field_at i c.set_field-3.new.self.bytes ≡ field_at i c.set_head.new.seg.bytes
 front c i le =
-    field-front c.set_field-2.new.seg.bytes c.set_field-3.new.seg.bytes (c.args.at + 24) c.set_field-3.ensures.rest.below i (omega arith)
-    ∙ (field-front c.set_field.new.seg.bytes c.set_field-2.new.seg.bytes (c.args.at + 20) c.set_field-2.ensures.rest.below i (omega arith)
-    ∙ field-front c.set_head.new.seg.bytes c.set_field.new.seg.bytes (c.args.at + 16) c.set_field.ensures.rest.below i (omega arith))
+    field-front c.set_field-2.new.self.bytes c.set_field-3.new.self.bytes (c.args.at + 24) c.set_field-3.ensures.rest.below i (omega arith)
+    ∙ (field-front c.set_field.new.self.bytes c.set_field-2.new.self.bytes (c.args.at + 20) c.set_field-2.ensures.rest.below i (omega arith)
+    ∙ field-front c.set_head.new.seg.bytes c.set_field.new.self.bytes (c.args.at + 16) c.set_field.ensures.rest.below i (omega arith))
 
 pub returns-clause-tiles : goal.returns-clause-tiles
 returns-clause-tiles c =
@@ -37,9 +37,9 @@ returns-clause-tiles c =
     let at = c.args.at in
     let o : Bytes = c.args.seg.now in
     let h : Bytes = c.set_head.new.seg in
-    let a : Bytes = c.set_field.new.seg in
-    let b : Bytes = c.set_field-2.new.seg in
-    let n : Bytes = c.set_field-3.new.seg in
+    let a : Bytes = c.set_field.new.self in
+    let b : Bytes = c.set_field-2.new.self in
+    let n : Bytes = c.set_field-3.new.self in
     let here : After-set_field-3 = (goal.at.returns-clause-tiles c).After-set_field-3 in
     let rest : StaysOutside at (at + 28) o n = whole here in
     let heads = c.set_head.ensures in
@@ -60,4 +60,4 @@ returns-clause-tiles c =
     )
 
 pub returns-clause-rest : goal.returns-clause-rest
-returns-clause-rest c = only-below c.args.at (c.args.at + 28) c.args.at c.args.seg.now c.set_field-3.new.seg (whole (goal.at.returns-clause-rest c).After-set_field-3) (omega arith)
+returns-clause-rest c = only-below c.args.at (c.args.at + 28) c.args.at c.args.seg.now c.set_field-3.new.self (whole (goal.at.returns-clause-rest c).After-set_field-3) (omega arith)

@@ -7,7 +7,7 @@ returns-then-at-size-clause-tiles c =
     λ p es h.
     let rest = c.set_field.ensures.rest in
     let end : c.args.at + 12 + 4 ≡ c.args.at + 16 = omega arith in
-    rw rest.len (rebound c.args.seg.now.bytes c.set_field.new.seg.bytes (length c.args.seg.now.bytes - 16) p c.args.before c.args.at es rest.below (rw end at rest.above) c.set_field.ensures.value h)
+    rw rest.len (rebound c.args.seg.now.bytes c.set_field.new.self.bytes (length c.args.seg.now.bytes - 16) p c.args.before c.args.at es rest.below (rw end at rest.above) c.set_field.ensures.value h)
 
 pub returns-else-at-size-clause-tiles : goal.returns-else-at-size-clause-tiles
 returns-else-at-size-clause-tiles c =

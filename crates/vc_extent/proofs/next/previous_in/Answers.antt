@@ -2,7 +2,7 @@ use Rattle.std.proofs.Common.{◌≡◌, ℕ, ◌+◌, ◌-◌, ◌<◌, Some, N
 use Rattle.std.proofs.lemmas.Bool.{eq-eqb, ne_eqb}
 use Rattle.vc_extent.specs.Extent.{extents}
 use Rattle.vc_extent.specs.Change.{extent_in}
-use Rattle.vc_extent.specs.Field.{field_at}
+use Rattle.vc_seg.specs.Field.{field_at}
 use Rattle.vc_extent.proofs.Changed.{within}
 use Rattle.vc_extent.proofs.Neighbours.{previous, boundary-within, boundary-multiple, before-named}
 use Rattle.vc_extent.proofs.next.previous_in.Goals as goal

@@ -1,5 +1,5 @@
 use Rattle.std.proofs.Common.{rules}
-use Rattle.vc_extent.specs.Field.{field_at}
+use Rattle.vc_seg.specs.Field.{field_at}
 use Rattle.vc_last.proofs.head.field.Goals as goal
 
 pub returns : goal.returns

@@ -1,6 +1,6 @@
 use Rattle.std.proofs.Common.{◌≡◌, ℕ, ◌+◌, ◌-◌, List, get_or, length, take, drop, ap, ◌∙◌, arith}
-use Rattle.vc_segments.specs.Memory.{bytes_of_number}
-use Rattle.vc_extent.specs.Field.{field_at}
+use Rattle.vc_seg.specs.Memory.{bytes_of_number}
+use Rattle.vc_seg.specs.Field.{field_at}
 use Rattle.vc_last.proofs.Lifts.{IsThere, new-bytes, own-bytes, stays-set}
 use Rattle.vc_last.proofs.head.lay.Goals as goal
 use Rattle.vc_last.proofs.head.lay.Goals.{After-index-segs-place}

@@ -1,8 +1,8 @@
 use Rattle.std.proofs.Common.{◌≡◌, ℕ, ◌+◌, ◌-◌, get_or, set, length, ap, sym, ◌∙◌, subst, arith}
-use Rattle.vc_segments.specs.Memory.{bytes_of_number}
+use Rattle.vc_seg.specs.Memory.{bytes_of_number}
 use Rattle.vc_model.specs.Addr.{place_of}
-use Rattle.vc_extent.specs.Field.{field_at}
-use Rattle.vc_extent.specs.Frame.{StaysOutside}
+use Rattle.vc_seg.specs.Field.{field_at}
+use Rattle.vc_seg.specs.Frame.{StaysOutside}
 use Rattle.vc_last.specs.Head.{StaysBut}
 use Rattle.vc_last.proofs.Lifts.{IsThere, new-bytes, own-bytes, stays-set}
 use Rattle.vc_last.proofs.head.set_before.Goals as goal
@@ -30,16 +30,16 @@ set_field-requires c =
 pub returns-clause-value : goal.returns-clause-value
 returns-clause-value c =
     let at = (goal.at.returns-clause-value c).After-index-segs-place in
-    let e = new-bytes (n at) c.place_of_number-place.result 0 0 c.args.segs.now c.index-segs-place.result c.set_field.new.seg (there at) (c.set_field.ensures.rest.number) in
-    ap (field_at (off at - 8)) e ∙ (ap (λ k. field_at (k - 8) c.set_field.new.seg.bytes) (sym c.off.ensures) ∙ c.set_field.ensures.value)
+    let e = new-bytes (n at) c.place_of_number-place.result 0 0 c.args.segs.now c.index-segs-place.result c.set_field.new.self (there at) (c.set_field.ensures.rest.number) in
+    ap (field_at (off at - 8)) e ∙ (ap (λ k. field_at (k - 8) c.set_field.new.self.bytes) (sym c.off.ensures) ∙ c.set_field.ensures.value)
 
 pub returns-clause-rest : goal.returns-clause-rest
 returns-clause-rest c =
     let at = (goal.at.returns-clause-rest c).After-index-segs-place in
     let first = c.requires.head.first in
     let e : off at - 8 + 4 ≡ off at - 4 = omega (arith, first) in
-    let own : StaysOutside (off at - 8) (off at - 8 + 4) (get_or c.args.segs.now c.place_of_number-place.result c.index-segs-place.result) c.set_field.new.seg =
-    subst (λ k. StaysOutside (k - 8) (k - 8 + 4) (get_or c.args.segs.now c.place_of_number-place.result c.index-segs-place.result) c.set_field.new.seg) c.off.ensures
+    let own : StaysOutside (off at - 8) (off at - 8 + 4) (get_or c.args.segs.now c.place_of_number-place.result c.index-segs-place.result) c.set_field.new.self =
+    subst (λ k. StaysOutside (k - 8) (k - 8 + 4) (get_or c.args.segs.now c.place_of_number-place.result c.index-segs-place.result) c.set_field.new.self) c.off.ensures
     c.set_field.ensures.rest in
-    subst (λ t. StaysBut (n at) (off at - 8) t c.args.segs.now (set c.args.segs.now c.place_of_number-place.result c.set_field.new.seg)) e
-    (stays-set (n at) c.place_of_number-place.result (off at - 8) (off at - 8 + 4) c.args.segs.now c.index-segs-place.result c.set_field.new.seg (there at) own)
+    subst (λ t. StaysBut (n at) (off at - 8) t c.args.segs.now (set c.args.segs.now c.place_of_number-place.result c.set_field.new.self)) e
+    (stays-set (n at) c.place_of_number-place.result (off at - 8) (off at - 8 + 4) c.args.segs.now c.index-segs-place.result c.set_field.new.self (there at) own)

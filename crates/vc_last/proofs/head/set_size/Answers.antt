@@ -1,9 +1,9 @@
 use Rattle.std.proofs.Common.{◌≡◌, ℕ, ◌+◌, ◌-◌, List, get_or, length, take, drop, ap, sym, ◌∙◌, subst, arith}
-use Rattle.vc_segments.specs.Memory.{bytes_of_number}
+use Rattle.vc_seg.specs.Memory.{bytes_of_number}
 use Rattle.vc_model.specs.Addr.{place_of}
 use Rattle.vc_model.specs.Resize.{fitted_bytes}
-use Rattle.vc_extent.specs.Field.{field_at}
-use Rattle.vc_extent.specs.Frame.{StaysOutside}
+use Rattle.vc_seg.specs.Field.{field_at}
+use Rattle.vc_seg.specs.Frame.{StaysOutside}
 use Rattle.vc_last.specs.Head.{block_of, bytes_at}
 use Rattle.vc_last.proofs.Lifts.{IsThere, new-bytes, own-bytes, stays-set}
 use Rattle.vc_last.proofs.Places.{span-least}

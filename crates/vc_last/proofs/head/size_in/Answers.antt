@@ -1,22 +1,22 @@
 use Rattle.std.proofs.Common.{◌≡◌, ◌≤◌, ℕ, ◌+◌, ◌-◌, ap, ◌∙◌, arith}
 use Rattle.vc_model.specs.Resize.{fitted_bytes}
 use Rattle.vc_seg.specs.Segment.{Bytes}
-use Rattle.vc_extent.specs.Field.{field_at}
-use Rattle.vc_extent.specs.Frame.{StaysOutside}
-use Rattle.vc_extent.proofs.Frames.{field-back, field-front, part-back, then, wider}
+use Rattle.vc_seg.specs.Field.{field_at}
+use Rattle.vc_seg.specs.Frame.{StaysOutside}
+use Rattle.vc_seg.proofs.Frames.{field-back, field-front, part-back, then, wider}
 use Rattle.vc_last.proofs.head.size_in.Goals as goal
 use Rattle.vc_last.proofs.head.size_in.Goals.{After-zero_behind}
 
 pub returns-clause-size : goal.returns-clause-size
 returns-clause-size c =
     let first = c.requires.first in
-    field-front c.set_field.new.seg.bytes c.zero_behind.new.seg.bytes c.args.off c.zero_behind.ensures.rest.below (c.args.off - 16) (omega (arith, first)) ∙ c.set_field.ensures.value
+    field-front c.set_field.new.self.bytes c.zero_behind.new.seg.bytes c.args.off c.zero_behind.ensures.rest.below (c.args.off - 16) (omega (arith, first)) ∙ c.set_field.ensures.value
 
 -- a number of the head behind the size
 stays : (c : After-zero_behind) (at : ℕ) → c.args.off - 16 + 4 ≤ at → at + 4 ≤ c.args.off → field_at at c.zero_behind.new.seg.bytes ≡ field_at at c.args.seg.now.bytes
 stays c at low high =
-    field-front c.set_field.new.seg.bytes c.zero_behind.new.seg.bytes c.args.off c.zero_behind.ensures.rest.below at high
-    ∙ field-back c.args.seg.now.bytes c.set_field.new.seg.bytes (c.args.off - 16 + 4) c.set_field.ensures.rest.above at low
+    field-front c.set_field.new.self.bytes c.zero_behind.new.seg.bytes c.args.off c.zero_behind.ensures.rest.below at high
+    ∙ field-back c.args.seg.now.bytes c.set_field.new.self.bytes (c.args.off - 16 + 4) c.set_field.ensures.rest.above at low
 
 pub returns-clause-head : goal.returns-clause-head
 returns-clause-head c =
@@ -32,13 +32,13 @@ pub returns-clause-bytes : goal.returns-clause-bytes
 returns-clause-bytes c =
     let first = c.requires.first in
     c.zero_behind.ensures.bytes
-    ∙ ap (fitted_bytes c.args.size) (part-back c.args.seg.now.bytes c.set_field.new.seg.bytes (c.args.off - 16 + 4) c.set_field.ensures.rest.above c.args.off c.args.old (omega (arith, first)))
+    ∙ ap (fitted_bytes c.args.size) (part-back c.args.seg.now.bytes c.set_field.new.self.bytes (c.args.off - 16 + 4) c.set_field.ensures.rest.above c.args.off c.args.old (omega (arith, first)))
 
 pub returns-clause-rest : goal.returns-clause-rest
 returns-clause-rest c =
     let first = c.requires.first in
     let o : Bytes = c.args.seg.now in
-    let m : Bytes = c.set_field.new.seg in
+    let m : Bytes = c.set_field.new.self in
     let n : Bytes = c.zero_behind.new.seg in
     let i : StaysOutside (c.args.off - 16) (c.args.off + c.args.size) o m = wider (c.args.off - 16) (c.args.off - 16 + 4) (c.args.off - 16) (c.args.off + c.args.size) o m c.set_field.ensures.rest (omega arith) (omega (arith, first)) in
     let j : StaysOutside (c.args.off - 16) (c.args.off + c.args.size) m n = wider c.args.off (c.args.off + c.args.size) (c.args.off - 16) (c.args.off + c.args.size) m n c.zero_behind.ensures.rest (omega arith) (omega arith) in

@@ -2,8 +2,8 @@ use Rattle.std.proofs.Common.{◌≡◌, ℕ, ◌+◌, ◌-◌, ◌<◌, ◌≤�
 use Rattle.std.proofs.lemmas.List.{length-replicate, same_lists, places}
 use Rattle.vc_model.specs.Bytes.{with_bytes}
 use Rattle.vc_model.specs.Resize.{fitted_bytes}
-use Rattle.vc_extent.specs.Frame.{StaysOutside}
-use Rattle.vc_extent.proofs.Frames.{stays-written, wider}
+use Rattle.vc_seg.specs.Frame.{StaysOutside}
+use Rattle.vc_seg.proofs.Frames.{stays-written, wider}
 use Rattle.vc_last.proofs.head.zero_behind.Goals as goal
 
 zeros-behind : (off old size : ℕ) (b : List ℕ) → old < size → off + size ≤ length b → take size (drop off (with_bytes (off + old) (replicate (size - old) 0) b)) ≡ fitted_bytes size (take old (drop off b))

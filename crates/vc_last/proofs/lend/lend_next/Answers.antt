@@ -2,7 +2,7 @@ use Rattle.std.proofs.Common.{◌≡◌, ◌<◌, [], ◌∷◌, ◌++◌, lengt
 use Rattle.std.proofs.lemmas.List.{length-map}
 use Rattle.vc_model.specs.Segments.{Granted, lowest_unused, numbers}
 use Rattle.vc_seg.specs.Segment.{Bytes, pair_of}
-use Rattle.vc_segments.proofs.Grants.{apart_from_among, unused-lowest, IsRegionSegment-zeroed, AreSegments-push}
+use Rattle.vc_seg.proofs.Grants.{apart_from_among, unused-lowest, IsRegionSegment-zeroed, AreSegments-push}
 use Rattle.vc_last.proofs.lend.lend_next.Goals as goal
 use Rattle.vc_last.proofs.lend.lend_next.Goals.{After-push_reserved}
 use Rattle.vc_last.proofs.lend.lend_next.Given.{Over}

@@ -7,8 +7,8 @@ use Rattle.vc_model.specs.Layout.{Block, footprint}
 use Rattle.vc_model.specs.Resize.{is_usable, sized_block}
 use Rattle.vc_seg.specs.Segment.{Bytes, pair_of}
 use Rattle.vc_seg.proofs.Backs.{Apart, Apart-tail}
-use Rattle.vc_segments.specs.Memory.{bytes_of_number}
-use Rattle.vc_segments.proofs.Numbered.{bytes_of_number-first}
+use Rattle.vc_seg.specs.Memory.{bytes_of_number}
+use Rattle.vc_seg.proofs.FirstByNumber.{bytes_of_number-first}
 use Rattle.vc_last.specs.Head.{block_of}
 use Rattle.vc_last.proofs.place.can_end.Goals as goal
 

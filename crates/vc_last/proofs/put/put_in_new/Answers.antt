@@ -4,7 +4,7 @@ use Rattle.vc_model.specs.Segments.{Granted, ask, round_up, span}
 use Rattle.vc_model.specs.Touch.{HasBlock}
 use Rattle.vc_seg.specs.Segment.{AreSegments, Bytes, pair_of}
 use Rattle.vc_seg.proofs.Rounding.{IsSegmentSize-asked, round_up-least}
-use Rattle.vc_segments.specs.Lend.{IsNoGrant}
+use Rattle.vc_seg.specs.Lend.{IsNoGrant}
 use Rattle.vc_last.specs.Place.{with_latest}
 use Rattle.vc_last.specs.Read.{layout_by}
 use Rattle.vc_last.proofs.Kept.{layout-from}

@@ -1,6 +1,6 @@
 use Rattle.std.proofs.Common.{◌≡◌, ap, sym, ◌∙◌, length, take, drop, arith}
-use Rattle.vc_segments.specs.Memory.{bytes_of_number}
-use Rattle.vc_segments.proofs.Numbered.{bytes_of_number-first}
+use Rattle.vc_seg.specs.Memory.{bytes_of_number}
+use Rattle.vc_seg.proofs.FirstByNumber.{bytes_of_number-first}
 use Rattle.vc_seg.specs.Segment.{Bytes}
 use Rattle.vc_last.proofs.range.bytes_in.Goals as goal
 use Rattle.vc_last.proofs.range.bytes_in.Goals.{After-index-segs-place}

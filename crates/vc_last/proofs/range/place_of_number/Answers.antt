@@ -1,7 +1,7 @@
 use Rattle.std.proofs.Common.{◌<◌, ◌-◌, length, ap, sym, ◌∙◌, arith}
 use Rattle.std.proofs.lemmas.List.{get_or-take, get_or_default, length-take}
 use Rattle.vc_seg.specs.Segment.{Bytes}
-use Rattle.vc_segments.proofs.Numbered.{bytes_of_number-none}
+use Rattle.vc_seg.proofs.FirstByNumber.{bytes_of_number-none}
 use Rattle.vc_last.proofs.range.place_of_number.Goals as goal
 
 pub returns-then-number-clause-first : goal.returns-then-number-clause-first

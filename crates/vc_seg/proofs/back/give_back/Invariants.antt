@@ -1,17 +1,18 @@
 use Rattle.std.proofs.Common.{◌≡◌, filter, map}
+use Rattle.std.specs.Prelude.{vec_capacity}
 use Rattle.vc_model.specs.Discipline.{TookBack}
-use Rattle.vc_seg.specs.Segment.{pair_of}
-use Rattle.vc_seg.specs.Back.{stays_from}
+use Rattle.vc_seg.specs.Back.{is_marked, stays_from}
 use Rattle.vc_seg.proofs.back.give_back.Given as goal
 
--- of those below the number, the segments that don't stay are back
+-- of those below the number, the segments that aren't marked are back
 abbrev pub invariant-loop-number : goal.invariant-loop-number
 invariant-loop-number g l =
     record {
-      segments : l.segs.items ≡ filter (stays_from (g.K.Keeps.keeps l.keep) l.number) l.initial.segs.items;
+      segments : l.segs.items ≡ filter (λ s. stays_from (is_marked l.marks) l.number (g.T.Numbered.pair s).0) l.initial.segs.items;
       back : TookBack
           ((goal.SegDisc-dyn g (l.initial.disc.vtable, l.initial.disc.value)).state l.initial.disc.value)
           ((goal.SegDisc-dyn g (l.disc.vtable, l.disc.value)).state l.disc.value)
-          (map pair_of l.initial.segs.items)
-          (map pair_of l.segs.items);
+          (map g.T.Numbered.pair l.initial.segs.items)
+          (map g.T.Numbered.pair l.segs.items);
+      room : vec_capacity l.segs ≡ vec_capacity l.initial.segs;
     }

@@ -1,9 +1,10 @@
 use Rattle.std.proofs.Common.{◌≡◌, List, [], ◌++◌, ◌+◌, ◌≤◌, length, get_or, set, map, take, drop, ap, sym, subst, ◌∙◌, arith}
 use Rattle.std.proofs.Math.Logic.{∥∥₁_map}
 use Rattle.std.proofs.lemmas.List.{get_or_default, length-set, with_items_is}
+use Rattle.vc_seg.specs.Memory.{with_copy_of}
 use Rattle.vc_seg.specs.Segment.{Bytes, pair_of}
 use Rattle.vc_extent.specs.Change.{Changes, write}
-use Rattle.vc_extent.specs.Tiling.{AreExtents, with_copy, extent_of, tiling}
+use Rattle.vc_extent.specs.Tiling.{AreExtents, extent_of, tiling}
 use Rattle.vc_extent.proofs.Copies.{copy-changes, source-fits, target-fits}
 use Rattle.vc_extent.proofs.Sets.{extents-changed, pairs-changed, tiling-changed}
 use Rattle.vc_extent.proofs.extents.Extents.copy.Goals as goal
@@ -30,7 +31,7 @@ abbrev target : (c : After-copy_between) → Bytes
 target c = get_or c.args.self.now.segs.items c.find-target.result.0 none
 
 abbrev new : (c : After-copy_between) → Bytes
-new c = with_copy (get_or c.args.self.now.segs.items c.find-source.result.0 none) (c.find-source.result.1 + 16) c.args.len (c.find-target.result.1 + 16) (target c)
+new c = with_copy_of (get_or c.args.self.now.segs.items c.find-source.result.0 none) (c.find-source.result.1 + 16) c.args.len (c.find-target.result.1 + 16) (target c)
 
 change : (c : After-copy_between) → Changes (c.find-target.result.1 + 16) (write 0 (take c.args.len (extent_of (tiling c.args.self.now.segs.items) c.args.from.0).body)) (target c) (new c)
 change c = copy-changes c.args.self.now.segs.items c.args.from.0 c.args.to.0 c.find-source.result.0 c.find-target.result.0 c.find-source.result.1 c.find-target.result.1 c.args.len c.find-source.ensures.found c.find-target.ensures.found c.requires.to.busy c.requires.within c.requires.fits none
@@ -41,7 +42,7 @@ is c = get_or_default c.args.self.now.segs.items c.find-target.result.0 none (ta
 made : (c : After-copy_between) → c.copy_between.new.segs ≡ set c.args.self.now.segs.items c.find-target.result.0 (new c)
 made c =
     c.copy_between.ensures none
-    ∙ ap (λ (xs : List Bytes). set xs c.find-target.result.0 (with_copy (get_or xs c.find-source.result.0 none) (c.find-source.result.1 + 16) c.args.len (c.find-target.result.1 + 16) (get_or xs c.find-target.result.0 none))) c.deref_mut.ensures.value
+    ∙ ap (λ (xs : List Bytes). set xs c.find-target.result.0 (with_copy_of (get_or xs c.find-source.result.0 none) (c.find-source.result.1 + 16) c.args.len (c.find-target.result.1 + 16) (get_or xs c.find-target.result.0 none))) c.deref_mut.ensures.value
 
 items : (c : After-copy_between) → take c.args.self.now.segs.len (c.copy_between.new.segs ++ drop (length c.copy_between.new.segs) c.args.self.now.segs.items) ≡ set c.args.self.now.segs.items c.find-target.result.0 (new c)
 items c = with_items_is c.args.self.now.segs c.copy_between.new.segs (ap length (made c) ∙ (length-set c.args.self.now.segs.items c.find-target.result.0 (new c) ∙ omega (arith, c.args.self.now.segs.ok))) ∙ made c

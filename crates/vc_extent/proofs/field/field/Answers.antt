@@ -1,7 +1,0 @@
-use Rattle.std.proofs.Common.{rules}
-use Rattle.vc_extent.specs.Field.{field_at}
-use Rattle.vc_extent.proofs.field.field.Goals as goal
-
-pub returns : goal.returns
-unfolding field_at
-returns c = search rules

@@ -1,0 +1,11 @@
+use Rattle.std.proofs.Common.{◌≡◌, ◌+◌, ◌-◌, length, map}
+use Rattle.vc_model.specs.Segments.{unused_from, lowest_unused, numbers}
+use Rattle.vc_seg.proofs.number.lowest_unused.Given as goal
+
+-- the numbers so far are used
+abbrev pub invariant-loop-segment : goal.invariant-loop-segment
+invariant-loop-segment g l =
+    record {
+      number : l.number ≡ l._segment-index + 1;
+      unused : unused_from l.number (length l.segs - l._segment-index) (numbers (map g.T.Numbered.pair l.segs)) ≡ lowest_unused (numbers (map g.T.Numbered.pair l.segs));
+    }

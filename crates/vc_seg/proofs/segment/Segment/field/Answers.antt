@@ -1,0 +1,7 @@
+use Rattle.std.proofs.Common.{rules}
+use Rattle.vc_seg.specs.Field.{field_at}
+use Rattle.vc_seg.proofs.segment.Segment.field.Goals as goal
+
+pub returns : goal.returns
+unfolding field_at
+returns c = search rules

@@ -1,6 +1,0 @@
-pub mod Unused
-pub mod Bytes
-pub mod Numbered
-pub mod Copies
-pub mod Overwrites
-pub mod Grants
