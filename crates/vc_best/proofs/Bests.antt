@@ -26,15 +26,17 @@ run-stays old new same a =
     let s = span-stays old new same a in
     rw (o, s) refl
 
+pub least-stays : (old new : Tiling) → plain new ≡ plain old → (span align a : ℕ) → Some (run_at old a) ≡ least (filter (holds span align) (gaps.free_runs old)) → Some (run_at new a) ≡ least (filter (holds span align) (gaps.free_runs new))
+least-stays old new same span align a best =
+    ap (λ (r : Run). Some r) (run-stays old new same a) ∙ best
+    ∙ ap (λ (rs : List Run). least (filter (holds span align) rs)) (sym (runs-by old) ∙ sym (runs-stay old new same) ∙ runs-by new)
+
 -- it is the gap that was found, in a tiling that differs in links
 pub least-found : (old new : Tiling) → plain new ≡ plain old → (span n align : ℕ) (o : Option Addr) (a : Addr) → o ≡ Some a → n ≡ span
     → option_map (run_at old) (option_map (λ r. r.0) o) ≡ least (filter (holds n align) (gaps.free_runs old)) → Some (run_at new a.0) ≡ least (filter (holds span align) (gaps.free_runs new))
 least-found old new same span n align o a e s best =
     let found : Some (run_at old a.0) ≡ least (filter (holds n align) (gaps.free_runs old)) = subst (λ (p : Option Addr). option_map (run_at old) (option_map (λ r. r.0) p) ≡ least (filter (holds n align) (gaps.free_runs old))) e best in
-    let runs : gaps.free_runs old ≡ gaps.free_runs new = sym (runs-by old) ∙ sym (runs-stay old new same) ∙ runs-by new in
-    ap (λ (r : Run). Some r) (run-stays old new same a.0) ∙ found
-    ∙ ap (λ (m : ℕ). least (filter (holds m align) (gaps.free_runs old))) s
-    ∙ ap (λ (rs : List Run). least (filter (holds span align) rs)) runs
+    least-stays old new same span align a.0 (found ∙ ap (λ (m : ℕ). least (filter (holds m align) (gaps.free_runs old))) s)
 
 -- there is none where none was
 pub least-none : (old : Tiling) (span n align : ℕ) (o : Option Addr) → o ≡ None → n ≡ span

@@ -17,7 +17,8 @@ use Rattle.vc_gaps.proofs.Bordered.{gaps-filled, gaps-shrunk, gaps-stretched}
 use Rattle.vc_gaps.proofs.Joined.{first-cons}
 use Rattle.vc_gaps.proofs.Marked.{gaps-stay}
 use Rattle.vc_gaps.proofs.Named.{extent_in-off, extent_of-here}
-use Rattle.vc_best.specs.Beside.{GapsChange, free_name, free_next}
+use Rattle.vc_best.specs.Beside.{free_name, free_next}
+use Rattle.vc_best.specs.GapsChange.{GapsChange}
 use Rattle.vc_best.specs.Blocks.{is_busy}
 use Rattle.vc_best.specs.Changes.{absorb}
 use Rattle.vc_best.specs.Free.{IsMerged, free_bytes, is_free, is_merged, room_of}

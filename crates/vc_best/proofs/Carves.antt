@@ -1,5 +1,8 @@
 -- A block of zeros in a free extent, call by call.
-use Rattle.std.proofs.Common.{◌≡◌, ◌≢◌, All, ℕ, ◌+◌, ◌-◌, ◌%◌, ◌<◌, ◌≤◌, List, [], ◌∷◌, ◌++◌, true, false, cond, ltb, length, replicate, refl, ap, sym, ◌∙◌, ⊎_elim, arith}
+use Rattle.std.proofs.Common.{◌≡◌, ◌≢◌, All, ℕ, ◌+◌, ◌-◌, ◌%◌, ◌<◌, ◌≤◌, ◌||◌, List, [], ◌∷◌, ◌++◌, true, false, IfSome, Option, None, Some, cond, ltb, length, replicate, refl, ap, sym, subst, ◌∙◌, ⊎_elim, arith}
+use Rattle.std.proofs.Math.Bridge.{le_prop}
+use Rattle.std.proofs.Math.Logic.{∥∥₁_elim}
+use Rattle.std.proofs.Math.Nat.{ℕ_set}
 use Rattle.std.proofs.lemmas.Bool.{cases_Bool, ltb-true, ltb-false, lt-ltb, le-ltb, ne_eqb}
 use Rattle.std.proofs.Math.ListN.{drop_of_length-le}
 use Rattle.std.proofs.lemmas.List.{append-nil, length-replicate}
@@ -10,11 +13,23 @@ use Rattle.vc_model.specs.Bytes.{with_bytes}
 use Rattle.vc_model.specs.Segments.{span}
 use Rattle.vc_extent.specs.Extent.{Extent, busy_extent, free_extent, no_links}
 use Rattle.vc_extent.specs.Change.{change_at, extent_in, mark_busy, split, write}
-use Rattle.vc_extent.specs.Tiling.{IsFree, change_extent, extent_of}
+use Rattle.vc_extent.specs.Tiling.{AreExtents, IsFree, change_extent, extent_of, tiling}
+use Rattle.vc_base.specs.Holders.{contains}
+use Rattle.vc_base.specs.declared.addr.Addr.{Addr}
+use Rattle.vc_seg.specs.Segment.{Bytes}
+use Rattle.vc_gaps.specs.ButLinks.{Tiling, plain}
+use Rattle.vc_gaps.specs.GapTree.{CanLinkGap, HasGaps}
+use Rattle.vc_gaps.proofs.Ascending.{contains-head}
+use Rattle.vc_gaps.proofs.GapTrees.{can_link-out}
+use Rattle.vc_best.specs.Beside.{some_name}
 use Rattle.vc_best.specs.Changes.{carve, cut_back, cut_front, free_part, lay_zeros}
 use Rattle.vc_best.specs.Standing.{CanPutBlock}
 use Rattle.vc_best.proofs.Cuts.{change_at-here, change_at-skip, extent_in-here, extent_in-skip}
-use Rattle.vc_best.proofs.Known.{IsCut, end-of, now-none, now-same, off-of, then-extent, then-steps}
+use Rattle.vc_best.proofs.Apart.{span-least}
+use Rattle.vc_best.proofs.Plain.{free-stays}
+use Rattle.vc_best.proofs.Sets.{tiling-set}
+use Rattle.vc_best.proofs.Walks.{named-end}
+use Rattle.vc_best.proofs.Known.{IsCut, cut-of, end-of, now-none, now-same, off-of, then-extent, then-steps}
 use Rattle.vc_best.proofs.Layouts.{behind_of}
 
 -- zeros over all bytes of a block
@@ -171,7 +186,7 @@ module _ (t t1 : List (ℕ × List Extent)) (a to off size tag : ℕ) (c : IsCut
   at = ap (λ (p : ℕ × ℕ). p.1) place
 
   span-some : 0 < span size
-  span-some = omega (arith, room.some)
+  span-some = omega (arith, room.sized.some)
 
   le : (place_of a).1 ≤ (place_of to).1
   le = let o = at in omega (arith, o, room.first)
@@ -270,3 +285,68 @@ module _ (t new : List (ℕ × List Extent)) (a off size tag : ℕ) (c : IsCut t
       ∙ ap (λ (n : ℕ). extent_in n (carve off size tag e (behind_of t a))) own
       ∙ skip ∙ second ∙ ap (extent_in to) rest ∙ extent_in-here to x (behind_of t a) refl in
       record { named = rw (ap (λ (y : Extent). y.span) now) (omega arith); free = ap (λ (y : Extent). y.size) now }
+
+-- a free extent is cut in front and behind, and a block of zeros laid in what is left
+module _ (segs : List Bytes) (index : List ℕ) (k : ∥ AreExtents segs index ∥₁) (t1 : Tiling) (a to off size tag : ℕ) (room : CanPutBlock (tiling segs) a off size) (value : to ≡ address ((place_of a).0, off))
+    (is1 : t1 ≡ change_extent a (cut_front off) (tiling segs)) where
+  known : {P : Type 0} → IsProp P → (IsCut (tiling segs) a → P) → P
+  known prop f = ∥∥₁_elim k prop (λ h. f (cut-of segs index a h room.free.named))
+
+  pub front-free : IsFree t1 to
+  front-free = known (hlevel (le_prop, ℕ_set)) (λ c. fronted (tiling segs) t1 a to off size tag c room value is1)
+
+  to-place : place_of to ≡ ((place_of a).0, off)
+  to-place = let most = named-end segs index a k room.free.named in let fits = room.fits in let low = span-least size in ap place_of value ∙ place_of-address (place_of a).0 off (omega arith) room.multiple
+
+  module _ (t2 : Tiling) (is2 : t2 ≡ change_extent to (cut_back (span size)) t1) where
+    pub back-free : IsFree t2 to
+    back-free = known (hlevel (le_prop, ℕ_set)) (λ c. backed (tiling segs) t1 a to off size tag c room value is1 t2 is2)
+
+    pub back-span : span size ≡ (extent_of t2 to).span
+    back-span = known (hlevel (ℕ_set)) (λ c. spanned (tiling segs) t1 a to off size tag c room value is1 t2 is2)
+
+    module _ (t3 : Tiling) (is3 : t3 ≡ change_extent to (lay_zeros size tag) t2) where
+      pub carved-whole : t3 ≡ change_extent a (carve off size tag) (tiling segs)
+      carved-whole = known (hlevel (tiling-set)) (λ c. carved (tiling segs) t1 a to off size tag c room value is1 t2 is2 t3 is3)
+
+      -- what was cut off is free
+      pub first-free : (f : ℕ) → f ≡ a → (place_of a).1 < off → IsFree t3 f
+      first-free f e low = subst (IsFree t3) (sym e) (known (hlevel (le_prop, ℕ_set)) (λ c. carved-front (tiling segs) t3 a off size tag c room.free room.fits carved-whole low))
+
+      pub last-free : (b : ℕ) → b ≡ address ((place_of to).0, (place_of to).1 + span size) → span size < (extent_of t1 to).span → IsFree t3 b
+      last-free b e more =
+          let end : (place_of to).1 + (extent_of t1 to).span ≡ (place_of a).1 + (extent_of (tiling segs) a).span = known (hlevel (ℕ_set)) (λ c. front-end (tiling segs) t1 a to off size tag c room value is1) in
+          let at : (place_of to).1 ≡ off = ap (λ (p : ℕ × ℕ). p.1) to-place in
+          let is : b ≡ address ((place_of a).0, off + span size) = e ∙ ap (λ (p : ℕ × ℕ). address (p.0, p.1 + span size)) to-place in
+          subst (IsFree t3) (sym is)
+          (known (hlevel (le_prop, ℕ_set)) (λ c. carved-back (tiling segs) t3 a off size tag c room.free room.fits carved-whole room.first room.multiple (omega arith)))
+
+      -- both can be put into a tree without them, one behind the other
+      module _ (front rest : Option Addr) (root : ℕ) (first : IfSome front (λ f. (f.0 ≡ a) × ((place_of a).1 < off)))
+          (last : IfSome rest (λ b. (b.0 ≡ address ((place_of to).0, (place_of to).1 + span size)) × (span size < (extent_of t1 to).span))) where
+        pub front-can : HasGaps t3 root (some_name front ++ some_name rest) → IfSome front (λ f. CanLinkGap t3 root f.0)
+        front-can = can front first
+          where
+            can : (o : Option Addr) → IfSome o (λ f. (f.0 ≡ a) × ((place_of a).1 < off)) → HasGaps t3 root (some_name o ++ some_name rest) → IfSome o (λ f. CanLinkGap t3 root f.0)
+            can None e h = tt
+            can (Some f) e h = can_link-out t3 root (f.0 ∷ some_name rest) f.0 h (contains-head f.0 (some_name rest)) (first-free f.0 e.0 e.1)
+
+        pub front-apart : IfSome front (λ f. contains (some_name rest) f.0 ≡ false)
+        front-apart = apart front rest first last
+          where
+            apart : (o p : Option Addr) → IfSome o (λ f. (f.0 ≡ a) × ((place_of a).1 < off)) → IfSome p (λ b. (b.0 ≡ address ((place_of to).0, (place_of to).1 + span size)) × (span size < (extent_of t1 to).span)) →
+                IfSome o (λ f. contains (some_name p) f.0 ≡ false)
+            apart None p e d = tt
+            apart (Some f) None e d = refl
+            apart (Some f) (Some b) e d =
+                let seg : (place_of to).0 ≡ (place_of a).0 = ap (λ (p : ℕ × ℕ). p.0) to-place in
+                let at : (place_of to).1 ≡ off = ap (λ (p : ℕ × ℕ). p.1) to-place in
+                let name = e.0 in let low = e.1 in let other = d.0 in let least = span-least size in
+                ap (λ z. z || false) (ne_eqb b.0 f.0 (λ q. omega arith))
+
+        pub rest-can : (t4 : Tiling) (root4 : ℕ) → plain t4 ≡ plain t3 → HasGaps t4 root4 (some_name rest) → IfSome rest (λ b. CanLinkGap t4 root4 b.0)
+        rest-can t4 root4 same = can rest last
+          where
+            can : (o : Option Addr) → IfSome o (λ b. (b.0 ≡ address ((place_of to).0, (place_of to).1 + span size)) × (span size < (extent_of t1 to).span)) → HasGaps t4 root4 (some_name o) → IfSome o (λ b. CanLinkGap t4 root4 b.0)
+            can None e h = tt
+            can (Some b) e h = can_link-out t4 root4 (b.0 ∷ []) b.0 h (contains-head b.0 []) (free-stays t3 t4 same b.0 (last-free b.0 e.0 e.1))

@@ -12,8 +12,9 @@ use Rattle.vc_model.specs.Addr.{place_of}
 use Rattle.vc_model.specs.Bytes.{with_bytes}
 use Rattle.vc_model.specs.Layout.{Block, Layout, is_at}
 use Rattle.vc_model.specs.Sound.{HasWholeBlocks}
-use Rattle.vc_model.specs.Touch.{HasBlock, HasRange, change_block, find_block, rewritten_block, with_bytes_at}
+use Rattle.vc_model.specs.Touch.{HasBlock, change_block, find_block, rewritten_block, with_bytes_at}
 use Rattle.vc_model.proofs.Owned.{at-address, found-has, found-is}
+use Rattle.vc_seg.specs.OneBlock.{IsInBlock}
 use Rattle.vc_best.specs.Cells.{cell_bytes, cells_of, block_shown, zeroed_layout, is_unlabelled}
 use Rattle.vc_best.specs.CellLaws.{cell-of}
 
@@ -115,8 +116,8 @@ module _ (r : Layout ℕ) (whole : ∥ HasWholeBlocks r ∥₁) (a n : ℕ) (has
   pub cell-block : HasBlock r.blocks a
   cell-block = found-has a r.blocks cell.0 cell.1.found
 
-  pub cell-range : (off len : ℕ) → off + len ≤ length (bytes_at (cells_of r.blocks) a) → HasRange r.blocks a off len
-  cell-range off len within = subst (λ (o : Option (Block ℕ)). IfSome o (λ b. off + len ≤ b.size)) (sym cell.1.found) (omega (arith, within, cell-length))
+  pub cell-range : (off len : ℕ) → off + len ≤ length (bytes_at (cells_of r.blocks) a) → IsInBlock r.blocks a off len
+  cell-range off len within = record { block = cell-block; range = subst (λ (o : Option (Block ℕ)). IfSome o (λ b. off + len ≤ b.size)) (sym cell.1.found) (omega (arith, within, cell-length)) }
 
   pub cell-read : (off len : ℕ) (out : List ℕ) → option_map (λ b. take len (drop off b.bytes)) (find_block (place_of a) r.blocks) ≡ Some out → out ≡ take len (drop off (bytes_at (cells_of r.blocks) a))
   cell-read off len out e =

@@ -1,5 +1,5 @@
 -- The counts of all extents are those of the blocks and of the gaps, and stay in 64 bits.
-use Rattle.std.proofs.Common.{◌≡◌, ℕ, suc, ◌+◌, ◌-◌, ◌*◌, ◌≤◌, List, [], ◌∷◌, ◌++◌, true, false, All, length, map, filter, fold, sum, refl, ap, sym, ◌∙◌, ⊎_elim, ltb, arith}
+use Rattle.std.proofs.Common.{◌≡◌, ℕ, suc, ◌+◌, ◌-◌, ◌*◌, ◌≤◌, List, [], ◌∷◌, ◌++◌, true, false, All, length, map, filter, sum, refl, ap, sym, ◌∙◌, ⊎_elim, ltb, arith}
 use Rattle.std.proofs.Math.Bridge.{le_prop}
 use Rattle.std.proofs.Math.Logic.{∥∥₁_elim}
 use Rattle.std.proofs.lemmas.Bool.{cases_Bool}

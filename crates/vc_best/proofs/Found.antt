@@ -20,7 +20,7 @@ use Rattle.vc_extent.specs.Extent.{Extent, extents}
 use Rattle.vc_extent.specs.Tiles.{IsTiled}
 use Rattle.vc_extent.specs.Tiling.{AreExtents, IsBusy, extent_of, extents_of, tiling}
 use Rattle.vc_best.specs.Blocks.{all_busy, block_of, busy_in, layout_by}
-use Rattle.vc_best.proofs.Layouts.{blocks-busy, none-own, other_blocks, own-at}
+use Rattle.vc_best.proofs.Layouts.{blocks-busy, none-other, other_blocks, own-at}
 use Rattle.vc_best.proofs.Parts.{named-off}
 use Rattle.vc_best.proofs.Lies.{Lies, lies-behind, lies-tiled, lies-within}
 use Rattle.vc_best.proofs.Sets.{found-set}
@@ -87,7 +87,7 @@ module _ (segs : List Bytes) (index : List ℕ) (a : ℕ) (k : ∥ AreExtents se
   found-of h =
       ∥∥₁_elim k (hlevel (found-set)) (λ (j : AreExtents segs index).
       ap (find_block (place_of a)) (blocks-busy segs index j a h.named h.busy)
-      ∙ find-with (place_of a) (block_of (place_of a).0 (extent_of (tiling segs) a)) (own-at segs index j a h.named) (other_blocks segs index j a h.named) (none-own pair_of segs index j a h.named))
+      ∙ find-with (place_of a) (block_of (place_of a).0 (extent_of (tiling segs) a)) (own-at segs index j a h.named) (other_blocks segs index j a h.named) (none-other segs index j a h.named))
 
   pub busy-of : HasBlock (layout_by segs).blocks a → IsBusy (tiling segs) a
   unfolding layout_by

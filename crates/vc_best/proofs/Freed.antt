@@ -13,7 +13,8 @@ use Rattle.vc_gaps.specs.GapTree.{HasGaps}
 use Rattle.vc_gaps.proofs.Joined.{first-cons, gaps-joined}
 use Rattle.vc_gaps.proofs.Marked.{gaps-freed}
 use Rattle.vc_gaps.proofs.Named.{behind_of, extent_of-here, own-off}
-use Rattle.vc_best.specs.Beside.{GapsChange, free_before, free_name, free_next}
+use Rattle.vc_best.specs.Beside.{free_before, free_name, free_next}
+use Rattle.vc_best.specs.GapsChange.{GapsChange}
 use Rattle.vc_best.proofs.Known.{cut-of}
 use Rattle.vc_best.proofs.Lies.{Lies}
 use Rattle.vc_best.proofs.Nexts.{next-off}

@@ -110,8 +110,8 @@ module _ (segs : List Bytes) (index : List ℕ) (k : AreExtents segs index) (a :
   abbrev pub other_blocks : List (Block ℕ)
   other_blocks = in_order (lead (tiling segs) a ++ (busy_in ((place_of a).0, behind_of (tiling segs) a) ++ rear (tiling segs) a))
 
-  pub none-own pair_of : NoneAt (place_of a) other_blocks
-  none-own pair_of = All-in_order (λ (c : Block ℕ). is_at (place_of a) c ≡ false) (lead (tiling segs) a ++ (busy_in ((place_of a).0, behind_of (tiling segs) a) ++ rear (tiling segs) a)) none-others-at
+  pub none-other : NoneAt (place_of a) other_blocks
+  none-other = All-in_order (λ (c : Block ℕ). is_at (place_of a) c ≡ false) (lead (tiling segs) a ++ (busy_in ((place_of a).0, behind_of (tiling segs) a) ++ rear (tiling segs) a)) none-others-at
 
   own-off : (extent_of (tiling segs) a).off ≡ (place_of a).1
   own-off = named-off (place_of a).1 (extents_of (place_of a).0 (tiling segs)) named
@@ -199,7 +199,7 @@ module _ (old new : List Bytes) (io jn : List ℕ) (ko : ∥ AreExtents old io �
       let others : List (Block ℕ) = other_blocks old io k a named in
       same_layout (without_block (place_of a) (in_order (all_busy (tiling old))))
       (changed-blocks (busy_in ((place_of a).0, behind_of (tiling old) a)) e
-      ∙ (sym (without-with (place_of a) own (own-at old io k a named) others (none-own pair_of old io k a named))
+      ∙ (sym (without-with (place_of a) own (own-at old io k a named) others (none-other old io k a named))
       ∙ ap (without_block (place_of a)) (sym (blocks-busy old io k a named busy)))))
 
   pub layout-put : (b : Block ℕ) → (extent_of (tiling old) a).size ≡ 0 → busy_in ((place_of a).0, f (extent_of (tiling old) a) (behind_of (tiling old) a)) ≡ b ∷ busy_in ((place_of a).0, behind_of (tiling old) a) →
@@ -237,5 +237,5 @@ module _ (old new : List Bytes) (io jn : List ℕ) (ko : ∥ AreExtents old io �
       same_layout (change_block g (place_of a) (in_order (all_busy (tiling old))))
       (changed-blocks (g own ∷ busy_in (n, ys)) e
       ∙ (order-middle (lead (tiling old) a) (g own) (busy_in (n, ys) ++ rear (tiling old) a) none
-      ∙ (sym (change-with (place_of a) own (own-at old io k a named) g (seg own) (off own) others (none-own pair_of old io k a named))
+      ∙ (sym (change-with (place_of a) own (own-at old io k a named) g (seg own) (off own) others (none-other old io k a named))
       ∙ ap (change_block g (place_of a)) (sym (blocks-busy old io k a named busy))))))

@@ -1,24 +1,37 @@
--- A block in a segment that was lent for it.
-use Rattle.std.proofs.Common.{◌≡◌, ◌≢◌, ℕ, ◌+◌, ◌-◌, ◌<◌, ◌≤◌, length, List, [], ◌∷◌, ◌++◌, true, false, All, map, refl, ap, sym, subst, ◌∙◌, arith}
-use Rattle.std.proofs.Math.Bridge.{le_prop}
-use Rattle.vc_layouts.proofs.Segments.{HaveOwnNumbers-segments}
-use Rattle.std.proofs.Math.Logic.{∥∥₁_elim}
-use Rattle.std.proofs.lemmas.Bool.{eq-eqb, ne_eqb}
-use Rattle.std.proofs.lemmas.List.{length-map}
-use Rattle.std.proofs.lemmas.List.Elements.{All-head, All-map, All-push, All-tail}
+-- A segment that was lent, for a block that no gap holds.
+use Rattle.std.proofs.Common.{◌≡◌, ◌≢◌, ℕ, ◌+◌, ◌-◌, ◌≤◌, List, [], ◌∷◌, ◌++◌, true, false, All, None, Option, Some, eqb, filter, map, refl, ap, sym, subst, ◌∙◌, arith}
+use Rattle.std.specs.Prelude.{option_map}
+use Rattle.std.proofs.lemmas.Bool.{eq-eqb, le-leb, ne_eqb}
+use Rattle.std.proofs.lemmas.Grind.{flat_map-append}
+use Rattle.std.proofs.lemmas.List.Elements.{All-head, All-map, All-push, All-tail, filter-append}
 use Rattle.vc_model.specs.Addr.{address, place_of}
-use Rattle.vc_model.specs.Layout.{Layout, with_segment}
-use Rattle.vc_model.specs.Segments.{Granted, ask, segment_limit, span}
-use Rattle.vc_model.specs.Sound.{HaveOwnNumbers}
-use Rattle.vc_layouts.specs.Put.{IsPutInNew, with_zeros}
+use Rattle.vc_model.specs.Best.{place_in}
+use Rattle.vc_model.specs.Discipline.{IsSegmentSize, Terms}
+use Rattle.vc_model.specs.Gap.{Run}
+use Rattle.vc_model.specs.Layout.{Layout, with_grant}
+use Rattle.vc_model.specs.Place.{holds, least, lowest_offset}
+use Rattle.vc_model.specs.Segments.{new_segment, span}
 use Rattle.vc_seg.specs.Segment.{Bytes, pair_of}
-use Rattle.vc_extent.specs.Extent.{Extent, free_extent, no_links}
+use Rattle.vc_extent.specs.Extent.{Extent, extents, free_extent, no_links}
 use Rattle.vc_extent.specs.Change.{extent_in}
-use Rattle.vc_extent.specs.Tiling.{AreExtents, IsFree, IsThere, extent_of, extents_of, tiling}
+use Rattle.vc_extent.specs.Tiling.{AreExtents, extent_of, extents_of, tiling}
 use Rattle.vc_extent.proofs.Pushes.{apart-there}
+use Rattle.vc_gaps.specs.Fits as gaps
+use Rattle.vc_gaps.specs.Fits.{run_at, run_of_extent}
+use Rattle.vc_gaps.specs.GapTree.{HasGaps}
+use Rattle.vc_gaps.proofs.Added.{gaps-added}
 use Rattle.vc_best.specs.Blocks.{layout_by}
 use Rattle.vc_best.specs.Free.{IsMerged, is_merged}
+use Rattle.vc_best.specs.Standing.{AreAllowed, AreWhole, IsLeastHolding, IsLeastOut, IsLentFree}
+use Rattle.vc_best.proofs.Gaps.{least-None}
+use Rattle.vc_best.proofs.Plain.{runs-by}
+use Rattle.vc_best.proofs.Puts.{place-runs, place_at}
+use Rattle.vc_best.proofs.Rounding.{IsAligned-from_IsAlign}
 use Rattle.vc_best.proofs.Segments.{layout-added}
+
+option_map-None : {A B : Type 0} (f : A → B) (o : Option A) → option_map f o ≡ None → o ≡ None
+option_map-None f None e = refl
+option_map-None f (Some x) e = cc
 
 new-extents : (t : List (ℕ × List Extent)) (n : ℕ) (es : List Extent) → All (λ s. s.0 ≢ n) t → extents_of n (t ++ (n, es) ∷ []) ≡ es
 new-extents [] n es h = rw (eq-eqb n n refl) refl
@@ -30,56 +43,47 @@ pub segments-by : (segs : List Bytes) → (layout_by segs).segments ≡ map pair
 unfolding layout_by
 segments-by segs = refl
 
-pub few-by : (segs : List Bytes) → length segs < segment_limit → length (layout_by segs).segments < segment_limit
-few-by segs few = rw (segments-by segs) (rw (length-map segs pair_of) few)
+-- what was lent is the least free extent that holds a block which had no place, and out of the tree
+module _ (old lent : List Bytes) (i : List ℕ) (k : ∥ AreExtents old i ∥₁) (root n bytes size align a : ℕ) (place : place_of a ≡ (n, 32)) (value : a ≡ address (n, 32)) (terms : Terms) (l : IsLentFree terms old lent n bytes) (allowed : AreAllowed size align)
+    (whole : AreWhole old root) (none : place_in (layout_by old) size align ≡ None) (legal : IsSegmentSize bytes) (room : span size + align ≤ bytes) where
+  abbrev new_extent : Extent
+  new_extent = free_extent 32 (bytes - 32) no_links
 
-module _ (old lent : List Bytes) (n bytes a : ℕ) (place : place_of a ≡ (n, 32)) (none : IsThere n old → ⊥) (long : 64 ≤ bytes)
-    (is : tiling lent ≡ tiling old ++ (n, free_extent 32 (bytes - 32) no_links ∷ []) ∷ []) (pairs : map pair_of lent ≡ map pair_of old ++ (n, bytes) ∷ []) where
-  others : All (λ (s : ℕ × List Extent). s.0 ≢ n) (tiling old)
-  others = All-map (λ (s : ℕ × List Extent). s.0 ≢ n) _ old (apart-there n old none)
+  abbrev new_run : Run
+  new_run = run_of_extent n new_extent
 
-  whole : extents_of (place_of a).0 (tiling lent) ≡ free_extent 32 (bytes - 32) no_links ∷ []
-  whole =
-      ap (λ (p : ℕ × ℕ). extents_of p.0 (tiling lent)) place
-      ∙ (ap (extents_of n) is ∙ new-extents (tiling old) n (free_extent 32 (bytes - 32) no_links ∷ []) others)
+  lent-extent : extent_of (tiling lent) a ≡ new_extent
+  lent-extent =
+      let others = All-map (λ (s : ℕ × List Extent). s.0 ≢ n) (λ (s : Bytes). (s.number, extents s.bytes)) old (apart-there n old l.fresh) in
+      let own : extents_of n (tiling lent) ≡ new_extent ∷ [] = ap (extents_of n) l.extents ∙ new-extents (tiling old) n (new_extent ∷ []) others in
+      ap (λ (p : ℕ × ℕ). extent_in p.1 (extents_of p.0 (tiling lent))) place ∙ ap (extent_in 32) own
 
-  pub lent-extent : extent_of (tiling lent) a ≡ free_extent 32 (bytes - 32) no_links
-  lent-extent = ap (extent_in (place_of a).1) whole ∙ ap (λ (p : ℕ × ℕ). extent_in p.1 (free_extent 32 (bytes - 32) no_links ∷ [])) place
+  lent-run : run_at (tiling lent) a ≡ new_run
+  lent-run = ap (λ (e : Extent). run_of_extent (place_of a).0 e) lent-extent ∙ ap (λ (p : ℕ × ℕ). run_of_extent p.0 new_extent) place
 
-  pub lent-free : IsFree (tiling lent) a
-  lent-free = record { named = rw (ap (λ (x : Extent). x.span) lent-extent) (omega arith); free = ap (λ (x : Extent). x.size) lent-extent }
+  lent-least : IsLeastHolding (tiling lent) size align a
+  lent-least =
+      let aligned = IsAligned-from_IsAlign align allowed.aligned in
+      let first : lowest_offset align new_run ≡ align = aligned.first in
+      let long = legal.least in
+      let test = holds (span size) align in
+      let passes : test new_run ≡ true = le-leb (lowest_offset align new_run + span size) (new_run.to + 16) (omega (arith, first, room, long)) in
+      let no : filter test (gaps.free_runs (tiling old)) ≡ [] =
+      least-None _ (ap (λ (rs : List Run). least (filter test rs)) (sym (runs-by (tiling old))) ∙ option_map-None (place_at align) _ (sym (place-runs old i size align k whole.kept.merged) ∙ none)) in
+      let all : gaps.free_runs (tiling lent) ≡ gaps.free_runs (tiling old) ++ new_run ∷ [] =
+      ap gaps.free_runs l.extents ∙ flat_map-append (λ (s : ℕ × List Extent). map (run_of_extent s.0) (filter (λ e. eqb e.size 0) s.1)) (tiling old) ((n, new_extent ∷ []) ∷ []) in
+      let one : filter test (gaps.free_runs (tiling lent)) ≡ new_run ∷ [] =
+      ap (filter test) all ∙ filter-append test (gaps.free_runs (tiling old)) (new_run ∷ []) ∙ ap (λ (rs : List Run). rs ++ filter test (new_run ∷ [])) no ∙ rw passes refl in
+      ap (λ (r : Run). Some r) lent-run ∙ sym (ap least one)
 
-  pub lent-fits : (off size : ℕ) → off + span size ≤ bytes → off + span size ≤ (place_of a).1 + (extent_of (tiling lent) a).span
-  lent-fits off size h =
-      let o : (place_of a).1 ≡ 32 = ap (λ (p : ℕ × ℕ). p.1) place in
-      let s = ap (λ (x : Extent). x.span) lent-extent in
-      omega arith
+  pub lent-layout : layout_by lent ≡ with_grant (layout_by old) (new_segment n bytes)
+  lent-layout = layout-added old lent n bytes (bytes - 32) l.extents l.pairs
 
-  pub lent-merged : IsMerged (tiling old) → IsMerged (tiling lent)
-  lent-merged m = subst IsMerged (sym is) (All-push (λ (s : ℕ × List Extent). is_merged false s.1 ≡ true) (tiling old) (n, free_extent 32 (bytes - 32) no_links ∷ []) m refl)
-
-  pub lent-fresh : All (λ s. s.0 ≢ n) (layout_by old).segments
-  lent-fresh = subst (λ (ss : List (ℕ × ℕ)). All (λ s. s.0 ≢ n) ss) (sym (segments-by old)) (All-map (λ (s : ℕ × ℕ). s.0 ≢ n) pair_of old (apart-there n old none))
-
-  pub lent-layout : (new : List Bytes) (off size tag : ℕ) → layout_by new ≡ with_zeros (layout_by lent) tag size ((place_of a).0, off)
-      → layout_by new ≡ with_zeros (with_segment (layout_by old) (n, bytes)) tag size (n, off)
-  lent-layout new off size tag e =
-      e
-      ∙ ap (λ (p : ℕ × ℕ). with_zeros (layout_by lent) tag size (p.0, off)) place
-      ∙ ap (λ (r : Layout ℕ). with_zeros r tag size (n, off)) (layout-added old lent n bytes (bytes - 32) is pairs)
-
--- what that is, by the address that is answered
-pub put-in-new : (r s : Layout ℕ) (tag size bytes off n a : ℕ) → a ≡ address (n, off) → place_of a ≡ (n, off) → ask bytes r.segments false ≡ Granted n bytes →
-    s ≡ with_zeros (with_segment r (n, bytes)) tag size (n, off) → All (λ q. q.0 ≢ n) r.segments → HaveOwnNumbers s.segments → IsPutInNew r s tag size bytes off a
-put-in-new r s tag size bytes off n a value place granted is fresh numbered =
-    let seg : n ≡ (place_of a).0 = sym (ap (λ (p : ℕ × ℕ). p.0) place) in
-    record {
-      granted = subst (λ (m : ℕ). ask bytes r.segments false ≡ Granted m bytes) seg granted;
-      address = subst (λ (m : ℕ). (a ≡ address (m, off)) × (place_of a ≡ (m, off))) seg (value, place);
-      layout = subst (λ (m : ℕ). s ≡ with_zeros (with_segment r (m, bytes)) tag size (m, off)) seg is;
-      fresh = subst (λ (m : ℕ). All (λ q. q.0 ≢ m) r.segments) seg fresh;
-      numbered = numbered;
-    }
-
-pub own-numbers : (segs : List Bytes) (index : List ℕ) → ∥ AreExtents segs index ∥₁ → HaveOwnNumbers (layout_by segs).segments
-own-numbers segs index k = subst HaveOwnNumbers (sym (segments-by segs)) (∥∥₁_elim k (hlevel (le_prop)) (λ h. HaveOwnNumbers-segments segs h.segments))
+  pub lent-out : IsLeastOut lent root size align a
+  lent-out = record {
+    allowed = allowed;
+    least = lent-least;
+    merged = subst IsMerged (sym l.extents) (All-push (λ (s : ℕ × List Extent). is_merged false s.1 ≡ true) (tiling old) (n, new_extent ∷ []) whole.kept.merged refl);
+    gaps = subst (λ (z : ℕ). HasGaps (tiling lent) root (z ∷ [])) (sym value) (gaps-added old (tiling lent) root n (bytes - 32) [] l.fresh l.extents whole.kept.gaps);
+    sizes = subst (λ (r : Layout ℕ). All (λ b. b.size ≤ 16777264) r.blocks) (sym lent-layout) whole.sizes;
+  }

@@ -4,11 +4,8 @@ pub mod Rounding
 pub mod Apart
 pub mod Ordered
 pub mod Gaps
-pub mod Clear
 pub mod Stands
 pub mod Heads
-pub mod Placed
-pub mod Allocs
 pub mod Asking
 pub mod Resizes
 pub mod Others
@@ -65,3 +62,4 @@ pub mod Linking
 pub mod Cleared
 pub mod Bests
 pub mod Counted
+pub mod Written

@@ -1,7 +1,7 @@
 -- The tree of gaps where a free extent is cut, call by call, and which gaps are out of it then.
-use Rattle.std.proofs.Common.{◌≡◌, ℕ, ◌+◌, ◌-◌, ◌/◌, ◌%◌, ◌<◌, ◌≤◌, List, [], ◌∷◌, ◌++◌, Bool, true, false, eqb, ltb, ◌||◌, refl, ap, sym, subst, ◌∙◌, ⊎_elim, arith}
+use Rattle.std.proofs.Common.{◌≡◌, ℕ, ◌+◌, ◌-◌, ◌/◌, ◌%◌, ◌<◌, ◌≤◌, List, [], ◌∷◌, ◌++◌, Bool, true, false, eqb, ◌||◌, refl, ap, sym, subst, ◌∙◌, ⊎_elim, arith}
 use Rattle.std.proofs.Math.Logic.{∥∥₁_elim}
-use Rattle.std.proofs.lemmas.Bool.{cases_Bool, ne_eqb, le-ltb, lt-ltb}
+use Rattle.std.proofs.lemmas.Bool.{cases_Bool}
 use Rattle.vc_base.specs.Holders.{contains}
 use Rattle.vc_model.specs.Addr.{address, place_of}
 use Rattle.vc_model.specs.Bytes.{with_bytes}
@@ -17,7 +17,8 @@ use Rattle.vc_gaps.proofs.GapTrees.{gaps-same}
 use Rattle.vc_gaps.proofs.Joined.{inside-none}
 use Rattle.vc_gaps.proofs.Marked.{gaps-busy, gaps-split, gaps-stay}
 use Rattle.vc_gaps.proofs.Named.{behind_of, extent_in-off, extent_of-here}
-use Rattle.vc_best.specs.Beside.{GapsChange, free_name, free_next, part_name}
+use Rattle.vc_best.specs.Beside.{free_name, free_next}
+use Rattle.vc_best.specs.GapsChange.{GapsChange}
 use Rattle.vc_best.proofs.Cuts.{behind-here}
 use Rattle.vc_best.proofs.Known.{cut-of, then-behind}
 use Rattle.vc_best.proofs.Sets.{bytes-set}
@@ -68,20 +69,6 @@ pub gaps-put : (t t1 t2 t3 : Tiling) (a to : ℕ) (ps qs : List ℕ) → GapsCha
     → GapsChange t t3 (a ∷ []) (ps ++ qs)
 gaps-put t t1 t2 t3 a to ps qs g1 g2 g3 root out h = gaps-group t3 root ps qs out (gaps-swap t3 root qs ps out (g3 root (qs ++ (ps ++ out)) (g2 root (ps ++ out) (g1 root out h))))
 
--- the one part of a run
-pub part-some : (seg from to : ℕ) → from < to → part_name seg from to ≡ address (seg, from) ∷ []
-part-some seg from to lt = rw (lt-ltb from to lt) refl
-
-pub part-none : (seg from to : ℕ) → to ≤ from → part_name seg from to ≡ []
-part-none seg from to le = rw (le-ltb from to le) refl
-
-pub parts-apart : (seg from to end : ℕ) → from + 32 ≤ to → contains (part_name seg to end) (address (seg, from)) ≡ false
-parts-apart seg from to end le =
-    ⊎_elim
-    (λ (t : ltb to end ≡ true). rw t (ap (λ z. z || false) (ne_eqb (address (seg, to)) (address (seg, from)) (λ q. omega arith))))
-    (λ (t : ltb to end ≡ false). rw t refl)
-    (cases_Bool (ltb to end))
-
 module _ (segs : List Bytes) (index : List ℕ) (k : ∥ AreExtents segs index ∥₁) (a : ℕ) (named : IsNamed (tiling segs) a) where
   -- no address names what lies in it
   pub inside-not : (b off : ℕ) → b ≡ address ((place_of a).0, off) → off % 32 ≡ 0 → (place_of a).1 < off → off < (place_of a).1 + (extent_of (tiling segs) a).span
@@ -96,29 +83,17 @@ module _ (segs : List Bytes) (index : List ℕ) (k : ∥ AreExtents segs index �
   module _ (new : Tiling) where
     -- what lies before an offset is split from it
     pub gaps-front : (off b : ℕ) → (place_of a).1 < off → off < (place_of a).1 + (extent_of (tiling segs) a).span → off % 32 ≡ 0
-        → new ≡ change_extent a (split (off - (place_of a).1)) (tiling segs) → b ≡ address ((place_of a).0, off)
-        → GapsChange (tiling segs) new (a ∷ []) (b ∷ part_name (place_of a).0 (place_of a).1 off)
+        → new ≡ change_extent a (split (off - (place_of a).1)) (tiling segs) → b ≡ address ((place_of a).0, off) → GapsChange (tiling segs) new (a ∷ []) (b ∷ a ∷ [])
     gaps-front off b low high multiple e value root out h =
         let sum : (place_of a).1 + (off - (place_of a).1) ≡ off = omega arith in
         let is : b ≡ address ((place_of a).0, (place_of a).1 + (off - (place_of a).1)) = value ∙ ap (λ n. address ((place_of a).0, n)) (sym sum) in
-        let both : HasGaps new root (a ∷ b ∷ out) = gaps-split (tiling segs) new root a out (off - (place_of a).1) b e is (inside-not b off value multiple low high) h in
-        let part : part_name (place_of a).0 (place_of a).1 off ≡ a ∷ [] = part-some (place_of a).0 (place_of a).1 off low ∙ ap (λ z. z ∷ []) (own-address a) in
-        subst (λ ps. HasGaps new root (b ∷ (ps ++ out))) (sym part) (gaps-swap new root (a ∷ []) (b ∷ []) out both)
+        gaps-swap new root (a ∷ []) (b ∷ []) out (gaps-split (tiling segs) new root a out (off - (place_of a).1) b e is (inside-not b off value multiple low high) h)
 
     -- what is behind its first bytes is
-    pub gaps-back : (bytes : ℕ) → 32 ≤ bytes → bytes < (extent_of (tiling segs) a).span → bytes % 32 ≡ 0 → new ≡ change_extent a (split bytes) (tiling segs)
-        → GapsChange (tiling segs) new (a ∷ []) (a ∷ part_name (place_of a).0 ((place_of a).1 + bytes) ((place_of a).1 + (extent_of (tiling segs) a).span))
-    gaps-back bytes least less multiple e root out h =
-        let b : ℕ = address ((place_of a).0, (place_of a).1 + bytes) in
-        let both : HasGaps new root (a ∷ b ∷ out) = gaps-split (tiling segs) new root a out bytes b e refl (inside-not b ((place_of a).1 + bytes) refl (omega arith) (omega arith) (omega arith)) h in
-        subst (λ ps. HasGaps new root (a ∷ (ps ++ out))) (sym (part-some (place_of a).0 ((place_of a).1 + bytes) ((place_of a).1 + (extent_of (tiling segs) a).span) (omega arith))) both
-
--- nothing is split
-pub gaps-no_front : (t : Tiling) (a off : ℕ) → off ≤ (place_of a).1 → GapsChange t t (a ∷ []) (a ∷ part_name (place_of a).0 (place_of a).1 off)
-gaps-no_front t a off le root out h = subst (λ ps. HasGaps t root (a ∷ (ps ++ out))) (sym (part-none (place_of a).0 (place_of a).1 off le)) h
-
-pub gaps-no_back : (t : Tiling) (a from to : ℕ) → to ≤ from → GapsChange t t (a ∷ []) (a ∷ part_name (place_of a).0 from to)
-gaps-no_back t a from to le root out h = subst (λ ps. HasGaps t root (a ∷ (ps ++ out))) (sym (part-none (place_of a).0 from to le)) h
+    pub gaps-back : (bytes b : ℕ) → 32 ≤ bytes → bytes < (extent_of (tiling segs) a).span → bytes % 32 ≡ 0 → new ≡ change_extent a (split bytes) (tiling segs)
+        → b ≡ address ((place_of a).0, (place_of a).1 + bytes) → GapsChange (tiling segs) new (a ∷ []) (a ∷ b ∷ [])
+    gaps-back bytes b least less multiple e value root out h =
+        gaps-split (tiling segs) new root a out bytes b e value (inside-not b ((place_of a).1 + bytes) value (omega arith) (omega arith) (omega arith)) h
 
 -- the bytes of a busy extent change
 pub gaps-written : (t new : Tiling) (a off : ℕ) (src : List ℕ) → new ≡ change_extent a (write off src) t → IsBusy t a → GapsChange t new [] []

@@ -4,8 +4,8 @@ use Rattle.std.specs.Prelude.{option_map}
 use Rattle.std.proofs.lemmas.Bool.{cases_Bool, and_parts, and_from, eqb-true, eq-eqb}
 use Rattle.std.proofs.lemmas.List.{length-map, get_or-map}
 use Rattle.std.proofs.lemmas.List.Elements.{All-head, All-tail}
-use Rattle.vc_model.specs.Segments.{Asked, Granted, TooMany, NotLent, ask}
-use Rattle.vc_model.specs.Layout.{Block, Layout, address_of, is_at, lies_before, with_block, with_segment}
+use Rattle.vc_model.specs.Segments.{Asked, Grant, Granted, TooMany, NotLent, ask}
+use Rattle.vc_model.specs.Layout.{Block, Layout, address_of, is_at, lies_before, with_block, with_grant}
 use Rattle.vc_model.specs.Touch.{HasBlock, find_block, with_bytes_at}
 use Rattle.vc_model.specs.Discipline.{Terms}
 use Rattle.vc_model.specs.Outcome.{Outcome, Done, Refused, Put, Fault, Fixed}
@@ -89,24 +89,24 @@ pub record IsNew (r : Layout ℕ) (label size to : ℕ) (region : Layout ℕ) : 
   pub blocks : region.blocks ≡ with_block (zeros label size (place_of to)) r.blocks
   pub at : to ≡ address (place_of to)
 
-pub put_at-new : (r s : Layout ℕ) (label size to : ℕ) (granted : Option (ℕ × ℕ)) (at : ℕ × ℕ) (region : Layout ℕ) → s.blocks ≡ r.blocks → IsPut (put_at s label size granted at) to region → IsNew r label size to region
+pub put_at-new : (r s : Layout ℕ) (label size to : ℕ) (granted : Option Grant) (at : ℕ × ℕ) (region : Layout ℕ) → s.blocks ≡ r.blocks → IsPut (put_at s label size granted at) to region → IsNew r label size to region
 put_at-new r s label size to granted at region same h =
     record {
       blocks = ap (λ (q : Layout ℕ). q.blocks) h.2 ∙ (ap (with_block (zeros label size at)) same ∙ ap (λ p. with_block (zeros label size p) r.blocks) h.1);
       at = h.0 ∙ ap address h.1;
     }
 
-put-new : (r s : Layout ℕ) (label size to : ℕ) (granted o : Option (ℕ × ℕ)) (region : Layout ℕ) → s.blocks ≡ r.blocks → IsPut (put s label size granted o) to region → IsNew r label size to region
+put-new : (r s : Layout ℕ) (label size to : ℕ) (granted : Option Grant) (o : Option (ℕ × ℕ)) (region : Layout ℕ) → s.blocks ≡ r.blocks → IsPut (put s label size granted o) to region → IsNew r label size to region
 put-new r s label size to granted None region same h = absurd h
 put-new r s label size to granted (Some at) region same h = put_at-new r s label size to granted at region same h
 
 asked-new : (r : Layout ℕ) (label size align to : ℕ) (asked : Asked) (region : Layout ℕ) → IsPut (put_in_new r label size align asked) to region → IsNew r label size to region
-asked-new r label size align to (Granted n bytes) region h = put-new r (with_segment r (n, bytes)) label size to (Some (n, bytes)) (place_in (with_segment r (n, bytes)) size align) region refl h
+asked-new r label size align to (Granted g) region h = put-new r (with_grant r g) label size to (Some g) (place_in (with_grant r g) size align) region refl h
 asked-new r label size align to TooMany region h = absurd h
 asked-new r label size align to NotLent region h = absurd h
 
 pub place-new : (terms : Terms) (r : Layout ℕ) (label size align : ℕ) (refused : Bool) (to : ℕ) (o : Option (ℕ × ℕ)) (region : Layout ℕ) → IsPut (put_or_ask terms r label size align refused o) to region → IsNew r label size to region
-place-new terms r label size align refused to None region h = asked-new r label size align to (ask (best_need terms size align) r.segments refused) region h
+place-new terms r label size align refused to None region h = asked-new r label size align to (ask terms (best_need terms size align) r.segments refused) region h
 place-new terms r label size align refused to (Some at) region h = put_at-new r r label size to None at region refl h
 
 module _ (terms : Terms) (r : Layout ℕ) (label size align to : ℕ) (refused : Bool) (mid : Layout ℕ) (placed : IsPut (best_alloc terms r label size align refused) to mid) (fresh : IsAmong r.blocks to → ⊥) where

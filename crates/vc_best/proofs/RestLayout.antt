@@ -7,12 +7,12 @@ use Rattle.vc_model.specs.Best.{best_alloc, best_need, place_in, put, put_at, pu
 use Rattle.vc_model.specs.Compact.{compact_count, compacted_layout, is_occupied}
 use Rattle.vc_model.specs.Discipline.{Terms}
 use Rattle.vc_model.specs.Gap.{Run, bytes_of, gaps}
-use Rattle.vc_model.specs.Layout.{Block, Layout, footprint, is_at, with_block, with_segment}
+use Rattle.vc_model.specs.Layout.{Block, Layout, footprint, is_at, with_block, with_grant}
 use Rattle.vc_model.specs.Numbers.{gaps_of, greatest, segment_bytes, segment_count}
 use Rattle.vc_model.specs.Outcome.{Done, outcome_as}
 use Rattle.vc_model.specs.Place.{place}
 use Rattle.vc_model.specs.Resize.{can_stay, is_usable, meets, sized_block, stays}
-use Rattle.vc_model.specs.Segments.{Asked, Granted, TooMany, NotLent, ask}
+use Rattle.vc_model.specs.Segments.{Asked, Grant, Granted, TooMany, NotLent, ask}
 use Rattle.vc_model.specs.Touch.{find_block}
 use Rattle.vc_seg.specs.Stat.{layout_stat}
 use Rattle.vc_seg.specs.declared.stat.Stat.{Stat}
@@ -22,7 +22,7 @@ use Rattle.vc_best.proofs.RestBlocks.{change_block-labelled, footprints-zeroed, 
 abbrev pub layout : List (ℕ × ℕ) → List (Block ℕ) → Layout ℕ
 layout segments blocks = record { segments = segments; blocks = blocks }
 
-put_at-zeroed : (r : Layout ℕ) (label size : ℕ) (granted : Option (ℕ × ℕ)) (at : ℕ × ℕ) → put_at (zeroed_layout r) label size granted at ≡ outcome_as zeroed_layout (put_at r label size granted at)
+put_at-zeroed : (r : Layout ℕ) (label size : ℕ) (granted : Option Grant) (at : ℕ × ℕ) → put_at (zeroed_layout r) label size granted at ≡ outcome_as zeroed_layout (put_at r label size granted at)
 put_at-zeroed r label size granted at =
     ap (λ bs. Done (record { at = at; region = layout r.segments bs; granted = granted }))
     (ap (λ b. with_block b (map block_shown r.blocks)) (sym (zeroed-zeros label size at)) ∙ sym (with_block-zeroed (zeros label size at) r.blocks))
@@ -30,20 +30,20 @@ put_at-zeroed r label size granted at =
 place_in-zeroed : (r : Layout ℕ) (size align : ℕ) → place_in (zeroed_layout r) size align ≡ place_in r size align
 place_in-zeroed r size align = ap (λ fs. place r.segments fs size align) (footprints-zeroed r.blocks)
 
-put-zeroed : (r : Layout ℕ) (label size : ℕ) (granted : Option (ℕ × ℕ)) (at : Option (ℕ × ℕ)) → put (zeroed_layout r) label size granted at ≡ outcome_as zeroed_layout (put r label size granted at)
+put-zeroed : (r : Layout ℕ) (label size : ℕ) (granted : Option Grant) (at : Option (ℕ × ℕ)) → put (zeroed_layout r) label size granted at ≡ outcome_as zeroed_layout (put r label size granted at)
 put-zeroed r label size granted None = refl
 put-zeroed r label size granted (Some at) = put_at-zeroed r label size granted at
 
 put_in_new-zeroed : (r : Layout ℕ) (label size align : ℕ) (asked : Asked) → put_in_new (zeroed_layout r) label size align asked ≡ outcome_as zeroed_layout (put_in_new r label size align asked)
-put_in_new-zeroed r label size align (Granted number bytes) =
-    ap (put (with_segment (zeroed_layout r) (number, bytes)) label size (Some (number, bytes))) (place_in-zeroed (with_segment r (number, bytes)) size align)
-    ∙ put-zeroed (with_segment r (number, bytes)) label size (Some (number, bytes)) (place_in (with_segment r (number, bytes)) size align)
+put_in_new-zeroed r label size align (Granted g) =
+    ap (put (with_grant (zeroed_layout r) g) label size (Some g)) (place_in-zeroed (with_grant r g) size align)
+    ∙ put-zeroed (with_grant r g) label size (Some g) (place_in (with_grant r g) size align)
 put_in_new-zeroed r label size align TooMany = refl
 put_in_new-zeroed r label size align NotLent = refl
 
 put_or_ask-zeroed : (terms : Terms) (r : Layout ℕ) (label size align : ℕ) (refused : Bool) (at : Option (ℕ × ℕ)) → put_or_ask terms (zeroed_layout r) label size align refused at ≡ outcome_as zeroed_layout (put_or_ask terms r label size align refused at)
 put_or_ask-zeroed terms r label size align refused (Some at) = put_at-zeroed r label size None at
-put_or_ask-zeroed terms r label size align refused None = put_in_new-zeroed r label size align (ask (best_need terms size align) r.segments refused)
+put_or_ask-zeroed terms r label size align refused None = put_in_new-zeroed r label size align (ask terms (best_need terms size align) r.segments refused)
 
 pub best_alloc-zeroed : (terms : Terms) (r : Layout ℕ) (label size align : ℕ) (refused : Bool) → best_alloc terms (zeroed_layout r) label size align refused ≡ outcome_as zeroed_layout (best_alloc terms r label size align refused)
 best_alloc-zeroed terms r label size align refused =

@@ -9,7 +9,8 @@ use Rattle.std.proofs.lemmas.List.{append-nil}
 use Rattle.std.proofs.lemmas.List.Folds.{list_any-append}
 use Rattle.std.proofs.lemmas.List.Elements.{All-append, All-head, All-map, All-nil, All-tail, All-weaker}
 use Rattle.vc_model.specs.Compact.{is_occupied}
-use Rattle.vc_model.specs.Layout.{Block, with_segment}
+use Rattle.vc_model.specs.Layout.{Block, with_grant}
+use Rattle.vc_model.specs.Segments.{new_segment}
 use Rattle.vc_seg.specs.Segment.{Bytes, pair_of}
 use Rattle.vc_layouts.proofs.Lists.{AllPairs-head, AllPairs-tail}
 use Rattle.vc_layouts.specs.InOrder.{in_order}
@@ -28,7 +29,7 @@ use Rattle.vc_best.proofs.Sets.{blocks-set}
 use Rattle.vc_best.proofs.Tilings.{other-seg}
 
 pub layout-added : (old new : List Bytes) (n size span : ℕ) → tiling new ≡ tiling old ++ (n, free_extent 32 span no_links ∷ []) ∷ [] → map pair_of new ≡ map pair_of old ++ (n, size) ∷ [] →
-    layout_by new ≡ with_segment (layout_by old) (n, size)
+    layout_by new ≡ with_grant (layout_by old) (new_segment n size)
 unfolding layout_by
 layout-added old new n size span t p =
     let e : in_order (all_busy (tiling new)) ≡ in_order (all_busy (tiling old)) =

@@ -4,15 +4,13 @@ use Rattle.std.specs.List.{remove, HoldsAt}
 use Rattle.std.proofs.lemmas.Bool.{cases_Bool, and_parts, and_from, eqb-true, eq-eqb}
 use Rattle.std.proofs.lemmas.List.{get_or_default, length-map, get_or-map}
 use Rattle.std.proofs.lemmas.List.Edits.{length-remove}
-use Rattle.std.proofs.lemmas.List.Elements.{All-cons}
+use Rattle.std.proofs.lemmas.List.Elements.{All-cons, All-head, All-nil, All-tail}
 use Rattle.vc_model.specs.Addr.{place_of}
-use Rattle.vc_model.specs.Layout.{Block, Layout, address_of, footprint, is_at, without_block}
-use Rattle.vc_model.specs.Sound.{IsApart}
+use Rattle.vc_model.specs.Layout.{Block, Layout, address_of, is_at, lies_before, with_block, without_block}
 use Rattle.vc_model.specs.Touch.{HasBlock}
 use Rattle.vc_layouts.proofs.Lists.{AllPairs-head, AllPairs-tail}
-use Rattle.vc_layouts.proofs.Blocks.{All-without}
-use Rattle.vc_layouts.proofs.Blocks.{place_of-address}
-use Rattle.vc_best.proofs.HaveHeads.{AreApart, HasHead, HaveHeads, footprint_at}
+use Rattle.vc_layouts.proofs.Blocks.{All-without, place_of-address}
+use Rattle.vc_best.proofs.HaveHeads.{AreApart, HasHead, HaveHeads}
 use Rattle.vc_best.proofs.Apart.{Before, span-least}
 
 here : (b : Block ℕ) → is_at (b.seg, b.off) b ≡ true
@@ -53,6 +51,32 @@ none-left at (b ∷ bs) h =
     (λ e. rw e (All-cons P b (without_block at bs) e (none-left at bs (AllPairs-tail Before b bs h))))
     (cases_Bool (is_at at b))
 
+-- where a block is one more among blocks that don't overlap, no other is at its place
+with-own : (P : Block ℕ → Type 0) (b : Block ℕ) (bs : List (Block ℕ)) → All P (with_block b bs) → P b
+with-own P b [] h = All-head P b [] h
+with-own P b (c ∷ cs) h =
+    ⊎_elim
+    (λ (t : lies_before b c ≡ true). All-head P b (c ∷ cs) (rw t at h))
+    (λ (t : lies_before b c ≡ false). with-own P b cs (All-tail P c (with_block b cs) (rw t at h)))
+    (cases_Bool (lies_before b c))
+
+pub alone : (b : Block ℕ) (bs : List (Block ℕ)) → AreApart (with_block b bs) → All (λ c. is_at (b.seg, b.off) c ≡ false) bs
+alone b [] h = All-nil (λ (c : Block ℕ). is_at (b.seg, b.off) c ≡ false)
+alone b (c ∷ cs) h =
+    ⊎_elim
+    (λ (t : lies_before b c ≡ true).
+    let apart : AreApart (b ∷ c ∷ cs) = rw t at h in
+    λ k d lt.
+    let e : Block ℕ = get_or (c ∷ cs) k d in
+    ⊎_elim (λ u. absurd (not_at b e (b.seg, b.off) (AllPairs-head Before b (c ∷ cs) apart k d lt) (here b) u)) (λ u. u) (cases_Bool (is_at (b.seg, b.off) e)))
+    (λ (t : lies_before b c ≡ false).
+    let apart : AreApart (c ∷ with_block b cs) = rw t at h in
+    let before : Before c b = with-own (Before c) b cs (AllPairs-head Before c (with_block b cs) apart) in
+    All-cons (λ (d : Block ℕ). is_at (b.seg, b.off) d ≡ false) c cs
+    (⊎_elim (λ u. absurd (not_at c b (b.seg, b.off) before u (here b))) (λ u. u) (cases_Bool (is_at (b.seg, b.off) c)))
+    (alone b cs (AllPairs-tail Before c (with_block b cs) apart)))
+    (cases_Bool (lies_before b c))
+
 -- the block at an address, which tells its place
 pub record Stands (segments : List (ℕ × ℕ)) (bs : List (Block ℕ)) (a : ℕ) : Type 0 where
   pub index : ℕ
@@ -79,6 +103,14 @@ stands segments bs a h live =
       head = head;
     }
 
+at-none : (segments : List (ℕ × ℕ)) (bs : List (Block ℕ)) (a : ℕ) → All (HasHead segments) bs → All (λ b. is_at (place_of a) b ≡ false) bs → ¬ HasBlock bs a
+at-none segments bs a h none live =
+    let s = stands segments bs a h live in
+    let other : is_at (place_of a) s.block ≡ false = subst (λ (b : Block ℕ). is_at (place_of a) b ≡ false) s.at (none s.index s.block s.within) in
+    let own : is_at (place_of a) s.block ≡ true = subst (λ (p : ℕ × ℕ). is_at p s.block ≡ true) s.place (here s.block) in
+    let no : true ≡ false = sym own ∙ other in
+    cc
+
 module _ (r : Layout ℕ) (a : ℕ) (h : HaveHeads r) where
   -- the one that goes with its place
   pub stands-removed : (i : ℕ) → i < length r.blocks → HoldsAt (λ b. address_of b ≡ a) r.blocks i → without_block (place_of a) r.blocks ≡ remove r.blocks i
@@ -95,25 +127,10 @@ module _ (r : Layout ℕ) (a : ℕ) (h : HaveHeads r) where
       ap (λ (bs : List (Block ℕ)). length bs + 1) (stands-removed live.0 within (λ d. sym (get_or-map address_of r.blocks live.0 d a within) ∙ live.2))
       ∙ length-remove r.blocks live.0 within
 
+  -- no block is at an address at whose place none is
+  pub none-at : All (λ b. is_at (place_of a) b ≡ false) r.blocks → ¬ HasBlock r.blocks a
+  none-at none live = at-none r.segments r.blocks a h.blocks none live
+
   pub none-there : ¬ HasBlock (without_block (place_of a) r.blocks) a
   none-there live =
-      let s = stands r.segments (without_block (place_of a) r.blocks) a (All-without (HasHead r.segments) (place_of a) r.blocks h.blocks) live in
-      let other : is_at (place_of a) s.block ≡ false = subst (λ (b : Block ℕ). is_at (place_of a) b ≡ false) s.at (none-left (place_of a) r.blocks h.apart s.index s.block s.within) in
-      let own : is_at (place_of a) s.block ≡ true = subst (λ (p : ℕ × ℕ). is_at p s.block ≡ true) s.place (here s.block) in
-      let no : true ≡ false = sym own ∙ other in
-      cc
-
-  -- no block is at an address whose place overlaps none
-  pub none-at-clear : (size : ℕ) (at : ℕ × ℕ) → place_of a ≡ at → All (λ b. IsApart (footprint_at size at) (footprint b)) r.blocks → ¬ HasBlock r.blocks a
-  none-at-clear size at e clear live =
-      let s = stands r.segments r.blocks a h.blocks live in
-      let P : Block ℕ → Type 0 = λ b. IsApart (footprint_at size at) (footprint b) in
-      let place : (s.block.seg, s.block.off) ≡ at = s.place ∙ e in
-      let seg : s.block.seg ≡ at.0 = ap (λ (p : ℕ × ℕ). p.0) place in
-      let off : s.block.off ≡ at.1 = ap (λ (p : ℕ × ℕ). p.1) place in
-      let mine = span-least size in
-      let its = span-least s.block.size in
-      ⊎_elim
-      (λ u. ⊎_elim (λ v. omega (arith, v, seg)) (λ v. let le = v.1 in omega (arith, le, mine, off)) u)
-      (λ u. ⊎_elim (λ v. omega (arith, v, seg)) (λ v. let le = v.1 in omega (arith, le, its, off)) u)
-      (subst P s.at (clear s.index s.block s.within))
+      at-none r.segments (without_block (place_of a) r.blocks) a (All-without (HasHead r.segments) (place_of a) r.blocks h.blocks) (none-left (place_of a) r.blocks h.apart) live

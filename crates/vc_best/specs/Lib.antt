@@ -15,10 +15,12 @@ pub use Rattle.vc_model.specs.Walk
 pub use Rattle.vc_model.specs.Addr
 pub use Rattle.vc_seg.specs.Answer
 pub use Rattle.vc_seg.specs.Boxed
+pub use Rattle.vc_seg.specs.OneBlock
 pub use Rattle.vc_seg.specs.Stat
 pub mod Blocks
 pub mod Free
 pub mod Beside
+pub mod GapsChange
 pub mod Kept
 pub mod Counts
 pub mod Next

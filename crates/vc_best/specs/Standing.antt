@@ -1,23 +1,24 @@
 -- What the private calls of a best region ask and promise together.
-use Rattle.std.specs.Prelude.{◌≡◌, ℕ, ◌+◌, ◌-◌, ◌≤◌, ◌<◌, ◌%◌, List, [], ◌∷◌, ◌++◌, All, IfErr, IfOk, IfSome, IsErrOf, OnErr, Result, Some, false, filter, length, map, take}
+use Rattle.std.specs.Prelude.{◌≡◌, ℕ, ◌+◌, ◌-◌, ◌≤◌, ◌%◌, List, [], ◌∷◌, ◌++◌, All, IfOk, IfSome, IsErrOf, OnErr, Result, Some, false, filter, length, map, take}
 use Rattle.vc_base.specs.declared.addr.Addr.{Addr}
 use Rattle.vc_model.specs.Addr.{place_of}
 use Rattle.vc_model.specs.Best.{best_alloc, place_in, without_block_at}
 use Rattle.vc_model.specs.Compact.{is_occupied}
-use Rattle.vc_model.specs.Discipline.{IsSegmentSize, Terms}
+use Rattle.vc_model.specs.Discipline.{Terms}
 use Rattle.vc_model.specs.Layout.{Layout}
-use Rattle.vc_model.specs.Place.{IsAlign}
-use Rattle.vc_model.specs.Segments.{Granted, ask, segment_limit, span}
+use Rattle.vc_model.specs.Place.{IsAlign, holds, least}
+use Rattle.vc_model.specs.Segments.{Granted, ask, new_segment, span}
 use Rattle.vc_model.specs.Touch.{HasBlock, find_block, with_bytes_at}
 use Rattle.vc_seg.specs.Answer.{Answers}
+use Rattle.vc_seg.specs.OneBlock.{IsGuardedSize}
 use Rattle.vc_seg.specs.Segment.{Bytes, pair_of}
 use Rattle.vc_seg.specs.declared.fault.RegionFault.{RegionFault}
 use Rattle.vc_seg.specs.declared.fault.RegionFault.TheVariants as code
-use Rattle.vc_seg.specs.Lend.{IsNoGrant}
-use Rattle.vc_layouts.specs.Put.{IsPutInNew, with_zeros}
+use Rattle.vc_layouts.specs.Put.{with_zeros}
 use Rattle.vc_extent.specs.Extent.{free_extent, no_links}
 use Rattle.vc_extent.specs.Tiling.{IsBusy, IsFree, IsThere, change_extent, extent_of, tiling}
 use Rattle.vc_gaps.specs.ButLinks.{Tiling}
+use Rattle.vc_gaps.specs.Fits.{free_runs, run_at}
 use Rattle.vc_gaps.specs.GapTree.{HasGaps}
 use Rattle.vc_best.specs.Ask.{AsksForSegment}
 use Rattle.vc_best.specs.Blocks.{layout_by}
@@ -37,14 +38,13 @@ pub record AreWhole (segs : List Bytes) (root : ℕ) : Type 0 where
 
 -- a size and an alignment that a block can have
 pub record AreAllowed (size align : ℕ) : Type 0 where
-  pub some : 1 ≤ size
-  pub most : size ≤ 16777264
+  pub sized : IsGuardedSize size
   pub aligned : IsAlign align
 
 -- a segment of that many bytes is lent under the least number that none of these has, and stands behind them as one free
 -- extent
-pub record IsLentFree (old new : List Bytes) (number bytes : ℕ) : Type 0 where
-  pub granted : ask bytes (map pair_of old) false ≡ Granted number bytes
+pub record IsLentFree (terms : Terms) (old new : List Bytes) (number bytes : ℕ) : Type 0 where
+  pub granted : ask terms bytes (map pair_of old) false ≡ Granted (new_segment number bytes)
   pub extents : tiling new ≡ tiling old ++ (number, free_extent 32 (bytes - 32) no_links ∷ []) ∷ []
   pub pairs : map pair_of new ≡ map pair_of old ++ (number, bytes) ∷ []
   pub first : 1 ≤ number
@@ -54,11 +54,22 @@ pub record IsLentFree (old new : List Bytes) (number bytes : ℕ) : Type 0 where
 -- a free extent has room for a block of that size at that offset of its segment
 pub record CanPutBlock (t : Tiling) (a off size : ℕ) : Type 0 where
   pub free : IsFree t a
-  pub some : 1 ≤ size
-  pub most : size ≤ 16777264
+  pub sized : IsGuardedSize size
   pub first : (place_of a).1 ≤ off
   pub multiple : off % 32 ≡ 0
   pub fits : off + span size ≤ (place_of a).1 + (extent_of t a).span
+
+-- a free extent is the least that holds a block of a size and an alignment
+abbrev pub IsLeastHolding : Tiling → ℕ → ℕ → ℕ → Type 0
+IsLeastHolding t size align a = Some (run_at t a) ≡ least (filter (holds (span size) align) (free_runs t))
+
+-- such a one is out of the tree of gaps, which has the other free extents
+pub record IsLeastOut (segs : List Bytes) (root size align a : ℕ) : Type 0 where
+  pub allowed : AreAllowed size align
+  pub least : IsLeastHolding (tiling segs) size align a
+  pub merged : IsMerged (tiling segs)
+  pub gaps : HasGaps (tiling segs) root (a ∷ [])
+  pub sizes : All (λ b. b.size ≤ 16777264) (layout_by segs).blocks
 
 -- a block of zeros is put at its place in the least gap that holds it, at an address that no block has
 pub record IsPutInGap (old new : Layout ℕ) (tag size align a : ℕ) : Type 0 where
@@ -66,30 +77,13 @@ pub record IsPutInGap (old new : Layout ℕ) (tag size align a : ℕ) : Type 0 w
   pub layout : new ≡ with_zeros old tag size (place_of a)
   pub fresh : ¬ HasBlock old.blocks a
 
--- a new segment of that many bytes has room for a block of that size at that offset
-pub record HasRoomAt (bytes off size : ℕ) : Type 0 where
-  pub some : 1 ≤ size
-  pub most : size ≤ 16777264
-  pub legal : IsSegmentSize bytes
-  pub first : 32 ≤ off
-  pub offset : off % 32 ≡ 0
-  pub fits : off + span size ≤ bytes
-
--- a block of zeros is put at an offset of a segment of that many bytes, which is lent for it; else nothing changes, and
--- want of memory is the cause only where there may be one segment more
-pub record IsPutInLent (result : Result Addr RegionFault) (old new : Layout ℕ) (tag size bytes off : ℕ) : Type 0 where
-  pub ok : IfOk result (λ a. IsPutInNew old new tag size bytes off a.0)
-  pub fault : IfErr result (IsNoGrant bytes old.segments)
-  pub no_memory : IsErrOf result code.OutOfMemory → length old.segments < segment_limit
-  pub err : OnErr result (new ≡ old)
-
 -- a block that no gap holds is put into a segment that is asked for, at an address that no block has; else nothing
 -- changes, and want of memory is the cause only where a segment is asked for
 pub record IsPutByAsking (terms : Terms) (result : Result Addr RegionFault) (old new : Layout ℕ) (tag size align : ℕ) : Type 0 where
   pub answer : Answers (best_alloc terms old tag size align) result old new
   pub count : IfOk result (λ _. length new.blocks ≡ length old.blocks + 1)
   pub err : OnErr result (new ≡ old)
-  pub no_memory : IsErrOf result code.OutOfMemory → AsksForSegment old size align
+  pub no_memory : IsErrOf result code.OutOfMemory → AsksForSegment terms old size align
   pub fresh : IfOk result (λ a. ¬ HasBlock old.blocks a.0)
 
 -- the first bytes of a block, that many at most, are put into the front of another, and the block is gone
@@ -107,8 +101,7 @@ pub record IsGivenBack (old new : List Bytes) (number given : ℕ) : Type 0 wher
 pub record CanResizeThere (t : Tiling) (a size : ℕ) : Type 0 where
   pub busy : IsBusy t a
   pub merged : IsMerged t
-  pub some : 1 ≤ size
-  pub most : size ≤ 16777264
+  pub sized : IsGuardedSize size
   pub room : span size ≤ room_of t a
 
 -- it has that size, with the border behind it moved: its bytes up to the lesser size stay, and segments keep their sizes

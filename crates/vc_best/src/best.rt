@@ -1,20 +1,20 @@
-ghost use Rattle.std.specs.Prelude.{◌≡◌, ℕ, ◌+◌, ◌≤◌, ◌<◌, ◌⊎◌, IfOk, IfErr, IfSome, IsErrOf, Some, [], length, option_map};
-ghost use Rattle.std.specs.List.{HoldsAt, remove};
+ghost use Rattle.std.specs.Prelude.{◌≡◌, ◌⊎◌, IfOk, IfErr, IsErrOf, [], length};
 ghost use Rattle.vc_model.specs.Addr.{place_of};
-ghost use Rattle.vc_model.specs.Best.{best_alloc, best_need, without_block_at, zeros};
+ghost use Rattle.vc_model.specs.Best.{best_alloc, best_need, without_block_at};
 ghost use Rattle.vc_model.specs.Compact.{cleared_layout, compact_count, compacted_layout};
 ghost use Rattle.vc_model.specs.Discipline.{HasOut, TookBack};
-ghost use Rattle.vc_model.specs.Layout.{address_of, empty_layout, without_block};
+ghost use Rattle.vc_model.specs.Layout.{empty_layout};
 ghost use Rattle.vc_model.specs.Place.{IsAlign};
 ghost use Rattle.vc_model.specs.Sound.{HasWholeBlocks, IsSound};
-ghost use Rattle.vc_model.specs.Touch.{HasBlock, find_block};
-ghost use Rattle.vc_model.specs.Walk.{block_at, next_block, next_segment, segment_at};
+ghost use Rattle.vc_model.specs.Touch.{HasBlock};
+ghost use Rattle.vc_model.specs.Walk.{next_segment, segment_at};
 ghost use Rattle.vc_extent.specs.Tiling.{tiling};
 ghost use Rattle.vc_best.specs.Ask.{AsksForSegment};
 ghost use Rattle.vc_gaps.specs.GapTree.{HasGaps};
 ghost use Rattle.vc_best.specs.Blocks.{layout_by};
 ghost use Rattle.vc_best.specs.Free.{IsMerged};
 ghost use Rattle.vc_seg.specs.Answer.{Answers, Asks};
+ghost use Rattle.vc_seg.specs.OneBlock.{IsBlockAt, IsBlockFreed, IsBlockPut, IsGuardedSize, IsNextBlock};
 ghost use Rattle.vc_seg.specs.Stat.{layout_stat};
 
 use crate::compact::{clear, close, compact};
@@ -93,9 +93,9 @@ impl Best {
         tag: u32,
         steps: &mut Steps<L>,
     ) -> Result<Addr, RegionFault>
-        requires some { 1 ≤ size }
-        requires most { size ≤ 16777264 }
+        requires size { IsGuardedSize size }
         requires align { IsAlign align }
+        requires lent { HasOut (state self.old.disc) (segments_in self.old) }
 
         ensures answer { Answers
             (best_alloc (state self.old.disc).terms (layout_of self.old) tag size align)
@@ -104,14 +104,11 @@ impl Best {
             (segments_in self.old) (segments_in self.new)
             (best_need (state self.old.disc).terms size align) }
         ensures no_memory { IsErrOf result RegionFault.OutOfMemory
-            → AsksForSegment (layout_of self.old) size align }
+            → AsksForSegment (state self.old.disc).terms (layout_of self.old) size align }
 
         // The block stands there, at an address of its own, and the others stay.
-        ensures there { IfOk result (λ a. find_block (place_of a.0) (blocks_in self.new)
-            ≡ Some (zeros tag size (place_of a.0))) }
-        ensures fresh { IfOk result (λ a. ¬ HasBlock (blocks_in self.old) a.0) }
-        ensures others { IfOk result (λ a. without_block (place_of a.0) (blocks_in self.new)
-            ≡ blocks_in self.old) }
+        ensures put { IfOk result
+            (λ a. IsBlockPut tag size a.0 (blocks_in self.old) (blocks_in self.new)) }
     {
         let extents = &mut self.extents;
         let root = &mut self.root;
@@ -144,11 +141,7 @@ impl Best {
         ensures disc { state self.new.disc ≡ state self.old.disc }
 
         // It is the one block at that address that goes.
-        ensures one_less { length (blocks_in self.new) + 1 ≡ length (blocks_in self.old) }
-        ensures freed { (i : ℕ) → i < length (blocks_in self.old)
-            → HoldsAt (λ b. address_of b ≡ a.0) (blocks_in self.old) i
-            → blocks_in self.new ≡ remove (blocks_in self.old) i }
-        ensures none_left { ¬ HasBlock (blocks_in self.new) a.0 }
+        ensures freed { IsBlockFreed a.0 (blocks_in self.old) (blocks_in self.new) }
     {
         free_block(&mut self.extents, &mut self.root, a, steps);
         self.busy -= 1;
@@ -178,10 +171,7 @@ impl Best {
     /// The block whose bytes hold the byte at an offset of a segment, and the offset in the block. None where no block
     /// does.
     pub fn block_at(&self, seg: u32, off: u32) -> Option<(Addr, u32)>
-        ensures value { option_map {U = ℕ × ℕ} (λ f. (f.0.0, f.1)) result
-            ≡ option_map {U = ℕ × ℕ} (λ f. (address_of f.0, f.1))
-            (block_at (seg, off) (blocks_in self.now)) }
-        ensures live { IfSome result (λ f. HasBlock (blocks_in self.now) f.0.0) }
+        ensures { IsBlockAt result (seg, off) (blocks_in self.now) }
     {
         block_at(&self.extents, seg, off)
     }
@@ -203,9 +193,7 @@ impl Best {
     /// The block behind one in order of addresses. A walk begins with `Addr::NONE`, and ends with None.
     pub fn next_block(&self, after: Addr) -> Option<Addr>
         requires { (after.0 ≡ 0) ⊎ HasBlock (blocks_in self.now) after.0 }
-        ensures value { option_map (λ a. a.0) result
-            ≡ option_map address_of (next_block after.0 (blocks_in self.now)) }
-        ensures live { IfSome result (λ a. HasBlock (blocks_in self.now) a.0) }
+        ensures { IsNextBlock result after.0 (blocks_in self.now) }
     {
         next_block(&self.extents, after)
     }

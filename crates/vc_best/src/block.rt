@@ -1,7 +1,7 @@
 ghost use Rattle.std.specs.Prelude.{◌≡◌, Some, length, take, drop, option_map, replicate};
 ghost use Rattle.vc_model.specs.Addr.{place_of};
-ghost use Rattle.vc_model.specs.Layout.{without_block};
-ghost use Rattle.vc_model.specs.Touch.{HasBlock, HasRange, find_block, with_bytes_at};
+ghost use Rattle.vc_model.specs.Touch.{HasBlock, find_block};
+ghost use Rattle.vc_seg.specs.OneBlock.{IsBlockWritten, IsInBlock};
 
 use crate::best::Best;
 use vc_base::Addr;
@@ -30,8 +30,7 @@ impl Best {
 
     /// The bytes of a range of the block at that address. The range lies in the block.
     pub fn read(&self, a: Addr, off: u32, len: u32) -> &[u8]
-        requires block { HasBlock (blocks_in self.now) a.0 }
-        requires range { HasRange (blocks_in self.now) a.0 off len }
+        requires { IsInBlock (blocks_in self.now) a.0 off len }
         ensures { option_map (λ b. take len (drop off b.bytes))
             (find_block (place_of a.0) (blocks_in self.now)) ≡ Some result.now }
     {
@@ -41,12 +40,8 @@ impl Best {
 
     /// Puts bytes into the block at that address, from an offset on. They lie in the block.
     pub fn write(&mut self, a: Addr, off: u32, src: &[u8])
-        requires block { HasBlock (blocks_in self.old) a.0 }
-        requires range { HasRange (blocks_in self.old) a.0 off (length src.now) }
-        ensures layout { layout_of self.new
-            ≡ with_bytes_at (layout_of self.old) (place_of a.0) off src.now }
-        ensures others { without_block (place_of a.0) (blocks_in self.new)
-            ≡ without_block (place_of a.0) (blocks_in self.old) }
+        requires { IsInBlock (blocks_in self.old) a.0 off (length src.now) }
+        ensures written { IsBlockWritten a.0 off src.now (layout_of self.old) (layout_of self.new) }
         ensures disc { state self.new.disc ≡ state self.old.disc }
         ensures same_disc { self.new.disc ≡ self.old.disc }
     {
@@ -55,12 +50,8 @@ impl Best {
 
     /// Fills a range of the block at that address with one byte. The range lies in the block.
     pub fn fill(&mut self, a: Addr, off: u32, len: u32, byte: u8)
-        requires block { HasBlock (blocks_in self.old) a.0 }
-        requires range { HasRange (blocks_in self.old) a.0 off len }
-        ensures layout { layout_of self.new
-            ≡ with_bytes_at (layout_of self.old) (place_of a.0) off (replicate len byte) }
-        ensures others { without_block (place_of a.0) (blocks_in self.new)
-            ≡ without_block (place_of a.0) (blocks_in self.old) }
+        requires { IsInBlock (blocks_in self.old) a.0 off len }
+        ensures written { IsBlockWritten a.0 off (replicate len byte) (layout_of self.old) (layout_of self.new) }
         ensures disc { state self.new.disc ≡ state self.old.disc }
     {
         self.extents.fill(a, off, len, byte);

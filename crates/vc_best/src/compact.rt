@@ -5,14 +5,14 @@ ghost use Rattle.vc_seg.specs.Segment.{pair_of};
 ghost use Rattle.vc_extent.specs.Change.{IsOneFree, one_free};
 ghost use Rattle.vc_extent.specs.Tiling.{IsThere, change_in, extents_of, tiling};
 ghost use Rattle.vc_gaps.specs.ButLinks.{plain};
-ghost use Rattle.vc_best.specs.Beside.{HasGapsBelow};
+ghost use Rattle.vc_best.specs.GapsChange.{HasGapsBelow};
 ghost use Rattle.vc_best.specs.Blocks.{layout_by};
 ghost use Rattle.vc_best.specs.Standing.{AreKept, IsGivenBack};
 
 use vc_base::{Addr, Steps};
 use vc_extent::Extents;
 use vc_gaps::{link_gap, unlink_gap};
-use vc_seg::{KeepsNone, SegDisc, give_back};
+use vc_seg::{SegDisc, give_back_all};
 
 /// Whether a segment is one free extent.
 fn is_one_free(extents: &Extents, seg: u32) -> bool
@@ -102,7 +102,5 @@ pub(crate) fn close(extents: Extents, disc: &mut Box<dyn SegDisc>) -> u32
     ensures disc { TookBack (state disc.old) (state disc.new) (map pair_of extents.segs.items) [] }
 {
     let Extents { mut segs, index: _ } = extents;
-    let count = segs.len() as u32;
-    give_back(&mut segs, &KeepsNone, disc);
-    count
+    give_back_all(&mut segs, disc)
 }

@@ -1,13 +1,14 @@
-ghost use Rattle.std.specs.Prelude.{◌≡◌, ◌<◌, ◌%◌, IfOk, IfErr, IsErrOf, None, OnErr, length, map};
+ghost use Rattle.std.specs.Prelude.{◌≡◌, ◌≢◌, ◌%◌, IfOk, IfErr, IsErrOf, None, OnErr, false, map};
 ghost use Rattle.vc_model.specs.Best.{best_need, place_in};
-ghost use Rattle.vc_model.specs.Discipline.{IsSegmentSize};
+ghost use Rattle.vc_model.specs.Discipline.{HasOut, IsSegmentSize};
+ghost use Rattle.vc_model.specs.Segments.{TooMany, ask};
 ghost use Rattle.vc_seg.specs.Answer.{Asks};
 ghost use Rattle.vc_seg.specs.Segment.{pair_of};
 ghost use Rattle.vc_seg.specs.Lend.{IsAsked, IsNoGrant};
 ghost use Rattle.vc_best.specs.Blocks.{layout_by};
-ghost use Rattle.vc_best.specs.Standing.{AreAllowed, AreKept, AreWhole, HasRoomAt, IsLentFree, IsPutByAsking, IsPutInLent};
+ghost use Rattle.vc_best.specs.Standing.{AreAllowed, AreWhole, IsLentFree, IsPutByAsking};
 
-use crate::tree::put_block;
+use crate::tree::put_in_out;
 use std::alloc::Global;
 use vc_base::{Addr, Steps};
 use vc_extent::Extents;
@@ -25,10 +26,10 @@ fn lend_next(
     requires multiple { bytes % (state disc.old).terms.round ≡ 0 }
 
     ensures lent { IfOk result
-        (λ n. IsLentFree extents.old.segs.items extents.new.segs.items n bytes) }
-    ensures fault { IfErr result (IsNoGrant bytes (map pair_of extents.old.segs.items)) }
+        (λ n. IsLentFree (state disc.old).terms extents.old.segs.items extents.new.segs.items n bytes) }
+    ensures fault { IfErr result (IsNoGrant (state disc.old).terms bytes (map pair_of extents.old.segs.items)) }
     ensures no_memory { IsErrOf result RegionFault.OutOfMemory
-        → length extents.old.segs.items < 1023 }
+        → ask (state disc.old).terms bytes (map pair_of extents.old.segs.items) false ≢ TooMany }
     ensures same { OnErr result (extents.new ≡ extents.old) }
     ensures disc { IsAsked result (state disc.old) (state disc.new) bytes }
 {
@@ -38,37 +39,6 @@ fn lend_next(
     let segment = lend_segment(disc, alloc, number, bytes)?;
     extents.add(segment);
     Ok(number)
-}
-
-/// A block of zeros at an offset of a segment of that many bytes, which the discipline lends for it.
-fn put_in_lent<L>(
-    extents: &mut Extents,
-    root: &mut Addr,
-    disc: &mut Box<dyn SegDisc>,
-    alloc: Global,
-    bytes: u32,
-    off: u32,
-    size: u32,
-    tag: u32,
-    steps: &mut Steps<L>,
-) -> Result<Addr, RegionFault>
-    requires room { HasRoomAt bytes off size }
-    requires multiple { bytes % (state disc.old).terms.round ≡ 0 }
-    requires kept { AreKept extents.old.segs.items root.old.0 }
-    ensures lent { IsPutInLent result (layout_by extents.old.segs.items)
-        (layout_by extents.new.segs.items) tag size bytes off }
-    ensures disc { Asks result (state disc.old) (state disc.new)
-        (layout_by extents.old.segs.items).segments (layout_by extents.new.segs.items).segments
-        bytes }
-    ensures kept { AreKept extents.new.segs.items root.new.0 }
-{
-    match lend_next(extents, disc, alloc, bytes) {
-        Ok(number) => {
-            let a = Addr::new(number, 32);
-            Ok(put_block(extents, root, a, off, size, tag, steps))
-        }
-        Err(fault) => Err(fault),
-    }
 }
 
 /// A block of zeros, which has no place, in a segment that the discipline lends for it.
@@ -84,6 +54,7 @@ pub(crate) fn put_in_new<L>(
 ) -> Result<Addr, RegionFault>
     requires allowed { AreAllowed size align }
     requires whole { AreWhole extents.old.segs.items root.old.0 }
+    requires lent { HasOut (state disc.old) (layout_by extents.old.segs.items).segments }
     requires none { place_in (layout_by extents.old.segs.items) size align ≡ None }
     ensures put { IsPutByAsking (state disc.old).terms result (layout_by extents.old.segs.items)
         (layout_by extents.new.segs.items) tag size align }
@@ -93,5 +64,11 @@ pub(crate) fn put_in_new<L>(
     ensures whole { AreWhole extents.new.segs.items root.new.0 }
 {
     let bytes = rounded_up(span_of(size) + align, round_of(disc));
-    put_in_lent(extents, root, disc, alloc, bytes, align, size, tag, steps)
+    match lend_next(extents, disc, alloc, bytes) {
+        Ok(number) => {
+            let a = Addr::new(number, 32);
+            Ok(put_in_out(extents, root, a, size, align, tag, steps))
+        }
+        Err(fault) => Err(fault),
+    }
 }

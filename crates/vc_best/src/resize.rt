@@ -1,11 +1,12 @@
-ghost use Rattle.std.specs.Prelude.{◌≡◌, ◌≤◌, Some, IfOk, IfSome, IsErrOf, IsTrue, false, option_map};
+ghost use Rattle.std.specs.Prelude.{◌≡◌, Some, IfOk, IsErrOf, option_map};
 ghost use Rattle.vc_model.specs.Addr.{place_of};
 ghost use Rattle.vc_model.specs.Best.{best_need};
-ghost use Rattle.vc_model.specs.Layout.{without_block};
-ghost use Rattle.vc_model.specs.Resize.{best_resize, can_stay};
+ghost use Rattle.vc_model.specs.Discipline.{HasOut};
+ghost use Rattle.vc_model.specs.Resize.{best_resize};
 ghost use Rattle.vc_model.specs.Touch.{HasBlock, find_block};
-ghost use Rattle.vc_best.specs.Ask.{AsksForSegment};
+ghost use Rattle.vc_best.specs.Ask.{AsksToMove};
 ghost use Rattle.vc_seg.specs.Answer.{Answers, Asks};
+ghost use Rattle.vc_seg.specs.OneBlock.{IsBlockKept, IsGuardedSize};
 
 use crate::best::Best;
 use crate::stay::has_room;
@@ -28,8 +29,8 @@ impl Best {
         steps: &mut Steps<L>,
     ) -> Result<Addr, RegionFault>
         requires block { HasBlock (blocks_in self.old) a.0 }
-        requires some { 1 ≤ size }
-        requires most { size ≤ 16777264 }
+        requires size { IsGuardedSize size }
+        requires lent { HasOut (state self.old.disc) (segments_in self.old) }
 
         ensures answer { Answers
             (best_resize (state self.old.disc).terms (layout_of self.old)
@@ -39,19 +40,13 @@ impl Best {
             (segments_in self.old) (segments_in self.new)
             (best_need (state self.old.disc).terms size 32) }
         ensures no_memory { IsErrOf result RegionFault.OutOfMemory
-            → IfSome (find_block (place_of a.0) (blocks_in self.old))
-            (λ b. can_stay (layout_of self.old) size b ≡ false) × IsTrue may_move }
-        ensures no_place { IsErrOf result RegionFault.OutOfMemory
-            → AsksForSegment (layout_of self.old) size 32 }
+            → AsksToMove (state self.old.disc).terms (layout_of self.old) a.0 size may_move }
 
         // The block has that size and keeps its tag, and the others stay.
         ensures sized { IfOk result (λ to. option_map (λ b. b.size)
             (find_block (place_of to.0) (blocks_in self.new)) ≡ Some size) }
-        ensures there { IfOk result (λ to.
-            option_map (λ b. b.label) (find_block (place_of to.0) (blocks_in self.new))
-            ≡ option_map (λ b. b.label) (find_block (place_of a.0) (blocks_in self.old))) }
-        ensures others { IfOk result (λ to. without_block (place_of to.0) (blocks_in self.new)
-            ≡ without_block (place_of a.0) (blocks_in self.old)) }
+        ensures kept { IfOk result
+            (λ to. IsBlockKept a.0 to.0 (blocks_in self.old) (blocks_in self.new)) }
     {
         if has_room(&self.extents, a, size, steps) {
             resize_block(&mut self.extents, &mut self.root, a, size, steps);

@@ -3,7 +3,7 @@ ghost use Rattle.vc_model.specs.Addr.{place_of};
 ghost use Rattle.vc_model.specs.Resize.{resize_there};
 ghost use Rattle.vc_model.specs.Segments.{span};
 ghost use Rattle.vc_extent.specs.Tiling.{IsBusy, IsNamed, tiling};
-ghost use Rattle.vc_best.specs.Beside.{GapBehindChanges};
+ghost use Rattle.vc_best.specs.GapsChange.{GapBehindChanges};
 ghost use Rattle.vc_best.specs.Blocks.{layout_by};
 ghost use Rattle.vc_best.specs.Free.{IsMerged, room_of};
 ghost use Rattle.vc_best.specs.Standing.{CanResizeThere, IsBorderMoved};

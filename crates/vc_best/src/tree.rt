@@ -1,21 +1,20 @@
-ghost use Rattle.std.specs.Prelude.{◌≡◌, ◌≢◌, ℕ, ◌+◌, ◌≤◌, ◌<◌, ◌%◌, List, [], ◌∷◌, ◌++◌, Some, filter, false};
+ghost use Rattle.std.specs.Prelude.{◌≡◌, ◌≢◌, ℕ, ◌≤◌, IfSome, List, [], ◌∷◌, ◌++◌, false};
 ghost use Rattle.vc_base.specs.Holders.{contains};
 ghost use Rattle.vc_model.specs.Addr.{address, place_of};
 ghost use Rattle.vc_model.specs.Best.{without_block_at};
-ghost use Rattle.vc_model.specs.Place.{holds, least};
 ghost use Rattle.vc_model.specs.Resize.{resize_there};
 ghost use Rattle.vc_model.specs.Segments.{span};
+ghost use Rattle.vc_seg.specs.OneBlock.{IsGuardedSize};
 ghost use Rattle.vc_layouts.specs.Put.{with_zeros};
 ghost use Rattle.vc_extent.specs.Tiling.{IsBusy, IsNamed, tiling};
 ghost use Rattle.vc_gaps.specs.ButLinks.{StaysButLinks};
-ghost use Rattle.vc_gaps.specs.Fits.{free_runs, run_at};
 ghost use Rattle.vc_gaps.specs.GapTree.{CanLinkGap, HasGaps};
-ghost use Rattle.vc_best.specs.Beside.{free_before, free_next, part_name};
+ghost use Rattle.vc_best.specs.Beside.{free_before, free_next, some_name};
 ghost use Rattle.vc_best.specs.Blocks.{layout_by};
 ghost use Rattle.vc_best.specs.Free.{IsMerged, room_of};
-ghost use Rattle.vc_best.specs.Standing.{AreAllowed, AreKept, AreWhole, CanPutBlock, IsPutInGap};
+ghost use Rattle.vc_best.specs.Standing.{AreAllowed, AreKept, AreWhole, CanPutBlock, IsLeastHolding, IsLeastOut, IsPutInGap};
 
-use crate::carve::put_zeros;
+use crate::carve::{cut_back, cut_front, lay_zeros};
 use crate::release::release;
 use crate::stay::resize_there;
 use vc_base::{Addr, Steps};
@@ -75,34 +74,22 @@ fn link_next<L>(extents: &mut Extents, root: &mut Addr, a: Addr, steps: &mut Ste
     }
 }
 
-/// Puts the free extent from an offset of a segment up to another, where it has a byte, into a tree without it.
-fn link_part<L>(
-    extents: &mut Extents,
-    root: &mut Addr,
-    seg: u32,
-    from: u32,
-    to: u32,
-    steps: &mut Steps<L>,
-)
-    requires first { 1 ≤ seg }
-    requires last { seg ≤ 1023 }
-    requires below { from < to → from < 33554432 }
-    requires multiple { from % 32 ≡ 0 }
-    requires can { from < to
-        → CanLinkGap (tiling extents.old.segs.items) root.old.0 (address (seg, from)) }
-    ensures gaps { (out : List ℕ) → (from < to → contains out (address (seg, from)) ≡ false)
-        → HasGaps (tiling extents.old.segs.items) root.old.0 (part_name seg from to ++ out)
+// Puts a free extent, where there is one, into a tree without it.
+fn link_some<L>(extents: &mut Extents, root: &mut Addr, some: Option<Addr>, steps: &mut Steps<L>)
+    requires { IfSome some (λ a. CanLinkGap (tiling extents.old.segs.items) root.old.0 a.0) }
+    ensures gaps { (out : List ℕ) → IfSome some (λ a. contains out a.0 ≡ false)
+        → HasGaps (tiling extents.old.segs.items) root.old.0 (some_name some ++ out)
         → HasGaps (tiling extents.new.segs.items) root.new.0 out }
     ensures rest { StaysButLinks extents.old.segs.items extents.new.segs.items }
 {
-    if from < to {
-        *root = link_gap(extents, *root, Addr::new(seg, from), steps);
+    if let Some(a) = some {
+        *root = link_gap(extents, *root, a, steps);
     }
 }
 
-/// Puts a block of zeros into a free extent that isn't in the tree, at an offset of its segment. What is before and behind
-/// it is in the tree then. It answers the block's address.
-pub(crate) fn put_block<L>(
+// Puts a block of zeros into a free extent that isn't in the tree, at an offset of its segment. What is before and behind
+// it is in the tree then. It answers the block's address.
+fn put_block<L>(
     extents: &mut Extents,
     root: &mut Addr,
     a: Addr,
@@ -119,16 +106,35 @@ pub(crate) fn put_block<L>(
     ensures value { result.0 ≡ address ((place_of a.0).0, off) }
     ensures kept { AreKept extents.new.segs.items root.new.0 }
 {
-    let start = a.off();
-    let end = start + extents.span_at(a, steps);
-    let to = put_zeros(extents, a, off, size, tag, steps);
-    link_part(extents, root, a.seg(), start, off, steps);
-    link_part(extents, root, a.seg(), off + span_of(size), end, steps);
+    let (front, to) = cut_front(extents, a, off);
+    let rest = cut_back(extents, to, span_of(size), steps);
+    lay_zeros(extents, to, size, tag);
+    link_some(extents, root, front, steps);
+    link_some(extents, root, rest, steps);
     to
 }
 
-/// Puts a block of zeros into the least gap that holds it, at the lowest offset that the alignment divides. It answers the
-/// block's address.
+// Puts a block of zeros into the least free extent that holds it, which isn't in the tree, at the lowest offset that the
+// alignment divides. It answers the block's address.
+pub(crate) fn put_in_out<L>(
+    extents: &mut Extents,
+    root: &mut Addr,
+    a: Addr,
+    size: u32,
+    align: u32,
+    tag: u32,
+    steps: &mut Steps<L>,
+) -> Addr
+    requires { IsLeastOut extents.old.segs.items root.old.0 size align a.0 }
+    ensures put { IsPutInGap (layout_by extents.old.segs.items) (layout_by extents.new.segs.items)
+        tag size align result.0 }
+    ensures whole { AreWhole extents.new.segs.items root.new.0 }
+{
+    let off = rounded_up(a.off(), align);
+    put_block(extents, root, a, off, size, tag, steps)
+}
+
+// Puts a block of zeros into the least gap that holds it. It answers the block's address.
 pub(crate) fn put_in_gap<L>(
     extents: &mut Extents,
     root: &mut Addr,
@@ -139,16 +145,14 @@ pub(crate) fn put_in_gap<L>(
     steps: &mut Steps<L>,
 ) -> Addr
     requires allowed { AreAllowed size align }
-    requires best { Some (run_at (tiling extents.old.segs.items) a.0)
-        ≡ least (filter (holds (span size) align) (free_runs (tiling extents.old.segs.items))) }
+    requires least { IsLeastHolding (tiling extents.old.segs.items) size align a.0 }
     requires whole { AreWhole extents.old.segs.items root.old.0 }
     ensures put { IsPutInGap (layout_by extents.old.segs.items) (layout_by extents.new.segs.items)
         tag size align result.0 }
     ensures whole { AreWhole extents.new.segs.items root.new.0 }
 {
     *root = unlink_gap(extents, *root, a);
-    let off = rounded_up(a.off(), align);
-    put_block(extents, root, a, off, size, tag, steps)
+    put_in_out(extents, root, a, size, align, tag, steps)
 }
 
 /// Frees the block at an address. The free extent that it then is, or is part of, is in the tree.
@@ -174,8 +178,7 @@ pub(crate) fn resize_block<L>(
     steps: &mut Steps<L>,
 )
     requires busy { IsBusy (tiling extents.old.segs.items) a.0 }
-    requires some { 1 ≤ size }
-    requires most { size ≤ 16777264 }
+    requires size { IsGuardedSize size }
     requires room { span size ≤ room_of (tiling extents.old.segs.items) a.0 }
     requires kept { AreKept extents.old.segs.items root.old.0 }
     ensures layout { layout_by extents.new.segs.items

@@ -1,8 +1,9 @@
 ghost use Rattle.std.specs.Prelude.{◌≡◌, ℕ, ◌+◌, ◌≤◌, ◌<◌, ◌⊎◌, ◌↔◌, IfSome, IsTrue, find, option_map};
 ghost use Rattle.vc_model.specs.Addr.{address, place_of};
-ghost use Rattle.vc_model.specs.Layout.{address_of, place_of_block};
+ghost use Rattle.vc_model.specs.Layout.{place_of_block};
 ghost use Rattle.vc_model.specs.Touch.{HasBlock};
-ghost use Rattle.vc_model.specs.Walk.{block_at, holds_byte, next_block};
+ghost use Rattle.vc_model.specs.Walk.{holds_byte};
+ghost use Rattle.vc_seg.specs.OneBlock.{IsBlockAt, IsNextBlock};
 ghost use Rattle.vc_extent.specs.Tiling.{IsBusy, IsNamed, IsThere, extent_of, extents_of, tiling};
 ghost use Rattle.vc_best.specs.Blocks.{all_busy, busy_in, layout_by};
 ghost use Rattle.vc_best.specs.Next.{IsFirst};
@@ -39,10 +40,7 @@ fn extent_with_byte(extents: &Extents, seg: u32, off: u32) -> Option<Addr>
 
 /// The block whose bytes hold the byte at an offset of a segment, and the offset in the block. None where no block does.
 pub(crate) fn block_at(extents: &Extents, seg: u32, off: u32) -> Option<(Addr, u32)>
-    ensures value { option_map {U = ℕ × ℕ} (λ f. (f.0.0, f.1)) result
-        ≡ option_map {U = ℕ × ℕ} (λ f. (address_of f.0, f.1))
-        (block_at (seg, off) (layout_by extents.now.segs.items).blocks) }
-    ensures live { IfSome result (λ f. HasBlock (layout_by extents.now.segs.items).blocks f.0.0) }
+    ensures { IsBlockAt result (seg, off) (layout_by extents.now.segs.items).blocks }
 {
     if extents.has(seg).is_none() {
         return None;
@@ -137,9 +135,7 @@ fn busy_above(extents: &Extents, after: Addr) -> Option<Addr>
 /// The block with the least address above that of a block, or above 0.
 pub(crate) fn next_block(extents: &Extents, after: Addr) -> Option<Addr>
     requires { (after.0 ≡ 0) ⊎ HasBlock (layout_by extents.now.segs.items).blocks after.0 }
-    ensures value { option_map (λ a. a.0) result
-        ≡ option_map address_of (next_block after.0 (layout_by extents.now.segs.items).blocks) }
-    ensures live { IfSome result (λ a. HasBlock (layout_by extents.now.segs.items).blocks a.0) }
+    ensures { IsNextBlock result after.0 (layout_by extents.now.segs.items).blocks }
 {
     busy_above(extents, after)
 }

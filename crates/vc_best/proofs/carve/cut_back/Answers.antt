@@ -1,10 +1,9 @@
-use Rattle.std.proofs.Common.{◌+◌, refl, ◌∙◌, arith}
+use Rattle.std.proofs.Common.{refl, ◌∙◌, arith}
 use Rattle.std.proofs.Math.Logic.{∥∥₁_elim}
-use Rattle.vc_model.specs.Addr.{place_of}
-use Rattle.vc_extent.specs.Tiling.{extent_of, tiling}
+use Rattle.vc_extent.specs.Tiling.{tiling}
 use Rattle.vc_best.proofs.Carves.{back-none, back-some}
 use Rattle.vc_best.proofs.Known.{cut-of}
-use Rattle.vc_best.proofs.Outs.{gaps-back, gaps-no_back}
+use Rattle.vc_best.proofs.Outs.{gaps-back}
 use Rattle.vc_best.proofs.Sets.{tiling-set}
 use Rattle.vc_best.proofs.carve.cut_back.Goals as goal
 
@@ -27,9 +26,4 @@ returns-else-bytes-span_at-clause-changed g c =
 pub returns-then-bytes-span_at-clause-gaps : goal.returns-then-bytes-span_at-clause-gaps
 returns-then-bytes-span_at-clause-gaps g c =
     let e = c.args.extents.now in
-    gaps-back e.segs.items e.index.items e.kept c.args.a.0 c.requires.free.named (tiling c.split.new.self.segs.items) c.args.bytes c.requires.least (omega arith) c.requires.multiple c.split.ensures.tiling
-
-pub returns-else-bytes-span_at-clause-gaps : goal.returns-else-bytes-span_at-clause-gaps
-returns-else-bytes-span_at-clause-gaps g c =
-    let t = tiling c.args.extents.now.segs.items in
-    gaps-no_back t c.args.a.0 ((place_of c.args.a.0).1 + c.args.bytes) ((place_of c.args.a.0).1 + (extent_of t c.args.a.0).span) (omega arith)
+    gaps-back e.segs.items e.index.items e.kept c.args.a.0 c.requires.free.named (tiling c.split.new.self.segs.items) c.args.bytes c.split.result.0 c.requires.least (omega arith) c.requires.multiple c.split.ensures.tiling c.split.ensures.rest

@@ -2,17 +2,14 @@ use Rattle.std.proofs.Common.{◌+◌, ◌*◌, w64, ap, ◌∙◌, arith}
 use Rattle.std.specs.Int.{from_le_bytes}
 use Rattle.vc_base.specs.Cells.{word}
 use Rattle.vc_best.specs.Parts.{layout_of}
-use Rattle.vc_best.proofs.CellBytes.{cell-block, cell-most, cell-range, cell-read}
+use Rattle.vc_best.proofs.CellBytes.{cell-most, cell-range, cell-read}
 use Rattle.vc_best.proofs.cells.word_in.Goals as goal
 
 pub overflow_mul-k : goal.overflow_mul-k
 overflow_mul-k g c = let most = cell-most (layout_of c.args.best.now) c.args.best.now.whole c.args.at.0 (8 * c.args.k + 8) c.requires in omega (arith, most)
 
-pub read-requires-clause-block : goal.read-requires-clause-block
-read-requires-clause-block g c = cell-block (layout_of c.args.best.now) c.args.best.now.whole c.args.at.0 (8 * c.args.k + 8) c.requires
-
-pub read-requires-clause-range : goal.read-requires-clause-range
-read-requires-clause-range g c = cell-range (layout_of c.args.best.now) c.args.best.now.whole c.args.at.0 (8 * c.args.k + 8) c.requires (8 * c.args.k) 8 c.requires.enough
+pub read-requires : goal.read-requires
+read-requires g c = cell-range (layout_of c.args.best.now) c.args.best.now.whole c.args.at.0 (8 * c.args.k + 8) c.requires (8 * c.args.k) 8 c.requires.enough
 
 pub returns : goal.returns
 unfolding word

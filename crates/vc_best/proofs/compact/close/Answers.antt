@@ -1,8 +1,8 @@
-use Rattle.std.proofs.Common.{◌∙◌}
-use Rattle.vc_layouts.proofs.Segments.{TookBack-all}
-use Rattle.vc_layouts.proofs.Lists.{filter-none}
+use Rattle.std.proofs.Math.Bridge.{le_prop}
+use Rattle.std.proofs.Math.Logic.{∥∥₁_elim}
+use Rattle.std.proofs.Math.Nat.{ℕ_set}
+use Rattle.vc_seg.proofs.Backs.{AreNumbered-segments}
 use Rattle.vc_best.proofs.compact.close.Goals as goal
 
-pub returns-clause-disc : goal.returns-clause-disc
-returns-clause-disc g c =
-    TookBack-all _ _ _ c.give_back.new.segs.items c.give_back.ensures.out (c.give_back.ensures.segments ∙ filter-none c.args.extents.segs.items)
+pub give_back_all-requires-clause-segments : goal.give_back_all-requires-clause-segments
+give_back_all-requires-clause-segments g c = let e = c.args.extents in ∥∥₁_elim e.kept (hlevel (le_prop, ℕ_set)) (λ k. AreNumbered-segments e.segs.items k.segments)

@@ -135,6 +135,6 @@ returns-clause-disc g c =
           c.take_back.ensures.out
           ∙ (ap (without_last (pair_of c.remove-segment.result)) (e ∙ ap (λ (ss : List (ℕ × ℕ)). rest ++ ss) (sym c.unlink_gap.ensures.rest.pairs))
           ∙ out-gone m.segs.items c.remove-segment.new.self.segs.items c.args.number c.remove-segment.result k.segments c.remove-segment.ensures.contains c.remove-segment.ensures.number c.remove-segment.ensures.segs rest));
-      terms = c.take_back.ensures.terms;
+      kept = c.take_back.ensures.kept;
       faults = c.take_back.ensures.faults;
     }

@@ -1,36 +1,35 @@
-use Rattle.std.proofs.Common.{◌≡◌, ℕ, ◌+◌, ◌≤◌, length, ap, ◌∙◌, arith}
-use Rattle.std.specs.Prelude.{Err, IfOk, Ok, Result}
+use Rattle.std.proofs.Common.{◌≡◌, ◌≢◌, ℕ, ◌+◌, ◌-◌, ◌≤◌, List, false, ap, sym, subst, ◌∙◌, arith}
+use Rattle.std.specs.Prelude.{Err, IsErrOf, Result}
 use Rattle.vc_base.specs.declared.addr.Addr.{Addr}
-use Rattle.vc_model.specs.Addr.{place_of}
-use Rattle.vc_model.specs.Layout.{Layout, with_segment}
 use Rattle.vc_seg.specs.declared.fault.RegionFault.{RegionFault}
-use Rattle.vc_layouts.specs.Put.{IsPutInNew}
 use Rattle.vc_model.specs.Best.{best_need}
 use Rattle.vc_model.specs.Discipline.{IsSegmentSize, Terms}
-use Rattle.vc_model.specs.Segments.{round_up, span}
+use Rattle.vc_model.specs.Addr.{place_of}
+use Rattle.vc_model.specs.Layout.{Layout, with_grant}
+use Rattle.vc_model.specs.Segments.{Granted, TooMany, ask, new_segment, round_up, span}
 use Rattle.vc_seg.proofs.Rounding.{round_up-least}
-use Rattle.vc_best.proofs.Apart.{span-least}
-use Rattle.vc_best.proofs.Asking.{Answers-new, new-fresh, new-heads}
-use Rattle.vc_best.proofs.Counted.{put-count}
-use Rattle.vc_best.proofs.HeldHeads.{held-heads}
+use Rattle.vc_seg.specs.declared.fault.RegionFault.TheVariants as code
+use Rattle.vc_seg.specs.Lend.{IsNoGrant}
+use Rattle.vc_extent.specs.declared.extents.Extents.{Extents}
 use Rattle.vc_best.specs.Blocks.{layout_by}
-use Rattle.vc_best.proofs.Rounding.{IsAligned, IsAligned-from_IsAlign, IsSegmentSize-need}
+use Rattle.vc_best.specs.Standing.{AreWhole, IsPutInGap}
+use Rattle.vc_best.proofs.Asking.{Answers-fault, Answers-granted, Served-granted}
+use Rattle.vc_best.proofs.Counted.{put-count}
+use Rattle.vc_best.proofs.Lends.{lent-out, segments-by}
+use Rattle.vc_best.proofs.Rounding.{IsAligned-from_IsAlign, IsSegmentSize-need}
+use Rattle.vc_best.proofs.Segments.{layout-added}
 use Rattle.vc_best.proofs.lend.put_in_new.Goals as goal
 use Rattle.vc_best.proofs.lend.put_in_new.Goals.{After-rounded_up-bytes}
 use Rattle.vc_best.proofs.lend.put_in_new.Given.{Over}
 
-count : (r s : Layout ℕ) (tag size bytes off : ℕ) (result : Result Addr RegionFault) → IfOk result (λ a. IsPutInNew r s tag size bytes off a.0) → IfOk result (λ _. length s.blocks ≡ length r.blocks + 1)
-count r s tag size bytes off (Ok a) p = put-count (with_segment r ((place_of a.0).0, bytes)) s tag size ((place_of a.0).0, off) p.layout
-count r s tag size bytes off (Err e) p = tt
-
-aligned : (g : Over) (c : After-rounded_up-bytes g) → IsAligned c.args.align
-aligned g c = IsAligned-from_IsAlign c.args.align c.requires.allowed.aligned
+same_fault : (a b : RegionFault) → IsErrOf {T = Addr} (Err a) b → IsErrOf {T = ℕ} (Err a) b
+same_fault a b e = let s : a ≡ b = cc in let f : RegionFault → Result ℕ RegionFault = λ z. Err z in ap f s
 
 is : (g : Over) (c : After-rounded_up-bytes g) → c.rounded_up-bytes.result ≡ round_up (span c.args.size + c.args.align) c.round_of.result
 is g c = rw (← c.span_of.ensures) c.rounded_up-bytes.ensures
 
 legal : (g : Over) (c : After-rounded_up-bytes g) → IsSegmentSize c.rounded_up-bytes.result
-legal g c = rw (is g c) (IsSegmentSize-need c.round_of.result c.args.size c.args.align c.round_of.ensures.legal c.requires.allowed.some c.requires.allowed.most (aligned g c))
+legal g c = rw (is g c) (IsSegmentSize-need c.round_of.result c.args.size c.args.align c.round_of.ensures.legal c.requires.allowed.sized.some c.requires.allowed.sized.most (IsAligned-from_IsAlign c.args.align c.requires.allowed.aligned))
 
 fits : (g : Over) (c : After-rounded_up-bytes g) → span c.args.size + c.args.align ≤ c.rounded_up-bytes.result
 fits g c = rw (is g c) (round_up-least (span c.args.size + c.args.align) c.round_of.result (let least = c.round_of.ensures.legal.least in omega (arith, least)))
@@ -42,49 +41,66 @@ terms g c = ((goal.SegDisc-dyn g (c.args.disc.now.vtable, c.args.disc.now.value)
 need : (g : Over) (c : After-rounded_up-bytes g) → c.rounded_up-bytes.result ≡ best_need (terms g c) c.args.size c.args.align
 need g c = is g c ∙ ap (round_up (span c.args.size + c.args.align)) c.round_of.ensures.value
 
-pub put_in_lent-requires-clause-room : goal.put_in_lent-requires-clause-room
-put_in_lent-requires-clause-room g c =
-    let b = (goal.at.put_in_lent-requires-clause-room g c).After-rounded_up-bytes in
-    let room = fits g b in
-    let ok = aligned g b in
+pub lend_next-requires-clause-bytes : goal.lend_next-requires-clause-bytes
+lend_next-requires-clause-bytes g c = legal g (goal.at.lend_next-requires-clause-bytes g c).After-rounded_up-bytes
+
+pub put_in_out-requires : goal.put_in_out-requires
+put_in_out-requires g c =
+    let e = c.args.extents.now in
+    let b = (goal.at.put_in_out-requires g c).After-rounded_up-bytes in
+    lent-out e.segs.items c.lend_next.new.extents.segs.items e.index.items e.kept c.args.root.now.0 c.in-Ok.number c.rounded_up-bytes.result c.args.size c.args.align c.new-a.result.0 c.new-a.ensures.place c.new-a.ensures.value
+    (terms g b) c.in-Ok.ensures.lent c.requires.allowed c.requires.whole c.requires.none (legal g b) (fits g b)
+
+pub returns-in-Ok-clause-put : goal.returns-in-Ok-clause-put
+returns-in-Ok-clause-put g c =
+    let e = c.args.extents.now in
+    let n = c.in-Ok.number in
+    let bytes = c.rounded_up-bytes.result in
+    let old = layout_by e.segs.items in
+    let new = layout_by c.put_in_out.new.extents.segs.items in
+    let lent = with_grant old (new_segment n bytes) in
+    let b = (goal.at.returns-in-Ok-clause-put g c).After-rounded_up-bytes in
+    let l = c.in-Ok.ensures.lent in
+    let put : IsPutInGap lent new c.args.tag c.args.size c.args.align c.put_in_out.result.0 =
+    subst (λ (r : Layout ℕ). IsPutInGap r new c.args.tag c.args.size c.args.align c.put_in_out.result.0) (layout-added e.segs.items c.lend_next.new.extents.segs.items n bytes (bytes - 32) l.extents l.pairs) c.put_in_out.ensures.put in
+    let granted : ask (terms g b) (best_need (terms g b) c.args.size c.args.align) old.segments false ≡ Granted (new_segment n bytes) =
+    ap (λ (k : ℕ). ask (terms g b) k old.segments false) (sym (need g b)) ∙ ap (λ (ss : List (ℕ × ℕ)). ask (terms g b) bytes ss false) (segments-by e.segs.items) ∙ l.granted in
     record {
-      some = c.requires.allowed.some;
-      most = c.requires.allowed.most;
-      legal = legal g b;
-      first = ok.least;
-      offset = ok.multiple;
-      fits = omega (arith, room, span-least c.args.size);
+      answer = Answers-granted old new (terms g b) c.args.tag c.args.size c.args.align c.requires.none (new_segment n bytes) granted c.put_in_out.result put;
+      count = put-count lent new c.args.tag c.args.size (place_of c.put_in_out.result.0) put.layout;
+      err = tt;
+      no_memory = λ e. absurd (cc);
+      fresh = put.fresh;
     }
 
-pub returns-clause-disc : goal.returns-clause-disc
-returns-clause-disc g c = rw (← need g (goal.at.returns-clause-disc g c).After-rounded_up-bytes) c.put_in_lent.ensures.disc
-
-pub returns-clause-put : goal.returns-clause-put
-returns-clause-put g c =
-    let b = (goal.at.returns-clause-put g c).After-rounded_up-bytes in
-    let old = layout_by c.args.extents.now.segs.items in
-    let new = layout_by c.put_in_lent.new.extents.segs.items in
-    let heads = held-heads c.args.extents.now.segs.items c.args.extents.now.index.items c.args.extents.now.kept c.requires.whole.sizes in
-    let a = c.requires.allowed in
-    let lent = c.put_in_lent.ensures.lent in
+pub returns-in-Err-clause-put : goal.returns-in-Err-clause-put
+returns-in-Err-clause-put g c =
+    let segs = c.args.extents.now.segs.items in
+    let old = layout_by segs in
+    let b = (goal.at.returns-in-Err-clause-put g c).After-rounded_up-bytes in
+    let same : layout_by c.lend_next.new.extents.segs.items ≡ old = ap (λ (e : Extents). layout_by e.segs.items) c.in-Err.ensures.same in
+    let none : IsNoGrant (terms g b) (best_need (terms g b) c.args.size c.args.align) old.segments c.in-Err.fault =
+    subst (λ (k : ℕ). IsNoGrant (terms g b) k old.segments c.in-Err.fault) (need g b) (subst (λ (ss : List (ℕ × ℕ)). IsNoGrant (terms g b) c.rounded_up-bytes.result ss c.in-Err.fault) (sym (segments-by segs)) c.in-Err.ensures.fault) in
     record {
-      answer = Answers-new old new (terms g b) c.args.tag c.args.size c.args.align c.rounded_up-bytes.result heads c.requires.none (need g b) (aligned g b) a.some a.most (legal g b) (fits g b) c.put_in_lent.result lent.ok lent.fault lent.err;
-      count = count old new c.args.tag c.args.size c.rounded_up-bytes.result c.args.align c.put_in_lent.result lent.ok;
-      err = lent.err;
-      no_memory = λ e. record { none = c.requires.none; few = lent.no_memory e };
-      fresh = new-fresh old new (terms g b) c.args.tag c.args.size c.args.align c.rounded_up-bytes.result heads c.requires.none (need g b) (aligned g b) a.some a.most (legal g b) (fits g b) c.put_in_lent.result lent.ok;
+      answer = Answers-fault old (layout_by c.lend_next.new.extents.segs.items) (terms g b) c.args.tag c.args.size c.args.align c.requires.none c.in-Err.fault none same;
+      count = tt;
+      err = same;
+      no_memory = λ e. record {
+        none = c.requires.none;
+        may =
+            subst (λ (k : ℕ). ask (terms g b) k old.segments false ≢ TooMany) (need g b)
+            (subst (λ (ss : List (ℕ × ℕ)). ask (terms g b) c.rounded_up-bytes.result ss false ≢ TooMany) (sym (segments-by segs)) (c.in-Err.ensures.no_memory (same_fault c.in-Err.fault code.OutOfMemory e)));
+      };
+      fresh = tt;
     }
 
-pub returns-clause-whole : goal.returns-clause-whole
-returns-clause-whole g c =
-    let b = (goal.at.returns-clause-whole g c).After-rounded_up-bytes in
-    let old = layout_by c.args.extents.now.segs.items in
-    let new = layout_by c.put_in_lent.new.extents.segs.items in
-    let heads = held-heads c.args.extents.now.segs.items c.args.extents.now.index.items c.args.extents.now.kept c.requires.whole.sizes in
-    let a = c.requires.allowed in
-    let lent = c.put_in_lent.ensures.lent in
-    let then = new-heads old new (terms g b) c.args.tag c.args.size c.args.align c.rounded_up-bytes.result heads c.requires.none (need g b) (aligned g b) a.some a.most (legal g b) (fits g b) c.put_in_lent.result lent.ok lent.err in
-    record {
-      kept = c.put_in_lent.ensures.kept;
-      sizes = λ k d lt. (then.blocks k d lt).slot.most;
-    }
+pub returns-in-Err-clause-whole : goal.returns-in-Err-clause-whole
+returns-in-Err-clause-whole g c = subst (λ (e : Extents). AreWhole e.segs.items c.args.root.now.0) (sym c.in-Err.ensures.same) c.requires.whole
+
+pub returns-in-Ok-clause-disc : goal.returns-in-Ok-clause-disc
+returns-in-Ok-clause-disc g c =
+    let segs = c.args.extents.now.segs.items in
+    let bytes = c.rounded_up-bytes.result in
+    let l = c.in-Ok.ensures.lent in
+    Served-granted _ _ _ _ c.in-Ok.number bytes _ (need g (goal.at.returns-in-Ok-clause-disc g c).After-rounded_up-bytes)
+    (ap (λ (r : Layout ℕ). r.segments) c.put_in_out.ensures.put.layout ∙ ap (λ (r : Layout ℕ). r.segments) (layout-added segs c.lend_next.new.extents.segs.items c.in-Ok.number bytes (bytes - 32) l.extents l.pairs)) c.in-Ok.ensures.disc

@@ -25,7 +25,7 @@ absorb_next-requires g c =
     let e = c.args.extents.now in
     let lt = less g (goal.at.absorb_next-requires g c).After-shrink-rest in
     record {
-      free = ∥∥₁_elim e.kept (hlevel (le_prop, ℕ_set)) (λ k. rest-free (tiling e.segs.items) c.args.a.0 c.args.size (cut-of e.segs.items e.index.items c.args.a.0 k c.requires.busy.named) (tiling c.shrink-rest.new.self.segs.items) c.shrink-rest.result.0 c.requires.busy c.requires.some lt c.shrink-rest.ensures.tiling c.shrink-rest.ensures.rest);
+      free = ∥∥₁_elim e.kept (hlevel (le_prop, ℕ_set)) (λ k. rest-free (tiling e.segs.items) c.args.a.0 c.args.size (cut-of e.segs.items e.index.items c.args.a.0 k c.requires.busy.named) (tiling c.shrink-rest.new.self.segs.items) c.shrink-rest.result.0 c.requires.busy c.requires.sized.some lt c.shrink-rest.ensures.tiling c.shrink-rest.ensures.rest);
     }
 
 pub returns-then-wanted-own-clause-moved : goal.returns-then-wanted-own-clause-moved
@@ -45,7 +45,7 @@ returns-then-wanted-own-2-clause-moved g c =
     let e = c.args.extents.now in
     let n = c.shrink-rest.new.self in
     let last = c.absorb_next.new.extents in
-    border-cut e.segs.items n.segs.items e.index.items e.kept (tiling last.segs.items) c.args.a.0 c.args.size c.shrink-rest.result.0 c.requires.busy c.requires.some (less g (goal.at.returns-then-wanted-own-2-clause-moved g c).After-shrink-rest)
+    border-cut e.segs.items n.segs.items e.index.items e.kept (tiling last.segs.items) c.args.a.0 c.args.size c.shrink-rest.result.0 c.requires.busy c.requires.sized.some (less g (goal.at.returns-then-wanted-own-2-clause-moved g c).After-shrink-rest)
     c.shrink-rest.ensures.tiling c.shrink-rest.ensures.rest last.segs.items c.absorb_next.ensures.changed.extents c.absorb_next.ensures.changed.pairs c.shrink-rest.ensures.pairs
 
 pub returns-else-wanted-own-2-clause-moved : goal.returns-else-wanted-own-2-clause-moved
@@ -68,8 +68,8 @@ returns-then-wanted-own-clause-gaps g c =
     let n = c.set_size.new.self in
     let body = (extent_of (tiling n.segs.items) c.args.a.0).body in
     record {
-      gaps = gaps-sized_next e.segs.items n.segs.items e.index.items n.index.items e.kept n.kept c.args.a.0 c.args.size c.requires.busy c.requires.some body c.set_size.ensures.tiling;
-      same_span = λ same. gaps-sized e.segs.items n.segs.items e.index.items n.index.items e.kept n.kept c.args.a.0 c.args.size c.requires.busy c.requires.some body c.set_size.ensures.tiling;
+      gaps = gaps-sized_next e.segs.items n.segs.items e.index.items n.index.items e.kept n.kept c.args.a.0 c.args.size c.requires.busy c.requires.sized.some body c.set_size.ensures.tiling;
+      same_span = λ same. gaps-sized e.segs.items n.segs.items e.index.items n.index.items e.kept n.kept c.args.a.0 c.args.size c.requires.busy c.requires.sized.some body c.set_size.ensures.tiling;
     }
 
 pub returns-then-wanted-own-2-clause-gaps : goal.returns-then-wanted-own-2-clause-gaps
@@ -79,7 +79,7 @@ returns-then-wanted-own-2-clause-gaps g c =
     let lt = less g (goal.at.returns-then-wanted-own-2-clause-gaps g c).After-shrink-rest in
     record {
       gaps =
-          gaps-cut e.segs.items n.segs.items e.index.items e.kept (tiling c.absorb_next.new.extents.segs.items) c.args.a.0 c.args.size c.shrink-rest.result.0 c.requires.busy c.requires.some lt
+          gaps-cut e.segs.items n.segs.items e.index.items e.kept (tiling c.absorb_next.new.extents.segs.items) c.args.a.0 c.args.size c.shrink-rest.result.0 c.requires.busy c.requires.sized.some lt
           c.shrink-rest.ensures.tiling c.shrink-rest.ensures.rest c.absorb_next.ensures.changed.extents c.absorb_next.ensures.gaps;
       same_span = λ same. absurd (omega (arith, lt, same));
     }
@@ -90,6 +90,6 @@ returns-else-wanted-own-2-clause-gaps g c =
     let n = c.stretch.new.self in
     let gt = more g (goal.at.returns-else-wanted-own-2-clause-gaps g c).After-stretch in
     record {
-      gaps = gaps-grown e.segs.items n.segs.items e.index.items n.index.items e.kept n.kept c.args.a.0 c.args.size c.requires.busy c.requires.some (extent_of (tiling n.segs.items) c.args.a.0).body gt c.requires.room c.requires.merged c.stretch.ensures.tiling;
+      gaps = gaps-grown e.segs.items n.segs.items e.index.items n.index.items e.kept n.kept c.args.a.0 c.args.size c.requires.busy c.requires.sized.some (extent_of (tiling n.segs.items) c.args.a.0).body gt c.requires.room c.requires.merged c.stretch.ensures.tiling;
       same_span = λ same. absurd (omega (arith, gt, same));
     }

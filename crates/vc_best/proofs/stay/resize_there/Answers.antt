@@ -23,20 +23,20 @@ moved : (g : Over) (c : After-move_border g) → IsBusy (tiling c.move_border.ne
 moved g c =
     let e = c.args.extents.now in
     let n = c.move_border.new.extents in
-    moved-busy e.segs.items n.segs.items e.index.items n.index.items c.args.a.0 c.args.size (extent_of (tiling n.segs.items) c.args.a.0).body e.kept n.kept c.requires.busy c.requires.some c.requires.room c.move_border.ensures.moved.border c.move_border.ensures.moved.pairs
+    moved-busy e.segs.items n.segs.items e.index.items n.index.items c.args.a.0 c.args.size (extent_of (tiling n.segs.items) c.args.a.0).body e.kept n.kept c.requires.busy c.requires.sized.some c.requires.room c.move_border.ensures.moved.border c.move_border.ensures.moved.pairs
 
 merged : (g : Over) (c : After-move_border g) → IsMerged (tiling c.move_border.new.extents.segs.items)
 merged g c =
     let e = c.args.extents.now in
     let n = c.move_border.new.extents in
-    moved-merged e.segs.items n.segs.items e.index.items n.index.items c.args.a.0 c.args.size (extent_of (tiling n.segs.items) c.args.a.0).body e.kept n.kept c.requires.busy c.requires.some c.requires.room c.move_border.ensures.moved.border c.move_border.ensures.moved.pairs c.requires.merged
+    moved-merged e.segs.items n.segs.items e.index.items n.index.items c.args.a.0 c.args.size (extent_of (tiling n.segs.items) c.args.a.0).body e.kept n.kept c.requires.busy c.requires.sized.some c.requires.room c.move_border.ensures.moved.border c.move_border.ensures.moved.pairs c.requires.merged
 
 pub fill-requires-clause-busy : goal.fill-requires-clause-busy
 fill-requires-clause-busy g c = moved g (goal.at.fill-requires-clause-busy g c).After-move_border
 
 pub fill-requires-clause-within : goal.fill-requires-clause-within
 fill-requires-clause-within g c =
-    let e = ap (λ (x : Extent). x.size) (moved-extent c.args.extents.now.segs.items c.move_border.new.extents.segs.items c.args.extents.now.index.items c.move_border.new.extents.index.items c.args.a.0 c.args.size (extent_of (tiling c.move_border.new.extents.segs.items) c.args.a.0).body c.args.extents.now.kept c.move_border.new.extents.kept c.requires.busy c.requires.some c.requires.room c.move_border.ensures.moved.border c.move_border.ensures.moved.pairs) in
+    let e = ap (λ (x : Extent). x.size) (moved-extent c.args.extents.now.segs.items c.move_border.new.extents.segs.items c.args.extents.now.index.items c.move_border.new.extents.index.items c.args.a.0 c.args.size (extent_of (tiling c.move_border.new.extents.segs.items) c.args.a.0).body c.args.extents.now.kept c.move_border.new.extents.kept c.requires.busy c.requires.sized.some c.requires.room c.move_border.ensures.moved.border c.move_border.ensures.moved.pairs) in
     omega arith
 
 pub returns-then-old-size-clause-layout : goal.returns-then-old-size-clause-layout
@@ -47,7 +47,7 @@ returns-then-old-size-clause-layout g c =
     let zeros = replicate (c.args.size - e.size) 0 in
     let is : tiling c.fill.new.self.segs.items ≡ change_extent c.args.a.0 (write e.size zeros) (tiling c.move_border.new.extents.segs.items) =
     c.fill.ensures.tiling ∙ ap (λ (n : ℕ). change_extent c.args.a.0 (write n (replicate (c.args.size - n) 0)) (tiling c.move_border.new.extents.segs.items)) own in
-    there-filled c.args.extents.now.segs.items c.move_border.new.extents.segs.items c.args.extents.now.index.items c.move_border.new.extents.index.items c.args.a.0 c.args.size (extent_of (tiling c.move_border.new.extents.segs.items) c.args.a.0).body c.args.extents.now.kept c.move_border.new.extents.kept c.requires.busy c.requires.some c.requires.room c.move_border.ensures.moved.border c.move_border.ensures.moved.pairs (layout_by c.fill.new.self.segs.items) (layout-written c.move_border.new.extents.segs.items c.fill.new.self.segs.items c.move_border.new.extents.index.items c.fill.new.self.index.items c.args.a.0 e.size zeros c.move_border.new.extents.kept c.fill.new.self.kept (moved g (goal.at.returns-then-old-size-clause-layout g c).After-move_border) is c.fill.ensures.pairs) c.move_border.ensures.moved.len lt (c.move_border.ensures.moved.kept e.size (omega arith) (omega arith))
+    there-filled c.args.extents.now.segs.items c.move_border.new.extents.segs.items c.args.extents.now.index.items c.move_border.new.extents.index.items c.args.a.0 c.args.size (extent_of (tiling c.move_border.new.extents.segs.items) c.args.a.0).body c.args.extents.now.kept c.move_border.new.extents.kept c.requires.busy c.requires.sized.some c.requires.room c.move_border.ensures.moved.border c.move_border.ensures.moved.pairs (layout_by c.fill.new.self.segs.items) (layout-written c.move_border.new.extents.segs.items c.fill.new.self.segs.items c.move_border.new.extents.index.items c.fill.new.self.index.items c.args.a.0 e.size zeros c.move_border.new.extents.kept c.fill.new.self.kept (moved g (goal.at.returns-then-old-size-clause-layout g c).After-move_border) is c.fill.ensures.pairs) c.move_border.ensures.moved.len lt (c.move_border.ensures.moved.kept e.size (omega arith) (omega arith))
 
 pub returns-then-old-size-clause-merged : goal.returns-then-old-size-clause-merged
 returns-then-old-size-clause-merged g c =
@@ -63,7 +63,7 @@ returns-else-old-size-clause-layout g c =
     let own = c.size_at-old.ensures in
     let e = extent_of (tiling c.args.extents.now.segs.items) c.args.a.0 in
     let le : c.args.size ≤ e.size = omega arith in
-    there-cut c.args.extents.now.segs.items c.move_border.new.extents.segs.items c.args.extents.now.index.items c.move_border.new.extents.index.items c.args.a.0 c.args.size (extent_of (tiling c.move_border.new.extents.segs.items) c.args.a.0).body c.args.extents.now.kept c.move_border.new.extents.kept c.requires.busy c.requires.some c.requires.room c.move_border.ensures.moved.border c.move_border.ensures.moved.pairs c.move_border.ensures.moved.len le (c.move_border.ensures.moved.kept c.args.size (omega arith) le)
+    there-cut c.args.extents.now.segs.items c.move_border.new.extents.segs.items c.args.extents.now.index.items c.move_border.new.extents.index.items c.args.a.0 c.args.size (extent_of (tiling c.move_border.new.extents.segs.items) c.args.a.0).body c.args.extents.now.kept c.move_border.new.extents.kept c.requires.busy c.requires.sized.some c.requires.room c.move_border.ensures.moved.border c.move_border.ensures.moved.pairs c.move_border.ensures.moved.len le (c.move_border.ensures.moved.kept c.args.size (omega arith) le)
 
 pub returns-else-old-size-clause-merged : goal.returns-else-old-size-clause-merged
 returns-else-old-size-clause-merged g c = merged g (goal.at.returns-else-old-size-clause-merged g c).After-move_border

@@ -18,8 +18,7 @@ resize_there-requires-2 g c =
     record {
       busy = busy-still t t1 stays c.args.a.0 c.requires.busy;
       merged = merged-stays t t1 stays c.requires.kept.merged;
-      some = c.requires.some;
-      most = c.requires.most;
+      sized = c.requires.size;
       room = subst (λ (n : ℕ). span c.args.size ≤ n) (sym (room-stays t t1 stays c.args.a.0)) c.requires.room;
     }
 

@@ -1,5 +1,7 @@
-use Rattle.std.proofs.Common.{ℕ, ◌-◌, List, Some, ap, sym, ◌∙◌}
-use Rattle.std.specs.Prelude.{find, option_map}
+use Rattle.std.proofs.Common.{ℕ, ◌-◌, List, Option, Some, ap, subst, sym, ◌∙◌}
+use Rattle.std.specs.Prelude.{find}
+use Rattle.vc_base.specs.declared.addr.Addr.{Addr}
+use Rattle.vc_seg.specs.OneBlock.{IsBlockAt}
 use Rattle.vc_model.specs.Addr.{place_of}
 use Rattle.vc_model.specs.Walk.{holds_byte}
 use Rattle.vc_extent.specs.Extent.{Extent}
@@ -11,20 +13,28 @@ use Rattle.vc_best.proofs.Firsts.{block_at-there}
 use Rattle.vc_best.proofs.Found.{has-of}
 use Rattle.vc_best.proofs.walk.block_at.Goals as goal
 
-pub returns-then-is_none-clause-value : goal.returns-then-is_none-clause-value
-returns-then-is_none-clause-value c =
+pub returns-then-is_none : goal.returns-then-is_none
+returns-then-is_none c =
+    let e = c.args.extents.now in
     let none = sym c.has.ensures ∙ none-of c.has.result c.is_none.result c.is_none.ensures c.if-is_none.true in
-    sym (at-none c.args.seg c.args.off (layout_by c.args.extents.now.segs.items).blocks (block_at-there c.args.extents.now.segs.items c.args.extents.now.index.items c.args.extents.now.kept c.args.seg c.args.off ∙ ap (λ (es : List Extent). find (holds_byte (c.args.seg, c.args.off)) (busy_in (c.args.seg, es))) (none-extents c.args.seg c.args.extents.now.segs.items none)))
+    record {
+      value = sym (at-none c.args.seg c.args.off (layout_by e.segs.items).blocks (block_at-there e.segs.items e.index.items e.kept c.args.seg c.args.off ∙ ap (λ (es : List Extent). find (holds_byte (c.args.seg, c.args.off)) (busy_in (c.args.seg, es))) (none-extents c.args.seg e.segs.items none)));
+      live = tt;
+    }
 
-pub returns-in_err-a-clause-value : goal.returns-in_err-a-clause-value
-returns-in_err-a-clause-value c =
-    let none = none-found (find (holds_byte (c.args.seg, c.args.off)) (busy_in (c.args.seg, extents_of c.args.seg (tiling c.args.extents.now.segs.items)))) c.in_err-a.ensures.value in
-    ap (option_map {U = ℕ × ℕ} (λ f. (f.0.0, f.1))) c.from_residual.ensures ∙ sym (at-none c.args.seg c.args.off (layout_by c.args.extents.now.segs.items).blocks (block_at-there c.args.extents.now.segs.items c.args.extents.now.index.items c.args.extents.now.kept c.args.seg c.args.off ∙ none))
+pub returns-in_err-a : goal.returns-in_err-a
+returns-in_err-a c =
+    let e = c.args.extents.now in
+    let bs = (layout_by e.segs.items).blocks in
+    let none = none-found (find (holds_byte (c.args.seg, c.args.off)) (busy_in (c.args.seg, extents_of c.args.seg (tiling e.segs.items)))) c.in_err-a.ensures.value in
+    subst (λ (r : Option (Addr × ℕ)). IsBlockAt r (c.args.seg, c.args.off) bs) (sym c.from_residual.ensures)
+    (record { value = sym (at-none c.args.seg c.args.off bs (block_at-there e.segs.items e.index.items e.kept c.args.seg c.args.off ∙ none)); live = tt })
 
-pub returns-clause-value : goal.returns-clause-value
-returns-clause-value c =
-    let f = found-place (place_of c.in_ok-a.a.0) (find (holds_byte (c.args.seg, c.args.off)) (busy_in (c.args.seg, extents_of c.args.seg (tiling c.args.extents.now.segs.items)))) c.in_ok-a.ensures.value in
-    ap (λ (n : ℕ). Some (c.in_ok-a.a.0, c.args.off - n)) c.off.ensures ∙ at-found c.args.seg c.args.off c.in_ok-a.a.0 (layout_by c.args.extents.now.segs.items).blocks f.0 (block_at-there c.args.extents.now.segs.items c.args.extents.now.index.items c.args.extents.now.kept c.args.seg c.args.off ∙ f.1) f.2
-
-pub returns-clause-live : goal.returns-clause-live
-returns-clause-live c = has-of c.args.extents.now.segs.items c.args.extents.now.index.items c.in_ok-a.a.0 c.args.extents.now.kept c.in_ok-a.ensures.busy
+pub returns : goal.returns
+returns c =
+    let e = c.args.extents.now in
+    let f = found-place (place_of c.in_ok-a.a.0) (find (holds_byte (c.args.seg, c.args.off)) (busy_in (c.args.seg, extents_of c.args.seg (tiling e.segs.items)))) c.in_ok-a.ensures.value in
+    record {
+      value = ap (λ (n : ℕ). Some (c.in_ok-a.a.0, c.args.off - n)) c.off.ensures ∙ at-found c.args.seg c.args.off c.in_ok-a.a.0 (layout_by e.segs.items).blocks f.0 (block_at-there e.segs.items e.index.items e.kept c.args.seg c.args.off ∙ f.1) f.2;
+      live = has-of e.segs.items e.index.items c.in_ok-a.a.0 e.kept c.in_ok-a.ensures.busy;
+    }

@@ -15,9 +15,8 @@ use Rattle.vc_best.proofs.Counted.{put-count}
 use Rattle.vc_best.proofs.Counting.{blocks-few}
 use Rattle.vc_best.proofs.Held.{AreHeld, AreMost, held, merged-of, most-of, tree-of}
 use Rattle.vc_best.proofs.Others.{others-asked, others-in_gap}
-use Rattle.vc_best.proofs.Placed.{place_at}
 use Rattle.vc_best.proofs.Plain.{layout-stays, merged-stays}
-use Rattle.vc_best.proofs.Puts.{place-runs}
+use Rattle.vc_best.proofs.Puts.{place-runs, place_at}
 use Rattle.vc_best.proofs.There.{there-asked, there-in_gap}
 use Rattle.vc_best.proofs.best.Best.alloc.Given.{Over}
 use Rattle.vc_best.proofs.best.Best.alloc.Goals as goal
@@ -42,7 +41,7 @@ whole g c =
     }
 
 allowed : (g : Over) (c : After-fit-least g) → AreAllowed c.args.size c.args.align
-allowed g c = record { some = c.requires.some; most = c.requires.most; aligned = c.requires.align }
+allowed g c = record { sized = c.requires.size; aligned = c.requires.align }
 
 pub fit-least-requires-clause-tree : goal.fit-least-requires-clause-tree
 fit-least-requires-clause-tree g c =
@@ -50,10 +49,10 @@ fit-least-requires-clause-tree g c =
     let root = c.args.self.now.root.0 in
     gap_tree-of (tiling e.segs.items) root [] (tree-of e.segs.items e.index.items root e.kept c.args.self.now.gaps)
 
-pub put_in_gap-to-requires-clause-best : goal.put_in_gap-to-requires-clause-best
-put_in_gap-to-requires-clause-best g c =
+pub put_in_gap-to-requires-clause-least : goal.put_in_gap-to-requires-clause-least
+put_in_gap-to-requires-clause-least g c =
     let t = tiling c.args.self.now.extents.segs.items in
-    let h = before g (goal.at.put_in_gap-to-requires-clause-best g c).After-fit-least in
+    let h = before g (goal.at.put_in_gap-to-requires-clause-least g c).After-fit-least in
     least-found t (tiling c.fit-least.new.extents.segs.items) c.fit-least.ensures.rest.extents (span c.args.size) c.span_of.result c.args.align c.fit-least.result.1 c.in-Some.a c.in-Some.is c.span_of.ensures (c.fit-least.ensures.fitted.best h)
 
 pub put_in_gap-to-requires-clause-allowed : goal.put_in_gap-to-requires-clause-allowed
@@ -135,27 +134,18 @@ returns-in-Some-clause-answer g c = Answers-in_gap _ _ _ _ _ c.put_in_gap-to.res
 pub returns-in-Some-clause-disc : goal.returns-in-Some-clause-disc
 returns-in-Some-clause-disc g c = Asks-in_gap _ _ _ _ _ c.put_in_gap-to.result (in_gap g (goal.at.returns-in-Some-clause-disc g c).After-put_in_gap-to) _ _
 
-pub returns-in-Some-clause-there : goal.returns-in-Some-clause-there
-returns-in-Some-clause-there g c = there-in_gap _ _ _ _ _ c.put_in_gap-to.result (in_gap g (goal.at.returns-in-Some-clause-there g c).After-put_in_gap-to)
-
-pub returns-in-Some-clause-fresh : goal.returns-in-Some-clause-fresh
-returns-in-Some-clause-fresh g c = (in_gap g (goal.at.returns-in-Some-clause-fresh g c).After-put_in_gap-to).fresh
-
-pub returns-in-Some-clause-others : goal.returns-in-Some-clause-others
-returns-in-Some-clause-others g c = others-in_gap _ _ _ _ _ c.put_in_gap-to.result (in_gap g (goal.at.returns-in-Some-clause-others g c).After-put_in_gap-to)
+pub returns-in-Some-clause-put : goal.returns-in-Some-clause-put
+returns-in-Some-clause-put g c =
+    let p = in_gap g (goal.at.returns-in-Some-clause-put g c).After-put_in_gap-to in
+    record { there = there-in_gap _ _ _ _ _ c.put_in_gap-to.result p; fresh = p.fresh; others = others-in_gap _ _ _ _ _ c.put_in_gap-to.result p }
 
 pub returns-in-Ok-clause-answer : goal.returns-in-Ok-clause-answer
 returns-in-Ok-clause-answer g c = (IsPutByAsking-same _ _ _ _ _ _ _ (Ok c.in-Ok.to) (same g (goal.at.returns-in-Ok-clause-answer g c).After-fit-least) c.in-Ok.ensures.put).answer
 
-pub returns-in-Ok-clause-fresh : goal.returns-in-Ok-clause-fresh
-returns-in-Ok-clause-fresh g c = (IsPutByAsking-same _ _ _ _ _ _ _ (Ok c.in-Ok.to) (same g (goal.at.returns-in-Ok-clause-fresh g c).After-fit-least) c.in-Ok.ensures.put).fresh
-
-pub returns-in-Ok-clause-there : goal.returns-in-Ok-clause-there
-returns-in-Ok-clause-there g c = there-asked _ (Ok c.in-Ok.to) _ _ _ _ _ c.in-Ok.ensures.put
-
-pub returns-in-Ok-clause-others : goal.returns-in-Ok-clause-others
-returns-in-Ok-clause-others g c =
-    others-asked _ (Ok c.in-Ok.to) _ _ _ _ _ (IsPutByAsking-same _ _ _ _ _ _ _ (Ok c.in-Ok.to) (same g (goal.at.returns-in-Ok-clause-others g c).After-fit-least) c.in-Ok.ensures.put)
+pub returns-in-Ok-clause-put : goal.returns-in-Ok-clause-put
+returns-in-Ok-clause-put g c =
+    let p = IsPutByAsking-same _ _ _ _ _ _ _ (Ok c.in-Ok.to) (same g (goal.at.returns-in-Ok-clause-put g c).After-fit-least) c.in-Ok.ensures.put in
+    record { there = there-asked _ (Ok c.in-Ok.to) _ _ _ _ _ p; fresh = p.fresh; others = others-asked _ (Ok c.in-Ok.to) _ _ _ _ _ p }
 
 pub returns-in-Err-clause-answer : goal.returns-in-Err-clause-answer
 returns-in-Err-clause-answer g c = (IsPutByAsking-same _ _ _ _ _ _ _ (Err c.in-Err.fault) (same g (goal.at.returns-in-Err-clause-answer g c).After-fit-least) c.in-Err.ensures.put).answer

@@ -1,17 +1,13 @@
-use Rattle.std.proofs.Common.{◌≡◌, ℕ, ◌+◌, ◌<◌, length, sym, subst, arith}
-use Rattle.std.proofs.Math.Nat.{ℕ_set}
-use Rattle.std.proofs.Math.Logic.{∥∥₁_elim}
-use Rattle.std.specs.List.{HoldsAt, remove}
+use Rattle.std.proofs.Common.{◌≡◌, ℕ, ◌+◌, length, sym, subst, arith}
 use Rattle.vc_model.specs.Addr.{place_of}
-use Rattle.vc_model.specs.Layout.{Layout, address_of}
-use Rattle.vc_model.specs.Touch.{HasBlock}
+use Rattle.vc_model.specs.Layout.{Layout}
+use Rattle.vc_seg.specs.OneBlock.{IsBlockFreed}
 use Rattle.vc_best.specs.Blocks.{layout_by}
 use Rattle.vc_best.proofs.Counted.{freed-count}
 use Rattle.vc_best.proofs.Found.{busy-of}
 use Rattle.vc_best.proofs.Held.{held, kept-of, most-of, most-without}
-use Rattle.vc_best.proofs.Sets.{blocks-set}
+use Rattle.vc_best.proofs.HeldHeads.{held-heads}
 use Rattle.vc_best.proofs.Stands.{none-there, one-less, stands-removed}
-use Rattle.vc_best.proofs.Tilings.{heads-of}
 use Rattle.vc_best.proofs.best.Best.free.Given.{Over}
 use Rattle.vc_best.proofs.best.Best.free.Goals as goal
 use Rattle.vc_best.proofs.best.Best.free.Goals.{After-free_block}
@@ -35,20 +31,10 @@ invariant_of-self g c =
     let h = held c.free_block.new.extents.segs.items c.free_block.new.extents.index.items c.free_block.new.extents.kept (most-without (layout_by c.args.self.now.extents.segs.items) (layout_by c.free_block.new.extents.segs.items) (place_of c.args.a.0) c.free_block.ensures.layout (most-of (layout_by c.args.self.now.extents.segs.items) c.args.self.now.whole)) c.free_block.ensures.kept.merged in
     record { sound = h.sound; whole = h.whole; merged = h.merged; gaps = ∣ c.free_block.ensures.kept.gaps ∣₁; counted = let less = freed g (goal.at.invariant_of-self g c).After-free_block in let all = c.args.self.now.counted in omega (arith, less, all) }
 
-pub returns-clause-one_less : goal.returns-clause-one_less
-returns-clause-one_less g c =
-    let r = layout_by c.args.self.now.extents.segs.items in
-    subst (λ (l : Layout ℕ). length l.blocks + 1 ≡ length r.blocks) (sym c.free_block.ensures.layout)
-    (∥∥₁_elim c.args.self.now.extents.kept (hlevel (ℕ_set)) (λ k. one-less r c.args.a.0 (heads-of c.args.self.now.extents.segs.items c.args.self.now.extents.index.items k (most-of r c.args.self.now.whole)) c.requires.block))
-
 pub returns-clause-freed : goal.returns-clause-freed
 returns-clause-freed g c =
-    let r = layout_by c.args.self.now.extents.segs.items in
-    subst (λ (l : Layout ℕ). (i : ℕ) → i < length r.blocks → HoldsAt (λ b. address_of b ≡ c.args.a.0) r.blocks i → l.blocks ≡ remove r.blocks i) (sym c.free_block.ensures.layout)
-    (∥∥₁_elim c.args.self.now.extents.kept (hlevel (blocks-set)) (λ k. stands-removed r c.args.a.0 (heads-of c.args.self.now.extents.segs.items c.args.self.now.extents.index.items k (most-of r c.args.self.now.whole))))
-
-pub returns-clause-none_left : goal.returns-clause-none_left
-returns-clause-none_left g c =
-    let r = layout_by c.args.self.now.extents.segs.items in
-    subst (λ (l : Layout ℕ). ¬ HasBlock l.blocks c.args.a.0) (sym c.free_block.ensures.layout)
-    (∥∥₁_elim c.args.self.now.extents.kept (hlevel) (λ k. none-there r c.args.a.0 (heads-of c.args.self.now.extents.segs.items c.args.self.now.extents.index.items k (most-of r c.args.self.now.whole))))
+    let e = c.args.self.now.extents in
+    let r = layout_by e.segs.items in
+    let heads = held-heads e.segs.items e.index.items e.kept (most-of r c.args.self.now.whole) in
+    subst (λ (l : Layout ℕ). IsBlockFreed c.args.a.0 r.blocks l.blocks) (sym c.free_block.ensures.layout)
+    (record { one_less = one-less r c.args.a.0 heads c.requires.block; freed = stands-removed r c.args.a.0 heads; none_left = none-there r c.args.a.0 heads })

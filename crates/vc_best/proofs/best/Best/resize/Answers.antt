@@ -21,7 +21,7 @@ use Rattle.vc_best.proofs.best.Best.resize.Goals.{After-has_room, After-tag_at-t
 stays : (g : Over) (c : After-has_room g) → option_map (can_stay (layout_by c.args.self.now.extents.segs.items) c.args.size) (find_block (place_of c.args.a.0) (layout_by c.args.self.now.extents.segs.items).blocks) ≡ Some c.has_room.result
 stays g c =
     let b = c.args.self.now in
-    stays-by b.extents.segs.items b.extents.index.items c.args.a.0 b.extents.kept c.requires.block c.args.size c.has_room.result (merged-of (tiling b.extents.segs.items) b.merged) c.requires.some c.has_room.ensures.0 c.has_room.ensures.1
+    stays-by b.extents.segs.items b.extents.index.items c.args.a.0 b.extents.kept c.requires.block c.args.size c.has_room.result (merged-of (tiling b.extents.segs.items) b.merged) c.requires.size.some c.has_room.ensures.0 c.has_room.ensures.1
 
 tag : (g : Over) (c : After-tag_at-tag g) → option_map (λ b. b.label) (find_block (place_of c.args.a.0) (layout_by c.args.self.now.extents.segs.items).blocks) ≡ Some c.tag_at-tag.result
 tag g c =
@@ -30,10 +30,10 @@ tag g c =
 
 -- beside the new block it stands where it did
 was : (g : Over) (c : After-take_over g) → find_block (place_of c.args.a.0) (layout_by c.alloc.new.self.extents.segs.items).blocks ≡ find_block (place_of c.args.a.0) (layout_by c.args.self.now.extents.segs.items).blocks
-was g c = old-found _ (layout_by c.args.self.now.extents.segs.items) c.tag_at-tag.result c.args.size 32 c.in-Ok.to.0 false (layout_by c.alloc.new.self.extents.segs.items) c.in-Ok.ensures.answer c.in-Ok.ensures.fresh c.args.a.0 c.requires.block
+was g c = old-found _ (layout_by c.args.self.now.extents.segs.items) c.tag_at-tag.result c.args.size 32 c.in-Ok.to.0 false (layout_by c.alloc.new.self.extents.segs.items) c.in-Ok.ensures.answer c.in-Ok.ensures.put.fresh c.args.a.0 c.requires.block
 
 still : (g : Over) (c : After-take_over g) → HasBlock (layout_by c.alloc.new.self.extents.segs.items).blocks c.args.a.0
-still g c = old-among _ (layout_by c.args.self.now.extents.segs.items) c.tag_at-tag.result c.args.size 32 c.in-Ok.to.0 false (layout_by c.alloc.new.self.extents.segs.items) c.in-Ok.ensures.answer c.in-Ok.ensures.fresh c.args.a.0 c.requires.block
+still g c = old-among _ (layout_by c.args.self.now.extents.segs.items) c.tag_at-tag.result c.args.size 32 c.in-Ok.to.0 false (layout_by c.alloc.new.self.extents.segs.items) c.in-Ok.ensures.answer c.in-Ok.ensures.put.fresh c.args.a.0 c.requires.block
 
 pub returns-then-has_room-clause-answer : goal.returns-then-has_room-clause-answer
 returns-then-has_room-clause-answer g c =
@@ -71,17 +71,17 @@ tag_at-tag-requires g c = (busy-of c.args.self.now.extents.segs.items c.args.sel
 
 pub invariant_of-self : goal.invariant_of-self
 invariant_of-self g c =
-    let h = held c.resize_block.new.extents.segs.items c.resize_block.new.extents.index.items c.resize_block.new.extents.kept (most-sized (layout_by c.args.self.now.extents.segs.items) (layout_by c.resize_block.new.extents.segs.items) (place_of c.args.a.0) c.args.size c.resize_block.ensures.layout c.requires.most (most-of (layout_by c.args.self.now.extents.segs.items) c.args.self.now.whole)) c.resize_block.ensures.kept.merged in
+    let h = held c.resize_block.new.extents.segs.items c.resize_block.new.extents.index.items c.resize_block.new.extents.kept (most-sized (layout_by c.args.self.now.extents.segs.items) (layout_by c.resize_block.new.extents.segs.items) (place_of c.args.a.0) c.args.size c.resize_block.ensures.layout c.requires.size.most (most-of (layout_by c.args.self.now.extents.segs.items) c.args.self.now.whole)) c.resize_block.ensures.kept.merged in
     record { sound = h.sound; whole = h.whole; merged = h.merged; gaps = ∣ c.resize_block.ensures.kept.gaps ∣₁; counted = c.args.self.now.counted ∙ sym (sized-count (layout_by c.args.self.now.extents.segs.items) (layout_by c.resize_block.new.extents.segs.items) (place_of c.args.a.0) c.args.size c.resize_block.ensures.layout) }
 
 pub take_over-requires-clause-busy : goal.take_over-requires-clause-busy
-take_over-requires-clause-busy g c = busy-of c.alloc.new.self.extents.segs.items c.alloc.new.self.extents.index.items c.args.a.0 c.alloc.new.self.extents.kept (old-among _ (layout_by c.args.self.now.extents.segs.items) c.tag_at-tag.result c.args.size 32 c.in-Ok.to.0 false (layout_by c.alloc.new.self.extents.segs.items) c.in-Ok.ensures.answer c.in-Ok.ensures.fresh c.args.a.0 c.requires.block)
+take_over-requires-clause-busy g c = busy-of c.alloc.new.self.extents.segs.items c.alloc.new.self.extents.index.items c.args.a.0 c.alloc.new.self.extents.kept (old-among _ (layout_by c.args.self.now.extents.segs.items) c.tag_at-tag.result c.args.size 32 c.in-Ok.to.0 false (layout_by c.alloc.new.self.extents.segs.items) c.in-Ok.ensures.answer c.in-Ok.ensures.put.fresh c.args.a.0 c.requires.block)
 
 pub take_over-requires-clause-to : goal.take_over-requires-clause-to
-take_over-requires-clause-to g c = busy-of c.alloc.new.self.extents.segs.items c.alloc.new.self.extents.index.items c.in-Ok.to.0 c.alloc.new.self.extents.kept (new-among _ (layout_by c.args.self.now.extents.segs.items) c.tag_at-tag.result c.args.size 32 c.in-Ok.to.0 false (layout_by c.alloc.new.self.extents.segs.items) c.in-Ok.ensures.answer c.in-Ok.ensures.fresh)
+take_over-requires-clause-to g c = busy-of c.alloc.new.self.extents.segs.items c.alloc.new.self.extents.index.items c.in-Ok.to.0 c.alloc.new.self.extents.kept (new-among _ (layout_by c.args.self.now.extents.segs.items) c.tag_at-tag.result c.args.size 32 c.in-Ok.to.0 false (layout_by c.alloc.new.self.extents.segs.items) c.in-Ok.ensures.answer c.in-Ok.ensures.put.fresh)
 
 pub take_over-requires-clause-room : goal.take_over-requires-clause-room
-take_over-requires-clause-room g c = size-by c.alloc.new.self.extents.segs.items c.alloc.new.self.extents.index.items c.in-Ok.to.0 c.alloc.new.self.extents.kept (new-among _ (layout_by c.args.self.now.extents.segs.items) c.tag_at-tag.result c.args.size 32 c.in-Ok.to.0 false (layout_by c.alloc.new.self.extents.segs.items) c.in-Ok.ensures.answer c.in-Ok.ensures.fresh) c.args.size (new-room _ (layout_by c.args.self.now.extents.segs.items) c.tag_at-tag.result c.args.size 32 c.in-Ok.to.0 false (layout_by c.alloc.new.self.extents.segs.items) c.in-Ok.ensures.answer c.in-Ok.ensures.fresh)
+take_over-requires-clause-room g c = size-by c.alloc.new.self.extents.segs.items c.alloc.new.self.extents.index.items c.in-Ok.to.0 c.alloc.new.self.extents.kept (new-among _ (layout_by c.args.self.now.extents.segs.items) c.tag_at-tag.result c.args.size 32 c.in-Ok.to.0 false (layout_by c.alloc.new.self.extents.segs.items) c.in-Ok.ensures.answer c.in-Ok.ensures.put.fresh) c.args.size (new-room _ (layout_by c.args.self.now.extents.segs.items) c.tag_at-tag.result c.args.size 32 c.in-Ok.to.0 false (layout_by c.alloc.new.self.extents.segs.items) c.in-Ok.ensures.answer c.in-Ok.ensures.put.fresh)
 
 pub invariant_of-self-in-Ok : goal.invariant_of-self-in-Ok
 invariant_of-self-in-Ok g c =
@@ -106,27 +106,35 @@ pub returns-in-Ok-clause-disc : goal.returns-in-Ok-clause-disc
 returns-in-Ok-clause-disc g c = Served-later _ _ _ _ _ _ (moved-segments c.alloc.new.self.extents.segs.items c.alloc.new.self.extents.index.items c.args.a.0 c.alloc.new.self.extents.kept (still g (goal.at.returns-in-Ok-clause-disc g c).After-take_over) (layout_by c.take_over.new.extents.segs.items) (place_of c.in-Ok.to.0) c.args.size c.take_over.ensures.moved.moved) c.in-Ok.ensures.disc
 
 pub returns-in-Err-clause-no_memory : goal.returns-in-Err-clause-no_memory
-returns-in-Err-clause-no_memory g c = λ _. (none-stays (layout_by c.args.self.now.extents.segs.items) c.args.size _ (stays g (goal.at.returns-in-Err-clause-no_memory g c).After-has_room ∙ ap Some c.if-has_room.false), c.if-not-may_move.false)
+returns-in-Err-clause-no_memory g c = λ e. record {
+  stays = none-stays (layout_by c.args.self.now.extents.segs.items) c.args.size _ (stays g (goal.at.returns-in-Err-clause-no_memory g c).After-has_room ∙ ap Some c.if-has_room.false);
+  may = c.if-not-may_move.false;
+  asks = c.in-Err.ensures.no_memory e;
+}
 
-pub returns-then-has_room-clause-others : goal.returns-then-has_room-clause-others
-returns-then-has_room-clause-others g c =
-    ap (λ (r : Layout ℕ). without_block (place_of c.args.a.0) r.blocks) c.resize_block.ensures.layout
-    ∙ others-sized c.args.size (place_of c.args.a.0) (layout_by c.args.self.now.extents.segs.items).blocks
+pub returns-then-has_room-clause-kept : goal.returns-then-has_room-clause-kept
+returns-then-has_room-clause-kept g c = record {
+  label =
+      ap (λ (r : Layout ℕ). option_map (λ b. b.label) (find_block (place_of c.args.a.0) r.blocks)) c.resize_block.ensures.layout
+      ∙ there-sized c.args.size (place_of c.args.a.0) (layout_by c.args.self.now.extents.segs.items).blocks;
+  others =
+      ap (λ (r : Layout ℕ). without_block (place_of c.args.a.0) r.blocks) c.resize_block.ensures.layout
+      ∙ others-sized c.args.size (place_of c.args.a.0) (layout_by c.args.self.now.extents.segs.items).blocks;
+}
 
-pub returns-in-Ok-clause-others : goal.returns-in-Ok-clause-others
-returns-in-Ok-clause-others g c =
-    let same = was g (goal.at.returns-in-Ok-clause-others g c).After-take_over in
-    others-moved (layout_by c.alloc.new.self.extents.segs.items) (layout_by c.take_over.new.extents.segs.items) (layout_by c.args.self.now.extents.segs.items) (place_of c.args.a.0) (place_of c.in-Ok.to.0) c.args.size c.tag_at-tag.result same (tag g (goal.at.returns-in-Ok-clause-others g c).After-tag_at-tag) c.take_over.ensures.moved.moved c.in-Ok.ensures.others
-
-pub returns-then-has_room-clause-there : goal.returns-then-has_room-clause-there
-returns-then-has_room-clause-there g c =
-    ap (λ (r : Layout ℕ). option_map (λ b. b.label) (find_block (place_of c.args.a.0) r.blocks)) c.resize_block.ensures.layout
-    ∙ there-sized c.args.size (place_of c.args.a.0) (layout_by c.args.self.now.extents.segs.items).blocks
-
-pub returns-in-Ok-clause-there : goal.returns-in-Ok-clause-there
-returns-in-Ok-clause-there g c =
-    let same = was g (goal.at.returns-in-Ok-clause-there g c).After-take_over in
-    there-moved (layout_by c.alloc.new.self.extents.segs.items) (layout_by c.take_over.new.extents.segs.items) (layout_by c.args.self.now.extents.segs.items) c.args.a.0 c.in-Ok.to.0 c.args.size c.tag_at-tag.result c.requires.block c.in-Ok.ensures.fresh same (tag g (goal.at.returns-in-Ok-clause-there g c).After-tag_at-tag) c.take_over.ensures.moved.moved c.in-Ok.ensures.there
+pub returns-in-Ok-clause-kept : goal.returns-in-Ok-clause-kept
+returns-in-Ok-clause-kept g c =
+    let at = goal.at.returns-in-Ok-clause-kept g c in
+    let same = was g at.After-take_over in
+    let own = tag g at.After-tag_at-tag in
+    record {
+      label =
+          there-moved (layout_by c.alloc.new.self.extents.segs.items) (layout_by c.take_over.new.extents.segs.items) (layout_by c.args.self.now.extents.segs.items) c.args.a.0 c.in-Ok.to.0 c.args.size c.tag_at-tag.result c.requires.block c.in-Ok.ensures.put.fresh same own
+          c.take_over.ensures.moved.moved c.in-Ok.ensures.put.there;
+      others =
+          others-moved (layout_by c.alloc.new.self.extents.segs.items) (layout_by c.take_over.new.extents.segs.items) (layout_by c.args.self.now.extents.segs.items) (place_of c.args.a.0) (place_of c.in-Ok.to.0) c.args.size c.tag_at-tag.result same own
+          c.take_over.ensures.moved.moved c.in-Ok.ensures.put.others;
+    }
 
 pub returns-then-has_room-clause-sized : goal.returns-then-has_room-clause-sized
 returns-then-has_room-clause-sized g c =
@@ -136,4 +144,4 @@ returns-then-has_room-clause-sized g c =
 pub returns-in-Ok-clause-sized : goal.returns-in-Ok-clause-sized
 returns-in-Ok-clause-sized g c =
     let same = was g (goal.at.returns-in-Ok-clause-sized g c).After-take_over in
-    size-moved (layout_by c.alloc.new.self.extents.segs.items) (layout_by c.take_over.new.extents.segs.items) (layout_by c.args.self.now.extents.segs.items) c.args.a.0 c.in-Ok.to.0 c.args.size c.tag_at-tag.result c.requires.block c.in-Ok.ensures.fresh same (tag g (goal.at.returns-in-Ok-clause-sized g c).After-tag_at-tag) c.take_over.ensures.moved.moved c.in-Ok.ensures.there
+    size-moved (layout_by c.alloc.new.self.extents.segs.items) (layout_by c.take_over.new.extents.segs.items) (layout_by c.args.self.now.extents.segs.items) c.args.a.0 c.in-Ok.to.0 c.args.size c.tag_at-tag.result c.requires.block c.in-Ok.ensures.put.fresh same (tag g (goal.at.returns-in-Ok-clause-sized g c).After-tag_at-tag) c.take_over.ensures.moved.moved c.in-Ok.ensures.put.there

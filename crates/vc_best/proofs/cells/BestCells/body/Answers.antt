@@ -15,11 +15,8 @@ overflow_sub-size g c =
     let enough = c.requires.enough in
     omega (arith, size, enough)
 
-pub read-requires-clause-block : goal.read-requires-clause-block
-read-requires-clause-block g c = cell-block (layout_of c.args.self.now) c.args.self.now.whole c.args.at.0 32 c.requires
-
-pub read-requires-clause-range : goal.read-requires-clause-range
-read-requires-clause-range g c =
+pub read-requires : goal.read-requires
+read-requires g c =
     let size = cell-size (layout_of c.args.self.now) c.args.self.now.whole c.args.at.0 32 c.requires c.size.result c.size.ensures in
     let enough = c.requires.enough in
     cell-range (layout_of c.args.self.now) c.args.self.now.whole c.args.at.0 32 c.requires 32 (c.size.result - 32) (omega (arith, size, enough))

@@ -2,25 +2,22 @@ use Rattle.std.proofs.Common.{ℕ, length, ap, ◌∙◌, arith}
 use Rattle.vc_model.specs.Layout.{Layout}
 use Rattle.vc_best.specs.Cells.{cells_of, zeroed_layout}
 use Rattle.vc_best.specs.Parts.{blocks_in, layout_of}
-use Rattle.vc_best.proofs.CellBytes.{cell, cell-block, cell-range, cells-written, layout-written}
+use Rattle.vc_best.proofs.CellBytes.{cell, cell-range, cells-written, layout-written}
 use Rattle.vc_best.proofs.cells.BestCells.set_body.Goals as goal
 
-pub write-requires-clause-block : goal.write-requires-clause-block
-write-requires-clause-block g c = cell-block (layout_of c.args.self.now) c.args.self.now.whole c.args.at.0 32 c.requires.place
-
-pub write-requires-clause-range : goal.write-requires-clause-range
-write-requires-clause-range g c = let long = c.requires.length in cell-range (layout_of c.args.self.now) c.args.self.now.whole c.args.at.0 32 c.requires.place 32 (length c.args.bytes.now) (omega (arith, long))
+pub write-requires : goal.write-requires
+write-requires g c = let long = c.requires.length in cell-range (layout_of c.args.self.now) c.args.self.now.whole c.args.at.0 32 c.requires.place 32 (length c.args.bytes.now) (omega (arith, long))
 
 pub returns-clause-blocks : goal.returns-clause-blocks
 returns-clause-blocks g c =
     let block = cell (layout_of c.args.self.now) c.args.self.now.whole c.args.at.0 32 c.requires.place in
-    ap (λ (r : Layout ℕ). cells_of r.blocks) c.write.ensures.layout
+    ap (λ (r : Layout ℕ). cells_of r.blocks) c.write.ensures.written.layout
     ∙ cells-written 32 c.args.bytes.now c.args.at.0 (blocks_in c.args.self.now) block.0 block.1
 
 pub returns-clause-rest : goal.returns-clause-rest
 returns-clause-rest g c =
     let block = cell (layout_of c.args.self.now) c.args.self.now.whole c.args.at.0 32 c.requires.place in
     record {
-      layout = ap zeroed_layout c.write.ensures.layout ∙ layout-written 32 c.args.bytes.now c.args.at.0 (layout_of c.args.self.now) block.0 block.1;
+      layout = ap zeroed_layout c.write.ensures.written.layout ∙ layout-written 32 c.args.bytes.now c.args.at.0 (layout_of c.args.self.now) block.0 block.1;
       disc = c.write.ensures.same_disc;
     }
